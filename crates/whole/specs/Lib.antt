@@ -1,0 +1,6 @@
+-- Whole numbers: what the kit's integers lack, and the definitions that the contracts cite.
+pub mod Cases
+pub mod Int
+pub mod Divisor
+pub mod Within
+pub mod Numerator
