@@ -1,0 +1,122 @@
+-- "Diagrams", first part: linears, tests and their order, diagrams as trees.
+use mathlib.Core.Bool.{Bool, true, false, _&&_}
+use mathlib.Core.List.{List, [], _∷_}
+use Prim.Native.Nat.{ℕ, zero, suc, _*_, compare, Ordering, Ordering·lt, Ordering·eq, Ordering·gt}
+use lib.Dec.{isEq, eqb}
+use lib.IntN.{ℤ, pos, negsuc, natAbs, _+ℤ_, _*ℤ_}
+use lib.Signed.{quotZ}
+use Rattle.whole.specs.Divisor.{gcdOf, gcd-all, at-least-one}
+
+-- "A linear is five signed 32-bit numbers: coefficients of levels L1 to L4, then a constant."
+pub record Linear : Type 0 where
+  pub coeffs : List ℤ
+  pub const : ℤ
+
+-- a condition now, the next step's condition of that number, or p ≤ 0
+pub data Test : Type 0 where
+  now : ℕ → Test
+  later : ℕ → Test
+  linear : Linear → Test
+
+-- a linear, and the action that it is numbered with; 0 where it is not numbered
+pub record Leaf : Type 0 where
+  pub lin : Linear
+  pub act : ℕ
+
+-- "High is taken when the condition is yes"; "high is taken when p ≤ 0": test, high, low
+pub data Tree : Type 0 where
+  leaf : Leaf → Tree
+  branch : Test → Tree → Tree → Tree
+
+abbrev pub plain : Linear → Leaf
+plain p = record { lin = p; act = 0 }
+
+-- ---- "Order of tests: conditions 1 to 8, then linear tests by the coefficients of L1 to L4 and the constant, smaller first."
+
+abbrev pub then : Ordering → Ordering → Ordering
+then Ordering·lt o = Ordering·lt
+then Ordering·eq o = o
+then Ordering·gt o = Ordering·gt
+
+abbrev pub cmpZ : ℤ → ℤ → Ordering
+cmpZ (pos a) (pos b) = compare a b
+cmpZ (pos a) (negsuc b) = Ordering·gt
+cmpZ (negsuc a) (pos b) = Ordering·lt
+cmpZ (negsuc a) (negsuc b) = compare b a
+
+unfoldable pub cmpList : List ℤ → List ℤ → Ordering
+cmpList [] [] = Ordering·eq
+cmpList [] (b ∷ bs) = Ordering·lt
+cmpList (a ∷ r) [] = Ordering·gt
+cmpList (a ∷ r) (b ∷ bs) = then (cmpZ a b) (cmpList r bs)
+
+unfoldable pub cmpLinear : Linear → Linear → Ordering
+cmpLinear p q = then (cmpList (p .coeffs) (q .coeffs)) (cmpZ (p .const) (q .const))
+
+-- condition against condition, condition against linear, linear against linear
+unfoldable pub cmp : Test → Test → Ordering
+cmp (now i) (now j) = compare i j
+cmp (now i) (later j) = Ordering·lt
+cmp (now i) (linear q) = Ordering·lt
+cmp (later i) (now j) = Ordering·gt
+cmp (later i) (later j) = compare i j
+cmp (later i) (linear q) = Ordering·lt
+cmp (linear p) (now j) = Ordering·gt
+cmp (linear p) (later j) = Ordering·gt
+cmp (linear p) (linear q) = cmpLinear p q
+
+-- ---- "Equal nodes are one node."
+
+unfoldable pub same-leaf : Leaf → Leaf → Bool
+same-leaf f g = isEq (cmpLinear (f .lin) (g .lin)) && eqb (f .act) (g .act)
+
+unfoldable pub same : Tree → Tree → Bool
+same (leaf f) (leaf g) = same-leaf f g
+same (leaf f) (branch t h l) = false
+same (branch t h l) (leaf g) = false
+same (branch t h l) (branch u h′ l′) = isEq (cmp t u) && same h h′ && same l l′
+
+-- ---- linears: each number of a result is one that a rule names
+
+unfoldable pub addL : List ℤ → List ℤ → List ℤ
+addL [] bs = bs
+addL (a ∷ r) [] = a ∷ r
+addL (a ∷ r) (b ∷ bs) = (a +ℤ b) ∷ addL r bs
+
+unfoldable pub scaleL : ℤ → List ℤ → List ℤ
+scaleL k [] = []
+scaleL k (a ∷ r) = (k *ℤ a) ∷ scaleL k r
+
+infixl 60 _⊞_ _⊟_
+infixl 61 _⊠_
+unfoldable pub _⊞_ : Linear → Linear → Linear
+p ⊞ q = record { coeffs = addL (p .coeffs) (q .coeffs); const = (p .const) +ℤ (q .const) }
+
+unfoldable pub _⊠_ : ℤ → Linear → Linear
+k ⊠ q = record { coeffs = scaleL k (q .coeffs); const = k *ℤ (q .const) }
+
+unfoldable pub _⊟_ : Linear → Linear → Linear
+p ⊟ q = p ⊞ (negsuc 0 ⊠ q)
+
+unfoldable pub plus-constant : ℤ → Linear → Linear
+plus-constant k p = record { coeffs = p .coeffs; const = (p .const) +ℤ k }
+
+-- no coefficient differs from zero: "a constant"
+unfoldable pub zeros : List ℤ → Bool
+zeros [] = true
+zeros (a ∷ r) = isEq (cmpZ a (pos 0)) && zeros r
+
+-- ---- "A test is divided by the greatest common divisor of its five numbers."
+
+unfoldable pub quotL : ℕ → List ℤ → List ℤ
+quotL g [] = []
+quotL g (a ∷ r) = quotZ a (pos g) ∷ quotL g r
+
+unfoldable pub quotient : ℕ → Linear → Linear
+quotient g p = record { coeffs = quotL g (p .coeffs); const = quotZ (p .const) (pos g) }
+
+unfoldable pub divisor : Linear → ℕ
+divisor p = at-least-one (gcdOf (natAbs (p .const)) (gcd-all (p .coeffs)))
+
+unfoldable pub test-of : Linear → Test
+test-of p = linear (quotient (divisor p) p)

@@ -1,0 +1,9 @@
+-- Document 01: definitions, and under laws/ what is proved about them.
+pub mod Widths
+pub mod Diagram
+pub mod Computation
+pub mod Rules
+pub mod Process
+pub mod Meaning
+pub mod Stage
+pub mod Valid

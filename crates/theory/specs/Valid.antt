@@ -1,0 +1,53 @@
+-- What holds of the diagrams of an accepted model: "Coefficients beyond level m are zero .. Next-step conditions stand only in next levels. The leaves of a chance are constants 0 to W".
+use mathlib.Core.Bool.{Bool, true, false, _&&_}
+use mathlib.Core.List.{List, [], _∷_}
+use Prim.Native.Nat.{ℕ, zero, suc, _-_}
+use lib.Dec.{eqb, leb}
+use lib.IntN.{ℤ, pos}
+use lib.ListN.{length}
+use lib.Signed.{leZ}
+use Rattle.whole.specs.Within.{small}
+use Rattle.theory.specs.Widths.{levels-most, conditions-most, actions-most, weights-most}
+use Rattle.theory.specs.Diagram.{Linear, Test, now, later, linear, Leaf, Tree, leaf, branch, zeros}
+use Rattle.theory.specs.Meaning.{Action, Model}
+
+unfoldable pub all : {A : Type 0} → (A → Bool) → List A → Bool
+all p [] = true
+all p (x ∷ l) = p x && all p l
+
+-- each test and each leaf of a diagram
+unfoldable pub all-nodes : (Test → Bool) → (Leaf → Bool) → Tree → Bool
+all-nodes t? f? (leaf f) = f? f
+all-nodes t? f? (branch t h l) = t? t && (all-nodes t? f? h && all-nodes t? f? l)
+
+-- 1 to n
+unfoldable pub among : ℕ → ℕ → Bool
+among n k = leb 1 k && leb k n
+
+-- as many coefficients as there are words for, and all numbers within the limits
+unfoldable pub wide : Linear → Bool
+wide p = eqb (length (p .coeffs)) levels-most && (all small (p .coeffs) && small (p .const))
+
+-- conditions among n; next-step ones where they are allowed
+unfoldable pub good-test : ℕ → Bool → Test → Bool
+good-test n next (now k) = among n k
+good-test n next (later k) = next && among n k
+good-test n next (linear p) = wide p
+
+unfoldable pub good-leaf : Leaf → Bool
+good-leaf f = wide (f .lin) && eqb (f .act) 0
+
+-- a constant 0 to W
+unfoldable pub weight-leaf : ℕ → Leaf → Bool
+weight-leaf W f = good-leaf f && (zeros (f .lin .coeffs) && (leZ (pos 0) (f .lin .const) && leZ (f .lin .const) (pos W)))
+
+unfoldable pub valid-action : ℕ → ℕ → ℕ → Action → Bool
+valid-action m n W x =
+    all-nodes (good-test n false) good-leaf (x .reward)
+    && (eqb (length (x .chances)) n && (all (all-nodes (good-test n false) (weight-leaf W)) (x .chances)
+    && (eqb (length (x .levels)) m && all (all-nodes (good-test n true) good-leaf) (x .levels))))
+
+unfoldable pub valid : Model → Bool
+valid M =
+    among levels-most (M .levels) && (leb (M .conditions) conditions-most && (among weights-most (M .weights)
+    && (leb (length (M .others)) (actions-most - 1) && all (valid-action (M .levels) (M .conditions) (M .weights)) (M .first ∷ M .others))))

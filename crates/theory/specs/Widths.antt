@@ -1,0 +1,42 @@
+-- The widths of document 01, each named once. The rules of diagrams know none of them.
+use Prim.Native.Nat.{ℕ}
+
+-- "m levels (1 to 4)"
+abbrev pub levels-most : ℕ
+levels-most = 4
+
+-- "n conditions (0 to 4)"; the next step's conditions are numbered from here on, "5 to 4+n"
+abbrev pub conditions-most : ℕ
+conditions-most = 4
+
+-- "A actions (1 to 8)"
+abbrev pub actions-most : ℕ
+actions-most = 8
+
+-- "weight total W (1 to 100)"
+abbrev pub weights-most : ℕ
+weights-most = 100
+
+-- "it holds at most 32"
+abbrev pub stack-most : ℕ
+stack-most = 32
+
+-- "model above 65,535 bytes"
+abbrev pub bytes-most : ℕ
+bytes-most = 65535
+
+-- "horizon or steps not 1 to 8", and the eight stage words
+abbrev pub steps-most : ℕ
+steps-most = 8
+
+-- "What the tables hold, N, is the least of node words ÷ 8, work words ÷ 8 and 65,535"
+abbrev pub nodes-most : ℕ
+nodes-most = 65535
+
+-- "Nodes are eight signed 64-bit words"
+abbrev pub node-words : ℕ
+node-words = 8
+
+-- "30 name: action, 16 bytes"
+abbrev pub name-bytes : ℕ
+name-bytes = 16
