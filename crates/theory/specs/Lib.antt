@@ -7,3 +7,11 @@ pub mod Process
 pub mod Meaning
 pub mod Stage
 pub mod Valid
+pub mod Command
+pub mod Verdict
+pub mod Load
+pub mod Solve
+pub mod Value
+pub mod Plain
+pub mod Name
+pub mod Listing

@@ -1,0 +1,93 @@
+-- "loading the model": the diagrams that the commands of an accepted model spell, made as they come.
+use mathlib.Core.Bool.{Bool, true, false}
+use mathlib.Core.List.{List, [], _∷_, map}
+use Prim.Native.Nat.{ℕ, zero, suc, _-_}
+use lib.Dec.{leb}
+use Rattle.whole.specs.Cases.{if}
+use Rattle.theory.specs.Widths.{conditions-most}
+use Rattle.theory.specs.Diagram.{Test, now, later, Tree, leaf, plain, test-of}
+use Rattle.theory.specs.Computation.{Comp, ret, bind, make, result}
+use Rattle.theory.specs.Rules.{choose, zero-leaf}
+use Rattle.theory.specs.Meaning.{Action, Model}
+use Rattle.theory.specs.Command.{Command, site, push-leaf, push-condition, push-test, take-reward, take-chance, take-level, name-action, end-model, Read, whole, unknown, short, Placed, byte-at, readings}
+use Rattle.theory.specs.Verdict.{Site, site-of, Slot, same-slot, reward-slot, chance-slot, level-slot, from-to}
+
+-- a diagram and what it was given as
+pub record Entry : Type 0 where
+  pub slot : Slot
+  pub tree : Tree
+
+-- the stack, its top first, and what has been given
+pub record Loaded : Type 0 where
+  pub stack : List Tree
+  pub entries : List Entry
+
+-- "1 to n for a condition now, 5 to 4+n for the next step's"
+unfoldable pub condition-test : ℕ → Test
+condition-test k = if (leb k conditions-most) (now k) (later (k - conditions-most))
+
+abbrev pub push : Tree → Loaded → Loaded
+push t s = record { stack = t ∷ s .stack; entries = s .entries }
+
+-- "takes low, then high, off the stack and pushes the choice"
+unfoldable pub load-choice : Test → List Tree → List Entry → Comp Loaded
+load-choice t [] E = ret (record { stack = []; entries = E })
+load-choice t (low ∷ []) E = ret (record { stack = []; entries = E })
+load-choice t (low ∷ high ∷ K) E = bind (choose t high low) (λ r. ret (record { stack = r ∷ K; entries = E }))
+
+-- "takes one diagram off the stack"
+unfoldable pub load-entry : Slot → List Tree → List Entry → Comp Loaded
+load-entry g [] E = ret (record { stack = []; entries = E })
+load-entry g (t ∷ K) E = ret (record { stack = K; entries = record { slot = g; tree = t } ∷ E })
+
+unfoldable pub load-one : Command → Loaded → Comp Loaded
+load-one (site m n a w) s = ret s
+load-one (push-leaf p) s = bind (make (leaf (plain p))) (λ t. ret (push t s))
+load-one (push-condition k) s = load-choice (condition-test k) (s .stack) (s .entries)
+load-one (push-test p) s = load-choice (test-of p) (s .stack) (s .entries)
+load-one (take-reward a) s = load-entry (reward-slot a) (s .stack) (s .entries)
+load-one (take-chance a k) s = load-entry (chance-slot a k) (s .stack) (s .entries)
+load-one (take-level a i) s = load-entry (level-slot a i) (s .stack) (s .entries)
+load-one (name-action a b) s = ret s
+load-one end-model s = ret s
+
+unfoldable pub load-on : List Placed → Loaded → Comp Loaded
+load-on [] s = ret s
+load-on (x ∷ l) s = elim (x .read) [
+  | whole c ↦ bind (load-one c s) (load-on l)
+  | unknown ↦ ret s
+  | short ↦ ret s
+]
+
+-- ---- the model
+
+unfoldable pub find-slot : Slot → List Entry → Tree
+find-slot g [] = zero-leaf
+find-slot g (e ∷ E) = if (same-slot g (e .slot)) (e .tree) (find-slot g E)
+
+unfoldable pub action-of : Site → List Entry → ℕ → Action
+action-of S E a = record {
+  reward = find-slot (reward-slot a) E;
+  chances = map (λ k. find-slot (chance-slot a k) E) (from-to 1 (S .conditions));
+  levels = map (λ i. find-slot (level-slot a i) E) (from-to 1 (S .levels));
+}
+
+unfoldable pub model-of : Site → List Entry → Model
+model-of S E = record {
+  levels = S .levels;
+  conditions = S .conditions;
+  weights = S .weights;
+  first = action-of S E 1;
+  others = map (action-of S E) (from-to 2 (S .actions - 1));
+}
+
+-- the operands of the first command
+unfoldable pub site-at : List ℕ → Site
+site-at B = site-of (byte-at B 1) (byte-at B 2) (byte-at B 3) (byte-at B 4)
+
+unfoldable pub load : List ℕ → Comp Model
+load B = bind (load-on (readings B) (record { stack = []; entries = [] })) (λ s. ret (model-of (site-at B) (s .entries)))
+
+-- the model that bytes spell
+unfoldable pub model : List ℕ → Model
+model B = result (load B)

@@ -1,0 +1,92 @@
+-- "Plain working": a state worked from the model, without diagrams or tables, as one function of its inputs.
+use mathlib.Core.Bool.{Bool, true, false, not, _&&_}
+use mathlib.Core.List.{List, [], _∷_, map}
+use Prim.Native.Nat.{ℕ, zero, suc, _+_, _-_, _*_}
+use lib.Dec.{T, eqb, ltb}
+use lib.IntN.{ℤ, pos, negsuc, _+ℤ_, _*ℤ_}
+use lib.ListN.{length}
+use lib.Signed.{leZ}
+use Rattle.whole.specs.Cases.{if}
+use Rattle.whole.specs.Within.{small}
+use Rattle.whole.specs.Numerator.{words}
+use Rattle.theory.specs.Widths.{steps-most, bytes-most}
+use Rattle.theory.specs.Diagram.{Tree}
+use Rattle.theory.specs.Meaning.{Action, Model, State, env, worth-at, chance-at, weight, settings, moved, power}
+use Rattle.theory.specs.Valid.{all}
+use Rattle.theory.specs.Verdict.{Verdict, refusal, Site}
+use Rattle.theory.specs.Load.{site-at, model}
+use Rattle.theory.specs.Solve.{early}
+use Rattle.theory.specs.Value.{Asked, accepted, state-of, ValueOut, refused-value}
+
+-- a worth and the action that has it, or a number that left its limits
+pub data Worth : Type 0 where
+  is : ℤ → ℕ → Worth
+  over : Worth
+
+-- with a number within the limits, what follows
+unfoldable pub judged : ℤ → Worth → Worth
+judged z rest = if (small z) rest over
+
+-- "a next state's numerator (also with no step left) leaves 32 bits"
+unfoldable pub in-32-bits : ℤ → Bool
+in-32-bits z = leZ (negsuc 2147483647) z && leZ z (pos 2147483647)
+
+-- "then settings, condition 1 fastest, no before yes": the settings that are left, on a running sum; "those of weight 0 are skipped"
+unfoldable pub sum-settings : (State → Worth) → (List Bool → ℕ) → (List Bool → State) → List (List Bool) → ℤ → Worth
+sum-settings worth w next [] sum = is sum 0
+sum-settings worth w next (r ∷ l) sum = elim (eqb (w r) 0) [
+  | true ↦ sum-settings worth w next l sum
+  | false ↦ if (all in-32-bits (next r .nums)) (elim (worth (next r)) [
+    | is v a ↦ judged (pos (w r) *ℤ v) (judged (sum +ℤ pos (w r) *ℤ v) (sum-settings worth w next l (sum +ℤ pos (w r) *ℤ v)))
+    | over ↦ over
+  ]) over
+]
+
+-- an action's worth: W^(n×h), "a reward, W^(n×h) × reward" and the settings; `worth` is that of states with a step fewer
+unfoldable pub action-worth : Model → ℕ → (State → Worth) → Action → State → Worth
+action-worth M h worth x s =
+    let z = worth-at (env s []) (x .reward) in
+    judged (pos (power M h)) (judged z (judged (pos (power M h) *ℤ z)
+    (sum-settings worth (weight (M .weights) (map (chance-at (env s [])) (x .chances))) (moved s (x .levels)) (settings (M .conditions)) (pos (power M h) *ℤ z))))
+
+-- the better of the best so far and an action's worth, the earlier where they are equal
+unfoldable pub better : ℤ → ℕ → ℕ → Worth → Worth
+better v b a (is u _) = if (leZ u v) (is v b) (is u a)
+better v b a over = over
+
+-- each action from number a on, over the best so far
+unfoldable pub try-actions : (Action → Worth) → ℕ → List Action → Worth → Worth
+try-actions f a [] best = best
+try-actions f a (x ∷ l) over = over
+try-actions f a (x ∷ l) (is v b) = try-actions f (suc a) l (better v b a (f x))
+
+-- the worth of the first action, numbered 1
+unfoldable pub numbered : Worth → Worth
+numbered (is v _) = is v 1
+numbered over = over
+
+-- "the worth of a state tries each action": D × W^(n×h) × V_h
+unfoldable pub state-worth : Model → ℕ → State → Worth
+state-worth M zero s = is (pos 0) 0
+state-worth M (suc h) s =
+    try-actions (λ x. action-worth M (suc h) (state-worth M h) x s) 2 (M .others) (numbered (action-worth M (suc h) (state-worth M h) (M .first) s))
+
+-- ---- the outcome
+
+unfoldable pub worth-out : Worth → ValueOut
+worth-out (is v a) = record { number = 0; place = 0; action = a; numerator = words v }
+worth-out over = refused-value 11 0
+
+-- what follows from a test that holds, or else
+unfoldable pub if-true : {A : Type 0} → (b : Bool) → (T b → A) → A → A
+if-true true f x = f tt
+if-true false f x = x
+
+-- the order of refusals: 10, 9, the model's own, 13, then 11
+unfoldable pub plain-of : List ℕ → ℕ → Asked → ValueOut
+plain-of B steps q =
+    let v = early B steps steps-most in
+    let S = site-at B in
+    if (eqb (v .number) 0)
+    (if-true (accepted (S .levels) (S .conditions) q) (λ t. worth-out (state-worth (model B) steps (state-of (S .levels) (S .conditions) q t))) (refused-value 13 0))
+    (refused-value (v .number) (v .place))

@@ -1,0 +1,112 @@
+-- "Tables after solving" and solve's refusals: solve as one function of its inputs.
+use mathlib.Core.Bool.{Bool, true, false, not, _&&_}
+use mathlib.Core.List.{List, [], _∷_, _++_, map}
+use Prim.Native.Nat.{ℕ, zero, suc, _+_, _-_, _*_, _/_, min}
+use lib.Dec.{eqb, ltb}
+use lib.IntN.{ℤ, pos, negsuc}
+use lib.ListN.{length, replicate}
+use Rattle.whole.specs.Cases.{if}
+use Rattle.theory.specs.Widths.{bytes-most, steps-most, nodes-most, node-words, conditions-most, levels-most}
+use Rattle.theory.specs.Diagram.{Linear, Test, now, later, linear, Leaf, Tree, leaf, branch, same}
+use Rattle.theory.specs.Computation.{Out, done, stopped, run, enter-all, Ops, Solved, solved, refused, run-all}
+use Rattle.theory.specs.Meaning.{Model}
+use Rattle.theory.specs.Stage.{all-stages}
+use Rattle.theory.specs.Valid.{among}
+use Rattle.theory.specs.Verdict.{Verdict, refusal, verdict, or}
+use Rattle.theory.specs.Load.{load}
+
+-- "What the tables hold, N, is the least of node words ÷ 8, work words ÷ 8 and 65,535, rounded down."
+unfoldable pub room : ℕ → ℕ → ℕ
+room nodes work = min (nodes / node-words) (min (work / node-words) nodes-most)
+
+-- loading is one operation, its place 0; then the stages
+unfoldable pub solve-in : ℕ → List ℕ → ℕ → Solved (List Tree)
+solve-in N B H = elim (run N (load B) []) [
+  | done M X ↦ run-all N (length X) (all-stages M H)
+  | stopped r ↦ refused r 0
+]
+
+-- ---- nodes as words
+
+-- "numbered from 1": the number of a node among those of a table
+unfoldable pub number-of : Tree → List Tree → ℕ
+number-of t [] = 0
+number-of t (x ∷ X) = if (same x t) 1 (elim (number-of t X) [ zero ↦ 0 | suc k ↦ suc (suc k) ])
+
+-- as many words as there are coefficients in a node
+unfoldable pub padded : ℕ → List ℤ → List ℤ
+padded zero l = []
+padded (suc k) [] = pos 0 ∷ padded k []
+padded (suc k) (z ∷ l) = z ∷ padded k l
+
+abbrev pub linear-words : Linear → List ℤ
+linear-words p = padded levels-most (p .coeffs) ++ (p .const ∷ [])
+
+-- "A condition has its number as first coefficient and zeros after."
+unfoldable pub test-words : Test → List ℤ
+test-words (now k) = pos 1 ∷ (padded levels-most (pos k ∷ []) ++ (pos 0 ∷ []))
+test-words (later k) = pos 1 ∷ (padded levels-most (pos (conditions-most + k) ∷ []) ++ (pos 0 ∷ []))
+test-words (linear p) = pos 2 ∷ linear-words p
+
+-- "kind (0 leaf, 1 condition, 2 test), four coefficients, constant, high, low .. A leaf has its action in place of high, and zero for low."
+unfoldable pub row : List Tree → Tree → List ℤ
+row X (leaf f) = pos 0 ∷ (linear-words (f .lin) ++ (pos (f .act) ∷ pos 0 ∷ []))
+row X (branch t h l) = test-words t ++ (pos (number-of h X) ∷ pos (number-of l X) ∷ [])
+
+-- the rows of some nodes, numbered as in X
+unfoldable pub rows : List Tree → List Tree → List ℤ
+rows X [] = []
+rows X (t ∷ l) = row X t ++ rows X l
+
+-- ---- the outcome
+
+pub record SolveOut : Type 0 where
+  pub number : ℕ
+  pub place : ℕ
+  pub peak : ℕ
+  pub nodes : List ℤ
+  pub stages : List ℕ
+  pub work : List ℕ
+
+-- "The table holds the nodes of stages 1 to H and no others, numbered from 1: stage by stage, high before low, a node after its branches."
+unfoldable pub table-of : List Tree → List Tree
+table-of S = enter-all S []
+
+unfoldable pub solved-nodes : ℕ → List Tree → List ℤ
+solved-nodes size S = rows (table-of S) (table-of S) ++ replicate (size - length (rows (table-of S) (table-of S))) (pos 0)
+
+-- "Eight 32-bit words hold the stage roots, zero beyond H."
+unfoldable pub solved-stages : List Tree → List ℕ
+solved-stages S = map (λ t. number-of t (table-of S)) S ++ replicate (steps-most - length S) 0
+
+unfoldable pub solve-left : List ℤ → List ℕ → List ℕ → Solved (List Tree) → SolveOut
+solve-left nodes stages work (solved S peak) = record {
+  number = 0;
+  place = 0;
+  peak = peak;
+  nodes = solved-nodes (length nodes) S;
+  stages = solved-stages S;
+  work = replicate (length work) 0;
+}
+solve-left nodes stages work (refused r h) = record {
+  number = r;
+  place = h;
+  peak = 0;
+  nodes = replicate (length nodes) (pos 0);
+  stages = replicate (length stages) 0;
+  work = replicate (length work) 0;
+}
+
+-- "10: stage words not eight, or model above 65,535 bytes; 9: horizon or steps not 1 to 8", then the model's own
+unfoldable pub early : List ℕ → ℕ → ℕ → Verdict
+early B steps words =
+    if (or (not (eqb words steps-most)) (ltb bytes-most (length B))) (refusal 10 0)
+    (if (not (among steps-most steps)) (refusal 9 0)
+    (verdict B))
+
+unfoldable pub solve : List ℕ → ℕ → List ℤ → List ℕ → List ℕ → SolveOut
+solve B H nodes stages work =
+    let v = early B H (length stages) in
+    if (eqb (v .number) 0)
+    (solve-left nodes stages work (solve-in (room (length nodes) (length work)) B H))
+    (record { number = v .number; place = v .place; peak = 0; nodes = nodes; stages = stages; work = work })

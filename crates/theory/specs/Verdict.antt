@@ -1,0 +1,213 @@
+-- "The site model" and "What a refusal gives", numbers 1 to 8: the first rule that a model breaks, and its place.
+use mathlib.Core.Bool.{Bool, true, false, not, _&&_}
+use mathlib.Core.List.{List, [], _∷_, _++_, map}
+use Prim.Native.Nat.{ℕ, zero, suc, _+_, _-_, _*_}
+use lib.Dec.{eqb, ltb, leb}
+use lib.IntN.{ℤ, pos}
+use lib.ListN.{length, drop}
+use lib.Signed.{leZ}
+use Rattle.whole.specs.Cases.{if}
+use Rattle.theory.specs.Widths.{levels-most, conditions-most, actions-most, weights-most, stack-most}
+use Rattle.theory.specs.Diagram.{Linear, zeros}
+use Rattle.theory.specs.Valid.{all, among}
+use Rattle.theory.specs.Command.{Command, site, push-leaf, push-condition, push-test, take-reward, take-chance, take-level, name-action, end-model, Read, whole, unknown, short, Placed, readings}
+
+abbrev pub or : Bool → Bool → Bool
+or a b = if a true b
+
+-- m, n, A and W
+pub record Site : Type 0 where
+  pub levels : ℕ
+  pub conditions : ℕ
+  pub actions : ℕ
+  pub weights : ℕ
+
+-- what is judged of a diagram as written: "These rules judge each leaf and condition as written, also one that loading would drop."
+pub record Facts : Type 0 where
+  pub next-step : Bool
+  pub weights : Bool
+
+-- what is given to an action: the command's byte, the action, the condition or level (0 where there is none)
+pub record Slot : Type 0 where
+  pub command : ℕ
+  pub action : ℕ
+  pub index : ℕ
+
+-- the commands so far: whether the site is there, the stack (its top first) and what has been given
+pub record Progress : Type 0 where
+  pub begun : Bool
+  pub site : Site
+  pub stack : List Facts
+  pub given : List Slot
+
+abbrev pub reward-slot : ℕ → Slot
+reward-slot a = record { command = 0x20; action = a; index = 0 }
+
+abbrev pub chance-slot : ℕ → ℕ → Slot
+chance-slot a k = record { command = 0x21; action = a; index = k }
+
+abbrev pub level-slot : ℕ → ℕ → Slot
+level-slot a i = record { command = 0x22; action = a; index = i }
+
+abbrev pub name-slot : ℕ → Slot
+name-slot a = record { command = 0x30; action = a; index = 0 }
+
+unfoldable pub same-slot : Slot → Slot → Bool
+same-slot s t = eqb (s .command) (t .command) && (eqb (s .action) (t .action) && eqb (s .index) (t .index))
+
+unfoldable pub has-slot : Slot → List Slot → Bool
+has-slot s [] = false
+has-slot s (t ∷ l) = or (same-slot s t) (has-slot s l)
+
+-- ---- a rule, the number that breaking it has, and the first that is broken
+
+pub record Rule : Type 0 where
+  pub broken : Bool
+  pub number : ℕ
+
+abbrev pub rule : ℕ → Bool → Rule
+rule k b = record { broken = b; number = k }
+
+unfoldable pub first-broken : List Rule → ℕ
+first-broken [] = 0
+first-broken (r ∷ l) = if (r .broken) (r .number) (first-broken l)
+
+-- ---- operands
+
+-- "Coefficients beyond level m are zero."
+unfoldable pub beyond : ℕ → Linear → Bool
+beyond m p = not (zeros (drop m (p .coeffs)))
+
+-- "1 to n for a condition now, 5 to 4+n for the next step's"
+unfoldable pub next-condition : ℕ → ℕ → Bool
+next-condition n k = ltb conditions-most k && among n (k - conditions-most)
+
+unfoldable pub printable : ℕ → Bool
+printable b = leb 0x20 b && leb b 0x7e
+
+-- a constant 0 to W
+unfoldable pub is-weight : ℕ → Linear → Bool
+is-weight W p = zeros (p .coeffs) && (leZ (pos 0) (p .const) && leZ (p .const) (pos W))
+
+-- ---- the stack
+
+abbrev pub top : List Facts → Facts
+top [] = record { next-step = false; weights = false }
+top (f ∷ l) = f
+
+-- "takes low, then high, off the stack and pushes the choice"
+unfoldable pub joined : Bool → List Facts → List Facts
+joined later [] = []
+joined later (l ∷ []) = []
+joined later (l ∷ h ∷ r) = record { next-step = or later (or (h .next-step) (l .next-step)); weights = h .weights && l .weights } ∷ r
+
+-- ---- what must be given: "Every reward, chance and next level is given exactly once."
+
+unfoldable pub from-to : ℕ → ℕ → List ℕ
+from-to a zero = []
+from-to a (suc k) = a ∷ from-to (suc a) k
+
+unfoldable pub wanted-by : Site → List ℕ → List Slot
+wanted-by S [] = []
+wanted-by S (a ∷ l) = reward-slot a ∷ (map (chance-slot a) (from-to 1 (S .conditions)) ++ (map (level-slot a) (from-to 1 (S .levels)) ++ wanted-by S l))
+
+unfoldable pub wanted : Site → List Slot
+wanted S = wanted-by S (from-to 1 (S .actions))
+
+-- ---- the rules of a command, "operands 4, then 5, 6, diagram 4"
+
+unfoldable pub site-rules : Site → List Rule
+site-rules S =
+    rule 4 (not (among levels-most (S .levels))) ∷ rule 4 (ltb conditions-most (S .conditions))
+    ∷ rule 4 (not (among actions-most (S .actions))) ∷ rule 4 (not (among weights-most (S .weights))) ∷ []
+
+abbrev pub site-of : ℕ → ℕ → ℕ → ℕ → Site
+site-of m n a w = record { levels = m; conditions = n; actions = a; weights = w }
+
+-- "01 site .. is first and only there": the rules of the first command
+unfoldable pub first-rules : Command → List Rule
+first-rules (site m n a w) = site-rules (site-of m n a w)
+first-rules (push-leaf p) = rule 1 true ∷ []
+first-rules (push-condition k) = rule 1 true ∷ []
+first-rules (push-test p) = rule 1 true ∷ []
+first-rules (take-reward a) = rule 1 true ∷ []
+first-rules (take-chance a k) = rule 1 true ∷ []
+first-rules (take-level a i) = rule 1 true ∷ []
+first-rules (name-action a b) = rule 1 true ∷ []
+first-rules end-model = rule 1 true ∷ []
+
+unfoldable pub later-rules : Site → List Facts → List Slot → Command → List Rule
+later-rules S K G (site m n a w) = rule 1 true ∷ []
+later-rules S K G (push-leaf p) = rule 4 (beyond (S .levels) p) ∷ rule 5 (leb stack-most (length K)) ∷ []
+later-rules S K G (push-condition k) = rule 4 (not (or (among (S .conditions) k) (next-condition (S .conditions) k))) ∷ rule 5 (ltb (length K) 2) ∷ []
+later-rules S K G (push-test p) = rule 4 (beyond (S .levels) p) ∷ rule 4 (zeros (p .coeffs)) ∷ rule 5 (ltb (length K) 2) ∷ []
+later-rules S K G (take-reward a) =
+    rule 4 (not (among (S .actions) a)) ∷ rule 5 (ltb (length K) 1) ∷ rule 6 (has-slot (reward-slot a) G) ∷ rule 4 (top K .next-step) ∷ []
+later-rules S K G (take-chance a k) =
+    rule 4 (not (among (S .actions) a)) ∷ rule 4 (not (among (S .conditions) k)) ∷ rule 5 (ltb (length K) 1) ∷ rule 6 (has-slot (chance-slot a k) G)
+    ∷ rule 4 (top K .next-step) ∷ rule 4 (not (top K .weights)) ∷ []
+later-rules S K G (take-level a i) =
+    rule 4 (not (among (S .actions) a)) ∷ rule 4 (not (among (S .levels) i)) ∷ rule 5 (ltb (length K) 1) ∷ rule 6 (has-slot (level-slot a i) G) ∷ []
+later-rules S K G (name-action a b) = rule 4 (not (among (S .actions) a)) ∷ rule 4 (not (all printable b)) ∷ rule 6 (has-slot (name-slot a) G) ∷ []
+later-rules S K G end-model = rule 7 (not (all (λ s. has-slot s G) (wanted S))) ∷ rule 7 (ltb 0 (length K)) ∷ []
+
+unfoldable pub rules-of : Progress → Command → List Rule
+rules-of s c = if (s .begun) (later-rules (s .site) (s .stack) (s .given) c) (first-rules c)
+
+-- ---- what a command that breaks none leaves
+
+abbrev pub with-stack : Progress → List Facts → Progress
+with-stack s K = record { begun = s .begun; site = s .site; stack = K; given = s .given }
+
+abbrev pub with-slot : Progress → List Facts → Slot → Progress
+with-slot s K g = record { begun = s .begun; site = s .site; stack = K; given = g ∷ s .given }
+
+unfoldable pub after : Progress → Command → Progress
+after s (site m n a w) = record { begun = true; site = site-of m n a w; stack = []; given = [] }
+after s (push-leaf p) = with-stack s (record { next-step = false; weights = is-weight (s .site .weights) p } ∷ s .stack)
+after s (push-condition k) = with-stack s (joined (ltb conditions-most k) (s .stack))
+after s (push-test p) = with-stack s (joined false (s .stack))
+after s (take-reward a) = with-slot s (drop 1 (s .stack)) (reward-slot a)
+after s (take-chance a k) = with-slot s (drop 1 (s .stack)) (chance-slot a k)
+after s (take-level a i) = with-slot s (drop 1 (s .stack)) (level-slot a i)
+after s (name-action a b) = with-slot s (s .stack) (name-slot a)
+after s end-model = s
+
+-- ---- the verdict: number and place, 0 and 0 where the model is accepted
+
+pub record Verdict : Type 0 where
+  pub number : ℕ
+  pub place : ℕ
+
+abbrev pub refusal : ℕ → ℕ → Verdict
+refusal k p = record { number = k; place = p }
+
+-- "8: bytes after end", at the offset of the extra byte
+unfoldable pub ended : ℕ → ℕ → Command → Verdict → Verdict
+ended size at end-model rest = if (ltb (at + 1) size) (refusal 8 (at + 1)) (refusal 0 0)
+ended size at (site m n a w) rest = rest
+ended size at (push-leaf p) rest = rest
+ended size at (push-condition k) rest = rest
+ended size at (push-test p) rest = rest
+ended size at (take-reward a) rest = rest
+ended size at (take-chance a k) rest = rest
+ended size at (take-level a i) rest = rest
+ended size at (name-action a b) rest = rest
+
+-- "the model by offset": the first command at fault decides
+unfoldable pub judged : ℕ → Progress → List Placed → Verdict
+judged size s [] = refusal 0 0
+judged size s (x ∷ l) = elim (x .read) [
+  | whole c ↦ (let k = first-broken (rules-of s c) in if (eqb k 0) (ended size (x .at) c (judged size (after s c) l)) (refusal k (x .at)))
+  | unknown ↦ refusal 3 (x .at)
+  | short ↦ refusal 2 (x .at)
+]
+
+abbrev pub no-site : Site
+no-site = site-of 0 0 0 0
+
+abbrev pub at-start : Progress
+at-start = record { begun = false; site = no-site; stack = []; given = [] }
+
+unfoldable pub verdict : List ℕ → Verdict
+verdict B = judged (length B) at-start (readings B)
