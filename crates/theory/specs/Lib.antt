@@ -15,3 +15,4 @@ pub mod Value
 pub mod Plain
 pub mod Name
 pub mod Listing
+pub mod Examples

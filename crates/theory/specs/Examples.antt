@@ -1,0 +1,135 @@
+-- The cases marked ★ in document 01, together as one table, and the pond's listing: by computation, from the bytes on.
+use mathlib.Core.Path.{_≡_, refl}
+use mathlib.Core.Bool.{Bool, true, false, not, _&&_}
+use mathlib.Core.List.{List, [], _∷_, _++_, map}
+use Prim.Native.Nat.{ℕ, zero, suc, _+_, _-_, _*_, _/_, _%_, _<_}
+use native.Mathlib.Omega.{arith}
+use lib.Dec.{T, eqb, isEq}
+use lib.IntN.{ℤ, pos, negsuc}
+use lib.ListN.{length, replicate}
+use Rattle.whole.specs.Cases.{if}
+use Rattle.whole.specs.Divisor as Divisor
+use Rattle.whole.specs.Within as Within
+use Rattle.whole.specs.Numerator as Numerator
+use Rattle.theory.specs.Diagram as Diagram
+use Rattle.theory.specs.Computation as Computation
+use Rattle.theory.specs.Rules as Rules
+use Rattle.theory.specs.Process as Process
+use Rattle.theory.specs.Meaning as Meaning
+use Rattle.theory.specs.Stage as Stage
+use Rattle.theory.specs.Valid as Valid
+use Rattle.theory.specs.Command as Command
+use Rattle.theory.specs.Verdict as Verdict
+use Rattle.theory.specs.Load as Load
+use Rattle.theory.specs.Solve as Solve
+use Rattle.theory.specs.Value as Value
+use Rattle.theory.specs.Plain as Plain
+use Rattle.theory.specs.Name as Name
+use Rattle.theory.specs.Listing as Listing
+
+-- one name that unfolds all that the cases compute with
+unfoldable definitions : Unit {0}
+unfolding Divisor.gcdBy Divisor.gcdOf Divisor.gcd-all Divisor.at-least-one Within.small Numerator.number Numerator.words Diagram.cmpList Diagram.cmpLinear Diagram.cmp Diagram.same-leaf Diagram.same Diagram.addL Diagram.scaleL Diagram._⊞_ Diagram._⊠_ Diagram._⊟_ Diagram.plus-constant Diagram.zeros Diagram.quotL Diagram.quotient Diagram.divisor Diagram.test-of Computation.bind Computation.result Computation.make Computation.names Computation.judge Computation.both Computation.member Computation.run Computation.enter Computation.enter-all Computation.and-then Computation.final Computation.run-all Rules.node Rules.step Rules.choose Rules.over Rules.merge Rules.make-leaf Rules.leaf-sum Rules.leaf-product Rules.leaf-scale Rules.leaf-shift Rules.leaf-complement Rules.leaf-number Rules.decide Rules.leaf-best Rules.sum Rules.product Rules.scale Rules.shift Rules.complement Rules.number Rules.best Rules.no-coeffs Rules.zero-leaf Rules.sum-on Rules.levels-sum Rules.linear-diagram Rules.substitute Rules.is-later Rules.side Rules.expectation Rules.add-reward Process.mean Process.maxZ Process.greatest-from Process.first-best Process.total Process.optimum Process.lowest-best Meaning.nth-action Meaning.action-at Meaning.numbers-from Meaning.nth Meaning.env Meaning.dot Meaning.value Meaning.holds Meaning.at Meaning.worth-at Meaning.doubled Meaning.settings Meaning.chance-at Meaning.weight Meaning.moved Meaning.process Stage.all-diagrams Stage.model-diagrams Stage.sum-out Stage.action-total Stage.best-on Stage.stage-over Stage.stages-on Stage.all-stages Valid.all Valid.among Command.width Command.word-at Command.signed Command.signed-from Command.linear-at Command.command-at Command.read-at Command.goes-on Command.readings-from Command.readings Verdict.same-slot Verdict.has-slot Verdict.first-broken Verdict.beyond Verdict.next-condition Verdict.printable Verdict.is-weight Verdict.joined Verdict.from-to Verdict.wanted-by Verdict.wanted Verdict.site-rules Verdict.first-rules Verdict.later-rules Verdict.rules-of Verdict.after Verdict.ended Verdict.judged Verdict.verdict Load.condition-test Load.load-choice Load.load-entry Load.load-one Load.load-on Load.find-slot Load.action-of Load.model-of Load.site-at Load.load Load.model Solve.room Solve.solve-in Solve.number-of Solve.padded Solve.test-words Solve.row Solve.rows Solve.table-of Solve.solved-nodes Solve.solved-stages Solve.solve-left Solve.early Solve.solve Value.accepted Value.bits Value.state-of Value.node-linear Value.amongZ Value.small-linear Value.good-branches Value.good-leaf-row Value.good-condition-row Value.good-test-row Value.good-row Value.numerator-of Value.taken Value.walk Value.value-at Value.value-of Plain.judged Plain.in-32-bits Plain.sum-settings Plain.action-worth Plain.better Plain.try-actions Plain.numbered Plain.state-worth Plain.worth-out Plain.if-true Plain.plain-of Name.names-action Name.trimmed Name.named-part Name.name-refusal Name.name-part Name.name Listing.digits Listing.spaced Listing.spaced-all Listing.first-line Listing.node-line Listing.stage-line Listing.lines Listing.greatest-root Listing.text Listing.refusal-line Listing.written Listing.listing-refusal Listing.listing
+definitions = tt
+
+-- ---- models as bytes
+
+-- four bytes, low byte first
+abbrev bytes-of : ℕ → List ℕ
+bytes-of n = n % 256 ∷ n / 256 % 256 ∷ n / 65536 % 256 ∷ n / 16777216 ∷ []
+
+abbrev int : ℤ → List ℕ
+int (pos n) = bytes-of n
+int (negsuc n) = bytes-of (4294967295 - n)
+
+-- a × L1 + c
+abbrev linear₁ : ℤ → ℤ → List ℕ
+linear₁ a c = int a ++ (replicate 12 0 ++ int c)
+
+-- "Pond: m 1, n 0, A 2, W 1. Hold (1): reward 0, next L1. Release (2): test −L1 + 10; reward 50 or −1, next L1 − 10 or L1."
+abbrev pub pond : List ℕ
+pond =
+    (0x01 ∷ 1 ∷ 0 ∷ 2 ∷ 1 ∷ [])
+    ++ ((0x10 ∷ linear₁ (pos 0) (pos 0)) ++ ((0x20 ∷ 1 ∷ []) ++ ((0x10 ∷ linear₁ (pos 1) (pos 0)) ++ ((0x22 ∷ 1 ∷ 1 ∷ [])
+    ++ ((0x10 ∷ linear₁ (pos 0) (pos 50)) ++ ((0x10 ∷ linear₁ (pos 0) (negsuc 0)) ++ ((0x12 ∷ linear₁ (negsuc 0) (pos 10)) ++ ((0x20 ∷ 2 ∷ [])
+    ++ ((0x10 ∷ linear₁ (pos 1) (negsuc 9)) ++ ((0x10 ∷ linear₁ (pos 1) (pos 0)) ++ ((0x12 ∷ linear₁ (negsuc 0) (pos 10)) ++ (0x22 ∷ 2 ∷ 1 ∷ 0xff ∷ []))))))))))))
+
+-- "Rain: m 1, n 1, A 1, W 10, chance 7, reward L1, next L1 − 150 on next-step yes, else L1 − 50"
+abbrev pub rain : List ℕ
+rain =
+    (0x01 ∷ 1 ∷ 1 ∷ 1 ∷ 10 ∷ [])
+    ++ ((0x10 ∷ linear₁ (pos 0) (pos 7)) ++ ((0x21 ∷ 1 ∷ 1 ∷ []) ++ ((0x10 ∷ linear₁ (pos 1) (pos 0)) ++ ((0x20 ∷ 1 ∷ [])
+    ++ ((0x10 ∷ linear₁ (pos 1) (negsuc 149)) ++ ((0x10 ∷ linear₁ (pos 1) (negsuc 49)) ++ (0x11 ∷ 5 ∷ 0x22 ∷ 1 ∷ 1 ∷ 0xff ∷ [])))))))
+
+-- tables with room for N nodes, and what solve leaves in them
+abbrev solved : List ℕ → ℕ → ℕ → Solve.SolveOut
+solved B H N = Solve.solve B H (replicate (N * 8) (pos 0)) (replicate 8 0) (replicate (N * 8) 0)
+
+-- x over d at no condition
+abbrev asked : ℤ → ℕ → Value.Asked
+asked x d = record { mask = 0; nums = x ∷ pos 0 ∷ pos 0 ∷ pos 0 ∷ []; den = pos d }
+
+abbrev reads : Value.ValueOut → ℕ → ℕ → Bool
+reads o v a = eqb (o .number) 0 && (eqb (o .action) a && (eqb (o .numerator .low) v && isEq (Diagram.cmpZ (o .numerator .high) (pos 0))))
+
+-- h steps left at x / d: the numerator v and action a, read from the tables of a solve and worked plainly
+abbrev row : List ℕ → Solve.SolveOut → ℕ → ℤ → ℕ → ℕ → ℕ → Bool
+row B o h x d v a =
+    eqb (o .number) 0 && (reads (Value.value-of B (o .nodes) (o .stages) h (asked x d)) v a && reads (Plain.plain-of B h (asked x d)) v a)
+
+-- a × L1 + c, numbered with action 1
+abbrev rain-leaf : ℤ → ℤ → Diagram.Tree
+rain-leaf a c = Diagram.leaf (record { lin = record { coeffs = a ∷ pos 0 ∷ pos 0 ∷ pos 0 ∷ []; const = c }; act = 1 })
+
+-- the pond's peak at horizon 2
+pub pond-peak : T (eqb (solved pond 2 21 .peak) 21 && eqb (solved pond 2 20 .number) 12)
+unfolding definitions
+pond-peak = tt
+
+pub starred : T (let o = solved pond 2 21 in
+    row pond o 2 (pos 20) 1 100 2 && (row pond o 2 (pos 30) 1 100 2 && (row pond o 2 (pos 39) 2 100 1 && (row pond o 2 (pos 10) 1 50 1
+    && (row pond o 2 (pos 9) 1 0 1 && (row pond o 2 (negsuc 4) 1 0 1 && (row pond o 1 (pos 10) 1 50 2 && (row pond o 1 (pos 19) 2 0 1
+    && row rain (solved rain 2 30) 2 (pos 200) 1 28000 1))))))))
+unfolding definitions
+starred = tt
+
+-- "stage 2 is the leaf 200 L1 − 12,000"
+pub rain-stages : Computation.final (Stage.all-stages (Load.model rain) 2) ≡ rain-leaf (pos 10) (pos 0) ∷ rain-leaf (pos 200) (negsuc 11999) ∷ []
+unfolding definitions
+rain-stages = refl
+
+-- the pond's listing for horizon 2, as bytes
+abbrev pub pond-listing : List ℕ
+pond-listing =
+    -- PLAN 1 0 2 1 2
+    (80 ∷ 76 ∷ 65 ∷ 78 ∷ 32 ∷ 49 ∷ 32 ∷ 48 ∷ 32 ∷ 50 ∷ 32 ∷ 49 ∷ 32 ∷ 50 ∷ 10 ∷ []) ++ (
+    -- N 1 V 0 0 0 0 50 2
+    (78 ∷ 32 ∷ 49 ∷ 32 ∷ 86 ∷ 32 ∷ 48 ∷ 32 ∷ 48 ∷ 32 ∷ 48 ∷ 32 ∷ 48 ∷ 32 ∷ 53 ∷ 48 ∷ 32 ∷ 50 ∷ 10 ∷ []) ++ (
+    -- N 2 V 0 0 0 0 0 1
+    (78 ∷ 32 ∷ 50 ∷ 32 ∷ 86 ∷ 32 ∷ 48 ∷ 32 ∷ 48 ∷ 32 ∷ 48 ∷ 32 ∷ 48 ∷ 32 ∷ 48 ∷ 32 ∷ 49 ∷ 10 ∷ []) ++ (
+    -- N 3 L -1 0 0 0 10 1 2
+    (78 ∷ 32 ∷ 51 ∷ 32 ∷ 76 ∷ 32 ∷ 45 ∷ 49 ∷ 32 ∷ 48 ∷ 32 ∷ 48 ∷ 32 ∷ 48 ∷ 32 ∷ 49 ∷ 48 ∷ 32 ∷ 49 ∷ 32 ∷ 50 ∷ 10 ∷ []) ++ (
+    -- N 4 V 0 0 0 0 100 2
+    (78 ∷ 32 ∷ 52 ∷ 32 ∷ 86 ∷ 32 ∷ 48 ∷ 32 ∷ 48 ∷ 32 ∷ 48 ∷ 32 ∷ 48 ∷ 32 ∷ 49 ∷ 48 ∷ 48 ∷ 32 ∷ 50 ∷ 10 ∷ []) ++ (
+    -- N 5 V 0 0 0 0 50 1
+    (78 ∷ 32 ∷ 53 ∷ 32 ∷ 86 ∷ 32 ∷ 48 ∷ 32 ∷ 48 ∷ 32 ∷ 48 ∷ 32 ∷ 48 ∷ 32 ∷ 53 ∷ 48 ∷ 32 ∷ 49 ∷ 10 ∷ []) ++ (
+    -- N 6 L -1 0 0 0 20 4 5
+    (78 ∷ 32 ∷ 54 ∷ 32 ∷ 76 ∷ 32 ∷ 45 ∷ 49 ∷ 32 ∷ 48 ∷ 32 ∷ 48 ∷ 32 ∷ 48 ∷ 32 ∷ 50 ∷ 48 ∷ 32 ∷ 52 ∷ 32 ∷ 53 ∷ 10 ∷ []) ++ (
+    -- N 7 L -1 0 0 0 10 6 2
+    (78 ∷ 32 ∷ 55 ∷ 32 ∷ 76 ∷ 32 ∷ 45 ∷ 49 ∷ 32 ∷ 48 ∷ 32 ∷ 48 ∷ 32 ∷ 48 ∷ 32 ∷ 49 ∷ 48 ∷ 32 ∷ 54 ∷ 32 ∷ 50 ∷ 10 ∷ []) ++ (
+    -- S 1 3
+    (83 ∷ 32 ∷ 49 ∷ 32 ∷ 51 ∷ 10 ∷ []) ++ (
+    -- S 2 7
+    (83 ∷ 32 ∷ 50 ∷ 32 ∷ 55 ∷ 10 ∷ []))))))))))
+
+unfoldable pub same-bytes : List ℕ → List ℕ → Bool
+same-bytes [] [] = true
+same-bytes [] (b ∷ s) = false
+same-bytes (a ∷ r) [] = false
+same-bytes (a ∷ r) (b ∷ s) = eqb a b && same-bytes r s
+
+pub pond-listed : T (let o = solved pond 2 21 in
+    let l = Listing.listing pond 2 (o .nodes) (o .stages) (replicate 400 7) 3 in
+    eqb (l .number) 0 && same-bytes (l .buffer) (replicate 3 7 ++ (pond-listing ++ replicate (397 - length pond-listing) 7)))
+unfolding definitions same-bytes
+pond-listed = tt
