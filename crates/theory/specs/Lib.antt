@@ -16,3 +16,5 @@ pub mod Plain
 pub mod Name
 pub mod Listing
 pub mod Examples
+pub mod Events
+pub mod Demands
