@@ -15,7 +15,7 @@ use Rattle.theory.specs.Rules.{zero-leaf}
 use Rattle.theory.specs.Process.{Process, Policy, optimum, lowest-best, expected, Sound}
 use Rattle.theory.specs.Meaning.{State, process}
 use Rattle.theory.specs.Stage.{all-stages}
-use Rattle.theory.specs.Verdict.{Site}
+use Rattle.theory.specs.Verdict.{Site, verdict}
 use Rattle.theory.specs.Load.{load, model, site-at}
 use Rattle.theory.specs.Solve.{solve-in, SolveOut, solve}
 use Rattle.theory.specs.Value.{Asked, accepted, state-of, ValueOut, value-of}
@@ -81,12 +81,12 @@ SameValue = (g : Solving) (h : ℕ) → 1 ≤ h → h ≤ g .horizon → (q r : 
 
 -- 11 or 12 with its place is given exactly where it is the first met, while loading or in an operation of the stages
 abbrev pub FirstMet : Type 0
-FirstMet = (N : ℕ) (B : List ℕ) (H r p : ℕ)
+FirstMet = (N : ℕ) (B : List ℕ) (H r p : ℕ) → verdict B .number ≡ 0
     → (solve-in N B H ≡ refused r p) ↔ ((Refused N [] (events (load B)) r × (p ≡ 0)) ⊎ (Passes N [] (events (load B)) × RefusedAt N (all-stages (model B) H) r p))
 
 -- it is solved exactly where every operation passes, and the peak is the largest count of needed nodes
 abbrev pub SolvedExactly : Type 0
-SolvedExactly = (N : ℕ) (B : List ℕ) (H : ℕ)
+SolvedExactly = (N : ℕ) (B : List ℕ) (H : ℕ) → verdict B .number ≡ 0
     → ((S : List Tree) (peak : ℕ) → solve-in N B H ≡ solved S peak → peak ≡ peak-of (length (needed [] (events (load B)))) (all-stages (model B) H))
     × (((S : List Tree) × (peak : ℕ) × (solve-in N B H ≡ solved S peak)) ↔ (Passes N [] (events (load B)) × PassesAll N (all-stages (model B) H)))
 
@@ -99,5 +99,5 @@ CountsDistinct = (roots : List Tree) (l : List Event) → Distinct (needed (ente
 
 -- tables that hold the peak solve, with the same result; smaller ones are refused with 12
 abbrev pub PeakDecides : Type 0
-PeakDecides = (N : ℕ) (B : List ℕ) (H : ℕ) (S : List Tree) (peak : ℕ) → solve-in N B H ≡ solved S peak
+PeakDecides = (N : ℕ) (B : List ℕ) (H : ℕ) (S : List Tree) (peak : ℕ) → verdict B .number ≡ 0 → solve-in N B H ≡ solved S peak
     → (peak ≤ N) × ((K : ℕ) → peak ≤ K → solve-in K B H ≡ solved S peak) × ((K : ℕ) → K < peak → (p : ℕ) × (solve-in K B H ≡ refused 12 p))

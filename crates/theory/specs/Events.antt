@@ -8,7 +8,7 @@ use lib.IntN.{ℤ}
 use lib.ListN.{length}
 use Rattle.whole.specs.Cases.{if}
 use Rattle.whole.specs.Within.{small}
-use Rattle.theory.specs.Diagram.{Tree}
+use Rattle.theory.specs.Diagram.{Tree, leaf, branch}
 use Rattle.theory.specs.Computation.{Comp, ret, named, made, result, member, enter-all, Ops, end, operation}
 
 pub data Event : Type 0 where
@@ -61,3 +61,17 @@ PassesAll N (operation h roots c f) = Passes N (enter-all roots []) (events c) �
 unfoldable pub peak-of : {A : Type 0} → ℕ → Ops A → ℕ
 peak-of p (end a) = p
 peak-of p (operation h roots c f) = peak-of (max p (length (needed (enter-all roots []) (events c)))) (f (result c))
+
+-- a diagram and all that is below it are among X
+unfoldable pub inside : Tree → List Tree → Bool
+inside (leaf f) X = member (leaf f) X
+inside (branch t h l) X = member (branch t h l) X && (inside h X && inside l X)
+
+unfoldable pub all-inside : List Tree → List Tree → Bool
+all-inside [] X = true
+all-inside (t ∷ l) X = inside t X && all-inside l X
+
+-- each operation begins with nodes that were there when the one before it ended, the first with those of X
+unfoldable pub Chained : {A : Type 0} → List Tree → Ops A → Type 0
+Chained X (end a) = Unit {0}
+Chained X (operation h roots c f) = T (all-inside roots X) × Chained (needed (enter-all roots []) (events c)) (f (result c))
