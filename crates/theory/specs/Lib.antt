@@ -18,3 +18,4 @@ pub mod Listing
 pub mod Examples
 pub mod Events
 pub mod Demands
+pub mod laws

@@ -1,0 +1,5 @@
+-- What is proved about the definitions.
+pub mod Process
+pub mod Comps
+pub mod Values
+pub mod Tests
