@@ -11,10 +11,7 @@ use Rattle.whole.specs.Five.{SmallFive, divisorOf, dividedOf}
 use Rattle.whole.specs.Magnitude.{abs-quot}
 use Rattle.whole.specs.Within.{limit, Small}
 use Rattle.whole.proofs.Euclid.{gcd-small}
-use Rattle.whole.proofs.Signed.{R, back, by-abs}
-
-pub small-back : (z : ℤ) → Small z → R z ≡ z
-small-back z h = back z (by-abs z (omega (arith, h .small)))
+use Rattle.whole.proofs.Signed.{R, small-back}
 
 least-small : (g : ℕ) → g ≤ limit → at-least-one g ≤ limit
 unfolding at-least-one

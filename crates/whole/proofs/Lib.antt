@@ -2,3 +2,4 @@ pub mod Signed
 pub mod Laws
 pub mod Euclid
 pub mod Divided
+pub mod TwoWords

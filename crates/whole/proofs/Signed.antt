@@ -9,10 +9,11 @@ use lib.Dec.{T, ltb, leb, ltb→lt, nltb→le, lit<}
 use lib.IntN.{ℤ, pos, negsuc, negℤ, natAbs, sucℤ, subℕ, _+ℤ_, _-ℤ_, _*ℤ_, +ℤ-one, +ℤ-idl, negℤ-negℤ}
 use native.Mathlib.Nat.{div-le-self}
 use lib.Signed.{quotZ, mag, ltZ, nonNeg}
-use mir.Syntax.{w64}
+use mir.Syntax.{w32, w64}
 use mir.Val.{SFits, Fits, toZ, ofZ}
 use mir.ValLaws.{toZ-ofZ}
 use Rattle.whole.specs.Magnitude.{abs-neg}
+use Rattle.whole.specs.Within.{Small}
 
 -- below zero: -(n + 1)
 pub negative : (z : ℤ) → ltZ z (pos 0) ≡ true → (n : ℕ) × (z ≡ negsuc n)
@@ -41,6 +42,23 @@ back z f = toZ-ofZ w64 z f
 -- a word below 2⁶³ reads as itself
 pub plain : (n : ℕ) → n < 2 ^ 63 → toZ w64 n ≡ pos n
 plain n h = back (pos n) (record { sfits = h })
+
+-- a word of 32 bits, as it is read back and widened
+abbrev pub R32 : ℤ → ℤ
+R32 z = toZ w32 (ofZ w32 z)
+
+pub back32 : (z : ℤ) → SFits w32 z → R32 z ≡ z
+back32 z f = toZ-ofZ w32 z f
+
+pub widens : (z : ℤ) → SFits w32 z → SFits w64 (R32 z)
+widens z f = rw (back32 z f) (record { sfits = omega (arith, f .sfits) })
+
+-- a number within the limits
+pub small-fits : (z : ℤ) → Small z → SFits w64 z
+small-fits z h = by-abs z (omega (arith, h .small))
+
+pub small-back : (z : ℤ) → Small z → R z ≡ z
+small-back z h = back z (small-fits z h)
 
 -- -(z + 1) of a negative z, step by step
 pub record Down (z : ℤ) : Type 0 where

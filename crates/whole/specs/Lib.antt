@@ -7,3 +7,4 @@ pub mod Numerator
 pub mod Five
 pub mod Magnitude
 pub mod WithinLaws
+pub mod NumeratorLaws

@@ -1,3 +1,4 @@
+-- `whole::divisors::divided` meets its contract.
 use Rattle.whole.specs.Five.{divisorOf}
 use Rattle.whole.proofs.Divided.{divisor-is, divisor-fits-as, divided-is}
 use mathlib.Core.Path.{_≡_}
@@ -6,17 +7,10 @@ use Rattle.whole.specs.Within.{limit}
 use borrow.Author.Needs.{needs}
 use Rattle.whole.proofs.divisors.divided.Statement.{statement}
 use Rattle.whole.proofs.divisors.divided.Tie as tie
-use Rattle.whole.proofs.divisors.divided.Reads as reads
-use Rattle.whole.proofs.divisors.divided.Lts as lts
-use Rattle.whole.proofs.divisors.at_least_one.Reads as at-least-one-reads
-use Rattle.whole.proofs.divisors.gcd_of_five.Reads as gcd-of-five-reads
-use Rattle.whole.proofs.divisors.quot.Reads as quot-reads
 
--- src/divisors.rt:59:26
 gcd-of-five-requires : tie.Need-gcd-of-five-requires
 gcd-of-five-requires c κs = search needs
 
--- src/divisors.rt:59:9
 at-least-one-requires : tie.Need-at-least-one-requires
 at-least-one-requires c κs = search needs
 

@@ -1,54 +1,40 @@
+-- `whole::divisors::gcd_of_five` meets its contract.
 use Rattle.whole.specs.Divisor.{gcd-all}
 use Rattle.whole.proofs.Signed.{back}
 use borrow.Author.Needs.{needs}
 use Rattle.whole.proofs.divisors.gcd_of_five.Statement.{statement}
 use Rattle.whole.proofs.divisors.gcd_of_five.Tie as tie
-use Rattle.whole.proofs.divisors.gcd_of_five.Reads as reads
-use Rattle.whole.proofs.divisors.gcd_of_five.Lts as lts
-use Rattle.whole.proofs.divisors.gcd.Reads as gcd-reads
-use Rattle.whole.proofs.limits.mag.Reads as mag-reads
 
--- src/divisors.rt:32:20
 mag-requires : tie.Need-mag-requires
 mag-requires c κs = search needs
 
--- src/divisors.rt:32:9
 gcd-requires : tie.Need-gcd-requires
 gcd-requires c κs = search needs
 
--- src/divisors.rt:33:19
 mag-requires-2 : tie.Need-mag-requires-2
 mag-requires-2 c κs = search needs
 
--- src/divisors.rt:33:9
 gcd-requires-2 : tie.Need-gcd-requires-2
 gcd-requires-2 c κs = search needs
 
--- src/divisors.rt:34:21
 mag-requires-3 : tie.Need-mag-requires-3
 mag-requires-3 c κs = search needs
 
--- src/divisors.rt:34:9
 gcd-requires-3 : tie.Need-gcd-requires-3
 gcd-requires-3 c κs = search needs
 
--- src/divisors.rt:35:20
 mag-requires-4 : tie.Need-mag-requires-4
 mag-requires-4 c κs = search needs
 
--- src/divisors.rt:35:9
 gcd-requires-4 : tie.Need-gcd-requires-4
 gcd-requires-4 c κs = search needs
 
--- src/divisors.rt:36:9
 mag-requires-5 : tie.Need-mag-requires-5
 mag-requires-5 c κs = search needs
 
--- src/divisors.rt:36:5
 gcd-requires-5 : tie.Need-gcd-requires-5
 gcd-requires-5 c κs = search needs
 
--- src/divisors.rt:29:1
 returns : tie.Need-returns
 unfolding gcd-all
 returns c =

@@ -1,4 +1,4 @@
--- `whole::add_within` meets its contract.
+-- `whole::limits::add_within` meets its contract.
 use borrow.Author.Needs.{needs}
 use mathlib.Core.Path.{sym, ap, ap₂, _∙_}
 use lib.IntN.{_+ℤ_}

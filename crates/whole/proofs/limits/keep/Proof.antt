@@ -1,4 +1,4 @@
--- `whole::keep` meets its contract.
+-- `whole::limits::keep` meets its contract.
 use borrow.Author.Needs.{needs}
 use mathlib.Core.Path.{sym, ap, _∙_}
 use native.Mathlib.Omega.{arith}

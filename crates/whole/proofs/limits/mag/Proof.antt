@@ -1,4 +1,4 @@
--- `whole::mag` meets its contract.
+-- `whole::limits::mag` meets its contract.
 use mathlib.Core.Path.{_≡_, refl, sym, ap, _∙_, subst}
 use borrow.Author.Needs.{needs}
 use native.Mathlib.Omega.{arith}

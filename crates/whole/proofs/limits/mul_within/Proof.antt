@@ -1,4 +1,4 @@
--- `whole::mul_within` meets its contract.
+-- `whole::limits::mul_within` meets its contract.
 use borrow.Author.Needs.{needs}
 use Rattle.whole.proofs.Signed.{abs-back}
 use Rattle.whole.proofs.Laws.{product-zero, product-fits, product-is, product-over}

@@ -1,17 +1,14 @@
+-- `whole::limits::power_within` meets its contract: after i turns p is w to the power i, within the limits.
 use borrow.Author.Needs.{needs}
-use mathlib.Core.Path.{_≡_, refl, sym, ap, ap₂, _∙_}
-use Prim.Native.Nat.{ℕ, suc, _+_, _-_, _^_, _≤_, _<_}
+use mathlib.Core.Path.{_≡_, sym}
+use Prim.Native.Nat.{_-_, _^_, _≤_}
 use native.Mathlib.Omega.{arith}
 use native.Mathlib.Nat.{pow-zero}
 use lib.Dec.{lit≤}
-use lib.IntN.{ℤ, pos, _*ℤ_}
 use Rattle.whole.specs.Within.{limit}
 use Rattle.whole.proofs.Laws.{power-next, power-stops, power-ends}
 use Rattle.whole.proofs.limits.power_within.Statement.{statement}
 use Rattle.whole.proofs.limits.power_within.Tie as tie
-use Rattle.whole.proofs.limits.power_within.Reads as reads
-use Rattle.whole.proofs.limits.power_within.Lts as lts
-use Rattle.whole.proofs.limits.mul_within.Reads as mul-within-reads
 
 abbrev Inv-loop : tie.InvT-loop
 Inv-loop w e p₀ i₀ p i = (i ≤ e) × (p ≡ w ^ i) × (p ≤ limit)
@@ -19,42 +16,33 @@ Inv-loop w e p₀ i₀ p i = (i ≤ e) × (p ≡ w ^ i) × (p ≤ limit)
 abbrev μ-loop : tie.MeasureT-loop
 μ-loop w e p₀ i₀ p i = e - i
 
--- src/limits.rt:72:5
 loop-holds : tie.Need-loop-holds Inv-loop μ-loop
 loop-holds c = (omega arith, sym (pow-zero (c .args .w)), lit≤ tt)
 
--- src/limits.rt:73:43
 cast-mul-within : tie.Need-cast-mul-within Inv-loop μ-loop
 cast-mul-within c = search needs
 
--- src/limits.rt:73:29
 mul-within-requires : tie.Need-mul-within-requires Inv-loop μ-loop
 mul-within-requires c κs = tt
 
--- src/limits.rt:73:24
 enum-known-q : tie.Need-enum-known-q Inv-loop μ-loop
 enum-known-q c = search needs
 
--- src/limits.rt:74:13
 enum-told : tie.Need-enum-told Inv-loop μ-loop
 enum-told c = search needs
 
--- src/limits.rt:74:13
 returns : tie.Need-returns Inv-loop μ-loop
 returns c =
     let l = c .before .before .before .before .loop in
     let s = c .before .before .before .before .before in
-    power-stops (s .args .w) (l .i) (l .p) (s .fits .w .fits) (l .inv .1) (l .inv .2) (c .before .before .mul-within .result) (s .args .e) (c .before .before .before .loop-test .taken) (c .before .before .mul-within .ensures) (c .enum-told .given .1)
+    power-stops (s .args .w) (l .i) (l .p) (s .fits .w .fits) (l .inv .1) (l .inv .2) (c .before .before .mul-within .result) (s .args .e) (omega arith) (c .before .before .mul-within .ensures) (c .enum-told .given .1)
 
--- src/limits.rt:77:9
 add-i : tie.Need-add-i Inv-loop μ-loop
 add-i c = omega arith
 
--- src/limits.rt:72:5
 loop-less : tie.Need-loop-less Inv-loop μ-loop
 loop-less c = omega arith
 
--- src/limits.rt:72:5
 loop-again : tie.Need-loop-again Inv-loop μ-loop
 loop-again c =
     let l = c .before .before .before .before .before .loop in
@@ -63,7 +51,6 @@ loop-again c =
     let n = power-next (s .args .w) (l .i) (l .p) (s .fits .w .fits) (l .inv .1) (l .inv .2) (c .before .before .before .mul-within .result) (q .0 .0) (c .before .before .before .mul-within .ensures) (q .1) in
     (omega arith, n .0, n .1)
 
--- src/limits.rt:67:1
 returns-2 : tie.Need-returns-2 Inv-loop μ-loop
 returns-2 c =
     let l = c .before .loop in
