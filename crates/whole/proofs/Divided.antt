@@ -1,9 +1,9 @@
 -- A test divided: its divisor fits, and each number's part.
-use mathlib.Core.Path.{_≡_, refl, sym, ap, ap₂, _∙_}
-use mathlib.Core.List.{List, [], _∷_}
+use mathlib.Core.Path.{_≡_, ap, ap₂, _∙_}
+use mathlib.Core.List.{[], _∷_}
 use Prim.Native.Nat.{ℕ, zero, suc, _≤_, _<_, zero-le}
 use native.Mathlib.Omega.{arith}
-use lib.IntN.{ℤ, pos, natAbs}
+use lib.IntN.{ℤ, pos}
 use lib.Signed.{quotZ}
 use Rattle.whole.specs.declared.Five.{Five}
 use Rattle.whole.specs.Divisor.{gcd-all, at-least-one, least-positive}

@@ -1,9 +1,9 @@
 -- Euclid's rule: a step, and that the bound on the steps does not matter.
-use mathlib.Core.Path.{_≡_, refl, sym, ap, _∙_}
+use mathlib.Core.Path.{_≡_, refl}
 use Prim.Native.Nat.{ℕ, zero, suc, _%_, _≤_, _<_, zero-le, suc-le-suc}
 use native.Mathlib.Nat.{mod-lt, le-trans, le-of-lt}
 use native.Mathlib.Omega.{arith}
-use Rattle.whole.specs.Divisor.{gcdBy, gcdOf, gcd-all, at-least-one}
+use Rattle.whole.specs.Divisor.{gcdBy, gcdOf, at-least-one}
 
 -- enough steps are enough
 fuel : (f g a b : ℕ) → b ≤ f → b ≤ g → gcdBy f a b ≡ gcdBy g a b

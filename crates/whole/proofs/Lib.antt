@@ -1,3 +1,4 @@
+-- Laws that several proofs cite.
 pub mod Signed
 pub mod Laws
 pub mod Euclid

@@ -1,31 +1,23 @@
 -- Signed numbers at 64 bits: what a test or an operation reads back from the bits, and bounds by magnitude.
 use mathlib.Core.Path.{_≡_, refl, sym, ap, ap₂, _∙_, subst}
-use mathlib.Core.Bool.{Bool, true, false, not, cond}
-use Prim.Native.Nat.{ℕ, zero, suc, _+_, _-_, _*_, _/_, _^_, _≤_, _<_}
-use borrow.Author.Tests.{ltb-true, ltb-false}
-use native.Mathlib.Nat.{not-suc-le-zero, le-trans, le-refl, mul-le-mul-left, mul-le-mul-right, le-antisymm}
+use mathlib.Core.Bool.{true, false}
+use Prim.Native.Nat.{ℕ, zero, suc, _/_, _^_, _≤_, _<_}
+use borrow.Author.Tests.{ltb-true}
+use native.Mathlib.Nat.{not-suc-le-zero}
 use native.Mathlib.Omega.{arith}
-use lib.Dec.{T, ltb, leb, ltb→lt, nltb→le, lit<}
-use lib.IntN.{ℤ, pos, negsuc, negℤ, natAbs, sucℤ, subℕ, _+ℤ_, _-ℤ_, _*ℤ_, +ℤ-one, +ℤ-idl, negℤ-negℤ}
+use lib.IntN.{ℤ, pos, negsuc, negℤ, natAbs, _+ℤ_, _-ℤ_, +ℤ-one, +ℤ-idl, negℤ-negℤ}
 use native.Mathlib.Nat.{div-le-self}
-use lib.Signed.{quotZ, mag, ltZ, nonNeg}
+use lib.Signed.{quotZ, mag, ltZ}
 use mir.Syntax.{w32, w64}
-use mir.Val.{SFits, Fits, toZ, ofZ}
+use mir.Val.{SFits, toZ, ofZ}
 use mir.ValLaws.{toZ-ofZ}
 use Rattle.whole.specs.Magnitude.{abs-neg}
 use Rattle.whole.specs.Within.{Small}
 
--- below zero: -(n + 1)
-pub negative : (z : ℤ) → ltZ z (pos 0) ≡ true → (n : ℕ) × (z ≡ negsuc n)
-negative (pos n) e = absurd (not-suc-le-zero (ltb-true n 0 e))
-negative (negsuc n) e = (n, refl)
-
+-- one more than a negative number
 pub up : (n : ℕ) → negsuc n +ℤ pos 1 ≡ negℤ (pos n)
 up zero = +ℤ-one (negsuc zero)
 up (suc n) = +ℤ-one (negsuc (suc n))
-
-pub down : (n : ℕ) → pos 0 -ℤ (negsuc n +ℤ pos 1) ≡ pos n
-down n = ap (λ (k : ℤ). pos 0 -ℤ k) (up n) ∙ (+ℤ-idl (negℤ (negℤ (pos n))) ∙ negℤ-negℤ (pos n))
 
 -- a magnitude at most 2⁶³ − 1 fits
 pub by-abs : (z : ℤ) → natAbs z < 2 ^ 63 → SFits w64 z

@@ -1,6 +1,6 @@
 -- Two words: the halves' product, the negation, the signs, the carry, the sum of five products, and the sign of the whole.
 use mathlib.Core.Path.{_≡_, refl, sym, ap, ap₂, _∙_}
-use mathlib.Core.Bool.{Bool, true, false}
+use mathlib.Core.Bool.{true, false}
 use Prim.Native.Nat.{ℕ, zero, suc, _+_, _-_, _*_, _/_, _%_, _^_, _≤_, _<_}
 use native.Mathlib.Nat.{mul-le-mul}
 use native.Mathlib.Omega.{arith}
@@ -9,12 +9,12 @@ use lib.Dec.{leb, eqb}
 use lib.IntN.{ℤ, pos, negsuc, negℤ, natAbs, _+ℤ_, _-ℤ_, _*ℤ_, negℤ-negℤ}
 use lib.Signed.{mag, ltZ, leZ}
 use mir.Syntax.{w32, w64}
-use mir.Val.{SFits, toZ, ofZ}
+use mir.Val.{SFits, toZ}
 use Rattle.whole.specs.declared.Numerator.{Numerator}
 use Rattle.whole.specs.Int.{atom, diff}
 use Rattle.whole.specs.Magnitude.{abs-add, abs-sub, abs-neg}
-use Rattle.whole.specs.Numerator.{word, number, words}
-use Rattle.whole.specs.NumeratorLaws.{turned, Times, Product, Turned, Sum, below, words-of}
+use Rattle.whole.specs.Numerator.{word, number}
+use Rattle.whole.specs.NumeratorLaws.{turned, Times, Product, Turned, Sum, below}
 use Rattle.whole.specs.Within.{limit, Small}
 use Rattle.whole.proofs.Signed.{R, R32, back, back32, plain, by-abs, small-back}
 

@@ -15,6 +15,7 @@ pub record SmallFive (x : Five) : Type 0 where
   pub d : Small (x .d)
   pub e : Small (x .e)
 
+-- as a list
 abbrev pub numbersOf : Five → List ℤ
 numbersOf x = x .a ∷ x .b ∷ x .c ∷ x .d ∷ x .e ∷ []
 

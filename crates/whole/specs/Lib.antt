@@ -8,3 +8,4 @@ pub mod Five
 pub mod Magnitude
 pub mod WithinLaws
 pub mod NumeratorLaws
+pub mod FiveLaws

@@ -1,5 +1,5 @@
 -- Numerators in two words: a number and its words, and what the sums of products say of a result.
-use mathlib.Core.Path.{_≡_, refl, sym, ap, ap₂, _∙_}
+use mathlib.Core.Path.{_≡_, sym, ap, _∙_}
 use Prim.Native.Nat.{ℕ, suc, _+_, _-_, _*_, _/_, _%_, _≤_, _<_}
 use native.Mathlib.Nat.{div-add-mod'}
 use native.Mathlib.Omega.{arith}
@@ -40,11 +40,13 @@ pub record Sum (x y r : Numerator) : Type 0 where
 pub below : (m l n : ℕ) → m ≡ l + suc n → negℤ (pos m) +ℤ pos l ≡ negsuc n
 below m l n e = simp (diff, dif-negsuc) (omega arith)
 
+-- the words of z hold z
 pub number-words : (z : ℤ) → number (words z) ≡ z
 unfolding number words
 number-words (pos n) = ap pos (div-add-mod' n word)
 number-words (negsuc n) = below (suc (n / word) * word) (word - 1 - n % word) n (omega arith)
 
+-- the low word fits
 pub words-low : (z : ℤ) → words z .low < word
 unfolding words
 words-low (pos n) = omega arith
@@ -62,6 +64,7 @@ of-two l (negsuc k) b =
     let q : n / word ≡ k = omega arith in
     ap words (below (suc k * word) l n (omega arith)) ∙ (λ i. record { low = p i; high = negsuc (q i) })
 
+-- two words are those of the number that they hold
 pub words-number : (x : Numerator) → x .low < word → words (number x) ≡ x
 unfolding number
 words-number x b = of-two (x .low) (x .high) b

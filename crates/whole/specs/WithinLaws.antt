@@ -1,20 +1,20 @@
 -- Whole numbers judged: the two cases, from the magnitude and back to it.
-use mathlib.Core.Path.{_≡_, refl, sym, ap, _∙_}
-use mathlib.Core.Bool.{Bool, true, false, not}
+use mathlib.Core.Path.{_≡_, ap}
 use Prim.Native.Nat.{ℕ, _≤_, _<_}
 use native.Mathlib.Omega.{arith}
 use borrow.Author.Tests.{le-leb, lt-leb}
-use lib.Dec.{T, leb, leb→le, nleb→lt}
+use lib.Dec.{leb, leb→le, nleb→lt}
 use lib.IntN.{ℤ, natAbs}
 use Rattle.whole.specs.Cases.{if, by-test}
-use Rattle.whole.specs.declared.Within.{Within}
 use Rattle.whole.specs.declared.Within.the-variants.{Is, Over}
-use Rattle.whole.specs.Within.{limit, limited, small, Small}
+use Rattle.whole.specs.Within.{limit, limited, small}
 
+-- a small number is given
 pub limited-is : (z : ℤ) → natAbs z ≤ limit → limited z ≡ Is z
 unfolding limited small
 limited-is z h = ap (λ b. if b (Is z) Over) (le-leb (natAbs z) limit h)
 
+-- one that is not small is not
 pub limited-over : (z : ℤ) → limit < natAbs z → limited z ≡ Over
 unfolding limited small
 limited-over z h = ap (λ b. if b (Is z) Over) (lt-leb (natAbs z) limit h)

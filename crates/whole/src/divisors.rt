@@ -1,10 +1,10 @@
 // The greatest common divisor, and the division of a test by it.
 ghost use mathlib.Core.Path.{_≡_};
-ghost use mathlib.Core.List.{List, [], _∷_};
-ghost use Prim.Native.Nat.{ℕ, _≤_, _<_};
-ghost use lib.IntN.{ℤ, pos, natAbs};
+ghost use mathlib.Core.List.{[], _∷_};
+ghost use Prim.Native.Nat.{_≤_, _<_};
+ghost use lib.IntN.{pos};
 ghost use lib.Signed.{quotZ};
-ghost use Rattle.whole.specs.Within.{limit, Small};
+ghost use Rattle.whole.specs.Within.{limit};
 ghost use Rattle.whole.specs.Divisor.{gcdOf, gcd-all, at-least-one};
 ghost use Rattle.whole.specs.Five.{SmallFive, dividedOf};
 use super::Five;

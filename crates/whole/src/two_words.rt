@@ -1,7 +1,7 @@
 // Numerators in two words: products and sums that one word cannot hold.
 ghost use mathlib.Core.Path.{_≡_};
-ghost use Prim.Native.Nat.{ℕ, _*_, _≤_};
-ghost use lib.IntN.{ℤ, pos, negℤ, natAbs, _+ℤ_, _*ℤ_};
+ghost use Prim.Native.Nat.{_*_, _≤_};
+ghost use lib.IntN.{pos, negℤ, _+ℤ_, _*ℤ_};
 ghost use lib.Signed.{leZ};
 ghost use Rattle.whole.specs.Within.{limit, Small};
 ghost use Rattle.whole.specs.Numerator.{number, words};

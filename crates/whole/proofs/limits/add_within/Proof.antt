@@ -1,6 +1,6 @@
 -- `whole::limits::add_within` meets its contract.
 use borrow.Author.Needs.{needs}
-use mathlib.Core.Path.{sym, ap, ap₂, _∙_}
+use mathlib.Core.Path.{ap, ap₂, _∙_}
 use lib.IntN.{_+ℤ_}
 use Rattle.whole.specs.Within.{limited}
 use Rattle.whole.proofs.Signed.{back}

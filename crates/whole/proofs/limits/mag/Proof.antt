@@ -1,11 +1,10 @@
 -- `whole::limits::mag` meets its contract.
-use mathlib.Core.Path.{_≡_, refl, sym, ap, _∙_, subst}
-use borrow.Author.Needs.{needs}
+use mathlib.Core.Path.{sym, ap, _∙_}
 use native.Mathlib.Omega.{arith}
 use native.Mathlib.Numerals.{add-one}
-use Prim.Native.Nat.{ℕ, suc, _+_}
-use lib.IntN.{ℤ, pos, natAbs}
-use Rattle.whole.proofs.Signed.{back, negated, not-negative, R, Down}
+use Prim.Native.Nat.{_+_}
+use lib.IntN.{ℤ, natAbs}
+use Rattle.whole.proofs.Signed.{back, negated, not-negative, Down}
 use Rattle.whole.proofs.limits.mag.Statement.{statement}
 use Rattle.whole.proofs.limits.mag.Tie as tie
 
