@@ -4,3 +4,8 @@ pub mod Int
 pub mod Divisor
 pub mod Within
 pub mod Numerator
+pub mod Five
+pub mod Magnitude
+pub mod WithinLaws
+pub mod NumeratorLaws
+pub mod FiveLaws

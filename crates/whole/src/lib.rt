@@ -1,4 +1,8 @@
 // Whole numbers within ±(2⁶² − 1), divisors, powers, and numerators in two words.
+pub mod limits; // limits.rt: sums, differences, products and powers, judged
+pub mod divisors; // divisors.rt: the greatest common divisor, and division by it
+pub mod two_words; // two_words.rt: numerators in two words
+
 pub enum Within {
     Is(i64),
     Over,
@@ -7,4 +11,13 @@ pub enum Within {
 pub struct Numerator {
     pub low: u64,
     pub high: i64,
+}
+
+// The five numbers of a test: four coefficients and the constant.
+pub struct Five {
+    pub a: i64,
+    pub b: i64,
+    pub c: i64,
+    pub d: i64,
+    pub e: i64,
 }

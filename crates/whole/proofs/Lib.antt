@@ -1,0 +1,6 @@
+-- Laws that several proofs cite.
+pub mod Signed
+pub mod Laws
+pub mod Euclid
+pub mod Divided
+pub mod TwoWords
