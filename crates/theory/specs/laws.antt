@@ -3,3 +3,5 @@ pub mod Process
 pub mod Comps
 pub mod Values
 pub mod Tests
+pub mod Expectation
+pub mod Stages

@@ -11,7 +11,8 @@ use lib.ListN.{length, getD}
 use Rattle.whole.specs.Cases.{if, by-test, both}
 use Rattle.whole.specs.Within.{small}
 use Rattle.theory.specs.Diagram.{Linear, Test, now, later, linear, Leaf, Tree, leaf, branch, then, cmpZ, cmpList, cmpLinear, cmp, same-leaf, same}
-use Rattle.theory.specs.Computation.{Comp, ret, named, made, bind, result, make, names, judge, Out, done, stopped, member, run, enter-all, Ops, end, operation, and-then, final, Solved, solved, refused, run-all}
+use Rattle.theory.specs.Computation.{Comp, ret, named, made, bind, result, names, judge, Out, done, stopped, member, run, enter-all, Ops, end, operation, and-then, final, solved}
+use Rattle.theory.specs.Computation.{refused, run-all}
 use Rattle.theory.specs.Computation as C
 use Rattle.theory.specs.Valid.{all}
 

@@ -1,16 +1,16 @@
 -- Which tests stand in what the rules make.
-use mathlib.Core.Path.{_≡_, refl, sym, ap, _∙_, subst}
 use mathlib.Core.Bool.{Bool, true, false, not, _&&_}
 use mathlib.Core.List.{List, [], _∷_}
-use Prim.Native.Nat.{ℕ, zero, suc, Ordering, Ordering·lt, Ordering·eq, Ordering·gt}
+use Prim.Native.Nat.{ℕ, Ordering·lt, Ordering·eq, Ordering·gt}
 use lib.Dec.{T}
 use lib.IntN.{ℤ, pos}
 use lib.Signed.{leZ}
 use Rattle.whole.specs.Cases.{if, by-test, by-order, both}
-use Rattle.theory.specs.Diagram.{Linear, Test, now, later, linear, Leaf, Tree, leaf, branch, plain, cmp, same, _⊞_, _⊟_, zeros, test-of}
+use Rattle.theory.specs.Diagram.{Linear, Test, now, later, linear, Leaf, Tree, leaf, branch, plain, cmp, same, _⊟_, zeros, test-of}
 use Rattle.theory.specs.Computation.{Comp, ret, bind, make, result}
 use Rattle.theory.specs.Computation as C
-use Rattle.theory.specs.Rules.{node, step, choose, over, merge, make-leaf, leaf-sum, leaf-product, leaf-scale, leaf-shift, leaf-complement, leaf-number, decide, leaf-best, sum, product, scale, shift, complement, number, best, zero-leaf, sum-on, levels-sum, linear-diagram, substitute, is-later, side, expectation, add-reward}
+use Rattle.theory.specs.Rules.{node, step, choose, over, merge, make-leaf, leaf-sum, leaf-product, leaf-scale, leaf-shift, leaf-complement, leaf-number, decide, leaf-best, sum}
+use Rattle.theory.specs.Rules.{product, scale, shift, complement, number, best, zero-leaf, sum-on, levels-sum, linear-diagram, substitute, is-later, side, expectation, add-reward}
 use Rattle.theory.specs.Valid.{all, all-nodes}
 use Rattle.theory.specs.laws.Comps.{result-bind, result-both, result-judge}
 
@@ -209,3 +209,10 @@ module _ (p : Test → Bool) where
       (λ c. Tests p (result (elim c [ true ↦ if b (side b k h) (side b k l) | false ↦ C.both (node t) (side b k h) (side b k l) ])))
       (λ _. by-test b (λ c. Tests p (result (if c (side b k h) (side b k l)))) (λ _. H) (λ _. L))
       (λ n. both-tests node node-tests t _ _ (w t (d .0) n) H L)
+
+  pub expectation-tests : (W : ℕ) (w : Tree) (k : ℕ) (F : Tree) (q : Test → Bool) → ((t : Test) → T (q t) → T (not (is-later k t)) → T (p t)) → Tests p w → Tests q F
+      → Tests p (result (expectation W w k F))
+  unfolding expectation
+  expectation-tests W w k F q v a b =
+      bind-tests (side true k F) _ (bind-tests (product w _) _ (bind-tests (complement W w) _ (bind-tests (side false k F) _ (bind-tests (product _ _) _
+      (sum-tests _ _ (product-tests w _ a (side-tests true k q v F b)) (product-tests _ _ (complement-tests W w a) (side-tests false k q v F b)))))))

@@ -1,21 +1,21 @@
 -- What each rule's result comes to where it is judged: exactness of the rules, with no word of limits or tables.
 use mathlib.Core.Path.{_≡_, refl, sym, ap, ap₂, _∙_}
-use mathlib.Core.Logic.{_↔_}
 use mathlib.Core.Bool.{Bool, true, false}
 use mathlib.Core.List.{List, [], _∷_}
-use Prim.Native.Nat.{ℕ, zero, suc, _+_, _*_, _≤_, _<_, Ordering, Ordering·lt, Ordering·eq, Ordering·gt}
+use Prim.Native.Nat.{ℕ, _<_, Ordering·lt, Ordering·eq, Ordering·gt}
 use native.Mathlib.Omega.{arith}
 use native.Mathlib.Nat.{mul-le-mul-right, le-of-mul-le-mul-right}
 use lib.Dec.{T, isEq}
-use lib.IntN.{ℤ, pos, negsuc, negℤ, _+ℤ_, _-ℤ_, _*ℤ_, +ℤ-idl, +ℤ-assoc, *ℤ-comm, natAbs}
+use lib.IntN.{ℤ, pos, negsuc, _+ℤ_, _-ℤ_, _*ℤ_, +ℤ-idl, *ℤ-comm, natAbs}
 use lib.Signed.{_≤ℤ_, leZ, leZ-yes}
 use Rattle.whole.specs.Cases.{if, by-test, by-order, both, same-bool}
-use Rattle.whole.specs.Int.{atom, up, down, diff, ring, le-in, minus-one, distrib-r}
+use Rattle.whole.specs.Int.{atom, up, down, diff, ring, le-in, minus-one}
 use Rattle.whole.specs.Divisor.{gcdOf, gcd-all, at-least-one, Divides, gcd-left, gcd-right, divides-trans, least-divides, least-positive, quot-exact}
 use Rattle.theory.specs.Diagram.{Linear, Test, Leaf, Tree, leaf, branch, plain, cmpZ, cmp, same, addL, scaleL, _⊞_, _⊠_, _⊟_, plus-constant, zeros, quotL, quotient, divisor, test-of}
-use Rattle.theory.specs.Computation.{Comp, ret, named, make, result}
+use Rattle.theory.specs.Computation.{Comp, ret, make, result}
 use Rattle.theory.specs.Computation as C
-use Rattle.theory.specs.Rules.{node, step, choose, over, merge, make-leaf, leaf-sum, leaf-product, leaf-scale, leaf-shift, leaf-complement, leaf-number, decide, leaf-best, sum, product, scale, shift, complement, number, best}
+use Rattle.theory.specs.Rules.{node, step, choose, over, merge, make-leaf, leaf-sum, leaf-product, leaf-scale, leaf-shift, leaf-complement, leaf-number, decide, leaf-best, sum}
+use Rattle.theory.specs.Rules.{product, scale, shift, complement, number, best}
 use Rattle.theory.specs.Meaning.{Env, dot, value, holds, at, worth-at}
 use Rattle.theory.specs.Process.{maxZ}
 use Rattle.theory.specs.laws.Comps.{cmpZ-eq, cmp-eq, same-eq, result-both, result-judge}
@@ -63,7 +63,7 @@ quotient-exact p =
 -- ---- what each rule comes to
 
 -- a case split on what a function is given
-if-ap : {A B : Type 0} (f : A → B) (b : Bool) (x y : A) → f (if b x y) ≡ if b (f x) (f y)
+pub if-ap : {A B : Type 0} (f : A → B) (b : Bool) (x y : A) → f (if b x y) ≡ if b (f x) (f y)
 if-ap f true x y = refl
 if-ap f false x y = refl
 
