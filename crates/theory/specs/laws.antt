@@ -5,3 +5,6 @@ pub mod Values
 pub mod Tests
 pub mod Expectation
 pub mod Stages
+pub mod Plain
+pub mod SameValue
+pub mod Good
