@@ -24,9 +24,13 @@ all-nodes t? f? (branch t h l) = t? t && (all-nodes t? f? h && all-nodes t? f? l
 unfoldable pub among : ℕ → ℕ → Bool
 among n k = leb 1 k && leb k n
 
+-- all numbers within ±(2⁶² − 1)
+unfoldable pub small-linear : Linear → Bool
+small-linear p = all small (p .coeffs) && small (p .const)
+
 -- as many coefficients as there are words for, and all numbers within the limits
 unfoldable pub wide : Linear → Bool
-wide p = eqb (length (p .coeffs)) levels-most && (all small (p .coeffs) && small (p .const))
+wide p = eqb (length (p .coeffs)) levels-most && small-linear p
 
 -- conditions among n; next-step ones where they are allowed
 unfoldable pub good-test : ℕ → Bool → Test → Bool
@@ -36,6 +40,10 @@ good-test n next (linear p) = wide p
 
 unfoldable pub good-leaf : Leaf → Bool
 good-leaf f = wide (f .lin) && eqb (f .act) 0
+
+-- a leaf of a stage, numbered with one of A actions
+unfoldable pub stage-leaf : ℕ → Leaf → Bool
+stage-leaf A f = wide (f .lin) && among A (f .act)
 
 -- a constant 0 to W
 unfoldable pub weight-leaf : ℕ → Leaf → Bool

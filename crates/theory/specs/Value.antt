@@ -9,13 +9,12 @@ use lib.ListN.{length, getD, take, drop}
 use lib.Signed.{leZ}
 use Rattle.whole.specs.Cases.{if, both}
 use Rattle.whole.specs.Int.{up}
-use Rattle.whole.specs.Within.{small}
 use Rattle.whole.specs.Numerator.{words}
 use Rattle.whole.specs.declared.Numerator.{Numerator}
 use Rattle.theory.specs.Widths.{steps-most, node-words, levels-most}
 use Rattle.theory.specs.Diagram.{Linear, zeros}
 use Rattle.theory.specs.Meaning.{State, nth, dot}
-use Rattle.theory.specs.Valid.{all, among}
+use Rattle.theory.specs.Valid.{among, small-linear}
 use Rattle.theory.specs.Verdict.{Verdict, refusal, Site, or}
 use Rattle.theory.specs.Load.{site-at}
 use Rattle.theory.specs.Solve.{early}
@@ -68,10 +67,6 @@ low-of W r = node-word W r (levels-most + 3)
 -- z is 1 to n
 unfoldable pub amongZ : ℕ → ℤ → Bool
 amongZ n z = leZ (pos 1) z && leZ z (pos n)
-
--- "a number outside ±(2⁶² − 1)"
-unfoldable pub small-linear : Linear → Bool
-small-linear p = all small (p .coeffs) && small (p .const)
 
 -- "or a branch is not from 1 to below its node"
 unfoldable pub good-branches : List ℤ → ℕ → Bool

@@ -8,3 +8,13 @@ pub mod Stages
 pub mod Plain
 pub mod SameValue
 pub mod Good
+pub mod Events
+pub mod Counting
+pub mod Refusals
+pub mod Nodes
+pub mod Loading
+pub mod Table
+pub mod Words
+pub mod Reading
+pub mod Inside
+pub mod Chain

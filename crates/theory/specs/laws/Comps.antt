@@ -14,7 +14,7 @@ use Rattle.theory.specs.Diagram.{Linear, Test, now, later, linear, Leaf,
 use Rattle.theory.specs.Computation.{Comp, ret, named, made, bind, result, names, judge, Out, done, stopped, member, run, enter-all, Ops, end, operation, and-then, final, solved}
 use Rattle.theory.specs.Computation.{refused, run-all}
 use Rattle.theory.specs.Computation as C
-use Rattle.theory.specs.Valid.{all}
+use Rattle.theory.specs.Valid.{all, small-linear}
 
 -- ---- equal by the order
 
@@ -157,10 +157,6 @@ run-bind N (made t m) k X =
     ap₂ (λ o p. if (member t X) o (if (ltb (length X) N) p (stopped 12))) (run-bind N m k X) (run-bind N m k (X ++ (t ∷ [])))
     ∙ (ap (λ o. if (member t X) (after (run N m X) (λ t Y. run N (k t) Y)) o) (sym (after-if (ltb (length X) N) (run N m (X ++ (t ∷ []))) (stopped 12) (λ t Y. run N (k t) Y)))
     ∙ sym (after-if (member t X) (run N m X) (if (ltb (length X) N) (run N m (X ++ (t ∷ []))) (stopped 12)) (λ t Y. run N (k t) Y)))
-
--- all the numbers of a linear lie within the limits
-unfoldable pub small-linear : Linear → Bool
-small-linear p = all small (p .coeffs) && small (p .const)
 
 if-and : {A : Type 0} (a b : Bool) (x y : A) → if a (if b x y) y ≡ if (a && b) x y
 if-and true b x y = refl

@@ -18,8 +18,8 @@ use Rattle.theory.specs.Computation as C
 use Rattle.theory.specs.Rules.{node, step, choose, over, merge, make-leaf, leaf-sum, leaf-product, leaf-scale, leaf-shift, leaf-complement, leaf-number, decide, leaf-best, sum, product, scale, shift, complement, number, best, no-coeffs, zero-leaf, sum-on, levels-sum, linear-diagram, substitute, is-later, side, expectation, add-reward}
 use Rattle.theory.specs.Meaning.{Action, Model, power}
 use Rattle.theory.specs.Stage.{model-diagrams, sum-out, action-total, best-on, stage-over, stages-on, all-stages}
-use Rattle.theory.specs.Valid.{all, all-nodes, among, wide, good-test, good-leaf, weight-leaf, valid-action, valid}
-use Rattle.theory.specs.laws.Comps.{small-linear, ret-done, named-done, with-made, made-done}
+use Rattle.theory.specs.Valid.{all, all-nodes, among, small-linear, wide, good-test, good-leaf, stage-leaf, weight-leaf, valid-action, valid}
+use Rattle.theory.specs.laws.Comps.{ret-done, named-done, with-made, made-done}
 use Rattle.theory.specs.laws.Tests.{and-in, parts}
 
 -- ---- what holds of a result where the numbers named on the way are small
@@ -147,7 +147,7 @@ abbrev pub Long : Linear → Type 0
 Long p = length (p .coeffs) ≡ levels-most
 
 pub wide-long : (p : Linear) → T (wide p) → Long p
-unfolding wide
+unfolding wide small-linear
 wide-long p t = eqb→eq (length (p .coeffs)) levels-most (both (eqb (length (p .coeffs)) levels-most) (all small (p .coeffs) && small (p .const)) t .0)
 
 pub wide-in : (p : Linear) → Long p → T (small-linear p) → T (wide p)
@@ -212,10 +212,6 @@ pub weight-good : (W : ℕ) (f : Leaf) → T (weight-leaf W f) → T (good-leaf 
 unfolding weight-leaf
 weight-good W f t = both (good-leaf f) _ t .0
 
--- a wide leaf with an action among A
-unfoldable pub stage-leaf : ℕ → Leaf → Bool
-stage-leaf A f = wide (f .lin) && among A (f .act)
-
 pub stage-wide : (A : ℕ) (f : Leaf) → T (stage-leaf A f) → T (wide (f .lin))
 unfolding stage-leaf
 stage-wide A f t = both (wide (f .lin)) (among A (f .act)) t .0
@@ -225,7 +221,7 @@ abbrev pub wide-leaf : Leaf → Bool
 wide-leaf f = wide (f .lin)
 
 pub zero-wide : T (wide (record { coeffs = no-coeffs levels-most; const = pos 0 }))
-unfolding wide no-coeffs all small
+unfolding wide no-coeffs all small small-linear
 zero-wide = tt
 
 plain-good : (p : Linear) → T (wide p) → T (good-leaf (plain p))

@@ -1,0 +1,385 @@
+-- Each operation begins with nodes that were there when the one before it ended, from loading on; so the solved stages fit where the peak fits.
+use mathlib.Core.Path.{_≡_, refl, sym, ap, _∙_, subst}
+use mathlib.Core.Logic.{_⊎_, inl, inr}
+use mathlib.Core.Bool.{Bool, true, false}
+use mathlib.Core.List.{List, [], _∷_, _++_, map, List·Memᴰ, List·Memᴰ·head, List·Memᴰ·tail, List·Memᴰ·not-nil, List·Memᴰ·cases-cons, Memᴰ·map}
+use Prim.Native.Nat.{ℕ, zero, suc, _+_, _≤_, max}
+use native.Mathlib.Omega.{arith}
+use lib.Dec.{T, T-not}
+use lib.ListN.{length}
+use Rattle.whole.specs.Cases.{if, by-test}
+use Rattle.theory.specs.Diagram.{Test, Tree, leaf, branch, plain, same, test-of}
+use Rattle.theory.specs.Computation.{Comp, ret, named, made, bind, result, make, Out, done, stopped, member, run, enter, enter-all, Ops, end, operation, and-then, final, solved, refused, run-all}
+use Rattle.theory.specs.Rules.{choose, zero-leaf, expectation}
+use Rattle.theory.specs.Meaning.{Action, Model, power}
+use Rattle.theory.specs.Stage.{action-diagrams, all-diagrams, model-diagrams, sum-out, action-total, best-on, stage-over, stages-on, all-stages}
+use Rattle.theory.specs.Command.{Command, site, push-leaf, push-condition, push-test, take-reward, take-chance, take-level, name-action, end-model, Read, whole, unknown, short, Placed, readings}
+use Rattle.theory.specs.Verdict.{Slot, reward-slot, chance-slot, level-slot}
+use Rattle.theory.specs.Load.{Entry, Loaded, condition-test, load-choice, load-entry, load-one, load-on, model-of, site-at, load, model}
+use Rattle.theory.specs.Solve.{solve-in, table-of}
+use Rattle.theory.specs.Events.{events, needed, inside, all-inside, Chained}
+use Rattle.theory.specs.laws.Comps.{same-eq, same-refl, ret-done, named-done, with-made, made-done, run-result, run-all-final}
+use Rattle.theory.specs.laws.Inside.{Sub, sub-needed, snoc-cases, all-none, all-parts, all-cons, all-more, all-left, all-right, all-append, roots-inside, roots-sub, bind-gives, Built, builds, leaf-built, choose-built, best-built, substitute-built, expectation-built, reward-built}
+
+-- ---- operations
+
+-- the nodes that are there when the last of them ends
+unfoldable pub ends : {A : Type 0} → List Tree → Ops A → List Tree
+ends X (end a) = X
+ends X (operation h roots c f) = ends (needed (enter-all roots []) (events c)) (f (result c))
+
+-- chained over X, and Q of what they come to and the nodes at the end
+pub record Leads {A : Type 0} (Q : A → List Tree → Type 0) (X : List Tree) (m : Ops A) : Type 0 where
+  pub chain : Chained X m
+  pub last : Q (final m) (ends X m)
+
+pub end-leads : {A : Type 0} (Q : A → List Tree → Type 0) (X : List Tree) (a : A) → Q a X → Leads Q X (end a)
+unfolding Chained final ends
+end-leads Q X a q = record { chain = tt; last = q }
+
+pub and-then-leads : {A B : Type 0} (Q : A → List Tree → Type 0) (R : B → List Tree → Type 0) (X : List Tree) (m : Ops A) (k : A → Ops B)
+    → Leads Q X m → ((Y : List Tree) → Q (final m) Y → Leads R Y (k (final m))) → Leads R X (and-then m k)
+unfolding Chained final ends and-then
+and-then-leads Q R X (end a) k l g = g X (l .last)
+and-then-leads Q R X (operation h roots c f) k l g =
+    let r = and-then-leads Q R (needed (enter-all roots []) (events c)) (f (result c)) k (record { chain = l .chain .1; last = l .last }) g in
+    record { chain = (l .chain .0, r .chain); last = r .last }
+
+pub operation-leads : {A : Type 0} (Q : A → List Tree → Type 0) (X : List Tree) (h : ℕ) (roots : List Tree) (c : Comp Tree) (f : Tree → Ops A) → T (all-inside roots X)
+    → ((Y : List Tree) → T (all-inside roots Y) → Built Y c) → ((Y : List Tree) → T (all-inside (result c ∷ roots) Y) → Leads Q Y (f (result c))) → Leads Q X (operation h roots c f)
+unfolding Chained final ends
+operation-leads Q X h roots c f a b g =
+    let E = enter-all roots [] in
+    let i = roots-inside roots in
+    let r = g (needed E (events c)) (all-cons (result c) roots _ (builds (b E i)) (all-more (sub-needed E (events c)) roots i)) in
+    record { chain = (a, r .chain); last = r .last }
+
+-- ---- stages
+
+-- wherever the diagrams of k are, those of l are
+abbrev pub Among : List Tree → List Tree → Type 0
+Among l k = (Y : List Tree) → T (all-inside k Y) → T (all-inside l Y)
+
+-- the last result is there, with what is kept
+abbrev With : List Tree → Tree → List Tree → Type 0
+With kept t Y = T (all-inside (t ∷ kept) Y)
+
+sum-out-leads : (W h : ℕ) (kept : List Tree) (k : ℕ) (ws : List Tree) (F : Tree) (X : List Tree) → Among ws kept → T (all-inside (F ∷ kept) X) → Leads (With kept) X (sum-out W h kept k ws F)
+unfolding sum-out
+sum-out-leads W h kept k [] F X a i = end-leads (With kept) X F i
+sum-out-leads W h kept k (w ∷ ws) F X a i = operation-leads (With kept) X h (F ∷ kept) (expectation W w k F) (sum-out W h kept (suc k) ws) i
+    (λ Y j. let d = all-parts F kept Y j in expectation-built W w k F Y (all-parts w ws Y (a Y (d .1)) .0) (d .0))
+    (λ Y j.
+    let d = all-parts _ (F ∷ kept) Y j in
+    sum-out-leads W h kept (suc k) ws _ Y (λ Z q. all-parts w ws Z (a Z q) .1) (all-cons _ kept Y (d .0) (all-parts F kept Y (d .1) .1)))
+
+action-total-leads : (M : Model) (h : ℕ) (kept : List Tree) (P : Tree) (a : ℕ) (x : Action) (X : List Tree) → Among (zero-leaf ∷ action-diagrams x) kept → T (all-inside kept X)
+    → Leads (With kept) X (action-total M h kept P a x)
+unfolding action-total
+action-total-leads M h kept P a x X m i =
+    operation-leads (With kept) X h kept _ _ i (λ Y j. substitute-built Y (x .levels) P (all-parts zero-leaf (action-diagrams x) Y (m Y j) .0) (all-right (x .chances) (x .levels) Y (own Y j .1)))
+    (λ Y j. and-then-leads (With kept) (With kept) Y _ _ (sum-out-leads (M .weights) h kept 1 (x .chances) _ Y (λ Z q. all-left (x .chances) (x .levels) Z (own Z q .1)) j)
+    (λ Z q. operation-leads (With kept) Z h _ _ end q
+    (λ U r. let d = all-parts _ kept U r in reward-built (power M h) (x .reward) a _ U (own U (d .1) .0) (d .0))
+    (λ U r. let d = all-parts _ _ U r in end-leads (With kept) U _ (all-cons _ kept U (d .0) (all-parts _ kept U (d .1) .1)))))
+  where
+    own : (Y : List Tree) → T (all-inside kept Y) → T (inside (x .reward) Y) × T (all-inside (x .chances ++ x .levels) Y)
+    own Y j = all-parts (x .reward) (x .chances ++ x .levels) Y (all-parts zero-leaf (action-diagrams x) Y (m Y j) .1)
+
+best-on-leads : (M : Model) (h : ℕ) (kept : List Tree) (P : Tree) (a : ℕ) (l : List Action) (F : Tree) (X : List Tree) → Among (zero-leaf ∷ all-diagrams l) kept → T (all-inside (F ∷ kept) X)
+    → Leads (With kept) X (best-on M h kept P a l F)
+unfolding best-on all-diagrams
+best-on-leads M h kept P a [] F X m i = end-leads (With kept) X F i
+best-on-leads M h kept P a (x ∷ l) F X m i =
+    and-then-leads (With (F ∷ kept)) (With kept) X (action-total M h (F ∷ kept) P a x) _
+    (action-total-leads M h (F ∷ kept) P a x X
+    (λ Y j. let d = parts Y (all-parts F kept Y j .1) in all-cons zero-leaf (action-diagrams x) Y (d .0) (all-left (action-diagrams x) (all-diagrams l) Y (d .1))) i)
+    (λ Y j. operation-leads (With kept) Y h _ _ (best-on M h kept P (suc a) l) j
+    (λ Z q. let d = all-parts _ (F ∷ kept) Z q in best-built Z F _ (all-parts F kept Z (d .1) .0) (d .0))
+    (λ Z q.
+    let d = all-parts _ _ Z q in
+    let e = all-parts _ (F ∷ kept) Z (d .1) in
+    best-on-leads M h kept P (suc a) l _ Z
+    (λ U r. let p = parts U r in all-cons zero-leaf (all-diagrams l) U (p .0) (all-right (action-diagrams x) (all-diagrams l) U (p .1)))
+    (all-cons _ kept Z (d .0) (all-parts F kept Z (e .1) .1))))
+  where
+    parts : (Y : List Tree) → T (all-inside kept Y) → T (inside zero-leaf Y) × T (all-inside (action-diagrams x ++ all-diagrams l) Y)
+    parts Y j = all-parts zero-leaf (action-diagrams x ++ all-diagrams l) Y (m Y j)
+
+stage-over-leads : (M : Model) (h : ℕ) (kept : List Tree) (P : Tree) (X : List Tree) → Among (zero-leaf ∷ model-diagrams M) kept → T (all-inside kept X)
+    → Leads (With kept) X (stage-over M h kept P)
+unfolding stage-over model-diagrams all-diagrams
+stage-over-leads M h kept P X m i =
+    and-then-leads (With kept) (With kept) X (action-total M h kept P 1 (M .first)) (best-on M h kept P 2 (M .others))
+    (action-total-leads M h kept P 1 (M .first) X
+    (λ Y j. let d = parts Y j in all-cons zero-leaf (action-diagrams (M .first)) Y (d .0) (all-left (action-diagrams (M .first)) (all-diagrams (M .others)) Y (d .1))) i)
+    (λ Y j. best-on-leads M h kept P 2 (M .others) _ Y
+    (λ Z q. let d = parts Z q in all-cons zero-leaf (all-diagrams (M .others)) Z (d .0) (all-right (action-diagrams (M .first)) (all-diagrams (M .others)) Z (d .1))) j)
+  where
+    parts : (Y : List Tree) → T (all-inside kept Y) → T (inside zero-leaf Y) × T (all-inside (action-diagrams (M .first) ++ all-diagrams (M .others)) Y)
+    parts Y j = all-parts zero-leaf (action-diagrams (M .first) ++ all-diagrams (M .others)) Y (m Y j)
+
+-- the new stages are there at the end, with those that were finished
+abbrev Stages : List Tree → List Tree → List Tree → Type 0
+Stages finished l Y = T (all-inside l Y) × T (all-inside finished Y)
+
+stages-on-leads : (M : Model) (k h : ℕ) (finished : List Tree) (P : Tree) (X : List Tree) → Among (zero-leaf ∷ []) finished → T (all-inside (finished ++ model-diagrams M) X)
+    → Leads (Stages finished) X (stages-on M k h finished P)
+unfolding stages-on
+stages-on-leads M zero h finished P X z i = end-leads (Stages finished) X [] (all-none X, all-left finished (model-diagrams M) X i)
+stages-on-leads M (suc k) h finished P X z i =
+    and-then-leads (With (finished ++ model-diagrams M)) (Stages finished) X (stage-over M h (finished ++ model-diagrams M) P) _
+    (stage-over-leads M h (finished ++ model-diagrams M) P X
+    (λ Y j. all-append (zero-leaf ∷ []) (model-diagrams M) Y (z Y (all-left finished (model-diagrams M) Y j)) (all-right finished (model-diagrams M) Y j)) i)
+    (λ Y j. and-then-leads (Stages (_ ∷ finished)) (Stages finished) Y _ _
+    (stages-on-leads M k (suc h) (_ ∷ finished) _ Y (λ Z q. z Z (all-parts _ finished Z q .1)) j)
+    (λ Z q. let d = all-parts _ finished Z (q .1) in end-leads (Stages finished) Z _ (all-cons _ _ Z (d .0) (q .0), d .1)))
+
+zero-built : (Y : List Tree) → Built Y (make zero-leaf)
+unfolding zero-leaf
+zero-built Y = leaf-built Y _
+
+-- where the model's diagrams are there, all its stages are chained, and are there at the end
+pub all-stages-lead : (M : Model) (H : ℕ) (X : List Tree) → T (all-inside (model-diagrams M) X) → Leads (λ l Y. T (all-inside l Y)) X (all-stages M H)
+unfolding all-stages result make
+all-stages-lead M H X i =
+    operation-leads _ X 1 (model-diagrams M) (make zero-leaf) (λ Z. stages-on M H 1 (Z ∷ []) Z) i (λ Y _. zero-built Y)
+    (λ Y j. let l = stages-on-leads M H 1 (zero-leaf ∷ []) zero-leaf Y (λ _ q. q) j in record { chain = l .chain; last = l .last .0 })
+
+-- ---- loading
+
+abbrev pub entry-trees : List Entry → List Tree
+entry-trees E = map (λ (e : Entry). e .tree) E
+
+-- the diagrams of the stack and those that have been given are there
+abbrev pub Stands : Loaded → List Tree → Type 0
+Stands s X = T (all-inside (s .stack) X) × T (all-inside (entry-trees (s .entries)) X)
+
+-- and so at the end of a computation over X
+abbrev pub Loads : List Tree → Comp Loaded → Type 0
+Loads X m = Stands (result m) (needed X (events m))
+
+ret-loads : (X : List Tree) (s : Loaded) → Stands s X → Loads X (ret s)
+unfolding result events needed
+ret-loads X s a = a
+
+-- a diagram that is built goes on the stack
+push-loads : (X : List Tree) (m : Comp Tree) (K : List Tree) (E : List Entry) → Built X m → T (all-inside K X) → T (all-inside (entry-trees E) X)
+    → Loads X (bind m (λ r. ret (record { stack = r ∷ K; entries = E })))
+push-loads X m K E b a e =
+    let s = sub-needed X (events m) in
+    bind-gives Stands X m (λ r. ret (record { stack = r ∷ K; entries = E })) (ret-loads _ _ (all-cons _ K _ (builds b) (all-more s K a), all-more s (entry-trees E) e))
+
+choice-loads : (X : List Tree) (t : Test) (K : List Tree) (E : List Entry) → T (all-inside K X) → T (all-inside (entry-trees E) X) → Loads X (load-choice t K E)
+unfolding load-choice
+choice-loads X t [] E a e = ret-loads X _ (all-none X, e)
+choice-loads X t (low ∷ []) E a e = ret-loads X _ (all-none X, e)
+choice-loads X t (low ∷ high ∷ K) E a e =
+    let d = all-parts low (high ∷ K) X a in
+    let c = all-parts high K X (d .1) in
+    push-loads X (choose t high low) K E (choose-built t X high low (c .0) (d .0)) (c .1) e
+
+entry-loads : (X : List Tree) (g : Slot) (K : List Tree) (E : List Entry) → T (all-inside K X) → T (all-inside (entry-trees E) X) → Loads X (load-entry g K E)
+unfolding load-entry
+entry-loads X g [] E a e = ret-loads X _ (all-none X, e)
+entry-loads X g (t ∷ K) E a e = let d = all-parts t K X a in ret-loads X _ (d .1, all-cons t (entry-trees E) X (d .0) e)
+
+one-loads : (X : List Tree) (c : Command) (s : Loaded) → Stands s X → Loads X (load-one c s)
+unfolding load-one
+one-loads X (site m n a w) s d = ret-loads X s d
+one-loads X (push-leaf p) s d = push-loads X (make (leaf (plain p))) (s .stack) (s .entries) (leaf-built X (plain p)) (d .0) (d .1)
+one-loads X (push-condition k) s d = choice-loads X (condition-test k) (s .stack) (s .entries) (d .0) (d .1)
+one-loads X (push-test p) s d = choice-loads X (test-of p) (s .stack) (s .entries) (d .0) (d .1)
+one-loads X (take-reward a) s d = entry-loads X (reward-slot a) (s .stack) (s .entries) (d .0) (d .1)
+one-loads X (take-chance a k) s d = entry-loads X (chance-slot a k) (s .stack) (s .entries) (d .0) (d .1)
+one-loads X (take-level a i) s d = entry-loads X (level-slot a i) (s .stack) (s .entries) (d .0) (d .1)
+one-loads X (name-action a b) s d = ret-loads X s d
+one-loads X end-model s d = ret-loads X s d
+
+-- what stood over X stands when loading ends
+pub load-on-stands : (X : List Tree) (l : List Placed) (s : Loaded) → Stands s X → Loads X (load-on l s)
+unfolding load-on
+load-on-stands X [] s d = ret-loads X s d
+load-on-stands X (x ∷ l) s d = go (λ Y u. load-on-stands Y l u) (x .read)
+  where
+    go : ((Y : List Tree) (u : Loaded) → Stands u Y → Loads Y (load-on l u)) → (r : Read) → Loads X (elim r [ whole c ↦ bind (load-one c s) (load-on l) | unknown ↦ ret s | short ↦ ret s ])
+    go ih (whole c) = bind-gives Stands X (load-one c s) (load-on l) (ih _ _ (one-loads X c s d))
+    go ih unknown = ret-loads X s d
+    go ih short = ret-loads X s d
+
+-- what loading comes to before the model is put together
+abbrev pub loaded : List ℕ → Comp Loaded
+loaded B = load-on (readings B) (record { stack = []; entries = [] })
+
+-- every diagram that has been given is there when loading ends
+pub entries-inside : (B : List ℕ) → T (all-inside (entry-trees (result (loaded B) .entries)) (needed [] (events (load B))))
+unfolding load events needed
+entries-inside B = bind-gives (λ _ Y. T (all-inside (entry-trees (result (loaded B) .entries)) Y)) [] (loaded B) (λ s. ret (model-of (site-at B) (s .entries)))
+    (load-on-stands [] (readings B) (record { stack = []; entries = [] }) (all-none [], all-none []) .1)
+
+all-each : (l X : List Tree) → ((t : Tree) → List·Memᴰ t l → T (inside t X)) → T (all-inside l X)
+all-each [] X f = all-none X
+all-each (t ∷ l) X f = all-cons t l X (f t (List·Memᴰ·head refl)) (all-each l X (λ u m. f u (List·Memᴰ·tail m)))
+
+pub all-at : (t : Tree) (l X : List Tree) → List·Memᴰ t l → T (all-inside l X) → T (inside t X)
+all-at t [] X m a = absurd (List·Memᴰ·not-nil m)
+all-at t (x ∷ l) X m a =
+    let d = all-parts x l X a in
+    elim (List·Memᴰ·cases-cons m) [ inl e ↦ subst (λ t. T (inside t X)) (sym e) (d .0) | inr r ↦ all-at t l X r (d .1) ]
+
+-- a model of given diagrams is there when loading ends
+pub model-inside : (B : List ℕ) → ((t : Tree) → List·Memᴰ t (model-diagrams (model B)) → (e : Entry) × List·Memᴰ e (result (loaded B) .entries) × (e .tree ≡ t))
+    → T (all-inside (model-diagrams (model B)) (needed [] (events (load B))))
+model-inside B f = all-each (model-diagrams (model B)) (needed [] (events (load B)))
+    (λ t m.
+    let g = f t m in
+    subst (λ t. T (inside t (needed [] (events (load B))))) (g .2)
+    (all-at (g .0 .tree) (entry-trees (result (loaded B) .entries)) _ (Memᴰ·map (λ (e : Entry). e .tree) (g .1)) (entries-inside B)))
+
+-- each operation begins with nodes that were there when the one before it ended, the first with those of loading
+pub chained : (B : List ℕ) (H : ℕ) → T (all-inside (model-diagrams (model B)) (needed [] (events (load B)))) → Chained (needed [] (events (load B))) (all-stages (model B) H)
+chained B H i = all-stages-lead (model B) H (needed [] (events (load B))) i .chain
+
+-- ---- nodes that are counted once
+
+first-in : (x : Tree) (X : List Tree) → T (member x (x ∷ X))
+unfolding member
+first-in x X = subst (λ b. T (if b true (member x X))) (sym (same-refl x)) tt
+
+next-in : (x u : Tree) (X : List Tree) → T (member u X) → T (member u (x ∷ X))
+unfolding member
+next-in x u X m = by-test (same x u) (λ b. T (if b true (member u X))) (λ _. tt) (λ _. m)
+
+-- no node stands twice
+unfoldable pub Unique : List Tree → Type 0
+Unique [] = Unit {0}
+Unique (x ∷ X) = (T (member x X) → ⊥) × Unique X
+
+snoc-unique : (X : List Tree) (t : Tree) → Unique X → (T (member t X) → ⊥) → Unique (X ++ (t ∷ []))
+unfolding Unique member
+snoc-unique [] t u n = (λ m. m, tt)
+snoc-unique (x ∷ X) t u n = (
+  λ m. elim (snoc-cases X t x m) [ inl a ↦ u .0 a | inr e ↦ n (subst (λ y. T (member t (y ∷ X))) e (first-in t X)) ],
+  snoc-unique X t (u .1) (λ m. n (next-in x t X m)),
+)
+
+-- the nodes but the first that is equal to t
+without : Tree → List Tree → List Tree
+without t [] = []
+without t (x ∷ X) = if (same x t) X (x ∷ without t X)
+
+without-length : (t : Tree) (X : List Tree) → T (member t X) → length X ≡ suc (length (without t X))
+unfolding member without
+without-length t [] m = absurd m
+without-length t (x ∷ X) m = go (same x t) m (without-length t X)
+  where
+    go : (b : Bool) → T (if b true (member t X)) → (T (member t X) → length X ≡ suc (length (without t X))) → suc (length X) ≡ suc (length (if b X (x ∷ without t X)))
+    go true m ih = refl
+    go false m ih = ap suc (ih m)
+
+without-keeps : (t u : Tree) (X : List Tree) → (t ≡ u → ⊥) → T (member u X) → T (member u (without t X))
+unfolding without member
+without-keeps t u [] n m = m
+without-keeps t u (x ∷ X) n m = go (same x t) (same x u) (same-eq x t) (same-eq x u) m (without-keeps t u X n)
+  where
+    go : (b c : Bool) → (T b → x ≡ t) → (T c → x ≡ u) → T (if c true (member u X)) → (T (member u X) → T (member u (without t X))) → T (member u (if b X (x ∷ without t X)))
+    go true true p q m ih = absurd (n (sym (p tt) ∙ q tt))
+    go true false p q m ih = m
+    go false true p q m ih = subst (λ y. T (member u (y ∷ without t X))) (sym (q tt)) (first-in u (without t X))
+    go false false p q m ih = next-in x u (without t X) (ih m)
+
+-- distinct nodes that are all among Y are no more than those of Y
+pub unique-fits : (X Y : List Tree) → Unique X → Sub X Y → length X ≤ length Y
+unfolding Unique
+unique-fits [] Y u s = omega arith
+unique-fits (x ∷ X) Y u s =
+    let r = unique-fits X (without x Y) (u .1) (record { take = λ v m. without-keeps x v Y (λ e. u .0 (subst (λ v. T (member v X)) (sym e) m)) (s .take v (next-in x v X m)) }) in
+    omega (arith, without-length x Y (s .take x (first-in x X)))
+
+-- what is entered: nodes that were there, and nodes of the diagram, which are no larger
+size : Tree → ℕ
+size (leaf f) = 0
+size (branch t h l) = suc (size h + size l)
+
+enter-from : (t : Tree) (X : List Tree) (u : Tree) → T (member u (enter t X)) → T (member u X) ⊎ (size u ≤ size t)
+unfolding enter size
+enter-from (leaf f) X u m = go (member (leaf f) X) m
+  where
+    go : (b : Bool) → T (member u (if b X (X ++ (leaf f ∷ [])))) → T (member u X) ⊎ (size u ≤ 0)
+    go true m = inl m
+    go false m = elim (snoc-cases X (leaf f) u m) [ inl a ↦ inl a | inr e ↦ inr (omega (arith, ap size e)) ]
+enter-from (branch t h l) X u m = go (member (branch t h l) X) m (enter-from l (enter h X) u) (enter-from h X u)
+  where
+    go : (b : Bool) → T (member u (if b X (enter l (enter h X) ++ (branch t h l ∷ []))))
+        → (T (member u (enter l (enter h X))) → T (member u (enter h X)) ⊎ (size u ≤ size l)) → (T (member u (enter h X)) → T (member u X) ⊎ (size u ≤ size h))
+        → T (member u X) ⊎ (size u ≤ suc (size h + size l))
+    go true m p q = inl m
+    go false m p q = elim (snoc-cases (enter l (enter h X)) (branch t h l) u m) [
+      | inl a ↦ elim (p a) [
+        | inl b ↦ elim (q b) [ inl c ↦ inl c | inr i ↦ inr (omega arith) ]
+        | inr i ↦ inr (omega arith)
+      ]
+      | inr e ↦ inr (omega (arith, ap size e))
+    ]
+
+-- a node is not entered by its branches
+new : (t : Test) (h l : Tree) (X : List Tree) → (T (member (branch t h l) X) → ⊥) → T (member (branch t h l) (enter l (enter h X))) → ⊥
+unfolding size
+new t h l X n m = elim (enter-from l (enter h X) (branch t h l) m) [
+  | inl a ↦ elim (enter-from h X (branch t h l) a) [ inl b ↦ n b | inr i ↦ omega arith ]
+  | inr i ↦ omega arith
+]
+
+enter-unique : (t : Tree) (X : List Tree) → Unique X → Unique (enter t X)
+unfolding enter
+enter-unique (leaf f) X u = by-test (member (leaf f) X) (λ b. Unique (if b X (X ++ (leaf f ∷ [])))) (λ _. u) (λ n. snoc-unique X (leaf f) u (T-not (member (leaf f) X) n))
+enter-unique (branch t h l) X u = by-test (member (branch t h l) X) (λ b. Unique (if b X (enter l (enter h X) ++ (branch t h l ∷ [])))) (λ _. u)
+    (λ n. snoc-unique (enter l (enter h X)) (branch t h l) (enter-unique l (enter h X) (enter-unique h X u)) (new t h l X (T-not (member (branch t h l) X) n)))
+
+enter-all-unique : (l X : List Tree) → Unique X → Unique (enter-all l X)
+unfolding enter-all
+enter-all-unique [] X u = u
+enter-all-unique (t ∷ l) X u = enter-all-unique l (enter t X) (enter-unique t X u)
+
+-- a table's nodes are distinct
+pub roots-unique : (roots : List Tree) → Unique (enter-all roots [])
+unfolding Unique
+roots-unique roots = enter-all-unique roots [] tt
+
+-- diagrams that are there have no more nodes than are there
+pub roots-fit : (roots Y : List Tree) → T (all-inside roots Y) → length (enter-all roots []) ≤ length Y
+roots-fit roots Y a = unique-fits (enter-all roots []) Y (roots-unique roots) (roots-sub roots Y a)
+
+-- ---- the table fits where the peak fits
+
+pub run-needed : {A : Type 0} (N : ℕ) (m : Comp A) (X Y : List Tree) (a : A) → run N m X ≡ done a Y → Y ≡ needed X (events m)
+unfolding needed events with-made
+run-needed N (ret b) X Y a e = sym (ret-done N b X Y a e .1)
+run-needed N (named z m) X Y a e = run-needed N m X Y a (named-done N z m X Y a e .1)
+run-needed N (made t m) X Y a e = run-needed N m (with-made t X) Y a (made-done N t m X Y a e)
+
+-- the nodes at the end of the last operation are no more than the peak
+pub ends-fit : {A : Type 0} (N p : ℕ) (m : Ops A) (a : A) (q : ℕ) (X : List Tree) → run-all N p m ≡ solved a q → length X ≤ p → length (ends X m) ≤ q
+unfolding run-all ends
+ends-fit N p (end b) a q X e i = let z : p ≡ q = cc in omega arith
+ends-fit N p (operation h roots c f) a q X e i = go (run N c (enter-all roots [])) refl e (λ r t. ends-fit N r (f t) a q)
+  where
+    go : (o : Out Tree) → run N c (enter-all roots []) ≡ o → elim o [ done t Y ↦ run-all N (max p (length Y)) (f t) | stopped r ↦ refused r h ] ≡ solved a q
+        → ((r : ℕ) (t : Tree) (Y : List Tree) → run-all N r (f t) ≡ solved a q → length Y ≤ r → length (ends Y (f t)) ≤ q)
+        → length (ends (needed (enter-all roots []) (events c)) (f (result c))) ≤ q
+    go (done t Y) r e ih = rw (← run-needed N c (enter-all roots []) Y t r, ← run-result N c (enter-all roots []) Y t r) (ih (max p (length Y)) t Y e (omega arith))
+    go (stopped r) s e ih = absurd (let z : _≡_ {A = ℕ} 0 1 = cc in omega arith)
+
+-- the table after solving has no more nodes than the peak
+pub table-fits : (N : ℕ) (B : List ℕ) (H : ℕ) → T (all-inside (model-diagrams (model B)) (needed [] (events (load B)))) → (S : List Tree) (peak : ℕ) → solve-in N B H ≡ solved S peak
+    → length (table-of S) ≤ peak
+unfolding solve-in table-of model
+table-fits N B H i S peak = go (run N (load B) []) refl
+  where
+    go : (o : Out Model) → run N (load B) [] ≡ o → elim o [ done M X ↦ run-all N (length X) (all-stages M H) | stopped r ↦ refused r 0 ] ≡ solved S peak → length (enter-all S []) ≤ peak
+    go (done M X) r e =
+        let j : T (all-inside (model-diagrams M) X) = rw (run-needed N (load B) [] X M r, run-result N (load B) [] X M r) i in
+        let E = ends X (all-stages M H) in
+        let s : T (all-inside S E) = subst (λ l. T (all-inside l E)) (sym (run-all-final N (length X) (all-stages M H) S peak e)) (all-stages-lead M H X j .last) in
+        omega (arith, roots-fit S E s, ends-fit N (length X) (all-stages M H) S peak X e (omega arith))
+    go (stopped r) q e = absurd (let z : _≡_ {A = ℕ} 0 1 = cc in omega arith)
