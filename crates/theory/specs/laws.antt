@@ -18,3 +18,4 @@ pub mod Words
 pub mod Reading
 pub mod Inside
 pub mod Chain
+pub mod Demands

@@ -14,11 +14,15 @@ use Rattle.theory.specs.Rules.{choose, zero-leaf, expectation}
 use Rattle.theory.specs.Meaning.{Action, Model, power}
 use Rattle.theory.specs.Stage.{action-diagrams, all-diagrams, model-diagrams, sum-out, action-total, best-on, stage-over, stages-on, all-stages}
 use Rattle.theory.specs.Command.{Command, site, push-leaf, push-condition, push-test, take-reward, take-chance, take-level, name-action, end-model, Read, whole, unknown, short, Placed, readings}
-use Rattle.theory.specs.Verdict.{Slot, reward-slot, chance-slot, level-slot}
+use Rattle.theory.specs.Verdict.{verdict, Slot, reward-slot, chance-slot, level-slot}
 use Rattle.theory.specs.Load.{Entry, Loaded, condition-test, load-choice, load-entry, load-one, load-on, model-of, site-at, load, model}
 use Rattle.theory.specs.Solve.{solve-in, table-of}
 use Rattle.theory.specs.Events.{events, needed, inside, all-inside, Chained}
-use Rattle.theory.specs.laws.Comps.{same-eq, same-refl, ret-done, named-done, with-made, made-done, run-result, run-all-final}
+use Rattle.theory.specs.laws.Comps.{run-all-final}
+use Rattle.theory.specs.laws.Events.{run-done}
+use Rattle.theory.specs.laws.Counting.{roots-fit}
+use Rattle.theory.specs.laws.Refusals.{AllChained}
+use Rattle.theory.specs.laws.Loading.{entry-trees, loaded-entries, diagrams-loaded}
 use Rattle.theory.specs.laws.Inside.{Sub, sub-needed, snoc-cases, all-none, all-parts, all-cons, all-more, all-left, all-right, all-append, roots-inside, roots-sub, bind-gives, Built, builds, leaf-built, choose-built, best-built, substitute-built, expectation-built, reward-built}
 
 -- ---- operations
@@ -148,9 +152,6 @@ all-stages-lead M H X i =
 
 -- ---- loading
 
-abbrev pub entry-trees : List Entry → List Tree
-entry-trees E = map (λ (e : Entry). e .tree) E
-
 -- the diagrams of the stack and those that have been given are there
 abbrev pub Stands : Loaded → List Tree → Type 0
 Stands s X = T (all-inside (s .stack) X) × T (all-inside (entry-trees (s .entries)) X)
@@ -207,14 +208,10 @@ load-on-stands X (x ∷ l) s d = go (λ Y u. load-on-stands Y l u) (x .read)
     go ih unknown = ret-loads X s d
     go ih short = ret-loads X s d
 
--- what loading comes to before the model is put together
-abbrev pub loaded : List ℕ → Comp Loaded
-loaded B = load-on (readings B) (record { stack = []; entries = [] })
-
 -- every diagram that has been given is there when loading ends
-pub entries-inside : (B : List ℕ) → T (all-inside (entry-trees (result (loaded B) .entries)) (needed [] (events (load B))))
+pub entries-inside : (B : List ℕ) → T (all-inside (entry-trees (loaded-entries B)) (needed [] (events (load B))))
 unfolding load events needed
-entries-inside B = bind-gives (λ _ Y. T (all-inside (entry-trees (result (loaded B) .entries)) Y)) [] (loaded B) (λ s. ret (model-of (site-at B) (s .entries)))
+entries-inside B = bind-gives (λ _ Y. T (all-inside (entry-trees (loaded-entries B)) Y)) [] (load-on (readings B) (record { stack = []; entries = [] })) (λ s. ret (model-of (site-at B) (s .entries)))
     (load-on-stands [] (readings B) (record { stack = []; entries = [] }) (all-none [], all-none []) .1)
 
 all-each : (l X : List Tree) → ((t : Tree) → List·Memᴰ t l → T (inside t X)) → T (all-inside l X)
@@ -227,136 +224,15 @@ all-at t (x ∷ l) X m a =
     let d = all-parts x l X a in
     elim (List·Memᴰ·cases-cons m) [ inl e ↦ subst (λ t. T (inside t X)) (sym e) (d .0) | inr r ↦ all-at t l X r (d .1) ]
 
--- a model of given diagrams is there when loading ends
-pub model-inside : (B : List ℕ) → ((t : Tree) → List·Memᴰ t (model-diagrams (model B)) → (e : Entry) × List·Memᴰ e (result (loaded B) .entries) × (e .tree ≡ t))
-    → T (all-inside (model-diagrams (model B)) (needed [] (events (load B))))
-model-inside B f = all-each (model-diagrams (model B)) (needed [] (events (load B)))
-    (λ t m.
-    let g = f t m in
-    subst (λ t. T (inside t (needed [] (events (load B))))) (g .2)
-    (all-at (g .0 .tree) (entry-trees (result (loaded B) .entries)) _ (Memᴰ·map (λ (e : Entry). e .tree) (g .1)) (entries-inside B)))
+-- the diagrams of an accepted model are there when loading ends
+pub model-inside : (B : List ℕ) → verdict B .number ≡ 0 → T (all-inside (model-diagrams (model B)) (needed [] (events (load B))))
+model-inside B v = all-each (model-diagrams (model B)) _ (λ t m. all-at t (entry-trees (loaded-entries B)) _ (diagrams-loaded B v t m) (entries-inside B))
 
 -- each operation begins with nodes that were there when the one before it ended, the first with those of loading
-pub chained : (B : List ℕ) (H : ℕ) → T (all-inside (model-diagrams (model B)) (needed [] (events (load B)))) → Chained (needed [] (events (load B))) (all-stages (model B) H)
-chained B H i = all-stages-lead (model B) H (needed [] (events (load B))) i .chain
-
--- ---- nodes that are counted once
-
-first-in : (x : Tree) (X : List Tree) → T (member x (x ∷ X))
-unfolding member
-first-in x X = subst (λ b. T (if b true (member x X))) (sym (same-refl x)) tt
-
-next-in : (x u : Tree) (X : List Tree) → T (member u X) → T (member u (x ∷ X))
-unfolding member
-next-in x u X m = by-test (same x u) (λ b. T (if b true (member u X))) (λ _. tt) (λ _. m)
-
--- no node stands twice
-unfoldable pub Unique : List Tree → Type 0
-Unique [] = Unit {0}
-Unique (x ∷ X) = (T (member x X) → ⊥) × Unique X
-
-snoc-unique : (X : List Tree) (t : Tree) → Unique X → (T (member t X) → ⊥) → Unique (X ++ (t ∷ []))
-unfolding Unique member
-snoc-unique [] t u n = (λ m. m, tt)
-snoc-unique (x ∷ X) t u n = (
-  λ m. elim (snoc-cases X t x m) [ inl a ↦ u .0 a | inr e ↦ n (subst (λ y. T (member t (y ∷ X))) e (first-in t X)) ],
-  snoc-unique X t (u .1) (λ m. n (next-in x t X m)),
-)
-
--- the nodes but the first that is equal to t
-without : Tree → List Tree → List Tree
-without t [] = []
-without t (x ∷ X) = if (same x t) X (x ∷ without t X)
-
-without-length : (t : Tree) (X : List Tree) → T (member t X) → length X ≡ suc (length (without t X))
-unfolding member without
-without-length t [] m = absurd m
-without-length t (x ∷ X) m = go (same x t) m (without-length t X)
-  where
-    go : (b : Bool) → T (if b true (member t X)) → (T (member t X) → length X ≡ suc (length (without t X))) → suc (length X) ≡ suc (length (if b X (x ∷ without t X)))
-    go true m ih = refl
-    go false m ih = ap suc (ih m)
-
-without-keeps : (t u : Tree) (X : List Tree) → (t ≡ u → ⊥) → T (member u X) → T (member u (without t X))
-unfolding without member
-without-keeps t u [] n m = m
-without-keeps t u (x ∷ X) n m = go (same x t) (same x u) (same-eq x t) (same-eq x u) m (without-keeps t u X n)
-  where
-    go : (b c : Bool) → (T b → x ≡ t) → (T c → x ≡ u) → T (if c true (member u X)) → (T (member u X) → T (member u (without t X))) → T (member u (if b X (x ∷ without t X)))
-    go true true p q m ih = absurd (n (sym (p tt) ∙ q tt))
-    go true false p q m ih = m
-    go false true p q m ih = subst (λ y. T (member u (y ∷ without t X))) (sym (q tt)) (first-in u (without t X))
-    go false false p q m ih = next-in x u (without t X) (ih m)
-
--- distinct nodes that are all among Y are no more than those of Y
-pub unique-fits : (X Y : List Tree) → Unique X → Sub X Y → length X ≤ length Y
-unfolding Unique
-unique-fits [] Y u s = omega arith
-unique-fits (x ∷ X) Y u s =
-    let r = unique-fits X (without x Y) (u .1) (record { take = λ v m. without-keeps x v Y (λ e. u .0 (subst (λ v. T (member v X)) (sym e) m)) (s .take v (next-in x v X m)) }) in
-    omega (arith, without-length x Y (s .take x (first-in x X)))
-
--- what is entered: nodes that were there, and nodes of the diagram, which are no larger
-size : Tree → ℕ
-size (leaf f) = 0
-size (branch t h l) = suc (size h + size l)
-
-enter-from : (t : Tree) (X : List Tree) (u : Tree) → T (member u (enter t X)) → T (member u X) ⊎ (size u ≤ size t)
-unfolding enter size
-enter-from (leaf f) X u m = go (member (leaf f) X) m
-  where
-    go : (b : Bool) → T (member u (if b X (X ++ (leaf f ∷ [])))) → T (member u X) ⊎ (size u ≤ 0)
-    go true m = inl m
-    go false m = elim (snoc-cases X (leaf f) u m) [ inl a ↦ inl a | inr e ↦ inr (omega (arith, ap size e)) ]
-enter-from (branch t h l) X u m = go (member (branch t h l) X) m (enter-from l (enter h X) u) (enter-from h X u)
-  where
-    go : (b : Bool) → T (member u (if b X (enter l (enter h X) ++ (branch t h l ∷ []))))
-        → (T (member u (enter l (enter h X))) → T (member u (enter h X)) ⊎ (size u ≤ size l)) → (T (member u (enter h X)) → T (member u X) ⊎ (size u ≤ size h))
-        → T (member u X) ⊎ (size u ≤ suc (size h + size l))
-    go true m p q = inl m
-    go false m p q = elim (snoc-cases (enter l (enter h X)) (branch t h l) u m) [
-      | inl a ↦ elim (p a) [
-        | inl b ↦ elim (q b) [ inl c ↦ inl c | inr i ↦ inr (omega arith) ]
-        | inr i ↦ inr (omega arith)
-      ]
-      | inr e ↦ inr (omega (arith, ap size e))
-    ]
-
--- a node is not entered by its branches
-new : (t : Test) (h l : Tree) (X : List Tree) → (T (member (branch t h l) X) → ⊥) → T (member (branch t h l) (enter l (enter h X))) → ⊥
-unfolding size
-new t h l X n m = elim (enter-from l (enter h X) (branch t h l) m) [
-  | inl a ↦ elim (enter-from h X (branch t h l) a) [ inl b ↦ n b | inr i ↦ omega arith ]
-  | inr i ↦ omega arith
-]
-
-enter-unique : (t : Tree) (X : List Tree) → Unique X → Unique (enter t X)
-unfolding enter
-enter-unique (leaf f) X u = by-test (member (leaf f) X) (λ b. Unique (if b X (X ++ (leaf f ∷ [])))) (λ _. u) (λ n. snoc-unique X (leaf f) u (T-not (member (leaf f) X) n))
-enter-unique (branch t h l) X u = by-test (member (branch t h l) X) (λ b. Unique (if b X (enter l (enter h X) ++ (branch t h l ∷ [])))) (λ _. u)
-    (λ n. snoc-unique (enter l (enter h X)) (branch t h l) (enter-unique l (enter h X) (enter-unique h X u)) (new t h l X (T-not (member (branch t h l) X) n)))
-
-enter-all-unique : (l X : List Tree) → Unique X → Unique (enter-all l X)
-unfolding enter-all
-enter-all-unique [] X u = u
-enter-all-unique (t ∷ l) X u = enter-all-unique l (enter t X) (enter-unique t X u)
-
--- a table's nodes are distinct
-pub roots-unique : (roots : List Tree) → Unique (enter-all roots [])
-unfolding Unique
-roots-unique roots = enter-all-unique roots [] tt
-
--- diagrams that are there have no more nodes than are there
-pub roots-fit : (roots Y : List Tree) → T (all-inside roots Y) → length (enter-all roots []) ≤ length Y
-roots-fit roots Y a = unique-fits (enter-all roots []) Y (roots-unique roots) (roots-sub roots Y a)
+pub all-chained : AllChained
+all-chained B H v = all-stages-lead (model B) H (needed [] (events (load B))) (model-inside B v) .chain
 
 -- ---- the table fits where the peak fits
-
-pub run-needed : {A : Type 0} (N : ℕ) (m : Comp A) (X Y : List Tree) (a : A) → run N m X ≡ done a Y → Y ≡ needed X (events m)
-unfolding needed events with-made
-run-needed N (ret b) X Y a e = sym (ret-done N b X Y a e .1)
-run-needed N (named z m) X Y a e = run-needed N m X Y a (named-done N z m X Y a e .1)
-run-needed N (made t m) X Y a e = run-needed N m (with-made t X) Y a (made-done N t m X Y a e)
 
 -- the nodes at the end of the last operation are no more than the peak
 pub ends-fit : {A : Type 0} (N p : ℕ) (m : Ops A) (a : A) (q : ℕ) (X : List Tree) → run-all N p m ≡ solved a q → length X ≤ p → length (ends X m) ≤ q
@@ -367,18 +243,19 @@ ends-fit N p (operation h roots c f) a q X e i = go (run N c (enter-all roots []
     go : (o : Out Tree) → run N c (enter-all roots []) ≡ o → elim o [ done t Y ↦ run-all N (max p (length Y)) (f t) | stopped r ↦ refused r h ] ≡ solved a q
         → ((r : ℕ) (t : Tree) (Y : List Tree) → run-all N r (f t) ≡ solved a q → length Y ≤ r → length (ends Y (f t)) ≤ q)
         → length (ends (needed (enter-all roots []) (events c)) (f (result c))) ≤ q
-    go (done t Y) r e ih = rw (← run-needed N c (enter-all roots []) Y t r, ← run-result N c (enter-all roots []) Y t r) (ih (max p (length Y)) t Y e (omega arith))
+    go (done t Y) r e ih = (let d = run-done N c (enter-all roots []) Y t r in rw (← d .1, ← d .0) (ih (max p (length Y)) t Y e (omega arith)))
     go (stopped r) s e ih = absurd (let z : _≡_ {A = ℕ} 0 1 = cc in omega arith)
 
 -- the table after solving has no more nodes than the peak
-pub table-fits : (N : ℕ) (B : List ℕ) (H : ℕ) → T (all-inside (model-diagrams (model B)) (needed [] (events (load B)))) → (S : List Tree) (peak : ℕ) → solve-in N B H ≡ solved S peak
+pub table-fits : (N : ℕ) (B : List ℕ) (H : ℕ) → verdict B .number ≡ 0 → (S : List Tree) (peak : ℕ) → solve-in N B H ≡ solved S peak
     → length (table-of S) ≤ peak
 unfolding solve-in table-of model
-table-fits N B H i S peak = go (run N (load B) []) refl
+table-fits N B H v S peak = go (run N (load B) []) refl
   where
     go : (o : Out Model) → run N (load B) [] ≡ o → elim o [ done M X ↦ run-all N (length X) (all-stages M H) | stopped r ↦ refused r 0 ] ≡ solved S peak → length (enter-all S []) ≤ peak
     go (done M X) r e =
-        let j : T (all-inside (model-diagrams M) X) = rw (run-needed N (load B) [] X M r, run-result N (load B) [] X M r) i in
+        let d = run-done N (load B) [] X M r in
+        let j : T (all-inside (model-diagrams M) X) = rw (d .1, d .0) (model-inside B v) in
         let E = ends X (all-stages M H) in
         let s : T (all-inside S E) = subst (λ l. T (all-inside l E)) (sym (run-all-final N (length X) (all-stages M H) S peak e)) (all-stages-lead M H X j .last) in
         omega (arith, roots-fit S E s, ends-fit N (length X) (all-stages M H) S peak X e (omega arith))

@@ -15,21 +15,10 @@ use Rattle.theory.specs.Rules.{node, step, choose, over, merge, make-lea
 use Rattle.theory.specs.Events.{Event, makes, events, needed, inside, all-inside}
 use Rattle.theory.specs.Events as E
 use Rattle.theory.specs.laws.Comps.{same-eq, result-bind, member-more, member-last, with-made, with-made-more, with-made-in}
+use Rattle.theory.specs.laws.Events.{events-bind, needed-append}
 use Rattle.theory.specs.laws.Tests.{and-in}
 
 -- ---- one computation after another
-
-pub events-bind : {A B : Type 0} (m : Comp A) (k : A → Comp B) → events (bind m k) ≡ events m ++ events (k (result m))
-unfolding events bind result
-events-bind (ret a) k = refl
-events-bind (named z m) k = ap (_∷_ (E.names z)) (events-bind m k)
-events-bind (made t m) k = ap (_∷_ (makes t)) (events-bind m k)
-
-pub needed-append : (X : List Tree) (l k : List Event) → needed X (l ++ k) ≡ needed (needed X l) k
-unfolding needed
-needed-append X [] k = refl
-needed-append X (E.names z ∷ l) k = needed-append X l k
-needed-append X (makes t ∷ l) k = needed-append (if (member t X) X (X ++ (t ∷ []))) l k
 
 -- ---- lists of nodes
 
