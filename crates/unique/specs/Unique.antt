@@ -1,0 +1,51 @@
+-- Hash chains over a table's nodes. No outcome depends on them: they say where to look.
+use mathlib.Core.Path.{_≡_}
+use mathlib.Core.Bool.{Bool, true, false, cond}
+use mathlib.Core.List.{List}
+use Prim.Native.Nat.{ℕ, zero, suc, _+_, _*_, _%_, _≤_, _<_}
+use lib.Dec.{eqb}
+use lib.IntN.{ℤ, natAbs}
+use lib.ListN.{length, getD}
+use Rattle.table.specs.Table.{nodeAt, internR, internW}
+use Rattle.table.specs.declared.Made.{Made}
+use Rattle.table.specs.declared.Node.{Node}
+
+-- a node's hash takes in its words one after another
+unfoldable pub stepOf : ℕ → ℤ → ℕ
+stepOf h z = (h * 31 + natAbs z % 65521) % 65521
+
+unfoldable pub hashOf : ℕ → Node → ℕ
+hashOf cap x = stepOf (stepOf (stepOf (stepOf (stepOf (stepOf (stepOf (stepOf 0 (x .kind)) (x .c1)) (x .c2)) (x .c3)) (x .c4)) (x .constant)) (x .high)) (x .low) % cap
+
+-- one more than the last index below n whose bucket is b, or 0
+unfoldable pub lastOf : (ℕ → ℕ) → ℕ → ℕ → ℕ
+lastOf h b zero = zero
+lastOf h b (suc n) = cond (eqb (h n) b) (suc n) (lastOf h b n)
+
+-- the heads and links are those of the table's first n nodes
+pub record Hashed (cap : ℕ) (l : List ℤ) (w : List ℕ) (n : ℕ) : Type 0 where
+  pub heads : (b : ℕ) → b < cap → getD w b 0 ≡ lastOf (λ i. hashOf cap (nodeAt l i)) b n
+  pub links : (i : ℕ) → i < n → getD w (cap + i) 0 ≡ lastOf (λ i. hashOf cap (nodeAt l i)) (hashOf cap (nodeAt l i)) i
+
+-- no two nodes are equal
+abbrev pub Apart : List ℤ → ℕ → Type 0
+Apart l n = (i j : ℕ) → i < n → j < n → nodeAt l i ≡ nodeAt l j → i ≡ j
+
+-- a table of n nodes with room for cap, and its chains
+pub record Chained (cap : ℕ) (l : List ℤ) (w : List ℕ) (n : ℕ) : Type 0 where
+  pub some : 0 < cap
+  pub few : cap ≤ 65535
+  pub room : n ≤ cap
+  pub words : cap * 8 ≤ length l
+  pub works : cap * 8 ≤ length w
+  pub hashed : Hashed cap l w n
+  pub apart : Apart l n
+
+-- a look-up or append of x answered r and left the nodes l′ and the work words w′
+pub record Entered (cap : ℕ) (l : List ℤ) (w : List ℕ) (n : ℕ) (x : Node) (l′ : List ℤ) (w′ : List ℕ) (r : Made) : Type 0 where
+  pub answer : r ≡ internR cap l n x
+  pub nodes : l′ ≡ internW cap l n x
+  pub chained : Chained cap l′ w′ (r .count)
+  pub beyond : (j : ℕ) → cap * 2 ≤ j → getD w′ j 0 ≡ getD w j 0
+  pub nodes-length : length l′ ≡ length l
+  pub work-length : length w′ ≡ length w
