@@ -17,9 +17,12 @@ use Rattle.theory.specs.Meaning.{State, process}
 use Rattle.theory.specs.Stage.{all-stages}
 use Rattle.theory.specs.Verdict.{Site, verdict}
 use Rattle.theory.specs.Load.{load, model, site-at}
-use Rattle.theory.specs.Solve.{solve-in, SolveOut, solve}
+use Rattle.theory.specs.Solve.{solve-in, table-of, solved-stages, SolveOut, solve}
 use Rattle.theory.specs.Value.{Asked, accepted, state-of, ValueOut, value-of}
 use Rattle.theory.specs.Plain.{plain-of}
+use Rattle.theory.specs.Name.{name-refusal}
+use Rattle.theory.specs.Listing.{greatest-root, listing}
+use Rattle.theory.specs.Rows.{VerdictRow, SolveRow, ValueRow, PlainRow, NameRow, ListingRow}
 use Rattle.theory.specs.Events.{Event, events, Refused, Passes, needed, RefusedAt, PassesAll, peak-of}
 
 -- "a model is solved when solve's number is 0": bytes, horizon and tables of which that holds
@@ -77,7 +80,25 @@ SameValue = (g : Solving) (h : ℕ) → 1 ≤ h → h ≤ g .horizon → (q r : 
     → q .mask ≡ r .mask → scaleL (r .den) (q .nums) ≡ scaleL (q .den) (r .nums)
     → (number (reading g h q .numerator) *ℤ (r .den) ≡ number (reading g h r .numerator) *ℤ (q .den)) × (reading g h q .action ≡ reading g h r .action)
 
--- Demand 1, what definitions carry of it.
+-- Demand 1, total: whatever the bytes, the horizon, the tables and what is asked, an outcome is one row of "What a refusal gives".
+
+abbrev pub VerdictRows : Type 0
+VerdictRows = (B : List ℕ) → VerdictRow B (verdict B)
+
+abbrev pub SolveRows : Type 0
+SolveRows = (B : List ℕ) (H : ℕ) (nodes : List ℤ) (stages work : List ℕ) → SolveRow B H nodes stages work (solve B H nodes stages work)
+
+abbrev pub ValueRows : Type 0
+ValueRows = (B : List ℕ) (nodes : List ℤ) (stages : List ℕ) (steps : ℕ) (q : Asked) → ValueRow B nodes stages steps q (value-of B nodes stages steps q)
+
+abbrev pub PlainRows : Type 0
+PlainRows = (B : List ℕ) (steps : ℕ) (q : Asked) → PlainRow B steps q (plain-of B steps q)
+
+abbrev pub NameRows : Type 0
+NameRows = (B : List ℕ) (a : ℕ) → NameRow B a (name-refusal B a)
+
+abbrev pub ListingRows : Type 0
+ListingRows = (B : List ℕ) (H : ℕ) (nodes : List ℤ) (stages buffer : List ℕ) (at : ℕ) → ListingRow B H nodes stages buffer at (listing B H nodes stages buffer at)
 
 -- 11 or 12 with its place is given exactly where it is the first met, while loading or in an operation of the stages
 abbrev pub FirstMet : Type 0
@@ -101,3 +122,7 @@ CountsDistinct = (roots : List Tree) (l : List Event) → Distinct (needed (ente
 abbrev pub PeakDecides : Type 0
 PeakDecides = (N : ℕ) (B : List ℕ) (H : ℕ) (S : List Tree) (peak : ℕ) → verdict B .number ≡ 0 → solve-in N B H ≡ solved S peak
     → (peak ≤ N) × ((K : ℕ) → peak ≤ K → solve-in K B H ≡ solved S peak) × ((K : ℕ) → K < peak → (p : ℕ) × (solve-in K B H ≡ refused 12 p))
+
+-- "The table holds the nodes of stages 1 to H and no others, numbered from 1: stage by stage": the greatest stage root is the number of nodes
+abbrev pub TablesHold : Type 0
+TablesHold = (N : ℕ) (B : List ℕ) (H : ℕ) (S : List Tree) (peak : ℕ) → solve-in N B H ≡ solved S peak → greatest-root H (solved-stages S) ≡ length (table-of S)

@@ -17,5 +17,6 @@ pub mod Name
 pub mod Listing
 pub mod Examples
 pub mod Events
+pub mod Rows
 pub mod Demands
 pub mod laws

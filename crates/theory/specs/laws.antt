@@ -18,4 +18,5 @@ pub mod Words
 pub mod Reading
 pub mod Inside
 pub mod Chain
+pub mod Rows
 pub mod Demands

@@ -232,7 +232,7 @@ unbroken k false l e = (tt, e)
 broken : {A : Type 0} (k : ℕ) (l : List Rule) → first-broken (rule (suc k) true ∷ l) ≡ 0 → A
 broken k l e = absurd (unbroken k true l e .0)
 
-not-not : (b : Bool) → T (not (not b)) → T b
+pub not-not : (b : Bool) → T (not (not b)) → T b
 not-not true t = tt
 not-not false t = absurd t
 
@@ -373,7 +373,7 @@ positive zero t = absurd t
 positive (suc w) t = omega arith
 
 -- what stands at an offset, by cases
-by-reading : (B : List ℕ) (at : ℕ) (P : Read → Type 0) → P short → P unknown
+pub by-reading : (B : List ℕ) (at : ℕ) (P : Read → Type 0) → P short → (at < length B → P unknown)
     → (1 ≤ width (byte-at B at) → at + width (byte-at B at) ≤ length B → P (whole (command-at B at))) → P (read-at B at)
 unfolding read-at
 by-reading B at P a b c =
@@ -381,8 +381,8 @@ by-reading B at P a b c =
     let r = if (ltb (length B) (at + w)) short (whole (command-at B at)) in
     by-test (leb (length B) at) (λ x. P (if x short (if (eqb w 0) unknown r)))
     (λ _. a)
-    (λ _. by-test (eqb w 0) (λ x. P (if x unknown r))
-    (λ _. b)
+    (λ o. by-test (eqb w 0) (λ x. P (if x unknown r))
+    (λ _. b (nleb→lt (length B) at o))
     (λ n. by-test (ltb (length B) (at + w)) (λ x. P (if x short (whole (command-at B at)))) (λ _. a) (λ m. c (positive w n) (nltb→le (length B) (at + w) m))))
 
 judged-whole : (k at : ℕ) (v : Verdict) → (if (eqb k 0) v (refusal k at)) .number ≡ 0 → (k ≡ 0) × (v .number ≡ 0)
@@ -390,7 +390,7 @@ judged-whole k at v = by-test (eqb k 0) (λ b. (if b v (refusal k at)) .number �
     (λ t e. (eqb→eq k 0 t, e)) (λ n e. absurd (T-not (eqb k 0) n (rw e tt)))
 
 -- the readings behind one
-abbrev behind : List ℕ → ℕ → ℕ → Bool → List Placed
+abbrev pub behind : List ℕ → ℕ → ℕ → Bool → List Placed
 behind B k at b = elim b [ true ↦ readings-from B k (at + width (byte-at B at)) | false ↦ [] ]
 
 abbrev Accepted : List ℕ → Site → List Placed → Type 0
@@ -433,7 +433,7 @@ module _ (B : List ℕ) (k at : ℕ) (S : Site) (ok : In-range S) where
       → Accepted B S (record { at = at; read = read-at B at } ∷ behind B k at (goes-on (read-at B at)))
   unfolding judged
   one-reading ih = by-reading B at (λ r. Accepted B S (record { at = at; read = r } ∷ behind B k at (goes-on r)))
-      (λ K G X E u v e. refused 1 e) (λ K G X E u v e. refused 2 e) (λ w l. one-more (ih l w) (command-at B at) (fit B at))
+      (λ K G X E u v e. refused 1 e) (λ _ K G X E u v e. refused 2 e) (λ w l. one-more (ih l w) (command-at B at) (fit B at))
 
 -- fuel for each byte that is left is enough
 accepted-from : (B : List ℕ) (S : Site) → In-range S → (k at : ℕ) → at ≤ length B → length B < at + k → Accepted B S (readings-from B k at)
@@ -485,7 +485,7 @@ first-command B h l end-model f e = broken 0 _ (judged-whole (first-broken (rule
 pub accepted : (B : List ℕ) → verdict B .number ≡ 0 → In-range (site-at B) × Complete (site-at B) (loaded-entries B)
 unfolding verdict readings readings-from judged
 accepted B = by-reading B 0 (λ r. Begins B (record { at = 0; read = r } ∷ behind B (length B) 0 (goes-on r)))
-    (λ e. absurd (let z : _≡_ {A = ℕ} 2 0 = e in omega arith)) (λ e. absurd (let z : _≡_ {A = ℕ} 3 0 = e in omega arith)) (λ w h. first-command B h w (command-at B 0) (fit B 0))
+    (λ e. absurd (let z : _≡_ {A = ℕ} 2 0 = e in omega arith)) (λ _ e. absurd (let z : _≡_ {A = ℕ} 3 0 = e in omega arith)) (λ w h. first-command B h w (command-at B 0) (fit B 0))
 
 -- the model that bytes spell, of what is loaded
 pub model-loaded : (B : List ℕ) → model B ≡ model-of (site-at B) (loaded-entries B)

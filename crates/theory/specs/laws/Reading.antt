@@ -1,10 +1,11 @@
 -- Reading a value: the walk over a solved table's words ends at the leaf that the diagram comes to, and gives what it comes to.
 use mathlib.Core.Path.{_≡_, refl, ap, ap₂, _∙_}
+use mathlib.Core.Logic.{⊎-elim}
 use mathlib.Core.Bool.{Bool, true, false, _&&_}
 use mathlib.Core.List.{List, [], _∷_, _++_, map}
 use Prim.Native.Nat.{ℕ, zero, suc, _+_, _-_, _*_, _^_, _≤_, _<_}
 use native.Mathlib.Omega.{arith}
-use native.Mathlib.Nat.{le-refl}
+use native.Mathlib.Nat.{le-refl, le-antisymm, eq-or-lt-of-le, max-le, le-max-left, le-max-right}
 use borrow.Author.Tests.{eq-eqb, ne-eqb}
 use lib.Dec.{T, isEq, eqb, ltb}
 use lib.IntN.{ℤ, pos, negsuc, natAbs, _+ℤ_, _*ℤ_}
@@ -23,9 +24,10 @@ use Rattle.theory.specs.Verdict.{Verdict}
 use Rattle.theory.specs.Load.{site-at}
 use Rattle.theory.specs.Solve.{number-of, rows, row, test-words, padded, table-of, solved-nodes, solved-stages, early}
 use Rattle.theory.specs.Value.{Asked, accepted, bits, state-of, node-word, node-linear, high-of, good-row, numerator-of, taken, walk, ValueOut, refused-value, value-at, value-of}
+use Rattle.theory.specs.Listing.{greatest-root}
 use Rattle.theory.specs.laws.Comps.{cmpZ-eq}
 use Rattle.theory.specs.laws.Tests.{parts}
-use Rattle.theory.specs.laws.Table.{number-above, Table, table-of-table, table-of-has}
+use Rattle.theory.specs.laws.Table.{number-below, last-entered, number-above, Table, table-of-table, table-of-has}
 use Rattle.theory.specs.laws.Words.{Stage-good, laid, node-words-are, leaf-shows, condition-shows, test-shows, node-good}
 
 is-true : (b : Bool) → T b → b ≡ true
@@ -197,6 +199,29 @@ unfolding solved-stages
 stages-length S h =
     length-append (map (λ t. number-of t (table-of S)) S) (replicate (steps-most - length S) 0)
     ∙ omega (arith, length-map S (λ t. number-of t (table-of S)), length-replicate {A = ℕ} (steps-most - length S) 0)
+
+greatest-most : (H : ℕ) (stages : List ℕ) (n : ℕ) → ((i : ℕ) → i < H → getD stages i 0 ≤ n) → greatest-root H stages ≤ n
+unfolding greatest-root
+greatest-most zero stages n f = omega arith
+greatest-most (suc H) stages n f = max-le (greatest-most H stages n (λ i h. f i (omega arith))) (f H (omega arith))
+
+greatest-least : (H : ℕ) (stages : List ℕ) (i : ℕ) → i < H → getD stages i 0 ≤ greatest-root H stages
+unfolding greatest-root
+greatest-least zero stages i h = absurd (omega arith)
+greatest-least (suc H) stages i h = ⊎-elim
+    (λ e. rw e (le-max-right (greatest-root H stages) (getD stages H 0)))
+    (λ l. omega (arith, greatest-least H stages i l, le-max-left (greatest-root H stages) (getD stages H 0)))
+    (let l : i ≤ H = omega arith in eq-or-lt-of-le l)
+
+-- the greatest root is the number of nodes
+pub root-last : (S : List Tree) → greatest-root (length S) (solved-stages S) ≡ length (table-of S)
+unfolding table-of solved-stages
+root-last S = le-antisymm
+    (greatest-most (length S) (solved-stages S) (length (table-of S)) (λ i h. rw (word i h) (number-below (getD S i zero-leaf) (table-of S))))
+    (⊎-elim (λ e. rw e (omega arith)) (λ r. rw (← r .1 .1, ← word (r .0) (r .1 .0)) (greatest-least (length S) (solved-stages S) (r .0) (r .1 .0))) (last-entered zero-leaf S []))
+  where
+    word : (i : ℕ) → i < length S → getD (solved-stages S) i 0 ≡ number-of (getD S i zero-leaf) (table-of S)
+    word i h = stage-word (λ t. number-of t (table-of S)) zero-leaf S (replicate (steps-most - length S) 0) i h
 
 -- ---- reading a solved model
 

@@ -109,6 +109,9 @@ number-last t (x ∷ X) e = go (same x t) e (number-last t X)
     go true e ih = clash e
     go false e ih = ap (λ (n : ℕ). later-by-one n) (ih e)
 
+at-end : (t : Tree) (X : List Tree) → member t X ≡ false → number-of t (X ++ (t ∷ [])) ≡ length (X ++ (t ∷ []))
+at-end t X n = number-last t X n ∙ omega (arith, length-append X (t ∷ []))
+
 -- ---- tables that grow
 
 -- what is there stays, under its number
@@ -259,6 +262,23 @@ enter-all-table (t ∷ S) X x = enter-all-table S (enter t X) (enter-table t X x
 pub no-table : Table []
 unfolding member
 no-table = record { closed = λ t h l m. clash (sym m); distinct = λ i j h k e. absurd (omega arith) }
+
+-- entering a diagram adds nothing, or its root comes last
+enter-last : (F : Tree) (X : List Tree) → (enter F X ≡ X) ⊎ (number-of F (enter F X) ≡ length (enter F X))
+unfolding enter
+enter-last (leaf f) X = by-eq (member (leaf f) X) (λ b. let Y = if b X (X ++ (leaf f ∷ [])) in (Y ≡ X) ⊎ (number-of (leaf f) Y ≡ length Y)) (λ _. inl refl) (λ n. inr (at-end (leaf f) X n))
+enter-last (branch t h l) X = by-eq (member (branch t h l) X)
+    (λ b. let Y = if b X (enter l (enter h X) ++ (branch t h l ∷ [])) in (Y ≡ X) ⊎ (number-of (branch t h l) Y ≡ length Y)) (λ _. inl refl)
+    (λ n. inr (at-end (branch t h l) (enter l (enter h X)) (enter-fresh t h l X n)))
+
+-- so does entering some: one of their roots comes last
+pub last-entered : (d : Tree) (S X : List Tree) → (enter-all S X ≡ X) ⊎ ((i : ℕ) × ((i < length S) × (number-of (getD S i d) (enter-all S X) ≡ length (enter-all S X))))
+unfolding enter-all
+last-entered d [] X = inl refl
+last-entered d (t ∷ S) X = ⊎-elim
+    (λ e. ⊎-elim (λ q. inl (e ∙ q)) (λ n. inr (0, (omega arith, rw e n))) (enter-last t X))
+    (λ r. inr (suc (r .0), (omega (arith, r .1 .0), r .1 .1)))
+    (last-entered d S (enter t X))
 
 -- the solved table: every branch has its branches there, below it, and no two nodes are equal
 pub table-of-table : (S : List Tree) → Table (table-of S)

@@ -136,7 +136,7 @@ unfolding wide small-linear
 wide-small p t = both (eqb (length (p .coeffs)) levels-most) (all small (p .coeffs) && small (p .const)) t .1
 
 -- what good-row asks of a node by its kind
-abbrev by-kind : ℕ → ℕ → List ℤ → ℕ → ℤ → Bool
+abbrev pub by-kind : ℕ → ℕ → List ℤ → ℕ → ℤ → Bool
 by-kind n A W r z = elim z [
   | pos k ↦ if (eqb k 0) (good-leaf-row A W r) (if (eqb k 1) (good-condition-row n W r) (if (eqb k 2) (good-test-row W r) false))
   | negsuc k ↦ false
