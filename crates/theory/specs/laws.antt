@@ -1,8 +1,10 @@
 -- What is proved about the definitions.
 pub mod Process
+pub mod Safe
 pub mod Comps
 pub mod Values
-pub mod Tests
+pub mod Nodes
+pub mod Valid
 pub mod Expectation
 pub mod Stages
 pub mod Plain
@@ -11,7 +13,6 @@ pub mod Good
 pub mod Events
 pub mod Counting
 pub mod Refusals
-pub mod Nodes
 pub mod Loading
 pub mod Table
 pub mod Words

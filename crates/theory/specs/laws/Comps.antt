@@ -8,7 +8,7 @@ use borrow.Author.Tests.{eq-eqb}
 use lib.Dec.{T, isEq, eqb, eqb→eq, ltb}
 use lib.IntN.{ℤ, pos, negsuc}
 use lib.ListN.{length, getD}
-use Rattle.whole.specs.Cases.{if, by-test, both}
+use Rattle.whole.specs.Cases.{if, by-test, both, clash}
 use Rattle.whole.specs.Within.{small}
 use Rattle.theory.specs.Diagram.{Linear, Test, now, later, linear, Leaf, Tree, leaf, branch, then, cmpZ, cmpList, cmpLinear, cmp, same-leaf, same}
 use Rattle.theory.specs.Computation.{Comp, ret, named, made, bind, result, names, judge, Out, done, stopped, member, run, enter-all, Ops, end, operation, and-then, final, solved}
@@ -174,16 +174,13 @@ run-judge N p m X = run-names N (p .coeffs) (named (p .const) m) X ∙ if-and (a
 
 -- ---- membership
 
-clash : {A : Type 0} → false ≡ true → A
-clash e = absurd (let z : _≡_ {A = ℕ} 0 1 = cc in omega arith)
-
 if-true : (b c : Bool) → c ≡ true → if b true c ≡ true
 if-true true c e = refl
 if-true false c e = e
 
 pub member-more : (u v : Tree) (X : List Tree) → member u X ≡ true → member u (X ++ (v ∷ [])) ≡ true
 unfolding member
-member-more u v [] e = clash e
+member-more u v [] e = clash (sym e)
 member-more u v (x ∷ X) e = go (same x u) e (member-more u v X)
   where
     go : (b : Bool) → if b true (member u X) ≡ true → (member u X ≡ true → member u (X ++ (v ∷ [])) ≡ true) → if b true (member u (X ++ (v ∷ []))) ≡ true
@@ -208,7 +205,7 @@ member-out d t (x ∷ X) h = ap (λ (b : Bool). if b true (member t X)) (same-no
 
 pub member-find : (d u : Tree) (X : List Tree) → member u X ≡ true → (i : ℕ) × (i < length X) × (getD X i d ≡ u)
 unfolding member
-member-find d u [] e = clash e
+member-find d u [] e = clash (sym e)
 member-find d u (x ∷ X) e = go (same x u) refl e (member-find d u X)
   where
     go : (b : Bool) → same x u ≡ b → if b true (member u X) ≡ true → (member u X ≡ true → (i : ℕ) × (i < length X) × (getD X i d ≡ u))

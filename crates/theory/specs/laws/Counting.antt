@@ -7,17 +7,13 @@ use Prim.Native.Nat.{ℕ, suc, _+_, _≤_, _<_}
 use native.Mathlib.Omega.{arith}
 use lib.Dec.{T, ltb, ltb→lt, nltb→le}
 use lib.ListN.{length, getD, length-append, List·getD-append}
-use Rattle.whole.specs.Cases.{if, both}
+use Rattle.whole.specs.Cases.{if, both, is-true, clash}
 use Rattle.theory.specs.Diagram.{Tree, leaf, branch, same}
 use Rattle.theory.specs.Computation.{member, enter, enter-all}
 use Rattle.theory.specs.Rules.{zero-leaf}
 use Rattle.theory.specs.Events.{Event, names, makes, needed, inside, all-inside}
 use Rattle.theory.specs.Demands.{Distinct, CountsDistinct}
 use Rattle.theory.specs.laws.Comps.{same-eq, same-refl, member-in, member-find, with-made}
-use Rattle.theory.specs.laws.Events.{is-true}
-
-clash : {A : Type 0} → false ≡ true → A
-clash e = absurd (let z : _≡_ {A = ℕ} 0 1 = cc in omega arith)
 
 -- ---- one more node
 
@@ -30,7 +26,7 @@ pub distinct-more : (X : List Tree) (t : Tree) → Distinct X → member t X ≡
 distinct-more X t D o i j p q e = go (ltb i (length X)) refl (ltb j (length X)) refl
   where
     away : (k : ℕ) → k < length X → getD X k zero-leaf ≡ t → ⊥
-    away k h f = clash (sym o ∙ member-in zero-leaf t X k h f)
+    away k h f = clash (sym (member-in zero-leaf t X k h f) ∙ o)
 
     at-last : (k : ℕ) → k ≡ length X → getD (X ++ (t ∷ [])) k zero-leaf ≡ t
     at-last k h = rw h (last-at t zero-leaf X)
@@ -63,7 +59,7 @@ more-cases u t [] h = go (same t u) refl h
   where
     go : (b : Bool) → same t u ≡ b → if b true false ≡ true → (false ≡ true) ⊎ (t ≡ u)
     go true e h = inr (same-eq t u (subst T (sym e) tt))
-    go false e h = clash h
+    go false e h = clash (sym h)
 more-cases u t (x ∷ X) h = go (same x u) h (more-cases u t X)
   where
     go : (b : Bool) → if b true (member u (X ++ (t ∷ []))) ≡ true → (member u (X ++ (t ∷ [])) ≡ true → (member u X ≡ true) ⊎ (t ≡ u))
@@ -126,7 +122,7 @@ distinct-enter (branch t k l) X D = go (member (branch t k l) X) refl (distinct-
     fresh : member (branch t k l) X ≡ false → (b : Bool) → member (branch t k l) (enter l (enter k X)) ≡ b → b ≡ false
     fresh o false e = refl
     fresh o true e = ⊎-elim
-        (λ m. ⊎-elim (λ n. clash (sym o ∙ n)) (λ s. absurd (omega arith)) (enter-members (λ u. size u ≤ size k) k X (branch t k l) (small-throughout (size k) k (omega arith)) m))
+        (λ m. ⊎-elim (λ n. clash (sym n ∙ o)) (λ s. absurd (omega arith)) (enter-members (λ u. size u ≤ size k) k X (branch t k l) (small-throughout (size k) k (omega arith)) m))
         (λ s. absurd (omega arith))
         (enter-members (λ u. size u ≤ size l) l (enter k X) (branch t k l) (small-throughout (size l) l (omega arith)) e)
 
@@ -154,7 +150,7 @@ without u (x ∷ X) = if (same x u) X (x ∷ without u X)
 
 without-length : (u : Tree) (X : List Tree) → member u X ≡ true → length X ≡ suc (length (without u X))
 unfolding without member
-without-length u [] h = clash h
+without-length u [] h = clash (sym h)
 without-length u (x ∷ X) h = go (same x u) h (without-length u X)
   where
     go : (b : Bool) → if b true (member u X) ≡ true → (member u X ≡ true → length X ≡ suc (length (without u X))) → suc (length X) ≡ suc (length (if b X (x ∷ without u X)))
@@ -216,7 +212,7 @@ enter-all-inside (t ∷ l) Y X h u m =
 
 pub roots-inside : (roots X : List Tree) → T (all-inside roots X) → (u : Tree) → member u (enter-all roots []) ≡ true → member u X ≡ true
 unfolding member
-roots-inside roots X h u m = ⊎-elim (λ n. clash n) (λ n. n) (enter-all-inside roots [] X h u m)
+roots-inside roots X h u m = ⊎-elim (λ n. clash (sym n)) (λ n. n) (enter-all-inside roots [] X h u m)
 
 pub roots-fit : (roots X : List Tree) → T (all-inside roots X) → length (enter-all roots []) ≤ length X
 roots-fit roots X h = distinct-fit (enter-all roots []) X (distinct-roots roots) (roots-inside roots X h)

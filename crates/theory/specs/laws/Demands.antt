@@ -29,14 +29,13 @@ use Rattle.theory.specs.Value.{Asked, ValueOut, value-of}
 use Rattle.theory.specs.Listing.{greatest-root}
 use Rattle.theory.specs.Demands
 use Rattle.theory.specs.Demands.{Solving, left, Accepted, start, site, reading, Exact, Optimal, PlainAgrees, SameValue, FirstMet, SolvedExactly, CountsDistinct, PeakDecides, VerdictRows, SolveRows, ValueRows, PlainRows, NameRows, ListingRows, TablesHold}
-use Rattle.theory.specs.laws.Loading.{accepted-valid, accepted-site, among-in, among-out}
+use Rattle.theory.specs.laws.Loading.{accepted-valid, accepted-site}
 use Rattle.theory.specs.laws.Good.{stages-good}
 use Rattle.theory.specs.laws.Stages.{stages-at, stage-of, all-stages-length}
 use Rattle.theory.specs.laws.Reading.{reading-exact, root-last}
 use Rattle.theory.specs.laws.Rows.{Passed, by-early, early-some, passed-not, solve-runs}
 use Rattle.theory.specs.laws.Rows as Rows
 use Rattle.theory.specs.laws.Process.{policy-theorem}
-use Rattle.theory.specs.laws.Table.{by-eq}
 use Rattle.theory.specs.laws.Plain as Plain
 use Rattle.theory.specs.laws.SameValue as SameValue
 use Rattle.theory.specs.laws.Refusals as Refusals

@@ -8,13 +8,12 @@ use native.Mathlib.Omega.{arith}
 use lib.Dec.{T, leb, ltb, leb→le, le→leb, nleb→lt}
 use lib.IntN.{ℤ}
 use lib.ListN.{length, length-append}
-use Rattle.whole.specs.Cases.{if, by-test, both}
+use Rattle.whole.specs.Cases.{if, by-test, both, and-in, is-true}
 use Rattle.whole.specs.Within.{small}
 use Rattle.theory.specs.Diagram.{Tree}
 use Rattle.theory.specs.Computation.{Comp, ret, named, made, bind, result, Out, done, stopped, member, run}
 use Rattle.theory.specs.Events.{Event, names, makes, events, within, needed, Refused, beyond, no-room, Passes}
 use Rattle.theory.specs.laws.Comps.{with-made, with-made-more, ret-done, named-done, made-done}
-use Rattle.theory.specs.laws.Tests.{and-in}
 
 -- ---- events one after another
 
@@ -63,10 +62,6 @@ needed-keeps u X (names z ∷ l) h = needed-keeps u X l h
 needed-keeps u X (makes t ∷ l) h = needed-keeps u (with-made t X) l (with-made-more t u X h)
 
 -- ---- a run, event by event
-
-pub is-true : (b : Bool) → T b → b ≡ true
-is-true true t = refl
-is-true false t = absurd t
 
 is-false : (b : Bool) → T (not b) → b ≡ false
 is-false true t = absurd t

@@ -7,7 +7,7 @@ use Prim.Native.Nat.{ℕ, Ordering·lt, Ordering·eq, Ordering·gt}
 use lib.Dec.{T}
 use lib.IntN.{ℤ, pos}
 use lib.Signed.{leZ}
-use Rattle.whole.specs.Cases.{if, by-test, by-order, both}
+use Rattle.whole.specs.Cases.{if, by-test, by-order, both, and-in, is-true, from-true}
 use Rattle.theory.specs.Diagram.{Linear, Test, now, later, linear, Leaf, Tree, leaf, branch, plain, cmp, same, _⊟_, zeros, test-of}
 use Rattle.theory.specs.Computation.{Comp, ret, named, made, bind, result, make, names, judge, member, enter, enter-all}
 use Rattle.theory.specs.Computation as C
@@ -16,18 +16,8 @@ use Rattle.theory.specs.Events.{Event, makes, events, needed, inside, al
 use Rattle.theory.specs.Events as E
 use Rattle.theory.specs.laws.Comps.{same-eq, result-bind, member-more, member-last, with-made, with-made-more, with-made-in}
 use Rattle.theory.specs.laws.Events.{events-bind, needed-append}
-use Rattle.theory.specs.laws.Tests.{and-in}
-
--- ---- one computation after another
 
 -- ---- lists of nodes
-
-is-true : (b : Bool) → T b → b ≡ true
-is-true true t = refl
-is-true false t = absurd t
-
-from-true : {b : Bool} → b ≡ true → T b
-from-true e = subst T (sym e) tt
 
 -- every node of X is one of Y
 pub record Sub (X Y : List Tree) : Type 0 where

@@ -10,7 +10,7 @@ use lib.Dec.{T, eqb, ltb, leb, eqb→eq, eqb-refl, leb→le, le→leb, nleb→lt
 use lib.IntN.{ℤ, pos, negsuc, negℤ, natAbs}
 use lib.ListN.{length, drop}
 use lib.Signed.{quotZ}
-use Rattle.whole.specs.Cases.{if, by-test, both}
+use Rattle.whole.specs.Cases.{if, by-test, both, and-in, not-not}
 use Rattle.whole.specs.Within.{small, limit}
 use Rattle.theory.specs.Widths.{levels-most, conditions-most, actions-most, weights-most}
 use Rattle.theory.specs.Diagram.{Linear, Test, now, later, linear, Leaf, Tree, leaf, plain, quotL, quotient, divisor, test-of}
@@ -23,9 +23,9 @@ use Rattle.theory.specs.Command.{Command, site, push-leaf, push-conditio
 use Rattle.theory.specs.Verdict.{Site, Facts, Slot, Progress, reward-slot, chance-slot, level-slot, name-slot, same-slot, has-slot, or, Rule, rule, first-broken, next-condition, is-weight, top, joined, from-to, wanted-by, wanted, site-rules, site-of, first-rules, later-rules, rules-of, after, Verdict, refusal, ended, judged, at-start, verdict}
 use Rattle.theory.specs.Load.{Entry, Loaded, condition-test, load-choice, load-entry, load-one, load-on, find-slot, action-of, model-of, site-at, load, model}
 use Rattle.theory.specs.laws.Comps.{result-bind}
-use Rattle.theory.specs.laws.Good.{quotient-wide}
-use Rattle.theory.specs.laws.Tests.{and-in}
-use Rattle.theory.specs.laws.Nodes.{widen, choose-nodes}
+use Rattle.theory.specs.laws.Safe.{any, sure}
+use Rattle.theory.specs.laws.Nodes.{widen, choose-safe}
+use Rattle.theory.specs.laws.Valid.{among-in, among-out, other-above, wide-in, quotient-wide}
 
 -- ---- numbers that are written lie within the limits, and so do those of a test
 
@@ -45,13 +45,10 @@ unfolding signed-from
 signed-length B i zero = refl
 signed-length B i (suc k) = ap suc (signed-length B (i + 4) k)
 
-wide-in : (p : Linear) → length (p .coeffs) ≡ levels-most → T (all small (p .coeffs)) → T (small (p .const)) → T (wide p)
-unfolding wide small-linear
-wide-in p e a b = and-in (eqb (length (p .coeffs)) levels-most) (all small (p .coeffs) && small (p .const)) (rw e tt) (and-in (all small (p .coeffs)) (small (p .const)) a b)
-
 pub linear-wide : (B : List ℕ) (i : ℕ) → T (wide (linear-at B i))
-unfolding linear-at
-linear-wide B i = wide-in (linear-at B i) (signed-length B i levels-most) (signed-all B i levels-most) (signed-small (word-at B (i + levels-most * 4)))
+unfolding linear-at small-linear
+linear-wide B i = wide-in (linear-at B i) (signed-length B i levels-most)
+    (and-in (all small (signed-from B i levels-most)) (small (signed (word-at B (i + levels-most * 4)))) (signed-all B i levels-most) (signed-small (word-at B (i + levels-most * 4))))
 
 -- ---- lists of numbers from one on
 
@@ -61,18 +58,12 @@ unfolding all from-to
 all-from p f b zero h = tt
 all-from p f b (suc k) h = and-in (p (f b)) (all p (map f (from-to (suc b) k))) (h b (omega arith) (omega arith)) (all-from p f (suc b) k (λ a u v. h a (omega arith) (omega arith)))
 
-other : (a b : ℕ) → T (not (eqb a b)) → b ≤ a → suc b ≤ a
-other a b n u = by-test (leb (suc b) a) (λ _. suc b ≤ a) (λ t. leb→le (suc b) a t) (λ m. absurd (T-not (eqb a b) n (rw (same a b u (nleb→lt (suc b) a m)) (eqb-refl b))))
-  where
-    same : (a b : ℕ) → b ≤ a → a < suc b → a ≡ b
-    same a b h l = omega arith
-
 from-all : {A : Type 0} (p : A → Bool) (f : ℕ → A) (b k : ℕ) → T (all p (map f (from-to b k))) → (a : ℕ) → b ≤ a → a < b + k → T (p (f a))
 unfolding all from-to
 from-all p f b zero t a u v = absurd (omega arith)
 from-all p f b (suc k) t a u v =
     let d = both (p (f b)) (all p (map f (from-to (suc b) k))) t in
-    by-test (eqb a b) (λ _. T (p (f a))) (λ e. rw (eqb→eq a b e) (d .0)) (λ n. from-all p f (suc b) k (d .1) a (other a b n u) (omega arith))
+    by-test (eqb a b) (λ _. T (p (f a))) (λ e. rw (eqb→eq a b e) (d .0)) (λ n. from-all p f (suc b) k (d .1) a (other-above b a u n) (omega arith))
 
 from-length : {A : Type 0} (f : ℕ → A) (b k : ℕ) → length (map f (from-to b k)) ≡ k
 unfolding from-to
@@ -87,14 +78,6 @@ all-append p (x ∷ l) r t =
     let c = all-append p l r (d .1) in
     (and-in (p x) (all p l) (d .0) (c .0), c .1)
 
-pub among-in : (n k : ℕ) → 1 ≤ k → k ≤ n → T (among n k)
-unfolding among
-among-in n k a b = and-in (leb 1 k) (leb k n) (le→leb 1 k a) (le→leb k n b)
-
-pub among-out : (n k : ℕ) → T (among n k) → (1 ≤ k) × (k ≤ n)
-unfolding among
-among-out n k t = let d = both (leb 1 k) (leb k n) t in (leb→le 1 k (d .0), leb→le k n (d .1))
-
 -- all that is wanted, action by action
 wanted-each : (p : Slot → Bool) (S : Site) (b k : ℕ) → T (all p (wanted-by S (from-to b k))) → (a : ℕ) → b ≤ a → a < b + k
     → T (p (reward-slot a)) × (T (all p (map (chance-slot a) (from-to 1 (S .conditions)))) × T (all p (map (level-slot a) (from-to 1 (S .levels)))))
@@ -106,7 +89,7 @@ wanted-each p S b (suc k) t a u v =
     let e = all-append p (map (level-slot b) (from-to 1 (S .levels))) _ (c .1) in
     by-test (eqb a b) (λ _. T (p (reward-slot a)) × (T (all p (map (chance-slot a) (from-to 1 (S .conditions)))) × T (all p (map (level-slot a) (from-to 1 (S .levels))))))
     (λ q. rw (eqb→eq a b q) (d .0, (c .0, e .0)))
-    (λ n. wanted-each p S (suc b) k (e .1) a (other a b n u) (omega arith))
+    (λ n. wanted-each p S (suc b) k (e .1) a (other-above b a u n) (omega arith))
 
 -- ---- what is loaded for a slot
 
@@ -204,9 +187,9 @@ sound-choice S b t h l H L g u v =
     let n = S .conditions in
     let next = or b (or (h .next-step) (l .next-step)) in
     let w = h .weights && l .weights in
-    choose-nodes (good-test n next) (leaf-as (S .weights) w) t H L g
+    sure (choose t H L) (choose-safe any (good-test n next) (leaf-as (S .weights) w) t H L g
     (widen _ _ _ _ (test-less n (h .next-step) next (λ x. or-right b _ (or-left (h .next-step) _ x))) (leaf-less (S .weights) (h .weights) w (λ x. both (h .weights) (l .weights) x .0)) H u)
-    (widen _ _ _ _ (test-less n (l .next-step) next (λ x. or-right b _ (or-right (h .next-step) _ x))) (leaf-less (S .weights) (l .weights) w (λ x. both (h .weights) (l .weights) x .1)) L v)
+    (widen _ _ _ _ (test-less n (l .next-step) next (λ x. or-right b _ (or-right (h .next-step) _ x))) (leaf-less (S .weights) (l .weights) w (λ x. both (h .weights) (l .weights) x .1)) L v))
 
 -- ---- one command that breaks no rule
 
@@ -231,10 +214,6 @@ unbroken k false l e = (tt, e)
 
 broken : {A : Type 0} (k : ℕ) (l : List Rule) → first-broken (rule (suc k) true ∷ l) ≡ 0 → A
 broken k l e = absurd (unbroken k true l e .0)
-
-pub not-not : (b : Bool) → T (not (not b)) → T b
-not-not true t = tt
-not-not false t = absurd t
 
 or-out : {C : Type 0} (a b : Bool) → T (or a b) → (T a → C) → (T b → C) → C
 or-out true b t f g = f tt

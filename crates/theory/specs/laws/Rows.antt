@@ -12,7 +12,7 @@ use lib.IntN.{ℤ, pos, negsuc, natAbs}
 use lib.ListN.{length, getD, take, drop, replicate, length-append, length-replicate, length-drop}
 use lib.Seq.{length-take-le, take-at, drop-at, drop-drop, take-append-seam, drop-append-seam}
 use lib.Signed.{leZ}
-use Rattle.whole.specs.Cases.{if, by-test, both}
+use Rattle.whole.specs.Cases.{if, by-test, both, not-not}
 use Rattle.whole.specs.Numerator.{words}
 use Rattle.theory.specs.Widths.{levels-most, steps-most, bytes-most, node-words, nodes-most}
 use Rattle.theory.specs.Diagram.{Tree, zeros}
@@ -36,7 +36,8 @@ use Rattle.theory.specs.laws.Refusals.{refused-number, refused-place, pe
 use Rattle.theory.specs.laws.Chain.{all-chained, table-fits}
 use Rattle.theory.specs.laws.Words.{rows-length, by-kind}
 use Rattle.theory.specs.laws.Reading.{stages-length}
-use Rattle.theory.specs.laws.Loading.{not-not, by-reading, behind, among-in, among-out, accepted-valid, accepted-site}
+use Rattle.theory.specs.laws.Valid.{among-in, among-out}
+use Rattle.theory.specs.laws.Loading.{by-reading, behind, accepted-site}
 
 -- ---- the verdict
 

@@ -8,21 +8,13 @@ use native.Mathlib.Omega.{arith}
 use lib.Dec.{T, leb, ltb→lt, nltb→le}
 use lib.ListN.{length, getD, length-append, List·getD-append}
 use lib.Seq.{getD-at}
-use Rattle.whole.specs.Cases.{if, by-test}
+use Rattle.whole.specs.Cases.{if, by-test, by-eq, clash}
 use Rattle.theory.specs.Diagram.{Test, Tree, leaf, branch, same}
 use Rattle.theory.specs.Computation.{member, enter, enter-all}
 use Rattle.theory.specs.Rules.{zero-leaf}
 use Rattle.theory.specs.Solve.{number-of, table-of}
 use Rattle.theory.specs.Demands.{Distinct}
 use Rattle.theory.specs.laws.Comps.{same-eq, same-refl, member-last, member-in}
-
--- a case split that keeps the test's equation
-pub by-eq {ℓ} : (b : Bool) (P : Bool → Type ℓ) → (b ≡ true → P true) → (b ≡ false → P false) → P b
-by-eq true P f g = f refl
-by-eq false P f g = g refl
-
-clash : {A : Type 0} → true ≡ false → A
-clash e = absurd (let z : _≡_ {A = ℕ} 0 1 = cc in omega arith)
 
 -- ---- members
 
