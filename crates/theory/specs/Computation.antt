@@ -1,13 +1,13 @@
 -- Computations: what a rule comes to, with the numbers that it names and the nodes that it makes, in order.
 use mathlib.Core.Bool.{Bool, true, false}
 use mathlib.Core.List.{List, [], _∷_, _++_}
-use Prim.Native.Nat.{ℕ, zero, suc, _≤_, max}
+use Prim.Native.Nat.{ℕ, max}
 use lib.Dec.{ltb}
 use lib.IntN.{ℤ}
 use lib.ListN.{length}
 use Rattle.whole.specs.Cases.{if}
 use Rattle.whole.specs.Within.{small}
-use Rattle.theory.specs.Diagram.{Linear, Leaf, Tree, leaf, branch, same}
+use Rattle.theory.specs.Diagram.{Linear, Tree, leaf, branch, same}
 
 pub data Comp (A : Type 0) : Type 0 where
   ret : A → Comp A

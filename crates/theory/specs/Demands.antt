@@ -3,19 +3,19 @@ use mathlib.Core.Path.{_≡_}
 use mathlib.Core.Logic.{_↔_, _⊎_}
 use mathlib.Core.Bool.{Bool}
 use mathlib.Core.List.{List, []}
-use Prim.Native.Nat.{ℕ, zero, suc, _≤_, _<_}
+use Prim.Native.Nat.{ℕ, _≤_, _<_}
 use lib.Dec.{T}
-use lib.IntN.{ℤ, pos, _*ℤ_}
+use lib.IntN.{ℤ, _*ℤ_}
 use lib.ListN.{length, getD}
 use lib.Signed.{_<ℤ_}
 use Rattle.whole.specs.Numerator.{number, words}
 use Rattle.theory.specs.Diagram.{Tree, scaleL}
-use Rattle.theory.specs.Computation.{Solved, solved, refused, enter-all}
+use Rattle.theory.specs.Computation.{solved, refused, enter-all}
 use Rattle.theory.specs.Rules.{zero-leaf}
 use Rattle.theory.specs.Process.{Process, Policy, optimum, lowest-best, expected, Sound}
 use Rattle.theory.specs.Meaning.{State, process}
 use Rattle.theory.specs.Stage.{all-stages}
-use Rattle.theory.specs.Verdict.{Site, verdict}
+use Rattle.theory.specs.Verdict.{verdict}
 use Rattle.theory.specs.Load.{load, model, site-at}
 use Rattle.theory.specs.Solve.{solve-in, table-of, solved-stages, SolveOut, solve}
 use Rattle.theory.specs.Value.{Asked, accepted, state-of, ValueOut, value-of}

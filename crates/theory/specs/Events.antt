@@ -1,8 +1,8 @@
 -- Refusals 11 and 12 said a second time, by what a computation names and makes up to a moment; laws/ shows that solve's outcome is this.
 use mathlib.Core.Path.{_≡_}
-use mathlib.Core.Bool.{Bool, true, false, not, _&&_}
+use mathlib.Core.Bool.{Bool, true, not, _&&_}
 use mathlib.Core.List.{List, [], _∷_, _++_}
-use Prim.Native.Nat.{ℕ, zero, suc, _≤_, _<_, max}
+use Prim.Native.Nat.{ℕ, _≤_, _<_, max}
 use lib.Dec.{T}
 use lib.IntN.{ℤ}
 use lib.ListN.{length}

@@ -1,13 +1,11 @@
 -- The cases marked ★ in document 01, together as one table, and the pond's listing: by computation, from the bytes on.
 use mathlib.Core.Path.{_≡_, refl}
-use mathlib.Core.Bool.{Bool, true, false, not, _&&_}
-use mathlib.Core.List.{List, [], _∷_, _++_, map}
-use Prim.Native.Nat.{ℕ, zero, suc, _+_, _-_, _*_, _/_, _%_, _<_}
-use native.Mathlib.Omega.{arith}
+use mathlib.Core.Bool.{Bool, true, false, _&&_}
+use mathlib.Core.List.{List, [], _∷_, _++_}
+use Prim.Native.Nat.{ℕ, _+_, _-_, _*_, _/_, _%_}
 use lib.Dec.{T, eqb, isEq}
 use lib.IntN.{ℤ, pos, negsuc}
 use lib.ListN.{length, replicate}
-use Rattle.whole.specs.Cases.{if}
 use Rattle.whole.specs.Divisor as Divisor
 use Rattle.whole.specs.Within as Within
 use Rattle.whole.specs.Numerator as Numerator

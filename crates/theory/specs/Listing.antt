@@ -1,12 +1,11 @@
 -- "The pond, and its listing": the text of a plan, and the listing as one function of its inputs.
-use mathlib.Core.Bool.{Bool, true, false, not}
+use mathlib.Core.Bool.{not}
 use mathlib.Core.List.{List, [], _∷_, _++_, map}
-use Prim.Native.Nat.{ℕ, zero, suc, _+_, _-_, _*_, _/_, _%_, max}
-use lib.Dec.{eqb, ltb, leb}
+use Prim.Native.Nat.{ℕ, zero, suc, _+_, _-_, _/_, _%_, max}
+use lib.Dec.{eqb, ltb}
 use lib.IntN.{ℤ, pos, negsuc, natAbs}
 use lib.ListN.{length, getD, take, drop}
 use Rattle.whole.specs.Cases.{if}
-use Rattle.theory.specs.Widths.{steps-most}
 use Rattle.theory.specs.Diagram.{Linear}
 use Rattle.theory.specs.Valid.{all}
 use Rattle.theory.specs.Verdict.{Verdict, refusal, Site, from-to}

@@ -1,7 +1,6 @@
 -- "loading the model": the diagrams that the commands of an accepted model spell, made as they come.
-use mathlib.Core.Bool.{Bool, true, false}
 use mathlib.Core.List.{List, [], _∷_, map}
-use Prim.Native.Nat.{ℕ, zero, suc, _-_}
+use Prim.Native.Nat.{ℕ, _-_}
 use lib.Dec.{leb}
 use Rattle.whole.specs.Cases.{if}
 use Rattle.theory.specs.Widths.{conditions-most}
@@ -9,7 +8,7 @@ use Rattle.theory.specs.Diagram.{Test, now, later, Tree, leaf, plain, te
 use Rattle.theory.specs.Computation.{Comp, ret, bind, make, result}
 use Rattle.theory.specs.Rules.{choose, zero-leaf}
 use Rattle.theory.specs.Meaning.{Action, Model}
-use Rattle.theory.specs.Command.{Command, site, push-leaf, push-condition, push-test, take-reward, take-chance, take-level, name-action, end-model, Read, whole, unknown, short, Placed, byte-at, readings}
+use Rattle.theory.specs.Command.{Command, site, push-leaf, push-condition, push-test, take-reward, take-chance, take-level, name-action, end-model, whole, unknown, short, Placed, byte-at, readings}
 use Rattle.theory.specs.Verdict.{Site, site-of, Slot, same-slot, reward-slot, chance-slot, level-slot, from-to}
 
 -- a diagram and what it was given as

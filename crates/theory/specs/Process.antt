@@ -1,5 +1,4 @@
 -- "The value that is meant", over any states, actions and settings: a finite-horizon decision process in whole numbers.
-use mathlib.Core.Bool.{Bool, true, false}
 use mathlib.Core.List.{List, [], _∷_, List·Memᴰ}
 use Prim.Native.Nat.{ℕ, zero, suc, _<_}
 use lib.IntN.{ℤ, pos, _+ℤ_, _*ℤ_}

@@ -1,15 +1,14 @@
 -- "Tables after solving" and solve's refusals: solve as one function of its inputs.
-use mathlib.Core.Bool.{Bool, true, false, not, _&&_}
+use mathlib.Core.Bool.{not}
 use mathlib.Core.List.{List, [], _∷_, _++_, map}
-use Prim.Native.Nat.{ℕ, zero, suc, _+_, _-_, _*_, _/_, min}
+use Prim.Native.Nat.{ℕ, zero, suc, _+_, _-_, _/_, min}
 use lib.Dec.{eqb, ltb}
-use lib.IntN.{ℤ, pos, negsuc}
+use lib.IntN.{ℤ, pos}
 use lib.ListN.{length, replicate}
 use Rattle.whole.specs.Cases.{if}
 use Rattle.theory.specs.Widths.{bytes-most, steps-most, nodes-most, node-words, conditions-most, levels-most}
-use Rattle.theory.specs.Diagram.{Linear, Test, now, later, linear, Leaf, Tree, leaf, branch, same}
-use Rattle.theory.specs.Computation.{Out, done, stopped, run, enter-all, Ops, Solved, solved, refused, run-all}
-use Rattle.theory.specs.Meaning.{Model}
+use Rattle.theory.specs.Diagram.{Linear, Test, now, later, linear, Tree, leaf, branch, same}
+use Rattle.theory.specs.Computation.{done, stopped, run, enter-all, Solved, solved, refused, run-all}
 use Rattle.theory.specs.Stage.{all-stages}
 use Rattle.theory.specs.Valid.{among}
 use Rattle.theory.specs.Verdict.{Verdict, refusal, verdict, or}

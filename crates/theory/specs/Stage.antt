@@ -2,7 +2,7 @@
 use mathlib.Core.List.{List, [], _∷_, _++_}
 use Prim.Native.Nat.{ℕ, zero, suc}
 use Rattle.theory.specs.Diagram.{Tree}
-use Rattle.theory.specs.Computation.{Comp, ret, make, Ops, end, operation, and-then}
+use Rattle.theory.specs.Computation.{make, Ops, end, operation, and-then}
 use Rattle.theory.specs.Rules.{best, zero-leaf, substitute, expectation, add-reward}
 use Rattle.theory.specs.Meaning.{Action, Model, power}
 

@@ -1,9 +1,9 @@
 -- What holds of the diagrams of an accepted model: "Coefficients beyond level m are zero .. Next-step conditions stand only in next levels. The leaves of a chance are constants 0 to W".
 use mathlib.Core.Bool.{Bool, true, false, _&&_}
 use mathlib.Core.List.{List, [], _∷_}
-use Prim.Native.Nat.{ℕ, zero, suc, _-_}
+use Prim.Native.Nat.{ℕ, _-_}
 use lib.Dec.{eqb, leb}
-use lib.IntN.{ℤ, pos}
+use lib.IntN.{pos}
 use lib.ListN.{length}
 use lib.Signed.{leZ}
 use Rattle.whole.specs.Within.{small}

@@ -1,5 +1,5 @@
 -- "States and values": reading a value and an action from tables, as one function of its inputs.
-use mathlib.Core.Bool.{Bool, true, false, not, _&&_}
+use mathlib.Core.Bool.{Bool, true, false, _&&_}
 use mathlib.Core.List.{List, [], _∷_}
 use Prim.Native.Nat.{ℕ, zero, suc, _+_, _-_, _*_, _/_, _%_, _^_, _<_}
 use native.Mathlib.Omega.{arith}
@@ -11,11 +11,10 @@ use Rattle.whole.specs.Cases.{if, both}
 use Rattle.whole.specs.Int.{up}
 use Rattle.whole.specs.Numerator.{words}
 use Rattle.whole.specs.declared.Numerator.{Numerator}
-use Rattle.theory.specs.Widths.{steps-most, node-words, levels-most}
+use Rattle.theory.specs.Widths.{node-words, levels-most}
 use Rattle.theory.specs.Diagram.{Linear, zeros}
 use Rattle.theory.specs.Meaning.{State, nth, dot}
-use Rattle.theory.specs.Valid.{among, small-linear}
-use Rattle.theory.specs.Verdict.{Verdict, refusal, Site, or}
+use Rattle.theory.specs.Valid.{small-linear}
 use Rattle.theory.specs.Load.{site-at}
 use Rattle.theory.specs.Solve.{early}
 

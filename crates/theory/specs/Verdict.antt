@@ -1,16 +1,16 @@
 -- "The site model" and "What a refusal gives", numbers 1 to 8: the first rule that a model breaks, and its place.
 use mathlib.Core.Bool.{Bool, true, false, not, _&&_}
 use mathlib.Core.List.{List, [], _∷_, _++_, map}
-use Prim.Native.Nat.{ℕ, zero, suc, _+_, _-_, _*_}
+use Prim.Native.Nat.{ℕ, zero, suc, _+_, _-_}
 use lib.Dec.{eqb, ltb, leb}
-use lib.IntN.{ℤ, pos}
+use lib.IntN.{pos}
 use lib.ListN.{length, drop}
 use lib.Signed.{leZ}
 use Rattle.whole.specs.Cases.{if}
 use Rattle.theory.specs.Widths.{levels-most, conditions-most, actions-most, weights-most, stack-most}
 use Rattle.theory.specs.Diagram.{Linear, zeros}
 use Rattle.theory.specs.Valid.{all, among}
-use Rattle.theory.specs.Command.{Command, site, push-leaf, push-condition, push-test, take-reward, take-chance, take-level, name-action, end-model, Read, whole, unknown, short, Placed, readings}
+use Rattle.theory.specs.Command.{Command, site, push-leaf, push-condition, push-test, take-reward, take-chance, take-level, name-action, end-model, whole, unknown, short, Placed, readings}
 
 abbrev pub or : Bool → Bool → Bool
 or a b = if a true b

@@ -1,5 +1,6 @@
 -- Laws of computations: what they come to, runs one after another, and runs again.
 use mathlib.Core.Path.{_≡_, refl, sym, ap, ap₂, _∙_, subst}
+use mathlib.Core.Logic.{_⊎_, inl, inr}
 use mathlib.Core.Bool.{Bool, true, false, _&&_}
 use mathlib.Core.List.{List, [], _∷_, _++_}
 use Prim.Native.Nat.{ℕ, zero, suc, _<_, max, compare, Ordering, Ordering·lt, Ordering·eq, Ordering·gt}
@@ -178,14 +179,27 @@ if-true : (b c : Bool) → c ≡ true → if b true c ≡ true
 if-true true c e = refl
 if-true false c e = e
 
-pub member-more : (u v : Tree) (X : List Tree) → member u X ≡ true → member u (X ++ (v ∷ [])) ≡ true
+pub member-append : (u : Tree) (X Y : List Tree) → member u X ≡ true → member u (X ++ Y) ≡ true
 unfolding member
-member-more u v [] e = clash (sym e)
-member-more u v (x ∷ X) e = go (same x u) e (member-more u v X)
+member-append u [] Y e = clash (sym e)
+member-append u (x ∷ X) Y e = go (same x u) e (member-append u X Y)
   where
-    go : (b : Bool) → if b true (member u X) ≡ true → (member u X ≡ true → member u (X ++ (v ∷ [])) ≡ true) → if b true (member u (X ++ (v ∷ []))) ≡ true
+    go : (b : Bool) → if b true (member u X) ≡ true → (member u X ≡ true → member u (X ++ Y) ≡ true) → if b true (member u (X ++ Y)) ≡ true
     go true e ih = refl
     go false e ih = ih e
+
+-- a member of a table with one more is a member of the table or that one
+pub member-cases : (u v : Tree) (X : List Tree) → member u (X ++ (v ∷ [])) ≡ true → (member u X ≡ true) ⊎ (v ≡ u)
+unfolding member
+member-cases u v [] = by-test (same v u) (λ b. if b true false ≡ true → (false ≡ true) ⊎ (v ≡ u)) (λ s _. inr (same-eq v u s)) (λ _ e. inl e)
+member-cases u v (x ∷ X) = go (same x u) (member-cases u v X)
+  where
+    go : (b : Bool) → (member u (X ++ (v ∷ [])) ≡ true → (member u X ≡ true) ⊎ (v ≡ u)) → if b true (member u (X ++ (v ∷ []))) ≡ true → (if b true (member u X) ≡ true) ⊎ (v ≡ u)
+    go true ih e = inl refl
+    go false ih e = ih e
+
+pub member-more : (u v : Tree) (X : List Tree) → member u X ≡ true → member u (X ++ (v ∷ [])) ≡ true
+member-more u v X = member-append u X (v ∷ [])
 
 pub member-last : (v : Tree) (X : List Tree) → member v (X ++ (v ∷ [])) ≡ true
 unfolding member

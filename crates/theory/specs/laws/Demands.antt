@@ -1,37 +1,35 @@
 -- The demands, proved: a term of each type of Demands.
-use mathlib.Core.Path.{_≡_, refl, sym, ap, ap₂, _∙_, subst}
-use mathlib.Core.Logic.{_↔_, ⊎-elim}
-use mathlib.Core.Bool.{Bool, true, false, not}
+use mathlib.Core.Path.{_≡_, refl, sym, ap, ap₂, _∙_}
+use mathlib.Core.Logic.{⊎-elim}
+use mathlib.Core.Bool.{Bool}
 use mathlib.Core.List.{List, []}
-use Prim.Native.Nat.{ℕ, zero, suc, _+_, _-_, _≤_, _<_}
+use Prim.Native.Nat.{ℕ, _-_, _≤_, _<_}
 use native.Mathlib.Nat.{eq-or-lt-of-le}
 use native.Mathlib.Omega.{arith}
-use borrow.Author.Tests.{eq-eqb}
-use lib.Dec.{T, eqb, eqb→eq, ltb, leb→le, lt→ltb}
+use lib.Dec.{leb→le, lt→ltb}
 use lib.IntN.{ℤ, pos, negsuc}
 use lib.ListN.{length, getD}
 use lib.Signed.{_≤ℤ_, _<ℤ_}
-use Rattle.whole.specs.Cases.{if, by-test}
+use Rattle.whole.specs.Cases.{if}
 use Rattle.whole.specs.Numerator.{number, words}
 use Rattle.whole.specs.NumeratorLaws.{number-words}
-use Rattle.theory.specs.Widths.{steps-most, bytes-most}
+use Rattle.theory.specs.Widths.{steps-most}
 use Rattle.theory.specs.Diagram.{Tree}
-use Rattle.theory.specs.Computation.{Out, done, stopped, result, run, Solved, solved, refused, run-all, final}
-use Rattle.theory.specs.Process.{Policy, optimum, lowest-best, expected, Sound}
-use Rattle.theory.specs.Meaning.{Model, process, env, worth-at, at}
+use Rattle.theory.specs.Computation.{Solved, solved, refused, final}
+use Rattle.theory.specs.Process.{optimum, expected}
+use Rattle.theory.specs.Meaning.{env, worth-at, at}
 use Rattle.theory.specs.Rules.{zero-leaf}
 use Rattle.theory.specs.Stage.{all-stages}
-use Rattle.theory.specs.Valid.{valid, among}
-use Rattle.theory.specs.Verdict.{Verdict, refusal, verdict, or}
-use Rattle.theory.specs.Load.{load, model, site-at}
+use Rattle.theory.specs.Verdict.{Verdict}
+use Rattle.theory.specs.Load.{model}
 use Rattle.theory.specs.Solve.{room, solve-in, SolveOut, solve-left, early, solve, solved-nodes, solved-stages}
-use Rattle.theory.specs.Value.{Asked, ValueOut, value-of}
+use Rattle.theory.specs.Value.{value-of}
 use Rattle.theory.specs.Listing.{greatest-root}
 use Rattle.theory.specs.Demands
-use Rattle.theory.specs.Demands.{Solving, left, Accepted, start, site, reading, Exact, Optimal, PlainAgrees, SameValue, FirstMet, SolvedExactly, CountsDistinct, PeakDecides, VerdictRows, SolveRows, ValueRows, PlainRows, NameRows, ListingRows, TablesHold}
+use Rattle.theory.specs.Demands.{Solving, left, start, site, reading, Exact, Optimal, PlainAgrees, SameValue, FirstMet, SolvedExactly, CountsDistinct, PeakDecides, VerdictRows, SolveRows, ValueRows, PlainRows, NameRows, ListingRows, TablesHold}
 use Rattle.theory.specs.laws.Loading.{accepted-valid, accepted-site}
 use Rattle.theory.specs.laws.Good.{stages-good}
-use Rattle.theory.specs.laws.Stages.{stages-at, stage-of, all-stages-length}
+use Rattle.theory.specs.laws.Stages.{stages-at, stage-of}
 use Rattle.theory.specs.laws.Reading.{reading-exact, root-last}
 use Rattle.theory.specs.laws.Rows.{Passed, by-early, early-some, passed-not, solve-runs}
 use Rattle.theory.specs.laws.Rows as Rows
@@ -40,8 +38,8 @@ use Rattle.theory.specs.laws.Plain as Plain
 use Rattle.theory.specs.laws.SameValue as SameValue
 use Rattle.theory.specs.laws.Refusals as Refusals
 use Rattle.theory.specs.laws.Counting as Counting
-use Rattle.theory.specs.laws.Chain.{all-chained, table-fits}
-use Rattle.theory.specs.laws.Comps.{run-result, run-all-final}
+use Rattle.theory.specs.laws.Chain.{all-chained}
+use Rattle.theory.specs.laws.Comps.{run-all-final}
 
 -- ---- what a solve with number 0 has gone through
 

@@ -45,10 +45,6 @@ pub with-made-longer : (t : Tree) (X : List Tree) → length X ≤ length (with-
 unfolding with-made
 with-made-longer t X = by-test (member t X) (λ b. length X ≤ length (if b X (X ++ (t ∷ [])))) (λ _. omega arith) (λ _. simp length-append (omega arith))
 
-pub needed-made : (X : List Tree) (t : Tree) (l : List Event) → needed X (makes t ∷ l) ≡ needed (with-made t X) l
-unfolding needed with-made
-needed-made X t l = refl
-
 pub needed-longer : (X : List Tree) (l : List Event) → length X ≤ length (needed X l)
 unfolding needed with-made
 needed-longer X [] = omega arith

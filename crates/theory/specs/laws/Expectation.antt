@@ -1,21 +1,21 @@
 -- What substitution comes to at the next state, and the sum over the next step's conditions at a state: the mean over their settings.
-use mathlib.Core.Path.{_≡_, refl, sym, ap, ap₂, _∙_, subst, fun-ext}
+use mathlib.Core.Path.{_≡_, refl, sym, ap, ap₂, _∙_, fun-ext}
 use mathlib.Core.Bool.{Bool, true, false, not, _&&_}
 use mathlib.Core.List.{List, [], _∷_, map}
-use Prim.Native.Nat.{ℕ, zero, suc, _+_, _*_, _-_, _≤_, _<_}
+use Prim.Native.Nat.{ℕ, zero, suc, _+_, _*_, _-_, _≤_}
 use native.Mathlib.Omega.{arith}
 use native.Mathlib.Nat.{sub-zero}
 use borrow.Author.Tests.{eq-eqb}
-use lib.Dec.{T, T-not, eqb, eqb→eq, eqb-refl, leb, leb→le, le→leb, nleb→lt}
+use lib.Dec.{T, eqb, eqb→eq}
 use lib.IntN.{ℤ, pos, negsuc, _+ℤ_, _-ℤ_, _*ℤ_, +ℤ-idr, +ℤ-assoc, zero-*ℤ}
 use lib.ListN.{length}
 use lib.Signed.{_≤ℤ_, leZ, leZ-yes}
-use Rattle.whole.specs.Cases.{if, by-test, both, and-in}
+use Rattle.whole.specs.Cases.{if, by-test, both}
 use Rattle.whole.specs.Int.{atom, up, diff, le-in}
 use Rattle.theory.specs.Diagram.{Linear, Test, now, later, linear, Leaf, Tree, leaf, branch, zeros}
 use Rattle.theory.specs.Computation.{result, final}
 use Rattle.theory.specs.Computation as C
-use Rattle.theory.specs.Rules.{node, choose, over, sum, product, scale, shift, complement, no-coeffs, zero-leaf, sum-on, levels-sum, linear-diagram, substitute, is-later, side}
+use Rattle.theory.specs.Rules.{node, choose, sum, product, scale, shift, complement, no-coeffs, zero-leaf, sum-on, levels-sum, linear-diagram, substitute, is-later, side}
 use Rattle.theory.specs.Rules.{expectation}
 use Rattle.theory.specs.Process.{mean}
 use Rattle.theory.specs.Meaning.{State, Env, nth, env, dot, value, holds, at, worth-at, doubled, settings, chance-at, weight, moved}

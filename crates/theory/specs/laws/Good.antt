@@ -7,8 +7,8 @@ use native.Mathlib.Omega.{arith}
 use lib.Dec.{T}
 use lib.ListN.{length}
 use Rattle.whole.specs.Cases.{both, and-in}
-use Rattle.theory.specs.Diagram.{Linear, Test, now, later, Leaf, Tree, divisor, test-of}
-use Rattle.theory.specs.Computation.{make, Ops, end, solved, run-all}
+use Rattle.theory.specs.Diagram.{Test, now, later, Leaf, Tree, divisor, test-of}
+use Rattle.theory.specs.Computation.{make, end, solved, run-all}
 use Rattle.theory.specs.Rules.{best, zero-leaf, substitute, expectation}
 use Rattle.theory.specs.Meaning.{Action, Model, power}
 use Rattle.theory.specs.Stage.{model-diagrams, sum-out, action-total, best-on, stage-over, stages-on, all-stages}

@@ -1,19 +1,17 @@
 -- What a verdict of 0 gives: the site's numbers are in range, and the model that the bytes spell is valid.
-use mathlib.Core.Path.{_≡_, refl, sym, ap, _∙_, subst}
+use mathlib.Core.Path.{_≡_, refl, sym, ap, subst}
 use mathlib.Core.Bool.{Bool, true, false, not, _&&_}
 use mathlib.Core.Logic.{⊎-elim}
 use mathlib.Core.List.{List, [], _∷_, _++_, map, List·Memᴰ, List·Memᴰ·head, List·Memᴰ·tail, List·Memᴰ·cases-cons, List·Memᴰ·append-cases, Memᴰ·cast, List·Memᴰ·not-nil}
-use Prim.Native.Nat.{ℕ, zero, suc, _+_, _-_, _*_, _/_, _≤_, _<_}
+use Prim.Native.Nat.{ℕ, zero, suc, _+_, _-_, _*_, _≤_, _<_}
 use native.Mathlib.Omega.{arith}
-use native.Mathlib.Nat.{div-le-self}
 use lib.Dec.{T, eqb, ltb, leb, eqb→eq, eqb-refl, leb→le, le→leb, nleb→lt, ltb→lt, lt→ltb, nltb→le, T-not}
-use lib.IntN.{ℤ, pos, negsuc, negℤ, natAbs}
+use lib.IntN.{pos, negsuc, natAbs}
 use lib.ListN.{length, drop}
-use lib.Signed.{quotZ}
 use Rattle.whole.specs.Cases.{if, by-test, both, and-in, not-not}
 use Rattle.whole.specs.Within.{small, limit}
 use Rattle.theory.specs.Widths.{levels-most, conditions-most, actions-most, weights-most}
-use Rattle.theory.specs.Diagram.{Linear, Test, now, later, linear, Leaf, Tree, leaf, plain, quotL, quotient, divisor, test-of}
+use Rattle.theory.specs.Diagram.{Linear, Test, now, later, linear, Leaf, Tree, leaf, plain, divisor, test-of}
 use Rattle.theory.specs.Computation.{ret, bind, make, result}
 use Rattle.theory.specs.Rules.{choose}
 use Rattle.theory.specs.Meaning.{Model}
@@ -25,7 +23,7 @@ use Rattle.theory.specs.Load.{Entry, Loaded, condition-test, load-choice
 use Rattle.theory.specs.laws.Comps.{result-bind}
 use Rattle.theory.specs.laws.Safe.{any, sure}
 use Rattle.theory.specs.laws.Nodes.{widen, choose-safe}
-use Rattle.theory.specs.laws.Valid.{among-in, among-out, other-above, wide-in, quotient-wide}
+use Rattle.theory.specs.laws.Valid.{among-out, other-above, wide-in, quotient-wide}
 
 -- ---- numbers that are written lie within the limits, and so do those of a test
 
@@ -575,8 +573,3 @@ module _ (S : Site) (E : List Entry) (c : Complete S E) where
 -- every diagram of an accepted model is the tree of one of its entries
 pub diagrams-loaded : (B : List ℕ) → verdict B .number ≡ 0 → (t : Tree) → List·Memᴰ t (model-diagrams (model B)) → List·Memᴰ t (entry-trees (loaded-entries B))
 diagrams-loaded B e = let d = accepted B e in rw (model-loaded B) (model-among (site-at B) (loaded-entries B) (d .1) (d .0))
-
--- .. and that entry
-pub tree-entry : (E : List Entry) (t : Tree) → List·Memᴰ t (entry-trees E) → (e : Entry) × (List·Memᴰ e E × (t ≡ e .tree))
-tree-entry [] t h = absurd (List·Memᴰ·not-nil h)
-tree-entry (x ∷ E) t h = ⊎-elim (λ e. (x, (List·Memᴰ·head refl, e))) (λ m. let d = tree-entry E t m in (d .0, (List·Memᴰ·tail (d .1 .0), d .1 .1))) (List·Memᴰ·cases-cons h)

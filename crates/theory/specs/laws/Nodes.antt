@@ -1,9 +1,8 @@
 -- Which tests and leaves stand in what the rules make: said once, with small numbers and with any.
 use mathlib.Core.Bool.{Bool, true, false, not, _&&_}
 use mathlib.Core.List.{List, [], _∷_}
-use Prim.Native.Nat.{ℕ, suc, Ordering·lt, Ordering·eq, Ordering·gt}
-use native.Mathlib.Omega.{arith}
-use lib.Dec.{T, leb, leb→le, le→leb}
+use Prim.Native.Nat.{ℕ, Ordering·lt, Ordering·eq, Ordering·gt}
+use lib.Dec.{T}
 use lib.IntN.{ℤ, pos, negsuc}
 use lib.Signed.{leZ}
 use Rattle.whole.specs.Cases.{if, by-test, by-order, both, and-in}

@@ -19,7 +19,7 @@ use Rattle.theory.specs.Diagram.{Linear, Test, now, later, linear, Leaf,
 use Rattle.theory.specs.Computation.{member}
 use Rattle.theory.specs.Rules.{zero-leaf}
 use Rattle.theory.specs.Meaning.{Env, nth, env, dot, value, holds, at, worth-at}
-use Rattle.theory.specs.Valid.{all, all-nodes, good-test, among, wide, stage-leaf}
+use Rattle.theory.specs.Valid.{all, all-nodes, good-test, stage-leaf}
 use Rattle.theory.specs.Verdict.{Verdict}
 use Rattle.theory.specs.Load.{site-at}
 use Rattle.theory.specs.Solve.{number-of, rows, row, test-words, padded, table-of, solved-nodes, solved-stages, early}

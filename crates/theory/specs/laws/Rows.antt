@@ -1,13 +1,13 @@
 -- Every outcome is one row of "What a refusal gives".
 use mathlib.Core.Path.{_≡_, refl, sym, ap, _∙_, subst}
-use mathlib.Core.Logic.{_⊎_, inl, inr, ⊎-elim}
+use mathlib.Core.Logic.{_⊎_, inl, inr}
 use mathlib.Core.Bool.{Bool, true, false, not, _&&_}
 use mathlib.Core.List.{List, [], _∷_, _++_}
 use Prim.Native.Nat.{ℕ, zero, suc, _+_, _-_, _*_, _/_, _≤_, _<_, min}
 use native.Mathlib.Nat.{le-refl, min-le-left, div-mul-le-self}
 use native.Mathlib.Omega.{arith}
 use borrow.Author.Tests.{ne-eqb}
-use lib.Dec.{T, T-not, eqb, ltb, leb, eqb→eq, eqb-refl, leb→le, ltb→lt, nltb→le, lt→ltb, le→leb}
+use lib.Dec.{T, T-not, eqb, ltb, leb, eqb→eq, eqb-refl, leb→le, ltb→lt, nltb→le}
 use lib.IntN.{ℤ, pos, negsuc, natAbs}
 use lib.ListN.{length, getD, take, drop, replicate, length-append, length-replicate, length-drop}
 use lib.Seq.{length-take-le, take-at, drop-at, drop-drop, take-append-seam, drop-append-seam}
@@ -20,10 +20,10 @@ use Rattle.theory.specs.Computation.{Out, done, stopped, result, run, So
 use Rattle.theory.specs.Meaning.{Action, Model, State, nth}
 use Rattle.theory.specs.Stage.{all-stages}
 use Rattle.theory.specs.Valid.{all, among, small-linear}
-use Rattle.theory.specs.Command.{Command, site, push-leaf, push-condition, push-test, take-reward, take-chance, take-level, name-action, end-model, Read, whole, byte-at, width, command-at, goes-on, readings-from, readings}
+use Rattle.theory.specs.Command.{Command, site, push-leaf, push-condition, push-test, take-reward, take-chance, take-level, name-action, end-model, whole, byte-at, width, command-at, goes-on, readings-from, readings}
 use Rattle.theory.specs.Verdict.{Verdict, Site, refusal, Progress, Rule, first-broken, site-rules, first-rules, later-rules, rules-of, after, ended, judged, at-start, verdict, from-to, or}
 use Rattle.theory.specs.Load.{site-at, load, model}
-use Rattle.theory.specs.Solve.{room, solve-in, table-of, rows, solved-nodes, solved-stages, solve-left, early, solve}
+use Rattle.theory.specs.Solve.{room, solve-in, table-of, rows, solved-nodes, solve-left, early, solve}
 use Rattle.theory.specs.Value.{Asked, accepted, bits, numerator-of, state-of, node-word, node-linear, high-of, low-of, amongZ, good-branches, good-leaf-row, good-condition-row, good-test-row, good-row, taken, walk, ValueOut, refused-value, value-at, value-of}
 use Rattle.theory.specs.Plain.{Worth, is, over, better, try-actions, numbered, action-worth, state-worth, worth-out, if-true, plain-of}
 use Rattle.theory.specs.Name.{name-refusal}

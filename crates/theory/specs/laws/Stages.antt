@@ -1,26 +1,25 @@
 -- A stage comes to the optimum, and names the lowest-numbered action that reaches it.
 use mathlib.Core.Path.{_≡_, refl, sym, ap, ap₂, _∙_, subst, fun-ext}
 use mathlib.Core.Logic.{_↔_, ⊎-elim}
-use mathlib.Core.Bool.{Bool, true, false, _&&_}
+use mathlib.Core.Bool.{Bool, true, false}
 use mathlib.Core.List.{List, [], _∷_, _++_, map, List·Memᴰ, List·Memᴰ·head, List·Memᴰ·tail, List·Memᴰ·cases-cons, List·Memᴰ·not-nil}
 use Prim.Native.Nat.{ℕ, zero, suc, _+_, _-_, _≤_, _<_}
 use native.Mathlib.Omega.{arith}
 use native.Mathlib.Nat.{add-zero}
-use lib.Dec.{T, eqb, eqb→eq, leb}
+use lib.Dec.{T, eqb, eqb→eq}
 use lib.IntN.{ℤ, pos, _+ℤ_, _*ℤ_, +ℤ-comm}
 use lib.ListN.{length, getD, take}
 use lib.Signed.{_≤ℤ_, leZ}
 use Rattle.whole.specs.Cases.{if, by-test, both}
-use Rattle.theory.specs.Widths.{levels-most, conditions-most, actions-most, weights-most}
-use Rattle.theory.specs.Diagram.{Test, now, later, linear, Leaf, Tree, test-of}
+use Rattle.theory.specs.Diagram.{Leaf, Tree, test-of}
 use Rattle.theory.specs.Computation.{make, result, operation, final}
 use Rattle.theory.specs.Rules.{sum, scale, number, best, zero-leaf, substitute, add-reward}
-use Rattle.theory.specs.Process.{mean, first-best, total, optimum, lowest-best, Policy, expected, Sound}
+use Rattle.theory.specs.Process.{mean, first-best, total, optimum, lowest-best}
 use Rattle.theory.specs.Process as P
 use Rattle.theory.specs.Meaning.{Action, Model, nth-action, action-at, numbers-from, State, Env, env, value, at, worth-at, settings, chance-at, weight, moved, power, process}
 use Rattle.theory.specs.Stage.{model-diagrams, sum-out, action-total, best-on, stage-over, stages-on, all-stages}
-use Rattle.theory.specs.Valid.{all, all-nodes, among, good-test, good-leaf, weight-leaf, valid-action, valid}
-use Rattle.theory.specs.laws.Process.{lowest-best-action, lowest-best-total, lowest-best-lowest, policy-theorem}
+use Rattle.theory.specs.Valid.{all, all-nodes, among, good-test, good-leaf, valid-action, valid}
+use Rattle.theory.specs.laws.Process.{lowest-best-action, lowest-best-total, lowest-best-lowest}
 use Rattle.theory.specs.laws.Comps.{result-bind, final-and-then}
 use Rattle.theory.specs.laws.Values.{sum-at, scale-at, number-at, best-at, if-ap}
 use Rattle.theory.specs.laws.Safe.{any, sure}
@@ -218,11 +217,6 @@ module _ (M : Model) where
     stages-at H (suc i) p q =
         let l = final (stages-on M H 1 (zero-leaf ∷ []) zero-leaf) in
         subst (λ (j : ℕ). Stage M (suc j) (getD l (suc i - 1) zero-leaf)) (omega arith) (stages-on-at H 0 (zero-leaf ∷ []) zero-leaf zero-below (suc i - 1) (omega arith))
-
-    -- no policy expects more than stage h comes to, and one expects that exactly where it picks no bettered action at a state that it reaches with a step left
-    pub stage-policy : (H h : ℕ) → 1 ≤ h → h ≤ H → (π : Policy (process M)) (s : State)
-        → (expected (process M) π h s ≤ℤ worth-at (env s []) (stage-of H h)) × ((expected (process M) π h s ≡ worth-at (env s []) (stage-of H h)) ↔ Sound (process M) π h s)
-    stage-policy H h p q π s = rw ((stages-at H h p q .worth) s) (policy-theorem (process M) π h s)
 
 -- ---- actions by their numbers
 

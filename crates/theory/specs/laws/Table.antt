@@ -5,7 +5,7 @@ use mathlib.Core.Bool.{Bool, true, false}
 use mathlib.Core.List.{List, [], _∷_, _++_}
 use Prim.Native.Nat.{ℕ, zero, suc, _+_, _-_, _≤_, _<_}
 use native.Mathlib.Omega.{arith}
-use lib.Dec.{T, leb, ltb→lt, nltb→le}
+use lib.Dec.{leb, ltb→lt, nltb→le}
 use lib.ListN.{length, getD, length-append, List·getD-append}
 use lib.Seq.{getD-at}
 use Rattle.whole.specs.Cases.{if, by-test, by-eq, clash}
@@ -14,28 +14,7 @@ use Rattle.theory.specs.Computation.{member, enter, enter-all}
 use Rattle.theory.specs.Rules.{zero-leaf}
 use Rattle.theory.specs.Solve.{number-of, table-of}
 use Rattle.theory.specs.Demands.{Distinct}
-use Rattle.theory.specs.laws.Comps.{same-eq, same-refl, member-last, member-in}
-
--- ---- members
-
-pub member-append : (u : Tree) (X Y : List Tree) → member u X ≡ true → member u (X ++ Y) ≡ true
-unfolding member
-member-append u [] Y e = clash (sym e)
-member-append u (x ∷ X) Y e = go (same x u) e (member-append u X Y)
-  where
-    go : (b : Bool) → if b true (member u X) ≡ true → (member u X ≡ true → member u (X ++ Y) ≡ true) → if b true (member u (X ++ Y)) ≡ true
-    go true e ih = refl
-    go false e ih = ih e
-
--- a member of a table with one more is a member of the table or that one
-pub member-cases : (u v : Tree) (X : List Tree) → member u (X ++ (v ∷ [])) ≡ true → (member u X ≡ true) ⊎ (v ≡ u)
-unfolding member
-member-cases u v [] = by-test (same v u) (λ b. if b true false ≡ true → (false ≡ true) ⊎ (v ≡ u)) (λ s _. inr (same-eq v u s)) (λ _ e. inl e)
-member-cases u v (x ∷ X) = go (same x u) (member-cases u v X)
-  where
-    go : (b : Bool) → (member u (X ++ (v ∷ [])) ≡ true → (member u X ≡ true) ⊎ (v ≡ u)) → if b true (member u (X ++ (v ∷ []))) ≡ true → (if b true (member u X) ≡ true) ⊎ (v ≡ u)
-    go true ih e = inl refl
-    go false ih e = ih e
+use Rattle.theory.specs.laws.Comps.{same-eq, same-refl, member-append, member-cases, member-last, member-in}
 
 -- ---- numbers
 
@@ -163,8 +142,8 @@ pub record Table (X : List Tree) : Type 0 where
 abbrev Ready : Tree → List Tree → Type 0
 Ready v X = (t : Test) (h l : Tree) → v ≡ branch t h l → (member h X ≡ true) × (member l X ≡ true)
 
--- two places of a table with a new one at its end
-distinct-add : (v : Tree) (X : List Tree) → member v X ≡ false → Distinct X → Distinct (X ++ (v ∷ []))
+-- a node that is not there leaves them distinct
+pub distinct-add : (v : Tree) (X : List Tree) → member v X ≡ false → Distinct X → Distinct (X ++ (v ∷ []))
 distinct-add v X n d i j hi hj e = go (place i hi) (place j hj)
   where
     place : (i : ℕ) → i < length (X ++ (v ∷ [])) → ((i < length X) × (getD (X ++ (v ∷ [])) i zero-leaf ≡ getD X i zero-leaf)) ⊎ ((i ≡ length X) × (getD (X ++ (v ∷ [])) i zero-leaf ≡ v))

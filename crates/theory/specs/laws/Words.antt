@@ -4,17 +4,16 @@ use mathlib.Core.Bool.{Bool, true, false, _&&_}
 use mathlib.Core.List.{List, [], _∷_, _++_, append-assoc}
 use Prim.Native.Nat.{ℕ, zero, suc, _+_, _-_, _*_, _≤_, _<_}
 use native.Mathlib.Omega.{arith}
-use lib.Dec.{T, eqb, eqb→eq, leb, le→leb}
+use lib.Dec.{T, eqb, leb, le→leb}
 use lib.IntN.{ℤ, pos, negsuc}
 use lib.ListN.{length, getD, take, drop, length-append, List·getD-append}
 use lib.Seq.{getD-drop, drop-drop, drop-append-le, drop-append-add, take-append-le}
 use Rattle.whole.specs.Cases.{if, both, and-in}
-use Rattle.whole.specs.Within.{small}
 use Rattle.theory.specs.Widths.{levels-most, node-words}
 use Rattle.theory.specs.Diagram.{Linear, Test, now, later, linear, Leaf, Tree, leaf, branch, zeros}
 use Rattle.theory.specs.Computation.{member}
 use Rattle.theory.specs.Rules.{zero-leaf}
-use Rattle.theory.specs.Valid.{all, all-nodes, among, small-linear, wide, good-test, stage-leaf}
+use Rattle.theory.specs.Valid.{all-nodes, among, small-linear, wide, good-test, stage-leaf}
 use Rattle.theory.specs.Solve.{number-of, padded, test-words, row, rows}
 use Rattle.theory.specs.Value.{node-word, node-linear, high-of, low-of, amongZ, good-branches, good-leaf-row, good-condition-row, good-test-row, good-row}
 use Rattle.theory.specs.laws.Nodes.{parts}
