@@ -43,9 +43,11 @@ module _ (g : Solving) where
   abbrev pub Accepted : Asked → Type 0
   Accepted q = T (accepted (site-at (g .bytes) .levels) (site-at (g .bytes) .conditions) q)
 
+  -- the state that is asked for
   abbrev pub start : (q : Asked) → Accepted q → State
   start q t = state-of (site-at (g .bytes) .levels) (site-at (g .bytes) .conditions) q t
 
+  -- the decision process of the model that is solved
   abbrev pub site : Process State ℕ (List Bool)
   site = process (model (g .bytes))
 
@@ -82,21 +84,27 @@ SameValue = (g : Solving) (h : ℕ) → 1 ≤ h → h ≤ g .horizon → (q r : 
 
 -- Demand 1, total: whatever the bytes, the horizon, the tables and what is asked, an outcome is one row of "What a refusal gives".
 
+-- the model's own numbers, 1 to 8
 abbrev pub VerdictRows : Type 0
 VerdictRows = (B : List ℕ) → VerdictRow B (verdict B)
 
+-- solve: "tables, stages, work" are as the row says
 abbrev pub SolveRows : Type 0
 SolveRows = (B : List ℕ) (H : ℕ) (nodes : List ℤ) (stages work : List ℕ) → SolveRow B H nodes stages work (solve B H nodes stages work)
 
+-- value
 abbrev pub ValueRows : Type 0
 ValueRows = (B : List ℕ) (nodes : List ℤ) (stages : List ℕ) (steps : ℕ) (q : Asked) → ValueRow B nodes stages steps q (value-of B nodes stages steps q)
 
+-- plain working
 abbrev pub PlainRows : Type 0
 PlainRows = (B : List ℕ) (steps : ℕ) (q : Asked) → PlainRow B steps q (plain-of B steps q)
 
+-- an action's name: "the refusal's number is had by a call of its own"
 abbrev pub NameRows : Type 0
 NameRows = (B : List ℕ) (a : ℕ) → NameRow B a (name-refusal B a)
 
+-- listing
 abbrev pub ListingRows : Type 0
 ListingRows = (B : List ℕ) (H : ℕ) (nodes : List ℤ) (stages buffer : List ℕ) (at : ℕ) → ListingRow B H nodes stages buffer at (listing B H nodes stages buffer at)
 
@@ -115,6 +123,7 @@ SolvedExactly = (N : ℕ) (B : List ℕ) (H : ℕ) → verdict B .number ≡ 0
 abbrev pub Distinct : List Tree → Type 0
 Distinct X = (i j : ℕ) → i < length X → j < length X → getD X i zero-leaf ≡ getD X j zero-leaf → i ≡ j
 
+-- "the distinct nodes .. with those that the operation's rules make"
 abbrev pub CountsDistinct : Type 0
 CountsDistinct = (roots : List Tree) (l : List Event) → Distinct (needed (enter-all roots []) l)
 

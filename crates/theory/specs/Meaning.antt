@@ -25,6 +25,7 @@ pub record Model : Type 0 where
   pub first : Action
   pub others : List Action
 
+-- the action k places after x
 unfoldable pub nth-action : Action → List Action → ℕ → Action
 nth-action x l zero = x
 nth-action x [] (suc k) = x
@@ -68,6 +69,7 @@ env s r = record { is-now = nth (s .conditions); is-later = nth r; nums = s .num
 
 -- ---- what a diagram comes to
 
+-- the sum of coefficient × numerator
 unfoldable pub dot : List ℤ → List ℤ → ℤ
 dot [] xs = pos 0
 dot (c ∷ cs) [] = pos 0
@@ -94,11 +96,12 @@ worth-at e F = value e (at e F .lin)
 
 -- ---- the process
 
--- all settings of k conditions, condition 1 fastest, no before yes
+-- each setting with one more condition before it, no before yes
 unfoldable pub doubled : List (List Bool) → List (List Bool)
 doubled [] = []
 doubled (r ∷ l) = (false ∷ r) ∷ (true ∷ r) ∷ doubled l
 
+-- all settings of k conditions, "condition 1 fastest, no before yes"
 unfoldable pub settings : ℕ → List (List Bool)
 settings zero = [] ∷ []
 settings (suc k) = doubled (settings k)

@@ -31,6 +31,7 @@ pub record Part : Type 0 where
   pub start : ℕ
   pub size : ℕ
 
+-- "empty"
 abbrev pub no-part : Part
 no-part = record { start = 0; size = 0 }
 
@@ -54,5 +55,6 @@ name-refusal B a =
 unfoldable pub name-part : List ℕ → ℕ → Part
 name-part B a = if (eqb (name-refusal B a .number) 0) (named-part B a (readings B)) no-part
 
+-- the bytes of the name
 unfoldable pub name : List ℕ → ℕ → List ℕ
 name B a = take (name-part B a .size) (drop (name-part B a .start) B)

@@ -70,6 +70,7 @@ state-worth M (suc h) s =
 
 -- ---- the outcome
 
+-- the answer, or 11 at place "0 .. in plain working"
 unfoldable pub worth-out : Worth → ValueOut
 worth-out (is v a) = record { number = 0; place = 0; action = a; numerator = words v }
 worth-out over = refused-value 11 0

@@ -20,6 +20,7 @@ use Rattle.theory.specs.Listing.{greatest-root, text, ListingOut}
 
 -- ---- numbers 1 to 8, and those of every call that takes a model
 
+-- "the model by offset"
 pub data VerdictRow (B : List ℕ) : Verdict → Type 0 where
   -- "Success has number and place 0."
   verdict-0 : VerdictRow B (refusal 0 0)
@@ -39,6 +40,7 @@ pub data EarlyRow (B : List ℕ) (steps size : ℕ) : ℕ → ℕ → Type 0 whe
 
 -- ---- solve
 
+-- the tables and the peak after solving
 pub data SolveRow (B : List ℕ) (H : ℕ) (nodes : List ℤ) (stages work : List ℕ) : SolveOut → Type 0 where
   -- solved: every lent word is settled, and as many are left as were lent
   solve-0 : {S : List Tree} {peak : ℕ} → solve-in (room (length nodes) (length work)) B H ≡ solved S peak
@@ -72,6 +74,7 @@ pub data OnWalk (n A : ℕ) (q : Asked) (W : List ℤ) (root : ℕ) : ℕ → Ty
   first-met : OnWalk n A q W root root
   then-met : {r : ℕ} → OnWalk n A q W root r → T (good-row n A W r) → T (not (eqb (natAbs (node-word W r 0)) 0)) → OnWalk n A q W root (taken n q W r)
 
+-- a value and an action
 pub data ValueRow (B : List ℕ) (nodes : List ℤ) (stages : List ℕ) (steps : ℕ) (q : Asked) : ValueOut → Type 0 where
   -- read: an action of the model
   value-0 : {a : ℕ} {v : Numerator} → 1 ≤ a → a ≤ site-at B .actions → ValueRow B nodes stages steps q (record { number = 0; place = 0; action = a; numerator = v })
@@ -84,8 +87,9 @@ pub data ValueRow (B : List ℕ) (nodes : List ℤ) (stages : List ℕ) (steps :
   -- "15: stage word 0"
   value-15 : getD stages (steps - 1) 0 ≡ 0 → ValueRow B nodes stages steps q (refused-value 15 0)
 
--- ---- plain working, which is lent no stage words
+-- ---- plain working
 
+-- the same by plain working, which is lent no stage words
 pub data PlainRow (B : List ℕ) (steps : ℕ) (q : Asked) : ValueOut → Type 0 where
   plain-0 : {a : ℕ} {v : Numerator} → 1 ≤ a → a ≤ site-at B .actions → PlainRow B steps q (record { number = 0; place = 0; action = a; numerator = v })
   plain-1-10 : {k p : ℕ} → EarlyRow B steps steps-most k p → PlainRow B steps q (refused-value k p)
@@ -94,8 +98,9 @@ pub data PlainRow (B : List ℕ) (steps : ℕ) (q : Asked) : ValueOut → Type 0
   plain-11 : (t : T (accepted (site-at B .levels) (site-at B .conditions) q)) → state-worth (model B) steps (state-of (site-at B .levels) (site-at B .conditions) q t) ≡ over
       → PlainRow B steps q (refused-value 11 0)
 
--- ---- name, which takes neither steps nor stage words, so never 9
+-- ---- name
 
+-- number and place of a name, which takes neither steps nor stage words: never 9
 pub data NameRow (B : List ℕ) (a : ℕ) : Verdict → Type 0 where
   name-0 : 1 ≤ a → a ≤ site-at B .actions → NameRow B a (refusal 0 0)
   name-1-10 : {k p : ℕ} → EarlyRow B 1 steps-most k p → NameRow B a (refusal k p)
@@ -104,6 +109,7 @@ pub data NameRow (B : List ℕ) (a : ℕ) : Verdict → Type 0 where
 
 -- ---- listing
 
+-- a listing and its buffer
 pub data ListingRow (B : List ℕ) (H : ℕ) (nodes : List ℤ) (stages buffer : List ℕ) (at : ℕ) : ListingOut → Type 0 where
   -- written: the text from the stated place on, "touches nothing before it", nor behind the text
   listing-0 : {size : ℕ} {after : List ℕ} → size ≡ length (text (site-at B) H nodes stages) → at + size ≤ length buffer → length after ≡ length buffer

@@ -11,6 +11,7 @@ use Rattle.theory.specs.Widths.{levels-most, conditions-most, actions-mo
 use Rattle.theory.specs.Diagram.{Linear, Test, now, later, linear, Leaf, Tree, leaf, branch, zeros}
 use Rattle.theory.specs.Meaning.{Action, Model}
 
+-- each of a list
 unfoldable pub all : {A : Type 0} → (A → Bool) → List A → Bool
 all p [] = true
 all p (x ∷ l) = p x && all p l
@@ -38,6 +39,7 @@ good-test n next (now k) = among n k
 good-test n next (later k) = next && among n k
 good-test n next (linear p) = wide p
 
+-- a wide leaf that is not numbered
 unfoldable pub good-leaf : Leaf → Bool
 good-leaf f = wide (f .lin) && eqb (f .act) 0
 
@@ -49,12 +51,14 @@ stage-leaf A f = wide (f .lin) && among A (f .act)
 unfoldable pub weight-leaf : ℕ → Leaf → Bool
 weight-leaf W f = good-leaf f && (zeros (f .lin .coeffs) && (leZ (pos 0) (f .lin .const) && leZ (f .lin .const) (pos W)))
 
+-- an action's diagrams: "Every reward, chance and next level is given"
 unfoldable pub valid-action : ℕ → ℕ → ℕ → Action → Bool
 valid-action m n W x =
     all-nodes (good-test n false) good-leaf (x .reward)
     && (eqb (length (x .chances)) n && (all (all-nodes (good-test n false) (weight-leaf W)) (x .chances)
     && (eqb (length (x .levels)) m && all (all-nodes (good-test n true) good-leaf) (x .levels))))
 
+-- a model: numbers of the site in range, and each action valid
 unfoldable pub valid : Model → Bool
 valid M =
     among levels-most (M .levels) && (leb (M .conditions) conditions-most && (among weights-most (M .weights)

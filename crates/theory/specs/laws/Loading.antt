@@ -508,7 +508,7 @@ module _ (S : Site) (E : List Entry) (c : Complete S E) where
       (and-in (valid-action (S .levels) (S .conditions) (S .weights) (action-of S E 1)) _ (action-valid 1 (omega arith) (r .0))
       (all-from _ (action-of S E) 2 (S .actions - 1) (λ a m o. action-valid a (omega arith) (omega arith)))))))
 
--- "an accepted model's diagrams are valid"
+-- an accepted model is valid
 pub accepted-valid : (B : List ℕ) → verdict B .number ≡ 0 → T (valid (model B))
 accepted-valid B e = let d = accepted B e in rw (model-loaded B) (model-valid (site-at B) (loaded-entries B) (d .1) (d .0))
 

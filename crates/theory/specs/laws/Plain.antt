@@ -165,7 +165,7 @@ module _ (M : Model) where
   pub plain-exact : (h : ℕ) (s : State) (v : ℤ) (a : ℕ) → state-worth M h s ≡ is v a → v ≡ optimum P h s
   plain-exact h s v a e = states-exact h s v a e .0
 
-  -- and so is "the lowest-numbered one that reaches it"
+  -- and so is the lowest action that reaches it
   pub plain-action : (h : ℕ) (s : State) (v : ℤ) (a : ℕ) → state-worth M (suc h) s ≡ is v a → a ≡ lowest-best P (suc h) s
   plain-action h s v a e = states-exact (suc h) s v a e .1 h refl
 

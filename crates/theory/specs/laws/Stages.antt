@@ -254,7 +254,7 @@ module _ (M : Model) where
   unfolding process numbers-from
   below c b k r = stands-before (M .first ∷ M .others) 1 c b k r
 
-  -- "the lowest-numbered one that reaches it": no lower-numbered action does
+  -- no action with a lower number reaches it
   pub lowest-numbered : (h : ℕ) (s : State) (b : ℕ) → 1 ≤ b → b < lowest-best (process M) (suc h) s
       → total (process M) (optimum (process M) h) h (lowest-best (process M) (suc h) s) s ≤ℤ total (process M) (optimum (process M) h) h b s → ⊥
   lowest-numbered h s b p q =
