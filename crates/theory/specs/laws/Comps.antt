@@ -1,5 +1,5 @@
 -- Laws of computations: what they come to, runs one after another, and runs again.
-use mathlib.Core.Path.{_≡_, refl, sym, ap, ap₂, _∙_, subst}
+use mathlib.Core.Path.{_≡_, refl, sym, ap, ap₂, _∙_}
 use mathlib.Core.Logic.{_⊎_, inl, inr}
 use mathlib.Core.Bool.{Bool, true, false, _&&_}
 use mathlib.Core.List.{List, [], _∷_, _++_}
@@ -9,7 +9,7 @@ use borrow.Author.Tests.{eq-eqb}
 use lib.Dec.{T, isEq, eqb, eqb→eq, ltb}
 use lib.IntN.{ℤ, pos, negsuc}
 use lib.ListN.{length, getD}
-use Rattle.whole.specs.Cases.{if, by-test, both, clash}
+use Rattle.whole.specs.Cases.{if, by-test, both, clash, from-true}
 use Rattle.whole.specs.Within.{small}
 use Rattle.theory.specs.Diagram.{Linear, Test, now, later, linear, Leaf, Tree, leaf, branch, then, cmpZ, cmpList, cmpLinear, cmp, same-leaf, same}
 use Rattle.theory.specs.Computation.{Comp, ret, named, made, bind, result, names, judge, Out, done, stopped, member, run, enter-all, Ops, end, operation, and-then, final, solved}
@@ -224,7 +224,7 @@ member-find d u (x ∷ X) e = go (same x u) refl e (member-find d u X)
   where
     go : (b : Bool) → same x u ≡ b → if b true (member u X) ≡ true → (member u X ≡ true → (i : ℕ) × (i < length X) × (getD X i d ≡ u))
         → (i : ℕ) × (i < length (x ∷ X)) × (getD (x ∷ X) i d ≡ u)
-    go true c e ih = (0, omega arith, same-eq x u (subst T (sym c) tt))
+    go true c e ih = (0, omega arith, same-eq x u (from-true c))
     go false c e ih = let p = ih e in (suc (p .0), (let q = p .1 in omega arith), p .2)
 
 -- ---- a run that is done

@@ -1,5 +1,5 @@
 -- Needed nodes are counted once, and no more than there are.
-use mathlib.Core.Path.{_≡_, refl, sym, ap, _∙_, subst}
+use mathlib.Core.Path.{_≡_, refl, sym, ap, _∙_}
 use mathlib.Core.Bool.{Bool, true, false}
 use mathlib.Core.List.{List, [], _∷_, _++_}
 use Prim.Native.Nat.{suc, _+_, _≤_}
@@ -57,7 +57,7 @@ without-member u v (x ∷ X) n h = go (same x u) refl (same x v) refl h (without
   where
     go : (b : Bool) → same x u ≡ b → (c : Bool) → same x v ≡ c → if c true (member v X) ≡ true → (member v X ≡ true → member v (without u X) ≡ true)
         → member v (if b X (x ∷ without u X)) ≡ true
-    go true e true f h ih = absurd (n (sym (same-eq x u (subst T (sym e) tt)) ∙ same-eq x v (subst T (sym f) tt)))
+    go true e true f h ih = absurd (n (sym (same-eq x u (from-true e)) ∙ same-eq x v (from-true f)))
     go true e false f h ih = h
     go false e true f h ih = rw f refl
     go false e false f h ih = rw f (ih h)

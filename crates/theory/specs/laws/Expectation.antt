@@ -5,8 +5,8 @@ use mathlib.Core.List.{List, [], _∷_, map}
 use Prim.Native.Nat.{ℕ, zero, suc, _+_, _*_, _-_, _≤_}
 use native.Mathlib.Omega.{arith}
 use native.Mathlib.Nat.{sub-zero}
-use borrow.Author.Tests.{eq-eqb}
-use lib.Dec.{T, eqb, eqb→eq}
+use borrow.Author.Tests.{eq-eqb, ne-eqb}
+use lib.Dec.{T, eqb}
 use lib.IntN.{ℤ, pos, negsuc, _+ℤ_, _-ℤ_, _*ℤ_, +ℤ-idr, +ℤ-assoc, zero-*ℤ}
 use lib.ListN.{length}
 use lib.Signed.{_≤ℤ_, leZ, leZ-yes}
@@ -247,18 +247,15 @@ unfolding nth
 nth-zero [] = refl
 nth-zero (b ∷ r) = refl
 
-neq-eqb : (j m : ℕ) → (j ≡ m → ⊥) → eqb j m ≡ false
-neq-eqb j m n = by-test (eqb j m) (λ b. b ≡ false) (λ t. absurd (n (eqb→eq j m t))) (λ _. refl)
-
 given-nth : (r : List Bool) (k j : ℕ) → given-all (suc k) r (nth []) j ≡ nth r (j - k)
 unfolding given-all given nth
 given-nth [] k j = refl
 given-nth (b ∷ r) k j = ap (if (eqb j (suc k)) b) (given-nth r (suc k) j) ∙ go (j - k) refl
   where
     go : (i : ℕ) → j - k ≡ i → if (eqb j (suc k)) b (nth r (j - suc k)) ≡ nth (b ∷ r) i
-    go zero q = ap₂ (λ (c : Bool) (i : ℕ). if c b (nth r i)) (neq-eqb j (suc k) (λ e. omega arith)) (omega arith) ∙ nth-zero r
+    go zero q = ap₂ (λ (c : Bool) (i : ℕ). if c b (nth r i)) (ne-eqb j (suc k) (λ e. omega arith)) (omega arith) ∙ nth-zero r
     go (suc zero) q = ap (λ (c : Bool). if c b (nth r (j - suc k))) (eq-eqb j (suc k) (omega arith))
-    go (suc (suc i)) q = ap₂ (λ (c : Bool) (i : ℕ). if c b (nth r i)) (neq-eqb j (suc k) (λ e. omega arith)) (omega arith)
+    go (suc (suc i)) q = ap₂ (λ (c : Bool) (i : ℕ). if c b (nth r i)) (ne-eqb j (suc k) (λ e. omega arith)) (omega arith)
 
 pub env-given : (s : State) (r : List Bool) → with-later (env s []) (given-all 1 r (nth [])) ≡ env s r
 unfolding env

@@ -345,7 +345,7 @@ complete S G E u t =
       nexts = λ a i h l m o. u (level-slot a i) (from-all (λ s. has-slot s G) (level-slot a) 1 (S .levels) (w a h (omega arith) .1 .1) i m (omega arith)) tt;
     }
 
-positive : (w : ℕ) → T (not (eqb w 0)) → 1 ≤ w
+pub positive : (w : ℕ) → T (not (eqb w 0)) → 1 ≤ w
 positive zero t = absurd t
 positive (suc w) t = omega arith
 

@@ -37,7 +37,7 @@ use Rattle.theory.specs.laws.Chain.{all-chained, table-fits}
 use Rattle.theory.specs.laws.Words.{rows-length, by-kind}
 use Rattle.theory.specs.laws.Reading.{stages-length}
 use Rattle.theory.specs.laws.Valid.{among-in, among-out}
-use Rattle.theory.specs.laws.Loading.{by-reading, behind, accepted-site}
+use Rattle.theory.specs.laws.Loading.{positive, by-reading, behind, accepted-site}
 
 -- ---- the verdict
 
@@ -79,10 +79,6 @@ rules-numbered : (s : Progress) (c : Command) → T (numbered-to 7 (rules-of s c
 unfolding rules-of
 rules-numbered s c = by-test (s .begun) (λ b. T (numbered-to 7 (if b (later-rules (s .site) (s .stack) (s .given) c) (first-rules c)))) (λ _. later-numbered s c) (λ _. first-numbered c)
 
-some : (k : ℕ) → T (not (eqb k 0)) → 1 ≤ k
-some zero t = absurd t
-some (suc k) t = omega arith
-
 module _ (B : List ℕ) where
   -- the byte behind the end, or what the commands behind another one say
   ended-row : (k at : ℕ) (s : Progress) (c : Command) → ((s : Progress) → VerdictRow B (judged (length B) s (behind B k at true)))
@@ -114,7 +110,7 @@ module _ (B : List ℕ) where
       let n = first-broken (rules-of s c) in
       by-test (eqb n 0) (λ b. VerdictRow B (if b (ended (length B) at c (judged (length B) (after s c) (behind B k at (goes-on (whole c))))) (refusal n at)))
       (λ _. ended-row k at s c (λ s. judged-row k (at + width (byte-at B at)) s l))
-      (λ t. verdict-1-8 (some n t) (omega (arith, broken-most 7 (rules-of s c) (rules-numbered s c))) (omega arith)))
+      (λ t. verdict-1-8 (positive n t) (omega (arith, broken-most 7 (rules-of s c) (rules-numbered s c))) (omega arith)))
 
   pub verdict-row : VerdictRow B (verdict B)
   unfolding verdict readings
@@ -310,7 +306,7 @@ module _ (B : List ℕ) (nodes : List ℤ) (stages : List ℕ) (steps : ℕ) (q 
       (λ _. by-test (accepted (S .levels) (S .conditions) q)
       (λ b. ValueRow B nodes stages steps q (if b (if (eqb root 0) (refused-value 15 0) (value-at q nodes (walk (S .conditions) (S .actions) q nodes root root))) (refused-value 13 0)))
       (λ _. by-test (eqb root 0) (λ b. ValueRow B nodes stages steps q (if b (refused-value 15 0) (value-at q nodes (walk (S .conditions) (S .actions) q nodes root root))))
-      (λ t. value-15 (eqb→eq root 0 t)) (λ t. read-row _ (walk-ends (S .conditions) (S .actions) q nodes root root root first-met (some root t) (le-refl root))))
+      (λ t. value-15 (eqb→eq root 0 t)) (λ t. read-row _ (walk-ends (S .conditions) (S .actions) q nodes root root root first-met (positive root t) (le-refl root))))
       (λ t. value-13 t))
       (λ k p r. value-1-10 r)
 
