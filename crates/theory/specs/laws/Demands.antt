@@ -25,7 +25,6 @@ use Rattle.theory.specs.Load.{model}
 use Rattle.theory.specs.Solve.{room, solve-in, SolveOut, solve-left, early, solve, solved-nodes, solved-stages}
 use Rattle.theory.specs.Value.{value-of}
 use Rattle.theory.specs.Listing.{greatest-root}
-use Rattle.theory.specs.Demands
 use Rattle.theory.specs.Demands.{Solving, left, start, site, reading, Exact, Optimal, PlainAgrees, SameValue, FirstMet, SolvedExactly, CountsDistinct, PeakDecides, VerdictRows, SolveRows, ValueRows, PlainRows, NameRows, ListingRows, TablesHold}
 use Rattle.theory.specs.laws.Loading.{accepted-valid, accepted-site}
 use Rattle.theory.specs.laws.Good.{stages-good}

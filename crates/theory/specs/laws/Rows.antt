@@ -28,7 +28,6 @@ use Rattle.theory.specs.Value.{Asked, accepted, bits, numerator-of, stat
 use Rattle.theory.specs.Plain.{Worth, is, over, better, try-actions, numbered, action-worth, state-worth, worth-out, if-true, plain-of}
 use Rattle.theory.specs.Name.{name-refusal}
 use Rattle.theory.specs.Listing.{greatest-root, text, written, ListingOut, listing-refusal, listing}
-use Rattle.theory.specs.Rows
 use Rattle.theory.specs.Rows.{VerdictRow, verdict-0, verdict-1-8, verdict-2, EarlyRow, early-10, early-9, early-1-8, SolveRow, solve-0, solve-1-10, solve-11-12, OnWalk, first-met, then-met, ValueRow, value-0, value-1-10, value-13, value-14, value-15, PlainRow, plain-0, plain-1-10, plain-13, plain-11, NameRow, name-0, name-1-10, name-16, ListingRow, listing-0, listing-1-10, listing-14, listing-15, listing-17}
 use Rattle.theory.specs.laws.Comps.{run-result, run-all-final}
 use Rattle.theory.specs.laws.Stages.{all-stages-length}
