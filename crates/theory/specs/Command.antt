@@ -1,5 +1,5 @@
 -- "The site model": bytes to commands.
-use mathlib.Core.Bool.{Bool, true, false, _&&_}
+use mathlib.Core.Bool.{Bool, true, false}
 use mathlib.Core.List.{List, [], _∷_}
 use Prim.Native.Nat.{ℕ, zero, suc, _+_, _-_, _*_}
 use lib.Dec.{eqb, ltb, leb}
@@ -40,6 +40,7 @@ width op =
     (if (eqb op 0x30) 18
     (if (eqb op 0xff) 1 0))))))))
 
+-- a byte of the model, 0 past its end
 abbrev pub byte-at : List ℕ → ℕ → ℕ
 byte-at B i = getD B i 0
 
@@ -56,6 +57,7 @@ unfoldable pub signed-from : List ℕ → ℕ → ℕ → List ℤ
 signed-from B i zero = []
 signed-from B i (suc k) = signed (word-at B i) ∷ signed-from B (i + 4) k
 
+-- "five signed 32-bit numbers: coefficients of levels L1 to L4, then a constant"
 unfoldable pub linear-at : List ℕ → ℕ → Linear
 linear-at B i = record { coeffs = signed-from B i levels-most; const = signed (word-at B (i + levels-most * 4)) }
 
@@ -88,6 +90,7 @@ pub record Placed : Type 0 where
   pub at : ℕ
   pub read : Read
 
+-- a whole command that is not the end
 unfoldable pub goes-on : Read → Bool
 goes-on (whole c) = elim c [
   | site m n a w ↦ true

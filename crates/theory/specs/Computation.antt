@@ -1,19 +1,21 @@
 -- Computations: what a rule comes to, with the numbers that it names and the nodes that it makes, in order.
 use mathlib.Core.Bool.{Bool, true, false}
 use mathlib.Core.List.{List, [], _∷_, _++_}
-use Prim.Native.Nat.{ℕ, zero, suc, _≤_, max}
+use Prim.Native.Nat.{ℕ, max}
 use lib.Dec.{ltb}
 use lib.IntN.{ℤ}
 use lib.ListN.{length}
 use Rattle.whole.specs.Cases.{if}
 use Rattle.whole.specs.Within.{small}
-use Rattle.theory.specs.Diagram.{Linear, Leaf, Tree, leaf, branch, same}
+use Rattle.theory.specs.Diagram.{Linear, Tree, leaf, branch, same}
 
+-- a rule's result, after the numbers that it names and the nodes that it makes, the first first
 pub data Comp (A : Type 0) : Type 0 where
   ret : A → Comp A
   named : ℤ → Comp A → Comp A
   made : Tree → Comp A → Comp A
 
+-- one computation, then what follows from its result
 unfoldable pub bind : {A B : Type 0} → Comp A → (A → Comp B) → Comp B
 bind (ret a) k = k a
 bind (named z m) k = named z (bind m k)
@@ -25,9 +27,11 @@ result (ret a) = a
 result (named z m) = result m
 result (made t m) = result m
 
+-- a node is made
 unfoldable pub make : Tree → Comp Tree
 make t = made t (ret t)
 
+-- some numbers are named, then m
 unfoldable pub names : {A : Type 0} → List ℤ → Comp A → Comp A
 names [] m = m
 names (z ∷ l) m = named z (names l m)
@@ -42,10 +46,12 @@ both mk m₁ m₂ = bind m₁ (λ h. bind m₂ (λ l. mk h l))
 
 -- ---- the run over the nodes that are there, with room for N
 
+-- a result with the nodes that are there then, or a refusal's number
 pub data Out (A : Type 0) : Type 0 where
   done : A → List Tree → Out A
   stopped : ℕ → Out A
 
+-- a node is among some: "Equal nodes are one node."
 unfoldable pub member : Tree → List Tree → Bool
 member t [] = false
 member t (x ∷ X) = if (same x t) true (member t X)
@@ -61,24 +67,29 @@ unfoldable pub enter : Tree → List Tree → List Tree
 enter (leaf f) X = if (member (leaf f) X) X (X ++ (leaf f ∷ []))
 enter (branch t h l) X = if (member (branch t h l) X) X (enter l (enter h X) ++ (branch t h l ∷ []))
 
+-- the nodes of some diagrams, one diagram after another
 unfoldable pub enter-all : List Tree → List Tree → List Tree
 enter-all [] X = X
 enter-all (t ∷ ts) X = enter-all ts (enter t X)
 
 -- ---- operations: each with its place and the diagrams that are needed as it begins
 
+-- operations one after another, each on what the one before it came to
 pub data Ops (A : Type 0) : Type 0 where
   end : A → Ops A
   operation : ℕ → List Tree → Comp Tree → (Tree → Ops A) → Ops A
 
+-- some operations, then those that follow from what they come to
 unfoldable pub and-then : {A B : Type 0} → Ops A → (A → Ops B) → Ops B
 and-then (end a) k = k a
 and-then (operation h roots c f) k = operation h roots c (λ t. and-then (f t) k)
 
+-- what operations come to, the events forgotten
 unfoldable pub final : {A : Type 0} → Ops A → A
 final (end a) = a
 final (operation h roots c f) = final (f (result c))
 
+-- a result with the peak, or a refusal's number and place
 pub data Solved (A : Type 0) : Type 0 where
   solved : A → ℕ → Solved A
   refused : ℕ → ℕ → Solved A

@@ -1,13 +1,13 @@
 -- "Diagrams", first part: linears, tests and their order, diagrams as trees.
 use mathlib.Core.Bool.{Bool, true, false, _&&_}
 use mathlib.Core.List.{List, [], _∷_}
-use Prim.Native.Nat.{ℕ, zero, suc, _*_, compare, Ordering, Ordering·lt, Ordering·eq, Ordering·gt}
+use Prim.Native.Nat.{ℕ, _*_, compare, Ordering, Ordering·lt, Ordering·eq, Ordering·gt}
 use lib.Dec.{isEq, eqb}
 use lib.IntN.{ℤ, pos, negsuc, natAbs, _+ℤ_, _*ℤ_}
 use lib.Signed.{quotZ}
 use Rattle.whole.specs.Divisor.{gcdOf, gcd-all, at-least-one}
 
--- "A linear is five signed 32-bit numbers: coefficients of levels L1 to L4, then a constant."
+-- a linear: "five signed 32-bit numbers: coefficients of levels L1 to L4, then a constant"
 pub record Linear : Type 0 where
   pub coeffs : List ℤ
   pub const : ℤ
@@ -28,28 +28,33 @@ pub data Tree : Type 0 where
   leaf : Leaf → Tree
   branch : Test → Tree → Tree → Tree
 
+-- a leaf that is not numbered
 abbrev pub plain : Linear → Leaf
 plain p = record { lin = p; act = 0 }
 
 -- ---- "Order of tests: conditions 1 to 8, then linear tests by the coefficients of L1 to L4 and the constant, smaller first."
 
+-- by the first order, where it is equal by the second
 abbrev pub then : Ordering → Ordering → Ordering
 then Ordering·lt o = Ordering·lt
 then Ordering·eq o = o
 then Ordering·gt o = Ordering·gt
 
+-- signed numbers, "smaller first"
 abbrev pub cmpZ : ℤ → ℤ → Ordering
 cmpZ (pos a) (pos b) = compare a b
 cmpZ (pos a) (negsuc b) = Ordering·gt
 cmpZ (negsuc a) (pos b) = Ordering·lt
 cmpZ (negsuc a) (negsuc b) = compare b a
 
+-- coefficient by coefficient
 unfoldable pub cmpList : List ℤ → List ℤ → Ordering
 cmpList [] [] = Ordering·eq
 cmpList [] (b ∷ bs) = Ordering·lt
 cmpList (a ∷ r) [] = Ordering·gt
 cmpList (a ∷ r) (b ∷ bs) = then (cmpZ a b) (cmpList r bs)
 
+-- "by the coefficients of L1 to L4 and the constant"
 unfoldable pub cmpLinear : Linear → Linear → Ordering
 cmpLinear p q = then (cmpList (p .coeffs) (q .coeffs)) (cmpZ (p .const) (q .const))
 
@@ -67,9 +72,11 @@ cmp (linear p) (linear q) = cmpLinear p q
 
 -- ---- "Equal nodes are one node."
 
+-- the same numbers and the same action
 unfoldable pub same-leaf : Leaf → Leaf → Bool
 same-leaf f g = isEq (cmpLinear (f .lin) (g .lin)) && eqb (f .act) (g .act)
 
+-- the same test over the same branches
 unfoldable pub same : Tree → Tree → Bool
 same (leaf f) (leaf g) = same-leaf f g
 same (leaf f) (branch t h l) = false
@@ -78,26 +85,32 @@ same (branch t h l) (branch u h′ l′) = isEq (cmp t u) && same h h′ && same
 
 -- ---- linears: each number of a result is one that a rule names
 
+-- coefficients added
 unfoldable pub addL : List ℤ → List ℤ → List ℤ
 addL [] bs = bs
 addL (a ∷ r) [] = a ∷ r
 addL (a ∷ r) (b ∷ bs) = (a +ℤ b) ∷ addL r bs
 
+-- coefficients times a number
 unfoldable pub scaleL : ℤ → List ℤ → List ℤ
 scaleL k [] = []
 scaleL k (a ∷ r) = (k *ℤ a) ∷ scaleL k r
 
 infixl 60 _⊞_ _⊟_
 infixl 61 _⊠_
+-- p + q
 unfoldable pub _⊞_ : Linear → Linear → Linear
 p ⊞ q = record { coeffs = addL (p .coeffs) (q .coeffs); const = (p .const) +ℤ (q .const) }
 
+-- k × q
 unfoldable pub _⊠_ : ℤ → Linear → Linear
 k ⊠ q = record { coeffs = scaleL k (q .coeffs); const = k *ℤ (q .const) }
 
+-- p − q
 unfoldable pub _⊟_ : Linear → Linear → Linear
 p ⊟ q = p ⊞ (negsuc 0 ⊠ q)
 
+-- p + k
 unfoldable pub plus-constant : ℤ → Linear → Linear
 plus-constant k p = record { coeffs = p .coeffs; const = (p .const) +ℤ k }
 
@@ -108,15 +121,19 @@ zeros (a ∷ r) = isEq (cmpZ a (pos 0)) && zeros r
 
 -- ---- "A test is divided by the greatest common divisor of its five numbers."
 
+-- coefficients divided
 unfoldable pub quotL : ℕ → List ℤ → List ℤ
 quotL g [] = []
 quotL g (a ∷ r) = quotZ a (pos g) ∷ quotL g r
 
+-- all numbers of a linear divided
 unfoldable pub quotient : ℕ → Linear → Linear
 quotient g p = record { coeffs = quotL g (p .coeffs); const = quotZ (p .const) (pos g) }
 
+-- "the greatest common divisor of its five numbers", 1 where all are 0
 unfoldable pub divisor : Linear → ℕ
 divisor p = at-least-one (gcdOf (natAbs (p .const)) (gcd-all (p .coeffs)))
 
+-- the test of a linear
 unfoldable pub test-of : Linear → Test
 test-of p = linear (quotient (divisor p) p)

@@ -1,8 +1,8 @@
 -- Refusals 11 and 12 said a second time, by what a computation names and makes up to a moment; laws/ shows that solve's outcome is this.
 use mathlib.Core.Path.{_≡_}
-use mathlib.Core.Bool.{Bool, true, false, not, _&&_}
+use mathlib.Core.Bool.{Bool, true, not, _&&_}
 use mathlib.Core.List.{List, [], _∷_, _++_}
-use Prim.Native.Nat.{ℕ, zero, suc, _≤_, _<_, max}
+use Prim.Native.Nat.{ℕ, _≤_, _<_, max}
 use lib.Dec.{T}
 use lib.IntN.{ℤ}
 use lib.ListN.{length}
@@ -11,10 +11,12 @@ use Rattle.whole.specs.Within.{small}
 use Rattle.theory.specs.Diagram.{Tree, leaf, branch}
 use Rattle.theory.specs.Computation.{Comp, ret, named, made, result, member, enter-all, Ops, end, operation}
 
+-- a number is named, or a node is made
 pub data Event : Type 0 where
   names : ℤ → Event
   makes : Tree → Event
 
+-- the events of a computation, the first first
 unfoldable pub events : {A : Type 0} → Comp A → List Event
 events (ret a) = []
 events (named z m) = names z ∷ events m
@@ -67,6 +69,7 @@ unfoldable pub inside : Tree → List Tree → Bool
 inside (leaf f) X = member (leaf f) X
 inside (branch t h l) X = member (branch t h l) X && (inside h X && inside l X)
 
+-- some diagrams are
 unfoldable pub all-inside : List Tree → List Tree → Bool
 all-inside [] X = true
 all-inside (t ∷ l) X = inside t X && all-inside l X

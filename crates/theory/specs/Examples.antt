@@ -1,13 +1,11 @@
 -- The cases marked ★ in document 01, together as one table, and the pond's listing: by computation, from the bytes on.
 use mathlib.Core.Path.{_≡_, refl}
-use mathlib.Core.Bool.{Bool, true, false, not, _&&_}
-use mathlib.Core.List.{List, [], _∷_, _++_, map}
-use Prim.Native.Nat.{ℕ, zero, suc, _+_, _-_, _*_, _/_, _%_, _<_}
-use native.Mathlib.Omega.{arith}
+use mathlib.Core.Bool.{Bool, true, false, _&&_}
+use mathlib.Core.List.{List, [], _∷_, _++_}
+use Prim.Native.Nat.{ℕ, _+_, _-_, _*_, _/_, _%_}
 use lib.Dec.{T, eqb, isEq}
 use lib.IntN.{ℤ, pos, negsuc}
 use lib.ListN.{length, replicate}
-use Rattle.whole.specs.Cases.{if}
 use Rattle.whole.specs.Divisor as Divisor
 use Rattle.whole.specs.Within as Within
 use Rattle.whole.specs.Numerator as Numerator
@@ -69,6 +67,7 @@ solved B H N = Solve.solve B H (replicate (N * 8) (pos 0)) (replicate 8 0) (repl
 abbrev asked : ℤ → ℕ → Value.Asked
 asked x d = record { mask = 0; nums = x ∷ pos 0 ∷ pos 0 ∷ pos 0 ∷ []; den = pos d }
 
+-- a value read: its numerator and its action
 abbrev reads : Value.ValueOut → ℕ → ℕ → Bool
 reads o v a = eqb (o .number) 0 && (eqb (o .action) a && (eqb (o .numerator .low) v && isEq (Diagram.cmpZ (o .numerator .high) (pos 0))))
 
@@ -86,6 +85,7 @@ pub pond-peak : T (eqb (solved pond 2 21 .peak) 21 && eqb (solved pond 2 20 .num
 unfolding definitions
 pond-peak = tt
 
+-- "Marked ★, proved about the definitions together as one table"
 pub starred : T (let o = solved pond 2 21 in
     row pond o 2 (pos 20) 1 100 2 && (row pond o 2 (pos 30) 1 100 2 && (row pond o 2 (pos 39) 2 100 1 && (row pond o 2 (pos 10) 1 50 1
     && (row pond o 2 (pos 9) 1 0 1 && (row pond o 2 (negsuc 4) 1 0 1 && (row pond o 1 (pos 10) 1 50 2 && (row pond o 1 (pos 19) 2 0 1
@@ -122,12 +122,14 @@ pond-listing =
     -- S 2 7
     (83 ∷ 32 ∷ 50 ∷ 32 ∷ 55 ∷ 10 ∷ []))))))))))
 
+-- two texts are the same, byte by byte
 unfoldable pub same-bytes : List ℕ → List ℕ → Bool
 same-bytes [] [] = true
 same-bytes [] (b ∷ s) = false
 same-bytes (a ∷ r) [] = false
 same-bytes (a ∷ r) (b ∷ s) = eqb a b && same-bytes r s
 
+-- the listing from place 3 of a buffer: the text, and nothing before it or behind it changed
 pub pond-listed : T (let o = solved pond 2 21 in
     let l = Listing.listing pond 2 (o .nodes) (o .stages) (replicate 400 7) 3 in
     eqb (l .number) 0 && same-bytes (l .buffer) (replicate 3 7 ++ (pond-listing ++ replicate (397 - length pond-listing) 7)))

@@ -1,21 +1,41 @@
--- Document 01: definitions, and under laws/ what is proved about them.
+-- Document 01: definitions in its order, statements, examples, and under laws/ what is proved about them.
+
+-- ---- definitions
+
+-- the numbers that 01 fixes
 pub mod Widths
+-- "The site model"
+pub mod Command
+pub mod Verdict
+pub mod Valid
+pub mod Load
+-- "The value that is meant"
+pub mod Process
+pub mod Meaning
+-- "Diagrams"
 pub mod Diagram
 pub mod Computation
 pub mod Rules
-pub mod Process
-pub mod Meaning
 pub mod Stage
-pub mod Valid
-pub mod Command
-pub mod Verdict
-pub mod Load
+-- "Tables after solving"
 pub mod Solve
+-- "States and values"
 pub mod Value
 pub mod Plain
 pub mod Name
+-- "The pond, and its listing"
 pub mod Listing
-pub mod Examples
+-- ---- statements
+
+-- "What a refusal gives": its rows, and 11 and 12 by what is named and made
+pub mod Rows
 pub mod Events
+-- the demands
 pub mod Demands
+-- ---- examples
+
+-- the pond, rain, and what is marked ★
+pub mod Examples
+-- ---- laws
+
 pub mod laws

@@ -1,12 +1,11 @@
 -- "The pond, and its listing": the text of a plan, and the listing as one function of its inputs.
-use mathlib.Core.Bool.{Bool, true, false, not}
+use mathlib.Core.Bool.{not}
 use mathlib.Core.List.{List, [], _∷_, _++_, map}
-use Prim.Native.Nat.{ℕ, zero, suc, _+_, _-_, _*_, _/_, _%_, max}
-use lib.Dec.{eqb, ltb, leb}
+use Prim.Native.Nat.{ℕ, zero, suc, _+_, _-_, _/_, _%_, max}
+use lib.Dec.{eqb, ltb}
 use lib.IntN.{ℤ, pos, negsuc, natAbs}
 use lib.ListN.{length, getD, take, drop}
 use Rattle.whole.specs.Cases.{if}
-use Rattle.theory.specs.Widths.{steps-most}
 use Rattle.theory.specs.Diagram.{Linear}
 use Rattle.theory.specs.Valid.{all}
 use Rattle.theory.specs.Verdict.{Verdict, refusal, Site, from-to}
@@ -26,6 +25,7 @@ unfoldable pub spaced : ℤ → List ℕ
 spaced (pos n) = 32 ∷ digits 19 n
 spaced (negsuc n) = 32 ∷ 45 ∷ digits 19 (suc n)
 
+-- each after a space
 unfoldable pub spaced-all : List ℤ → List ℕ
 spaced-all [] = []
 spaced-all (z ∷ l) = spaced z ++ spaced-all l
@@ -38,6 +38,7 @@ line start l = start ++ (spaced-all l ++ (10 ∷ []))
 unfoldable pub first-line : Site → ℕ → List ℕ
 first-line S H = line (80 ∷ 76 ∷ 65 ∷ 78 ∷ []) (map pos (S .levels ∷ S .conditions ∷ S .actions ∷ S .weights ∷ H ∷ []))
 
+-- "numbers": the coefficients, then the constant
 abbrev pub five : Linear → List ℤ
 five p = p .coeffs ++ (p .const ∷ [])
 
@@ -53,6 +54,7 @@ node-line W r =
 unfoldable pub stage-line : List ℕ → ℕ → List ℕ
 stage-line stages h = line (83 ∷ []) (pos h ∷ pos (getD stages (h - 1) 0) ∷ [])
 
+-- a line for each
 unfoldable pub lines : {A : Type 0} → (A → List ℕ) → List A → List ℕ
 lines f [] = []
 lines f (x ∷ l) = f x ++ lines f l
@@ -62,6 +64,7 @@ unfoldable pub greatest-root : ℕ → List ℕ → ℕ
 greatest-root zero stages = 0
 greatest-root (suc H) stages = max (greatest-root H stages) (getD stages H 0)
 
+-- the text of a plan
 unfoldable pub text : Site → ℕ → List ℤ → List ℕ → List ℕ
 text S H nodes stages =
     first-line S H ++ (lines (node-line nodes) (from-to 1 (greatest-root H stages)) ++ lines (stage-line stages) (from-to 1 H))
@@ -72,6 +75,7 @@ refusal-line v = line (82 ∷ []) (pos (v .number) ∷ pos (v .place) ∷ [])
 
 -- ---- the outcome
 
+-- number and place, how many bytes were written, and the buffer
 pub record ListingOut : Type 0 where
   pub number : ℕ
   pub place : ℕ
@@ -93,6 +97,7 @@ listing-refusal B H nodes stages size at =
     (if (ltb size (at + length (text S H nodes stages))) (refusal 17 0)
     (refusal 0 0))))
 
+-- a listing into a buffer, from a stated place on
 unfoldable pub listing : List ℕ → ℕ → List ℤ → List ℕ → List ℕ → ℕ → ListingOut
 listing B H nodes stages buffer at =
     let v = listing-refusal B H nodes stages (length buffer) at in

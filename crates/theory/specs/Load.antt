@@ -1,7 +1,6 @@
 -- "loading the model": the diagrams that the commands of an accepted model spell, made as they come.
-use mathlib.Core.Bool.{Bool, true, false}
 use mathlib.Core.List.{List, [], _∷_, map}
-use Prim.Native.Nat.{ℕ, zero, suc, _-_}
+use Prim.Native.Nat.{ℕ, _-_}
 use lib.Dec.{leb}
 use Rattle.whole.specs.Cases.{if}
 use Rattle.theory.specs.Widths.{conditions-most}
@@ -9,7 +8,7 @@ use Rattle.theory.specs.Diagram.{Test, now, later, Tree, leaf, plain, te
 use Rattle.theory.specs.Computation.{Comp, ret, bind, make, result}
 use Rattle.theory.specs.Rules.{choose, zero-leaf}
 use Rattle.theory.specs.Meaning.{Action, Model}
-use Rattle.theory.specs.Command.{Command, site, push-leaf, push-condition, push-test, take-reward, take-chance, take-level, name-action, end-model, Read, whole, unknown, short, Placed, byte-at, readings}
+use Rattle.theory.specs.Command.{Command, site, push-leaf, push-condition, push-test, take-reward, take-chance, take-level, name-action, end-model, whole, unknown, short, Placed, byte-at, readings}
 use Rattle.theory.specs.Verdict.{Site, site-of, Slot, same-slot, reward-slot, chance-slot, level-slot, from-to}
 
 -- a diagram and what it was given as
@@ -26,6 +25,7 @@ pub record Loaded : Type 0 where
 unfoldable pub condition-test : ℕ → Test
 condition-test k = if (leb k conditions-most) (now k) (later (k - conditions-most))
 
+-- a diagram goes on the stack
 abbrev pub push : Tree → Loaded → Loaded
 push t s = record { stack = t ∷ s .stack; entries = s .entries }
 
@@ -40,6 +40,7 @@ unfoldable pub load-entry : Slot → List Tree → List Entry → Comp Loaded
 load-entry g [] E = ret (record { stack = []; entries = E })
 load-entry g (t ∷ K) E = ret (record { stack = K; entries = record { slot = g; tree = t } ∷ E })
 
+-- one command; what it makes is made by the rules
 unfoldable pub load-one : Command → Loaded → Comp Loaded
 load-one (site m n a w) s = ret s
 load-one (push-leaf p) s = bind (make (leaf (plain p))) (λ t. ret (push t s))
@@ -51,6 +52,7 @@ load-one (take-level a i) s = load-entry (level-slot a i) (s .stack) (s .entries
 load-one (name-action a b) s = ret s
 load-one end-model s = ret s
 
+-- the commands that are left
 unfoldable pub load-on : List Placed → Loaded → Comp Loaded
 load-on [] s = ret s
 load-on (x ∷ l) s = elim (x .read) [
@@ -61,10 +63,12 @@ load-on (x ∷ l) s = elim (x .read) [
 
 -- ---- the model
 
+-- the diagram that was given for a slot
 unfoldable pub find-slot : Slot → List Entry → Tree
 find-slot g [] = zero-leaf
 find-slot g (e ∷ E) = if (same-slot g (e .slot)) (e .tree) (find-slot g E)
 
+-- the diagrams of action a
 unfoldable pub action-of : Site → List Entry → ℕ → Action
 action-of S E a = record {
   reward = find-slot (reward-slot a) E;
@@ -72,6 +76,7 @@ action-of S E a = record {
   levels = map (λ i. find-slot (level-slot a i) E) (from-to 1 (S .levels));
 }
 
+-- the model of what was given
 unfoldable pub model-of : Site → List Entry → Model
 model-of S E = record {
   levels = S .levels;
@@ -85,6 +90,7 @@ model-of S E = record {
 unfoldable pub site-at : List ℕ → Site
 site-at B = site-of (byte-at B 1) (byte-at B 2) (byte-at B 3) (byte-at B 4)
 
+-- "and so is loading the model": one operation, of all commands
 unfoldable pub load : List ℕ → Comp Model
 load B = bind (load-on (readings B) (record { stack = []; entries = [] })) (λ s. ret (model-of (site-at B) (s .entries)))
 

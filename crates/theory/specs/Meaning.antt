@@ -1,14 +1,12 @@
 -- "The value that is meant", of a model: states, what diagrams come to at them, and the model's process.
-use mathlib.Core.Bool.{Bool, true, false, _&&_}
+use mathlib.Core.Bool.{Bool, true, false}
 use mathlib.Core.List.{List, [], _∷_, map}
 use Prim.Native.Nat.{ℕ, zero, suc, _+_, _-_, _*_, _^_, _<_}
-use lib.Dec.{eqb, leb}
-use lib.IntN.{ℤ, pos, negsuc, natAbs, _+ℤ_, _*ℤ_}
+use lib.IntN.{ℤ, pos, _+ℤ_, _*ℤ_}
 use lib.Signed.{leZ}
 use Rattle.whole.specs.Cases.{if}
 use Rattle.whole.specs.Int.{up}
-use Rattle.theory.specs.Diagram.{Linear, Test, now, later, linear, Leaf, Tree, leaf, branch, zeros}
-use Rattle.theory.specs.Rules.{zero-leaf}
+use Rattle.theory.specs.Diagram.{Linear, Test, now, later, linear, Leaf, Tree, leaf, branch}
 use Rattle.theory.specs.Process.{Process}
 
 -- ---- models
@@ -27,6 +25,7 @@ pub record Model : Type 0 where
   pub first : Action
   pub others : List Action
 
+-- the action k places after x
 unfoldable pub nth-action : Action → List Action → ℕ → Action
 nth-action x l zero = x
 nth-action x [] (suc k) = x
@@ -70,6 +69,7 @@ env s r = record { is-now = nth (s .conditions); is-later = nth r; nums = s .num
 
 -- ---- what a diagram comes to
 
+-- the sum of coefficient × numerator
 unfoldable pub dot : List ℤ → List ℤ → ℤ
 dot [] xs = pos 0
 dot (c ∷ cs) [] = pos 0
@@ -96,11 +96,12 @@ worth-at e F = value e (at e F .lin)
 
 -- ---- the process
 
--- all settings of k conditions, condition 1 fastest, no before yes
+-- each setting with one more condition before it, no before yes
 unfoldable pub doubled : List (List Bool) → List (List Bool)
 doubled [] = []
 doubled (r ∷ l) = (false ∷ r) ∷ (true ∷ r) ∷ doubled l
 
+-- all settings of k conditions, "condition 1 fastest, no before yes"
 unfoldable pub settings : ℕ → List (List Bool)
 settings zero = [] ∷ []
 settings (suc k) = doubled (settings k)

@@ -1,14 +1,14 @@
 -- "An action's name is that part of the model itself, without its trailing spaces".
-use mathlib.Core.Bool.{Bool, true, false, not}
+use mathlib.Core.Bool.{Bool, false}
 use mathlib.Core.List.{List, [], _∷_}
 use Prim.Native.Nat.{ℕ, zero, suc, _+_}
-use lib.Dec.{eqb, ltb}
-use lib.ListN.{length, getD, take, drop}
+use lib.Dec.{eqb}
+use lib.ListN.{getD, take, drop}
 use Rattle.whole.specs.Cases.{if}
 use Rattle.theory.specs.Widths.{steps-most, name-bytes}
 use Rattle.theory.specs.Valid.{among}
-use Rattle.theory.specs.Command.{Command, site, push-leaf, push-condition, push-test, take-reward, take-chance, take-level, name-action, end-model, Read, whole, unknown, short, Placed, readings}
-use Rattle.theory.specs.Verdict.{Verdict, refusal, Site}
+use Rattle.theory.specs.Command.{site, push-leaf, push-condition, push-test, take-reward, take-chance, take-level, name-action, end-model, Read, whole, unknown, short, Placed, readings}
+use Rattle.theory.specs.Verdict.{Verdict, refusal}
 use Rattle.theory.specs.Load.{site-at}
 use Rattle.theory.specs.Solve.{early}
 
@@ -31,6 +31,7 @@ pub record Part : Type 0 where
   pub start : ℕ
   pub size : ℕ
 
+-- "empty"
 abbrev pub no-part : Part
 no-part = record { start = 0; size = 0 }
 
@@ -54,5 +55,6 @@ name-refusal B a =
 unfoldable pub name-part : List ℕ → ℕ → Part
 name-part B a = if (eqb (name-refusal B a .number) 0) (named-part B a (readings B)) no-part
 
+-- the bytes of the name
 unfoldable pub name : List ℕ → ℕ → List ℕ
 name B a = take (name-part B a .size) (drop (name-part B a .start) B)

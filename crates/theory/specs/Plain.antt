@@ -1,19 +1,16 @@
 -- "Plain working": a state worked from the model, without diagrams or tables, as one function of its inputs.
-use mathlib.Core.Bool.{Bool, true, false, not, _&&_}
+use mathlib.Core.Bool.{Bool, true, false, _&&_}
 use mathlib.Core.List.{List, [], _∷_, map}
 use Prim.Native.Nat.{ℕ, zero, suc, _+_, _-_, _*_}
-use lib.Dec.{T, eqb, ltb}
+use lib.Dec.{T, eqb}
 use lib.IntN.{ℤ, pos, negsuc, _+ℤ_, _*ℤ_}
-use lib.ListN.{length}
 use lib.Signed.{leZ}
 use Rattle.whole.specs.Cases.{if}
 use Rattle.whole.specs.Within.{small}
 use Rattle.whole.specs.Numerator.{words}
-use Rattle.theory.specs.Widths.{steps-most, bytes-most}
-use Rattle.theory.specs.Diagram.{Tree}
+use Rattle.theory.specs.Widths.{steps-most}
 use Rattle.theory.specs.Meaning.{Action, Model, State, env, worth-at, chance-at, weight, settings, moved, power}
 use Rattle.theory.specs.Valid.{all}
-use Rattle.theory.specs.Verdict.{Verdict, refusal, Site}
 use Rattle.theory.specs.Load.{site-at, model}
 use Rattle.theory.specs.Solve.{early}
 use Rattle.theory.specs.Value.{Asked, accepted, state-of, ValueOut, refused-value}
@@ -73,6 +70,7 @@ state-worth M (suc h) s =
 
 -- ---- the outcome
 
+-- the answer, or 11 at place "0 .. in plain working"
 unfoldable pub worth-out : Worth → ValueOut
 worth-out (is v a) = record { number = 0; place = 0; action = a; numerator = words v }
 worth-out over = refused-value 11 0

@@ -1,5 +1,4 @@
 -- "The value that is meant", over any states, actions and settings: a finite-horizon decision process in whole numbers.
-use mathlib.Core.Bool.{Bool, true, false}
 use mathlib.Core.List.{List, [], _∷_, List·Memᴰ}
 use Prim.Native.Nat.{ℕ, zero, suc, _<_}
 use lib.IntN.{ℤ, pos, _+ℤ_, _*ℤ_}
@@ -21,6 +20,7 @@ unfoldable pub mean : {E : Type 0} → (E → ℕ) → (E → ℤ) → List E �
 mean w f [] = pos 0
 mean w f (e ∷ l) = pos (w e) *ℤ f e +ℤ mean w f l
 
+-- the larger of two
 unfoldable pub maxZ : ℤ → ℤ → ℤ
 maxZ a b = if (leZ b a) a b
 
@@ -47,7 +47,7 @@ module _ {S A E : Type 0} (P : Process S A E) where
   optimum zero s = (P .end) s
   optimum (suc h) s = greatest-from (λ a. total (optimum h) h a s) (total (optimum h) h (P .first) s) (P .others)
 
-  -- "the action the lowest-numbered one that reaches it"
+  -- the lowest of the actions that reach it: "A tie given to the later action" is a fault
   unfoldable pub lowest-best : ℕ → S → A
   lowest-best zero s = P .first
   lowest-best (suc h) s = first-best (λ a. total (optimum h) h a s) (P .first) (P .others)

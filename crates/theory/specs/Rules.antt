@@ -1,9 +1,9 @@
 -- "Diagrams", second part: the rules, each defined once, as a computation.
 use mathlib.Core.Bool.{Bool, true, false}
 use mathlib.Core.List.{List, [], _∷_}
-use Prim.Native.Nat.{ℕ, zero, suc, _*_, _^_, Ordering, Ordering·lt, Ordering·eq, Ordering·gt}
+use Prim.Native.Nat.{ℕ, zero, suc, Ordering·lt, Ordering·eq, Ordering·gt}
 use lib.Dec.{eqb}
-use lib.IntN.{ℤ, pos, _+ℤ_, _-ℤ_, _*ℤ_}
+use lib.IntN.{ℤ, pos, _-ℤ_}
 use lib.Signed.{leZ}
 use Rattle.whole.specs.Cases.{if}
 use Rattle.theory.specs.Widths.{levels-most}
@@ -50,15 +50,19 @@ merge mk op (branch u h l) G = step mk u (merge mk op h) (merge mk op l) G
 unfoldable pub make-leaf : Linear → Comp Tree
 make-leaf p = judge p (make (leaf (plain p)))
 
+-- two leaves added
 unfoldable pub leaf-sum : Leaf → Leaf → Comp Tree
 leaf-sum f g = make-leaf ((f .lin) ⊞ (g .lin))
 
+-- the constant of a weight times a leaf
 unfoldable pub leaf-product : Leaf → Leaf → Comp Tree
 leaf-product f g = make-leaf ((f .lin .const) ⊠ (g .lin))
 
+-- a number times a leaf
 unfoldable pub leaf-scale : ℤ → Leaf → Comp Tree
 leaf-scale c g = make-leaf (c ⊠ (g .lin))
 
+-- a leaf plus a number
 unfoldable pub leaf-shift : ℤ → Leaf → Comp Tree
 leaf-shift c g = make-leaf (plus-constant c (g .lin))
 
@@ -80,6 +84,7 @@ leaf-best f g = judge ((g .lin) ⊟ (f .lin)) (decide ((g .lin) ⊟ (f .lin)) (l
 
 -- ---- the rules
 
+-- "Sum"
 unfoldable pub sum : Tree → Tree → Comp Tree
 sum = merge node leaf-sum
 
@@ -87,15 +92,19 @@ sum = merge node leaf-sum
 unfoldable pub product : Tree → Tree → Comp Tree
 product = merge node leaf-product
 
+-- a number times a diagram
 unfoldable pub scale : ℤ → Tree → Comp Tree
 scale c = over node (leaf-scale c)
 
+-- a diagram plus a number
 unfoldable pub shift : ℤ → Tree → Comp Tree
 shift c = over node (leaf-shift c)
 
+-- W − a weight diagram
 unfoldable pub complement : ℕ → Tree → Comp Tree
 complement W = over node (leaf-complement W)
 
+-- a diagram whose leaves are numbered with an action
 unfoldable pub number : ℕ → Tree → Comp Tree
 number a = over node (leaf-number a)
 
@@ -105,6 +114,7 @@ best = merge choose leaf-best
 
 -- ---- substitute
 
+-- k coefficients 0
 unfoldable pub no-coeffs : ℕ → List ℤ
 no-coeffs zero = []
 no-coeffs (suc k) = pos 0 ∷ no-coeffs k
@@ -139,6 +149,7 @@ substitute Ds (branch (linear p) h l) =
 
 -- ---- conditions summed out
 
+-- a test is next-step condition k
 unfoldable pub is-later : ℕ → Test → Bool
 is-later k (now j) = false
 is-later k (later j) = eqb j k

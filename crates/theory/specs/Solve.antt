@@ -1,15 +1,14 @@
 -- "Tables after solving" and solve's refusals: solve as one function of its inputs.
-use mathlib.Core.Bool.{Bool, true, false, not, _&&_}
+use mathlib.Core.Bool.{not}
 use mathlib.Core.List.{List, [], _∷_, _++_, map}
-use Prim.Native.Nat.{ℕ, zero, suc, _+_, _-_, _*_, _/_, min}
+use Prim.Native.Nat.{ℕ, zero, suc, _+_, _-_, _/_, min}
 use lib.Dec.{eqb, ltb}
-use lib.IntN.{ℤ, pos, negsuc}
+use lib.IntN.{ℤ, pos}
 use lib.ListN.{length, replicate}
 use Rattle.whole.specs.Cases.{if}
 use Rattle.theory.specs.Widths.{bytes-most, steps-most, nodes-most, node-words, conditions-most, levels-most}
-use Rattle.theory.specs.Diagram.{Linear, Test, now, later, linear, Leaf, Tree, leaf, branch, same}
-use Rattle.theory.specs.Computation.{Out, done, stopped, run, enter-all, Ops, Solved, solved, refused, run-all}
-use Rattle.theory.specs.Meaning.{Model}
+use Rattle.theory.specs.Diagram.{Linear, Test, now, later, linear, Tree, leaf, branch, same}
+use Rattle.theory.specs.Computation.{done, stopped, run, enter-all, Solved, solved, refused, run-all}
 use Rattle.theory.specs.Stage.{all-stages}
 use Rattle.theory.specs.Valid.{among}
 use Rattle.theory.specs.Verdict.{Verdict, refusal, verdict, or}
@@ -39,6 +38,7 @@ padded zero l = []
 padded (suc k) [] = pos 0 ∷ padded k []
 padded (suc k) (z ∷ l) = z ∷ padded k l
 
+-- "four coefficients, constant"
 abbrev pub linear-words : Linear → List ℤ
 linear-words p = padded levels-most (p .coeffs) ++ (p .const ∷ [])
 
@@ -60,6 +60,7 @@ rows X (t ∷ l) = row X t ++ rows X l
 
 -- ---- the outcome
 
+-- number and place, the peak, and the words that were lent, as they are left
 pub record SolveOut : Type 0 where
   pub number : ℕ
   pub place : ℕ
@@ -72,6 +73,7 @@ pub record SolveOut : Type 0 where
 unfoldable pub table-of : List Tree → List Tree
 table-of S = enter-all S []
 
+-- "All other words .. are zero."
 unfoldable pub solved-nodes : ℕ → List Tree → List ℤ
 solved-nodes size S = rows (table-of S) (table-of S) ++ replicate (size - length (rows (table-of S) (table-of S))) (pos 0)
 
@@ -79,6 +81,7 @@ solved-nodes size S = rows (table-of S) (table-of S) ++ replicate (size - length
 unfoldable pub solved-stages : List Tree → List ℕ
 solved-stages S = map (λ t. number-of t (table-of S)) S ++ replicate (steps-most - length S) 0
 
+-- what a solve leaves: the tables, or "tables, stages, work all zero"
 unfoldable pub solve-left : List ℤ → List ℕ → List ℕ → Solved (List Tree) → SolveOut
 solve-left nodes stages work (solved S peak) = record {
   number = 0;
@@ -97,13 +100,14 @@ solve-left nodes stages work (refused r h) = record {
   work = replicate (length work) 0;
 }
 
--- "10: stage words not eight, or model above 65,535 bytes; 9: horizon or steps not 1 to 8", then the model's own
+-- "10: stage words not eight, or model above 65,535 bytes", "9: horizon or steps not 1 to 8", then the model's own: "Order: 10, 9, the model by offset"
 unfoldable pub early : List ℕ → ℕ → ℕ → Verdict
 early B steps words =
     if (or (not (eqb words steps-most)) (ltb bytes-most (length B))) (refusal 10 0)
     (if (not (among steps-most steps)) (refusal 9 0)
     (verdict B))
 
+-- solve: refused early with "all untouched", or run
 unfoldable pub solve : List ℕ → ℕ → List ℤ → List ℕ → List ℕ → SolveOut
 solve B H nodes stages work =
     let v = early B H (length stages) in

@@ -2,13 +2,15 @@
 use mathlib.Core.List.{List, [], _∷_, _++_}
 use Prim.Native.Nat.{ℕ, zero, suc}
 use Rattle.theory.specs.Diagram.{Tree}
-use Rattle.theory.specs.Computation.{Comp, ret, make, Ops, end, operation, and-then}
+use Rattle.theory.specs.Computation.{make, Ops, end, operation, and-then}
 use Rattle.theory.specs.Rules.{best, zero-leaf, substitute, expectation, add-reward}
 use Rattle.theory.specs.Meaning.{Action, Model, power}
 
+-- the diagrams of an action
 abbrev pub action-diagrams : Action → List Tree
 action-diagrams x = x .reward ∷ (x .chances ++ x .levels)
 
+-- those of some actions
 unfoldable pub all-diagrams : List Action → List Tree
 all-diagrams [] = []
 all-diagrams (x ∷ l) = action-diagrams x ++ all-diagrams l
@@ -37,6 +39,7 @@ best-on M h kept P a (x ∷ l) F =
     (λ G. operation h (G ∷ F ∷ kept) (best F G)
     (best-on M h kept P (suc a) l))
 
+-- one stage: action 1 alone, then the others
 unfoldable pub stage-over : Model → ℕ → List Tree → Tree → Ops Tree
 stage-over M h kept P = and-then (action-total M h kept P 1 (M .first)) (best-on M h kept P 2 (M .others))
 

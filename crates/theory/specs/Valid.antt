@@ -1,9 +1,9 @@
 -- What holds of the diagrams of an accepted model: "Coefficients beyond level m are zero .. Next-step conditions stand only in next levels. The leaves of a chance are constants 0 to W".
 use mathlib.Core.Bool.{Bool, true, false, _&&_}
 use mathlib.Core.List.{List, [], _∷_}
-use Prim.Native.Nat.{ℕ, zero, suc, _-_}
+use Prim.Native.Nat.{ℕ, _-_}
 use lib.Dec.{eqb, leb}
-use lib.IntN.{ℤ, pos}
+use lib.IntN.{pos}
 use lib.ListN.{length}
 use lib.Signed.{leZ}
 use Rattle.whole.specs.Within.{small}
@@ -11,6 +11,7 @@ use Rattle.theory.specs.Widths.{levels-most, conditions-most, actions-mo
 use Rattle.theory.specs.Diagram.{Linear, Test, now, later, linear, Leaf, Tree, leaf, branch, zeros}
 use Rattle.theory.specs.Meaning.{Action, Model}
 
+-- each of a list
 unfoldable pub all : {A : Type 0} → (A → Bool) → List A → Bool
 all p [] = true
 all p (x ∷ l) = p x && all p l
@@ -38,6 +39,7 @@ good-test n next (now k) = among n k
 good-test n next (later k) = next && among n k
 good-test n next (linear p) = wide p
 
+-- a wide leaf that is not numbered
 unfoldable pub good-leaf : Leaf → Bool
 good-leaf f = wide (f .lin) && eqb (f .act) 0
 
@@ -49,12 +51,14 @@ stage-leaf A f = wide (f .lin) && among A (f .act)
 unfoldable pub weight-leaf : ℕ → Leaf → Bool
 weight-leaf W f = good-leaf f && (zeros (f .lin .coeffs) && (leZ (pos 0) (f .lin .const) && leZ (f .lin .const) (pos W)))
 
+-- an action's diagrams: "Every reward, chance and next level is given"
 unfoldable pub valid-action : ℕ → ℕ → ℕ → Action → Bool
 valid-action m n W x =
     all-nodes (good-test n false) good-leaf (x .reward)
     && (eqb (length (x .chances)) n && (all (all-nodes (good-test n false) (weight-leaf W)) (x .chances)
     && (eqb (length (x .levels)) m && all (all-nodes (good-test n true) good-leaf) (x .levels))))
 
+-- a model: numbers of the site in range, and each action valid
 unfoldable pub valid : Model → Bool
 valid M =
     among levels-most (M .levels) && (leb (M .conditions) conditions-most && (among weights-most (M .weights)

@@ -1,5 +1,5 @@
 -- "States and values": reading a value and an action from tables, as one function of its inputs.
-use mathlib.Core.Bool.{Bool, true, false, not, _&&_}
+use mathlib.Core.Bool.{Bool, true, false, _&&_}
 use mathlib.Core.List.{List, [], _∷_}
 use Prim.Native.Nat.{ℕ, zero, suc, _+_, _-_, _*_, _/_, _%_, _^_, _<_}
 use native.Mathlib.Omega.{arith}
@@ -11,11 +11,10 @@ use Rattle.whole.specs.Cases.{if, both}
 use Rattle.whole.specs.Int.{up}
 use Rattle.whole.specs.Numerator.{words}
 use Rattle.whole.specs.declared.Numerator.{Numerator}
-use Rattle.theory.specs.Widths.{steps-most, node-words, levels-most}
+use Rattle.theory.specs.Widths.{node-words, levels-most}
 use Rattle.theory.specs.Diagram.{Linear, zeros}
 use Rattle.theory.specs.Meaning.{State, nth, dot}
-use Rattle.theory.specs.Valid.{among, small-linear}
-use Rattle.theory.specs.Verdict.{Verdict, refusal, Site, or}
+use Rattle.theory.specs.Valid.{small-linear}
 use Rattle.theory.specs.Load.{site-at}
 use Rattle.theory.specs.Solve.{early}
 
@@ -34,6 +33,7 @@ unfoldable pub bits : ℕ → ℕ → List Bool
 bits zero mask = []
 bits (suc n) mask = eqb (mask % 2) 1 ∷ bits n (mask / 2)
 
+-- D is 1 or more
 pub den-above : (z : ℤ) → T (leZ (pos 1) z) → 0 < up z
 den-above (pos zero) t = absurd t
 den-above (pos (suc n)) t = omega arith
@@ -55,12 +55,15 @@ state-of m n q t = record {
 abbrev pub node-word : List ℤ → ℕ → ℕ → ℤ
 node-word W r i = getD W ((r - 1) * node-words + i) (pos 0)
 
+-- "four coefficients, constant" of node r
 unfoldable pub node-linear : List ℤ → ℕ → Linear
 node-linear W r = record { coeffs = take levels-most (drop ((r - 1) * node-words + 1) W); const = node-word W r (levels-most + 1) }
 
+-- "high", or a leaf's action
 abbrev pub high-of : List ℤ → ℕ → ℤ
 high-of W r = node-word W r (levels-most + 2)
 
+-- "low"
 abbrev pub low-of : List ℤ → ℕ → ℤ
 low-of W r = node-word W r (levels-most + 3)
 
@@ -81,6 +84,7 @@ unfoldable pub good-condition-row : ℕ → List ℤ → ℕ → Bool
 good-condition-row n W r =
     amongZ n (node-word W r 1) && (zeros (take levels-most (drop ((r - 1) * node-words + 2) W)) && good-branches W r)
 
+-- "has a number outside ±(2⁶² − 1)"
 unfoldable pub good-test-row : List ℤ → ℕ → Bool
 good-test-row W r = small-linear (node-linear W r) && good-branches W r
 
@@ -115,15 +119,18 @@ walk n A q W (suc k) r = elim (good-row n A W r) [
 
 -- ---- the outcome
 
+-- number and place, the action, and "The numerator .. held in two 64-bit words"
 pub record ValueOut : Type 0 where
   pub number : ℕ
   pub place : ℕ
   pub action : ℕ
   pub numerator : Numerator
 
+-- "All else that a refused call returns is zero."
 abbrev pub refused-value : ℕ → ℕ → ValueOut
 refused-value k p = record { number = k; place = p; action = 0; numerator = words (pos 0) }
 
+-- what is read at the leaf that the walk ends at
 unfoldable pub value-at : Asked → List ℤ → ℕ → ValueOut
 value-at q W r = if (eqb r 0) (refused-value 14 0) (record {
   number = 0;

@@ -1,17 +1,18 @@
 -- "The site model" and "What a refusal gives", numbers 1 to 8: the first rule that a model breaks, and its place.
 use mathlib.Core.Bool.{Bool, true, false, not, _&&_}
 use mathlib.Core.List.{List, [], _∷_, _++_, map}
-use Prim.Native.Nat.{ℕ, zero, suc, _+_, _-_, _*_}
+use Prim.Native.Nat.{ℕ, zero, suc, _+_, _-_}
 use lib.Dec.{eqb, ltb, leb}
-use lib.IntN.{ℤ, pos}
+use lib.IntN.{pos}
 use lib.ListN.{length, drop}
 use lib.Signed.{leZ}
 use Rattle.whole.specs.Cases.{if}
 use Rattle.theory.specs.Widths.{levels-most, conditions-most, actions-most, weights-most, stack-most}
 use Rattle.theory.specs.Diagram.{Linear, zeros}
 use Rattle.theory.specs.Valid.{all, among}
-use Rattle.theory.specs.Command.{Command, site, push-leaf, push-condition, push-test, take-reward, take-chance, take-level, name-action, end-model, Read, whole, unknown, short, Placed, readings}
+use Rattle.theory.specs.Command.{Command, site, push-leaf, push-condition, push-test, take-reward, take-chance, take-level, name-action, end-model, whole, unknown, short, Placed, readings}
 
+-- one or the other
 abbrev pub or : Bool → Bool → Bool
 or a b = if a true b
 
@@ -40,34 +41,43 @@ pub record Progress : Type 0 where
   pub stack : List Facts
   pub given : List Slot
 
+-- "20 reward: action"
 abbrev pub reward-slot : ℕ → Slot
 reward-slot a = record { command = 0x20; action = a; index = 0 }
 
+-- "21 chance: action, condition"
 abbrev pub chance-slot : ℕ → ℕ → Slot
 chance-slot a k = record { command = 0x21; action = a; index = k }
 
+-- "22 next level: action, level"
 abbrev pub level-slot : ℕ → ℕ → Slot
 level-slot a i = record { command = 0x22; action = a; index = i }
 
+-- "30 name: action"
 abbrev pub name-slot : ℕ → Slot
 name-slot a = record { command = 0x30; action = a; index = 0 }
 
+-- the same command, action and index
 unfoldable pub same-slot : Slot → Slot → Bool
 same-slot s t = eqb (s .command) (t .command) && (eqb (s .action) (t .action) && eqb (s .index) (t .index))
 
+-- "given twice": a slot is among those given
 unfoldable pub has-slot : Slot → List Slot → Bool
 has-slot s [] = false
 has-slot s (t ∷ l) = or (same-slot s t) (has-slot s l)
 
 -- ---- a rule, the number that breaking it has, and the first that is broken
 
+-- whether a rule is broken, and the number that it has
 pub record Rule : Type 0 where
   pub broken : Bool
   pub number : ℕ
 
+-- a rule with number k, broken where b
 abbrev pub rule : ℕ → Bool → Rule
 rule k b = record { broken = b; number = k }
 
+-- the number of the first that is broken, 0 where none is
 unfoldable pub first-broken : List Rule → ℕ
 first-broken [] = 0
 first-broken (r ∷ l) = if (r .broken) (r .number) (first-broken l)
@@ -82,6 +92,7 @@ beyond m p = not (zeros (drop m (p .coeffs)))
 unfoldable pub next-condition : ℕ → ℕ → Bool
 next-condition n k = ltb conditions-most k && among n (k - conditions-most)
 
+-- "each 20 to 7E"
 unfoldable pub printable : ℕ → Bool
 printable b = leb 0x20 b && leb b 0x7e
 
@@ -91,6 +102,7 @@ is-weight W p = zeros (p .coeffs) && (leZ (pos 0) (p .const) && leZ (p .const) (
 
 -- ---- the stack
 
+-- the top of the stack
 abbrev pub top : List Facts → Facts
 top [] = record { next-step = false; weights = false }
 top (f ∷ l) = f
@@ -103,24 +115,29 @@ joined later (l ∷ h ∷ r) = record { next-step = or later (or (h .next-step) 
 
 -- ---- what must be given: "Every reward, chance and next level is given exactly once."
 
+-- the k numbers from a on
 unfoldable pub from-to : ℕ → ℕ → List ℕ
 from-to a zero = []
 from-to a (suc k) = a ∷ from-to (suc a) k
 
+-- what some actions must be given
 unfoldable pub wanted-by : Site → List ℕ → List Slot
 wanted-by S [] = []
 wanted-by S (a ∷ l) = reward-slot a ∷ (map (chance-slot a) (from-to 1 (S .conditions)) ++ (map (level-slot a) (from-to 1 (S .levels)) ++ wanted-by S l))
 
+-- what a site's actions must be given
 unfoldable pub wanted : Site → List Slot
 wanted S = wanted-by S (from-to 1 (S .actions))
 
 -- ---- the rules of a command, "operands 4, then 5, 6, diagram 4"
 
+-- "m levels (1 to 4), n conditions (0 to 4), A actions (1 to 8), weight total W (1 to 100)"
 unfoldable pub site-rules : Site → List Rule
 site-rules S =
     rule 4 (not (among levels-most (S .levels))) ∷ rule 4 (ltb conditions-most (S .conditions))
     ∷ rule 4 (not (among actions-most (S .actions))) ∷ rule 4 (not (among weights-most (S .weights))) ∷ []
 
+-- the site of four operands
 abbrev pub site-of : ℕ → ℕ → ℕ → ℕ → Site
 site-of m n a w = record { levels = m; conditions = n; actions = a; weights = w }
 
@@ -136,6 +153,7 @@ first-rules (take-level a i) = rule 1 true ∷ []
 first-rules (name-action a b) = rule 1 true ∷ []
 first-rules end-model = rule 1 true ∷ []
 
+-- the rules of a later command, over the site, the stack and what has been given
 unfoldable pub later-rules : Site → List Facts → List Slot → Command → List Rule
 later-rules S K G (site m n a w) = rule 1 true ∷ []
 later-rules S K G (push-leaf p) = rule 4 (beyond (S .levels) p) ∷ rule 5 (leb stack-most (length K)) ∷ []
@@ -151,17 +169,21 @@ later-rules S K G (take-level a i) =
 later-rules S K G (name-action a b) = rule 4 (not (among (S .actions) a)) ∷ rule 4 (not (all printable b)) ∷ rule 6 (has-slot (name-slot a) G) ∷ []
 later-rules S K G end-model = rule 7 (not (all (λ s. has-slot s G) (wanted S))) ∷ rule 7 (ltb 0 (length K)) ∷ []
 
+-- the rules of a command, first or later
 unfoldable pub rules-of : Progress → Command → List Rule
 rules-of s c = if (s .begun) (later-rules (s .site) (s .stack) (s .given) c) (first-rules c)
 
 -- ---- what a command that breaks none leaves
 
+-- another stack
 abbrev pub with-stack : Progress → List Facts → Progress
 with-stack s K = record { begun = s .begun; site = s .site; stack = K; given = s .given }
 
+-- another stack, and one slot more
 abbrev pub with-slot : Progress → List Facts → Slot → Progress
 with-slot s K g = record { begun = s .begun; site = s .site; stack = K; given = g ∷ s .given }
 
+-- what the commands so far come to with one more
 unfoldable pub after : Progress → Command → Progress
 after s (site m n a w) = record { begun = true; site = site-of m n a w; stack = []; given = [] }
 after s (push-leaf p) = with-stack s (record { next-step = false; weights = is-weight (s .site .weights) p } ∷ s .stack)
@@ -175,10 +197,12 @@ after s end-model = s
 
 -- ---- the verdict: number and place, 0 and 0 where the model is accepted
 
+-- number and place
 pub record Verdict : Type 0 where
   pub number : ℕ
   pub place : ℕ
 
+-- a refusal with number k at place p
 abbrev pub refusal : ℕ → ℕ → Verdict
 refusal k p = record { number = k; place = p }
 
@@ -203,11 +227,14 @@ judged size s (x ∷ l) = elim (x .read) [
   | short ↦ refusal 2 (x .at)
 ]
 
+-- no site yet
 abbrev pub no-site : Site
 no-site = site-of 0 0 0 0
 
+-- before the first command
 abbrev pub at-start : Progress
 at-start = record { begun = false; site = no-site; stack = []; given = [] }
 
+-- the verdict on some bytes
 unfoldable pub verdict : List ℕ → Verdict
 verdict B = judged (length B) at-start (readings B)

@@ -1,21 +1,31 @@
 -- What is proved about the definitions.
-pub mod Process
+
+-- computations: what they come to, their runs and events, the nodes that are there
 pub mod Comps
+pub mod Events
+pub mod Inside
+pub mod Safe
+-- which tests and leaves stand in diagrams, in an accepted model and in its stages
+pub mod Nodes
+pub mod Valid
+pub mod Loading
+pub mod Good
+-- the value that is meant, and what diagrams and stages come to
+pub mod Process
 pub mod Values
-pub mod Tests
 pub mod Expectation
 pub mod Stages
-pub mod Plain
-pub mod SameValue
-pub mod Good
-pub mod Events
-pub mod Counting
-pub mod Refusals
-pub mod Nodes
-pub mod Loading
+-- tables: nodes and their numbers, counts, words, readings
 pub mod Table
+pub mod Counting
 pub mod Words
 pub mod Reading
-pub mod Inside
+-- refusals, peak and rows
+pub mod Refusals
 pub mod Chain
+pub mod Rows
+-- plain working and equal fractions
+pub mod Plain
+pub mod SameValue
+-- the demands
 pub mod Demands

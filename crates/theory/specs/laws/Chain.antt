@@ -1,15 +1,13 @@
 -- Each operation begins with nodes that were there when the one before it ended, from loading on; so the solved stages fit where the peak fits.
-use mathlib.Core.Path.{_≡_, refl, sym, ap, _∙_, subst}
-use mathlib.Core.Logic.{_⊎_, inl, inr}
-use mathlib.Core.Bool.{Bool, true, false}
-use mathlib.Core.List.{List, [], _∷_, _++_, map, List·Memᴰ, List·Memᴰ·head, List·Memᴰ·tail, List·Memᴰ·not-nil, List·Memᴰ·cases-cons, Memᴰ·map}
+use mathlib.Core.Path.{_≡_, refl, sym, subst}
+use mathlib.Core.Logic.{inl, inr}
+use mathlib.Core.List.{List, [], _∷_, _++_, List·Memᴰ, List·Memᴰ·head, List·Memᴰ·tail, List·Memᴰ·not-nil, List·Memᴰ·cases-cons}
 use Prim.Native.Nat.{ℕ, zero, suc, _+_, _≤_, max}
 use native.Mathlib.Omega.{arith}
-use lib.Dec.{T, T-not}
+use lib.Dec.{T}
 use lib.ListN.{length}
-use Rattle.whole.specs.Cases.{if, by-test}
-use Rattle.theory.specs.Diagram.{Test, Tree, leaf, branch, plain, same, test-of}
-use Rattle.theory.specs.Computation.{Comp, ret, named, made, bind, result, make, Out, done, stopped, member, run, enter, enter-all, Ops, end, operation, and-then, final, solved, refused, run-all}
+use Rattle.theory.specs.Diagram.{Test, Tree, leaf, plain, test-of}
+use Rattle.theory.specs.Computation.{Comp, ret, bind, result, make, Out, done, stopped, run, enter-all, Ops, end, operation, and-then, final, solved, refused, run-all}
 use Rattle.theory.specs.Rules.{choose, zero-leaf, expectation}
 use Rattle.theory.specs.Meaning.{Action, Model, power}
 use Rattle.theory.specs.Stage.{action-diagrams, all-diagrams, model-diagrams, sum-out, action-total, best-on, stage-over, stages-on, all-stages}
@@ -23,7 +21,7 @@ use Rattle.theory.specs.laws.Events.{run-done}
 use Rattle.theory.specs.laws.Counting.{roots-fit}
 use Rattle.theory.specs.laws.Refusals.{AllChained}
 use Rattle.theory.specs.laws.Loading.{entry-trees, loaded-entries, diagrams-loaded}
-use Rattle.theory.specs.laws.Inside.{Sub, sub-needed, snoc-cases, all-none, all-parts, all-cons, all-more, all-left, all-right, all-append, roots-inside, roots-sub, bind-gives, Built, builds, leaf-built, choose-built, best-built, substitute-built, expectation-built, reward-built}
+use Rattle.theory.specs.laws.Inside.{sub-needed, all-none, all-parts, all-cons, all-more, all-left, all-right, all-append, roots-inside, bind-gives, Built, builds, leaf-built, choose-built, best-built, substitute-built, expectation-built, reward-built}
 
 -- ---- operations
 

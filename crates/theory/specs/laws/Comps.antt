@@ -1,5 +1,6 @@
 -- Laws of computations: what they come to, runs one after another, and runs again.
-use mathlib.Core.Path.{_≡_, refl, sym, ap, ap₂, _∙_, subst}
+use mathlib.Core.Path.{_≡_, refl, sym, ap, ap₂, _∙_}
+use mathlib.Core.Logic.{_⊎_, inl, inr}
 use mathlib.Core.Bool.{Bool, true, false, _&&_}
 use mathlib.Core.List.{List, [], _∷_, _++_}
 use Prim.Native.Nat.{ℕ, zero, suc, _<_, max, compare, Ordering, Ordering·lt, Ordering·eq, Ordering·gt}
@@ -8,7 +9,7 @@ use borrow.Author.Tests.{eq-eqb}
 use lib.Dec.{T, isEq, eqb, eqb→eq, ltb}
 use lib.IntN.{ℤ, pos, negsuc}
 use lib.ListN.{length, getD}
-use Rattle.whole.specs.Cases.{if, by-test, both}
+use Rattle.whole.specs.Cases.{if, by-test, both, clash, from-true}
 use Rattle.whole.specs.Within.{small}
 use Rattle.theory.specs.Diagram.{Linear, Test, now, later, linear, Leaf, Tree, leaf, branch, then, cmpZ, cmpList, cmpLinear, cmp, same-leaf, same}
 use Rattle.theory.specs.Computation.{Comp, ret, named, made, bind, result, names, judge, Out, done, stopped, member, run, enter-all, Ops, end, operation, and-then, final, solved}
@@ -174,21 +175,31 @@ run-judge N p m X = run-names N (p .coeffs) (named (p .const) m) X ∙ if-and (a
 
 -- ---- membership
 
-clash : {A : Type 0} → false ≡ true → A
-clash e = absurd (let z : _≡_ {A = ℕ} 0 1 = cc in omega arith)
-
 if-true : (b c : Bool) → c ≡ true → if b true c ≡ true
 if-true true c e = refl
 if-true false c e = e
 
-pub member-more : (u v : Tree) (X : List Tree) → member u X ≡ true → member u (X ++ (v ∷ [])) ≡ true
+pub member-append : (u : Tree) (X Y : List Tree) → member u X ≡ true → member u (X ++ Y) ≡ true
 unfolding member
-member-more u v [] e = clash e
-member-more u v (x ∷ X) e = go (same x u) e (member-more u v X)
+member-append u [] Y e = clash (sym e)
+member-append u (x ∷ X) Y e = go (same x u) e (member-append u X Y)
   where
-    go : (b : Bool) → if b true (member u X) ≡ true → (member u X ≡ true → member u (X ++ (v ∷ [])) ≡ true) → if b true (member u (X ++ (v ∷ []))) ≡ true
+    go : (b : Bool) → if b true (member u X) ≡ true → (member u X ≡ true → member u (X ++ Y) ≡ true) → if b true (member u (X ++ Y)) ≡ true
     go true e ih = refl
     go false e ih = ih e
+
+-- a member of a table with one more is a member of the table or that one
+pub member-cases : (u v : Tree) (X : List Tree) → member u (X ++ (v ∷ [])) ≡ true → (member u X ≡ true) ⊎ (v ≡ u)
+unfolding member
+member-cases u v [] = by-test (same v u) (λ b. if b true false ≡ true → (false ≡ true) ⊎ (v ≡ u)) (λ s _. inr (same-eq v u s)) (λ _ e. inl e)
+member-cases u v (x ∷ X) = go (same x u) (member-cases u v X)
+  where
+    go : (b : Bool) → (member u (X ++ (v ∷ [])) ≡ true → (member u X ≡ true) ⊎ (v ≡ u)) → if b true (member u (X ++ (v ∷ []))) ≡ true → (if b true (member u X) ≡ true) ⊎ (v ≡ u)
+    go true ih e = inl refl
+    go false ih e = ih e
+
+pub member-more : (u v : Tree) (X : List Tree) → member u X ≡ true → member u (X ++ (v ∷ [])) ≡ true
+member-more u v X = member-append u X (v ∷ [])
 
 pub member-last : (v : Tree) (X : List Tree) → member v (X ++ (v ∷ [])) ≡ true
 unfolding member
@@ -208,12 +219,12 @@ member-out d t (x ∷ X) h = ap (λ (b : Bool). if b true (member t X)) (same-no
 
 pub member-find : (d u : Tree) (X : List Tree) → member u X ≡ true → (i : ℕ) × (i < length X) × (getD X i d ≡ u)
 unfolding member
-member-find d u [] e = clash e
+member-find d u [] e = clash (sym e)
 member-find d u (x ∷ X) e = go (same x u) refl e (member-find d u X)
   where
     go : (b : Bool) → same x u ≡ b → if b true (member u X) ≡ true → (member u X ≡ true → (i : ℕ) × (i < length X) × (getD X i d ≡ u))
         → (i : ℕ) × (i < length (x ∷ X)) × (getD (x ∷ X) i d ≡ u)
-    go true c e ih = (0, omega arith, same-eq x u (subst T (sym c) tt))
+    go true c e ih = (0, omega arith, same-eq x u (from-true c))
     go false c e ih = let p = ih e in (suc (p .0), (let q = p .1 in omega arith), p .2)
 
 -- ---- a run that is done

@@ -1,145 +1,80 @@
 -- The demands, proved: a term of each type of Demands.
-use mathlib.Core.Path.{_≡_, refl, sym, ap, ap₂, _∙_, subst}
-use mathlib.Core.Logic.{_↔_, ⊎-elim}
-use mathlib.Core.Bool.{Bool, true, false, not}
+use mathlib.Core.Path.{_≡_, refl, sym, ap, ap₂, _∙_}
+use mathlib.Core.Logic.{⊎-elim}
+use mathlib.Core.Bool.{Bool}
 use mathlib.Core.List.{List, []}
-use Prim.Native.Nat.{ℕ, zero, suc, _+_, _-_, _≤_, _<_}
+use Prim.Native.Nat.{ℕ, _-_, _≤_, _<_}
 use native.Mathlib.Nat.{eq-or-lt-of-le}
 use native.Mathlib.Omega.{arith}
-use borrow.Author.Tests.{eq-eqb}
-use lib.Dec.{T, eqb, eqb→eq, ltb, leb→le, lt→ltb}
+use lib.Dec.{leb→le, lt→ltb}
 use lib.IntN.{ℤ, pos, negsuc}
 use lib.ListN.{length, getD}
 use lib.Signed.{_≤ℤ_, _<ℤ_}
-use Rattle.whole.specs.Cases.{if, by-test}
+use Rattle.whole.specs.Cases.{if}
 use Rattle.whole.specs.Numerator.{number, words}
 use Rattle.whole.specs.NumeratorLaws.{number-words}
-use Rattle.theory.specs.Widths.{steps-most, bytes-most}
+use Rattle.theory.specs.Widths.{steps-most}
 use Rattle.theory.specs.Diagram.{Tree}
-use Rattle.theory.specs.Computation.{Out, done, stopped, result, run, Solved, solved, refused, run-all, final}
-use Rattle.theory.specs.Process.{Policy, optimum, lowest-best, expected, Sound}
-use Rattle.theory.specs.Meaning.{Model, process, env, worth-at, at}
+use Rattle.theory.specs.Computation.{Solved, solved, refused, final}
+use Rattle.theory.specs.Process.{optimum, expected}
+use Rattle.theory.specs.Meaning.{env, worth-at, at}
 use Rattle.theory.specs.Rules.{zero-leaf}
 use Rattle.theory.specs.Stage.{all-stages}
-use Rattle.theory.specs.Valid.{valid, among}
-use Rattle.theory.specs.Verdict.{Verdict, refusal, verdict, or}
-use Rattle.theory.specs.Load.{load, model, site-at}
-use Rattle.theory.specs.Solve.{room, solve-in, solve-left, early, solve, solved-nodes, solved-stages}
-use Rattle.theory.specs.Value.{Asked, ValueOut, value-of}
-use Rattle.theory.specs.Demands
-use Rattle.theory.specs.Demands.{Solving, left, Accepted, start, site, reading, Exact, Optimal, PlainAgrees, SameValue, FirstMet, SolvedExactly, CountsDistinct, PeakDecides}
-use Rattle.theory.specs.laws.Loading.{accepted-valid, accepted-site, among-in, among-out}
+use Rattle.theory.specs.Verdict.{Verdict}
+use Rattle.theory.specs.Load.{model}
+use Rattle.theory.specs.Solve.{room, solve-in, SolveOut, solve-left, early, solve, solved-nodes, solved-stages}
+use Rattle.theory.specs.Value.{value-of}
+use Rattle.theory.specs.Listing.{greatest-root}
+use Rattle.theory.specs.Demands.{Solving, left, start, site, reading, Exact, Optimal, PlainAgrees, SameValue, FirstMet, SolvedExactly, CountsDistinct, PeakDecides, VerdictRows, SolveRows, ValueRows, PlainRows, NameRows, ListingRows, TablesHold}
+use Rattle.theory.specs.laws.Loading.{accepted-valid, accepted-site}
 use Rattle.theory.specs.laws.Good.{stages-good}
-use Rattle.theory.specs.laws.Stages.{stages-at, stage-of, all-stages-length}
-use Rattle.theory.specs.laws.Reading.{reading-exact}
+use Rattle.theory.specs.laws.Stages.{stages-at, stage-of}
+use Rattle.theory.specs.laws.Reading.{reading-exact, root-last}
+use Rattle.theory.specs.laws.Rows.{Passed, by-early, early-some, passed-not, solve-runs}
+use Rattle.theory.specs.laws.Rows as Rows
 use Rattle.theory.specs.laws.Process.{policy-theorem}
-use Rattle.theory.specs.laws.Table.{by-eq}
 use Rattle.theory.specs.laws.Plain as Plain
 use Rattle.theory.specs.laws.SameValue as SameValue
 use Rattle.theory.specs.laws.Refusals as Refusals
 use Rattle.theory.specs.laws.Counting as Counting
-use Rattle.theory.specs.laws.Chain.{all-chained, table-fits}
-use Rattle.theory.specs.laws.Comps.{run-result, run-all-final}
+use Rattle.theory.specs.laws.Chain.{all-chained}
+use Rattle.theory.specs.laws.Comps.{run-all-final}
 
 -- ---- what a solve with number 0 has gone through
 
-not-false : (b : Bool) → not b ≡ false → T b
-not-false true e = tt
-not-false false e = absurd (let z : _≡_ {A = ℕ} 0 1 = cc in omega arith)
-
-or-false-left : (a b : Bool) → or a b ≡ false → a ≡ false
-or-false-left true b e = absurd (let z : _≡_ {A = ℕ} 0 1 = cc in omega arith)
-or-false-left false b e = refl
-
-or-false-right : (a b : Bool) → or a b ≡ false → b ≡ false
-or-false-right true b e = absurd (let z : _≡_ {A = ℕ} 0 1 = cc in omega arith)
-or-false-right false b e = e
-
--- neither 10 nor 9 nor a number of the model's own
-pub record Passed (B : List ℕ) (steps size : ℕ) : Type 0 where
-  pub eight : size ≡ steps-most
-  pub least : 1 ≤ steps
-  pub most : steps ≤ steps-most
-  pub bytes : ltb bytes-most (length B) ≡ false
-  pub own : verdict B .number ≡ 0
-
-pub passed : (B : List ℕ) (steps size : ℕ) → early B steps size .number ≡ 0 → Passed B steps size
-unfolding early
-passed B steps size e = go (or (not (eqb size steps-most)) (ltb bytes-most (length B))) (not (among steps-most steps)) refl refl e
-  where
-    go : (a b : Bool) → or (not (eqb size steps-most)) (ltb bytes-most (length B)) ≡ a → not (among steps-most steps) ≡ b
-        → if a (refusal 10 0) (if b (refusal 9 0) (verdict B)) .number ≡ 0 → Passed B steps size
-    go true b p q e = absurd (omega arith)
-    go false true p q e = absurd (omega arith)
-    go false false p q e =
-        let i = among-out steps-most steps (not-false (among steps-most steps) q) in
-        record { eight = eqb→eq size steps-most (not-false (eqb size steps-most) (or-false-left (not (eqb size steps-most)) (ltb bytes-most (length B)) p)); least = i .0; most = i .1; bytes = or-false-right (not (eqb size steps-most)) (ltb bytes-most (length B)) p; own = e }
-
--- a solve with number 0: its stages
-pub record Went (g : Solving) : Type 0 where
+-- a solve with number 0 and what it leaves: its stages
+pub record Went (g : Solving) (o : SolveOut) : Type 0 where
   pub before : Passed (g .bytes) (g .horizon) (length (g .stages))
   pub trees : List Tree
   pub peak : ℕ
   pub solves : solve-in (room (length (g .nodes)) (length (g .work))) (g .bytes) (g .horizon) ≡ solved trees peak
-  pub nodes-left : left g .nodes ≡ solved-nodes (length (g .nodes)) trees
-  pub stages-left : left g .stages ≡ solved-stages trees
+  pub nodes-left : o .nodes ≡ solved-nodes (length (g .nodes)) trees
+  pub stages-left : o .stages ≡ solved-stages trees
 
--- what solve comes to where nothing refuses it early
-pub solve-is : (B : List ℕ) (H : ℕ) (nodes : List ℤ) (stages work : List ℕ) → early B H (length stages) .number ≡ 0
-    → solve B H nodes stages work ≡ solve-left nodes stages work (solve-in (room (length nodes) (length work)) B H)
-unfolding solve
-solve-is B H nodes stages work e =
-    let v = early B H (length stages) in
-    ap (λ b. if b (solve-left nodes stages work (solve-in (room (length nodes) (length work)) B H)) (record { number = v .number; place = v .place; peak = 0; nodes = nodes; stages = stages; work = work }))
-    (eq-eqb (v .number) 0 e)
+module _ (g : Solving) where
+  abbrev out : Solved (List Tree) → SolveOut
+  out = solve-left (g .nodes) (g .stages) (g .work)
 
--- a number of its own, or solve's
-early-zero : (B : List ℕ) (H : ℕ) (nodes : List ℤ) (stages work : List ℕ) → solve B H nodes stages work .number ≡ 0 → early B H (length stages) .number ≡ 0
-unfolding solve
-early-zero B H nodes stages work e = by-eq (eqb (early B H (length stages) .number) 0) (λ b. if b (solve-left nodes stages work (solve-in (room (length nodes) (length work)) B H))
-    (record { number = early B H (length stages) .number; place = early B H (length stages) .place; peak = 0; nodes = nodes; stages = stages; work = work }) .number ≡ 0 → early B H (length stages) .number ≡ 0)
-    (λ p _. eqb→eq (early B H (length stages) .number) 0 (subst T (sym p) tt))
-    (λ _ q. q)
-    e
+  abbrev N : ℕ
+  N = room (length (g .nodes)) (length (g .work))
 
-pub went : (g : Solving) → Went g
-unfolding solve-left
-went g =
-    let z = early-zero (g .bytes) (g .horizon) (g .nodes) (g .stages) (g .work) (g .is) in
-    let s = solve-is (g .bytes) (g .horizon) (g .nodes) (g .stages) (g .work) z in
-    go z s (solve-in (room (length (g .nodes)) (length (g .work))) (g .bytes) (g .horizon)) refl
-  where
-    go : early (g .bytes) (g .horizon) (length (g .stages)) .number ≡ 0
-        → left g ≡ solve-left (g .nodes) (g .stages) (g .work) (solve-in (room (length (g .nodes)) (length (g .work))) (g .bytes) (g .horizon))
-        → (o : Solved (List Tree)) → solve-in (room (length (g .nodes)) (length (g .work))) (g .bytes) (g .horizon) ≡ o → Went g
-    go z s (solved S peak) q =
-        let l : left g ≡ solve-left (g .nodes) (g .stages) (g .work) (solved S peak) = s ∙ ap (solve-left (g .nodes) (g .stages) (g .work)) q in
-        record { before = passed (g .bytes) (g .horizon) (length (g .stages)) z; trees = S; peak = peak; solves = q; nodes-left = ap (λ o. o .nodes) l; stages-left = ap (λ o. o .stages) l }
-    go z s (refused r p) q =
-        let l : left g ≡ solve-left (g .nodes) (g .stages) (g .work) (refused r p) = s ∙ ap (solve-left (g .nodes) (g .stages) (g .work)) q in
-        let n : r ≡ 0 = sym (ap (λ o. o .number) l) ∙ g .is in
-        ⊎-elim (λ e. absurd (omega arith)) (λ e. absurd (omega arith)) (Refusals.refused-number (room (length (g .nodes)) (length (g .work))) (g .bytes) (g .horizon) r p q)
+  solved-went : Passed (g .bytes) (g .horizon) (length (g .stages)) → (o : Solved (List Tree)) → solve-in N (g .bytes) (g .horizon) ≡ o → out o .number ≡ 0 → Went g (out o)
+  unfolding solve-left
+  solved-went p (solved S peak) e z = record { before = p; trees = S; peak = peak; solves = e; nodes-left = refl; stages-left = refl }
+  solved-went p (refused r h) e z = absurd (⊎-elim (λ q. omega arith) (λ q. omega arith) (Refusals.refused-number N (g .bytes) (g .horizon) r h e))
 
-none-early : (a b : Bool) (v : Verdict) → a ≡ false → T b → v .number ≡ 0 → if a (refusal 10 0) (if (not b) (refusal 9 0) v) .number ≡ 0
-none-early true b v e t z = absurd (let z : _≡_ {A = ℕ} 0 1 = cc in omega arith)
-none-early false true v e t z = z
-none-early false false v e t z = absurd t
+  pub went : Went g (left g)
+  unfolding solve
+  went =
+      let o : Verdict → Bool → SolveOut =
+      λ v b. if b (out (solve-in N (g .bytes) (g .horizon))) (record { number = v .number; place = v .place; peak = 0; nodes = g .nodes; stages = g .stages; work = g .work }) in
+      by-early (g .bytes) (g .horizon) (length (g .stages)) (λ v b. o v b .number ≡ 0 → Went g (o v b))
+      (λ p. solved-went p (solve-in N (g .bytes) (g .horizon)) refl) (λ k p r z. absurd (omega (arith, early-some r))) (g .is)
 
 -- steps that are asked within the horizon pass too
 pub early-within : (B : List ℕ) (H size h : ℕ) → Passed B H size → 1 ≤ h → h ≤ H → early B h steps-most .number ≡ 0
-unfolding early
-early-within B H size h p a b =
-    none-early (ltb bytes-most (length B)) (among steps-most h) (verdict B) (p .bytes) (among-in steps-most h a (omega (arith, p .most))) (p .own)
-
--- the stages of a solve are run as operations of the model that the bytes spell
-pub solve-runs : (N : ℕ) (B : List ℕ) (H : ℕ) (S : List Tree) (peak : ℕ) → solve-in N B H ≡ solved S peak → (p : ℕ) × (run-all N p (all-stages (model B) H) ≡ solved S peak)
-unfolding solve-in model
-solve-runs N B H S peak = go (run N (load B) []) refl
-  where
-    go : (o : Out Model) → run N (load B) [] ≡ o → elim o [ done M X ↦ run-all N (length X) (all-stages M H) | stopped r ↦ refused r 0 ] ≡ solved S peak
-        → (p : ℕ) × (run-all N p (all-stages (result (load B)) H) ≡ solved S peak)
-    go (done M X) q e = (length X, subst (λ M. run-all N (length X) (all-stages M H) ≡ solved S peak) (run-result N (load B) [] X M q) e)
-    go (stopped r) q e = absurd (let z : _≡_ {A = ℕ} 0 1 = cc in omega arith)
+early-within B H size h p a b = by-early B h steps-most (λ v _. v .number ≡ 0) (λ _. refl)
+    (λ k q r. absurd (passed-not (record { eight = refl; least = a; most = omega (arith, p .most); bytes = p .bytes; own = p .own }) r))
 
 -- ---- the demands
 
@@ -204,3 +139,24 @@ counts-distinct = Counting.counts-distinct
 
 pub peak-decides : PeakDecides
 peak-decides = Refusals.peak-decides all-chained
+
+pub verdict-rows : VerdictRows
+verdict-rows = Rows.verdict-row
+
+pub solve-rows : SolveRows
+solve-rows = Rows.solve-row
+
+pub value-rows : ValueRows
+value-rows = Rows.value-row
+
+pub plain-rows : PlainRows
+plain-rows = Rows.plain-row
+
+pub name-rows : NameRows
+name-rows = Rows.name-row
+
+pub listing-rows : ListingRows
+listing-rows = Rows.listing-row
+
+pub tables-hold : TablesHold
+tables-hold N B H S peak e = ap (λ (n : ℕ). greatest-root n (solved-stages S)) (sym (Rows.solved-length N B H S peak e)) ∙ root-last S

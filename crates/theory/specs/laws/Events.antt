@@ -8,13 +8,12 @@ use native.Mathlib.Omega.{arith}
 use lib.Dec.{T, leb, ltb, leb→le, le→leb, nleb→lt}
 use lib.IntN.{ℤ}
 use lib.ListN.{length, length-append}
-use Rattle.whole.specs.Cases.{if, by-test, both}
+use Rattle.whole.specs.Cases.{if, by-test, both, and-in, is-true, from-true}
 use Rattle.whole.specs.Within.{small}
 use Rattle.theory.specs.Diagram.{Tree}
 use Rattle.theory.specs.Computation.{Comp, ret, named, made, bind, result, Out, done, stopped, member, run}
 use Rattle.theory.specs.Events.{Event, names, makes, events, within, needed, Refused, beyond, no-room, Passes}
 use Rattle.theory.specs.laws.Comps.{with-made, with-made-more, ret-done, named-done, made-done}
-use Rattle.theory.specs.laws.Tests.{and-in}
 
 -- ---- events one after another
 
@@ -46,10 +45,6 @@ pub with-made-longer : (t : Tree) (X : List Tree) → length X ≤ length (with-
 unfolding with-made
 with-made-longer t X = by-test (member t X) (λ b. length X ≤ length (if b X (X ++ (t ∷ [])))) (λ _. omega arith) (λ _. simp length-append (omega arith))
 
-pub needed-made : (X : List Tree) (t : Tree) (l : List Event) → needed X (makes t ∷ l) ≡ needed (with-made t X) l
-unfolding needed with-made
-needed-made X t l = refl
-
 pub needed-longer : (X : List Tree) (l : List Event) → length X ≤ length (needed X l)
 unfolding needed with-made
 needed-longer X [] = omega arith
@@ -63,10 +58,6 @@ needed-keeps u X (names z ∷ l) h = needed-keeps u X l h
 needed-keeps u X (makes t ∷ l) h = needed-keeps u (with-made t X) l (with-made-more t u X h)
 
 -- ---- a run, event by event
-
-pub is-true : (b : Bool) → T b → b ≡ true
-is-true true t = refl
-is-true false t = absurd t
 
 is-false : (b : Bool) → T (not b) → b ≡ false
 is-false true t = absurd t
@@ -162,7 +153,7 @@ run-done {A} N (made t m) X Y a e =
     (r .0, r .1, r .2, λ h. r .3 (go (leb (length (with-made t X)) N) refl (sym (run-made N t m X h) ∙ e)))
   where
     go : (b : Bool) → leb (length (with-made t X)) N ≡ b → if b (run N m (with-made t X)) (stopped 12) ≡ done a Y → length (with-made t X) ≤ N
-    go true q e = leb→le (length (with-made t X)) N (subst T (sym q) tt)
+    go true q e = leb→le (length (with-made t X)) N (from-true q)
     go false q e = absurd (let z : _≡_ {A = ℕ} 0 1 = cc in omega arith)
 
 -- and back
@@ -203,13 +194,13 @@ stopped-refused N (ret b) X r h e = absurd (let z : _≡_ {A = ℕ} 0 1 = cc in 
 stopped-refused {A} N (named z m) X r h e = go (small z) refl e (stopped-refused N m X r h)
   where
     go : (b : Bool) → small z ≡ b → if b (run N m X) (stopped 11) ≡ stopped r → (run N m X ≡ stopped r → Refused N X (events m) r) → Refused N X (names z ∷ events m) r
-    go true q e ih = names-later N X z (events m) r (subst T (sym q) tt) (ih e)
+    go true q e ih = names-later N X z (events m) r (from-true q) (ih e)
     go false q e ih = let i : 11 ≡ r = cc in subst (Refused N X (names z ∷ events m)) i (names-now N X z (events m) h (subst (λ b. T (not b)) (sym q) tt))
 stopped-refused {A} N (made t m) X r h e = go (leb (length (with-made t X)) N) refl (sym (run-made N t m X h) ∙ e) (stopped-refused N m (with-made t X) r)
   where
     go : (b : Bool) → leb (length (with-made t X)) N ≡ b → if b (run N m (with-made t X)) (stopped 12) ≡ stopped r
         → (length (with-made t X) ≤ N → run N m (with-made t X) ≡ stopped r → Refused N (with-made t X) (events m) r) → Refused N X (makes t ∷ events m) r
-    go true q e ih = makes-later N X t (events m) r (ih (leb→le (length (with-made t X)) N (subst T (sym q) tt)) e)
+    go true q e ih = makes-later N X t (events m) r (ih (leb→le (length (with-made t X)) N (from-true q)) e)
     go false q e ih =
         let i : 12 ≡ r = cc in
         subst (Refused N X (makes t ∷ events m)) i (makes-now N X t (events m) h (nleb→lt (length (with-made t X)) N (subst (λ b. T (not b)) (sym q) tt)))

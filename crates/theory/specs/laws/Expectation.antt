@@ -1,12 +1,12 @@
 -- What substitution comes to at the next state, and the sum over the next step's conditions at a state: the mean over their settings.
-use mathlib.Core.Path.{_≡_, refl, sym, ap, ap₂, _∙_, subst, fun-ext}
+use mathlib.Core.Path.{_≡_, refl, sym, ap, ap₂, _∙_, fun-ext}
 use mathlib.Core.Bool.{Bool, true, false, not, _&&_}
 use mathlib.Core.List.{List, [], _∷_, map}
-use Prim.Native.Nat.{ℕ, zero, suc, _+_, _*_, _-_, _≤_, _<_}
+use Prim.Native.Nat.{ℕ, zero, suc, _+_, _*_, _-_, _≤_}
 use native.Mathlib.Omega.{arith}
 use native.Mathlib.Nat.{sub-zero}
-use borrow.Author.Tests.{eq-eqb}
-use lib.Dec.{T, T-not, eqb, eqb→eq, eqb-refl, leb, leb→le, le→leb, nleb→lt}
+use borrow.Author.Tests.{eq-eqb, ne-eqb}
+use lib.Dec.{T, eqb}
 use lib.IntN.{ℤ, pos, negsuc, _+ℤ_, _-ℤ_, _*ℤ_, +ℤ-idr, +ℤ-assoc, zero-*ℤ}
 use lib.ListN.{length}
 use lib.Signed.{_≤ℤ_, leZ, leZ-yes}
@@ -15,7 +15,7 @@ use Rattle.whole.specs.Int.{atom, up, diff, le-in}
 use Rattle.theory.specs.Diagram.{Linear, Test, now, later, linear, Leaf, Tree, leaf, branch, zeros}
 use Rattle.theory.specs.Computation.{result, final}
 use Rattle.theory.specs.Computation as C
-use Rattle.theory.specs.Rules.{node, choose, over, sum, product, scale, shift, complement, no-coeffs, zero-leaf, sum-on, levels-sum, linear-diagram, substitute, is-later, side}
+use Rattle.theory.specs.Rules.{node, choose, sum, product, scale, shift, complement, no-coeffs, zero-leaf, sum-on, levels-sum, linear-diagram, substitute, is-later, side}
 use Rattle.theory.specs.Rules.{expectation}
 use Rattle.theory.specs.Process.{mean}
 use Rattle.theory.specs.Meaning.{State, Env, nth, env, dot, value, holds, at, worth-at, doubled, settings, chance-at, weight, moved}
@@ -23,7 +23,9 @@ use Rattle.theory.specs.Stage.{sum-out}
 use Rattle.theory.specs.Valid.{all, all-nodes, among, good-test, good-leaf, weight-leaf}
 use Rattle.theory.specs.laws.Comps.{result-bind}
 use Rattle.theory.specs.laws.Values.{node-at, choose-at, both-at, over-at, value-constant, sum-at, product-at, scale-at, shift-at, complement-at, decide-at}
-use Rattle.theory.specs.laws.Tests.{and-in, Tests, parts, weaken, expectation-tests}
+use Rattle.theory.specs.laws.Safe.{any, sure}
+use Rattle.theory.specs.laws.Nodes.{Tests, parts, widen, any-closed, expectation-safe}
+use Rattle.theory.specs.laws.Valid.{open-test, open-now, open-next, open-none}
 
 -- ---- substitution
 
@@ -86,12 +88,6 @@ now-test n (now k) = among n k
 now-test n (later k) = false
 now-test n (linear p) = true
 
--- with those next-step conditions among n that are not summed out yet, from k on
-unfoldable pub open-test : ℕ → ℕ → Test → Bool
-open-test n k (now j) = among n j
-open-test n k (later j) = leb k j && leb j n
-open-test n k (linear p) = true
-
 -- ---- conditions of the next step
 
 abbrev pub with-later : Env → (ℕ → Bool) → Env
@@ -153,12 +149,13 @@ substitute-at n s r Ds F q = substitute-next s r Ds F ∙ ap (λ (f : Leaf). val
 
 -- ---- chances
 
-leaf-of : (e : Env) (t? : Test → Bool) (f? : Leaf → Bool) (F : Tree) → T (all-nodes t? f? F) → T (f? (at e F))
+-- the leaf that a good diagram comes to is good
+pub at-good : (e : Env) (t? : Test → Bool) (f? : Leaf → Bool) (F : Tree) → T (all-nodes t? f? F) → T (f? (at e F))
 unfolding all-nodes at
-leaf-of e t? f? (leaf f) q = q
-leaf-of e t? f? (branch t h l) q =
+at-good e t? f? (leaf f) q = q
+at-good e t? f? (branch t h l) q =
     let d = parts t? f? t h l q in
-    by-test (holds e t) (λ b. T (f? (if b (at e h) (at e l)))) (λ _. leaf-of e t? f? h (d .1 .0)) (λ _. leaf-of e t? f? l (d .1 .1))
+    by-test (holds e t) (λ b. T (f? (if b (at e h) (at e l)))) (λ _. at-good e t? f? h (d .1 .0)) (λ _. at-good e t? f? l (d .1 .1))
 
 pos-up : (c : ℤ) → pos 0 ≤ℤ c → c ≡ pos (up c)
 pos-up (pos n) h = refl
@@ -183,13 +180,13 @@ module _ (n W : ℕ) (w : Tree) (ok : Chance n W w) where
   unfolding weight-leaf
   in-range e =
       let f = at e w in
-      let d = both (good-leaf f) (zeros (f .lin .coeffs) && (leZ (pos 0) (f .lin .const) && leZ (f .lin .const) (pos W))) (leaf-of e (good-test n false) (weight-leaf W) w ok) .1 in
+      let d = both (good-leaf f) (zeros (f .lin .coeffs) && (leZ (pos 0) (f .lin .const) && leZ (f .lin .const) (pos W))) (at-good e (good-test n false) (weight-leaf W) w ok) .1 in
       let c = both (leZ (pos 0) (f .lin .const)) (leZ (f .lin .const) (pos W)) (both (zeros (f .lin .coeffs)) _ d .1) in
       (leZ-yes (c .0), leZ-yes (c .1))
 
   chance-free : (e : Env) (g : ℕ → Bool) → chance-at (with-later e g) w ≡ chance-at e w
   unfolding chance-at
-  chance-free e g = ap (λ (f : Leaf). up (f .lin .const)) (sym (free-at n e g w (weaken (good-test n false) (now-test n) (weight-leaf W) (good-now n) w ok)))
+  chance-free e g = ap (λ (f : Leaf). up (f .lin .const)) (sym (free-at n e g w (widen (good-test n false) (now-test n) (weight-leaf W) any (good-now n) (λ _ _. tt) w ok)))
 
   pub expectation-at : (e : Env) (k : ℕ) (F : Tree)
       → worth-at e (result (expectation W w k F)) ≡ pos (chance-at e w) *ℤ worth-at (fixed e true k) F +ℤ pos (W - chance-at e w) *ℤ worth-at (fixed e false k) F
@@ -214,18 +211,6 @@ mean-doubled W w ws f (r ∷ l) = double-step w (W - w) (weight W ws r) (f (true
 one-term : (x : ℤ) → x ≡ pos 1 *ℤ x +ℤ pos 0
 one-term x = rw (← atom x) (simp diff (omega arith))
 
-pub all-imp : {A : Type 0} (p q : A → Bool) → ((x : A) → T (p x) → T (q x)) → (l : List A) → T (all p l) → T (all q l)
-unfolding all
-all-imp p q w [] a = tt
-all-imp p q w (x ∷ l) a = let d = both (p x) (all p l) a in and-in (q x) (all q l) (w x (d .0)) (all-imp p q w l (d .1))
-
-pub other-above : (k j : ℕ) → k ≤ j → T (not (eqb j k)) → suc k ≤ j
-other-above k j h n = by-test (leb (suc k) j) (λ _. suc k ≤ j) (λ t. leb→le (suc k) j t)
-    (λ t. absurd (T-not (eqb j k) n (subst (λ (x : ℕ). T (eqb j x)) (same (nleb→lt (suc k) j t)) (eqb-refl j))))
-  where
-    same : j < suc k → j ≡ k
-    same g = omega arith
-
 module _ (n W : ℕ) where
   abbrev pub Chances : List Tree → Type 0
   Chances ws = T (all (all-nodes (good-test n false) (weight-leaf W)) ws)
@@ -247,40 +232,20 @@ module _ (n W : ℕ) where
       one ok g = expectation-at n W w ok (with-later e g) k F
           ∙ ap (λ (c : ℕ). pos c *ℤ worth-at (with-later e (given k true g)) F +ℤ pos (W - c) *ℤ worth-at (with-later e (given k false g)) F) (chance-free n W w ok e g)
 
-  still-open : (k : ℕ) (t : Test) → T (open-test n k t) → T (not (is-later k t)) → T (open-test n (suc k) t)
-  unfolding open-test is-later
-  still-open k (now j) a b = a
-  still-open k (later j) a b = let d = both (leb k j) (leb j n) a in and-in (leb (suc k) j) (leb j n) (le→leb (suc k) j (other-above k j (leb→le k j (d .0)) b)) (d .1)
-  still-open k (linear p) a b = tt
-
-  none-open : (k : ℕ) → k ≡ suc n → (t : Test) → T (open-test n k t) → T (now-test n t)
-  unfolding open-test now-test
-  none-open k q (now j) a = a
-  none-open k q (later j) a = let d = both (leb k j) (leb j n) a in absurd (omega (arith, leb→le k j (d .0), leb→le j n (d .1)))
-  none-open k q (linear p) a = tt
-
-  now-open : (k : ℕ) (t : Test) → T (good-test n false t) → T (open-test n k t)
-  unfolding good-test open-test
-  now-open k (now j) a = a
-  now-open k (later j) a = absurd a
-  now-open k (linear p) a = tt
-
-  pub sum-out-tests : (h : ℕ) (kept : List Tree) (k : ℕ) (ws : List Tree) (F : Tree) → k + length ws ≡ suc n → Chances ws → Tests (open-test n k) F
+  pub sum-out-tests : (h : ℕ) (kept : List Tree) (k : ℕ) (ws : List Tree) (F : Tree) → k + length ws ≡ suc n → Chances ws → Tests (open-test any n k) F
       → Tests (now-test n) (final (sum-out W h kept k ws F))
-  unfolding sum-out final all
-  sum-out-tests h kept k [] F q a b = weaken (open-test n k) (now-test n) (λ _. true) (none-open k (omega arith)) F b
+  unfolding sum-out final all now-test
+  sum-out-tests h kept k [] F q a b = widen (open-test any n k) (now-test n) any any (open-none any n (now-test n) (λ j a. a) (λ p a. tt) k (omega arith)) (λ _ t. t) F b
   sum-out-tests h kept k (w ∷ ws) F q a b =
       let d = both (all-nodes (good-test n false) (weight-leaf W) w) (all (all-nodes (good-test n false) (weight-leaf W)) ws) a in
       sum-out-tests h kept (suc k) ws (result (expectation W w k F)) (omega arith) (d .1)
-      (expectation-tests (open-test n (suc k)) W w k F (open-test n k) (still-open k) (weaken (good-test n false) (open-test n (suc k)) (weight-leaf W) (now-open (suc k)) w (d .0)) b)
+      (sure (expectation W w k F) (expectation-safe any-closed (open-test any n (suc k)) (open-test any n k) W w k (open-next any n k)
+      (widen (good-test n false) (open-test any n (suc k)) (weight-leaf W) any (open-now any n (λ _ _. tt) (suc k)) (λ _ _. tt) w (d .0)) F b))
 
 nth-zero : (r : List Bool) → nth r 0 ≡ false
 unfolding nth
 nth-zero [] = refl
 nth-zero (b ∷ r) = refl
-
-neq-eqb : (j m : ℕ) → (j ≡ m → ⊥) → eqb j m ≡ false
-neq-eqb j m n = by-test (eqb j m) (λ b. b ≡ false) (λ t. absurd (n (eqb→eq j m t))) (λ _. refl)
 
 given-nth : (r : List Bool) (k j : ℕ) → given-all (suc k) r (nth []) j ≡ nth r (j - k)
 unfolding given-all given nth
@@ -288,9 +253,9 @@ given-nth [] k j = refl
 given-nth (b ∷ r) k j = ap (if (eqb j (suc k)) b) (given-nth r (suc k) j) ∙ go (j - k) refl
   where
     go : (i : ℕ) → j - k ≡ i → if (eqb j (suc k)) b (nth r (j - suc k)) ≡ nth (b ∷ r) i
-    go zero q = ap₂ (λ (c : Bool) (i : ℕ). if c b (nth r i)) (neq-eqb j (suc k) (λ e. omega arith)) (omega arith) ∙ nth-zero r
+    go zero q = ap₂ (λ (c : Bool) (i : ℕ). if c b (nth r i)) (ne-eqb j (suc k) (λ e. omega arith)) (omega arith) ∙ nth-zero r
     go (suc zero) q = ap (λ (c : Bool). if c b (nth r (j - suc k))) (eq-eqb j (suc k) (omega arith))
-    go (suc (suc i)) q = ap₂ (λ (c : Bool) (i : ℕ). if c b (nth r i)) (neq-eqb j (suc k) (λ e. omega arith)) (omega arith)
+    go (suc (suc i)) q = ap₂ (λ (c : Bool) (i : ℕ). if c b (nth r i)) (ne-eqb j (suc k) (λ e. omega arith)) (omega arith)
 
 pub env-given : (s : State) (r : List Bool) → with-later (env s []) (given-all 1 r (nth [])) ≡ env s r
 unfolding env

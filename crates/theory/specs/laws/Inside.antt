@@ -1,33 +1,23 @@
 -- Nodes that are there: what each rule comes to stands, with all below it, among the nodes of its operands and those that it makes.
-use mathlib.Core.Path.{_≡_, refl, sym, ap, subst}
-use mathlib.Core.Logic.{_⊎_, inl, inr}
+use mathlib.Core.Path.{_≡_, subst}
+use mathlib.Core.Logic.{_⊎_, inl, inr, ⊎-elim}
 use mathlib.Core.Bool.{Bool, true, false, _&&_}
 use mathlib.Core.List.{List, [], _∷_, _++_}
 use Prim.Native.Nat.{ℕ, Ordering·lt, Ordering·eq, Ordering·gt}
 use lib.Dec.{T}
 use lib.IntN.{ℤ, pos}
 use lib.Signed.{leZ}
-use Rattle.whole.specs.Cases.{if, by-test, by-order, both}
+use Rattle.whole.specs.Cases.{if, by-test, by-order, both, and-in, is-true, from-true}
 use Rattle.theory.specs.Diagram.{Linear, Test, now, later, linear, Leaf, Tree, leaf, branch, plain, cmp, same, _⊟_, zeros, test-of}
-use Rattle.theory.specs.Computation.{Comp, ret, named, made, bind, result, make, names, judge, member, enter, enter-all}
+use Rattle.theory.specs.Computation.{Comp, ret, named, bind, result, make, names, judge, member, enter, enter-all}
 use Rattle.theory.specs.Computation as C
 use Rattle.theory.specs.Rules.{node, step, choose, over, merge, make-leaf, leaf-sum, leaf-product, leaf-scale, leaf-shift, leaf-complement, leaf-number, decide, leaf-best, sum, product, scale, shift, complement, number, best, zero-leaf, sum-on, levels-sum, linear-diagram, substitute, is-later, side, expectation, add-reward}
 use Rattle.theory.specs.Events.{Event, makes, events, needed, inside, all-inside}
 use Rattle.theory.specs.Events as E
-use Rattle.theory.specs.laws.Comps.{same-eq, result-bind, member-more, member-last, with-made, with-made-more, with-made-in}
+use Rattle.theory.specs.laws.Comps.{result-bind, member-more, member-cases, member-last, with-made, with-made-more, with-made-in}
 use Rattle.theory.specs.laws.Events.{events-bind, needed-append}
-use Rattle.theory.specs.laws.Tests.{and-in}
-
--- ---- one computation after another
 
 -- ---- lists of nodes
-
-is-true : (b : Bool) → T b → b ≡ true
-is-true true t = refl
-is-true false t = absurd t
-
-from-true : {b : Bool} → b ≡ true → T b
-from-true e = subst T (sym e) tt
 
 -- every node of X is one of Y
 pub record Sub (X Y : List Tree) : Type 0 where
@@ -46,13 +36,7 @@ pub last-in : (X : List Tree) (t : Tree) → T (member t (X ++ (t ∷ [])))
 last-in X t = from-true (member-last t X)
 
 pub snoc-cases : (X : List Tree) (t u : Tree) → T (member u (X ++ (t ∷ []))) → T (member u X) ⊎ (t ≡ u)
-unfolding member
-snoc-cases [] t u m = by-test (same t u) (λ b. T (if b true false) → ⊥ ⊎ (t ≡ u)) (λ s _. inr (same-eq t u s)) (λ _ m. absurd m) m
-snoc-cases (x ∷ X) t u m = go (same x u) m (snoc-cases X t u)
-  where
-    go : (b : Bool) → T (if b true (member u (X ++ (t ∷ [])))) → (T (member u (X ++ (t ∷ []))) → T (member u X) ⊎ (t ≡ u)) → T (if b true (member u X)) ⊎ (t ≡ u)
-    go true m ih = inl tt
-    go false m ih = ih m
+snoc-cases X t u m = ⊎-elim (λ a. inl (from-true a)) inr (member-cases u t X (is-true _ m))
 
 sub-made : (t : Tree) (X : List Tree) → Sub X (with-made t X)
 sub-made t X = record { take = λ u m. from-true (with-made-more t u X (is-true _ m)) }

@@ -1,19 +1,17 @@
 -- What a verdict of 0 gives: the site's numbers are in range, and the model that the bytes spell is valid.
-use mathlib.Core.Path.{_≡_, refl, sym, ap, _∙_, subst}
+use mathlib.Core.Path.{_≡_, refl, sym, ap, subst}
 use mathlib.Core.Bool.{Bool, true, false, not, _&&_}
 use mathlib.Core.Logic.{⊎-elim}
 use mathlib.Core.List.{List, [], _∷_, _++_, map, List·Memᴰ, List·Memᴰ·head, List·Memᴰ·tail, List·Memᴰ·cases-cons, List·Memᴰ·append-cases, Memᴰ·cast, List·Memᴰ·not-nil}
-use Prim.Native.Nat.{ℕ, zero, suc, _+_, _-_, _*_, _/_, _≤_, _<_}
+use Prim.Native.Nat.{ℕ, zero, suc, _+_, _-_, _*_, _≤_, _<_}
 use native.Mathlib.Omega.{arith}
-use native.Mathlib.Nat.{div-le-self}
 use lib.Dec.{T, eqb, ltb, leb, eqb→eq, eqb-refl, leb→le, le→leb, nleb→lt, ltb→lt, lt→ltb, nltb→le, T-not}
-use lib.IntN.{ℤ, pos, negsuc, negℤ, natAbs}
+use lib.IntN.{pos, negsuc, natAbs}
 use lib.ListN.{length, drop}
-use lib.Signed.{quotZ}
-use Rattle.whole.specs.Cases.{if, by-test, both}
+use Rattle.whole.specs.Cases.{if, by-test, both, and-in, not-not}
 use Rattle.whole.specs.Within.{small, limit}
 use Rattle.theory.specs.Widths.{levels-most, conditions-most, actions-most, weights-most}
-use Rattle.theory.specs.Diagram.{Linear, Test, now, later, linear, Leaf, Tree, leaf, plain, quotL, quotient, divisor, test-of}
+use Rattle.theory.specs.Diagram.{Linear, Test, now, later, linear, Leaf, Tree, leaf, plain, divisor, test-of}
 use Rattle.theory.specs.Computation.{ret, bind, make, result}
 use Rattle.theory.specs.Rules.{choose}
 use Rattle.theory.specs.Meaning.{Model}
@@ -23,9 +21,9 @@ use Rattle.theory.specs.Command.{Command, site, push-leaf, push-conditio
 use Rattle.theory.specs.Verdict.{Site, Facts, Slot, Progress, reward-slot, chance-slot, level-slot, name-slot, same-slot, has-slot, or, Rule, rule, first-broken, next-condition, is-weight, top, joined, from-to, wanted-by, wanted, site-rules, site-of, first-rules, later-rules, rules-of, after, Verdict, refusal, ended, judged, at-start, verdict}
 use Rattle.theory.specs.Load.{Entry, Loaded, condition-test, load-choice, load-entry, load-one, load-on, find-slot, action-of, model-of, site-at, load, model}
 use Rattle.theory.specs.laws.Comps.{result-bind}
-use Rattle.theory.specs.laws.Good.{quotient-wide}
-use Rattle.theory.specs.laws.Tests.{and-in}
-use Rattle.theory.specs.laws.Nodes.{widen, choose-nodes}
+use Rattle.theory.specs.laws.Safe.{any, sure}
+use Rattle.theory.specs.laws.Nodes.{widen, choose-safe}
+use Rattle.theory.specs.laws.Valid.{among-out, other-above, wide-in, quotient-wide}
 
 -- ---- numbers that are written lie within the limits, and so do those of a test
 
@@ -45,13 +43,10 @@ unfolding signed-from
 signed-length B i zero = refl
 signed-length B i (suc k) = ap suc (signed-length B (i + 4) k)
 
-wide-in : (p : Linear) → length (p .coeffs) ≡ levels-most → T (all small (p .coeffs)) → T (small (p .const)) → T (wide p)
-unfolding wide small-linear
-wide-in p e a b = and-in (eqb (length (p .coeffs)) levels-most) (all small (p .coeffs) && small (p .const)) (rw e tt) (and-in (all small (p .coeffs)) (small (p .const)) a b)
-
 pub linear-wide : (B : List ℕ) (i : ℕ) → T (wide (linear-at B i))
-unfolding linear-at
-linear-wide B i = wide-in (linear-at B i) (signed-length B i levels-most) (signed-all B i levels-most) (signed-small (word-at B (i + levels-most * 4)))
+unfolding linear-at small-linear
+linear-wide B i = wide-in (linear-at B i) (signed-length B i levels-most)
+    (and-in (all small (signed-from B i levels-most)) (small (signed (word-at B (i + levels-most * 4)))) (signed-all B i levels-most) (signed-small (word-at B (i + levels-most * 4))))
 
 -- ---- lists of numbers from one on
 
@@ -61,18 +56,12 @@ unfolding all from-to
 all-from p f b zero h = tt
 all-from p f b (suc k) h = and-in (p (f b)) (all p (map f (from-to (suc b) k))) (h b (omega arith) (omega arith)) (all-from p f (suc b) k (λ a u v. h a (omega arith) (omega arith)))
 
-other : (a b : ℕ) → T (not (eqb a b)) → b ≤ a → suc b ≤ a
-other a b n u = by-test (leb (suc b) a) (λ _. suc b ≤ a) (λ t. leb→le (suc b) a t) (λ m. absurd (T-not (eqb a b) n (rw (same a b u (nleb→lt (suc b) a m)) (eqb-refl b))))
-  where
-    same : (a b : ℕ) → b ≤ a → a < suc b → a ≡ b
-    same a b h l = omega arith
-
 from-all : {A : Type 0} (p : A → Bool) (f : ℕ → A) (b k : ℕ) → T (all p (map f (from-to b k))) → (a : ℕ) → b ≤ a → a < b + k → T (p (f a))
 unfolding all from-to
 from-all p f b zero t a u v = absurd (omega arith)
 from-all p f b (suc k) t a u v =
     let d = both (p (f b)) (all p (map f (from-to (suc b) k))) t in
-    by-test (eqb a b) (λ _. T (p (f a))) (λ e. rw (eqb→eq a b e) (d .0)) (λ n. from-all p f (suc b) k (d .1) a (other a b n u) (omega arith))
+    by-test (eqb a b) (λ _. T (p (f a))) (λ e. rw (eqb→eq a b e) (d .0)) (λ n. from-all p f (suc b) k (d .1) a (other-above b a u n) (omega arith))
 
 from-length : {A : Type 0} (f : ℕ → A) (b k : ℕ) → length (map f (from-to b k)) ≡ k
 unfolding from-to
@@ -87,14 +76,6 @@ all-append p (x ∷ l) r t =
     let c = all-append p l r (d .1) in
     (and-in (p x) (all p l) (d .0) (c .0), c .1)
 
-pub among-in : (n k : ℕ) → 1 ≤ k → k ≤ n → T (among n k)
-unfolding among
-among-in n k a b = and-in (leb 1 k) (leb k n) (le→leb 1 k a) (le→leb k n b)
-
-pub among-out : (n k : ℕ) → T (among n k) → (1 ≤ k) × (k ≤ n)
-unfolding among
-among-out n k t = let d = both (leb 1 k) (leb k n) t in (leb→le 1 k (d .0), leb→le k n (d .1))
-
 -- all that is wanted, action by action
 wanted-each : (p : Slot → Bool) (S : Site) (b k : ℕ) → T (all p (wanted-by S (from-to b k))) → (a : ℕ) → b ≤ a → a < b + k
     → T (p (reward-slot a)) × (T (all p (map (chance-slot a) (from-to 1 (S .conditions)))) × T (all p (map (level-slot a) (from-to 1 (S .levels)))))
@@ -106,7 +87,7 @@ wanted-each p S b (suc k) t a u v =
     let e = all-append p (map (level-slot b) (from-to 1 (S .levels))) _ (c .1) in
     by-test (eqb a b) (λ _. T (p (reward-slot a)) × (T (all p (map (chance-slot a) (from-to 1 (S .conditions)))) × T (all p (map (level-slot a) (from-to 1 (S .levels))))))
     (λ q. rw (eqb→eq a b q) (d .0, (c .0, e .0)))
-    (λ n. wanted-each p S (suc b) k (e .1) a (other a b n u) (omega arith))
+    (λ n. wanted-each p S (suc b) k (e .1) a (other-above b a u n) (omega arith))
 
 -- ---- what is loaded for a slot
 
@@ -204,9 +185,9 @@ sound-choice S b t h l H L g u v =
     let n = S .conditions in
     let next = or b (or (h .next-step) (l .next-step)) in
     let w = h .weights && l .weights in
-    choose-nodes (good-test n next) (leaf-as (S .weights) w) t H L g
+    sure (choose t H L) (choose-safe any (good-test n next) (leaf-as (S .weights) w) t H L g
     (widen _ _ _ _ (test-less n (h .next-step) next (λ x. or-right b _ (or-left (h .next-step) _ x))) (leaf-less (S .weights) (h .weights) w (λ x. both (h .weights) (l .weights) x .0)) H u)
-    (widen _ _ _ _ (test-less n (l .next-step) next (λ x. or-right b _ (or-right (h .next-step) _ x))) (leaf-less (S .weights) (l .weights) w (λ x. both (h .weights) (l .weights) x .1)) L v)
+    (widen _ _ _ _ (test-less n (l .next-step) next (λ x. or-right b _ (or-right (h .next-step) _ x))) (leaf-less (S .weights) (l .weights) w (λ x. both (h .weights) (l .weights) x .1)) L v))
 
 -- ---- one command that breaks no rule
 
@@ -231,10 +212,6 @@ unbroken k false l e = (tt, e)
 
 broken : {A : Type 0} (k : ℕ) (l : List Rule) → first-broken (rule (suc k) true ∷ l) ≡ 0 → A
 broken k l e = absurd (unbroken k true l e .0)
-
-not-not : (b : Bool) → T (not (not b)) → T b
-not-not true t = tt
-not-not false t = absurd t
 
 or-out : {C : Type 0} (a b : Bool) → T (or a b) → (T a → C) → (T b → C) → C
 or-out true b t f g = f tt
@@ -368,12 +345,12 @@ complete S G E u t =
       nexts = λ a i h l m o. u (level-slot a i) (from-all (λ s. has-slot s G) (level-slot a) 1 (S .levels) (w a h (omega arith) .1 .1) i m (omega arith)) tt;
     }
 
-positive : (w : ℕ) → T (not (eqb w 0)) → 1 ≤ w
+pub positive : (w : ℕ) → T (not (eqb w 0)) → 1 ≤ w
 positive zero t = absurd t
 positive (suc w) t = omega arith
 
 -- what stands at an offset, by cases
-by-reading : (B : List ℕ) (at : ℕ) (P : Read → Type 0) → P short → P unknown
+pub by-reading : (B : List ℕ) (at : ℕ) (P : Read → Type 0) → P short → (at < length B → P unknown)
     → (1 ≤ width (byte-at B at) → at + width (byte-at B at) ≤ length B → P (whole (command-at B at))) → P (read-at B at)
 unfolding read-at
 by-reading B at P a b c =
@@ -381,8 +358,8 @@ by-reading B at P a b c =
     let r = if (ltb (length B) (at + w)) short (whole (command-at B at)) in
     by-test (leb (length B) at) (λ x. P (if x short (if (eqb w 0) unknown r)))
     (λ _. a)
-    (λ _. by-test (eqb w 0) (λ x. P (if x unknown r))
-    (λ _. b)
+    (λ o. by-test (eqb w 0) (λ x. P (if x unknown r))
+    (λ _. b (nleb→lt (length B) at o))
     (λ n. by-test (ltb (length B) (at + w)) (λ x. P (if x short (whole (command-at B at)))) (λ _. a) (λ m. c (positive w n) (nltb→le (length B) (at + w) m))))
 
 judged-whole : (k at : ℕ) (v : Verdict) → (if (eqb k 0) v (refusal k at)) .number ≡ 0 → (k ≡ 0) × (v .number ≡ 0)
@@ -390,7 +367,7 @@ judged-whole k at v = by-test (eqb k 0) (λ b. (if b v (refusal k at)) .number �
     (λ t e. (eqb→eq k 0 t, e)) (λ n e. absurd (T-not (eqb k 0) n (rw e tt)))
 
 -- the readings behind one
-abbrev behind : List ℕ → ℕ → ℕ → Bool → List Placed
+abbrev pub behind : List ℕ → ℕ → ℕ → Bool → List Placed
 behind B k at b = elim b [ true ↦ readings-from B k (at + width (byte-at B at)) | false ↦ [] ]
 
 abbrev Accepted : List ℕ → Site → List Placed → Type 0
@@ -433,7 +410,7 @@ module _ (B : List ℕ) (k at : ℕ) (S : Site) (ok : In-range S) where
       → Accepted B S (record { at = at; read = read-at B at } ∷ behind B k at (goes-on (read-at B at)))
   unfolding judged
   one-reading ih = by-reading B at (λ r. Accepted B S (record { at = at; read = r } ∷ behind B k at (goes-on r)))
-      (λ K G X E u v e. refused 1 e) (λ K G X E u v e. refused 2 e) (λ w l. one-more (ih l w) (command-at B at) (fit B at))
+      (λ K G X E u v e. refused 1 e) (λ _ K G X E u v e. refused 2 e) (λ w l. one-more (ih l w) (command-at B at) (fit B at))
 
 -- fuel for each byte that is left is enough
 accepted-from : (B : List ℕ) (S : Site) → In-range S → (k at : ℕ) → at ≤ length B → length B < at + k → Accepted B S (readings-from B k at)
@@ -485,7 +462,7 @@ first-command B h l end-model f e = broken 0 _ (judged-whole (first-broken (rule
 pub accepted : (B : List ℕ) → verdict B .number ≡ 0 → In-range (site-at B) × Complete (site-at B) (loaded-entries B)
 unfolding verdict readings readings-from judged
 accepted B = by-reading B 0 (λ r. Begins B (record { at = 0; read = r } ∷ behind B (length B) 0 (goes-on r)))
-    (λ e. absurd (let z : _≡_ {A = ℕ} 2 0 = e in omega arith)) (λ e. absurd (let z : _≡_ {A = ℕ} 3 0 = e in omega arith)) (λ w h. first-command B h w (command-at B 0) (fit B 0))
+    (λ e. absurd (let z : _≡_ {A = ℕ} 2 0 = e in omega arith)) (λ _ e. absurd (let z : _≡_ {A = ℕ} 3 0 = e in omega arith)) (λ w h. first-command B h w (command-at B 0) (fit B 0))
 
 -- the model that bytes spell, of what is loaded
 pub model-loaded : (B : List ℕ) → model B ≡ model-of (site-at B) (loaded-entries B)
@@ -531,7 +508,7 @@ module _ (S : Site) (E : List Entry) (c : Complete S E) where
       (and-in (valid-action (S .levels) (S .conditions) (S .weights) (action-of S E 1)) _ (action-valid 1 (omega arith) (r .0))
       (all-from _ (action-of S E) 2 (S .actions - 1) (λ a m o. action-valid a (omega arith) (omega arith)))))))
 
--- "an accepted model's diagrams are valid"
+-- an accepted model is valid
 pub accepted-valid : (B : List ℕ) → verdict B .number ≡ 0 → T (valid (model B))
 accepted-valid B e = let d = accepted B e in rw (model-loaded B) (model-valid (site-at B) (loaded-entries B) (d .1) (d .0))
 
@@ -596,8 +573,3 @@ module _ (S : Site) (E : List Entry) (c : Complete S E) where
 -- every diagram of an accepted model is the tree of one of its entries
 pub diagrams-loaded : (B : List ℕ) → verdict B .number ≡ 0 → (t : Tree) → List·Memᴰ t (model-diagrams (model B)) → List·Memᴰ t (entry-trees (loaded-entries B))
 diagrams-loaded B e = let d = accepted B e in rw (model-loaded B) (model-among (site-at B) (loaded-entries B) (d .1) (d .0))
-
--- .. and that entry
-pub tree-entry : (E : List Entry) (t : Tree) → List·Memᴰ t (entry-trees E) → (e : Entry) × (List·Memᴰ e E × (t ≡ e .tree))
-tree-entry [] t h = absurd (List·Memᴰ·not-nil h)
-tree-entry (x ∷ E) t h = ⊎-elim (λ e. (x, (List·Memᴰ·head refl, e))) (λ m. let d = tree-entry E t m in (d .0, (List·Memᴰ·tail (d .1 .0), d .1 .1))) (List·Memᴰ·cases-cons h)

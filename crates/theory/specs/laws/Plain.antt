@@ -1,5 +1,5 @@
 -- Plain working: where it answers, it answers with the optimum and the lowest of the best actions.
-use mathlib.Core.Path.{_≡_, refl, sym, ap, ap₂, _∙_, subst}
+use mathlib.Core.Path.{_≡_, refl, sym, ap, ap₂, _∙_}
 use mathlib.Core.Bool.{Bool, true, false}
 use mathlib.Core.List.{List, [], _∷_, map}
 use Prim.Native.Nat.{ℕ, zero, suc, _+_, _≤_}
@@ -8,7 +8,7 @@ use borrow.Author.Tests.{eq-eqb}
 use lib.Dec.{T, eqb, eqb→eq}
 use lib.IntN.{ℤ, pos, _+ℤ_, _*ℤ_, +ℤ-assoc}
 use lib.Signed.{leZ}
-use Rattle.whole.specs.Cases.{if, by-test}
+use Rattle.whole.specs.Cases.{if, by-test, from-true}
 use Rattle.whole.specs.Int.{ring}
 use Rattle.whole.specs.Within.{small}
 use Rattle.whole.specs.Numerator.{words}
@@ -83,7 +83,7 @@ module _ (worth : State → Worth) (f : State → ℤ) (ok : Answers worth f) (w
           ] ≡ is v a
           → ((t : ℤ) → sum-settings worth w next l t ≡ is v a → v ≡ t +ℤ mean w (λ r. f (next r)) l)
           → v ≡ sum +ℤ (pos (w r) *ℤ f (next r) +ℤ mean w (λ r. f (next r)) l)
-      go true q e ih = ih sum e ∙ ap (λ z. sum +ℤ z) (unweighed (w r) (f (next r)) _ (eqb→eq (w r) 0 (subst T (sym q) tt)))
+      go true q e ih = ih sum e ∙ ap (λ z. sum +ℤ z) (unweighed (w r) (f (next r)) _ (eqb→eq (w r) 0 (from-true q)))
       go false q e ih = some (worth (next r)) refl (if-answer (all in-32-bits (next r .nums)) _ v a e) ih
 
 -- ---- the actions
@@ -165,7 +165,7 @@ module _ (M : Model) where
   pub plain-exact : (h : ℕ) (s : State) (v : ℤ) (a : ℕ) → state-worth M h s ≡ is v a → v ≡ optimum P h s
   plain-exact h s v a e = states-exact h s v a e .0
 
-  -- and so is "the lowest-numbered one that reaches it"
+  -- and so is the lowest action that reaches it
   pub plain-action : (h : ℕ) (s : State) (v : ℤ) (a : ℕ) → state-worth M (suc h) s ≡ is v a → a ≡ lowest-best P (suc h) s
   plain-action h s v a e = states-exact (suc h) s v a e .1 h refl
 
@@ -216,7 +216,7 @@ plain-of-exact B h q k n = go (eqb (early B h steps-most .number) 0) refl n
         → if b (if-true (accepted m c q) out (refused-value 13 0)) (refused-value (early B h steps-most .number) (early B h steps-most .place)) .number ≡ 0
         → (early B h steps-most .number ≡ 0)
         × ((t : T (accepted m c q)) × (if b (if-true (accepted m c q) out (refused-value 13 0)) (refused-value (early B h steps-most .number) (early B h steps-most .place)) ≡ good t))
-    go true e n = (eqb→eq _ 0 (subst T (sym e) tt), some (accepted m c q) out good (λ t. worth-exact (model B) h (state-of m c q t) k) n)
+    go true e n = (eqb→eq _ 0 (from-true e), some (accepted m c q) out good (λ t. worth-exact (model B) h (state-of m c q t) k) n)
     go false e n = absurd (let z : _≡_ {A = ℕ} 0 1 = cc (eq-eqb (early B h steps-most .number) 0 n) in omega arith)
 
 -- it agrees with the tables where they are exact

@@ -1,16 +1,17 @@
 -- Reading a value: the walk over a solved table's words ends at the leaf that the diagram comes to, and gives what it comes to.
 use mathlib.Core.Path.{_≡_, refl, ap, ap₂, _∙_}
+use mathlib.Core.Logic.{⊎-elim}
 use mathlib.Core.Bool.{Bool, true, false, _&&_}
 use mathlib.Core.List.{List, [], _∷_, _++_, map}
 use Prim.Native.Nat.{ℕ, zero, suc, _+_, _-_, _*_, _^_, _≤_, _<_}
 use native.Mathlib.Omega.{arith}
-use native.Mathlib.Nat.{le-refl}
+use native.Mathlib.Nat.{le-refl, le-antisymm, eq-or-lt-of-le, max-le, le-max-left, le-max-right}
 use borrow.Author.Tests.{eq-eqb, ne-eqb}
 use lib.Dec.{T, isEq, eqb, ltb}
 use lib.IntN.{ℤ, pos, negsuc, natAbs, _+ℤ_, _*ℤ_}
 use lib.ListN.{length, getD, take, drop, replicate, length-append, length-replicate, length-map}
 use lib.Signed.{leZ}
-use Rattle.whole.specs.Cases.{if, by-test, both}
+use Rattle.whole.specs.Cases.{if, by-test, both, is-true}
 use Rattle.whole.specs.Int.{up, ring}
 use Rattle.whole.specs.Numerator.{words}
 use Rattle.theory.specs.Widths.{steps-most}
@@ -18,23 +19,19 @@ use Rattle.theory.specs.Diagram.{Linear, Test, now, later, linear, Leaf,
 use Rattle.theory.specs.Computation.{member}
 use Rattle.theory.specs.Rules.{zero-leaf}
 use Rattle.theory.specs.Meaning.{Env, nth, env, dot, value, holds, at, worth-at}
-use Rattle.theory.specs.Valid.{all, all-nodes, good-test, among, wide, stage-leaf}
+use Rattle.theory.specs.Valid.{all, all-nodes, good-test, stage-leaf}
 use Rattle.theory.specs.Verdict.{Verdict}
 use Rattle.theory.specs.Load.{site-at}
 use Rattle.theory.specs.Solve.{number-of, rows, row, test-words, padded, table-of, solved-nodes, solved-stages, early}
 use Rattle.theory.specs.Value.{Asked, accepted, bits, state-of, node-word, node-linear, high-of, good-row, numerator-of, taken, walk, ValueOut, refused-value, value-at, value-of}
+use Rattle.theory.specs.Listing.{greatest-root}
 use Rattle.theory.specs.laws.Comps.{cmpZ-eq}
-use Rattle.theory.specs.laws.Tests.{parts}
-use Rattle.theory.specs.laws.Table.{number-above, Table, table-of-table, table-of-has}
+use Rattle.theory.specs.laws.Values.{if-ap}
+use Rattle.theory.specs.laws.Nodes.{parts}
+use Rattle.theory.specs.laws.Valid.{stage-wide}
+use Rattle.theory.specs.laws.Expectation.{at-good}
+use Rattle.theory.specs.laws.Table.{number-below, last-entered, number-above, Table, table-of-table, table-of-has}
 use Rattle.theory.specs.laws.Words.{Stage-good, laid, node-words-are, leaf-shows, condition-shows, test-shows, node-good}
-
-is-true : (b : Bool) → T b → b ≡ true
-is-true true t = refl
-is-true false t = absurd t
-
-if-ap : {A B : Type 0} (f : A → B) (b : Bool) (x y : A) → f (if b x y) ≡ if b (f x) (f y)
-if-ap f true x y = refl
-if-ap f false x y = refl
 
 -- ---- a state as it is asked
 
@@ -68,14 +65,7 @@ accepted-parts m n q t =
     let d = both (leZ (pos 1) (q .den)) (ltb (q .mask) (2 ^ n) && zeros (drop m (q .nums))) t in
     (d .0, both (ltb (q .mask) (2 ^ n)) (zeros (drop m (q .nums))) (d .1) .1)
 
--- the leaf that a good diagram comes to is good, and a table that has the diagram has it
-pub at-good : (e : Env) (t? : Test → Bool) (f? : Leaf → Bool) (F : Tree) → T (all-nodes t? f? F) → T (f? (at e F))
-unfolding at all-nodes
-at-good e t? f? (leaf f) g = g
-at-good e t? f? (branch t h l) g =
-    let d = parts t? f? t h l g in
-    by-test (holds e t) (λ b. T (f? (if b (at e h) (at e l)))) (λ _. at-good e t? f? h (d .1 .0)) (λ _. at-good e t? f? l (d .1 .1))
-
+-- a table that has a diagram has the leaf that it comes to
 pub at-in : (e : Env) (X : List Tree) → Table X → (F : Tree) → member F X ≡ true → member (leaf (at e F)) X ≡ true
 unfolding at
 at-in e X x (leaf f) m = m
@@ -117,10 +107,6 @@ module _ (m n : ℕ) (q : Asked) (ok : T (accepted m n q)) where
         ∙ (if-ap natAbs (leZ (numerator-of q p) (pos 0)) (pos (number-of h X)) (pos (number-of l X))
         ∙ ap (λ (z : ℤ). if (leZ z (pos 0)) (number-of h X) (number-of l X)) (value-asked p))
 
-    leaf-wide : (f : Leaf) → T (stage-leaf A f) → T (wide (f .lin))
-    unfolding stage-leaf
-    leaf-wide f g = both (wide (f .lin)) (among A (f .act)) g .0
-
     branch-kind : (t : Test) (h l : Tree) → member (branch t h l) X ≡ true → T (good-test n false t) → eqb (natAbs (node-word W (number-of (branch t h l) X) 0)) 0 ≡ false
     unfolding good-test
     branch-kind (now k) h l m g = ap (λ (z : ℤ). eqb (natAbs z) 0) (condition-shows X tail k h l m .kind)
@@ -140,7 +126,7 @@ module _ (m n : ℕ) (q : Asked) (ok : T (accepted m n q)) where
     walk-at t zero h m g = absurd (omega (arith, number-above t X m))
     walk-at (leaf f) (suc k) h m g =
         ap₂ (turn k (number-of (leaf f) X)) (is-true (good-row n A W (number-of (leaf f) X)) (node-good X tail x n A (leaf f) m g))
-        (ap (λ (z : ℤ). eqb (natAbs z) 0) (leaf-shows X tail f m (leaf-wide f g) .kind))
+        (ap (λ (z : ℤ). eqb (natAbs z) 0) (leaf-shows X tail f m (stage-wide A f g) .kind))
     walk-at (branch t a b) (suc k) h m g =
         let d = parts (good-test n false) (stage-leaf A) t a b g in
         let c = (x .closed) t a b m in
@@ -158,7 +144,7 @@ module _ (m n : ℕ) (q : Asked) (ok : T (accepted m n q)) where
         → value-at q W (number-of (leaf f) X) ≡ record { number = 0; place = 0; action = f .act; numerator = words (value asked-env (f .lin)) }
     unfolding value-at
     leaf-read f m g =
-        let s = leaf-shows X tail f m (leaf-wide f g) in
+        let s = leaf-shows X tail f m (stage-wide A f g) in
         let a = number-above (leaf f) X m in
         ap (λ (b : Bool). if b (refused-value 14 0) (record {
           number = 0;
@@ -197,6 +183,29 @@ unfolding solved-stages
 stages-length S h =
     length-append (map (λ t. number-of t (table-of S)) S) (replicate (steps-most - length S) 0)
     ∙ omega (arith, length-map S (λ t. number-of t (table-of S)), length-replicate {A = ℕ} (steps-most - length S) 0)
+
+greatest-most : (H : ℕ) (stages : List ℕ) (n : ℕ) → ((i : ℕ) → i < H → getD stages i 0 ≤ n) → greatest-root H stages ≤ n
+unfolding greatest-root
+greatest-most zero stages n f = omega arith
+greatest-most (suc H) stages n f = max-le (greatest-most H stages n (λ i h. f i (omega arith))) (f H (omega arith))
+
+greatest-least : (H : ℕ) (stages : List ℕ) (i : ℕ) → i < H → getD stages i 0 ≤ greatest-root H stages
+unfolding greatest-root
+greatest-least zero stages i h = absurd (omega arith)
+greatest-least (suc H) stages i h = ⊎-elim
+    (λ e. rw e (le-max-right (greatest-root H stages) (getD stages H 0)))
+    (λ l. omega (arith, greatest-least H stages i l, le-max-left (greatest-root H stages) (getD stages H 0)))
+    (let l : i ≤ H = omega arith in eq-or-lt-of-le l)
+
+-- the greatest root is the number of nodes
+pub root-last : (S : List Tree) → greatest-root (length S) (solved-stages S) ≡ length (table-of S)
+unfolding table-of solved-stages
+root-last S = le-antisymm
+    (greatest-most (length S) (solved-stages S) (length (table-of S)) (λ i h. rw (word i h) (number-below (getD S i zero-leaf) (table-of S))))
+    (⊎-elim (λ e. rw e (omega arith)) (λ r. rw (← r .1 .1, ← word (r .0) (r .1 .0)) (greatest-least (length S) (solved-stages S) (r .0) (r .1 .0))) (last-entered zero-leaf S []))
+  where
+    word : (i : ℕ) → i < length S → getD (solved-stages S) i 0 ≡ number-of (getD S i zero-leaf) (table-of S)
+    word i h = stage-word (λ t. number-of t (table-of S)) zero-leaf S (replicate (steps-most - length S) 0) i h
 
 -- ---- reading a solved model
 

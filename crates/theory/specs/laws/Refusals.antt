@@ -102,10 +102,6 @@ passes-solved N p (operation h roots c f) d =
     run-all-done N p h roots c f (result c) (left-by roots c) (run-passes N c (enter-all roots []) (d .0))
     ∙ passes-solved N (max p (length (left-by roots c))) (f (result c)) (d .1)
 
--- solved exactly where every operation passes
-pub run-all-solved : {A : Type 0} (N p : ℕ) (X : List Tree) (m : Ops A) → Chained X m → length X ≤ N → ((a : A) × (peak : ℕ) × (run-all N p m ≡ solved a peak)) ↔ PassesAll N m
-run-all-solved N p X m g l = (λ s. solved-passes N p X m (s .0) (s .1) g l (s .2) .0, λ d. (final m, peak-of p m, passes-solved N p m d))
-
 -- ---- the peak
 
 pub peak-above : {A : Type 0} (p : ℕ) (m : Ops A) → p ≤ peak-of p m

@@ -1,30 +1,31 @@
 -- A stage comes to the optimum, and names the lowest-numbered action that reaches it.
 use mathlib.Core.Path.{_≡_, refl, sym, ap, ap₂, _∙_, subst, fun-ext}
 use mathlib.Core.Logic.{_↔_, ⊎-elim}
-use mathlib.Core.Bool.{Bool, true, false, _&&_}
+use mathlib.Core.Bool.{Bool, true, false}
 use mathlib.Core.List.{List, [], _∷_, _++_, map, List·Memᴰ, List·Memᴰ·head, List·Memᴰ·tail, List·Memᴰ·cases-cons, List·Memᴰ·not-nil}
 use Prim.Native.Nat.{ℕ, zero, suc, _+_, _-_, _≤_, _<_}
 use native.Mathlib.Omega.{arith}
 use native.Mathlib.Nat.{add-zero}
-use lib.Dec.{T, eqb, eqb→eq, leb}
+use lib.Dec.{T, eqb, eqb→eq}
 use lib.IntN.{ℤ, pos, _+ℤ_, _*ℤ_, +ℤ-comm}
 use lib.ListN.{length, getD, take}
 use lib.Signed.{_≤ℤ_, leZ}
 use Rattle.whole.specs.Cases.{if, by-test, both}
-use Rattle.theory.specs.Widths.{levels-most, conditions-most, actions-most, weights-most}
-use Rattle.theory.specs.Diagram.{Test, now, later, linear, Leaf, Tree}
+use Rattle.theory.specs.Diagram.{Leaf, Tree, test-of}
 use Rattle.theory.specs.Computation.{make, result, operation, final}
 use Rattle.theory.specs.Rules.{sum, scale, number, best, zero-leaf, substitute, add-reward}
-use Rattle.theory.specs.Process.{mean, first-best, total, optimum, lowest-best, Policy, expected, Sound}
+use Rattle.theory.specs.Process.{mean, first-best, total, optimum, lowest-best}
 use Rattle.theory.specs.Process as P
 use Rattle.theory.specs.Meaning.{Action, Model, nth-action, action-at, numbers-from, State, Env, env, value, at, worth-at, settings, chance-at, weight, moved, power, process}
 use Rattle.theory.specs.Stage.{model-diagrams, sum-out, action-total, best-on, stage-over, stages-on, all-stages}
-use Rattle.theory.specs.Valid.{all, all-nodes, among, good-test, good-leaf, weight-leaf, valid-action, valid}
-use Rattle.theory.specs.laws.Process.{lowest-best-action, lowest-best-total, lowest-best-lowest, policy-theorem}
+use Rattle.theory.specs.Valid.{all, all-nodes, among, good-test, good-leaf, valid-action, valid}
+use Rattle.theory.specs.laws.Process.{lowest-best-action, lowest-best-total, lowest-best-lowest}
 use Rattle.theory.specs.laws.Comps.{result-bind, final-and-then}
 use Rattle.theory.specs.laws.Values.{sum-at, scale-at, number-at, best-at, if-ap}
-use Rattle.theory.specs.laws.Tests.{Tests, weaken, best-tests, reward-tests, substitute-tests}
-use Rattle.theory.specs.laws.Expectation.{zero-at, now-test, open-test, substitute-at, good-now, all-imp, sum-out-at, sum-out-tests, other-above, env-given}
+use Rattle.theory.specs.laws.Safe.{any, sure}
+use Rattle.theory.specs.laws.Nodes.{Tests, widen, all-widen, any-closed, best-safe, reward-safe, substitute-safe}
+use Rattle.theory.specs.laws.Valid.{other-above, open-test, open-all, Accepted, accepted, valid-actions}
+use Rattle.theory.specs.laws.Expectation.{zero-at, now-test, substitute-at, good-now, sum-out-at, sum-out-tests, env-given}
 
 -- ---- an action's total
 
@@ -44,23 +45,6 @@ pub action-total-final : (M : Model) (h : ℕ) (kept : List Tree) (P : Tree) (a 
     ≡ result (add-reward (power M h) (x .reward) a (final (sum-out (M .weights) h kept 1 (x .chances) (result (substitute (x .levels) P)))))
 unfolding action-total final
 action-total-final M h kept P a x = final-and-then (sum-out (M .weights) h kept 1 (x .chances) (result (substitute (x .levels) P))) _
-
--- what is said of an accepted model's action
-pub record Accepted (n W : ℕ) (x : Action) : Type 0 where
-  pub reward : T (all-nodes (good-test n false) good-leaf (x .reward))
-  pub count : length (x .chances) ≡ n
-  pub chances : T (all (all-nodes (good-test n false) (weight-leaf W)) (x .chances))
-  pub levels : T (all (all-nodes (good-test n true) good-leaf) (x .levels))
-
-pub accepted : (m n W : ℕ) (x : Action) → T (valid-action m n W x) → Accepted n W x
-unfolding valid-action
-accepted m n W x q =
-    let c? = all (all-nodes (good-test n false) (weight-leaf W)) (x .chances) in
-    let l? = all (all-nodes (good-test n true) good-leaf) (x .levels) in
-    let d = both (all-nodes (good-test n false) good-leaf (x .reward)) (eqb (length (x .chances)) n && (c? && (eqb (length (x .levels)) m && l?))) q in
-    let f = both (eqb (length (x .chances)) n) (c? && (eqb (length (x .levels)) m && l?)) (d .1) in
-    let g = both c? (eqb (length (x .levels)) m && l?) (f .1) in
-    record { reward = d .0; count = eqb→eq _ _ (f .0); chances = g .0; levels = both (eqb (length (x .levels)) m) l? (g .1) .1 }
 
 -- the actions of a list are a model's, numbered from a on, and accepted
 data Listed (M : Model) : ℕ → List Action → Type 0 where
@@ -84,12 +68,6 @@ pub record Stage (M : Model) (h : ℕ) (F : Tree) : Type 0 where
   pub worth : (s : State) → worth-at (env s []) F ≡ optimum (process M) h s
   pub act : (s : State) → at (env s []) F .act ≡ lowest-best (process M) h s
 
-good-open : (n : ℕ) (t : Test) → T (good-test n true t) → T (open-test n 1 t)
-unfolding good-test open-test among
-good-open n (now k) q = q
-good-open n (later k) q = q
-good-open n (linear p) q = tt
-
 module _ (M : Model) (h : ℕ) (P : Tree) (below : Below M h P) where
   abbrev totals : State → ℕ → ℤ
   totals s a = total (process M) (optimum (process M) h) h a s
@@ -105,12 +83,12 @@ module _ (M : Model) (h : ℕ) (P : Tree) (below : Below M h P) where
     summed = final (sum-out (M .weights) (suc h) kept 1 (taken .chances) moves)
 
     summed-tests : Tests (now-test (M .conditions)) summed
-    unfolding now-test open-test among
+    unfolding now-test open-test among test-of
     summed-tests = sum-out-tests (M .conditions) (M .weights) (suc h) kept 1 (taken .chances) moves (omega (arith, ok .count)) (ok .chances)
-        (substitute-tests (open-test (M .conditions) 1) (λ q. tt) (taken .levels)
-        (all-imp (all-nodes (good-test (M .conditions) true) good-leaf) (all-nodes (open-test (M .conditions) 1) (λ _. true))
-        (weaken (good-test (M .conditions) true) (open-test (M .conditions) 1) good-leaf (good-open (M .conditions))) (taken .levels) (ok .levels))
-        (now-test (M .conditions)) (λ k q. q) (λ k q. absurd q) P (below .tests))
+        (sure (substitute (taken .levels) P) (substitute-safe any-closed (open-test any (M .conditions) 1) (λ _ _. tt) (taken .levels)
+        (all-widen (all-nodes (good-test (M .conditions) true) good-leaf) (all-nodes (open-test any (M .conditions) 1) any)
+        (widen (good-test (M .conditions) true) (open-test any (M .conditions) 1) good-leaf any (open-all any (M .conditions) (λ _ _. tt)) (λ _ _. tt)) (taken .levels) (ok .levels))
+        (now-test (M .conditions)) any (λ k q. q) (λ k q. absurd q) P (below .tests)))
 
     summed-at : (s : State) → worth-at (env s []) summed
         ≡ mean (weight (M .weights) (map (chance-at (env s [])) (taken .chances))) (λ r. optimum (process M) h (moved s (taken .levels) r)) (settings (M .conditions))
@@ -123,8 +101,8 @@ module _ (M : Model) (h : ℕ) (P : Tree) (below : Below M h P) where
     total-holds : Holds M totals (final (action-total M (suc h) kept P a taken)) (λ _. a)
     unfolding total process
     total-holds = rw (action-total-final M (suc h) kept P a taken) (record {
-      tests = reward-tests (now-test (M .conditions)) (power M (suc h)) (taken .reward) a summed
-          (weaken (good-test (M .conditions) false) (now-test (M .conditions)) good-leaf (good-now (M .conditions)) (taken .reward) (ok .reward)) summed-tests;
+      tests = sure (add-reward (power M (suc h)) (taken .reward) a summed) (reward-safe any-closed (now-test (M .conditions)) any (power M (suc h)) (taken .reward) a summed (λ _ _. tt)
+          (widen (good-test (M .conditions) false) (now-test (M .conditions)) good-leaf any (good-now (M .conditions)) (λ _ _. tt) (taken .reward) (ok .reward)) summed-tests);
       worth = λ s. add-reward-at (env s []) (power M (suc h)) (taken .reward) a summed ∙ ap (λ z. pos (power M (suc h)) *ℤ worth-at (env s []) (taken .reward) +ℤ z) (summed-at s);
       act = λ s. add-reward-act (env s []) (power M (suc h)) (taken .reward) a summed;
     })
@@ -135,9 +113,9 @@ module _ (M : Model) (h : ℕ) (P : Tree) (below : Below M h P) where
   -- ---- the best of the actions
 
   best-holds : (F G : Tree) (c d : State → ℕ) → Holds M totals F c → Holds M totals G d → Holds M totals (result (best F G)) (λ s. if (leZ (totals s (d s)) (totals s (c s))) (c s) (d s))
-  unfolding now-test worth-at
+  unfolding now-test worth-at test-of
   best-holds F G c d p q = record {
-    tests = best-tests (now-test (M .conditions)) (λ _. tt) F G (p .tests) (q .tests);
+    tests = sure (best F G) (best-safe any-closed (now-test (M .conditions)) (λ _ _. tt) any (λ _ _. tt) F G (p .tests) (q .tests));
     worth = λ s. ap (λ (f : Leaf). value (env s []) (f .lin)) (picked s) ∙ if-ap (λ (f : Leaf). value (env s []) (f .lin)) (second s) _ _
         ∙ ap₂ (if (second s)) ((p .worth) s) ((q .worth) s) ∙ sym (if-ap (totals s) (second s) (c s) (d s));
     act = λ s. ap (λ (f : Leaf). f .act) (picked s) ∙ if-ap (λ (f : Leaf). f .act) (second s) _ _ ∙ ap₂ (if (second s)) ((p .act) s) ((q .act) s);
@@ -180,13 +158,8 @@ module _ (M : Model) where
       one (ap (action-at M) (sym (add-zero a)) ∙ f 0) (accepted _ _ _ x (d .0)) (listed-from y l (suc a) (λ k. ap (action-at M) (omega arith) ∙ f (suc k)) (d .1))
 
   listed : T (valid M) → Listed M 1 (M .first ∷ M .others)
-  unfolding valid action-at
-  listed q =
-      let a? = all valid-one (M .first ∷ M .others) in
-      let d = both (among levels-most (M .levels)) (leb (M .conditions) conditions-most && (among weights-most (M .weights) && (leb (length (M .others)) (actions-most - 1) && a?))) q in
-      let f = both (leb (M .conditions) conditions-most) (among weights-most (M .weights) && (leb (length (M .others)) (actions-most - 1) && a?)) (d .1) in
-      let g = both (among weights-most (M .weights)) (leb (length (M .others)) (actions-most - 1) && a?) (f .1) in
-      listed-from (M .first) (M .others) 1 (λ k. ap (nth-action (M .first) (M .others)) (omega arith)) (both (leb (length (M .others)) (actions-most - 1)) a? (g .1) .1)
+  unfolding action-at
+  listed q = listed-from (M .first) (M .others) 1 (λ k. ap (nth-action (M .first) (M .others)) (omega arith)) (valid-actions M q)
 
   pub stages-final : (k h : ℕ) (finished : List Tree) (P : Tree) → final (stages-on M (suc k) h finished P)
       ≡ (let S = final (stage-over M h (finished ++ model-diagrams M) P) in S ∷ final (stages-on M k (suc h) (S ∷ finished) S))
@@ -245,11 +218,6 @@ module _ (M : Model) where
         let l = final (stages-on M H 1 (zero-leaf ∷ []) zero-leaf) in
         subst (λ (j : ℕ). Stage M (suc j) (getD l (suc i - 1) zero-leaf)) (omega arith) (stages-on-at H 0 (zero-leaf ∷ []) zero-leaf zero-below (suc i - 1) (omega arith))
 
-    -- no policy expects more than stage h comes to, and one expects that exactly where it picks no bettered action at a state that it reaches with a step left
-    pub stage-policy : (H h : ℕ) → 1 ≤ h → h ≤ H → (π : Policy (process M)) (s : State)
-        → (expected (process M) π h s ≤ℤ worth-at (env s []) (stage-of H h)) × ((expected (process M) π h s ≡ worth-at (env s []) (stage-of H h)) ↔ Sound (process M) π h s)
-    stage-policy H h p q π s = rw ((stages-at H h p q .worth) s) (policy-theorem (process M) π h s)
-
 -- ---- actions by their numbers
 
 numbers-in : {X : Type 0} (l : List X) (a b : ℕ) → List·Memᴰ b (numbers-from a l) → (a ≤ b) × (b < a + length l)
@@ -286,7 +254,7 @@ module _ (M : Model) where
   unfolding process numbers-from
   below c b k r = stands-before (M .first ∷ M .others) 1 c b k r
 
-  -- "the lowest-numbered one that reaches it": no lower-numbered action does
+  -- no action with a lower number reaches it
   pub lowest-numbered : (h : ℕ) (s : State) (b : ℕ) → 1 ≤ b → b < lowest-best (process M) (suc h) s
       → total (process M) (optimum (process M) h) h (lowest-best (process M) (suc h) s) s ≤ℤ total (process M) (optimum (process M) h) h b s → ⊥
   lowest-numbered h s b p q =

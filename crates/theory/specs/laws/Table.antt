@@ -5,45 +5,16 @@ use mathlib.Core.Bool.{Bool, true, false}
 use mathlib.Core.List.{List, [], _∷_, _++_}
 use Prim.Native.Nat.{ℕ, zero, suc, _+_, _-_, _≤_, _<_}
 use native.Mathlib.Omega.{arith}
-use lib.Dec.{T, leb, ltb→lt, nltb→le}
+use lib.Dec.{leb, ltb→lt, nltb→le}
 use lib.ListN.{length, getD, length-append, List·getD-append}
 use lib.Seq.{getD-at}
-use Rattle.whole.specs.Cases.{if, by-test}
+use Rattle.whole.specs.Cases.{if, by-test, by-eq, clash}
 use Rattle.theory.specs.Diagram.{Test, Tree, leaf, branch, same}
 use Rattle.theory.specs.Computation.{member, enter, enter-all}
 use Rattle.theory.specs.Rules.{zero-leaf}
 use Rattle.theory.specs.Solve.{number-of, table-of}
 use Rattle.theory.specs.Demands.{Distinct}
-use Rattle.theory.specs.laws.Comps.{same-eq, same-refl, member-last, member-in}
-
--- a case split that keeps the test's equation
-pub by-eq {ℓ} : (b : Bool) (P : Bool → Type ℓ) → (b ≡ true → P true) → (b ≡ false → P false) → P b
-by-eq true P f g = f refl
-by-eq false P f g = g refl
-
-clash : {A : Type 0} → true ≡ false → A
-clash e = absurd (let z : _≡_ {A = ℕ} 0 1 = cc in omega arith)
-
--- ---- members
-
-pub member-append : (u : Tree) (X Y : List Tree) → member u X ≡ true → member u (X ++ Y) ≡ true
-unfolding member
-member-append u [] Y e = clash (sym e)
-member-append u (x ∷ X) Y e = go (same x u) e (member-append u X Y)
-  where
-    go : (b : Bool) → if b true (member u X) ≡ true → (member u X ≡ true → member u (X ++ Y) ≡ true) → if b true (member u (X ++ Y)) ≡ true
-    go true e ih = refl
-    go false e ih = ih e
-
--- a member of a table with one more is a member of the table or that one
-pub member-cases : (u v : Tree) (X : List Tree) → member u (X ++ (v ∷ [])) ≡ true → (member u X ≡ true) ⊎ (v ≡ u)
-unfolding member
-member-cases u v [] = by-test (same v u) (λ b. if b true false ≡ true → (false ≡ true) ⊎ (v ≡ u)) (λ s _. inr (same-eq v u s)) (λ _ e. inl e)
-member-cases u v (x ∷ X) = go (same x u) (member-cases u v X)
-  where
-    go : (b : Bool) → (member u (X ++ (v ∷ [])) ≡ true → (member u X ≡ true) ⊎ (v ≡ u)) → if b true (member u (X ++ (v ∷ []))) ≡ true → (if b true (member u X) ≡ true) ⊎ (v ≡ u)
-    go true ih e = inl refl
-    go false ih e = ih e
+use Rattle.theory.specs.laws.Comps.{same-eq, same-refl, member-append, member-cases, member-last, member-in}
 
 -- ---- numbers
 
@@ -109,6 +80,9 @@ number-last t (x ∷ X) e = go (same x t) e (number-last t X)
     go true e ih = clash e
     go false e ih = ap (λ (n : ℕ). later-by-one n) (ih e)
 
+at-end : (t : Tree) (X : List Tree) → member t X ≡ false → number-of t (X ++ (t ∷ [])) ≡ length (X ++ (t ∷ []))
+at-end t X n = number-last t X n ∙ omega (arith, length-append X (t ∷ []))
+
 -- ---- tables that grow
 
 -- what is there stays, under its number
@@ -168,8 +142,8 @@ pub record Table (X : List Tree) : Type 0 where
 abbrev Ready : Tree → List Tree → Type 0
 Ready v X = (t : Test) (h l : Tree) → v ≡ branch t h l → (member h X ≡ true) × (member l X ≡ true)
 
--- two places of a table with a new one at its end
-distinct-add : (v : Tree) (X : List Tree) → member v X ≡ false → Distinct X → Distinct (X ++ (v ∷ []))
+-- a node that is not there leaves them distinct
+pub distinct-add : (v : Tree) (X : List Tree) → member v X ≡ false → Distinct X → Distinct (X ++ (v ∷ []))
 distinct-add v X n d i j hi hj e = go (place i hi) (place j hj)
   where
     place : (i : ℕ) → i < length (X ++ (v ∷ [])) → ((i < length X) × (getD (X ++ (v ∷ [])) i zero-leaf ≡ getD X i zero-leaf)) ⊎ ((i ≡ length X) × (getD (X ++ (v ∷ [])) i zero-leaf ≡ v))
@@ -259,6 +233,23 @@ enter-all-table (t ∷ S) X x = enter-all-table S (enter t X) (enter-table t X x
 pub no-table : Table []
 unfolding member
 no-table = record { closed = λ t h l m. clash (sym m); distinct = λ i j h k e. absurd (omega arith) }
+
+-- entering a diagram adds nothing, or its root comes last
+enter-last : (F : Tree) (X : List Tree) → (enter F X ≡ X) ⊎ (number-of F (enter F X) ≡ length (enter F X))
+unfolding enter
+enter-last (leaf f) X = by-eq (member (leaf f) X) (λ b. let Y = if b X (X ++ (leaf f ∷ [])) in (Y ≡ X) ⊎ (number-of (leaf f) Y ≡ length Y)) (λ _. inl refl) (λ n. inr (at-end (leaf f) X n))
+enter-last (branch t h l) X = by-eq (member (branch t h l) X)
+    (λ b. let Y = if b X (enter l (enter h X) ++ (branch t h l ∷ [])) in (Y ≡ X) ⊎ (number-of (branch t h l) Y ≡ length Y)) (λ _. inl refl)
+    (λ n. inr (at-end (branch t h l) (enter l (enter h X)) (enter-fresh t h l X n)))
+
+-- so does entering some: one of their roots comes last
+pub last-entered : (d : Tree) (S X : List Tree) → (enter-all S X ≡ X) ⊎ ((i : ℕ) × ((i < length S) × (number-of (getD S i d) (enter-all S X) ≡ length (enter-all S X))))
+unfolding enter-all
+last-entered d [] X = inl refl
+last-entered d (t ∷ S) X = ⊎-elim
+    (λ e. ⊎-elim (λ q. inl (e ∙ q)) (λ n. inr (0, (omega arith, rw e n))) (enter-last t X))
+    (λ r. inr (suc (r .0), (omega (arith, r .1 .0), r .1 .1)))
+    (last-entered d S (enter t X))
 
 -- the solved table: every branch has its branches there, below it, and no two nodes are equal
 pub table-of-table : (S : List Tree) → Table (table-of S)

@@ -4,20 +4,20 @@ use mathlib.Core.Bool.{Bool, true, false, _&&_}
 use mathlib.Core.List.{List, [], _∷_, _++_, append-assoc}
 use Prim.Native.Nat.{ℕ, zero, suc, _+_, _-_, _*_, _≤_, _<_}
 use native.Mathlib.Omega.{arith}
-use lib.Dec.{T, eqb, eqb→eq, leb, le→leb}
+use lib.Dec.{T, eqb, leb, le→leb}
 use lib.IntN.{ℤ, pos, negsuc}
 use lib.ListN.{length, getD, take, drop, length-append, List·getD-append}
 use lib.Seq.{getD-drop, drop-drop, drop-append-le, drop-append-add, take-append-le}
-use Rattle.whole.specs.Cases.{if, both}
-use Rattle.whole.specs.Within.{small}
+use Rattle.whole.specs.Cases.{if, both, and-in}
 use Rattle.theory.specs.Widths.{levels-most, node-words}
 use Rattle.theory.specs.Diagram.{Linear, Test, now, later, linear, Leaf, Tree, leaf, branch, zeros}
 use Rattle.theory.specs.Computation.{member}
 use Rattle.theory.specs.Rules.{zero-leaf}
-use Rattle.theory.specs.Valid.{all, all-nodes, among, small-linear, wide, good-test, stage-leaf}
+use Rattle.theory.specs.Valid.{all-nodes, among, small-linear, wide, good-test, stage-leaf}
 use Rattle.theory.specs.Solve.{number-of, padded, test-words, row, rows}
 use Rattle.theory.specs.Value.{node-word, node-linear, high-of, low-of, amongZ, good-branches, good-leaf-row, good-condition-row, good-test-row, good-row}
-use Rattle.theory.specs.laws.Tests.{and-in, parts}
+use Rattle.theory.specs.laws.Nodes.{parts}
+use Rattle.theory.specs.laws.Valid.{among-in, wide-long, wide-small}
 use Rattle.theory.specs.laws.Table.{number-below, number-above, number-entry, Table}
 
 -- all the nodes of a stage are such, with n conditions and A actions
@@ -44,10 +44,7 @@ abbrev as-words : Linear → Linear
 as-words p = record { coeffs = padded levels-most (p .coeffs); const = p .const }
 
 wide-as : (p : Linear) → T (wide p) → as-words p ≡ p
-unfolding wide small-linear
-wide-as p t =
-    let n = eqb→eq _ _ (both (eqb (length (p .coeffs)) levels-most) (all small (p .coeffs) && small (p .const)) t .0) in
-    λ i. record { coeffs = padded-full levels-most (p .coeffs) n i; const = p .const }
+wide-as p t = λ i. record { coeffs = padded-full levels-most (p .coeffs) (wide-long p t) i; const = p .const }
 
 test-length : (t : Test) → length (test-words t) ≡ 6
 unfolding test-words padded
@@ -123,20 +120,15 @@ shows W r k c h l = four (λ cs. Has W r (eight k cs c h l) → Shows W r k (rec
 
 -- ---- the nodes of a table
 
-amongZ-in : (n k : ℕ) → 1 ≤ k → k ≤ n → T (amongZ n (pos k))
-unfolding amongZ
-amongZ-in n k h l = and-in (leb 1 k) (leb k n) (le→leb 1 k h) (le→leb k n l)
-
 among-amongZ : (n k : ℕ) → T (among n k) → T (amongZ n (pos k))
 unfolding amongZ among
 among-amongZ n k t = t
 
-wide-small : (p : Linear) → T (wide p) → T (small-linear p)
-unfolding wide small-linear
-wide-small p t = both (eqb (length (p .coeffs)) levels-most) (all small (p .coeffs) && small (p .const)) t .1
+amongZ-in : (n k : ℕ) → 1 ≤ k → k ≤ n → T (amongZ n (pos k))
+amongZ-in n k h l = among-amongZ n k (among-in n k h l)
 
 -- what good-row asks of a node by its kind
-abbrev by-kind : ℕ → ℕ → List ℤ → ℕ → ℤ → Bool
+abbrev pub by-kind : ℕ → ℕ → List ℤ → ℕ → ℤ → Bool
 by-kind n A W r z = elim z [
   | pos k ↦ if (eqb k 0) (good-leaf-row A W r) (if (eqb k 1) (good-condition-row n W r) (if (eqb k 2) (good-test-row W r) false))
   | negsuc k ↦ false
