@@ -1,0 +1,90 @@
+-- A node over two branches.
+use mathlib.Core.Path.{_≡_, refl, sym, ap, _∙_, subst}
+use mathlib.Core.Bool.{Bool, true, false}
+use mathlib.Core.List.{List}
+use Prim.Native.Nat.{ℕ, _+_, _*_, _≤_, _<_}
+use native.Mathlib.Omega.{arith}
+use lib.IntN.{ℤ, pos}
+use lib.ListN.{length}
+use mir.Syntax.{w64}
+use mir.Val.{toZ, ofZ}
+use Rattle.whole.specs.Cases.{if}
+use Rattle.table.proofs.Words.{R, back, Fit}
+use Rattle.table.specs.Table.{nodeAt, eqZ}
+use Rattle.table.specs.declared.Node.{Node}
+use Rattle.table.specs.declared.Made.{Made}
+use Rattle.theory.specs.Diagram.{Tree, branch, same}
+use Rattle.theory.specs.Computation.{ret, make}
+use Rattle.theory.specs.Rules.{node}
+use Rattle.theory.specs.laws.Comps.{same-refl, same-not}
+use Rattle.diagrams.specs.Nodes.{linOf, testOf, treeOf, trees, treeAt, Tested, Valid, Proper, Root, Grown}
+use Rattle.diagrams.specs.Table.{Bare, Grew}
+use Rattle.diagrams.proofs.Trees.{tree-branch}
+use Rattle.diagrams.proofs.Outcomes.{grew-as, grew-ret}
+
+no : {A : Type 0} → true ≡ false → A
+no e = absurd (let z : _≡_ {A = ℕ} 0 1 = cc in omega arith)
+
+node-yes : (t : Node) (h l : Tree) → same h l ≡ true → node (testOf t) h l ≡ ret h
+unfolding node
+node-yes t h l e = ap (λ (b : Bool). if b (ret h) (make (branch (testOf t) h l))) e
+
+node-no : (t : Node) (h l : Tree) → same h l ≡ false → node (testOf t) h l ≡ make (branch (testOf t) h l)
+unfolding node
+node-no t h l e = ap (λ (b : Bool). if b (ret h) (make (branch (testOf t) h l))) e
+
+-- a node of t over two branches
+pub over-node : Node → ℤ → ℤ → Node
+over-node t h l = record { kind = t .kind; c1 = t .c1; c2 = t .c2; c3 = t .c3; c4 = t .c4; constant = t .constant; high = h; low = l }
+
+literal : (t : Node) → Fit t → (h l : ℕ) → h < 65536 → l < 65536 → _≡_ {A = Node} (record { kind = R (t .kind); c1 = R (t .c1); c2 = R (t .c2); c3 = R (t .c3); c4 = R (t .c4); constant = R (t .constant); high = toZ w64 h; low = toZ w64 l }) (over-node t (pos h) (pos l))
+unfolding over-node
+literal t f h l qh ql = λ i. record {
+  kind = back (t .kind) (f .kind) i;
+  c1 = back (t .c1) (f .c1) i;
+  c2 = back (t .c2) (f .c2) i;
+  c3 = back (t .c3) (f .c3) i;
+  c4 = back (t .c4) (f .c4) i;
+  constant = back (t .constant) (f .constant) i;
+  high = back (pos h) (omega arith) i;
+  low = back (pos l) (omega arith) i;
+}
+
+module _ {cap : ℕ} {s : List ℤ} {w : List ℕ} {n : ℕ} (A : Bare cap s w n) (t : Node) (P : Proper t) (h l : ℕ) (hh : h < n) (hl : l < n) where
+  -- the branches are one
+  pub join-same : h ≡ l → Grew cap s w n (node (testOf t) (treeAt s n h) (treeAt s n l)) s w (record { stop = 0; at = h; count = n })
+  join-same e = grew-as (sym (node-yes t (treeAt s n h) (treeAt s n l) (ap (λ (k : ℕ). same (treeAt s n h) (treeAt s n k)) (sym e) ∙ same-refl (treeAt s n h)))) (grew-ret A h hh)
+
+  valid-over : Valid (over-node t (pos h) (pos l)) n
+  unfolding over-node
+  valid-over = record { nums = record { c1 = P .nums .c1; c2 = P .nums .c2; c3 = P .nums .c3; c4 = P .nums .c4; constant = P .nums .constant }; high-nat = tt; low-nat = tt; leaf-low = λ e. no (sym e ∙ P .branches); tested = λ e. record { kind = P .tested .kind; number = P .tested .number; bounds = P .tested .bounds; rest = P .tested .rest }; high-below = λ e. hh; low-below = λ e. hl }
+
+  module _ (f : Fit t) (e : h ≡ l → ⊥) where
+    abbrev x′ : Node
+    x′ = record { kind = R (t .kind); c1 = R (t .c1); c2 = R (t .c2); c3 = R (t .c3); c4 = R (t .c4); constant = R (t .constant); high = toZ w64 h; low = toZ w64 l }
+
+    is : x′ ≡ over-node t (pos h) (pos l)
+    is = literal t f h l (let q = A .chained .room in let r = A .chained .few in omega arith) (let q = A .chained .room in let r = A .chained .few in omega arith)
+
+    pub join-valid : Valid x′ n
+    join-valid = subst (λ (z : Node). Valid z n) (sym is) valid-over
+
+    tree-is : treeOf (over-node t (pos h) (pos l)) (trees s n) ≡ branch (testOf t) (treeAt s n h) (treeAt s n l)
+    unfolding over-node testOf linOf
+    tree-is = tree-branch (over-node t (pos h) (pos l)) (trees s n) (P .branches)
+
+    -- they are two
+    pub join-made : {s′ : List ℤ} {w′ : List ℕ} {r : Made} → Grew cap s w n (make (treeOf x′ (trees s n))) s′ w′ r → Grew cap s w n (node (testOf t) (treeAt s n h) (treeAt s n l)) s′ w′ r
+    join-made R =
+        grew-as (ap (λ (z : Node). make (treeOf z (trees s n))) is ∙ (ap make tree-is ∙ sym (node-no t (treeAt s n h) (treeAt s n l) (same-not (treeAt s n h) (treeAt s n l) (λ q. e (A .good .distinct h l hh hl q)))))) R
+
+-- a test that is read back from the table can be put over branches
+pub proper-as : {cap : ℕ} {l : List ℤ} {w : List ℕ} {n t : ℕ} {x : Node} → Bare cap l w n → Root l n t → x ≡ nodeAt l t → Proper x
+proper-as {l = l} {t = t} A q e = subst Proper (sym e) (record { branches = q .branches; nums = A .good .valid t (q .below) .nums; tested = A .good .valid t (q .below) .tested (q .branches) })
+
+pub word-at : {cap : ℕ} {l : List ℤ} {w : List ℕ} {n : ℕ} (t : ℕ) → Bare cap l w n → t < n → t * 8 + 8 ≤ length l
+word-at t A h = let q = A .chained .room in let r = A .chained .words in omega arith
+
+-- a root stays one as the table grows
+pub root-kept : {l l′ : List ℤ} {n n′ t : ℕ} → Grown l n l′ n′ → Root l n t → Root l′ n′ t
+root-kept {t = t} G r = let p = G .more in let q = r .below in record { below = omega arith; branches = ap (λ (x : Node). eqZ (x .kind) (pos 0)) (G .kept t (r .below)) ∙ r .branches }

@@ -1,0 +1,15 @@
+-- Laws of diagrams in a table, that several proofs and other crates cite.
+pub mod Trees
+pub mod Comparing
+pub mod Outcomes
+pub mod Interning
+pub mod Joining
+pub mod Caching
+pub mod Ordered
+pub mod Stepping
+pub mod Merging
+pub mod Choosing
+pub mod Going
+pub mod Judging
+pub mod Meanings
+pub mod Choices

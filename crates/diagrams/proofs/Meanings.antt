@@ -1,0 +1,302 @@
+-- The rules by number: what each entry's words mean, that it lasts, and the test that a choice is given.
+use mathlib.Core.Path.{_≡_, refl, sym, ap, ap₂, _∙_, subst}
+use mathlib.Core.Bool.{Bool, true, false}
+use mathlib.Core.Logic.{⊎-elim, _⊎_, inl, inr}
+use mathlib.Core.List.{List, [], _∷_}
+use Prim.Native.Nat.{ℕ, _+_, _-_, _*_, _/_, _%_, _^_, _≤_, _<_}
+use native.Mathlib.Omega.{arith}
+use borrow.Author.Tests.{eq-eqb, ne-eqb}
+use lib.Dec.{eqb, T}
+use lib.IntN.{ℤ, pos, natAbs}
+use lib.Signed.{nonNeg, mag}
+use lib.ListN.{length, take}
+use mir.Syntax.{w64}
+use mir.Val.{toZ}
+use Rattle.whole.specs.Cases.{if}
+use Rattle.whole.specs.Within.{Small}
+use Rattle.whole.specs.Divisor.{gcd-all}
+use Rattle.whole.specs.Five.{SmallFive, divisorOf, dividedOf}
+use Rattle.whole.specs.FiveLaws.{divided-small}
+use Rattle.whole.specs.declared.Five.{Five}
+use Rattle.table.proofs.Words.{R, back, Fit}
+use Rattle.table.specs.Table.{nodeAt, eqZ}
+use Rattle.table.specs.declared.Node.{Node}
+use Rattle.table.specs.declared.Made.{Made}
+use Rattle.theory.specs.Widths.{conditions-most}
+use Rattle.theory.specs.Diagram.{Test, later, linear, Leaf, Tree, leaf, branch, quotL, quotient, divisor, test-of}
+use Rattle.theory.specs.Computation.{Comp}
+use Rattle.theory.specs.Rules.{choose, over, decide, sum, product, best, scale, shift, complement, number, side, substitute}
+use Rattle.diagrams.specs.Nodes.{linOf, leafOf, testOf, trees, treeAt, Nums, Tested, Good, Proper, Grown}
+use Rattle.diagrams.specs.Table.{Lasting, Bare}
+use Rattle.diagrams.specs.Meaning.{cOf, testIn, testBy, Names, packed, ruleOf}
+use Rattle.diagrams.specs.Roots.{laterNode, fiveOf, fiveNode, namedNode, testNode, Readable}
+use Rattle.diagrams.proofs.Trees.{trees-kept, later-is, at-leaf, at-branch}
+
+-- ---- the rules, each by its number
+
+module _ (l : List ℤ) (n f g p q : ℕ) where
+  abbrev F : Tree
+  F = treeAt l n f
+
+  abbrev G : Tree
+  G = treeAt l n g
+
+  pub rule-sum : ruleOf l n 0 f g p q ≡ sum F G
+  unfolding ruleOf
+  rule-sum = refl
+
+  pub rule-product : ruleOf l n 1 f g p q ≡ product F G
+  unfolding ruleOf
+  rule-product = refl
+
+  pub rule-best : ruleOf l n 2 f g p q ≡ best F G
+  unfolding ruleOf
+  rule-best = refl
+
+  pub rule-scale : ruleOf l n 3 f g p q ≡ scale (cOf p q) F
+  unfolding ruleOf
+  rule-scale = refl
+
+  pub rule-shift : ruleOf l n 4 f g p q ≡ shift (cOf p q) F
+  unfolding ruleOf
+  rule-shift = refl
+
+  pub rule-complement : ruleOf l n 5 f g p q ≡ complement p F
+  unfolding ruleOf
+  rule-complement = refl
+
+  pub rule-number : ruleOf l n 6 f g p q ≡ number p F
+  unfolding ruleOf
+  rule-number = refl
+
+  pub rule-yes : ruleOf l n 7 f g p q ≡ side true p F
+  unfolding ruleOf
+  rule-yes = refl
+
+  pub rule-no : ruleOf l n 8 f g p q ≡ side false p F
+  unfolding ruleOf
+  rule-no = refl
+
+  pub rule-walk : ruleOf l n 9 f g p q ≡ over choose (λ x. decide (x .lin) G (treeAt l n p)) F
+  unfolding ruleOf
+  rule-walk = refl
+
+  pub rule-substitute : ruleOf l n 12 f g p q ≡ substitute (packed l n g p q) F
+  unfolding ruleOf
+  rule-substitute = refl
+
+  rule-10 : ruleOf l n 10 f g p q ≡ choose (testBy l n 10 p) F G
+  unfolding ruleOf
+  rule-10 = refl
+
+  rule-11 : ruleOf l n 11 f g p q ≡ choose (testBy l n 11 p) F G
+  unfolding ruleOf
+  rule-11 = refl
+
+  pub rule-choose : (op : ℕ) → Names n op p → ruleOf l n op f g p q ≡ choose (testBy l n op p) F G
+  rule-choose op = ⊎-elim
+      (λ e. subst (λ (k : ℕ). ruleOf l n k f g p q ≡ choose (testBy l n k p) F G) (sym (e .0)) rule-10)
+      (λ e. subst (λ (k : ℕ). ruleOf l n k f g p q ≡ choose (testBy l n k p) F G) (sym (e .0)) rule-11)
+
+-- ---- the test that a choice is given
+
+test-10 : (l : List ℤ) (n p : ℕ) → testBy l n 10 p ≡ later p
+unfolding testBy
+test-10 l n p = refl
+
+test-11 : (l : List ℤ) (n p : ℕ) → testBy l n 11 p ≡ testIn (treeAt l n p)
+unfolding testBy
+test-11 l n p = refl
+
+pub names-more : {n n′ op p : ℕ} → n ≤ n′ → Names n op p → Names n′ op p
+names-more h = ⊎-elim (λ e. inl e) (λ e. inr (e .0, (let q = e .1 in omega arith)))
+
+pub names-small : {cap : ℕ} {l : List ℤ} {w : List ℕ} {n op p : ℕ} → Bare cap l w n → Names n op p → (op < 65536) × (p < 65536)
+names-small A = ⊎-elim
+    (λ e. let a = e .0 in let b = e .2 in (omega arith, omega arith))
+    (λ e. let a = e .0 in let b = e .1 in let q = A .chained .room in let r = A .chained .few in (omega arith, omega arith))
+
+-- it stays as the table grows
+pub test-kept : {l l′ : List ℤ} {n n′ : ℕ} {op p : ℕ} → Grown l n l′ n′ → Names n op p → testBy l′ n′ op p ≡ testBy l n op p
+test-kept {l} {l′} {n} {n′} {op} {p} D = ⊎-elim
+    (λ e. subst (λ (k : ℕ). testBy l′ n′ k p ≡ testBy l n k p) (sym (e .0)) (test-10 l′ n′ p ∙ sym (test-10 l n p)))
+    (λ e. subst (λ (k : ℕ). testBy l′ n′ k p ≡ testBy l n k p) (sym (e .0)) (test-11 l′ n′ p ∙ (ap testIn (trees-kept D p (e .1)) ∙ sym (test-11 l n p))))
+
+-- ---- it stands as a node's words
+
+node-10 : (l : List ℤ) (p : ℕ) → testNode l 10 p ≡ laterNode p
+unfolding testNode
+node-10 l p = refl
+
+node-11 : (l : List ℤ) (p : ℕ) → testNode l 11 p ≡ namedNode (nodeAt l p)
+unfolding testNode
+node-11 l p = refl
+
+pub readable-in : {cap : ℕ} {l : List ℤ} {w : List ℕ} {n op p : ℕ} → Bare cap l w n → Names n op p → Readable l op p
+readable-in {op = op} {p} A = ⊎-elim
+    (λ e. record { number = λ _. e .2; words = λ z. absurd (z (e .0)); nums = λ z. absurd (z (e .0)) })
+    (λ e. let a = e .0 in let b = e .1 in let r = A .chained .room in let s = A .chained .words in
+    record { number = λ z. absurd (omega arith); words = λ _. omega arith; nums = λ _. A .good .valid p (e .1) .nums })
+
+-- the words of a test and the test
+record Stood (x : Node) (t : Test) : Type 0 where
+  pub proper : Proper x
+  pub test : testOf x ≡ t
+
+stood-later : (p : ℕ) → 0 < p → p ≤ conditions-most → Stood (laterNode p) (later p)
+unfolding laterNode testOf eqZ
+stood-later p a b = record {
+  proper = record {
+    branches = refl;
+    nums = record { c1 = record { small = omega arith }; c2 = record { small = omega arith }; c3 = record { small = omega arith }; c4 = record { small = omega arith }; constant = record { small = omega arith } };
+    tested = record { kind = λ e. absurd (let z : _≡_ {A = ℕ} 0 1 = cc in omega arith); number = λ _. tt; bounds = λ _. (omega arith, omega arith); rest = λ _. (refl, refl, refl, refl) };
+  };
+  test = later-is (conditions-most + p) (omega arith) ∙ ap later (let e : conditions-most + p - conditions-most ≡ p = omega arith in e);
+}
+
+five-small : (x : Node) → Nums x → SmallFive (fiveOf x)
+unfolding fiveOf
+five-small x s = record { a = s .constant; b = s .c1; c = s .c2; d = s .c3; e = s .c4 }
+
+proper-five : (v : Five) → SmallFive v → Proper (fiveNode v)
+unfolding fiveNode eqZ
+proper-five v s = record {
+  branches = refl;
+  nums = record { c1 = s .b; c2 = s .c; c3 = s .d; c4 = s .e; constant = s .a };
+  tested = record { kind = λ _. refl; number = λ e. absurd (let z : _≡_ {A = ℕ} 0 1 = cc in omega arith); bounds = λ e. absurd (let z : _≡_ {A = ℕ} 0 1 = cc in omega arith); rest = λ e. absurd (let z : _≡_ {A = ℕ} 0 1 = cc in omega arith) };
+}
+
+-- a leaf's linear divided is the test that it names
+divided-test : (x : Node) → testOf (fiveNode (dividedOf (fiveOf x))) ≡ test-of (linOf x)
+unfolding testOf fiveNode eqZ dividedOf divisorOf fiveOf linOf test-of quotient quotL divisor gcd-all
+divided-test x = refl
+
+in-leaf : (f : Leaf) → testIn (leaf f) ≡ test-of (f .lin)
+unfolding testIn
+in-leaf f = refl
+
+in-branch : (t : Test) (h l : Tree) → testIn (branch t h l) ≡ t
+unfolding testIn
+in-branch t h l = refl
+
+named-leaf : (x : Node) → eqZ (x .kind) (pos 0) ≡ true → namedNode x ≡ fiveNode (dividedOf (fiveOf x))
+unfolding namedNode
+named-leaf x e = ap (λ (b : Bool). if b (fiveNode (dividedOf (fiveOf x))) x) e
+
+named-branch : (x : Node) → eqZ (x .kind) (pos 0) ≡ false → namedNode x ≡ x
+unfolding namedNode
+named-branch x e = ap (λ (b : Bool). if b (fiveNode (dividedOf (fiveOf x))) x) e
+
+leaf-lin : (x : Node) → leafOf x .lin ≡ linOf x
+unfolding leafOf
+leaf-lin x = refl
+
+stood-named : {l : List ℤ} {n : ℕ} → Good l n → (p : ℕ) → p < n → Stood (namedNode (nodeAt l p)) (testIn (treeAt l n p))
+stood-named {l} {n} D p h = go (eqZ (nodeAt l p .kind) (pos 0)) refl
+  where
+    go : (b : Bool) → eqZ (nodeAt l p .kind) (pos 0) ≡ b → Stood (namedNode (nodeAt l p)) (testIn (treeAt l n p))
+    go true e = subst (λ (x : Node). Stood x (testIn (treeAt l n p))) (sym (named-leaf (nodeAt l p) e)) (record {
+      proper = proper-five _ (divided-small _ (five-small _ (D .valid p h .nums)));
+      test = divided-test (nodeAt l p) ∙ (ap test-of (sym (leaf-lin (nodeAt l p))) ∙ (sym (in-leaf _) ∙ ap testIn (sym (at-leaf D p h e))));
+    })
+    go false e = subst (λ (x : Node). Stood x (testIn (treeAt l n p))) (sym (named-branch (nodeAt l p) e)) (record {
+      proper = record { branches = e; nums = D .valid p h .nums; tested = D .valid p h .tested e };
+      test = sym (in-branch _ _ _) ∙ ap testIn (sym (at-branch D p h e));
+    })
+
+stood : {l : List ℤ} {n op p : ℕ} → Good l n → Names n op p → Stood (testNode l op p) (testBy l n op p)
+stood {l} {n} {op} {p} D = ⊎-elim
+    (λ e. subst (λ (k : ℕ). Stood (testNode l k p) (testBy l n k p)) (sym (e .0)) (subst (λ (x : Node). Stood x (testBy l n 10 p)) (sym (node-10 l p)) (subst (Stood (laterNode p)) (sym (test-10 l n p)) (stood-later p (e .1) (e .2)))))
+    (λ e. subst (λ (k : ℕ). Stood (testNode l k p) (testBy l n k p)) (sym (e .0)) (subst (λ (x : Node). Stood x (testBy l n 11 p)) (sym (node-11 l p)) (subst (Stood (namedNode (nodeAt l p))) (sym (test-11 l n p)) (stood-named D p (e .1)))))
+
+-- the test's words can be put over branches, and are its words
+pub test-proper : {l : List ℤ} {n op p : ℕ} {z : Node} → Good l n → Names n op p → z ≡ testNode l op p → Proper z
+test-proper D N e = subst Proper (sym e) (stood D N .proper)
+
+pub test-is : {l : List ℤ} {n op p : ℕ} {z : Node} → Good l n → Names n op p → z ≡ testNode l op p → testOf z ≡ testBy l n op p
+test-is D N e = ap testOf e ∙ stood D N .test
+
+-- ---- what the words mean lasts
+
+module _ (l : List ℤ) (n f : ℕ) (hf : f < n) where
+  pub lasts-scale : (g p q : ℕ) → Lasting ruleOf l n 3 f g p q
+  unfolding ruleOf
+  lasts-scale g p q l′ n′ D = ap (scale (cOf p q)) (trees-kept D f hf)
+
+  pub lasts-shift : (g p q : ℕ) → Lasting ruleOf l n 4 f g p q
+  unfolding ruleOf
+  lasts-shift g p q l′ n′ D = ap (shift (cOf p q)) (trees-kept D f hf)
+
+  pub lasts-complement : (g p q : ℕ) → Lasting ruleOf l n 5 f g p q
+  unfolding ruleOf
+  lasts-complement g p q l′ n′ D = ap (complement p) (trees-kept D f hf)
+
+  pub lasts-number : (g p q : ℕ) → Lasting ruleOf l n 6 f g p q
+  unfolding ruleOf
+  lasts-number g p q l′ n′ D = ap (number p) (trees-kept D f hf)
+
+  pub lasts-yes : (g p q : ℕ) → Lasting ruleOf l n 7 f g p q
+  unfolding ruleOf
+  lasts-yes g p q l′ n′ D = ap (side true p) (trees-kept D f hf)
+
+  pub lasts-no : (g p q : ℕ) → Lasting ruleOf l n 8 f g p q
+  unfolding ruleOf
+  lasts-no g p q l′ n′ D = ap (side false p) (trees-kept D f hf)
+
+  module _ (g : ℕ) (hg : g < n) where
+    pub lasts-sum : (p q : ℕ) → Lasting ruleOf l n 0 f g p q
+    unfolding ruleOf
+    lasts-sum p q l′ n′ D = ap₂ sum (trees-kept D f hf) (trees-kept D g hg)
+
+    pub lasts-product : (p q : ℕ) → Lasting ruleOf l n 1 f g p q
+    unfolding ruleOf
+    lasts-product p q l′ n′ D = ap₂ product (trees-kept D f hf) (trees-kept D g hg)
+
+    pub lasts-best : (p q : ℕ) → Lasting ruleOf l n 2 f g p q
+    unfolding ruleOf
+    lasts-best p q l′ n′ D = ap₂ best (trees-kept D f hf) (trees-kept D g hg)
+
+    pub lasts-walk : (p q : ℕ) → p < n → Lasting ruleOf l n 9 f g p q
+    unfolding ruleOf
+    lasts-walk p q hp l′ n′ D = λ i. over choose (λ x. decide (x .lin) (trees-kept D g hg i) (trees-kept D p hp i)) (trees-kept D f hf i)
+
+    pub lasts-choose : (op p q : ℕ) → Names n op p → Lasting ruleOf l n op f g p q
+    lasts-choose op p q N l′ n′ D =
+        rule-choose l′ n′ f g p q op (names-more (D .more) N)
+        ∙ ((λ i. choose (test-kept D N i) (trees-kept D f hf i) (trees-kept D g hg i)) ∙ sym (rule-choose l n f g p q op N))
+
+    -- the four indexes are there, also those beyond their number
+    pub lasts-substitute : (p q : ℕ) → p % 65536 < n → p / 65536 < n → q % 65536 < n → Lasting ruleOf l n 12 f g p q
+    unfolding ruleOf packed
+    lasts-substitute p q h₂ h₃ h₄ l′ n′ D = λ i. substitute (take (q / 65536) (trees-kept D g hg i ∷ trees-kept D (p % 65536) h₂ i ∷ trees-kept D (p / 65536) h₃ i ∷ trees-kept D (q % 65536) h₄ i ∷ [])) (trees-kept D f hf i)
+
+-- ---- what the code reads is that test
+
+pub later-node : (k : ℕ) → k ≤ conditions-most → _≡_ {A = Node} (record { kind = pos 1; c1 = toZ w64 (conditions-most + k); c2 = pos 0; c3 = pos 0; c4 = pos 0; constant = pos 0; high = pos 0; low = pos 0 }) (laterNode k)
+unfolding laterNode
+later-node k h = λ i. record { kind = pos 1; c1 = back (pos (conditions-most + k)) (omega arith) i; c2 = pos 0; c3 = pos 0; c4 = pos 0; constant = pos 0; high = pos 0; low = pos 0 }
+
+pub five-of : (x : Node) → Fit x → _≡_ {A = Five} (record { a = R (x .constant); b = R (x .c1); c = R (x .c2); d = R (x .c3); e = R (x .c4) }) (fiveOf x)
+unfolding fiveOf
+five-of x f = λ i. record { a = back (x .constant) (f .constant) i; b = back (x .c1) (f .c1) i; c = back (x .c2) (f .c2) i; d = back (x .c3) (f .c3) i; e = back (x .c4) (f .c4) i }
+
+pub five-node : (v : Five) → mag (v .a) < 2 ^ 63 → mag (v .b) < 2 ^ 63 → mag (v .c) < 2 ^ 63 → mag (v .d) < 2 ^ 63 → mag (v .e) < 2 ^ 63 → _≡_ {A = Node} (record { kind = pos 2; c1 = R (v .b); c2 = R (v .c); c3 = R (v .d); c4 = R (v .e); constant = R (v .a); high = pos 0; low = pos 0 }) (fiveNode v)
+unfolding fiveNode
+five-node v a b c d e = λ i. record { kind = pos 2; c1 = back (v .b) b i; c2 = back (v .c) c i; c3 = back (v .d) d i; c4 = back (v .e) e i; constant = back (v .a) a i; high = pos 0; low = pos 0 }
+
+pub five-small-as : {v : Five} (x : Node) → v ≡ fiveOf x → Nums x → SmallFive v
+five-small-as x e s = subst SmallFive (sym e) (five-small x s)
+
+pub named-leaf-as : {r : Node} {v d : Five} (x : Node) → eqZ (x .kind) (pos 0) ≡ true → v ≡ fiveOf x → d ≡ dividedOf v → r ≡ fiveNode d → r ≡ namedNode x
+named-leaf-as x k ev ed er = er ∙ (ap fiveNode (ed ∙ ap dividedOf ev) ∙ sym (named-leaf x k))
+
+pub named-branch-as : (x : Node) → eqZ (x .kind) (pos 0) ≡ false → x ≡ namedNode x
+named-branch-as x k = sym (named-branch x k)
+
+pub test-later : {r : Node} (l : List ℤ) (op p : ℕ) → op ≡ 10 → r ≡ laterNode p → r ≡ testNode l op p
+unfolding testNode
+test-later l op p e er = er ∙ ap (λ (b : Bool). if b (laterNode p) (namedNode (nodeAt l p))) (sym (eq-eqb op 10 e))
+
+pub test-named : {x r : Node} (l : List ℤ) (op p : ℕ) → (op ≡ 10 → ⊥) → x ≡ nodeAt l p → r ≡ namedNode x → r ≡ testNode l op p
+unfolding testNode
+test-named l op p n ex er = er ∙ (ap namedNode ex ∙ ap (λ (b : Bool). if b (laterNode p) (namedNode (nodeAt l p))) (sym (ne-eqb op 10 n)))

@@ -1,0 +1,5 @@
+-- Diagrams in a node table: what its words mean, and what the rules on it do.
+pub mod Nodes
+pub mod Table
+pub mod Meaning
+pub mod Roots

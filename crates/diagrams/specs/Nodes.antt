@@ -1,0 +1,109 @@
+-- The trees that a table's nodes stand for, and what a good table is.
+use mathlib.Core.Path.{_≡_}
+use mathlib.Core.Bool.{Bool, true, false}
+use mathlib.Core.List.{List, [], _∷_, _++_}
+use Prim.Native.Nat.{ℕ, zero, suc, _+_, _-_, _*_, _≤_, _<_}
+use lib.Dec.{T, ltb}
+use lib.IntN.{ℤ, pos, natAbs}
+use lib.Signed.{nonNeg}
+use lib.ListN.{length, getD}
+use Rattle.whole.specs.Cases.{if}
+use Rattle.whole.specs.Within.{Small}
+use Rattle.table.specs.Table.{nodeAt, eqZ}
+use Rattle.table.specs.declared.Node.{Node}
+use Rattle.theory.specs.Widths.{conditions-most}
+use Rattle.theory.specs.Diagram.{Linear, Test, now, later, linear, Leaf, Tree, leaf, branch}
+
+-- ---- a node's words
+
+unfoldable pub linOf : Node → Linear
+linOf x = record { coeffs = x .c1 ∷ x .c2 ∷ x .c3 ∷ x .c4 ∷ []; const = x .constant }
+
+unfoldable pub leafOf : Node → Leaf
+leafOf x = record { lin = linOf x; act = natAbs (x .high) }
+
+-- "1 to n for a condition now, 5 to 4+n for the next step's"
+unfoldable pub conditionOf : ℕ → Test
+conditionOf k = if (ltb conditions-most k) (later (k - conditions-most)) (now k)
+
+unfoldable pub testOf : Node → Test
+testOf x = if (eqZ (x .kind) (pos 1)) (conditionOf (natAbs (x .c1))) (linear (linOf x))
+
+-- what stands where nothing is
+unfoldable pub none : Tree
+none = leaf (record { lin = record { coeffs = []; const = pos 0 }; act = 0 })
+
+-- the tree of a node over the trees of those below it
+unfoldable pub treeOf : Node → List Tree → Tree
+treeOf x X = if (eqZ (x .kind) (pos 0)) (leaf (leafOf x)) (branch (testOf x) (getD X (natAbs (x .high)) none) (getD X (natAbs (x .low)) none))
+
+-- the trees of the first n nodes
+unfoldable pub trees : List ℤ → ℕ → List Tree
+trees l zero = []
+trees l (suc n) = trees l n ++ (treeOf (nodeAt l n) (trees l n) ∷ [])
+
+-- the tree at an index
+abbrev pub treeAt : List ℤ → ℕ → ℕ → Tree
+treeAt l n i = getD (trees l n) i none
+
+-- ---- good nodes
+
+-- its five numbers lie within the limits
+pub record Nums (x : Node) : Type 0 where
+  pub c1 : Small (x .c1)
+  pub c2 : Small (x .c2)
+  pub c3 : Small (x .c3)
+  pub c4 : Small (x .c4)
+  pub constant : Small (x .constant)
+
+-- a node's test, as it stands in words
+pub record Tested (x : Node) : Type 0 where
+  pub kind : eqZ (x .kind) (pos 1) ≡ false → x .kind ≡ pos 2
+  pub number : eqZ (x .kind) (pos 1) ≡ true → T (nonNeg (x .c1))
+  pub bounds : eqZ (x .kind) (pos 1) ≡ true → (0 < natAbs (x .c1)) × (natAbs (x .c1) ≤ conditions-most + conditions-most)
+  pub rest : eqZ (x .kind) (pos 1) ≡ true → (x .c2 ≡ pos 0) × (x .c3 ≡ pos 0) × (x .c4 ≡ pos 0) × (x .constant ≡ pos 0)
+
+-- a node that can stand at index n: its branches lie below
+pub record Valid (x : Node) (n : ℕ) : Type 0 where
+  pub nums : Nums x
+  pub high-nat : T (nonNeg (x .high))
+  pub low-nat : T (nonNeg (x .low))
+  pub leaf-low : eqZ (x .kind) (pos 0) ≡ true → x .low ≡ pos 0
+  pub tested : eqZ (x .kind) (pos 0) ≡ false → Tested x
+  pub high-below : eqZ (x .kind) (pos 0) ≡ false → natAbs (x .high) < n
+  pub low-below : eqZ (x .kind) (pos 0) ≡ false → natAbs (x .low) < n
+
+-- "Equal nodes are one node."
+pub record Good (l : List ℤ) (n : ℕ) : Type 0 where
+  pub valid : (i : ℕ) → i < n → Valid (nodeAt l i) i
+  pub distinct : (i j : ℕ) → i < n → j < n → treeAt l n i ≡ treeAt l n j → i ≡ j
+
+-- the table l′ of n′ nodes has the n nodes of l, and perhaps more
+pub record Grown (l : List ℤ) (n : ℕ) (l′ : List ℤ) (n′ : ℕ) : Type 0 where
+  pub more : n ≤ n′
+  pub kept : (i : ℕ) → i < n → nodeAt l′ i ≡ nodeAt l i
+
+-- ---- what the functions ask of nodes
+
+-- an index can be read
+pub record At (l : List ℤ) (i : ℕ) : Type 0 where
+  pub words : i * 8 + 8 ≤ length l
+  pub high : T (nonNeg (nodeAt l i .high))
+  pub low : T (nonNeg (nodeAt l i .low))
+
+-- a node whose test can be put over branches
+pub record Proper (t : Node) : Type 0 where
+  pub branches : eqZ (t .kind) (pos 0) ≡ false
+  pub nums : Nums t
+  pub tested : Tested t
+
+-- a node of the table that is no leaf
+pub record Root (l : List ℤ) (n t : ℕ) : Type 0 where
+  pub below : t < n
+  pub branches : eqZ (nodeAt l t .kind) (pos 0) ≡ false
+
+-- a leaf without action, as it stands in words
+pub record Plain (s : Node) : Type 0 where
+  pub kind : s .kind ≡ pos 0
+  pub high : s .high ≡ pos 0
+  pub low : s .low ≡ pos 0

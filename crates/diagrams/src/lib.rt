@@ -1,0 +1,23 @@
+// Diagrams in a node table: the unique table's nodes read as trees, the computed cache, and choose.
+pub mod tests; // tests.rt: numbers and tests compared, the test that a choice is given
+pub mod roots; // roots.rt: what a rule of two operands goes on with
+pub mod making; // making.rt: nodes looked up or made
+pub mod cache; // cache.rt: results kept
+pub mod rules; // rules.rt: choose
+
+// What lies below a node: nothing where it ends, at a leaf.
+pub struct Down {
+    pub ends: bool,
+    pub high: usize,
+    pub low: usize,
+}
+
+// What a rule goes on with at f and g: the root, and the high and the low sides of both.
+pub struct Sides {
+    pub ends: bool,
+    pub root: usize,
+    pub fh: usize,
+    pub gh: usize,
+    pub fl: usize,
+    pub gl: usize,
+}
