@@ -209,7 +209,7 @@ enter-new (branch t h l) u X = by-test (member (branch t h l) X) (λ b. member u
     deep ih (inr q) = inr (omega arith)
 
 -- a branch is not entered with its branches
-enter-fresh : (t : Test) (h l : Tree) (X : List Tree) → member (branch t h l) X ≡ false → member (branch t h l) (enter l (enter h X)) ≡ false
+pub enter-fresh : (t : Test) (h l : Tree) (X : List Tree) → member (branch t h l) X ≡ false → member (branch t h l) (enter l (enter h X)) ≡ false
 enter-fresh t h l X n = by-eq (member (branch t h l) (enter l (enter h X))) (λ b. b ≡ false)
     (λ m. ⊎-elim (λ m. ⊎-elim (λ m. clash (sym m ∙ n)) (λ q. absurd (omega arith)) (enter-new h (branch t h l) X m)) (λ q. absurd (omega arith)) (enter-new l (branch t h l) (enter h X) m))
     (λ _. refl)

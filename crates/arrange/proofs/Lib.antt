@@ -1,0 +1,4 @@
+pub mod Above
+pub mod Renumber
+pub mod Perm
+pub mod Rewrites

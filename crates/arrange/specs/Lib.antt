@@ -1,0 +1,2 @@
+-- Nodes brought into the order of their numbers.
+pub mod Arrange

@@ -1,0 +1,2 @@
+-- The tables after solving.
+pub mod Finish

@@ -1,0 +1,5 @@
+pub mod Bits
+pub mod Trees
+pub mod Numbers
+pub mod Enter
+pub mod Rootwise

@@ -1,0 +1,2 @@
+-- The canonical numbering, as it stands in the work words.
+pub mod Number
