@@ -1,0 +1,4 @@
+-- Laws that several proofs cite, here and in the crates above.
+pub mod Signed
+pub mod Stacked
+pub mod Forward

@@ -1,0 +1,13 @@
+-- `command::stack::Stack::new` meets its contract.
+use mathlib.Core.Path.{refl}
+use Rattle.command.specs.Held.{last-first}
+use Rattle.command.proofs.stack.Stack.new.Statement.{statement}
+use Rattle.command.proofs.stack.Stack.new.Tie as tie
+
+returns : tie.Need-returns
+unfolding last-first
+returns c =
+    refl
+
+pub new-spec : {M : Type 1} → statement M
+new-spec = tie.close (tie.spec returns)

@@ -1,0 +1,168 @@
+// "The site model": a cursor over the lent bytes, one command at a time.
+ghost use mathlib.Core.Path.{_≡_};
+ghost use Prim.Native.Nat.{_+_, _≤_, _<_};
+ghost use lib.ListN.{length};
+ghost use Rattle.theory.specs.Command.{read-at, command-at, linear-at, byte-at, word-at, signed};
+ghost use Rattle.theory.specs.Command.{width as bytes-of};
+ghost use Rattle.command.specs.Reading.{linear-of, command-of, read-of, next-at};
+
+pub mod stack;
+
+// Coefficients of levels L1 to L4, then a constant: 32 bits each, held as a node holds them.
+pub struct Linear {
+    pub c1: i64,
+    pub c2: i64,
+    pub c3: i64,
+    pub c4: i64,
+    pub constant: i64,
+}
+
+// A command with its operands. A name's bytes stay in the model, behind the action.
+pub enum Command {
+    Site(u8, u8, u8, u8),
+    Leaf(Linear),
+    Condition(u8),
+    Test(Linear),
+    Reward(u8),
+    Chance(u8, u8),
+    Level(u8, u8),
+    Name(u8),
+    End,
+}
+
+// What stands at an offset: a whole command, or why there is none.
+pub enum Read {
+    Whole(Command),
+    Unknown,
+    Short,
+}
+
+// The byte at an offset, 0 past the end.
+pub fn byte_at(model: &[u8], at: usize) -> u8
+    ensures { λ r. ⌜ r ≡ byte-at (now (model .entry)) at ⌝ }
+{
+    if at < model.len() { model[at] } else { 0 }
+}
+
+fn wide(x: u8) -> u32
+    ensures { λ r. ⌜ (r ≡ x) × (r < 256) ⌝ }
+{
+    x as u32
+}
+
+// Four bytes, low byte first.
+fn word(model: &[u8], at: usize) -> u32
+    requires { ⌜ at + 4 ≤ length (now model) ⌝ }
+    ensures { λ r. ⌜ r ≡ word-at (now (model .entry)) at ⌝ }
+{
+    let a = wide(model[at]);
+    let b = wide(model[at + 1]);
+    let c = wide(model[at + 2]);
+    let d = wide(model[at + 3]);
+    a + b * 256 + c * 65536 + d * 16777216
+}
+
+// The number whose two's complement bits are n.
+fn from_bits(n: u32) -> i64
+    ensures { λ r. ⌜ r ≡ signed n ⌝ }
+{
+    if n < 2147483648 {
+        n as i64
+    } else {
+        let k = 4294967295 - n;
+        -1 - (k as i64)
+    }
+}
+
+fn number(model: &[u8], at: usize) -> i64
+    requires { ⌜ at + 4 ≤ length (now model) ⌝ }
+    ensures { λ r. ⌜ r ≡ signed (word-at (now (model .entry)) at) ⌝ }
+{
+    from_bits(word(model, at))
+}
+
+fn linear_at(model: &[u8], at: usize) -> Linear
+    requires { ⌜ at + 20 ≤ length (now model) ⌝ }
+    ensures { λ r. ⌜ linear-of r ≡ linear-at (now (model .entry)) at ⌝ }
+{
+    Linear {
+        c1: number(model, at),
+        c2: number(model, at + 4),
+        c3: number(model, at + 8),
+        c4: number(model, at + 12),
+        constant: number(model, at + 16),
+    }
+}
+
+// How many bytes a command has; 0 where the byte is unknown.
+pub fn width(op: u8) -> usize
+    ensures { λ r. ⌜ r ≡ bytes-of op ⌝ }
+{
+    match op {
+        0x01 => 5,
+        0x10 => 21,
+        0x11 => 2,
+        0x12 => 21,
+        0x20 => 2,
+        0x21 => 3,
+        0x22 => 3,
+        0x30 => 18,
+        0xff => 1,
+        _ => 0,
+    }
+}
+
+// A known command all of whose bytes are there.
+fn whole_at(model: &[u8], at: usize, op: u8) -> Command
+    requires { ⌜ (op ≡ byte-at (now model) at) × (at < length (now model)) × (at + bytes-of op ≤ length (now model)) ⌝ }
+    ensures { λ r. ⌜ command-of (now (model .entry)) at r ≡ command-at (now (model .entry)) at ⌝ }
+{
+    match op {
+        0x01 => Command::Site(
+            byte_at(model, at + 1),
+            byte_at(model, at + 2),
+            byte_at(model, at + 3),
+            byte_at(model, at + 4),
+        ),
+        0x10 => Command::Leaf(linear_at(model, at + 1)),
+        0x11 => Command::Condition(byte_at(model, at + 1)),
+        0x12 => Command::Test(linear_at(model, at + 1)),
+        0x20 => Command::Reward(byte_at(model, at + 1)),
+        0x21 => Command::Chance(byte_at(model, at + 1), byte_at(model, at + 2)),
+        0x22 => Command::Level(byte_at(model, at + 1), byte_at(model, at + 2)),
+        0x30 => Command::Name(byte_at(model, at + 1)),
+        _ => Command::End,
+    }
+}
+
+// What stands at an offset: past the end and cut short are one answer, since both are refused alike.
+pub fn command_at(model: &[u8], at: usize) -> Read
+    ensures { λ r. ⌜ read-of (now (model .entry)) at r ≡ read-at (now (model .entry)) at ⌝ }
+{
+    if model.len() <= at {
+        return Read::Short;
+    }
+    let op = model[at];
+    let w = width(op);
+    if w == 0 {
+        return Read::Unknown;
+    }
+    if model.len() - at < w {
+        return Read::Short;
+    }
+    Read::Whole(whole_at(model, at, op))
+}
+
+// The offset behind the command at an offset; it stays within the model.
+pub fn next_after(model: &[u8], at: usize) -> usize
+    ensures { λ r. ⌜ r ≡ next-at (now (model .entry)) at ⌝ }
+{
+    if model.len() <= at {
+        return model.len();
+    }
+    let w = width(model[at]);
+    if model.len() - at < w {
+        return model.len();
+    }
+    at + w
+}

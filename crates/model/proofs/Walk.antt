@@ -1,0 +1,152 @@
+-- A walk over the commands of a model: one turn of validation, with fuel enough for the rest.
+use mathlib.Core.Path.{_≡_, refl, sym, ap, _∙_, subst}
+use mathlib.Core.Bool.{Bool, true, false}
+use mathlib.Core.List.{List, [], _∷_}
+use Prim.Native.Nat.{ℕ, zero, suc, _+_, _-_, _≤_, _<_}
+use native.Mathlib.Omega.{arith}
+use borrow.Author.Tests.{eq-eqb, ne-eqb}
+use lib.Dec.{eqb, ltb}
+use lib.ListN.{length}
+use types.Run.{OneOf, miss}
+use denote.Enum.Declared.{tagOf}
+use Rattle.whole.specs.Cases.{if}
+use Rattle.theory.specs.Command.{Command, end-model, Read, whole, unknown, short, Placed, byte-at, width, read-at, goes-on, readings-from, readings}
+use Rattle.theory.specs.Verdict.{Progress, at-start, first-broken, rules-of, after, Verdict, refusal, ended, judged, verdict}
+use Rattle.command.proofs.Command.{the-type}
+use Rattle.command.specs.declared.Command.{Command as CodeCommand}
+use Rattle.command.specs.declared.Command.the-variants.{Site, Leaf, Condition, Test, Reward, Chance, Level, Name, End}
+use Rattle.command.specs.declared.Read.{Read as CodeRead}
+use Rattle.command.specs.declared.Read.the-variants.{Whole, Unknown, Short}
+use Rattle.command.specs.Reading.{command-of, read-of, next-at}
+use Rattle.command.proofs.Forward.{Bytes, whole-bytes, next-whole}
+use Rattle.progress.specs.declared.Progress.{Progress as CodeProgress}
+use Rattle.progress.specs.Standing.{Stands}
+use Rattle.model.specs.Answers.{is-end}
+
+-- ---- what the code's answers say of the command
+
+module _ (B : List ℕ) (at : ℕ) {r : CodeRead} (e : read-of B at r ≡ read-at B at) where
+  pub whole-is : {c : CodeCommand} → r ≡ Whole c → whole (command-of B at c) ≡ read-at B at
+  unfolding read-of
+  whole-is f = ap (read-of B at) (sym f) ∙ e
+
+  pub unknown-is : r ≡ Unknown → unknown ≡ read-at B at
+  unfolding read-of
+  unknown-is f = ap (read-of B at) (sym f) ∙ e
+
+  pub short-is : r ≡ Short → short ≡ read-at B at
+  unfolding read-of
+  short-is f = ap (read-of B at) (sym f) ∙ e
+
+pub not-end : (c : CodeCommand) → OneOf (0 ∷ 1 ∷ 2 ∷ 3 ∷ 4 ∷ 5 ∷ 6 ∷ 7 ∷ []) (tagOf the-type c) → false ≡ is-end c
+unfolding is-end
+not-end (Site m n a w) k = refl
+not-end (Leaf p) k = refl
+not-end (Condition i) k = refl
+not-end (Test p) k = refl
+not-end (Reward a) k = refl
+not-end (Chance a i) k = refl
+not-end (Level a i) k = refl
+not-end (Name a) k = refl
+not-end End k = absurd (miss (0 ∷ 1 ∷ 2 ∷ 3 ∷ 4 ∷ 5 ∷ 6 ∷ 7 ∷ []) 8 tt k)
+
+module _ (B : List ℕ) (at : ℕ) where
+  pub at-end : (c : CodeCommand) → is-end c ≡ true → command-of B at c ≡ end-model
+  unfolding is-end command-of
+  at-end (Site m n a w) e = absurd (let z : _≡_ {A = ℕ} 0 1 = cc in omega arith)
+  at-end (Leaf p) e = absurd (let z : _≡_ {A = ℕ} 0 1 = cc in omega arith)
+  at-end (Condition i) e = absurd (let z : _≡_ {A = ℕ} 0 1 = cc in omega arith)
+  at-end (Test p) e = absurd (let z : _≡_ {A = ℕ} 0 1 = cc in omega arith)
+  at-end (Reward a) e = absurd (let z : _≡_ {A = ℕ} 0 1 = cc in omega arith)
+  at-end (Chance a i) e = absurd (let z : _≡_ {A = ℕ} 0 1 = cc in omega arith)
+  at-end (Level a i) e = absurd (let z : _≡_ {A = ℕ} 0 1 = cc in omega arith)
+  at-end (Name a) e = absurd (let z : _≡_ {A = ℕ} 0 1 = cc in omega arith)
+  at-end End e = refl
+
+  -- a command that is not the end goes on, and leaves the verdict to the rest
+  pub going : (c : CodeCommand) → is-end c ≡ false → (goes-on (whole (command-of B at c)) ≡ true) × ((n : ℕ) (v : Verdict) → ended n at (command-of B at c) v ≡ v)
+  unfolding is-end command-of goes-on ended
+  going (Site m n a w) e = (refl, λ n v. refl)
+  going (Leaf p) e = (refl, λ n v. refl)
+  going (Condition i) e = (refl, λ n v. refl)
+  going (Test p) e = (refl, λ n v. refl)
+  going (Reward a) e = (refl, λ n v. refl)
+  going (Chance a i) e = (refl, λ n v. refl)
+  going (Level a i) e = (refl, λ n v. refl)
+  going (Name a) e = (refl, λ n v. refl)
+  going End e = absurd (let z : _≡_ {A = ℕ} 0 1 = cc in omega arith)
+
+  -- the next offset lies behind the command and within the model
+  pub forward : (c : Command) (next : ℕ) → whole c ≡ read-at B at → next ≡ next-at B at → (next ≡ at + width (byte-at B at)) × (at < next) × (next ≤ length B)
+  forward c next e f =
+      let b = whole-bytes B at c e .0 in
+      let g : next ≡ at + width (byte-at B at) = f ∙ next-whole B at b in
+      let k = b .known in
+      let n = b .ends in
+      (g, omega (arith, k), omega arith)
+
+-- ---- one turn
+
+-- with fuel enough, what is left of the readings gives the verdict
+pub record Walk (B : List ℕ) (at : ℕ) (s : CodeProgress) : Type 0 where
+  pub fuel : ℕ
+  pub enough : length B - at < fuel
+  pub so-far : Progress
+  pub stands : Stands s so-far
+  pub judges : judged (length B) so-far (readings-from B fuel at) ≡ verdict B
+
+pub walk-starts : (B : List ℕ) (s : CodeProgress) → Stands s at-start → Walk B 0 s
+unfolding verdict readings
+walk-starts B s st = record { fuel = suc (length B); enough = omega arith; so-far = at-start; stands = st; judges = refl }
+
+-- the readings from an offset on, of which the first is known
+abbrev pub from-first : List ℕ → ℕ → ℕ → Read → List Placed
+from-first B at k r = record { at = at; read = r } ∷ if (goes-on r) (readings-from B k (at + width (byte-at B at))) []
+
+pub opened : {A : Type 0} (f : List Placed → A) (v : A) (B : List ℕ) (at k : ℕ) → length B - at < k → f (readings-from B k at) ≡ v → (r : Read) → r ≡ read-at B at
+    → (n : ℕ) × (length B - at < suc n) × (f (from-first B at n r) ≡ v)
+unfolding readings-from
+opened f v B at zero h j r e = absurd (omega arith)
+opened f v B at (suc k) h j r e = (k, h, subst (λ (q : Read). f (from-first B at k q) ≡ v) (sym e) j)
+
+module _ {B : List ℕ} {at : ℕ} {s : CodeProgress} (w : Walk B at s) where
+  first : (r : Read) → r ≡ read-at B at → (n : ℕ) × (length B - at < suc n) × (judged (length B) (w .so-far) (from-first B at n r) ≡ verdict B)
+  first = opened (judged (length B) (w .so-far)) (verdict B) B at (w .fuel) (w .enough) (w .judges)
+
+  pub turn-unknown : unknown ≡ read-at B at → refusal 3 at ≡ verdict B
+  unfolding judged goes-on
+  turn-unknown e = first unknown e .2
+
+  pub turn-short : short ≡ read-at B at → refusal 2 at ≡ verdict B
+  unfolding judged goes-on
+  turn-short e = first short e .2
+
+  pub turn-broken : (c : Command) (n : ℕ) → whole c ≡ read-at B at → n ≡ first-broken (rules-of (w .so-far) c) → (n ≡ 0 → ⊥) → refusal n at ≡ verdict B
+  unfolding judged
+  turn-broken c n e f h =
+      let o = first (whole c) e in
+      rw (← f, ne-eqb n 0 h) at (o .2)
+
+  module _ (c : Command) (e : whole c ≡ read-at B at) (u : first-broken (rules-of (w .so-far) c) ≡ 0) where
+    unbroken : (k : ℕ) → judged (length B) (w .so-far) (from-first B at k (whole c)) ≡ verdict B
+        → ended (length B) at c (judged (length B) (after (w .so-far) c) (if (goes-on (whole c)) (readings-from B k (at + width (byte-at B at))) [])) ≡ verdict B
+    unfolding judged
+    unbroken k j = rw u at j
+
+  pub turn-end : (c : CodeCommand) (n : ℕ) (v : Verdict) → whole (command-of B at c) ≡ read-at B at → n ≡ first-broken (rules-of (w .so-far) (command-of B at c)) → n ≡ 0 → is-end c ≡ true
+      → ((x : Verdict) → v ≡ ended (length B) at end-model x) → v ≡ verdict B
+  turn-end c n v e f z i g =
+      let o = first (whole (command-of B at c)) e in
+      let rest : Verdict = judged (length B) (after (w .so-far) (command-of B at c)) (if (goes-on (whole (command-of B at c))) (readings-from B (o .0) (at + width (byte-at B at))) []) in
+      g rest ∙ ap (λ (d : Command). ended (length B) at d rest) (sym (at-end B at c i)) ∙ unbroken (command-of B at c) e (sym f ∙ z) (o .0) (o .2)
+
+  pub turn-on : (c : CodeCommand) (n next : ℕ) (t : CodeProgress) → whole (command-of B at c) ≡ read-at B at → n ≡ first-broken (rules-of (w .so-far) (command-of B at c)) → n ≡ 0 → is-end c ≡ false
+      → next ≡ next-at B at → Stands t (after (w .so-far) (command-of B at c)) → Walk B next t
+  turn-on c n next t e f z i g st =
+      let o = first (whole (command-of B at c)) e in
+      let h = forward B at (command-of B at c) next e g in
+      let y = going B at c i in
+      let j = unbroken (command-of B at c) e (sym f ∙ z) (o .0) (o .2) in
+      let j′ = sym (y .1 (length B) _) ∙ j in
+      let j″ = rw (y .0, ← h .0) at j′ in
+      record { fuel = o .0; enough = omega (arith, o .1, h .1, h .2); so-far = after (w .so-far) (command-of B at c); stands = st; judges = j″ }

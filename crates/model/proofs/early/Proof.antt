@@ -1,0 +1,38 @@
+-- `model::early` meets its contract.
+use borrow.Author.Tests.{ne-eqb, lt-ltb, le-ltb, le-leb, lt-leb}
+use Rattle.theory.specs.Solve.{early}
+use Rattle.theory.specs.Valid.{among}
+use borrow.Author.Needs.{needs}
+use Rattle.model.proofs.early.Statement.{statement}
+use Rattle.model.proofs.early.Tie as tie
+
+returns : tie.Need-returns
+unfolding early
+returns c =
+    rw (ne-eqb _ _ (c .if1 .taken))
+
+returns-2 : tie.Need-returns-2
+unfolding early
+returns-2 c =
+    rw (c .before .if1 .left, lt-ltb _ _ (c .if2 .taken))
+
+returns-3 : tie.Need-returns-3
+unfolding early among
+returns-3 c =
+    rw (c .before .before .if1 .left, le-ltb _ _ (c .before .if2 .left), lt-leb 1 _ (c .if3 .taken))
+
+returns-4 : tie.Need-returns-4
+unfolding early among
+returns-4 c =
+    rw (c .before .before .before .if1 .left, le-ltb _ _ (c .before .before .if2 .left), le-leb 1 _ (c .before .if3 .left), lt-leb _ 8 (c .if4 .taken))
+
+validate-requires : tie.Need-validate-requires
+validate-requires c κs = search needs
+
+returns-5 : tie.Need-returns-5
+unfolding early among
+returns-5 c =
+    rw (c .before .before .before .before .if1 .left, le-ltb _ _ (c .before .before .before .if2 .left), le-leb 1 _ (c .before .before .if3 .left), le-leb _ 8 (c .before .if4 .left)) (c .validate .ensures)
+
+pub early-spec : {M : Type 1} → statement M
+early-spec = tie.close (tie.spec returns returns-2 returns-3 returns-4 validate-requires returns-5)

@@ -1,0 +1,81 @@
+-- A flag for each thing that can be given: places differ, and a store is one thing more.
+use mathlib.Core.Path.{_≡_, refl, sym, ap, _∙_}
+use mathlib.Core.Bool.{Bool, true, false, _&&_}
+use mathlib.Core.List.{List, [], _∷_}
+use Prim.Native.Nat.{ℕ, zero, suc, _+_, _*_, _≤_, _<_}
+use native.Mathlib.Omega.{arith}
+use borrow.Author.Tests.{ne-eqb, eq-eqb, eqb-true, eqb-false}
+use lib.Dec.{T, eqb, eqb→eq, eqb-refl}
+use lib.ListN.{length, getD, set, replicate}
+use lib.Seq.{getD-set-same, getD-set-other}
+use Rattle.whole.specs.Cases.{if, both, same-bool}
+use Rattle.theory.specs.Widths.{levels-most, conditions-most, actions-most}
+use Rattle.theory.specs.Valid.{among}
+use Rattle.theory.specs.Verdict.{or, Slot, same-slot, has-slot}
+use Rattle.progress.specs.Standing.{place, Slotted, for-reward, for-chance, for-level, for-name}
+use Rattle.progress.proofs.Numbers.{bounds}
+
+-- a store past the end changes nothing
+pub set-past : (l : List Bool) (i : ℕ) (x : Bool) → length l ≤ i → l ≡ set l i x
+set-past [] i x h = refl
+set-past (y ∷ l) zero x h = absurd (omega arith)
+set-past (y ∷ l) (suc i) x h = ap (λ (r : List Bool). y ∷ r) (set-past l i x (omega arith))
+
+pub no-flag : (n i : ℕ) → getD (replicate n false) i false ≡ false
+no-flag zero i = refl
+no-flag (suc n) zero = refl
+no-flag (suc n) (suc i) = no-flag n i
+
+pub slotted-below : {g : Slot} {i : ℕ} → Slotted g i → i < 81
+slotted-below (for-reward {a = a} t) = let h = bounds 8 a t in omega arith
+slotted-below (for-chance {a = a} {k = k} t u) = let h = bounds 8 a t in let m = bounds 4 k u in omega arith
+slotted-below (for-level {a = a} {i = k} t u) = let h = bounds 8 a t in let m = bounds 4 k u in omega arith
+slotted-below (for-name {a = a} t) = let h = bounds 8 a t in omega arith
+
+apart : (i j : ℕ) → (i ≡ j → ⊥) → false ≡ eqb i j
+apart i j h = sym (ne-eqb i j h)
+
+-- one test on two numbers, as the test of their places
+one : (a b i j : ℕ) → (a ≡ b → i ≡ j) → (i ≡ j → a ≡ b) → (eqb a b && true) ≡ eqb i j
+one a b i j f g = same-bool (eqb a b && true) (eqb i j)
+    (λ t. let e = f (eqb→eq a b (both (eqb a b) true t .0)) in rw e (eqb-refl j))
+    (λ t. let e = g (eqb→eq i j t) in rw e (rw (eq-eqb b b refl) tt))
+
+two : (a b c d i j : ℕ) → (a ≡ b → c ≡ d → i ≡ j) → (i ≡ j → (a ≡ b) × (c ≡ d)) → (eqb a b && eqb c d) ≡ eqb i j
+two a b c d i j f g = same-bool (eqb a b && eqb c d) (eqb i j)
+    (λ t. let h = both (eqb a b) (eqb c d) t in let e = f (eqb→eq a b (h .0)) (eqb→eq c d (h .1)) in rw e (eqb-refl j))
+    (λ t. let e = g (eqb→eq i j t) in rw (eq-eqb a b (e .0), eq-eqb c d (e .1)) tt)
+
+pub same-place : {g h : Slot} {i j : ℕ} → Slotted g i → Slotted h j → same-slot g h ≡ eqb i j
+unfolding same-slot
+same-place (for-reward {a = a} t) (for-reward {a = b} u) = one a b (place 0 0 a) (place 0 0 b) (λ e. omega arith) (λ e. omega arith)
+same-place (for-reward {a = a} t) (for-chance {a = b} {k = l} u v) = apart (place 0 0 a) (place 0 l b) (let x = bounds 8 a t in let y = bounds 8 b u in let z = bounds 4 l v in λ e. omega arith)
+same-place (for-reward {a = a} t) (for-level {a = b} {i = l} u v) = apart (place 0 0 a) (place 4 l b) (let x = bounds 8 a t in let y = bounds 8 b u in let z = bounds 4 l v in λ e. omega arith)
+same-place (for-reward {a = a} t) (for-name {a = b} u) = apart (place 0 0 a) (place 9 0 b) (let x = bounds 8 a t in let y = bounds 8 b u in λ e. omega arith)
+same-place (for-chance {a = a} {k = k} t r) (for-reward {a = b} u) = apart (place 0 k a) (place 0 0 b) (let x = bounds 8 a t in let y = bounds 8 b u in let w = bounds 4 k r in λ e. omega arith)
+same-place (for-chance {a = a} {k = k} t r) (for-chance {a = b} {k = l} u v) =
+    two a b k l (place 0 k a) (place 0 l b) (λ e f. omega arith) (let x = bounds 8 a t in let y = bounds 8 b u in λ e. (omega arith, omega arith))
+same-place (for-chance {a = a} {k = k} t r) (for-level {a = b} {i = l} u v) =
+    apart (place 0 k a) (place 4 l b) (let x = bounds 8 a t in let y = bounds 8 b u in let w = bounds 4 k r in let z = bounds 4 l v in λ e. omega arith)
+same-place (for-chance {a = a} {k = k} t r) (for-name {a = b} u) = apart (place 0 k a) (place 9 0 b) (let x = bounds 8 a t in let y = bounds 8 b u in let w = bounds 4 k r in λ e. omega arith)
+same-place (for-level {a = a} {i = k} t r) (for-reward {a = b} u) = apart (place 4 k a) (place 0 0 b) (let x = bounds 8 a t in let y = bounds 8 b u in let w = bounds 4 k r in λ e. omega arith)
+same-place (for-level {a = a} {i = k} t r) (for-chance {a = b} {k = l} u v) =
+    apart (place 4 k a) (place 0 l b) (let x = bounds 8 a t in let y = bounds 8 b u in let w = bounds 4 k r in let z = bounds 4 l v in λ e. omega arith)
+same-place (for-level {a = a} {i = k} t r) (for-level {a = b} {i = l} u v) =
+    two a b k l (place 4 k a) (place 4 l b) (λ e f. omega arith) (let x = bounds 8 a t in let y = bounds 8 b u in λ e. (omega arith, omega arith))
+same-place (for-level {a = a} {i = k} t r) (for-name {a = b} u) = apart (place 4 k a) (place 9 0 b) (let x = bounds 8 a t in let y = bounds 8 b u in let w = bounds 4 k r in λ e. omega arith)
+same-place (for-name {a = a} t) (for-reward {a = b} u) = apart (place 9 0 a) (place 0 0 b) (let x = bounds 8 a t in let y = bounds 8 b u in λ e. omega arith)
+same-place (for-name {a = a} t) (for-chance {a = b} {k = l} u v) = apart (place 9 0 a) (place 0 l b) (let x = bounds 8 a t in let y = bounds 8 b u in let z = bounds 4 l v in λ e. omega arith)
+same-place (for-name {a = a} t) (for-level {a = b} {i = l} u v) = apart (place 9 0 a) (place 4 l b) (let x = bounds 8 a t in let y = bounds 8 b u in let z = bounds 4 l v in λ e. omega arith)
+same-place (for-name {a = a} t) (for-name {a = b} u) = one a b (place 9 0 a) (place 9 0 b) (λ e. omega arith) (λ e. omega arith)
+
+-- a flag set is one thing more that is given
+pub flag-more : (G : List Slot) (F : List Bool) {g h : Slot} {i j : ℕ} → length F ≡ 81 → Slotted g i → Slotted h j → has-slot h G ≡ getD F j false
+    → has-slot h (g ∷ G) ≡ getD (set F i true) j false
+unfolding has-slot
+flag-more G F {g} {h} {i} {j} n p q e =
+    ap (λ (b : Bool). or b (has-slot h G)) (same-place q p) ∙ ap (or (eqb j i)) e ∙ go (eqb j i) refl
+  where
+    go : (b : Bool) → eqb j i ≡ b → or b (getD F j false) ≡ getD (set F i true) j false
+    go true x = let y = eqb-true j i x in let l : i < length F = omega (arith, slotted-below p) in rw y (sym (getD-set-same F i true false l))
+    go false x = sym (getD-set-other F i j true false (eqb-false j i x))

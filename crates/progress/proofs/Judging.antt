@@ -1,0 +1,208 @@
+-- The rules that the code tests, on what it keeps, are those of document 01 on what that stands for.
+use mathlib.Core.Path.{_≡_, refl, sym, ap, ap₂, _∙_}
+use mathlib.Core.Bool.{Bool, true, false, not, _&&_}
+use mathlib.Core.List.{List, [], _∷_, _++_, map}
+use Prim.Native.Nat.{ℕ, zero, suc, _+_, _≤_, _<_}
+use native.Mathlib.Nat.{le-trans}
+use native.Mathlib.Omega.{arith}
+use borrow.Author.Tests.{lt-ltb, le-ltb}
+use lib.Dec.{T, ltb, leb}
+use lib.ListN.{length, length-map, getD}
+use Rattle.whole.specs.Cases.{if}
+use Rattle.theory.specs.Widths.{levels-most, conditions-most, actions-most, stack-most}
+use Rattle.theory.specs.Diagram.{Linear, zeros}
+use Rattle.theory.specs.Valid.{all, among}
+use Rattle.theory.specs.Command.{Command, push-leaf, push-condition, push-test, take-reward, take-chance, take-level, name-action, end-model}
+use Rattle.theory.specs.Verdict.{or, Facts, Site, Slot, reward-slot, chance-slot, level-slot, name-slot, has-slot, Progress, Rule, rule, first-broken, first-rules, later-rules, rules-of, beyond, next-condition, printable, top, from-to, wanted, wanted-by}
+use Rattle.command.specs.Held.{held, last-first}
+use Rattle.command.proofs.Stacked.{held-length}
+use Rattle.progress.specs.declared.Progress.{Progress as CodeProgress}
+use Rattle.progress.specs.Standing.{facts-of, site-as, place, Slotted, for-reward, for-chance, for-level, for-name, Stands, in-order, row-given, action-given, all-given}
+use Rattle.progress.proofs.Numbers.{bounds, is-among, not-false-T}
+use Rattle.progress.proofs.Runs.{run-same, all-map, all-append, and-assoc}
+
+-- ---- the order of the rules
+
+two-operands : (x y : Bool) (l : List Rule) → first-broken (rule 4 (or x y) ∷ l) ≡ first-broken (rule 4 x ∷ rule 4 y ∷ l)
+unfolding first-broken
+two-operands true y l = refl
+two-operands false y l = refl
+
+-- rules that a command has none of
+no-diagram : (o k t : Bool) → first-broken (in-order o k t false) ≡ first-broken (rule 4 o ∷ rule 5 k ∷ rule 6 t ∷ [])
+unfolding first-broken
+no-diagram true k t = refl
+no-diagram false true t = refl
+no-diagram false false true = refl
+no-diagram false false false = refl
+
+stack-only : (o k : Bool) → first-broken (in-order o k false false) ≡ first-broken (rule 4 o ∷ rule 5 k ∷ [])
+unfolding first-broken
+stack-only true k = refl
+stack-only false true = refl
+stack-only false false = refl
+
+no-stack : (o t : Bool) → first-broken (in-order o false t false) ≡ first-broken (rule 4 o ∷ rule 6 t ∷ [])
+unfolding first-broken
+no-stack true t = refl
+no-stack false true = refl
+no-stack false false = refl
+
+two-diagrams : (o k t x y : Bool) → first-broken (in-order o k t (or x y)) ≡ first-broken (rule 4 o ∷ rule 5 k ∷ rule 6 t ∷ rule 4 x ∷ rule 4 y ∷ [])
+unfolding first-broken
+two-diagrams true k t x y = refl
+two-diagrams false true t x y = refl
+two-diagrams false false true x y = refl
+two-diagrams false false false true y = refl
+two-diagrams false false false false true = refl
+two-diagrams false false false false false = refl
+
+-- what is given twice matters only where the operands are good
+twice-alike : (o k t u d : Bool) → (o ≡ false → t ≡ u) → first-broken (in-order o k t d) ≡ first-broken (in-order o k u d)
+unfolding first-broken
+twice-alike true k t u d e = refl
+twice-alike false k t u d e = ap (λ (b : Bool). first-broken (in-order false k b d)) (e refl)
+
+neither : (x y : Bool) → or x y ≡ false → (x ≡ false) × (y ≡ false)
+neither true y e = absurd (let z : _≡_ {A = ℕ} 0 1 = cc in omega arith)
+neither false y e = (refl, e)
+
+top-map : (l : List ℕ) → facts-of (getD l 0 0) ≡ top (map facts-of l)
+unfolding facts-of
+top-map [] = refl
+top-map (x ∷ l) = refl
+
+-- ---- what the code keeps
+
+module _ {s : CodeProgress} {p : Progress} (st : Stands s p) where
+  pub depth : s .stack .len ≡ length (p .stack)
+  depth = sym (held-length (s .stack .items) (s .stack .len)) ∙ sym (length-map (held (s .stack)) facts-of) ∙ ap length (st .stack)
+
+  pub top-is : facts-of (getD (held (s .stack)) 0 0) ≡ top (p .stack)
+  top-is = top-map (held (s .stack)) ∙ ap top (st .stack)
+
+  -- an operand that is good for the site is good for the widths
+  act : (a : ℕ) → not (among (s .site .actions) a) ≡ false → T (among actions-most a)
+  act a e = let h = bounds (s .site .actions) a (not-false-T (among (s .site .actions) a) e) in let q = ap (λ (S : Site). S .actions) (st .site) in let m = st .actions in is-among 8 a (omega arith) (omega arith)
+
+  cond : (k : ℕ) → not (among (s .site .conditions) k) ≡ false → T (among conditions-most k)
+  cond k e = let h = bounds (s .site .conditions) k (not-false-T (among (s .site .conditions) k) e) in let q = ap (λ (S : Site). S .conditions) (st .site) in let m = st .conditions in is-among 4 k (omega arith) (omega arith)
+
+  lev : (i : ℕ) → not (among (s .site .levels) i) ≡ false → T (among levels-most i)
+  lev i e = let h = bounds (s .site .levels) i (not-false-T (among (s .site .levels) i) e) in let q = ap (λ (S : Site). S .levels) (st .site) in let m = st .levels in is-among 4 i (omega arith) (omega arith)
+
+  pub later-leaf : (P : Linear) → first-broken (in-order (beyond (s .site .levels) P) (leb 32 (s .stack .len)) false false)
+      ≡ first-broken (later-rules (p .site) (p .stack) (p .given) (push-leaf P))
+  unfolding later-rules
+  later-leaf P = stack-only _ _ ∙ ap₂ (λ (S : Site) (n : ℕ). first-broken (rule 4 (beyond (S .levels) P) ∷ rule 5 (leb 32 n) ∷ [])) (st .site) depth
+
+  pub later-condition : (k : ℕ) → first-broken (in-order (not (or (among (s .site .conditions) k) (next-condition (s .site .conditions) k))) (ltb (s .stack .len) 2) false false)
+      ≡ first-broken (later-rules (p .site) (p .stack) (p .given) (push-condition k))
+  unfolding later-rules
+  later-condition k =
+      stack-only _ _
+      ∙ ap₂ (λ (S : Site) (n : ℕ). first-broken (rule 4 (not (or (among (S .conditions) k) (next-condition (S .conditions) k))) ∷ rule 5 (ltb n 2) ∷ [])) (st .site) depth
+
+  pub later-test : (P : Linear) → first-broken (in-order (or (beyond (s .site .levels) P) (zeros (P .coeffs))) (ltb (s .stack .len) 2) false false)
+      ≡ first-broken (later-rules (p .site) (p .stack) (p .given) (push-test P))
+  unfolding later-rules
+  later-test P =
+      stack-only _ _ ∙ two-operands _ _ _
+      ∙ ap₂ (λ (S : Site) (n : ℕ). first-broken (rule 4 (beyond (S .levels) P) ∷ rule 4 (zeros (P .coeffs)) ∷ rule 5 (ltb n 2) ∷ [])) (st .site) depth
+
+  pub later-reward : (a : ℕ) → first-broken (in-order (not (among (s .site .actions) a)) (ltb (s .stack .len) 1) (getD (s .given) (place 0 0 a) false) (facts-of (getD (held (s .stack)) 0 0) .next-step))
+      ≡ first-broken (later-rules (p .site) (p .stack) (p .given) (take-reward a))
+  unfolding later-rules
+  later-reward a =
+      twice-alike _ _ _ (has-slot (reward-slot a) (p .given)) _ (λ e. sym (st .given (for-reward (act a e))))
+      ∙ ap₂ (λ (S : Site) (n : ℕ). first-broken (in-order (not (among (S .actions) a)) (ltb n 1) (has-slot (reward-slot a) (p .given)) (facts-of (getD (held (s .stack)) 0 0) .next-step))) (st .site) depth
+      ∙ ap (λ (f : Facts). first-broken (in-order (not (among (p .site .actions) a)) (ltb (length (p .stack)) 1) (has-slot (reward-slot a) (p .given)) (f .next-step))) top-is
+
+  pub later-chance : (a k : ℕ) → first-broken (in-order (or (not (among (s .site .actions) a)) (not (among (s .site .conditions) k))) (ltb (s .stack .len) 1) (getD (s .given) (place 0 k a) false)
+      (or (facts-of (getD (held (s .stack)) 0 0) .next-step) (not (facts-of (getD (held (s .stack)) 0 0) .weights))))
+      ≡ first-broken (later-rules (p .site) (p .stack) (p .given) (take-chance a k))
+  unfolding later-rules
+  later-chance a k =
+      twice-alike _ _ _ (has-slot (chance-slot a k) (p .given)) _ (λ e. let n = neither _ _ e in sym (st .given (for-chance (act a (n .0)) (cond k (n .1)))))
+      ∙ two-diagrams _ _ _ _ _ ∙ two-operands _ _ _
+      ∙ ap₂ (λ (S : Site) (n : ℕ). first-broken (rule 4 (not (among (S .actions) a)) ∷ rule 4 (not (among (S .conditions) k)) ∷ rule 5 (ltb n 1) ∷ rule 6 (has-slot (chance-slot a k) (p .given))
+      ∷ rule 4 (facts-of (getD (held (s .stack)) 0 0) .next-step) ∷ rule 4 (not (facts-of (getD (held (s .stack)) 0 0) .weights)) ∷ [])) (st .site) depth
+      ∙ ap (λ (f : Facts). first-broken (rule 4 (not (among (p .site .actions) a)) ∷ rule 4 (not (among (p .site .conditions) k)) ∷ rule 5 (ltb (length (p .stack)) 1)
+      ∷ rule 6 (has-slot (chance-slot a k) (p .given)) ∷ rule 4 (f .next-step) ∷ rule 4 (not (f .weights)) ∷ [])) top-is
+
+  pub later-level : (a i : ℕ) → first-broken (in-order (or (not (among (s .site .actions) a)) (not (among (s .site .levels) i))) (ltb (s .stack .len) 1) (getD (s .given) (place 4 i a) false) false)
+      ≡ first-broken (later-rules (p .site) (p .stack) (p .given) (take-level a i))
+  unfolding later-rules
+  later-level a i =
+      twice-alike _ _ _ (has-slot (level-slot a i) (p .given)) _ (λ e. let n = neither _ _ e in sym (st .given (for-level (act a (n .0)) (lev i (n .1)))))
+      ∙ no-diagram _ _ _ ∙ two-operands _ _ _
+      ∙ ap₂ (λ (S : Site) (n : ℕ). first-broken (rule 4 (not (among (S .actions) a)) ∷ rule 4 (not (among (S .levels) i)) ∷ rule 5 (ltb n 1) ∷ rule 6 (has-slot (level-slot a i) (p .given)) ∷ [])) (st .site) depth
+
+  pub later-name : (a : ℕ) (b : List ℕ) → first-broken (in-order (or (not (among (s .site .actions) a)) (not (all printable b))) false (getD (s .given) (place 9 0 a) false) false)
+      ≡ first-broken (later-rules (p .site) (p .stack) (p .given) (name-action a b))
+  unfolding later-rules
+  later-name a b =
+      twice-alike _ _ _ (has-slot (name-slot a) (p .given)) _ (λ e. let n = neither _ _ e in sym (st .given (for-name (act a (n .0)))))
+      ∙ no-stack _ _ ∙ two-operands _ _ _
+      ∙ ap (λ (S : Site). first-broken (rule 4 (not (among (S .actions) a)) ∷ rule 4 (not (all printable b)) ∷ rule 6 (has-slot (name-slot a) (p .given)) ∷ [])) (st .site)
+
+  -- ---- all that is wanted
+
+  has : Slot → Bool
+  has g = has-slot g (p .given)
+
+  row-0 : (a n : ℕ) → T (among actions-most a) → n ≤ conditions-most → row-given (s .given) 0 a n ≡ all has (map (chance-slot a) (from-to 1 n))
+  unfolding row-given has
+  row-0 a n t h =
+      run-same _ _ 1 n (λ i x y. sym (st .given (for-chance t (is-among 4 i x (omega arith))))) ∙ sym (all-map has (chance-slot a) (from-to 1 n))
+
+  row-4 : (a n : ℕ) → T (among actions-most a) → n ≤ levels-most → row-given (s .given) 4 a n ≡ all has (map (level-slot a) (from-to 1 n))
+  unfolding row-given has
+  row-4 a n t h =
+      run-same _ _ 1 n (λ i x y. sym (st .given (for-level t (is-among 4 i x (omega arith))))) ∙ sym (all-map has (level-slot a) (from-to 1 n))
+
+  wanted-run : (x k : ℕ) → 1 ≤ x → x + k ≤ 9 → all (action-given (s .given) (p .site)) (from-to x k) ≡ all has (wanted-by (p .site) (from-to x k))
+  unfolding all from-to wanted-by action-given has
+  wanted-run x zero h i = refl
+  wanted-run x (suc k) h i =
+      let t = is-among 8 x h (omega arith) in
+      let C = map (chance-slot x) (from-to 1 (p .site .conditions)) in
+      let L = map (level-slot x) (from-to 1 (p .site .levels)) in
+      let R = wanted-by (p .site) (from-to (suc x) k) in
+      ap₂ _&&_ (ap₂ _&&_ (sym (st .given (for-reward t))) (ap₂ _&&_ (row-0 x (p .site .conditions) t (st .conditions)) (row-4 x (p .site .levels) t (st .levels)))) (wanted-run (suc x) k (omega arith) (omega arith))
+      ∙ and-assoc (has (reward-slot x)) (all has C && all has L) (all has R)
+      ∙ ap (λ (b : Bool). has (reward-slot x) && b) (and-assoc (all has C) (all has L) (all has R) ∙ ap (λ (b : Bool). all has C && b) (sym (all-append has L R)) ∙ sym (all-append has C (L ++ R)))
+
+  wanted-all : all-given (s .given) (site-as (s .site)) ≡ all has (wanted (p .site))
+  unfolding all-given wanted
+  wanted-all = ap (all-given (s .given)) (st .site) ∙ wanted-run 1 (p .site .actions) (omega arith) (let h = st .actions in omega arith)
+
+  pub later-end : first-broken (rule 7 (not (all-given (s .given) (site-as (s .site)))) ∷ rule 7 (ltb 0 (s .stack .len)) ∷ [])
+      ≡ first-broken (later-rules (p .site) (p .stack) (p .given) end-model)
+  unfolding later-rules has
+  later-end = ap₂ (λ (b : Bool) (n : ℕ). first-broken (rule 7 (not b) ∷ rule 7 (ltb 0 n) ∷ [])) wanted-all depth
+
+-- ---- what the end command finds
+
+pub end-missing : (b : Bool) (n : ℕ) → b ≡ false → 7 ≡ first-broken (rule 7 (not b) ∷ rule 7 (ltb 0 n) ∷ [])
+unfolding first-broken
+end-missing b n e = rw e
+
+pub end-held : (b : Bool) (n : ℕ) → b ≡ true → 0 < n → 7 ≡ first-broken (rule 7 (not b) ∷ rule 7 (ltb 0 n) ∷ [])
+unfolding first-broken
+end-held b n e h = rw (e, lt-ltb 0 n h)
+
+pub end-done : (b : Bool) (n : ℕ) → b ≡ true → n ≤ 0 → 0 ≡ first-broken (rule 7 (not b) ∷ rule 7 (ltb 0 n) ∷ [])
+unfolding first-broken
+end-done b n e h = rw (e, le-ltb 0 n h)
+
+-- ---- the first command and the later ones
+
+module _ {s : CodeProgress} {p : Progress} (st : Stands s p) (c : Command) where
+  pub begun-rules : s .begun ≡ true → first-broken (later-rules (p .site) (p .stack) (p .given) c) ≡ first-broken (rules-of p c)
+  unfolding rules-of
+  begun-rules e = let b : p .begun ≡ true = sym (st .begun) ∙ e in rw b
+
+  pub first-rules-of : s .begun ≡ false → first-broken (first-rules c) ≡ first-broken (rules-of p c)
+  unfolding rules-of
+  first-rules-of e = let b : p .begun ≡ false = sym (st .begun) ∙ e in rw b

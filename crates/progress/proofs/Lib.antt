@@ -1,0 +1,6 @@
+-- Laws that several proofs cite.
+pub mod Numbers
+pub mod Runs
+pub mod Flags
+pub mod Judging
+pub mod Leaving

@@ -1,0 +1,20 @@
+-- `progress::given::has` meets its contract.
+use mathlib.Core.Path.{sym}
+use mathlib.Core.Bool.{false}
+use lib.ListN.{List·getD-eq-default}
+use borrow.Author.Needs.{needs}
+use Rattle.progress.proofs.given.has.Statement.{statement}
+use Rattle.progress.proofs.given.has.Tie as tie
+
+array-read-result : tie.Need-array-read-result
+array-read-result c = search needs
+
+returns : tie.Need-returns
+returns c = search needs
+
+returns-2 : tie.Need-returns-2
+returns-2 c =
+    sym (List·getD-eq-default ((c .before) .args .t1) false (search needs))
+
+pub has-spec : {M : Type 1} → statement M
+has-spec = tie.close (tie.spec array-read-result returns returns-2)

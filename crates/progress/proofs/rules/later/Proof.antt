@@ -1,0 +1,145 @@
+-- `progress::rules::later` meets its contract.
+use mathlib.Core.Path.{refl}
+use Prim.Native.Nat.{_+_}
+use lib.ListN.{take, drop}
+use Rattle.theory.specs.Verdict.{first-broken, later-rules}
+use Rattle.command.specs.Reading.{command-of}
+use Rattle.progress.proofs.Leaving.{known-command}
+use borrow.Author.Needs.{needs}
+use Rattle.progress.proofs.rules.later.Statement.{statement}
+use Rattle.progress.proofs.rules.later.Tie as tie
+
+enum-told : tie.Need-enum-told
+enum-told c = search needs
+
+enum-known-c : tie.Need-enum-known-c
+enum-known-c c = search needs
+
+leaf-requires : tie.Need-leaf-requires
+leaf-requires c κs = search needs
+
+enum-known-c-2 : tie.Need-enum-known-c-2
+enum-known-c-2 c = search needs
+
+condition-requires : tie.Need-condition-requires
+condition-requires c κs = search needs
+
+enum-known-c-3 : tie.Need-enum-known-c-3
+enum-known-c-3 c = search needs
+
+test-requires : tie.Need-test-requires
+test-requires c κs = search needs
+
+enum-known-c-4 : tie.Need-enum-known-c-4
+enum-known-c-4 c = search needs
+
+reward-requires : tie.Need-reward-requires
+reward-requires c κs = search needs
+
+enum-known-c-5 : tie.Need-enum-known-c-5
+enum-known-c-5 c = search needs
+
+chance-requires : tie.Need-chance-requires
+chance-requires c κs = search needs
+
+enum-known-c-6 : tie.Need-enum-known-c-6
+enum-known-c-6 c = search needs
+
+level-requires : tie.Need-level-requires
+level-requires c κs = search needs
+
+enum-known-c-7 : tie.Need-enum-known-c-7
+enum-known-c-7 c = search needs
+
+add-text : tie.Need-add-text
+add-text c = search needs
+
+text-requires : tie.Need-text-requires
+text-requires c κs = search needs
+
+name-requires : tie.Need-name-requires
+name-requires c κs = search needs
+
+enum-told-2 : tie.Need-enum-told-2
+enum-told-2 c = search needs
+
+end-requires : tie.Need-end-requires
+end-requires c κs = search needs
+
+returns : tie.Need-returns
+unfolding command-of later-rules first-broken
+returns c =
+    known-command ((c .before .before .before) .args .s) ((c .before .before .before) .args .model .now) ((c .before .before .before) .args .at) _ (c .enum-told .given .1) (λ p st. refl)
+
+returns-2 : tie.Need-returns-2
+unfolding command-of
+returns-2 c =
+    known-command ((c .before .before .before .before .before) .args .s) ((c .before .before .before .before .before) .args .model .now) ((c .before .before .before .before .before) .args .at) _ (c .before .before .c .given .1) (c .leaf .ensures)
+
+returns-3 : tie.Need-returns-3
+unfolding command-of
+returns-3 c =
+    known-command ((c .before .before .before .before .before) .args .s) ((c .before .before .before .before .before) .args .model .now) ((c .before .before .before .before .before) .args .at) _ (c .before .before .c2 .given .1) (c .condition .ensures)
+
+returns-4 : tie.Need-returns-4
+unfolding command-of
+returns-4 c =
+    known-command ((c .before .before .before .before .before) .args .s) ((c .before .before .before .before .before) .args .model .now) ((c .before .before .before .before .before) .args .at) _ (c .before .before .c3 .given .1) (c .test .ensures)
+
+returns-5 : tie.Need-returns-5
+unfolding command-of
+returns-5 c =
+    known-command ((c .before .before .before .before .before) .args .s) ((c .before .before .before .before .before) .args .model .now) ((c .before .before .before .before .before) .args .at) _ (c .before .before .c4 .given .1) (c .reward .ensures)
+
+returns-6 : tie.Need-returns-6
+unfolding command-of
+returns-6 c =
+    known-command ((c .before .before .before .before .before) .args .s) ((c .before .before .before .before .before) .args .model .now) ((c .before .before .before .before .before) .args .at) _ (c .before .before .c5 .given .1) (c .chance .ensures)
+
+returns-7 : tie.Need-returns-7
+unfolding command-of
+returns-7 c =
+    known-command ((c .before .before .before .before .before) .args .s) ((c .before .before .before .before .before) .args .model .now) ((c .before .before .before .before .before) .args .at) _ (c .before .before .c6 .given .1) (c .level .ensures)
+
+returns-8 : tie.Need-returns-8
+unfolding command-of
+returns-8 c =
+    known-command ((c .before .before .before .before .before .before) .args .s) ((c .before .before .before .before .before .before) .args .model .now) ((c .before .before .before .before .before .before) .args .at) _ (c .before .before .before .c7 .given .1) (c .name .ensures (take 16 (drop ((c .before .before .before .before .before .before) .args .at + 2) ((c .before .before .before .before .before .before) .args .model .now))) (c .before .text .ensures))
+
+returns-9 : tie.Need-returns-9
+unfolding command-of
+returns-9 c =
+    known-command ((c .before .before .before .before) .args .s) ((c .before .before .before .before) .args .model .now) ((c .before .before .before .before) .args .at) _ (c .before .enum-told2 .given .1) (c .end .ensures)
+
+pub later-spec : {M : Type 1} → statement M
+later-spec =
+    tie.close
+    (tie.spec
+    enum-told
+    enum-known-c
+    leaf-requires
+    enum-known-c-2
+    condition-requires
+    enum-known-c-3
+    test-requires
+    enum-known-c-4
+    reward-requires
+    enum-known-c-5
+    chance-requires
+    enum-known-c-6
+    level-requires
+    enum-known-c-7
+    add-text
+    text-requires
+    name-requires
+    enum-told-2
+    end-requires
+    returns
+    returns-2
+    returns-3
+    returns-4
+    returns-5
+    returns-6
+    returns-7
+    returns-8
+    returns-9)

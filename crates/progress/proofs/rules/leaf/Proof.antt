@@ -1,0 +1,24 @@
+-- `progress::rules::leaf` meets its contract.
+use mathlib.Core.Path.{ap, _∙_}
+use mathlib.Core.Bool.{Bool, false}
+use lib.Dec.{leb}
+use Rattle.theory.specs.Verdict.{first-broken}
+use Rattle.command.specs.Reading.{linear-of}
+use Rattle.progress.specs.Standing.{in-order}
+use Rattle.progress.proofs.Judging.{later-leaf}
+use borrow.Author.Needs.{needs}
+use Rattle.progress.proofs.rules.leaf.Statement.{statement}
+use Rattle.progress.proofs.rules.leaf.Tie as tie
+
+beyond-requires : tie.Need-beyond-requires
+beyond-requires c κs = search needs
+
+ordered-requires : tie.Need-ordered-requires
+ordered-requires c κs = search needs
+
+returns : tie.Need-returns
+returns c =
+    λ p st. c .ordered .ensures ∙ ap (λ (o : Bool). first-broken (in-order o (leb 32 ((c .before .before .before) .args .s .stack .len)) false false)) (c .before .beyond .ensures) ∙ later-leaf st (linear-of ((c .before .before .before) .args .p))
+
+pub leaf-spec : {M : Type 1} → statement M
+leaf-spec = tie.close (tie.spec beyond-requires ordered-requires returns)

@@ -1,0 +1,33 @@
+-- `progress::rules::test` meets its contract.
+use mathlib.Core.Path.{ap, _∙_}
+use mathlib.Core.Bool.{Bool, false}
+use lib.Dec.{ltb}
+use Rattle.theory.specs.Verdict.{or, first-broken}
+use Rattle.command.specs.Reading.{linear-of}
+use Rattle.progress.specs.Standing.{in-order}
+use Rattle.progress.proofs.Judging.{later-test}
+use borrow.Author.Needs.{needs}
+use Rattle.progress.proofs.rules.test.Statement.{statement}
+use Rattle.progress.proofs.rules.test.Tie as tie
+
+beyond-requires : tie.Need-beyond-requires
+beyond-requires c κs = search needs
+
+zeros-requires : tie.Need-zeros-requires
+zeros-requires c κs = search needs
+
+either-requires : tie.Need-either-requires
+either-requires c κs = search needs
+
+ordered-requires : tie.Need-ordered-requires
+ordered-requires c κs = search needs
+
+returns : tie.Need-returns
+returns c =
+    λ p st.
+    let o = c .before .either .ensures ∙ (λ i. or (c .before .before .before .beyond .ensures i) (c .before .before .zeros .ensures i)) in
+    c .ordered .ensures ∙ ap (λ (o : Bool). first-broken (in-order o (ltb ((c .before .before .before .before .before) .args .s .stack .len) 2) false false)) o ∙ later-test st (linear-of ((c .before .before .before .before .before) .args .p))
+
+pub test-spec : {M : Type 1} → statement M
+test-spec =
+    tie.close (tie.spec beyond-requires zeros-requires either-requires ordered-requires returns)

@@ -1,0 +1,76 @@
+-- The code keeps two facts of a diagram in one number, and what is given in flags at fixed places; document 01's definitions keep records and a list.
+use mathlib.Core.Path.{_≡_}
+use mathlib.Core.Bool.{Bool, true, false, not, _&&_}
+use mathlib.Core.List.{List, [], _∷_, map}
+use Prim.Native.Nat.{ℕ, _+_, _*_, _%_, _≤_}
+use lib.Dec.{T, eqb, leb}
+use lib.ListN.{length, getD}
+use Rattle.theory.specs.Widths.{levels-most, conditions-most, actions-most, stack-most}
+use Rattle.theory.specs.Valid.{all, among}
+use Rattle.theory.specs.Command.{Command}
+use Rattle.theory.specs.Verdict.{Site, site-of, Facts, Slot, reward-slot, chance-slot, level-slot, name-slot, has-slot, Progress, rule, Rule, first-broken, rules-of, later-rules, after, from-to}
+use Rattle.command.specs.declared.Command.{Command as CodeCommand}
+use Rattle.command.specs.declared.stack.Stack.{Stack}
+use Rattle.command.specs.Reading.{command-of}
+use Rattle.command.specs.Held.{held}
+use Rattle.progress.specs.declared.Site.{Site as CodeSite}
+use Rattle.progress.specs.declared.Progress.{Progress as CodeProgress}
+
+abbrev pub site-as : CodeSite → Site
+site-as s = site-of (s .levels) (s .conditions) (s .actions) (s .weights)
+
+-- the two facts that a number on the stack stands for
+unfoldable pub facts-of : ℕ → Facts
+facts-of x = record { next-step = leb 2 x; weights = eqb (x % 2) 1 }
+
+abbrev pub facts : Stack → List Facts
+facts t = map facts-of (held t)
+
+-- the place of a flag: ten rows of the eight actions, rewards in row 0, chances in 1 to 4, next levels in 5 to 8, names in 9
+abbrev pub place : ℕ → ℕ → ℕ → ℕ
+place base i a = (base + i) * 8 + a
+
+-- what can be given, and its flag's place
+pub data Slotted : Slot → ℕ → Type 0 where
+  for-reward : {a : ℕ} → T (among actions-most a) → Slotted (reward-slot a) (place 0 0 a)
+  for-chance : {a k : ℕ} → T (among actions-most a) → T (among conditions-most k) → Slotted (chance-slot a k) (place 0 k a)
+  for-level : {a i : ℕ} → T (among actions-most a) → T (among levels-most i) → Slotted (level-slot a i) (place 4 i a)
+  for-name : {a : ℕ} → T (among actions-most a) → Slotted (name-slot a) (place 9 0 a)
+
+-- whether all that a site asks for is flagged
+unfoldable pub row-given : List Bool → ℕ → ℕ → ℕ → Bool
+row-given F base a n = all (λ i. getD F (place base i a) false) (from-to 1 n)
+
+unfoldable pub action-given : List Bool → Site → ℕ → Bool
+action-given F S a = getD F (place 0 0 a) false && (row-given F 0 a (S .conditions) && row-given F 4 a (S .levels))
+
+unfoldable pub all-given : List Bool → Site → Bool
+all-given F S = all (action-given F S) (from-to 1 (S .actions))
+
+-- what the code keeps stands for the commands so far
+pub record Stands (s : CodeProgress) (p : Progress) : Type 0 where
+  pub begun : s .begun ≡ p .begun
+  pub site : site-as (s .site) ≡ p .site
+  pub stack : facts (s .stack) ≡ p .stack
+  pub given : {g : Slot} {i : ℕ} → Slotted g i → has-slot g (p .given) ≡ getD (s .given) i false
+  pub flags : length (s .given) ≡ 81
+  pub levels : p .site .levels ≤ levels-most
+  pub conditions : p .site .conditions ≤ conditions-most
+  pub actions : p .site .actions ≤ actions-most
+  pub sized : length (p .stack) ≤ stack-most
+
+-- k is the number of the first rule that a command breaks, 0 where it breaks none
+abbrev pub Breaks : CodeProgress → Command → ℕ → Type 0
+Breaks s c k = (p : Progress) → Stands s p → k ≡ first-broken (rules-of p c)
+
+-- the same of a command that is not the first
+abbrev pub Later : CodeProgress → Command → ℕ → Type 0
+Later s c k = (p : Progress) → Stands s p → k ≡ first-broken (later-rules (p .site) (p .stack) (p .given) c)
+
+-- r is what a command that breaks none leaves
+abbrev pub Leaves : CodeProgress → CodeCommand → CodeProgress → Type 0
+Leaves s c r = (B : List ℕ) (at : ℕ) (p : Progress) → Stands s p → first-broken (rules-of p (command-of B at c)) ≡ 0 → Stands r (after p (command-of B at c))
+
+-- "operands 4, then 5, 6, diagram 4": the rules of a command in their order
+abbrev pub in-order : Bool → Bool → Bool → Bool → List Rule
+in-order operand stack twice diagram = rule 4 operand ∷ rule 5 stack ∷ rule 6 twice ∷ rule 4 diagram ∷ []
