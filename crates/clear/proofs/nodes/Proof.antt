@@ -1,0 +1,40 @@
+use borrow.Author.Needs.{needs}
+use Prim.Native.Nat.{_-_}
+use native.Mathlib.Omega.{arith}
+use lib.IntN.{pos}
+use Rattle.clear.proofs.Parts.{Wiped, begins, more, ends}
+use Rattle.clear.proofs.nodes.Statement.{statement}
+use Rattle.clear.proofs.nodes.Tie as tie
+
+abbrev Inv-loop : tie.InvT-loop
+Inv-loop words₀ from to i₀ words i = Wiped (pos 0) words₀ from i to words
+
+abbrev μ-loop : tie.MeasureT-loop
+μ-loop words₀ from to i₀ words i = to - i
+
+loop-holds : tie.Need-loop-holds Inv-loop μ-loop
+loop-holds c = begins (pos 0) _ _ _ (c .pre .0)
+
+mul-words : tie.Need-mul-words Inv-loop μ-loop
+mul-words c = search needs
+
+slice-set-of-words : tie.Need-slice-set-of-words Inv-loop μ-loop
+slice-set-of-words c = let q = c .before .loop .inv .len in omega (arith, c .loop-test .taken, c .before .before .pre .1)
+
+add-i : tie.Need-add-i Inv-loop μ-loop
+add-i c = search needs
+
+loop-less : tie.Need-loop-less Inv-loop μ-loop
+loop-less c = omega (arith, c .loop-test .taken)
+
+loop-again : tie.Need-loop-again Inv-loop μ-loop
+loop-again c = more (pos 0) _ _ (c .before .loop .inv) (c .before .before .pre .1) (c .loop-test .taken)
+
+same-length : tie.Need-same-length Inv-loop μ-loop
+same-length c = c .before .loop .inv .len
+
+returns : tie.Need-returns Inv-loop μ-loop
+returns c = ends (pos 0) _ _ (c .before .loop .inv) (c .loop-test .left)
+
+pub nodes-spec : {M : Type 1} → statement M
+nodes-spec = tie.close (tie.spec Inv-loop μ-loop loop-holds mul-words slice-set-of-words add-i loop-less loop-again same-length returns)

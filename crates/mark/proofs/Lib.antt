@@ -1,0 +1,3 @@
+pub mod Trees
+pub mod Reach
+pub mod Steps

@@ -1,0 +1,62 @@
+// Marked nodes slide down, in order. Work words: a mark for each node at 0 to cap, and for each
+// marked node its new index at cap to 2 cap.
+use table::Node;
+ghost use mathlib.Core.Path.{_≡_};
+ghost use Prim.Native.Nat.{_*_, _≤_, _<_};
+ghost use lib.ListN.{length};
+ghost use Rattle.table.specs.Table.{nodeAt};
+ghost use Rattle.diagrams.specs.Nodes.{Valid, Good};
+ghost use Rattle.mark.specs.Mark.{Space};
+ghost use Rattle.slide.specs.Slide.{renumber, SlidOne, Closed, Slid};
+
+// A node with its branches' new indexes.
+pub fn moved(work: &[u32], cap: usize, x: Node) -> Node
+    requires { ⌜ (cap * 2 ≤ length (now work)) × (cap ≤ 65535) × Valid x cap ⌝ }
+    ensures { λ r. ⌜ r ≡ renumber (now (work .entry)) cap x ⌝ }
+{
+    if peek::is_leaf(x) {
+        return x;
+    }
+    let h = cap + peek::high(x);
+    let l = cap + peek::low(x);
+    let high = work[h] as i64;
+    let low = work[l] as i64;
+    Node {
+        kind: x.kind,
+        c1: x.c1,
+        c2: x.c2,
+        c3: x.c3,
+        c4: x.c4,
+        constant: x.constant,
+        high,
+        low,
+    }
+}
+
+// One node: where it is marked it goes to index j. Answers the next such index.
+pub fn slide_one(nodes: &mut [i64], work: &mut [u32], cap: usize, i: usize, j: usize) -> usize
+    requires { ⌜ (cap * 8 ≤ length (now nodes)) × (cap * 2 ≤ length (now work)) × (cap ≤ 65535) × (i < cap) × (j ≤ i) × Valid (nodeAt (now nodes) i) cap ⌝ }
+    ensures { λ r. ⌜ SlidOne (now (nodes .entry)) (now (work .entry)) cap i j (now (nodes .exit)) (now (work .exit)) r ⌝ }
+{
+    if work[i] == 0 {
+        return j;
+    }
+    let x = moved(work, cap, table::get(nodes, i));
+    table::put(nodes, j, x);
+    work[cap + i] = j as u32;
+    j + 1
+}
+
+// All nodes, from the first on. Answers how many are left.
+pub fn slide(nodes: &mut [i64], work: &mut [u32], cap: usize, count: usize) -> usize
+    requires { ⌜ Space cap (now nodes) (now work) count × Good (now nodes) count × Closed (now nodes) (now work) count ⌝ }
+    ensures { λ r. ⌜ Slid cap (now (nodes .entry)) (now (nodes .exit)) (now (work .entry)) (now (work .exit)) count r ⌝ }
+{
+    let mut i: usize = 0;
+    let mut j: usize = 0;
+    while i < count {
+        j = slide_one(nodes, work, cap, i, j);
+        i += 1;
+    }
+    j
+}
