@@ -43,7 +43,7 @@ both-true : (a b : Bool) → (a && b) ≡ true → (a ≡ true) × (b ≡ true)
 both-true true b e = (refl, e)
 both-true false b e = absurd (let z : _≡_ {A = ℕ} 0 1 = cc in omega arith)
 
-nums-of : (x : Node) → small-linear (linOf x) ≡ true → Nums x
+pub nums-of : (x : Node) → small-linear (linOf x) ≡ true → Nums x
 unfolding small-linear all small linOf
 nums-of x e =
     let u = both-true _ _ e in
@@ -55,7 +55,7 @@ nums-of x e =
 
 -- ---- a leaf without action
 
-is-leaf : {s : Node} → Plain s → eqZ (s .kind) (pos 0) ≡ true
+pub is-leaf : {s : Node} → Plain s → eqZ (s .kind) (pos 0) ≡ true
 is-leaf P = ap (λ (k : ℤ). eqZ k (pos 0)) (P .kind) ∙ eqZ-refl (pos 0)
 
 module _ {cap : ℕ} {l : List ℤ} {w : List ℕ} {n : ℕ} (A : Bare cap l w n) (s : Node) (P : Plain s) {b : Bool} (eb : b ≡ small-linear (linOf s)) where

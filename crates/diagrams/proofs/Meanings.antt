@@ -154,11 +154,11 @@ stood-later p a b = record {
   test = later-is (conditions-most + p) (omega arith) ∙ ap later (let e : conditions-most + p - conditions-most ≡ p = omega arith in e);
 }
 
-five-small : (x : Node) → Nums x → SmallFive (fiveOf x)
+pub five-small : (x : Node) → Nums x → SmallFive (fiveOf x)
 unfolding fiveOf
 five-small x s = record { a = s .constant; b = s .c1; c = s .c2; d = s .c3; e = s .c4 }
 
-proper-five : (v : Five) → SmallFive v → Proper (fiveNode v)
+pub proper-five : (v : Five) → SmallFive v → Proper (fiveNode v)
 unfolding fiveNode eqZ
 proper-five v s = record {
   branches = refl;
@@ -167,7 +167,7 @@ proper-five v s = record {
 }
 
 -- a leaf's linear divided is the test that it names
-divided-test : (x : Node) → testOf (fiveNode (dividedOf (fiveOf x))) ≡ test-of (linOf x)
+pub divided-test : (x : Node) → testOf (fiveNode (dividedOf (fiveOf x))) ≡ test-of (linOf x)
 unfolding testOf fiveNode eqZ dividedOf divisorOf fiveOf linOf test-of quotient quotL divisor gcd-all
 divided-test x = refl
 
@@ -179,7 +179,7 @@ in-branch : (t : Test) (h l : Tree) → testIn (branch t h l) ≡ t
 unfolding testIn
 in-branch t h l = refl
 
-named-leaf : (x : Node) → eqZ (x .kind) (pos 0) ≡ true → namedNode x ≡ fiveNode (dividedOf (fiveOf x))
+pub named-leaf : (x : Node) → eqZ (x .kind) (pos 0) ≡ true → namedNode x ≡ fiveNode (dividedOf (fiveOf x))
 unfolding namedNode
 named-leaf x e = ap (λ (b : Bool). if b (fiveNode (dividedOf (fiveOf x))) x) e
 
