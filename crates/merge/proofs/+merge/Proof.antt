@@ -59,8 +59,7 @@ merge-sub-t16 : (t : ℕ) → merge-lts.Need-sub-t16 (
   keep-reads.Asked,
   keep-reads.Learnt,
 ) (merge-at t) merge.Post
-merge-sub-t16 t c =
-    omega arith
+merge-sub-t16 t c = omega arith
 
 merge-same-length : (t : ℕ) → merge-lts.Need-same-length (
   look-reads.Asked,
@@ -76,8 +75,7 @@ merge-same-length : (t : ℕ) → merge-lts.Need-same-length (
   keep-reads.Asked,
   keep-reads.Learnt,
 ) (merge-at t) merge.Post
-merge-same-length t c =
-    search needs
+merge-same-length t c = search needs
 
 merge-returns : (t : ℕ) → merge-lts.Need-returns (
   look-reads.Asked,
@@ -148,8 +146,7 @@ merge-same-length-2 : (t : ℕ) → merge-lts.Need-same-length-2 (
   keep-reads.Asked,
   keep-reads.Learnt,
 ) (merge-at t) merge.Post
-merge-same-length-2 t c =
-    search needs
+merge-same-length-2 t c = search needs
 
 merge-same-length-3 : (t : ℕ) → merge-lts.Need-same-length-3 (
   look-reads.Asked,
@@ -165,8 +162,7 @@ merge-same-length-3 : (t : ℕ) → merge-lts.Need-same-length-3 (
   keep-reads.Asked,
   keep-reads.Learnt,
 ) (merge-at t) merge.Post
-merge-same-length-3 t c =
-    search needs
+merge-same-length-3 t c = search needs
 
 merge-returns-2 : (t : ℕ) → merge-lts.Need-returns-2 (
   look-reads.Asked,
@@ -220,8 +216,7 @@ merge-same-length-4 : (t : ℕ) → merge-lts.Need-same-length-4 (
   keep-reads.Asked,
   keep-reads.Learnt,
 ) (merge-at t) merge.Post
-merge-same-length-4 t c =
-    search needs
+merge-same-length-4 t c = search needs
 
 merge-same-length-5 : (t : ℕ) → merge-lts.Need-same-length-5 (
   look-reads.Asked,
@@ -237,8 +232,7 @@ merge-same-length-5 : (t : ℕ) → merge-lts.Need-same-length-5 (
   keep-reads.Asked,
   keep-reads.Learnt,
 ) (merge-at t) merge.Post
-merge-same-length-5 t c =
-    search needs
+merge-same-length-5 t c = search needs
 
 merge-returns-3 : (t : ℕ) → merge-lts.Need-returns-3 (
   look-reads.Asked,
@@ -292,8 +286,7 @@ merge-same-length-6 : (t : ℕ) → merge-lts.Need-same-length-6 (
   keep-reads.Asked,
   keep-reads.Learnt,
 ) (merge-at t) merge.Post
-merge-same-length-6 t c =
-    search needs
+merge-same-length-6 t c = search needs
 
 merge-same-length-7 : (t : ℕ) → merge-lts.Need-same-length-7 (
   look-reads.Asked,
@@ -309,8 +302,7 @@ merge-same-length-7 : (t : ℕ) → merge-lts.Need-same-length-7 (
   keep-reads.Asked,
   keep-reads.Learnt,
 ) (merge-at t) merge.Post
-merge-same-length-7 t c =
-    search needs
+merge-same-length-7 t c = search needs
 
 merge-returns-4 : (t : ℕ) → merge-lts.Need-returns-4 (
   look-reads.Asked,
@@ -364,8 +356,7 @@ merge-same-length-8 : (t : ℕ) → merge-lts.Need-same-length-8 (
   keep-reads.Asked,
   keep-reads.Learnt,
 ) (merge-at t) merge.Post
-merge-same-length-8 t c =
-    search needs
+merge-same-length-8 t c = search needs
 
 merge-same-length-9 : (t : ℕ) → merge-lts.Need-same-length-9 (
   look-reads.Asked,
@@ -381,8 +372,7 @@ merge-same-length-9 : (t : ℕ) → merge-lts.Need-same-length-9 (
   keep-reads.Asked,
   keep-reads.Learnt,
 ) (merge-at t) merge.Post
-merge-same-length-9 t c =
-    search needs
+merge-same-length-9 t c = search needs
 
 merge-returns-5 : (t : ℕ) → merge-lts.Need-returns-5 (
   look-reads.Asked,

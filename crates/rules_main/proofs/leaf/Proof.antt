@@ -1,0 +1,23 @@
+use Rattle.rules_main.proofs.Steps.{held-grew}
+use borrow.Author.Needs.{needs}
+use Rattle.rules_main.proofs.leaf.Statement.{statement}
+use Rattle.rules_main.proofs.leaf.Tie as tie
+
+cast-t6 : tie.Need-cast-t6
+cast-t6 c = search needs
+
+make-leaf-requires : tie.Need-make-leaf-requires
+make-leaf-requires c κs = search needs
+
+same-length : tie.Need-same-length
+same-length c = search needs
+
+same-length-2 : tie.Need-same-length-2
+same-length-2 c = search needs
+
+returns : tie.Need-returns
+returns c =
+    held-grew ((c .before .before .before .before .before .before .before) .pre .0) (c .before .before .before .make-leaf .ensures)
+
+pub leaf-spec : {M : Type 1} → statement M
+leaf-spec = tie.close (tie.spec cast-t6 make-leaf-requires same-length same-length-2 returns)

@@ -1,0 +1,13 @@
+-- What a step on a table of n nodes leaves: a right table with room for 65,535, of no fewer, and a result in it.
+use mathlib.Core.Path.{_≡_}
+use mathlib.Core.List.{List}
+use Prim.Native.Nat.{ℕ, _<_, _≤_}
+use lib.IntN.{ℤ}
+use Rattle.table.specs.declared.Made.{Made}
+use Rattle.diagrams.specs.Table.{Table}
+use Rattle.diagrams.specs.Meaning.{ruleOf}
+
+pub record Held (n : ℕ) (l : List ℤ) (w : List ℕ) (r : Made) : Type 0 where
+  pub table : Table ruleOf 65535 l w (r .count)
+  pub within : r .stop ≡ 0 → r .at < r .count
+  pub more : n ≤ r .count

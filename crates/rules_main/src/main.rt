@@ -1,0 +1,176 @@
+// Staircases merged in a table of 65,535 nodes: what each step came to, as its refusal's number and the count of nodes.
+ghost use mathlib.Core.Path.{_≡_};
+ghost use mathlib.Core.Bool.{true};
+ghost use Prim.Native.Nat.{ℕ, _≤_, _<_};
+ghost use lib.ListN.{length, getD};
+ghost use Rattle.diagrams.specs.Table.{Table};
+ghost use Rattle.diagrams.specs.Meaning.{ruleOf};
+ghost use Rattle.rules_main.specs.Held.{Held};
+use diagrams::making::join_test;
+use diagrams::making::make_leaf;
+use merge::merge;
+use table::Made;
+use table::Node;
+
+const CAP: usize = 65535;
+
+const WORDS: usize = 524280;
+
+const TESTS: usize = 750;
+
+// A leaf without coefficients.
+fn leaf(nodes: &mut [i64], work: &mut [u32], count: usize, value: usize) -> Made
+    requires { ⌜ Table ruleOf 65535 (now nodes) (now work) count × (value ≤ 1000000) ⌝ }
+    ensures { λ r. ⌜ Held count (now (nodes .exit)) (now (work .exit)) r ⌝ }
+{
+    let s = Node {
+        kind: 0,
+        c1: 0,
+        c2: 0,
+        c3: 0,
+        c4: 0,
+        constant: value as i64,
+        high: 0,
+        low: 0,
+    };
+    make_leaf(nodes, work, CAP, count, s)
+}
+
+// A test of the first level over a leaf and what lies below.
+fn stair(
+    nodes: &mut [i64],
+    work: &mut [u32],
+    count: usize,
+    at: usize,
+    value: usize,
+    below: usize,
+) -> Made
+    requires { ⌜ Table ruleOf 65535 (now nodes) (now work) count × (at ≤ 1000000) × (value ≤ 1000000) × (below < count) ⌝ }
+    ensures { λ r. ⌜ Held count (now (nodes .exit)) (now (work .exit)) r ⌝ }
+{
+    let h = leaf(nodes, work, count, value);
+    if h.stop != 0 {
+        return h;
+    }
+    let t = Node {
+        kind: 2,
+        c1: 1,
+        c2: 0,
+        c3: 0,
+        c4: 0,
+        constant: at as i64,
+        high: 0,
+        low: 0,
+    };
+    join_test(nodes, work, CAP, h.count, t, h.at, below)
+}
+
+// A staircase, its last step first: the tests stand two apart from `from` on, the leaves take `values` values.
+fn stairs(
+    nodes: &mut [i64],
+    work: &mut [u32],
+    count: usize,
+    from: usize,
+    value: usize,
+    values: usize,
+) -> Made
+    requires { ⌜ Table ruleOf 65535 (now nodes) (now work) count × (from ≤ 1000) × (value ≤ 1000) × (0 < values) ⌝ }
+    ensures { λ r. ⌜ Held count (now (nodes .exit)) (now (work .exit)) r ⌝ }
+{
+    let mut f = leaf(nodes, work, count, value + TESTS);
+    let mut i = 0;
+    while i < TESTS {
+        if f.stop != 0 {
+            return f;
+        }
+        let n = f.count;
+        let below = f.at;
+        let at = from + (TESTS - i) * 2;
+        f = stair(nodes, work, n, at, value + i % values, below);
+        i += 1;
+    }
+    f
+}
+
+// A line for a step.
+fn show(r: Made) {
+    io::print_decimal(1, r.stop as u64);
+    io::write_all(1, b" ");
+    io::print_decimal(1, r.count as u64);
+    io::write_all(1, b"\n");
+}
+
+// Two staircases, and a rule on them.
+fn pair(
+    nodes: &mut [i64],
+    work: &mut [u32],
+    count: usize,
+    op: usize,
+    value: usize,
+    values: usize,
+) -> Made
+    requires { ⌜ Table ruleOf 65535 (now nodes) (now work) count × (op ≤ 2) × (value ≤ 1000) × (0 < values) ⌝ }
+    ensures { λ r. ⌜ Held count (now (nodes .exit)) (now (work .exit)) r ⌝ }
+{
+    let f = stairs(nodes, work, count, 0, value, values);
+    show(f);
+    if f.stop != 0 {
+        return f;
+    }
+    let g = stairs(nodes, work, f.count, 1, 0, values);
+    show(g);
+    if g.stop != 0 {
+        return g;
+    }
+    let r = merge(nodes, work, CAP, g.count, op, f.at, g.at);
+    show(r);
+    r
+}
+
+// Best of leaves that all differ; a sum that has room, and one that has not.
+fn all(nodes: &mut [i64], work: &mut [u32])
+    requires { ⌜ Table ruleOf 65535 (now nodes) (now work) 0 ⌝ }
+{
+    let a = pair(nodes, work, 0, 2, 1000, 1000);
+    if a.stop != 0 {
+        return;
+    }
+    let b = pair(nodes, work, a.count, 0, 0, 20);
+    if b.stop != 0 {
+        return;
+    }
+    pair(nodes, work, b.count, 0, 1000, 1000);
+}
+
+// Whether all words are 0.
+fn all_zero(work: &[u32]) -> bool
+    ensures { λ r. ⌜ (r ≡ true → (k : ℕ) → k < length (now (work .entry)) → getD (now (work .entry)) k 0 ≡ 0) ⌝ }
+{
+    let mut i = 0;
+    while i < work.len() {
+        if work[i] != 0 {
+            return false;
+        }
+        i += 1;
+    }
+    true
+}
+
+// All of it, in tables that are large enough and empty.
+fn run(nodes: &mut [i64], work: &mut [u32]) {
+    if nodes.len() < WORDS {
+        return;
+    }
+    if work.len() < WORDS {
+        return;
+    }
+    if all_zero(work) {
+        all(nodes, work);
+    }
+}
+
+fn main() {
+    let mut nodes = [0i64; 524280];
+    let mut work = [0u32; 524280];
+    run(&mut nodes, &mut work);
+}
