@@ -1,0 +1,8 @@
+-- Laws that several proofs cite.
+pub mod Judged
+pub mod Rowed
+pub mod Accept
+pub mod Linears
+pub mod Down
+pub mod Outcome
+pub mod Entry

@@ -1,0 +1,5 @@
+-- Reading a value: the code's terms, given as those of document 01.
+pub mod Row
+pub mod State
+pub mod Step
+pub mod Out
