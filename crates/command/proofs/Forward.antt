@@ -1,5 +1,5 @@
 -- Where a command is whole: its bytes are there, and the next offset lies behind it and within the model.
-use mathlib.Core.Path.{_≡_, refl, sym, ap, _∙_}
+use mathlib.Core.Path.{_≡_, refl}
 use mathlib.Core.Bool.{Bool, true, false}
 use mathlib.Core.List.{List}
 use Prim.Native.Nat.{ℕ, _+_, _-_, _≤_, _<_}
@@ -8,7 +8,7 @@ use lib.Dec.{eqb, ltb, leb}
 use lib.ListN.{length}
 use borrow.Author.Tests.{lt-leb, le-ltb, leb-false, ltb-false, eqb-false}
 use Rattle.whole.specs.Cases.{if}
-use Rattle.theory.specs.Command.{Command, Read, whole, unknown, short, byte-at, width, command-at, read-at}
+use Rattle.theory.specs.Command.{Command, whole, unknown, short, byte-at, width, command-at, read-at}
 use Rattle.command.specs.Reading.{next-at}
 
 -- the bytes of a command that is whole

@@ -1,17 +1,17 @@
 -- A walk over the commands of a model to the one that names an action, and its bytes without the spaces at their end.
-use mathlib.Core.Path.{_≡_, refl, sym, ap, _∙_, subst}
+use mathlib.Core.Path.{_≡_, refl, sym, ap, _∙_}
 use mathlib.Core.Bool.{Bool, true, false}
 use mathlib.Core.List.{List, [], _∷_}
 use Prim.Native.Nat.{ℕ, zero, suc, _+_, _-_, _≤_, _<_}
 use native.Mathlib.Omega.{arith}
-use borrow.Author.Tests.{eq-eqb, ne-eqb, eqb-true}
+use borrow.Author.Tests.{eq-eqb, ne-eqb}
 use lib.Dec.{eqb}
 use lib.ListN.{length, getD, take, drop}
 use lib.Seq.{getD-drop}
 use types.Run.{OneOf, miss}
 use denote.Enum.Declared.{tagOf}
 use Rattle.whole.specs.Cases.{if}
-use Rattle.theory.specs.Command.{Command, site, push-leaf, push-condition, push-test, take-reward, take-chance, take-level, name-action, end-model, Read, whole, unknown, short, Placed, byte-at, width, command-at, read-at, goes-on, readings-from, readings}
+use Rattle.theory.specs.Command.{Command, site, push-leaf, push-condition, push-test, take-reward, take-chance, take-level, name-action, end-model, Read, whole, unknown, short, byte-at, width, command-at, read-at, goes-on, readings-from, readings}
 use Rattle.theory.specs.Valid.{among}
 use Rattle.theory.specs.Verdict.{Verdict, refusal}
 use Rattle.theory.specs.Load.{site-at}
@@ -24,7 +24,7 @@ use Rattle.command.specs.declared.Command.the-variants.{Site, Leaf, Condition, 
 use Rattle.command.specs.declared.Read.{Read as CodeRead}
 use Rattle.command.specs.declared.Read.the-variants.{Whole, Unknown, Short}
 use Rattle.command.specs.Reading.{command-of, read-of, next-at}
-use Rattle.command.proofs.Forward.{Bytes, whole-bytes}
+use Rattle.command.proofs.Forward.{whole-bytes}
 use Rattle.model.specs.declared.Verdict.{Verdict as CodeVerdict}
 use Rattle.model.specs.Answers.{shown, is-end}
 use Rattle.model.proofs.Walk.{opened, from-first, at-end, going, forward}

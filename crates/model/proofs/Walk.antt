@@ -1,11 +1,10 @@
 -- A walk over the commands of a model: one turn of validation, with fuel enough for the rest.
 use mathlib.Core.Path.{_≡_, refl, sym, ap, _∙_, subst}
-use mathlib.Core.Bool.{Bool, true, false}
+use mathlib.Core.Bool.{true, false}
 use mathlib.Core.List.{List, [], _∷_}
 use Prim.Native.Nat.{ℕ, zero, suc, _+_, _-_, _≤_, _<_}
 use native.Mathlib.Omega.{arith}
-use borrow.Author.Tests.{eq-eqb, ne-eqb}
-use lib.Dec.{eqb, ltb}
+use borrow.Author.Tests.{ne-eqb}
 use lib.ListN.{length}
 use types.Run.{OneOf, miss}
 use denote.Enum.Declared.{tagOf}
@@ -18,7 +17,7 @@ use Rattle.command.specs.declared.Command.the-variants.{Site, Leaf, Condition, 
 use Rattle.command.specs.declared.Read.{Read as CodeRead}
 use Rattle.command.specs.declared.Read.the-variants.{Whole, Unknown, Short}
 use Rattle.command.specs.Reading.{command-of, read-of, next-at}
-use Rattle.command.proofs.Forward.{Bytes, whole-bytes, next-whole}
+use Rattle.command.proofs.Forward.{whole-bytes, next-whole}
 use Rattle.progress.specs.declared.Progress.{Progress as CodeProgress}
 use Rattle.progress.specs.Standing.{Stands}
 use Rattle.model.specs.Answers.{is-end}

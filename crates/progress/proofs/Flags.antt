@@ -2,15 +2,13 @@
 use mathlib.Core.Path.{_≡_, refl, sym, ap, _∙_}
 use mathlib.Core.Bool.{Bool, true, false, _&&_}
 use mathlib.Core.List.{List, [], _∷_}
-use Prim.Native.Nat.{ℕ, zero, suc, _+_, _*_, _≤_, _<_}
+use Prim.Native.Nat.{ℕ, zero, suc, _≤_, _<_}
 use native.Mathlib.Omega.{arith}
 use borrow.Author.Tests.{ne-eqb, eq-eqb, eqb-true, eqb-false}
-use lib.Dec.{T, eqb, eqb→eq, eqb-refl}
+use lib.Dec.{eqb, eqb→eq, eqb-refl}
 use lib.ListN.{length, getD, set, replicate}
 use lib.Seq.{getD-set-same, getD-set-other}
-use Rattle.whole.specs.Cases.{if, both, same-bool}
-use Rattle.theory.specs.Widths.{levels-most, conditions-most, actions-most}
-use Rattle.theory.specs.Valid.{among}
+use Rattle.whole.specs.Cases.{both, same-bool}
 use Rattle.theory.specs.Verdict.{or, Slot, same-slot, has-slot}
 use Rattle.progress.specs.Standing.{place, Slotted, for-reward, for-chance, for-level, for-name}
 use Rattle.progress.proofs.Numbers.{bounds}

@@ -3,21 +3,19 @@ use mathlib.Core.Path.{_≡_, refl, sym, ap, ap₂, _∙_}
 use mathlib.Core.Bool.{Bool, true, false, not, _&&_}
 use mathlib.Core.List.{List, [], _∷_, _++_, map}
 use Prim.Native.Nat.{ℕ, zero, suc, _+_, _≤_, _<_}
-use native.Mathlib.Nat.{le-trans}
 use native.Mathlib.Omega.{arith}
 use borrow.Author.Tests.{lt-ltb, le-ltb}
 use lib.Dec.{T, ltb, leb}
 use lib.ListN.{length, length-map, getD}
-use Rattle.whole.specs.Cases.{if}
-use Rattle.theory.specs.Widths.{levels-most, conditions-most, actions-most, stack-most}
+use Rattle.theory.specs.Widths.{levels-most, conditions-most, actions-most}
 use Rattle.theory.specs.Diagram.{Linear, zeros}
 use Rattle.theory.specs.Valid.{all, among}
 use Rattle.theory.specs.Command.{Command, push-leaf, push-condition, push-test, take-reward, take-chance, take-level, name-action, end-model}
 use Rattle.theory.specs.Verdict.{or, Facts, Site, Slot, reward-slot, chance-slot, level-slot, name-slot, has-slot, Progress, Rule, rule, first-broken, first-rules, later-rules, rules-of, beyond, next-condition, printable, top, from-to, wanted, wanted-by}
-use Rattle.command.specs.Held.{held, last-first}
+use Rattle.command.specs.Held.{held}
 use Rattle.command.proofs.Stacked.{held-length}
 use Rattle.progress.specs.declared.Progress.{Progress as CodeProgress}
-use Rattle.progress.specs.Standing.{facts-of, site-as, place, Slotted, for-reward, for-chance, for-level, for-name, Stands, in-order, row-given, action-given, all-given}
+use Rattle.progress.specs.Standing.{facts-of, site-as, place, for-reward, for-chance, for-level, for-name, Stands, in-order, row-given, action-given, all-given}
 use Rattle.progress.proofs.Numbers.{bounds, is-among, not-false-T}
 use Rattle.progress.proofs.Runs.{run-same, all-map, all-append, and-assoc}
 

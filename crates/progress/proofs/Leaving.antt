@@ -2,15 +2,15 @@
 use mathlib.Core.Path.{_≡_, refl, sym, ap, ap₂, _∙_, subst}
 use mathlib.Core.Bool.{Bool, true, false, not, _&&_}
 use mathlib.Core.List.{List, [], _∷_, map}
-use Prim.Native.Nat.{ℕ, zero, suc, _+_, _≤_, _<_}
+use Prim.Native.Nat.{ℕ, suc, _≤_, _<_}
 use native.Mathlib.Omega.{arith}
 use borrow.Author.Tests.{lt-ltb, leb-false, ltb-false}
-use lib.Dec.{T, ltb, leb}
+use lib.Dec.{T, ltb}
 use lib.ListN.{length, length-map, length-set, length-replicate, getD, set, drop, replicate}
 use Rattle.whole.specs.Cases.{if}
-use Rattle.theory.specs.Widths.{levels-most, conditions-most, actions-most, stack-most}
-use Rattle.theory.specs.Diagram.{Linear, zeros}
-use Rattle.theory.specs.Valid.{all, among}
+use Rattle.theory.specs.Widths.{stack-most}
+use Rattle.theory.specs.Diagram.{Linear}
+use Rattle.theory.specs.Valid.{among}
 use Rattle.theory.specs.Command.{Command, site, push-leaf, push-condition, push-test, take-reward, take-chance, take-level, name-action, end-model}
 use Rattle.theory.specs.Verdict.{or, Facts, Site, Slot, has-slot, Progress, with-stack, with-slot, at-start, Rule, rule, first-broken, first-rules, later-rules, site-rules, rules-of, after, joined, is-weight}
 use Rattle.command.specs.declared.Command.{Command as CodeCommand}
@@ -18,7 +18,7 @@ use Rattle.command.specs.declared.stack.Stack.{Stack}
 use Rattle.command.specs.Reading.{command-of}
 use Rattle.command.specs.Held.{held, pushed}
 use Rattle.progress.specs.declared.Progress.{Progress as CodeProgress}
-use Rattle.progress.specs.Standing.{facts-of, facts, site-as, place, Slotted, for-reward, for-chance, for-level, for-name, Stands, Leaves, Later}
+use Rattle.progress.specs.Standing.{facts-of, facts, place, Slotted, for-reward, for-chance, for-level, for-name, Stands, Leaves, Later}
 use Rattle.progress.proofs.Numbers.{bounds, is-among, not-false-T}
 use Rattle.progress.proofs.Flags.{flag-more, no-flag}
 

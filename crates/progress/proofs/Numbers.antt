@@ -1,17 +1,16 @@
 -- Tests on signed words, on ranges and on coefficients.
-use mathlib.Core.Path.{_≡_, refl, sym, ap, _∙_}
-use mathlib.Core.Bool.{Bool, true, false, not, _&&_}
-use mathlib.Core.List.{List, [], _∷_}
-use Prim.Native.Nat.{ℕ, zero, suc, _+_, _-_, _^_, _≤_, _<_}
+use mathlib.Core.Path.{_≡_, refl, ap, _∙_}
+use mathlib.Core.Bool.{Bool, true, false, not}
+use Prim.Native.Nat.{ℕ, suc, _-_, _^_, _≤_, _<_}
 use native.Mathlib.Omega.{arith}
 use borrow.Author.Tests.{ne-eqb, le-leb, lt-ltb, le-ltb}
-use lib.Dec.{T, isEq, eqb, ltb, leb, leb→le, le→leb}
+use lib.Dec.{T, isEq, eqb, leb, leb→le}
 use lib.IntN.{ℤ, pos, negsuc}
-use lib.ListN.{length, drop, drop-of-length-le}
+use lib.ListN.{length, drop-of-length-le}
 use mir.Syntax.{w64}
 use mir.Val.{SFits, toZ, ofZ}
 use mir.ValLaws.{toZ-ofZ}
-use Rattle.whole.specs.Cases.{if, both}
+use Rattle.whole.specs.Cases.{both}
 use Rattle.theory.specs.Diagram.{Linear, cmpZ, zeros}
 use Rattle.theory.specs.Valid.{among}
 use Rattle.theory.specs.Verdict.{or, next-condition, beyond}

@@ -1,6 +1,6 @@
 -- The code keeps two facts of a diagram in one number, and what is given in flags at fixed places; document 01's definitions keep records and a list.
 use mathlib.Core.Path.{_≡_}
-use mathlib.Core.Bool.{Bool, true, false, not, _&&_}
+use mathlib.Core.Bool.{Bool, false, _&&_}
 use mathlib.Core.List.{List, [], _∷_, map}
 use Prim.Native.Nat.{ℕ, _+_, _*_, _%_, _≤_}
 use lib.Dec.{T, eqb, leb}

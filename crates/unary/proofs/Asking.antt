@@ -22,6 +22,12 @@ use Rattle.unary.proofs.Halving.{halves, low-lt, high-lt}
 
 -- ---- numbers in range
 
+pub side-acts : {op p : ℕ} → Picks op p → Acts op p 0
+side-acts P =
+    let a = P .from in
+    let b = P .most in
+    record { from = omega arith; to = P .to; low = omega arith; high = omega arith; shifts = λ e. absurd (omega arith); weighs = λ e. absurd (omega arith); numbers = λ e. absurd (omega arith); some = λ _. P .some; picks = λ _. P .most }
+
 pub complement-acts : {W : ℕ} → W ≤ weights-most → Acts 5 W 0
 complement-acts h =
     record { from = omega arith; to = omega arith; low = omega arith; high = omega arith; shifts = λ e. absurd (omega arith); weighs = λ _. h; numbers = λ e. absurd (omega arith); some = λ e. absurd (omega arith); picks = λ e. absurd (omega arith) }

@@ -1,0 +1,58 @@
+// Names without their trailing spaces, and the refusals of a name.
+use libc::STDOUT_FILENO;
+
+// The name in brackets, then the call's number and place.
+fn show(label: &[u8], input: &[u8], action: u32) {
+    let v = model::names::name_refusal(input, action);
+    io::write_all(STDOUT_FILENO, label);
+    io::write_all(STDOUT_FILENO, b" ");
+    io::print_decimal(STDOUT_FILENO, action as u64);
+    io::write_all(STDOUT_FILENO, b": [");
+    io::write_all(STDOUT_FILENO, model::names::name(input, action));
+    io::write_all(STDOUT_FILENO, b"] R ");
+    io::print_decimal(STDOUT_FILENO, v.number as u64);
+    io::write_all(STDOUT_FILENO, b" ");
+    io::print_decimal(STDOUT_FILENO, v.place as u64);
+    io::write_all(STDOUT_FILENO, b"\n");
+}
+
+fn all(label: &[u8], input: &[u8]) {
+    show(label, input, 0);
+    show(label, input, 1);
+    show(label, input, 2);
+    show(label, input, 3);
+    show(label, input, 4);
+    show(label, input, 5);
+    show(label, input, 6);
+    show(label, input, 7);
+}
+
+// The first n bytes.
+fn cut(label: &[u8], input: &[u8], n: usize, action: u32) {
+    if n <= input.len() {
+        show(label, &input[..n], action);
+    }
+}
+
+fn cases(input: &[u8]) {
+    all(b"named", input);
+    cut(b"without end", input, 377, 1);
+    cut(b"cut in a command", input, 24, 2);
+    cut(b"empty", input, 0, 1);
+}
+
+// Six actions: 2 is named first, 6 not at all.
+fn named(room: &mut [u8]) {
+    let n = hex_text::bytes_of(
+        b"01 01 00 06 01 30 02 20746f20207468652020706f6e642020
+        P 20 01 P 22 01 01 P 20 02 P 22 02 01 30 01 486f6c64202020202020202020202020 P 20 03 P 22 03 01 P 20 04 P 22 04 01 30 03 6162636465666768696a6b6c6d6e6f70
+        30 04 20202020202020202020202020202020 30 05 20202020202020202020202020202078 P 20 05 P 22 05 01 P 20 06 P 22 06 01 ff",
+        room,
+    );
+    cases(&room[..n]);
+}
+
+fn main() {
+    let mut room = [0u8; 1024];
+    named(&mut room);
+}

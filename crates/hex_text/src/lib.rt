@@ -1,0 +1,86 @@
+// Models written as text, for test programs: pairs of hexadecimal digits, O for a number 0 (four bytes),
+// P for a leaf 0 (10 and five numbers 0). Other characters stand for nothing.
+ghost use mathlib.Core.Path.{_≡_};
+ghost use Prim.Native.Nat.{_≤_, _<_};
+ghost use lib.ListN.{length};
+
+// The value of a digit, 16 where it is none.
+fn digit(c: u8) -> u8
+    ensures { λ r. ⌜ r ≤ 16 ⌝ }
+{
+    if c < 48 {
+        return 16;
+    }
+    if c <= 57 {
+        return c - 48;
+    }
+    if c < 97 {
+        return 16;
+    }
+    if c <= 102 { c - 87 } else { 16 }
+}
+
+// How many bytes a character stands for, with the one behind it.
+fn count(c: u8) -> usize {
+    if digit(c) < 16 {
+        return 1;
+    }
+    match c {
+        b'O' => 4,
+        b'P' => 21,
+        _ => 0,
+    }
+}
+
+// The first of these bytes; the others are 0.
+fn first(c: u8, d: u8) -> u8 {
+    if c == b'P' {
+        return 0x10;
+    }
+    let high = digit(c);
+    let low = digit(d);
+    if high < 16 {
+        if low < 16 {
+            return high * 16 + low;
+        }
+    }
+    0
+}
+
+fn put(out: &mut [u8], at: usize, b: u8) {
+    if at < out.len() {
+        out[at] = b;
+    }
+}
+
+// A digit is read with the one behind it.
+fn step(n: usize) -> usize
+    ensures { λ r. ⌜ (1 ≤ r) × (r ≤ 2) ⌝ }
+{
+    if n == 1 { 2 } else { 1 }
+}
+
+// The character at a place, 0 past the end.
+fn char_at(text: &[u8], i: usize) -> u8 {
+    if i < text.len() { text[i] } else { 0 }
+}
+
+// The bytes that a text stands for, into a buffer of zeros as far as there is room; how many.
+pub fn bytes_of(text: &[u8], out: &mut [u8]) -> usize
+    ensures { λ r. ⌜ r ≤ length (now (out .entry)) ⌝ }
+{
+    let mut at: usize = 0;
+    let mut i: usize = 0;
+    while i < text.len() {
+        let c = text[i];
+        let n = count(c);
+        if out.len() - at < n {
+            return at;
+        }
+        let b = first(c, char_at(text, i + 1));
+        put(out, at, b);
+        at += n;
+        i += step(n);
+    }
+    at
+}
