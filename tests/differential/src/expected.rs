@@ -1,0 +1,86 @@
+//! What each C function has to return and to leave, by the second program.
+
+use reference::{listing, name, solve, value, worth, Outcome, Reading, Refusal, State};
+
+/// The answer's bytes, or 17 for a short `out`, where an earlier refusal keeps its number (decision 97).
+fn answer(number: u32, bytes: Vec<u8>, out: &mut [u8]) -> u32 {
+    if out.len() < bytes.len() {
+        return if matches!(number, 0 | 11 | 12) { 17 } else { number };
+    }
+    out[..bytes.len()].copy_from_slice(&bytes);
+    number
+}
+
+fn words(numbers: &[u32]) -> Vec<u8> {
+    numbers.iter().flat_map(|number| number.to_le_bytes()).collect()
+}
+
+fn reading(reading: Reading, out: &mut [u8]) -> u32 {
+    let mut bytes = words(&[reading.place, reading.action]);
+    bytes.extend(reading.low.to_le_bytes());
+    bytes.extend(reading.high.to_le_bytes());
+    answer(reading.number, bytes, out)
+}
+
+/// Leaves the outcome of a solve in lent words.
+pub fn leave(done: &Outcome, nodes: &mut [i64], stages: &mut [u32], work: &mut [u32]) {
+    if !done.is_untouched() {
+        nodes.fill(0);
+        nodes[..done.nodes.len()].copy_from_slice(&done.nodes);
+        stages.copy_from_slice(&done.stages);
+        work.fill(0);
+    }
+}
+
+pub fn solved(
+    model: &[u8],
+    horizon: u32,
+    nodes: &mut [i64],
+    stages: &mut [u32],
+    work: &mut [u32],
+    out: &mut [u8],
+) -> u32 {
+    let done = solve(model, horizon, nodes.len(), stages.len(), work.len());
+    let number = answer(done.number, words(&[done.place, done.peak]), out);
+    if number == done.number && out.len() >= 8 {
+        leave(&done, nodes, stages, work);
+    }
+    number
+}
+
+pub fn valued(model: &[u8], nodes: &[i64], stages: &[u32], steps: u32, state: State, out: &mut [u8]) -> u32 {
+    reading(value(model, nodes, stages, steps, state), out)
+}
+
+pub fn named(model: &[u8], action: u32, out: &mut [u8]) -> u32 {
+    let (number, place, name) = name(model, action).map_or_else(|r| (r.number, r.place, &[][..]), |name| (0, 0, name));
+    let mut bytes = words(&[place, name.len() as u32]);
+    bytes.extend(name);
+    bytes.resize(24, 0);
+    answer(number, bytes, out)
+}
+
+pub fn worked(model: &[u8], steps: u32, state: State, out: &mut [u8]) -> u32 {
+    reading(worth(model, steps, state), out)
+}
+
+pub fn listed(
+    model: &[u8],
+    horizon: u32,
+    nodes: &[i64],
+    stages: &[u32],
+    text: &mut [u8],
+    place: usize,
+    out: &mut [u8],
+) -> u32 {
+    match listing(model, horizon, nodes, stages, text.len(), place) {
+        Ok(lines) => {
+            let number = answer(0, words(&[0, lines.len() as u32]), out);
+            if number == 0 {
+                text[place..place + lines.len()].copy_from_slice(lines.as_bytes());
+            }
+            number
+        }
+        Err(Refusal { number, place }) => answer(number, words(&[place, 0]), out),
+    }
+}

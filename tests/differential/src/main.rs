@@ -1,0 +1,370 @@
+//! Compares every outcome of libplanner.a with the second program: numbers, places, peaks, all lent words, values,
+//! names, listings, plain working. See tests/README.md for the link line.
+
+mod expected;
+#[cfg(not(linked))]
+#[path = "mock.rs"]
+mod planner;
+#[cfg(linked)]
+mod planner;
+
+use models::{damaged, deep, near_limit, pond, rain, random, staircases, Rng};
+use reference::{solve, validate, with_deep_stack, Outcome, State};
+use std::fmt::Debug;
+use std::time::Instant;
+
+const USAGE: &str = "differential random [COUNT [SEED]]      random models, tables, states, damage
+differential endurance [COUNT [SEED]]   the same tables for one model after another
+differential large                      the large models, with times";
+
+/// What a call was made with, kept for the report of a difference.
+struct Calls {
+    by_number: [u64; 18],
+    model: Vec<u8>,
+    round: u64,
+}
+
+impl Calls {
+    fn check<T: PartialEq + Debug + ?Sized>(
+        &self,
+        function: &str,
+        what: &str,
+        theirs: &T,
+        ours: &T,
+        arguments: &dyn Debug,
+    ) {
+        if theirs != ours {
+            let path = std::env::temp_dir().join("differential-model");
+            let saved = std::fs::write(&path, &self.model).map_or("not saved".into(), |()| path.display().to_string());
+            println!("DIFFERENT {function} in round {}: {what}", self.round);
+            println!("arguments {arguments:?}\nmodel {saved}");
+            println!("library   {}\nreference {}", short(theirs), short(ours));
+            std::process::exit(1);
+        }
+    }
+
+    fn count(&mut self, number: u32) {
+        self.by_number[number as usize] += 1;
+    }
+}
+
+fn short(value: &(impl Debug + ?Sized)) -> String {
+    format!("{value:?}").chars().take(2_000).collect()
+}
+
+/// The lent tables of a solve.
+#[derive(Clone, PartialEq, Debug)]
+struct Tables {
+    nodes: Vec<i64>,
+    stages: Vec<u32>,
+    work: Vec<u32>,
+}
+
+impl Tables {
+    fn full_of_anything(rng: &mut Rng, node_words: usize, stage_words: usize, work_words: usize) -> Tables {
+        Tables {
+            nodes: (0..node_words).map(|_| rng.word() as i64).collect(),
+            stages: (0..stage_words).map(|_| rng.word() as u32).collect(),
+            work: (0..work_words).map(|_| rng.word() as u32).collect(),
+        }
+    }
+}
+
+fn bytes(rng: &mut Rng, length: usize) -> Vec<u8> {
+    (0..length).map(|_| rng.word() as u8).collect()
+}
+
+/// An `out` for an answer of so many bytes: often longer, now and then too short.
+fn out(rng: &mut Rng, answer: usize) -> Vec<u8> {
+    let length = if rng.once_in(30) { rng.below(answer) } else { answer + rng.pick(&[0, 0, 1, 9]) };
+    bytes(rng, length)
+}
+
+fn compare_solve(calls: &mut Calls, rng: &mut Rng, horizon: u32, mut tables: Tables) -> (u32, Tables) {
+    let model = calls.model.clone();
+    let mut ours = tables.clone();
+    let mut out = out(rng, 8);
+    let mut our_out = out.clone();
+    let arguments = (horizon, tables.nodes.len(), tables.stages.len(), tables.work.len(), out.len());
+    let Tables { nodes, stages, work } = &mut tables;
+    let number = planner::solve(&model, horizon, nodes, stages, work, &mut out);
+    let Tables { nodes, stages, work } = &mut ours;
+    let our_number = expected::solved(&model, horizon, nodes, stages, work, &mut our_out);
+    calls.check("solve", "number", &number, &our_number, &arguments);
+    calls.check("solve", "place, peak", &out, &our_out, &arguments);
+    calls.check("solve", "tables", &tables, &ours, &arguments);
+    calls.count(number);
+    (number, tables)
+}
+
+/// Value and plain working at one state; their words are the same where both answer (decision 79).
+fn compare_state(calls: &mut Calls, rng: &mut Rng, tables: &Tables, steps: u32, is_solved: bool) {
+    let model = calls.model.clone();
+    let state = state(rng, &model);
+    let mut from_tables = out(rng, 24);
+    let mut ours = from_tables.clone();
+    let arguments = (&tables.stages, tables.nodes.len(), steps, state, ours.len());
+    let number = planner::value(&model, &tables.nodes, &tables.stages, steps, state, &mut from_tables);
+    let our_number = expected::valued(&model, &tables.nodes, &tables.stages, steps, state, &mut ours);
+    calls.check("value", "number", &number, &our_number, &arguments);
+    calls.check("value", "answer", &from_tables, &ours, &arguments);
+    calls.count(number);
+    if cost(&model, steps) > 20_000 {
+        return;
+    }
+    let mut from_model = out(rng, 24);
+    let mut ours = from_model.clone();
+    let other_number = planner::worth(&model, steps, state, &mut from_model);
+    let our_number = expected::worked(&model, steps, state, &mut ours);
+    calls.check("worth", "number", &other_number, &our_number, &arguments);
+    calls.check("worth", "answer", &from_model, &ours, &arguments);
+    calls.count(other_number);
+    if is_solved && number == 0 && other_number == 0 {
+        calls.check("value and worth", "answer", &from_tables[..24].to_vec(), &from_model[..24].to_vec(), &arguments);
+    }
+}
+
+/// Next states that plain working meets, about.
+fn cost(model: &[u8], steps: u32) -> u64 {
+    if validate(model).0 != 0 || steps > 8 {
+        return 0;
+    }
+    (u64::from(model[3]) << model[2]).saturating_pow(steps)
+}
+
+fn compare_name(calls: &mut Calls, rng: &mut Rng, action: u32) {
+    let model = calls.model.clone();
+    let mut out = out(rng, 24);
+    let mut ours = out.clone();
+    let number = planner::name(&model, action, &mut out);
+    let our_number = expected::named(&model, action, &mut ours);
+    calls.check("name", "number", &number, &our_number, &action);
+    calls.check("name", "answer", &out, &ours, &action);
+    calls.count(number);
+}
+
+fn compare_listing(calls: &mut Calls, rng: &mut Rng, tables: &Tables, horizon: u32) {
+    let model = calls.model.clone();
+    let length =
+        reference::listing(&model, horizon, &tables.nodes, &tables.stages, usize::MAX, 0).map_or(0, |t| t.len());
+    let place = rng.pick(&[0, 0, 1, 100]);
+    let around = rng.pick(&[0, 0, 1, 50, usize::MAX]);
+    let mut text = bytes(rng, (length + place).wrapping_add(around).min(1 << 24));
+    let place = if rng.once_in(20) { text.len() + rng.pick(&[0, 1, usize::MAX / 2]) } else { place };
+    let mut our_text = text.clone();
+    let mut out = out(rng, 8);
+    let mut ours = out.clone();
+    let arguments = (&tables.stages, tables.nodes.len(), horizon, text.len(), place, out.len());
+    let number = planner::listing(&model, horizon, &tables.nodes, &tables.stages, &mut text, place, &mut out);
+    let our_number = expected::listed(&model, horizon, &tables.nodes, &tables.stages, &mut our_text, place, &mut ours);
+    calls.check("listing", "number", &number, &our_number, &arguments);
+    calls.check("listing", "answer", &out, &ours, &arguments);
+    calls.check("listing", "text", &text, &our_text, &arguments);
+    calls.count(number);
+}
+
+fn state(rng: &mut Rng, model: &[u8]) -> State {
+    let (m, n) = (model.get(1).map_or(4, |&m| m.into()), model.get(2).map_or(4, |&n| u32::from(n.min(8))));
+    let (size, once) = (rng.pick(&[3, 30, 3_000, i32::MAX]), !rng.once_in(15));
+    let d = rng.pick(&[1, 1, 1, 2, 3, 10, 1_000, i32::MAX]);
+    State {
+        mask: if once { rng.word() as u32 & ((1 << n) - 1) } else { rng.word() as u32 >> rng.below(32) },
+        nums: std::array::from_fn(|i| if i < m || rng.once_in(40) { (rng.word() as i32) % size } else { 0 }),
+        d: if rng.once_in(30) { rng.pick(&[0, -1, i32::MIN]) } else { d },
+    }
+}
+
+fn any_horizon(rng: &mut Rng) -> u32 {
+    if rng.once_in(20) {
+        rng.pick(&[0, 9, 255, u32::MAX])
+    } else {
+        rng.pick(&[1, 1, 2, 2, 2, 3, 3, 4, 5, 6, 7, 8])
+    }
+}
+
+/// Changes a few words of solved tables, mostly to what row 14 or 15 is about.
+fn damage(rng: &mut Rng, tables: &mut Tables) {
+    let rows = tables.stages.iter().max().map_or(1, |&rows| rows.max(1)) as usize;
+    for _ in 0..rng.pick(&[1, 1, 2, 4]) {
+        let row = rng.below(rows);
+        let limit = (1 << 62) - 1;
+        let small = rng.between(-2, 9).into();
+        let near = row as i64 + i64::from(rng.between(0, 3));
+        let word = rng.pick(&[small, small, near, limit, limit + 1, -limit, -limit - 1, i64::MIN, i64::MAX]);
+        match rng.below(12) {
+            0 if !tables.stages.is_empty() => {
+                let stage = rng.below(tables.stages.len());
+                tables.stages[stage] = rng.pick(&[0, 1, rows as u32, rows as u32 + 1, u32::MAX]);
+            }
+            1 => tables.nodes.truncate(8 * rows - rng.below(9).min(8 * rows)),
+            _ => {
+                if let Some(place) = tables.nodes.get_mut(8 * row + rng.below(8)) {
+                    *place = word;
+                }
+            }
+        }
+    }
+}
+
+/// A model, valid or damaged, or too long.
+fn any_model(rng: &mut Rng) -> Vec<u8> {
+    let mut model = random(rng);
+    if rng.once_in(3) {
+        model = damaged(rng, &model);
+    }
+    if rng.once_in(300) {
+        model.resize(rng.pick(&[65_535, 65_536, 70_000]), 0x10);
+    }
+    model
+}
+
+fn one_round(calls: &mut Calls, rng: &mut Rng) {
+    calls.model = any_model(rng);
+    let horizon = any_horizon(rng);
+    let most = rng.pick(&[60, 200, 600, 2_000]);
+    let first = solve(&calls.model, horizon, 8 * most, 8, 8 * most);
+    let peak = if first.number == 0 { first.peak as usize } else { most };
+    let below = rng.below(peak + 1);
+    let mut solved = None;
+    for size in [peak, peak.saturating_sub(1), peak + 1, below] {
+        let (least, more) = (8 * size + rng.below(8), 8 * size + rng.below(40));
+        let (node_words, work_words) = if rng.once_in(2) { (least, more) } else { (more, least) };
+        let stage_words = if rng.once_in(40) { rng.pick(&[0, 7, 9]) } else { 8 };
+        let tables = Tables::full_of_anything(rng, node_words, stage_words, work_words);
+        let (number, tables) = compare_solve(calls, rng, horizon, tables);
+        if number == 0 {
+            solved = Some(tables);
+        }
+        if first.is_untouched() {
+            break;
+        }
+    }
+    for _ in 0..2 {
+        let action = if rng.once_in(9) { rng.pick(&[0, 9, u32::MAX]) } else { rng.between(1, 8) as u32 };
+        compare_name(calls, rng, action);
+    }
+    let is_solved = solved.is_some();
+    let mut tables = solved.unwrap_or_else(|| Tables::full_of_anything(rng, 80, 8, 0));
+    for _ in 0..if is_solved { 6 } else { 2 } {
+        let steps = any_horizon(rng).min(if rng.once_in(9) { u32::MAX } else { horizon });
+        compare_state(calls, rng, &tables, steps, is_solved);
+    }
+    let shorter = any_horizon(rng).min(horizon);
+    compare_listing(calls, rng, &tables, shorter);
+    for _ in 0..3 {
+        let mut bad = tables.clone();
+        damage(rng, &mut bad);
+        let steps = any_horizon(rng).min(horizon);
+        compare_state(calls, rng, &bad, steps, false);
+        compare_listing(calls, rng, &bad, horizon);
+    }
+    tables.stages.truncate(rng.pick(&[8, 7, 0]));
+    compare_state(calls, rng, &tables, horizon, false);
+    compare_listing(calls, rng, &tables, horizon);
+}
+
+/// The same tables, never cleared from outside, for one model after another: each time as with fresh ones.
+fn endurance_round(calls: &mut Calls, rng: &mut Rng, lent: &mut Tables) {
+    calls.model = any_model(rng);
+    let horizon = any_horizon(rng);
+    let (node_words, work_words) = (rng.below(lent.nodes.len() + 1), rng.below(lent.work.len() + 1));
+    let (mut out, mut fresh_out, mut our_out) = ([0; 8], [0; 8], [0; 8]);
+    let mut fresh = Tables { nodes: vec![0; node_words], stages: vec![0; 8], work: vec![0; work_words] };
+    let mut ours = lent.clone();
+    let (nodes, work) = (&mut lent.nodes[..node_words], &mut lent.work[..work_words]);
+    let number = planner::solve(&calls.model, horizon, nodes, &mut lent.stages, work, &mut out);
+    let Tables { nodes, stages, work } = &mut fresh;
+    let fresh_number = planner::solve(&calls.model, horizon, nodes, stages, work, &mut fresh_out);
+    let (nodes, work) = (&mut ours.nodes[..node_words], &mut ours.work[..work_words]);
+    let our_number = expected::solved(&calls.model, horizon, nodes, &mut ours.stages, work, &mut our_out);
+    let arguments = (horizon, node_words, work_words);
+    calls.check("solve", "number, fresh and lent", &fresh_number, &number, &arguments);
+    calls.check("solve", "answer, fresh and lent", &fresh_out, &out, &arguments);
+    calls.check("solve", "number", &number, &our_number, &arguments);
+    calls.check("solve", "place, peak", &out, &our_out, &arguments);
+    calls.check("solve", "tables, and the words not lent", lent, &ours, &arguments);
+    if matches!(number, 0 | 11 | 12) {
+        calls.check("solve", "fresh nodes", &fresh.nodes[..], &lent.nodes[..node_words], &arguments);
+        calls.check("solve", "fresh stages", &fresh.stages, &lent.stages, &arguments);
+    }
+    calls.count(number);
+    compare_state(calls, rng, lent, horizon, number == 0);
+}
+
+fn large(calls: &mut Calls) {
+    let cases = [
+        ("pond", pond(), 8),
+        ("rain", rain(), 8),
+        ("staircases", staircases(), 1),
+        ("near_limit", near_limit(), 6),
+        ("deep", deep(), 4),
+    ];
+    for (name, model, horizon) in cases {
+        let whole = solve(&model, horizon, 8 * 65_535, 8, 8 * 65_535);
+        calls.model = model;
+        for size in [65_535, whole.peak as usize, whole.peak.saturating_sub(1) as usize] {
+            let mut tables = Tables { nodes: vec![-1; 8 * size], stages: vec![7; 8], work: vec![9; 8 * size] };
+            let mut ours = tables.clone();
+            let mut out = [0; 8];
+            let start = Instant::now();
+            let Tables { nodes, stages, work } = &mut tables;
+            let number = planner::solve(&calls.model, horizon, nodes, stages, work, &mut out);
+            let time = start.elapsed().as_secs_f64();
+            let start = Instant::now();
+            let done: Outcome = solve(&calls.model, horizon, 8 * size, 8, 8 * size);
+            let our_time = start.elapsed().as_secs_f64();
+            expected::leave(&done, &mut ours.nodes, &mut ours.stages, &mut ours.work);
+            let our_out = [done.place.to_le_bytes(), done.peak.to_le_bytes()].concat();
+            calls.check(name, "number", &number, &done.number, &size);
+            calls.check(name, "place, peak", &out.to_vec(), &our_out, &size);
+            calls.check(name, "tables", &tables, &ours, &size);
+            calls.count(number);
+            let (bytes, rows, peak) = (calls.model.len(), done.nodes.len() / 8, done.peak);
+            println!("{name}: {bytes} bytes, horizon {horizon}, N {size}: number {number}, peak {peak}, {rows} nodes");
+            println!("  library {time:.3} s, reference {our_time:.3} s");
+        }
+    }
+}
+
+fn run(args: &[String]) {
+    let number = |place: usize, otherwise: u64| args.get(place).map_or(Some(otherwise), |arg| arg.parse().ok());
+    let (Some(mode), Some(count), Some(seed)) = (args.first(), number(1, 2_000), number(2, 1)) else {
+        eprintln!("{USAGE}");
+        std::process::exit(2)
+    };
+    let mut calls = Calls { by_number: [0; 18], model: Vec::new(), round: 0 };
+    let start = Instant::now();
+    let mut lent = Tables::full_of_anything(&mut Rng(seed), 8 * 2_000 + 3, 8, 8 * 2_000 + 5);
+    match mode.as_str() {
+        "large" => large(&mut calls),
+        "random" | "endurance" => {
+            for round in 0..count {
+                // Each round has a seed of its own, so that one can be run again alone.
+                let mut rng = Rng(seed.wrapping_mul(1_000_003).wrapping_add(round));
+                calls.round = round;
+                match mode.as_str() {
+                    "random" => one_round(&mut calls, &mut rng),
+                    _ => endurance_round(&mut calls, &mut rng, &mut lent),
+                }
+            }
+        }
+        _ => {
+            eprintln!("{USAGE}");
+            std::process::exit(2)
+        }
+    }
+    let library = if cfg!(linked) { "libplanner.a" } else { "the mock" };
+    let time = start.elapsed().as_secs_f64();
+    println!(
+        "{mode}: {} calls of {library}, all as expected, seed {seed}, {time:.1} s",
+        calls.by_number.iter().sum::<u64>()
+    );
+    let numbers: Vec<String> =
+        calls.by_number.iter().enumerate().map(|(number, count)| format!("{number}:{count}")).collect();
+    println!("by number {}", numbers.join(" "));
+}
+
+fn main() {
+    let args: Vec<String> = std::env::args().skip(1).collect();
+    with_deep_stack(|| run(&args));
+}

@@ -1,0 +1,44 @@
+//! Stands in for the library, so that the comparison can be built and tried without it. A fault can be asked for with
+//! PLANNER_FAULT=function (solve, value, name, worth or listing); the comparison has to find it.
+
+use crate::expected;
+use reference::State;
+use std::sync::atomic::{AtomicU32, Ordering};
+
+/// Spoils one answer in 50, if asked to for this function.
+fn spoil(function: &str, number: u32, out: &mut [u8]) -> u32 {
+    static COUNT: AtomicU32 = AtomicU32::new(0);
+    let asked = std::env::var("PLANNER_FAULT").is_ok_and(|fault| fault == function);
+    if asked && !out.is_empty() && COUNT.fetch_add(1, Ordering::Relaxed) % 50 == 49 {
+        out[0] ^= 1;
+    }
+    number
+}
+
+pub fn solve(m: &[u8], horizon: u32, nodes: &mut [i64], stages: &mut [u32], work: &mut [u32], out: &mut [u8]) -> u32 {
+    spoil("solve", expected::solved(m, horizon, nodes, stages, work, out), out)
+}
+
+pub fn value(model: &[u8], nodes: &[i64], stages: &[u32], steps: u32, state: State, out: &mut [u8]) -> u32 {
+    spoil("value", expected::valued(model, nodes, stages, steps, state, out), out)
+}
+
+pub fn name(model: &[u8], action: u32, out: &mut [u8]) -> u32 {
+    spoil("name", expected::named(model, action, out), out)
+}
+
+pub fn worth(model: &[u8], steps: u32, state: State, out: &mut [u8]) -> u32 {
+    spoil("worth", expected::worked(model, steps, state, out), out)
+}
+
+pub fn listing(
+    model: &[u8],
+    horizon: u32,
+    nodes: &[i64],
+    stages: &[u32],
+    text: &mut [u8],
+    place: usize,
+    out: &mut [u8],
+) -> u32 {
+    spoil("listing", expected::listed(model, horizon, nodes, stages, text, place, out), out)
+}

@@ -1,0 +1,117 @@
+//! The C interface of the library (decision 97), and safe calls to it.
+
+use reference::State;
+
+extern "C" {
+    #[rustfmt::skip]
+    fn planner_solve(
+        model: *const u8,
+        model_len: usize,
+        horizon: u32,
+        nodes: *mut i64,
+        node_words: usize,
+        stages: *mut u32,
+        stage_words: usize,
+        work: *mut u32,
+        work_words: usize,
+        out: *mut u8,
+        out_len: usize,
+    ) -> u32;
+    #[rustfmt::skip]
+    fn planner_value(
+        model: *const u8,
+        model_len: usize,
+        nodes: *const i64,
+        node_words: usize,
+        stages: *const u32,
+        stage_words: usize,
+        steps: u32,
+        mask: u32,
+        l1: i32,
+        l2: i32,
+        l3: i32,
+        l4: i32,
+        d: i32,
+        out: *mut u8,
+        out_len: usize,
+    ) -> u32;
+    fn planner_name(model: *const u8, model_len: usize, action: u32, out: *mut u8, out_len: usize) -> u32;
+    #[rustfmt::skip]
+    fn planner_worth(
+        model: *const u8,
+        model_len: usize,
+        steps: u32,
+        mask: u32,
+        l1: i32,
+        l2: i32,
+        l3: i32,
+        l4: i32,
+        d: i32,
+        out: *mut u8,
+        out_len: usize,
+    ) -> u32;
+    #[rustfmt::skip]
+    fn planner_listing(
+        model: *const u8,
+        model_len: usize,
+        horizon: u32,
+        nodes: *const i64,
+        node_words: usize,
+        stages: *const u32,
+        stage_words: usize,
+        text: *mut u8,
+        text_len: usize,
+        place: usize,
+        out: *mut u8,
+        out_len: usize,
+    ) -> u32;
+}
+
+// In every call a pointer comes with the length of its slice, and the slices do not overlap.
+
+#[rustfmt::skip]
+pub fn solve(m: &[u8], horizon: u32, nodes: &mut [i64], stages: &mut [u32], work: &mut [u32], out: &mut [u8]) -> u32 {
+    // SAFETY: as said above.
+    unsafe {
+        planner_solve(
+            m.as_ptr(), m.len(), horizon, nodes.as_mut_ptr(), nodes.len(), stages.as_mut_ptr(), stages.len(),
+            work.as_mut_ptr(), work.len(), out.as_mut_ptr(), out.len(),
+        )
+    }
+}
+
+#[rustfmt::skip]
+pub fn value(model: &[u8], nodes: &[i64], stages: &[u32], steps: u32, state: State, out: &mut [u8]) -> u32 {
+    let State { mask, nums: [l1, l2, l3, l4], d } = state;
+    // SAFETY: as said above.
+    unsafe {
+        planner_value(
+            model.as_ptr(), model.len(), nodes.as_ptr(), nodes.len(), stages.as_ptr(), stages.len(), steps, mask,
+            l1, l2, l3, l4, d, out.as_mut_ptr(), out.len(),
+        )
+    }
+}
+
+pub fn name(model: &[u8], action: u32, out: &mut [u8]) -> u32 {
+    // SAFETY: as said above.
+    unsafe { planner_name(model.as_ptr(), model.len(), action, out.as_mut_ptr(), out.len()) }
+}
+
+pub fn worth(model: &[u8], steps: u32, state: State, out: &mut [u8]) -> u32 {
+    let State { mask, nums: [l1, l2, l3, l4], d } = state;
+    // SAFETY: as said above.
+    unsafe { planner_worth(model.as_ptr(), model.len(), steps, mask, l1, l2, l3, l4, d, out.as_mut_ptr(), out.len()) }
+}
+
+#[rustfmt::skip]
+pub fn listing(
+    model: &[u8], horizon: u32, nodes: &[i64], stages: &[u32], text: &mut [u8], place: usize, out: &mut [u8],
+) -> u32 {
+    // SAFETY: as said above.
+    unsafe {
+        planner_listing(
+            model.as_ptr(), model.len(), horizon, nodes.as_ptr(), nodes.len(), stages.as_ptr(), stages.len(),
+            text.as_mut_ptr(), text.len(), place, out.as_mut_ptr(), out.len(),
+        )
+    }
+}

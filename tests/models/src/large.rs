@@ -1,0 +1,73 @@
+//! Large models: many pairs, a peak near the limit, deep recursion.
+
+use crate::Writer;
+
+/// A chain of tests L1 + constant ≤ 0, constants rising; the low side of test i is a leaf of its own.
+fn staircase(w: &mut Writer, first: i32, step: i32, count: i32, lowest: i32) {
+    w.leaf([0; 4], lowest);
+    for i in (0..count).rev() {
+        w.leaf([0; 4], lowest + 1 + i).test([1, 0, 0, 0], first + step * i);
+    }
+}
+
+/// Two rewards with 750 tests each, at alternating levels. The first is higher everywhere, so that *best* meets every
+/// pair and makes nothing. For horizon 1: 6,006 needed nodes.
+pub fn staircases() -> Vec<u8> {
+    let mut w = Writer::site(1, 0, 2, 1);
+    for action in 1..=2u8 {
+        staircase(&mut w, -1_500 + i32::from(action), 2, 750, 10_000 * i32::from(3 - action));
+        w.reward(action).leaf([1, 0, 0, 0], 0).next(action, 1);
+    }
+    w.end()
+}
+
+/// Two tanks, each with its own rain: hold, or let 30 out of the first, of which 20 reach the second, whose level is
+/// the reward. For horizon 6: about 6,000 nodes in stage 6, and a peak of about 58,000.
+pub fn near_limit() -> Vec<u8> {
+    let mut w = Writer::site(2, 2, 2, 10);
+    let first = |w: &mut Writer, change| {
+        w.leaf([1, 0, 0, 0], 10 + change).leaf([1, 0, 0, 0], change).condition(5);
+    };
+    let second = |w: &mut Writer, change| {
+        w.leaf([0, 1, 0, 0], 20 + change).leaf([0, 1, 0, 0], change).condition(6);
+    };
+    for action in 1..=2 {
+        w.leaf([0; 4], 8).chance(action, 1).leaf([0; 4], 5).chance(action, 2);
+    }
+    w.leaf([0, 1, 0, 0], 0).reward(1);
+    first(&mut w, 0);
+    w.next(1, 1);
+    second(&mut w, 0);
+    w.next(1, 2);
+    w.leaf([0, 1, 0, 0], 35).leaf([0, 1, 0, 0], -4).test([-1, 0, 0, 0], 30).reward(2);
+    first(&mut w, -30);
+    first(&mut w, 0);
+    w.test([-1, 0, 0, 0], 30).next(2, 1);
+    second(&mut w, 20);
+    second(&mut w, 0);
+    w.test([-1, 0, 0, 0], 30).next(2, 2);
+    w.name(1, "Hold").name(2, "Release");
+    w.end()
+}
+
+/// Long paths with few nodes, for horizon 4 and N = 65,535. A value is 1 where a test fails and 0 at the end of the
+/// chain. Action 1 has a chain of 661 tests, and after it nothing more is gained. Actions 2 to 4 go on from another
+/// place, which puts shifted copies of the chain one after the other: levels 2 to 4 are a register, so that the tests
+/// of a later action come later. Action 5 does so too, with a loss; the last *best* goes down both paths together.
+pub fn deep() -> Vec<u8> {
+    let mut w = Writer::site(4, 0, 5, 1);
+    w.leaf([0; 4], 0);
+    for k in (1..=661).rev() {
+        w.leaf([0; 4], 1).test([-1, 0, 0, 0], k);
+    }
+    w.reward(1).leaf([0; 4], 1_000_000).next(1, 1);
+    for level in 2..=4 {
+        w.leaf([0; 4], 0).next(1, level);
+    }
+    for action in 2..=5u8 {
+        w.leaf([0; 4], if action < 5 { 0 } else { -5 }).reward(action);
+        w.leaf([1, 1 - i32::from(action), 0, 0], 0).next(action, 1);
+        w.leaf([0, 0, 1, 0], 0).next(action, 2).leaf([0, 0, 0, 1], 0).next(action, 3).leaf([0; 4], 0).next(action, 4);
+    }
+    w.end()
+}

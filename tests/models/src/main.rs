@@ -1,0 +1,31 @@
+//! Writes the models to a folder, and some random ones: `models FOLDER [COUNT [SEED]]`.
+
+use models::{damaged, deep, near_limit, pond, rain, random, staircases, Rng};
+use std::path::Path;
+
+fn main() -> std::io::Result<()> {
+    let args: Vec<String> = std::env::args().skip(1).collect();
+    let Some(folder) = args.first().map(Path::new) else {
+        eprintln!("models FOLDER [COUNT [SEED]]");
+        std::process::exit(2)
+    };
+    let number = |place: usize| args.get(place).and_then(|arg| arg.parse::<u64>().ok());
+    std::fs::create_dir_all(folder)?;
+    let fixed = [
+        ("pond", pond()),
+        ("rain", rain()),
+        ("staircases", staircases()),
+        ("near_limit", near_limit()),
+        ("deep", deep()),
+    ];
+    for (name, model) in fixed {
+        std::fs::write(folder.join(name), model)?;
+    }
+    let mut rng = Rng(number(2).unwrap_or(1));
+    for i in 0..number(1).unwrap_or(0) {
+        let model = random(&mut rng);
+        std::fs::write(folder.join(format!("damaged{i}")), damaged(&mut rng, &model))?;
+        std::fs::write(folder.join(format!("random{i}")), model)?;
+    }
+    Ok(())
+}

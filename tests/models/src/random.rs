@@ -1,0 +1,222 @@
+//! Random models from a seed, valid and damaged.
+
+use crate::Writer;
+
+/// A source of numbers: splitmix64.
+pub struct Rng(pub u64);
+
+impl Rng {
+    pub fn word(&mut self) -> u64 {
+        self.0 = self.0.wrapping_add(0x9E37_79B9_7F4A_7C15);
+        let mut x = self.0;
+        x = (x ^ x >> 30).wrapping_mul(0xBF58_476D_1CE4_E5B9);
+        x = (x ^ x >> 27).wrapping_mul(0x94D0_49BB_1331_11EB);
+        x ^ x >> 31
+    }
+
+    /// 0 to below `count`.
+    pub fn below(&mut self, count: usize) -> usize {
+        (self.word() % count as u64) as usize
+    }
+
+    /// `from` to `to`, both included.
+    pub fn between(&mut self, from: i32, to: i32) -> i32 {
+        from + self.below((to - from) as usize + 1) as i32
+    }
+
+    /// True once in so many times.
+    pub fn once_in(&mut self, times: usize) -> bool {
+        self.below(times) == 0
+    }
+
+    pub fn pick<T: Copy>(&mut self, from: &[T]) -> T {
+        from[self.below(from.len())]
+    }
+}
+
+/// What a diagram is for.
+#[derive(Clone, Copy, PartialEq)]
+enum Kind {
+    Reward,
+    Chance(u8),
+    Next(u8),
+}
+
+struct Shape {
+    m: usize,
+    n: u8,
+    w: i32,
+    /// Size of ordinary constants, and how often a number is huge (0 is never).
+    size: i32,
+    huge: usize,
+    depth: usize,
+}
+
+/// A valid model, except that now and then a long chain of leaves outgrows the stack.
+pub fn random(rng: &mut Rng) -> Vec<u8> {
+    let m = rng.pick(&[1, 1, 1, 2, 2, 3, 4]);
+    let n = rng.pick(&[0, 0, 1, 1, 1, 2, 2, 3, 4]);
+    let a = rng.pick(&[1, 1, 2, 2, 2, 3, 3, 4, 8]);
+    let w = rng.pick(&[1, 2, 2, 3, 10, 10, 100, 0]);
+    let w = if w == 0 { rng.between(1, 100) } else { w };
+    let shape = Shape {
+        m: m.into(),
+        n,
+        w,
+        size: rng.pick(&[1, 3, 3, 20, 1000]),
+        huge: rng.pick(&[0, 0, 0, 40, 10]),
+        depth: rng.pick(&[0, 1, 1, 2, 2, 3, 4]),
+    };
+    let mut items = Vec::new();
+    for action in 1..=a {
+        items.push((action, Kind::Reward));
+        items.extend((1..=n).map(|i| (action, Kind::Chance(i))));
+        items.extend((1..=m).map(|i| (action, Kind::Next(i))));
+    }
+    for i in (1..items.len()).rev() {
+        items.swap(i, rng.below(i + 1));
+    }
+    let mut writer = Writer::site(m, n, a, w as u8);
+    let mut rest = &items[..];
+    while !rest.is_empty() {
+        let several = if rng.once_in(3) { 1 + rng.below(6) } else { 1 };
+        let (now, later) = rest.split_at(several.min(rest.len()));
+        for &(_, kind) in now {
+            let depth = rng.below(shape.depth + 1);
+            diagram(rng, &mut writer, &shape, kind, depth);
+        }
+        for &(action, kind) in now.iter().rev() {
+            match kind {
+                Kind::Reward => writer.reward(action),
+                Kind::Chance(condition) => writer.chance(action, condition),
+                Kind::Next(level) => writer.next(action, level),
+            };
+        }
+        rest = later;
+    }
+    for action in 1..=a {
+        if rng.once_in(2) {
+            writer.command(&[0x30, action]);
+            let letters = rng.below(17);
+            let name: Vec<u8> =
+                (0..16).map(|i| if i < letters { rng.between(0x20, 0x7E) as u8 } else { 0x20 }).collect();
+            writer.command(&name);
+        }
+    }
+    writer.end()
+}
+
+fn diagram(rng: &mut Rng, writer: &mut Writer, shape: &Shape, kind: Kind, depth: usize) {
+    if rng.once_in(400) {
+        // A chain on the low side, with the stack at its limit or past it.
+        let leaves = rng.between(30, 33);
+        (0..leaves).for_each(|_| leaf(rng, writer, shape, kind));
+        (1..leaves).for_each(|_| choice(rng, writer, shape, kind));
+    } else if depth == 0 {
+        leaf(rng, writer, shape, kind);
+    } else {
+        for _ in 0..2 {
+            let below = if rng.once_in(4) { 0 } else { depth - 1 };
+            diagram(rng, writer, shape, kind, below);
+        }
+        choice(rng, writer, shape, kind);
+    }
+}
+
+fn choice(rng: &mut Rng, writer: &mut Writer, shape: &Shape, kind: Kind) {
+    if shape.n > 0 && rng.once_in(2) {
+        let later = if matches!(kind, Kind::Next(_)) && !rng.once_in(4) { 4 } else { 0 };
+        writer.condition(later + rng.between(1, shape.n.into()) as u8);
+    } else {
+        let mut coefficients = coefficients(rng, shape);
+        if coefficients == [0; 4] {
+            coefficients[rng.below(shape.m)] = rng.pick(&[-1, 1, 2]);
+        }
+        let constant = number(rng, shape);
+        let factor = rng.pick(&[1, 1, 1, 2, 6]);
+        writer.test(coefficients.map(|c| c.wrapping_mul(factor)), constant.wrapping_mul(factor));
+    }
+}
+
+fn leaf(rng: &mut Rng, writer: &mut Writer, shape: &Shape, kind: Kind) {
+    match kind {
+        Kind::Chance(_) => {
+            writer.leaf([0; 4], if rng.once_in(3) { rng.pick(&[0, shape.w]) } else { rng.between(0, shape.w) })
+        }
+        Kind::Next(level) if !rng.once_in(4) => {
+            let mut own = [0; 4];
+            own[usize::from(level) - 1] = 1;
+            writer.leaf(own, number(rng, shape))
+        }
+        _ if rng.once_in(2) => writer.leaf([0; 4], number(rng, shape)),
+        _ => {
+            let coefficients = coefficients(rng, shape);
+            writer.leaf(coefficients, number(rng, shape))
+        }
+    };
+}
+
+fn coefficients(rng: &mut Rng, shape: &Shape) -> [i32; 4] {
+    std::array::from_fn(|i| match i < shape.m && rng.once_in(2) {
+        true if shape.huge > 0 && rng.once_in(shape.huge) => huge(rng),
+        true => rng.pick(&[-2, -1, -1, 1, 1, 1, 2, 3]),
+        false => 0,
+    })
+}
+
+fn number(rng: &mut Rng, shape: &Shape) -> i32 {
+    if shape.huge > 0 && rng.once_in(shape.huge) {
+        huge(rng)
+    } else {
+        rng.between(-shape.size, shape.size)
+    }
+}
+
+fn huge(rng: &mut Rng) -> i32 {
+    rng.pick(&[i32::MIN, i32::MIN + 1, i32::MAX, i32::MAX - 1, 1 << 30, -(1 << 30), 1 << 20, 46_341])
+}
+
+/// Offsets of the commands of a model without fault, the end of the last one included.
+pub fn commands(model: &[u8]) -> Vec<usize> {
+    let mut offsets = vec![0];
+    let mut offset = 0;
+    while offset < model.len() {
+        offset += match model[offset] {
+            0x01 => 5,
+            0x10 | 0x12 => 21,
+            0x11 | 0x20 => 2,
+            0x21 | 0x22 => 3,
+            0x30 => 18,
+            _ => 1,
+        };
+        offsets.push(offset.min(model.len()));
+    }
+    offsets
+}
+
+/// The model with a few faults, most of which give a refusal.
+pub fn damaged(rng: &mut Rng, model: &[u8]) -> Vec<u8> {
+    let mut bytes = model.to_vec();
+    for _ in 0..rng.pick(&[1, 1, 1, 2, 3]) {
+        let offsets = commands(&bytes);
+        let some = rng.below(offsets.len().max(2) - 1);
+        let (from, to) = (offsets[some], offsets.get(some + 1).copied().unwrap_or(bytes.len()));
+        let at = rng.below(bytes.len() + 1);
+        let byte = rng.pick(&[0, 1, 2, 4, 5, 8, 9, 0x10, 0x11, 0x1F, 0x20, 0x7E, 0x7F, 0x80, 0xFE, 0xFF]);
+        match rng.below(10) {
+            0 if from < to => bytes[from] = rng.pick(&[0x00, 0x01, 0x10, 0x11, 0x12, 0x20, 0x21, 0x22, 0x30, 0xFF]),
+            1..=3 if from + 1 < to => bytes[from + 1 + rng.below((to - from - 1).min(3))] = byte,
+            4 => bytes.truncate(at),
+            5 => drop(bytes.drain(from..to)),
+            6 => drop(bytes.splice(to..to, bytes[from..to].to_vec())),
+            7 => {
+                let other = rng.pick(&offsets);
+                drop(bytes.splice(other..other, bytes[from..to].to_vec()));
+            }
+            8 => bytes.insert(at, byte),
+            _ if at < bytes.len() => bytes[at] = rng.word() as u8,
+            _ => bytes.push(byte),
+        }
+    }
+    bytes
+}

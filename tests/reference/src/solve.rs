@@ -1,0 +1,197 @@
+//! A solve: loading, the operations of each stage, and the tables.
+
+use crate::diagram::{condition, divided, Fault, Id, Store};
+use crate::model::{open, Model, Tree};
+use crate::LIMIT;
+
+/// What a solve returns and leaves. `nodes` has the rows in use; every node word after them is zero, and so is every
+/// work word. After 11 and 12 all words are zero; after another refusal nothing is touched.
+#[derive(Clone, Debug, Default, PartialEq, Eq)]
+pub struct Outcome {
+    pub number: u32,
+    pub place: u32,
+    pub peak: u32,
+    pub nodes: Vec<i64>,
+    pub stages: [u32; 8],
+    /// Rule calls worked out and their greatest depth: figures of this program, not of 01.
+    pub calls: u64,
+    pub deepest: u32,
+}
+
+impl Outcome {
+    /// Are the lent words left as they were?
+    pub fn is_untouched(&self) -> bool {
+        !matches!(self.number, 0 | 11 | 12)
+    }
+}
+
+struct Solver<'a> {
+    model: &'a Model,
+    store: Store,
+    rewards: Vec<Id>,
+    chances: Vec<Vec<Id>>,
+    nexts: Vec<Vec<Id>>,
+    stages: Vec<Id>,
+    best: Option<Id>,
+    last: Option<Id>,
+    peak: usize,
+    /// The stage at work.
+    stage: u32,
+}
+
+/// Solves a model for tables of so many words.
+pub fn solve(bytes: &[u8], horizon: u32, node_words: usize, stage_words: usize, work_words: usize) -> Outcome {
+    let model = match open(bytes, Some(stage_words), Some(horizon)) {
+        Ok(model) => model,
+        Err(refusal) => return Outcome { number: refusal.number, place: refusal.place, ..Outcome::default() },
+    };
+    let most = (node_words / 8).min(work_words / 8).min(65_535);
+    crate::with_deep_stack(|| Solver::new(&model, most).run(horizon))
+}
+
+impl Solver<'_> {
+    fn new(model: &Model, most: usize) -> Solver<'_> {
+        Solver {
+            model,
+            store: Store::new(most),
+            rewards: Vec::new(),
+            chances: Vec::new(),
+            nexts: Vec::new(),
+            stages: Vec::new(),
+            best: None,
+            last: None,
+            peak: 0,
+            stage: 0,
+        }
+    }
+
+    fn run(mut self, horizon: u32) -> Outcome {
+        let done = self.all_stages(horizon);
+        let mut outcome = Outcome { calls: self.store.calls, deepest: self.store.deepest, ..Outcome::default() };
+        match done {
+            Ok(()) => {
+                outcome.peak = self.peak as u32;
+                self.write(&mut outcome);
+            }
+            Err(number) => (outcome.number, outcome.place) = (number, self.stage),
+        }
+        outcome
+    }
+
+    /// Keeps the needed nodes only: model, finished stages, best so far, last result (47, 50).
+    fn begin(&mut self) {
+        let model = self.rewards.iter_mut().chain(self.chances.iter_mut().chain(&mut self.nexts).flatten());
+        self.store.keep(model.chain(&mut self.stages).chain(&mut self.best).chain(&mut self.last));
+    }
+
+    /// One operation: its result is the last one, and its count goes into the peak (51).
+    fn operation(&mut self, rule: impl FnOnce(&mut Self) -> Result<Id, Fault>) -> Result<(), Fault> {
+        self.begin();
+        self.last = Some(rule(self)?);
+        self.peak = self.peak.max(self.store.nodes.len());
+        Ok(())
+    }
+
+    fn load(&mut self) -> Result<(), Fault> {
+        let mut made: Vec<Id> = Vec::new();
+        for tree in &self.model.trees {
+            made.push(match *tree {
+                Tree::Leaf(nums) => self.store.leaf(nums, 0)?,
+                Tree::Condition { number, high, low } => {
+                    self.store.choose(condition(number.into()), made[high], made[low])?
+                }
+                Tree::Test { linear, high, low } => self.store.choose(divided(linear), made[high], made[low])?,
+            });
+        }
+        self.peak = self.store.nodes.len();
+        let of = |trees: &[usize]| -> Vec<Id> { trees.iter().map(|&tree| made[tree]).collect() };
+        self.rewards = of(&self.model.rewards);
+        self.chances = self.model.chances.iter().map(|trees| of(trees)).collect();
+        self.nexts = self.model.nexts.iter().map(|trees| of(trees)).collect();
+        Ok(())
+    }
+
+    fn all_stages(&mut self, horizon: u32) -> Result<(), Fault> {
+        self.load()?;
+        for h in 1..=horizon {
+            self.stage = h;
+            if h == 1 {
+                self.begin();
+                let zero = self.store.leaf([0; 5], 0)?; // 49
+                self.stages.push(zero);
+            }
+            for action in 0..self.model.a {
+                self.try_action(h, action)?;
+            }
+            self.stages.extend(self.best.take());
+        }
+        Ok(())
+    }
+
+    fn try_action(&mut self, h: u32, action: usize) -> Result<(), Fault> {
+        let (n, w) = (self.model.n, self.model.w);
+        self.operation(|s| {
+            let before = s.stages[h as usize - 1];
+            s.store.substitute(before, &s.nexts[action])
+        })?;
+        for i in 0..n {
+            self.operation(|s| {
+                let (weight, last) = (s.chances[action][i], s.last());
+                let next = condition(5 + i as i64);
+                let side = s.store.side(next, true, last)?; // 41
+                let yes = s.store.product(weight, side)?;
+                let rest = s.store.rest(w, weight)?;
+                let side = s.store.side(next, false, last)?;
+                let no = s.store.product(rest, side)?;
+                s.store.sum(yes, no)
+            })?;
+        }
+        self.operation(|s| {
+            let power = power(w, n as u32 * h).ok_or(11u32)?; // 42
+            let reward = s.store.scale(power, s.rewards[action])?;
+            let total = s.store.sum(s.last(), reward)?;
+            s.store.number(action as Id + 1, total) // 43
+        })?;
+        self.operation(|s| match s.best {
+            None => Ok(s.last()),
+            Some(best) => s.store.best(best, s.last()),
+        })?;
+        self.best = self.last;
+        Ok(())
+    }
+
+    fn last(&self) -> Id {
+        self.last.expect("a last result")
+    }
+
+    /// Numbers the nodes of stages 1 to H and writes them (57).
+    fn write(&self, outcome: &mut Outcome) {
+        let mut numbers = vec![0; self.store.nodes.len()];
+        for (h, &root) in self.stages.iter().enumerate().skip(1) {
+            outcome.stages[h - 1] = self.write_diagram(root, &mut numbers, &mut outcome.nodes);
+        }
+    }
+
+    fn write_diagram(&self, id: Id, numbers: &mut Vec<u32>, rows: &mut Vec<i64>) -> u32 {
+        if numbers[id as usize] == 0 {
+            let node = self.store.nodes[id as usize];
+            let (high, low) = match node.kind {
+                0 => (node.high, 0),
+                _ => {
+                    let high = self.write_diagram(node.high, numbers, rows);
+                    (high, self.write_diagram(node.low, numbers, rows))
+                }
+            };
+            rows.push(node.kind.into());
+            rows.extend(node.nums);
+            rows.extend([i64::from(high), i64::from(low)]);
+            numbers[id as usize] = (rows.len() / 8) as u32;
+        }
+        numbers[id as usize]
+    }
+}
+
+/// W to a power, if it is within the limits.
+pub fn power(w: i64, exponent: u32) -> Option<i64> {
+    w.checked_pow(exponent).filter(|&x| i128::from(x) <= LIMIT)
+}

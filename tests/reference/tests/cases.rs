@@ -1,0 +1,105 @@
+//! The cases that 01 and the decisions state.
+
+use models::{pond, rain, Writer};
+use reference::{listing, name, program, solve, validate, value, worth, Reading, State};
+
+const POND_LISTING: &str = "PLAN 1 0 2 1 2
+N 1 V 0 0 0 0 50 2
+N 2 V 0 0 0 0 0 1
+N 3 L -1 0 0 0 10 1 2
+N 4 V 0 0 0 0 100 2
+N 5 V 0 0 0 0 50 1
+N 6 L -1 0 0 0 20 4 5
+N 7 L -1 0 0 0 10 6 2
+S 1 3
+S 2 7
+";
+
+fn level(num: i32, d: i32) -> State {
+    State { mask: 0, nums: [num, 0, 0, 0], d }
+}
+
+#[test]
+fn pond_peak_and_listing() {
+    let done = solve(&pond(), 2, 8 * 100, 8, 8 * 100);
+    assert_eq!((done.number, done.place, done.peak), (0, 0, 21));
+    let mut input = vec![2];
+    input.extend(pond());
+    assert_eq!(program(&input), POND_LISTING);
+    assert_eq!(solve(&pond(), 2, 8 * 21, 8, 8 * 21).number, 0);
+    let refused = solve(&pond(), 2, 8 * 20 + 7, 8, 8 * 21);
+    assert_eq!((refused.number, refused.place, refused.peak), (12, 2, 0));
+    assert_eq!(program(&[]), "R 9 0\n");
+}
+
+#[test]
+fn starred_cases() {
+    let done = solve(&pond(), 2, 800, 8, 800);
+    let cases = [(2, 20, 1, 100, 2), (2, 30, 1, 100, 2), (2, 39, 2, 100, 1), (2, 10, 1, 50, 1), (2, 9, 1, 0, 1)];
+    let more = [(2, -5, 1, 0, 1), (1, 10, 1, 50, 2), (1, 19, 2, 0, 1)];
+    for (steps, num, d, numerator, action) in cases.into_iter().chain(more) {
+        let expected = Reading::new(numerator, action);
+        assert_eq!(value(&pond(), &done.nodes, &done.stages, steps, level(num, d)), expected);
+        assert_eq!(worth(&pond(), steps, level(num, d)), expected);
+    }
+    let done = solve(&rain(), 2, 800, 8, 800);
+    let root = done.stages[1] as usize - 1;
+    assert_eq!(done.nodes[8 * root..8 * root + 8], [0, 200, 0, 0, 0, -12_000, 1, 0]);
+    let expected = Reading::new(28_000, 1);
+    assert_eq!(value(&rain(), &done.nodes, &done.stages, 2, level(200, 1)), expected);
+    assert_eq!(worth(&rain(), 2, level(200, 1)), expected);
+}
+
+#[test]
+fn models_at_fault() {
+    let pond = pond();
+    assert_eq!(validate(&pond), (0, 0));
+    assert_eq!(validate(&[]), (2, 0));
+    assert_eq!(validate(&[0xFF]), (1, 0));
+    assert_eq!(validate(&[0x01, 0, 0]), (2, 0));
+    assert_eq!(validate(&[0x02]), (3, 0));
+    assert_eq!(validate(&[0x01, 1, 0, 1, 1]), (2, 5));
+    assert_eq!(validate(&[0x01, 1, 0, 1, 101]), (4, 0));
+    assert_eq!(validate(&[0x01, 1, 0, 1, 1, 0x01, 9, 9, 9, 9]), (1, 5));
+    assert_eq!(validate(&[0x01, 1, 0, 1, 1, 0x20, 1]), (5, 5));
+    assert_eq!(validate(&[0x01, 1, 0, 1, 1, 0xFF, 0]), (7, 5));
+    let longer = [&pond[..], &[0x77]].concat();
+    assert_eq!(validate(&longer), (8, pond.len() as u32));
+    assert_eq!(validate(&[0; 65_536]), (10, 0));
+    // As written: the dropped branch of a chance is judged too, and after the stack and what is given.
+    let mut w = Writer::site(1, 1, 1, 10);
+    w.leaf([0; 4], 3).leaf([0; 4], 11).condition(1).leaf([0; 4], 3).condition(1);
+    let offset = w.len() as u32;
+    w.chance(1, 1);
+    assert_eq!(validate(&w.end()), (4, offset));
+}
+
+#[test]
+fn no_room_for_stage_0() {
+    let mut w = Writer::site(1, 0, 1, 1);
+    w.leaf([0; 4], 5).reward(1).leaf([1, 0, 0, 0], 0).next(1, 1);
+    let model = w.end();
+    let place = |nodes: usize| {
+        let done = solve(&model, 1, 8 * nodes, 8, 8 * nodes);
+        (done.number, done.place, done.peak)
+    };
+    assert_eq!([place(0), place(1), place(2), place(3)], [(12, 0, 0), (12, 0, 0), (12, 1, 0), (12, 1, 0)]);
+    assert_eq!(place(4), (0, 0, 4));
+}
+
+#[test]
+fn readers_refuse() {
+    let done = solve(&pond(), 2, 8 * 21, 8, 8 * 21);
+    let read = |nodes: &[i64], stages: &[u32], steps, state| value(&pond(), nodes, stages, steps, state).number;
+    assert_eq!(read(&done.nodes, &done.stages[..7], 9, level(1, 0)), 10);
+    assert_eq!(read(&done.nodes, &done.stages, 9, level(1, 0)), 9);
+    assert_eq!(read(&done.nodes, &done.stages, 3, level(1, 0)), 13);
+    assert_eq!(read(&done.nodes, &done.stages, 3, level(1, 1)), 15);
+    assert_eq!(read(&done.nodes[..8 * 7 - 1], &done.stages, 2, level(1, 1)), 14);
+    assert_eq!(name(&pond(), 3).unwrap_err().number, 16);
+    let list = |length, place| listing(&pond(), 2, &done.nodes, &done.stages, length, place).map_err(|r| r.number);
+    let length = POND_LISTING.len();
+    assert_eq!(list(length + 3, 3).as_deref(), Ok(POND_LISTING));
+    assert_eq!(list(length + 3, 4), Err(17));
+    assert_eq!(list(length, usize::MAX), Err(17));
+}
