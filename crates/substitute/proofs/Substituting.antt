@@ -1,0 +1,333 @@
+-- A substitution on the table.
+use mathlib.Core.Path.{_≡_, refl, sym, ap, ap₂, _∙_}
+use mathlib.Core.Bool.{Bool, true, false}
+use mathlib.Core.Logic.{inl}
+use mathlib.Core.List.{List, [], _∷_}
+use Prim.Native.Nat.{ℕ, _-_, _/_, _%_, _^_, _≤_, _<_}
+use native.Mathlib.Nat.{lt-of-lt-of-le}
+use native.Mathlib.Omega.{arith}
+use borrow.Author.Tests.{eq-eqb, ne-eqb, lt-ltb, le-ltb, ltb-true, ltb-false}
+use lib.Dec.{ltb}
+use lib.IntN.{ℤ, pos, natAbs}
+use lib.Signed.{mag}
+use lib.ListN.{take}
+use mir.Syntax.{w64}
+use mir.Val.{ofZ}
+use Rattle.whole.specs.Cases.{if}
+use Rattle.table.proofs.Words.{same-bits}
+use Rattle.table.proofs.Look.{eqZ-refl, eqZ-true}
+use Rattle.table.specs.Table.{nodeAt, eqZ}
+use Rattle.table.specs.declared.Node.{Node}
+use Rattle.table.specs.declared.Made.{Made}
+use Rattle.theory.specs.Widths.{conditions-most}
+use Rattle.theory.specs.Diagram.{Linear, Test, now, later, linear, Tree, branch}
+use Rattle.theory.specs.Computation.{Comp, ret, bind, both}
+use Rattle.theory.specs.Rules.{over, choose, decide, linear-diagram, substitute}
+use Rattle.diagrams.specs.declared.Down.{Down}
+use Rattle.diagrams.specs.Nodes.{linOf, leafOf, conditionOf, testOf, treeAt, Tested, Grown}
+use Rattle.diagrams.specs.Table.{Rule, slotOf, Key, Entry, storeOf, Table, Ran}
+use Rattle.diagrams.specs.Meaning.{testBy, Names, packed, ruleOf}
+use Rattle.diagrams.specs.Roots.{downOf}
+use Rattle.diagrams.proofs.Trees.{trees-kept, grown-on, at-leaf, at-branch}
+use Rattle.diagrams.proofs.Outcomes.{grown, stop, seq, ran-as, both-high-stops, both-low-stops, both-made}
+use Rattle.diagrams.proofs.Caching.{answered, kept-run}
+use Rattle.diagrams.proofs.Meanings.{rule-substitute, rule-walk, lasts-substitute}
+use Rattle.diagrams.proofs.Going.{index-small}
+use Rattle.substitute.specs.Levels.{Levels, levelsAt, pair, conditionIn, headOf, overTest}
+use Rattle.substitute.proofs.Adding.{levels-kept, levels-more}
+
+-- ---- two indexes in a word
+
+module _ (a b : ℕ) (ha : a < 65536) where
+  pub pair-low : pair a b % 65536 ≡ a
+  unfolding pair
+  pair-low = omega arith
+
+  pub pair-high : pair a b / 65536 ≡ b
+  unfolding pair
+  pair-high = omega arith
+
+  pub pair-small : b < 65536 → pair a b < 4294967296
+  unfolding pair
+  pair-small hb = omega arith
+
+-- ---- the condition of a node
+
+pub one-yes : (z : ℤ) → mag z < 2 ^ 63 → ofZ w64 z ≡ 1 → eqZ z (pos 1) ≡ true
+one-yes z f e = ap (λ (k : ℤ). eqZ k (pos 1)) (same-bits z (pos 1) f (omega arith) e) ∙ eqZ-refl (pos 1)
+
+pub one-no : (z : ℤ) → (ofZ w64 z ≡ 1 → ⊥) → eqZ z (pos 1) ≡ false
+one-no z n = go (eqZ z (pos 1)) refl
+  where
+    go : (b : Bool) → eqZ z (pos 1) ≡ b → eqZ z (pos 1) ≡ false
+    go true e = absurd (n (ap (ofZ w64) (eqZ-true z (pos 1) e)))
+    go false e = e
+
+module _ (x : Node) where
+  abbrev j : ℕ
+  j = natAbs (x .c1)
+
+  abbrev numbered : Bool → Bool → ℕ
+  numbered a b = if a (if b (j - conditions-most) j) 0
+
+  pub condition-later : eqZ (x .kind) (pos 1) ≡ true → conditions-most < j → conditionIn x ≡ j - conditions-most
+  unfolding conditionIn
+  condition-later e h = ap₂ numbered e (lt-ltb conditions-most j h)
+
+  pub condition-now : eqZ (x .kind) (pos 1) ≡ true → j ≤ conditions-most → conditionIn x ≡ j
+  unfolding conditionIn
+  condition-now e h = ap₂ numbered e (le-ltb conditions-most j h)
+
+  pub condition-none : eqZ (x .kind) (pos 1) ≡ false → conditionIn x ≡ 0
+  unfolding conditionIn
+  condition-none e = ap (λ (a : Bool). numbered a (ltb conditions-most j)) e
+
+  -- as the code finds it
+  module _ {k : ℕ} (ek : k ≡ natAbs (x .c1)) (e : eqZ (x .kind) (pos 1) ≡ true) where
+    pub found-later : 4 < k → k - 4 ≡ conditionIn x
+    found-later h = ap (λ (k : ℕ). k - 4) ek ∙ sym (condition-later e (omega arith))
+
+    pub found-now : k ≤ 4 → k ≡ conditionIn x
+    found-now h = ek ∙ sym (condition-now e (omega arith))
+
+  test-cond : eqZ (x .kind) (pos 1) ≡ true → testOf x ≡ conditionOf j
+  unfolding testOf
+  test-cond e = ap (λ (b : Bool). if b (conditionOf j) (linear (linOf x))) e
+
+  test-lin : eqZ (x .kind) (pos 1) ≡ false → testOf x ≡ linear (linOf x)
+  unfolding testOf
+  test-lin e = ap (λ (b : Bool). if b (conditionOf j) (linear (linOf x))) e
+
+  cond-later : conditions-most < j → conditionOf j ≡ later (j - conditions-most)
+  unfolding conditionOf
+  cond-later h = ap (λ (b : Bool). if b (later (j - conditions-most)) (now j)) (lt-ltb conditions-most j h)
+
+  cond-now : j ≤ conditions-most → conditionOf j ≡ now j
+  unfolding conditionOf
+  cond-now h = ap (λ (b : Bool). if b (later (j - conditions-most)) (now j)) (le-ltb conditions-most j h)
+
+  pub condition-most : Tested x → conditionIn x ≤ conditions-most
+  condition-most t = go (eqZ (x .kind) (pos 1)) refl (ltb conditions-most j) refl
+    where
+      go : (a : Bool) → eqZ (x .kind) (pos 1) ≡ a → (b : Bool) → ltb conditions-most j ≡ b → conditionIn x ≤ conditions-most
+      go true e true h = let q = condition-later e (ltb-true conditions-most j h) in let r = t .bounds e .1 in omega arith
+      go true e false h = let q = condition-now e (ltb-false conditions-most j h) in let r = ltb-false conditions-most j h in omega arith
+      go false e b h = let q = condition-none e in omega arith
+
+-- ---- a branch
+
+module _ (Ds : List Tree) (p : Linear) (F H L : Tree) where
+  -- what comes first, the two branches, what is made of them
+  abbrev pub Parts : ℕ → Comp Tree
+  Parts k = bind (headOf k Ds p F) (λ P. both (overTest k P) (substitute Ds H) (substitute Ds L))
+
+  abbrev parts : ℕ → Bool → Comp Tree
+  parts k b = bind (if b (linear-diagram Ds p) (ret F)) (λ P. both (λ X Y. if b (over choose (λ x. decide (x .lin) X Y) P) (choose (later k) X Y)) (substitute Ds H) (substitute Ds L))
+
+  parts-later : (k : ℕ) → (k ≡ 0 → ⊥) → substitute Ds (branch (later k) H L) ≡ Parts k
+  unfolding substitute headOf overTest bind
+  parts-later k n = ap (parts k) (sym (ne-eqb k 0 n))
+
+  parts-now : (k : ℕ) → (k ≡ 0 → ⊥) → substitute Ds (branch (now k) H L) ≡ Parts k
+  unfolding substitute headOf overTest bind
+  parts-now k n = ap (parts k) (sym (ne-eqb k 0 n))
+
+  parts-linear : substitute Ds (branch (linear p) H L) ≡ Parts 0
+  unfolding substitute headOf overTest both
+  parts-linear = refl
+
+sub-branch : (Ds : List Tree) (x : Node) (F H L : Tree) → Tested x → substitute Ds (branch (testOf x) H L) ≡ Parts Ds (linOf x) F H L (conditionIn x)
+sub-branch Ds x F H L t = go (eqZ (x .kind) (pos 1)) refl (ltb conditions-most (natAbs (x .c1))) refl
+  where
+    put : {u : Test} {k : ℕ} → testOf x ≡ u → k ≡ conditionIn x → substitute Ds (branch u H L) ≡ Parts Ds (linOf x) F H L k → substitute Ds (branch (testOf x) H L) ≡ Parts Ds (linOf x) F H L (conditionIn x)
+    put eu ek e = ap (λ (u : Test). substitute Ds (branch u H L)) eu ∙ (e ∙ ap (Parts Ds (linOf x) F H L) ek)
+
+    go : (a : Bool) → eqZ (x .kind) (pos 1) ≡ a → (b : Bool) → ltb conditions-most (natAbs (x .c1)) ≡ b → substitute Ds (branch (testOf x) H L) ≡ Parts Ds (linOf x) F H L (conditionIn x)
+    go true e true h =
+        let q = ltb-true conditions-most (natAbs (x .c1)) h in
+        put (test-cond x e ∙ cond-later x q) (sym (condition-later x e q)) (parts-later Ds (linOf x) F H L (natAbs (x .c1) - conditions-most) (λ z. absurd (omega arith)))
+    go true e false h =
+        let q = ltb-false conditions-most (natAbs (x .c1)) h in
+        let r = t .bounds e .0 in
+        put (test-cond x e ∙ cond-now x q) (sym (condition-now x e q)) (parts-now Ds (linOf x) F H L (natAbs (x .c1)) (λ z. absurd (omega arith)))
+    go false e b h = put (test-lin x e) (sym (condition-none x e)) (parts-linear Ds (linOf x) F H L)
+
+-- ---- one after another
+
+module _ {R : Rule} {cap : ℕ} {l l₁ : List ℤ} {w w₁ : List ℕ} {n : ℕ} {m₀ : Comp Tree} (m₁ m₂ : Comp Tree) (mk : Tree → Tree → Tree → Comp Tree) {p : Made} (Q : Ran R cap l w n m₀ l₁ w₁ p) where
+  abbrev All : List ℤ → List ℕ → Made → Type 0
+  All = Ran R cap l w n (bind m₀ (λ P. both (mk P) m₁ m₂))
+
+  head-stops : (p .stop ≡ 0 → ⊥) → All l₁ w₁ p
+  head-stops off = stop _ Q off
+
+  module _ (ok : p .stop ≡ 0) {l₂ : List ℤ} {w₂ : List ℕ} {h : Made} (S : Ran R cap l₁ w₁ (p .count) m₁ l₂ w₂ h) where
+    high-stops : (h .stop ≡ 0 → ⊥) → All l₂ w₂ h
+    high-stops off = seq _ Q ok (both-high-stops (mk (treeAt l₁ (p .count) (p .at))) m₂ S off)
+
+    module _ (ok₁ : h .stop ≡ 0) {l₃ : List ℤ} {w₃ : List ℕ} {k : Made} (U : Ran R cap l₂ w₂ (h .count) m₂ l₃ w₃ k) where
+      low-stops : (k .stop ≡ 0 → ⊥) → All l₃ w₃ k
+      low-stops off = seq _ Q ok (both-low-stops (mk (treeAt l₁ (p .count) (p .at))) m₂ S ok₁ U off)
+
+      all-made : k .stop ≡ 0 → {l₄ : List ℤ} {w₄ : List ℕ} {r : Made} → Ran R cap l₃ w₃ (k .count) (mk (treeAt l₃ (k .count) (p .at)) (treeAt l₃ (k .count) (h .at)) (treeAt l₃ (k .count) (k .at))) l₄ w₄ r → All l₄ w₄ r
+      all-made ok₂ P = seq _ Q ok (both-made (mk (treeAt l₁ (p .count) (p .at))) m₂ S ok₁ U ok₂ (ran-as (ap (λ (z : Tree). mk z (treeAt l₃ (k .count) (h .at)) (treeAt l₃ (k .count) (k .at))) (trees-kept (grown-on (grown S) (grown U)) (p .at) (Q .within ok))) P))
+
+-- ---- on the table
+
+-- the substitution at f
+abbrev pub Sub : List ℤ → ℕ → ℕ → ℕ → ℕ → ℕ → ℕ → ℕ → Comp Tree
+Sub l n f d1 d2 d3 d4 m = substitute (levelsAt l n d1 d2 d3 d4 m) (treeAt l n f)
+
+sub-kept : {l l′ : List ℤ} {n n′ d1 d2 d3 d4 m : ℕ} → Levels n d1 d2 d3 d4 m → Grown l n l′ n′ → (f : ℕ) → f < n → Sub l′ n′ f d1 d2 d3 d4 m ≡ Sub l n f d1 d2 d3 d4 m
+sub-kept B G f h = ap₂ substitute (levels-kept B G) (trees-kept G f h)
+
+module _ {cap : ℕ} {l : List ℤ} {w : List ℕ} {n : ℕ} (A : Table ruleOf cap l w n) (f : ℕ) (hf : f < n) {d1 d2 d3 d4 m : ℕ} (B : Levels n d1 d2 d3 d4 m) where
+  abbrev g : ℕ
+  g = pair d2 d3
+
+  abbrev q : ℕ
+  q = pair d4 m
+
+  small2 : d2 < 65536
+  small2 = index-small d2 (A .bare) (B .second)
+
+  small4 : d4 < 65536
+  small4 = index-small d4 (A .bare) (B .fourth)
+
+  unpacked : packed l n d1 g q ≡ levelsAt l n d1 d2 d3 d4 m
+  unfolding packed levelsAt
+  unpacked = λ i. take (pair-high d4 m small4 i) (treeAt l n d1 ∷ treeAt l n (pair-low d2 d3 small2 i) ∷ treeAt l n (pair-high d2 d3 small2 i) ∷ treeAt l n (pair-low d4 m small4 i) ∷ [])
+
+  rule-is : ruleOf l n 12 f d1 g q ≡ Sub l n f d1 d2 d3 d4 m
+  rule-is = rule-substitute l n f d1 g q ∙ ap (λ (Ds : List Tree). substitute Ds (treeAt l n f)) unpacked
+
+  -- the two words
+  pub pair-asks : (d2 < 65536) × (d3 < 65536)
+  pair-asks = (small2, index-small d3 (A .bare) (B .third))
+
+  pub pair-asks-2 : (d4 < 65536) × (m < 65536)
+  pair-asks-2 = (small4, (let h = B .most in omega arith))
+
+  module _ {u v : ℕ} (eu : u ≡ g) (ev : v ≡ q) where
+    -- the words fit an entry
+    pub sub-key : Key 12 f d1 u v
+    sub-key =
+        let a = index-small f (A .bare) hf in
+        let b = index-small d1 (A .bare) (B .first) in
+        let c = pair-small d2 d3 small2 (pair-asks .1) in
+        let d = pair-small d4 m small4 (pair-asks-2 .1) in
+        record { op-fits = omega arith; f-fits = omega arith; g-fits = omega arith; p-fits = omega arith; q-fits = omega arith }
+
+    as-rule : ruleOf l n 12 f d1 u v ≡ Sub l n f d1 d2 d3 d4 m
+    as-rule = ap₂ (ruleOf l n 12 f d1) eu ev ∙ rule-is
+
+    -- an entry answers
+    pub sub-answered : (k : ℕ) → Entry w (slotOf cap 12 f d1 u v) 12 f d1 u v k → Ran ruleOf cap l w n (Sub l n f d1 d2 d3 d4 m) l w (record { stop = 0; at = k; count = n })
+    sub-answered k E = ran-as as-rule (answered A 12 f d1 u v k E)
+
+    -- a result is kept
+    pub sub-stored : {l′ : List ℤ} {w′ w″ : List ℕ} {r : Made} → Ran ruleOf cap l w n (Sub l n f d1 d2 d3 d4 m) l′ w′ r → r .stop ≡ 0 → w″ ≡ storeOf w′ (slotOf cap 12 f d1 u v) 12 f d1 u v (r .at) → Ran ruleOf cap l w n (Sub l n f d1 d2 d3 d4 m) l′ w″ r
+    sub-stored Q ok e = ran-as as-rule (kept-run (lasts-substitute l n f hf d1 (B .first) u v (low (ap (λ (k : ℕ). k % 65536) eu ∙ pair-low d2 d3 small2) (B .second)) (low (ap (λ (k : ℕ). k / 65536) eu ∙ pair-high d2 d3 small2) (B .third)) (low (ap (λ (k : ℕ). k % 65536) ev ∙ pair-low d4 m small4) (B .fourth))) (ran-as (sym as-rule) Q) ok e)
+      where
+        low : {a b : ℕ} → a ≡ b → b < n → a < n
+        low e h = omega arith
+
+  -- ---- what the node at f is
+
+  abbrev x : Node
+  x = nodeAt l f
+
+  module _ {s : Down} (es : s ≡ downOf x) where
+    kind-of : eqZ (x .kind) (pos 0) ≡ s .ends
+    unfolding downOf
+    kind-of = ap (λ (s : Down). s .ends) (sym es)
+
+    high-of : s .high ≡ natAbs (x .high)
+    unfolding downOf
+    high-of = ap (λ (s : Down). s .high) es
+
+    low-of : s .low ≡ natAbs (x .low)
+    unfolding downOf
+    low-of = ap (λ (s : Down). s .low) es
+
+    -- a leaf
+    pub sub-leaf : s .ends ≡ true → {l₁ : List ℤ} {w₁ : List ℕ} {r : Made} → Ran ruleOf cap l w n (linear-diagram (levelsAt l n d1 d2 d3 d4 m) (linOf x)) l₁ w₁ r → Ran ruleOf cap l w n (Sub l n f d1 d2 d3 d4 m) l₁ w₁ r
+    unfolding substitute leafOf
+    sub-leaf e Q = ran-as (ap (substitute (levelsAt l n d1 d2 d3 d4 m)) (sym (at-leaf (A .bare .good) f hf (kind-of ∙ e)))) Q
+
+    -- a branch
+    module _ (e : s .ends ≡ false) where
+      pub sub-tested : Tested x
+      sub-tested = A .bare .good .valid f hf .tested (kind-of ∙ e)
+
+      pub sub-high : s .high < f
+      sub-high = let a = A .bare .good .valid f hf .high-below (kind-of ∙ e) in let b = high-of in omega arith
+
+      pub sub-low : s .low < f
+      sub-low = let a = A .bare .good .valid f hf .low-below (kind-of ∙ e) in let b = low-of in omega arith
+
+      module _ {k : ℕ} (ek : k ≡ conditionIn x) where
+        pub sub-most : k ≤ conditions-most
+        sub-most = let a = condition-most x sub-tested in omega arith
+
+        sub-is : bind (headOf k (levelsAt l n d1 d2 d3 d4 m) (linOf x) (treeAt l n f)) (λ P. both (overTest k P) (Sub l n (s .high) d1 d2 d3 d4 m) (Sub l n (s .low) d1 d2 d3 d4 m)) ≡ Sub l n f d1 d2 d3 d4 m
+        sub-is =
+            (λ i. Parts (levelsAt l n d1 d2 d3 d4 m) (linOf x) (treeAt l n f) (treeAt l n (high-of i)) (treeAt l n (low-of i)) (ek i))
+            ∙ (sym (sub-branch (levelsAt l n d1 d2 d3 d4 m) x (treeAt l n f) (treeAt l n (natAbs (x .high))) (treeAt l n (natAbs (x .low))) sub-tested)
+            ∙ ap (substitute (levelsAt l n d1 d2 d3 d4 m)) (sym (at-branch (A .bare .good) f hf (kind-of ∙ e))))
+
+        abbrev Done : List ℤ → List ℕ → Made → Type 0
+        Done = Ran ruleOf cap l w n (Sub l n f d1 d2 d3 d4 m)
+
+        module _ {l₁ : List ℤ} {w₁ : List ℕ} {p : Made} (Q : Ran ruleOf cap l w n (headOf k (levelsAt l n d1 d2 d3 d4 m) (linOf x) (treeAt l n f)) l₁ w₁ p) where
+          pub sub-head-stops : (p .stop ≡ 0 → ⊥) → Done l₁ w₁ p
+          sub-head-stops off = ran-as sub-is (head-stops _ _ (overTest k) Q off)
+
+          pub high-asks : Table ruleOf cap l₁ w₁ (p .count) × (s .high < p .count) × Levels (p .count) d1 d2 d3 d4 m
+          high-asks = (Q .table, (let a = sub-high in let b = Q .more in omega arith), levels-more B (Q .more))
+
+          module _ (ok : p .stop ≡ 0) {l₂ : List ℤ} {w₂ : List ℕ} {h : Made} (S′ : Ran ruleOf cap l₁ w₁ (p .count) (Sub l₁ (p .count) (s .high) d1 d2 d3 d4 m) l₂ w₂ h) where
+            S : Ran ruleOf cap l₁ w₁ (p .count) (Sub l n (s .high) d1 d2 d3 d4 m) l₂ w₂ h
+            S = ran-as (sub-kept B (grown Q) (s .high) (let a = sub-high in omega arith)) S′
+
+            pub sub-high-stops : (h .stop ≡ 0 → ⊥) → Done l₂ w₂ h
+            sub-high-stops off = ran-as sub-is (high-stops _ _ (overTest k) Q ok S off)
+
+            pub low-asks : Table ruleOf cap l₂ w₂ (h .count) × (s .low < h .count) × Levels (h .count) d1 d2 d3 d4 m
+            low-asks = (S .table, (let a = sub-low in let b = Q .more in let c = S .more in omega arith), levels-more B (let b = Q .more in let c = S .more in omega arith))
+
+            module _ (ok₁ : h .stop ≡ 0) {l₃ : List ℤ} {w₃ : List ℕ} {t : Made} (U′ : Ran ruleOf cap l₂ w₂ (h .count) (Sub l₂ (h .count) (s .low) d1 d2 d3 d4 m) l₃ w₃ t) where
+              U : Ran ruleOf cap l₂ w₂ (h .count) (Sub l n (s .low) d1 d2 d3 d4 m) l₃ w₃ t
+              U = ran-as (sub-kept B (grown-on (grown Q) (grown S)) (s .low) (let a = sub-low in omega arith)) U′
+
+              pub sub-low-stops : (t .stop ≡ 0 → ⊥) → Done l₃ w₃ t
+              sub-low-stops off = ran-as sub-is (low-stops _ _ (overTest k) Q ok S ok₁ U off)
+
+              pub over-asks : t .stop ≡ 0 → Table ruleOf cap l₃ w₃ (t .count) × (k ≤ conditions-most) × (p .at < t .count) × (h .at < t .count) × (t .at < t .count)
+              over-asks ok₂ = (U .table, sub-most, (let a = Q .within ok in let b = S .more in let c = U .more in omega arith), lt-of-lt-of-le (S .within ok₁) (U .more), U .within ok₂)
+
+              pub sub-made : t .stop ≡ 0 → {l₄ : List ℤ} {w₄ : List ℕ} {r : Made} → Ran ruleOf cap l₃ w₃ (t .count) (overTest k (treeAt l₃ (t .count) (p .at)) (treeAt l₃ (t .count) (h .at)) (treeAt l₃ (t .count) (t .at))) l₄ w₄ r → Done l₄ w₄ r
+              sub-made ok₂ P = ran-as sub-is (all-made _ _ (overTest k) Q ok S ok₁ U ok₂ P)
+
+-- ---- the parts of a branch
+
+module _ (k : ℕ) (Ds : List Tree) (p : Linear) (F : Tree) where
+  pub head-linear : k ≡ 0 → linear-diagram Ds p ≡ headOf k Ds p F
+  unfolding headOf
+  head-linear e = ap (λ (b : Bool). if b (linear-diagram Ds p) (ret F)) (sym (eq-eqb k 0 e))
+
+  pub head-none : (k ≡ 0 → ⊥) → ret F ≡ headOf k Ds p F
+  unfolding headOf
+  head-none e = ap (λ (b : Bool). if b (linear-diagram Ds p) (ret F)) (sym (ne-eqb k 0 e))
+
+module _ (k : ℕ) (l : List ℤ) (n p h t : ℕ) where
+  pub over-walk : k ≡ 0 → ruleOf l n 9 p h t 0 ≡ overTest k (treeAt l n p) (treeAt l n h) (treeAt l n t)
+  unfolding overTest
+  over-walk e = rule-walk l n p h t 0 ∙ ap (λ (b : Bool). if b (over choose (λ x. decide (x .lin) (treeAt l n h) (treeAt l n t)) (treeAt l n p)) (choose (later k) (treeAt l n h) (treeAt l n t))) (sym (eq-eqb k 0 e))
+
+  pub over-choice : (k ≡ 0 → ⊥) → choose (testBy l n 10 k) (treeAt l n h) (treeAt l n t) ≡ overTest k (treeAt l n p) (treeAt l n h) (treeAt l n t)
+  unfolding overTest testBy
+  over-choice e = ap (λ (b : Bool). if b (over choose (λ x. decide (x .lin) (treeAt l n h) (treeAt l n t)) (treeAt l n p)) (choose (later k) (treeAt l n h) (treeAt l n t))) (sym (ne-eqb k 0 e))
+
+pub names-later : {n k : ℕ} → k ≤ conditions-most → (k ≡ 0 → ⊥) → Names n 10 k
+names-later h e = inl (refl, omega arith, h)

@@ -1,0 +1,91 @@
+// The walk of a linear's diagram: at each leaf one of two diagrams, or a choice between them.
+ghost use mathlib.Core.Path.{_≡_};
+ghost use Prim.Native.Nat.{_<_};
+ghost use Rattle.table.specs.Table.{nodeAt};
+ghost use Rattle.theory.specs.Rules.{decide};
+ghost use Rattle.diagrams.specs.Nodes.{linOf, treeAt, At};
+ghost use Rattle.diagrams.specs.Table.{Table, Ran};
+ghost use Rattle.diagrams.specs.Meaning.{ruleOf};
+ghost use Rattle.diagrams.specs.Roots.{downOf};
+ghost use Rattle.merge.specs.Merged.{AtLeaf};
+use diagrams::Down;
+use diagrams::cache::keep;
+use diagrams::cache::look;
+use diagrams::roots::below;
+use diagrams::rules::choose;
+use merge::numbers::decided;
+use merge::numbers::is_constant;
+use table::Made;
+
+// What lies below the node at f.
+pub fn down_at(nodes: &[i64], f: usize) -> Down
+    requires { ⌜ At (now nodes) f ⌝ }
+    ensures { λ r. ⌜ r ≡ downOf (nodeAt (now (nodes .entry)) f) ⌝ }
+{
+    below(table::get(nodes, f))
+}
+
+// At the leaf f: a constant decides, g where it is at most 0 and else p; another linear is a choice by the test that the leaf names.
+pub fn decide_at(
+    nodes: &mut [i64],
+    work: &mut [u32],
+    cap: usize,
+    count: usize,
+    f: usize,
+    g: usize,
+    p: usize,
+) -> Made
+    requires { ⌜ Table ruleOf cap (now nodes) (now work) count × AtLeaf (now nodes) count f × (g < count) × (p < count) ⌝ }
+    ensures { λ r. ⌜ Ran ruleOf cap (now (nodes .entry)) (now (work .entry)) count (decide (linOf (nodeAt (now (nodes .entry)) f)) (treeAt (now (nodes .entry)) count g) (treeAt (now (nodes .entry)) count p)) (now (nodes .exit)) (now (work .exit)) r ⌝ }
+{
+    let x = table::get(nodes, f);
+    if is_constant(x) {
+        return Made {
+            stop: 0,
+            at: decided(x.constant, g, p),
+            count,
+        };
+    }
+    choose(nodes, work, cap, count, 11, f, g, p)
+}
+
+// Rule 9: the diagram at f walked, with g on the high side of its leaves and p on the low one. Only indexes live over the calls.
+pub fn walk(
+    nodes: &mut [i64],
+    work: &mut [u32],
+    cap: usize,
+    count: usize,
+    f: usize,
+    g: usize,
+    p: usize,
+) -> Made
+    requires { ⌜ Table ruleOf cap (now nodes) (now work) count × (f < count) × (g < count) × (p < count) ⌝ }
+    ensures { λ r. ⌜ Ran ruleOf cap (now (nodes .entry)) (now (work .entry)) count (ruleOf (now (nodes .entry)) count 9 f g p 0) (now (nodes .exit)) (now (work .exit)) r ⌝ }
+{
+    let c = look(work, cap, 9, f, g, p, 0);
+    if c != 0 {
+        return Made {
+            stop: 0,
+            at: c - 1,
+            count,
+        };
+    }
+    let s = down_at(nodes, f);
+    if s.ends {
+        return decide_at(nodes, work, cap, count, f, g, p);
+    }
+    let h = walk(nodes, work, cap, count, s.high, g, p);
+    if h.stop != 0 {
+        return h;
+    }
+    let l = walk(nodes, work, cap, h.count, s.low, g, p);
+    if l.stop != 0 {
+        return l;
+    }
+    let r = choose(nodes, work, cap, l.count, 11, f, h.at, l.at);
+    if r.stop != 0 {
+        return r;
+    }
+    keep(work, cap, 9, f, g, p, 0, r.at);
+    r
+}
