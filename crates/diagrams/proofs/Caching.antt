@@ -17,7 +17,7 @@ use Rattle.theory.specs.Diagram.{Tree}
 use Rattle.theory.specs.Computation.{Comp, done, run, member}
 use Rattle.theory.specs.laws.Comps.{member-in, member-find, rerun}
 use Rattle.diagrams.specs.Nodes.{none, trees, treeAt, Grown}
-use Rattle.diagrams.specs.Table.{Rule, slotOf, Key, Room, Entry, storeOf, Stands, Lasting, Cached, Bare, Table, Ran, outOf}
+use Rattle.diagrams.specs.Table.{Rule, slotOf, Room, Entry, storeOf, Stands, Lasting, Cached, Table, Ran, outOf}
 use Rattle.diagrams.proofs.Trees.{trees-length, trees-kept, grown-not, grown-on}
 use Rattle.diagrams.proofs.Outcomes.{out-ok, grown}
 

@@ -1,7 +1,7 @@
 -- A choice on the table: by the test that an entry's words give, answered, ended, gone on with, and kept.
-use mathlib.Core.Path.{_≡_, sym, ap, _∙_, subst}
+use mathlib.Core.Path.{_≡_, sym, ap}
 use mathlib.Core.List.{List}
-use Prim.Native.Nat.{ℕ, _+_, _≤_, _<_}
+use Prim.Native.Nat.{ℕ, _<_}
 use native.Mathlib.Omega.{arith}
 use lib.IntN.{ℤ}
 use Rattle.table.specs.Table.{nodeAt}
@@ -12,7 +12,7 @@ use Rattle.theory.specs.Computation.{Comp}
 use Rattle.theory.specs.Rules.{choose, node}
 use Rattle.diagrams.specs.declared.Sides.{Sides}
 use Rattle.diagrams.specs.Nodes.{testOf, treeAt, Grown}
-use Rattle.diagrams.specs.Table.{Rule, slotOf, Key, Room, Entry, storeOf, Bare, Table, Ran, Grew}
+use Rattle.diagrams.specs.Table.{Rule, slotOf, Key, Room, Entry, storeOf, Table, Ran, Grew}
 use Rattle.diagrams.specs.Meaning.{testBy, Names, ruleOf}
 use Rattle.diagrams.specs.Roots.{choiceOf, testNode}
 use Rattle.diagrams.proofs.Outcomes.{ran-as, grew-as, lifted}

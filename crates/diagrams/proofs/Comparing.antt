@@ -1,10 +1,10 @@
 -- What the code's comparisons say: of numbers, of nodes' words, and of the sides that follow.
 use mathlib.Core.Path.{_≡_, refl, sym, ap, ap₂, _∙_, subst}
 use mathlib.Core.Bool.{Bool, true, false}
-use Prim.Native.Nat.{ℕ, zero, suc, _<_, _≤_, _^_, compare, Ordering, Ordering·lt, Ordering·eq, Ordering·gt, compare·zero-suc, compare·suc-zero, compare·suc-suc}
+use Prim.Native.Nat.{ℕ, zero, suc, _<_, _^_, compare, Ordering, Ordering·lt, Ordering·eq, Ordering·gt, compare·zero-suc, compare·suc-zero, compare·suc-suc}
 use native.Mathlib.Omega.{arith}
-use borrow.Author.Tests.{ltb-true, ltb-false, lt-ltb, le-ltb, eq-eqb}
-use lib.Dec.{T, ltb, isEq, eqb}
+use borrow.Author.Tests.{ltb-true, ltb-false}
+use lib.Dec.{T, eqb}
 use lib.IntN.{ℤ, pos, negsuc, natAbs}
 use lib.Signed.{nonNeg, mag, ltZ}
 use mir.Syntax.{w64}
@@ -144,7 +144,7 @@ unfolding downOf
 down-as x b e eh el = λ i. record { ends = sym e i; high = eh i; low = el i }
 
 abbrev pub splitBy : Bool → Bool → Bool → Bool → Down → ℕ → Down → ℕ → Sides
-splitBy a b c d x f y g = if a (if b (endSides f g g) (rightSides f y g)) (if b (leftSides x f g) (if c (leftSides x f g) (if d (bothSides x f y g) (rightSides f y g))))
+splitBy a b c d x f y g = if a (if b (endSides f g g) (rightSides f y g)) (if b (leftSides x f g) (if c (leftSides x f g) (if d (bothSides x f y) (rightSides f y g))))
 
 pub split-as : (x : Down) (f : ℕ) (y : Down) (g o : ℕ) (a b c d : Bool) → x .ends ≡ a → y .ends ≡ b → eqb o 0 ≡ c → eqb o 1 ≡ d → splitBy a b c d x f y g ≡ splitOf x f y g o
 unfolding splitOf

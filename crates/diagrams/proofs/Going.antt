@@ -1,12 +1,11 @@
 -- A rule's steps on the table put together.
 use mathlib.Core.Path.{_≡_, refl, sym, ap, ap₂, _∙_}
-use mathlib.Core.Bool.{Bool, true, false}
+use mathlib.Core.Bool.{true, false}
 use mathlib.Core.List.{List}
-use Prim.Native.Nat.{ℕ, _+_, _*_, _≤_, _<_}
+use Prim.Native.Nat.{ℕ, _<_}
 use native.Mathlib.Nat.{lt-of-lt-of-le}
 use native.Mathlib.Omega.{arith}
 use lib.IntN.{ℤ, pos, natAbs}
-use lib.ListN.{length}
 use Rattle.table.specs.Table.{nodeAt, eqZ}
 use Rattle.table.specs.declared.Node.{Node}
 use Rattle.table.specs.declared.Made.{Made}
@@ -15,7 +14,7 @@ use Rattle.theory.specs.Computation.{Comp, both}
 use Rattle.theory.specs.Rules.{over}
 use Rattle.diagrams.specs.declared.Sides.{Sides}
 use Rattle.diagrams.specs.Nodes.{leafOf, testOf, treeAt, Good, At, Root}
-use Rattle.diagrams.specs.Table.{Rule, Key, Bare, Table, Ran}
+use Rattle.diagrams.specs.Table.{Rule, Key, Bare, Ran}
 use Rattle.diagrams.proofs.Trees.{trees-kept, at-leaf, at-branch}
 use Rattle.diagrams.proofs.Outcomes.{grown, ran-as, both-high-stops, both-low-stops, both-high-in, both-made}
 use Rattle.diagrams.proofs.Joining.{root-kept}

@@ -1,5 +1,5 @@
 -- A node over two branches.
-use mathlib.Core.Path.{_≡_, refl, sym, ap, _∙_, subst}
+use mathlib.Core.Path.{_≡_, sym, ap, _∙_, subst}
 use mathlib.Core.Bool.{Bool, true, false}
 use mathlib.Core.List.{List}
 use Prim.Native.Nat.{ℕ, _+_, _*_, _≤_, _<_}
@@ -7,7 +7,7 @@ use native.Mathlib.Omega.{arith}
 use lib.IntN.{ℤ, pos}
 use lib.ListN.{length}
 use mir.Syntax.{w64}
-use mir.Val.{toZ, ofZ}
+use mir.Val.{toZ}
 use Rattle.whole.specs.Cases.{if}
 use Rattle.table.proofs.Words.{R, back, Fit}
 use Rattle.table.specs.Table.{nodeAt, eqZ}
@@ -17,7 +17,7 @@ use Rattle.theory.specs.Diagram.{Tree, branch, same}
 use Rattle.theory.specs.Computation.{ret, make}
 use Rattle.theory.specs.Rules.{node}
 use Rattle.theory.specs.laws.Comps.{same-refl, same-not}
-use Rattle.diagrams.specs.Nodes.{linOf, testOf, treeOf, trees, treeAt, Tested, Valid, Proper, Root, Grown}
+use Rattle.diagrams.specs.Nodes.{linOf, testOf, treeOf, trees, treeAt, Valid, Proper, Root, Grown}
 use Rattle.diagrams.specs.Table.{Bare, Grew}
 use Rattle.diagrams.proofs.Trees.{tree-branch}
 use Rattle.diagrams.proofs.Outcomes.{grew-as, grew-ret}

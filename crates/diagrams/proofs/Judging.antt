@@ -8,7 +8,7 @@ use borrow.Author.Tests.{le-leb, lt-leb, leb-true}
 use lib.Dec.{leb, T}
 use lib.IntN.{ℤ, pos, natAbs}
 use lib.Signed.{mag, nonNeg}
-use Rattle.whole.specs.Within.{limit, Small, small}
+use Rattle.whole.specs.Within.{limit, small}
 use Rattle.table.proofs.Words.{R, back}
 use Rattle.table.proofs.Look.{eqZ-refl}
 use Rattle.table.specs.Table.{nodeAt, eqZ}
@@ -55,7 +55,7 @@ nums-of x e =
 
 -- ---- a leaf without action
 
-pub is-leaf : {s : Node} → Plain s → eqZ (s .kind) (pos 0) ≡ true
+is-leaf : {s : Node} → Plain s → eqZ (s .kind) (pos 0) ≡ true
 is-leaf P = ap (λ (k : ℤ). eqZ k (pos 0)) (P .kind) ∙ eqZ-refl (pos 0)
 
 module _ {cap : ℕ} {l : List ℤ} {w : List ℕ} {n : ℕ} (A : Bare cap l w n) (s : Node) (P : Plain s) {b : Bool} (eb : b ≡ small-linear (linOf s)) where

@@ -13,3 +13,4 @@ pub mod Going
 pub mod Judging
 pub mod Meanings
 pub mod Choices
+pub mod Clearing

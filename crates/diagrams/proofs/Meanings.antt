@@ -1,19 +1,17 @@
 -- The rules by number: what each entry's words mean, that it lasts, and the test that a choice is given.
 use mathlib.Core.Path.{_≡_, refl, sym, ap, ap₂, _∙_, subst}
 use mathlib.Core.Bool.{Bool, true, false}
-use mathlib.Core.Logic.{⊎-elim, _⊎_, inl, inr}
+use mathlib.Core.Logic.{⊎-elim, inl, inr}
 use mathlib.Core.List.{List, [], _∷_}
-use Prim.Native.Nat.{ℕ, _+_, _-_, _*_, _/_, _%_, _^_, _≤_, _<_}
+use Prim.Native.Nat.{ℕ, _+_, _-_, _/_, _%_, _^_, _≤_, _<_}
 use native.Mathlib.Omega.{arith}
 use borrow.Author.Tests.{eq-eqb, ne-eqb}
-use lib.Dec.{eqb, T}
-use lib.IntN.{ℤ, pos, natAbs}
-use lib.Signed.{nonNeg, mag}
-use lib.ListN.{length, take}
+use lib.IntN.{ℤ, pos}
+use lib.Signed.{mag}
+use lib.ListN.{take}
 use mir.Syntax.{w64}
 use mir.Val.{toZ}
 use Rattle.whole.specs.Cases.{if}
-use Rattle.whole.specs.Within.{Small}
 use Rattle.whole.specs.Divisor.{gcd-all}
 use Rattle.whole.specs.Five.{SmallFive, divisorOf, dividedOf}
 use Rattle.whole.specs.FiveLaws.{divided-small}
@@ -21,12 +19,10 @@ use Rattle.whole.specs.declared.Five.{Five}
 use Rattle.table.proofs.Words.{R, back, Fit}
 use Rattle.table.specs.Table.{nodeAt, eqZ}
 use Rattle.table.specs.declared.Node.{Node}
-use Rattle.table.specs.declared.Made.{Made}
 use Rattle.theory.specs.Widths.{conditions-most}
 use Rattle.theory.specs.Diagram.{Test, later, linear, Leaf, Tree, leaf, branch, quotL, quotient, divisor, test-of}
-use Rattle.theory.specs.Computation.{Comp}
 use Rattle.theory.specs.Rules.{choose, over, decide, sum, product, best, scale, shift, complement, number, side, substitute}
-use Rattle.diagrams.specs.Nodes.{linOf, leafOf, testOf, trees, treeAt, Nums, Tested, Good, Proper, Grown}
+use Rattle.diagrams.specs.Nodes.{linOf, leafOf, testOf, treeAt, Nums, Good, Proper, Grown}
 use Rattle.diagrams.specs.Table.{Lasting, Bare}
 use Rattle.diagrams.specs.Meaning.{cOf, testIn, testBy, Names, packed, ruleOf}
 use Rattle.diagrams.specs.Roots.{laterNode, fiveOf, fiveNode, namedNode, testNode, Readable}

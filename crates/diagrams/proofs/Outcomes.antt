@@ -6,18 +6,16 @@ use Prim.Native.Nat.{ℕ, _+_, _*_, _≤_, _<_}
 use native.Mathlib.Nat.{le-trans, lt-of-lt-of-le}
 use native.Mathlib.Omega.{arith}
 use borrow.Author.Tests.{eq-eqb, ne-eqb}
-use lib.Dec.{eqb}
 use lib.IntN.{ℤ}
-use lib.ListN.{length, getD}
+use lib.ListN.{getD}
 use Rattle.whole.specs.Cases.{if}
-use Rattle.table.specs.Table.{nodeAt}
 use Rattle.table.specs.declared.Made.{Made}
 use Rattle.theory.specs.Diagram.{Linear, Tree}
 use Rattle.theory.specs.Computation.{Comp, ret, judge, bind, both, Out, done, stopped, run}
 use Rattle.theory.specs.laws.Comps.{after, run-bind, run-judge}
 use Rattle.theory.specs.Valid.{small-linear}
 use Rattle.diagrams.specs.Nodes.{none, trees, treeAt, Grown}
-use Rattle.diagrams.specs.Table.{Rule, Entry, Stands, Cached, Bare, Table, Ran, Grew, outOf}
+use Rattle.diagrams.specs.Table.{Rule, Stands, Cached, Bare, Table, Ran, Grew, outOf}
 use Rattle.diagrams.proofs.Trees.{trees-kept, grown-on}
 
 -- ---- an answer, as an outcome

@@ -1,5 +1,5 @@
 -- The order of tests, and the sides that a rule of two operands goes on with, as functions of the nodes' words.
-use mathlib.Core.Bool.{Bool, true, false}
+use mathlib.Core.Bool.{true, false}
 use mathlib.Core.List.{List}
 use Prim.Native.Nat.{ℕ, _+_, _*_, _≤_, Ordering, Ordering·lt, Ordering·eq, Ordering·gt}
 use mathlib.Core.Path.{_≡_}
@@ -68,8 +68,8 @@ leftSides x f g = record { ends = false; root = f; fh = x .high; gh = g; fl = x 
 abbrev pub rightSides : ℕ → Down → ℕ → Sides
 rightSides f y g = record { ends = false; root = g; fh = f; gh = y .high; fl = f; gl = y .low }
 
-abbrev pub bothSides : Down → ℕ → Down → ℕ → Sides
-bothSides x f y g = record { ends = false; root = f; fh = x .high; gh = y .high; fl = x .low; gl = y .low }
+abbrev pub bothSides : Down → ℕ → Down → Sides
+bothSides x f y = record { ends = false; root = f; fh = x .high; gh = y .high; fl = x .low; gl = y .low }
 
 -- nothing is left to go on with, but f and g, or a choice's high side f and low side k
 abbrev pub endSides : ℕ → ℕ → ℕ → Sides
@@ -79,7 +79,7 @@ endSides f g k = record { ends = true; root = f; fh = f; gh = g; fl = f; gl = k 
 unfoldable pub splitOf : Down → ℕ → Down → ℕ → ℕ → Sides
 splitOf x f y g o =
     if (x .ends) (if (y .ends) (endSides f g g) (rightSides f y g))
-    (if (y .ends) (leftSides x f g) (if (eqb o 0) (leftSides x f g) (if (eqb o 1) (bothSides x f y g) (rightSides f y g))))
+    (if (y .ends) (leftSides x f g) (if (eqb o 0) (leftSides x f g) (if (eqb o 1) (bothSides x f y) (rightSides f y g))))
 
 unfoldable pub sidesOf : Node → ℕ → Node → ℕ → Sides
 sidesOf x f y g = splitOf (downOf x) f (downOf y) g (ordNum (orderOf x y))

@@ -1,6 +1,5 @@
 -- A table of diagrams with its work words: the unique table's chains and the computed cache; what an operation on it did.
 use mathlib.Core.Path.{_≡_}
-use mathlib.Core.Bool.{Bool, true, false}
 use mathlib.Core.List.{List}
 use Prim.Native.Nat.{ℕ, suc, _+_, _*_, _%_, _≤_, _<_}
 use lib.Dec.{eqb}
@@ -60,6 +59,14 @@ Lasting rule l n op f g p q = (l′ : List ℤ) (n′ : ℕ) → Grown l n l′ 
 
 abbrev pub Cached : Rule → ℕ → List ℤ → List ℕ → ℕ → Type 0
 Cached rule cap l w n = (j op f g p q r : ℕ) → j < cap → Entry w (cap * 2 + j * 6) op f g p q r → Stands rule cap l n op f g p q r
+
+-- the cache's words before i are cleared, and no other word is changed
+pub record Clearing (cap : ℕ) (w : List ℕ) (i : ℕ) (w′ : List ℕ) : Type 0 where
+  pub from : cap * 2 ≤ i
+  pub length-kept : length w′ ≡ length w
+  pub kept : (j : ℕ) → j < cap * 2 → getD w′ j 0 ≡ getD w j 0
+  pub later : (j : ℕ) → i ≤ j → getD w′ j 0 ≡ getD w j 0
+  pub cleared : (j : ℕ) → cap * 2 ≤ j → j < i → getD w′ j 0 ≡ 0
 
 -- ---- a table of n nodes with room for cap
 

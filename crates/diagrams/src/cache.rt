@@ -1,7 +1,7 @@
 // The computed cache: results kept by rule and operands, each in one place, the last one only.
 ghost use mathlib.Core.Path.{_≡_};
 ghost use Prim.Native.Nat.{_+_, _-_, _*_, _≤_, _<_};
-ghost use Rattle.diagrams.specs.Table.{slotOf, Key, Room, Entry, storeOf};
+ghost use Rattle.diagrams.specs.Table.{slotOf, Key, Room, Entry, storeOf, Clearing};
 
 // The place of the entry for a rule's five words.
 pub fn slot(cap: usize, op: usize, f: usize, g: usize, p: usize, q: usize) -> usize
@@ -61,4 +61,17 @@ pub fn keep(
     work[at + 3] = p as u32;
     work[at + 4] = q as u32;
     work[at + 5] = (r + 1) as u32;
+}
+
+// Forgets all results, as an operation begins.
+pub fn clear(work: &mut [u32], cap: usize)
+    requires { ⌜ Room cap (now work) ⌝ }
+    ensures { λ _. ⌜ Clearing cap (now (work .entry)) (cap * 8) (now (work .exit)) ⌝ }
+{
+    let end = cap * 8;
+    let mut i = cap * 2;
+    while i < end {
+        work[i] = 0;
+        i += 1;
+    }
 }

@@ -4,7 +4,7 @@ ghost use lib.Dec.{T};
 ghost use lib.Signed.{nonNeg};
 ghost use Rattle.table.specs.Table.{nodeAt};
 ghost use Rattle.diagrams.specs.Nodes.{At};
-ghost use Rattle.diagrams.specs.Roots.{downOf, splitOf, pickLow, pickOf, sidesOf, choiceOf};
+ghost use Rattle.diagrams.specs.Roots.{downOf, leftSides, rightSides, bothSides, endSides, splitOf, pickLow, pickOf, sidesOf, choiceOf};
 use super::Down;
 use super::Sides;
 use super::tests::index;
@@ -34,60 +34,24 @@ pub fn below(x: Node) -> Down
     }
 }
 
-// The sides of two nodes by the first root, their order being o.
-pub fn split(x: Down, f: usize, y: Down, g: usize, o: usize) -> Sides
-    ensures { λ r. ⌜ r ≡ splitOf x f y g o ⌝ }
+// The left operand's sides, the right one whole.
+fn left(x: Down, f: usize, g: usize) -> Sides
+    ensures { λ r. ⌜ r ≡ leftSides x f g ⌝ }
 {
-    if x.ends {
-        if y.ends {
-            return Sides {
-                ends: true,
-                root: f,
-                fh: f,
-                gh: g,
-                fl: f,
-                gl: g,
-            };
-        }
-        return Sides {
-            ends: false,
-            root: g,
-            fh: f,
-            gh: y.high,
-            fl: f,
-            gl: y.low,
-        };
+    Sides {
+        ends: false,
+        root: f,
+        fh: x.high,
+        gh: g,
+        fl: x.low,
+        gl: g,
     }
-    if y.ends {
-        return Sides {
-            ends: false,
-            root: f,
-            fh: x.high,
-            gh: g,
-            fl: x.low,
-            gl: g,
-        };
-    }
-    if o == 0 {
-        return Sides {
-            ends: false,
-            root: f,
-            fh: x.high,
-            gh: g,
-            fl: x.low,
-            gl: g,
-        };
-    }
-    if o == 1 {
-        return Sides {
-            ends: false,
-            root: f,
-            fh: x.high,
-            gh: y.high,
-            fl: x.low,
-            gl: y.low,
-        };
-    }
+}
+
+// The right operand's sides, the left one whole.
+fn right(f: usize, y: Down, g: usize) -> Sides
+    ensures { λ r. ⌜ r ≡ rightSides f y g ⌝ }
+{
     Sides {
         ends: false,
         root: g,
@@ -98,48 +62,70 @@ pub fn split(x: Down, f: usize, y: Down, g: usize, o: usize) -> Sides
     }
 }
 
+// The sides of both.
+fn both(x: Down, f: usize, y: Down) -> Sides
+    ensures { λ r. ⌜ r ≡ bothSides x f y ⌝ }
+{
+    Sides {
+        ends: false,
+        root: f,
+        fh: x.high,
+        gh: y.high,
+        fl: x.low,
+        gl: y.low,
+    }
+}
+
+// Nothing to go on with but f and g; a choice's sides are f and k.
+fn ended(f: usize, g: usize, k: usize) -> Sides
+    ensures { λ r. ⌜ r ≡ endSides f g k ⌝ }
+{
+    Sides {
+        ends: true,
+        root: f,
+        fh: f,
+        gh: g,
+        fl: f,
+        gl: k,
+    }
+}
+
+// The sides of two nodes by the first root, their order being o.
+pub fn split(x: Down, f: usize, y: Down, g: usize, o: usize) -> Sides
+    ensures { λ r. ⌜ r ≡ splitOf x f y g o ⌝ }
+{
+    if x.ends {
+        if y.ends {
+            return ended(f, g, g);
+        }
+        return right(f, y, g);
+    }
+    if y.ends {
+        return left(x, f, g);
+    }
+    if o == 0 {
+        return left(x, f, g);
+    }
+    if o == 1 {
+        return both(x, f, y);
+    }
+    right(f, y, g)
+}
+
 // The low operand's part in a choice, the high side being p of f; b is the order of the test and the low root.
 pub fn pick_low(p: usize, f: usize, y: Down, g: usize, b: usize) -> Sides
     ensures { λ r. ⌜ r ≡ pickLow p f y g b ⌝ }
 {
     if y.ends {
-        return Sides {
-            ends: true,
-            root: p,
-            fh: p,
-            gh: g,
-            fl: p,
-            gl: g,
-        };
+        return ended(p, g, g);
     }
     if b == 2 {
-        return Sides {
-            ends: false,
-            root: g,
-            fh: f,
-            gh: y.high,
-            fl: f,
-            gl: y.low,
-        };
+        return right(f, y, g);
     }
     if b == 1 {
-        return Sides {
-            ends: true,
-            root: p,
-            fh: p,
-            gh: g,
-            fl: p,
-            gl: y.low,
-        };
+        return ended(p, g, y.low);
     }
-    Sides {
-        ends: true,
-        root: p,
-        fh: p,
-        gh: g,
-        fl: p,
-        gl: g,
-    }
+    ended(p, g, g)
 }
 
 // The sides of a choice: a, b the order of its test and each root, o that of the roots.

@@ -1,3 +1,4 @@
+-- `diagrams::cache::keep` meets its contract.
 use mathlib.Core.Path.{ap}
 use Prim.Native.Nat.{ℕ}
 use lib.ListN.{length-set}

@@ -1,3 +1,4 @@
+-- `diagrams::cache::look` meets its contract.
 use Prim.Native.Nat.{_+_}
 use native.Mathlib.Omega.{arith}
 use Rattle.diagrams.proofs.Caching.{entry-is}

@@ -1,3 +1,4 @@
+-- `diagrams::cache::slot` meets its contract.
 use mathlib.Core.Path.{refl}
 use Prim.Native.Nat.{_+_, _*_}
 use native.Mathlib.Nat.{mod-lt}

@@ -1,3 +1,4 @@
+-- `diagrams::making::intern` meets its contract.
 use Rattle.diagrams.proofs.Interning.{interned-as}
 use borrow.Author.Needs.{needs}
 use Rattle.diagrams.proofs.making.intern.Statement.{statement}

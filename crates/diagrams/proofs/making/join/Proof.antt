@@ -1,3 +1,4 @@
+-- `diagrams::making::join` meets its contract.
 use mathlib.Core.Path.{ap}
 use Rattle.table.specs.declared.Node.{Node}
 use Rattle.theory.specs.Rules.{node}

@@ -1,3 +1,4 @@
+-- `diagrams::making::join_test` meets its contract.
 use Rattle.diagrams.proofs.Joining.{join-same, join-valid, join-made}
 use borrow.Author.Needs.{needs}
 use Rattle.diagrams.proofs.making.join_test.Statement.{statement}

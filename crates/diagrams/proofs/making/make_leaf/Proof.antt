@@ -1,3 +1,4 @@
+-- `diagrams::making::make_leaf` meets its contract.
 use Rattle.diagrams.proofs.Judging.{leaf-over, leaf-valid, leaf-made}
 use borrow.Author.Needs.{needs}
 use Rattle.diagrams.proofs.making.make_leaf.Statement.{statement}

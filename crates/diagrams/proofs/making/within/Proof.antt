@@ -1,3 +1,4 @@
+-- `diagrams::making::within` meets its contract.
 use mathlib.Core.Path.{refl}
 use mathlib.Core.Bool.{true, false}
 use Rattle.diagrams.proofs.Judging.{big, fine, small-as}

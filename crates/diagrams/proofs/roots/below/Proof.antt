@@ -1,3 +1,4 @@
+-- `diagrams::roots::below` meets its contract.
 use mathlib.Core.Bool.{true, false}
 use Rattle.diagrams.proofs.Comparing.{down-as, kind-yes, kind-no, abs-of}
 use borrow.Author.Needs.{needs}

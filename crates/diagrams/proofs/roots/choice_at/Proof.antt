@@ -1,3 +1,4 @@
+-- `diagrams::roots::choice_at` meets its contract.
 use Rattle.diagrams.proofs.Comparing.{at-as, choice-as}
 use borrow.Author.Needs.{needs}
 use Rattle.diagrams.proofs.roots.choice_at.Statement.{statement}

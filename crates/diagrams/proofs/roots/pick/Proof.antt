@@ -1,3 +1,4 @@
+-- `diagrams::roots::pick` meets its contract.
 use borrow.Author.Tests.{eq-eqb, ne-eqb}
 use Rattle.diagrams.specs.Roots.{pickOf}
 use borrow.Author.Needs.{needs}

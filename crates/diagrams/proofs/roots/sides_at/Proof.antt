@@ -1,3 +1,4 @@
+-- `diagrams::roots::sides_at` meets its contract.
 use Rattle.diagrams.proofs.Comparing.{at-as, sides-as}
 use borrow.Author.Needs.{needs}
 use Rattle.diagrams.proofs.roots.sides_at.Statement.{statement}

@@ -1,3 +1,4 @@
+-- `diagrams::rules::choose` meets its contract. The measure is f + g: branches lie below their node.
 use native.Mathlib.Omega.{arith}
 use native.Mathlib.Nat.{lt-of-lt-of-le}
 use borrow.Author.Needs.{needs}
@@ -7,7 +8,7 @@ use Rattle.diagrams.proofs.Caching.{room-in}
 use Rattle.diagrams.proofs.Meanings.{names-more, readable-in, test-proper}
 use Rattle.diagrams.proofs.Going.{at-in, high-stops, low-stops, root-on, high-in, joined}
 use Rattle.diagrams.proofs.Choices.{choice-key, choice-goes, choice-ends, choice-kept, choice-answered, choice-stored, keepable}
-use Prim.Native.Nat.{ℕ, _<_, _+_}
+use Prim.Native.Nat.{ℕ, _+_, _<_}
 use borrow.Fn.Kinds.{In}
 use borrow.Fn.PlainCycle.{Measures, is, falls, and}
 use Rattle.diagrams.proofs.rules.choose.Reads as choose

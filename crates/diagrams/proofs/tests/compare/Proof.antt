@@ -1,3 +1,4 @@
+-- `diagrams::tests::compare` meets its contract.
 use mathlib.Core.Path.{sym, ap}
 use Rattle.diagrams.specs.Roots.{ordNum}
 use Rattle.diagrams.proofs.Comparing.{cmp-lt, cmp-gt, cmp-same, lt-of}

@@ -1,3 +1,4 @@
+-- `diagrams::tests::five` meets its contract.
 use Rattle.diagrams.proofs.Meanings.{five-of}
 use Rattle.diagrams.proofs.tests.five.Statement.{statement}
 use Rattle.diagrams.proofs.tests.five.Tie as tie

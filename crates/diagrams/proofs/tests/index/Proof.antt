@@ -1,3 +1,4 @@
+-- `diagrams::tests::index` meets its contract.
 use Rattle.diagrams.proofs.Comparing.{index-fits}
 use borrow.Author.Needs.{needs}
 use Rattle.diagrams.proofs.tests.index.Statement.{statement}

@@ -1,3 +1,4 @@
+-- `diagrams::tests::later` meets its contract.
 use Rattle.diagrams.proofs.Meanings.{later-node}
 use borrow.Author.Needs.{needs}
 use Rattle.diagrams.proofs.tests.later.Statement.{statement}

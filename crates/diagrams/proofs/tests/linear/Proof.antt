@@ -1,3 +1,4 @@
+-- `diagrams::tests::linear` meets its contract.
 use Rattle.diagrams.proofs.Meanings.{five-node}
 use Rattle.diagrams.proofs.tests.linear.Statement.{statement}
 use Rattle.diagrams.proofs.tests.linear.Tie as tie

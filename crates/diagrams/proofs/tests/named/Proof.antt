@@ -1,3 +1,4 @@
+-- `diagrams::tests::named` meets its contract.
 use Rattle.diagrams.proofs.Comparing.{kind-yes, kind-no}
 use Rattle.diagrams.proofs.Meanings.{five-small-as, named-leaf-as, named-branch-as}
 use borrow.Author.Needs.{needs}

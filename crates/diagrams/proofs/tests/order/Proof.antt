@@ -1,3 +1,4 @@
+-- `diagrams::tests::order` meets its contract.
 use Rattle.diagrams.specs.Roots.{orderOf}
 use Rattle.diagrams.proofs.Comparing.{cmp-back, then-here, then-on}
 use borrow.Author.Needs.{needs}

@@ -1,3 +1,4 @@
+-- `diagrams::tests::test_at` meets its contract.
 use mathlib.Core.Path.{sym, subst}
 use Rattle.diagrams.specs.Nodes.{Nums}
 use Rattle.diagrams.proofs.Meanings.{test-later, test-named}

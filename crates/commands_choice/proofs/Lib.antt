@@ -1,0 +1,3 @@
+-- Laws of choices by commands.
+pub mod Tests
+pub mod Commands

@@ -1,0 +1,206 @@
+-- The test that a command gives, as a node's words.
+use mathlib.Core.Path.{_≡_, refl, sym, ap, _∙_, subst}
+use mathlib.Core.Bool.{Bool, true, false, _&&_}
+use mathlib.Core.List.{List, [], _∷_}
+use Prim.Native.Nat.{ℕ, _+_, _-_, _^_, _≤_, _<_}
+use native.Mathlib.Omega.{arith}
+use lib.Dec.{T, eqb, leb, leb→le, nleb→lt}
+use lib.IntN.{ℤ, pos, natAbs}
+use lib.Signed.{mag}
+use mir.Syntax.{w64}
+use mir.Val.{toZ}
+use types.Run.{OneOf, miss}
+use denote.Enum.Declared.{tagOf}
+use Rattle.whole.specs.Cases.{if, by-test, both}
+use Rattle.whole.specs.Within.{Small, small, limit}
+use Rattle.whole.specs.Divisor.{gcd-all}
+use Rattle.whole.specs.Five.{SmallFive, divisorOf, dividedOf}
+use Rattle.whole.specs.FiveLaws.{divided-small}
+use Rattle.whole.specs.declared.Five.{Five}
+use Rattle.table.proofs.Words.{R, back}
+use Rattle.table.specs.Table.{eqZ}
+use Rattle.table.specs.declared.Node.{Node}
+use Rattle.theory.specs.Widths.{conditions-most}
+use Rattle.theory.specs.Diagram.{Test, now, later, quotL, quotient, divisor, test-of}
+use Rattle.theory.specs.Valid.{all, small-linear, wide}
+use Rattle.theory.specs.Command.{Command, site, push-leaf, push-condition, push-test, take-reward, take-chance, take-level, name-action, end-model, Read, whole, unknown, short, byte-at, command-at, read-at}
+use Rattle.theory.specs.Load.{condition-test}
+use Rattle.theory.specs.laws.Valid.{wide-small}
+use Rattle.theory.specs.laws.Loading.{linear-wide, by-reading}
+use Rattle.command.proofs.Command.{the-type as command-type}
+use Rattle.command.proofs.Read.{the-type as read-type}
+use Rattle.command.specs.declared.Linear.{Linear as CodeLinear}
+use Rattle.command.specs.declared.Command.{Command as CodeCommand}
+use Rattle.command.specs.declared.Command.the-variants.{Site, Leaf, Condition, Test as TestBy, Reward, Chance, Level, Name, End}
+use Rattle.command.specs.declared.Read.{Read as CodeRead}
+use Rattle.command.specs.declared.Read.the-variants.{Whole, Unknown, Short}
+use Rattle.command.specs.Reading.{linear-of, command-of, read-of}
+use Rattle.diagrams.specs.Nodes.{linOf, testOf, conditionOf, Nums, Proper}
+use Rattle.diagrams.specs.Roots.{fiveOf, fiveNode, namedNode}
+use Rattle.diagrams.proofs.Trees.{later-is, now-is}
+use Rattle.diagrams.proofs.Meanings.{five-small-as}
+use Rattle.commands_choice.specs.Testing.{Stood, wordsOf, condition-in, condition-read, test-in, test-read, testAt, Testing}
+
+-- ---- a condition
+
+condition-same : (k : ℕ) → conditionOf k ≡ condition-test k
+unfolding condition-test
+condition-same k = by-test (leb k conditions-most) (λ b. conditionOf k ≡ if b (now k) (later (k - conditions-most)))
+    (λ t. now-is k (leb→le k conditions-most t)) (λ t. later-is k (nleb→lt k conditions-most t))
+
+conditionNode : ℕ → Node
+conditionNode k = record { kind = pos 1; c1 = pos k; c2 = pos 0; c3 = pos 0; c4 = pos 0; constant = pos 0; high = pos 0; low = pos 0 }
+
+stood-condition : (k : ℕ) → 0 < k → k ≤ conditions-most + conditions-most → Stood (condition-test k) (conditionNode k)
+unfolding conditionNode testOf eqZ
+stood-condition k a b = record {
+  proper = record {
+    branches = refl;
+    nums = record { c1 = record { small = omega arith }; c2 = record { small = omega arith }; c3 = record { small = omega arith }; c4 = record { small = omega arith }; constant = record { small = omega arith } };
+    tested = record { kind = λ e. absurd (let z : _≡_ {A = ℕ} 0 1 = cc in omega arith); number = λ _. tt; bounds = λ _. (a, b); rest = λ _. (refl, refl, refl, refl) };
+  };
+  test = condition-same k;
+}
+
+-- with the words that the code has
+pub condition-stood : (k : ℕ) → 0 < k → k ≤ conditions-most + conditions-most → Stood (condition-test k) (record { kind = pos 1; c1 = toZ w64 k; c2 = pos 0; c3 = pos 0; c4 = pos 0; constant = pos 0; high = pos 0; low = pos 0 })
+unfolding conditionNode
+condition-stood k a b = subst (Stood (condition-test k)) (ap (λ (z : ℤ). record { kind = pos 1; c1 = z; c2 = pos 0; c3 = pos 0; c4 = pos 0; constant = pos 0; high = pos 0; low = pos 0 }) (sym (back (pos k) (omega arith)))) (stood-condition k a b)
+
+-- ---- a linear
+
+pub words-of : (p : CodeLinear) → mag (p .c1) < 2 ^ 63 → mag (p .c2) < 2 ^ 63 → mag (p .c3) < 2 ^ 63 → mag (p .c4) < 2 ^ 63 → mag (p .constant) < 2 ^ 63 → _≡_ {A = Node} (record { kind = pos 0; c1 = R (p .c1); c2 = R (p .c2); c3 = R (p .c3); c4 = R (p .c4); constant = R (p .constant); high = pos 0; low = pos 0 }) (wordsOf p)
+unfolding wordsOf
+words-of p a b c d e = λ i. record { kind = pos 0; c1 = back (p .c1) a i; c2 = back (p .c2) b i; c3 = back (p .c3) c i; c4 = back (p .c4) d i; constant = back (p .constant) e i; high = pos 0; low = pos 0 }
+
+-- numbers that are written lie within the limits
+wide-command : Command → Bool
+wide-command (site m n a w) = true
+wide-command (push-leaf p) = wide p
+wide-command (push-condition k) = true
+wide-command (push-test p) = wide p
+wide-command (take-reward a) = true
+wide-command (take-chance a k) = true
+wide-command (take-level a i) = true
+wide-command (name-action a b) = true
+wide-command end-model = true
+
+wide-read : Read → Bool
+wide-read (whole c) = wide-command c
+wide-read unknown = true
+wide-read short = true
+
+one-of : (b : Bool) (c d : Command) → T (wide-command c) → T (wide-command d) → T (wide-command (if b c d))
+one-of true c d f g = f
+one-of false c d f g = g
+
+command-wide : (B : List ℕ) (at : ℕ) → T (wide-command (command-at B at))
+unfolding command-at wide-command
+command-wide B at =
+    one-of (eqb (byte-at B at) 0x01) _ _ tt (one-of (eqb (byte-at B at) 0x10) _ _ (linear-wide B (at + 1)) (one-of (eqb (byte-at B at) 0x11) _ _ tt
+    (one-of (eqb (byte-at B at) 0x12) _ _ (linear-wide B (at + 1)) (one-of (eqb (byte-at B at) 0x20) _ _ tt (one-of (eqb (byte-at B at) 0x21) _ _ tt
+    (one-of (eqb (byte-at B at) 0x22) _ _ tt (one-of (eqb (byte-at B at) 0x30) _ _ tt tt)))))))
+
+read-wide : (B : List ℕ) (at : ℕ) → T (wide-read (read-at B at))
+unfolding wide-read
+read-wide B at = by-reading B at (λ r. T (wide-read r)) tt (λ _. tt) (λ _ _. command-wide B at)
+
+is-small : (z : ℤ) → T (small z) → Small z
+unfolding small
+is-small z t = record { small = leb→le (natAbs z) limit t }
+
+nums-of : (p : CodeLinear) → T (wide (linear-of p)) → Nums (wordsOf p)
+unfolding wordsOf small-linear all
+nums-of p t =
+    let c = both (all small (linear-of p .coeffs)) (small (p .constant)) (wide-small (linear-of p) t) in
+    let a₁ = both (small (p .c1)) (small (p .c2) && (small (p .c3) && (small (p .c4) && true))) (c .0) in
+    let a₂ = both (small (p .c2)) (small (p .c3) && (small (p .c4) && true)) (a₁ .1) in
+    let a₃ = both (small (p .c3)) (small (p .c4) && true) (a₂ .1) in
+    let a₄ = both (small (p .c4)) true (a₃ .1) in
+    record { c1 = is-small _ (a₁ .0); c2 = is-small _ (a₂ .0); c3 = is-small _ (a₃ .0); c4 = is-small _ (a₄ .0); constant = is-small _ (c .1) }
+
+-- of a command that is there
+pub leaf-nums : (B : List ℕ) (at : ℕ) (p : CodeLinear) → whole (push-leaf (linear-of p)) ≡ read-at B at → Nums (wordsOf p)
+unfolding wide-read wide-command
+leaf-nums B at p e = nums-of p (subst (λ (r : Read). T (wide-read r)) (sym e) (read-wide B at))
+
+pub test-nums : (B : List ℕ) (at : ℕ) (p : CodeLinear) → whole (push-test (linear-of p)) ≡ read-at B at → Nums (wordsOf p)
+unfolding wide-read wide-command
+test-nums B at p e = nums-of p (subst (λ (r : Read). T (wide-read r)) (sym e) (read-wide B at))
+
+proper-five : (v : Five) → SmallFive v → Proper (fiveNode v)
+unfolding fiveNode eqZ
+proper-five v s = record {
+  branches = refl;
+  nums = record { c1 = s .b; c2 = s .c; c3 = s .d; c4 = s .e; constant = s .a };
+  tested = record { kind = λ _. refl; number = λ e. absurd (let z : _≡_ {A = ℕ} 0 1 = cc in omega arith); bounds = λ e. absurd (let z : _≡_ {A = ℕ} 0 1 = cc in omega arith); rest = λ e. absurd (let z : _≡_ {A = ℕ} 0 1 = cc in omega arith) };
+}
+
+divided-test : (p : CodeLinear) → testOf (fiveNode (dividedOf (fiveOf (wordsOf p)))) ≡ test-of (linear-of p)
+unfolding testOf fiveNode eqZ dividedOf divisorOf fiveOf linOf test-of quotient quotL divisor gcd-all wordsOf
+divided-test p = refl
+
+named-words : (p : CodeLinear) → namedNode (wordsOf p) ≡ fiveNode (dividedOf (fiveOf (wordsOf p)))
+unfolding namedNode wordsOf eqZ
+named-words p = refl
+
+pub linear-stood : (p : CodeLinear) {x r : Node} → x ≡ wordsOf p → r ≡ namedNode x → Nums (wordsOf p) → Stood (test-of (linear-of p)) r
+linear-stood p {x} {r} e f s = subst (Stood (test-of (linear-of p))) (sym (f ∙ (ap namedNode e ∙ named-words p)))
+    (record { proper = proper-five _ (divided-small _ (five-small-as (wordsOf p) refl s)); test = divided-test p })
+
+-- ---- by what the code reads
+
+not-whole : (B : List ℕ) (at : ℕ) (q : CodeRead) → OneOf (1 ∷ 2 ∷ []) (tagOf read-type q) → test-read (read-of B at q) ≡ condition-test 1
+unfolding test-read read-of
+not-whole B at (Whole c) k = absurd (miss (1 ∷ 2 ∷ []) 0 tt k)
+not-whole B at Unknown k = refl
+not-whole B at Short k = refl
+
+other-test : (B : List ℕ) (at : ℕ) (d : CodeCommand) → OneOf (0 ∷ 1 ∷ 4 ∷ 5 ∷ 6 ∷ 7 ∷ 8 ∷ []) (tagOf command-type d) → test-read (whole (command-of B at d)) ≡ condition-test 1
+unfolding test-read test-in command-of
+other-test B at (Site m n a w) k = refl
+other-test B at (Leaf p) k = refl
+other-test B at (Condition i) k = absurd (miss (0 ∷ 1 ∷ 4 ∷ 5 ∷ 6 ∷ 7 ∷ 8 ∷ []) 2 tt k)
+other-test B at (TestBy p) k = absurd (miss (0 ∷ 1 ∷ 4 ∷ 5 ∷ 6 ∷ 7 ∷ 8 ∷ []) 3 tt k)
+other-test B at (Reward a) k = refl
+other-test B at (Chance a i) k = refl
+other-test B at (Level a i) k = refl
+other-test B at (Name a) k = refl
+other-test B at End k = refl
+
+module _ (B : List ℕ) (at : ℕ) (r : CodeRead) (e : read-of B at r ≡ read-at B at) where
+  pub whole-is : {c : CodeCommand} → r ≡ Whole c → whole (command-of B at c) ≡ read-at B at
+  unfolding read-of
+  whole-is f = ap (read-of B at) (sym f) ∙ e
+
+  -- nothing whole is there
+  pub none-stood : OneOf (1 ∷ 2 ∷ []) (tagOf read-type r) → {x : Node} → Stood (condition-test 1) x → Stood (testAt B at) x
+  none-stood k {x} s = subst (λ (t : Test). Stood t x) (sym (not-whole B at r k) ∙ ap test-read e) s
+
+  module _ {c : CodeCommand} (f : r ≡ Whole c) where
+    -- a command of no test
+    pub other-stood : OneOf (0 ∷ 1 ∷ 4 ∷ 5 ∷ 6 ∷ 7 ∷ 8 ∷ []) (tagOf command-type c) → {x : Node} → Stood (condition-test 1) x → Stood (testAt B at) x
+    other-stood k {x} s = subst (λ (t : Test). Stood t x) (sym (other-test B at c k) ∙ ap test-read (whole-is f)) s
+
+    -- a condition
+    condition-is : {k : ℕ} → c ≡ Condition k → whole (push-condition k) ≡ read-at B at
+    unfolding command-of
+    condition-is g = ap (λ (d : CodeCommand). whole (command-of B at d)) (sym g) ∙ whole-is f
+
+    pub condition-fits : {k : ℕ} → c ≡ Condition k → Testing B at → (0 < k) × (k ≤ conditions-most + conditions-most)
+    unfolding condition-read condition-in
+    condition-fits {k} g N = let z : k ≡ condition-read (read-at B at) = ap condition-read (condition-is g) in
+        (let a = N .least in omega (arith, z), let b = N .most in omega (arith, z))
+
+    pub condition-test-stood : {k : ℕ} → c ≡ Condition k → {x : Node} → Stood (condition-test k) x → Stood (testAt B at) x
+    unfolding test-read test-in
+    condition-test-stood {k} g {x} s = subst (λ (t : Test). Stood t x) (ap test-read (condition-is g)) s
+
+    -- a linear
+    pub linear-is : {p : CodeLinear} → c ≡ TestBy p → whole (push-test (linear-of p)) ≡ read-at B at
+    unfolding command-of
+    linear-is g = ap (λ (d : CodeCommand). whole (command-of B at d)) (sym g) ∙ whole-is f
+
+    pub linear-test-stood : {p : CodeLinear} → c ≡ TestBy p → {x y : Node} → y ≡ wordsOf p → x ≡ namedNode y → Stood (testAt B at) x
+    unfolding test-read test-in
+    linear-test-stood {p} g {x} a b = subst (λ (t : Test). Stood t x) (ap test-read (linear-is g)) (linear-stood p a b (test-nums B at p (linear-is g)))

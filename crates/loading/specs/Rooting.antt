@@ -1,0 +1,52 @@
+-- The roots of a model's diagrams: those of action a from (a − 1)(1 + n + m) on, its reward, its n chances and its m next levels. What a load leaves.
+use mathlib.Core.Path.{_≡_}
+use mathlib.Core.List.{List, [], map}
+use Prim.Native.Nat.{ℕ, _+_, _-_, _*_}
+use lib.Dec.{ltb}
+use lib.IntN.{ℤ}
+use lib.ListN.{getD, set}
+use Rattle.whole.specs.Cases.{if}
+use Rattle.theory.specs.Computation.{done, stopped, run}
+use Rattle.theory.specs.Command.{Command, site, push-leaf, push-condition, push-test, take-reward, take-chance, take-level, name-action, end-model}
+use Rattle.theory.specs.Verdict.{Site, from-to}
+use Rattle.theory.specs.Load.{site-at, load, model}
+use Rattle.theory.specs.Stage.{model-diagrams}
+use Rattle.command.specs.Held.{held}
+use Rattle.diagrams.specs.Nodes.{trees}
+use Rattle.diagrams.specs.Table.{Table}
+use Rattle.commands_choice.specs.Testing.{loadRule}
+use Rattle.stacking.specs.Stepping.{standing, Below}
+use Rattle.stacking.specs.declared.Loaded.{Loaded}
+use Rattle.loading.specs.declared.Done.{Done}
+
+-- the place of what a command gives, with m levels and n conditions; 72 where it gives nothing
+unfoldable pub place-of : ℕ → ℕ → Command → ℕ
+place-of m n (site b c a w) = 72
+place-of m n (push-leaf p) = 72
+place-of m n (push-condition k) = 72
+place-of m n (push-test p) = 72
+place-of m n (take-reward a) = (a - 1) * (1 + n + m)
+place-of m n (take-chance a k) = (a - 1) * (1 + n + m) + k
+place-of m n (take-level a i) = (a - 1) * (1 + n + m) + (n + i)
+place-of m n (name-action a b) = 72
+place-of m n end-model = 72
+
+unfoldable pub storedIn : List ℕ → ℕ → ℕ → List ℕ
+storedIn R at x = if (ltb at 72) (set R at x) R
+
+pub record Starts (s : Loaded) : Type 0 where
+  pub stop : s .stop ≡ 0
+  pub count : s .count ≡ 0
+  pub stack : held (s .stack) ≡ []
+
+-- the numbers of all roots, in their order
+abbrev pub rootsOf : Site → List ℕ → List ℕ
+rootsOf S R = map (λ i. getD R i 0) (from-to 0 (S .actions * (1 + S .conditions + S .levels)))
+
+-- the table holds what the load of the model made, and the roots are the model's diagrams; or it stopped
+pub record Loads (B : List ℕ) (cap : ℕ) (l : List ℤ) (w : List ℕ) (R : List ℕ) (r : Done) : Type 0 where
+  pub table : Table (loadRule B) cap l w (r .count)
+  pub ran : r .stop ≡ 0 → run cap (load B) [] ≡ done (model B) (trees l (r .count))
+  pub below : r .stop ≡ 0 → Below (r .count) (rootsOf (site-at B) R)
+  pub roots : r .stop ≡ 0 → standing l (r .count) (rootsOf (site-at B) R) ≡ model-diagrams (model B)
+  pub stops : (r .stop ≡ 0 → ⊥) → run cap (load B) [] ≡ stopped (r .stop)

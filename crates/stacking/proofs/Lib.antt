@@ -1,0 +1,2 @@
+-- Laws of the commands on the stack.
+pub mod Steps

@@ -1,0 +1,130 @@
+-- `stacking::step` meets its contract.
+use Rattle.command.specs.Reading.{command-of}
+use Rattle.stacking.proofs.Steps.{leaf-asks, condition-asks, test-asks, leaf-step, condition-step, test-step, reward-step, chance-step, level-step, other-step, ready-as, step-as}
+use borrow.Author.Needs.{needs}
+use Rattle.stacking.proofs.step.Statement.{statement}
+use Rattle.stacking.proofs.step.Tie as tie
+
+enum-known-c : tie.Need-enum-known-c
+enum-known-c c = search needs
+
+leaf-requires : tie.Need-leaf-requires
+unfolding command-of
+leaf-requires c κs =
+    leaf-asks _ (ready-as _ _ (c .before .before .before .c .given .1) ((c .before .before .before .before .before .before .before) .pre))
+
+enum-told : tie.Need-enum-told
+enum-told c = search needs
+
+choice-requires : tie.Need-choice-requires
+unfolding command-of
+choice-requires c κs =
+    condition-asks _ (ready-as _ _ (c .before .before .enum-told .given .1) ((c .before .before .before .before .before .before) .pre))
+
+enum-told-2 : tie.Need-enum-told-2
+enum-told-2 c = search needs
+
+choice-requires-2 : tie.Need-choice-requires-2
+unfolding command-of
+choice-requires-2 c κs =
+    test-asks _ (ready-as _ _ (c .before .before .enum-told2 .given .1) ((c .before .before .before .before .before .before) .pre))
+
+enum-told-3 : tie.Need-enum-told-3
+enum-told-3 c = search needs
+
+taken-requires : tie.Need-taken-requires
+taken-requires c κs = search needs
+
+enum-told-4 : tie.Need-enum-told-4
+enum-told-4 c = search needs
+
+taken-requires-2 : tie.Need-taken-requires-2
+taken-requires-2 c κs = search needs
+
+enum-told-5 : tie.Need-enum-told-5
+enum-told-5 c = search needs
+
+taken-requires-3 : tie.Need-taken-requires-3
+taken-requires-3 c κs = search needs
+
+same-length : tie.Need-same-length
+same-length c = search needs
+
+same-length-2 : tie.Need-same-length-2
+same-length-2 c = search needs
+
+returns : tie.Need-returns
+unfolding command-of
+returns c =
+    step-as _ _ (c .before .before .before .before .before .before .before .c .given .1) ((c .before .before .before .before .before .before .before .before .before .before .before) .pre) (λ y. leaf-step _ _ _ y (c .before .before .before .leaf .ensures))
+
+same-length-3 : tie.Need-same-length-3
+same-length-3 c = search needs
+
+same-length-4 : tie.Need-same-length-4
+same-length-4 c = search needs
+
+returns-2 : tie.Need-returns-2
+unfolding command-of
+returns-2 c =
+    step-as _ _ (c .before .before .before .before .before .before .enum-told .given .1) ((c .before .before .before .before .before .before .before .before .before .before) .pre) (λ y. condition-step _ _ _ y (c .before .before .before .choice .ensures))
+
+same-length-5 : tie.Need-same-length-5
+same-length-5 c = search needs
+
+same-length-6 : tie.Need-same-length-6
+same-length-6 c = search needs
+
+returns-3 : tie.Need-returns-3
+unfolding command-of
+returns-3 c =
+    step-as _ _ (c .before .before .before .before .before .before .enum-told2 .given .1) ((c .before .before .before .before .before .before .before .before .before .before) .pre) (λ y. test-step _ _ _ y (c .before .before .before .choice2 .ensures))
+
+returns-4 : tie.Need-returns-4
+unfolding command-of
+returns-4 c =
+    step-as _ _ (c .before .enum-told3 .given .1) ((c .before .before .before .before .before) .pre) (λ y. reward-step _ y (c .taken .ensures))
+
+returns-5 : tie.Need-returns-5
+unfolding command-of
+returns-5 c =
+    step-as _ _ (c .before .enum-told4 .given .1) ((c .before .before .before .before .before) .pre) (λ y. chance-step _ _ y (c .taken2 .ensures))
+
+returns-6 : tie.Need-returns-6
+unfolding command-of
+returns-6 c =
+    step-as _ _ (c .before .enum-told5 .given .1) ((c .before .before .before .before .before) .pre) (λ y. level-step _ _ y (c .taken3 .ensures))
+
+returns-7 : tie.Need-returns-7
+returns-7 c =
+    other-step ((c .before .before .before) .args .c) (c .match .keys7) ((c .before .before .before) .pre)
+
+pub step-spec : {M : Type 1} → statement M
+step-spec =
+    tie.close
+    (tie.spec
+    enum-known-c
+    leaf-requires
+    enum-told
+    choice-requires
+    enum-told-2
+    choice-requires-2
+    enum-told-3
+    taken-requires
+    enum-told-4
+    taken-requires-2
+    enum-told-5
+    taken-requires-3
+    same-length
+    same-length-2
+    returns
+    same-length-3
+    same-length-4
+    returns-2
+    same-length-5
+    same-length-6
+    returns-3
+    returns-4
+    returns-5
+    returns-6
+    returns-7)

@@ -1,0 +1,122 @@
+// One command of the model: the stack is held by value, and holds the numbers of diagrams.
+ghost use mathlib.Core.Path.{_≡_};
+ghost use Prim.Native.Nat.{_<_};
+ghost use lib.ListN.{drop, getD};
+ghost use Rattle.theory.specs.Diagram.{leaf as leafed, plain};
+ghost use Rattle.theory.specs.Rules.{choose};
+ghost use Rattle.theory.specs.Computation.{make};
+ghost use Rattle.command.specs.Held.{held};
+ghost use Rattle.command.specs.Reading.{linear-of, command-of};
+ghost use Rattle.diagrams.specs.Nodes.{treeAt, Nums};
+ghost use Rattle.diagrams.specs.Table.{Bare, Table};
+ghost use Rattle.commands_choice.specs.Testing.{Testing, testAt, loadRule, wordsOf};
+ghost use Rattle.stacking.specs.Stepping.{Put, Grown-on, Chosen-on, Popped, Ready, Stepped};
+use command::Command;
+use command::Linear;
+use command::stack::Stack;
+use commands_choice::choose_command;
+use commands_choice::words;
+use diagrams::making::intern;
+use table::Made;
+
+// The number that stops a load, or 0; how many nodes there are; and the stack.
+pub struct Loaded {
+    pub stop: usize,
+    pub count: usize,
+    pub stack: Stack,
+}
+
+// What was made goes on the stack.
+fn put(stack: Stack, m: Made) -> Loaded
+    requires { ⌜ (m .stop ≡ 0 → m .at < 65536) ⌝ }
+    ensures { λ r. ⌜ Put (held stack) m r ⌝ }
+{
+    if m.stop != 0 {
+        return Loaded {
+            stop: m.stop,
+            count: m.count,
+            stack,
+        };
+    }
+    let x = m.at as u32;
+    Loaded {
+        stop: 0,
+        count: m.count,
+        stack: stack.push(x),
+    }
+}
+
+// A leaf.
+fn leaf(nodes: &mut [i64], work: &mut [u32], cap: usize, s: Loaded, p: Linear) -> Loaded
+    requires { ⌜ Bare cap (now nodes) (now work) (s .count) × Nums (wordsOf p) ⌝ }
+    ensures { λ r. ⌜ Grown-on cap (now (nodes .entry)) (now (work .entry)) (s .count) (make (leafed (plain (linear-of p)))) (held (s .stack)) (now (nodes .exit)) (now (work .exit)) r ⌝ }
+{
+    let stack = s.stack;
+    let m = intern(nodes, work, cap, s.count, words(p));
+    put(stack, m)
+}
+
+// "takes low, then high, off the stack and pushes the choice", by the test of the command at an offset.
+fn choice(
+    model: &[u8],
+    nodes: &mut [i64],
+    work: &mut [u32],
+    cap: usize,
+    at: usize,
+    s: Loaded,
+) -> Loaded
+    requires { ⌜ Table (loadRule (now model)) cap (now nodes) (now work) (s .count) × Testing (now model) at × (getD (drop 1 (held (s .stack))) 0 0 < s .count) × (getD (held (s .stack)) 0 0 < s .count) ⌝ }
+    ensures { λ r. ⌜ Chosen-on (loadRule (now (model .entry))) cap (now (nodes .entry)) (now (work .entry)) (s .count) (choose (testAt (now (model .entry)) at) (treeAt (now (nodes .entry)) (s .count) (getD (drop 1 (held (s .stack))) 0 0)) (treeAt (now (nodes .entry)) (s .count) (getD (held (s .stack)) 0 0))) (drop 1 (drop 1 (held (s .stack)))) (now (nodes .exit)) (now (work .exit)) r ⌝ }
+{
+    let stack = s.stack;
+    let low = stack.top();
+    let rest = stack.pop();
+    let high = rest.top();
+    let m = choose_command(
+        model,
+        nodes,
+        work,
+        cap,
+        s.count,
+        at,
+        high as usize,
+        low as usize,
+    );
+    put(rest.pop(), m)
+}
+
+// "takes one diagram off the stack"
+fn taken(s: Loaded) -> Loaded
+    ensures { λ r. ⌜ Popped s r ⌝ }
+{
+    let stack = s.stack;
+    Loaded {
+        stop: s.stop,
+        count: s.count,
+        stack: stack.pop(),
+    }
+}
+
+// One command.
+pub fn step(
+    model: &[u8],
+    nodes: &mut [i64],
+    work: &mut [u32],
+    cap: usize,
+    at: usize,
+    c: Command,
+    s: Loaded,
+) -> Loaded
+    requires { ⌜ Ready (now model) cap (now nodes) (now work) at (command-of (now model) at c) s ⌝ }
+    ensures { λ r. ⌜ Stepped (now (model .entry)) cap (now (nodes .entry)) (now (work .entry)) (command-of (now (model .entry)) at c) (s .count) (held (s .stack)) (now (nodes .exit)) (now (work .exit)) r ⌝ }
+{
+    match c {
+        Command::Leaf(p) => leaf(nodes, work, cap, s, p),
+        Command::Condition(_) => choice(model, nodes, work, cap, at, s),
+        Command::Test(_) => choice(model, nodes, work, cap, at, s),
+        Command::Reward(_) => taken(s),
+        Command::Chance(_, _) => taken(s),
+        Command::Level(_, _) => taken(s),
+        _ => s,
+    }
+}
