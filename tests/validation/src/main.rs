@@ -1,0 +1,67 @@
+//! `validation COUNT SEED`: the proved validation and the second program's judge COUNT random models and as many
+//! damaged ones alike; then the time of both on one large model, in one run.
+
+use models::{damaged, random, staircases, Rng};
+use std::time::{Duration, Instant};
+
+#[repr(C)]
+struct Judged {
+    number: u32,
+    place: usize,
+}
+
+extern "C" {
+    fn planner_validate(bytes: *const u8, count: usize) -> Judged;
+}
+
+fn library(model: &[u8]) -> (u32, usize) {
+    // SAFETY: the slice lives over the call, and the library only reads it.
+    let judged = unsafe { planner_validate(model.as_ptr(), model.len()) };
+    (judged.number, judged.place)
+}
+
+fn second(model: &[u8]) -> (u32, usize) {
+    let (number, place) = reference::validate(model);
+    (number, place as usize)
+}
+
+fn best_of(runs: u32, mut work: impl FnMut()) -> Duration {
+    (0..runs)
+        .map(|_| {
+            let began = Instant::now();
+            work();
+            began.elapsed()
+        })
+        .min()
+        .unwrap_or_default()
+}
+
+fn main() {
+    let number = |place: usize| std::env::args().nth(place).and_then(|arg| arg.parse::<u64>().ok());
+    let count = number(1).unwrap_or(2000);
+    let mut rng = Rng(number(2).unwrap_or(1));
+    let mut seen = [0u32; 9];
+    for _ in 0..count {
+        let whole = random(&mut rng);
+        for model in [damaged(&mut rng, &whole), whole] {
+            let (ours, theirs) = (library(&model), second(&model));
+            if ours != theirs {
+                println!("validation: library {ours:?}, second program {theirs:?}, model {model:?}");
+                std::process::exit(1);
+            }
+            seen[ours.0 as usize] += 1;
+        }
+    }
+    println!("validation: {} models judged alike, by number {seen:?}", 2 * count);
+    let large = staircases();
+    let ours = best_of(200, || assert_eq!(library(&large).0, 0));
+    let theirs = best_of(200, || assert_eq!(second(&large).0, 0));
+    let rate = |time: Duration| large.len() as f64 / time.as_secs_f64() / 1e6;
+    println!(
+        "validation: {} bytes, library {:.0} MB/s, second program {:.0} MB/s, ratio {:.2}",
+        large.len(),
+        rate(ours),
+        rate(theirs),
+        rate(ours) / rate(theirs)
+    );
+}
