@@ -1,0 +1,6 @@
+-- Laws that several proofs cite, here and in the crates above.
+pub mod Points
+pub mod Reach
+pub mod Turns
+pub mod Wants
+pub mod Actions

@@ -1,0 +1,366 @@
+-- The pass over an accepted model comes to the leaf that the slot's loaded diagram comes to.
+use mathlib.Core.Path.{_≡_, refl, sym, ap, _∙_, subst}
+use mathlib.Core.Bool.{Bool, true, false, not, _&&_}
+use mathlib.Core.List.{List, [], _∷_, _++_, map}
+use Prim.Native.Nat.{ℕ, zero, suc, _+_, _-_, _≤_, _<_}
+use native.Mathlib.Omega.{arith}
+use borrow.Author.Tests.{lt-ltb}
+use lib.Dec.{T, eqb, eqb→eq, leb→le, nleb→lt, nltb→le, T-not}
+use lib.IntN.{pos}
+use lib.ListN.{length, getD, drop}
+use lib.Signed.{leZ}
+use Rattle.whole.specs.Cases.{if, by-test, by-eq, both, and-in, not-not, is-true, from-true, clash}
+use Rattle.theory.specs.Widths.{stack-most, conditions-most}
+use Rattle.theory.specs.Diagram.{Test, Leaf, Tree, leaf, plain, zeros, test-of}
+use Rattle.theory.specs.Computation.{ret, bind, make, result}
+use Rattle.theory.specs.Rules.{choose}
+use Rattle.theory.specs.Meaning.{State, Env, env, at}
+use Rattle.theory.specs.Valid.{all, among, wide}
+use Rattle.theory.specs.Command.{Command, site, push-leaf, push-condition, push-test, take-reward, take-chance, take-level, name-action, end-model, Read, whole, Placed, byte-at, width, command-at, read-at, goes-on, readings-from, readings}
+use Rattle.theory.specs.Verdict.{Site, site-of, Facts, Slot, Progress, reward-slot, chance-slot, level-slot, name-slot, same-slot, has-slot, or, Rule, rule, first-broken, next-condition, joined, wanted-by, wanted, from-to, site-rules, first-rules, later-rules, rules-of, after, Verdict, refusal, ended, judged, at-start, verdict}
+use Rattle.theory.specs.Load.{Entry, Loaded, condition-test, load-choice, load-entry, load-one, load-on, find-slot, site-at}
+use Rattle.theory.specs.laws.Comps.{result-bind}
+use Rattle.theory.specs.laws.Loading.{by-reading, behind, loaded-entries, accepted, linear-wide}
+use Rattle.command.specs.Held.{pushed}
+use Rattle.evaluate.specs.declared.Point.{Point}
+use Rattle.evaluate.specs.Pass.{numerator, condition-holds, chosen, stepped, takes, pass, Stands, Leaf-at, Comes}
+use Rattle.evaluate.proofs.Points.{or-out, Sides, condition-sides, test-sides}
+
+-- ---- what a command of the bytes has for operands
+
+unfoldable pub Fit : List ℕ → ℕ → Command → Type 0
+Fit B i (site m n a w) = site-of m n a w ≡ site-of (byte-at B (i + 1)) (byte-at B (i + 2)) (byte-at B (i + 3)) (byte-at B (i + 4))
+Fit B i (push-leaf p) = T (wide p)
+Fit B i (push-condition k) = T true
+Fit B i (push-test p) = T (wide p)
+Fit B i (take-reward a) = T true
+Fit B i (take-chance a k) = T true
+Fit B i (take-level a k) = T true
+Fit B i (name-action a b) = T true
+Fit B i end-model = T true
+
+fit-if : (B : List ℕ) (i : ℕ) (b : Bool) (c d : Command) → Fit B i c → Fit B i d → Fit B i (if b c d)
+fit-if B i true c d f g = f
+fit-if B i false c d f g = g
+
+pub fit : (B : List ℕ) (i : ℕ) → Fit B i (command-at B i)
+unfolding command-at Fit
+fit B i =
+    fit-if B i (eqb (byte-at B i) 0x01) _ _ refl (fit-if B i (eqb (byte-at B i) 0x10) _ _ (linear-wide B (i + 1)) (fit-if B i (eqb (byte-at B i) 0x11) _ _ tt
+    (fit-if B i (eqb (byte-at B i) 0x12) _ _ (linear-wide B (i + 1)) (fit-if B i (eqb (byte-at B i) 0x20) _ _ tt (fit-if B i (eqb (byte-at B i) 0x21) _ _ tt
+    (fit-if B i (eqb (byte-at B i) 0x22) _ _ tt (fit-if B i (eqb (byte-at B i) 0x30) _ _ tt tt)))))))
+
+-- ---- slots
+
+same-is : (g h : Slot) → T (same-slot g h) → g ≡ h
+unfolding same-slot
+same-is g h t =
+    let d = both (eqb (g .command) (h .command)) (eqb (g .action) (h .action) && eqb (g .index) (h .index)) t in
+    let f = both (eqb (g .action) (h .action)) (eqb (g .index) (h .index)) (d .1) in
+    λ i. record { command = eqb→eq (g .command) (h .command) (d .0) i; action = eqb→eq (g .action) (h .action) (f .0) i; index = eqb→eq (g .index) (h .index) (f .1) i }
+
+-- what holds of all holds of one that is among them
+all-has : (p : Slot → Bool) (g : Slot) (l : List Slot) → T (all p l) → T (has-slot g l) → T (p g)
+unfolding all has-slot
+all-has p g [] t h = absurd h
+all-has p g (k ∷ l) t h =
+    let d = both (p k) (all p l) t in
+    or-out (same-slot g k) (has-slot g l) h (λ q. subst (λ (z : Slot). T (p z)) (sym (same-is g k q)) (d .0)) (all-has p g l (d .1))
+
+abbrev no-name : Slot → Bool
+no-name g = not (eqb (g .command) 0x30)
+
+all-map : (f : ℕ → Slot) (l : List ℕ) → ((k : ℕ) → T (no-name (f k))) → T (all no-name (map f l))
+unfolding all
+all-map f [] h = tt
+all-map f (k ∷ l) h = and-in (no-name (f k)) _ (h k) (all-map f l h)
+
+all-app : (l r : List Slot) → T (all no-name l) → T (all no-name r) → T (all no-name (l ++ r))
+unfolding all
+all-app [] r t u = u
+all-app (k ∷ l) r t u = let d = both (no-name k) (all no-name l) t in and-in (no-name k) _ (d .0) (all-app l r (d .1) u)
+
+wanted-names : (S : Site) (l : List ℕ) → T (all no-name (wanted-by S l))
+unfolding all wanted-by
+wanted-names S [] = tt
+wanted-names S (a ∷ l) = all-app (map (chance-slot a) (from-to 1 (S .conditions))) _ (all-map (chance-slot a) (from-to 1 (S .conditions)) (λ k. tt))
+    (all-app (map (level-slot a) (from-to 1 (S .levels))) _ (all-map (level-slot a) (from-to 1 (S .levels)) (λ k. tt)) (wanted-names S l))
+
+-- ---- rules that are not broken
+
+unbroken : (k : ℕ) (b : Bool) (l : List Rule) → first-broken (rule (suc k) b ∷ l) ≡ 0 → T (not b) × (first-broken l ≡ 0)
+unfolding first-broken
+unbroken k true l e = absurd (omega arith)
+unbroken k false l e = (tt, e)
+
+broken : {A : Type 0} (k : ℕ) (l : List Rule) → first-broken (rule (suc k) true ∷ l) ≡ 0 → A
+broken k l e = absurd (unbroken k true l e .0)
+
+judged-whole : (k i : ℕ) (v : Verdict) → (if (eqb k 0) v (refusal k i)) .number ≡ 0 → (k ≡ 0) × (v .number ≡ 0)
+judged-whole k i v = by-test (eqb k 0) (λ b. (if b v (refusal k i)) .number ≡ 0 → (k ≡ 0) × (v .number ≡ 0))
+    (λ t e. (eqb→eq k 0 t, e)) (λ n e. absurd (T-not (eqb k 0) n (rw e tt)))
+
+-- ---- stacks
+
+pushed-room : (i : ℕ) (l : List ℕ) → length l < stack-most → pushed i l ≡ i ∷ l
+unfolding pushed
+pushed-room i l h = simp (lt-ltb (length l) stack-most h)
+
+drop-one : {A : Type 0} (l : List A) → length (drop 1 l) ≡ length l - 1
+drop-one [] = refl
+drop-one (x ∷ l) = omega arith
+
+joined-length : (b : Bool) (K : List Facts) → 2 ≤ length K → suc (length (joined b K)) ≡ length K
+unfolding joined
+joined-length b [] h = absurd (omega arith)
+joined-length b (f ∷ []) h = absurd (omega arith)
+joined-length b (f ∷ k ∷ K) h = refl
+
+abbrev state : Site → List Facts → List Slot → Progress
+state S K G = record { begun = true; site = S; stack = K; given = G }
+
+abbrev loaded : List Tree → List Entry → Loaded
+loaded X E = record { stack = X; entries = E }
+
+abbrev placed : ℕ → Read → Placed
+placed i r = record { at = i; read = r }
+
+choice-entries : (t : Test) (X : List Tree) (E : List Entry) → result (load-choice t X E) .entries ≡ E
+unfolding load-choice result
+choice-entries t [] E = refl
+choice-entries t (L ∷ []) E = refl
+choice-entries t (L ∷ H ∷ X) E = ap (λ (s : Loaded). s .entries) (result-bind (choose t H L) _)
+
+module _ (B : List ℕ) (S : Site) (x : Point) (g : Slot) (s : State) (r : List Bool) (st : Stands (S .levels) (S .conditions) x s r) (few : S .conditions ≤ 4) (wants : T (has-slot g (wanted S))) where
+  abbrev m : ℕ
+  m = S .levels
+
+  abbrev e : Env
+  e = env s r
+
+  not-name : T (no-name g)
+  unfolding wanted
+  not-name = all-has no-name g (wanted S) (wanted-names S _) wants
+
+  -- ---- a slot that is given keeps its diagram
+
+  abbrev Stays : List Placed → Type 0
+  Stays ys = (K : List Facts) (G : List Slot) (X : List Tree) (E : List Entry) → has-slot g G ≡ true → judged (length B) (state S K G) ys .number ≡ 0
+      → find-slot g (result (load-on ys (loaded X E)) .entries) ≡ find-slot g E
+
+  has-more : (h : Slot) (G : List Slot) → has-slot g G ≡ true → has-slot g (h ∷ G) ≡ true
+  unfolding has-slot
+  has-more h G q = by-test (same-slot g h) (λ b. or b (has-slot g G) ≡ true) (λ _. refl) (λ _. q)
+
+  entry-stays : (h : Slot) (G : List Slot) (X : List Tree) (E : List Entry) → has-slot g G ≡ true → T (not (has-slot h G)) → find-slot g (result (load-entry h X E) .entries) ≡ find-slot g E
+  unfolding load-entry result find-slot
+  entry-stays h G [] E q n = refl
+  entry-stays h G (t ∷ X) E q n = by-test (same-slot g h) (λ b. if b t (find-slot g E) ≡ find-slot g E)
+      (λ y. absurd (T-not (has-slot h G) n (subst (λ (z : Slot). T (has-slot z G)) (same-is g h y) (from-true q)))) (λ _. refl)
+
+  module _ (i : ℕ) (ys : List Placed) (ih : Stays ys) where
+    -- after a command that keeps what is found
+    stays-on : (c : Command) (K : List Facts) (G : List Slot) (X : List Tree) (E : List Entry) → has-slot g G ≡ true → judged (length B) (state S K G) ys .number ≡ 0
+        → find-slot g (result (load-one c (loaded X E)) .entries) ≡ find-slot g E → (Y : List Tree) (F : List Entry) → result (load-one c (loaded Y F)) ≡ result (load-one c (loaded X E))
+        → find-slot g (result (bind (load-one c (loaded Y F)) (load-on ys)) .entries) ≡ find-slot g E
+    stays-on c K G X E q j k Y F z =
+        ap (λ (a : Loaded). find-slot g (a .entries)) (result-bind (load-one c (loaded Y F)) (load-on ys)) ∙ (rw z (ih K G (result (load-one c (loaded X E)) .stack) (result (load-one c (loaded X E)) .entries) q j ∙ k))
+
+    stays-step : (c : Command) → goes-on (whole c) ≡ true → Stays (placed i (whole c) ∷ ys)
+    unfolding judged load-on rules-of later-rules ended after goes-on load-one make bind result
+    stays-step (site m n a w) w′ K G X E q j = broken 0 _ (judged-whole (first-broken (rule 1 true ∷ [])) i _ j .0)
+    stays-step (push-leaf p) w K G X E q j = ih _ G _ E q (judged-whole (first-broken (later-rules S K G (push-leaf p))) i _ j .1)
+    stays-step (push-condition k) w K G X E q j =
+        stays-on (push-condition k) _ G X E q (judged-whole (first-broken (later-rules S K G (push-condition k))) i _ j .1) (ap (find-slot g) (choice-entries (condition-test k) X E)) X E refl
+    stays-step (push-test p) w K G X E q j =
+        stays-on (push-test p) _ G X E q (judged-whole (first-broken (later-rules S K G (push-test p))) i _ j .1) (ap (find-slot g) (choice-entries (test-of p) X E)) X E refl
+    stays-step (take-reward a) w K G X E q j =
+        let d = judged-whole (first-broken (later-rules S K G (take-reward a))) i _ j in
+        let u = unbroken 3 _ _ (d .0) in
+        let v = unbroken 4 _ _ (u .1) in
+        stays-on (take-reward a) _ (reward-slot a ∷ G) X E (has-more (reward-slot a) G q) (d .1) (entry-stays (reward-slot a) G X E q (unbroken 5 _ _ (v .1) .0)) X E refl
+    stays-step (take-chance a k) w K G X E q j =
+        let d = judged-whole (first-broken (later-rules S K G (take-chance a k))) i _ j in
+        let u = unbroken 3 _ _ (d .0) in
+        let u = unbroken 3 _ _ (u .1) in
+        let v = unbroken 4 _ _ (u .1) in
+        stays-on (take-chance a k) _ (chance-slot a k ∷ G) X E (has-more (chance-slot a k) G q) (d .1) (entry-stays (chance-slot a k) G X E q (unbroken 5 _ _ (v .1) .0)) X E refl
+    stays-step (take-level a k) w K G X E q j =
+        let d = judged-whole (first-broken (later-rules S K G (take-level a k))) i _ j in
+        let u = unbroken 3 _ _ (d .0) in
+        let u = unbroken 3 _ _ (u .1) in
+        let v = unbroken 4 _ _ (u .1) in
+        stays-on (take-level a k) _ (level-slot a k ∷ G) X E (has-more (level-slot a k) G q) (d .1) (entry-stays (level-slot a k) G X E q (unbroken 5 _ _ (v .1) .0)) X E refl
+    stays-step (name-action a b) w K G X E q j = ih K (name-slot a ∷ G) X E (has-more (name-slot a) G q) (judged-whole (first-broken (later-rules S K G (name-action a b))) i _ j .1)
+    stays-step end-model w K G X E q j = clash (sym w)
+
+  stays-end : (i : ℕ) → Stays (placed i (whole end-model) ∷ [])
+  unfolding load-on load-one bind result
+  stays-end i K G X E q j = refl
+
+  -- ---- each offset on the stack is the leaf that its diagram comes to
+
+  Agree : List ℕ → List Tree → Type 0
+  Agree [] [] = T true
+  Agree [] (t ∷ X) = T false
+  Agree (o ∷ l) [] = T false
+  Agree (o ∷ l) (t ∷ X) = Leaf-at B m o (at e t .lin) × Agree l X
+
+  pick : (b : Bool) (high low : ℕ) (H L : Leaf) → Leaf-at B m high (H .lin) → Leaf-at B m low (L .lin) → Leaf-at B m (if b high low) ((if b H L) .lin)
+  pick true high low H L u v = u
+  pick false high low H L u v = v
+
+  agree-chosen : (t : Test) (b : Bool) (E : List Entry) → Sides st t b → (l : List ℕ) (X : List Tree) → 2 ≤ length l → length l ≤ stack-most → Agree l X
+      → Agree (chosen b l) (result (load-choice t X E) .stack) × (suc (length (chosen b l)) ≡ length l)
+  unfolding Agree load-choice result chosen
+  agree-chosen t b E y [] X h k a = absurd (omega arith)
+  agree-chosen t b E y (o ∷ []) X h k a = absurd (omega arith)
+  agree-chosen t b E y (o ∷ o′ ∷ l) [] h k a = absurd a
+  agree-chosen t b E y (o ∷ o′ ∷ l) (L ∷ []) h k a = absurd (a .1)
+  agree-chosen t b E y (o ∷ o′ ∷ l) (L ∷ H ∷ X) h k a =
+      let f = pushed-room (if b o′ o) l (omega arith) in
+      let q = result-bind (choose t H L) (λ r. ret (loaded (r ∷ X) E)) in (
+        subst (λ (z : List ℕ). Agree z (result (load-choice t (L ∷ H ∷ X) E) .stack)) (sym f) (subst (λ (z : Loaded). Agree (if b o′ o ∷ l) (z .stack)) (sym q)
+            (subst (λ (z : Leaf). Leaf-at B m (if b o′ o) (z .lin)) (sym (y H L)) (pick b o′ o (at e H) (at e L) (a .1 .0) (a .0)), a .1 .1)),
+        ap (λ (z : List ℕ). suc (length z)) f,
+      )
+
+  abbrev Reach : List Placed → Type 0
+  Reach ys = (K : List Facts) (G : List Slot) (X : List Tree) (E : List Entry) (l : List ℕ) → Agree l X → length K ≡ length l → length K ≤ stack-most → has-slot g G ≡ false
+      → judged (length B) (state S K G) ys .number ≡ 0 → Leaf-at B m (pass x g ys l) (at e (find-slot g (result (load-on ys (loaded X E)) .entries)) .lin)
+
+  module _ (i : ℕ) (ys : List Placed) (ih : Reach ys) (keeps : Stays ys) where
+    give : (h : Slot) (K : List Facts) (G : List Slot) (X : List Tree) (E : List Entry) (l : List ℕ) → Agree l X → length K ≡ length l → length K ≤ stack-most → 1 ≤ length K → has-slot g G ≡ false
+        → judged (length B) (state S (drop 1 K) (h ∷ G)) ys .number ≡ 0
+        → Leaf-at B m (if (same-slot g h) (getD l 0 0) (pass x g ys (drop 1 l))) (at e (find-slot g (result (load-on ys (result (load-entry h X E))) .entries)) .lin)
+    unfolding Agree load-entry result has-slot find-slot
+    give h K G X E [] a q z n f j = absurd (omega arith)
+    give h K G [] E (o ∷ l) a q z n f j = absurd a
+    give h K G (t ∷ X) E (o ∷ l) a q z n f j = by-eq (same-slot g h)
+        (λ b. Leaf-at B m (if b o (pass x g ys l)) (at e (find-slot g (result (load-on ys (loaded X (record { slot = h; tree = t } ∷ E))) .entries)) .lin))
+        (λ y. subst (λ (F : Tree). Leaf-at B m o (at e F .lin))
+        (sym (keeps (drop 1 K) (h ∷ G) X (record { slot = h; tree = t } ∷ E) (ap (λ (b : Bool). or b (has-slot g G)) y) j ∙ ap (λ (b : Bool). if b t (find-slot g E)) y)) (a .0))
+        (λ y. ih (drop 1 K) (h ∷ G) X (record { slot = h; tree = t } ∷ E) l (a .1) (omega (arith, drop-one K)) (omega (arith, drop-one K)) (ap (λ (b : Bool). or b (has-slot g G)) y ∙ f) j)
+
+    choose-on : (t : Test) (b : Bool) (K K′ : List Facts) (G : List Slot) (X : List Tree) (E : List Entry) (l : List ℕ) → Sides st t b → Agree l X → length K ≡ length l → length K ≤ stack-most → 2 ≤ length K
+        → suc (length K′) ≡ length K → has-slot g G ≡ false → judged (length B) (state S K′ G) ys .number ≡ 0
+        → Leaf-at B m (pass x g ys (chosen b l)) (at e (find-slot g (result (bind (load-choice t X E) (load-on ys)) .entries)) .lin)
+    choose-on t b K K′ G X E l y a q z n n′ f j =
+        let d = agree-chosen t b E y l X (omega arith) (omega arith) a in
+        let v = result (load-choice t X E) in
+        let k = d .1 in
+        rw (result-bind (load-choice t X E) (load-on ys)) (ih K′ G (v .stack) (v .entries) (chosen b l) (d .0) (omega arith) (omega arith) f j)
+
+    reach-step : (c : Command) → read-at B i ≡ whole c → goes-on (whole c) ≡ true → Reach (placed i (whole c) ∷ ys)
+    unfolding Agree judged load-on rules-of later-rules ended after goes-on load-one make bind result pass takes stepped at has-slot
+    reach-step (site m n a w) o w′ K G X E l y q z f j = broken 0 _ (judged-whole (first-broken (rule 1 true ∷ [])) i _ j .0)
+    reach-step (push-leaf p) o w K G X E l y q z f j =
+        let d = judged-whole (first-broken (later-rules S K G (push-leaf p))) i _ j in
+        let u = unbroken 3 _ _ (d .0) in
+        let v = nleb→lt stack-most (length K) (unbroken 4 _ _ (u .1) .0) in
+        rw (pushed-room i l (omega arith)) (ih _ G (leaf (plain p) ∷ X) E (i ∷ l) (record { reads = o; within = u .0 }, y) (ap suc q) v f (d .1))
+    reach-step (push-condition k) o w K G X E l y q z f j =
+        let d = judged-whole (first-broken (later-rules S K G (push-condition k))) i _ j in
+        let u = unbroken 3 _ _ (d .0) in
+        let n = nltb→le (length K) 2 (unbroken 4 _ _ (u .1) .0) in
+        choose-on (condition-test k) (condition-holds x k) K _ G X E l (condition-sides st k few (not-not (or (among (S .conditions) k) (next-condition (S .conditions) k)) (u .0)))
+        y q z n (joined-length _ K n) f (d .1)
+    reach-step (push-test p) o w K G X E l y q z f j =
+        let d = judged-whole (first-broken (later-rules S K G (push-test p))) i _ j in
+        let u = unbroken 3 _ _ (d .0) in
+        let v = unbroken 3 _ _ (u .1) in
+        let n = nltb→le (length K) 2 (unbroken 4 _ _ (v .1) .0) in
+        choose-on (test-of p) (leZ (numerator x p) (pos 0)) K _ G X E l (test-sides st p (by-eq (zeros (p .coeffs)) (λ b. T (not b) → b ≡ false) (λ _ t. absurd t) (λ _ t. refl) (v .0)) (u .0))
+        y q z n (joined-length _ K n) f (d .1)
+    reach-step (take-reward a) o w K G X E l y q z f j =
+        let d = judged-whole (first-broken (later-rules S K G (take-reward a))) i _ j in
+        let u = unbroken 3 _ _ (d .0) in
+        rw (result-bind (load-entry (reward-slot a) X E) (load-on ys)) (give (reward-slot a) K G X E l y q z (nltb→le (length K) 1 (unbroken 4 _ _ (u .1) .0)) f (d .1))
+    reach-step (take-chance a k) o w K G X E l y q z f j =
+        let d = judged-whole (first-broken (later-rules S K G (take-chance a k))) i _ j in
+        let u = unbroken 3 _ _ (d .0) in
+        let u = unbroken 3 _ _ (u .1) in
+        rw (result-bind (load-entry (chance-slot a k) X E) (load-on ys)) (give (chance-slot a k) K G X E l y q z (nltb→le (length K) 1 (unbroken 4 _ _ (u .1) .0)) f (d .1))
+    reach-step (take-level a k) o w K G X E l y q z f j =
+        let d = judged-whole (first-broken (later-rules S K G (take-level a k))) i _ j in
+        let u = unbroken 3 _ _ (d .0) in
+        let u = unbroken 3 _ _ (u .1) in
+        rw (result-bind (load-entry (level-slot a k) X E) (load-on ys)) (give (level-slot a k) K G X E l y q z (nltb→le (length K) 1 (unbroken 4 _ _ (u .1) .0)) f (d .1))
+    reach-step (name-action a b) o w K G X E l y q z f j =
+        ih K (name-slot a ∷ G) X E l y q z (other-name a G f) (judged-whole (first-broken (later-rules S K G (name-action a b))) i _ j .1)
+      where
+        other-name : (a : ℕ) (G : List Slot) → has-slot g G ≡ false → or (same-slot g (name-slot a)) (has-slot g G) ≡ false
+        other-name a G f = by-test (same-slot g (name-slot a)) (λ b. or b (has-slot g G) ≡ false)
+            (λ t. absurd (subst (λ (h : Slot). T (no-name h)) (same-is g (name-slot a) t) not-name)) (λ _. f)
+    reach-step end-model o w K G X E l y q z f j = clash (sym w)
+
+  reach-end : (i : ℕ) → Reach (placed i (whole end-model) ∷ [])
+  unfolding judged rules-of later-rules
+  reach-end i K G X E l y q z f j =
+      let d = judged-whole (first-broken (later-rules S K G end-model)) i _ j in
+      clash (sym (is-true (has-slot g G) (all-has (λ h. has-slot h G) g (wanted S) (not-not (all (λ h. has-slot h G) (wanted S)) (unbroken 6 _ _ (d .0) .0)) wants)) ∙ f)
+
+  -- ---- all commands, by offset
+
+  abbrev Both : List Placed → Type 0
+  Both ys = Reach ys × Stays ys
+
+  cut : (k : ℕ) {C : Type 0} → suc k ≡ 0 → C
+  cut k q = absurd (omega arith)
+
+  ends : (i : ℕ) (c : Command) → goes-on (whole c) ≡ false → Both (placed i (whole c) ∷ [])
+  unfolding goes-on
+  ends i (site m n a w) q = clash q
+  ends i (push-leaf p) q = clash q
+  ends i (push-condition k) q = clash q
+  ends i (push-test p) q = clash q
+  ends i (take-reward a) q = clash q
+  ends i (take-chance a k) q = clash q
+  ends i (take-level a k) q = clash q
+  ends i (name-action a b) q = clash q
+  ends i end-model q = (reach-end i, stays-end i)
+
+  one-reading : (k i : ℕ) (c : Command) → read-at B i ≡ whole c → Both (behind B k i true) → Both (placed i (whole c) ∷ behind B k i (goes-on (whole c)))
+  one-reading k i c o ih = by-eq (goes-on (whole c)) (λ b. Both (placed i (whole c) ∷ behind B k i b))
+      (λ q. (reach-step i _ (ih .0) (ih .1) c o q, stays-step i _ (ih .1) c q)) (λ q. ends i c q)
+
+  -- fuel for each byte that is left is enough
+  both-from : (k i : ℕ) → i ≤ length B → length B < i + k → Both (readings-from B k i)
+  unfolding readings-from judged
+  both-from zero i h n = absurd (omega arith)
+  both-from (suc k) i h n = by-reading B i (λ r. read-at B i ≡ r → Both (placed i r ∷ behind B k i (goes-on r)))
+      (λ _. (λ K G X E l y q z f j. cut 1 j, λ K G X E q j. cut 1 j)) (λ _ _. (λ K G X E l y q z f j. cut 2 j, λ K G X E q j. cut 2 j))
+      (λ w u o. one-reading k i (command-at B i) o (both-from k (i + width (byte-at B i)) u (omega arith))) refl
+
+-- ---- an accepted model
+
+module _ (B : List ℕ) (x : Point) (g : Slot) (s : State) (r : List Bool) (st : Stands (site-at B .levels) (site-at B .conditions) x s r) (few : site-at B .conditions ≤ 4) (wants : T (has-slot g (wanted (site-at B)))) where
+  abbrev Begins : List Placed → Type 0
+  Begins ys = judged (length B) at-start ys .number ≡ 0 → Leaf-at B (site-at B .levels) (pass x g ys []) (at (env s r) (find-slot g (result (load-on ys (loaded [] [])) .entries)) .lin)
+
+  first-command : 0 + width (byte-at B 0) ≤ length B → 1 ≤ width (byte-at B 0) → (c : Command) → Fit B 0 c → Begins (placed 0 (whole c) ∷ behind B (length B) 0 (goes-on (whole c)))
+  unfolding judged load-on goes-on rules-of first-rules ended load-one bind result after Fit Agree pass takes stepped has-slot site-at
+  first-command h n (site m k a w) f j =
+      let d = judged-whole (first-broken (site-rules (site-of m k a w))) 0 _ j in
+      both-from B (site-at B) x g s r st few wants (length B) (0 + width (byte-at B 0)) h (omega arith) .0 [] [] [] [] [] tt refl (omega arith) refl
+      (subst (λ (S : Site). judged (length B) (state S [] []) (behind B (length B) 0 true) .number ≡ 0) f (d .1))
+  first-command h n (push-leaf p) f j = broken 0 _ (judged-whole (first-broken (rule 1 true ∷ [])) 0 _ j .0)
+  first-command h n (push-condition k) f j = broken 0 _ (judged-whole (first-broken (rule 1 true ∷ [])) 0 _ j .0)
+  first-command h n (push-test p) f j = broken 0 _ (judged-whole (first-broken (rule 1 true ∷ [])) 0 _ j .0)
+  first-command h n (take-reward a) f j = broken 0 _ (judged-whole (first-broken (rule 1 true ∷ [])) 0 _ j .0)
+  first-command h n (take-chance a k) f j = broken 0 _ (judged-whole (first-broken (rule 1 true ∷ [])) 0 _ j .0)
+  first-command h n (take-level a k) f j = broken 0 _ (judged-whole (first-broken (rule 1 true ∷ [])) 0 _ j .0)
+  first-command h n (name-action a b) f j = broken 0 _ (judged-whole (first-broken (rule 1 true ∷ [])) 0 _ j .0)
+  first-command h n end-model f j = broken 0 _ (judged-whole (first-broken (rule 1 true ∷ [])) 0 _ j .0)
+
+  reached : verdict B .number ≡ 0 → Leaf-at B (site-at B .levels) (pass x g (readings B) []) (at (env s r) (find-slot g (loaded-entries B)) .lin)
+  unfolding verdict readings readings-from judged
+  reached = by-reading B 0 (λ r. Begins (placed 0 r ∷ behind B (length B) 0 (goes-on r)))
+      (λ j. absurd (let z : _≡_ {A = ℕ} 2 0 = j in omega arith)) (λ _ j. absurd (let z : _≡_ {A = ℕ} 3 0 = j in omega arith)) (λ w h. first-command h w (command-at B 0) (fit B 0))
+
+-- the pass over an accepted model
+pub pass-comes : (B : List ℕ) (x : Point) (g : Slot) (i : ℕ) → verdict B .number ≡ 0 → T (has-slot g (wanted (site-at B))) → i ≡ pass x g (readings B) [] → Comes B g x i
+pass-comes B x g i v w q = record {
+  comes = λ s r st. subst (λ (o : ℕ). Leaf-at B (site-at B .levels) o (at (env s r) (find-slot g (loaded-entries B)) .lin)) (sym q)
+      (reached B x g s r st (leb→le (site-at B .conditions) conditions-most (accepted B v .0 .conditions-in)) w v);
+}

@@ -1,0 +1,201 @@
+-- One turn of the pass, with fuel enough for the rest; and what the code's numbers are.
+use mathlib.Core.Path.{_≡_, refl, sym, ap, ap₂, _∙_, subst}
+use mathlib.Core.Bool.{Bool, true, false}
+use mathlib.Core.List.{List, [], _∷_}
+use Prim.Native.Nat.{ℕ, zero, suc, _+_, _-_, _<_}
+use native.Mathlib.Omega.{arith}
+use lib.Dec.{T, eqb, leb→le}
+use lib.IntN.{ℤ, pos, _+ℤ_, _*ℤ_}
+use lib.ListN.{length, getD, drop}
+use types.Run.{OneOf, miss}
+use denote.Enum.Declared.{tagOf}
+use Rattle.whole.specs.Cases.{if, both}
+use Rattle.whole.specs.Int.{ring, up}
+use Rattle.whole.specs.Within.{Small, small, limit}
+use Rattle.theory.specs.Diagram.{Linear, Tree}
+use Rattle.theory.specs.Meaning.{State, env, nth, dot, at, worth-at, chance-at}
+use Rattle.theory.specs.Valid.{all, wide, small-linear}
+use Rattle.theory.specs.Value.{bits}
+use Rattle.theory.specs.Command.{Command, push-leaf, end-model, Read, whole, unknown, short, byte-at, width, read-at, goes-on, readings-from, readings}
+use Rattle.theory.specs.Verdict.{Slot}
+use Rattle.theory.specs.Load.{find-slot, site-at}
+use Rattle.theory.specs.laws.Loading.{loaded-entries}
+use Rattle.command.proofs.Command.{the-type as command-type}
+use Rattle.command.proofs.Read.{the-type as read-type}
+use Rattle.command.specs.declared.Linear.{Linear as CodeLinear}
+use Rattle.command.specs.declared.Command.{Command as CodeCommand}
+use Rattle.command.specs.declared.Command.the-variants.{Site, Leaf, Condition, Test, Reward, Chance, Level, Name, End}
+use Rattle.command.specs.declared.Read.{Read as CodeRead}
+use Rattle.command.specs.declared.Read.the-variants.{Whole, Unknown, Short}
+use Rattle.command.specs.Reading.{linear-of, command-of, read-of, next-at}
+use Rattle.command.specs.Held.{pushed}
+use Rattle.command.proofs.Forward.{whole-bytes}
+use Rattle.model.specs.Answers.{is-end}
+use Rattle.model.proofs.Walk.{opened, from-first, at-end, going, forward}
+use Rattle.evaluate.specs.declared.Point.{Point}
+use Rattle.evaluate.specs.Pass.{numerator, chosen, stepped, takes, pass, Small-command, Stands, Comes}
+use Rattle.evaluate.proofs.Points.{value-is}
+use Rattle.evaluate.proofs.Reach.{Fit, fit}
+
+-- ---- numbers
+
+pub smalls : (p : CodeLinear) → T (wide (linear-of p)) → Small (p .c1) × Small (p .c2) × Small (p .c3) × Small (p .c4) × Small (p .constant)
+unfolding wide small-linear all small
+smalls p t =
+    let a = both (all small (linear-of p .coeffs)) (small (p .constant)) (both (eqb (length (linear-of p .coeffs)) 4) (small-linear (linear-of p)) t .1) in
+    let b = both (small (p .c1)) _ (a .0) in
+    let c = both (small (p .c2)) _ (b .1) in
+    let d = both (small (p .c3)) _ (c .1) in
+    let e = both (small (p .c4)) _ (d .1) in
+    (record { small = leb→le _ limit (b .0) }, record { small = leb→le _ limit (c .0) }, record { small = leb→le _ limit (d .0) }, record { small = leb→le _ limit (e .0) }, record { small = leb→le _ limit (a .1) })
+
+regroup : (a b c d e : ℤ) → a +ℤ b +ℤ c +ℤ d +ℤ e ≡ (a +ℤ (b +ℤ (c +ℤ (d +ℤ pos 0)))) +ℤ e
+regroup a b c d e = simp ring
+
+-- the sum of products is the linear at the point
+pub numerator-sum : (p : CodeLinear) (x : Point) {c₁ c₂ c₃ c₄ k n₁ n₂ n₃ n₄ d : ℤ} → c₁ ≡ p .c1 → c₂ ≡ p .c2 → c₃ ≡ p .c3 → c₄ ≡ p .c4 → k ≡ p .constant
+    → n₁ ≡ x .n1 → n₂ ≡ x .n2 → n₃ ≡ x .n3 → n₄ ≡ x .n4 → d ≡ x .d
+    → c₁ *ℤ n₁ +ℤ c₂ *ℤ n₂ +ℤ c₃ *ℤ n₃ +ℤ c₄ *ℤ n₄ +ℤ k *ℤ d ≡ numerator x (linear-of p)
+unfolding numerator dot
+numerator-sum p x a b c d e f g h i j =
+    (λ z. a z *ℤ f z +ℤ b z *ℤ g z +ℤ c z *ℤ h z +ℤ d z *ℤ i z +ℤ e z *ℤ j z)
+    ∙ regroup ((p .c1) *ℤ (x .n1)) ((p .c2) *ℤ (x .n2)) ((p .c3) *ℤ (x .n3)) ((p .c4) *ℤ (x .n4)) ((p .constant) *ℤ (x .d))
+
+pub bit-past : (m k : ℕ) → (k ≡ 1 → ⊥) → (k ≡ 2 → ⊥) → (k ≡ 3 → ⊥) → (k ≡ 4 → ⊥) → false ≡ nth (bits 4 m) k
+unfolding nth bits
+bit-past m zero a b c d = refl
+bit-past m (suc zero) a b c d = absurd (a refl)
+bit-past m (suc (suc zero)) a b c d = absurd (b refl)
+bit-past m (suc (suc (suc zero))) a b c d = absurd (c refl)
+bit-past m (suc (suc (suc (suc zero)))) a b c d = absurd (d refl)
+bit-past m (suc (suc (suc (suc (suc k))))) a b c d = refl
+
+-- ---- choices on the stack
+
+module _ (high : Bool) (l rest under : List ℕ) (e : rest ≡ drop 1 l) (g : under ≡ drop 1 rest) where
+  pub took-high : (above : ℕ) → high ≡ true → above ≡ getD rest 0 0 → pushed above under ≡ chosen high l
+  unfolding chosen
+  took-high above t f = rw t (ap₂ pushed (f ∙ ap (λ (z : List ℕ). getD z 0 0) e) (g ∙ ap (drop 1) e))
+
+  pub took-low : (low : ℕ) → high ≡ false → low ≡ getD l 0 0 → pushed low under ≡ chosen high l
+  unfolding chosen
+  took-low low t f = rw t (ap₂ pushed f (g ∙ ap (drop 1) e))
+
+pub takes-other : (g : Slot) (B : List ℕ) (i : ℕ) (c : CodeCommand) → OneOf (0 ∷ 1 ∷ 2 ∷ 3 ∷ 7 ∷ 8 ∷ []) (tagOf command-type c) → false ≡ takes g (command-of B i c)
+unfolding takes command-of
+takes-other g B i (Site m n a w) k = refl
+takes-other g B i (Leaf p) k = refl
+takes-other g B i (Condition j) k = refl
+takes-other g B i (Test p) k = refl
+takes-other g B i (Reward a) k = absurd (miss (0 ∷ 1 ∷ 2 ∷ 3 ∷ 7 ∷ 8 ∷ []) 4 tt k)
+takes-other g B i (Chance a j) k = absurd (miss (0 ∷ 1 ∷ 2 ∷ 3 ∷ 7 ∷ 8 ∷ []) 5 tt k)
+takes-other g B i (Level a j) k = absurd (miss (0 ∷ 1 ∷ 2 ∷ 3 ∷ 7 ∷ 8 ∷ []) 6 tt k)
+takes-other g B i (Name a) k = refl
+takes-other g B i End k = refl
+
+-- ---- a command of the bytes
+
+fit-small : (B : List ℕ) (i : ℕ) (c : CodeCommand) → Fit B i (command-of B i c) → Small-command c
+unfolding Fit Small-command command-of
+fit-small B i (Site m n a w) f = tt
+fit-small B i (Leaf p) f = f
+fit-small B i (Condition k) f = tt
+fit-small B i (Test p) f = f
+fit-small B i (Reward a) f = tt
+fit-small B i (Chance a k) f = tt
+fit-small B i (Level a k) f = tt
+fit-small B i (Name a) f = tt
+fit-small B i End f = tt
+
+pub command-small : (B : List ℕ) (i : ℕ) (c : CodeCommand) → whole (command-of B i c) ≡ read-at B i → Small-command c
+command-small B i c e = fit-small B i c (subst (Fit B i) (sym (whole-bytes B i (command-of B i c) e .1)) (fit B i))
+
+-- ---- one turn
+
+pub record Seek (B : List ℕ) (x : Point) (g : Slot) (i : ℕ) (l : List ℕ) : Type 0 where
+  pub fuel : ℕ
+  pub enough : length B - i < fuel
+  pub comes : pass x g (readings-from B fuel i) l ≡ pass x g (readings B) []
+
+pub seek-starts : (B : List ℕ) (x : Point) (g : Slot) (l : List ℕ) → l ≡ [] → Seek B x g 0 l
+unfolding readings
+seek-starts B x g l e = record { fuel = suc (length B); enough = omega arith; comes = ap (pass x g (readings B)) e }
+
+module _ {B : List ℕ} {x : Point} {g : Slot} {i : ℕ} {l : List ℕ} (w : Seek B x g i l) where
+  first : (r : Read) → r ≡ read-at B i → (n : ℕ) × (length B - i < suc n) × (pass x g (from-first B i n r) l ≡ pass x g (readings B) [])
+  first = opened (λ ys. pass x g ys l) (pass x g (readings B) []) B i (w .fuel) (w .enough) (w .comes)
+
+  -- no whole command
+  pub seek-stops : (r : CodeRead) → OneOf (1 ∷ 2 ∷ []) (tagOf read-type r) → read-of B i r ≡ read-at B i → 0 ≡ pass x g (readings B) []
+  unfolding read-of pass goes-on
+  seek-stops (Whole c) k e = absurd (miss (1 ∷ 2 ∷ []) 0 tt k)
+  seek-stops Unknown k e = first unknown e .2
+  seek-stops Short k e = first short e .2
+
+  pub seek-found : (c : Command) (o : ℕ) → whole c ≡ read-at B i → takes g c ≡ true → o ≡ getD l 0 0 → o ≡ pass x g (readings B) []
+  unfolding pass
+  seek-found c o e f q = q ∙ (rw f at (first (whole c) e .2))
+
+  other : (c : Command) → whole c ≡ read-at B i → takes g c ≡ false → (k : ℕ) × (length B - i < suc k)
+      × (pass x g (if (goes-on (whole c)) (readings-from B k (i + width (byte-at B i))) []) (stepped x i c l) ≡ pass x g (readings B) [])
+  unfolding pass
+  other c e f = let o = first (whole c) e in (o .0, o .1, rw f at (o .2))
+
+  pub seek-ends : (c : CodeCommand) → whole (command-of B i c) ≡ read-at B i → is-end c ≡ true → 0 ≡ pass x g (readings B) []
+  unfolding pass takes goes-on
+  seek-ends c e q = other end-model (ap whole (sym (at-end B i c q)) ∙ e) refl .2
+
+  pub seek-on : (c : CodeCommand) (next : ℕ) (l′ : List ℕ) → whole (command-of B i c) ≡ read-at B i → takes g (command-of B i c) ≡ false → is-end c ≡ false → next ≡ next-at B i
+      → l′ ≡ stepped x i (command-of B i c) l → Seek B x g next l′
+  seek-on c next l′ e f q n s =
+      let o = other (command-of B i c) e f in
+      let h = forward B i (command-of B i c) next e n in
+      let y = going B i c q in
+      record { fuel = o .0; enough = omega (arith, o .1, h .1, h .2); comes = rw (y .0, ← h .0, ← s) at (o .2) }
+
+-- ---- the leaf's linear
+
+-- what is read at an offset where a leaf stands
+pub leaf-reads : (B : List ℕ) (i : ℕ) (c : CodeCommand) (q : CodeLinear) → whole (command-of B i c) ≡ read-at B i → c ≡ Leaf q → (p : Linear) → read-at B i ≡ whole (push-leaf p) → linear-of q ≡ p
+unfolding command-of
+leaf-reads B i c q e f p h = let z : whole (push-leaf (linear-of q)) ≡ whole (push-leaf p) = ap (λ (d : CodeCommand). whole (command-of B i d)) (sym f) ∙ e ∙ h in cc
+
+pub leaf-small : (B : List ℕ) (i : ℕ) (c : CodeCommand) (q : CodeLinear) → whole (command-of B i c) ≡ read-at B i → c ≡ Leaf q → T (wide (linear-of q))
+unfolding Small-command
+leaf-small B i c q e f = subst Small-command f (command-small B i c e)
+
+pub no-leaf : (B : List ℕ) (i : ℕ) (c : CodeCommand) → whole (command-of B i c) ≡ read-at B i → OneOf (0 ∷ 2 ∷ 3 ∷ 4 ∷ 5 ∷ 6 ∷ 7 ∷ 8 ∷ []) (tagOf command-type c) → (p : Linear) → read-at B i ≡ whole (push-leaf p) → ⊥
+unfolding command-of
+no-leaf B i (Site m n a w) e k p h = let y = e ∙ h in let z : _≡_ {A = ℕ} 0 1 = cc in omega arith
+no-leaf B i (Leaf q) e k p h = miss (0 ∷ 2 ∷ 3 ∷ 4 ∷ 5 ∷ 6 ∷ 7 ∷ 8 ∷ []) 1 tt k
+no-leaf B i (Condition j) e k p h = let y = e ∙ h in let z : _≡_ {A = ℕ} 0 1 = cc in omega arith
+no-leaf B i (Test q) e k p h = let y = e ∙ h in let z : _≡_ {A = ℕ} 0 1 = cc in omega arith
+no-leaf B i (Reward a) e k p h = let y = e ∙ h in let z : _≡_ {A = ℕ} 0 1 = cc in omega arith
+no-leaf B i (Chance a j) e k p h = let y = e ∙ h in let z : _≡_ {A = ℕ} 0 1 = cc in omega arith
+no-leaf B i (Level a j) e k p h = let y = e ∙ h in let z : _≡_ {A = ℕ} 0 1 = cc in omega arith
+no-leaf B i (Name a) e k p h = let y = e ∙ h in let z : _≡_ {A = ℕ} 0 1 = cc in omega arith
+no-leaf B i End e k p h = let y = e ∙ h in let z : _≡_ {A = ℕ} 0 1 = cc in omega arith
+
+pub no-command : (B : List ℕ) (i : ℕ) (r : CodeRead) → OneOf (1 ∷ 2 ∷ []) (tagOf read-type r) → read-of B i r ≡ read-at B i → (p : Linear) → read-at B i ≡ whole (push-leaf p) → ⊥
+unfolding read-of
+no-command B i (Whole c) k e p h = miss (1 ∷ 2 ∷ []) 0 tt k
+no-command B i Unknown k e p h = let y = e ∙ h in let z : _≡_ {A = ℕ} 0 1 = cc in omega arith
+no-command B i Short k e p h = let y = e ∙ h in let z : _≡_ {A = ℕ} 0 1 = cc in omega arith
+
+-- ---- what the leaf comes to
+
+module _ (B : List ℕ) (g : Slot) (x : Point) (i : ℕ) (c : Comes B g x i) (q : Linear) (reads : (p : Linear) → read-at B i ≡ whole (push-leaf p) → q ≡ p)
+    (s : State) (r : List Bool) (st : Stands (site-at B .levels) (site-at B .conditions) x s r) where
+  abbrev F : Tree
+  F = find-slot g (loaded-entries B)
+
+  is : q ≡ at (env s r) F .lin
+  is = reads _ (c .comes s r st .reads)
+
+  pub worth-is : numerator x q ≡ worth-at (env s r) F
+  unfolding worth-at
+  worth-is = ap (numerator x) is ∙ sym (value-is st (at (env s r) F .lin) (c .comes s r st .within))
+
+  pub chance-is : up (q .const) ≡ chance-at (env s r) F
+  unfolding chance-at
+  chance-is = ap (λ (p : Linear). up (p .const)) is

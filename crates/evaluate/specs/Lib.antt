@@ -1,0 +1,2 @@
+-- What a pass over a model's commands comes to at a state.
+pub mod Pass

@@ -1,0 +1,112 @@
+-- The pass over a model's commands to the leaf that a slot's diagram comes to, and what that leaf is.
+use mathlib.Core.Path.{_≡_}
+use mathlib.Core.Bool.{Bool, true, false, not}
+use mathlib.Core.List.{List, [], _∷_}
+use Prim.Native.Nat.{ℕ, _-_, _≤_}
+use lib.Dec.{T, leb}
+use lib.IntN.{ℤ, pos, _+ℤ_, _*ℤ_}
+use lib.ListN.{getD, take, drop}
+use lib.Signed.{leZ}
+use Rattle.whole.specs.Cases.{if}
+use Rattle.theory.specs.Widths.{conditions-most}
+use Rattle.theory.specs.Diagram.{Linear}
+use Rattle.theory.specs.Meaning.{State, env, nth, dot, at}
+use Rattle.theory.specs.Valid.{wide}
+use Rattle.theory.specs.Command.{Command, site, push-leaf, push-condition, push-test, take-reward, take-chance, take-level, name-action, end-model, whole, unknown, short, Placed, read-at}
+use Rattle.theory.specs.Verdict.{Slot, same-slot, reward-slot, chance-slot, level-slot, beyond}
+use Rattle.theory.specs.Load.{find-slot, site-at}
+use Rattle.theory.specs.Value.{bits}
+use Rattle.theory.specs.laws.Loading.{loaded-entries}
+use Rattle.command.specs.declared.Command.{Command as CodeCommand}
+use Rattle.command.specs.declared.Command.the-variants.{Site, Leaf, Condition, Test, Reward, Chance, Level, Name, End}
+use Rattle.command.specs.Reading.{linear-of}
+use Rattle.command.specs.Held.{pushed}
+use Rattle.evaluate.specs.declared.Point.{Point}
+use Rattle.evaluate.specs.declared.Slot.{Slot as CodeSlot}
+
+abbrev pub slot-of : CodeSlot → Slot
+slot-of g = record { command = g .command; action = g .action; index = g .index }
+
+-- ---- the pass
+
+abbrev pub nums-of : Point → List ℤ
+nums-of x = x .n1 ∷ x .n2 ∷ x .n3 ∷ x .n4 ∷ []
+
+-- a linear at a point, times d
+unfoldable pub numerator : Point → Linear → ℤ
+numerator x p = dot (p .coeffs) (nums-of x) +ℤ (p .const) *ℤ (x .d)
+
+-- "1 to n for a condition now, 5 to 4+n for the next step's"
+unfoldable pub condition-holds : Point → ℕ → Bool
+condition-holds x k = if (leb k conditions-most) (nth (bits 4 (x .mask)) k) (nth (bits 4 (x .setting)) (k - conditions-most))
+
+-- "takes low, then high, off the stack" and pushes the one that is taken
+unfoldable pub chosen : Bool → List ℕ → List ℕ
+chosen high l = pushed (if high (getD (drop 1 l) 0 0) (getD l 0 0)) (drop 1 (drop 1 l))
+
+-- the stack behind the command at an offset
+unfoldable pub stepped : Point → ℕ → Command → List ℕ → List ℕ
+stepped x i (site m n a w) l = l
+stepped x i (push-leaf p) l = pushed i l
+stepped x i (push-condition k) l = chosen (condition-holds x k) l
+stepped x i (push-test p) l = chosen (leZ (numerator x p) (pos 0)) l
+stepped x i (take-reward a) l = drop 1 l
+stepped x i (take-chance a k) l = drop 1 l
+stepped x i (take-level a k) l = drop 1 l
+stepped x i (name-action a b) l = l
+stepped x i end-model l = l
+
+-- a command gives a slot
+unfoldable pub takes : Slot → Command → Bool
+takes g (site m n a w) = false
+takes g (push-leaf p) = false
+takes g (push-condition k) = false
+takes g (push-test p) = false
+takes g (take-reward a) = same-slot g (reward-slot a)
+takes g (take-chance a k) = same-slot g (chance-slot a k)
+takes g (take-level a i) = same-slot g (level-slot a i)
+takes g (name-action a b) = false
+takes g end-model = false
+
+-- the offset on the top of the stack where a slot is given
+unfoldable pub pass : Point → Slot → List Placed → List ℕ → ℕ
+pass x g [] l = 0
+pass x g (y ∷ ys) l = elim (y .read) [
+  | whole c ↦ if (takes g c) (getD l 0 0) (pass x g ys (stepped x (y .at) c l))
+  | unknown ↦ 0
+  | short ↦ 0
+]
+
+-- the numbers of a command's linear lie within the limits, as all of 32 bits do
+abbrev pub Small-linear : Linear → Type 0
+Small-linear p = T (wide p)
+
+unfoldable pub Small-command : CodeCommand → Type 0
+Small-command (Site m n a w) = T true
+Small-command (Leaf p) = Small-linear (linear-of p)
+Small-command (Condition k) = T true
+Small-command (Test p) = Small-linear (linear-of p)
+Small-command (Reward a) = T true
+Small-command (Chance a k) = T true
+Small-command (Level a i) = T true
+Small-command (Name a) = T true
+Small-command End = T true
+
+-- ---- what it comes to
+
+-- a state of m levels and n conditions, and a setting of the next ones, as a point has them; with no setting the point's is 0
+pub record Stands (m n : ℕ) (x : Point) (s : State) (r : List Bool) : Type 0 where
+  pub now-is : (k : ℕ) → 1 ≤ k → k ≤ n → nth (s .conditions) k ≡ nth (bits 4 (x .mask)) k
+  pub later-is : (k : ℕ) → 1 ≤ k → k ≤ n → nth r k ≡ nth (bits 4 (x .setting)) k
+  pub nums-are : s .nums ≡ take m (nums-of x)
+  pub den-is : pos (s .den) ≡ x .d
+
+-- the command at an offset is a leaf of that linear, whose coefficients beyond level m are zero
+pub record Leaf-at (B : List ℕ) (m i : ℕ) (p : Linear) : Type 0 where
+  pub reads : read-at B i ≡ whole (push-leaf p)
+  pub within : T (not (beyond m p))
+
+-- the leaf at an offset is what a slot's diagram comes to at each state that the point stands for
+pub record Comes (B : List ℕ) (g : Slot) (x : Point) (i : ℕ) : Type 0 where
+  pub comes : (s : State) (r : List Bool) → Stands (site-at B .levels) (site-at B .conditions) x s r
+      → Leaf-at B (site-at B .levels) i (at (env s r) (find-slot g (loaded-entries B)) .lin)

@@ -1,0 +1,231 @@
+// Plain evaluation: the leaf that an action's diagram comes to at a state, found in the model's own bytes.
+// One pass over the commands; on the stack stands for each diagram the offset of the leaf that it comes to.
+ghost use mathlib.Core.Path.{_≡_};
+ghost use mathlib.Core.List.{List};
+ghost use mathlib.Core.Bool.{Bool};
+ghost use Prim.Native.Nat.{ℕ, _<_};
+ghost use lib.Dec.{T};
+ghost use lib.ListN.{length};
+ghost use lib.IntN.{pos};
+ghost use lib.Signed.{leZ};
+ghost use Rattle.whole.specs.Int.{up};
+ghost use Rattle.whole.specs.Numerator.{words};
+ghost use Rattle.theory.specs.Command.{whole, push-leaf, read-at};
+ghost use Rattle.theory.specs.Diagram.{Linear as LinearOf};
+ghost use Rattle.theory.specs.Meaning.{State, env, nth};
+ghost use Rattle.theory.specs.Meaning.{worth-at as worth-of};
+ghost use Rattle.theory.specs.Meaning.{chance-at as chance-of};
+ghost use Rattle.theory.specs.Load.{find-slot, site-at};
+ghost use Rattle.theory.specs.Value.{bits};
+ghost use Rattle.theory.specs.Verdict.{verdict, has-slot, wanted, same-slot};
+ghost use Rattle.theory.specs.laws.Loading.{loaded-entries};
+ghost use Rattle.command.specs.Reading.{linear-of, command-of};
+ghost use Rattle.command.specs.Held.{held};
+ghost use Rattle.evaluate.specs.Pass.{slot-of, condition-holds, stepped, Small-linear, Small-command, Stands, Comes};
+ghost use Rattle.evaluate.specs.Pass.{takes as takes-slot};
+ghost use Rattle.evaluate.specs.Pass.{chosen as chosen-of};
+ghost use Rattle.evaluate.specs.Pass.{numerator as numerator-at};
+use command::Command;
+use command::Linear;
+use command::Read;
+use command::stack::Stack;
+use whole::Numerator;
+use whole::limits::mag;
+use whole::two_words;
+
+// What is given to an action: the command's byte, the action, the condition or level (0 for a reward).
+pub struct Slot {
+    pub command: u8,
+    pub action: u8,
+    pub index: u8,
+}
+
+// A state, and a setting of the next step's conditions: bit k − 1 for condition k, numerators over d.
+pub struct Point {
+    pub mask: u32,
+    pub setting: u32,
+    pub n1: i32,
+    pub n2: i32,
+    pub n3: i32,
+    pub n4: i32,
+    pub d: i32,
+}
+
+fn bit(mask: u32, k: u8) -> bool
+    ensures { λ r. ⌜ r ≡ nth (bits 4 mask) k ⌝ }
+{
+    match k {
+        1 => mask % 2 == 1,
+        2 => mask / 2 % 2 == 1,
+        3 => mask / 2 / 2 % 2 == 1,
+        4 => mask / 2 / 2 / 2 % 2 == 1,
+        _ => false,
+    }
+}
+
+// "1 to n for a condition now, 5 to 4+n for the next step's"
+fn condition(k: u8, x: Point) -> bool
+    ensures { λ r. ⌜ r ≡ condition-holds x k ⌝ }
+{
+    if k <= 4 {
+        bit(x.mask, k)
+    } else {
+        bit(x.setting, k - 4)
+    }
+}
+
+// A linear at a point, times d.
+fn numerator(p: Linear, x: Point) -> Numerator
+    requires { ⌜ Small-linear (linear-of p) ⌝ }
+    ensures { λ r. ⌜ r ≡ words (numerator-at x (linear-of p)) ⌝ }
+{
+    two_words::dot(
+        p.c1,
+        p.c2,
+        p.c3,
+        p.c4,
+        p.constant,
+        x.n1,
+        x.n2,
+        x.n3,
+        x.n4,
+        x.d,
+    )
+}
+
+// "high is taken when p ≤ 0"
+fn test(p: Linear, x: Point) -> bool
+    requires { ⌜ Small-linear (linear-of p) ⌝ }
+    ensures { λ r. ⌜ r ≡ leZ (numerator-at x (linear-of p)) (pos 0) ⌝ }
+{
+    two_words::not_positive(numerator(p, x))
+}
+
+// "takes low, then high, off the stack" and pushes the one that is taken.
+fn chosen(t: Stack, high: bool) -> Stack
+    ensures { λ r. ⌜ held r ≡ chosen-of high (held t) ⌝ }
+{
+    let low = t.top();
+    let rest = t.pop();
+    let above = rest.top();
+    let under = rest.pop();
+    if high {
+        under.push(above)
+    } else {
+        under.push(low)
+    }
+}
+
+// What the command at an offset leaves of the stack.
+fn after(t: Stack, at: u32, c: Command, x: Point) -> Stack
+    requires { ⌜ Small-command c ⌝ }
+    ensures { λ r. ⌜ ((B : List ℕ) (i : ℕ) → held r ≡ stepped x at (command-of B i c) (held t)) ⌝ }
+{
+    match c {
+        Command::Leaf(_) => t.push(at),
+        Command::Condition(k) => chosen(t, condition(k, x)),
+        Command::Test(p) => chosen(t, test(p, x)),
+        Command::Reward(_) => t.pop(),
+        Command::Chance(_, _) => t.pop(),
+        Command::Level(_, _) => t.pop(),
+        Command::Site(_, _, _, _) => t,
+        Command::Name(_) => t,
+        Command::End => t,
+    }
+}
+
+fn same(g: Slot, command: u8, action: u8, index: u8) -> bool
+    ensures { λ r. ⌜ r ≡ same-slot (slot-of g) (record { command = command; action = action; index = index }) ⌝ }
+{
+    let a = g.action;
+    let i = g.index;
+    let op = g.command;
+    if op != command {
+        return false;
+    }
+    if a != action {
+        return false;
+    }
+    i == index
+}
+
+// Whether a command gives a slot.
+fn takes(c: Command, g: Slot) -> bool
+    ensures { λ r. ⌜ ((B : List ℕ) (i : ℕ) → r ≡ takes-slot (slot-of g) (command-of B i c)) ⌝ }
+{
+    match c {
+        Command::Reward(a) => same(g, 0x20, a, 0),
+        Command::Chance(a, k) => same(g, 0x21, a, k),
+        Command::Level(a, i) => same(g, 0x22, a, i),
+        _ => false,
+    }
+}
+
+// The offset of the leaf that a slot's diagram comes to, in an accepted model whose site has that slot.
+pub fn leaf_at(model: &[u8], g: Slot, x: Point) -> usize
+    requires { ⌜ (verdict (now model) .number ≡ 0) × (length (now model) < 4294967296) × T (has-slot (slot-of g) (wanted (site-at (now model)))) ⌝ }
+    ensures { λ r. ⌜ Comes (now (model .entry)) (slot-of g) x r ⌝ }
+{
+    let mut at: usize = 0;
+    let mut stack = Stack::new();
+    loop {
+        let read = command::command_at(model, at);
+        let Read::Whole(c) = read else {
+            return 0;
+        };
+        if takes(c, g) {
+            return stack.top() as usize;
+        }
+        if model::is_end(c) {
+            return 0;
+        }
+        stack = after(stack, at as u32, c, x);
+        at = command::next_after(model, at);
+    }
+}
+
+// The linear of the leaf command at an offset.
+fn leaf(model: &[u8], at: usize) -> Linear
+    ensures { λ r. ⌜ Small-linear (linear-of r) × ((p : LinearOf) → read-at (now (model .entry)) at ≡ whole (push-leaf p) → linear-of r ≡ p) ⌝ }
+{
+    let none = Linear {
+        c1: 0,
+        c2: 0,
+        c3: 0,
+        c4: 0,
+        constant: 0,
+    };
+    let read = command::command_at(model, at);
+    let Read::Whole(c) = read else {
+        return none;
+    };
+    if let Command::Leaf(p) = c { p } else { none }
+}
+
+// What a slot's diagram comes to, times d: a reward, or a next level.
+pub fn worth_at(model: &[u8], g: Slot, x: Point) -> Numerator
+    requires { ⌜ (verdict (now model) .number ≡ 0) × (length (now model) < 4294967296) × T (has-slot (slot-of g) (wanted (site-at (now model)))) ⌝ }
+    ensures { λ r. ⌜ ((s : State) (z : List Bool) → Stands (site-at (now (model .entry)) .levels) (site-at (now (model .entry)) .conditions) x s z
+        → r ≡ words (worth-of (env s z) (find-slot (slot-of g) (loaded-entries (now (model .entry)))))) ⌝ }
+{
+    let at = leaf_at(model, g, x);
+    numerator(leaf(model, at), x)
+}
+
+// The weight, out of W, that a slot's diagram comes to.
+pub fn chance_at(model: &[u8], g: Slot, x: Point) -> u64
+    requires { ⌜ (verdict (now model) .number ≡ 0) × (length (now model) < 4294967296) × T (has-slot (slot-of g) (wanted (site-at (now model)))) ⌝ }
+    ensures { λ r. ⌜ ((s : State) (z : List Bool) → Stands (site-at (now (model .entry)) .levels) (site-at (now (model .entry)) .conditions) x s z
+        → r ≡ chance-of (env s z) (find-slot (slot-of g) (loaded-entries (now (model .entry))))) ⌝ }
+{
+    let at = leaf_at(model, g, x);
+    let p = leaf(model, at);
+    weight(p.constant)
+}
+
+// A number below 0 counts as 0; an accepted model has none.
+fn weight(z: i64) -> u64
+    ensures { λ r. ⌜ r ≡ up z ⌝ }
+{
+    if z < 0 { 0 } else { mag(z) }
+}
