@@ -1,0 +1,10 @@
+-- What a writer promises: some bytes from a place on, nothing before them and nothing behind them changed, and the place behind them.
+use mathlib.Core.Path.{_≡_}
+use mathlib.Core.List.{List}
+use Prim.Native.Nat.{ℕ, _+_}
+use lib.ListN.{length}
+use Rattle.theory.specs.Listing.{written}
+
+pub record PutAt (buffer : List ℕ) (at : ℕ) (bytes : List ℕ) (next : ℕ) (after : List ℕ) : Type 0 where
+  pub behind : next ≡ at + length bytes
+  pub left : after ≡ written buffer at bytes

@@ -1,0 +1,30 @@
+-- A node's line behind its number, a plan that can be written, and lengths within a room.
+use mathlib.Core.List.{List, [], _∷_}
+use mathlib.Core.Path.{_≡_}
+use Prim.Native.Nat.{ℕ, _+_, _-_, _*_, _≤_}
+use lib.Dec.{eqb, leb}
+use lib.IntN.{ℤ, natAbs}
+use lib.ListN.{length, take, drop}
+use Rattle.whole.specs.Cases.{if}
+use Rattle.theory.specs.Widths.{node-words, levels-most, steps-most}
+use Rattle.theory.specs.Value.{node-word, high-of, low-of}
+use Rattle.theory.specs.Listing.{line, greatest-root}
+
+-- a node's line behind its number, the numbers as they stand in the table
+unfoldable pub node-rest : List ℤ → ℕ → List ℕ
+node-rest W r =
+    let numbers : List ℤ = drop ((r - 1) * node-words + 1) W in
+    if (eqb (natAbs (node-word W r 0)) 0) (line (32 ∷ 86 ∷ []) (take (levels-most + 2) numbers))
+    (if (eqb (natAbs (node-word W r 0)) 1) (line (32 ∷ 66 ∷ []) (node-word W r 1 ∷ high-of W r ∷ low-of W r ∷ []))
+    (line (32 ∷ 76 ∷ []) (take (levels-most + 3) numbers)))
+
+-- a plan that can be written: root is the greatest one of stages 1 to H, and its node lies inside the table
+pub record Ready (H : ℕ) (nodes : List ℤ) (stages : List ℕ) (root : ℕ) : Type 0 where
+  pub greatest : root ≡ greatest-root H stages
+  pub inside : root * node-words ≤ length nodes
+  pub steps : H ≤ length stages
+  pub few : H ≤ steps-most
+
+-- a length, or room + 1 where it is more than the room
+unfoldable pub upto : ℕ → ℕ → ℕ
+upto room n = if (leb n room) n (room + 1)

@@ -1,0 +1,148 @@
+// Each line of a listing, written at the front of a lent part of the buffer, and how long it is.
+ghost use mathlib.Core.Path.{_≡_};
+ghost use mathlib.Core.List.{[], _∷_};
+ghost use Prim.Native.Nat.{_+_, _-_, _≤_};
+ghost use lib.ListN.{length, getD};
+ghost use Rattle.theory.specs.Verdict.{refusal};
+ghost use Rattle.theory.specs.Value.{node-word, high-of, low-of};
+ghost use Rattle.theory.specs.Listing.{first-line, node-line, stage-line, refusal-line};
+ghost use Rattle.progress.specs.Standing.{site-as};
+ghost use Rattle.values.specs.Row.{Inside};
+ghost use Rattle.decimal.specs.Put.{PutAt};
+ghost use Rattle.plan_text.specs.Plan.{node-rest};
+use decimal::lines::line_len;
+use decimal::lines::put_line;
+use decimal::lines::put_words_line;
+use decimal::lines::words_line_len;
+use decimal::number_len;
+use decimal::put_bytes;
+use decimal::put_number;
+use progress::Site;
+use values::words::magnitude;
+use values::words::word;
+
+fn first_numbers(site: Site, horizon: u32) -> [u64; 5]
+    ensures { λ r. ⌜ r ≡ site .levels ∷ site .conditions ∷ site .actions ∷ site .weights ∷ horizon ∷ [] ⌝ }
+{
+    [
+        site.levels as u64,
+        site.conditions as u64,
+        site.actions as u64,
+        site.weights as u64,
+        horizon as u64,
+    ]
+}
+
+pub fn first_line(out: &mut [u8], site: Site, horizon: u32) -> usize
+    requires { ⌜ length (first-line (site-as site) horizon) ≤ length (now out) ⌝ }
+    ensures { λ n. ⌜ PutAt (now (out .entry)) 0 (first-line (site-as site) horizon) n (now (out .exit)) ⌝ }
+{
+    let xs = first_numbers(site, horizon);
+    put_line(out, 0, b"PLAN", &xs)
+}
+
+pub fn first_line_len(site: Site, horizon: u32) -> usize
+    ensures { λ n. ⌜ (n ≡ length (first-line (site-as site) horizon)) × (n ≤ 185) ⌝ }
+{
+    let xs = first_numbers(site, horizon);
+    line_len(b"PLAN", &xs)
+}
+
+// A condition's number, and its branches.
+fn condition_numbers(nodes: &[i64], r: usize) -> [i64; 3]
+    requires { ⌜ Inside (now nodes) r ⌝ }
+    ensures { λ l. ⌜ l ≡ node-word (now (nodes .entry)) r 1 ∷ high-of (now (nodes .entry)) r ∷ low-of (now (nodes .entry)) r ∷ [] ⌝ }
+{
+    [word(nodes, r, 1), word(nodes, r, 6), word(nodes, r, 7)]
+}
+
+// Behind a node's number: the letter of its kind, and the numbers that the kind has.
+fn node_rest(out: &mut [u8], at: usize, nodes: &[i64], r: usize) -> usize
+    requires { ⌜ Inside (now nodes) r × (at + length (node-rest (now nodes) r) ≤ length (now out)) ⌝ }
+    ensures { λ n. ⌜ PutAt (now (out .entry)) at (node-rest (now (nodes .entry)) r) n (now (out .exit)) ⌝ }
+{
+    let kind = magnitude(nodes, r, 0);
+    if kind == 1 {
+        let xs = condition_numbers(nodes, r);
+        return put_words_line(out, at, b" B", &xs);
+    }
+    let first = (r - 1) * 8 + 1;
+    if kind == 0 {
+        let end = first + 6;
+        return put_words_line(out, at, b" V", &nodes[first..end]);
+    }
+    let end = first + 7;
+    put_words_line(out, at, b" L", &nodes[first..end])
+}
+
+fn node_rest_len(nodes: &[i64], r: usize) -> usize
+    requires { ⌜ Inside (now nodes) r ⌝ }
+    ensures { λ n. ⌜ (n ≡ length (node-rest (now (nodes .entry)) r)) × (n ≤ 185) ⌝ }
+{
+    let kind = magnitude(nodes, r, 0);
+    if kind == 1 {
+        let xs = condition_numbers(nodes, r);
+        return words_line_len(b" B", &xs);
+    }
+    let first = (r - 1) * 8 + 1;
+    if kind == 0 {
+        let end = first + 6;
+        return words_line_len(b" V", &nodes[first..end]);
+    }
+    let end = first + 7;
+    words_line_len(b" L", &nodes[first..end])
+}
+
+pub fn node_line(out: &mut [u8], nodes: &[i64], r: usize) -> usize
+    requires { ⌜ Inside (now nodes) r × (length (node-line (now nodes) r) ≤ length (now out)) ⌝ }
+    ensures { λ n. ⌜ PutAt (now (out .entry)) 0 (node-line (now (nodes .entry)) r) n (now (out .exit)) ⌝ }
+{
+    let n = put_bytes(out, 0, b"N");
+    let m = put_number(out, n, r as u64);
+    node_rest(out, m, nodes, r)
+}
+
+pub fn node_line_len(nodes: &[i64], r: usize) -> usize
+    requires { ⌜ Inside (now nodes) r ⌝ }
+    ensures { λ n. ⌜ (n ≡ length (node-line (now (nodes .entry)) r)) × (n ≤ 207) ⌝ }
+{
+    1 + number_len(r as u64) + node_rest_len(nodes, r)
+}
+
+fn stage_numbers(stages: &[u32], h: usize) -> [u64; 2]
+    requires { ⌜ (1 ≤ h) × (h ≤ length (now stages)) ⌝ }
+    ensures { λ l. ⌜ l ≡ h ∷ getD (now (stages .entry)) (h - 1) 0 ∷ [] ⌝ }
+{
+    [h as u64, stages[h - 1] as u64]
+}
+
+pub fn stage_line(out: &mut [u8], stages: &[u32], h: usize) -> usize
+    requires { ⌜ (1 ≤ h) × (h ≤ length (now stages)) × (length (stage-line (now stages) h) ≤ length (now out)) ⌝ }
+    ensures { λ n. ⌜ PutAt (now (out .entry)) 0 (stage-line (now (stages .entry)) h) n (now (out .exit)) ⌝ }
+{
+    let xs = stage_numbers(stages, h);
+    put_line(out, 0, b"S", &xs)
+}
+
+pub fn stage_line_len(stages: &[u32], h: usize) -> usize
+    requires { ⌜ (1 ≤ h) × (h ≤ length (now stages)) ⌝ }
+    ensures { λ n. ⌜ (n ≡ length (stage-line (now (stages .entry)) h)) × (n ≤ 185) ⌝ }
+{
+    let xs = stage_numbers(stages, h);
+    line_len(b"S", &xs)
+}
+
+pub fn refusal_line(out: &mut [u8], number: u32, place: usize) -> usize
+    requires { ⌜ length (refusal-line (refusal number place)) ≤ length (now out) ⌝ }
+    ensures { λ n. ⌜ PutAt (now (out .entry)) 0 (refusal-line (refusal number place)) n (now (out .exit)) ⌝ }
+{
+    let xs = [number as u64, place as u64];
+    put_line(out, 0, b"R", &xs)
+}
+
+pub fn refusal_line_len(number: u32, place: usize) -> usize
+    ensures { λ n. ⌜ (n ≡ length (refusal-line (refusal number place))) × (n ≤ 185) ⌝ }
+{
+    let xs = [number as u64, place as u64];
+    line_len(b"R", &xs)
+}
