@@ -1,14 +1,19 @@
 -- A step leaves the table right; the table begins empty.
-use mathlib.Core.Path.{_≡_, sym, subst}
+use mathlib.Core.Path.{_≡_, refl, sym, subst}
 use mathlib.Core.List.{List}
 use Prim.Native.Nat.{ℕ, _*_, _≤_, _<_}
 use native.Mathlib.Omega.{arith}
-use lib.IntN.{ℤ}
+use lib.IntN.{ℤ, pos}
 use lib.ListN.{length, getD}
+use mir.Syntax.{w64}
+use mir.Val.{toZ}
+use Rattle.whole.proofs.Signed.{plain}
 use Rattle.table.specs.declared.Made.{Made}
 use Rattle.theory.specs.Computation.{Comp}
 use Rattle.theory.specs.Diagram.{Tree}
 use Rattle.unique.specs.Unique.{lastOf}
+use Rattle.diagrams.specs.Nodes.{Proper}
+use Rattle.table.specs.Table.{eqZ}
 use Rattle.diagrams.specs.Table.{Table, Grew}
 use Rattle.diagrams.specs.Meaning.{ruleOf}
 use Rattle.diagrams.proofs.Outcomes.{lifted, fresh}
@@ -37,3 +42,15 @@ empty cap l w some few hl hw z = fresh
       };
     })
     (λ j h k. z j (omega arith))
+
+-- the test of a condition
+proper-pos : (k : ℕ) → 0 < k → k ≤ 8 → Proper (record { kind = pos 1; c1 = pos k; c2 = pos 0; c3 = pos 0; c4 = pos 0; constant = pos 0; high = pos 0; low = pos 0 })
+unfolding eqZ
+proper-pos k a b = record {
+  branches = refl;
+  nums = record { c1 = record { small = omega arith }; c2 = record { small = omega arith }; c3 = record { small = omega arith }; c4 = record { small = omega arith }; constant = record { small = omega arith } };
+  tested = record { kind = λ e. absurd (let z : _≡_ {A = ℕ} 0 1 = cc in omega arith); number = λ _. tt; bounds = λ _. (omega arith, omega arith); rest = λ _. (refl, refl, refl, refl) };
+}
+
+pub proper-condition : (k : ℕ) → 0 < k → k ≤ 8 → Proper (record { kind = pos 1; c1 = toZ w64 k; c2 = pos 0; c3 = pos 0; c4 = pos 0; constant = pos 0; high = pos 0; low = pos 0 })
+proper-condition k a b = subst (λ z. Proper (record { kind = pos 1; c1 = z; c2 = pos 0; c3 = pos 0; c4 = pos 0; constant = pos 0; high = pos 0; low = pos 0 })) (sym (plain k (omega arith))) (proper-pos k a b)

@@ -4,6 +4,7 @@ ghost use Prim.Native.Nat.{_≤_, _<_};
 ghost use Rattle.diagrams.specs.Table.{Table};
 ghost use Rattle.diagrams.specs.Meaning.{ruleOf};
 use super::Step;
+use diagrams::making::join_test;
 use diagrams::making::make_leaf;
 use diagrams::rules::choose;
 use merge::merge;
@@ -127,7 +128,32 @@ fn choice(nodes: &mut [i64], work: &mut [u32], cap: usize, count: usize, s: Step
     choose(nodes, work, cap, count, 10, k as usize, s.f, s.g)
 }
 
-// A rule of two diagrams: sum (0), product (1), best (2), or a choice.
+// A node of condition c, 1 to 8, over two branches.
+fn condition(nodes: &mut [i64], work: &mut [u32], cap: usize, count: usize, s: Step) -> Made
+    requires { ⌜ Table ruleOf cap (now nodes) (now work) count × (s .f < count) × (s .g < count) ⌝ }
+    ensures { λ r. ⌜ Table ruleOf cap (now (nodes .exit)) (now (work .exit)) (r .count) ⌝ }
+{
+    let k = mag(s.c);
+    if k == 0 {
+        return unknown(count);
+    }
+    if k > 8 {
+        return unknown(count);
+    }
+    let t = Node {
+        kind: 1,
+        c1: k as i64,
+        c2: 0,
+        c3: 0,
+        c4: 0,
+        constant: 0,
+        high: 0,
+        low: 0,
+    };
+    join_test(nodes, work, cap, count, t, s.f, s.g)
+}
+
+// A rule of two diagrams: sum (0), product (1), best (2), a node of a condition (12), or a choice.
 fn binary_step(nodes: &mut [i64], work: &mut [u32], cap: usize, count: usize, s: Step) -> Made
     requires { ⌜ Table ruleOf cap (now nodes) (now work) count × (s .f < count) ⌝ }
     ensures { λ r. ⌜ Table ruleOf cap (now (nodes .exit)) (now (work .exit)) (r .count) ⌝ }
@@ -137,6 +163,9 @@ fn binary_step(nodes: &mut [i64], work: &mut [u32], cap: usize, count: usize, s:
     }
     if s.op <= 2 {
         return merge(nodes, work, cap, count, s.op, s.f, s.g);
+    }
+    if s.op == 12 {
+        return condition(nodes, work, cap, count, s);
     }
     choice(nodes, work, cap, count, s)
 }

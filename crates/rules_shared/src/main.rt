@@ -1,6 +1,6 @@
 // Shared diagrams: equal nodes are one node, a rule run again makes nothing, the order of choices does not matter.
 // A row is a rule, two lines and a number: 9 the leaf b L1 + c, 0 sum, 2 best, 7 and 8 the sides of condition c + 4,
-// 10 the choice by condition c + 4, 11 the choice by the test that line c's node names.
+// 10 the choice by condition c + 4, 11 the choice by the test that line c's node names, 12 a node of condition c.
 fn case(cap: usize, rows: &[i64]) {
     let mut nodes = [0i64; 512];
     let mut work = [0u32; 512];
@@ -214,8 +214,92 @@ fn orders() {
     case(64, &rows);
 }
 
+// 1 where conditions 1 to 4 and 8 are all yes, else 2: upwards, downwards, and mixed.
+fn now() {
+    let rows = [
+        9,
+        0,
+        0,
+        1,
+        9,
+        0,
+        0,
+        2,
+        12,
+        0,
+        1,
+        1,
+        12,
+        0,
+        1,
+        2,
+        12,
+        0,
+        1,
+        3,
+        12,
+        0,
+        1,
+        4,
+        10,
+        0,
+        1,
+        4,
+        11,
+        6,
+        1,
+        5,
+        11,
+        7,
+        1,
+        4,
+        11,
+        8,
+        1,
+        3,
+        11,
+        9,
+        1,
+        2,
+        11,
+        2,
+        1,
+        3,
+        11,
+        11,
+        1,
+        4,
+        11,
+        12,
+        1,
+        5,
+        10,
+        13,
+        1,
+        4,
+        11,
+        4,
+        1,
+        2,
+        10,
+        15,
+        1,
+        4,
+        11,
+        16,
+        1,
+        5,
+        11,
+        17,
+        1,
+        3,
+    ];
+    case(64, &rows);
+}
+
 fn main() {
     again();
     sides();
     orders();
+    now();
 }

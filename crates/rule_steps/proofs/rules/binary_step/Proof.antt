@@ -21,8 +21,8 @@ same-length-2 c = search needs
 returns-2 : tie.Need-returns-2
 returns-2 c = search needs
 
-choice-requires : tie.Need-choice-requires
-choice-requires c κs = search needs
+condition-requires : tie.Need-condition-requires
+condition-requires c κs = search needs
 
 same-length-3 : tie.Need-same-length-3
 same-length-3 c = search needs
@@ -32,6 +32,18 @@ same-length-4 c = search needs
 
 returns-3 : tie.Need-returns-3
 returns-3 c = search needs
+
+choice-requires : tie.Need-choice-requires
+choice-requires c κs = search needs
+
+same-length-5 : tie.Need-same-length-5
+same-length-5 c = search needs
+
+same-length-6 : tie.Need-same-length-6
+same-length-6 c = search needs
+
+returns-4 : tie.Need-returns-4
+returns-4 c = search needs
 
 pub binary-step-spec : {M : Type 1} → statement M
 binary-step-spec =
@@ -43,7 +55,11 @@ binary-step-spec =
     same-length
     same-length-2
     returns-2
-    choice-requires
+    condition-requires
     same-length-3
     same-length-4
-    returns-3)
+    returns-3
+    choice-requires
+    same-length-5
+    same-length-6
+    returns-4)
