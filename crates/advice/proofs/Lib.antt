@@ -1,0 +1,2 @@
+-- The demands' theorems, at one answer.
+pub mod Advised
