@@ -1,0 +1,41 @@
+-- `planner::planner_name` meets its contract.
+use Rattle.planner.proofs.Named.{name-most, name-short, name-whole}
+use borrow.Author.Needs.{needs}
+use Rattle.planner.proofs.planner_name.Statement.{statement}
+use Rattle.planner.proofs.planner_name.Tie as tie
+
+name-refusal-requires : tie.Need-name-refusal-requires
+name-refusal-requires c κs = search needs
+
+short-requires : tie.Need-short-requires
+short-requires c κs = search needs
+
+returns : tie.Need-returns
+returns c =
+    name-short (c .before .before .before .before .before .args .bytes .now) (c .before .before .before .before .before .args .action) (c .before .before .before .before .before .args .out .now) (c .before .before .name-refusal .ensures) (c .before .if1 .taken) (c .short .ensures)
+
+name-requires : tie.Need-name-requires
+name-requires c κs = search needs
+
+put-name-requires : tie.Need-put-name-requires
+put-name-requires c κs =
+    (name-most (c .before .before .before .before .before .before .args .bytes .now) (c .before .before .before .before .before .before .args .action) (c .name .ensures .0), c .before .before .if1 .left)
+
+same-length : tie.Need-same-length
+same-length c = search needs
+
+returns-2 : tie.Need-returns-2
+returns-2 c =
+    name-whole (c .before .before .before .before .before .before .before .before .before .args .bytes .now) (c .before .before .before .before .before .before .before .before .before .args .action) (c .before .before .before .before .before .before .before .before .before .args .out .now) (c .before .before .before .before .before .before .name-refusal .ensures) (c .before .before .before .before .before .if1 .left) (c .before .before .before .name .ensures .0) (c .before .before .put-name .ensures)
+
+pub planner-name-spec : {M : Type 1} → statement M
+planner-name-spec =
+    tie.close
+    (tie.spec
+    name-refusal-requires
+    short-requires
+    returns
+    name-requires
+    put-name-requires
+    same-length
+    returns-2)

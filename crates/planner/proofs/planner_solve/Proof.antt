@@ -1,0 +1,54 @@
+-- `planner::planner_solve` meets its contract.
+use Rattle.planner.proofs.Solved.{solve-short, solve-whole}
+use borrow.Author.Needs.{needs}
+use Rattle.planner.proofs.planner_solve.Statement.{statement}
+use Rattle.planner.proofs.planner_solve.Tie as tie
+
+early-requires : tie.Need-early-requires
+early-requires c κs = search needs
+
+short-requires : tie.Need-short-requires
+short-requires c κs = search needs
+
+returns : tie.Need-returns
+returns c =
+    let a = c .before .before .before .before .before .before .before .args in
+    solve-short (a .bytes .now) (a .horizon) (a .nodes .now) (a .stages .now) (a .work .now) (c .before .before .if1 .taken) (c .before .early .ensures) (c .short .ensures)
+
+solve-requires : tie.Need-solve-requires
+solve-requires c κs = search needs
+
+put-pair-requires : tie.Need-put-pair-requires
+put-pair-requires c κs = search needs
+
+same-length : tie.Need-same-length
+same-length c = search needs
+
+same-length-2 : tie.Need-same-length-2
+same-length-2 c = search needs
+
+same-length-3 : tie.Need-same-length-3
+same-length-3 c = search needs
+
+same-length-4 : tie.Need-same-length-4
+same-length-4 c = search needs
+
+returns-2 : tie.Need-returns-2
+returns-2 c =
+    let a = c .before .before .before .before .before .before .before .before .before .before .before .before .before .before .before .before .before .before .args in
+    solve-whole (a .nodes .now) (a .stages .now) (a .work .now) (a .out .now) (c .before .before .before .before .before .before .before .before .before .before .before .before .before .if1 .left) (c .before .before .before .before .before .before .before .before .before .solve .ensures) (c .before .before .put-pair .ensures .0)
+
+pub planner-solve-spec : {M : Type 1} → statement M
+planner-solve-spec =
+    tie.close
+    (tie.spec
+    early-requires
+    short-requires
+    returns
+    solve-requires
+    put-pair-requires
+    same-length
+    same-length-2
+    same-length-3
+    same-length-4
+    returns-2)

@@ -1,0 +1,2 @@
+-- What the exports promise, in the terms of document 01.
+pub mod Answers

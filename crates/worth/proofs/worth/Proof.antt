@@ -1,0 +1,72 @@
+-- `worth::worth` meets its contract.
+use Rattle.worth.proofs.Entry.{refused-early, refused-state, passed, stands, answered}
+use borrow.Author.Needs.{needs}
+use Rattle.worth.proofs.worth.Statement.{statement}
+use Rattle.worth.proofs.worth.Tie as tie
+
+early-requires : tie.Need-early-requires
+early-requires c κs = search needs
+
+refused-requires : tie.Need-refused-requires
+refused-requires c κs = search needs
+
+returns : tie.Need-returns
+returns c =
+    let s = (c .before .before .before .before .before) in
+    refused-early (s .args .bytes .now) (s .args .steps) (c .before .before .before .early .ensures) _ (c .before .if1 .taken) (c .refused .ensures)
+
+levels-requires : tie.Need-levels-requires
+levels-requires c κs = search needs
+
+cast-m : tie.Need-cast-m
+cast-m c = search needs
+
+conditions-requires : tie.Need-conditions-requires
+conditions-requires c κs = search needs
+
+cast-n : tie.Need-cast-n
+cast-n c = search needs
+
+accepted-requires : tie.Need-accepted-requires
+accepted-requires c κs = search needs
+
+refused-requires-2 : tie.Need-refused-requires-2
+refused-requires-2 c κs = search needs
+
+returns-2 : tie.Need-returns-2
+returns-2 c =
+    let s = (c .before .before .before .before .before .before .before .before .before) in
+    refused-state (s .args .bytes .now) (s .args .steps) (c .before .before .before .before .before .before .before .early .ensures) (c .before .before .before .before .before .if1 .left) _ _ _ _ _ _ (s .fits .l1) (s .fits .l2) (s .fits .l3) (s .fits .l4) (s .fits .d) (c .before .before .before .before .levels .ensures) (c .before .before .before .conditions .ensures) (c .before .before .accepted .ensures) (c .before .if2 .left) (c .refused2 .ensures)
+
+state-worth-requires : tie.Need-state-worth-requires
+state-worth-requires c κs =
+    let s = (c .before .before .before .before .before .before .before .before) in (
+      stands (s .args .bytes .now) (s .args .steps) (c .before .before .before .before .before .before .early .ensures) (c .before .before .before .before .if1 .left) _ _ _ _ _ _ (s .fits .l1) (s .fits .l2) (s .fits .l3) (s .fits .l4) (s .fits .d) (c .before .before .before .levels .ensures) (c .before .before .conditions .ensures) (c .before .accepted .ensures) (c .if2 .taken),
+      passed (s .args .bytes .now) (s .args .steps) (c .before .before .before .before .before .before .early .ensures) (c .before .before .before .before .if1 .left) .steps .1,
+    )
+
+answer-requires : tie.Need-answer-requires
+answer-requires c κs = search needs
+
+returns-3 : tie.Need-returns-3
+returns-3 c =
+    let s = (c .before .before .before .before .before .before .before .before .before .before) in
+    answered (s .args .bytes .now) (s .args .steps) (c .before .before .before .before .before .before .before .before .early .ensures) (c .before .before .before .before .before .before .if1 .left) _ _ _ _ _ _ (s .fits .l1) (s .fits .l2) (s .fits .l3) (s .fits .l4) (s .fits .d) (c .before .before .before .before .before .levels .ensures) (c .before .before .before .before .conditions .ensures) (c .before .before .before .accepted .ensures) (c .before .before .if2 .taken) (c .before .state-worth .ensures) (c .answer .ensures)
+
+pub worth-spec : {M : Type 1} → statement M
+worth-spec =
+    tie.close
+    (tie.spec
+    early-requires
+    refused-requires
+    returns
+    levels-requires
+    cast-m
+    conditions-requires
+    cast-n
+    accepted-requires
+    refused-requires-2
+    returns-2
+    state-worth-requires
+    answer-requires
+    returns-3)

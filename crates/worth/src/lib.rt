@@ -1,0 +1,112 @@
+// Plain working: the worth of a state, worked from the model's bytes without diagrams or tables.
+ghost use mathlib.Core.Path.{_≡_};
+ghost use Rattle.theory.specs.Value.{refused-value};
+ghost use Rattle.theory.specs.Plain.{plain-of, worth-out};
+ghost use Rattle.values.specs.Out.{out};
+ghost use Rattle.values.specs.State.{asked-by};
+ghost use Rattle.worth.specs.Totals.{total-of};
+use evaluate::Point;
+use values::Asked;
+use values::Value;
+use whole::Numerator;
+
+pub mod judging; // judging.rt: numbers kept within their limits
+pub mod sites; // sites.rt: the numbers of the model's site
+pub mod weighing; // weighing.rt: the weight of a setting
+pub mod moves; // moves.rt: the state after an action and a setting
+pub mod worths; // worths.rt: the worth of a state and of an action
+
+// A worth and the action that has it, or a number left its limits.
+pub enum Total {
+    Is(i64, u8),
+    Over,
+}
+
+// A next level's numerator, where it has 32 bits.
+pub enum Level {
+    Is(i32),
+    Over,
+}
+
+// A next state, where all its numerators have 32 bits.
+pub enum Next {
+    At(Point),
+    Over,
+}
+
+// The weights, out of W, that the conditions are yes next; 0 beyond condition n.
+pub struct Chances {
+    pub c1: u64,
+    pub c2: u64,
+    pub c3: u64,
+    pub c4: u64,
+}
+
+fn refused(number: u32, place: usize) -> Value
+    ensures { λ v. ⌜ out v ≡ refused-value number place ⌝ }
+{
+    Value {
+        number,
+        place,
+        action: 0,
+        numerator: Numerator { low: 0, high: 0 },
+    }
+}
+
+// The answer, or 11 at place 0.
+fn answer(t: Total) -> Value
+    ensures { λ v. ⌜ out v ≡ worth-out (total-of t) ⌝ }
+{
+    let Total::Is(z, a) = t else {
+        return refused(11, 0);
+    };
+    let x = judging::two_words(z);
+    Value {
+        number: 0,
+        place: 0,
+        action: a as u32,
+        numerator: x,
+    }
+}
+
+// "Order: 10, 9, the model by offset, .. 13, .. last 11": the worth of a state with some steps left, and the action that has it.
+pub fn worth(
+    bytes: &[u8],
+    steps: u32,
+    mask: u32,
+    l1: i32,
+    l2: i32,
+    l3: i32,
+    l4: i32,
+    d: i32,
+) -> Value
+    ensures { λ v. ⌜ out v ≡ plain-of (now (bytes .entry)) steps (asked-by mask l1 l2 l3 l4 d) ⌝ }
+{
+    let early = model::early(bytes, steps, 8);
+    if early.number != 0 {
+        return refused(early.number, early.place);
+    }
+    let m = sites::levels(bytes) as u32;
+    let n = sites::conditions(bytes) as u32;
+    let q = Asked {
+        mask,
+        n1: l1,
+        n2: l2,
+        n3: l3,
+        n4: l4,
+        d,
+    };
+    if values::states::accepted(m, n, q) {} else {
+        return refused(13, 0);
+    }
+    let x = Point {
+        mask,
+        setting: 0,
+        n1: l1,
+        n2: l2,
+        n3: l3,
+        n4: l4,
+        d,
+    };
+    answer(worths::state_worth(bytes, steps, x))
+}

@@ -1,0 +1,190 @@
+/* A host: solves a model file and says what to do in one state, and the whole plan.
+ *
+ *   sample_host MODEL HORIZON NODES MASK L1 L2 L3 L4 D
+ *
+ * prints the value and the action with HORIZON steps left, then the listing; a refusal as `R number place`.
+ */
+#define _POSIX_C_SOURCE 200809L
+
+#include "planner.h"
+
+#include <inttypes.h>
+#include <limits.h>
+#include <pthread.h>
+#include <stdio.h>
+#include <stdlib.h>
+#include <string.h>
+
+/* The longest line of a listing. */
+#define LINE_BYTES_MOST ((size_t)185)
+
+typedef struct plan {
+    uint8_t *model;
+    size_t model_len;
+    uint32_t horizon;
+    size_t capacity;
+    int64_t *nodes;
+    uint32_t stages[8];
+    uint32_t *work;
+    uint32_t number;
+    uint8_t out[PLANNER_SOLVE_BYTES];
+} plan;
+
+static void fail(const char *what)
+{
+    fprintf(stderr, "sample_host: %s\n", what);
+    exit(2);
+}
+
+static void *lent(size_t count, size_t size)
+{
+    void *space = calloc(count == 0 ? 1 : count, size);
+    if (space == NULL)
+        fail("out of memory");
+    return space;
+}
+
+/* A number of `count` bytes, low byte first. */
+static uint64_t number_at(const uint8_t *bytes, int count)
+{
+    uint64_t number = 0;
+    while (count-- > 0)
+        number = number << 8 | bytes[count];
+    return number;
+}
+
+static void refused(uint32_t number, const uint8_t *out)
+{
+    printf("R %" PRIu32 " %" PRIu64 "\n", number, number_at(out, 4));
+    exit(1);
+}
+
+/* One byte more than a model may have is read, so that a longer file is refused and not cut. */
+static void load(plan *p, const char *path)
+{
+    FILE *file = fopen(path, "rb");
+    if (file == NULL)
+        fail("cannot open the model");
+    p->model = lent(PLANNER_MODEL_BYTES_MOST + 1, 1);
+    p->model_len = fread(p->model, 1, PLANNER_MODEL_BYTES_MOST + 1, file);
+    if (ferror(file))
+        fail("cannot read the model");
+    fclose(file);
+}
+
+static void *solve_here(void *argument)
+{
+    plan *p = argument;
+    p->number = planner_solve(p->model, p->model_len, p->horizon, p->nodes, PLANNER_NODE_WORDS(p->capacity), p->stages,
+                              PLANNER_STAGE_WORDS, p->work, PLANNER_WORK_WORDS(p->capacity), p->out, sizeof p->out);
+    return NULL;
+}
+
+/* On a thread of its own, with the stack that so many nodes need. */
+static void solve(plan *p)
+{
+    pthread_attr_t attributes;
+    pthread_t thread;
+    p->nodes = lent(PLANNER_NODE_WORDS(p->capacity), sizeof *p->nodes);
+    p->work = lent(PLANNER_WORK_WORDS(p->capacity), sizeof *p->work);
+    if (pthread_attr_init(&attributes) != 0
+        || pthread_attr_setstacksize(&attributes, PLANNER_STACK_BYTES(p->capacity)) != 0
+        || pthread_create(&thread, &attributes, solve_here, p) != 0 || pthread_join(thread, NULL) != 0)
+        fail("cannot run a thread with the stack that solving needs");
+    pthread_attr_destroy(&attributes);
+    if (p->number != 0)
+        refused(p->number, p->out);
+    printf("solved, peak %" PRIu64 "\n", number_at(p->out + 4, 4));
+}
+
+/* A number in two 64-bit words, the high one signed, in decimal. */
+static void print_words(uint64_t low, uint64_t high)
+{
+    char digits[40];
+    size_t at = sizeof digits;
+    int negative = high >> 63 != 0;
+    if (negative) {
+        low = ~low + 1;
+        high = ~high + (low == 0);
+    }
+    uint32_t limbs[4] = {(uint32_t)(high >> 32), (uint32_t)high, (uint32_t)(low >> 32), (uint32_t)low};
+    digits[--at] = '\0';
+    do {
+        uint64_t rest = 0;
+        for (int i = 0; i < 4; i++) {
+            rest = rest << 32 | limbs[i];
+            limbs[i] = (uint32_t)(rest / 10);
+            rest %= 10;
+        }
+        digits[--at] = (char)('0' + rest);
+    } while ((limbs[0] | limbs[1] | limbs[2] | limbs[3]) != 0);
+    printf("%s%s", negative ? "-" : "", digits + at);
+}
+
+static void print_name(const plan *p, uint32_t action)
+{
+    uint8_t out[PLANNER_NAME_BYTES];
+    uint32_t number = planner_name(p->model, p->model_len, action, out, sizeof out);
+    if (number != 0)
+        refused(number, out);
+    int letters = (int)number_at(out + 4, 4);
+    printf("action %" PRIu32 "%s%.*s\n", action, letters == 0 ? "" : " ", letters, (const char *)out + 8);
+}
+
+static void print_value(const plan *p, uint32_t mask, const int32_t state[5])
+{
+    uint8_t out[PLANNER_VALUE_BYTES];
+    uint32_t number = planner_value(p->model, p->model_len, p->nodes, PLANNER_NODE_WORDS(p->capacity), p->stages,
+                                    PLANNER_STAGE_WORDS, p->horizon, mask, state[0], state[1], state[2], state[3],
+                                    state[4], out, sizeof out);
+    if (number != 0)
+        refused(number, out);
+    /* An accepted model begins with 01, m, n, A, W. */
+    printf("value ");
+    print_words(number_at(out + 8, 8), number_at(out + 16, 8));
+    printf(" / (%" PRId32 " * %d^%" PRIu32 ")\n", state[4], p->model[4], p->model[2] * p->horizon);
+    print_name(p, (uint32_t)number_at(out + 4, 4));
+}
+
+static void print_plan(const plan *p)
+{
+    uint8_t out[PLANNER_LISTING_BYTES];
+    size_t room = LINE_BYTES_MOST * (p->capacity + 1 + PLANNER_STAGE_WORDS);
+    uint8_t *text = lent(room, 1);
+    uint32_t number = planner_listing(p->model, p->model_len, p->horizon, p->nodes, PLANNER_NODE_WORDS(p->capacity),
+                                      p->stages, PLANNER_STAGE_WORDS, text, room, 0, out, sizeof out);
+    if (number != 0)
+        refused(number, out);
+    fwrite(text, 1, (size_t)number_at(out + 4, 4), stdout);
+    free(text);
+}
+
+static long long argument(const char *text, long long least, long long most)
+{
+    char *end;
+    long long number = strtoll(text, &end, 10);
+    if (end == text || *end != '\0' || number < least || number > most)
+        fail("an argument is not a number in range");
+    return number;
+}
+
+int main(int count, char **arguments)
+{
+    plan p;
+    int32_t state[5];
+    if (count != 10)
+        fail("usage: sample_host MODEL HORIZON NODES MASK L1 L2 L3 L4 D");
+    memset(&p, 0, sizeof p);
+    load(&p, arguments[1]);
+    p.horizon = (uint32_t)argument(arguments[2], 0, UINT32_MAX);
+    p.capacity = (size_t)argument(arguments[3], 0, PLANNER_NODES_MOST);
+    for (int i = 0; i < 5; i++)
+        state[i] = (int32_t)argument(arguments[5 + i], INT32_MIN, INT32_MAX);
+    solve(&p);
+    print_value(&p, (uint32_t)argument(arguments[4], 0, UINT32_MAX), state);
+    print_plan(&p);
+    free(p.model);
+    free(p.nodes);
+    free(p.work);
+    return 0;
+}
