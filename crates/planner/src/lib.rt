@@ -3,8 +3,10 @@ ghost use mathlib.Core.Path.{_≡_};
 ghost use Rattle.theory.specs.Verdict.{verdict};
 ghost use Rattle.theory.specs.Value.{value-of};
 ghost use Rattle.theory.specs.Listing.{listing as listing-of};
+ghost use Rattle.theory.specs.Plain.{plain-of};
+ghost use Rattle.theory.specs.Solve.{solve as solve-of};
 ghost use Rattle.values.specs.State.{asked-by};
-ghost use Rattle.planner.specs.Answers.{answered, value-answer, name-answer, listed, listing-answer};
+ghost use Rattle.planner.specs.Answers.{answered, value-answer, name-answer, listed, listing-answer, solved, solve-answer};
 
 pub mod answers; // answers.rt: an answer as bytes
 
@@ -82,5 +84,44 @@ pub extern "C" fn planner_listing(
     }
     let v = listing::listing(bytes, horizon, nodes, stages, text, place);
     answers::put_pair(out, v.place, v.size);
+    v.number
+}
+
+// Answer, 24 bytes, as planner_value's: plain working.
+#[no_mangle]
+pub extern "C" fn planner_worth(
+    bytes: &[u8],
+    steps: u32,
+    mask: u32,
+    l1: i32,
+    l2: i32,
+    l3: i32,
+    l4: i32,
+    d: i32,
+    out: &mut [u8],
+) -> u32
+    ensures { λ r. ⌜ answered r (now (out .exit)) ≡ value-answer (plain-of (now (bytes .entry)) steps (asked-by mask l1 l2 l3 l4 d)) (now (out .entry)) ⌝ }
+{
+    answers::value(out, worth::worth(bytes, steps, mask, l1, l2, l3, l4, d))
+}
+
+// Answer, 8 bytes: place, peak. Where `out` has no room for it nothing runs: the early refusals alone decide.
+#[no_mangle]
+pub extern "C" fn planner_solve(
+    bytes: &[u8],
+    horizon: u32,
+    nodes: &mut [i64],
+    stages: &mut [u32],
+    work: &mut [u32],
+    out: &mut [u8],
+) -> u32
+    ensures { λ r. ⌜ solved r (now (out .exit)) (now (nodes .exit)) (now (stages .exit)) (now (work .exit)) ≡ solve-answer (solve-of (now (bytes .entry)) horizon (now (nodes .entry)) (now (stages .entry)) (now (work .entry))) (now (nodes .entry)) (now (stages .entry)) (now (work .entry)) (now (out .entry)) ⌝ }
+{
+    if out.len() < 8 {
+        let early = model::early(bytes, horizon, stages.len());
+        return answers::short(early.number);
+    }
+    let v = solver::solve::solve(bytes, horizon, nodes, stages, work);
+    answers::put_pair(out, v.place, v.peak);
     v.number
 }
