@@ -10,32 +10,32 @@ use values::Asked;
 use values::Value;
 use whole::Numerator;
 
-pub mod judging; // judging.rt: numbers kept within their limits
-pub mod sites; // sites.rt: the numbers of the model's site
-pub mod weighing; // weighing.rt: the weight of a setting
-pub mod moves; // moves.rt: the state after an action and a setting
-pub mod worths; // worths.rt: the worth of a state and of an action
+mod judging; // judging.rt: numbers kept within their limits
+mod sites; // sites.rt: the numbers of the model's site
+mod weighing; // weighing.rt: the weight of a setting
+mod moves; // moves.rt: the state after an action and a setting
+mod worths; // worths.rt: the worth of a state and of an action
 
 // A worth and the action that has it, or a number left its limits.
-pub enum Total {
+enum Total {
     Is(i64, u8),
     Over,
 }
 
 // A next level's numerator, where it has 32 bits.
-pub enum Level {
+enum Level {
     Is(i32),
     Over,
 }
 
 // A next state, where all its numerators have 32 bits.
-pub enum Next {
+enum Next {
     At(Point),
     Over,
 }
 
 // The weights, out of W, that the conditions are yes next; 0 beyond condition n.
-pub struct Chances {
+struct Chances {
     pub c1: u64,
     pub c2: u64,
     pub c3: u64,

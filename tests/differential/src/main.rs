@@ -15,7 +15,8 @@ use std::time::Instant;
 
 const USAGE: &str = "differential random [COUNT [SEED]]      random models, tables, states, damage
 differential endurance [COUNT [SEED]]   the same tables for one model after another
-differential large                      the large models, with times";
+differential large                      the large models, with times
+differential speed                      the README's figures, library and second program in one run";
 
 /// What a call was made with, kept for the report of a difference.
 struct Calls {
@@ -326,6 +327,54 @@ fn large(calls: &mut Calls) {
     }
 }
 
+/// The least time of some runs, in microseconds.
+fn best<T>(runs: u32, mut job: impl FnMut() -> T) -> f64 {
+    let timed = |_| {
+        let start = Instant::now();
+        std::hint::black_box(job());
+        start.elapsed().as_secs_f64() * 1e6
+    };
+    (0..runs).map(timed).fold(f64::INFINITY, f64::min)
+}
+
+fn print_speed(what: &str, library: f64, reference: f64) {
+    println!("{what}: library {library:.2} µs, reference {reference:.2} µs, ratio {:.2}", library / reference);
+}
+
+/// Solves with tables of 65,535 nodes, then single reads of the pond at horizon 8.
+fn speed() {
+    let words = 8 * 65_535;
+    let mut tables = Tables { nodes: vec![0; words], stages: vec![0; 8], work: vec![0; words] };
+    let mut out = [0; 24];
+    for (name, model, horizon, runs) in [
+        ("near_limit, horizon 6", near_limit(), 6, 5),
+        ("staircases, horizon 1", staircases(), 1, 5),
+        ("deep, horizon 4", deep(), 4, 3),
+        ("rain, horizon 8", rain(), 8, 50),
+        ("pond, horizon 8", pond(), 8, 50),
+    ] {
+        let Tables { nodes, stages, work } = &mut tables;
+        let library = best(runs, || planner::solve(&model, horizon, nodes, stages, work, &mut out));
+        let reference = best(runs, || solve(&model, horizon, words, 8, words));
+        print_speed(&format!("solve {name}"), library, reference);
+    }
+    let (model, state) = (pond(), State { mask: 0, nums: [39, 0, 0, 0], d: 2 });
+    let Tables { nodes, stages, .. } = &tables;
+    // A read is shorter than the clock's step: a thousand at a time.
+    let thousand = |mut job: Box<dyn FnMut() + '_>| best(50, || (0..1_000).for_each(|_| job())) / 1_000.0;
+    let mut ours = [0; 24];
+    print_speed(
+        "value of the pond, its validation included",
+        thousand(Box::new(|| _ = planner::value(&model, nodes, stages, 8, state, &mut out))),
+        thousand(Box::new(|| _ = expected::valued(&model, nodes, stages, 8, state, &mut ours))),
+    );
+    print_speed(
+        "plain working of the pond, 4 steps",
+        best(50, || planner::worth(&model, 4, state, &mut out)),
+        best(50, || expected::worked(&model, 4, state, &mut ours)),
+    );
+}
+
 fn run(args: &[String]) {
     let number = |place: usize, otherwise: u64| args.get(place).map_or(Some(otherwise), |arg| arg.parse().ok());
     let (Some(mode), Some(count), Some(seed)) = (args.first(), number(1, 2_000), number(2, 1)) else {
@@ -337,6 +386,7 @@ fn run(args: &[String]) {
     let mut lent = Tables::full_of_anything(&mut Rng(seed), 8 * 2_000 + 3, 8, 8 * 2_000 + 5);
     match mode.as_str() {
         "large" => large(&mut calls),
+        "speed" => return speed(),
         "random" | "endurance" => {
             for round in 0..count {
                 // Each round has a seed of its own, so that one can be run again alone.
