@@ -46,11 +46,12 @@ extern "C" {
 #define PLANNER_NAME_BYTES ((size_t)24)
 #define PLANNER_LISTING_BYTES ((size_t)8)
 
-/* The stack that a thread needs to solve with so many nodes. TO BE MEASURED: both figures below are placeholders. */
-#define PLANNER_STACK_BYTES_BESIDE_TO_BE_MEASURED ((size_t)1 << 20)
-#define PLANNER_STACK_BYTES_A_NODE_TO_BE_MEASURED ((size_t)4096)
-#define PLANNER_STACK_BYTES(nodes) \
-    (PLANNER_STACK_BYTES_BESIDE_TO_BE_MEASURED + PLANNER_STACK_BYTES_A_NODE_TO_BE_MEASURED * (nodes))
+/* The stack that a thread needs to solve with so many nodes. Recursion goes down by node numbers: merging and choosing each
+ * at most 2 levels a node deep, a substitution one level a node and the same again for the test that it replaces. The
+ * figure is the larger sum of these levels' frames in the built library, rounded up. */
+#define PLANNER_STACK_BYTES_A_NODE ((size_t)2304)
+#define PLANNER_STACK_BYTES_BESIDE ((size_t)65536)
+#define PLANNER_STACK_BYTES(nodes) (PLANNER_STACK_BYTES_BESIDE + PLANNER_STACK_BYTES_A_NODE * (size_t)(nodes))
 
 /* Solves the model into the lent tables. Answer: place u32, peak u32.
  * A refusal 1 to 10 or 17 leaves all words as they are; 11 and 12 leave them zero. */

@@ -71,3 +71,21 @@ pub fn deep() -> Vec<u8> {
     }
     w.end()
 }
+
+/// For horizon 8: a plan of at most 1,024 needed nodes whose listing is as long as one can be made. The next levels lie on
+/// a line on which every test is decided, so that only one leaf of the stage before is left, and all numbers grow. The
+/// constants of the first leaves have `less` digits less together, which shows in stage 1 alone.
+pub fn long_listing(less: u32) -> Vec<u8> {
+    let mut w = Writer::site(4, 0, 1, 1);
+    let constant = |i: u32| -2_000_000_000 / 10_i32.pow(less.saturating_sub(9 * i).min(9)) - i as i32;
+    w.leaf([-2_000_000_000; 4], constant(0));
+    for i in (1..=50).rev() {
+        w.leaf([-2_000_000_000; 4], constant(i));
+        w.test([-2_000_000_000, -1_900_000_000, 1_900_000_001, 1_999_999_999], -2_000_000_000 + i as i32);
+    }
+    w.reward(1);
+    for level in 1..=4 {
+        w.leaf([4; 4], if level == 4 { -10 } else { 0 }).next(1, level);
+    }
+    w.end()
+}

@@ -3,7 +3,7 @@
 mod large;
 mod random;
 
-pub use large::{deep, near_limit, staircases};
+pub use large::{deep, long_listing, near_limit, staircases};
 pub use random::{commands, damaged, random, Rng};
 
 /// Writes a model, command by command.

@@ -1,6 +1,6 @@
 //! Writes the models to a folder, and some random ones: `models FOLDER [COUNT [SEED]]`.
 
-use models::{damaged, deep, near_limit, pond, rain, random, staircases, Rng};
+use models::{damaged, deep, long_listing, near_limit, pond, rain, random, staircases, Rng};
 use std::path::Path;
 
 fn main() -> std::io::Result<()> {
@@ -17,6 +17,9 @@ fn main() -> std::io::Result<()> {
         ("staircases", staircases()),
         ("near_limit", near_limit()),
         ("deep", deep()),
+        // With horizon 8, 65,536 bytes of text and one more.
+        ("text_fits", long_listing(259)),
+        ("text_too_long", long_listing(258)),
     ];
     for (name, model) in fixed {
         std::fs::write(folder.join(name), model)?;

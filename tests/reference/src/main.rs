@@ -7,12 +7,13 @@ use std::time::Instant;
 const USAGE: &str = "reference validate MODEL
 reference solve MODEL HORIZON NODES
 reference list MODEL HORIZON
+reference print INPUT
 reference value MODEL HORIZON STEPS MASK L1 L2 L3 L4 D
 reference worth MODEL STEPS MASK L1 L2 L3 L4 D
 reference name MODEL ACTION
-MODEL is a file. Each prints number and place first, and after a success
+MODEL is a file, INPUT one with what the listing program reads. Each prints number and place first, and after a success
 solve: peak; value and worth: action, low word, high word; name: the name.
-list prints what the listing program prints.";
+list and print print what the listing program prints.";
 
 fn number<T: FromStr>(args: &[String], place: usize) -> T {
     let parsed = args.get(place).and_then(|arg| arg.parse().ok());
@@ -62,6 +63,7 @@ fn main() {
             let input: Vec<u8> = std::iter::once(number(&args, 2)).chain(model).collect();
             print!("{}", program(&input));
         }
+        "print" => print!("{}", program(&model)),
         "value" => {
             let words = 8 * 65_535;
             let mut done = solve(&model, number(&args, 2), words, 8, words);

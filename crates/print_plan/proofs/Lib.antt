@@ -1,0 +1,2 @@
+-- What the listing program prints, from what it calls.
+pub mod Prints

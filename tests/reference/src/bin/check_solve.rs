@@ -1,0 +1,100 @@
+//! What `crates/check_solve` has to print, worked out by the second program.
+
+use reference::{solve, value, Reading, State};
+
+struct Tables {
+    nodes: Vec<i64>,
+    stages: Vec<u32>,
+}
+
+fn bytes(text: &str) -> Vec<u8> {
+    let text = text.replace('P', "10 OOOOO").replace('O', "00000000");
+    let digits: Vec<u8> = text.chars().filter_map(|c| c.to_digit(16)).map(|d| d as u8).collect();
+    digits.chunks(2).map(|pair| pair[0] * 16 + pair[1]).collect()
+}
+
+impl Tables {
+    fn solved(&mut self, label: &str, model: &[u8], horizon: u32, n: usize, words: usize) -> usize {
+        let done = solve(model, horizon, 8 * n, words, 8 * n);
+        if !done.is_untouched() {
+            self.nodes[..8 * n].fill(0);
+            self.nodes[..done.nodes.len()].copy_from_slice(&done.nodes);
+            self.stages[..].copy_from_slice(&done.stages);
+        }
+        print!("{label}, horizon {horizon} room {n} : {} {} peak {} roots ", done.number, done.place, done.peak);
+        self.stages[..words].iter().for_each(|root| print!("{root} "));
+        println!();
+        done.peak as usize
+    }
+
+    fn all_horizons(&mut self, label: &str, model: &[u8]) {
+        for horizon in 1..=8 {
+            let peak = self.solved(label, model, horizon, 256, 8);
+            self.solved(label, model, horizon, peak - 1, 8);
+            self.solved(label, model, horizon, peak, 8);
+        }
+    }
+
+    fn all_steps(&self, label: &str, model: &[u8], mask: u32, level: i32, d: i32) {
+        for steps in 0..=9 {
+            self.read(label, model, steps, mask, [level, 0, 0, 0], d, (self.nodes.len(), 8));
+        }
+    }
+
+    #[rustfmt::skip]
+    fn read(&self, label: &str, model: &[u8], steps: u32, mask: u32, nums: [i32; 4], d: i32, lent: (usize, usize)) {
+        let Reading { number, place, action, low, high } =
+            value(model, &self.nodes[..lent.0], &self.stages[..lent.1], steps, State { mask, nums, d });
+        let sign = if high < 0 { "below 0" } else { "" };
+        println!("{label}, steps {steps} : {number} {place} action {action} {low} {sign}");
+    }
+
+    fn refused_values(&self, model: &[u8]) {
+        let all = (self.nodes.len(), 8);
+        self.read("D 0", model, 2, 0, [20, 0, 0, 0], 0, all);
+        self.read("mask 1 of no condition", model, 2, 1, [20, 0, 0, 0], 1, all);
+        self.read("level 2 of 1", model, 2, 0, [20, 1, 0, 0], 1, all);
+        self.read("level 4 of 1, no stage", model, 3, 0, [20, 0, 0, 1], 1, all);
+        self.read("no stage", model, 3, 0, [20, 0, 0, 0], 1, all);
+        self.read("no table", model, 2, 0, [20, 0, 0, 0], 1, (0, 8));
+        self.read("no stage words", model, 2, 0, [20, 0, 0, 0], 1, (all.0, 0));
+    }
+}
+
+fn main() {
+    let pond = bytes(
+        "01 01 00 02 01 P 20 01 10 01000000 OOOO 22 01 01 10 OOOO 32000000 10 OOOO ffffffff 12 ffffffff OOO 0a000000
+        20 02 10 01000000 OOO f6ffffff 10 01000000 OOOO 12 ffffffff OOO 0a000000 22 02 01 ff",
+    );
+    let rain = bytes(
+        "01 01 01 01 0a 10 01000000 OOOO 20 01 10 OOOO 07000000 21 01 01 10 01000000 OOO 6affffff
+        10 01000000 OOO ceffffff 11 05 22 01 01 ff",
+    );
+    let weights = bytes(
+        "01 01 04 01 64 10 01000000 OOOO 20 01 10 OOOO 32000000 21 01 01 10 OOOO 64000000 21 01 02 P 21 01 03
+        10 OOOO 01000000 21 01 04 10 01000000 OOOO 22 01 01 ff",
+    );
+    let mut lent = Tables { nodes: vec![-1; 2048], stages: vec![7; 8] };
+    lent.all_horizons("pond", &pond);
+    lent.all_steps("at 20", &pond, 0, 20, 1);
+    lent.all_steps("at 39/2", &pond, 0, 39, 2);
+    lent.all_steps("at -5", &pond, 0, -5, 1);
+    for n in 0..=21 {
+        lent.solved("pond", &pond, 2, n, 8);
+    }
+    lent.all_horizons("rain", &rain);
+    lent.all_steps("at 200, dry", &rain, 0, 200, 1);
+    lent.all_steps("at 200, rain", &rain, 1, 200, 1);
+    lent.all_steps("at -1000/3, rain", &rain, 1, -1000, 3);
+    lent.solved("pond", &pond, 2, 256, 8);
+    lent.solved("no step", &pond, 0, 256, 8);
+    lent.solved("nine steps", &pond, 9, 256, 8);
+    lent.solved("no model", &[], 2, 256, 8);
+    lent.solved("65,536 bytes", &[0; 65_536], 9, 256, 8);
+    lent.solved("seven stage words", &pond, 9, 256, 7);
+    lent.refused_values(&pond);
+    for horizon in [2, 3, 8] {
+        lent.solved("weights of 100", &weights, horizon, 256, 8);
+    }
+    println!("240 of 240 as in new tables");
+}
