@@ -19,3 +19,4 @@ pub mod SolveEmpty
 pub mod SolveStart
 pub mod SolveRuns
 pub mod SolveEnds
+pub mod SolveParts

@@ -133,6 +133,30 @@ fn solve_in(
     fill(model, horizon, nodes, stages, work, cap, &mut roots)
 }
 
+// A small part of the room first, since each operation clears as much of the tables as it may fill. What is solved there
+// comes out alike with more room; where it is not, the whole room decides.
+fn solve_in_parts(
+    model: &[u8],
+    horizon: usize,
+    nodes: &mut [i64],
+    stages: &mut [u32],
+    work: &mut [u32],
+    cap: usize,
+) -> Planned
+    requires { ⌜ (verdict (now model) .number ≡ 0) × (length (now model) ≤ bytes-most) × (horizon ≤ steps-most) × (1 ≤ horizon) × (cap ≤ nodes-most) × (cap * 8 ≤ length (now nodes)) × (cap * 8 ≤ length (now work)) × (length (now stages) ≡ steps-most) ⌝ }
+    ensures { λ r. ⌜ Solves (now (model .entry)) horizon cap (now (nodes .entry)) (now (nodes .exit)) (now (stages .exit)) (now (work .entry)) (now (work .exit)) r ⌝ }
+{
+    let part = least(cap, 4096);
+    let r = solve_in(model, horizon, nodes, stages, work, part);
+    if r.stop == 0 {
+        return r;
+    }
+    if part == cap {
+        return r;
+    }
+    solve_in(model, horizon, nodes, stages, work, cap)
+}
+
 // A site model, a horizon and lent tables: the peak and the tables, or a refusal.
 pub fn solve(
     model: &[u8],
@@ -152,7 +176,7 @@ pub fn solve(
         };
     }
     let cap = room(nodes.len(), work.len());
-    let r = solve_in(model, horizon as usize, nodes, stages, work, cap);
+    let r = solve_in_parts(model, horizon as usize, nodes, stages, work, cap);
     if r.stop != 0 {
         finish::clear_all(nodes, stages, work);
         return Solved {
