@@ -147,12 +147,12 @@ fn solve_in_parts(
     ensures { λ r. ⌜ Solves (now (model .entry)) horizon cap (now (nodes .entry)) (now (nodes .exit)) (now (stages .exit)) (now (work .entry)) (now (work .exit)) r ⌝ }
 {
     let part = least(cap, 4096);
-    let r = solve_in(model, horizon, nodes, stages, work, part);
-    if r.stop == 0 {
-        return r;
+    let tried = solve_in(model, horizon, nodes, stages, work, part);
+    if tried.stop == 0 {
+        return tried;
     }
     if part == cap {
-        return r;
+        return tried;
     }
     solve_in(model, horizon, nodes, stages, work, cap)
 }
