@@ -22,7 +22,7 @@ pub fn advise(
 ) -> Value
     ensures { λ v. ⌜ Advises (now (model .entry)) horizon (now (nodes .entry)) (now (stages .entry)) (now (work .entry)) steps (asked-by mask l1 l2 l3 l4 d) (now (nodes .exit)) (now (stages .exit)) (now (work .exit)) (out v) ⌝ }
 {
-    let s = solver::solve::solve(model, horizon, nodes, stages, work);
+    let s = solver::solve(model, horizon, nodes, stages, work);
     if s.number != 0 {
         return Value {
             number: s.number,

@@ -2,7 +2,7 @@
 // refusal, and the same tables lent again and again.
 use libc::STDOUT_FILENO;
 use solver::Solved;
-use solver::solve::solve;
+use solver::solve;
 use values::Value;
 use values::reading::value;
 

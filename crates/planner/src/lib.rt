@@ -121,7 +121,7 @@ pub extern "C" fn planner_solve(
         let early = model::early(bytes, horizon, stages.len());
         return answers::short(early.number);
     }
-    let v = solver::solve::solve(bytes, horizon, nodes, stages, work);
+    let v = solver::solve(bytes, horizon, nodes, stages, work);
     answers::put_pair(out, v.place, v.peak);
     v.number
 }

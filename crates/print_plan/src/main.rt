@@ -7,7 +7,7 @@ ghost use Rattle.theory.specs.Listing.{refusal-line};
 ghost use Rattle.print_plan.specs.Printed.{printed};
 use libc::STDIN_FILENO;
 use libc::STDOUT_FILENO;
-use solver::solve::solve;
+use solver::solve;
 
 // "A refusal prints `R number place`."
 fn refusal(text: &mut [u8], number: u32, place: usize) -> usize

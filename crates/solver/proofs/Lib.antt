@@ -1,22 +1,6 @@
 -- Laws that the proofs cite.
-
--- one operation
-pub mod OperateRoots
-pub mod OperateRules
-pub mod OperateDone
--- an action's total
-pub mod TotalsModel
-pub mod TotalsRoots
-pub mod TotalsSum
-pub mod TotalsWhole
--- actions and stages
-pub mod StagesHeld
-pub mod StagesBetter
-pub mod StagesOthers
-pub mod StagesAll
--- solving
-pub mod SolveEmpty
-pub mod SolveStart
-pub mod SolveRuns
-pub mod SolveEnds
-pub mod SolveParts
+pub mod Empty
+pub mod Start
+pub mod Runs
+pub mod Ends
+pub mod Parts

@@ -1,4 +1,2 @@
--- Operations, totals and stages on a table with its roots; what solving leaves.
-pub mod Operation
-pub mod Planning
+-- What solving leaves.
 pub mod Solving

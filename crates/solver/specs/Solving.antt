@@ -11,9 +11,9 @@ use Rattle.theory.specs.Solve.{solve-in, solved-nodes, solved-stages, SolveOut}
 use Rattle.diagrams.specs.Nodes.{trees}
 use Rattle.mark.specs.Mark.{rootsOf}
 use Rattle.solving.specs.Onward.{answered}
-use Rattle.solver.specs.Operation.{Standing}
-use Rattle.solver.specs.Planning.{modelSize}
-use Rattle.solver.specs.declared.Planned.{Planned}
+use Rattle.staging.specs.Operation.{Standing}
+use Rattle.staging.specs.Planning.{modelSize}
+use Rattle.staging.specs.declared.Planned.{Planned}
 use Rattle.solver.specs.declared.Solved.{Solved}
 
 -- what document 01 says of a solve

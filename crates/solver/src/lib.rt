@@ -1,36 +1,199 @@
-// Solving: the model loaded, the operations of each stage in order, and the tables that are left.
-pub mod operate; // operate.rt: one operation: collect, then its rule
-pub mod totals; // totals.rt: an action's total
-pub mod stages; // stages.rt: the actions of a stage, and the stages
-pub mod solve; // solve.rt: the public entry
-
-// What an operation computes, of roots by their places: w, f and g are places, as `at` is the first of m next levels.
-pub enum Rule {
-    Zero,
-    Levels(usize, usize, usize),
-    Expect(usize, usize, usize, u32),
-    Reward(usize, usize, u32, u32, usize),
-    Best(usize, usize),
-}
-
-// What stopped a run, or 0; how many nodes the table has; the largest count at an operation's end.
-pub struct Run {
-    pub stop: usize,
-    pub count: usize,
-    pub peak: usize,
-}
-
-// The same with the place of the stop: a stage, 0 while loading.
-pub struct Planned {
-    pub stop: usize,
-    pub place: usize,
-    pub count: usize,
-    pub peak: usize,
-}
+// "solve": refused early with all untouched, or run to the tables of the stages, or refused on the way with all zero.
+ghost use mathlib.Core.Path.{_≡_};
+ghost use Prim.Native.Nat.{_*_, _≤_, _<_, min};
+ghost use lib.ListN.{length};
+ghost use Rattle.theory.specs.Widths.{bytes-most, steps-most, nodes-most};
+ghost use Rattle.theory.specs.Verdict.{verdict};
+ghost use Rattle.theory.specs.Solve.{room as room-of};
+ghost use Rattle.theory.specs.Solve.{solve as solve-of};
+ghost use Rattle.theory.specs.Solve.{early};
+ghost use Rattle.diagrams.specs.Table.{Table};
+ghost use Rattle.solver.specs.Solving.{outcome, Room, Plans, Solves};
+ghost use Rattle.staging.specs.Planning.{modelSize};
+ghost use Rattle.commands_choice.specs.Testing.{loadRule};
+use staging::Planned;
+use staging::Rule;
+use staging::Run;
+use staging::operate::operate;
+use staging::stages::stages;
 
 // A refusal's number and place, both 0 where there is none; then the peak.
 pub struct Solved {
     pub number: u32,
     pub place: usize,
     pub peak: usize,
+}
+
+fn least(a: usize, b: usize) -> usize
+    ensures { λ r. ⌜ r ≡ min a b ⌝ }
+{
+    if a < b { a } else { b }
+}
+
+// "the least of node words ÷ 8, work words ÷ 8 and 65,535"
+fn room(nodes: usize, work: usize) -> usize
+    ensures { λ r. ⌜ r ≡ room-of nodes work ⌝ }
+{
+    least(nodes / 8, least(work / 8, 65535))
+}
+
+// How many roots the model's diagrams have.
+fn model_size(model: &[u8]) -> usize
+    ensures { λ r. ⌜ (r ≡ modelSize (now (model .entry))) × (r < 131072) ⌝ }
+{
+    let m = command::byte_at(model, 1) as usize;
+    let n = command::byte_at(model, 2) as usize;
+    let a = command::byte_at(model, 3) as usize;
+    a * (1 + n + m)
+}
+
+// The model loaded and the stages run, in a table without nodes: the stages' roots stand from one behind the model's on.
+fn run_stages(
+    model: &[u8],
+    horizon: usize,
+    nodes: &mut [i64],
+    work: &mut [u32],
+    cap: usize,
+    roots: &mut [u32],
+    first: usize,
+) -> Planned
+    requires { ⌜ (verdict (now model) .number ≡ 0) × (length (now model) ≤ bytes-most) × (horizon ≤ steps-most) × Table (loadRule (now model)) cap (now nodes) (now work) 0 × (length (now roots) ≡ 96) × (first ≡ modelSize (now model)) ⌝ }
+    ensures { λ r. ⌜ Plans (now (model .entry)) horizon cap (now (nodes .exit)) (now (work .exit)) (now (roots .exit)) r ⌝ }
+{
+    let loaded = loading::load(model, nodes, work, cap, roots);
+    if loaded.stop != 0 {
+        return Planned {
+            stop: loaded.stop,
+            place: 0,
+            count: 0,
+            peak: 0,
+        };
+    }
+    let start = Run {
+        stop: 0,
+        count: loaded.count,
+        peak: loaded.count,
+    };
+    let zero = operate(nodes, work, cap, start, roots, first, first, Rule::Zero);
+    if zero.stop != 0 {
+        return Planned {
+            stop: zero.stop,
+            place: 1,
+            count: 0,
+            peak: 0,
+        };
+    }
+    stages(model, horizon, nodes, work, cap, zero, roots, first + 1)
+}
+
+// All of it with the roots of the run: the tables of the stages where it is solved, whatever words else.
+fn fill(
+    model: &[u8],
+    horizon: usize,
+    nodes: &mut [i64],
+    stages: &mut [u32],
+    work: &mut [u32],
+    cap: usize,
+    roots: &mut [u32],
+) -> Planned
+    requires { ⌜ (verdict (now model) .number ≡ 0) × (length (now model) ≤ bytes-most) × (horizon ≤ steps-most) × (1 ≤ horizon) × Room cap (now nodes) (now work) × (length (now stages) ≡ steps-most) × (length (now roots) ≡ 96) ⌝ }
+    ensures { λ r. ⌜ Solves (now (model .entry)) horizon cap (now (nodes .entry)) (now (nodes .exit)) (now (stages .exit)) (now (work .entry)) (now (work .exit)) r ⌝ }
+{
+    finish::zeros::words_from(work, 0);
+    let first = model_size(model);
+    let r = run_stages(model, horizon, nodes, work, cap, roots, first);
+    if r.stop == 0 {
+        finish::finish(
+            nodes,
+            work,
+            cap,
+            r.count,
+            &roots[first + 1..first + 1 + horizon],
+            stages,
+        );
+    }
+    r
+}
+
+// With room for cap nodes. Without any, the first leaf that loading makes has none.
+fn solve_in(
+    model: &[u8],
+    horizon: usize,
+    nodes: &mut [i64],
+    stages: &mut [u32],
+    work: &mut [u32],
+    cap: usize,
+) -> Planned
+    requires { ⌜ (verdict (now model) .number ≡ 0) × (length (now model) ≤ bytes-most) × (horizon ≤ steps-most) × (1 ≤ horizon) × (cap ≤ nodes-most) × (cap * 8 ≤ length (now nodes)) × (cap * 8 ≤ length (now work)) × (length (now stages) ≡ steps-most) ⌝ }
+    ensures { λ r. ⌜ Solves (now (model .entry)) horizon cap (now (nodes .entry)) (now (nodes .exit)) (now (stages .exit)) (now (work .entry)) (now (work .exit)) r ⌝ }
+{
+    if cap == 0 {
+        return Planned {
+            stop: 12,
+            place: 0,
+            count: 0,
+            peak: 0,
+        };
+    }
+    let mut roots = [0u32; 96];
+    fill(model, horizon, nodes, stages, work, cap, &mut roots)
+}
+
+// A small part of the room first, since each operation clears as much of the tables as it may fill. What is solved there
+// comes out alike with more room; where it is not, the whole room decides.
+fn solve_in_parts(
+    model: &[u8],
+    horizon: usize,
+    nodes: &mut [i64],
+    stages: &mut [u32],
+    work: &mut [u32],
+    cap: usize,
+) -> Planned
+    requires { ⌜ (verdict (now model) .number ≡ 0) × (length (now model) ≤ bytes-most) × (horizon ≤ steps-most) × (1 ≤ horizon) × (cap ≤ nodes-most) × (cap * 8 ≤ length (now nodes)) × (cap * 8 ≤ length (now work)) × (length (now stages) ≡ steps-most) ⌝ }
+    ensures { λ r. ⌜ Solves (now (model .entry)) horizon cap (now (nodes .entry)) (now (nodes .exit)) (now (stages .exit)) (now (work .entry)) (now (work .exit)) r ⌝ }
+{
+    let part = least(cap, 4096);
+    let tried = solve_in(model, horizon, nodes, stages, work, part);
+    if tried.stop == 0 {
+        return tried;
+    }
+    if part == cap {
+        return tried;
+    }
+    solve_in(model, horizon, nodes, stages, work, cap)
+}
+
+// A site model, a horizon and lent tables: the peak and the tables, or a refusal.
+pub fn solve(
+    model: &[u8],
+    horizon: u32,
+    nodes: &mut [i64],
+    stages: &mut [u32],
+    work: &mut [u32],
+) -> Solved
+    ensures { λ r. ⌜ outcome r (now (nodes .exit)) (now (stages .exit)) (now (work .exit)) ≡ solve-of (now (model .entry)) horizon (now (nodes .entry)) (now (stages .entry)) (now (work .entry)) ⌝ }
+{
+    let v = model::early(model, horizon, stages.len());
+    if v.number != 0 {
+        return Solved {
+            number: v.number,
+            place: v.place,
+            peak: 0,
+        };
+    }
+    let cap = room(nodes.len(), work.len());
+    let r = solve_in_parts(model, horizon as usize, nodes, stages, work, cap);
+    if r.stop != 0 {
+        finish::clear_all(nodes, stages, work);
+        return Solved {
+            number: r.stop as u32,
+            place: r.place,
+            peak: 0,
+        };
+    }
+    Solved {
+        number: 0,
+        place: 0,
+        peak: r.peak,
+    }
 }

@@ -6,7 +6,7 @@ use Rattle.advice.proofs.advise.Statement.{statement}
 use Rattle.advice.proofs.advise.Tie as tie
 use Rattle.advice.proofs.advise.Reads as reads
 use Rattle.advice.proofs.advise.Lts as lts
-use Rattle.solver.proofs.solve.solve.Reads as solve-reads
+use Rattle.solver.proofs.solve.Reads as solve-reads
 use Rattle.values.proofs.reading.value.Reads as value-reads
 
 -- src/lib.rt:37:9

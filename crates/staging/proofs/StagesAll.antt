@@ -1,0 +1,162 @@
+-- The stages up to a horizon: each one's root stands behind the model's, stage 0's and those before it.
+use mathlib.Core.Path.{_≡_, refl, sym, ap, ap₂, _∙_, subst}
+use mathlib.Core.List.{List, [], _∷_, _++_, append-assoc}
+use Prim.Native.Nat.{ℕ, suc, _+_, _-_, _≤_, _<_}
+use native.Mathlib.Numerals.{add-one}
+use native.Mathlib.Omega.{arith}
+use lib.IntN.{ℤ}
+use lib.ListN.{length, getD, take, drop, length-append}
+use lib.Seq.{length-take-le, take-all, take-add, drop-at, getD-at}
+use Rattle.theory.specs.Diagram.{Tree}
+use Rattle.theory.specs.Computation.{solved, run-all}
+use Rattle.theory.specs.Load.{model}
+use Rattle.theory.specs.Stage.{model-diagrams, stage-over, stages-on}
+use Rattle.diagrams.specs.Nodes.{none, trees}
+use Rattle.mark.specs.Mark.{rootsOf}
+use Rattle.solving.specs.Alike.{Alike, alike-trans, alike-eq, alike-turn}
+use Rattle.solving.specs.Onward.{answered, answered-ok, answered-no}
+use Rattle.solving.specs.Roots.{roots-length, roots-append}
+use Rattle.solving.specs.Steps.{behind, behind-none, stages-done}
+use Rattle.solving.specs.Loops.{stage-done, stage-refused}
+use Rattle.staging.specs.Operation.{heldTrees, Standing}
+use Rattle.staging.specs.Planning.{modelSize, Ready, rootAt, Ran, Staged}
+use Rattle.staging.specs.declared.Run.{Run}
+use Rattle.staging.proofs.StagesHeld.{held-length, held-more, held-take, ready-next}
+use Rattle.staging.proofs.StagesBetter.{alike-front}
+
+-- the model's diagrams are as many as its roots
+model-length : {B : List ℕ} {cap : ℕ} {l : List ℤ} {w : List ℕ} {n : ℕ} {R : List ℕ} {held : ℕ} → Ready B cap l w n R held → length (model-diagrams (model B)) ≡ modelSize B
+model-length {B} {l = l} {n = n} {R = R} {held = held} D =
+    let e = held-length l n R held (D .standing .few) in
+    let f = D .first in
+    ap length (sym (D .models)) ∙ length-take-le (modelSize B) (heldTrees l n R held) (omega arith)
+
+-- stages 1 to h are there, Z stage 0
+pub record Staging (B : List ℕ) (cap H : ℕ) (l₀ : List ℤ) (R₀ : List ℕ) (held : ℕ) (r₀ : Run) (l : List ℤ) (w R : List ℕ) (r : Run) (h : ℕ) : Type 0 where
+  pub stages : List Tree
+  pub finished : List Tree
+  pub before : Tree
+  pub ok : r .stop ≡ 0
+  pub high : h ≤ H
+  pub place : held ≡ modelSize B + 1
+  pub ready : Ready B cap l w (r .count) R (held + h)
+  pub roots : heldTrees l (r .count) R (held + h) ≡ model-diagrams (model B) ++ (rootAt l₀ (r₀ .count) R₀ (modelSize B) ∷ stages)
+  pub alike : Alike (model-diagrams (model B) ++ (rootAt l₀ (r₀ .count) R₀ (modelSize B) ∷ stages)) (finished ++ model-diagrams (model B))
+  pub last : getD (heldTrees l (r .count) R (held + h)) (held + h - 1) none ≡ before
+  pub left : run-all cap (r₀ .peak) (stages-on (model B) H 1 (rootAt l₀ (r₀ .count) R₀ (modelSize B) ∷ []) (rootAt l₀ (r₀ .count) R₀ (modelSize B)))
+      ≡ behind stages (run-all cap (r .peak) (stages-on (model B) (H - h) (suc h) finished before))
+
+-- stage 0 is the last root that is held
+module _ {B : List ℕ} {cap : ℕ} (H : ℕ) {l : List ℤ} {w R : List ℕ} {held : ℕ} (r : Run) (D : Ready B cap l w (r .count) R held) (e : held ≡ modelSize B + 1) where
+  few : modelSize B < length R
+  few = let z = D .standing .few in omega arith
+
+  models : heldTrees l (r .count) R (modelSize B) ≡ model-diagrams (model B)
+  models =
+      let z : length (heldTrees l (r .count) R (modelSize B)) ≡ modelSize B = held-length l (r .count) R (modelSize B) (let q = few in omega arith) in
+      sym (take-all (modelSize B) (heldTrees l (r .count) R (modelSize B)) (omega arith))
+      ∙ (sym (held-take l (r .count) R (modelSize B) (modelSize B) few (omega arith))
+      ∙ (ap (λ (k : ℕ). take (modelSize B) (heldTrees l (r .count) R k)) (sym e) ∙ D .models))
+
+  zeroth : heldTrees l (r .count) R (held + 0) ≡ model-diagrams (model B) ++ (rootAt l (r .count) R (modelSize B) ∷ [])
+  zeroth =
+      ap (λ (k : ℕ). heldTrees l (r .count) R k) (let z : held + 0 ≡ modelSize B + 1 = omega arith in z)
+      ∙ (held-more l (r .count) R (modelSize B) few ∙ ap (λ (X : List Tree). X ++ (rootAt l (r .count) R (modelSize B) ∷ [])) models)
+
+  pub staging-starts : r .stop ≡ 0 → Staging B cap H l R held r l w R r 0
+  staging-starts ok =
+      let Z = rootAt l (r .count) R (modelSize B) in
+      record {
+        stages = [];
+        finished = Z ∷ [];
+        before = Z;
+        ok = ok;
+        high = omega arith;
+        place = e;
+        ready = subst (Ready B cap l w (r .count) R) (let z : held ≡ held + 0 = omega arith in z) D;
+        roots = zeroth;
+        alike = alike-turn (model-diagrams (model B)) (Z ∷ []);
+        last = ap (λ (X : List Tree). getD X (held + 0 - 1) none) zeroth ∙ getD-at (model-diagrams (model B)) Z [] none (held + 0 - 1) (model-length D ∙ (let z : modelSize B ≡ held + 0 - 1 = omega arith in z));
+        left = sym (behind-none (run-all cap (r .peak) (stages-on (model B) H 1 (Z ∷ []) Z)))
+            ∙ ap (λ (k : ℕ). behind [] (run-all cap (r .peak) (stages-on (model B) k 1 (Z ∷ []) Z))) (let z : H ≡ H - 0 = omega arith in z);
+      }
+
+module _ {B : List ℕ} {cap H : ℕ} {l₀ : List ℤ} {R₀ : List ℕ} {held : ℕ} {r₀ : Run} {l : List ℤ} {w R : List ℕ} {r : Run} {h : ℕ} (Y : Staging B cap H l₀ R₀ held r₀ l w R r h) where
+  -- the next stage
+  module _ (q : h < H) {l′ : List ℤ} {w′ R′ : List ℕ} {r′ : Run}
+      (T : Ran cap (r .peak) l (r .count) R (held + h) (h + 1) (λ K. stage-over (model B) (h + 1) K (getD (heldTrees l (r .count) R (held + h)) (held + h - 1) none)) l′ w′ R′ r′) where
+    step : run-all cap (r .peak) (stage-over (model B) (suc h) (Y .finished ++ model-diagrams (model B)) (Y .before)) ≡ answered (r′ .stop) (h + 1) (rootAt l′ (r′ .count) R′ (held + h)) (r′ .peak)
+    step =
+        ap₂ (λ (i : ℕ) (P : Tree). run-all cap (r .peak) (stage-over (model B) i (Y .finished ++ model-diagrams (model B)) P)) (sym (add-one h)) (sym (Y .last))
+        ∙ T .outcome (Y .finished ++ model-diagrams (model B)) (alike-trans (alike-eq (Y .roots)) (Y .alike))
+
+    more : run-all cap (r₀ .peak) (stages-on (model B) H 1 (rootAt l₀ (r₀ .count) R₀ (modelSize B) ∷ []) (rootAt l₀ (r₀ .count) R₀ (modelSize B)))
+        ≡ behind (Y .stages) (run-all cap (r .peak) (stages-on (model B) (suc (H - (h + 1))) (suc h) (Y .finished) (Y .before)))
+    more = Y .left ∙ ap (λ (k : ℕ). behind (Y .stages) (run-all cap (r .peak) (stages-on (model B) k (suc h) (Y .finished) (Y .before)))) (let z : H - h ≡ suc (H - (h + 1)) = omega arith in z)
+
+    pub staging-stops : (r′ .stop ≡ 0 → ⊥) → Staged B cap (r₀ .peak) H l₀ (r₀ .count) R₀ l′ w′ R′ (record { stop = r′ .stop; place = h + 1; count = r′ .count; peak = r′ .peak })
+    staging-stops off = record {
+      outcome = more
+          ∙ (stage-refused (model B) cap (r .peak) (suc h) (Y .finished) (Y .before) (Y .stages) (H - (h + 1)) (step ∙ answered-no (r′ .stop) (h + 1) (rootAt l′ (r′ .count) R′ (held + h)) (r′ .peak) off)
+          ∙ sym (answered-no (r′ .stop) (h + 1) (rootsOf (trees l′ (r′ .count)) (take H (drop (suc (modelSize B)) R′))) (r′ .peak) off));
+      standing = λ ok. absurd (off ok);
+    }
+
+    module _ (ok : r′ .stop ≡ 0) (few : held + h < length R′) where
+      grown : heldTrees l′ (r′ .count) R′ (held + (h + 1)) ≡ heldTrees l (r .count) R (held + h) ++ (rootAt l′ (r′ .count) R′ (held + h) ∷ [])
+      grown = ap (λ (k : ℕ). heldTrees l′ (r′ .count) R′ k) (let z : held + (h + 1) ≡ suc (held + h) = omega arith in z) ∙ T .rooted ok .roots
+
+      pub staging-on : Staging B cap H l₀ R₀ held r₀ l′ w′ R′ r′ (h + 1)
+      staging-on =
+          let S = rootAt l′ (r′ .count) R′ (held + h) in
+          let Z = rootAt l₀ (r₀ .count) R₀ (modelSize B) in
+          let Q = heldTrees l (r .count) R (held + h) in
+          let D = Y .ready in
+          let long : length Q ≡ held + h = held-length l (r .count) R (held + h) (D .standing .few) in
+          let assoc = append-assoc (model-diagrams (model B)) (Z ∷ Y .stages) (S ∷ []) in
+          record {
+            stages = Y .stages ++ (S ∷ []);
+            finished = S ∷ Y .finished;
+            before = S;
+            ok = ok;
+            high = omega arith;
+            place = Y .place;
+            ready = subst (Ready B cap l′ w′ (r′ .count) R′) (let z : held + h + 1 ≡ held + (h + 1) = omega arith in z) (ready-next Q S D (D .models) (D .first) long (T .rooted ok) few);
+            roots = grown ∙ (ap (λ (X : List Tree). X ++ (S ∷ [])) (Y .roots) ∙ assoc);
+            alike = alike-trans (alike-eq (sym assoc)) (alike-front S (Y .alike));
+            last = ap (λ (X : List Tree). getD X (held + (h + 1) - 1) none) grown ∙ getD-at Q S [] none (held + (h + 1) - 1) (long ∙ (let z : held + h ≡ held + (h + 1) - 1 = omega arith in z));
+            left = more
+                ∙ (stage-done (model B) cap (r .peak) (suc h) (Y .finished) (Y .before) (Y .stages) (H - (h + 1)) (step ∙ answered-ok (r′ .stop) (h + 1) S (r′ .peak) ok)
+                ∙ ap (λ (i : ℕ). behind (Y .stages ++ (S ∷ [])) (run-all cap (r′ .peak) (stages-on (model B) (H - (h + 1)) (suc i) (S ∷ Y .finished) S))) (sym (add-one h)));
+          }
+
+  -- none is left
+  module _ (q : h < H → ⊥) where
+    all : held + h ≡ suc (modelSize B) + H
+    all = let p = Y .place in let z = Y .high in omega arith
+
+    -- the roots behind stage 0's are the stages
+    behind-zero : rootsOf (trees l (r .count)) (take H (drop (suc (modelSize B)) R)) ≡ Y .stages
+    behind-zero =
+        let X = trees l (r .count) in
+        let m = suc (modelSize B) in
+        let M = model-diagrams (model B) in
+        let Z = rootAt l₀ (r₀ .count) R₀ (modelSize B) in
+        let p = rootsOf X (take m R) in
+        let few = Y .ready .standing .few in
+        let size = model-length (Y .ready) in
+        let e : rootsOf X (take m R) ++ rootsOf X (take H (drop m R)) ≡ (M ++ (Z ∷ [])) ++ Y .stages =
+        sym (roots-append X (take m R) (take H (drop m R))) ∙ (ap (rootsOf X) (sym (take-add m H R)) ∙ (ap (λ (k : ℕ). heldTrees l (r .count) R k) (sym all) ∙ (Y .roots ∙ sym (append-assoc M (Z ∷ []) (Y .stages))))) in
+        sym (drop-at p (rootsOf X (take H (drop m R))) m (roots-length X (take m R) ∙ length-take-le m R (omega (arith, all))))
+        ∙ (ap (drop m) e ∙ drop-at (M ++ (Z ∷ [])) (Y .stages) m (length-append M (Z ∷ []) ∙ (ap (λ (k : ℕ). k + 1) size ∙ add-one (modelSize B))))
+
+    pub staging-ends : Staged B cap (r₀ .peak) H l₀ (r₀ .count) R₀ l w R (record { stop = 0; place = 0; count = r .count; peak = r .peak })
+    staging-ends =
+        let L = rootsOf (trees l (r .count)) (take H (drop (suc (modelSize B)) R)) in
+        record {
+          outcome = Y .left
+              ∙ (ap (λ (k : ℕ). behind (Y .stages) (run-all cap (r .peak) (stages-on (model B) k (suc h) (Y .finished) (Y .before)))) (let z : H - h ≡ 0 = omega arith in z)
+              ∙ (stages-done (model B) cap (r .peak) (suc h) (Y .finished) (Y .before) (Y .stages)
+              ∙ (ap (λ (X : List Tree). solved X (r .peak)) (sym behind-zero) ∙ sym (answered-ok 0 0 L (r .peak) refl))));
+          standing = λ ok. subst (Standing cap l w (r .count) R) all (Y .ready .standing);
+        }

@@ -1,0 +1,104 @@
+-- An action's total, then the better of it and the best so far.
+use mathlib.Core.Path.{_≡_, sym, ap, ap₂, _∙_, subst}
+use mathlib.Core.List.{List, [], _∷_, _++_}
+use Prim.Native.Nat.{ℕ, suc, _+_, _≤_, _<_, max}
+use native.Mathlib.Omega.{arith}
+use lib.IntN.{ℤ}
+use lib.ListN.{length, getD, take, length-append, List·getD-append}
+use lib.Seq.{take-at, take-append-le, getD-at}
+use Rattle.theory.specs.Diagram.{Tree}
+use Rattle.theory.specs.Computation.{Comp, end, operation, solved, run-all}
+use Rattle.theory.specs.Rules.{best}
+use Rattle.theory.specs.Load.{model}
+use Rattle.theory.specs.Stage.{action-total}
+use Rattle.diagrams.specs.Nodes.{none}
+use Rattle.solving.specs.Alike.{Alike, alike-refl, alike-trans, alike-eq, alike-append, alike-turn}
+use Rattle.solving.specs.Onward.{onward, run-all-end, run-all-then, Works, Stops, works-run, stops-run, answered, answered-no, onward-ok, onward-no}
+use Rattle.solving.specs.Roots.{Rooted}
+use Rattle.staging.specs.Operation.{heldTrees, compOf, Fits, Standing, Operated}
+use Rattle.staging.specs.Planning.{Ready, actionOf, rootAt, Ran, bettered}
+use Rattle.staging.specs.declared.Rule.the-variants.{Best}
+use Rattle.staging.specs.declared.Run.{Run}
+use Rattle.staging.proofs.StagesHeld.{answers, held-length, held-more, held-before}
+
+-- the total, then the better of the two
+pub bettered-run : (B : List ℕ) (N p h : ℕ) (P : Tree) (a : ℕ) (F : Tree) (K : List Tree) → run-all N p (bettered B h P a F K)
+    ≡ onward (run-all N p (action-total (model B) h (F ∷ K) P a (actionOf B a))) (λ G q. run-all N q (operation h (G ∷ F ∷ K) (best F G) end))
+unfolding bettered
+bettered-run B N p h P a F K = run-all-then N p (action-total (model B) h (F ∷ K) P a (actionOf B a)) (λ G. operation h (G ∷ F ∷ K) (best F G) end)
+
+-- F behind Q, or before what is like Q
+pub alike-front : (F : Tree) {Q K : List Tree} → Alike Q K → Alike (Q ++ (F ∷ [])) (F ∷ K)
+alike-front F {Q} {K} a = alike-trans (alike-append a (alike-refl (F ∷ []))) (alike-turn K (F ∷ []))
+
+-- the two last of some diagrams
+two-last : (Q : List Tree) (F G : Tree) (k : ℕ) → length Q ≡ k → compOf ((Q ++ (F ∷ [])) ++ (G ∷ [])) (Best k (k + 1)) ≡ best F G
+unfolding compOf
+two-last Q F G k e =
+    ap₂ best
+    (List·getD-append (Q ++ (F ∷ [])) (G ∷ []) none k (omega (arith, length-append Q (F ∷ []))) ∙ getD-at Q F [] none k e)
+    (getD-at (Q ++ (F ∷ [])) G [] none (k + 1) (length-append Q (F ∷ []) ∙ ap (λ (n : ℕ). n + 1) e))
+
+module _ {B : List ℕ} {cap p : ℕ} {l : List ℤ} {w : List ℕ} {n : ℕ} {R : List ℕ} {held before h : ℕ} (a : ℕ) {l′ : List ℤ} {w′ R′ : List ℕ} {t : Run}
+    (D : Ready B cap l w n R (held + 1)) (i : before < held)
+    (T : Ran cap p l n R (held + 1) h (λ K. action-total (model B) h K (getD (heldTrees l n R (held + 1)) before none) a (actionOf B a)) l′ w′ R′ t) where
+  totalled : (K : List Tree) → Alike (heldTrees l n R held) K
+      → run-all cap p (action-total (model B) h (rootAt l n R held ∷ K) (getD (heldTrees l n R held) before none) a (actionOf B a)) ≡ answered (t .stop) h (rootAt l′ (t .count) R′ (held + 1)) (t .peak)
+  totalled K al =
+      let few : held < length R = let z = D .standing .few in omega arith in
+      let F = rootAt l n R held in
+      ap (λ (P : Tree). run-all cap p (action-total (model B) h (F ∷ K) P a (actionOf B a))) (sym (held-before l n R held before few i))
+      ∙ T .outcome (F ∷ K) (alike-trans (alike-eq (held-more l n R held few)) (alike-front F al))
+
+  -- the total stopped
+  pub better-stopped : (t .stop ≡ 0 → ⊥) → Ran cap p l n R held h (bettered B h (getD (heldTrees l n R held) before none) a (rootAt l n R held)) l′ w′ R′ t
+  better-stopped off = record {
+    outcome = λ K al. bettered-run B cap p h _ a (rootAt l n R held) K ∙ (onward-no (t .stop) h _ (t .peak) (totalled K al) _ off ∙ sym (answered-no (t .stop) h _ (t .peak) off));
+    rooted = λ ok. absurd (off ok);
+  }
+
+  -- or stands behind the best so far
+  module _ (ok : t .stop ≡ 0) where
+    stand : heldTrees l′ (t .count) R′ (held + 2) ≡ (heldTrees l n R held ++ (rootAt l n R held ∷ [])) ++ (rootAt l′ (t .count) R′ (held + 1) ∷ [])
+    stand =
+        let few : held < length R = let z = D .standing .few in omega arith in
+        let e : held + 2 ≡ suc (held + 1) = omega arith in
+        ap (λ (k : ℕ). heldTrees l′ (t .count) R′ k) e ∙ (T .rooted ok .roots ∙ ap (λ (X : List Tree). X ++ (rootAt l′ (t .count) R′ (held + 1) ∷ [])) (held-more l n R held few))
+
+    pub better-ready : held + 2 ≤ length R′ → Standing cap l′ w′ (t .count) R′ (held + 2) × (held ≤ held + 2) × (held < length R′) × Fits (held + 2) (Best held (held + 1))
+    unfolding Fits
+    better-ready few =
+        let e : suc (held + 1) ≡ held + 2 = omega arith in
+        let H = T .rooted ok in
+        let s : Standing cap l′ w′ (t .count) R′ (suc (held + 1)) = record { good = H .good; chained = H .chained; below = H .below; few = omega arith } in
+        (subst (Standing cap l′ w′ (t .count) R′) e s, omega arith, omega arith, (omega arith, omega arith))
+
+    module _ {l″ : List ℤ} {w″ R″ : List ℕ} {r : Run} (S : Operated cap (t .peak) l′ (t .count) R′ (held + 2) held (Best held (held + 1)) l″ w″ R″ r) where
+      comes : compOf (heldTrees l′ (t .count) R′ (held + 2)) (Best held (held + 1)) ≡ best (rootAt l n R held) (rootAt l′ (t .count) R′ (held + 1))
+      comes = ap (λ (X : List Tree). compOf X (Best held (held + 1))) stand ∙ two-last (heldTrees l n R held) _ _ held (held-length l n R held (let z = D .standing .few in omega arith))
+
+      roots : (K : List Tree) → Alike (heldTrees l n R held) K → Alike (heldTrees l′ (t .count) R′ (held + 2)) (rootAt l′ (t .count) R′ (held + 1) ∷ rootAt l n R held ∷ K)
+      roots K al = alike-trans (alike-eq stand) (alike-front (rootAt l′ (t .count) R′ (held + 1)) (alike-front (rootAt l n R held) al))
+
+      bests : (K : List Tree) → Alike (heldTrees l n R held) K
+          → run-all cap (t .peak) (operation h (rootAt l′ (t .count) R′ (held + 1) ∷ rootAt l n R held ∷ K) (best (rootAt l n R held) (rootAt l′ (t .count) R′ (held + 1))) end)
+          ≡ answered (r .stop) h (rootAt l″ (r .count) R″ held) (r .peak)
+      bests K al =
+          let Y = rootAt l′ (t .count) R′ (held + 1) ∷ rootAt l n R held ∷ K in
+          let b = rootAt l″ (r .count) R″ held in
+          answers (r .stop) h b (r .peak)
+          (λ z. works-run (t .peak) h end (subst (λ (c : Comp Tree). Works cap Y c b (r .count)) comes (S .works z Y (roots K al))) ∙ (run-all-end cap (max (t .peak) (r .count)) b ∙ ap (solved b) (sym (S .peak))))
+          (λ z. stops-run (t .peak) h end (subst (λ (c : Comp Tree). Stops cap Y c (r .stop)) comes (S .stops z Y (roots K al))))
+
+      kept : take held (heldTrees l′ (t .count) R′ (held + 2)) ≡ heldTrees l n R held
+      kept =
+          let e = held-length l n R held (let z = D .standing .few in omega arith) in
+          ap (take held) stand
+          ∙ (take-append-le held (heldTrees l n R held ++ (rootAt l n R held ∷ [])) _ (omega (arith, length-append (heldTrees l n R held) (rootAt l n R held ∷ [])))
+          ∙ take-at (heldTrees l n R held) (rootAt l n R held ∷ []) held e)
+
+      pub better-done : Ran cap p l n R held h (bettered B h (getD (heldTrees l n R held) before none) a (rootAt l n R held)) l″ w″ R″ r
+      better-done = record {
+        outcome = λ K al. bettered-run B cap p h _ a (rootAt l n R held) K ∙ (onward-ok (t .stop) h _ (t .peak) (totalled K al) _ ok ∙ bests K al);
+        rooted = λ z. subst (λ (X : List Tree). Rooted cap l″ w″ (r .count) (take (suc held) R″) (X ++ (rootAt l″ (r .count) R″ held ∷ []))) kept (S .rooted z);
+      }

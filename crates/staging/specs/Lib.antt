@@ -1,0 +1,3 @@
+-- Operations, totals and stages on a table with its roots.
+pub mod Operation
+pub mod Planning
