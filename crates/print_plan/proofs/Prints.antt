@@ -11,7 +11,7 @@ use lib.ListN.{length, getD, take, drop, length-append}
 use lib.Seq.{take-at}
 use Rattle.whole.specs.Cases.{if}
 use Rattle.theory.specs.Valid.{all}
-use Rattle.theory.specs.Verdict.{Verdict, refusal, Site, from-to}
+use Rattle.theory.specs.Verdict.{Verdict, refusal, from-to}
 use Rattle.theory.specs.Load.{site-at}
 use Rattle.theory.specs.Solve.{early, SolveOut, solve}
 use Rattle.theory.specs.Value.{good-row}

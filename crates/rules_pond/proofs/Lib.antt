@@ -1,0 +1,2 @@
+-- The pond's steps: what each leaves, and what it asks.
+pub mod Operations

@@ -1,0 +1,53 @@
+-- `rules_pond::size` meets its contract.
+use native.Mathlib.Omega.{arith}
+use Rattle.solver.proofs.Start.{size-of, size-fits}
+use borrow.Author.Needs.{needs}
+use Rattle.rules_pond.proofs.size.Statement.{statement}
+use Rattle.rules_pond.proofs.size.Tie as tie
+
+byte-at-requires : tie.Need-byte-at-requires
+byte-at-requires c κs = search needs
+
+cast-m : tie.Need-cast-m
+cast-m c = search needs
+
+byte-at-requires-2 : tie.Need-byte-at-requires-2
+byte-at-requires-2 c κs = search needs
+
+cast-n : tie.Need-cast-n
+cast-n c = search needs
+
+byte-at-requires-3 : tie.Need-byte-at-requires-3
+byte-at-requires-3 c κs = search needs
+
+cast-a : tie.Need-cast-a
+cast-a c = search needs
+
+add-result : tie.Need-add-result
+add-result c = search needs
+
+add-result-2 : tie.Need-add-result-2
+add-result-2 c = search needs
+
+mul-result : tie.Need-mul-result
+mul-result c =
+    omega (arith, size-fits (c .before .before .byte-at .result) (c .before .byte-at2 .result) (c .byte-at3 .result) (c .before .before .byte-at .ok) (c .before .byte-at2 .ok) (c .byte-at3 .ok))
+
+returns : tie.Need-returns
+returns c =
+    size-of (c .before .before .before .before .args .model .now) (c .before .before .byte-at .ensures) (c .before .byte-at2 .ensures) (c .byte-at3 .ensures)
+
+pub size-spec : {M : Type 1} → statement M
+size-spec =
+    tie.close
+    (tie.spec
+    byte-at-requires
+    cast-m
+    byte-at-requires-2
+    cast-n
+    byte-at-requires-3
+    cast-a
+    add-result
+    add-result-2
+    mul-result
+    returns)

@@ -1,0 +1,304 @@
+// The pond's stages step by step: each operation of horizon 2 by itself, with the count of nodes after it, the peak and the
+// node that it came to; then the canonical tables, as a listing.
+ghost use mathlib.Core.Path.{_≡_};
+ghost use mathlib.Core.Bool.{true};
+ghost use Prim.Native.Nat.{_≤_, _<_};
+ghost use lib.ListN.{length};
+ghost use Rattle.theory.specs.Widths.{bytes-most};
+ghost use Rattle.theory.specs.Verdict.{verdict};
+ghost use Rattle.staging.specs.Operation.{Fits, Standing};
+ghost use Rattle.staging.specs.Planning.{modelSize};
+ghost use Rattle.solver.specs.Solving.{Room};
+use libc::STDOUT_FILENO;
+use staging::Rule;
+use staging::Run;
+use staging::operate::operate;
+
+fn text(s: &[u8]) {
+    io::write_all(STDOUT_FILENO, s);
+}
+
+fn number(x: u64) {
+    io::print_decimal(STDOUT_FILENO, x);
+    text(b" ");
+}
+
+fn signed(z: i64) {
+    if z < 0 {
+        text(b"-");
+    }
+    number(whole::limits::mag(z));
+}
+
+// The words of a node.
+fn node(nodes: &[i64], at: u32) {
+    let from = at as usize * 8;
+    let mut i: usize = 0;
+    while i < 8 {
+        if from + i < nodes.len() {
+            signed(nodes[from + i]);
+        }
+        i += 1;
+    }
+    text(b"\n");
+}
+
+// Where the steps stand: what stopped them, or 0; how many nodes there are; the peak; how many roots are held.
+struct Stand {
+    stop: usize,
+    count: usize,
+    peak: usize,
+    held: usize,
+}
+
+// A digit of the rows, 0 past their end.
+fn digit(rows: &[u8], at: usize, i: usize) -> usize {
+    if at < 65536 {
+        if i < 8 {
+            if at + i < rows.len() {
+                let b = rows[at + i];
+                if 48 <= b {
+                    return (b - 48) as usize;
+                }
+            }
+        }
+    }
+    0
+}
+
+// 0 stage 0; 1 the next level at x into the stage at y; 2 the reward at x added to y for action z; 3 the best of x and y.
+fn rule_of(kind: usize, x: usize, y: usize, z: usize) -> Rule {
+    match kind {
+        1 => Rule::Levels(x, 1, y),
+        2 => Rule::Reward(x, y, 1, 0, z),
+        3 => Rule::Best(x, y),
+        _ => Rule::Zero,
+    }
+}
+
+// The places of a rule are held.
+fn fits(rule: Rule, held: usize) -> bool
+    ensures { λ b. ⌜ (b ≡ true → Fits held rule) ⌝ }
+{
+    match rule {
+        Rule::Zero => true,
+        Rule::Levels(at, m, f) => {
+            if m != 1 {
+                return false;
+            }
+            if at >= held {
+                return false;
+            }
+            f < held
+        }
+        Rule::Expect(_, _, _, _) => false,
+        Rule::Reward(reward, f, _, _, action) => {
+            if action > 8 {
+                return false;
+            }
+            if reward >= held {
+                return false;
+            }
+            f < held
+        }
+        Rule::Best(f, g) => {
+            if f >= held {
+                return false;
+            }
+            g < held
+        }
+    }
+}
+
+// One operation and its line: nodes afterwards, the peak, the node that is the result.
+fn step(
+    nodes: &mut [i64],
+    work: &mut [u32],
+    cap: usize,
+    s: Stand,
+    roots: &mut [u32],
+    to: usize,
+    rule: Rule,
+) -> Stand
+    requires { ⌜ Standing cap (now nodes) (now work) (s .count) (now roots) (s .held) × (to ≤ s .held) × (to < length (now roots)) × Fits (s .held) rule ⌝ }
+    ensures { λ r. ⌜ (r .stop ≡ 0 → Standing cap (now (nodes .exit)) (now (work .exit)) (r .count) (now (roots .exit)) (r .held)) ⌝ }
+{
+    let start = Run {
+        stop: 0,
+        count: s.count,
+        peak: s.peak,
+    };
+    let r = operate(nodes, work, cap, start, roots, s.held, to, rule);
+    number(r.stop as u64);
+    number(r.count as u64);
+    number(r.peak as u64);
+    text(b": ");
+    node(nodes, roots[to]);
+    Stand {
+        stop: r.stop,
+        count: r.count,
+        peak: r.peak,
+        held: to + 1,
+    }
+}
+
+// The operation of the row at a place of the rows; none where its places are not held.
+fn row(
+    nodes: &mut [i64],
+    work: &mut [u32],
+    cap: usize,
+    s: Stand,
+    roots: &mut [u32],
+    rows: &[u8],
+    at: usize,
+) -> Stand
+    requires { ⌜ Standing cap (now nodes) (now work) (s .count) (now roots) (s .held) ⌝ }
+    ensures { λ r. ⌜ (r .stop ≡ 0 → Standing cap (now (nodes .exit)) (now (work .exit)) (r .count) (now (roots .exit)) (r .held)) ⌝ }
+{
+    let rule = rule_of(
+        digit(rows, at, 0),
+        digit(rows, at, 1),
+        digit(rows, at, 2),
+        digit(rows, at, 3),
+    );
+    let to = digit(rows, at, 4);
+    if to >= roots.len() {
+        return s;
+    }
+    if to > s.held {
+        return s;
+    }
+    if fits(rule, s.held) {
+        return step(nodes, work, cap, s, roots, to, rule);
+    }
+    s
+}
+
+// The operations of some rows of five digits and a space: kind, x, y, z and the place of the result.
+fn steps(
+    nodes: &mut [i64],
+    work: &mut [u32],
+    cap: usize,
+    s: Stand,
+    roots: &mut [u32],
+    rows: &[u8],
+) -> Stand
+    requires { ⌜ (s .stop ≡ 0) × Standing cap (now nodes) (now work) (s .count) (now roots) (s .held) ⌝ }
+    ensures { λ r. ⌜ (r .stop ≡ 0 → Standing cap (now (nodes .exit)) (now (work .exit)) (r .count) (now (roots .exit)) (r .held)) ⌝ }
+{
+    let mut r = s;
+    let mut at: usize = 0;
+    while at < rows.len() {
+        r = row(nodes, work, cap, r, roots, rows, at);
+        if r.stop != 0 {
+            return r;
+        }
+        at += 6;
+    }
+    r
+}
+
+// How many roots the model's diagrams have.
+fn size(model: &[u8]) -> usize
+    ensures { λ r. ⌜ r ≡ modelSize (now (model .entry)) ⌝ }
+{
+    let m = command::byte_at(model, 1) as usize;
+    let n = command::byte_at(model, 2) as usize;
+    let a = command::byte_at(model, 3) as usize;
+    a * (1 + n + m)
+}
+
+// An accepted model in a table with room for 32 nodes: its roots are held.
+fn loaded(model: &[u8], nodes: &mut [i64], work: &mut [u32], roots: &mut [u32]) -> Stand
+    requires { ⌜ (verdict (now model) .number ≡ 0) × (length (now model) ≤ bytes-most) × Room 32 (now nodes) (now work) × (length (now roots) ≡ 96) ⌝ }
+    ensures { λ s. ⌜ (s .stop ≡ 0 → Standing 32 (now (nodes .exit)) (now (work .exit)) (s .count) (now (roots .exit)) (s .held)) ⌝ }
+{
+    finish::zeros::words_from(work, 0);
+    let done = loading::load(model, nodes, work, 32, roots);
+    let held = size(model);
+    number(done.stop as u64);
+    number(done.count as u64);
+    text(b"loaded, roots ");
+    number(held as u64);
+    text(b"\n");
+    Stand {
+        stop: done.stop,
+        count: done.count,
+        peak: done.count,
+        held,
+    }
+}
+
+fn list(model: &[u8], nodes: &[i64], stages: &[u32]) {
+    let mut room = io::large_buffer();
+    let r = listing::listing(model, 2, nodes, stages, &mut room, 0);
+    let size = r.size;
+    number(r.number as u64);
+    number(r.place as u64);
+    text(b"listed\n");
+    if size <= room.len() {
+        text(&room[..size]);
+    }
+}
+
+// The stages' tables, from their roots: the pond's four, stage 0 and the two stages are held.
+fn finished(model: &[u8], nodes: &mut [i64], work: &mut [u32], s: Stand, roots: &[u32])
+    requires { ⌜ Standing 32 (now nodes) (now work) (s .count) (now roots) (s .held) ⌝ }
+{
+    if s.held != 7 {
+        return;
+    }
+    let mut stages = [0u32; 8];
+    let n = finish::finish(nodes, work, 32, s.count, &roots[5..7], &mut stages);
+    list(model, nodes, &stages);
+    number(n as u64);
+    text(b"nodes, peak ");
+    number(s.peak as u64);
+    text(b"\n");
+}
+
+fn run(model: &[u8], nodes: &mut [i64], work: &mut [u32], roots: &mut [u32], rows: &[u8])
+    requires { ⌜ Room 32 (now nodes) (now work) × (length (now roots) ≡ 96) ⌝ }
+{
+    if model.len() > 65535 {
+        return;
+    }
+    let v = model::validate(model);
+    if v.number != 0 {
+        return;
+    }
+    let s = loaded(model, nodes, work, roots);
+    if s.stop != 0 {
+        return;
+    }
+    let r = steps(nodes, work, 32, s, roots, rows);
+    if r.stop != 0 {
+        return;
+    }
+    finished(model, nodes, work, r, roots);
+}
+
+fn pond(room: &[u8], n: usize) {
+    let mut nodes = [0i64; 256];
+    let mut work = [0u32; 256];
+    let mut roots = [0u32; 96];
+    if room.len() < n {
+        return;
+    }
+    run(
+        &room[..n],
+        &mut nodes,
+        &mut work,
+        &mut roots,
+        b"00004 11405 20515 13406 22626 35605 11506 20616 13507 22727 36706 ",
+    );
+}
+
+fn main() {
+    let mut model = [0u8; 300];
+    let n = hex_text::bytes_of(
+        b"01 01 00 02 01 P 20 01 10 01000000 OOOO 22 01 01 10 OOOO 32000000 10 OOOO ffffffff 12 ffffffff OOO 0a000000 20 02 10 01000000 OOO f6ffffff 10 01000000 OOOO 12 ffffffff OOO 0a000000 22 02 01 ff",
+        &mut model,
+    );
+    pond(&model, n);
+}

@@ -1,0 +1,71 @@
+//! What `crates/rules_pond` has to print, worked out by the second program.
+
+use reference::diagram::{condition, divided, Id, Store};
+use reference::model::{open, Model, Tree};
+use reference::{listing, solve};
+
+/// Kind, x, y, z, and the place of the result.
+const ROWS: &str = "00004 11405 20515 13406 22626 35605 11506 20616 13507 22727 36706";
+
+fn bytes(text: &str) -> Vec<u8> {
+    let text = text.replace('P', "10 OOOOO").replace('O', "00000000");
+    let digits: Vec<u8> = text.chars().filter_map(|c| c.to_digit(16)).map(|d| d as u8).collect();
+    digits.chunks(2).map(|pair| pair[0] * 16 + pair[1]).collect()
+}
+
+/// The roots in order: of each action its reward and its next level.
+fn load(model: &Model, store: &mut Store) -> Vec<Id> {
+    let mut made: Vec<Id> = Vec::new();
+    for tree in &model.trees {
+        let id = match *tree {
+            Tree::Leaf(nums) => store.leaf(nums, 0),
+            Tree::Condition { number, high, low } => store.choose(condition(number.into()), made[high], made[low]),
+            Tree::Test { linear, high, low } => store.choose(divided(linear), made[high], made[low]),
+        };
+        made.push(id.expect("room"));
+    }
+    (0..model.a).flat_map(|a| [made[model.rewards[a]], made[model.nexts[a][0]]]).collect()
+}
+
+fn operation(store: &mut Store, roots: &[Id], row: &[usize]) -> Id {
+    let (x, y) = (roots.get(row[1]), roots.get(row[2]));
+    let (x, y) = (*x.expect("a root"), *y.expect("a root"));
+    let made = match row[0] {
+        0 => store.leaf([0; 5], 0),
+        1 => store.substitute(y, &[x]),
+        2 => store.scale(1, x).and_then(|reward| store.sum(y, reward)).and_then(|sum| store.number(row[3] as Id, sum)),
+        _ => store.best(x, y),
+    };
+    made.expect("room")
+}
+
+fn main() {
+    let pond = bytes(
+        "01 01 00 02 01 P 20 01 10 01000000 OOOO 22 01 01 10 OOOO 32000000 10 OOOO ffffffff 12 ffffffff OOO 0a000000
+        20 02 10 01000000 OOO f6ffffff 10 01000000 OOOO 12 ffffffff OOO 0a000000 22 02 01 ff",
+    );
+    let Ok(model) = open(&pond, None, None) else { panic!("the pond is accepted") };
+    let mut store = Store::new(32);
+    let mut roots = load(&model, &mut store);
+    println!("0 {} loaded, roots {} ", store.nodes.len(), roots.len());
+    let mut peak = store.nodes.len();
+    for row in ROWS.split(' ') {
+        let row: Vec<usize> = row.bytes().map(|b| (b - b'0').into()).collect();
+        store.keep(roots.iter_mut());
+        let made = operation(&mut store, &roots, &row);
+        roots.truncate(row[4]);
+        roots.push(made);
+        peak = peak.max(store.nodes.len());
+        print!("0 {} {peak} : ", store.nodes.len());
+        let node = store.nodes[made as usize];
+        print!("{} ", node.kind);
+        node.nums.iter().for_each(|x| print!("{x} "));
+        println!("{} {} ", node.high, node.low);
+    }
+    let done = solve(&pond, 2, 256, 8, 256);
+    let text = listing(&pond, 2, &done.nodes, &done.stages, usize::MAX, 0);
+    println!("0 0 listed");
+    print!("{}", text.expect("a listing"));
+    println!("{} nodes, peak {peak} ", done.nodes.len() / 8);
+    assert_eq!(peak, done.peak as usize);
+}
