@@ -60,7 +60,7 @@ fn all_zero(work: &[u32]) -> bool
 }
 
 // A table of at most 65,535 nodes that are there, with work words that are all 0.
-fn ready(nodes: &[i64], work: &[u32], cap: usize) -> bool
+pub fn ready(nodes: &[i64], work: &[u32], cap: usize) -> bool
     ensures { λ r. ⌜ (r ≡ true → Table ruleOf cap (now (nodes .entry)) (now (work .entry)) 0) ⌝ }
 {
     if cap == 0 {

@@ -1,11 +1,10 @@
--- The table begins empty, and each step leaves it right.
+-- Each step leaves the table right.
 use mathlib.Core.Path.{_≡_, sym, subst}
 use mathlib.Core.List.{List}
-use Prim.Native.Nat.{ℕ, _≤_, _<_}
+use Prim.Native.Nat.{ℕ, _≤_}
 use native.Mathlib.Nat.{le-trans}
 use native.Mathlib.Omega.{arith}
 use lib.IntN.{ℤ, pos}
-use lib.ListN.{length, getD}
 use mir.Syntax.{w64}
 use mir.Val.{toZ}
 use Rattle.whole.specs.Within.{Small}
@@ -13,12 +12,11 @@ use Rattle.whole.proofs.Signed.{plain}
 use Rattle.table.specs.declared.Made.{Made}
 use Rattle.theory.specs.Computation.{Comp}
 use Rattle.theory.specs.Diagram.{Tree}
-use Rattle.unique.specs.Unique.{lastOf}
 use Rattle.diagrams.specs.Nodes.{Proper}
 use Rattle.diagrams.specs.Table.{Table, Ran, Grew}
 use Rattle.diagrams.specs.Meaning.{ruleOf}
 use Rattle.diagrams.specs.Roots.{fiveNode}
-use Rattle.diagrams.proofs.Outcomes.{lifted, fresh}
+use Rattle.diagrams.proofs.Outcomes.{lifted}
 use Rattle.diagrams.proofs.Meanings.{proper-five}
 use Rattle.rules_main.specs.Held.{Held}
 
@@ -31,24 +29,6 @@ held-grew A Q = held (lifted A Q)
 -- one step after another
 pub held-on : {n m : ℕ} {l : List ℤ} {w : List ℕ} {r : Made} → n ≤ m → Held m l w r → Held n l w r
 held-on h H = record { table = H .table; within = H .within; more = le-trans h (H .more) }
-
--- no nodes yet
-pub empty : (l : List ℤ) (w : List ℕ) → 524280 ≤ length l → 524280 ≤ length w → ((k : ℕ) → k < length w → getD w k 0 ≡ 0) → Table ruleOf 65535 l w 0
-unfolding lastOf
-empty l w hl hw z = fresh
-    (record {
-      good = record { valid = λ i h. absurd (omega arith); distinct = λ i j h. absurd (omega arith) };
-      chained = record {
-        some = omega arith;
-        few = omega arith;
-        room = omega arith;
-        words = omega arith;
-        works = omega arith;
-        hashed = record { heads = λ b h. z b (omega arith); links = λ i h. absurd (omega arith) };
-        apart = λ i j h. absurd (omega arith);
-      };
-    })
-    (λ j h k. z j (omega arith))
 
 plain-small : (a : ℕ) → a ≤ 1000000 → Small (toZ w64 a)
 plain-small a h = subst Small (sym (plain a (omega arith))) (record { small = omega arith })

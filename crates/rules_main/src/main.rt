@@ -1,8 +1,5 @@
 // Staircases merged in a table of 65,535 nodes: what each step came to, as its refusal's number and the count of nodes.
-ghost use mathlib.Core.Path.{_≡_};
-ghost use mathlib.Core.Bool.{true};
-ghost use Prim.Native.Nat.{ℕ, _≤_, _<_};
-ghost use lib.ListN.{length, getD};
+ghost use Prim.Native.Nat.{_≤_, _<_};
 ghost use Rattle.diagrams.specs.Table.{Table};
 ghost use Rattle.diagrams.specs.Meaning.{ruleOf};
 ghost use Rattle.rules_main.specs.Held.{Held};
@@ -13,8 +10,6 @@ use table::Made;
 use table::Node;
 
 const CAP: usize = 65535;
-
-const WORDS: usize = 524280;
 
 const TESTS: usize = 750;
 
@@ -142,29 +137,9 @@ fn all(nodes: &mut [i64], work: &mut [u32])
     pair(nodes, work, b.count, 0, 1000, 1000);
 }
 
-// Whether all words are 0.
-fn all_zero(work: &[u32]) -> bool
-    ensures { λ r. ⌜ (r ≡ true → (k : ℕ) → k < length (now (work .entry)) → getD (now (work .entry)) k 0 ≡ 0) ⌝ }
-{
-    let mut i = 0;
-    while i < work.len() {
-        if work[i] != 0 {
-            return false;
-        }
-        i += 1;
-    }
-    true
-}
-
 // All of it, in tables that are large enough and empty.
 fn run(nodes: &mut [i64], work: &mut [u32]) {
-    if nodes.len() < WORDS {
-        return;
-    }
-    if work.len() < WORDS {
-        return;
-    }
-    if all_zero(work) {
+    if rule_steps::runs::ready(nodes, work, CAP) {
         all(nodes, work);
     }
 }
