@@ -1,7 +1,8 @@
 // The listing program: a horizon byte and a model on standard input, the listing of the plan or the refusal on standard output.
 ghost use mathlib.Core.Path.{_≡_};
 ghost use Prim.Native.Nat.{_≤_};
-ghost use lib.ListN.{length, take};
+ghost use lib.IntN.{pos};
+ghost use lib.ListN.{length, replicate, take};
 ghost use Rattle.theory.specs.Verdict.{refusal as refusal-of};
 ghost use Rattle.theory.specs.Listing.{refusal-line};
 ghost use Rattle.print_plan.specs.Printed.{printed};
@@ -43,7 +44,7 @@ fn print(
 // The tables have room for 1,024 nodes.
 fn plan(model: &[u8], horizon: u32, text: &mut [u8]) -> usize
     requires { ⌜ 185 ≤ length (now text) ⌝ }
-    ensures { λ r. ⌜ r ≤ length (now (text .entry)) ⌝ }
+    ensures { λ r. ⌜ (r ≤ length (now (text .entry))) × (take r (now (text .exit)) ≡ printed (now (model .entry)) horizon (replicate 8192 (pos 0)) (replicate 8 0) (replicate 8192 0) (now (text .entry))) ⌝ }
 {
     let mut nodes = [0i64; 8192];
     let mut stages = [0u32; 8];
