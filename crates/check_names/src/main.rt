@@ -1,36 +1,27 @@
 // Names without their trailing spaces, and the refusals of a name.
-use libc::STDOUT_FILENO;
+use hex_text::report;
 
 // The name in brackets, then the call's number and place.
-fn show(label: &[u8], input: &[u8], action: u32) {
-    let v = model::names::name_refusal(input, action);
-    io::write_all(STDOUT_FILENO, label);
-    io::write_all(STDOUT_FILENO, b" ");
-    io::print_decimal(STDOUT_FILENO, action as u64);
-    io::write_all(STDOUT_FILENO, b": [");
-    io::write_all(STDOUT_FILENO, model::names::name(input, action));
-    io::write_all(STDOUT_FILENO, b"] R ");
-    io::print_decimal(STDOUT_FILENO, v.number as u64);
-    io::write_all(STDOUT_FILENO, b" ");
-    io::print_decimal(STDOUT_FILENO, v.place as u64);
-    io::write_all(STDOUT_FILENO, b"\n");
+fn show(of: &[u8], input: &[u8], action: u32) {
+    let v = names::name_refusal(input, action);
+    report::text(of);
+    report::text(b" ");
+    report::number(action as u64, b": [");
+    report::text(names::name(input, action));
+    report::text(b"] ");
+    report::refusal(v.number, v.place);
 }
 
-fn all(label: &[u8], input: &[u8]) {
-    show(label, input, 0);
-    show(label, input, 1);
-    show(label, input, 2);
-    show(label, input, 3);
-    show(label, input, 4);
-    show(label, input, 5);
-    show(label, input, 6);
-    show(label, input, 7);
+fn all(of: &[u8], input: &[u8]) {
+    for action in 0u32..8 {
+        show(of, input, action);
+    }
 }
 
 // The first n bytes.
-fn cut(label: &[u8], input: &[u8], n: usize, action: u32) {
+fn cut(of: &[u8], input: &[u8], n: usize, action: u32) {
     if n <= input.len() {
-        show(label, &input[..n], action);
+        show(of, &input[..n], action);
     }
 }
 

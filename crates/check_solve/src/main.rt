@@ -1,5 +1,7 @@
 // Solving and reading: the pond and the rain at all horizons, tables exactly large enough and one node short, every
 // refusal, and the same tables lent again and again.
+ghost use Prim.Native.Nat.{_≤_};
+ghost use lib.ListN.{length};
 use libc::STDOUT_FILENO;
 use solver::Solved;
 use solver::solve;
@@ -9,6 +11,28 @@ use values::reading::value;
 // Room for 256 nodes.
 const WORDS: usize = 2048;
 
+// The models lie one after another: the pond's from 0, the rain's, and one with weights of 100.
+const RAIN: usize = 184;
+
+const WEIGHTS: usize = 284;
+
+const END: usize = 433;
+
+// A part of the models' bytes.
+struct Part {
+    from: usize,
+    to: usize,
+}
+
+// A solve: its name and its model by number, the horizon, the room in nodes, the stage words.
+struct Case {
+    name: usize,
+    model: usize,
+    horizon: u32,
+    room: usize,
+    roots: usize,
+}
+
 fn text(s: &[u8]) {
     io::write_all(STDOUT_FILENO, s);
 }
@@ -16,6 +40,11 @@ fn text(s: &[u8]) {
 fn number(x: u64) {
     io::print_decimal(STDOUT_FILENO, x);
     text(b" ");
+}
+
+fn labelled(label: &[u8], x: u64) {
+    text(label);
+    number(x);
 }
 
 // Some numbers to the line's end.
@@ -29,32 +58,60 @@ fn numbers(label: &[u8], xs: &[u32]) {
     text(b"\n");
 }
 
-// A line: number, place, peak; the roots of the first stages.
-fn print_solved(label: &[u8], horizon: u32, n: usize, r: Solved, stages: &[u32]) {
-    text(label);
-    text(b", horizon ");
-    number(horizon as u64);
-    text(b"room ");
-    number(n as u64);
-    text(b": ");
-    number(r.number as u64);
-    number(r.place as u64);
-    text(b"peak ");
-    number(r.peak as u64);
-    numbers(b"roots ", stages);
+// A byte of a name.
+fn name_byte(b: u8) {
+    if b != b';' {
+        let one = [b];
+        text(&one);
+    }
 }
 
-// The answer's words, the high one as it is held.
-fn print_value(label: &[u8], steps: u32, v: Value) {
-    text(label);
-    text(b", steps ");
-    number(steps as u64);
-    text(b": ");
-    number(v.number as u64);
-    number(v.place as u64);
-    text(b"action ");
-    number(v.action as u64);
-    let n = v.numerator;
+// The name's number after a byte.
+fn after(k: usize, b: u8) -> usize {
+    if b == b';' {
+        if k < 1000 {
+            return k + 1;
+        }
+    }
+    k
+}
+
+// The name with a number in a list.
+fn print_name(names: &[u8], k: usize) {
+    let mut at: usize = 0;
+    let mut i: usize = 0;
+    while i < names.len() {
+        let b = names[i];
+        if at == k {
+            name_byte(b);
+        }
+        at = after(at, b);
+        i += 1;
+    }
+}
+
+// A line's begin: what is solved, in which room.
+fn print_case(c: Case) {
+    print_name(
+        b"pond;rain;no step;nine steps;no model;65,536 bytes;seven stage words;weights of 100",
+        c.name,
+    );
+    labelled(b", horizon ", c.horizon as u64);
+    labelled(b"room ", c.room as u64);
+}
+
+// Its end: number, place, peak; the roots of the first stages.
+fn print_solved(r: Solved, stages: &[u32], n: usize) {
+    labelled(b": ", r.number as u64);
+    number(r.place as u64);
+    labelled(b"peak ", r.peak as u64);
+    if n <= stages.len() {
+        numbers(b"roots ", &stages[..n]);
+    }
+}
+
+// The answer's low word, and whether it lies below 0.
+fn print_numerator(n: whole::Numerator) {
     number(n.low);
     if n.high < 0 {
         text(b"below 0");
@@ -62,66 +119,149 @@ fn print_value(label: &[u8], steps: u32, v: Value) {
     text(b"\n");
 }
 
-// Solved in tables with room for n nodes; answers the peak.
-fn solved(
-    label: &[u8],
-    model: &[u8],
-    horizon: u32,
-    n: usize,
+// A line: the steps left, number, place and action, the value.
+fn print_value(label: &[u8], steps: u32, v: Value) {
+    text(label);
+    labelled(b", steps ", steps as u64);
+    labelled(b": ", v.number as u64);
+    number(v.place as u64);
+    labelled(b"action ", v.action as u64);
+    let n = v.numerator;
+    print_numerator(n);
+}
+
+// The bytes of the model with a number; 3 is no model, 4 is 65,536 bytes.
+fn part_of(model: usize) -> Part
+    ensures { λ r. ⌜ (r .from ≤ r .to) × (r .to ≤ 65536) ⌝ }
+{
+    match model {
+        0 => Part { from: 0, to: RAIN },
+        1 => Part {
+            from: RAIN,
+            to: WEIGHTS,
+        },
+        2 => Part {
+            from: WEIGHTS,
+            to: END,
+        },
+        3 => Part { from: 0, to: 0 },
+        _ => Part { from: 0, to: 65536 },
+    }
+}
+
+// The words that a room takes.
+fn words_of(room: usize) -> usize
+    ensures { λ r. ⌜ r ≤ 2048 ⌝ }
+{
+    if room < 256 { room * 8 } else { WORDS }
+}
+
+// A number up to a most.
+fn least(a: usize, most: usize) -> usize
+    ensures { λ r. ⌜ r ≤ most ⌝ }
+{
+    if a < most { a } else { most }
+}
+
+// Solved in as much of the tables as the case has.
+fn solve_case(
+    models: &[u8],
+    c: Case,
     nodes: &mut [i64],
     stages: &mut [u32],
     work: &mut [u32],
-) -> usize {
-    if 256 < n {
-        return 0;
+) -> Solved
+    requires { ⌜ (65536 ≤ length (now models)) × (2048 ≤ length (now nodes)) × (8 ≤ length (now stages)) × (2048 ≤ length (now work)) ⌝ }
+{
+    let p = part_of(c.model);
+    let from = p.from;
+    let to = p.to;
+    let n = words_of(c.room);
+    let roots = least(c.roots, 8);
+    solve(
+        &models[from..to],
+        c.horizon,
+        &mut nodes[..n],
+        &mut stages[..roots],
+        &mut work[..n],
+    )
+}
+
+// The first room has some to spare, the second lacks one node of its peak, the third has just that.
+fn next_room(turn: usize, room: usize, peak: usize) -> usize {
+    if turn == 1 {
+        if peak > 0 {
+            return peak - 1;
+        }
     }
-    if nodes.len() < n * 8 {
-        return 0;
+    if turn == 2 {
+        if room < 256 {
+            return room + 1;
+        }
     }
-    if work.len() < n * 8 {
-        return 0;
-    }
-    let r = solve(
+    256
+}
+
+// A model at all horizons, each three times.
+fn at_horizon(model: usize, i: u32, room: usize, peak: usize) -> Case {
+    Case {
+        name: model,
         model,
-        horizon,
-        &mut nodes[..n * 8],
-        stages,
-        &mut work[..n * 8],
-    );
-    let peak = r.peak;
-    print_solved(label, horizon, n, r, stages);
-    peak
+        horizon: 1 + i / 3,
+        room: next_room((i % 3) as usize, room, peak),
+        roots: 8,
+    }
 }
 
-// With room to spare, with room for the peak, and with one node less.
-fn around_peak(
-    label: &[u8],
-    model: &[u8],
-    horizon: u32,
-    nodes: &mut [i64],
-    stages: &mut [u32],
-    work: &mut [u32],
-) {
-    let peak = solved(label, model, horizon, 256, nodes, stages, work);
-    if peak == 0 {
-        return;
+// A digit of a text.
+fn digit(text: &[u8], i: usize) -> u8 {
+    if i < text.len() {
+        let c = text[i];
+        if c > 48 {
+            return c - 48;
+        }
     }
-    solved(label, model, horizon, peak - 1, nodes, stages, work);
-    solved(label, model, horizon, peak, nodes, stages, work);
+    0
 }
 
-fn all_horizons(
-    label: &[u8],
-    model: &[u8],
-    nodes: &mut [i64],
-    stages: &mut [u32],
-    work: &mut [u32],
-) {
-    let mut h: u32 = 1;
-    while h <= 8 {
-        around_peak(label, model, h, nodes, stages, work);
-        h += 1;
+// The solves in a list: name, model, horizon and stage words of each.
+fn listed(rows: &[u8], k: usize) -> Case {
+    if k > 1000 {
+        return at_horizon(0, 0, 0, 0);
     }
+    let i = k * 5;
+    Case {
+        name: digit(rows, i) as usize,
+        model: digit(rows, i + 1) as usize,
+        horizon: digit(rows, i + 2) as u32,
+        room: 256,
+        roots: digit(rows, i + 3) as usize,
+    }
+}
+
+// Each solve after the last one's room and peak. The pond at all horizons, then at horizon 2 in each room up to its
+// peak of 21; the rain; 9, 10 and the model's own, which leave everything as it was; 10 before 9; and where W is 100
+// and there are four conditions, 100 to the power of 4 × 3, which leaves the limits.
+fn case_at(i: u32, room: usize, peak: usize) -> Case {
+    if i < 24 {
+        return at_horizon(0, i, room, peak);
+    }
+    if i < 46 {
+        return Case {
+            name: 0,
+            model: 0,
+            horizon: 2,
+            room: (i - 24) as usize,
+            roots: 8,
+        };
+    }
+    if i < 70 {
+        return at_horizon(1, i - 46, room, peak);
+    }
+    listed(
+        b"0028 2008 3098 4328 5498 6097 7228 7238 7288",
+        (i - 70) as usize,
+    )
 }
 
 // The value at a level with each number of steps left, and with too few and too many.
@@ -137,59 +277,16 @@ fn all_steps(label: &[u8], model: &[u8], nodes: &[i64], stages: &[u32], mask: u3
     }
 }
 
-// Each size up to 21, the peak at horizon 2: where there is no room, and at which stage.
-fn sizes(model: &[u8], nodes: &mut [i64], stages: &mut [u32], work: &mut [u32]) {
-    let mut n: usize = 0;
-    while n <= 21 {
-        solved(b"pond", model, 2, n, nodes, stages, work);
-        n += 1;
-    }
-}
-
-fn pond(model: &[u8], nodes: &mut [i64], stages: &mut [u32], work: &mut [u32]) {
-    all_horizons(b"pond", model, nodes, stages, work);
+fn pond_values(model: &[u8], nodes: &[i64], stages: &[u32]) {
     all_steps(b"at 20", model, nodes, stages, 0, 20, 1);
     all_steps(b"at 39/2", model, nodes, stages, 0, 39, 2);
     all_steps(b"at -5", model, nodes, stages, 0, -5, 1);
-    sizes(model, nodes, stages, work);
 }
 
-fn rain(model: &[u8], nodes: &mut [i64], stages: &mut [u32], work: &mut [u32]) {
-    all_horizons(b"rain", model, nodes, stages, work);
+fn rain_values(model: &[u8], nodes: &[i64], stages: &[u32]) {
     all_steps(b"at 200, dry", model, nodes, stages, 0, 200, 1);
     all_steps(b"at 200, rain", model, nodes, stages, 1, 200, 1);
     all_steps(b"at -1000/3, rain", model, nodes, stages, 1, -1000, 3);
-}
-
-// 10, 9 and the model's own leave everything as it was; the roots show it.
-fn refused_solves(
-    model: &[u8],
-    long: &[u8],
-    nodes: &mut [i64],
-    stages: &mut [u32],
-    work: &mut [u32],
-) {
-    solved(b"pond", model, 2, 256, nodes, stages, work);
-    solved(b"no step", model, 0, 256, nodes, stages, work);
-    solved(b"nine steps", model, 9, 256, nodes, stages, work);
-    solved(b"no model", &model[..0], 2, 256, nodes, stages, work);
-    solved(b"65,536 bytes", long, 9, 256, nodes, stages, work);
-}
-
-// 10 before 9.
-fn seven_words(model: &[u8], nodes: &mut [i64], stages: &mut [u32], work: &mut [u32]) {
-    if stages.len() < 7 {
-        return;
-    }
-    solved(
-        b"seven stage words",
-        model,
-        9,
-        256,
-        nodes,
-        &mut stages[..7],
-        work,
-    );
 }
 
 // 13, 15 and 14, the first that applies.
@@ -227,25 +324,65 @@ fn refused_values(model: &[u8], nodes: &[i64], stages: &[u32]) {
     );
 }
 
-// W is 100 and there are four conditions: 100 to the power of 4 × 3 leaves the limits.
-fn limits(model: &[u8], nodes: &mut [i64], stages: &mut [u32], work: &mut [u32]) {
-    solved(b"weights of 100", model, 2, 256, nodes, stages, work);
-    solved(b"weights of 100", model, 3, 256, nodes, stages, work);
-    solved(b"weights of 100", model, 8, 256, nodes, stages, work);
+// What is read after a solve.
+fn print_values(i: u32, models: &[u8], nodes: &[i64], stages: &[u32]) {
+    if models.len() < WEIGHTS {
+        return;
+    }
+    if i == 23 {
+        pond_values(&models[..RAIN], nodes, stages);
+    }
+    if i == 69 {
+        rain_values(&models[RAIN..WEIGHTS], nodes, stages);
+    }
+    if i == 75 {
+        refused_values(&models[..RAIN], nodes, stages);
+    }
+}
+
+// A solve and its line; answers the peak.
+fn solved(
+    models: &[u8; 65536],
+    c: Case,
+    nodes: &mut [i64; WORDS],
+    stages: &mut [u32; 8],
+    work: &mut [u32; WORDS],
+) -> usize {
+    let r = solve_case(models, c, nodes, stages, work);
+    print_case(c);
+    print_solved(r, stages, c.roots);
+    r.peak
+}
+
+// All solves in the same tables.
+fn all_solves(
+    models: &[u8; 65536],
+    nodes: &mut [i64; WORDS],
+    stages: &mut [u32; 8],
+    work: &mut [u32; WORDS],
+) {
+    let mut room: usize = 0;
+    let mut peak: usize = 0;
+    let mut i: u32 = 0;
+    while i < 79 {
+        let c = case_at(i, room, peak);
+        room = c.room;
+        peak = solved(models, c, nodes, stages, work);
+        print_values(i, models, nodes, stages);
+        i += 1;
+    }
 }
 
 // Solved in new tables.
-fn fresh(model: &[u8], horizon: u32, nodes: &mut [i64], stages: &mut [u32]) -> Solved {
+fn fresh(models: &[u8; 65536], c: Case, nodes: &mut [i64; WORDS]) -> Solved {
+    let mut stages = [0u32; 8];
     let mut work = [0u32; WORDS];
-    solve(model, horizon, nodes, stages, &mut work)
+    solve_case(models, c, nodes, &mut stages, &mut work)
 }
 
-fn same_words(a: &[i64], b: &[i64]) -> bool {
+fn same_words(a: &[i64; WORDS], b: &[i64; WORDS]) -> bool {
     let mut i: usize = 0;
-    while i < a.len() {
-        if i >= b.len() {
-            return false;
-        }
+    while i < WORDS {
         if a[i] != b[i] {
             return false;
         }
@@ -266,49 +403,43 @@ fn same_numbers(r: Solved, s: Solved) -> bool {
 
 // One more solve in the lent tables: as in new ones?
 fn again(
-    model: &[u8],
-    horizon: u32,
-    nodes: &mut [i64],
-    stages: &mut [u32],
-    work: &mut [u32],
+    models: &[u8; 65536],
+    c: Case,
+    nodes: &mut [i64; WORDS],
+    stages: &mut [u32; 8],
+    work: &mut [u32; WORDS],
 ) -> bool {
     let mut other = [0i64; WORDS];
-    let mut roots = [0u32; 8];
-    let s = fresh(model, horizon, &mut other, &mut roots);
-    let r = solve(model, horizon, nodes, stages, work);
+    let s = fresh(models, c, &mut other);
+    let r = solve_case(models, c, nodes, stages, work);
     if same_numbers(r, s) {
         return same_words(nodes, &other);
     }
     false
 }
 
-// The model whose turn it is.
-fn in_turn(
-    a: &[u8],
-    b: &[u8],
-    c: &[u8],
-    turn: u32,
-    horizon: u32,
-    nodes: &mut [i64],
-    stages: &mut [u32],
-    work: &mut [u32],
-) -> bool {
-    if turn == 0 {
-        return again(a, horizon, nodes, stages, work);
+// The models in turn at changing horizons.
+fn in_turn(i: u32) -> Case {
+    Case {
+        name: 0,
+        model: (i % 3) as usize,
+        horizon: 1 + i % 8,
+        room: 256,
+        roots: 8,
     }
-    if turn == 1 {
-        return again(b, horizon, nodes, stages, work);
-    }
-    again(c, horizon, nodes, stages, work)
 }
 
-// Three models in turn at changing horizons, 240 times in the same tables.
-fn refilled(a: &[u8], b: &[u8], c: &[u8], nodes: &mut [i64], stages: &mut [u32], work: &mut [u32]) {
+// 240 times in the same tables.
+fn refilled(
+    models: &[u8; 65536],
+    nodes: &mut [i64; WORDS],
+    stages: &mut [u32; 8],
+    work: &mut [u32; WORDS],
+) {
     let mut alike: u64 = 0;
     let mut i: u32 = 0;
     while i < 240 {
-        let h = 1 + i % 8;
-        if in_turn(a, b, c, i % 3, h, nodes, stages, work) {
+        if again(models, in_turn(i), nodes, stages, work) {
             if alike < 240 {
                 alike += 1;
             }
@@ -319,48 +450,19 @@ fn refilled(a: &[u8], b: &[u8], c: &[u8], nodes: &mut [i64], stages: &mut [u32],
     text(b"of 240 as in new tables\n");
 }
 
-fn run(a: &[u8], b: &[u8], c: &[u8], long: &[u8]) {
+fn run(models: &[u8; 65536]) {
     let mut nodes = [-1i64; WORDS];
     let mut stages = [7u32; 8];
     let mut work = [9u32; WORDS];
-    pond(a, &mut nodes, &mut stages, &mut work);
-    rain(b, &mut nodes, &mut stages, &mut work);
-    refused_solves(a, long, &mut nodes, &mut stages, &mut work);
-    seven_words(a, &mut nodes, &mut stages, &mut work);
-    refused_values(a, &nodes, &stages);
-    limits(c, &mut nodes, &mut stages, &mut work);
-    refilled(a, b, c, &mut nodes, &mut stages, &mut work);
-}
-
-fn parts(a: &[u8], x: usize, b: &[u8], y: usize, c: &[u8], z: usize, long: &[u8]) {
-    if a.len() < x {
-        return;
-    }
-    if b.len() < y {
-        return;
-    }
-    if c.len() < z {
-        return;
-    }
-    run(&a[..x], &b[..y], &c[..z], long);
+    all_solves(models, &mut nodes, &mut stages, &mut work);
+    refilled(models, &mut nodes, &mut stages, &mut work);
 }
 
 fn main() {
-    let mut pond = [0u8; 300];
-    let mut rain = [0u8; 300];
-    let mut weights = [0u8; 300];
-    let long = io::large_buffer();
-    let x = hex_text::bytes_of(
-        b"01 01 00 02 01 P 20 01 10 01000000 OOOO 22 01 01 10 OOOO 32000000 10 OOOO ffffffff 12 ffffffff OOO 0a000000 20 02 10 01000000 OOO f6ffffff 10 01000000 OOOO 12 ffffffff OOO 0a000000 22 02 01 ff",
-        &mut pond,
+    let mut models = io::large_buffer();
+    hex_text::bytes_of(
+        b"01 01 00 02 01 P 20 01 10 01000000 OOOO 22 01 01 10 OOOO 32000000 10 OOOO ffffffff 12 ffffffff OOO 0a000000 20 02 10 01000000 OOO f6ffffff 10 01000000 OOOO 12 ffffffff OOO 0a000000 22 02 01 ff | 01 01 01 01 0a 10 01000000 OOOO 20 01 10 OOOO 07000000 21 01 01 10 01000000 OOO 6affffff 10 01000000 OOO ceffffff 11 05 22 01 01 ff | 01 01 04 01 64 10 01000000 OOOO 20 01 10 OOOO 32000000 21 01 01 10 OOOO 64000000 21 01 02 P 21 01 03 10 OOOO 01000000 21 01 04 10 01000000 OOOO 22 01 01 ff",
+        &mut models,
     );
-    let y = hex_text::bytes_of(
-        b"01 01 01 01 0a 10 01000000 OOOO 20 01 10 OOOO 07000000 21 01 01 10 01000000 OOO 6affffff 10 01000000 OOO ceffffff 11 05 22 01 01 ff",
-        &mut rain,
-    );
-    let z = hex_text::bytes_of(
-        b"01 01 04 01 64 10 01000000 OOOO 20 01 10 OOOO 32000000 21 01 01 10 OOOO 64000000 21 01 02 P 21 01 03 10 OOOO 01000000 21 01 04 10 01000000 OOOO 22 01 01 ff",
-        &mut weights,
-    );
-    parts(&pond, x, &rain, y, &weights, z, &long);
+    run(&models);
 }

@@ -1,24 +1,9 @@
 // Plain working of the states on standard input, a line each: a label, a colon, and as hexadecimal text the steps left, the mask,
 // four numerators and the denominator, four bytes each, then the model. A line without a colon is copied.
-ghost use Prim.Native.Nat.{_≤_, _<_};
-ghost use lib.ListN.{length};
+ghost use Prim.Native.Nat.{_<_};
+use hex_text::find;
+use hex_text::report;
 use libc::STDIN_FILENO;
-use libc::STDOUT_FILENO;
-
-// Where a byte first stands from an offset on; the length where it does not.
-fn find(text: &[u8], from: usize, b: u8) -> usize
-    requires { ⌜ from ≤ length (now text) ⌝ }
-    ensures { λ r. ⌜ (from ≤ r) × (r ≤ length (now (text .entry))) ⌝ }
-{
-    let mut i = from;
-    while i < text.len() {
-        if text[i] == b {
-            return i;
-        }
-        i += 1;
-    }
-    i
-}
 
 fn byte(input: &[u8], at: usize) -> u32
     ensures { λ r. ⌜ r < 256 ⌝ }
@@ -45,50 +30,60 @@ fn signed(n: u32) -> i32 {
     }
 }
 
-fn print(n: u64, behind: &[u8]) {
-    io::print_decimal(STDOUT_FILENO, n);
-    io::write_all(STDOUT_FILENO, behind);
+fn level(input: &[u8], at: usize) -> i32
+    requires { ⌜ at < 65536 ⌝ }
+{
+    signed(word(input, at))
 }
 
-// The number and place, the action, and the two words of the numerator, the low one first.
-fn show(v: values::Value) {
-    print(v.number as u64, b" ");
-    print(v.place as u64, b" ");
-    print(v.action as u64, b" ");
-    let x = v.numerator;
-    print(x.low, b" ");
+// A numerator's two words, the low one first.
+fn numerator(x: whole::Numerator) {
+    report::number(x.low, b" ");
     if x.high < 0 {
-        io::write_all(STDOUT_FILENO, b"-");
+        report::text(b"-");
     }
-    print(whole::limits::mag(x.high), b"\n");
+    report::number(whole::limits::mag(x.high), b"\n");
 }
 
-fn work(label: &[u8], input: &[u8]) {
+// The number and place, the action, and the numerator.
+fn show(v: values::Value) {
+    report::number(v.number as u64, b" ");
+    report::number(v.place as u64, b" ");
+    report::number(v.action as u64, b" ");
+    numerator(v.numerator);
+}
+
+// The worth of the state that the input begins with.
+fn asked(input: &[u8], model: &[u8]) -> values::Value {
+    worth::worth(
+        model,
+        word(input, 0),
+        word(input, 4),
+        level(input, 8),
+        level(input, 12),
+        level(input, 16),
+        level(input, 20),
+        level(input, 24),
+    )
+}
+
+fn work(name: &[u8], input: &[u8]) {
     if input.len() < 28 {
         return;
     }
-    let steps = word(input, 0);
-    let mask = word(input, 4);
-    let l1 = signed(word(input, 8));
-    let l2 = signed(word(input, 12));
-    let l3 = signed(word(input, 16));
-    let l4 = signed(word(input, 20));
-    let d = signed(word(input, 24));
-    io::write_all(STDOUT_FILENO, label);
-    io::write_all(STDOUT_FILENO, b": ");
-    show(worth::worth(&input[28..], steps, mask, l1, l2, l3, l4, d));
+    report::label(name);
+    show(asked(input, &input[28..]));
 }
 
-fn row(label: &[u8], text: &[u8], room: &mut [u8]) {
+fn row(name: &[u8], text: &[u8], room: &mut [u8]) {
     let n = hex_text::bytes_of(text, room);
-    work(label, &room[..n]);
+    work(name, &room[..n]);
 }
 
 fn line(text: &[u8]) {
     let k = find(text, 0, b':');
     if k == text.len() {
-        io::write_all(STDOUT_FILENO, text);
-        io::write_all(STDOUT_FILENO, b"\n");
+        report::line(text);
         return;
     }
     let mut room = [0u8; 1024];

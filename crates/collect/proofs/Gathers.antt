@@ -14,7 +14,7 @@ use Rattle.unique.specs.Unique.{Chained}
 use Rattle.theory.specs.Diagram.{Tree}
 use Rattle.diagrams.specs.Nodes.{testOf, treeOf, none, trees, Good}
 use Rattle.mark.specs.Mark.{needed, rootsOf, flag, markOf, Below, Space, Marked}
-use Rattle.mark.proofs.Trees.{trees-length, at-branch, tree-at}
+use Rattle.diagrams.proofs.Trees.{trees-length, at-branch, tree-at}
 use Rattle.mark.proofs.Reach.{needed-branch, needed-root}
 use Rattle.slide.specs.Slide.{rank, keepOf, Closed, Slid}
 use Rattle.slide.proofs.Ranks.{keep-at}

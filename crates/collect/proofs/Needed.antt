@@ -21,7 +21,7 @@ use Rattle.theory.specs.laws.Inside.{inside-parts, inside-branch, all-none, all
 use Rattle.collect.proofs.Order.{SameNodes, same-nodes, SameOut, run-order}
 use Rattle.diagrams.specs.Nodes.{leafOf, testOf, none, trees, Good}
 use Rattle.mark.specs.Mark.{sub, needed, rootsOf, Below}
-use Rattle.mark.proofs.Trees.{trees-length, at-leaf, at-branch}
+use Rattle.diagrams.proofs.Trees.{trees-length, at-leaf, at-branch}
 use Rattle.mark.proofs.Reach.{clash, either, same-true, needed-branch, needed-root}
 use Rattle.collect.specs.Collect.{keepIf, Collected}
 

@@ -11,12 +11,13 @@ use Rattle.theory.specs.Diagram.{Test}
 use Rattle.theory.specs.Rules.{choose, node}
 use Rattle.diagrams.specs.declared.Sides.{Sides}
 use Rattle.diagrams.specs.Nodes.{testOf, treeAt}
-use Rattle.diagrams.specs.Table.{slotOf, Key, Entry, storeOf, Lasting, Table, Ran, Grew}
-use Rattle.diagrams.specs.Roots.{choiceOf}
+use Rattle.diagrams.specs.Table.{Lasting, Table, Ran, Grew}
+use Rattle.computed_cache.specs.Cache.{slotOf, Key, Entry, storeOf}
+use Rattle.choice.specs.Choice.{choiceOf}
 use Rattle.diagrams.proofs.Trees.{trees-kept}
 use Rattle.diagrams.proofs.Outcomes.{ran-as, grew-as, lifted}
 use Rattle.diagrams.proofs.Caching.{answered, kept-run}
-use Rattle.diagrams.proofs.Choosing.{Here, Chooses, chooses-as}
+use Rattle.choice.proofs.Choosing.{Here, Chooses, chooses-as}
 use Rattle.diagrams.proofs.Going.{index-small, key-of}
 use Rattle.commands_choice.specs.Testing.{Stood, Testing, testAt, loadRule}
 

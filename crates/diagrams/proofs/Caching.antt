@@ -1,41 +1,29 @@
--- The cache's entries: read, stored, and right.
+-- The cache's entries mean what they say: answered, stored and kept.
 use mathlib.Core.Path.{_≡_, refl, sym, ap, _∙_, subst}
 use mathlib.Core.Bool.{Bool, true, false}
-use mathlib.Core.Logic.{⊎-elim, _⊎_, inl, inr}
+use mathlib.Core.Logic.{inl, inr}
 use mathlib.Core.List.{List}
-use Prim.Native.Nat.{ℕ, suc, _+_, _-_, _*_, _%_, _≤_, _<_}
-use native.Mathlib.Nat.{mod-lt}
+use Prim.Native.Nat.{ℕ, suc, _+_, _*_, _≤_, _<_}
 use native.Mathlib.Omega.{arith}
 use borrow.Author.Tests.{eqb-true, eqb-false, ltb-true, ltb-false}
 use lib.Dec.{ltb, eqb}
 use lib.IntN.{ℤ}
-use lib.ListN.{length, getD, set, length-set}
-use lib.Seq.{getD-set-same, getD-set-other}
+use lib.ListN.{length, getD}
+use Rattle.computed_cache.specs.Cache.{slotOf, Key, Room, Entry, storeOf}
+use Rattle.computed_cache.proofs.Entries.{slot-at, slot-lt, store-other, store-length, at-op, at-f, at-g, at-p, at-q, at-full}
 use Rattle.table.specs.declared.Made.{Made}
 use Rattle.unique.specs.Unique.{Chained}
 use Rattle.theory.specs.Diagram.{Tree}
 use Rattle.theory.specs.Computation.{Comp, done, run, member}
 use Rattle.theory.specs.laws.Comps.{member-in, member-find, rerun}
 use Rattle.diagrams.specs.Nodes.{none, trees, treeAt, Grown}
-use Rattle.diagrams.specs.Table.{Rule, slotOf, Room, Entry, storeOf, Stands, Lasting, Cached, Table, Ran, outOf}
+use Rattle.diagrams.specs.Table.{Rule, Stands, Lasting, Cached, Table, Ran, outOf}
 use Rattle.diagrams.proofs.Trees.{trees-length, trees-kept, grown-not, grown-on}
 use Rattle.diagrams.proofs.Outcomes.{out-ok, grown}
-
--- ---- places
-
-pub slot-at : (cap op f g p q : ℕ) → 0 < cap → (j : ℕ) × (j < cap) × (slotOf cap op f g p q ≡ cap * 2 + j * 6)
-unfolding slotOf
-slot-at cap op f g p q h = ((op * 7919 + f * 31 + g * 1009 + p * 263 + q) % cap, mod-lt _ h, refl)
-
-pub slot-lt : (cap op f g p q : ℕ) → 0 < cap → slotOf cap op f g p q + 6 ≤ cap * 8
-slot-lt cap op f g p q h = let a = slot-at cap op f g p q h in let b = a .1 in let e = a .2 in omega arith
+use Rattle.diagrams.proofs.Going.{index-small}
 
 pub room-in : {R : Rule} {cap : ℕ} {l : List ℤ} {w : List ℕ} {n : ℕ} → Table R cap l w n → Room cap w
 room-in A = let C = A .bare .chained in record { some = C .some; few = C .few; works = C .works }
-
--- what the code reads is an entry
-pub entry-is : {w : List ℕ} {s t op f g p q : ℕ} → s ≡ t → getD w s 0 ≡ op → getD w (s + 1) 0 ≡ f → getD w (s + 2) 0 ≡ g → getD w (s + 3) 0 ≡ p → getD w (s + 4) 0 ≡ q → (getD w (s + 5) 0 ≡ 0 → ⊥) → Entry w t op f g p q (getD w (s + 5) 0 - 1)
-entry-is {w} {s} {t} {op} {f} {g} {p} {q} e a b c d k z = subst (λ (t : ℕ). Entry w t op f g p q (getD w (s + 5) 0 - 1)) e (record { is-op = a; is-f = b; is-g = c; is-p = d; is-q = k; full = omega arith })
 
 -- an entry answers what its words mean
 pub answered : {R : Rule} {cap : ℕ} {l : List ℤ} {w : List ℕ} {n : ℕ} → Table R cap l w n → (op f g p q k : ℕ) → Entry w (slotOf cap op f g p q) op f g p q k → Ran R cap l w n (R l n op f g p q) l w (record { stop = 0; at = k; count = n })
@@ -44,59 +32,6 @@ answered {cap = cap} {l} {w} {n} A op f g p q k E =
     let s = slot-at cap op f g p q (A .bare .chained .some) in
     let S = A .cached (s .0) op f g p q k (s .1) (subst (λ (z : ℕ). Entry w z op f g p q k) (s .2) E) in
     record { ran = sym (S .again l n (grown-not l n)); table = A; within = λ t. S .result; more = omega arith; kept = λ i q. refl }
-
--- ---- a store
-
-module _ (w : List ℕ) (s op f g p q r : ℕ) (room : s + 6 ≤ length w) where
-  abbrev w1 : List ℕ
-  w1 = set w (s) op
-
-  abbrev w2 : List ℕ
-  w2 = set w1 (s + 1) f
-
-  abbrev w3 : List ℕ
-  w3 = set w2 (s + 2) g
-
-  abbrev w4 : List ℕ
-  w4 = set w3 (s + 3) p
-
-  abbrev w5 : List ℕ
-  w5 = set w4 (s + 4) q
-
-  store-other : (j : ℕ) → (j < s) ⊎ (s + 6 ≤ j) → getD (storeOf w s op f g p q r) j 0 ≡ getD w j 0
-  unfolding storeOf
-  store-other j h = ⊎-elim
-      (λ (a : j < s). getD-set-other w5 (s + 5) j (r + 1) 0 (omega arith) ∙ (getD-set-other w4 (s + 4) j q 0 (omega arith) ∙ (getD-set-other w3 (s + 3) j p 0 (omega arith) ∙ (getD-set-other w2 (s + 2) j g 0 (omega arith) ∙ (getD-set-other w1 (s + 1) j f 0 (omega arith) ∙ (getD-set-other w (s) j op 0 (omega arith)))))))
-      (λ (a : s + 6 ≤ j). getD-set-other w5 (s + 5) j (r + 1) 0 (omega arith) ∙ (getD-set-other w4 (s + 4) j q 0 (omega arith) ∙ (getD-set-other w3 (s + 3) j p 0 (omega arith) ∙ (getD-set-other w2 (s + 2) j g 0 (omega arith) ∙ (getD-set-other w1 (s + 1) j f 0 (omega arith) ∙ (getD-set-other w (s) j op 0 (omega arith)))))))
-      h
-
-  at-op : getD (storeOf w s op f g p q r) (s) 0 ≡ op
-  unfolding storeOf
-  at-op = getD-set-other w5 (s + 5) (s) (r + 1) 0 (omega arith) ∙ (getD-set-other w4 (s + 4) (s) q 0 (omega arith) ∙ (getD-set-other w3 (s + 3) (s) p 0 (omega arith) ∙ (getD-set-other w2 (s + 2) (s) g 0 (omega arith) ∙ (getD-set-other w1 (s + 1) (s) f 0 (omega arith) ∙ (getD-set-same w (s) op 0 (omega arith))))))
-
-  at-f : getD (storeOf w s op f g p q r) (s + 1) 0 ≡ f
-  unfolding storeOf
-  at-f = getD-set-other w5 (s + 5) (s + 1) (r + 1) 0 (omega arith) ∙ (getD-set-other w4 (s + 4) (s + 1) q 0 (omega arith) ∙ (getD-set-other w3 (s + 3) (s + 1) p 0 (omega arith) ∙ (getD-set-other w2 (s + 2) (s + 1) g 0 (omega arith) ∙ (getD-set-same w1 (s + 1) f 0 (simp length-set (omega arith))))))
-
-  at-g : getD (storeOf w s op f g p q r) (s + 2) 0 ≡ g
-  unfolding storeOf
-  at-g = getD-set-other w5 (s + 5) (s + 2) (r + 1) 0 (omega arith) ∙ (getD-set-other w4 (s + 4) (s + 2) q 0 (omega arith) ∙ (getD-set-other w3 (s + 3) (s + 2) p 0 (omega arith) ∙ (getD-set-same w2 (s + 2) g 0 (simp length-set (omega arith)))))
-
-  at-p : getD (storeOf w s op f g p q r) (s + 3) 0 ≡ p
-  unfolding storeOf
-  at-p = getD-set-other w5 (s + 5) (s + 3) (r + 1) 0 (omega arith) ∙ (getD-set-other w4 (s + 4) (s + 3) q 0 (omega arith) ∙ (getD-set-same w3 (s + 3) p 0 (simp length-set (omega arith))))
-
-  at-q : getD (storeOf w s op f g p q r) (s + 4) 0 ≡ q
-  unfolding storeOf
-  at-q = getD-set-other w5 (s + 5) (s + 4) (r + 1) 0 (omega arith) ∙ (getD-set-same w4 (s + 4) q 0 (simp length-set (omega arith)))
-
-  at-full : getD (storeOf w s op f g p q r) (s + 5) 0 ≡ r + 1
-  unfolding storeOf
-  at-full = getD-set-same w5 (s + 5) (r + 1) 0 (simp length-set (omega arith))
-
-  store-length : length (storeOf w s op f g p q r) ≡ length w
-  unfolding storeOf
-  store-length = simp length-set
 
 -- a result that stands is kept
 module _ {R : Rule} {cap : ℕ} {l : List ℤ} {w : List ℕ} {n : ℕ} (A : Table R cap l w n) (op f g p q r : ℕ) (S : Stands R cap l n op f g p q r) where
@@ -203,3 +138,7 @@ kept-run {R} {cap} {l} {l′} {n = n} {op} {f} {g} {p} {q} {r} L Q ok e = record
   more = Q .more;
   kept = Q .kept;
 }
+
+-- what a store into the cache asks, after a run
+pub keepable : {R : Rule} {cap : ℕ} {l l′ : List ℤ} {w w′ : List ℕ} {n : ℕ} {m : Comp Tree} {r : Made} {op f g p q : ℕ} → Ran R cap l w n m l′ w′ r → r .stop ≡ 0 → Key op f g p q → Room cap w′ × Key op f g p q × (r .at < 65536)
+keepable {r = r} Q ok K = (room-in (Q .table), K, index-small (r .at) (Q .table .bare) (Q .within ok))

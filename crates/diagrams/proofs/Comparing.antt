@@ -1,57 +1,21 @@
--- What the code's comparisons say: of numbers, of nodes' words, and of the sides that follow.
+-- What the code's comparisons say: of numbers and of nodes' words.
 use mathlib.Core.Path.{_≡_, refl, sym, ap, ap₂, _∙_, subst}
 use mathlib.Core.Bool.{Bool, true, false}
 use Prim.Native.Nat.{ℕ, zero, suc, _<_, _^_, compare, Ordering, Ordering·lt, Ordering·eq, Ordering·gt, compare·zero-suc, compare·suc-zero, compare·suc-suc}
 use native.Mathlib.Omega.{arith}
 use borrow.Author.Tests.{ltb-true, ltb-false}
-use lib.Dec.{T, eqb}
+use lib.Dec.{T}
 use lib.IntN.{ℤ, pos, negsuc, natAbs}
 use lib.Signed.{nonNeg, mag, ltZ}
-use mir.Syntax.{w64}
-use mir.Val.{SFits, Fits, toZ, ofZ}
-use mir.ValLaws.{toZ-ofZ}
 use mathlib.Core.List.{List}
-use Rattle.whole.specs.Cases.{if}
-use Rattle.table.proofs.Words.{R, back, same-bits}
-use Rattle.table.proofs.Look.{eqZ-true, eqZ-refl}
+use Rattle.table.proofs.Words.{R, back}
 use Rattle.table.specs.Table.{nodeAt, eqZ}
 use Rattle.table.specs.declared.Node.{Node}
 use Rattle.theory.specs.Diagram.{then, cmpZ}
 use Rattle.theory.specs.laws.Comps.{cmpZ-refl}
 use Rattle.diagrams.specs.declared.Down.{Down}
-use Rattle.diagrams.specs.declared.Sides.{Sides}
 use Rattle.diagrams.specs.Nodes.{At}
-use Rattle.diagrams.specs.Roots.{ordNum, orderOf, downOf, splitOf, pickOf, sidesOf, choiceOf, endSides, leftSides, rightSides, bothSides}
-
--- ---- words
-
--- a branch word is an index
-pub index-fits : (z : ℤ) → SFits w64 z → T (nonNeg z) → T (nonNeg (toZ w64 (ofZ w64 z))) × Fits w64 (natAbs (toZ w64 (ofZ w64 z)))
-index-fits z f t = rw (toZ-ofZ w64 z f) (t, go z f t)
-  where
-    go : (z : ℤ) → SFits w64 z → T (nonNeg z) → Fits w64 (natAbs z)
-    go (pos n) f t = record { fits = let q = f .sfits in omega arith }
-    go (negsuc n) f t = absurd t
-
--- the code's test of a kind
-pub kind-yes : (z : ℤ) → mag z < 2 ^ 63 → ofZ w64 z ≡ 0 → eqZ z (pos 0) ≡ true
-kind-yes z f e = ap (λ (k : ℤ). eqZ k (pos 0)) (same-bits z (pos 0) f (omega arith) e) ∙ eqZ-refl (pos 0)
-
-pub kind-no : (z : ℤ) → (ofZ w64 z ≡ 0 → ⊥) → eqZ z (pos 0) ≡ false
-kind-no z n = go (eqZ z (pos 0)) refl
-  where
-    go : (b : Bool) → eqZ z (pos 0) ≡ b → eqZ z (pos 0) ≡ false
-    go true e = absurd (n (ap (ofZ w64) (eqZ-true z (pos 0) e)))
-    go false e = e
-
-pub nat-back : (z : ℤ) → mag z < 2 ^ 63 → T (nonNeg z) → T (nonNeg (R z))
-nat-back z f t = subst (λ (k : ℤ). T (nonNeg k)) (sym (back z f)) t
-
-pub abs-of : (z : ℤ) {n : ℕ} → mag z < 2 ^ 63 → n ≡ natAbs (R z) → n ≡ natAbs z
-abs-of z f e = e ∙ ap natAbs (back z f)
-
-pub lt-of : (a b : ℤ) {t : Bool} → mag a < 2 ^ 63 → mag b < 2 ^ 63 → ltZ (R a) (R b) ≡ t → ltZ a b ≡ t
-lt-of a b fa fb e = sym (ap₂ ltZ (back a fa) (back b fb)) ∙ e
+use Rattle.diagrams.specs.Roots.{ordNum, downOf}
 
 -- ---- the order of two numbers
 
@@ -131,21 +95,6 @@ cmp-back a b fa fb e = e ∙ ap₂ (λ (x y : ℤ). ordNum (cmpZ x y)) (back a f
 pub at-as : {l : List ℤ} {i : ℕ} {x : Node} → x ≡ nodeAt l i → At l i → T (nonNeg (x .high)) × T (nonNeg (x .low))
 at-as {l} {i} {x} e a = subst (λ (x : Node). T (nonNeg (x .high)) × T (nonNeg (x .low))) (sym e) (a .high, a .low)
 
-pub sides-as : {x y x′ y′ : Node} (f g : ℕ) {o : ℕ} {p q : Down} {r : Sides} → x ≡ x′ → y ≡ y′ → p ≡ downOf x → q ≡ downOf y → o ≡ ordNum (orderOf x y) → r ≡ splitOf p f q g o → r ≡ sidesOf x′ f y′ g
-unfolding sidesOf
-sides-as f g ex ey ep eq eo er = cc
-
-pub choice-as : {x y x′ y′ : Node} (z : Node) (f g : ℕ) {a b o : ℕ} {p q : Down} {r : Sides} → x ≡ x′ → y ≡ y′ → p ≡ downOf x → q ≡ downOf y → a ≡ ordNum (orderOf z x) → b ≡ ordNum (orderOf z y) → o ≡ ordNum (orderOf x y) → r ≡ pickOf p f q g a b o → r ≡ choiceOf z x′ f y′ g
-unfolding choiceOf
-choice-as z f g ex ey ep eq ea eb eo er = cc
-
 pub down-as : (x : Node) {h l : ℕ} (b : Bool) → eqZ (x .kind) (pos 0) ≡ b → h ≡ natAbs (x .high) → l ≡ natAbs (x .low) → _≡_ {A = Down} (record { ends = b; high = h; low = l }) (downOf x)
 unfolding downOf
 down-as x b e eh el = λ i. record { ends = sym e i; high = eh i; low = el i }
-
-abbrev pub splitBy : Bool → Bool → Bool → Bool → Down → ℕ → Down → ℕ → Sides
-splitBy a b c d x f y g = if a (if b (endSides f g g) (rightSides f y g)) (if b (leftSides x f g) (if c (leftSides x f g) (if d (bothSides x f y) (rightSides f y g))))
-
-pub split-as : (x : Down) (f : ℕ) (y : Down) (g o : ℕ) (a b c d : Bool) → x .ends ≡ a → y .ends ≡ b → eqb o 0 ≡ c → eqb o 1 ≡ d → splitBy a b c d x f y g ≡ splitOf x f y g o
-unfolding splitOf
-split-as x f y g o a b c d e₁ e₂ e₃ e₄ = λ i. splitBy (sym e₁ i) (sym e₂ i) (sym e₃ i) (sym e₄ i) x f y g

@@ -14,7 +14,8 @@ use Rattle.theory.specs.Computation.{Comp, both}
 use Rattle.theory.specs.Rules.{over}
 use Rattle.diagrams.specs.declared.Sides.{Sides}
 use Rattle.diagrams.specs.Nodes.{leafOf, testOf, treeAt, Good, At, Root}
-use Rattle.diagrams.specs.Table.{Rule, Key, Bare, Ran}
+use Rattle.diagrams.specs.Table.{Rule, Bare, Ran}
+use Rattle.computed_cache.specs.Cache.{Key}
 use Rattle.diagrams.proofs.Trees.{trees-kept, at-leaf, at-branch}
 use Rattle.diagrams.proofs.Outcomes.{grown, ran-as, both-high-stops, both-low-stops, both-high-in, both-made}
 use Rattle.diagrams.proofs.Joining.{root-kept}

@@ -7,10 +7,6 @@ pub mod Joining
 pub mod Caching
 pub mod Ordered
 pub mod Stepping
-pub mod Merging
-pub mod Choosing
 pub mod Going
 pub mod Judging
 pub mod Meanings
-pub mod Choices
-pub mod Clearing

@@ -22,8 +22,8 @@ use Rattle.table.specs.declared.Node.{Node}
 use Rattle.theory.specs.Widths.{conditions-most}
 use Rattle.theory.specs.Diagram.{Test, later, linear, Leaf, Tree, leaf, branch, quotL, quotient, divisor, test-of}
 use Rattle.theory.specs.Rules.{choose, over, decide, sum, product, best, scale, shift, complement, number, side, substitute}
-use Rattle.diagrams.specs.Nodes.{linOf, leafOf, testOf, treeAt, Nums, Good, Proper, Grown}
-use Rattle.diagrams.specs.Table.{Lasting, Bare}
+use Rattle.diagrams.specs.Nodes.{linOf, leafOf, testOf, treeAt, Nums, Good, Proper, Grown, Root}
+use Rattle.diagrams.specs.Table.{Lasting, Bare, Table}
 use Rattle.diagrams.specs.Meaning.{cOf, testIn, testBy, Names, packed, ruleOf}
 use Rattle.diagrams.specs.Roots.{laterNode, fiveOf, fiveNode, namedNode, testNode, Readable}
 use Rattle.diagrams.proofs.Trees.{trees-kept, later-is, at-leaf, at-branch}
@@ -296,3 +296,7 @@ test-later l op p e er = er ∙ ap (λ (b : Bool). if b (laterNode p) (namedNode
 pub test-named : {x r : Node} (l : List ℤ) (op p : ℕ) → (op ≡ 10 → ⊥) → x ≡ nodeAt l p → r ≡ namedNode x → r ≡ testNode l op p
 unfolding testNode
 test-named l op p n ex er = er ∙ (ap namedNode ex ∙ ap (λ (b : Bool). if b (laterNode p) (namedNode (nodeAt l p))) (sym (ne-eqb op 10 n)))
+
+-- a node's own test is the one that its index names
+pub root-test : {cap : ℕ} {l : List ℤ} {w : List ℕ} {n t : ℕ} → Table ruleOf cap l w n → Root l n t → testBy l n 11 t ≡ testOf (nodeAt l t)
+root-test {l = l} {n = n} {t = t} A q = sym (test-is (A .bare .good) (inr (refl, q .below)) (test-named l 11 t (λ e. absurd (omega arith)) refl (named-branch-as (nodeAt l t) (q .branches))))

@@ -1,9 +1,6 @@
-// Diagrams in a node table: the unique table's nodes read as trees, the computed cache, and choose.
-pub mod tests; // tests.rt: numbers and tests compared, the test that a choice is given
-pub mod roots; // roots.rt: what a rule of two operands goes on with
+// Diagrams in a node table: the unique table's nodes read as trees.
+pub mod tests; // tests.rt: numbers and tests compared, the test that a choice is given, what lies below a node
 pub mod making; // making.rt: nodes looked up or made
-pub mod cache; // cache.rt: results kept
-pub mod rules; // rules.rt: choose
 
 // What lies below a node: nothing where it ends, at a leaf.
 pub struct Down {

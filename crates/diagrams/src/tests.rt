@@ -1,4 +1,4 @@
-// Numbers and tests compared, and the test that a choice is given.
+// Numbers and tests compared, the test that a choice is given, and what lies below a node.
 ghost use mathlib.Core.Path.{_≡_};
 ghost use Prim.Native.Nat.{_≤_};
 ghost use lib.Dec.{T};
@@ -7,7 +7,8 @@ ghost use lib.IntN.{natAbs};
 ghost use Rattle.theory.specs.Widths.{conditions-most};
 ghost use Rattle.theory.specs.Diagram.{cmpZ};
 ghost use Rattle.diagrams.specs.Nodes.{Nums};
-ghost use Rattle.diagrams.specs.Roots.{ordNum, orderOf, laterNode, fiveOf, fiveNode, namedNode, testNode, Readable};
+ghost use Rattle.diagrams.specs.Roots.{ordNum, orderOf, laterNode, fiveOf, fiveNode, namedNode, testNode, Readable, downOf};
+use super::Down;
 use table::Node;
 use whole::Five;
 use whole::divisors::divided;
@@ -18,6 +19,29 @@ pub fn index(z: i64) -> usize
     ensures { λ r. ⌜ r ≡ natAbs z ⌝ }
 {
     z as usize
+}
+
+// What lies below a node.
+pub fn below(x: Node) -> Down
+    requires { ⌜ T (nonNeg (x .high)) × T (nonNeg (x .low)) ⌝ }
+    ensures { λ r. ⌜ r ≡ downOf x ⌝ }
+{
+    let h = x.high;
+    let l = x.low;
+    let high = index(h);
+    let low = index(l);
+    if x.kind == 0 {
+        return Down {
+            ends: true,
+            high,
+            low,
+        };
+    }
+    Down {
+        ends: false,
+        high,
+        low,
+    }
 }
 
 // 0, 1, 2: smaller, equal, greater.

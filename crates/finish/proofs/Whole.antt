@@ -17,7 +17,7 @@ use Rattle.theory.specs.laws.Table.{number-below, number-entry}
 use Rattle.theory.specs.laws.Words.{rows-length}
 use Rattle.diagrams.specs.Nodes.{none, trees, treeAt}
 use Rattle.numbering.specs.Number.{Held, Roots, treesOf, listOf, Numbered, Listed}
-use Rattle.numbering.proofs.Trees.{at-leaf, at-branch}
+use Rattle.diagrams.proofs.Trees.{at-leaf, at-branch}
 use Rattle.numbering.proofs.Numbers.{number-in}
 use Rattle.numbering.proofs.Enter.{list-length, numbered-fits}
 use Rattle.arrange.specs.Arrange.{renumber, Inverse, Arranged, Rewritten}

@@ -1,8 +1,25 @@
 // Models written as text, for test programs: pairs of hexadecimal digits, O for a number 0 (four bytes),
-// P for a leaf 0 (10 and five numbers 0). Other characters stand for nothing.
+// P for a leaf 0 (10 and five numbers 0). Other characters stand for nothing. And what such programs print.
 ghost use mathlib.Core.Path.{_≡_};
 ghost use Prim.Native.Nat.{_≤_, _<_};
 ghost use lib.ListN.{length};
+
+pub mod report; // report.rt: numbers and refusals printed
+
+// Where a byte first stands from an offset on; the length where it does not.
+pub fn find(text: &[u8], from: usize, b: u8) -> usize
+    requires { ⌜ from ≤ length (now text) ⌝ }
+    ensures { λ r. ⌜ (from ≤ r) × (r ≤ length (now (text .entry))) ⌝ }
+{
+    let mut i = from;
+    while i < text.len() {
+        if text[i] == b {
+            return i;
+        }
+        i += 1;
+    }
+    i
+}
 
 // The value of a digit, 16 where it is none.
 fn digit(c: u8) -> u8

@@ -15,10 +15,10 @@ use Rattle.whole.specs.Cases.{if}
 use Rattle.theory.specs.Value.{node-word, good-row}
 use Rattle.theory.specs.Verdict.{Site}
 use Rattle.theory.specs.Listing.{greatest-root}
-use Rattle.values.proofs.Kind.{the-type}
-use Rattle.values.specs.declared.Kind.{Kind}
-use Rattle.values.specs.declared.Kind.the-variants.{Leaf, Condition, Test, Bad}
-use Rattle.values.specs.Row.{kind-of, row-kind}
+use Rattle.rows.proofs.Kind.{the-type}
+use Rattle.rows.specs.declared.Kind.{Kind}
+use Rattle.rows.specs.declared.Kind.the-variants.{Leaf, Condition, Test, Bad}
+use Rattle.rows.specs.Row.{kind-of, row-kind}
 use Rattle.plan_text.specs.Plan.{Ready}
 use Rattle.listing.specs.Refusal.{rooted, rows-good, plan-refusal}
 use Rattle.listing.proofs.Every.{every, every-false, every-last, and-left}

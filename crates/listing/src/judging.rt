@@ -10,8 +10,8 @@ ghost use Rattle.theory.specs.Listing.{greatest-root};
 ghost use Rattle.progress.specs.Standing.{site-as};
 ghost use Rattle.listing.specs.Refusal.{rooted, plan-refusal};
 use progress::Site;
-use values::Kind;
-use values::rows::row_kind;
+use rows::Kind;
+use rows::row_kind;
 
 fn larger(a: u32, b: u32) -> u32
     ensures { λ r. ⌜ r ≡ max a b ⌝ }

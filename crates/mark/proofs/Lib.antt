@@ -1,3 +1,2 @@
-pub mod Trees
 pub mod Reach
 pub mod Steps

@@ -19,7 +19,7 @@ use Rattle.diagrams.specs.Nodes.{testOf, none, trees, Good}
 use Rattle.clear.specs.Wipe.{wiped}
 use Rattle.clear.proofs.Parts.{same-length, within, after}
 use Rattle.mark.specs.Mark.{sub, needed, rootsOf, flag, Below, markOf, markStep, markDown, Marked}
-use Rattle.mark.proofs.Trees.{at-leaf, at-branch}
+use Rattle.diagrams.proofs.Trees.{at-leaf, at-branch}
 
 pub clash : {X : Type 0} {b : Bool} → b ≡ true → b ≡ false → X
 clash p q = absurd (let z : _≡_ {A = ℕ} 0 1 = cc in omega arith)

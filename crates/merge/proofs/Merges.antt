@@ -1,7 +1,6 @@
 -- A merge on the table: answered, ended at leaves, gone on with, and kept.
 use mathlib.Core.Path.{_≡_, refl, sym, ap, _∙_}
 use mathlib.Core.Bool.{Bool}
-use mathlib.Core.Logic.{inr}
 use mathlib.Core.List.{List}
 use Prim.Native.Nat.{ℕ, zero, suc, _≤_, _<_}
 use native.Mathlib.Nat.{lt-of-lt-of-le}
@@ -16,15 +15,18 @@ use Rattle.theory.specs.Computation.{Comp}
 use Rattle.theory.specs.Rules.{node, choose, merge, sum, product, best}
 use Rattle.diagrams.specs.declared.Sides.{Sides}
 use Rattle.diagrams.specs.Nodes.{leafOf, testOf, treeAt, Root}
-use Rattle.diagrams.specs.Table.{Key, Table, Ran, Grew, Lasting}
-use Rattle.diagrams.specs.Meaning.{testBy, ruleOf}
-use Rattle.diagrams.specs.Roots.{sidesOf}
+use Rattle.diagrams.specs.Table.{Table, Ran, Grew, Lasting}
+use Rattle.computed_cache.specs.Cache.{Key}
+use Rattle.diagrams.specs.Meaning.{ruleOf}
+use Rattle.choice.specs.Choice.{sidesOf}
 use Rattle.diagrams.proofs.Outcomes.{ran-as, lifted}
-use Rattle.diagrams.proofs.Meanings.{lasts-sum, lasts-product, lasts-best, test-is, test-named, named-branch-as}
-use Rattle.diagrams.proofs.Merging.{Ends, Goes, goes-as}
+use Rattle.diagrams.proofs.Meanings.{lasts-sum, lasts-product, lasts-best}
+use Rattle.choice.proofs.Merging.{Ends, Goes, goes-as}
 use Rattle.diagrams.proofs.Stepping.{On}
 use Rattle.diagrams.proofs.Going.{index-small, key-of, high-stops, low-stops, root-on, high-in, joined}
-use Rattle.merge.specs.Merged.{makerOf, leafRule, AtLeaf}
+use Rattle.leaves.specs.Leaves.{AtLeaf}
+use Rattle.merge_leaves.specs.Combined.{leafRule}
+use Rattle.merge.specs.Merged.{makerOf}
 
 -- ---- three rules
 
@@ -109,7 +111,3 @@ module _ (op : ℕ) (t : Test) (H L : Tree) where
   pub is-node : (op ≡ 2 → ⊥) → node t H L ≡ makerOf op t H L
   unfolding makerOf
   is-node e = ap (λ (b : Bool). (if b choose node) t H L) (sym (ne-eqb op 2 e))
-
--- a node's own test is the one that its index names
-pub root-test : {cap : ℕ} {l : List ℤ} {w : List ℕ} {n t : ℕ} → Table ruleOf cap l w n → Root l n t → testBy l n 11 t ≡ testOf (nodeAt l t)
-root-test {l = l} {n = n} {t = t} A q = sym (test-is (A .bare .good) (inr (refl, q .below)) (test-named l 11 t (λ e. absurd (omega arith)) refl (named-branch-as (nodeAt l t) (q .branches))))

@@ -5,16 +5,13 @@ ghost use Rattle.diagrams.specs.Nodes.{testOf, treeAt, Root};
 ghost use Rattle.diagrams.specs.Table.{Table, Ran};
 ghost use Rattle.diagrams.specs.Meaning.{ruleOf};
 ghost use Rattle.merge.specs.Merged.{makerOf};
-use diagrams::cache::keep;
-use diagrams::cache::look;
+use choice::choose;
+use choice::roots::sides_at;
+use computed_cache::keep;
+use computed_cache::look;
 use diagrams::making::join;
-use diagrams::roots::sides_at;
-use diagrams::rules::choose;
-use leaves::combine;
+use merge_leaves::combine;
 use table::Made;
-
-pub mod numbers; // numbers.rt: linears added, subtracted and multiplied, as leaves
-pub mod leaves; // leaves.rt: two leaves combined
 
 // What a rule makes of two results over the root at t: best chooses, the others have a node.
 pub fn over_root(

@@ -1,4 +1,3 @@
 -- Laws that several proofs cite.
 pub mod Walk
-pub mod Naming
 pub mod Accepted

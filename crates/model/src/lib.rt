@@ -16,8 +16,6 @@ use command::Command;
 use command::Read;
 use progress::Site;
 
-pub mod names;
-
 // The number and the place of a refusal; 0 and 0 where there is none.
 pub struct Verdict {
     pub number: u32,

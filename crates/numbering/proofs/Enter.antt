@@ -22,7 +22,7 @@ use Rattle.theory.specs.laws.Counting.{distinct-fit}
 use Rattle.theory.specs.laws.Table.{number-last, distinct-add}
 use Rattle.diagrams.specs.Nodes.{testOf, none, trees, treeAt}
 use Rattle.numbering.specs.Number.{Held, listOf, Numbered, assigned, Entered}
-use Rattle.numbering.proofs.Trees.{trees-length, at-leaf, at-branch}
+use Rattle.diagrams.proofs.Trees.{trees-length, at-leaf, at-branch}
 use Rattle.numbering.proofs.Numbers.{number-none, number-out, number-in, number-other, enter-there, enter-leaf, enter-branch, still-out}
 
 -- ---- the list in the work words

@@ -1,5 +1,3 @@
-pub mod Bits
-pub mod Trees
 pub mod Numbers
 pub mod Enter
 pub mod Rootwise

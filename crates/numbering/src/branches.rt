@@ -6,19 +6,12 @@ ghost use lib.IntN.{pos, natAbs};
 ghost use lib.ListN.{length, getD};
 ghost use lib.Signed.{nonNeg};
 ghost use Rattle.table.specs.Table.{nodeAt, eqZ};
+use diagrams::tests::index;
 
 // The words of a node that hold its branches.
 pub const HIGH: usize = 6;
 
 pub const LOW: usize = 7;
-
-// A branch word as an index.
-pub fn index(z: i64) -> usize
-    requires { ⌜ T (nonNeg z) ⌝ }
-    ensures { λ r. ⌜ r ≡ natAbs z ⌝ }
-{
-    z as usize
-}
 
 // Whether node i is a leaf.
 pub fn is_leaf(nodes: &[i64], i: usize) -> bool

@@ -17,8 +17,8 @@ use Rattle.diagrams.specs.Meaning.{ruleOf}
 use Rattle.diagrams.proofs.Trees.{trees-kept, grown-on}
 use Rattle.diagrams.proofs.Outcomes.{grown, stop, seq, ran-as}
 use Rattle.diagrams.proofs.Meanings.{rule-sum, rule-product, rule-yes, rule-no, lasts-no}
-use Rattle.unary.specs.Acts.{Picks}
-use Rattle.substitute.proofs.Adding.{bind-bind}
+use Rattle.unary.specs.Picks.{Picks}
+use Rattle.theory.specs.laws.Comps.{bind-bind}
 
 pub yes-picks : {k : ℕ} → 0 < k → k ≤ conditions-most → Picks 7 k
 yes-picks a b = record { from = omega arith; to = omega arith; some = a; most = b }

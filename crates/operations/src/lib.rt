@@ -6,7 +6,7 @@ ghost use Rattle.theory.specs.Rules as T;
 ghost use Rattle.diagrams.specs.Nodes.{treeAt};
 ghost use Rattle.diagrams.specs.Table.{Table, Ran};
 ghost use Rattle.diagrams.specs.Meaning.{ruleOf};
-ghost use Rattle.unary.specs.Acts.{Picks};
+ghost use Rattle.unary.specs.Picks.{Picks};
 use merge::merge;
 use table::Made;
 use unary::rules::complement;

@@ -14,7 +14,7 @@ use Rattle.whole.specs.Cases.{if}
 use Rattle.theory.specs.Verdict.{refusal}
 use Rattle.theory.specs.Value.{node-word, node-linear, high-of, low-of}
 use Rattle.theory.specs.Listing.{spaced, spaced-all, line, five, first-line, node-line, stage-line, refusal-line}
-use Rattle.values.specs.Row.{Inside}
+use Rattle.rows.specs.Row.{Inside}
 use Rattle.progress.specs.declared.Site.{Site}
 use Rattle.progress.specs.Standing.{site-as}
 use Rattle.plan_text.specs.Plan.{node-rest}

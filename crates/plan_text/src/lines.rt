@@ -7,7 +7,7 @@ ghost use Rattle.theory.specs.Verdict.{refusal};
 ghost use Rattle.theory.specs.Value.{node-word, high-of, low-of};
 ghost use Rattle.theory.specs.Listing.{first-line, node-line, stage-line, refusal-line};
 ghost use Rattle.progress.specs.Standing.{site-as};
-ghost use Rattle.values.specs.Row.{Inside};
+ghost use Rattle.rows.specs.Row.{Inside};
 ghost use Rattle.decimal.specs.Put.{PutAt};
 ghost use Rattle.plan_text.specs.Plan.{node-rest};
 use decimal::lines::line_len;
@@ -18,8 +18,8 @@ use decimal::number_len;
 use decimal::put_bytes;
 use decimal::put_number;
 use progress::Site;
-use values::words::magnitude;
-use values::words::word;
+use rows::words::magnitude;
+use rows::words::word;
 
 fn first_numbers(site: Site, horizon: u32) -> [u64; 5]
     ensures { λ r. ⌜ r ≡ site .levels ∷ site .conditions ∷ site .actions ∷ site .weights ∷ horizon ∷ [] ⌝ }

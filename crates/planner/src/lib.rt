@@ -6,9 +6,7 @@ ghost use Rattle.theory.specs.Listing.{listing as listing-of};
 ghost use Rattle.theory.specs.Plain.{plain-of};
 ghost use Rattle.theory.specs.Solve.{solve as solve-of};
 ghost use Rattle.values.specs.State.{asked-by};
-ghost use Rattle.planner.specs.Answers.{answered, value-answer, name-answer, listed, listing-answer, solved, solve-answer};
-
-pub mod answers; // answers.rt: an answer as bytes
+ghost use Rattle.answers.specs.Answers.{answered, value-answer, name-answer, listed, listing-answer, solved, solve-answer};
 
 #[repr(C)]
 pub struct Judged {
@@ -56,11 +54,11 @@ pub extern "C" fn planner_value(
 pub extern "C" fn planner_name(bytes: &[u8], action: u32, out: &mut [u8]) -> u32
     ensures { λ r. ⌜ answered r (now (out .exit)) ≡ name-answer (now (bytes .entry)) action (now (out .entry)) ⌝ }
 {
-    let v = model::names::name_refusal(bytes, action);
+    let v = names::name_refusal(bytes, action);
     if out.len() < 24 {
         return answers::short(v.number);
     }
-    answers::put_name(out, v.place, model::names::name(bytes, action));
+    answers::put_name(out, v.place, names::name(bytes, action));
     v.number
 }
 

@@ -1,13 +1,15 @@
 -- A step leaves the table right; the table begins empty.
 use mathlib.Core.Path.{_≡_, refl, sym, subst}
+use mathlib.Core.Bool.{Bool, true, false}
 use mathlib.Core.List.{List}
 use Prim.Native.Nat.{ℕ, _*_, _≤_, _<_}
 use native.Mathlib.Omega.{arith}
 use lib.IntN.{ℤ, pos}
 use lib.ListN.{length, getD}
 use mir.Syntax.{w64}
-use mir.Val.{toZ}
-use Rattle.whole.proofs.Signed.{plain}
+use mir.Val.{toZ, SFits}
+use Rattle.whole.specs.Within.{Small}
+use Rattle.whole.proofs.Signed.{plain, R, back}
 use Rattle.table.specs.declared.Made.{Made}
 use Rattle.theory.specs.Computation.{Comp}
 use Rattle.theory.specs.Diagram.{Tree}
@@ -16,6 +18,7 @@ use Rattle.diagrams.specs.Nodes.{Proper}
 use Rattle.table.specs.Table.{eqZ}
 use Rattle.diagrams.specs.Table.{Table, Grew}
 use Rattle.diagrams.specs.Meaning.{ruleOf}
+use Rattle.unary_node.specs.Acts.{Acts}
 use Rattle.diagrams.proofs.Outcomes.{lifted, fresh}
 
 pub grew : {cap n : ℕ} {l l₁ : List ℤ} {w w₁ : List ℕ} {m : Comp Tree} {r : Made} → Table ruleOf cap l w n → Grew cap l w n m l₁ w₁ r → Table ruleOf cap l₁ w₁ (r .count)
@@ -54,3 +57,23 @@ proper-pos k a b = record {
 
 pub proper-condition : (k : ℕ) → 0 < k → k ≤ 8 → Proper (record { kind = pos 1; c1 = toZ w64 k; c2 = pos 0; c3 = pos 0; c4 = pos 0; constant = pos 0; high = pos 0; low = pos 0 })
 proper-condition k a b = subst (λ z. Proper (record { kind = pos 1; c1 = z; c2 = pos 0; c3 = pos 0; c4 = pos 0; constant = pos 0; high = pos 0; low = pos 0 })) (sym (plain k (omega arith))) (proper-pos k a b)
+
+-- ---- the numbers of a rule of one diagram
+
+-- a number as the code has it
+pub small-back : (c : ℤ) → SFits w64 c → Small (R c) → Small c
+small-back c f h = subst Small (back c f) h
+
+-- what does not fit says nothing
+pub never : {b : Bool} {A : Type 0} → b ≡ false → b ≡ true → A
+never h e = absurd (let z : _≡_ {A = ℕ} 0 1 = cc in omega arith)
+
+pub scales : {op a b : ℕ} → 3 ≤ op → op < 4 → Acts 3 a b → Acts op a b
+scales {op = op} {a = a} {b = b} h k A = subst (λ o. Acts o a b) (let e : 3 ≡ op = omega arith in e) A
+
+pub shifts : {op a b : ℕ} → 4 ≤ op → op < 5 → Acts 4 a b → Acts op a b
+shifts {op = op} {a = a} {b = b} h k A = subst (λ o. Acts o a b) (let e : 4 ≡ op = omega arith in e) A
+
+pub counts : {op k : ℕ} → 5 ≤ op → op ≤ 8 → 0 < k → k ≤ 4 → Acts op k 0
+counts a b c d =
+    record { from = omega arith; to = b; low = omega arith; high = omega arith; shifts = λ e. absurd (omega arith); weighs = λ _. omega arith; numbers = λ _. omega arith; some = λ _. c; picks = λ _. d }

@@ -12,3 +12,10 @@ pub struct Step {
     pub b: i64,
     pub c: i64,
 }
+
+// The numbers of a rule, where those that are written fit it.
+pub struct Numbers {
+    pub fits: bool,
+    pub p: usize,
+    pub q: usize,
+}

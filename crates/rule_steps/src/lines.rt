@@ -98,16 +98,24 @@ fn print_node(nodes: &[i64], at: usize) {
     print_word(nodes, from + 7);
 }
 
+fn print_spaced(x: u64) {
+    io::write_all(STDOUT_FILENO, b" ");
+    io::print_decimal(STDOUT_FILENO, x);
+}
+
+// The node at an index, with its words.
+fn print_at(nodes: &[i64], at: usize) {
+    print_spaced(at as u64);
+    io::write_all(STDOUT_FILENO, b":");
+    print_node(nodes, at);
+}
+
 // A line: the refusal's number, the count of nodes, and the node that the step came to with its words.
 pub fn print(nodes: &[i64], r: Made) {
     io::print_decimal(STDOUT_FILENO, r.stop as u64);
-    io::write_all(STDOUT_FILENO, b" ");
-    io::print_decimal(STDOUT_FILENO, r.count as u64);
+    print_spaced(r.count as u64);
     if r.stop == 0 {
-        io::write_all(STDOUT_FILENO, b" ");
-        io::print_decimal(STDOUT_FILENO, r.at as u64);
-        io::write_all(STDOUT_FILENO, b":");
-        print_node(nodes, r.at);
+        print_at(nodes, r.at);
     }
     io::write_all(STDOUT_FILENO, b"\n");
 }

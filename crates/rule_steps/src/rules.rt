@@ -1,15 +1,21 @@
 // One step on a table: any numbers may be asked for, so whatever a rule requires is looked at first.
 ghost use mathlib.Core.Path.{_≡_};
+ghost use mathlib.Core.Bool.{true, false};
 ghost use Prim.Native.Nat.{_≤_, _<_};
 ghost use Rattle.diagrams.specs.Table.{Table};
-ghost use Rattle.diagrams.specs.Meaning.{ruleOf};
+ghost use Rattle.diagrams.specs.Meaning.{ruleOf, Names};
+ghost use Rattle.unary_node.specs.Acts.{Acts};
+use super::Numbers;
 use super::Step;
+use choice::choose;
 use diagrams::making::join_test;
 use diagrams::making::make_leaf;
-use diagrams::rules::choose;
 use merge::merge;
 use table::Made;
 use table::Node;
+use unary::rules::over;
+use unary_node::halves::high_half;
+use unary_node::halves::low_half;
 use whole::limits::LIMIT;
 use whole::limits::mag;
 
@@ -21,6 +27,17 @@ fn unknown(count: usize) -> Made
         stop: 255,
         at: 0,
         count,
+    }
+}
+
+// Nothing that fits.
+fn none() -> Numbers
+    ensures { λ r. ⌜ r .fits ≡ false ⌝ }
+{
+    Numbers {
+        fits: false,
+        p: 0,
+        q: 0,
     }
 }
 
@@ -42,90 +59,93 @@ fn leaf(nodes: &mut [i64], work: &mut [u32], cap: usize, count: usize, b: i64, c
     make_leaf(nodes, work, cap, count, s)
 }
 
-// Scale (3) and shift (4) by a number.
-fn by_number(
-    nodes: &mut [i64],
-    work: &mut [u32],
-    cap: usize,
-    count: usize,
-    op: usize,
-    f: usize,
-    c: i64,
-) -> Made
-    requires { ⌜ Table ruleOf cap (now nodes) (now work) count × (f < count) ⌝ }
-    ensures { λ r. ⌜ Table ruleOf cap (now (nodes .exit)) (now (work .exit)) (r .count) ⌝ }
+// The numbers that a rule of one diagram takes: scale (3) and shift (4) a number in two halves; complement (5),
+// number (6), yes side (7) and no side (8) a count.
+fn numbers(op: usize, c: i64) -> Numbers
+    requires { ⌜ (3 ≤ op) × (op ≤ 8) ⌝ }
+    ensures { λ r. ⌜ (r .fits ≡ true → Acts op (r .p) (r .q)) ⌝ }
 {
-    if op == 3 {
-        return unary::rules::scale(nodes, work, cap, count, f, c);
+    let k = mag(c);
+    if op < 4 {
+        return Numbers {
+            fits: true,
+            p: low_half(c),
+            q: high_half(c),
+        };
     }
-    if mag(c) > LIMIT {
-        return unknown(count);
+    if op < 5 {
+        if k > LIMIT {
+            return none();
+        }
+        return Numbers {
+            fits: true,
+            p: low_half(c),
+            q: high_half(c),
+        };
     }
-    unary::rules::shift(nodes, work, cap, count, f, c)
-}
-
-// Complement (5), number (6), yes side (7) and no side (8), by a count.
-fn by_count(
-    nodes: &mut [i64],
-    work: &mut [u32],
-    cap: usize,
-    count: usize,
-    op: usize,
-    f: usize,
-    k: usize,
-) -> Made
-    requires { ⌜ Table ruleOf cap (now nodes) (now work) count × (f < count) × (0 < k) × (k ≤ 4) ⌝ }
-    ensures { λ r. ⌜ Table ruleOf cap (now (nodes .exit)) (now (work .exit)) (r .count) ⌝ }
-{
-    if op == 5 {
-        return unary::rules::complement(nodes, work, cap, count, f, k);
+    if k == 0 {
+        return none();
     }
-    if op == 6 {
-        return unary::rules::number(nodes, work, cap, count, f, k);
+    if k > 4 {
+        return none();
     }
-    if op == 7 {
-        return unary::rules::yes_side(nodes, work, cap, count, f, k);
+    Numbers {
+        fits: true,
+        p: k as usize,
+        q: 0,
     }
-    unary::rules::no_side(nodes, work, cap, count, f, k)
 }
 
 // A rule of one diagram.
 fn unary_step(nodes: &mut [i64], work: &mut [u32], cap: usize, count: usize, s: Step) -> Made
-    requires { ⌜ Table ruleOf cap (now nodes) (now work) count × (s .f < count) ⌝ }
+    requires { ⌜ Table ruleOf cap (now nodes) (now work) count × (s .f < count) × (3 ≤ s .op) × (s .op ≤ 8) ⌝ }
     ensures { λ r. ⌜ Table ruleOf cap (now (nodes .exit)) (now (work .exit)) (r .count) ⌝ }
 {
-    if s.op < 5 {
-        return by_number(nodes, work, cap, count, s.op, s.f, s.c);
+    let n = numbers(s.op, s.c);
+    if n.fits {
+        return over(nodes, work, cap, count, s.op, s.f, n.p, n.q);
+    }
+    unknown(count)
+}
+
+// What a choice is by: the test that a node names (11), or a condition (10).
+fn test_of(count: usize, s: Step) -> Numbers
+    ensures { λ r. ⌜ (r .fits ≡ true → Names count (r .q) (r .p)) ⌝ }
+{
+    if s.op == 11 {
+        if s.p >= count {
+            return none();
+        }
+        return Numbers {
+            fits: true,
+            p: s.p,
+            q: 11,
+        };
     }
     let k = mag(s.c);
     if k == 0 {
-        return unknown(count);
+        return none();
     }
     if k > 4 {
-        return unknown(count);
+        return none();
     }
-    by_count(nodes, work, cap, count, s.op, s.f, k as usize)
+    Numbers {
+        fits: true,
+        p: k as usize,
+        q: 10,
+    }
 }
 
-// A choice by a condition (10), or by the test that a node names (11).
+// A choice by a condition or by a test.
 fn choice(nodes: &mut [i64], work: &mut [u32], cap: usize, count: usize, s: Step) -> Made
     requires { ⌜ Table ruleOf cap (now nodes) (now work) count × (s .f < count) × (s .g < count) ⌝ }
     ensures { λ r. ⌜ Table ruleOf cap (now (nodes .exit)) (now (work .exit)) (r .count) ⌝ }
 {
-    if s.op == 11 {
-        if s.p >= count {
-            return unknown(count);
-        }
-        return choose(nodes, work, cap, count, 11, s.p, s.f, s.g);
+    let n = test_of(count, s);
+    if n.fits {
+        return choose(nodes, work, cap, count, n.q, n.p, s.f, s.g);
     }
-    let k = mag(s.c);
-    if k == 0 {
-        return unknown(count);
-    }
-    if k > 4 {
-        return unknown(count);
-    }
-    choose(nodes, work, cap, count, 10, k as usize, s.f, s.g)
+    unknown(count)
 }
 
 // A node of condition c, 1 to 8, over two branches.

@@ -16,13 +16,13 @@ use Rattle.model.specs.declared.Verdict.{Verdict as CodeVerdict}
 use Rattle.loading.specs.Rooting.{Loads}
 use Rattle.loading.specs.declared.Done.{Done}
 use Rattle.finish.specs.Finish.{Unfinished}
-use Rattle.staging.specs.Operation.{Fits, Standing, Operated}
-use Rattle.staging.specs.Planning.{modelSize}
-use Rattle.staging.specs.declared.Rule.{Rule}
-use Rattle.staging.specs.declared.Rule.the-variants.{Zero, Levels, Reward, Best}
-use Rattle.staging.specs.declared.Run.{Run}
+use Rattle.operate.specs.Operation.{Fits, Standing, Operated}
+use Rattle.totals.specs.Planning.{modelSize}
+use Rattle.operate.specs.declared.Rule.{Rule}
+use Rattle.operate.specs.declared.Rule.the-variants.{Zero, Levels, Reward, Best}
+use Rattle.operate.specs.declared.Run.{Run}
 use Rattle.rules_pond.specs.declared.Stand.{Stand}
-use Rattle.solver.proofs.Start.{size-few, loaded-standing}
+use Rattle.value_iteration.proofs.Start.{size-few, loaded-standing}
 
 -- ---- the places of a rule are held
 

@@ -6,13 +6,12 @@ ghost use Prim.Native.Nat.{_≤_, _<_};
 ghost use lib.ListN.{length};
 ghost use Rattle.theory.specs.Widths.{bytes-most};
 ghost use Rattle.theory.specs.Verdict.{verdict};
-ghost use Rattle.staging.specs.Operation.{Fits, Standing};
-ghost use Rattle.staging.specs.Planning.{modelSize};
-ghost use Rattle.solver.specs.Solving.{Room};
+ghost use Rattle.operate.specs.Operation.{Fits, Standing};
+ghost use Rattle.value_iteration.specs.Iteration.{Room};
 use libc::STDOUT_FILENO;
-use staging::Rule;
-use staging::Run;
-use staging::operate::operate;
+use operate::Rule;
+use operate::Run;
+use operate::operate;
 
 fn text(s: &[u8]) {
     io::write_all(STDOUT_FILENO, s);
@@ -21,6 +20,18 @@ fn text(s: &[u8]) {
 fn number(x: u64) {
     io::print_decimal(STDOUT_FILENO, x);
     text(b" ");
+}
+
+fn pair(x: u64, y: u64) {
+    number(x);
+    number(y);
+}
+
+// A line's end: some words and a number.
+fn ending(words: &[u8], x: u64) {
+    text(words);
+    number(x);
+    text(b"\n");
 }
 
 fn signed(z: i64) {
@@ -76,6 +87,15 @@ fn rule_of(kind: usize, x: usize, y: usize, z: usize) -> Rule {
     }
 }
 
+// The rule of the row at a place of the rows.
+fn rule_at(rows: &[u8], at: usize) -> Rule {
+    let kind = digit(rows, at, 0);
+    let x = digit(rows, at, 1);
+    let y = digit(rows, at, 2);
+    let z = digit(rows, at, 3);
+    rule_of(kind, x, y, z)
+}
+
 // The places of a rule are held.
 fn fits(rule: Rule, held: usize) -> bool
     ensures { λ b. ⌜ (b ≡ true → Fits held rule) ⌝ }
@@ -110,7 +130,15 @@ fn fits(rule: Rule, held: usize) -> bool
     }
 }
 
-// One operation and its line: nodes afterwards, the peak, the node that is the result.
+// An operation's line: nodes afterwards, the peak, the node that is the result.
+fn report(r: Run, nodes: &[i64], at: u32) {
+    number(r.stop as u64);
+    pair(r.count as u64, r.peak as u64);
+    text(b": ");
+    node(nodes, at);
+}
+
+// One operation and its line.
 fn step(
     nodes: &mut [i64],
     work: &mut [u32],
@@ -129,11 +157,7 @@ fn step(
         peak: s.peak,
     };
     let r = operate(nodes, work, cap, start, roots, s.held, to, rule);
-    number(r.stop as u64);
-    number(r.count as u64);
-    number(r.peak as u64);
-    text(b": ");
-    node(nodes, roots[to]);
+    report(r, nodes, roots[to]);
     Stand {
         stop: r.stop,
         count: r.count,
@@ -155,12 +179,7 @@ fn row(
     requires { ⌜ Standing cap (now nodes) (now work) (s .count) (now roots) (s .held) ⌝ }
     ensures { λ r. ⌜ (r .stop ≡ 0 → Standing cap (now (nodes .exit)) (now (work .exit)) (r .count) (now (roots .exit)) (r .held)) ⌝ }
 {
-    let rule = rule_of(
-        digit(rows, at, 0),
-        digit(rows, at, 1),
-        digit(rows, at, 2),
-        digit(rows, at, 3),
-    );
+    let rule = rule_at(rows, at);
     let to = digit(rows, at, 4);
     if to >= roots.len() {
         return s;
@@ -198,16 +217,6 @@ fn steps(
     r
 }
 
-// How many roots the model's diagrams have.
-fn size(model: &[u8]) -> usize
-    ensures { λ r. ⌜ r ≡ modelSize (now (model .entry)) ⌝ }
-{
-    let m = command::byte_at(model, 1) as usize;
-    let n = command::byte_at(model, 2) as usize;
-    let a = command::byte_at(model, 3) as usize;
-    a * (1 + n + m)
-}
-
 // An accepted model in a table with room for 32 nodes: its roots are held.
 fn loaded(model: &[u8], nodes: &mut [i64], work: &mut [u32], roots: &mut [u32]) -> Stand
     requires { ⌜ (verdict (now model) .number ≡ 0) × (length (now model) ≤ bytes-most) × Room 32 (now nodes) (now work) × (length (now roots) ≡ 96) ⌝ }
@@ -215,12 +224,9 @@ fn loaded(model: &[u8], nodes: &mut [i64], work: &mut [u32], roots: &mut [u32]) 
 {
     finish::zeros::words_from(work, 0);
     let done = loading::load(model, nodes, work, 32, roots);
-    let held = size(model);
-    number(done.stop as u64);
-    number(done.count as u64);
-    text(b"loaded, roots ");
-    number(held as u64);
-    text(b"\n");
+    let held = value_iteration::model_size(model);
+    pair(done.stop as u64, done.count as u64);
+    ending(b"loaded, roots ", held as u64);
     Stand {
         stop: done.stop,
         count: done.count,
@@ -233,8 +239,7 @@ fn list(model: &[u8], nodes: &[i64], stages: &[u32]) {
     let mut room = io::large_buffer();
     let r = listing::listing(model, 2, nodes, stages, &mut room, 0);
     let size = r.size;
-    number(r.number as u64);
-    number(r.place as u64);
+    pair(r.number as u64, r.place as u64);
     text(b"listed\n");
     if size <= room.len() {
         text(&room[..size]);
@@ -252,9 +257,22 @@ fn finished(model: &[u8], nodes: &mut [i64], work: &mut [u32], s: Stand, roots: 
     let n = finish::finish(nodes, work, 32, s.count, &roots[5..7], &mut stages);
     list(model, nodes, &stages);
     number(n as u64);
-    text(b"nodes, peak ");
-    number(s.peak as u64);
-    text(b"\n");
+    ending(b"nodes, peak ", s.peak as u64);
+}
+
+// The rows on an accepted model.
+fn planned(model: &[u8], nodes: &mut [i64], work: &mut [u32], roots: &mut [u32], rows: &[u8])
+    requires { ⌜ (verdict (now model) .number ≡ 0) × (length (now model) ≤ bytes-most) × Room 32 (now nodes) (now work) × (length (now roots) ≡ 96) ⌝ }
+{
+    let s = loaded(model, nodes, work, roots);
+    if s.stop != 0 {
+        return;
+    }
+    let r = steps(nodes, work, 32, s, roots, rows);
+    if r.stop != 0 {
+        return;
+    }
+    finished(model, nodes, work, r, roots);
 }
 
 fn run(model: &[u8], nodes: &mut [i64], work: &mut [u32], roots: &mut [u32], rows: &[u8])
@@ -267,15 +285,7 @@ fn run(model: &[u8], nodes: &mut [i64], work: &mut [u32], roots: &mut [u32], row
     if v.number != 0 {
         return;
     }
-    let s = loaded(model, nodes, work, roots);
-    if s.stop != 0 {
-        return;
-    }
-    let r = steps(nodes, work, 32, s, roots, rows);
-    if r.stop != 0 {
-        return;
-    }
-    finished(model, nodes, work, r, roots);
+    planned(model, nodes, work, roots, rows);
 }
 
 fn pond(room: &[u8], n: usize) {

@@ -17,7 +17,7 @@ use Rattle.table.specs.declared.Node.{Node}
 use Rattle.theory.specs.Diagram.{Tree, branch}
 use Rattle.diagrams.specs.Nodes.{linOf, testOf, treeOf, none, trees, Nums, Tested, Valid, Good}
 use Rattle.mark.specs.Mark.{Space, markOf}
-use Rattle.mark.proofs.Trees.{tree-at, tree-leaf, tree-branch, trees-same, weaken}
+use Rattle.diagrams.proofs.Trees.{tree-at, tree-leaf, tree-branch, trees-same, weaken}
 use Rattle.slide.specs.Slide.{rank, keepOf, renumber, SlidOne, Closed, Slid}
 use Rattle.slide.proofs.Ranks.{rank-le, rank-yes, rank-no, keep-yes, keep-no, keep-at, unrank}
 use Rattle.slide.proofs.Moves.{put-above}

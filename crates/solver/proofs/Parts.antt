@@ -11,7 +11,7 @@ use Rattle.theory.specs.Solve.{solved-nodes}
 use Rattle.theory.specs.laws.Demands.{peak-decides}
 use Rattle.solving.specs.Onward.{answered-ok}
 use Rattle.staging.specs.declared.Planned.{Planned}
-use Rattle.solver.specs.Solving.{Solves}
+use Rattle.solve_in.specs.Solves.{Solves}
 
 module _ {B : List ℕ} {H part : ℕ} {l l′ : List ℤ} {s′ w w′ : List ℕ} {r : Planned} (S : Solves B H part l l′ s′ w w′ r) where
   -- solved in the part: alike in the whole, which has room for the same peak

@@ -7,15 +7,10 @@ ghost use Rattle.theory.specs.Verdict.{verdict};
 ghost use Rattle.theory.specs.Solve.{room as room-of};
 ghost use Rattle.theory.specs.Solve.{solve as solve-of};
 ghost use Rattle.theory.specs.Solve.{early};
-ghost use Rattle.diagrams.specs.Table.{Table};
-ghost use Rattle.solver.specs.Solving.{outcome, Room, Plans, Solves};
-ghost use Rattle.staging.specs.Planning.{modelSize};
-ghost use Rattle.commands_choice.specs.Testing.{loadRule};
+ghost use Rattle.solve_in.specs.Solves.{Solves};
+ghost use Rattle.solver.specs.Solving.{outcome};
+use solve_in::solve_in;
 use staging::Planned;
-use staging::Rule;
-use staging::Run;
-use staging::operate::operate;
-use staging::stages::stages;
 
 // A refusal's number and place, both 0 where there is none; then the peak.
 pub struct Solved {
@@ -35,108 +30,6 @@ fn room(nodes: usize, work: usize) -> usize
     ensures { λ r. ⌜ r ≡ room-of nodes work ⌝ }
 {
     least(nodes / 8, least(work / 8, 65535))
-}
-
-// How many roots the model's diagrams have.
-fn model_size(model: &[u8]) -> usize
-    ensures { λ r. ⌜ (r ≡ modelSize (now (model .entry))) × (r < 131072) ⌝ }
-{
-    let m = command::byte_at(model, 1) as usize;
-    let n = command::byte_at(model, 2) as usize;
-    let a = command::byte_at(model, 3) as usize;
-    a * (1 + n + m)
-}
-
-// The model loaded and the stages run, in a table without nodes: the stages' roots stand from one behind the model's on.
-fn run_stages(
-    model: &[u8],
-    horizon: usize,
-    nodes: &mut [i64],
-    work: &mut [u32],
-    cap: usize,
-    roots: &mut [u32],
-    first: usize,
-) -> Planned
-    requires { ⌜ (verdict (now model) .number ≡ 0) × (length (now model) ≤ bytes-most) × (horizon ≤ steps-most) × Table (loadRule (now model)) cap (now nodes) (now work) 0 × (length (now roots) ≡ 96) × (first ≡ modelSize (now model)) ⌝ }
-    ensures { λ r. ⌜ Plans (now (model .entry)) horizon cap (now (nodes .exit)) (now (work .exit)) (now (roots .exit)) r ⌝ }
-{
-    let loaded = loading::load(model, nodes, work, cap, roots);
-    if loaded.stop != 0 {
-        return Planned {
-            stop: loaded.stop,
-            place: 0,
-            count: 0,
-            peak: 0,
-        };
-    }
-    let start = Run {
-        stop: 0,
-        count: loaded.count,
-        peak: loaded.count,
-    };
-    let zero = operate(nodes, work, cap, start, roots, first, first, Rule::Zero);
-    if zero.stop != 0 {
-        return Planned {
-            stop: zero.stop,
-            place: 1,
-            count: 0,
-            peak: 0,
-        };
-    }
-    stages(model, horizon, nodes, work, cap, zero, roots, first + 1)
-}
-
-// All of it with the roots of the run: the tables of the stages where it is solved, whatever words else.
-fn fill(
-    model: &[u8],
-    horizon: usize,
-    nodes: &mut [i64],
-    stages: &mut [u32],
-    work: &mut [u32],
-    cap: usize,
-    roots: &mut [u32],
-) -> Planned
-    requires { ⌜ (verdict (now model) .number ≡ 0) × (length (now model) ≤ bytes-most) × (horizon ≤ steps-most) × (1 ≤ horizon) × Room cap (now nodes) (now work) × (length (now stages) ≡ steps-most) × (length (now roots) ≡ 96) ⌝ }
-    ensures { λ r. ⌜ Solves (now (model .entry)) horizon cap (now (nodes .entry)) (now (nodes .exit)) (now (stages .exit)) (now (work .entry)) (now (work .exit)) r ⌝ }
-{
-    finish::zeros::words_from(work, 0);
-    let first = model_size(model);
-    let r = run_stages(model, horizon, nodes, work, cap, roots, first);
-    if r.stop == 0 {
-        finish::finish(
-            nodes,
-            work,
-            cap,
-            r.count,
-            &roots[first + 1..first + 1 + horizon],
-            stages,
-        );
-    }
-    r
-}
-
-// With room for cap nodes. Without any, the first leaf that loading makes has none.
-fn solve_in(
-    model: &[u8],
-    horizon: usize,
-    nodes: &mut [i64],
-    stages: &mut [u32],
-    work: &mut [u32],
-    cap: usize,
-) -> Planned
-    requires { ⌜ (verdict (now model) .number ≡ 0) × (length (now model) ≤ bytes-most) × (horizon ≤ steps-most) × (1 ≤ horizon) × (cap ≤ nodes-most) × (cap * 8 ≤ length (now nodes)) × (cap * 8 ≤ length (now work)) × (length (now stages) ≡ steps-most) ⌝ }
-    ensures { λ r. ⌜ Solves (now (model .entry)) horizon cap (now (nodes .entry)) (now (nodes .exit)) (now (stages .exit)) (now (work .entry)) (now (work .exit)) r ⌝ }
-{
-    if cap == 0 {
-        return Planned {
-            stop: 12,
-            place: 0,
-            count: 0,
-            peak: 0,
-        };
-    }
-    let mut roots = [0u32; 96];
-    fill(model, horizon, nodes, stages, work, cap, &mut roots)
 }
 
 // A small part of the room first, since each operation clears as much of the tables as it may fill. What is solved there

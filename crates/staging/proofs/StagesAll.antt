@@ -18,10 +18,12 @@ use Rattle.solving.specs.Onward.{answered, answered-ok, answered-no}
 use Rattle.solving.specs.Roots.{roots-length, roots-append}
 use Rattle.solving.specs.Steps.{behind, behind-none, stages-done}
 use Rattle.solving.specs.Loops.{stage-done, stage-refused}
-use Rattle.staging.specs.Operation.{heldTrees, Standing}
-use Rattle.staging.specs.Planning.{modelSize, Ready, rootAt, Ran, Staged}
-use Rattle.staging.specs.declared.Run.{Run}
-use Rattle.staging.proofs.StagesHeld.{held-length, held-more, held-take, ready-next}
+use Rattle.operate.specs.Operation.{heldTrees, Standing}
+use Rattle.totals.specs.Planning.{modelSize, Ready, rootAt, Ran}
+use Rattle.staging.specs.Stages.{Staged}
+use Rattle.operate.specs.declared.Run.{Run}
+use Rattle.totals.proofs.Roots.{held-length}
+use Rattle.staging.proofs.StagesHeld.{held-more, held-take, ready-next}
 use Rattle.staging.proofs.StagesBetter.{alike-front}
 
 -- the model's diagrams are as many as its roots

@@ -15,11 +15,13 @@ use Rattle.diagrams.specs.Nodes.{none}
 use Rattle.solving.specs.Alike.{Alike, alike-refl, alike-trans, alike-eq, alike-append, alike-turn}
 use Rattle.solving.specs.Onward.{onward, run-all-end, run-all-then, Works, Stops, works-run, stops-run, answered, answered-no, onward-ok, onward-no}
 use Rattle.solving.specs.Roots.{Rooted}
-use Rattle.staging.specs.Operation.{heldTrees, compOf, Fits, Standing, Operated}
-use Rattle.staging.specs.Planning.{Ready, actionOf, rootAt, Ran, bettered}
-use Rattle.staging.specs.declared.Rule.the-variants.{Best}
-use Rattle.staging.specs.declared.Run.{Run}
-use Rattle.staging.proofs.StagesHeld.{answers, held-length, held-more, held-before}
+use Rattle.operate.specs.Operation.{heldTrees, compOf, Fits, Standing, Operated}
+use Rattle.totals.specs.Planning.{Ready, actionOf, rootAt, Ran}
+use Rattle.staging.specs.Stages.{bettered}
+use Rattle.operate.specs.declared.Rule.the-variants.{Best}
+use Rattle.operate.specs.declared.Run.{Run}
+use Rattle.totals.proofs.Roots.{held-length}
+use Rattle.staging.proofs.StagesHeld.{answers, held-more, held-before}
 
 -- the total, then the better of the two
 pub bettered-run : (B : List ℕ) (N p h : ℕ) (P : Tree) (a : ℕ) (F : Tree) (K : List Tree) → run-all N p (bettered B h P a F K)

@@ -19,8 +19,9 @@ use Rattle.diagrams.specs.Nodes.{none, trees}
 use Rattle.mark.specs.Mark.{rootsOf}
 use Rattle.solving.specs.Onward.{answered}
 use Rattle.solving.specs.Roots.{Rooted, roots-length, roots-append}
-use Rattle.staging.specs.Operation.{heldTrees, Standing}
-use Rattle.staging.specs.Planning.{modelSize, Ready, rootAt}
+use Rattle.operate.specs.Operation.{heldTrees, Standing}
+use Rattle.totals.specs.Planning.{modelSize, Ready, rootAt}
+use Rattle.totals.proofs.Roots.{held-length, held-suc}
 
 -- an answer by its two cases
 pub answers : {A : Type 0} {o : Solved A} (s h : ℕ) (a : A) (q : ℕ) → (s ≡ 0 → o ≡ solved a q) → ((s ≡ 0 → ⊥) → o ≡ refused s h) → o ≡ answered s h a q
@@ -28,31 +29,24 @@ unfolding answered
 answers {o = o} s h a q f g = by-eq (eqb s 0) (λ (b : Bool). o ≡ if b (solved a q) (refused s h)) (λ e. f (eqb→eq s 0 (from-true e))) (λ e. g (λ z. clash (sym (eq-eqb s 0 z) ∙ e)))
 
 module _ (l : List ℤ) (n : ℕ) (R : List ℕ) (held : ℕ) where
-  pub held-length : held ≤ length R → length (heldTrees l n R held) ≡ held
-  held-length h = roots-length (trees l n) (take held R) ∙ length-take-le held R h
-
-  pub held-suc : held < length R → heldTrees l n R (suc held) ≡ heldTrees l n R held ++ (rootAt l n R held ∷ [])
-  unfolding rootsOf
-  held-suc h = ap (rootsOf (trees l n)) (take-suc R held 0 h) ∙ roots-append (trees l n) (take held R) (getD R held 0 ∷ [])
-
   pub held-more : held < length R → heldTrees l n R (held + 1) ≡ heldTrees l n R held ++ (rootAt l n R held ∷ [])
-  held-more h = ap (λ (k : ℕ). heldTrees l n R k) (add-one held) ∙ held-suc h
+  held-more h = ap (λ (k : ℕ). heldTrees l n R k) (add-one held) ∙ held-suc l n R held h
 
   -- a place before the last
   pub held-before : (i : ℕ) → held < length R → i < held → getD (heldTrees l n R (held + 1)) i none ≡ getD (heldTrees l n R held) i none
   held-before i h q = ap (λ (X : List Tree). getD X i none) (held-more h)
-      ∙ List·getD-append (heldTrees l n R held) (rootAt l n R held ∷ []) none i (let z = held-length (omega arith) in omega arith)
+      ∙ List·getD-append (heldTrees l n R held) (rootAt l n R held ∷ []) none i (let z = held-length l n R held (omega arith) in omega arith)
 
   -- the first of the diagrams, the last left away
   pub held-take : (m : ℕ) → held < length R → m ≤ held → take m (heldTrees l n R (held + 1)) ≡ take m (heldTrees l n R held)
   held-take m h q = ap (λ (X : List Tree). take m X) (held-more h)
-      ∙ take-append-le m (heldTrees l n R held) (rootAt l n R held ∷ []) (let z = held-length (omega arith) in omega arith)
+      ∙ take-append-le m (heldTrees l n R held) (rootAt l n R held ∷ []) (let z = held-length l n R held (omega arith) in omega arith)
 
   -- roots whose trees are known, the last left away
   pub held-is : {cap : ℕ} {w : List ℕ} (Q : List Tree) (t : Tree) → Rooted cap l w n (take (suc held) R) (Q ++ (t ∷ [])) → length Q ≡ held → held < length R → heldTrees l n R held ≡ Q
   held-is Q t H e h =
-      sym (take-at (heldTrees l n R held) (rootAt l n R held ∷ []) held (held-length (omega arith)))
-      ∙ (ap (take held) (sym (held-suc h) ∙ H .roots) ∙ take-at Q (t ∷ []) held e)
+      sym (take-at (heldTrees l n R held) (rootAt l n R held ∷ []) held (held-length l n R held (omega arith)))
+      ∙ (ap (take held) (sym (held-suc l n R held h) ∙ H .roots) ∙ take-at Q (t ∷ []) held e)
 
 -- one root more stands behind the diagrams Q
 module _ {B : List ℕ} {cap : ℕ} {l : List ℤ} {w : List ℕ} {n : ℕ} {R : List ℕ} {held : ℕ} {l′ : List ℤ} {w′ : List ℕ} {n′ : ℕ} {R′ : List ℕ} {k : ℕ} (Q : List Tree) (t : Tree)

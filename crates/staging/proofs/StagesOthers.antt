@@ -21,10 +21,12 @@ use Rattle.solving.specs.Onward.{onward, onward-onward, onward-same, onward-ok,
 use Rattle.solving.specs.Roots.{Rooted}
 use Rattle.solving.specs.Steps.{best-on-step, best-on-done}
 use Rattle.solving.specs.Loops.{first-done, first-refused}
-use Rattle.staging.specs.Operation.{heldTrees, Standing}
-use Rattle.staging.specs.Planning.{modelSize, Ready, actionOf, rootAt, Ran, bettered}
-use Rattle.staging.specs.declared.Run.{Run}
-use Rattle.staging.proofs.StagesHeld.{held-length, held-suc, held-take, held-is, ready-next}
+use Rattle.operate.specs.Operation.{heldTrees, Standing}
+use Rattle.totals.specs.Planning.{modelSize, Ready, actionOf, rootAt, Ran}
+use Rattle.staging.specs.Stages.{bettered}
+use Rattle.operate.specs.declared.Run.{Run}
+use Rattle.totals.proofs.Roots.{held-length, held-suc}
+use Rattle.staging.proofs.StagesHeld.{held-take, held-is, ready-next}
 use Rattle.staging.proofs.StagesBetter.{bettered-run}
 
 -- ---- one action more

@@ -1,3 +1,2 @@
--- Operations, totals and stages on a table with its roots.
-pub mod Operation
-pub mod Planning
+-- Stages on a table with its roots.
+pub mod Stages

@@ -14,8 +14,6 @@ use lib.ListN.{take}
 use mir.Syntax.{w64}
 use mir.Val.{ofZ}
 use Rattle.whole.specs.Cases.{if}
-use Rattle.table.proofs.Words.{same-bits}
-use Rattle.table.proofs.Look.{eqZ-refl, eqZ-true}
 use Rattle.table.specs.Table.{nodeAt, eqZ}
 use Rattle.table.specs.declared.Node.{Node}
 use Rattle.table.specs.declared.Made.{Made}
@@ -25,7 +23,8 @@ use Rattle.theory.specs.Computation.{Comp, ret, bind, both}
 use Rattle.theory.specs.Rules.{over, choose, decide, linear-diagram, substitute}
 use Rattle.diagrams.specs.declared.Down.{Down}
 use Rattle.diagrams.specs.Nodes.{linOf, leafOf, conditionOf, testOf, treeAt, Tested, Grown}
-use Rattle.diagrams.specs.Table.{Rule, slotOf, Key, Entry, storeOf, Table, Ran}
+use Rattle.diagrams.specs.Table.{Rule, Table, Ran}
+use Rattle.computed_cache.specs.Cache.{slotOf, Key, Entry, storeOf}
 use Rattle.diagrams.specs.Meaning.{testBy, Names, packed, ruleOf}
 use Rattle.diagrams.specs.Roots.{downOf}
 use Rattle.diagrams.proofs.Trees.{trees-kept, grown-on, at-leaf, at-branch}
@@ -33,8 +32,9 @@ use Rattle.diagrams.proofs.Outcomes.{grown, stop, seq, ran-as, both-high-stops,
 use Rattle.diagrams.proofs.Caching.{answered, kept-run}
 use Rattle.diagrams.proofs.Meanings.{rule-substitute, rule-walk, lasts-substitute}
 use Rattle.diagrams.proofs.Going.{index-small}
-use Rattle.substitute.specs.Levels.{Levels, levelsAt, pair, conditionIn, headOf, overTest}
-use Rattle.substitute.proofs.Adding.{levels-kept, levels-more}
+use Rattle.linear_combination.specs.Levels.{Levels, levelsAt}
+use Rattle.linear_combination.proofs.Adding.{levels-kept, levels-more}
+use Rattle.substitute.specs.Substitution.{pair, conditionIn, headOf, overTest}
 
 -- ---- two indexes in a word
 
@@ -52,16 +52,6 @@ module _ (a b : ℕ) (ha : a < 65536) where
   pair-small hb = omega arith
 
 -- ---- the condition of a node
-
-pub one-yes : (z : ℤ) → mag z < 2 ^ 63 → ofZ w64 z ≡ 1 → eqZ z (pos 1) ≡ true
-one-yes z f e = ap (λ (k : ℤ). eqZ k (pos 1)) (same-bits z (pos 1) f (omega arith) e) ∙ eqZ-refl (pos 1)
-
-pub one-no : (z : ℤ) → (ofZ w64 z ≡ 1 → ⊥) → eqZ z (pos 1) ≡ false
-one-no z n = go (eqZ z (pos 1)) refl
-  where
-    go : (b : Bool) → eqZ z (pos 1) ≡ b → eqZ z (pos 1) ≡ false
-    go true e = absurd (n (ap (ofZ w64) (eqZ-true z (pos 1) e)))
-    go false e = e
 
 module _ (x : Node) where
   abbrev j : ℕ

@@ -11,18 +11,17 @@ ghost use Rattle.theory.specs.Rules as R;
 ghost use Rattle.diagrams.specs.Nodes.{linOf, treeAt, At};
 ghost use Rattle.diagrams.specs.Table.{Table, Ran};
 ghost use Rattle.diagrams.specs.Meaning.{ruleOf};
-ghost use Rattle.substitute.specs.Levels.{Levels, levelsAt, pair, conditionIn, headOf, overTest};
-use diagrams::cache::keep;
-use diagrams::cache::look;
-use diagrams::rules::choose;
+ghost use Rattle.linear_combination.specs.Levels.{Levels, levelsAt};
+ghost use Rattle.substitute.specs.Substitution.{pair, conditionIn, headOf, overTest};
+use choice::choose;
+use computed_cache::keep;
+use computed_cache::look;
 use diagrams::tests::index;
-use sums::linear_diagram;
+use linear_combination::linear_diagram;
 use table::Made;
 use table::Node;
 use walk::down_at;
 use walk::walk;
-
-pub mod sums; // sums.rt: a linear over the levels
 
 // Two indexes as one word of the cache.
 fn pair_of(a: usize, b: usize) -> usize

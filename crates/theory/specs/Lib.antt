@@ -32,6 +32,8 @@ pub mod Rows
 pub mod Events
 -- the demands
 pub mod Demands
+-- demands 2 and 3 of one call that solves and then reads
+pub mod Advice
 -- ---- examples
 
 -- the pond, rain, and what is marked ★

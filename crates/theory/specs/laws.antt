@@ -29,3 +29,4 @@ pub mod Plain
 pub mod SameValue
 -- the demands
 pub mod Demands
+pub mod Advice

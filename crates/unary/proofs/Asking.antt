@@ -17,8 +17,9 @@ use Rattle.diagrams.specs.Table.{Ran}
 use Rattle.diagrams.specs.Meaning.{cOf, ruleOf}
 use Rattle.diagrams.proofs.Outcomes.{ran-as}
 use Rattle.diagrams.proofs.Meanings.{rule-scale, rule-shift, rule-complement, rule-number, rule-yes, rule-no}
-use Rattle.unary.specs.Acts.{Acts, Picks, lowOf, highOf}
-use Rattle.unary.proofs.Halving.{halves, low-lt, high-lt}
+use Rattle.unary_node.specs.Acts.{Acts, lowOf, highOf}
+use Rattle.unary.specs.Picks.{Picks}
+use Rattle.unary_node.proofs.Halving.{halves, low-lt, high-lt}
 
 -- ---- numbers in range
 

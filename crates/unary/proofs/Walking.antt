@@ -17,10 +17,11 @@ use Rattle.diagrams.specs.Meaning.{ruleOf}
 use Rattle.diagrams.proofs.Outcomes.{ran-as, lifted}
 use Rattle.diagrams.proofs.Going.{high-stops, low-stops, root-on, high-in, joined}
 use Rattle.diagrams.proofs.Stepping.{On}
-use Rattle.unary.specs.declared.Way.{Way}
-use Rattle.unary.specs.Acts.{actOf, Acts, Ended, wayOf}
-use Rattle.unary.proofs.Acting.{rule-as}
-use Rattle.unary.proofs.Passing.{Passes, passes-as, sidesBy, alone}
+use Rattle.leaves.specs.Leaves.{AtLeaf}
+use Rattle.unary_node.specs.declared.Way.{Way}
+use Rattle.unary_node.specs.Acts.{actOf, Acts, wayOf}
+use Rattle.unary_node.proofs.Acting.{rule-as}
+use Rattle.unary_node.proofs.Passing.{Passes, passes-as, sidesBy, alone}
 
 module _ {cap : ℕ} {l : List ℤ} {w : List ℕ} {n : ℕ} (A : Table ruleOf cap l w n) {op p q : ℕ} (K : Acts op p q) (f : ℕ) (hf : f < n) {s : Way} (e : s ≡ wayOf op p (nodeAt l f)) where
   abbrev rule : List ℤ → ℕ → ℕ → Comp Tree
@@ -30,8 +31,8 @@ module _ {cap : ℕ} {l : List ℤ} {w : List ℕ} {n : ℕ} (A : Table ruleOf c
   way = passes-as (A .bare .good) K f hf e
 
   -- at a leaf
-  pub walk-ends : s .ends ≡ true → Ended l n f
-  walk-ends t = record { below = hf; leaf = way .ends t }
+  pub walk-ends : s .ends ≡ true → AtLeaf l n f
+  walk-ends t = record { below = hf; ends = way .ends t }
 
   pub walk-ended : {l₁ : List ℤ} {w₁ : List ℕ} {r : Made} → Grew cap l w n (actOf op p q (treeAt l n f)) l₁ w₁ r → Ran ruleOf cap l w n (rule l n f) l₁ w₁ r
   walk-ended S = ran-as (sym (rule-as K l n f)) (lifted A S)

@@ -1,2 +1,1 @@
--- What the rules of one diagram and a bare number do with nodes' words.
-pub mod Acts
+pub mod Picks

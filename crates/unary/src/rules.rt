@@ -7,15 +7,16 @@ ghost use Rattle.theory.specs.Rules as T;
 ghost use Rattle.diagrams.specs.Nodes.{treeAt};
 ghost use Rattle.diagrams.specs.Table.{Table, Ran};
 ghost use Rattle.diagrams.specs.Meaning.{ruleOf};
-ghost use Rattle.unary.specs.Acts.{Acts, Picks};
-use super::halves::high_half;
-use super::halves::low_half;
-use super::leaves::at_leaf;
-use super::ways::way_at;
-use diagrams::cache::keep;
-use diagrams::cache::look;
+ghost use Rattle.unary_node.specs.Acts.{Acts};
+ghost use Rattle.unary.specs.Picks.{Picks};
+use computed_cache::keep;
+use computed_cache::look;
 use diagrams::making::join;
 use table::Made;
+use unary_node::halves::high_half;
+use unary_node::halves::low_half;
+use unary_node::leaf::at_leaf;
+use unary_node::ways::way_at;
 
 // The rule op, 3 to 8, at the diagram f with the numbers p and q. Only indexes live over the calls.
 pub fn over(

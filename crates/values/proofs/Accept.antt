@@ -22,7 +22,8 @@ use Rattle.theory.specs.Value.{accepted, bits}
 use Rattle.theory.specs.Verdict.{or}
 use Rattle.values.specs.declared.Asked.{Asked}
 use Rattle.values.specs.State.{asked}
-use Rattle.values.proofs.Judged.{and-assoc, and-true, all-three, Narrow, narrow-is}
+use Rattle.rows.proofs.Judged.{and-assoc, and-true, all-three}
+use Rattle.values.proofs.Narrow.{Narrow, narrow-is}
 
 -- ---- levels
 

@@ -14,10 +14,10 @@ use Rattle.theory.specs.Diagram.{zeros}
 use Rattle.theory.specs.Meaning.{nth}
 use Rattle.theory.specs.Value.{Asked, bits, node-word, node-linear, high-of, low-of, amongZ, good-branches, good-leaf-row, good-condition-row, good-test-row, good-row, numerator-of, taken, walk}
 use Rattle.theory.specs.Valid.{small-linear}
-use Rattle.values.specs.declared.Kind.{Kind}
-use Rattle.values.specs.declared.Kind.the-variants.{Leaf, Condition, Test, Bad}
-use Rattle.values.specs.Row.{Inside, Ends, kind-of, row-kind}
-use Rattle.values.specs.Step.{step-by, step-of}
+use Rattle.rows.specs.declared.Kind.{Kind}
+use Rattle.rows.specs.declared.Kind.the-variants.{Leaf, Condition, Test, Bad}
+use Rattle.rows.specs.Row.{Inside, kind-of, row-kind}
+use Rattle.values.specs.Step.{step-by, step-of, Ends}
 
 is-true : (b : Bool) → T b → b ≡ true
 is-true true t = refl

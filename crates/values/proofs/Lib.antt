@@ -1,6 +1,5 @@
 -- Laws that several proofs cite.
-pub mod Judged
-pub mod Rowed
+pub mod Narrow
 pub mod Accept
 pub mod Linears
 pub mod Down

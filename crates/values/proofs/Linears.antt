@@ -18,10 +18,11 @@ use Rattle.theory.specs.Valid.{all}
 use Rattle.theory.specs.Value.{node-word, node-linear, numerator-of}
 use Rattle.theory.specs.Valid.{small-linear}
 use Rattle.values.specs.declared.Asked.{Asked}
-use Rattle.values.specs.Row.{Inside}
+use Rattle.rows.specs.Row.{Inside}
 use Rattle.values.specs.State.{asked}
-use Rattle.values.proofs.Judged.{read-is, Narrow, narrow-is}
-use Rattle.values.proofs.Rowed.{linear-is}
+use Rattle.rows.proofs.Judged.{read-is}
+use Rattle.values.proofs.Narrow.{Narrow, narrow-is}
+use Rattle.rows.proofs.Rowed.{linear-is}
 
 -- ---- small numbers
 

@@ -1,6 +1,4 @@
 // Reading a value and an action from lent tables.
-pub mod words; // words.rt: a node's words, judged as they are read
-pub mod rows; // rows.rt: whether a node is as the layout has it
 pub mod states; // states.rt: accepted states, and what tests and linears come to at them
 pub mod walks; // walks.rt: the walk from a root to a leaf
 pub mod reading; // reading.rt: the value and the action at a state
@@ -13,14 +11,6 @@ pub struct Asked {
     pub n3: i32,
     pub n4: i32,
     pub d: i32,
-}
-
-// What a node's words say that it is.
-pub enum Kind {
-    Leaf,
-    Condition,
-    Test,
-    Bad,
 }
 
 // A refusal's number and place, both 0 where there is none; then the action and the numerator.

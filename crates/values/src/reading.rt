@@ -1,7 +1,7 @@
 // The value and the action at a state.
 ghost use mathlib.Core.Path.{_≡_};
 ghost use Rattle.theory.specs.Value.{refused-value, value-at, value-of};
-ghost use Rattle.values.specs.Row.{Ends};
+ghost use Rattle.values.specs.Step.{Ends};
 ghost use Rattle.values.specs.State.{asked, asked-by};
 ghost use Rattle.values.specs.Out.{out, value-after};
 use super::Asked;
@@ -9,7 +9,7 @@ use super::Value;
 use super::states::accepted;
 use super::states::numerator;
 use super::walks::walk;
-use super::words::magnitude;
+use rows::words::magnitude;
 use whole::Numerator;
 
 fn refused(number: u32, place: usize) -> Value

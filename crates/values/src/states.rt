@@ -11,10 +11,10 @@ ghost use Rattle.theory.specs.Diagram.{zeros};
 ghost use Rattle.theory.specs.Meaning.{nth};
 ghost use Rattle.theory.specs.Value.{accepted, bits, numerator-of, node-linear};
 ghost use Rattle.theory.specs.Valid.{small-linear};
-ghost use Rattle.values.specs.Row.{Inside};
+ghost use Rattle.rows.specs.Row.{Inside};
 ghost use Rattle.values.specs.State.{asked};
 use super::Asked;
-use super::words::word;
+use rows::words::word;
 use whole::Numerator;
 use whole::two_words::dot;
 

@@ -7,15 +7,15 @@ ghost use Rattle.whole.specs.Cases.{if};
 ghost use Rattle.theory.specs.Meaning.{nth};
 ghost use Rattle.theory.specs.Value.{bits, node-word, amongZ, node-linear, numerator-of, high-of, low-of, walk};
 ghost use Rattle.theory.specs.Valid.{small-linear};
-ghost use Rattle.values.specs.Row.{Inside};
+ghost use Rattle.rows.specs.Row.{Inside};
 ghost use Rattle.values.specs.State.{asked};
 ghost use Rattle.values.specs.Step.{step-of};
 use super::Asked;
-use super::Kind;
-use super::rows::row_kind;
 use super::states::condition;
 use super::states::numerator;
-use super::words::magnitude;
+use rows::Kind;
+use rows::row_kind;
+use rows::words::magnitude;
 use whole::two_words::not_positive;
 
 // The condition of node r is yes.

@@ -13,32 +13,25 @@ use Rattle.whole.proofs.Signed.{R, small-back}
 use Rattle.table.specs.Table.{nodeAt, eqZ}
 use Rattle.table.specs.declared.Node.{Node}
 use Rattle.table.specs.declared.Made.{Made}
-use Rattle.theory.specs.Diagram.{Linear, Test, Tree, leaf, zeros, test-of}
+use Rattle.theory.specs.Diagram.{Test, Tree, leaf, zeros, test-of}
 use Rattle.theory.specs.Computation.{Comp, ret}
 use Rattle.theory.specs.Rules.{over, choose, decide}
 use Rattle.diagrams.specs.declared.Down.{Down}
 use Rattle.diagrams.specs.declared.Sides.{Sides}
 use Rattle.diagrams.specs.Nodes.{linOf, leafOf, treeAt, Root}
-use Rattle.diagrams.specs.Table.{Key, Table, Ran}
+use Rattle.diagrams.specs.Table.{Table, Ran}
+use Rattle.computed_cache.specs.Cache.{Key}
 use Rattle.diagrams.specs.Meaning.{testIn, testBy, Names, ruleOf}
 use Rattle.diagrams.specs.Roots.{downOf, leftSides}
 use Rattle.diagrams.proofs.Trees.{at-leaf, trees-kept}
 use Rattle.diagrams.proofs.Outcomes.{grown, ran-as, ran-ret}
 use Rattle.diagrams.proofs.Stepping.{On, left-on}
-use Rattle.diagrams.proofs.Meanings.{rule-walk}
+use Rattle.diagrams.proofs.Meanings.{rule-walk, root-test}
 use Rattle.diagrams.proofs.Going.{index-small, key-of, high-stops, low-stops, root-on, high-in, joined, over-leaf, over-branch}
-use Rattle.merge.specs.Merged.{AtLeaf}
-use Rattle.merge.proofs.Merges.{root-test}
+use Rattle.leaves.specs.Leaves.{AtLeaf}
+use Rattle.leaves.proofs.Sums.{decide-constant, decide-test}
 
 -- ---- at a leaf
-
-decide-constant : (p : Linear) (H L : Tree) → zeros (p .coeffs) ≡ true → decide p H L ≡ if (leZ (p .const) (pos 0)) (ret H) (ret L)
-unfolding decide
-decide-constant p H L e = ap (λ (b : Bool). if b (if (leZ (p .const) (pos 0)) (ret H) (ret L)) (choose (test-of p) H L)) e
-
-decide-test : (p : Linear) (H L : Tree) → zeros (p .coeffs) ≡ false → decide p H L ≡ choose (test-of p) H L
-unfolding decide
-decide-test p H L e = ap (λ (b : Bool). if b (if (leZ (p .const) (pos 0)) (ret H) (ret L)) (choose (test-of p) H L)) e
 
 -- the test that a leaf names
 leaf-test : (l : List ℤ) (n f : ℕ) (x : Node) → treeAt l n f ≡ leaf (leafOf x) → testBy l n 11 f ≡ test-of (linOf x)

@@ -7,14 +7,14 @@ ghost use Rattle.diagrams.specs.Nodes.{linOf, treeAt, At};
 ghost use Rattle.diagrams.specs.Table.{Table, Ran};
 ghost use Rattle.diagrams.specs.Meaning.{ruleOf};
 ghost use Rattle.diagrams.specs.Roots.{downOf};
-ghost use Rattle.merge.specs.Merged.{AtLeaf};
+ghost use Rattle.leaves.specs.Leaves.{AtLeaf};
+use choice::choose;
+use computed_cache::keep;
+use computed_cache::look;
 use diagrams::Down;
-use diagrams::cache::keep;
-use diagrams::cache::look;
-use diagrams::roots::below;
-use diagrams::rules::choose;
-use merge::numbers::decided;
-use merge::numbers::is_constant;
+use diagrams::tests::below;
+use leaves::numbers::decided;
+use leaves::numbers::is_constant;
 use table::Made;
 
 // What lies below the node at f.

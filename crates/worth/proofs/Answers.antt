@@ -22,11 +22,12 @@ use Rattle.theory.specs.Plain.{worth-out}
 use Rattle.theory.specs.laws.Loading.{loaded-entries}
 use Rattle.evaluate.specs.declared.Point.{Point}
 use Rattle.evaluate.specs.Pass.{Stands}
-use Rattle.worth.specs.declared.Total.{Total}
-use Rattle.worth.specs.declared.Total.the-variants as total
-use Rattle.worth.specs.Totals.{total-of, times-of}
-use Rattle.worth.specs.Standing.{Ready, Standing, Earned}
-use Rattle.worth.proofs.Lists.{four-most, alone}
+use Rattle.judging.specs.declared.Total.{Total}
+use Rattle.judging.specs.declared.Total.the-variants as total
+use Rattle.judging.specs.Totals.{total-of, times-of}
+use Rattle.transition.specs.Standing.{Ready, Standing}
+use Rattle.worth.specs.Worths.{Earned}
+use Rattle.transition.proofs.Lists.{four-most, alone}
 
 -- n × h
 pub exponent-fits : (B : List ℕ) → Ready B → (n h : ℕ) → n ≡ site-at B .conditions → h ≤ 8 → n * h ≤ 32

@@ -27,9 +27,10 @@ use Rattle.model.proofs.Accepted.{Passed, early-passed}
 use Rattle.values.specs.State.{asked-by}
 use Rattle.values.proofs.Entry.{state-is}
 use Rattle.evaluate.specs.declared.Point.{Point}
-use Rattle.worth.specs.declared.Total.{Total}
-use Rattle.worth.specs.Totals.{total-of}
-use Rattle.worth.specs.Standing.{Ready, Spells, Standing, State-worth}
+use Rattle.judging.specs.declared.Total.{Total}
+use Rattle.judging.specs.Totals.{total-of}
+use Rattle.transition.specs.Standing.{Ready, Spells, Standing}
+use Rattle.worth.specs.Worths.{State-worth}
 
 if-yes : {A : Type 0} (b : Bool) (f : T b → A) (x : A) (t : T b) → if-true b f x ≡ f t
 unfolding if-true

@@ -19,7 +19,7 @@ use Rattle.theory.specs.Verdict.{from-to, or}
 use Rattle.evaluate.proofs.Points.{or-out}
 use Rattle.theory.specs.Value.{bits}
 use Rattle.theory.specs.Plain.{Worth, is, over, judged, in-32-bits, sum-settings, try-actions}
-use Rattle.worth.specs.Totals.{on, plus-of, added-of, summed, tried, is-over, none-left}
+use Rattle.judging.specs.Totals.{plus-of, added-of, summed, tried, is-over, none-left}
 
 -- ---- the settings, by their masks
 
@@ -64,6 +64,11 @@ left-more n r count h =
 left-none : (n r count : ℕ) → count ≤ r → left n r count ≡ []
 unfolding from-to
 left-none n r count h = ap (λ (k : ℕ). map (bits n) (from-to r k)) (let e : count - r ≡ 0 = omega arith in e)
+
+-- what follows from a number within the limits
+unfoldable pub on : Within → (ℤ → Worth) → Worth
+on (within.Is z) f = f z
+on within.Over f = over
 
 -- two judgements in turn
 pub judged-on : (z : ℤ) (f : ℤ → Worth) → judged z (f z) ≡ on (limited z) f

@@ -19,15 +19,16 @@ use Rattle.theory.specs.laws.Plain.{first-action}
 use Rattle.model.proofs.Accepted.{site-accepted}
 use Rattle.evaluate.specs.declared.Point.{Point}
 use Rattle.evaluate.proofs.Actions.{action-is}
-use Rattle.worth.specs.declared.Total.{Total}
-use Rattle.worth.specs.declared.Total.the-variants as total
-use Rattle.worth.specs.declared.Chances.{Chances}
-use Rattle.worth.specs.declared.Next.{Next}
-use Rattle.worth.specs.declared.Next.the-variants as next
-use Rattle.worth.specs.Totals.{total-of, on, times-of, added-of, summed, tried, Kept, is-over, none-left}
-use Rattle.worth.specs.Standing.{Ready, Spells, Standing, Acts, act, after, Chances-are, Weighs, Reaches, Led, Leads, Earned, State-worth, Action-worth}
-use Rattle.worth.proofs.Judge.{times-kept, added-kept}
-use Rattle.worth.proofs.Runs.{left, settings-are, judged-on, settings-end, settings-skip, settings-over, settings-add, others, actions-end, actions-on}
+use Rattle.judging.specs.declared.Total.{Total}
+use Rattle.judging.specs.declared.Total.the-variants as total
+use Rattle.transition.specs.declared.Chances.{Chances}
+use Rattle.transition.specs.declared.Next.{Next}
+use Rattle.transition.specs.declared.Next.the-variants as next
+use Rattle.judging.specs.Totals.{total-of, times-of, added-of, summed, tried, Kept, is-over, none-left}
+use Rattle.transition.specs.Standing.{Ready, Spells, Standing, Acts, act, after, Chances-are, Weighs, Reaches, Led, Leads}
+use Rattle.worth.specs.Worths.{Earned, State-worth, Action-worth}
+use Rattle.judging.proofs.Judge.{times-kept, added-kept}
+use Rattle.worth.proofs.Runs.{left, on, settings-are, judged-on, settings-end, settings-skip, settings-over, settings-add, others, actions-end, actions-on}
 
 -- ---- where an action's worth starts
 

@@ -1,3 +1,2 @@
--- Plain working: the code's terms, given as those of document 01.
-pub mod Totals
-pub mod Standing
+-- Plain working: what its parts come to, in the terms of document 01.
+pub mod Worths

@@ -4,43 +4,15 @@ ghost use Rattle.theory.specs.Value.{refused-value};
 ghost use Rattle.theory.specs.Plain.{plain-of, worth-out};
 ghost use Rattle.values.specs.Out.{out};
 ghost use Rattle.values.specs.State.{asked-by};
-ghost use Rattle.worth.specs.Totals.{total-of};
+ghost use Rattle.judging.specs.Totals.{total-of};
 use evaluate::Point;
+use judging::Total;
+use transition::sites;
 use values::Asked;
 use values::Value;
 use whole::Numerator;
 
-mod judging; // judging.rt: numbers kept within their limits
-mod sites; // sites.rt: the numbers of the model's site
-mod weighing; // weighing.rt: the weight of a setting
-mod moves; // moves.rt: the state after an action and a setting
 mod worths; // worths.rt: the worth of a state and of an action
-
-// A worth and the action that has it, or a number left its limits.
-enum Total {
-    Is(i64, u8),
-    Over,
-}
-
-// A next level's numerator, where it has 32 bits.
-enum Level {
-    Is(i32),
-    Over,
-}
-
-// A next state, where all its numerators have 32 bits.
-enum Next {
-    At(Point),
-    Over,
-}
-
-// The weights, out of W, that the conditions are yes next; 0 beyond condition n.
-struct Chances {
-    pub c1: u64,
-    pub c2: u64,
-    pub c3: u64,
-    pub c4: u64,
-}
 
 fn refused(number: u32, place: usize) -> Value
     ensures { λ v. ⌜ out v ≡ refused-value number place ⌝ }

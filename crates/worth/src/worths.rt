@@ -1,15 +1,15 @@
 // The worth of a state and the worth of an action, which call each other, steps left falling.
 ghost use mathlib.Core.Path.{_≡_};
 ghost use Prim.Native.Nat.{_≤_};
-ghost use Rattle.worth.specs.Standing.{Standing, Acts, Earned, State-worth, Action-worth};
-use super::Next;
-use super::Total;
-use super::judging;
-use super::moves;
-use super::sites;
-use super::weighing;
+ghost use Rattle.transition.specs.Standing.{Standing, Acts};
+ghost use Rattle.worth.specs.Worths.{Earned, State-worth, Action-worth};
 use evaluate::Point;
 use evaluate::Slot;
+use judging::Total;
+use transition::Next;
+use transition::moves;
+use transition::sites;
+use transition::weighing;
 use whole::Within;
 use whole::limits::power_within;
 
@@ -60,7 +60,7 @@ fn action_worth(model: &[u8], steps: u32, a: u8, x: Point) -> Total
     let mut r: u32 = 0;
     loop {
         if judging::settings_done(sum, r, count) {
-            return judging::total(sum);
+            return judging::worth_of(sum);
         }
         let w = weighing::weight(model, c, r);
         if w == 0 {

@@ -1,59 +1,47 @@
+-- `advice::advise` meets its contract.
 use Rattle.values.specs.Out.{out}
 use Rattle.values.specs.State.{asked-by}
-use Rattle.advice.proofs.Advised.{back, refusal-given, value-given}
+use Rattle.theory.specs.laws.Advice.{refusal-given, value-given}
+use Rattle.values.proofs.Entry.{state-is}
 use borrow.Author.Needs.{needs}
 use Rattle.advice.proofs.advise.Statement.{statement}
 use Rattle.advice.proofs.advise.Tie as tie
-use Rattle.advice.proofs.advise.Reads as reads
-use Rattle.advice.proofs.advise.Lts as lts
-use Rattle.solver.proofs.solve.Reads as solve-reads
-use Rattle.values.proofs.reading.value.Reads as value-reads
 
--- src/lib.rt:37:9
 solve-requires : tie.Need-solve-requires
 solve-requires c κs = search needs
 
--- src/lib.rt:39:9
 same-length : tie.Need-same-length
 same-length c = search needs
 
--- src/lib.rt:39:9
 same-length-2 : tie.Need-same-length-2
 same-length-2 c = search needs
 
--- src/lib.rt:39:9
 same-length-3 : tie.Need-same-length-3
 same-length-3 c = search needs
 
--- src/lib.rt:39:9
 returns : tie.Need-returns
 returns c =
     let a = c .before .before .before .before .before .before .before .before .before .before .before .before .before .before .args in
     refusal-given (a .model .now) (a .horizon) (a .nodes .now) (a .stages .now) (a .work .now) (c .before .before .before .before .before .before .before .solve .ensures) (a .steps) (asked-by (a .mask) (a .l1) (a .l2) (a .l3) (a .l4) (a .d)) (c .if1 .taken)
 
--- src/lib.rt:46:5
 value-requires : tie.Need-value-requires
 value-requires c κs = search needs
 
--- src/lib.rt:13:1
 same-length-4 : tie.Need-same-length-4
 same-length-4 c = search needs
 
--- src/lib.rt:13:1
 same-length-5 : tie.Need-same-length-5
 same-length-5 c = search needs
 
--- src/lib.rt:13:1
 same-length-6 : tie.Need-same-length-6
 same-length-6 c = search needs
 
--- src/lib.rt:13:1
 returns-2 : tie.Need-returns-2
 returns-2 c =
     let s = c .before .before .before .before .before .before .before .before .before .before .before .before .before .before .before .before .before in
     let a = s .args in
     value-given (a .model .now) (a .horizon) (a .nodes .now) (a .stages .now) (a .work .now) (c .before .before .before .before .before .before .before .before .before .before .solve .ensures) (a .steps) (asked-by (a .mask) (a .l1) (a .l2) (a .l3) (a .l4) (a .d)) _ (out (c .value .result)) (c .before .before .before .if1 .left)
-    (λ i. asked-by (a .mask) (back (s .fits .l1) i) (back (s .fits .l2) i) (back (s .fits .l3) i) (back (s .fits .l4) i) (back (s .fits .d) i))
+    (state-is (a .mask) (a .l1) (a .l2) (a .l3) (a .l4) (a .d) (s .fits .l1) (s .fits .l2) (s .fits .l3) (s .fits .l4) (s .fits .d))
     (c .value .ensures)
 
 pub advise-spec : {M : Type 1} → statement M

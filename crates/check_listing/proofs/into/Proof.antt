@@ -13,13 +13,10 @@ slice-relend-prefix-listing c = search needs
 
 slice-aggregate-listing : tie.Need-slice-aggregate-listing
 slice-aggregate-listing c =
-    sym (length-take-le ((c .before .before .before .before .before .before) .args .n) ((c .before .before .before .before .before .before) .args .room .now) (c .before .if1 .left))
+    sym (length-take-le ((c .before .before .before .before .before) .args .n) ((c .before .before .before .before .before) .args .room .now) (c .before .if1 .left))
 
 listing-requires : tie.Need-listing-requires
 listing-requires c κs = search needs
-
-print-requires : tie.Need-print-requires
-print-requires c κs = search needs
 
 same-length : tie.Need-same-length
 same-length c = search needs
@@ -35,6 +32,5 @@ into-spec =
     slice-relend-prefix-listing
     slice-aggregate-listing
     listing-requires
-    print-requires
     same-length
     returns-2)

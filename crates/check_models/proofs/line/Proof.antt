@@ -8,14 +8,8 @@ use Rattle.check_models.proofs.line.Tie as tie
 find-requires : tie.Need-find-requires
 find-requires c κs = search needs
 
-write-all-requires : tie.Need-write-all-requires
-write-all-requires c κs = search needs
-
-slice-aggregate-write-all : tie.Need-slice-aggregate-write-all
-slice-aggregate-write-all c = search needs
-
-write-all-requires-2 : tie.Need-write-all-requires-2
-write-all-requires-2 c κs = search needs
+line-requires : tie.Need-line-requires
+line-requires c κs = search needs
 
 returns : tie.Need-returns
 returns c = search needs
@@ -47,9 +41,7 @@ line-spec =
     tie.close
     (tie.spec
     find-requires
-    write-all-requires
-    slice-aggregate-write-all
-    write-all-requires-2
+    line-requires
     returns
     slice-aggregate-judge
     sub-judge

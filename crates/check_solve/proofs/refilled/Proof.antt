@@ -1,25 +1,23 @@
 -- `check_solve::refilled` meets its contract.
 use borrow.Author.Needs.{needs}
 use Prim.Native.Nat.{_≤_, _-_}
-use mathlib.Core.Path.{_≡_}
-use lib.ListN.{length}
 use Rattle.check_solve.proofs.refilled.Statement.{statement}
 use Rattle.check_solve.proofs.refilled.Tie as tie
 
 abbrev Inv-loop : tie.InvT-loop
-Inv-loop a b c nodes₀ stages₀ work₀ alike₀ i₀ t10 nodes stages work alike i = (i ≤ 240) × (length nodes ≡ length nodes₀) × (length stages ≡ length stages₀) × (length work ≡ length work₀)
+Inv-loop models nodes₀ stages₀ work₀ alike₀ i₀ t7 nodes stages work alike i = i ≤ 240
 
 abbrev μ-loop : tie.MeasureT-loop
-μ-loop a b c nodes₀ stages₀ work₀ alike₀ i₀ t10 nodes stages work alike i = 240 - i
+μ-loop models nodes₀ stages₀ work₀ alike₀ i₀ t7 nodes stages work alike i = 240 - i
 
 loop-holds : tie.Need-loop-holds Inv-loop μ-loop
 loop-holds c = search needs
 
-add-h : tie.Need-add-h Inv-loop μ-loop
-add-h c = search needs
-
 in-turn-requires : tie.Need-in-turn-requires Inv-loop μ-loop
 in-turn-requires c κs = search needs
+
+again-requires : tie.Need-again-requires Inv-loop μ-loop
+again-requires c κs = search needs
 
 add-alike : tie.Need-add-alike Inv-loop μ-loop
 add-alike c = search needs
@@ -42,15 +40,6 @@ slice-aggregate-text c = search needs
 text-requires : tie.Need-text-requires Inv-loop μ-loop
 text-requires c κs = search needs
 
-same-length : tie.Need-same-length Inv-loop μ-loop
-same-length c = search needs
-
-same-length-2 : tie.Need-same-length-2 Inv-loop μ-loop
-same-length-2 c = search needs
-
-same-length-3 : tie.Need-same-length-3 Inv-loop μ-loop
-same-length-3 c = search needs
-
 returns : tie.Need-returns Inv-loop μ-loop
 returns c = search needs
 
@@ -61,8 +50,8 @@ refilled-spec =
     Inv-loop
     μ-loop
     loop-holds
-    add-h
     in-turn-requires
+    again-requires
     add-alike
     add-i
     loop-less
@@ -70,7 +59,4 @@ refilled-spec =
     number-requires
     slice-aggregate-text
     text-requires
-    same-length
-    same-length-2
-    same-length-3
     returns)

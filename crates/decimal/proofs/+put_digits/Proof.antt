@@ -44,26 +44,24 @@ put-digits-add-d :
 put-digits-add-d t c =
     omega arith
 
-put-digits-slice-write-out : (t : ℕ) → put-digits-lts.Need-slice-write-out (
+-- the contracts that `put_digits` calls by, itself at a smaller measure
+abbrev put-digits-claims : ℕ → put-digits-lts.Claims
+put-digits-claims t = (
   put-digits-below t,
   put-digits.Post,
-) (put-digits-at t) put-digits.Post
+)
+
+put-digits-slice-write-out : (t : ℕ) → put-digits-lts.Need-slice-write-out (put-digits-claims t) (put-digits-at t) put-digits.Post
 put-digits-slice-write-out t c =
     let s = (c .before .before) in
     omega (arith, s .pre .1, digits-some (s .args .left) (s .args .x))
 
-put-digits-add-result : (t : ℕ) → put-digits-lts.Need-add-result (
-  put-digits-below t,
-  put-digits.Post,
-) (put-digits-at t) put-digits.Post
+put-digits-add-result : (t : ℕ) → put-digits-lts.Need-add-result (put-digits-claims t) (put-digits-at t) put-digits.Post
 put-digits-add-result t c =
     let s = (c .before .before) in
     omega (arith, s .pre .1, digits-some (s .args .left) (s .args .x))
 
-put-digits-same-length : (t : ℕ) → put-digits-lts.Need-same-length (
-  put-digits-below t,
-  put-digits.Post,
-) (put-digits-at t) put-digits.Post
+put-digits-same-length : (t : ℕ) → put-digits-lts.Need-same-length (put-digits-claims t) (put-digits-at t) put-digits.Post
 put-digits-same-length t c =
     search needs
 
@@ -79,60 +77,39 @@ put-digits-returns t c =
     let h : a .at < length (a .out .now) = omega (arith, s .pre .1, digits-some (a .left) (a .x)) in
     put-first (a .out .now) (digits (a .left) (a .x)) (a .at) (48 + a .x % 10) h (digits-least (a .left) (a .x) (c .if1 .taken))
 
-put-digits-slice-write-out-2 : (t : ℕ) → put-digits-lts.Need-slice-write-out-2 (
-  put-digits-below t,
-  put-digits.Post,
-) (put-digits-at t) put-digits.Post
+put-digits-slice-write-out-2 : (t : ℕ) → put-digits-lts.Need-slice-write-out-2 (put-digits-claims t) (put-digits-at t) put-digits.Post
 put-digits-slice-write-out-2 t c =
     let s = (c .before .before .before) in
     omega (arith, s .pre .1, digits-some (s .args .left) (s .args .x))
 
-put-digits-add-result-2 : (t : ℕ) → put-digits-lts.Need-add-result-2 (
-  put-digits-below t,
-  put-digits.Post,
-) (put-digits-at t) put-digits.Post
+put-digits-add-result-2 : (t : ℕ) → put-digits-lts.Need-add-result-2 (put-digits-claims t) (put-digits-at t) put-digits.Post
 put-digits-add-result-2 t c =
     let s = (c .before .before .before) in
     omega (arith, s .pre .1, digits-some (s .args .left) (s .args .x))
 
-put-digits-same-length-2 : (t : ℕ) → put-digits-lts.Need-same-length-2 (
-  put-digits-below t,
-  put-digits.Post,
-) (put-digits-at t) put-digits.Post
+put-digits-same-length-2 : (t : ℕ) → put-digits-lts.Need-same-length-2 (put-digits-claims t) (put-digits-at t) put-digits.Post
 put-digits-same-length-2 t c =
     search needs
 
-put-digits-returns-2 : (t : ℕ) → put-digits-lts.Need-returns-2 (
-  put-digits-below t,
-  put-digits.Post,
-) (put-digits-at t) put-digits.Post
+put-digits-returns-2 : (t : ℕ) → put-digits-lts.Need-returns-2 (put-digits-claims t) (put-digits-at t) put-digits.Post
 put-digits-returns-2 t c =
     let s = (c .before .before .before) in
     let a = s .args in
     let h : a .at < length (a .out .now) = omega (arith, s .pre .1, digits-some (a .left) (a .x)) in
     put-first (a .out .now) (digits (a .left) (a .x)) (a .at) (48 + a .x % 10) h (digits-few (a .left) (a .x) (c .if2 .taken))
 
-put-digits-sub-put-digits : (t : ℕ) → put-digits-lts.Need-sub-put-digits (
-  put-digits-below t,
-  put-digits.Post,
-) (put-digits-at t) put-digits.Post
+put-digits-sub-put-digits : (t : ℕ) → put-digits-lts.Need-sub-put-digits (put-digits-claims t) (put-digits-at t) put-digits.Post
 put-digits-sub-put-digits t c =
     omega arith
 
-put-digits-put-digits-requires : (t : ℕ) → put-digits-lts.Need-put-digits-requires (
-  put-digits-below t,
-  put-digits.Post,
-) (put-digits-at t) put-digits.Post
+put-digits-put-digits-requires : (t : ℕ) → put-digits-lts.Need-put-digits-requires (put-digits-claims t) (put-digits-at t) put-digits.Post
 put-digits-put-digits-requires t c κs =
     let s = (c .before .before .before .before) in
     let a = s .args in
     let e = digits-longer (a .left) (a .x) (c .before .before .if1 .left) (c .before .if2 .left) in
     (omega (arith, s .pre .0), omega (arith, s .pre .1, e))
 
-put-digits-slice-write-out-3 : (t : ℕ) → put-digits-lts.Need-slice-write-out-3 (
-  put-digits-below t,
-  put-digits.Post,
-) (put-digits-at t) put-digits.Post
+put-digits-slice-write-out-3 : (t : ℕ) → put-digits-lts.Need-slice-write-out-3 (put-digits-claims t) (put-digits-at t) put-digits.Post
 put-digits-slice-write-out-3 t c =
     let s = (c .before .before .before .before .before .before .before) in
     let a = s .args in
@@ -140,10 +117,7 @@ put-digits-slice-write-out-3 t c =
     let e = digits-longer (a .left) (a .x) (c .before .before .before .before .before .if1 .left) (c .before .before .before .before .if2 .left) in
     omega (arith, s .pre .1, q .ensures .behind, q .kept .0)
 
-put-digits-add-result-3 : (t : ℕ) → put-digits-lts.Need-add-result-3 (
-  put-digits-below t,
-  put-digits.Post,
-) (put-digits-at t) put-digits.Post
+put-digits-add-result-3 : (t : ℕ) → put-digits-lts.Need-add-result-3 (put-digits-claims t) (put-digits-at t) put-digits.Post
 put-digits-add-result-3 t c =
     let s = (c .before .before .before .before .before .before .before) in
     let a = s .args in
@@ -151,17 +125,11 @@ put-digits-add-result-3 t c =
     let e = digits-longer (a .left) (a .x) (c .before .before .before .before .before .if1 .left) (c .before .before .before .before .if2 .left) in
     omega (arith, s .pre .1, q .ensures .behind, q .kept .0)
 
-put-digits-same-length-3 : (t : ℕ) → put-digits-lts.Need-same-length-3 (
-  put-digits-below t,
-  put-digits.Post,
-) (put-digits-at t) put-digits.Post
+put-digits-same-length-3 : (t : ℕ) → put-digits-lts.Need-same-length-3 (put-digits-claims t) (put-digits-at t) put-digits.Post
 put-digits-same-length-3 t c =
     search needs
 
-put-digits-returns-3 : (t : ℕ) → put-digits-lts.Need-returns-3 (
-  put-digits-below t,
-  put-digits.Post,
-) (put-digits-at t) put-digits.Post
+put-digits-returns-3 : (t : ℕ) → put-digits-lts.Need-returns-3 (put-digits-claims t) (put-digits-at t) put-digits.Post
 put-digits-returns-3 t c =
     let s = (c .before .before .before .before .before .before .before) in
     let a = s .args in
@@ -172,10 +140,7 @@ put-digits-returns-3 t c =
     (digits-more (a .left) (a .x) (c .before .before .before .before .before .if1 .left) (c .before .before .before .before .if2 .left))
 
 pub +put-digits-spec : {M : Type 1} → statement M
-+put-digits-spec = close μ-put-digits λ t. put-digits-lts.spec (
-  put-digits-below t,
-  put-digits.Post,
-)
++put-digits-spec = close μ-put-digits λ t. put-digits-lts.spec (put-digits-claims t)
     (put-digits-at t)
     put-digits.Post
     (put-digits-cast-d t)

@@ -4,7 +4,8 @@ use Rattle.theory.specs.Diagram.{Test}
 use Rattle.theory.specs.Rules.{choose}
 use Rattle.diagrams.specs.Nodes.{treeAt}
 use Rattle.diagrams.proofs.Outcomes.{ran-as, lifted}
-use Rattle.merge.proofs.Merges.{is-choose, is-node, root-test}
+use Rattle.diagrams.proofs.Meanings.{root-test}
+use Rattle.merge.proofs.Merges.{is-choose, is-node}
 use borrow.Author.Needs.{needs}
 use Rattle.merge.proofs.over_root.Statement.{statement}
 use Rattle.merge.proofs.over_root.Tie as tie

@@ -1,5 +1,5 @@
 -- `planner::planner_listing` meets its contract.
-use Rattle.planner.proofs.Listed.{listing-short, listing-whole}
+use Rattle.answers.proofs.Listed.{listing-short, listing-whole}
 use borrow.Author.Needs.{needs}
 use Rattle.planner.proofs.planner_listing.Statement.{statement}
 use Rattle.planner.proofs.planner_listing.Tie as tie

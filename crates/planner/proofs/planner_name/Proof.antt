@@ -1,5 +1,5 @@
 -- `planner::planner_name` meets its contract.
-use Rattle.planner.proofs.Named.{name-most, name-short, name-whole}
+use Rattle.answers.proofs.Named.{name-most, name-short, name-whole}
 use borrow.Author.Needs.{needs}
 use Rattle.planner.proofs.planner_name.Statement.{statement}
 use Rattle.planner.proofs.planner_name.Tie as tie

@@ -1,5 +1,5 @@
 -- `planner::planner_solve` meets its contract.
-use Rattle.planner.proofs.Solved.{solve-short, solve-whole}
+use Rattle.answers.proofs.Solved.{solve-short, solve-whole}
 use borrow.Author.Needs.{needs}
 use Rattle.planner.proofs.planner_solve.Statement.{statement}
 use Rattle.planner.proofs.planner_solve.Tie as tie

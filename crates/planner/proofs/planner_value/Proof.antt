@@ -1,7 +1,7 @@
 -- `planner::planner_value` meets its contract.
 use Rattle.theory.specs.Value.{value-of}
 use Rattle.values.proofs.Entry.{state-is}
-use Rattle.planner.proofs.Answered.{value-found}
+use Rattle.answers.proofs.Answered.{value-found}
 use borrow.Author.Needs.{needs}
 use Rattle.planner.proofs.planner_value.Statement.{statement}
 use Rattle.planner.proofs.planner_value.Tie as tie

@@ -1,7 +1,7 @@
 -- `planner::planner_worth` meets its contract.
 use Rattle.theory.specs.Plain.{plain-of}
 use Rattle.values.proofs.Entry.{state-is}
-use Rattle.planner.proofs.Answered.{value-found}
+use Rattle.answers.proofs.Answered.{value-found}
 use borrow.Author.Needs.{needs}
 use Rattle.planner.proofs.planner_worth.Statement.{statement}
 use Rattle.planner.proofs.planner_worth.Tie as tie

@@ -33,20 +33,11 @@ list-requires c κs = search needs
 number-requires : tie.Need-number-requires
 number-requires c κs = search needs
 
-slice-aggregate-text : tie.Need-slice-aggregate-text
-slice-aggregate-text c = search needs
+slice-aggregate-ending : tie.Need-slice-aggregate-ending
+slice-aggregate-ending c = search needs
 
-text-requires : tie.Need-text-requires
-text-requires c κs = search needs
-
-number-requires-2 : tie.Need-number-requires-2
-number-requires-2 c κs = search needs
-
-slice-aggregate-text-2 : tie.Need-slice-aggregate-text-2
-slice-aggregate-text-2 c = search needs
-
-text-requires-2 : tie.Need-text-requires-2
-text-requires-2 c κs = search needs
+ending-requires : tie.Need-ending-requires
+ending-requires c κs = search needs
 
 same-length : tie.Need-same-length
 same-length c = search needs
@@ -70,11 +61,8 @@ finished-spec =
     slice-aggregate-list
     list-requires
     number-requires
-    slice-aggregate-text
-    text-requires
-    number-requires-2
-    slice-aggregate-text-2
-    text-requires-2
+    slice-aggregate-ending
+    ending-requires
     same-length
     same-length-2
     returns-2)

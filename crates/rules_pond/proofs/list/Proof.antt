@@ -15,14 +15,11 @@ slice-aggregate-listing c = search needs
 listing-requires : tie.Need-listing-requires
 listing-requires c κs = search needs
 
-cast-number : tie.Need-cast-number
-cast-number c = search needs
+cast-pair : tie.Need-cast-pair
+cast-pair c = search needs
 
-number-requires : tie.Need-number-requires
-number-requires c κs = search needs
-
-number-requires-2 : tie.Need-number-requires-2
-number-requires-2 c κs = search needs
+pair-requires : tie.Need-pair-requires
+pair-requires c κs = search needs
 
 slice-aggregate-text : tie.Need-slice-aggregate-text
 slice-aggregate-text c = search needs
@@ -35,7 +32,7 @@ array-share-prefix-room c = search needs
 
 slice-aggregate-text-2 : tie.Need-slice-aggregate-text-2
 slice-aggregate-text-2 c =
-    sym (length-take-le (c .before .before .before .before .before .before .before .before .listing .result .size) (c .before .before .before .before .before .before .before .before .listing .last .1 .1 .1 .1 .0) (omega (arith, c .before .if1 .taken, c .before .before .before .before .before .before .before .before .listing .kept .1 .1 .1 .1 .0)))
+    sym (length-take-le (c .before .before .before .before .before .before .before .listing .result .size) (c .before .before .before .before .before .before .before .listing .last .1 .1 .1 .1 .0) (omega (arith, c .before .if1 .taken, c .before .before .before .before .before .before .before .listing .kept .1 .1 .1 .1 .0)))
 
 text-requires-2 : tie.Need-text-requires-2
 text-requires-2 c κs = search needs
@@ -53,9 +50,8 @@ list-spec =
     large-buffer-requires
     slice-aggregate-listing
     listing-requires
-    cast-number
-    number-requires
-    number-requires-2
+    cast-pair
+    pair-requires
     slice-aggregate-text
     text-requires
     array-share-prefix-room

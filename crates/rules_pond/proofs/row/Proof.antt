@@ -4,23 +4,11 @@ use borrow.Author.Needs.{needs}
 use Rattle.rules_pond.proofs.row.Statement.{statement}
 use Rattle.rules_pond.proofs.row.Tie as tie
 
+rule-at-requires : tie.Need-rule-at-requires
+rule-at-requires c κs = search needs
+
 digit-requires : tie.Need-digit-requires
 digit-requires c κs = search needs
-
-digit-requires-2 : tie.Need-digit-requires-2
-digit-requires-2 c κs = search needs
-
-digit-requires-3 : tie.Need-digit-requires-3
-digit-requires-3 c κs = search needs
-
-digit-requires-4 : tie.Need-digit-requires-4
-digit-requires-4 c κs = search needs
-
-rule-of-requires : tie.Need-rule-of-requires
-rule-of-requires c κs = search needs
-
-digit-requires-5 : tie.Need-digit-requires-5
-digit-requires-5 c κs = search needs
 
 returns : tie.Need-returns
 returns c = search needs
@@ -33,7 +21,7 @@ fits-requires c κs = search needs
 
 step-requires : tie.Need-step-requires
 step-requires c κs =
-    (c .before .before .before .before .before .before .before .before .before .before .before .before .before .before .before .before .before .pre, omega (arith, c .before .before .before .before .before .if2 .left), omega (arith, c .before .before .before .before .before .before .before .if1 .left), c .before .before .before .before .fits2 .ensures (c .before .before .before .if3 .taken))
+    (c .before .before .before .before .before .before .before .before .before .before .before .before .before .pre, omega (arith, c .before .before .before .before .before .if2 .left), omega (arith, c .before .before .before .before .before .before .before .if1 .left), c .before .before .before .before .fits2 .ensures (c .before .before .before .if3 .taken))
 
 same-length : tie.Need-same-length
 same-length c = search needs
@@ -54,12 +42,8 @@ pub row-spec : {M : Type 1} → statement M
 row-spec =
     tie.close
     (tie.spec
+    rule-at-requires
     digit-requires
-    digit-requires-2
-    digit-requires-3
-    digit-requires-4
-    rule-of-requires
-    digit-requires-5
     returns
     returns-2
     fits-requires

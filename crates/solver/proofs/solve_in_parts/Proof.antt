@@ -6,7 +6,7 @@ use Rattle.solver.proofs.solve_in_parts.Tie as tie
 use Rattle.solver.proofs.solve_in_parts.Reads as reads
 use Rattle.solver.proofs.solve_in_parts.Lts as lts
 use Rattle.solver.proofs.least.Reads as least-reads
-use Rattle.solver.proofs.solve_in.Reads as solve-in-reads
+use Rattle.solve_in.proofs.solve_in.Reads as solve-in-reads
 
 -- src/lib.rt:149:9
 least-requires : tie.Need-least-requires

@@ -5,7 +5,7 @@ use lib.IntN.{pos}
 use lib.Signed.{nonNeg}
 use Rattle.table.specs.Table.{eqZ}
 use Rattle.table.specs.declared.Node.{Node}
-use Rattle.substitute.specs.Levels.{conditionIn}
+use Rattle.substitute.specs.Substitution.{conditionIn}
 use borrow.Author.Needs.{needs}
 use Rattle.substitute.proofs.condition_at.Statement.{statement}
 use Rattle.substitute.proofs.condition_at.Tie as tie

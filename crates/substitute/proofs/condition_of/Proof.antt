@@ -1,10 +1,11 @@
 use mathlib.Core.Path.{sym, subst}
+use native.Mathlib.Omega.{arith}
 use lib.Dec.{T}
 use lib.IntN.{ℤ}
 use lib.Signed.{nonNeg}
 use Rattle.table.proofs.Words.{back}
-use Rattle.diagrams.proofs.Comparing.{abs-of}
-use Rattle.substitute.proofs.Substituting.{one-yes, one-no, condition-none, found-later, found-now}
+use Rattle.table.proofs.Tests.{kind-yes, kind-no, abs-of}
+use Rattle.substitute.proofs.Substituting.{condition-none, found-later, found-now}
 use borrow.Author.Needs.{needs}
 use Rattle.substitute.proofs.condition_of.Statement.{statement}
 use Rattle.substitute.proofs.condition_of.Tie as tie
@@ -12,7 +13,7 @@ use Rattle.substitute.proofs.condition_of.Tie as tie
 index-requires : tie.Need-index-requires
 index-requires c κs =
     let s = (c .before .before .before .before) in
-    subst (λ (z : ℤ). T (nonNeg z)) (sym (back (s .args .x .c1) (c .before .before .struct-told .given .1 .0 .1))) (s .pre (one-yes (s .args .x .kind) (c .before .before .struct-told .given .0 .1) (c .before .if1 .taken)))
+    subst (λ (z : ℤ). T (nonNeg z)) (sym (back (s .args .x .c1) (c .before .before .struct-told .given .1 .0 .1))) (s .pre (kind-yes 1 (omega arith) (s .args .x .kind) (c .before .before .struct-told .given .0 .1) (c .before .if1 .taken)))
 
 sub-result : tie.Need-sub-result
 sub-result c = search needs
@@ -20,17 +21,17 @@ sub-result c = search needs
 returns : tie.Need-returns
 returns c =
     let s = (c .before .before .before .before .before .before) in
-    found-later (s .args .x) (abs-of (s .args .x .c1) (c .before .before .before .before .struct-told .given .1 .0 .1) (c .before .index .ensures)) (one-yes (s .args .x .kind) (c .before .before .before .before .struct-told .given .0 .1) (c .before .before .before .if1 .taken)) (c .if2 .taken)
+    found-later (s .args .x) (abs-of (s .args .x .c1) (c .before .before .before .before .struct-told .given .1 .0 .1) (c .before .index .ensures)) (kind-yes 1 (omega arith) (s .args .x .kind) (c .before .before .before .before .struct-told .given .0 .1) (c .before .before .before .if1 .taken)) (c .if2 .taken)
 
 returns-2 : tie.Need-returns-2
 returns-2 c =
     let s = (c .before .before .before .before .before .before) in
-    found-now (s .args .x) (abs-of (s .args .x .c1) (c .before .before .before .before .struct-told .given .1 .0 .1) (c .before .index .ensures)) (one-yes (s .args .x .kind) (c .before .before .before .before .struct-told .given .0 .1) (c .before .before .before .if1 .taken)) (c .if2 .left)
+    found-now (s .args .x) (abs-of (s .args .x .c1) (c .before .before .before .before .struct-told .given .1 .0 .1) (c .before .index .ensures)) (kind-yes 1 (omega arith) (s .args .x .kind) (c .before .before .before .before .struct-told .given .0 .1) (c .before .before .before .if1 .taken)) (c .if2 .left)
 
 returns-3 : tie.Need-returns-3
 returns-3 c =
     let s = (c .before .before .before) in
-    sym (condition-none (s .args .x) (one-no (s .args .x .kind) (c .if1 .left)))
+    sym (condition-none (s .args .x) (kind-no 1 (s .args .x .kind) (c .if1 .left)))
 
 pub condition-of-spec : {M : Type 1} → statement M
 condition-of-spec = tie.close (tie.spec index-requires sub-result returns returns-2 returns-3)

@@ -1,5 +1,5 @@
 use mathlib.Core.Path.{refl}
-use Rattle.substitute.specs.Levels.{pair}
+use Rattle.substitute.specs.Substitution.{pair}
 use borrow.Author.Needs.{needs}
 use Rattle.substitute.proofs.pair_of.Statement.{statement}
 use Rattle.substitute.proofs.pair_of.Tie as tie

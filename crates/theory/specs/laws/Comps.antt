@@ -114,6 +114,20 @@ same-refl (branch t h l) = λ i. isEq (cmp-refl t i) && same-refl h i && same-re
 pub same-not : (F G : Tree) → (F ≡ G → ⊥) → same F G ≡ false
 same-not F G n = by-test (same F G) (λ b. b ≡ false) (λ t. absurd (n (same-eq F G t))) (λ _. refl)
 
+-- ---- one after another
+
+pub bind-bind : {A B C : Type 0} (m : Comp A) (j : A → Comp B) (k : B → Comp C) → bind (bind m j) k ≡ bind m (λ x. bind (j x) k)
+unfolding bind
+bind-bind (ret a) j k = refl
+bind-bind (named z m) j k = ap (named z) (bind-bind m j k)
+bind-bind (made t m) j k = ap (made t) (bind-bind m j k)
+
+pub bind-ret : {A : Type 0} (m : Comp A) → bind m ret ≡ m
+unfolding bind
+bind-ret (ret a) = refl
+bind-ret (named z m) = ap (named z) (bind-ret m)
+bind-ret (made t m) = ap (made t) (bind-ret m)
+
 -- ---- results
 
 pub result-bind : {A B : Type 0} (m : Comp A) (k : A → Comp B) → result (bind m k) ≡ result (k (result m))

@@ -1,7 +1,8 @@
 -- `diagrams::tests::compare` meets its contract.
 use mathlib.Core.Path.{sym, ap}
 use Rattle.diagrams.specs.Roots.{ordNum}
-use Rattle.diagrams.proofs.Comparing.{cmp-lt, cmp-gt, cmp-same, lt-of}
+use Rattle.table.proofs.Tests.{lt-of}
+use Rattle.diagrams.proofs.Comparing.{cmp-lt, cmp-gt, cmp-same}
 use Rattle.diagrams.proofs.tests.compare.Statement.{statement}
 use Rattle.diagrams.proofs.tests.compare.Tie as tie
 

@@ -1,5 +1,5 @@
 -- `diagrams::tests::index` meets its contract.
-use Rattle.diagrams.proofs.Comparing.{index-fits}
+use Rattle.table.proofs.Tests.{index-fits}
 use borrow.Author.Needs.{needs}
 use Rattle.diagrams.proofs.tests.index.Statement.{statement}
 use Rattle.diagrams.proofs.tests.index.Tie as tie

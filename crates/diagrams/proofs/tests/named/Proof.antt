@@ -1,5 +1,6 @@
 -- `diagrams::tests::named` meets its contract.
-use Rattle.diagrams.proofs.Comparing.{kind-yes, kind-no}
+use native.Mathlib.Omega.{arith}
+use Rattle.table.proofs.Tests.{kind-yes, kind-no}
 use Rattle.diagrams.proofs.Meanings.{five-small-as, named-leaf-as, named-branch-as}
 use borrow.Author.Needs.{needs}
 use Rattle.diagrams.proofs.tests.named.Statement.{statement}
@@ -17,11 +18,11 @@ linear-requires c κs = search needs
 
 returns : tie.Need-returns
 returns c =
-    named-leaf-as ((c .before .before .before .before .before .before) .args .x) (kind-yes ((c .before .before .before .before .before .before) .args .x .kind) (c .before .before .before .before .struct-told .given .0 .1) (c .before .before .before .if1 .taken)) (c .before .before .five .ensures) (c .before .divided .ensures) (c .linear .ensures)
+    named-leaf-as ((c .before .before .before .before .before .before) .args .x) (kind-yes 0 (omega arith) ((c .before .before .before .before .before .before) .args .x .kind) (c .before .before .before .before .struct-told .given .0 .1) (c .before .before .before .if1 .taken)) (c .before .before .five .ensures) (c .before .divided .ensures) (c .linear .ensures)
 
 returns-2 : tie.Need-returns-2
 returns-2 c =
-    named-branch-as ((c .before .before .before) .args .x) (kind-no ((c .before .before .before) .args .x .kind) (c .if1 .left))
+    named-branch-as ((c .before .before .before) .args .x) (kind-no 0 ((c .before .before .before) .args .x .kind) (c .if1 .left))
 
 pub named-spec : {M : Type 1} → statement M
 named-spec = tie.close (tie.spec five-requires divided-requires linear-requires returns returns-2)

@@ -1,7 +1,7 @@
 use Prim.Native.Nat.{_+_, _*_}
 use lib.IntN.{pos}
 use lib.ListN.{getD}
-use Rattle.numbering.proofs.Bits.{nat-back, abs-of}
+use Rattle.table.proofs.Tests.{nat-back, abs-of}
 use borrow.Author.Needs.{needs}
 use Rattle.numbering.proofs.branches.branch.Statement.{statement}
 use Rattle.numbering.proofs.branches.branch.Tie as tie

@@ -1,6 +1,6 @@
 -- `values::states::numerator` meets its contract.
 use borrow.Author.Needs.{needs}
-use Rattle.values.proofs.Judged.{read-is}
+use Rattle.rows.proofs.Judged.{read-is}
 use Rattle.values.proofs.Linears.{smalls, small-read, numerator-is}
 use Rattle.values.proofs.states.numerator.Statement.{statement}
 use Rattle.values.proofs.states.numerator.Tie as tie

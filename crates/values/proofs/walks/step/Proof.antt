@@ -1,7 +1,7 @@
 -- `values::walks::step` meets its contract.
 use mathlib.Core.Path.{_∙_}
 use borrow.Author.Needs.{needs}
-use Rattle.values.specs.declared.Kind.the-variants.{Leaf, Condition, Test, Bad}
+use Rattle.rows.specs.declared.Kind.the-variants.{Leaf, Condition, Test, Bad}
 use Rattle.values.proofs.Down.{tells, condition-branches, test-branches, taken-condition, taken-test, step-is}
 use Rattle.values.proofs.walks.step.Statement.{statement}
 use Rattle.values.proofs.walks.step.Tie as tie

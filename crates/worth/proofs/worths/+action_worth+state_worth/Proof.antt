@@ -2,7 +2,7 @@
 use native.Mathlib.Omega.{arith}
 use borrow.Author.Needs.{needs}
 use Rattle.model.proofs.Accepted.{site-accepted}
-use Rattle.worth.specs.Totals.{total-of, is-over, none-left}
+use Rattle.judging.specs.Totals.{total-of, is-over, none-left}
 use Rattle.worth.proofs.Runs.{goes-on, not-last}
 use Rattle.worth.proofs.Turns.{Sums, Tries, sums-start, sums-end, sums-skip, sums-over, sums-add, next-stands, tries-start, tries-end, tries-on, none-left-worth}
 use Prim.Native.Nat.{ℕ, _+_, _-_, _*_, _≤_, _<_}
@@ -15,17 +15,17 @@ use Rattle.worth.proofs.worths.+action_worth+state_worth.Lts-action_wor
 use Rattle.worth.proofs.worths.state_worth.Reads as state-worth
 use Rattle.worth.proofs.worths.state_worth.Kinds as state-worth-kinds
 use Rattle.worth.proofs.worths.+action_worth+state_worth.Lts-state_worth as state-worth-lts
-use Rattle.worth.proofs.judging.actions_done.Reads as actions-done-reads
-use Rattle.worth.proofs.judging.added.Reads as added-reads
-use Rattle.worth.proofs.judging.better.Reads as better-reads
-use Rattle.worth.proofs.judging.numbered.Reads as numbered-reads
-use Rattle.worth.proofs.judging.settings_done.Reads as settings-done-reads
-use Rattle.worth.proofs.judging.total.Reads as total-reads
-use Rattle.worth.proofs.moves.next_state.Reads as next-state-reads
-use Rattle.worth.proofs.sites.actions.Reads as actions-reads
-use Rattle.worth.proofs.sites.settings.Reads as settings-reads
-use Rattle.worth.proofs.weighing.chances.Reads as chances-reads
-use Rattle.worth.proofs.weighing.weight.Reads as weight-reads
+use Rattle.judging.proofs.actions_done.Reads as actions-done-reads
+use Rattle.judging.proofs.added.Reads as added-reads
+use Rattle.judging.proofs.better.Reads as better-reads
+use Rattle.judging.proofs.numbered.Reads as numbered-reads
+use Rattle.judging.proofs.settings_done.Reads as settings-done-reads
+use Rattle.judging.proofs.worth_of.Reads as worth-of-reads
+use Rattle.transition.proofs.moves.next_state.Reads as next-state-reads
+use Rattle.transition.proofs.sites.actions.Reads as actions-reads
+use Rattle.transition.proofs.sites.settings.Reads as settings-reads
+use Rattle.transition.proofs.weighing.chances.Reads as chances-reads
+use Rattle.transition.proofs.weighing.weight.Reads as weight-reads
 use Rattle.worth.proofs.worths.earned.Reads as earned-reads
 use Rattle.worth.proofs.worths.+action_worth+state_worth.{statement}
 use Rattle.worth.proofs.worths.+action_worth+state_worth.Tie.{close}
@@ -69,7 +69,9 @@ action-worth-Inv-loop model steps a x c count sum₀ r₀ sum r = Sums model ste
 abbrev action-worth-μ-loop : action-worth-lts.MeasureT-loop
 action-worth-μ-loop model steps a x c count sum₀ r₀ sum r = count - r
 
-action-worth-chances-requires : (t : ℕ) → action-worth-lts.Need-chances-requires (
+-- the contracts that `action_worth` calls by, itself at a smaller measure
+abbrev action-worth-claims : ℕ → action-worth-lts.Claims
+action-worth-claims t = (
   chances-reads.Asked,
   chances-reads.Learnt,
   settings-reads.Asked,
@@ -78,8 +80,8 @@ action-worth-chances-requires : (t : ℕ) → action-worth-lts.Need-chances-requ
   earned-reads.Learnt,
   settings-done-reads.Asked,
   settings-done-reads.Learnt,
-  total-reads.Asked,
-  total-reads.Learnt,
+  worth-of-reads.Asked,
+  worth-of-reads.Learnt,
   weight-reads.Asked,
   weight-reads.Learnt,
   next-state-reads.Asked,
@@ -88,472 +90,109 @@ action-worth-chances-requires : (t : ℕ) → action-worth-lts.Need-chances-requ
   state-worth.Post,
   added-reads.Asked,
   added-reads.Learnt,
-) (action-worth-at t) action-worth.Post action-worth-Inv-loop action-worth-μ-loop
+)
+
+-- the contracts that `state_worth` calls by, itself at a smaller measure
+abbrev state-worth-claims : ℕ → state-worth-lts.Claims
+state-worth-claims t = (
+  actions-reads.Asked,
+  actions-reads.Learnt,
+  action-worth-below t,
+  action-worth.Post,
+  numbered-reads.Asked,
+  numbered-reads.Learnt,
+  actions-done-reads.Asked,
+  actions-done-reads.Learnt,
+  better-reads.Asked,
+  better-reads.Learnt,
+)
+
+action-worth-chances-requires : (t : ℕ) → action-worth-lts.Need-chances-requires (action-worth-claims t) (action-worth-at t) action-worth.Post action-worth-Inv-loop action-worth-μ-loop
 action-worth-chances-requires t c κs =
     ((c .before) .pre .1 .0, (c .before) .pre .1 .1)
 
-action-worth-settings-requires : (t : ℕ) → action-worth-lts.Need-settings-requires (
-  chances-reads.Asked,
-  chances-reads.Learnt,
-  settings-reads.Asked,
-  settings-reads.Learnt,
-  earned-reads.Asked,
-  earned-reads.Learnt,
-  settings-done-reads.Asked,
-  settings-done-reads.Learnt,
-  total-reads.Asked,
-  total-reads.Learnt,
-  weight-reads.Asked,
-  weight-reads.Learnt,
-  next-state-reads.Asked,
-  next-state-reads.Learnt,
-  state-worth-below t,
-  state-worth.Post,
-  added-reads.Asked,
-  added-reads.Learnt,
-) (action-worth-at t) action-worth.Post action-worth-Inv-loop action-worth-μ-loop
+action-worth-settings-requires : (t : ℕ) → action-worth-lts.Need-settings-requires (action-worth-claims t) (action-worth-at t) action-worth.Post action-worth-Inv-loop action-worth-μ-loop
 action-worth-settings-requires t c κs =
     (c .before .before) .pre .1 .0 .ready
 
-action-worth-earned-requires : (t : ℕ) → action-worth-lts.Need-earned-requires (
-  chances-reads.Asked,
-  chances-reads.Learnt,
-  settings-reads.Asked,
-  settings-reads.Learnt,
-  earned-reads.Asked,
-  earned-reads.Learnt,
-  settings-done-reads.Asked,
-  settings-done-reads.Learnt,
-  total-reads.Asked,
-  total-reads.Learnt,
-  weight-reads.Asked,
-  weight-reads.Learnt,
-  next-state-reads.Asked,
-  next-state-reads.Learnt,
-  state-worth-below t,
-  state-worth.Post,
-  added-reads.Asked,
-  added-reads.Learnt,
-) (action-worth-at t) action-worth.Post action-worth-Inv-loop action-worth-μ-loop
+action-worth-earned-requires : (t : ℕ) → action-worth-lts.Need-earned-requires (action-worth-claims t) (action-worth-at t) action-worth.Post action-worth-Inv-loop action-worth-μ-loop
 action-worth-earned-requires t c κs =
     ((c .before .before .before) .pre .1 .0, (c .before .before .before) .pre .1 .1, (c .before .before .before) .pre .1 .3)
 
-action-worth-loop-holds : (t : ℕ) → action-worth-lts.Need-loop-holds (
-  chances-reads.Asked,
-  chances-reads.Learnt,
-  settings-reads.Asked,
-  settings-reads.Learnt,
-  earned-reads.Asked,
-  earned-reads.Learnt,
-  settings-done-reads.Asked,
-  settings-done-reads.Learnt,
-  total-reads.Asked,
-  total-reads.Learnt,
-  weight-reads.Asked,
-  weight-reads.Learnt,
-  next-state-reads.Asked,
-  next-state-reads.Learnt,
-  state-worth-below t,
-  state-worth.Post,
-  added-reads.Asked,
-  added-reads.Learnt,
-) (action-worth-at t) action-worth.Post action-worth-Inv-loop action-worth-μ-loop
+action-worth-loop-holds : (t : ℕ) → action-worth-lts.Need-loop-holds (action-worth-claims t) (action-worth-at t) action-worth.Post action-worth-Inv-loop action-worth-μ-loop
 action-worth-loop-holds t c =
     let s = (c .before .before .before .before) in
     sums-start (s .args .model .now) (s .args .steps) (s .args .a) (s .args .x) _ _ (s .pre .1 .0) (s .pre .1 .1) (c .before .settings .ensures) (c .earned .ensures)
 
-action-worth-settings-done-requires : (t : ℕ) → action-worth-lts.Need-settings-done-requires (
-  chances-reads.Asked,
-  chances-reads.Learnt,
-  settings-reads.Asked,
-  settings-reads.Learnt,
-  earned-reads.Asked,
-  earned-reads.Learnt,
-  settings-done-reads.Asked,
-  settings-done-reads.Learnt,
-  total-reads.Asked,
-  total-reads.Learnt,
-  weight-reads.Asked,
-  weight-reads.Learnt,
-  next-state-reads.Asked,
-  next-state-reads.Learnt,
-  state-worth-below t,
-  state-worth.Post,
-  added-reads.Asked,
-  added-reads.Learnt,
-) (action-worth-at t) action-worth.Post action-worth-Inv-loop action-worth-μ-loop
+action-worth-settings-done-requires : (t : ℕ) → action-worth-lts.Need-settings-done-requires (action-worth-claims t) (action-worth-at t) action-worth.Post action-worth-Inv-loop action-worth-μ-loop
 action-worth-settings-done-requires t c κs =
     tt
 
-action-worth-total-requires : (t : ℕ) → action-worth-lts.Need-total-requires (
-  chances-reads.Asked,
-  chances-reads.Learnt,
-  settings-reads.Asked,
-  settings-reads.Learnt,
-  earned-reads.Asked,
-  earned-reads.Learnt,
-  settings-done-reads.Asked,
-  settings-done-reads.Learnt,
-  total-reads.Asked,
-  total-reads.Learnt,
-  weight-reads.Asked,
-  weight-reads.Learnt,
-  next-state-reads.Asked,
-  next-state-reads.Learnt,
-  state-worth-below t,
-  state-worth.Post,
-  added-reads.Asked,
-  added-reads.Learnt,
-) (action-worth-at t) action-worth.Post action-worth-Inv-loop action-worth-μ-loop
-action-worth-total-requires t c κs =
+action-worth-worth-of-requires : (t : ℕ) → action-worth-lts.Need-worth-of-requires (action-worth-claims t) (action-worth-at t) action-worth.Post action-worth-Inv-loop action-worth-μ-loop
+action-worth-worth-of-requires t c κs =
     tt
 
-action-worth-returns : (t : ℕ) → action-worth-lts.Need-returns (
-  chances-reads.Asked,
-  chances-reads.Learnt,
-  settings-reads.Asked,
-  settings-reads.Learnt,
-  earned-reads.Asked,
-  earned-reads.Learnt,
-  settings-done-reads.Asked,
-  settings-done-reads.Learnt,
-  total-reads.Asked,
-  total-reads.Learnt,
-  weight-reads.Asked,
-  weight-reads.Learnt,
-  next-state-reads.Asked,
-  next-state-reads.Learnt,
-  state-worth-below t,
-  state-worth.Post,
-  added-reads.Asked,
-  added-reads.Learnt,
-) (action-worth-at t) action-worth.Post action-worth-Inv-loop action-worth-μ-loop
+action-worth-returns : (t : ℕ) → action-worth-lts.Need-returns (action-worth-claims t) (action-worth-at t) action-worth.Post action-worth-Inv-loop action-worth-μ-loop
 action-worth-returns t c =
     let s = (c .before .before .before .before .before .before .before .before) in
-    sums-end (s .args .model .now) (s .args .steps) (s .args .a) (s .args .x) _ _ _ (c .before .before .before .loop .inv) (c .before .before .settings-done .ensures) (c .before .if1 .taken) (c .total .ensures)
+    sums-end (s .args .model .now) (s .args .steps) (s .args .a) (s .args .x) _ _ _ (c .before .before .before .loop .inv) (c .before .before .settings-done .ensures) (c .before .if1 .taken) (c .worth-of .ensures)
 
-action-worth-weight-requires : (t : ℕ) → action-worth-lts.Need-weight-requires (
-  chances-reads.Asked,
-  chances-reads.Learnt,
-  settings-reads.Asked,
-  settings-reads.Learnt,
-  earned-reads.Asked,
-  earned-reads.Learnt,
-  settings-done-reads.Asked,
-  settings-done-reads.Learnt,
-  total-reads.Asked,
-  total-reads.Learnt,
-  weight-reads.Asked,
-  weight-reads.Learnt,
-  next-state-reads.Asked,
-  next-state-reads.Learnt,
-  state-worth-below t,
-  state-worth.Post,
-  added-reads.Asked,
-  added-reads.Learnt,
-) (action-worth-at t) action-worth.Post action-worth-Inv-loop action-worth-μ-loop
+action-worth-weight-requires : (t : ℕ) → action-worth-lts.Need-weight-requires (action-worth-claims t) (action-worth-at t) action-worth.Post action-worth-Inv-loop action-worth-μ-loop
 action-worth-weight-requires t c κs =
     ((c .before .before .before .before .before .before .before) .pre .1 .0 .ready, c .before .before .before .before .before .chances .ensures .bounded)
 
-action-worth-add-r : (t : ℕ) → action-worth-lts.Need-add-r (
-  chances-reads.Asked,
-  chances-reads.Learnt,
-  settings-reads.Asked,
-  settings-reads.Learnt,
-  earned-reads.Asked,
-  earned-reads.Learnt,
-  settings-done-reads.Asked,
-  settings-done-reads.Learnt,
-  total-reads.Asked,
-  total-reads.Learnt,
-  weight-reads.Asked,
-  weight-reads.Learnt,
-  next-state-reads.Asked,
-  next-state-reads.Learnt,
-  state-worth-below t,
-  state-worth.Post,
-  added-reads.Asked,
-  added-reads.Learnt,
-) (action-worth-at t) action-worth.Post action-worth-Inv-loop action-worth-μ-loop
+action-worth-add-r : (t : ℕ) → action-worth-lts.Need-add-r (action-worth-claims t) (action-worth-at t) action-worth.Post action-worth-Inv-loop action-worth-μ-loop
 action-worth-add-r t c =
     omega (arith, goes-on (is-over (c .before .before .before .before .loop .sum)) (c .before .before .before .before .before .before .settings .result) (c .before .before .before .before .loop .r) _ (c .before .before .before .settings-done .ensures) (c .before .before .if1 .left))
 
-action-worth-loop-less : (t : ℕ) → action-worth-lts.Need-loop-less (
-  chances-reads.Asked,
-  chances-reads.Learnt,
-  settings-reads.Asked,
-  settings-reads.Learnt,
-  earned-reads.Asked,
-  earned-reads.Learnt,
-  settings-done-reads.Asked,
-  settings-done-reads.Learnt,
-  total-reads.Asked,
-  total-reads.Learnt,
-  weight-reads.Asked,
-  weight-reads.Learnt,
-  next-state-reads.Asked,
-  next-state-reads.Learnt,
-  state-worth-below t,
-  state-worth.Post,
-  added-reads.Asked,
-  added-reads.Learnt,
-) (action-worth-at t) action-worth.Post action-worth-Inv-loop action-worth-μ-loop
+action-worth-loop-less : (t : ℕ) → action-worth-lts.Need-loop-less (action-worth-claims t) (action-worth-at t) action-worth.Post action-worth-Inv-loop action-worth-μ-loop
 action-worth-loop-less t c =
     omega (arith, goes-on (is-over (c .before .before .before .before .loop .sum)) (c .before .before .before .before .before .before .settings .result) (c .before .before .before .before .loop .r) _ (c .before .before .before .settings-done .ensures) (c .before .before .if1 .left))
 
-action-worth-loop-again : (t : ℕ) → action-worth-lts.Need-loop-again (
-  chances-reads.Asked,
-  chances-reads.Learnt,
-  settings-reads.Asked,
-  settings-reads.Learnt,
-  earned-reads.Asked,
-  earned-reads.Learnt,
-  settings-done-reads.Asked,
-  settings-done-reads.Learnt,
-  total-reads.Asked,
-  total-reads.Learnt,
-  weight-reads.Asked,
-  weight-reads.Learnt,
-  next-state-reads.Asked,
-  next-state-reads.Learnt,
-  state-worth-below t,
-  state-worth.Post,
-  added-reads.Asked,
-  added-reads.Learnt,
-) (action-worth-at t) action-worth.Post action-worth-Inv-loop action-worth-μ-loop
+action-worth-loop-again : (t : ℕ) → action-worth-lts.Need-loop-again (action-worth-claims t) (action-worth-at t) action-worth.Post action-worth-Inv-loop action-worth-μ-loop
 action-worth-loop-again t c =
     let s = (c .before .before .before .before .before .before .before .before .before) in
     sums-skip (s .args .model .now) (s .args .steps) (s .args .a) (s .args .x) _ _ _ (c .before .before .before .before .loop .inv) _ (c .before .before .before .before .before .before .before .chances .ensures) _ (c .before .weight .ensures) (goes-on (is-over (c .before .before .before .before .loop .sum)) (c .before .before .before .before .before .before .settings .result) (c .before .before .before .before .loop .r) _ (c .before .before .before .settings-done .ensures) (c .before .before .if1 .left)) (c .if2 .taken)
 
-action-worth-next-state-requires : (t : ℕ) → action-worth-lts.Need-next-state-requires (
-  chances-reads.Asked,
-  chances-reads.Learnt,
-  settings-reads.Asked,
-  settings-reads.Learnt,
-  earned-reads.Asked,
-  earned-reads.Learnt,
-  settings-done-reads.Asked,
-  settings-done-reads.Learnt,
-  total-reads.Asked,
-  total-reads.Learnt,
-  weight-reads.Asked,
-  weight-reads.Learnt,
-  next-state-reads.Asked,
-  next-state-reads.Learnt,
-  state-worth-below t,
-  state-worth.Post,
-  added-reads.Asked,
-  added-reads.Learnt,
-) (action-worth-at t) action-worth.Post action-worth-Inv-loop action-worth-μ-loop
+action-worth-next-state-requires : (t : ℕ) → action-worth-lts.Need-next-state-requires (action-worth-claims t) (action-worth-at t) action-worth.Post action-worth-Inv-loop action-worth-μ-loop
 action-worth-next-state-requires t c κs =
     ((c .before .before .before .before .before .before .before .before .before) .pre .1 .0 .ready, (c .before .before .before .before .before .before .before .before .before) .pre .1 .1)
 
-action-worth-enum-known-y : (t : ℕ) → action-worth-lts.Need-enum-known-y (
-  chances-reads.Asked,
-  chances-reads.Learnt,
-  settings-reads.Asked,
-  settings-reads.Learnt,
-  earned-reads.Asked,
-  earned-reads.Learnt,
-  settings-done-reads.Asked,
-  settings-done-reads.Learnt,
-  total-reads.Asked,
-  total-reads.Learnt,
-  weight-reads.Asked,
-  weight-reads.Learnt,
-  next-state-reads.Asked,
-  next-state-reads.Learnt,
-  state-worth-below t,
-  state-worth.Post,
-  added-reads.Asked,
-  added-reads.Learnt,
-) (action-worth-at t) action-worth.Post action-worth-Inv-loop action-worth-μ-loop
+action-worth-enum-known-y : (t : ℕ) → action-worth-lts.Need-enum-known-y (action-worth-claims t) (action-worth-at t) action-worth.Post action-worth-Inv-loop action-worth-μ-loop
 action-worth-enum-known-y t c =
     search needs
 
-action-worth-enum-told : (t : ℕ) → action-worth-lts.Need-enum-told (
-  chances-reads.Asked,
-  chances-reads.Learnt,
-  settings-reads.Asked,
-  settings-reads.Learnt,
-  earned-reads.Asked,
-  earned-reads.Learnt,
-  settings-done-reads.Asked,
-  settings-done-reads.Learnt,
-  total-reads.Asked,
-  total-reads.Learnt,
-  weight-reads.Asked,
-  weight-reads.Learnt,
-  next-state-reads.Asked,
-  next-state-reads.Learnt,
-  state-worth-below t,
-  state-worth.Post,
-  added-reads.Asked,
-  added-reads.Learnt,
-) (action-worth-at t) action-worth.Post action-worth-Inv-loop action-worth-μ-loop
+action-worth-enum-told : (t : ℕ) → action-worth-lts.Need-enum-told (action-worth-claims t) (action-worth-at t) action-worth.Post action-worth-Inv-loop action-worth-μ-loop
 action-worth-enum-told t c =
     search needs
 
-action-worth-returns-2 : (t : ℕ) → action-worth-lts.Need-returns-2 (
-  chances-reads.Asked,
-  chances-reads.Learnt,
-  settings-reads.Asked,
-  settings-reads.Learnt,
-  earned-reads.Asked,
-  earned-reads.Learnt,
-  settings-done-reads.Asked,
-  settings-done-reads.Learnt,
-  total-reads.Asked,
-  total-reads.Learnt,
-  weight-reads.Asked,
-  weight-reads.Learnt,
-  next-state-reads.Asked,
-  next-state-reads.Learnt,
-  state-worth-below t,
-  state-worth.Post,
-  added-reads.Asked,
-  added-reads.Learnt,
-) (action-worth-at t) action-worth.Post action-worth-Inv-loop action-worth-μ-loop
+action-worth-returns-2 : (t : ℕ) → action-worth-lts.Need-returns-2 (action-worth-claims t) (action-worth-at t) action-worth.Post action-worth-Inv-loop action-worth-μ-loop
 action-worth-returns-2 t c =
     let s = (c .before .before .before .before .before .before .before .before .before .before .before .before) in
     sums-over (s .args .model .now) (s .args .steps) (s .args .a) (s .args .x) _ _ _ (c .before .before .before .before .before .before .before .loop .inv) _ (c .before .before .before .before .before .before .before .before .before .before .chances .ensures) _ (c .before .before .before .before .weight .ensures) (goes-on (is-over (c .before .before .before .before .before .before .before .loop .sum)) (c .before .before .before .before .before .before .before .before .before .settings .result) (c .before .before .before .before .before .before .before .loop .r) _ (c .before .before .before .before .before .before .settings-done .ensures) (c .before .before .before .before .before .if1 .left)) (c .before .before .before .if2 .left) _ (c .before .before .next-state .ensures) (c .enum-told .given .1)
 
-action-worth-sub-state-worth : (t : ℕ) → action-worth-lts.Need-sub-state-worth (
-  chances-reads.Asked,
-  chances-reads.Learnt,
-  settings-reads.Asked,
-  settings-reads.Learnt,
-  earned-reads.Asked,
-  earned-reads.Learnt,
-  settings-done-reads.Asked,
-  settings-done-reads.Learnt,
-  total-reads.Asked,
-  total-reads.Learnt,
-  weight-reads.Asked,
-  weight-reads.Learnt,
-  next-state-reads.Asked,
-  next-state-reads.Learnt,
-  state-worth-below t,
-  state-worth.Post,
-  added-reads.Asked,
-  added-reads.Learnt,
-) (action-worth-at t) action-worth.Post action-worth-Inv-loop action-worth-μ-loop
+action-worth-sub-state-worth : (t : ℕ) → action-worth-lts.Need-sub-state-worth (action-worth-claims t) (action-worth-at t) action-worth.Post action-worth-Inv-loop action-worth-μ-loop
 action-worth-sub-state-worth t c =
     (c .before .before .before .before .before .before .before .before .before .before .before .before .before) .pre .1 .2
 
-action-worth-state-worth-requires : (t : ℕ) → action-worth-lts.Need-state-worth-requires (
-  chances-reads.Asked,
-  chances-reads.Learnt,
-  settings-reads.Asked,
-  settings-reads.Learnt,
-  earned-reads.Asked,
-  earned-reads.Learnt,
-  settings-done-reads.Asked,
-  settings-done-reads.Learnt,
-  total-reads.Asked,
-  total-reads.Learnt,
-  weight-reads.Asked,
-  weight-reads.Learnt,
-  next-state-reads.Asked,
-  next-state-reads.Learnt,
-  state-worth-below t,
-  state-worth.Post,
-  added-reads.Asked,
-  added-reads.Learnt,
-) (action-worth-at t) action-worth.Post action-worth-Inv-loop action-worth-μ-loop
+action-worth-state-worth-requires : (t : ℕ) → action-worth-lts.Need-state-worth-requires (action-worth-claims t) (action-worth-at t) action-worth.Post action-worth-Inv-loop action-worth-μ-loop
 action-worth-state-worth-requires t c κs =
     let s = (c .before .before .before .before .before .before .before .before .before .before .before .before .before) in
     (to-state (s .args .steps) t (s .pre .1 .2) (s .pre .0), (next-stands (s .args .model .now) (s .args .a) (s .args .x) _ _ (s .pre .1 .0) (c .before .before .before .next-state .ensures) _ (c .before .y .given .1), omega (arith, s .pre .1 .3)))
 
-action-worth-added-requires : (t : ℕ) → action-worth-lts.Need-added-requires (
-  chances-reads.Asked,
-  chances-reads.Learnt,
-  settings-reads.Asked,
-  settings-reads.Learnt,
-  earned-reads.Asked,
-  earned-reads.Learnt,
-  settings-done-reads.Asked,
-  settings-done-reads.Learnt,
-  total-reads.Asked,
-  total-reads.Learnt,
-  weight-reads.Asked,
-  weight-reads.Learnt,
-  next-state-reads.Asked,
-  next-state-reads.Learnt,
-  state-worth-below t,
-  state-worth.Post,
-  added-reads.Asked,
-  added-reads.Learnt,
-) (action-worth-at t) action-worth.Post action-worth-Inv-loop action-worth-μ-loop
+action-worth-added-requires : (t : ℕ) → action-worth-lts.Need-added-requires (action-worth-claims t) (action-worth-at t) action-worth.Post action-worth-Inv-loop action-worth-μ-loop
 action-worth-added-requires t c κs =
     (c .before .before .before .before .before .before .before .before .before .loop .inv .kept, c .before .before .before .before .before .before .weight .ensures .bounded)
 
-action-worth-add-r-2 : (t : ℕ) → action-worth-lts.Need-add-r-2 (
-  chances-reads.Asked,
-  chances-reads.Learnt,
-  settings-reads.Asked,
-  settings-reads.Learnt,
-  earned-reads.Asked,
-  earned-reads.Learnt,
-  settings-done-reads.Asked,
-  settings-done-reads.Learnt,
-  total-reads.Asked,
-  total-reads.Learnt,
-  weight-reads.Asked,
-  weight-reads.Learnt,
-  next-state-reads.Asked,
-  next-state-reads.Learnt,
-  state-worth-below t,
-  state-worth.Post,
-  added-reads.Asked,
-  added-reads.Learnt,
-) (action-worth-at t) action-worth.Post action-worth-Inv-loop action-worth-μ-loop
+action-worth-add-r-2 : (t : ℕ) → action-worth-lts.Need-add-r-2 (action-worth-claims t) (action-worth-at t) action-worth.Post action-worth-Inv-loop action-worth-μ-loop
 action-worth-add-r-2 t c =
     omega (arith, goes-on (is-over (c .before .before .before .before .before .before .before .before .before .before .loop .sum)) (c .before .before .before .before .before .before .before .before .before .before .before .before .settings .result) (c .before .before .before .before .before .before .before .before .before .before .loop .r) _ (c .before .before .before .before .before .before .before .before .before .settings-done .ensures) (c .before .before .before .before .before .before .before .before .if1 .left))
 
-action-worth-loop-less-2 : (t : ℕ) → action-worth-lts.Need-loop-less-2 (
-  chances-reads.Asked,
-  chances-reads.Learnt,
-  settings-reads.Asked,
-  settings-reads.Learnt,
-  earned-reads.Asked,
-  earned-reads.Learnt,
-  settings-done-reads.Asked,
-  settings-done-reads.Learnt,
-  total-reads.Asked,
-  total-reads.Learnt,
-  weight-reads.Asked,
-  weight-reads.Learnt,
-  next-state-reads.Asked,
-  next-state-reads.Learnt,
-  state-worth-below t,
-  state-worth.Post,
-  added-reads.Asked,
-  added-reads.Learnt,
-) (action-worth-at t) action-worth.Post action-worth-Inv-loop action-worth-μ-loop
+action-worth-loop-less-2 : (t : ℕ) → action-worth-lts.Need-loop-less-2 (action-worth-claims t) (action-worth-at t) action-worth.Post action-worth-Inv-loop action-worth-μ-loop
 action-worth-loop-less-2 t c =
     omega (arith, goes-on (is-over (c .before .before .before .before .before .before .before .before .before .before .loop .sum)) (c .before .before .before .before .before .before .before .before .before .before .before .before .settings .result) (c .before .before .before .before .before .before .before .before .before .before .loop .r) _ (c .before .before .before .before .before .before .before .before .before .settings-done .ensures) (c .before .before .before .before .before .before .before .before .if1 .left))
 
-action-worth-loop-again-2 : (t : ℕ) → action-worth-lts.Need-loop-again-2 (
-  chances-reads.Asked,
-  chances-reads.Learnt,
-  settings-reads.Asked,
-  settings-reads.Learnt,
-  earned-reads.Asked,
-  earned-reads.Learnt,
-  settings-done-reads.Asked,
-  settings-done-reads.Learnt,
-  total-reads.Asked,
-  total-reads.Learnt,
-  weight-reads.Asked,
-  weight-reads.Learnt,
-  next-state-reads.Asked,
-  next-state-reads.Learnt,
-  state-worth-below t,
-  state-worth.Post,
-  added-reads.Asked,
-  added-reads.Learnt,
-) (action-worth-at t) action-worth.Post action-worth-Inv-loop action-worth-μ-loop
+action-worth-loop-again-2 : (t : ℕ) → action-worth-lts.Need-loop-again-2 (action-worth-claims t) (action-worth-at t) action-worth.Post action-worth-Inv-loop action-worth-μ-loop
 action-worth-loop-again-2 t c =
     let s = (c .before .before .before .before .before .before .before .before .before .before .before .before .before .before .before) in
     sums-add (s .args .model .now) (s .args .steps) (s .args .a) (s .args .x) _ _ _ (c .before .before .before .before .before .before .before .before .before .before .loop .inv) _ (c .before .before .before .before .before .before .before .before .before .before .before .before .before .chances .ensures) _ (c .before .before .before .before .before .before .before .weight .ensures) (goes-on (is-over (c .before .before .before .before .before .before .before .before .before .before .loop .sum)) (c .before .before .before .before .before .before .before .before .before .before .before .before .settings .result) (c .before .before .before .before .before .before .before .before .before .before .loop .r) _ (c .before .before .before .before .before .before .before .before .before .settings-done .ensures) (c .before .before .before .before .before .before .before .before .if1 .left)) (c .before .before .before .before .before .before .if2 .left) _ (c .before .before .before .before .before .next-state .ensures) _ (c .before .before .before .y .given .1) _ (c .before .state-worth .ensures) _ (c .added .ensures)
@@ -564,214 +203,63 @@ state-worth-Inv-loop model steps x last best₀ a₀ best a = Tries model steps 
 abbrev state-worth-μ-loop : state-worth-lts.MeasureT-loop
 state-worth-μ-loop model steps x last best₀ a₀ best a = last + 1 - a
 
-state-worth-returns : (t : ℕ) → state-worth-lts.Need-returns (
-  actions-reads.Asked,
-  actions-reads.Learnt,
-  action-worth-below t,
-  action-worth.Post,
-  numbered-reads.Asked,
-  numbered-reads.Learnt,
-  actions-done-reads.Asked,
-  actions-done-reads.Learnt,
-  better-reads.Asked,
-  better-reads.Learnt,
-) (state-worth-at t) state-worth.Post state-worth-Inv-loop state-worth-μ-loop
+state-worth-returns : (t : ℕ) → state-worth-lts.Need-returns (state-worth-claims t) (state-worth-at t) state-worth.Post state-worth-Inv-loop state-worth-μ-loop
 state-worth-returns t c =
     none-left-worth ((c .before .before) .args .model .now) ((c .before .before) .args .steps) ((c .before .before) .args .x) (c .if1 .taken)
 
-state-worth-actions-requires : (t : ℕ) → state-worth-lts.Need-actions-requires (
-  actions-reads.Asked,
-  actions-reads.Learnt,
-  action-worth-below t,
-  action-worth.Post,
-  numbered-reads.Asked,
-  numbered-reads.Learnt,
-  actions-done-reads.Asked,
-  actions-done-reads.Learnt,
-  better-reads.Asked,
-  better-reads.Learnt,
-) (state-worth-at t) state-worth.Post state-worth-Inv-loop state-worth-μ-loop
+state-worth-actions-requires : (t : ℕ) → state-worth-lts.Need-actions-requires (state-worth-claims t) (state-worth-at t) state-worth.Post state-worth-Inv-loop state-worth-μ-loop
 state-worth-actions-requires t c κs =
     tt
 
-state-worth-action-worth-requires : (t : ℕ) → state-worth-lts.Need-action-worth-requires (
-  actions-reads.Asked,
-  actions-reads.Learnt,
-  action-worth-below t,
-  action-worth.Post,
-  numbered-reads.Asked,
-  numbered-reads.Learnt,
-  actions-done-reads.Asked,
-  actions-done-reads.Learnt,
-  better-reads.Asked,
-  better-reads.Learnt,
-) (state-worth-at t) state-worth.Post state-worth-Inv-loop state-worth-μ-loop
+state-worth-action-worth-requires : (t : ℕ) → state-worth-lts.Need-action-worth-requires (state-worth-claims t) (state-worth-at t) state-worth.Post state-worth-Inv-loop state-worth-μ-loop
 state-worth-action-worth-requires t c κs =
     let s = (c .before .before .before) in
     (to-action (s .args .steps) t (s .pre .0), (s .pre .1 .0, (omega arith, site-accepted (s .args .model .now) (s .pre .1 .0 .ready .accepted) .actions .0), omega (arith, c .before .if1 .left), s .pre .1 .1))
 
-state-worth-numbered-requires : (t : ℕ) → state-worth-lts.Need-numbered-requires (
-  actions-reads.Asked,
-  actions-reads.Learnt,
-  action-worth-below t,
-  action-worth.Post,
-  numbered-reads.Asked,
-  numbered-reads.Learnt,
-  actions-done-reads.Asked,
-  actions-done-reads.Learnt,
-  better-reads.Asked,
-  better-reads.Learnt,
-) (state-worth-at t) state-worth.Post state-worth-Inv-loop state-worth-μ-loop
+state-worth-numbered-requires : (t : ℕ) → state-worth-lts.Need-numbered-requires (state-worth-claims t) (state-worth-at t) state-worth.Post state-worth-Inv-loop state-worth-μ-loop
 state-worth-numbered-requires t c κs =
     tt
 
-state-worth-loop-holds : (t : ℕ) → state-worth-lts.Need-loop-holds (
-  actions-reads.Asked,
-  actions-reads.Learnt,
-  action-worth-below t,
-  action-worth.Post,
-  numbered-reads.Asked,
-  numbered-reads.Learnt,
-  actions-done-reads.Asked,
-  actions-done-reads.Learnt,
-  better-reads.Asked,
-  better-reads.Learnt,
-) (state-worth-at t) state-worth.Post state-worth-Inv-loop state-worth-μ-loop
+state-worth-loop-holds : (t : ℕ) → state-worth-lts.Need-loop-holds (state-worth-claims t) (state-worth-at t) state-worth.Post state-worth-Inv-loop state-worth-μ-loop
 state-worth-loop-holds t c =
     let s = (c .before .before .before .before .before) in
     tries-start (s .args .model .now) (s .args .steps) (s .args .x) _ (c .before .before .actions .ensures) (s .pre .1 .0 .ready) (c .before .before .before .if1 .left) _ (c .before .action-worth .ensures) _ (c .numbered .ensures)
 
-state-worth-actions-done-requires : (t : ℕ) → state-worth-lts.Need-actions-done-requires (
-  actions-reads.Asked,
-  actions-reads.Learnt,
-  action-worth-below t,
-  action-worth.Post,
-  numbered-reads.Asked,
-  numbered-reads.Learnt,
-  actions-done-reads.Asked,
-  actions-done-reads.Learnt,
-  better-reads.Asked,
-  better-reads.Learnt,
-) (state-worth-at t) state-worth.Post state-worth-Inv-loop state-worth-μ-loop
+state-worth-actions-done-requires : (t : ℕ) → state-worth-lts.Need-actions-done-requires (state-worth-claims t) (state-worth-at t) state-worth.Post state-worth-Inv-loop state-worth-μ-loop
 state-worth-actions-done-requires t c κs =
     tt
 
-state-worth-returns-2 : (t : ℕ) → state-worth-lts.Need-returns-2 (
-  actions-reads.Asked,
-  actions-reads.Learnt,
-  action-worth-below t,
-  action-worth.Post,
-  numbered-reads.Asked,
-  numbered-reads.Learnt,
-  actions-done-reads.Asked,
-  actions-done-reads.Learnt,
-  better-reads.Asked,
-  better-reads.Learnt,
-) (state-worth-at t) state-worth.Post state-worth-Inv-loop state-worth-μ-loop
+state-worth-returns-2 : (t : ℕ) → state-worth-lts.Need-returns-2 (state-worth-claims t) (state-worth-at t) state-worth.Post state-worth-Inv-loop state-worth-μ-loop
 state-worth-returns-2 t c =
     let s = (c .before .before .before .before .before .before .before .before) in
     tries-end (s .args .model .now) (s .args .steps) (s .args .x) _ (c .before .before .before .before .before .actions .ensures) _ _ (c .before .before .loop .inv) (c .before .actions-done .ensures) (c .if2 .taken)
 
-state-worth-action-worth-requires-2 : (t : ℕ) → state-worth-lts.Need-action-worth-requires-2 (
-  actions-reads.Asked,
-  actions-reads.Learnt,
-  action-worth-below t,
-  action-worth.Post,
-  numbered-reads.Asked,
-  numbered-reads.Learnt,
-  actions-done-reads.Asked,
-  actions-done-reads.Learnt,
-  better-reads.Asked,
-  better-reads.Learnt,
-) (state-worth-at t) state-worth.Post state-worth-Inv-loop state-worth-μ-loop
+state-worth-action-worth-requires-2 : (t : ℕ) → state-worth-lts.Need-action-worth-requires-2 (state-worth-claims t) (state-worth-at t) state-worth.Post state-worth-Inv-loop state-worth-μ-loop
 state-worth-action-worth-requires-2 t c κs =
     let s = (c .before .before .before .before .before .before .before .before) in
     let h = not-last (none-left (total-of (c .before .before .loop .best))) (c .before .before .before .before .before .actions .result) (c .before .before .loop .a) _ (c .before .actions-done .ensures) (c .if2 .left) in
     (to-action (s .args .steps) t (s .pre .0), (s .pre .1 .0, (omega (arith, c .before .before .loop .inv .low), omega (arith, h, c .before .before .before .before .before .actions .ensures)), omega (arith, c .before .before .before .before .before .before .if1 .left), s .pre .1 .1))
 
-state-worth-better-requires : (t : ℕ) → state-worth-lts.Need-better-requires (
-  actions-reads.Asked,
-  actions-reads.Learnt,
-  action-worth-below t,
-  action-worth.Post,
-  numbered-reads.Asked,
-  numbered-reads.Learnt,
-  actions-done-reads.Asked,
-  actions-done-reads.Learnt,
-  better-reads.Asked,
-  better-reads.Learnt,
-) (state-worth-at t) state-worth.Post state-worth-Inv-loop state-worth-μ-loop
+state-worth-better-requires : (t : ℕ) → state-worth-lts.Need-better-requires (state-worth-claims t) (state-worth-at t) state-worth.Post state-worth-Inv-loop state-worth-μ-loop
 state-worth-better-requires t c κs =
     tt
 
-state-worth-add-a : (t : ℕ) → state-worth-lts.Need-add-a (
-  actions-reads.Asked,
-  actions-reads.Learnt,
-  action-worth-below t,
-  action-worth.Post,
-  numbered-reads.Asked,
-  numbered-reads.Learnt,
-  actions-done-reads.Asked,
-  actions-done-reads.Learnt,
-  better-reads.Asked,
-  better-reads.Learnt,
-) (state-worth-at t) state-worth.Post state-worth-Inv-loop state-worth-μ-loop
+state-worth-add-a : (t : ℕ) → state-worth-lts.Need-add-a (state-worth-claims t) (state-worth-at t) state-worth.Post state-worth-Inv-loop state-worth-μ-loop
 state-worth-add-a t c =
     let s = (c .before .before .before .before .before .before .before .before .before .before) in
     omega (arith, not-last (none-left (total-of (c .before .before .before .before .loop .best))) (c .before .before .before .before .before .before .before .actions .result) (c .before .before .before .before .loop .a) _ (c .before .before .before .actions-done .ensures) (c .before .before .if2 .left), c .before .before .before .before .before .before .before .actions .ensures, site-accepted (s .args .model .now) (s .pre .1 .0 .ready .accepted) .actions .1)
 
-state-worth-loop-less : (t : ℕ) → state-worth-lts.Need-loop-less (
-  actions-reads.Asked,
-  actions-reads.Learnt,
-  action-worth-below t,
-  action-worth.Post,
-  numbered-reads.Asked,
-  numbered-reads.Learnt,
-  actions-done-reads.Asked,
-  actions-done-reads.Learnt,
-  better-reads.Asked,
-  better-reads.Learnt,
-) (state-worth-at t) state-worth.Post state-worth-Inv-loop state-worth-μ-loop
+state-worth-loop-less : (t : ℕ) → state-worth-lts.Need-loop-less (state-worth-claims t) (state-worth-at t) state-worth.Post state-worth-Inv-loop state-worth-μ-loop
 state-worth-loop-less t c =
     omega (arith, not-last (none-left (total-of (c .before .before .before .before .loop .best))) (c .before .before .before .before .before .before .before .actions .result) (c .before .before .before .before .loop .a) _ (c .before .before .before .actions-done .ensures) (c .before .before .if2 .left))
 
-state-worth-loop-again : (t : ℕ) → state-worth-lts.Need-loop-again (
-  actions-reads.Asked,
-  actions-reads.Learnt,
-  action-worth-below t,
-  action-worth.Post,
-  numbered-reads.Asked,
-  numbered-reads.Learnt,
-  actions-done-reads.Asked,
-  actions-done-reads.Learnt,
-  better-reads.Asked,
-  better-reads.Learnt,
-) (state-worth-at t) state-worth.Post state-worth-Inv-loop state-worth-μ-loop
+state-worth-loop-again : (t : ℕ) → state-worth-lts.Need-loop-again (state-worth-claims t) (state-worth-at t) state-worth.Post state-worth-Inv-loop state-worth-μ-loop
 state-worth-loop-again t c =
     let s = (c .before .before .before .before .before .before .before .before .before .before) in
     tries-on (s .args .model .now) (s .args .steps) (s .args .x) _ (c .before .before .before .before .before .before .before .actions .ensures) _ _ (c .before .before .before .before .loop .inv) (not-last (none-left (total-of (c .before .before .before .before .loop .best))) (c .before .before .before .before .before .before .before .actions .result) (c .before .before .before .before .loop .a) _ (c .before .before .before .actions-done .ensures) (c .before .before .if2 .left)) _ (c .before .action-worth2 .ensures) _ (c .better .ensures)
 
 pub +action-worth+state-worth-spec : {M : Type 1} → statement M
-+action-worth+state-worth-spec = close μ-action-worth μ-state-worth (λ t. action-worth-lts.spec (
-  chances-reads.Asked,
-  chances-reads.Learnt,
-  settings-reads.Asked,
-  settings-reads.Learnt,
-  earned-reads.Asked,
-  earned-reads.Learnt,
-  settings-done-reads.Asked,
-  settings-done-reads.Learnt,
-  total-reads.Asked,
-  total-reads.Learnt,
-  weight-reads.Asked,
-  weight-reads.Learnt,
-  next-state-reads.Asked,
-  next-state-reads.Learnt,
-  state-worth-below t,
-  state-worth.Post,
-  added-reads.Asked,
-  added-reads.Learnt,
-)
++action-worth+state-worth-spec = close μ-action-worth μ-state-worth (λ t. action-worth-lts.spec (action-worth-claims t)
     (action-worth-at t)
     action-worth.Post
     action-worth-Inv-loop
@@ -781,7 +269,7 @@ pub +action-worth+state-worth-spec : {M : Type 1} → statement M
     (action-worth-earned-requires t)
     (action-worth-loop-holds t)
     (action-worth-settings-done-requires t)
-    (action-worth-total-requires t)
+    (action-worth-worth-of-requires t)
     (action-worth-returns t)
     (action-worth-weight-requires t)
     (action-worth-add-r t)

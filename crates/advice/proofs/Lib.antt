@@ -1,2 +1,0 @@
--- The demands' theorems, at one answer.
-pub mod Advised

@@ -1,0 +1,49 @@
+-- An answer that does not fit, and one that was written.
+use mathlib.Core.Path.{_≡_, sym, ap, _∙_}
+use mathlib.Core.Bool.{Bool}
+use mathlib.Core.List.{List, _++_}
+use Prim.Native.Nat.{ℕ, _+_, _≤_, _<_}
+use native.Mathlib.Omega.{arith}
+use borrow.Author.Tests.{lt-ltb, le-ltb}
+use lib.ListN.{length, drop}
+use Rattle.whole.specs.Cases.{if}
+use Rattle.decimal.specs.Put.{PutAt}
+use Rattle.theory.specs.Listing.{written}
+use Rattle.theory.specs.Value.{Asked, ValueOut}
+use Rattle.answers.specs.Answers.{value-bytes, short, Answer, answered, answer, value-answer}
+use Rattle.answers.proofs.Bytes.{value-length}
+
+-- from the start of the slice on
+pub at-start : {out bytes after : List ℕ} {n size : ℕ} → length bytes ≡ size → PutAt out 0 bytes n after → after ≡ bytes ++ drop size out
+unfolding written
+at-start {out} {bytes} e p =
+    let f : 0 + length bytes ≡ length bytes = omega arith in
+    p .left ∙ ap (λ (k : ℕ). bytes ++ drop k out) (f ∙ e)
+
+module _ (size number : ℕ) (bytes out : List ℕ) where
+  pub no-room : {r : ℕ} → length out < size → r ≡ short number → answered r out ≡ answer size number bytes out
+  unfolding answer
+  no-room {r} h e =
+      ap (λ (k : ℕ). answered k out) e
+      ∙ sym (ap (λ (b : Bool). if b (answered (short number) out) (answered number (bytes ++ drop size out))) (lt-ltb (length out) size h))
+
+  pub room : {after : List ℕ} {n : ℕ} → size ≤ length out → length bytes ≡ size → PutAt out 0 bytes n after → answered number after ≡ answer size number bytes out
+  unfolding answer
+  room h e p =
+      ap (answered number) (at-start e p)
+      ∙ sym (ap (λ (b : Bool). if b (answered (short number) out) (answered number (bytes ++ drop size out))) (le-ltb (length out) size h))
+
+-- ---- a value
+
+module _ (v : ValueOut) (out : List ℕ) where
+  pub value-short : {r : ℕ} → length out < 24 → r ≡ short (v .number) → answered r out ≡ value-answer v out
+  unfolding value-answer
+  value-short h e = no-room 24 (v .number) (value-bytes v) out h e
+
+  pub value-whole : {after : List ℕ} {n : ℕ} → 24 ≤ length out → PutAt out 0 (value-bytes v) n after → answered (v .number) after ≡ value-answer v out
+  unfolding value-answer
+  value-whole h p = room 24 (v .number) (value-bytes v) out h (value-length v) p
+
+-- o is what the code found at the state p, as it is read back, by a definition f
+pub value-found : (f : Asked → ValueOut) {p q : Asked} (out : List ℕ) {o : ValueOut} {x : Answer} → x ≡ value-answer o out → o ≡ f p → p ≡ q → x ≡ value-answer (f q) out
+value-found f out e g h = e ∙ ap (λ (o : ValueOut). value-answer o out) g ∙ ap (λ (q : Asked). value-answer (f q) out) h

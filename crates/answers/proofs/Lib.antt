@@ -1,0 +1,9 @@
+-- Laws that several proofs cite.
+pub mod Bytes
+pub mod Signs
+pub mod Order
+pub mod Answered
+pub mod Named
+pub mod Listed
+pub mod Solved
+pub mod ReadBack

@@ -1,0 +1,83 @@
+-- `check_solve::solve_case` meets its contract.
+use mathlib.Core.Path.{sym}
+use lib.Seq.{length-take-le}
+use native.Mathlib.Nat.{le-trans}
+use borrow.Author.Needs.{needs}
+use Rattle.check_solve.proofs.solve_case.Statement.{statement}
+use Rattle.check_solve.proofs.solve_case.Tie as tie
+
+part-of-requires : tie.Need-part-of-requires
+part-of-requires c κs = search needs
+
+words-of-requires : tie.Need-words-of-requires
+words-of-requires c κs = search needs
+
+least-requires : tie.Need-least-requires
+least-requires c κs = search needs
+
+sub-solve : tie.Need-sub-solve
+sub-solve c = search needs
+
+part-solve-start : tie.Need-part-solve-start
+part-solve-start c = search needs
+
+part-solve-end : tie.Need-part-solve-end
+part-solve-end c = search needs
+
+slice-relend-prefix-solve : tie.Need-slice-relend-prefix-solve
+slice-relend-prefix-solve c = search needs
+
+slice-aggregate-solve : tie.Need-slice-aggregate-solve
+slice-aggregate-solve c =
+    sym (length-take-le (c .before .before .before .words-of .result) (c .before .before .before .before .before .before .before .before .args .nodes .now) (le-trans (c .before .before .before .words-of .ensures) (c .before .before .before .before .before .before .before .before .pre .1)))
+
+slice-relend-prefix-solve-2 : tie.Need-slice-relend-prefix-solve-2
+slice-relend-prefix-solve-2 c = search needs
+
+slice-aggregate-solve-2 : tie.Need-slice-aggregate-solve-2
+slice-aggregate-solve-2 c =
+    sym (length-take-le (c .before .before .before .least .result) (c .before .before .before .before .before .before .before .before .before .args .stages .now) (le-trans (c .before .before .before .least .ensures) (c .before .before .before .before .before .before .before .before .before .pre .2)))
+
+slice-relend-prefix-solve-3 : tie.Need-slice-relend-prefix-solve-3
+slice-relend-prefix-solve-3 c = search needs
+
+slice-aggregate-solve-3 : tie.Need-slice-aggregate-solve-3
+slice-aggregate-solve-3 c =
+    sym (length-take-le (c .before .before .before .before .before .words-of .result) (c .before .before .before .before .before .before .before .before .before .before .args .work .now) (le-trans (c .before .before .before .before .before .words-of .ensures) (c .before .before .before .before .before .before .before .before .before .before .pre .3)))
+
+solve-requires : tie.Need-solve-requires
+solve-requires c κs = search needs
+
+same-length : tie.Need-same-length
+same-length c = search needs
+
+same-length-2 : tie.Need-same-length-2
+same-length-2 c = search needs
+
+same-length-3 : tie.Need-same-length-3
+same-length-3 c = search needs
+
+returns : tie.Need-returns
+returns c = search needs
+
+pub solve-case-spec : {M : Type 1} → statement M
+solve-case-spec =
+    tie.close
+    (tie.spec
+    part-of-requires
+    words-of-requires
+    least-requires
+    sub-solve
+    part-solve-start
+    part-solve-end
+    slice-relend-prefix-solve
+    slice-aggregate-solve
+    slice-relend-prefix-solve-2
+    slice-aggregate-solve-2
+    slice-relend-prefix-solve-3
+    slice-aggregate-solve-3
+    solve-requires
+    same-length
+    same-length-2
+    same-length-3
+    returns)

@@ -1,0 +1,2 @@
+-- How a choice and a merge go on.
+pub mod Choice

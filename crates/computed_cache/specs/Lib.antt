@@ -1,0 +1,2 @@
+-- The computed cache in the work words.
+pub mod Cache

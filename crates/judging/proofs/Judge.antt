@@ -1,0 +1,297 @@
+-- Numbers judged: two words and 32 bits, sums and products, the best so far.
+use mathlib.Core.Path.{_≡_, refl, sym, ap, ap₂, _∙_}
+use mathlib.Core.Bool.{Bool, true, false, not, _&&_}
+use Prim.Native.Nat.{ℕ, suc, _+_, _-_, _*_, _/_, _%_, _^_, _≤_, _<_}
+use native.Mathlib.Omega.{arith}
+use borrow.Author.Tests.{ltb-true, ltb-false, le-leb, lt-leb}
+use lib.IntN.{ℤ, pos, negsuc, natAbs, _+ℤ_, _-ℤ_, _*ℤ_}
+use lib.Signed.{leZ, ltZ}
+use mir.Syntax.{w32, w64}
+use mir.Val.{SFits, toZ}
+use Rattle.whole.specs.Cases.{if, clash}
+use Rattle.whole.specs.Int.{diff, dif-negsuc}
+use Rattle.whole.specs.Within.{limit, limited, Small}
+use Rattle.whole.specs.WithinLaws.{limited-is, limited-over, limited-gives}
+use Rattle.whole.specs.Numerator.{word, number, words}
+use Rattle.whole.specs.NumeratorLaws.{below}
+use Rattle.whole.specs.declared.Numerator.{Numerator}
+use Rattle.whole.specs.declared.Within.{Within}
+use Rattle.whole.specs.declared.Within.the-variants as within
+use Rattle.whole.proofs.Signed.{R, R32, back, back32, plain, by-abs}
+use Rattle.theory.specs.Plain.{Worth, is, over, in-32-bits, better, numbered}
+use Rattle.theory.specs.Verdict.{or}
+use Rattle.judging.specs.declared.Total.{Total}
+use Rattle.judging.specs.declared.Total.the-variants as total
+use Rattle.judging.specs.declared.Level.{Level}
+use Rattle.judging.specs.declared.Level.the-variants as level
+use Rattle.judging.specs.Totals.{total-of, judged-32, level-by, times-of, plus-of, added-of, summed, tried, Kept, is-over, none-left}
+
+-- ---- within the limits, by magnitude
+
+pub above-is : (n : ℕ) → n ≤ limit → within.Is (toZ w64 n) ≡ limited (pos n)
+above-is n h = ap within.Is (plain n (omega arith)) ∙ sym (limited-is (pos n) h)
+
+pub above-over : (n : ℕ) → limit < n → within.Over ≡ limited (pos n)
+above-over n h = sym (limited-over (pos n) h)
+
+less : (n : ℕ) → negsuc 0 -ℤ pos n ≡ negsuc n
+less n = simp (diff, dif-negsuc) (omega arith)
+
+module _ (n : ℕ) (h : n < limit) where
+  less-is : negsuc 0 -ℤ toZ w64 n ≡ negsuc n
+  less-is = ap (λ (z : ℤ). negsuc 0 -ℤ z) (plain n (omega arith)) ∙ less n
+
+  fits : SFits w64 (negsuc n)
+  fits = by-abs (negsuc n) (omega arith)
+
+  pub below-fits : SFits w64 (negsuc 0 -ℤ toZ w64 n)
+  below-fits = rw less-is fits
+
+  pub below-is : within.Is (R (negsuc 0 -ℤ toZ w64 n)) ≡ limited (negsuc n)
+  below-is = ap within.Is (ap R less-is ∙ back (negsuc n) fits) ∙ sym (limited-is (negsuc n) (omega arith))
+
+pub below-over : (n : ℕ) → limit ≤ n → within.Over ≡ limited (negsuc n)
+below-over n h = sym (limited-over (negsuc n) (omega arith))
+
+-- ---- two words
+
+abbrev held : ℤ → ℕ → ℤ
+held h l = h *ℤ pos word +ℤ pos l
+
+pub high-above : (h : ℤ) (l : ℕ) → ltZ (pos 0) h ≡ true → within.Over ≡ limited (held h l)
+high-above (pos k) l t = let u = ltb-true 0 k t in above-over (k * word + l) (omega arith)
+high-above (negsuc k) l t = clash (sym t)
+
+pub high-below : (h : ℤ) (l : ℕ) → l < word → ltZ h (negsuc 0) ≡ true → within.Over ≡ limited (held h l)
+high-below (pos k) l b t = clash (sym t)
+high-below (negsuc k) l b t =
+    let u = ltb-true 0 k t in
+    below-over (suc k * word - suc l) (omega arith) ∙ ap limited (sym (below (suc k * word) l (suc k * word - suc l) (omega arith)))
+
+pub high-minus : (h : ℤ) (l : ℕ) → l < word → ltZ h (negsuc 0) ≡ false → ltZ h (pos 0) ≡ true → {r : Within} → r ≡ limited (negsuc (18446744073709551615 - l)) → r ≡ limited (held h l)
+high-minus (pos k) l b t u e = absurd (let v = ltb-true k 0 u in omega arith)
+high-minus (negsuc k) l b t u e =
+    let v = ltb-false 0 k t in
+    e ∙ ap limited (sym (below (suc k * word) l (18446744073709551615 - l) (omega arith)))
+
+pub high-none : (h : ℤ) (l : ℕ) → ltZ (pos 0) h ≡ false → ltZ h (pos 0) ≡ false → {r : Within} → r ≡ limited (pos l) → r ≡ limited (held h l)
+high-none (pos k) l t u e = let v = ltb-false 0 k t in e ∙ ap (λ (n : ℕ). limited (pos n)) (omega arith)
+high-none (negsuc k) l t u e = clash u
+
+-- the words of a number of 64 bits
+pub words-below : (z : ℤ) (n : ℕ) → SFits w64 z → ltZ z (pos 0) ≡ true → n ≡ natAbs z → (1 ≤ n) × (_≡_ {A = Numerator} (record { low = 18446744073709551615 - (n - 1); high = negsuc 0 }) (words z))
+unfolding words
+words-below (pos k) n f t e = absurd (let v = ltb-true k 0 t in omega arith)
+words-below (negsuc k) n f t e =
+    let u : k < 2 ^ 63 = f .sfits in
+    let p : 18446744073709551615 - (n - 1) ≡ word - 1 - k % word = omega arith in
+    let q : 0 ≡ k / word = omega arith in
+    (omega arith, λ i. record { low = p i; high = negsuc (q i) })
+
+pub words-above : (z : ℤ) (n : ℕ) → SFits w64 z → ltZ z (pos 0) ≡ false → n ≡ natAbs z → _≡_ {A = Numerator} (record { low = n; high = pos 0 }) (words z)
+unfolding words
+words-above (pos k) n f t e =
+    let u : k < 2 ^ 63 = f .sfits in
+    let p : n ≡ k % word = omega arith in
+    let q : 0 ≡ k / word = omega arith in
+    λ i. record { low = p i; high = pos (q i) }
+words-above (negsuc k) n f t e = clash t
+
+-- ---- 32 bits
+
+abbrev least : ℤ
+least = negsuc 2147483647
+
+abbrev most : ℤ
+most = pos 2147483647
+
+not-less : (z : ℤ) (b : Bool) → ltZ z least ≡ b → leZ least z ≡ not b
+not-less (pos k) b t = ap not t
+not-less (negsuc k) true t = lt-leb k 2147483647 (ltb-true 2147483647 k t)
+not-less (negsuc k) false t = le-leb k 2147483647 (ltb-false 2147483647 k t)
+
+not-more : (z : ℤ) (b : Bool) → ltZ most z ≡ b → leZ z most ≡ not b
+not-more (pos k) true t = lt-leb k 2147483647 (ltb-true 2147483647 k t)
+not-more (pos k) false t = le-leb k 2147483647 (ltb-false 2147483647 k t)
+not-more (negsuc k) b t = ap not t
+
+module _ (z : ℤ) where
+  abbrev if-both : Bool → Bool → Level
+  if-both a b = if (a && b) (level.Is z) level.Over
+
+  bits-below : ltZ z least ≡ true → level.Over ≡ judged-32 z
+  unfolding judged-32 in-32-bits
+  bits-below t = ap (λ (b : Bool). if-both b (leZ z most)) (sym (not-less z true t))
+
+  bits-above : ltZ z least ≡ false → ltZ most z ≡ true → level.Over ≡ judged-32 z
+  unfolding judged-32 in-32-bits
+  bits-above s t = ap₂ if-both (sym (not-less z false s)) (sym (not-more z true t))
+
+  bits-fit : ltZ z least ≡ false → ltZ most z ≡ false → SFits w32 z × (level.Is z ≡ judged-32 z)
+  unfolding judged-32 in-32-bits
+  bits-fit s t = (fit z s t, ap₂ if-both (sym (not-less z false s)) (sym (not-more z false t)))
+    where
+      fit : (z : ℤ) → ltZ z least ≡ false → ltZ most z ≡ false → SFits w32 z
+      fit (pos k) s t = record { sfits = let v = ltb-false 2147483647 k t in omega arith }
+      fit (negsuc k) s t = record { sfits = let v = ltb-false 2147483647 k s in omega arith }
+
+-- the same of a number that is read back from its bits
+module _ (w : Within) (z : ℤ) (e : w ≡ within.Is z) (f : SFits w64 z) where
+  told : judged-32 z ≡ level-by w
+  unfolding level-by
+  told = sym (ap level-by e)
+
+  pub level-below : ltZ (R z) least ≡ true → level.Over ≡ level-by w
+  level-below t = bits-below z (rw (back z f) at t) ∙ told
+
+  pub level-above : ltZ (R z) least ≡ false → ltZ most (R z) ≡ true → level.Over ≡ level-by w
+  level-above s t = bits-above z (rw (back z f) at s) (rw (back z f) at t) ∙ told
+
+  pub level-fits : ltZ (R z) least ≡ false → ltZ most (R z) ≡ false → SFits w32 (R z)
+  level-fits s t = rw (back z f) (bits-fit z (rw (back z f) at s) (rw (back z f) at t) .0)
+
+  pub level-is : ltZ (R z) least ≡ false → ltZ most (R z) ≡ false → level.Is (R32 (R z)) ≡ level-by w
+  level-is s t =
+      let g = bits-fit z (rw (back z f) at s) (rw (back z f) at t) in
+      ap level.Is (ap R32 (back z f) ∙ back32 z (g .0)) ∙ g .1 ∙ told
+
+pub level-over : (w : Within) → w ≡ within.Over → level.Over ≡ level-by w
+unfolding level-by
+level-over w e = sym (ap level-by e)
+
+-- ---- products and sums
+
+pub times-over : (p z : Within) → p ≡ within.Over → within.Over ≡ times-of p z
+unfolding times-of
+times-over p z e = sym (ap (λ (q : Within). times-of q z) e)
+
+module _ (p z : Within) (a : ℤ) (e : p ≡ within.Is a) (f : SFits w64 a) where
+  pub times-none : z ≡ within.Over → within.Over ≡ times-of p z
+  unfolding times-of
+  times-none g = sym (ap₂ times-of e g)
+
+  pub times-is : (b : ℤ) → z ≡ within.Is b → SFits w64 b → {r : Within} → r ≡ limited (R a *ℤ R b) → r ≡ times-of p z
+  unfolding times-of
+  times-is b g k u = u ∙ ap₂ (λ (x y : ℤ). limited (x *ℤ y)) (back a f) (back b k) ∙ sym (ap₂ times-of e g)
+
+pub small-of : (z : ℤ) (q : ℤ) → limited z ≡ within.Is q → Small q
+small-of z q e = let d = limited-gives z q e in record { small = omega (arith, d .1, ap natAbs (d .0)) }
+
+pub kept-small : (w : Within) (z : ℤ) → w ≡ within.Is z → Kept w → Small z
+unfolding Kept
+kept-small (within.Is y) z e k = record { small = let q : y ≡ z = cc in omega (arith, k .small, ap natAbs q) }
+kept-small within.Over z e k = absurd (let q : _≡_ {A = ℕ} 0 1 = cc in omega arith)
+
+pub limited-kept : (z : ℤ) → Kept (limited z)
+unfolding Kept
+limited-kept z = go (limited z) refl
+  where
+    go : (w : Within) → limited z ≡ w → Kept w
+    go (within.Is q) e = small-of z q e
+    go within.Over e = tt
+
+plus-kept : (s : ℤ) (w : Within) → Kept (plus-of s w)
+unfolding plus-of Kept
+plus-kept s (within.Is p) = limited-kept (s +ℤ p)
+plus-kept s within.Over = tt
+
+pub added-kept : (sum : Within) (w : ℕ) (t : Worth) → Kept (added-of sum w t)
+unfolding added-of Kept
+added-kept (within.Is s) w (is v a) = plus-kept s (limited (pos w *ℤ v))
+added-kept (within.Is s) w over = tt
+added-kept within.Over w t = tt
+
+pub times-kept : (p z : Within) → Kept (times-of p z)
+unfolding times-of Kept
+times-kept (within.Is p) (within.Is z) = limited-kept (p *ℤ z)
+times-kept (within.Is p) within.Over = tt
+times-kept within.Over z = tt
+
+pub added-over : (sum : Within) (w : ℕ) (t : Total) → sum ≡ within.Over → within.Over ≡ added-of sum w (total-of t)
+unfolding added-of
+added-over sum w t e = sym (ap (λ (q : Within). added-of q w (total-of t)) e)
+
+module _ (sum : Within) (w : ℕ) (t : Total) (s : ℤ) (e : sum ≡ within.Is s) where
+  pub added-none : t ≡ total.Over → within.Over ≡ added-of sum w (total-of t)
+  unfolding added-of total-of
+  added-none g = sym (ap₂ (λ (q : Within) (u : Total). added-of q w (total-of u)) e g)
+
+  module _ (v : ℤ) (a : ℕ) (g : t ≡ total.Is v a) (f : SFits w64 v) (h : w ≤ limit) (m : Within) (k : m ≡ limited (toZ w64 w *ℤ R v)) where
+    product : m ≡ limited (pos w *ℤ v)
+    product = k ∙ ap₂ (λ (x y : ℤ). limited (x *ℤ y)) (plain w (omega arith)) (back v f)
+
+    sum-is : plus-of s m ≡ added-of sum w (total-of t)
+    unfolding added-of total-of
+    sum-is = ap (plus-of s) product ∙ sym (ap₂ (λ (q : Within) (u : Total). added-of q w (total-of u)) e g)
+
+    pub added-much : m ≡ within.Over → within.Over ≡ added-of sum w (total-of t)
+    unfolding plus-of
+    added-much n = sym (ap (plus-of s) n) ∙ sum-is
+
+    module _ (p : ℤ) (n : m ≡ within.Is p) (c : Kept sum) (fs : SFits w64 s) (fp : SFits w64 p) where
+      pub addends-small : Small (R s) × Small (R p)
+      addends-small = (rw (back s fs) (kept-small sum s e c), rw (back p fp) (small-of _ p (sym k ∙ n)))
+
+      pub added-is : {r : Within} → r ≡ limited (R s +ℤ R p) → r ≡ added-of sum w (total-of t)
+      unfolding plus-of
+      added-is u = u ∙ ap₂ (λ (x y : ℤ). limited (x +ℤ y)) (back s fs) (back p fp) ∙ sym (ap (plus-of s) n) ∙ sum-is
+
+-- ---- totals
+
+pub summed-over : (w : Within) → w ≡ within.Over → total-of total.Over ≡ summed w
+unfolding summed total-of
+summed-over w e = sym (ap summed e)
+
+pub summed-is : (w : Within) (z : ℤ) → w ≡ within.Is z → SFits w64 z → total-of (total.Is (R z) 0) ≡ summed w
+unfolding summed total-of
+summed-is w z e f = ap (λ (y : ℤ). is y 0) (back z f) ∙ sym (ap summed e)
+
+pub numbered-over : (t : Total) → t ≡ total.Over → total-of total.Over ≡ numbered (total-of t)
+unfolding numbered total-of
+numbered-over t e = sym (ap (λ (u : Total). numbered (total-of u)) e)
+
+pub numbered-is : (t : Total) (z : ℤ) (a : ℕ) → t ≡ total.Is z a → SFits w64 z → total-of (total.Is (R z) 1) ≡ numbered (total-of t)
+unfolding numbered total-of
+numbered-is t z a e f = ap (λ (y : ℤ). is y 1) (back z f) ∙ sym (ap (λ (u : Total). numbered (total-of u)) e)
+
+pub best-over : (b : Total) (a : ℕ) (t : Total) → b ≡ total.Over → total-of total.Over ≡ tried (total-of b) a (total-of t)
+unfolding tried total-of
+best-over b a t e = sym (ap (λ (u : Total). tried (total-of u) a (total-of t)) e)
+
+module _ (b : Total) (a : ℕ) (t : Total) (v : ℤ) (k : ℕ) (e : b ≡ total.Is v k) where
+  pub best-none : t ≡ total.Over → total-of total.Over ≡ tried (total-of b) a (total-of t)
+  unfolding tried total-of better
+  best-none g = sym (ap₂ (λ (x y : Total). tried (total-of x) a (total-of y)) e g)
+
+  module _ (u : ℤ) (j : ℕ) (g : t ≡ total.Is u j) (fv : SFits w64 v) (fu : SFits w64 u) where
+    compared : (c : Bool) → leZ (R u) (R v) ≡ c → if c (is v k) (is u a) ≡ tried (total-of b) a (total-of t)
+    unfolding tried total-of better
+    compared c q =
+        ap (λ (d : Bool). if d (is v k) (is u a)) (sym q ∙ ap₂ leZ (back u fu) (back v fv))
+        ∙ sym (ap₂ (λ (x y : Total). tried (total-of x) a (total-of y)) e g)
+
+    pub best-stays : leZ (R u) (R v) ≡ true → total-of (total.Is v k) ≡ tried (total-of b) a (total-of t)
+    unfolding total-of
+    best-stays q = compared true q
+
+    pub best-moves : leZ (R u) (R v) ≡ false → total-of (total.Is (R u) a) ≡ tried (total-of b) a (total-of t)
+    unfolding total-of
+    best-moves q = ap (λ (y : ℤ). is y a) (back u fu) ∙ compared false q
+
+-- ---- whether something is left
+
+pub sum-ends : (w : Within) (b : Bool) → w ≡ within.Over → true ≡ or (is-over w) b
+unfolding is-over
+sum-ends w b e = sym (ap (λ (x : Within). or (is-over x) b) e)
+
+pub best-ends : (t : Total) (b : Bool) → t ≡ total.Over → true ≡ or (none-left (total-of t)) b
+unfolding none-left total-of
+best-ends t b e = sym (ap (λ (x : Total). or (none-left (total-of x)) b) e)
+
+pub sum-goes : (w : Within) (z : ℤ) (b : Bool) → w ≡ within.Is z → b ≡ or (is-over w) b
+unfolding is-over
+sum-goes w z b e = sym (ap (λ (x : Within). or (is-over x) b) e)
+
+pub best-goes : (t : Total) (z : ℤ) (a : ℕ) (b : Bool) → t ≡ total.Is z a → b ≡ or (none-left (total-of t)) b
+unfolding none-left total-of
+best-goes t z a b e = sym (ap (λ (x : Total). or (none-left (total-of x)) b) e)

@@ -1,0 +1,22 @@
+-- `judging::actions_done` meets its contract.
+use Rattle.judging.proofs.Judge.{best-ends, best-goes}
+use borrow.Author.Needs.{needs}
+use Rattle.judging.proofs.actions_done.Statement.{statement}
+use Rattle.judging.proofs.actions_done.Tie as tie
+
+enum-told : tie.Need-enum-told
+enum-told c = search needs
+
+returns : tie.Need-returns
+returns c =
+    best-ends ((c .before .before) .args .best) _ (c .enum-told .given .1)
+
+enum-told-2 : tie.Need-enum-told-2
+enum-told-2 c = search needs
+
+returns-2 : tie.Need-returns-2
+returns-2 c =
+    best-goes ((c .before .before) .args .best) _ _ _ (c .enum-told2 .given .1)
+
+pub actions-done-spec : {M : Type 1} → statement M
+actions-done-spec = tie.close (tie.spec enum-told returns enum-told-2 returns-2)

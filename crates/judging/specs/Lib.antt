@@ -1,0 +1,2 @@
+-- Totals and levels, given as the terms of document 01.
+pub mod Totals

@@ -1,0 +1,64 @@
+-- Totals, and how they are judged.
+use mathlib.Core.Bool.{Bool, true, false}
+use Prim.Native.Nat.{ℕ}
+use lib.IntN.{ℤ, pos, _+ℤ_, _*ℤ_}
+use Rattle.whole.specs.Cases.{if}
+use Rattle.whole.specs.Within.{Small, limited}
+use Rattle.whole.specs.declared.Within.{Within}
+use Rattle.whole.specs.declared.Within.the-variants as within
+use Rattle.theory.specs.Plain.{Worth, is, over, in-32-bits, better}
+use Rattle.judging.specs.declared.Total.{Total}
+use Rattle.judging.specs.declared.Total.the-variants as total
+use Rattle.judging.specs.declared.Level.{Level}
+use Rattle.judging.specs.declared.Level.the-variants as level
+
+-- what document 01 says of a total
+unfoldable pub total-of : Total → Worth
+total-of (total.Is v a) = is v a
+total-of total.Over = over
+
+-- a numerator where it has 32 bits
+unfoldable pub judged-32 : ℤ → Level
+judged-32 z = if (in-32-bits z) (level.Is z) level.Over
+
+unfoldable pub level-by : Within → Level
+level-by (within.Is z) = judged-32 z
+level-by within.Over = level.Over
+
+-- the product of two numbers, all three judged
+unfoldable pub times-of : Within → Within → Within
+times-of (within.Is p) (within.Is z) = limited (p *ℤ z)
+times-of (within.Is p) within.Over = within.Over
+times-of within.Over z = within.Over
+
+unfoldable pub plus-of : ℤ → Within → Within
+plus-of s (within.Is p) = limited (s +ℤ p)
+plus-of s within.Over = within.Over
+
+-- the running sum with weight × worth
+unfoldable pub added-of : Within → ℕ → Worth → Within
+added-of (within.Is s) w (is v a) = plus-of s (limited (pos w *ℤ v))
+added-of (within.Is s) w over = within.Over
+added-of within.Over w t = within.Over
+
+-- the sum as a worth
+unfoldable pub summed : Within → Worth
+summed (within.Is z) = is z 0
+summed within.Over = over
+
+-- the best so far and action a's worth
+unfoldable pub tried : Worth → ℕ → Worth → Worth
+tried (is v b) a t = better v b a t
+tried over a t = over
+
+unfoldable pub Kept : Within → Type 0
+Kept (within.Is z) = Small z
+Kept within.Over = Unit {0}
+
+unfoldable pub is-over : Within → Bool
+is-over (within.Is z) = false
+is-over within.Over = true
+
+unfoldable pub none-left : Worth → Bool
+none-left (is v a) = false
+none-left over = true

@@ -1,0 +1,48 @@
+use Rattle.diagrams.proofs.Joining.{word-at}
+use Rattle.diagrams.proofs.Judging.{nums-at}
+use Rattle.merge_leaves.proofs.Combining.{plain-sum, sum-made}
+use borrow.Author.Needs.{needs}
+use Rattle.merge_leaves.proofs.sum_leaves.Statement.{statement}
+use Rattle.merge_leaves.proofs.sum_leaves.Tie as tie
+
+get-requires : tie.Need-get-requires
+get-requires c κs =
+    let s = (c .before .before) in
+    word-at (s .args .f) (s .pre .0) (s .pre .1 .below)
+
+get-requires-2 : tie.Need-get-requires-2
+get-requires-2 c κs =
+    let s = (c .before .before .before .before) in
+    word-at (s .args .g) (s .pre .0) (s .pre .2 .below)
+
+plus-requires : tie.Need-plus-requires
+plus-requires c κs =
+    let s = (c .before .before .before .before .before) in
+    (nums-at (s .pre .0) (s .args .f) (s .pre .1 .below) (c .before .before .get .ensures), nums-at (s .pre .0) (s .args .g) (s .pre .2 .below) (c .get2 .ensures))
+
+make-leaf-requires : tie.Need-make-leaf-requires
+make-leaf-requires c κs =
+    ((c .before .before .before .before .before .before .before .before) .pre .0, plain-sum _ _ (c .before .before .plus .ensures))
+
+same-length : tie.Need-same-length
+same-length c = search needs
+
+same-length-2 : tie.Need-same-length-2
+same-length-2 c = search needs
+
+returns : tie.Need-returns
+returns c =
+    let s = (c .before .before .before .before .before .before .before .before .before .before .before .before) in
+    sum-made (s .args .f) (s .args .g) (c .before .before .before .before .before .before .plus .result) (c .before .before .before .before .before .before .before .before .before .get .ensures) (c .before .before .before .before .before .before .before .get2 .ensures) (c .before .before .before .make-leaf .ensures) (c .before .before .before .before .before .before .plus .ensures)
+
+pub sum-leaves-spec : {M : Type 1} → statement M
+sum-leaves-spec =
+    tie.close
+    (tie.spec
+    get-requires
+    get-requires-2
+    plus-requires
+    make-leaf-requires
+    same-length
+    same-length-2
+    returns)

@@ -1,0 +1,4 @@
+-- Laws that the proofs cite.
+pub mod Roots
+pub mod Rules
+pub mod Done

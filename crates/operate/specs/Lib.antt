@@ -1,0 +1,2 @@
+-- One operation on a table with its roots.
+pub mod Operation

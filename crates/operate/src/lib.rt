@@ -1,0 +1,177 @@
+// One operation on a table with its roots: the table is made to hold exactly the nodes that the first roots need, then a rule runs.
+ghost use mathlib.Core.Path.{_≡_};
+ghost use Prim.Native.Nat.{_+_, _≤_, _<_, max};
+ghost use lib.ListN.{length};
+ghost use Rattle.diagrams.specs.Nodes.{trees};
+ghost use Rattle.diagrams.specs.Table.{Table, Ran};
+ghost use Rattle.diagrams.specs.Meaning.{ruleOf};
+ghost use Rattle.mark.specs.Mark.{rootsOf, Below};
+ghost use Rattle.operate.specs.Operation.{levelAt, substitutes, compOf, zeroNode, FitsLevels, Fits, Standing, Kept, Operated};
+use table::Made;
+use table::Node;
+
+// What an operation computes, of roots by their places: w, f and g are places, as `at` is the first of m next levels.
+pub enum Rule {
+    Zero,
+    Levels(usize, usize, usize),
+    Expect(usize, usize, usize, u32),
+    Reward(usize, usize, u32, u32, usize),
+    Best(usize, usize),
+}
+
+// What stopped a run, or 0; how many nodes the table has; the largest count at an operation's end.
+pub struct Run {
+    pub stop: usize,
+    pub count: usize,
+    pub peak: usize,
+}
+
+fn larger(a: usize, b: usize) -> usize
+    ensures { λ r. ⌜ r ≡ max a b ⌝ }
+{
+    if a < b { b } else { a }
+}
+
+// The table left with the nodes that the first roots need; they move with it.
+fn keep_roots(
+    nodes: &mut [i64],
+    work: &mut [u32],
+    cap: usize,
+    count: usize,
+    roots: &mut [u32],
+    held: usize,
+) -> usize
+    requires { ⌜ Standing cap (now nodes) (now work) count (now roots) held ⌝ }
+    ensures { λ r. ⌜ Kept cap (now (nodes .entry)) (now (nodes .exit)) (now (work .entry)) (now (work .exit)) (now (roots .entry)) (now (roots .exit)) held count r ⌝ }
+{
+    collect::collect(nodes, work, cap, count, &mut roots[..held])
+}
+
+// The index of one of m next levels from a place on; the first again beyond them.
+fn level(roots: &[u32], at: usize, m: usize, i: usize) -> usize
+    requires { ⌜ (at + m ≤ length (now roots)) × (0 < m) ⌝ }
+    ensures { λ r. ⌜ r ≡ levelAt (now (roots .entry)) at m i ⌝ }
+{
+    if i < m {
+        roots[at + i] as usize
+    } else {
+        roots[at] as usize
+    }
+}
+
+// The m diagrams from a place on in the place of the levels of the one at f.
+fn replace_levels(
+    nodes: &mut [i64],
+    work: &mut [u32],
+    cap: usize,
+    count: usize,
+    roots: &[u32],
+    at: usize,
+    m: usize,
+    f: usize,
+) -> Made
+    requires { ⌜ Table ruleOf cap (now nodes) (now work) count × Below (now roots) count × FitsLevels (length (now roots)) at m f ⌝ }
+    ensures { λ r. ⌜ Ran ruleOf cap (now (nodes .entry)) (now (work .entry)) count (substitutes (rootsOf (trees (now (nodes .entry)) count) (now (roots .entry))) at m f) (now (nodes .exit)) (now (work .exit)) r ⌝ }
+{
+    let d1 = level(roots, at, m, 0);
+    let d2 = level(roots, at, m, 1);
+    let d3 = level(roots, at, m, 2);
+    let d4 = level(roots, at, m, 3);
+    let f1 = roots[f] as usize;
+    substitute::substitute(nodes, work, cap, count, f1, d1, d2, d3, d4, m)
+}
+
+fn zero() -> Node
+    ensures { λ r. ⌜ r ≡ zeroNode ⌝ }
+{
+    Node {
+        kind: 0,
+        c1: 0,
+        c2: 0,
+        c3: 0,
+        c4: 0,
+        constant: 0,
+        high: 0,
+        low: 0,
+    }
+}
+
+// The rule's computation on a table whose roots are these.
+fn compute(
+    nodes: &mut [i64],
+    work: &mut [u32],
+    cap: usize,
+    count: usize,
+    roots: &[u32],
+    rule: Rule,
+) -> Made
+    requires { ⌜ Table ruleOf cap (now nodes) (now work) count × Below (now roots) count × Fits (length (now roots)) rule ⌝ }
+    ensures { λ r. ⌜ Ran ruleOf cap (now (nodes .entry)) (now (work .entry)) count (compOf (rootsOf (trees (now (nodes .entry)) count) (now (roots .entry))) rule) (now (nodes .exit)) (now (work .exit)) r ⌝ }
+{
+    match rule {
+        Rule::Zero => diagrams::making::make_leaf(nodes, work, cap, count, zero()),
+        Rule::Levels(at, m, f) => replace_levels(nodes, work, cap, count, roots, at, m, f),
+        Rule::Expect(w, k, f, weights) => {
+            operations::expectation(
+                nodes,
+                work,
+                cap,
+                count,
+                roots[w] as usize,
+                k,
+                roots[f] as usize,
+                weights as usize,
+            )
+        }
+        Rule::Reward(reward, f, weights, exponent, action) => {
+            operations::add_reward(
+                nodes,
+                work,
+                cap,
+                count,
+                roots[reward] as usize,
+                roots[f] as usize,
+                weights,
+                exponent,
+                action,
+            )
+        }
+        Rule::Best(f, g) => {
+            merge::merge(
+                nodes,
+                work,
+                cap,
+                count,
+                2,
+                roots[f] as usize,
+                roots[g] as usize,
+            )
+        }
+    }
+}
+
+// One operation: its result becomes the root at `to`, the last one then.
+pub fn operate(
+    nodes: &mut [i64],
+    work: &mut [u32],
+    cap: usize,
+    run: Run,
+    roots: &mut [u32],
+    held: usize,
+    to: usize,
+    rule: Rule,
+) -> Run
+    requires { ⌜ Standing cap (now nodes) (now work) (run .count) (now roots) held × (to ≤ held) × (to < length (now roots)) × Fits held rule ⌝ }
+    ensures { λ r. ⌜ Operated cap (run .peak) (now (nodes .entry)) (run .count) (now (roots .entry)) held to rule (now (nodes .exit)) (now (work .exit)) (now (roots .exit)) r ⌝ }
+{
+    let left = keep_roots(nodes, work, cap, run.count, roots, held);
+    let made = compute(nodes, work, cap, left, &roots[..held], rule);
+    if made.stop == 0 {
+        roots[to] = made.at as u32;
+    }
+    Run {
+        stop: made.stop,
+        count: made.count,
+        peak: larger(run.peak, made.count),
+    }
+}

@@ -1,9 +1,0 @@
--- Laws that several proofs cite.
-pub mod Bytes
-pub mod Signs
-pub mod Short
-pub mod Answered
-pub mod Named
-pub mod Listed
-pub mod Solved
-pub mod ReadBack

@@ -1,0 +1,24 @@
+-- `rows::good_condition` meets its contract.
+use borrow.Author.Needs.{needs}
+use Rattle.theory.specs.Value.{good-condition-row}
+use Rattle.rows.proofs.Judged.{all-three}
+use Rattle.rows.proofs.good_condition.Statement.{statement}
+use Rattle.rows.proofs.good_condition.Tie as tie
+
+is-among-requires : tie.Need-is-among-requires
+is-among-requires c κs = search needs
+
+zeros-behind-requires : tie.Need-zeros-behind-requires
+zeros-behind-requires c κs = search needs
+
+good-branches-requires : tie.Need-good-branches-requires
+good-branches-requires c κs = search needs
+
+returns : tie.Need-returns
+unfolding good-condition-row
+returns c =
+    all-three (c .before .before .is-among .ensures) (c .before .zeros-behind .ensures) (c .good-branches .ensures)
+
+pub good-condition-spec : {M : Type 1} → statement M
+good-condition-spec =
+    tie.close (tie.spec is-among-requires zeros-behind-requires good-branches-requires returns)

@@ -1,0 +1,2 @@
+-- A node's row, given in the terms of document 01.
+pub mod Row

@@ -1,0 +1,27 @@
+-- A node's row: its kind, where the layout is kept.
+use mathlib.Core.List.{List}
+use Prim.Native.Nat.{ℕ, _*_, _≤_}
+use lib.Dec.{eqb}
+use lib.IntN.{ℤ, pos, negsuc, natAbs}
+use lib.ListN.{length}
+use Rattle.whole.specs.Cases.{if}
+use Rattle.theory.specs.Value.{node-word, good-row}
+use Rattle.rows.specs.declared.Kind.{Kind}
+use Rattle.rows.specs.declared.Kind.the-variants.{Leaf, Condition, Test, Bad}
+
+-- node r lies inside the table
+pub record Inside (W : List ℤ) (r : ℕ) : Type 0 where
+  pub above : 1 ≤ r
+  pub within : r * 8 ≤ length W
+
+-- the kind that a first word says; 3, which is none, for one below 0
+unfoldable pub kind-number : ℤ → ℕ
+kind-number (pos k) = k
+kind-number (negsuc k) = 3
+
+unfoldable pub kind-of : ℕ → Kind
+kind-of k = if (eqb k 0) Leaf (if (eqb k 1) Condition Test)
+
+-- a good row's kind; nodes are numbered from 1
+unfoldable pub row-kind : ℕ → ℕ → List ℤ → ℕ → Kind
+row-kind n A W r = if (eqb r 0) Bad (if (good-row n A W r) (kind-of (natAbs (node-word W r 0))) Bad)

@@ -1,0 +1,106 @@
+// Whether a node of a lent table is as the layout has it.
+pub mod words; // words.rt: a node's words, judged as they are read
+
+ghost use mathlib.Core.Path.{_≡_};
+ghost use Prim.Native.Nat.{_+_, _-_, _*_};
+ghost use lib.ListN.{take, drop};
+ghost use Rattle.theory.specs.Diagram.{zeros};
+ghost use Rattle.theory.specs.Value.{node-linear, good-branches, good-leaf-row, good-condition-row, good-test-row};
+ghost use Rattle.theory.specs.Valid.{small-linear};
+ghost use Rattle.rows.specs.Row.{Inside, row-kind};
+use self::words::is_among;
+use self::words::is_small;
+use self::words::is_zero;
+use self::words::kind;
+
+// What a node's words say that it is.
+pub enum Kind {
+    Leaf,
+    Condition,
+    Test,
+    Bad,
+}
+
+// Node r's coefficients and constant lie within the limits.
+fn small_linear(nodes: &[i64], r: usize) -> bool
+    requires { ⌜ Inside (now nodes) r ⌝ }
+    ensures { λ b. ⌜ b ≡ small-linear (node-linear (now (nodes .entry)) r) ⌝ }
+{
+    is_small(nodes, r, 1)
+        & is_small(nodes, r, 2)
+        & is_small(nodes, r, 3)
+        & is_small(nodes, r, 4)
+        & is_small(nodes, r, 5)
+}
+
+// Behind a condition's number all is 0.
+fn zeros_behind(nodes: &[i64], r: usize) -> bool
+    requires { ⌜ Inside (now nodes) r ⌝ }
+    ensures { λ b. ⌜ b ≡ zeros (take 4 (drop ((r - 1) * 8 + 2) (now (nodes .entry)))) ⌝ }
+{
+    is_zero(nodes, r, 2) & is_zero(nodes, r, 3) & is_zero(nodes, r, 4) & is_zero(nodes, r, 5)
+}
+
+// Both branches lie below node r.
+fn good_branches(nodes: &[i64], r: usize) -> bool
+    requires { ⌜ Inside (now nodes) r ⌝ }
+    ensures { λ b. ⌜ b ≡ good-branches (now (nodes .entry)) r ⌝ }
+{
+    is_among(r - 1, nodes, r, 6) & is_among(r - 1, nodes, r, 7)
+}
+
+fn good_leaf(a: u32, nodes: &[i64], r: usize) -> bool
+    requires { ⌜ Inside (now nodes) r ⌝ }
+    ensures { λ b. ⌜ b ≡ good-leaf-row a (now (nodes .entry)) r ⌝ }
+{
+    small_linear(nodes, r) & is_among(a as usize, nodes, r, 6) & is_zero(nodes, r, 7)
+}
+
+fn good_condition(n: u32, nodes: &[i64], r: usize) -> bool
+    requires { ⌜ Inside (now nodes) r ⌝ }
+    ensures { λ b. ⌜ b ≡ good-condition-row n (now (nodes .entry)) r ⌝ }
+{
+    is_among(n as usize, nodes, r, 1) & zeros_behind(nodes, r) & good_branches(nodes, r)
+}
+
+fn good_test(nodes: &[i64], r: usize) -> bool
+    requires { ⌜ Inside (now nodes) r ⌝ }
+    ensures { λ b. ⌜ b ≡ good-test-row (now (nodes .entry)) r ⌝ }
+{
+    small_linear(nodes, r) & good_branches(nodes, r)
+}
+
+// The kind of node r, judged whole.
+pub fn row_kind(n: u32, a: u32, nodes: &[i64], r: usize) -> Kind
+    ensures { λ k. ⌜ k ≡ row-kind n a (now (nodes .entry)) r ⌝ }
+{
+    if r == 0 {
+        return Kind::Bad;
+    }
+    if nodes.len() / 8 < r {
+        return Kind::Bad;
+    }
+    let k = kind(nodes, r);
+    if k == 0 {
+        return if good_leaf(a, nodes, r) {
+            Kind::Leaf
+        } else {
+            Kind::Bad
+        };
+    }
+    if k == 1 {
+        return if good_condition(n, nodes, r) {
+            Kind::Condition
+        } else {
+            Kind::Bad
+        };
+    }
+    if k == 2 {
+        return if good_test(nodes, r) {
+            Kind::Test
+        } else {
+            Kind::Bad
+        };
+    }
+    Kind::Bad
+}

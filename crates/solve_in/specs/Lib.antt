@@ -1,0 +1,2 @@
+-- What a solve with a given room leaves.
+pub mod Solves

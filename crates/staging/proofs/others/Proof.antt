@@ -1,0 +1,102 @@
+-- `staging::others` meets its contract.
+use mathlib.Core.Path.{_≡_, refl, _∙_}
+use Prim.Native.Nat.{_+_, _-_}
+use native.Mathlib.Omega.{arith}
+use lib.ListN.{length}
+use Rattle.staging.proofs.StagesOthers.{Trying, trying-starts, trying-action, trying-stops, trying-on, trying-ends}
+use Rattle.staging.proofs.others.Statement.{statement}
+use Rattle.staging.proofs.others.Tie as tie
+
+abbrev Inv-loop : tie.InvT-loop
+Inv-loop model nodes₀ work₀ cap roots₀ held before stage actions r₀ a₀ nodes work roots r a =
+    Trying model cap nodes₀ roots₀ held before stage actions r₀ nodes work roots r a × (length nodes ≡ length nodes₀) × (length work ≡ length work₀) × (length roots ≡ length roots₀)
+
+abbrev μ-loop : tie.MeasureT-loop
+μ-loop model nodes₀ work₀ cap roots₀ held before stage actions r₀ a₀ nodes work roots r a =
+    actions + 1 - a
+
+byte-at-requires : tie.Need-byte-at-requires Inv-loop μ-loop
+byte-at-requires c κs =
+    tt
+
+cast-actions : tie.Need-cast-actions Inv-loop μ-loop
+cast-actions c =
+    omega (arith, c .byte-at .ok)
+
+loop-holds : tie.Need-loop-holds Inv-loop μ-loop
+loop-holds c =
+    (trying-starts (c .before .before .before .before .pre .0) (c .before .before .before .before .pre .1) (c .before .before .before .before .pre .3) (c .byte-at .ensures), refl, refl, refl)
+
+better-requires : tie.Need-better-requires Inv-loop μ-loop
+better-requires c κs =
+    (c .before .before .before .before .loop .inv .0 .ready, c .before .before .before .before .loop .inv .0 .ok, omega (arith, c .before .before .before .before .before .before .before .before .before .pre .2, c .before .before .before .before .loop .inv .3), c .before .before .before .before .before .before .before .before .before .pre .4, c .before .before .before .before .before .before .before .before .before .pre .5, omega (arith, c .before .before .before .before .loop .inv .0 .low), trying-action (c .before .before .before .before .loop .inv .0) (omega (arith, c .before .before .before .loop-test .taken)))
+
+same-length : tie.Need-same-length Inv-loop μ-loop
+same-length c =
+    c .before .before .before .before .before .before .before .better .kept .1 .0 ∙ c .before .before .before .before .before .before .before .before .before .before .before .before .loop .inv .1
+
+same-length-2 : tie.Need-same-length-2 Inv-loop μ-loop
+same-length-2 c =
+    c .before .before .before .before .before .before .before .better .kept .1 .1 .0 ∙ c .before .before .before .before .before .before .before .before .before .before .before .before .loop .inv .2
+
+same-length-3 : tie.Need-same-length-3 Inv-loop μ-loop
+same-length-3 c =
+    c .before .before .before .before .before .before .before .better .kept .1 .1 .1 .1 .1 .0 ∙ c .before .before .before .before .before .before .before .before .before .before .before .before .loop .inv .3
+
+returns : tie.Need-returns Inv-loop μ-loop
+returns c =
+    trying-stops (c .before .before .before .before .before .before .before .before .before .before .before .before .loop .inv .0) (omega (arith, c .before .before .before .before .before .before .before .before .before .before .before .loop-test .taken)) (c .before .before .before .before .before .before .before .better .ensures) (c .if1 .taken)
+
+add-a : tie.Need-add-a Inv-loop μ-loop
+add-a c =
+    omega (arith, c .before .before .before .before .before .before .before .before .before .before .before .loop-test .taken, c .before .before .before .before .before .before .before .before .before .before .before .before .before .byte-at .ok)
+
+loop-less : tie.Need-loop-less Inv-loop μ-loop
+loop-less c =
+    omega (arith, c .before .before .before .before .before .before .before .before .before .before .before .loop-test .taken)
+
+loop-again : tie.Need-loop-again Inv-loop μ-loop
+loop-again c = (
+  trying-on (c .before .before .before .before .before .before .before .before .before .before .before .before .loop .inv .0) (omega (arith, c .before .before .before .before .before .before .before .before .before .before .before .loop-test .taken)) (c .before .before .before .before .before .before .before .better .ensures) (c .if1 .left) (omega (arith, c .before .before .before .before .before .before .before .before .before .before .before .before .before .before .before .before .before .pre .2, c .before .before .before .before .before .before .before .before .before .before .before .before .loop .inv .3, c .before .before .before .before .before .before .before .better .kept .1 .1 .1 .1 .1 .0)),
+  c .before .before .before .before .before .before .before .better .kept .1 .0 ∙ c .before .before .before .before .before .before .before .before .before .before .before .before .loop .inv .1,
+  c .before .before .before .before .before .before .before .better .kept .1 .1 .0 ∙ c .before .before .before .before .before .before .before .before .before .before .before .before .loop .inv .2,
+  c .before .before .before .before .before .before .before .better .kept .1 .1 .1 .1 .1 .0 ∙ c .before .before .before .before .before .before .before .before .before .before .before .before .loop .inv .3,
+)
+
+same-length-4 : tie.Need-same-length-4 Inv-loop μ-loop
+same-length-4 c =
+    c .before .loop .inv .1
+
+same-length-5 : tie.Need-same-length-5 Inv-loop μ-loop
+same-length-5 c =
+    c .before .loop .inv .2
+
+same-length-6 : tie.Need-same-length-6 Inv-loop μ-loop
+same-length-6 c =
+    c .before .loop .inv .3
+
+returns-2 : tie.Need-returns-2 Inv-loop μ-loop
+returns-2 c =
+    trying-ends (c .before .loop .inv .0) (omega (arith, c .loop-test .left))
+
+pub others-spec : {M : Type 1} → statement M
+others-spec =
+    tie.close
+    (tie.spec
+    Inv-loop
+    μ-loop
+    byte-at-requires
+    cast-actions
+    loop-holds
+    better-requires
+    same-length
+    same-length-2
+    same-length-3
+    returns
+    add-a
+    loop-less
+    loop-again
+    same-length-4
+    same-length-5
+    same-length-6
+    returns-2)

@@ -1,0 +1,55 @@
+-- Demands 2 and 3, said of one answer at one state.
+use mathlib.Core.Path.{_≡_}
+use mathlib.Core.Logic.{_↔_}
+use mathlib.Core.List.{List}
+use Prim.Native.Nat.{ℕ, _≤_}
+use lib.Dec.{T}
+use lib.IntN.{ℤ}
+use lib.Signed.{_<ℤ_}
+use Rattle.whole.specs.Numerator.{number, words}
+use Rattle.theory.specs.Process.{Policy, optimum, lowest-best, expected, Sound}
+use Rattle.theory.specs.Meaning.{State, process}
+use Rattle.theory.specs.Load.{model, site-at}
+use Rattle.theory.specs.Solve.{SolveOut, solve}
+use Rattle.theory.specs.Value.{Asked, accepted, state-of, ValueOut, refused-value, value-of}
+
+-- the lent words, as a solve leaves them
+pub record Left (o : SolveOut) (nodes : List ℤ) (stages work : List ℕ) : Type 0 where
+  pub nodes-left : nodes ≡ o .nodes
+  pub stages-left : stages ≡ o .stages
+  pub work-left : work ≡ o .work
+
+module _ (B : List ℕ) (h : ℕ) (q : Asked) (v : ValueOut) where
+  -- "A state is accepted when 13 does not apply"
+  abbrev pub Accepted : Type 0
+  Accepted = T (accepted (site-at B .levels) (site-at B .conditions) q)
+
+  -- the state that is asked for
+  abbrev pub start : Accepted → State
+  start t = state-of (site-at B .levels) (site-at B .conditions) q t
+
+  -- "the value read is exactly the best expected total", times D × W^(n×h), "and the action the lowest-numbered one that reaches it"
+  pub record Exact : Type 0 where
+    pub no-refusal : Accepted → (v .number ≡ 0) × (v .place ≡ 0)
+    pub value : (t : Accepted) → v .numerator ≡ words (optimum (process (model B)) h (start t))
+    pub action : (t : Accepted) → v .action ≡ lowest-best (process (model B)) h (start t)
+
+  -- "the value read equals the policy's expected total .. exactly when the policy picks, at every state it reaches .. and a step left, an action that no other betters there; in every other case the policy's total is lower"
+  pub record Optimal : Type 0 where
+    pub equal : (t : Accepted) (π : Policy (process (model B)))
+        → (number (v .numerator) ≡ expected (process (model B)) π h (start t)) ↔ Sound (process (model B)) π h (start t)
+    pub lower : (t : Accepted) (π : Policy (process (model B)))
+        → (Sound (process (model B)) π h (start t) → ⊥) → expected (process (model B)) π h (start t) <ℤ number (v .numerator)
+
+-- a call that solves B for the horizon H in lent tables, then reads at q with h steps left, and leaves the tables as nodes′, stages′ and work′
+pub record Advises (B : List ℕ) (H : ℕ) (nodes : List ℤ) (stages work : List ℕ) (h : ℕ) (q : Asked) (nodes′ : List ℤ) (stages′ work′ : List ℕ) (v : ValueOut) : Type 0 where
+  -- every lent word is as solving leaves it
+  pub tables : Left (solve B H nodes stages work) nodes′ stages′ work′
+  -- a refusal of solving is given on
+  pub refused : (solve B H nodes stages work .number ≡ 0 → ⊥) → v ≡ refused-value (solve B H nodes stages work .number) (solve B H nodes stages work .place)
+  -- "a model is solved when solve's number is 0": the value is read from the tables that solving wrote
+  pub read : solve B H nodes stages work .number ≡ 0 → v ≡ value-of B nodes′ stages′ h q
+  -- demand 2
+  pub exact : solve B H nodes stages work .number ≡ 0 → 1 ≤ h → h ≤ H → Exact B h q v
+  -- demand 3
+  pub optimal : solve B H nodes stages work .number ≡ 0 → 1 ≤ h → h ≤ H → Optimal B h q v

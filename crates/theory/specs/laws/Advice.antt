@@ -1,0 +1,71 @@
+-- The demands' theorems, at the answer read from the tables that a solve left.
+use mathlib.Core.Path.{_≡_, refl, sym, ap, _∙_, subst}
+use mathlib.Core.List.{List}
+use Prim.Native.Nat.{ℕ, _≤_}
+use lib.IntN.{ℤ, pos}
+use Rattle.whole.specs.Numerator.{words}
+use Rattle.theory.specs.Solve.{SolveOut, solve}
+use Rattle.theory.specs.Value.{Asked, ValueOut, refused-value, value-of}
+use Rattle.theory.specs.Demands.{Solving}
+use Rattle.theory.specs.laws.Demands as demands
+use Rattle.theory.specs.Advice.{Left, Exact, Optimal, Advises}
+
+-- solved
+module _ (B : List ℕ) (H : ℕ) (nodes : List ℤ) (stages work : List ℕ) (is : solve B H nodes stages work .number ≡ 0) (h : ℕ) (low : 1 ≤ h) (high : h ≤ H) (q : Asked) where
+  abbrev solving : Solving
+  solving = record { bytes = B; horizon = H; nodes = nodes; stages = stages; work = work; is = is }
+
+  abbrev read : ValueOut
+  read = value-of B (solve B H nodes stages work .nodes) (solve B H nodes stages work .stages) h q
+
+  read-exact : Exact B h q read
+  read-exact = record {
+    no-refusal = λ t. (ap (λ (v : ValueOut). v .number) (demands.exact solving h low high q t), ap (λ (v : ValueOut). v .place) (demands.exact solving h low high q t));
+    value = λ t. ap (λ (v : ValueOut). v .numerator) (demands.exact solving h low high q t);
+    action = λ t. ap (λ (v : ValueOut). v .action) (demands.exact solving h low high q t);
+  }
+
+  read-optimal : Optimal B h q read
+  read-optimal = record {
+    equal = λ t π. demands.optimal solving h low high q t π .0;
+    lower = λ t π. demands.optimal solving h low high q t π .1;
+  }
+
+  module _ {l : List ℤ} {s w : List ℕ} (L : Left (solve B H nodes stages work) l s w) (v : ValueOut) (e : v ≡ value-of B l s h q) where
+    same-read : read ≡ v
+    same-read = (ap (λ (x : List ℤ). value-of B x (solve B H nodes stages work .stages) h q) (sym (L .nodes-left)) ∙ ap (λ (x : List ℕ). value-of B l x h q) (sym (L .stages-left))) ∙ sym e
+
+    advised-exact : Exact B h q v
+    advised-exact = subst (Exact B h q) same-read read-exact
+
+    advised-optimal : Optimal B h q v
+    advised-optimal = subst (Optimal B h q) same-read read-optimal
+
+-- what a solve answered with and left
+module _ (B : List ℕ) (H : ℕ) (nodes : List ℤ) (stages work : List ℕ) {k p peak : ℕ} {l : List ℤ} {s w : List ℕ} (e : record { number = k; place = p; peak = peak; nodes = l; stages = s; work = w } ≡ solve B H nodes stages work) where
+  left : Left (solve B H nodes stages work) l s w
+  left = record { nodes-left = ap (λ (o : SolveOut). o .nodes) e; stages-left = ap (λ (o : SolveOut). o .stages) e; work-left = ap (λ (o : SolveOut). o .work) e }
+
+  number-left : k ≡ solve B H nodes stages work .number
+  number-left = ap (λ (o : SolveOut). o .number) e
+
+  -- its refusal, given on
+  pub refusal-given : (h : ℕ) (q : Asked) → (k ≡ 0 → ⊥) → Advises B H nodes stages work h q l s w (record { number = k; place = p; action = 0; numerator = record { low = 0; high = pos 0 } })
+  unfolding words
+  refusal-given h q n = record {
+    tables = left;
+    refused = λ _ i. refused-value (number-left i) (ap (λ (o : SolveOut). o .place) e i);
+    read = λ z. absurd (n (number-left ∙ z));
+    exact = λ z. absurd (n (number-left ∙ z));
+    optimal = λ z. absurd (n (number-left ∙ z));
+  }
+
+  -- the value read from the tables that it left
+  pub value-given : (h : ℕ) (q q′ : Asked) (v : ValueOut) → k ≡ 0 → q′ ≡ q → v ≡ value-of B l s h q′ → Advises B H nodes stages work h q l s w v
+  value-given h q q′ v z f r′ = let r = r′ ∙ ap (value-of B l s h) f in record {
+    tables = left;
+    refused = λ n. absurd (n (sym number-left ∙ z));
+    read = λ _. r;
+    exact = λ y a b. advised-exact B H nodes stages work y h a b q left v r;
+    optimal = λ y a b. advised-optimal B H nodes stages work y h a b q left v r;
+  }

@@ -1,0 +1,30 @@
+-- `transition::weighing::chance` meets its contract.
+use native.Mathlib.Omega.{arith}
+use Rattle.theory.specs.Load.{site-at}
+use Rattle.evaluate.proofs.Wants.{wants-chance}
+use Rattle.transition.proofs.Weigh.{chance-beyond, chance-found}
+use borrow.Author.Needs.{needs}
+use Rattle.transition.proofs.weighing.chance.Statement.{statement}
+use Rattle.transition.proofs.weighing.chance.Tie as tie
+
+conditions-requires : tie.Need-conditions-requires
+conditions-requires c κs = search needs
+
+returns : tie.Need-returns
+returns c =
+    let s = (c .before .before .before) in
+    chance-beyond (s .args .model .now) (s .args .a) (s .args .k) (s .args .x) (s .pre .0) (s .pre .1) (s .pre .2) _ (c .before .conditions .ensures) (c .if1 .taken)
+
+chance-at-requires : tie.Need-chance-at-requires
+chance-at-requires c κs =
+    let s = (c .before .before .before) in
+    let e = c .before .conditions .ensures in
+    (s .pre .0 .ready .accepted, s .pre .0 .ready .short, wants-chance (site-at (s .args .model .now)) (s .args .a) (s .pre .1 .0) (s .pre .1 .1) (s .args .k) (s .pre .2) (omega (arith, c .if1 .left)))
+
+returns-2 : tie.Need-returns-2
+returns-2 c =
+    let s = (c .before .before .before .before) in
+    chance-found (s .args .model .now) (s .args .a) (s .args .k) (s .args .x) (s .pre .0) (s .pre .1) (s .pre .2) _ (c .before .before .conditions .ensures) (c .before .if1 .left) _ (c .chance-at .ensures)
+
+pub chance-spec : {M : Type 1} → statement M
+chance-spec = tie.close (tie.spec conditions-requires returns chance-at-requires returns-2)

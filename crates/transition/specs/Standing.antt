@@ -1,0 +1,104 @@
+-- A point stands for a state of an accepted model; the chances, weights and next states there.
+use mathlib.Core.Path.{_≡_}
+use mathlib.Core.Bool.{Bool, true, false}
+use mathlib.Core.List.{List, [], _∷_, map}
+use Prim.Native.Nat.{ℕ, _≤_, _<_}
+use lib.Dec.{leb}
+use lib.IntN.{pos}
+use lib.ListN.{length, take}
+use Rattle.whole.specs.Cases.{if}
+use Rattle.whole.specs.Within.{limit}
+use Rattle.theory.specs.Meaning.{Action, State, env, worth-at, chance-at, weight, moved}
+use Rattle.theory.specs.Valid.{all}
+use Rattle.theory.specs.Verdict.{Site, verdict, chance-slot, level-slot}
+use Rattle.theory.specs.Load.{find-slot, action-of, site-at}
+use Rattle.theory.specs.Value.{bits}
+use Rattle.theory.specs.Plain.{in-32-bits}
+use Rattle.theory.specs.laws.Loading.{loaded-entries}
+use Rattle.evaluate.specs.declared.Point.{Point}
+use Rattle.evaluate.specs.Pass.{nums-of, Stands}
+use Rattle.judging.specs.declared.Level.{Level}
+use Rattle.judging.specs.declared.Level.the-variants as level
+use Rattle.transition.specs.declared.Next.{Next}
+use Rattle.transition.specs.declared.Next.the-variants as next
+use Rattle.transition.specs.declared.Chances.{Chances}
+use Rattle.judging.specs.Totals.{judged-32}
+
+-- ---- points and states
+
+-- an accepted model, of a length that its offsets can have
+pub record Ready (B : List ℕ) : Type 0 where
+  pub accepted : verdict B .number ≡ 0
+  pub short : length B < 4294967296
+
+-- a state of a site's levels and conditions, as a point has it
+pub record Spells (S : Site) (x : Point) (s : State) : Type 0 where
+  pub conditions-are : s .conditions ≡ bits (S .conditions) (x .mask)
+  pub nums-are : s .nums ≡ take (S .levels) (nums-of x)
+  pub den-is : pos (s .den) ≡ x .d
+
+-- a point with no setting that spells some state
+pub record Standing (B : List ℕ) (x : Point) : Type 0 where
+  pub ready : Ready B
+  pub alone : x .setting ≡ 0
+  pub state : State
+  pub spells : Spells (site-at B) x state
+
+-- a is an action of the site
+abbrev pub Acts : List ℕ → ℕ → Type 0
+Acts B a = (1 ≤ a) × (a ≤ site-at B .actions)
+
+-- the action that the model's bytes give
+abbrev pub act : List ℕ → ℕ → Action
+act B a = action-of (site-at B) (loaded-entries B) a
+
+abbrev pub under : Point → ℕ → Point
+under x r = record { mask = x .mask; setting = r; n1 = x .n1; n2 = x .n2; n3 = x .n3; n4 = x .n4; d = x .d }
+
+-- ---- chances and weights
+
+abbrev pub chances-list : Chances → List ℕ
+chances-list c = c .c1 ∷ c .c2 ∷ c .c3 ∷ c .c4 ∷ []
+
+-- the chance of condition k, 0 beyond condition n
+pub record Chance (B : List ℕ) (a k : ℕ) (x : Point) (w : ℕ) : Type 0 where
+  pub bounded : w ≤ site-at B .weights
+  pub is : (s : State) → Spells (site-at B) x s → w ≡ if (leb k (site-at B .conditions)) (chance-at (env s []) (find-slot (chance-slot a k) (loaded-entries B))) 0
+
+pub record Out-of (W : ℕ) (c : Chances) : Type 0 where
+  pub b1 : c .c1 ≤ W
+  pub b2 : c .c2 ≤ W
+  pub b3 : c .c3 ≤ W
+  pub b4 : c .c4 ≤ W
+
+pub record Chances-are (B : List ℕ) (a : ℕ) (x : Point) (c : Chances) : Type 0 where
+  pub bounded : Out-of (site-at B .weights) c
+  pub are : (s : State) → Spells (site-at B) x s → map (chance-at (env s [])) (act B a .chances) ≡ take (site-at B .conditions) (chances-list c)
+
+pub record Weighs (S : Site) (c : Chances) (r w : ℕ) : Type 0 where
+  pub is : w ≡ weight (S .weights) (take (S .conditions) (chances-list c)) (bits (S .conditions) r)
+  pub bounded : w ≤ limit
+
+-- ---- next states
+
+-- next level i, 0 beyond level m
+pub record Level-is (B : List ℕ) (a i : ℕ) (x : Point) (z : Level) : Type 0 where
+  pub is : (s : State) (r : List Bool) → Stands (site-at B .levels) (site-at B .conditions) x s r
+      → z ≡ if (leb i (site-at B .levels)) (judged-32 (worth-at (env s r) (find-slot (level-slot a i) (loaded-entries B)))) (level.Is (pos 0))
+
+-- the state after action a, with the setting that a mask spells
+abbrev pub after : List ℕ → ℕ → State → ℕ → State
+after B a s r = moved s (act B a .levels) (bits (site-at B .conditions) r)
+
+pub record Reaches (S : Site) (t : State) (y : Point) : Type 0 where
+  pub fits : all in-32-bits (t .nums) ≡ true
+  pub alone : y .setting ≡ 0
+  pub spells : Spells S y t
+
+-- the next state, or some numerator of it leaves 32 bits
+unfoldable pub Led : Site → State → Next → Type 0
+Led S t (next.At y) = Reaches S t y
+Led S t next.Over = all in-32-bits (t .nums) ≡ false
+
+pub record Leads (B : List ℕ) (a : ℕ) (x : Point) (r : ℕ) (y : Next) : Type 0 where
+  pub leads : (s : State) → Spells (site-at B) x s → Led (site-at B) (after B a s r) y

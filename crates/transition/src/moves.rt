@@ -1,0 +1,62 @@
+// The state after an action and a setting of the next conditions.
+ghost use mathlib.Core.Path.{_≡_};
+ghost use Prim.Native.Nat.{_≤_};
+ghost use Rattle.transition.specs.Standing.{Ready, Standing, Acts, under, Level-is, Leads};
+use super::Next;
+use super::sites;
+use evaluate::Point;
+use evaluate::Slot;
+use judging::Level;
+
+fn with_setting(mut x: Point, r: u32) -> Point
+    ensures { λ y. ⌜ y ≡ under x r ⌝ }
+{
+    x.setting = r;
+    x
+}
+
+// The numerator of next level i at a point and its setting; 0 beyond level m.
+fn next_level(model: &[u8], a: u8, i: u8, x: Point) -> Level
+    requires { ⌜ Ready (now model) × Acts (now model) a × (1 ≤ i) ⌝ }
+    ensures { λ z. ⌜ Level-is (now (model .entry)) a i x z ⌝ }
+{
+    if sites::levels(model) < i {
+        return Level::Is(0);
+    }
+    let g = Slot {
+        command: 0x22,
+        action: a,
+        index: i,
+    };
+    judging::in_32_bits(judging::narrow(evaluate::worth_at(model, g, x)))
+}
+
+// The next state has the setting as its mask, and the same denominator.
+pub fn next_state(model: &[u8], a: u8, x: Point, r: u32) -> Next
+    requires { ⌜ Ready (now model) × Acts (now model) a ⌝ }
+    ensures { λ y. ⌜ Leads (now (model .entry)) a x r y ⌝ }
+{
+    let y = with_setting(x, r);
+    let Level::Is(n1) = next_level(model, a, 1, y) else {
+        return Next::Over;
+    };
+    let Level::Is(n2) = next_level(model, a, 2, y) else {
+        return Next::Over;
+    };
+    let Level::Is(n3) = next_level(model, a, 3, y) else {
+        return Next::Over;
+    };
+    let Level::Is(n4) = next_level(model, a, 4, y) else {
+        return Next::Over;
+    };
+    let d = x.d;
+    Next::At(Point {
+        mask: r,
+        setting: 0,
+        n1,
+        n2,
+        n3,
+        n4,
+        d,
+    })
+}

@@ -1,0 +1,63 @@
+// What a rule makes of a leaf.
+ghost use mathlib.Core.Path.{_≡_};
+ghost use Rattle.diagrams.specs.Nodes.{treeAt, Nums};
+ghost use Rattle.diagrams.specs.Table.{Bare, Grew};
+ghost use Rattle.leaves.specs.Leaves.{AtLeaf};
+ghost use Rattle.unary_node.specs.Acts.{actedNode, actOf, Acts};
+use super::halves::number_of;
+use diagrams::making::intern;
+use diagrams::making::make_leaf;
+use leaves::changes::complemented;
+use leaves::changes::numbered;
+use leaves::changes::shifted;
+use leaves::numbers::product;
+use table::Made;
+use table::Node;
+
+// The leaf that the rule op makes of a leaf.
+fn acted(x: Node, op: usize, p: usize, q: usize) -> Node
+    requires { ⌜ Nums x × Acts op p q ⌝ }
+    ensures { λ r. ⌜ r ≡ actedNode op p q x ⌝ }
+{
+    if op == 3 {
+        return product(number_of(p, q), x);
+    }
+    if op == 4 {
+        return shifted(x, number_of(p, q));
+    }
+    if op == 5 {
+        return complemented(x, p);
+    }
+    if op == 6 {
+        return numbered(x, p);
+    }
+    x
+}
+
+// What the rule op comes to at the leaf f. A number that acts is judged; an action is none.
+pub fn at_leaf(
+    nodes: &mut [i64],
+    work: &mut [u32],
+    cap: usize,
+    count: usize,
+    op: usize,
+    f: usize,
+    p: usize,
+    q: usize,
+) -> Made
+    requires { ⌜ Bare cap (now nodes) (now work) count × Acts op p q × AtLeaf (now nodes) count f ⌝ }
+    ensures { λ r. ⌜ Grew cap (now (nodes .entry)) (now (work .entry)) count (actOf op p q (treeAt (now (nodes .entry)) count f)) (now (nodes .exit)) (now (work .exit)) r ⌝ }
+{
+    if op > 6 {
+        return Made {
+            stop: 0,
+            at: f,
+            count,
+        };
+    }
+    let y = acted(table::get(nodes, f), op, p, q);
+    if op > 5 {
+        return intern(nodes, work, cap, count, y);
+    }
+    make_leaf(nodes, work, cap, count, y)
+}

@@ -1,0 +1,2 @@
+-- What value iteration leaves.
+pub mod Iteration

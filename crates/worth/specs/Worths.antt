@@ -1,0 +1,29 @@
+-- What an action earns, and the worths of states and actions, at a point that stands for a state.
+use mathlib.Core.Path.{_≡_}
+use mathlib.Core.List.{List, []}
+use Prim.Native.Nat.{ℕ, _-_, _*_, _^_}
+use lib.IntN.{pos}
+use Rattle.whole.specs.Within.{limited}
+use Rattle.whole.specs.declared.Within.{Within}
+use Rattle.theory.specs.Meaning.{State, env, worth-at, action-at}
+use Rattle.theory.specs.Verdict.{reward-slot}
+use Rattle.theory.specs.Load.{find-slot, site-at, model}
+use Rattle.theory.specs.Plain.{state-worth, action-worth}
+use Rattle.theory.specs.laws.Loading.{loaded-entries}
+use Rattle.evaluate.specs.declared.Point.{Point}
+use Rattle.judging.specs.declared.Total.{Total}
+use Rattle.judging.specs.Totals.{total-of, times-of}
+use Rattle.transition.specs.Standing.{Spells}
+
+-- W^(n×h) × reward, each judged
+pub record Earned (B : List ℕ) (h a : ℕ) (x : Point) (r : Within) : Type 0 where
+  pub is : (s : State) → Spells (site-at B) x s
+      → r ≡ times-of (limited (pos ((site-at B .weights) ^ ((site-at B .conditions) * h)))) (limited (worth-at (env s []) (find-slot (reward-slot a) (loaded-entries B))))
+
+-- the worth of the state with h steps left
+pub record State-worth (B : List ℕ) (h : ℕ) (x : Point) (r : Total) : Type 0 where
+  pub is : (s : State) → Spells (site-at B) x s → total-of r ≡ state-worth (model B) h s
+
+-- the worth of action a there
+pub record Action-worth (B : List ℕ) (h a : ℕ) (x : Point) (r : Total) : Type 0 where
+  pub is : (s : State) → Spells (site-at B) x s → total-of r ≡ action-worth (model B) h (state-worth (model B) (h - 1)) (action-at (model B) a) s
