@@ -1,5 +1,5 @@
-// Solving and reading: the pond and the rain at all horizons, tables exactly large enough and one node short, every
-// refusal, and the same tables lent again and again.
+// Solving and reading: the pond and the rain at all horizons, tables exactly large enough and one node short, the
+// refusals of both calls, and the same tables lent again and again.
 ghost use Prim.Native.Nat.{_≤_};
 ghost use lib.ListN.{length};
 use libc::STDOUT_FILENO;

@@ -107,6 +107,13 @@ first-found p (suc n) i q e h = ⊎-elim (λ r. below (first-found p n i r e h) 
 
 -- the three outcomes of a look-up or append, r being the index that the scan found
 module _ (cap : ℕ) (l : List ℤ) (n : ℕ) (x : Node) (r : ℕ) (e : r ≡ firstNode l x n) where
+  -- by what the two tests say: the node is there, and there is room for it
+  abbrev answer : Bool → Bool → Made
+  answer a b = cond a (record { stop = 0; at = firstNode l x n; count = n }) (cond b (record { stop = 0; at = n; count = n + 1 }) (record { stop = 12; at = 0; count = n }))
+
+  abbrev written : Bool → Bool → List ℤ
+  written a b = cond a l (cond b (putAt l n x) l)
+
   pub intern-old : r < n → (_≡_ {A = Made} (record { stop = 0; at = r; count = n }) (internR cap l n x)) × (l ≡ internW cap l n x)
   unfolding internR internW
   intern-old h =
@@ -118,14 +125,14 @@ module _ (cap : ℕ) (l : List ℤ) (n : ℕ) (x : Node) (r : ℕ) (e : r ≡ fi
   intern-new h k =
       let t : ltb (firstNode l x n) n ≡ false = le-ltb (firstNode l x n) n (omega arith) in
       let u : ltb n cap ≡ true = lt-ltb n cap k in
-      (rw (t, u), rw (t, u))
+      (sym (λ i. answer (t i) (u i)), sym (λ i. written (t i) (u i)))
 
   pub intern-full : n ≤ r → cap ≤ n → (_≡_ {A = Made} (record { stop = 12; at = 0; count = n }) (internR cap l n x)) × (l ≡ internW cap l n x)
   unfolding internR internW
   intern-full h k =
       let t : ltb (firstNode l x n) n ≡ false = le-ltb (firstNode l x n) n (omega arith) in
       let u : ltb n cap ≡ false = le-ltb n cap k in
-      (rw (t, u), rw (t, u))
+      (sym (λ i. answer (t i) (u i)), sym (λ i. written (t i) (u i)))
 
 -- the index found is one at which the test holds
 pub first-hit : (p : ℕ → Bool) (n : ℕ) → firstAt p n < n → p (firstAt p n) ≡ true
