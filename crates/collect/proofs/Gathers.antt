@@ -1,4 +1,4 @@
--- What a collection leaves, from its four parts.
+-- What a collection leaves, from its three parts.
 use mathlib.Core.Path.{_≡_, refl, sym, ap, ap₂, _∙_, subst}
 use mathlib.Core.Bool.{Bool, true, false, cond, not}
 use mathlib.Core.List.{List, [], _∷_, _++_}
@@ -9,16 +9,13 @@ use lib.IntN.{ℤ, pos, natAbs}
 use lib.ListN.{length, getD, set, take}
 use lib.Seq.{take-suc, take-length}
 use Rattle.table.specs.Table.{nodeAt, eqZ}
-use Rattle.table.specs.declared.Node.{Node}
-use Rattle.unique.specs.Unique.{Chained}
 use Rattle.theory.specs.Diagram.{Tree}
-use Rattle.diagrams.specs.Nodes.{testOf, treeOf, none, trees, Good}
+use Rattle.diagrams.specs.Nodes.{testOf, none, trees, Good}
 use Rattle.mark.specs.Mark.{needed, rootsOf, flag, markOf, Below, Space, Marked}
-use Rattle.diagrams.proofs.Trees.{trees-length, at-branch, tree-at}
+use Rattle.diagrams.proofs.Trees.{trees-length, at-branch}
 use Rattle.mark.proofs.Reach.{needed-branch, needed-root}
 use Rattle.slide.specs.Slide.{rank, keepOf, Closed, Slid}
 use Rattle.slide.proofs.Ranks.{keep-at}
-use Rattle.rehash.specs.Rehash.{Rehashed}
 use Rattle.collect.specs.Collect.{keepIf, forwarded, Collected}
 
 -- ---- forwarding the roots
@@ -112,11 +109,8 @@ unfolding flag
 flag-mark true = refl
 flag-mark false = refl
 
-pub space : {cap : ℕ} {l : List ℤ} {w : List ℕ} {n : ℕ} → Chained cap l w n → Space cap l w n
-space C = record { some = C .some; few = C .few; room = C .room; words = C .words; works = C .works }
-
 -- after the marks w′
-module _ {cap : ℕ} {l : List ℤ} {w w′ R : List ℕ} {n : ℕ} (C : Chained cap l w n) (G : Good l n) (B : Below R n) (M : Marked cap l w w′ R n) where
+module _ {cap : ℕ} {l : List ℤ} {w w′ R : List ℕ} {n : ℕ} (C : Space cap l w n) (G : Good l n) (B : Below R n) (M : Marked cap l w w′ R n) where
   abbrev X : List Tree
   X = trees l n
 
@@ -148,15 +142,6 @@ module _ {cap : ℕ} {l : List ℤ} {w w′ R : List ℕ} {n : ℕ} (C : Chained
         let f = L .work-length in
         ((omega arith), C .few, record { at = λ j h. let q = B .at j h in let r = C .room in omega arith })
 
-    pub space₂ : Space cap l′ w″ r
-    space₂ = record {
-      some = C .some;
-      few = C .few;
-      room = omega (arith, L .fewer, C .room);
-      words = omega (arith, C .words, L .nodes-length);
-      works = omega (arith, C .works, M .len, L .work-length);
-    }
-
     kept : trees l′ r ≡ keepIf (needed S) X
     kept = L .kept ∙ (keep-take (markOf w′) (needed S) X n (let e = trees-length l n in omega arith) (λ i h. mark-is i h) ∙ ap (keepIf (needed S)) (ap (λ (k : ℕ). take k X) (sym (trees-length l n)) ∙ take-length X))
 
@@ -177,36 +162,22 @@ module _ {cap : ℕ} {l : List ℤ} {w w′ R : List ℕ} {n : ℕ} (C : Chained
       under : getD w″ (cap + k) 0 < r
       under = let e = new in let q = keep-at (markOf w′) X n k (B .at j h) marked .0 in let d = L .count in omega arith
 
-    -- after the roots R′ and the chains w‴
-    module _ {R′ : List ℕ} {w‴ : List ℕ} (e : R′ ≡ forwarded w″ cap (length R) R) (H : Rehashed cap l′ w″ w‴ r) where
+    -- after the roots R′
+    module _ {R′ : List ℕ} (e : R′ ≡ forwarded w″ cap (length R) R) where
       roots : rootsOf (trees l′ r) R′ ≡ rootsOf X R
       roots = ap (rootsOf (trees l′ r)) e ∙ forward-roots w″ cap X (trees l′ r) R same
 
       below : Below R′ r
       below = subst (λ (t : List ℕ). Below t r) (sym e) (record { at = λ j h. let q : j < length R = let z = forward-length w″ cap (length R) R in omega arith in let a = forward-is w″ cap R j q in let b = under j q in omega arith })
 
-      chained : Chained cap l′ w‴ r
-      chained = record {
-        some = C .some;
-        few = C .few;
-        room = space₂ .room;
-        words = space₂ .words;
-        works = omega (arith, space₂ .works, H .len);
-        hashed = H .hashed;
-        apart = λ i j p q e. L .good .distinct i j p q (tree-at (L .good) i p ∙ (ap (λ (x : Node). treeOf x (trees l′ r)) e ∙ sym (tree-at (L .good) j q)));
-      }
-
-      pub collected : Collected cap l l′ w w‴ R R′ n r
+      pub collected : Collected l l′ w w″ R R′ n r
       collected = record {
         kept = kept;
         roots = roots;
         below = below;
         good = L .good;
-        chained = chained;
-        cache = H .cache;
-        beyond = λ j p. H .beyond j p ∙ (L .beyond j (omega arith) ∙ M .rest j (omega arith));
         fewer = L .fewer;
         nodes-length = L .nodes-length;
-        work-length = H .len ∙ (L .work-length ∙ M .len);
+        work-length = L .work-length ∙ M .len;
         roots-length = ap length e ∙ forward-length w″ cap (length R) R;
       }

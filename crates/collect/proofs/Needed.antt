@@ -142,7 +142,7 @@ module _ {l : List ℤ} {n : ℕ} {R : List ℕ} (G : Good l n) (B : Below R n) 
       (λ m. from-true (needed-in S (enter-all S []) u (roots-inside S) (keep-only (needed S) u X (is-true _ m))))
       (λ m. roots-sub S K (roots-kept R (λ j h. kept-inside (suc (getD R j 0)) (getD R j 0) (omega arith) (B .at j h) (needed-root X R j h))) .take u m)
 
-  module _ {cap : ℕ} {l′ : List ℤ} {w w′ R′ : List ℕ} {r : ℕ} (C : Collected cap l l′ w w′ R R′ n r) where
+  module _ {l′ : List ℤ} {w w′ R′ : List ℕ} {r : ℕ} (C : Collected l l′ w w′ R R′ n r) where
     -- the kept nodes are the needed ones, each once
     pub kept-nodes : SameNodes (trees l′ r) (enter-all (rootsOf (trees l n) R) [])
     kept-nodes = same-nodes (trees l′ r) (enter-all S []) (trees-distinct (C .good)) (distinct-roots S) (λ u. ap (member u) (C .kept) ∙ kept-member u)

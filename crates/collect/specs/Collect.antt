@@ -2,10 +2,9 @@
 use mathlib.Core.Path.{_≡_}
 use mathlib.Core.Bool.{Bool, cond}
 use mathlib.Core.List.{List, [], _∷_}
-use Prim.Native.Nat.{ℕ, zero, suc, _+_, _*_, _≤_, _<_}
+use Prim.Native.Nat.{ℕ, zero, suc, _+_, _≤_}
 use lib.IntN.{ℤ}
 use lib.ListN.{length, getD}
-use Rattle.unique.specs.Unique.{Chained}
 use Rattle.theory.specs.Diagram.{Tree}
 use Rattle.diagrams.specs.Nodes.{trees, Good}
 use Rattle.mark.specs.Mark.{needed, rootsOf, Below}
@@ -20,15 +19,12 @@ forwarded w cap zero R = R
 forwarded w cap (suc j) [] = []
 forwarded w cap (suc j) (r ∷ R) = getD w (cap + r) 0 ∷ forwarded w cap j R
 
--- from the nodes l, work words w and roots R of a table of n nodes to those of one of r nodes
-pub record Collected (cap : ℕ) (l l′ : List ℤ) (w w′ : List ℕ) (R R′ : List ℕ) (n r : ℕ) : Type 0 where
+-- from the nodes l, work words w and roots R of a table of n nodes to those of one of r nodes; whatever its work words then hold
+pub record Collected (l l′ : List ℤ) (w w′ : List ℕ) (R R′ : List ℕ) (n r : ℕ) : Type 0 where
   pub kept : trees l′ r ≡ keepIf (needed (rootsOf (trees l n) R)) (trees l n)
   pub roots : rootsOf (trees l′ r) R′ ≡ rootsOf (trees l n) R
   pub below : Below R′ r
   pub good : Good l′ r
-  pub chained : Chained cap l′ w′ r
-  pub cache : (j : ℕ) → cap * 2 ≤ j → j < cap * 8 → getD w′ j 0 ≡ 0
-  pub beyond : (j : ℕ) → cap * 8 ≤ j → getD w′ j 0 ≡ getD w j 0
   pub fewer : r ≤ n
   pub nodes-length : length l′ ≡ length l
   pub work-length : length w′ ≡ length w

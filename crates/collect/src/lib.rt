@@ -2,9 +2,8 @@
 ghost use mathlib.Core.Path.{_≡_};
 ghost use Prim.Native.Nat.{_*_, _≤_};
 ghost use lib.ListN.{length};
-ghost use Rattle.unique.specs.Unique.{Chained};
 ghost use Rattle.diagrams.specs.Nodes.{Good};
-ghost use Rattle.mark.specs.Mark.{Below};
+ghost use Rattle.mark.specs.Mark.{Below, Space};
 ghost use Rattle.collect.specs.Collect.{forwarded, Collected};
 
 // Each root's new index.
@@ -20,7 +19,7 @@ pub fn forward(work: &[u32], cap: usize, roots: &mut [u32])
     }
 }
 
-// Answers how many nodes are left. Indexes move, so the chains are made anew and the cache is emptied.
+// Answers how many nodes are left. Indexes move: chains and cache are to be made anew.
 pub fn collect(
     nodes: &mut [i64],
     work: &mut [u32],
@@ -28,12 +27,11 @@ pub fn collect(
     count: usize,
     roots: &mut [u32],
 ) -> usize
-    requires { ⌜ Chained cap (now nodes) (now work) count × Good (now nodes) count × Below (now roots) count ⌝ }
-    ensures { λ r. ⌜ Collected cap (now (nodes .entry)) (now (nodes .exit)) (now (work .entry)) (now (work .exit)) (now (roots .entry)) (now (roots .exit)) count r ⌝ }
+    requires { ⌜ Space cap (now nodes) (now work) count × Good (now nodes) count × Below (now roots) count ⌝ }
+    ensures { λ r. ⌜ Collected (now (nodes .entry)) (now (nodes .exit)) (now (work .entry)) (now (work .exit)) (now (roots .entry)) (now (roots .exit)) count r ⌝ }
 {
     mark::mark(nodes, work, cap, count, roots);
     let left = slide::slide(nodes, work, cap, count);
     forward(work, cap, roots);
-    rehash::rehash(nodes, work, cap, left);
     left
 }

@@ -2,20 +2,17 @@
 use mathlib.Core.Path.{_≡_, refl, sym, ap, _∙_, subst}
 use mathlib.Core.List.{List, [], _∷_, _++_}
 use Prim.Native.Nat.{ℕ, suc, max, _≤_, _<_}
+use native.Mathlib.Nat.{max-le, le-max-left, le-max-right}
 use native.Mathlib.Omega.{arith}
 use lib.IntN.{ℤ}
 use lib.ListN.{length, getD, set, take, drop, length-set, take-append-drop}
 use lib.Seq.{length-take-le, take-take, take-suc-set, getD-set-same}
 use Rattle.table.specs.declared.Made.{Made}
 use Rattle.theory.specs.Diagram.{Tree}
-use Rattle.diagrams.specs.Nodes.{trees, treeAt}
-use Rattle.diagrams.specs.Table.{Table, Ran}
-use Rattle.diagrams.specs.Meaning.{ruleOf}
-use Rattle.diagrams.proofs.Outcomes.{ran-as}
-use Rattle.mark.specs.Mark.{rootsOf, Below}
-use Rattle.solving.specs.Alike.{alike-refl}
+use Rattle.diagrams.specs.Nodes.{trees, treeAt, Good}
+use Rattle.mark.specs.Mark.{rootsOf, Below, Space}
 use Rattle.solving.specs.Onward.{Works}
-use Rattle.solving.specs.Operated.{collected-table, worked, stops}
+use Rattle.solving.specs.Operated.{Came, came-as, collected-space, worked, stops}
 use Rattle.solving.specs.Roots.{Rooted, rooted-held, rooted-collected, rooted-ran, rooted-push, rooted-front, rooted-length}
 use Rattle.operate.specs.Operation.{compOf, heldTrees, Fits, Standing, Kept, Operated}
 use Rattle.operate.specs.declared.Rule.{Rule}
@@ -31,9 +28,16 @@ front {cap} {n} {to} {l} {w} {ρ} {Q} h H =
 
 module _ {cap n held : ℕ} {l : List ℤ} {w R : List ℕ} (S : Standing cap l w n R held) where
   rooted : Rooted cap l w n (take held R) (heldTrees l n R held)
-  rooted = record { good = S .good; chained = S .chained; below = S .below; roots = refl }
+  rooted = record { good = S .good; space = S .space; below = S .below; roots = refl }
 
-  module _ {n₁ : ℕ} {l₁ : List ℤ} {w₁ R₁ : List ℕ} (K : Kept cap l l₁ w w₁ R R₁ held n n₁) where
+  -- what a collection asks: as much room as there are nodes
+  pub keep-asks : Space (max 1 n) l w n × Good l n × Below (take held R) n × (held ≤ length R)
+  keep-asks =
+      let z = S .space in
+      let m : max 1 n ≤ cap = max-le (z .some) (z .room) in
+      (record { some = le-max-left 1 n; few = omega (arith, z .few); room = le-max-right 1 n; words = omega (arith, z .words); works = omega (arith, z .works) }, S .good, S .below, S .few)
+
+  module _ {n₁ : ℕ} {l₁ : List ℤ} {w₁ R₁ : List ℕ} (K : Kept l l₁ w w₁ R R₁ held n n₁) where
     pub held-within : held ≤ length R₁
     held-within = let e = kept-length K in let h = S .few in omega arith
 
@@ -45,17 +49,17 @@ module _ {cap n held : ℕ} {l : List ℤ} {w R : List ℕ} (S : Standing cap l 
     put-length to x e = ap length e ∙ (length-set R₁ to x ∙ kept-length K)
 
     -- the rule can run on what is left
-    pub rule-asks : (rule : Rule) → Fits held rule → Table ruleOf cap l₁ w₁ n₁ × Below (take held R₁) n₁ × Fits (length (take held R₁)) rule
-    rule-asks rule F = (collected-table (rooted-held rooted (alike-refl _)) (K .collected) ruleOf, K .collected .below, subst (λ (k : ℕ). Fits k rule) (sym held-length) F)
+    pub rule-asks : (rule : Rule) → Fits held rule → Space cap l₁ w₁ n₁ × Good l₁ n₁ × Below (take held R₁) n₁ × Fits (length (take held R₁)) rule
+    rule-asks rule F = (collected-space (S .space) (K .collected), K .collected .good, K .collected .below, subst (λ (k : ℕ). Fits k rule) (sym held-length) F)
 
-    module _ (rule : Rule) {l₂ : List ℤ} {w₂ : List ℕ} {r : Made} (Q : Ran ruleOf cap l₁ w₁ n₁ (compOf (rootsOf (trees l₁ n₁) (take held R₁)) rule) l₂ w₂ r) where
+    module _ (rule : Rule) {l₂ : List ℤ} {w₂ : List ℕ} {r : Made} (Q : Came cap l₁ n₁ (compOf (rootsOf (trees l₁ n₁) (take held R₁)) rule) l₂ w₂ r) where
       -- of the diagrams as they were
-      ran : Ran ruleOf cap l₁ w₁ n₁ (compOf (heldTrees l n R held) rule) l₂ w₂ r
-      ran = ran-as (ap (λ (Z : List Tree). compOf Z rule) (K .collected .roots)) Q
+      ran : Came cap l₁ n₁ (compOf (heldTrees l n R held) rule) l₂ w₂ r
+      ran = came-as (ap (λ (Z : List Tree). compOf Z rule) (K .collected .roots)) Q
 
       -- an index fits a root
       pub answer-fits : r .stop ≡ 0 → r .at < 65536
-      answer-fits ok = let a = Q .within ok in let C = Q .table .bare .chained in let b = C .few in let d = C .room in omega arith
+      answer-fits ok = let a = Q .within ok in let C = Q .space in let b = C .few in let d = C .room in omega arith
 
       pub operation-done : {to p q : ℕ} {R₂ : List ℕ} → to ≤ held → to < length R → q ≡ max p (r .count) → (r .stop ≡ 0 → R₂ ≡ set R₁ to (r .at)) → Operated cap p l n R held to rule l₂ w₂ R₂ (record { stop = r .stop; count = r .count; peak = q })
       operation-done {to} {p} {q} {R₂} h k m put =

@@ -2,3 +2,4 @@
 pub mod Roots
 pub mod Rules
 pub mod Done
+pub mod Parts

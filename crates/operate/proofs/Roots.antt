@@ -27,16 +27,16 @@ use Rattle.operate.specs.Operation.{levelAt, substitutes, FitsLevels, Ke
 -- ---- the first roots moved
 
 -- P of their indexes in their place
-pub prefix-kept : {cap n r held : ℕ} {l l′ : List ℤ} {w w′ R P : List ℕ} → held ≤ length R → Collected cap l l′ w w′ (take held R) P n r → Kept cap l l′ w w′ R (P ++ drop held R) held n r
-prefix-kept {cap} {n} {r} {held} {l} {l′} {w} {w′} {R} {P} h C =
+pub prefix-kept : {n r held : ℕ} {l l′ : List ℤ} {w w′ R P : List ℕ} → held ≤ length R → Collected l l′ w w′ (take held R) P n r → Kept l l′ w w′ R (P ++ drop held R) held n r
+prefix-kept {n} {r} {held} {l} {l′} {w} {w′} {R} {P} h C =
     let e : length P ≡ held = C .roots-length ∙ length-take-le held R h in
     record {
-      collected = subst (λ (Q : List ℕ). Collected cap l l′ w w′ (take held R) Q n r) (sym (take-at P (drop held R) held e)) C;
+      collected = subst (λ (Q : List ℕ). Collected l l′ w w′ (take held R) Q n r) (sym (take-at P (drop held R) held e)) C;
       others = drop-at P (drop held R) held e;
     }
 
 -- as many roots as before
-pub kept-length : {cap n r held : ℕ} {l l′ : List ℤ} {w w′ R R′ : List ℕ} → Kept cap l l′ w w′ R R′ held n r → length R′ ≡ length R
+pub kept-length : {n r held : ℕ} {l l′ : List ℤ} {w w′ R R′ : List ℕ} → Kept l l′ w w′ R R′ held n r → length R′ ≡ length R
 kept-length {held = held} {R = R} {R′ = R′} K =
     let a = ap length (take-append-drop held R′) in
     let b = ap length (take-append-drop held R) in

@@ -12,8 +12,7 @@ use Rattle.theory.specs.Diagram.{Tree}
 use Rattle.theory.specs.Computation.{Comp, make}
 use Rattle.theory.specs.Rules.{best, zero-leaf, substitute, expectation, add-reward}
 use Rattle.diagrams.specs.Nodes.{none, trees, treeAt, Good}
-use Rattle.unique.specs.Unique.{Chained}
-use Rattle.mark.specs.Mark.{rootsOf, Below}
+use Rattle.mark.specs.Mark.{rootsOf, Below, Space}
 use Rattle.collect.specs.Collect.{Collected}
 use Rattle.solving.specs.Alike.{Alike}
 use Rattle.solving.specs.Onward.{Works, Stops}
@@ -59,16 +58,16 @@ Fits n (Best f g) = (f < n) × (g < n)
 abbrev pub heldTrees : List ℤ → ℕ → List ℕ → ℕ → List Tree
 heldTrees l n R held = rootsOf (trees l n) (take held R)
 
--- a table of n nodes, the first roots in it; whatever the cache holds
+-- a table of n nodes, the first roots in it; whatever the work words hold
 pub record Standing (cap : ℕ) (l : List ℤ) (w : List ℕ) (n : ℕ) (R : List ℕ) (held : ℕ) : Type 0 where
   pub good : Good l n
-  pub chained : Chained cap l w n
+  pub space : Space cap l w n
   pub below : Below (take held R) n
   pub few : held ≤ length R
 
 -- collected: the first roots moved, the others left alone
-pub record Kept (cap : ℕ) (l l′ : List ℤ) (w w′ R R′ : List ℕ) (held n r : ℕ) : Type 0 where
-  pub collected : Collected cap l l′ w w′ (take held R) (take held R′) n r
+pub record Kept (l l′ : List ℤ) (w w′ R R′ : List ℕ) (held n r : ℕ) : Type 0 where
+  pub collected : Collected l l′ w w′ (take held R) (take held R′) n r
   pub others : drop held R′ ≡ drop held R
 
 -- the operation on the diagrams of the first roots, in whatever order they are named: it works, and its result stands as the last root, or it stops

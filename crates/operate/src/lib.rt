@@ -1,11 +1,13 @@
-// One operation on a table with its roots: the table is made to hold exactly the nodes that the first roots need, then a rule runs.
+// One operation on a table with its roots: the table is made to hold exactly the nodes that the first roots need, then a rule runs,
+// in a part of the room that follows what is held.
 ghost use mathlib.Core.Path.{_≡_};
-ghost use Prim.Native.Nat.{_+_, _≤_, _<_, max};
-ghost use lib.ListN.{length};
-ghost use Rattle.diagrams.specs.Nodes.{trees};
+ghost use Prim.Native.Nat.{_+_, _≤_, _<_, min, max};
+ghost use lib.ListN.{length, take};
+ghost use Rattle.diagrams.specs.Nodes.{trees, Good};
 ghost use Rattle.diagrams.specs.Table.{Table, Ran};
 ghost use Rattle.diagrams.specs.Meaning.{ruleOf};
-ghost use Rattle.mark.specs.Mark.{rootsOf, Below};
+ghost use Rattle.mark.specs.Mark.{rootsOf, Below, Space};
+ghost use Rattle.solving.specs.Operated.{Came};
 ghost use Rattle.operate.specs.Operation.{levelAt, substitutes, compOf, zeroNode, FitsLevels, Fits, Standing, Kept, Operated};
 use table::Made;
 use table::Node;
@@ -32,19 +34,24 @@ fn larger(a: usize, b: usize) -> usize
     if a < b { b } else { a }
 }
 
-// The table left with the nodes that the first roots need; they move with it.
+fn least(a: usize, b: usize) -> usize
+    ensures { λ r. ⌜ r ≡ min a b ⌝ }
+{
+    if a < b { a } else { b }
+}
+
+// The table left with the nodes that the first roots need; they move with it. As many work words serve as there are nodes.
 fn keep_roots(
     nodes: &mut [i64],
     work: &mut [u32],
-    cap: usize,
     count: usize,
     roots: &mut [u32],
     held: usize,
 ) -> usize
-    requires { ⌜ Standing cap (now nodes) (now work) count (now roots) held ⌝ }
-    ensures { λ r. ⌜ Kept cap (now (nodes .entry)) (now (nodes .exit)) (now (work .entry)) (now (work .exit)) (now (roots .entry)) (now (roots .exit)) held count r ⌝ }
+    requires { ⌜ Space (max 1 count) (now nodes) (now work) count × Good (now nodes) count × Below (take held (now roots)) count × (held ≤ length (now roots)) ⌝ }
+    ensures { λ r. ⌜ Kept (now (nodes .entry)) (now (nodes .exit)) (now (work .entry)) (now (work .exit)) (now (roots .entry)) (now (roots .exit)) held count r ⌝ }
 {
-    collect::collect(nodes, work, cap, count, &mut roots[..held])
+    collect::collect(nodes, work, larger(1, count), count, &mut roots[..held])
 }
 
 // The index of one of m next levels from a place on; the first again beyond them.
@@ -150,6 +157,61 @@ fn compute(
     }
 }
 
+// With room for a part: the chains of the nodes that are there, an empty cache, and the rule.
+fn attempt(
+    nodes: &mut [i64],
+    work: &mut [u32],
+    part: usize,
+    count: usize,
+    roots: &[u32],
+    rule: Rule,
+) -> Made
+    requires { ⌜ Space part (now nodes) (now work) count × Good (now nodes) count × Below (now roots) count × Fits (length (now roots)) rule ⌝ }
+    ensures { λ r. ⌜ Came part (now (nodes .entry)) count (compOf (rootsOf (trees (now (nodes .entry)) count) (now (roots .entry))) rule) (now (nodes .exit)) (now (work .exit)) r ⌝ }
+{
+    rehash::rehash(nodes, work, part, count);
+    compute(nodes, work, part, count, roots, rule)
+}
+
+// The part of the room that a rule begins with.
+fn first_part(cap: usize, count: usize) -> usize
+    requires { ⌜ (0 < cap) × (cap ≤ 65535) × (count ≤ cap) ⌝ }
+    ensures { λ r. ⌜ (0 < r) × (count ≤ r) × (r ≤ cap) ⌝ }
+{
+    least(cap, larger(2048, count * 16))
+}
+
+fn wider_part(cap: usize, part: usize) -> usize
+    requires { ⌜ (0 < part) × (cap ≤ 65535) × (part < cap) ⌝ }
+    ensures { λ r. ⌜ (part < r) × (r ≤ cap) ⌝ }
+{
+    least(cap, part * 16)
+}
+
+// The rule in parts of the room, each wider, since a run clears as many work words as it may fill. What does not end with 12 in a part
+// ends alike with more room; else the whole room decides.
+fn run_rule(
+    nodes: &mut [i64],
+    work: &mut [u32],
+    cap: usize,
+    count: usize,
+    roots: &[u32],
+    rule: Rule,
+) -> Made
+    requires { ⌜ Space cap (now nodes) (now work) count × Good (now nodes) count × Below (now roots) count × Fits (length (now roots)) rule ⌝ }
+    ensures { λ r. ⌜ Came cap (now (nodes .entry)) count (compOf (rootsOf (trees (now (nodes .entry)) count) (now (roots .entry))) rule) (now (nodes .exit)) (now (work .exit)) r ⌝ }
+{
+    let mut part = first_part(cap, count);
+    while part < cap {
+        let made = attempt(nodes, work, part, count, roots, rule);
+        if made.stop != 12 {
+            return made;
+        }
+        part = wider_part(cap, part);
+    }
+    attempt(nodes, work, cap, count, roots, rule)
+}
+
 // One operation: its result becomes the root at `to`, the last one then.
 pub fn operate(
     nodes: &mut [i64],
@@ -164,8 +226,8 @@ pub fn operate(
     requires { ⌜ Standing cap (now nodes) (now work) (run .count) (now roots) held × (to ≤ held) × (to < length (now roots)) × Fits held rule ⌝ }
     ensures { λ r. ⌜ Operated cap (run .peak) (now (nodes .entry)) (run .count) (now (roots .entry)) held to rule (now (nodes .exit)) (now (work .exit)) (now (roots .exit)) r ⌝ }
 {
-    let left = keep_roots(nodes, work, cap, run.count, roots, held);
-    let made = compute(nodes, work, cap, left, &roots[..held], rule);
+    let left = keep_roots(nodes, work, run.count, roots, held);
+    let made = run_rule(nodes, work, cap, left, &roots[..held], rule);
     if made.stop == 0 {
         roots[to] = made.at as u32;
     }

@@ -63,7 +63,7 @@ loaded {B} {cap} {l} {w} {R} {r} v L n e ok = subst (Standing cap l w (r .count)
 pub stepped : {cap p : ℕ} {l : List ℤ} {n : ℕ} {R : List ℕ} {held to : ℕ} {rule : Rule} {l′ : List ℤ} {w′ R′ : List ℕ} {r : Run} → Operated cap p l n R held to rule l′ w′ R′ r → length R′ ≡ length R → to < length R → r .stop ≡ 0 → Standing cap l′ w′ (r .count) R′ (to + 1)
 stepped {cap} {to = to} {l′ = l′} {w′} {R′} {r} O k h ok =
     let H = O .rooted ok in
-    subst (Standing cap l′ w′ (r .count) R′) (sym (add-one to)) (record { good = H .good; chained = H .chained; below = H .below; few = omega arith })
+    subst (Standing cap l′ w′ (r .count) R′) (sym (add-one to)) (record { good = H .good; space = H .space; below = H .below; few = omega arith })
 
 -- between two rows
 pub record Inv (cap : ℕ) (l₀ : List ℤ) (w₀ R₀ : List ℕ) (l : List ℤ) (w R : List ℕ) (s : Stand) : Type 0 where
@@ -80,8 +80,8 @@ last-two {n = n} {R = R} {held} S e k =
     let d = length-drop 5 R in
     let t : length (take 2 (drop 5 R)) ≡ 2 = length-take-le 2 (drop 5 R) (omega arith) in
     record {
-      held = record { good = S .good; room = S .chained .room; few = S .chained .few; words = S .chained .words };
-      works = S .chained .works;
+      held = record { good = S .good; room = S .space .room; few = S .space .few; words = S .space .words };
+      works = S .space .works;
       roots = record { below = λ j h. at j (omega arith) };
       few = omega arith;
       stages = k;

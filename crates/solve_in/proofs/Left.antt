@@ -49,8 +49,8 @@ module _ {B : List ℕ} {H first : ℕ} (at : first ≡ modelSize B) {cap : ℕ}
 
   pub to-finish : r .stop ≡ 0 → H ≤ steps-most → {s : List ℕ} → length s ≡ steps-most → Unfinished cap l (r .count) w (partOf first H R) s
   to-finish ok h {s} n = subst (λ (Q : List ℕ). Unfinished cap l (r .count) w Q s) (sym part) (record {
-    held = record { good = P .standing ok .good; room = P .standing ok .chained .room; few = P .standing ok .chained .few; words = P .standing ok .chained .words };
-    works = P .standing ok .chained .works;
+    held = record { good = P .standing ok .good; room = P .standing ok .space .room; few = P .standing ok .space .few; words = P .standing ok .space .words };
+    works = P .standing ok .space .works;
     roots = record { below = λ j q. part-below ok j (let m = part-length ok in omega arith) };
     few = (let m = part-length ok in omega arith);
     stages = n;

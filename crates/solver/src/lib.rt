@@ -1,16 +1,10 @@
 // "solve": refused early with all untouched, or run to the tables of the stages, or refused on the way with all zero.
 ghost use mathlib.Core.Path.{_≡_};
-ghost use Prim.Native.Nat.{_*_, _≤_, _<_, min};
-ghost use lib.ListN.{length};
-ghost use Rattle.theory.specs.Widths.{bytes-most, steps-most, nodes-most};
-ghost use Rattle.theory.specs.Verdict.{verdict};
+ghost use Prim.Native.Nat.{min};
 ghost use Rattle.theory.specs.Solve.{room as room-of};
 ghost use Rattle.theory.specs.Solve.{solve as solve-of};
-ghost use Rattle.theory.specs.Solve.{early};
-ghost use Rattle.solve_in.specs.Solves.{Solves};
 ghost use Rattle.solver.specs.Solving.{outcome};
 use solve_in::solve_in;
-use staging::Planned;
 
 // A refusal's number and place, both 0 where there is none; then the peak.
 pub struct Solved {
@@ -32,30 +26,6 @@ fn room(nodes: usize, work: usize) -> usize
     least(nodes / 8, least(work / 8, 65535))
 }
 
-// A small part of the room first, since each operation clears as much of the tables as it may fill. What is solved there
-// comes out alike with more room; where it is not, the whole room decides.
-fn solve_in_parts(
-    model: &[u8],
-    horizon: usize,
-    nodes: &mut [i64],
-    stages: &mut [u32],
-    work: &mut [u32],
-    cap: usize,
-) -> Planned
-    requires { ⌜ (verdict (now model) .number ≡ 0) × (length (now model) ≤ bytes-most) × (horizon ≤ steps-most) × (1 ≤ horizon) × (cap ≤ nodes-most) × (cap * 8 ≤ length (now nodes)) × (cap * 8 ≤ length (now work)) × (length (now stages) ≡ steps-most) ⌝ }
-    ensures { λ r. ⌜ Solves (now (model .entry)) horizon cap (now (nodes .entry)) (now (nodes .exit)) (now (stages .exit)) (now (work .entry)) (now (work .exit)) r ⌝ }
-{
-    let part = least(cap, 4096);
-    let tried = solve_in(model, horizon, nodes, stages, work, part);
-    if tried.stop == 0 {
-        return tried;
-    }
-    if part == cap {
-        return tried;
-    }
-    solve_in(model, horizon, nodes, stages, work, cap)
-}
-
 // A site model, a horizon and lent tables: the peak and the tables, or a refusal.
 pub fn solve(
     model: &[u8],
@@ -75,7 +45,7 @@ pub fn solve(
         };
     }
     let cap = room(nodes.len(), work.len());
-    let r = solve_in_parts(model, horizon as usize, nodes, stages, work, cap);
+    let r = solve_in(model, horizon as usize, nodes, stages, work, cap);
     if r.stop != 0 {
         finish::clear_all(nodes, stages, work);
         return Solved {

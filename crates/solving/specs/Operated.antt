@@ -1,4 +1,4 @@
--- An operation of the theory, done on a table: collect, then run its rule.
+-- An operation of the theory, done on a table: collect, then run its rule, in whatever part of the room.
 use mathlib.Core.Path.{_≡_, refl, sym, ap, ap₂, _∙_, subst}
 use mathlib.Core.List.{List, [], _∷_}
 use Prim.Native.Nat.{ℕ, zero, suc, max, _≤_, _<_}
@@ -10,14 +10,14 @@ use lib.IntN.{ℤ}
 use lib.ListN.{length, getD}
 use Rattle.whole.specs.Cases.{by-eq, from-true, clash}
 use Rattle.table.specs.declared.Made.{Made}
-use Rattle.unique.specs.Unique.{Chained}
+use Rattle.table.specs.Table.{nodeAt}
 use Rattle.theory.specs.Diagram.{Tree}
 use Rattle.theory.specs.Computation.{Comp, Out, done, stopped, run, enter-all, Ops, operation, refused, run-all}
 use Rattle.diagrams.specs.Nodes.{none, trees, treeAt, Good, Grown}
-use Rattle.diagrams.specs.Table.{Rule, Table, Ran}
+use Rattle.diagrams.specs.Table.{outOf}
 use Rattle.diagrams.proofs.Trees.{trees-length, trees-kept}
-use Rattle.diagrams.proofs.Outcomes.{out-ok, out-no, fresh, grown}
-use Rattle.mark.specs.Mark.{rootsOf, Below}
+use Rattle.diagrams.proofs.Outcomes.{out-ok, out-no}
+use Rattle.mark.specs.Mark.{rootsOf, Below, Space}
 use Rattle.collect.specs.Collect.{Collected}
 use Rattle.collect.proofs.Order.{SameOut, done-as, stopped-as, run-same}
 use Rattle.collect.proofs.Needed.{kept-nodes}
@@ -51,22 +51,46 @@ below-cons {ρ} {n} {r} h B = record { at = at }
 -- a table that holds at its indexes ρ the diagrams R, in any order
 pub record Held (cap : ℕ) (l : List ℤ) (w : List ℕ) (n : ℕ) (ρ : List ℕ) (R : List Tree) : Type 0 where
   pub good : Good l n
-  pub chained : Chained cap l w n
+  pub space : Space cap l w n
   pub below : Below ρ n
   pub roots : Alike (rootsOf (trees l n) ρ) R
 
 pub held-as : {cap : ℕ} {l : List ℤ} {w : List ℕ} {n : ℕ} {ρ : List ℕ} {R S : List Tree} → Alike R S → Held cap l w n ρ R → Held cap l w n ρ S
-held-as a H = record { good = H .good; chained = H .chained; below = H .below; roots = alike-trans (H .roots) a }
+held-as a H = record { good = H .good; space = H .space; below = H .below; roots = alike-trans (H .roots) a }
+
+-- ---- a rule's run
+
+-- what a rule that ran on the table of n nodes l came to, at the words l′, w′ and the answer r: the computation m with room for cap
+pub record Came (cap : ℕ) (l : List ℤ) (n : ℕ) (m : Comp Tree) (l′ : List ℤ) (w′ : List ℕ) (r : Made) : Type 0 where
+  pub ran : outOf r (trees l′ (r .count)) ≡ run cap m (trees l n)
+  pub good : Good l′ (r .count)
+  pub space : Space cap l′ w′ (r .count)
+  pub within : r .stop ≡ 0 → r .at < r .count
+  pub more : n ≤ r .count
+  pub kept : (i : ℕ) → i < n → nodeAt l′ i ≡ nodeAt l i
+
+-- the table has grown
+pub came-grown : {cap n : ℕ} {l l′ : List ℤ} {w′ : List ℕ} {m : Comp Tree} {r : Made} → Came cap l n m l′ w′ r → Grown l n l′ (r .count)
+came-grown S = record { more = S .more; kept = S .kept }
+
+-- so for an equal computation
+pub came-as : {cap n : ℕ} {l l′ : List ℤ} {w′ : List ℕ} {m m′ : Comp Tree} {r : Made} → m ≡ m′ → Came cap l n m l′ w′ r → Came cap l n m′ l′ w′ r
+came-as {cap} {n} {l} {l′} {w′} {r = r} e S = subst (λ (z : Comp Tree). Came cap l n z l′ w′ r) e S
 
 -- ---- a collected table
 
-module _ {cap n n₁ : ℕ} {l l₁ : List ℤ} {w w₁ : List ℕ} {ρ ρ₁ : List ℕ} {R : List Tree} (H : Held cap l w n ρ R) (C : Collected cap l l₁ w w₁ ρ ρ₁ n n₁) where
-  -- its cache is empty: right, whatever entries mean
-  pub collected-table : (rule : Rule) → Table rule cap l₁ w₁ n₁
-  collected-table rule = fresh (record { good = C .good; chained = C .chained }) (C .cache)
+pub collected-space : {cap n n₁ : ℕ} {l l₁ : List ℤ} {w w₁ ρ ρ₁ : List ℕ} → Space cap l w n → Collected l l₁ w w₁ ρ ρ₁ n n₁ → Space cap l₁ w₁ n₁
+collected-space S C = record {
+  some = S .some;
+  few = S .few;
+  room = omega (arith, C .fewer, S .room);
+  words = omega (arith, C .nodes-length, S .words);
+  works = omega (arith, C .work-length, S .works);
+}
 
+module _ {cap n n₁ : ℕ} {l l₁ : List ℤ} {w w₁ : List ℕ} {ρ ρ₁ : List ℕ} {R : List Tree} (H : Held cap l w n ρ R) (C : Collected l l₁ w w₁ ρ ρ₁ n n₁) where
   pub collected-held : Held cap l₁ w₁ n₁ ρ₁ R
-  collected-held = record { good = C .good; chained = C .chained; below = C .below; roots = alike-trans (alike-eq (C .roots)) (H .roots) }
+  collected-held = record { good = C .good; space = collected-space (H .space) C; below = C .below; roots = alike-trans (alike-eq (C .roots)) (H .roots) }
 
   -- each root's tree is the one that it was
   pub collected-at : (j : ℕ) → j < length ρ → treeAt l₁ n₁ (getD ρ₁ j 0) ≡ treeAt l n (getD ρ j 0)
@@ -81,7 +105,7 @@ module _ {cap n n₁ : ℕ} {l l₁ : List ℤ} {w w₁ : List ℕ} {ρ ρ₁ : 
 
   -- ---- the operation's rule ran on it
 
-  module _ {rule : Rule} {c : Comp Tree} {l₂ : List ℤ} {w₂ : List ℕ} {r : Made} (S : Ran rule cap l₁ w₁ n₁ c l₂ w₂ r) where
+  module _ {c : Comp Tree} {l₂ : List ℤ} {w₂ : List ℕ} {r : Made} (S : Came cap l₁ n₁ c l₂ w₂ r) where
     -- the operation's computation comes to the tree at the answer, with the table's count of nodes
     pub worked : r .stop ≡ 0 → Works cap R c (treeAt l₂ (r .count) (r .at)) (r .count)
     worked ok =
@@ -116,15 +140,15 @@ module _ {cap n n₁ : ℕ} {l l₁ : List ℤ} {w w₁ : List ℕ} {ρ ρ₁ : 
     ran-below = below-more (S .more) (C .below)
 
     pub ran-roots : rootsOf (trees l₂ (r .count)) ρ₁ ≡ rootsOf (trees l n) ρ
-    ran-roots = roots-grown (grown S) ρ₁ (C .below) ∙ C .roots
+    ran-roots = roots-grown (came-grown S) ρ₁ (C .below) ∙ C .roots
 
     pub ran-at : (j : ℕ) → j < length ρ → treeAt l₂ (r .count) (getD ρ₁ j 0) ≡ treeAt l n (getD ρ j 0)
-    ran-at j h = trees-kept (grown S) (getD ρ₁ j 0) (C .below .at j (let z = C .roots-length in omega arith)) ∙ collected-at j h
+    ran-at j h = trees-kept (came-grown S) (getD ρ₁ j 0) (C .below .at j (let z = C .roots-length in omega arith)) ∙ collected-at j h
 
     pub ran-held : Held cap l₂ w₂ (r .count) ρ₁ R
     ran-held = record {
-      good = S .table .bare .good;
-      chained = S .table .bare .chained;
+      good = S .good;
+      space = S .space;
       below = ran-below;
       roots = alike-trans (alike-eq ran-roots) (H .roots);
     }
@@ -133,8 +157,8 @@ module _ {cap n n₁ : ℕ} {l l₁ : List ℤ} {w w₁ : List ℕ} {ρ ρ₁ : 
     pub ran-holds : r .stop ≡ 0 → Held cap l₂ w₂ (r .count) (r .at ∷ ρ₁) (treeAt l₂ (r .count) (r .at) ∷ R)
     unfolding rootsOf
     ran-holds ok = record {
-      good = S .table .bare .good;
-      chained = S .table .bare .chained;
+      good = S .good;
+      space = S .space;
       below = below-cons (S .within ok) ran-below;
       roots = alike-cons (treeAt l₂ (r .count) (r .at)) (ran-held .roots);
     }

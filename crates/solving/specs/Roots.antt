@@ -7,19 +7,16 @@ use native.Mathlib.Omega.{arith}
 use lib.IntN.{ℤ}
 use lib.ListN.{length, getD}
 use Rattle.table.specs.declared.Made.{Made}
-use Rattle.unique.specs.Unique.{Chained}
 use Rattle.theory.specs.Diagram.{Tree}
 use Rattle.theory.specs.Computation.{Comp, member}
 use Rattle.theory.specs.Meaning.{Action}
 use Rattle.theory.specs.Stage.{action-diagrams, all-diagrams}
 use Rattle.theory.specs.laws.Inside.{Sub, sub-trans}
 use Rattle.diagrams.specs.Nodes.{none, trees, treeAt, Good}
-use Rattle.diagrams.specs.Table.{Rule, Ran}
-use Rattle.diagrams.proofs.Outcomes.{grown}
-use Rattle.mark.specs.Mark.{rootsOf, Below}
+use Rattle.mark.specs.Mark.{rootsOf, Below, Space}
 use Rattle.collect.specs.Collect.{Collected}
 use Rattle.solving.specs.Alike.{Alike, alike-trans, alike-eq, member-left, member-right, member-parts}
-use Rattle.solving.specs.Operated.{roots-at, roots-grown, below-more, Held}
+use Rattle.solving.specs.Operated.{roots-at, roots-grown, below-more, Held, Came, came-grown, collected-space}
 
 -- ---- lists of indexes
 
@@ -61,13 +58,13 @@ below-front ρ σ {n} B = record { at = go ρ (B .at) }
 -- the indexes ρ stand for the trees Q, in this order
 pub record Rooted (cap : ℕ) (l : List ℤ) (w : List ℕ) (n : ℕ) (ρ : List ℕ) (Q : List Tree) : Type 0 where
   pub good : Good l n
-  pub chained : Chained cap l w n
+  pub space : Space cap l w n
   pub below : Below ρ n
   pub roots : rootsOf (trees l n) ρ ≡ Q
 
 -- in any order, they are the diagrams that an operation names
 pub rooted-held : {cap : ℕ} {l : List ℤ} {w : List ℕ} {n : ℕ} {ρ : List ℕ} {Q R : List Tree} → Rooted cap l w n ρ Q → Alike Q R → Held cap l w n ρ R
-rooted-held H a = record { good = H .good; chained = H .chained; below = H .below; roots = alike-trans (alike-eq (H .roots)) a }
+rooted-held H a = record { good = H .good; space = H .space; below = H .below; roots = alike-trans (alike-eq (H .roots)) a }
 
 module _ {cap : ℕ} {l : List ℤ} {w : List ℕ} {n : ℕ} {ρ : List ℕ} {Q : List Tree} (H : Rooted cap l w n ρ Q) where
   -- the tree at a root
@@ -82,20 +79,20 @@ module _ {cap : ℕ} {l : List ℤ} {w : List ℕ} {n : ℕ} {ρ : List ℕ} {Q 
   unfolding rootsOf
   rooted-push i h = record {
     good = H .good;
-    chained = H .chained;
+    space = H .space;
     below = below-append (H .below) (below-one h);
     roots = roots-append (trees l n) ρ (i ∷ []) ∙ ap (λ (X : List Tree). X ++ (treeAt l n i ∷ [])) (H .roots);
   }
 
-  pub rooted-collected : {n₁ : ℕ} {l₁ : List ℤ} {w₁ ρ₁ : List ℕ} → Collected cap l l₁ w w₁ ρ ρ₁ n n₁ → Rooted cap l₁ w₁ n₁ ρ₁ Q
-  rooted-collected C = record { good = C .good; chained = C .chained; below = C .below; roots = C .roots ∙ H .roots }
+  pub rooted-collected : {n₁ : ℕ} {l₁ : List ℤ} {w₁ ρ₁ : List ℕ} → Collected l l₁ w w₁ ρ ρ₁ n n₁ → Rooted cap l₁ w₁ n₁ ρ₁ Q
+  rooted-collected C = record { good = C .good; space = collected-space (H .space) C; below = C .below; roots = C .roots ∙ H .roots }
 
-  pub rooted-ran : {rule : Rule} {c : Comp Tree} {l₁ : List ℤ} {w₁ : List ℕ} {r : Made} → Ran rule cap l w n c l₁ w₁ r → Rooted cap l₁ w₁ (r .count) ρ Q
+  pub rooted-ran : {c : Comp Tree} {l₁ : List ℤ} {w₁ : List ℕ} {r : Made} → Came cap l n c l₁ w₁ r → Rooted cap l₁ w₁ (r .count) ρ Q
   rooted-ran S = record {
-    good = S .table .bare .good;
-    chained = S .table .bare .chained;
+    good = S .good;
+    space = S .space;
     below = below-more (S .more) (H .below);
-    roots = roots-grown (grown S) ρ (H .below) ∙ H .roots;
+    roots = roots-grown (came-grown S) ρ (H .below) ∙ H .roots;
   }
 
 front-of : {A : Type 0} (P Q X Y : List A) → length P ≡ length Q → P ++ X ≡ Q ++ Y → P ≡ Q
@@ -108,7 +105,7 @@ front-of (p ∷ P) (q ∷ Q) X Y h e = ap₂ _∷_ (cc) (front-of P Q X Y (omega
 pub rooted-front : {cap : ℕ} {l : List ℤ} {w : List ℕ} {n : ℕ} (ρ σ : List ℕ) (Q Z : List Tree) → length ρ ≡ length Q → Rooted cap l w n (ρ ++ σ) (Q ++ Z) → Rooted cap l w n ρ Q
 rooted-front {l = l} {n = n} ρ σ Q Z h H = record {
   good = H .good;
-  chained = H .chained;
+  space = H .space;
   below = below-front ρ σ (H .below);
   roots = front-of (rootsOf (trees l n) ρ) Q (rootsOf (trees l n) σ) Z (roots-length (trees l n) ρ ∙ h) (sym (roots-append (trees l n) ρ σ) ∙ H .roots);
 }

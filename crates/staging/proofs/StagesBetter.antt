@@ -72,7 +72,7 @@ module _ {B : List ℕ} {cap p : ℕ} {l : List ℤ} {w : List ℕ} {n : ℕ} {R
     better-ready few =
         let e : suc (held + 1) ≡ held + 2 = omega arith in
         let H = T .rooted ok in
-        let s : Standing cap l′ w′ (t .count) R′ (suc (held + 1)) = record { good = H .good; chained = H .chained; below = H .below; few = omega arith } in
+        let s : Standing cap l′ w′ (t .count) R′ (suc (held + 1)) = record { good = H .good; space = H .space; below = H .below; few = omega arith } in
         (subst (Standing cap l′ w′ (t .count) R′) e s, omega arith, omega arith, (omega arith, omega arith))
 
     module _ {l″ : List ℤ} {w″ R″ : List ℕ} {r : Run} (S : Operated cap (t .peak) l′ (t .count) R′ (held + 2) held (Best held (held + 1)) l″ w″ R″ r) where

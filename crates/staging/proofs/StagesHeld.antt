@@ -56,7 +56,7 @@ module _ {B : List ℕ} {cap : ℕ} {l : List ℤ} {w : List ℕ} {n : ℕ} {R :
   ready-next = record {
     accepted = D .accepted;
     bytes = D .bytes;
-    standing = subst (Standing cap l′ w′ n′ R′) (sym (add-one held)) (record { good = H .good; chained = H .chained; below = H .below; few = few });
+    standing = subst (Standing cap l′ w′ n′ R′) (sym (add-one held)) (record { good = H .good; space = H .space; below = H .below; few = few });
     models = held-take l′ n′ R′ held (modelSize B) few f ∙ (ap (take (modelSize B)) (held-is l′ n′ R′ held Q t H e few) ∙ m);
     first = omega arith;
   }

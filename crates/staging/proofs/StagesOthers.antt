@@ -135,7 +135,7 @@ module _ {B : List ℕ} {cap : ℕ} {l₀ : List ℤ} {R₀ : List ℕ} {held be
         ∙ sym (answered-ok (r .stop) h (rootAt l (r .count) R held) (r .peak) (Y .ok)));
     rooted = λ ok. record {
       good = S .good;
-      chained = S .chained;
+      space = S .space;
       below = S .below;
       roots = held-suc l (r .count) R held (let z = S .few in omega arith) ∙ ap (λ (X : List Tree). X ++ (rootAt l (r .count) R held ∷ [])) (Y .same);
     };

@@ -41,7 +41,7 @@ standing-on cap l w n R held S =
       room = omega (arith, z);
       rooted = record {
         good = S .good;
-        chained = S .chained;
+        space = S .space;
         below = subst (λ (k : ℕ). Below (take k R) n) (one-more held) (S .below);
         roots = held-suc l n R held (omega (arith, z));
       };
@@ -50,7 +50,7 @@ standing-on cap l w n R held S =
 module _ {cap : ℕ} {l : List ℤ} {w : List ℕ} {n : ℕ} {R : List ℕ} {held : ℕ} {Q : List Tree} (H : On cap l w n R held Q) where
   -- it stands, with all of them
   pub on-standing : Standing cap l w n R (held + 1)
-  on-standing = record { good = H .rooted .good; chained = H .rooted .chained; below = subst (λ (k : ℕ). Below (take k R) n) (sym (one-more held)) (H .rooted .below); few = let z = H .room in omega (arith, z) }
+  on-standing = record { good = H .rooted .good; space = H .rooted .space; below = subst (λ (k : ℕ). Below (take k R) n) (sym (one-more held)) (H .rooted .below); few = let z = H .room in omega (arith, z) }
 
   on-front : Rooted cap l w n (take held R) Q
   on-front = rooted-front (take held R) (getD R held 0 ∷ []) Q (rootAt l n R held ∷ []) (length-take-le held R (let z = H .room in omega (arith, z)) ∙ sym (H .size))
@@ -58,7 +58,7 @@ module _ {cap : ℕ} {l : List ℤ} {w : List ℕ} {n : ℕ} {R : List ℕ} {hel
 
   -- and without the last
   pub on-fewer : Standing cap l w n R held
-  on-fewer = record { good = H .rooted .good; chained = H .rooted .chained; below = on-front .below; few = let z = H .room in omega (arith, z) }
+  on-fewer = record { good = H .rooted .good; space = H .rooted .space; below = on-front .below; few = let z = H .room in omega (arith, z) }
 
   pub on-before : heldTrees l n R held ≡ Q
   on-before = on-front .roots

@@ -86,7 +86,7 @@ module _ (B : List ℕ) (H first : ℕ) (v : verdict B .number ≡ 0) (at : firs
       stages-ready b n = subst (Ready B cap l′ w′ (z .count) R′) (sym (add-one first ∙ ap suc at)) (record {
         accepted = v;
         bytes = b;
-        standing = record { good = there .rooted ok .good; chained = there .rooted ok .chained; below = there .rooted ok .below; few = (let q = size-few B v in omega arith) };
+        standing = record { good = there .rooted ok .good; space = there .rooted ok .space; below = there .rooted ok .below; few = (let q = size-few B v in omega arith) };
         models = ap (take (modelSize B)) (there .rooted ok .roots) ∙ (front (rootAt l′ (z .count) R′ (modelSize B)) ∙ loaded-models L go few);
         first = omega arith;
       })

@@ -103,9 +103,9 @@ module _ {B : List ℕ} {cap : ℕ} {l : List ℤ} {w R : List ℕ} {r : Done} (
   loaded-models = ap (rootsOf (trees l (r .count))) (sym numbers) ∙ (sym (standing-roots l (r .count) (map (λ i. getD R i 0) (from-to 0 (modelSize B)))) ∙ L .roots go)
 
   pub loaded-standing : Standing cap l w (r .count) R (modelSize B)
-  loaded-standing = record {
+  loaded-standing = let C = L .table .bare .chained in record {
     good = L .table .bare .good;
-    chained = L .table .bare .chained;
+    space = record { some = C .some; few = C .few; room = C .room; words = C .words; works = C .works };
     below = subst (λ (K : List ℕ). Lower K (r .count)) numbers (below-lower (r .count) (map (λ i. getD R i 0) (from-to 0 (modelSize B))) (L .below go));
     few = few;
   }

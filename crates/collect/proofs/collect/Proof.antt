@@ -1,11 +1,11 @@
-use Rattle.collect.proofs.Gathers.{space, space₁, space₂, closed, asks, collected}
+use Rattle.collect.proofs.Gathers.{space₁, closed, asks, collected}
 use borrow.Author.Needs.{needs}
 use Rattle.collect.proofs.collect.Statement.{statement}
 use Rattle.collect.proofs.collect.Tie as tie
 
 mark-requires : tie.Need-mark-requires
 mark-requires c κs =
-    let s = (c .before .before .before .before .before) in (space (s .pre .0), s .pre .1, s .pre .2)
+    let s = (c .before .before .before .before .before) in (s .pre .0, s .pre .1, s .pre .2)
 
 slide-requires : tie.Need-slide-requires
 slide-requires c κs =
@@ -14,10 +14,6 @@ slide-requires c κs =
 forward-requires : tie.Need-forward-requires
 forward-requires c κs =
     let s = (c .before .before .before .before .before .before .before .before .before .before .before .before .before .before .before .before) in asks (s .pre .0) (s .pre .1) (s .pre .2) (c .before .before .before .before .before .before .before .before .before .before .mark .ensures) (c .before .before .before .before .before .slide .ensures)
-
-rehash-requires : tie.Need-rehash-requires
-rehash-requires c κs =
-    let s = (c .before .before .before .before .before .before .before .before .before .before .before .before .before .before .before .before .before .before .before .before .before) in space₂ (s .pre .0) (s .pre .1) (s .pre .2) (c .before .before .before .before .before .before .before .before .before .before .before .before .before .before .before .mark .ensures) (c .before .before .before .before .before .before .before .before .before .before .slide .ensures)
 
 same-length : tie.Need-same-length
 same-length c = search needs
@@ -30,7 +26,7 @@ same-length-3 c = search needs
 
 returns : tie.Need-returns
 returns c =
-    let s = (c .before .before .before .before .before .before .before .before .before .before .before .before .before .before .before .before .before .before .before .before .before .before .before .before) in collected (s .pre .0) (s .pre .1) (s .pre .2) (c .before .before .before .before .before .before .before .before .before .before .before .before .before .before .before .before .before .before .mark .ensures) (c .before .before .before .before .before .before .before .before .before .before .before .before .before .slide .ensures) (c .before .before .before .before .before .before .before .forward .ensures) (c .before .before .rehash .ensures)
+    let s = c .before .before .before .before .before .before .before .before .before .before .before .before .before .before .before .before .before .before .before in collected (s .pre .0) (s .pre .1) (s .pre .2) (c .before .before .before .before .before .before .before .before .before .before .before .before .before .mark .ensures) (c .before .before .before .before .before .before .before .before .slide .ensures) (c .before .before .forward .ensures)
 
 pub collect-spec : {M : Type 1} → statement M
 collect-spec =
@@ -39,7 +35,6 @@ collect-spec =
     mark-requires
     slide-requires
     forward-requires
-    rehash-requires
     same-length
     same-length-2
     same-length-3
