@@ -10,12 +10,12 @@ use Rattle.table.specs.Table.{nodeAt, internR, internW}
 use Rattle.table.specs.declared.Made.{Made}
 use Rattle.table.specs.declared.Node.{Node}
 
--- a node's hash takes in its words one after another
-unfoldable pub stepOf : ℕ → ℤ → ℕ
-stepOf h z = (h * 31 + natAbs z % 65521) % 65521
+-- each of a node's words has a share in its hash, none waits for another
+unfoldable pub shareOf : ℤ → ℕ → ℕ
+shareOf z k = natAbs z % 65521 * k
 
 unfoldable pub hashOf : ℕ → Node → ℕ
-hashOf cap x = stepOf (stepOf (stepOf (stepOf (stepOf (stepOf (stepOf (stepOf 0 (x .kind)) (x .c1)) (x .c2)) (x .c3)) (x .c4)) (x .constant)) (x .high)) (x .low) % cap
+hashOf cap x = (shareOf (x .kind) 8167 + shareOf (x .c1) 6247 + shareOf (x .c2) 5171 + shareOf (x .c3) 4057 + shareOf (x .c4) 3371 + shareOf (x .constant) 1723 + shareOf (x .high) 613 + shareOf (x .low) 31) % cap
 
 -- one more than the last index below n whose bucket is b, or 0
 unfoldable pub lastOf : (ℕ → ℕ) → ℕ → ℕ → ℕ

@@ -6,14 +6,14 @@ use whole::limits::mag;
 ghost use mathlib.Core.Path.{_≡_};
 ghost use Prim.Native.Nat.{_<_};
 ghost use Rattle.table.specs.Table.{firstNode};
-ghost use Rattle.unique.specs.Unique.{stepOf, hashOf, Chained, Entered};
+ghost use Rattle.unique.specs.Unique.{shareOf, hashOf, Chained, Entered};
 
-// One word more into a hash.
-pub fn step(h: u64, z: i64) -> u64
-    requires { ⌜ h < 65521 ⌝ }
-    ensures { λ r. ⌜ (r ≡ stepOf h z) × (r < 65521) ⌝ }
+// One word's share in a hash.
+pub fn share(z: i64, k: u64) -> u64
+    requires { ⌜ k < 8192 ⌝ }
+    ensures { λ r. ⌜ (r ≡ shareOf z k) × (r < 536870912) ⌝ }
 {
-    (h * 31 + mag(z) % 65521) % 65521
+    mag(z) % 65521 * k
 }
 
 // A node's bucket.
@@ -21,15 +21,15 @@ pub fn hash(x: Node, cap: usize) -> usize
     requires { ⌜ 0 < cap ⌝ }
     ensures { λ r. ⌜ (r ≡ hashOf cap x) × (r < cap) ⌝ }
 {
-    let a = step(0, x.kind);
-    let b = step(a, x.c1);
-    let c = step(b, x.c2);
-    let d = step(c, x.c3);
-    let e = step(d, x.c4);
-    let f = step(e, x.constant);
-    let g = step(f, x.high);
-    let h = step(g, x.low);
-    (h as usize) % cap
+    let a = share(x.kind, 8167);
+    let b = share(x.c1, 6247);
+    let c = share(x.c2, 5171);
+    let d = share(x.c3, 4057);
+    let e = share(x.c4, 3371);
+    let f = share(x.constant, 1723);
+    let g = share(x.high, 613);
+    let h = share(x.low, 31);
+    (a + b + c + d + e + f + g + h) as usize % cap
 }
 
 // The node that equals x, or count where there is none: along its bucket's chain.

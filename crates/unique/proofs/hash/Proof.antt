@@ -1,35 +1,57 @@
 use mathlib.Core.Path.{ap}
 use Prim.Native.Nat.{ℕ, _%_}
 use native.Mathlib.Nat.{mod-lt}
+use native.Mathlib.Omega.{arith}
 use Rattle.table.proofs.Words.{back}
 use Rattle.unique.specs.Unique.{hashOf}
 use borrow.Author.Needs.{needs}
 use Rattle.unique.proofs.hash.Statement.{statement}
 use Rattle.unique.proofs.hash.Tie as tie
 
-step-requires : tie.Need-step-requires
-step-requires c κs = search needs
+share-requires : tie.Need-share-requires
+share-requires c κs = search needs
 
-step-requires-2 : tie.Need-step-requires-2
-step-requires-2 c κs = search needs
+share-requires-2 : tie.Need-share-requires-2
+share-requires-2 c κs = search needs
 
-step-requires-3 : tie.Need-step-requires-3
-step-requires-3 c κs = search needs
+share-requires-3 : tie.Need-share-requires-3
+share-requires-3 c κs = search needs
 
-step-requires-4 : tie.Need-step-requires-4
-step-requires-4 c κs = search needs
+share-requires-4 : tie.Need-share-requires-4
+share-requires-4 c κs = search needs
 
-step-requires-5 : tie.Need-step-requires-5
-step-requires-5 c κs = search needs
+share-requires-5 : tie.Need-share-requires-5
+share-requires-5 c κs = search needs
 
-step-requires-6 : tie.Need-step-requires-6
-step-requires-6 c κs = search needs
+share-requires-6 : tie.Need-share-requires-6
+share-requires-6 c κs = search needs
 
-step-requires-7 : tie.Need-step-requires-7
-step-requires-7 c κs = search needs
+share-requires-7 : tie.Need-share-requires-7
+share-requires-7 c κs = search needs
 
-step-requires-8 : tie.Need-step-requires-8
-step-requires-8 c κs = search needs
+share-requires-8 : tie.Need-share-requires-8
+share-requires-8 c κs = search needs
+
+add-result : tie.Need-add-result
+add-result c = omega (arith, c .before .before .before .before .before .before .before .before .before .before .before .before .before .before .share .ensures .1, c .before .before .before .before .before .before .before .before .before .before .before .before .share2 .ensures .1)
+
+add-result-2 : tie.Need-add-result-2
+add-result-2 c = omega (arith, c .before .before .before .before .before .before .before .before .before .before .before .before .before .before .share .ensures .1, c .before .before .before .before .before .before .before .before .before .before .before .before .share2 .ensures .1, c .before .before .before .before .before .before .before .before .before .before .share3 .ensures .1)
+
+add-result-3 : tie.Need-add-result-3
+add-result-3 c = omega (arith, c .before .before .before .before .before .before .before .before .before .before .before .before .before .before .share .ensures .1, c .before .before .before .before .before .before .before .before .before .before .before .before .share2 .ensures .1, c .before .before .before .before .before .before .before .before .before .before .share3 .ensures .1, c .before .before .before .before .before .before .before .before .share4 .ensures .1)
+
+add-result-4 : tie.Need-add-result-4
+add-result-4 c = omega (arith, c .before .before .before .before .before .before .before .before .before .before .before .before .before .before .share .ensures .1, c .before .before .before .before .before .before .before .before .before .before .before .before .share2 .ensures .1, c .before .before .before .before .before .before .before .before .before .before .share3 .ensures .1, c .before .before .before .before .before .before .before .before .share4 .ensures .1, c .before .before .before .before .before .before .share5 .ensures .1)
+
+add-result-5 : tie.Need-add-result-5
+add-result-5 c = omega (arith, c .before .before .before .before .before .before .before .before .before .before .before .before .before .before .share .ensures .1, c .before .before .before .before .before .before .before .before .before .before .before .before .share2 .ensures .1, c .before .before .before .before .before .before .before .before .before .before .share3 .ensures .1, c .before .before .before .before .before .before .before .before .share4 .ensures .1, c .before .before .before .before .before .before .share5 .ensures .1, c .before .before .before .before .share6 .ensures .1)
+
+add-result-6 : tie.Need-add-result-6
+add-result-6 c = omega (arith, c .before .before .before .before .before .before .before .before .before .before .before .before .before .before .share .ensures .1, c .before .before .before .before .before .before .before .before .before .before .before .before .share2 .ensures .1, c .before .before .before .before .before .before .before .before .before .before .share3 .ensures .1, c .before .before .before .before .before .before .before .before .share4 .ensures .1, c .before .before .before .before .before .before .share5 .ensures .1, c .before .before .before .before .share6 .ensures .1, c .before .before .share7 .ensures .1)
+
+add-result-7 : tie.Need-add-result-7
+add-result-7 c = omega (arith, c .before .before .before .before .before .before .before .before .before .before .before .before .before .before .share .ensures .1, c .before .before .before .before .before .before .before .before .before .before .before .before .share2 .ensures .1, c .before .before .before .before .before .before .before .before .before .before .share3 .ensures .1, c .before .before .before .before .before .before .before .before .share4 .ensures .1, c .before .before .before .before .before .before .share5 .ensures .1, c .before .before .before .before .share6 .ensures .1, c .before .before .share7 .ensures .1, c .share8 .ensures .1)
 
 rem-result : tie.Need-rem-result
 rem-result c = c .before .before .before .before .before .before .before .before .before .before .before .before .before .before .before .before .pre
@@ -38,7 +60,7 @@ returns : tie.Need-returns
 unfolding hashOf
 returns c =
     let s = c .before .before .before .before .before .before .before .before .before .before .before .before .before .before .before .before in (
-      ap (λ (m : ℕ). m % s .args .cap) (let e₁ = c .before .before .before .before .before .before .before .before .before .before .before .before .before .before .step .ensures .0 in let e₂ = c .before .before .before .before .before .before .before .before .before .before .before .before .step2 .ensures .0 in let e₃ = c .before .before .before .before .before .before .before .before .before .before .step3 .ensures .0 in let e₄ = c .before .before .before .before .before .before .before .before .step4 .ensures .0 in let e₅ = c .before .before .before .before .before .before .step5 .ensures .0 in let e₆ = c .before .before .before .before .step6 .ensures .0 in let e₇ = c .before .before .step7 .ensures .0 in let e₈ = c .step8 .ensures .0 in cc (back (s .args .x .kind) (c .before .struct-told8 .given .0 .1), back (s .args .x .c1) (c .before .struct-told8 .given .1 .0 .1), back (s .args .x .c2) (c .before .struct-told8 .given .1 .1 .0 .1), back (s .args .x .c3) (c .before .struct-told8 .given .1 .1 .1 .0 .1), back (s .args .x .c4) (c .before .struct-told8 .given .1 .1 .1 .1 .0 .1), back (s .args .x .constant) (c .before .struct-told8 .given .1 .1 .1 .1 .1 .0 .1), back (s .args .x .high) (c .before .struct-told8 .given .1 .1 .1 .1 .1 .1 .0 .1), back (s .args .x .low) (c .before .struct-told8 .given .1 .1 .1 .1 .1 .1 .1 .0 .1))),
+      ap (λ (m : ℕ). m % s .args .cap) (let e₁ = c .before .before .before .before .before .before .before .before .before .before .before .before .before .before .share .ensures .0 in let e₂ = c .before .before .before .before .before .before .before .before .before .before .before .before .share2 .ensures .0 in let e₃ = c .before .before .before .before .before .before .before .before .before .before .share3 .ensures .0 in let e₄ = c .before .before .before .before .before .before .before .before .share4 .ensures .0 in let e₅ = c .before .before .before .before .before .before .share5 .ensures .0 in let e₆ = c .before .before .before .before .share6 .ensures .0 in let e₇ = c .before .before .share7 .ensures .0 in let e₈ = c .share8 .ensures .0 in cc (back (s .args .x .kind) (c .before .struct-told8 .given .0 .1), back (s .args .x .c1) (c .before .struct-told8 .given .1 .0 .1), back (s .args .x .c2) (c .before .struct-told8 .given .1 .1 .0 .1), back (s .args .x .c3) (c .before .struct-told8 .given .1 .1 .1 .0 .1), back (s .args .x .c4) (c .before .struct-told8 .given .1 .1 .1 .1 .0 .1), back (s .args .x .constant) (c .before .struct-told8 .given .1 .1 .1 .1 .1 .0 .1), back (s .args .x .high) (c .before .struct-told8 .given .1 .1 .1 .1 .1 .1 .0 .1), back (s .args .x .low) (c .before .struct-told8 .given .1 .1 .1 .1 .1 .1 .1 .0 .1))),
       mod-lt _ (s .pre),
     )
 
@@ -46,13 +68,20 @@ pub hash-spec : {M : Type 1} → statement M
 hash-spec =
     tie.close
     (tie.spec
-    step-requires
-    step-requires-2
-    step-requires-3
-    step-requires-4
-    step-requires-5
-    step-requires-6
-    step-requires-7
-    step-requires-8
+    share-requires
+    share-requires-2
+    share-requires-3
+    share-requires-4
+    share-requires-5
+    share-requires-6
+    share-requires-7
+    share-requires-8
+    add-result
+    add-result-2
+    add-result-3
+    add-result-4
+    add-result-5
+    add-result-6
+    add-result-7
     rem-result
     returns)
