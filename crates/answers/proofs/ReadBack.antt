@@ -16,8 +16,7 @@ use Rattle.theory.specs.Solve.{early}
 use Rattle.theory.specs.Value.{Asked, accepted, good-row, walk, ValueOut, refused-value, value-at, value-of}
 use Rattle.theory.specs.Name.{name-refusal}
 use Rattle.theory.specs.Listing.{greatest-root, text, written, ListingOut, listing-refusal, listing}
-use Rattle.theory.specs.Rows.{VerdictRow, verdict-0, verdict-1-8, verdict-2}
-use Rattle.theory.specs.laws.Rows.{verdict-row}
+use Rattle.theory.specs.laws.Rows.{verdict-row, place-inside}
 use Rattle.answers.specs.Answers.{le, pair-bytes}
 use Rattle.answers.proofs.Bytes.{le-length}
 
@@ -40,16 +39,11 @@ early-place B steps words =
     by-test (or (not (eqb words 8)) (ltb 65535 (length B))) (λ b. if b (refusal 10 0) (if (not (among 8 steps)) (refusal 9 0) (verdict B)) .place ≤ 65535)
     (λ _. omega arith)
     (λ t. by-test (not (among 8 steps)) (λ b. if b (refusal 9 0) (verdict B) .place ≤ 65535) (λ _. omega arith)
-    (λ _. let h = short-enough (not (eqb words 8)) (ltb 65535 (length B)) t in omega (arith, nltb→le 65535 (length B) h, inside (verdict-row B))))
+    (λ _. let h = short-enough (not (eqb words 8)) (ltb 65535 (length B)) t in omega (arith, nltb→le 65535 (length B) h, place-inside B (verdict-row B))))
   where
     short-enough : (a b : Bool) → T (not (or a b)) → T (not b)
     short-enough true b t = absurd t
     short-enough false b t = t
-
-    inside : {B : List ℕ} {v : Verdict} → VerdictRow B v → v .place ≤ length B
-    inside verdict-0 = omega arith
-    inside (verdict-1-8 a b c) = omega arith
-    inside verdict-2 = omega arith
 
 leaf-place : (q : Asked) (W : List ℤ) (r : ℕ) → value-at q W r .place ≤ 65535
 unfolding value-at

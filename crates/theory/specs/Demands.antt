@@ -2,27 +2,29 @@
 use mathlib.Core.Path.{_≡_}
 use mathlib.Core.Logic.{_↔_, _⊎_}
 use mathlib.Core.Bool.{Bool}
-use mathlib.Core.List.{List, []}
-use Prim.Native.Nat.{ℕ, _≤_, _<_}
+use mathlib.Core.List.{List, [], map, List·Memᴰ}
+use Prim.Native.Nat.{ℕ, suc, _*_, _^_, _≤_, _<_}
 use lib.Dec.{T}
-use lib.IntN.{ℤ, _*ℤ_}
+use lib.IntN.{ℤ, pos, _*ℤ_}
 use lib.ListN.{length, getD}
 use lib.Signed.{_<ℤ_}
 use Rattle.whole.specs.Numerator.{number, words}
 use Rattle.theory.specs.Diagram.{Tree, scaleL}
-use Rattle.theory.specs.Computation.{solved, refused, enter-all}
-use Rattle.theory.specs.Rules.{zero-leaf}
-use Rattle.theory.specs.Process.{Process, Policy, optimum, lowest-best, expected, Sound}
-use Rattle.theory.specs.Meaning.{State, process}
+use Rattle.theory.specs.Computation.{solved, refused, enter-all, result}
+use Rattle.theory.specs.Rules.{zero-leaf, side}
+use Rattle.theory.specs.Process.{Process, Policy, Action, mean, optimum, lowest-best, expected, Sound}
+use Rattle.theory.specs.Meaning.{Model, State, action-at, env, worth-at, chance-at, weight, settings, moved, power, process}
+use Rattle.theory.specs.Fraction.{Fraction, Equal, AtMost, plus, divided, weighed}
 use Rattle.theory.specs.Stage.{all-stages}
-use Rattle.theory.specs.Verdict.{verdict}
+use Rattle.theory.specs.Verdict.{Verdict, verdict}
 use Rattle.theory.specs.Load.{load, model, site-at}
 use Rattle.theory.specs.Solve.{solve-in, table-of, solved-stages, SolveOut, solve}
 use Rattle.theory.specs.Value.{Asked, accepted, state-of, ValueOut, value-of}
 use Rattle.theory.specs.Plain.{plain-of}
-use Rattle.theory.specs.Name.{name-refusal}
-use Rattle.theory.specs.Listing.{greatest-root, listing}
-use Rattle.theory.specs.Rows.{VerdictRow, SolveRow, ValueRow, PlainRow, NameRow, ListingRow}
+use Rattle.theory.specs.Name.{name-refusal, name-part}
+use Rattle.theory.specs.Listing.{greatest-root, ListingOut, listing}
+use Rattle.theory.specs.Rows.{VerdictRow, SolveRow, ValueRow, PlainRow, NameRow, NamePartRow, ListingRow}
+use Rattle.theory.specs.Ordered.{Ordered, AllOrdered, ModelOrdered, replaced}
 use Rattle.theory.specs.Events.{Event, events, Refused, Passes, needed, RefusedAt, PassesAll, peak-of}
 
 -- "a model is solved when solve's number is 0": bytes, horizon and tables of which that holds
@@ -54,6 +56,25 @@ module _ (g : Solving) where
   -- "the value read is the one returned with that model, its tables and 1 to horizon steps left"
   abbrev pub reading : ℕ → Asked → ValueOut
   reading h q = value-of (g .bytes) (left .nodes) (left .stages) h q
+
+-- "V_h(s)": the best expected total, over D × W^(n×h)
+abbrev pub meant : Model → ℕ → State → Fraction
+meant M h s = record { num = optimum (process M) h s; den = s .den * power M h }
+
+-- "reward at s plus the sum, over all settings of the next conditions, of the setting's weight × V_(h−1) of the next state, divided by Wⁿ"
+abbrev pub formula : Model → ℕ → State → ℕ → Fraction
+formula M h s a = plus (record { num = worth-at (env s []) (action-at M a .reward); den = s .den })
+    (divided (weighed (weight (M .weights) (map (chance-at (env s [])) (action-at M a .chances))) (λ r. meant M h (moved s (action-at M a .levels) r)) (settings (M .conditions)))
+    ((M .weights) ^ (M .conditions)))
+
+-- "V₀ is 0. V_h(s) is the largest over the actions of": none is larger, and one is equal
+abbrev pub Formula : Type 0
+Formula = (M : Model) (s : State) → (meant M 0 s .num ≡ pos 0) × ((h : ℕ)
+    → ((a : ℕ) → Action (process M) a → AtMost (formula M h s a) (meant M (suc h) s)) × ((a : ℕ) × (Action (process M) a × Equal (formula M h s a) (meant M (suc h) s))))
+
+-- "all weights of a state sum to Wⁿ", where each chance is at most W
+abbrev pub WeightsSum : Type 0
+WeightsSum = (W : ℕ) (ws : List ℕ) → ((w : ℕ) → List·Memᴰ w ws → w ≤ W) → mean (weight W ws) (λ _. pos 1) (settings (length ws)) ≡ pos (W ^ length ws)
 
 -- Demand 2, exact: the value read is the best expected total, times D × W^(n×h), and the action the lowest that reaches it.
 abbrev pub Exact : Type 0
@@ -108,6 +129,31 @@ NameRows = (B : List ℕ) (a : ℕ) → NameRow B a (name-refusal B a)
 abbrev pub ListingRows : Type 0
 ListingRows = (B : List ℕ) (H : ℕ) (nodes : List ℤ) (stages buffer : List ℕ) (at : ℕ) → ListingRow B H nodes stages buffer at (listing B H nodes stages buffer at)
 
+-- the part of the model that a name is
+abbrev pub NameParts : Type 0
+NameParts = (B : List ℕ) (a : ℕ) → NamePartRow B a (name-part B a)
+
+-- "No refusal is given outside its row", and the order of rows: what a call comes to is decided by its row. An outcome is one of the rows exactly where the call comes to it, so that two rows of one call are equal.
+
+abbrev pub VerdictRowOne : Type 0
+VerdictRowOne = (B : List ℕ) (v : Verdict) → VerdictRow B v ↔ (verdict B ≡ v)
+
+abbrev pub SolveRowOne : Type 0
+SolveRowOne = (B : List ℕ) (H : ℕ) (nodes : List ℤ) (stages work : List ℕ) (o : SolveOut) → SolveRow B H nodes stages work o ↔ (solve B H nodes stages work ≡ o)
+
+abbrev pub ValueRowOne : Type 0
+ValueRowOne = (B : List ℕ) (nodes : List ℤ) (stages : List ℕ) (steps : ℕ) (q : Asked) (o : ValueOut) → ValueRow B nodes stages steps q o ↔ (value-of B nodes stages steps q ≡ o)
+
+abbrev pub PlainRowOne : Type 0
+PlainRowOne = (B : List ℕ) (steps : ℕ) (q : Asked) (o : ValueOut) → PlainRow B steps q o ↔ (plain-of B steps q ≡ o)
+
+abbrev pub NameRowOne : Type 0
+NameRowOne = (B : List ℕ) (a : ℕ) (v : Verdict) → NameRow B a v ↔ (name-refusal B a ≡ v)
+
+abbrev pub ListingRowOne : Type 0
+ListingRowOne = (B : List ℕ) (H : ℕ) (nodes : List ℤ) (stages buffer : List ℕ) (at : ℕ) (o : ListingOut)
+    → ListingRow B H nodes stages buffer at o ↔ (listing B H nodes stages buffer at ≡ o)
+
 -- 11 or 12 with its place is given exactly where it is the first met, while loading or in an operation of the stages
 abbrev pub FirstMet : Type 0
 FirstMet = (N : ℕ) (B : List ℕ) (H r p : ℕ) → verdict B .number ≡ 0
@@ -135,3 +181,14 @@ PeakDecides = (N : ℕ) (B : List ℕ) (H : ℕ) (S : List Tree) (peak : ℕ) �
 -- "The table holds the nodes of stages 1 to H and no others, numbered from 1: stage by stage": the greatest stage root is the number of nodes
 abbrev pub TablesHold : Type 0
 TablesHold = (N : ℕ) (B : List ℕ) (H : ℕ) (S : List Tree) (peak : ℕ) → solve-in N B H ≡ solved S peak → greatest-root H (solved-stages S) ≡ length (table-of S)
+
+-- "Down a path the order rises strictly .. A node whose branches are equal is that branch": of each diagram that is loaded, and of each stage
+abbrev pub LoadedOrdered : Type 0
+LoadedOrdered = (B : List ℕ) → ModelOrdered (model B)
+
+abbrev pub StagesOrdered : Type 0
+StagesOrdered = (N : ℕ) (B : List ℕ) (H : ℕ) (S : List Tree) (peak : ℕ) → solve-in N B H ≡ solved S peak → AllOrdered S
+
+-- of those, a side is 01's: the branch that is picked stays as it is
+abbrev pub SideLiteral : Type 0
+SideLiteral = (b : Bool) (k : ℕ) (F : Tree) → Ordered F → result (side b k F) ≡ result (replaced b k F)

@@ -1,8 +1,8 @@
 -- The cases marked ★ in document 01, together as one table, and the pond's listing: by computation, from the bytes on.
-use mathlib.Core.Path.{_≡_, refl}
 use mathlib.Core.Bool.{Bool, true, false, _&&_}
 use mathlib.Core.List.{List, [], _∷_, _++_}
-use Prim.Native.Nat.{ℕ, _+_, _-_, _*_, _/_, _%_}
+use Prim.Native.Nat.{ℕ, zero, suc, _+_, _-_, _*_, _/_, _%_, _<_}
+use native.Mathlib.Omega.{arith}
 use lib.Dec.{T, eqb, isEq}
 use lib.IntN.{ℤ, pos, negsuc}
 use lib.ListN.{length, replicate}
@@ -71,10 +71,22 @@ asked x d = record { mask = 0; nums = x ∷ pos 0 ∷ pos 0 ∷ pos 0 ∷ []; de
 abbrev reads : Value.ValueOut → ℕ → ℕ → Bool
 reads o v a = eqb (o .number) 0 && (eqb (o .action) a && (eqb (o .numerator .low) v && isEq (Diagram.cmpZ (o .numerator .high) (pos 0))))
 
--- h steps left at x / d: the numerator v and action a, read from the tables of a solve and worked plainly
-abbrev row : List ℕ → Solve.SolveOut → ℕ → ℤ → ℕ → ℕ → ℕ → Bool
-row B o h x d v a =
-    eqb (o .number) 0 && (reads (Value.value-of B (o .nodes) (o .stages) h (asked x d)) v a && reads (Plain.plain-of B h (asked x d)) v a)
+-- the same diagram
+abbrev is-stage : List Diagram.Tree → ℕ → Diagram.Tree → Bool
+is-stage [] h t = false
+is-stage (S ∷ l) zero t = Diagram.same S t
+is-stage (S ∷ l) (suc h) t = is-stage l h t
+
+-- x over d at no condition, as a state of a site with one level
+abbrev state : ℕ → ℤ → (d : ℕ) → 0 < d → Meaning.State
+state n x d p = record { conditions = replicate n false; nums = x ∷ []; den = d; D>0 = p }
+
+-- h steps left at x / d: the numerator v and action a, read from the tables of a solve, worked plainly, and the best expected total with the lowest action that has it
+abbrev row : List ℕ → Solve.SolveOut → ℕ → ℤ → (d : ℕ) → 0 < d → ℕ → ℕ → Bool
+row B o h x d p v a =
+    let s = state (Load.site-at B .conditions) x d p in
+    eqb (o .number) 0 && (reads (Value.value-of B (o .nodes) (o .stages) h (asked x d)) v a && (reads (Plain.plain-of B h (asked x d)) v a
+    && (isEq (Diagram.cmpZ (Process.optimum (Meaning.process (Load.model B)) h s) (pos v)) && eqb (Process.lowest-best (Meaning.process (Load.model B)) h s) a)))
 
 -- a × L1 + c, numbered with action 1
 abbrev rain-leaf : ℤ → ℤ → Diagram.Tree
@@ -85,18 +97,21 @@ pub pond-peak : T (eqb (solved pond 2 21 .peak) 21 && eqb (solved pond 2 20 .num
 unfolding definitions
 pond-peak = tt
 
--- "Marked ★, proved about the definitions together as one table"
+-- 1 and 2 are above 0
+abbrev one : 0 < 1
+one = omega arith
+
+abbrev two : 0 < 2
+two = omega arith
+
+-- "Marked ★, proved about the definitions together as one table"; its last row: "stage 2 is the leaf 200 L1 − 12,000"
 pub starred : T (let o = solved pond 2 21 in
-    row pond o 2 (pos 20) 1 100 2 && (row pond o 2 (pos 30) 1 100 2 && (row pond o 2 (pos 39) 2 100 1 && (row pond o 2 (pos 10) 1 50 1
-    && (row pond o 2 (pos 9) 1 0 1 && (row pond o 2 (negsuc 4) 1 0 1 && (row pond o 1 (pos 10) 1 50 2 && (row pond o 1 (pos 19) 2 0 1
-    && row rain (solved rain 2 30) 2 (pos 200) 1 28000 1))))))))
+    row pond o 2 (pos 20) 1 one 100 2 && (row pond o 2 (pos 30) 1 one 100 2 && (row pond o 2 (pos 39) 2 two 100 1 && (row pond o 2 (pos 10) 1 one 50 1
+    && (row pond o 2 (pos 9) 1 one 0 1 && (row pond o 2 (negsuc 4) 1 one 0 1 && (row pond o 1 (pos 10) 1 one 50 2 && (row pond o 1 (pos 19) 2 two 0 1
+    && (row rain (solved rain 2 30) 2 (pos 200) 1 one 28000 1
+    && is-stage (Computation.final (Stage.all-stages (Load.model rain) 2)) 1 (rain-leaf (pos 200) (negsuc 11999)))))))))))
 unfolding definitions
 starred = tt
-
--- "stage 2 is the leaf 200 L1 − 12,000"
-pub rain-stages : Computation.final (Stage.all-stages (Load.model rain) 2) ≡ rain-leaf (pos 10) (pos 0) ∷ rain-leaf (pos 200) (negsuc 11999) ∷ []
-unfolding definitions
-rain-stages = refl
 
 -- the pond's listing for horizon 2, as bytes
 abbrev pub pond-listing : List ℕ

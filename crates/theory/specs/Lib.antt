@@ -12,16 +12,19 @@ pub mod Load
 -- "The value that is meant"
 pub mod Process
 pub mod Meaning
+pub mod Fraction
 -- "Diagrams"
 pub mod Diagram
 pub mod Computation
 pub mod Rules
 pub mod Stage
+pub mod Ordered
 -- "Tables after solving"
 pub mod Solve
 -- "States and values"
 pub mod Value
 pub mod Plain
+pub mod Staying
 pub mod Name
 -- "The pond, and its listing"
 pub mod Listing

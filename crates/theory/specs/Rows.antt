@@ -1,49 +1,159 @@
--- "What a refusal gives", row by row: a type for each kind of outcome, a constructor for each of its rows. "No refusal is given outside its row": Demands says that every outcome is one of them.
+-- "What a refusal gives", row by row: a type for each kind of outcome, a constructor for each of its rows, with when it is given: its own condition, and that no row before it in 01's order applies.
+-- Demands says that every outcome is one of them, and that no two are rows of the same call: "No refusal is given outside its row."
 use mathlib.Core.Path.{_≡_}
 use mathlib.Core.Logic.{_⊎_}
-use mathlib.Core.Bool.{not}
-use mathlib.Core.List.{List}
-use Prim.Native.Nat.{ℕ, _+_, _-_, _≤_, _<_}
+use mathlib.Core.Bool.{true, false, not}
+use mathlib.Core.List.{List, _++_, List·Memᴰ}
+use Prim.Native.Nat.{ℕ, _+_, _-_, _*_, _≤_, _<_}
 use lib.Dec.{T, eqb}
 use lib.IntN.{ℤ, pos, natAbs}
 use lib.ListN.{length, getD, take, drop, replicate}
-use Rattle.whole.specs.declared.Numerator.{Numerator}
-use Rattle.theory.specs.Widths.{steps-most, bytes-most}
-use Rattle.theory.specs.Diagram.{Tree}
+use Rattle.whole.specs.Numerator.{words}
+use Rattle.theory.specs.Diagram.{Tree, zeros}
 use Rattle.theory.specs.Computation.{solved, refused}
-use Rattle.theory.specs.Verdict.{Verdict, refusal, verdict}
+use Rattle.theory.specs.Command.{Command, site, push-leaf, push-condition, push-test, take-reward, take-chance, take-level, name-action, end-model, whole, Placed, readings, byte-at, width, command-at}
+use Rattle.theory.specs.Verdict.{Verdict, refusal, Site, Facts, Slot, Progress, at-start, after, top, reward-slot, chance-slot, level-slot, name-slot}
 use Rattle.theory.specs.Load.{site-at, model}
-use Rattle.theory.specs.Solve.{room, solve-in, SolveOut, solved-nodes, solved-stages}
-use Rattle.theory.specs.Value.{Asked, accepted, state-of, node-word, good-row, taken, ValueOut, refused-value}
-use Rattle.theory.specs.Plain.{over, state-worth}
+use Rattle.theory.specs.Solve.{solve-in, SolveOut, solved-nodes, solved-stages}
+use Rattle.theory.specs.Value.{Asked, accepted, state-of, node-word, node-linear, high-of, numerator-of, good-row, taken, ValueOut, refused-value}
+use Rattle.theory.specs.Process.{optimum, lowest-best}
+use Rattle.theory.specs.Meaning.{process}
+use Rattle.theory.specs.Staying.{Stays}
+use Rattle.theory.specs.Name.{Part}
 use Rattle.theory.specs.Listing.{greatest-root, text, ListingOut}
+
+-- ---- what 01 asks of a command
+
+-- rules in their order: the number of each, and what it asks
+pub data Rules : Type 1 where
+  none : Rules
+  asks : ℕ → Type 0 → Rules → Rules
+
+-- each is kept
+abbrev pub Keeps : Rules → Type 0
+Keeps none = Unit {0}
+Keeps (asks k P l) = P × Keeps l
+
+-- k is the number of the first that is not
+abbrev pub Breaks : Rules → ℕ → Type 0
+Breaks none k = ⊥
+Breaks (asks j P l) k = ((P → ⊥) × (j ≡ k)) ⊎ (P × Breaks l k)
+
+-- x is a to b
+abbrev pub Range : ℕ → ℕ → ℕ → Type 0
+Range a b x = (a ≤ x) × (x ≤ b)
+
+-- "Every reward, chance and next level is given": to each action
+abbrev pub AllGiven : Site → List Slot → Type 0
+AllGiven S G = (a : ℕ) → Range 1 (S .actions) a → List·Memᴰ (reward-slot a) G
+    × (((k : ℕ) → Range 1 (S .conditions) k → List·Memᴰ (chance-slot a k) G) × ((i : ℕ) → Range 1 (S .levels) i → List·Memᴰ (level-slot a i) G))
+
+-- "01 site: m levels (1 to 4), n conditions (0 to 4), A actions (1 to 8), weight total W (1 to 100) .. It is first and only there."
+abbrev pub first-asks : Command → Rules
+first-asks (site m n a w) = asks 4 (Range 1 4 m) (asks 4 (n ≤ 4) (asks 4 (Range 1 8 a) (asks 4 (Range 1 100 w) none)))
+first-asks (push-leaf p) = asks 1 ⊥ none
+first-asks (push-condition k) = asks 1 ⊥ none
+first-asks (push-test p) = asks 1 ⊥ none
+first-asks (take-reward a) = asks 1 ⊥ none
+first-asks (take-chance a k) = asks 1 ⊥ none
+first-asks (take-level a i) = asks 1 ⊥ none
+first-asks (name-action a b) = asks 1 ⊥ none
+first-asks end-model = asks 1 ⊥ none
+
+-- of the commands behind it, with the stack K and what has been given, G: "1, operands 4, then 5, 6, diagram 4"; at the end 7
+abbrev pub later-asks : Site → List Facts → List Slot → Command → Rules
+later-asks S K G (site m n a w) = asks 1 ⊥ none
+-- "Coefficients beyond level m are zero"; "or a 33rd entry"
+later-asks S K G (push-leaf p) = asks 4 (T (zeros (drop (S .levels) (p .coeffs)))) (asks 5 (length K < 32) none)
+-- "one byte, 1 to n for a condition now, 5 to 4+n for the next step's"; "stack short"
+later-asks S K G (push-condition k) = asks 4 (Range 1 (S .conditions) k ⊎ Range 5 (4 + S .conditions) k) (asks 5 (2 ≤ length K) none)
+-- "A test has some coefficient not zero."
+later-asks S K G (push-test p) = asks 4 (T (zeros (drop (S .levels) (p .coeffs)))) (asks 4 (T (zeros (p .coeffs)) → ⊥) (asks 5 (2 ≤ length K) none))
+-- "6: given twice"; "Next-step conditions stand only in next levels."
+later-asks S K G (take-reward a) =
+    asks 4 (Range 1 (S .actions) a) (asks 5 (1 ≤ length K) (asks 6 (List·Memᴰ (reward-slot a) G → ⊥) (asks 4 (T (top K .next-step) → ⊥) none)))
+-- "The leaves of a chance are constants 0 to W"
+later-asks S K G (take-chance a k) =
+    asks 4 (Range 1 (S .actions) a) (asks 4 (Range 1 (S .conditions) k) (asks 5 (1 ≤ length K) (asks 6 (List·Memᴰ (chance-slot a k) G → ⊥)
+    (asks 4 (T (top K .next-step) → ⊥) (asks 4 (T (top K .weights)) none)))))
+later-asks S K G (take-level a i) =
+    asks 4 (Range 1 (S .actions) a) (asks 4 (Range 1 (S .levels) i) (asks 5 (1 ≤ length K) (asks 6 (List·Memᴰ (level-slot a i) G → ⊥) none)))
+-- "30 name: action, 16 bytes, each 20 to 7E. Optional; at most one per action."
+later-asks S K G (name-action a b) =
+    asks 4 (Range 1 (S .actions) a) (asks 4 ((x : ℕ) → List·Memᴰ x b → Range 0x20 0x7e x) (asks 6 (List·Memᴰ (name-slot a) G → ⊥) none))
+-- "7: at end, something missing or stack not empty"
+later-asks S K G end-model = asks 7 (AllGiven S G) (asks 7 (length K ≡ 0) none)
+
+-- of a command, first or later
+abbrev pub asks-of : Progress → Command → Rules
+asks-of s c = elim (s .begun) [ true ↦ later-asks (s .site) (s .stack) (s .given) c | false ↦ first-asks c ]
 
 -- ---- numbers 1 to 8, and those of every call that takes a model
 
--- "the model by offset"
-pub data VerdictRow (B : List ℕ) : Verdict → Type 0 where
-  -- "Success has number and place 0."
-  verdict-0 : VerdictRow B (refusal 0 0)
-  -- "offset of the command", for 8 "offset of the extra byte"
-  verdict-1-8 : {k p : ℕ} → 1 ≤ k → k ≤ 8 → p < length B → VerdictRow B (refusal k p)
-  -- "2: .. no end command (then at the length)"
-  verdict-2 : VerdictRow B (refusal 2 (length B))
+module _ (B : List ℕ) where
+  -- neither 3 nor 2 at an offset
+  pub record Whole (at : ℕ) : Type 0 where
+    pub known : 1 ≤ width (byte-at B at)
+    pub inside : at + width (byte-at B at) ≤ length B
 
--- number and place of what comes before the rows that a call has of its own
-pub data EarlyRow (B : List ℕ) (steps size : ℕ) : ℕ → ℕ → Type 0 where
-  -- "10: stage words not eight, or model above 65,535 bytes"
-  early-10 : (size ≡ steps-most → length B ≤ bytes-most → ⊥) → EarlyRow B steps size 10 0
-  -- "9: horizon or steps not 1 to 8"
-  early-9 : (1 ≤ steps → steps ≤ steps-most → ⊥) → EarlyRow B steps size 9 0
-  -- the model's own
-  early-1-8 : {k p : ℕ} → verdict B ≡ refusal k p → 1 ≤ k → k ≤ 8 → p ≤ length B → EarlyRow B steps size k p
+  -- "the model by offset": a command comes at an offset where each before it is whole, keeps its rules and is not the end
+  pub data Comes : ℕ → Progress → Type 0 where
+    comes-first : Comes 0 at-start
+    comes-next : {at : ℕ} {s : Progress} → Comes at s → Whole at → Keeps (asks-of s (command-at B at)) → (command-at B at ≡ end-model → ⊥)
+        → Comes (at + width (byte-at B at)) (after s (command-at B at))
+
+  -- an end command comes at an offset and keeps its rules
+  pub record EndsAt (at : ℕ) : Type 0 where
+    pub so-far : Progress
+    pub comes : Comes at so-far
+    pub whole : Whole at
+    pub end : command-at B at ≡ end-model
+    pub keeps : Keeps (asks-of so-far end-model)
+
+  pub data VerdictRow : Verdict → Type 0 where
+    -- "Success has number and place 0."
+    verdict-0 : {at : ℕ} → EndsAt at → at + 1 ≡ length B → VerdictRow (refusal 0 0)
+    -- "3: unknown byte"
+    verdict-3 : {at : ℕ} {s : Progress} → Comes at s → at < length B → width (byte-at B at) ≡ 0 → VerdictRow (refusal 3 at)
+    -- "2: bytes end before it is whole"
+    verdict-2 : {at : ℕ} {s : Progress} → Comes at s → at < length B → 1 ≤ width (byte-at B at) → length B < at + width (byte-at B at) → VerdictRow (refusal 2 at)
+    -- "or no end command (then at the length)"
+    verdict-2-end : {s : Progress} → Comes (length B) s → VerdictRow (refusal 2 (length B))
+    -- 1, 4, 5, 6, 7: the first rule that it breaks
+    verdict-1-7 : {k at : ℕ} {s : Progress} → Comes at s → Whole at → Breaks (asks-of s (command-at B at)) k → VerdictRow (refusal k at)
+    -- "offset of the extra byte .. 8: bytes after end"
+    verdict-8 : {at : ℕ} → EndsAt at → at + 1 < length B → VerdictRow (refusal 8 (at + 1))
+
+module _ (B : List ℕ) (steps size : ℕ) where
+  -- neither 10 nor 9 nor a number of the model's own
+  pub record Admitted : Type 0 where
+    pub eight : size ≡ 8
+    pub bytes : length B ≤ 65535
+    pub horizon : Range 1 8 steps
+    pub own : VerdictRow B (refusal 0 0)
+
+  -- number and place of what comes before the rows that a call has of its own
+  pub data EarlyRow : ℕ → ℕ → Type 0 where
+    -- "10: stage words not eight, or model above 65,535 bytes"
+    early-10 : (size ≡ 8 → length B ≤ 65535 → ⊥) → EarlyRow 10 0
+    -- "9: horizon or steps not 1 to 8"
+    early-9 : size ≡ 8 → length B ≤ 65535 → (Range 1 8 steps → ⊥) → EarlyRow 9 0
+    -- the model's own
+    early-1-8 : {k p : ℕ} → size ≡ 8 → length B ≤ 65535 → Range 1 8 steps → VerdictRow B (refusal k p) → 1 ≤ k → EarlyRow k p
 
 -- ---- solve
 
--- the tables and the peak after solving
+-- "What the tables hold, N, is the least of node words ÷ 8, work words ÷ 8 and 65,535, rounded down."
+pub record Room (nodes work N : ℕ) : Type 0 where
+  pub in-nodes : N * 8 ≤ nodes
+  pub in-work : N * 8 ≤ work
+  pub most : N ≤ 65535
+  pub no-more : (k : ℕ) → k * 8 ≤ nodes → k * 8 ≤ work → k ≤ 65535 → k ≤ N
+
+-- the tables and the peak after solving; "last 11 or 12": what is met first is FirstMet of Demands
 pub data SolveRow (B : List ℕ) (H : ℕ) (nodes : List ℤ) (stages work : List ℕ) : SolveOut → Type 0 where
   -- solved: every lent word is settled, and as many are left as were lent
-  solve-0 : {S : List Tree} {peak : ℕ} → solve-in (room (length nodes) (length work)) B H ≡ solved S peak
+  solve-0 : {N : ℕ} {S : List Tree} {peak : ℕ} → Admitted B H (length stages) → Room (length nodes) (length work) N → solve-in N B H ≡ solved S peak
       → length (solved-nodes (length nodes) S) ≡ length nodes → length (solved-stages S) ≡ length stages
       → SolveRow B H nodes stages work (record {
         number = 0;
@@ -57,7 +167,7 @@ pub data SolveRow (B : List ℕ) (H : ℕ) (nodes : List ℤ) (stages work : Lis
   solve-1-10 : {k p : ℕ} → EarlyRow B H (length stages) k p
       → SolveRow B H nodes stages work (record { number = k; place = p; peak = 0; nodes = nodes; stages = stages; work = work })
   -- "stage, 0 while loading": 11 or 12, "tables, stages, work all zero"
-  solve-11-12 : {k h : ℕ} → solve-in (room (length nodes) (length work)) B H ≡ refused k h → (k ≡ 11) ⊎ (k ≡ 12) → h ≤ H
+  solve-11-12 : {N k h : ℕ} → Admitted B H (length stages) → Room (length nodes) (length work) N → solve-in N B H ≡ refused k h → (k ≡ 11) ⊎ (k ≡ 12) → h ≤ H
       → SolveRow B H nodes stages work (record {
         number = k;
         place = h;
@@ -74,52 +184,89 @@ pub data OnWalk (n A : ℕ) (q : Asked) (W : List ℤ) (root : ℕ) : ℕ → Ty
   first-met : OnWalk n A q W root root
   then-met : {r : ℕ} → OnWalk n A q W root r → T (good-row n A W r) → T (not (eqb (natAbs (node-word W r 0)) 0)) → OnWalk n A q W root (taken n q W r)
 
--- a value and an action
-pub data ValueRow (B : List ℕ) (nodes : List ℤ) (stages : List ℕ) (steps : ℕ) (q : Asked) : ValueOut → Type 0 where
-  -- read: an action of the model
-  value-0 : {a : ℕ} {v : Numerator} → 1 ≤ a → a ≤ site-at B .actions → ValueRow B nodes stages steps q (record { number = 0; place = 0; action = a; numerator = v })
-  value-1-10 : {k p : ℕ} → EarlyRow B steps (length stages) k p → ValueRow B nodes stages steps q (refused-value k p)
-  -- "13: D < 1, mask bit n or above, nonzero numerator beyond m"
-  value-13 : T (not (accepted (site-at B .levels) (site-at B .conditions) q)) → ValueRow B nodes stages steps q (refused-value 13 0)
-  -- "14: a node on the walk .. is outside the table, has a kind not 0 to 2 .."
-  value-14 : {r : ℕ} → OnWalk (site-at B .conditions) (site-at B .actions) q nodes (getD stages (steps - 1) 0) r
-      → T (not (good-row (site-at B .conditions) (site-at B .actions) nodes r)) → ValueRow B nodes stages steps q (refused-value 14 0)
-  -- "15: stage word 0"
-  value-15 : getD stages (steps - 1) 0 ≡ 0 → ValueRow B nodes stages steps q (refused-value 15 0)
+-- a value and an action: "then .. 13, 15, 14"
+module _ (B : List ℕ) (nodes : List ℤ) (stages : List ℕ) (steps : ℕ) (q : Asked) where
+  -- no early row, and not 13
+  pub record Stated : Type 0 where
+    pub early : Admitted B steps (length stages)
+    pub state : T (accepted (site-at B .levels) (site-at B .conditions) q)
+
+  pub data ValueRow : ValueOut → Type 0 where
+    -- read: the walk ends at a leaf, its action one of the model's
+    value-0 : {r : ℕ} → Stated → 1 ≤ getD stages (steps - 1) 0 → OnWalk (site-at B .conditions) (site-at B .actions) q nodes (getD stages (steps - 1) 0) r
+        → T (good-row (site-at B .conditions) (site-at B .actions) nodes r) → T (eqb (natAbs (node-word nodes r 0)) 0) → Range 1 (site-at B .actions) (natAbs (high-of nodes r))
+        → ValueRow (record { number = 0; place = 0; action = natAbs (high-of nodes r); numerator = words (numerator-of q (node-linear nodes r)) })
+    value-1-10 : {k p : ℕ} → EarlyRow B steps (length stages) k p → ValueRow (refused-value k p)
+    -- "13: D < 1, mask bit n or above, nonzero numerator beyond m"
+    value-13 : Admitted B steps (length stages) → T (not (accepted (site-at B .levels) (site-at B .conditions) q)) → ValueRow (refused-value 13 0)
+    -- "15: stage word 0"
+    value-15 : Stated → getD stages (steps - 1) 0 ≡ 0 → ValueRow (refused-value 15 0)
+    -- "14: a node on the walk .. is outside the table, has a kind not 0 to 2 .."
+    value-14 : {r : ℕ} → Stated → 1 ≤ getD stages (steps - 1) 0 → OnWalk (site-at B .conditions) (site-at B .actions) q nodes (getD stages (steps - 1) 0) r
+        → T (not (good-row (site-at B .conditions) (site-at B .actions) nodes r)) → ValueRow (refused-value 14 0)
 
 -- ---- plain working
 
 -- the same by plain working, which is lent no stage words
 pub data PlainRow (B : List ℕ) (steps : ℕ) (q : Asked) : ValueOut → Type 0 where
-  plain-0 : {a : ℕ} {v : Numerator} → 1 ≤ a → a ≤ site-at B .actions → PlainRow B steps q (record { number = 0; place = 0; action = a; numerator = v })
-  plain-1-10 : {k p : ℕ} → EarlyRow B steps steps-most k p → PlainRow B steps q (refused-value k p)
-  plain-13 : T (not (accepted (site-at B .levels) (site-at B .conditions) q)) → PlainRow B steps q (refused-value 13 0)
+  -- answered: no number leaves its limits
+  plain-0 : Admitted B steps 8 → (t : T (accepted (site-at B .levels) (site-at B .conditions) q)) → Stays (model B) steps (state-of (site-at B .levels) (site-at B .conditions) q t)
+      → Range 1 (site-at B .actions) (lowest-best (process (model B)) steps (state-of (site-at B .levels) (site-at B .conditions) q t))
+      → PlainRow B steps q (record {
+        number = 0;
+        place = 0;
+        action = lowest-best (process (model B)) steps (state-of (site-at B .levels) (site-at B .conditions) q t);
+        numerator = words (optimum (process (model B)) steps (state-of (site-at B .levels) (site-at B .conditions) q t));
+      })
+  plain-1-10 : {k p : ℕ} → EarlyRow B steps 8 k p → PlainRow B steps q (refused-value k p)
+  plain-13 : Admitted B steps 8 → T (not (accepted (site-at B .levels) (site-at B .conditions) q)) → PlainRow B steps q (refused-value 13 0)
   -- "stage, 0 .. in plain working": 11
-  plain-11 : (t : T (accepted (site-at B .levels) (site-at B .conditions) q)) → state-worth (model B) steps (state-of (site-at B .levels) (site-at B .conditions) q t) ≡ over
-      → PlainRow B steps q (refused-value 11 0)
+  plain-11 : Admitted B steps 8 → (t : T (accepted (site-at B .levels) (site-at B .conditions) q))
+      → (Stays (model B) steps (state-of (site-at B .levels) (site-at B .conditions) q t) → ⊥) → PlainRow B steps q (refused-value 11 0)
 
 -- ---- name
 
 -- number and place of a name, which takes neither steps nor stage words: never 9
 pub data NameRow (B : List ℕ) (a : ℕ) : Verdict → Type 0 where
-  name-0 : 1 ≤ a → a ≤ site-at B .actions → NameRow B a (refusal 0 0)
-  name-1-10 : {k p : ℕ} → EarlyRow B 1 steps-most k p → NameRow B a (refusal k p)
+  name-0 : Admitted B 1 8 → Range 1 (site-at B .actions) a → NameRow B a (refusal 0 0)
+  name-1-10 : {k p : ℕ} → EarlyRow B 1 8 k p → NameRow B a (refusal k p)
   -- "16: action not 1 to A"
-  name-16 : (1 ≤ a → a ≤ site-at B .actions → ⊥) → NameRow B a (refusal 16 0)
+  name-16 : Admitted B 1 8 → (Range 1 (site-at B .actions) a → ⊥) → NameRow B a (refusal 16 0)
+
+-- "An action's name is that part of the model itself, without its trailing spaces; empty if it has none or the call is refused"
+pub data NamePartRow (B : List ℕ) (a : ℕ) : Part → Type 0 where
+  -- the 16 bytes of the command that names it, behind its byte and its action, are the name and then spaces; it does not end in one
+  name-given : {at size : ℕ} {t : List ℕ} → NameRow B a (refusal 0 0) → List·Memᴰ (record { at = at; read = whole (name-action a t) }) (readings B)
+      → size ≤ 16 → take size (drop (at + 2) B) ++ replicate (16 - size) 0x20 ≡ t → (size ≡ 0) ⊎ (getD (drop (at + 2) B) (size - 1) 0 ≡ 0x20 → ⊥)
+      → NamePartRow B a (record { start = at + 2; size = size })
+  name-empty : NameRow B a (refusal 0 0) → ((at : ℕ) (t : List ℕ) → List·Memᴰ (record { at = at; read = whole (name-action a t) }) (readings B) → ⊥)
+      → NamePartRow B a (record { start = 0; size = 0 })
+  name-refused : {v : Verdict} → NameRow B a v → 1 ≤ v .number → NamePartRow B a (record { start = 0; size = 0 })
 
 -- ---- listing
 
--- a listing and its buffer
-pub data ListingRow (B : List ℕ) (H : ℕ) (nodes : List ℤ) (stages buffer : List ℕ) (at : ℕ) : ListingOut → Type 0 where
-  -- written: the text from the stated place on, "touches nothing before it", nor behind the text
-  listing-0 : {size : ℕ} {after : List ℕ} → size ≡ length (text (site-at B) H nodes stages) → at + size ≤ length buffer → length after ≡ length buffer
-      → take at after ≡ take at buffer → take size (drop at after) ≡ text (site-at B) H nodes stages → drop (at + size) after ≡ drop (at + size) buffer
-      → ListingRow B H nodes stages buffer at (record { number = 0; place = 0; size = size; buffer = after })
-  listing-1-10 : {k p : ℕ} → EarlyRow B H (length stages) k p → ListingRow B H nodes stages buffer at (record { number = k; place = p; size = 0; buffer = buffer })
-  -- "14: a node .. (in a listing, any up to the greatest root)"
-  listing-14 : {r : ℕ} → 1 ≤ r → r ≤ greatest-root H stages → T (not (good-row (site-at B .conditions) (site-at B .actions) nodes r))
-      → ListingRow B H nodes stages buffer at (record { number = 14; place = 0; size = 0; buffer = buffer })
-  -- "15: stage word 0"
-  listing-15 : {h : ℕ} → 1 ≤ h → h ≤ H → getD stages (h - 1) 0 ≡ 0 → ListingRow B H nodes stages buffer at (record { number = 15; place = 0; size = 0; buffer = buffer })
-  -- "17: buffer too short, or the stated place past its end"
-  listing-17 : length buffer < at + length (text (site-at B) H nodes stages) → ListingRow B H nodes stages buffer at (record { number = 17; place = 0; size = 0; buffer = buffer })
+-- a listing and its buffer: "then .. 15, 14, 17"
+module _ (B : List ℕ) (H : ℕ) (nodes : List ℤ) (stages buffer : List ℕ) (at : ℕ) where
+  -- no early row, and not 15
+  pub record Rooted : Type 0 where
+    pub early : Admitted B H (length stages)
+    pub roots : (h : ℕ) → Range 1 H h → 1 ≤ getD stages (h - 1) 0
+
+  -- .. nor 14
+  pub record Tabled : Type 0 where
+    pub rooted : Rooted
+    pub rows : (r : ℕ) → Range 1 (greatest-root H stages) r → T (good-row (site-at B .conditions) (site-at B .actions) nodes r)
+
+  pub data ListingRow : ListingOut → Type 0 where
+    -- written: the text from the stated place on, "touches nothing before it", nor behind the text
+    listing-0 : {size : ℕ} {after : List ℕ} → Tabled → size ≡ length (text (site-at B) H nodes stages) → at + size ≤ length buffer → length after ≡ length buffer
+        → take at after ≡ take at buffer → take size (drop at after) ≡ text (site-at B) H nodes stages → drop (at + size) after ≡ drop (at + size) buffer
+        → ListingRow (record { number = 0; place = 0; size = size; buffer = after })
+    listing-1-10 : {k p : ℕ} → EarlyRow B H (length stages) k p → ListingRow (record { number = k; place = p; size = 0; buffer = buffer })
+    -- "15: stage word 0"
+    listing-15 : {h : ℕ} → Admitted B H (length stages) → Range 1 H h → getD stages (h - 1) 0 ≡ 0 → ListingRow (record { number = 15; place = 0; size = 0; buffer = buffer })
+    -- "14: a node .. (in a listing, any up to the greatest root)"
+    listing-14 : {r : ℕ} → Rooted → Range 1 (greatest-root H stages) r → T (not (good-row (site-at B .conditions) (site-at B .actions) nodes r))
+        → ListingRow (record { number = 14; place = 0; size = 0; buffer = buffer })
+    -- "17: buffer too short, or the stated place past its end"
+    listing-17 : Tabled → length buffer < at + length (text (site-at B) H nodes stages) → ListingRow (record { number = 17; place = 0; size = 0; buffer = buffer })

@@ -7,6 +7,8 @@ pub mod Inside
 pub mod Safe
 -- which tests and leaves stand in diagrams, in an accepted model and in its stages
 pub mod Nodes
+pub mod Order
+pub mod Ordered
 pub mod Valid
 pub mod Loading
 pub mod Good
@@ -14,7 +16,9 @@ pub mod Good
 pub mod Process
 pub mod Values
 pub mod Expectation
+pub mod Weights
 pub mod Stages
+pub mod Formula
 -- tables: nodes and their numbers, counts, words, readings
 pub mod Table
 pub mod Counting
@@ -23,9 +27,14 @@ pub mod Reading
 -- refusals, peak and rows
 pub mod Refusals
 pub mod Chain
+pub mod Rules
 pub mod Rows
+pub mod Name
+-- the order down a path
+pub mod OrderedStages
 -- plain working and equal fractions
 pub mod Plain
+pub mod Staying
 pub mod SameValue
 -- the demands
 pub mod Demands

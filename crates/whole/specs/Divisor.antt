@@ -1,8 +1,9 @@
--- The greatest common divisor, and its laws: it divides each number, and division by it is exact.
+-- The greatest common divisor, and its laws: it divides each number, each common divisor divides it, and division by it is exact.
 use mathlib.Core.Path.{_≡_, refl, sym, ap, ap₂, _∙_}
 use mathlib.Core.Bool.{Bool, true, false, not}
-use mathlib.Core.List.{List, [], _∷_}
-use Prim.Native.Nat.{ℕ, zero, suc, _+_, _*_, _/_, _%_, _≤_, _<_}
+use mathlib.Core.List.{List, [], _∷_, List·Memᴰ, List·Memᴰ·head, List·Memᴰ·tail, List·Memᴰ·cases-cons, List·Memᴰ·not-nil}
+use mathlib.Core.Logic.{⊎-elim}
+use Prim.Native.Nat.{ℕ, zero, suc, _+_, _-_, _*_, _/_, _%_, _≤_, _<_}
 use native.Mathlib.Omega.{arith}
 use native.Mathlib.Nat as N
 use lib.Dec.{T, eqb, eqb→eq}
@@ -67,6 +68,46 @@ gcd-left a b = turns-divides b a b (N.le-refl b) .0
 pub gcd-right : (a b : ℕ) → Divides (gcdOf a b) b
 unfolding gcdOf
 gcd-right a b = turns-divides b a b (N.le-refl b) .1
+
+-- ---- it is the greatest: what divides both divides it
+
+rest-multiple : (g a b r k t u : ℕ) → a ≡ k * b + r → a ≡ t * g → b ≡ u * g → r ≡ (t - k * u) * g
+rest-multiple g a b r k t u e p q = sym (N.mul-comm (t - k * u) g ∙ N.mul-sub g t (k * u) ∙ rest (g * t) (k * b) r (g * (k * u)) (N.mul-comm g t ∙ sym p ∙ e) (rw q (omega arith)))
+  where
+    rest : (x y r z : ℕ) → x ≡ y + r → y ≡ z → x - z ≡ r
+    rest x y r z e d = omega arith
+
+divides-rest : (g a b : ℕ) → Divides g a → Divides g b → Divides g (a % b)
+divides-rest g a b d c = record {
+  times = d .times - (a / b) * c .times;
+  is = rest-multiple g a b (a % b) (a / b) (d .times) (c .times) (sym (N.div-add-mod' a b)) (d .is) (c .is);
+}
+
+turns-greatest : (g k a b : ℕ) → Divides g a → Divides g b → Divides g (gcdBy k a b)
+unfolding gcdBy
+turns-greatest g zero a b d c = d
+turns-greatest g (suc k) a zero d c = d
+turns-greatest g (suc k) a (suc b) d c = turns-greatest g k (suc b) (a % suc b) c (divides-rest g a (suc b) d c)
+
+-- "greatest common divisor": each common divisor divides it
+pub gcd-greatest : (g a b : ℕ) → Divides g a → Divides g b → Divides g (gcdOf a b)
+unfolding gcdOf
+gcd-greatest g a b d c = turns-greatest g b a b d c
+
+-- .. and so of a list
+pub gcd-all-greatest : (g : ℕ) (l : List ℤ) → ((z : ℤ) → List·Memᴰ z l → Divides g (natAbs z)) → Divides g (gcd-all l)
+unfolding gcd-all
+gcd-all-greatest g [] f = zero-multiple g
+gcd-all-greatest g (z ∷ l) f = gcd-greatest g (natAbs z) (gcd-all l) (f z (List·Memᴰ·head refl)) (gcd-all-greatest g l (λ y m. f y (List·Memᴰ·tail m)))
+
+-- .. and it divides each of them
+pub gcd-all-divides : (l : List ℤ) (z : ℤ) → List·Memᴰ z l → Divides (gcd-all l) (natAbs z)
+unfolding gcd-all
+gcd-all-divides [] z m = absurd (List·Memᴰ·not-nil m)
+gcd-all-divides (y ∷ l) z m = ⊎-elim
+    (λ i. rw i (gcd-left (natAbs y) (gcd-all l)))
+    (λ i. divides-trans _ (gcd-all l) (natAbs z) (gcd-right (natAbs y) (gcd-all l)) (gcd-all-divides l z i))
+    (List·Memᴰ·cases-cons m)
 
 one-divides : (a : ℕ) → Divides 1 a
 one-divides a = record { times = a; is = omega arith }

@@ -30,7 +30,7 @@ cmpZ-eq (pos a) (negsuc b) t = absurd t
 cmpZ-eq (negsuc a) (pos b) t = absurd t
 cmpZ-eq (negsuc a) (negsuc b) t = ap negsuc (sym (eqb→eq b a t))
 
-cmpList-eq : (a b : List ℤ) → T (isEq (cmpList a b)) → a ≡ b
+pub cmpList-eq : (a b : List ℤ) → T (isEq (cmpList a b)) → a ≡ b
 unfolding cmpList
 cmpList-eq [] [] t = refl
 cmpList-eq [] (b ∷ s) t = absurd t
@@ -87,7 +87,7 @@ pub cmpZ-refl : (a : ℤ) → cmpZ a a ≡ Ordering·eq
 cmpZ-refl (pos a) = order-refl a
 cmpZ-refl (negsuc a) = order-refl a
 
-cmpList-refl : (a : List ℤ) → cmpList a a ≡ Ordering·eq
+pub cmpList-refl : (a : List ℤ) → cmpList a a ≡ Ordering·eq
 unfolding cmpList
 cmpList-refl [] = refl
 cmpList-refl (a ∷ r) = ap (λ (o : Ordering). then o (cmpList r r)) (cmpZ-refl a) ∙ cmpList-refl r

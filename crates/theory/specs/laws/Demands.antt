@@ -1,5 +1,5 @@
 -- The demands, proved: a term of each type of Demands.
-use mathlib.Core.Path.{_≡_, refl, sym, ap, ap₂, _∙_}
+use mathlib.Core.Path.{_≡_, refl, sym, ap, ap₂, _∙_, subst}
 use mathlib.Core.Logic.{⊎-elim}
 use mathlib.Core.Bool.{Bool}
 use mathlib.Core.List.{List, []}
@@ -25,13 +25,19 @@ use Rattle.theory.specs.Load.{model}
 use Rattle.theory.specs.Solve.{room, solve-in, SolveOut, solve-left, early, solve, solved-nodes, solved-stages}
 use Rattle.theory.specs.Value.{value-of}
 use Rattle.theory.specs.Listing.{greatest-root}
-use Rattle.theory.specs.Demands.{Solving, left, start, site, reading, Exact, Optimal, PlainAgrees, SameValue, FirstMet, SolvedExactly, CountsDistinct, PeakDecides, VerdictRows, SolveRows, ValueRows, PlainRows, NameRows, ListingRows, TablesHold}
+use Rattle.theory.specs.Demands.{Solving, left, start, site, reading, Exact, Optimal, PlainAgrees, SameValue, FirstMet, SolvedExactly, CountsDistinct, PeakDecides, VerdictRows, SolveRows, ValueRows, PlainRows, NameRows, NameParts, ListingRows, VerdictRowOne, SolveRowOne, ValueRowOne, PlainRowOne, NameRowOne, ListingRowOne, Formula, WeightsSum, LoadedOrdered, StagesOrdered, SideLiteral, TablesHold}
+use Rattle.theory.specs.Rows.{VerdictRow, SolveRow, ValueRow, PlainRow, NameRow, ListingRow}
 use Rattle.theory.specs.laws.Loading.{accepted-valid, accepted-site}
 use Rattle.theory.specs.laws.Good.{stages-good}
 use Rattle.theory.specs.laws.Stages.{stages-at, stage-of}
 use Rattle.theory.specs.laws.Reading.{reading-exact, root-last}
 use Rattle.theory.specs.laws.Rows.{Passed, by-early, early-some, passed-not, solve-runs}
 use Rattle.theory.specs.laws.Rows as Rows
+use Rattle.theory.specs.laws.Name as Name
+use Rattle.theory.specs.laws.Formula as Formulas
+use Rattle.theory.specs.laws.Weights as Weights
+use Rattle.theory.specs.laws.Ordered as Ordered
+use Rattle.theory.specs.laws.OrderedStages as OrderedStages
 use Rattle.theory.specs.laws.Process.{policy-theorem}
 use Rattle.theory.specs.laws.Plain as Plain
 use Rattle.theory.specs.laws.SameValue as SameValue
@@ -157,6 +163,42 @@ name-rows = Rows.name-row
 
 pub listing-rows : ListingRows
 listing-rows = Rows.listing-row
+
+pub name-parts : NameParts
+name-parts = Name.name-part-row
+
+pub verdict-row-one : VerdictRowOne
+verdict-row-one B v = (λ r. Rows.verdict-is B r, λ e. subst (VerdictRow B) e (Rows.verdict-row B))
+
+pub solve-row-one : SolveRowOne
+solve-row-one B H nodes stages work o = (λ r. Rows.solve-is B H nodes stages work r, λ e. subst (SolveRow B H nodes stages work) e (Rows.solve-row B H nodes stages work))
+
+pub value-row-one : ValueRowOne
+value-row-one B nodes stages steps q o = (λ r. Rows.value-is B nodes stages steps q r, λ e. subst (ValueRow B nodes stages steps q) e (Rows.value-row B nodes stages steps q))
+
+pub plain-row-one : PlainRowOne
+plain-row-one B steps q o = (λ r. Rows.plain-is B steps q r, λ e. subst (PlainRow B steps q) e (Rows.plain-row B steps q))
+
+pub name-row-one : NameRowOne
+name-row-one B a v = (λ r. Rows.name-is B a r, λ e. subst (NameRow B a) e (Rows.name-row B a))
+
+pub listing-row-one : ListingRowOne
+listing-row-one B H nodes stages buffer at o = (λ r. Rows.listing-is B H nodes stages buffer at r, λ e. subst (ListingRow B H nodes stages buffer at) e (Rows.listing-row B H nodes stages buffer at))
+
+pub formula-holds : Formula
+formula-holds = Formulas.formula-holds
+
+pub weights-sum : WeightsSum
+weights-sum = Weights.weights-sum
+
+pub loaded-ordered : LoadedOrdered
+loaded-ordered = OrderedStages.loaded-ordered
+
+pub stages-ordered : StagesOrdered
+stages-ordered = OrderedStages.solved-ordered
+
+pub side-literal : SideLiteral
+side-literal = Ordered.side-literal
 
 pub tables-hold : TablesHold
 tables-hold N B H S peak e = ap (λ (n : ℕ). greatest-root n (solved-stages S)) (sym (Rows.solved-length N B H S peak e)) ∙ root-last S

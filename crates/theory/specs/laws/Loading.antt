@@ -56,7 +56,7 @@ unfolding all from-to
 all-from p f b zero h = tt
 all-from p f b (suc k) h = and-in (p (f b)) (all p (map f (from-to (suc b) k))) (h b (omega arith) (omega arith)) (all-from p f (suc b) k (λ a u v. h a (omega arith) (omega arith)))
 
-from-all : {A : Type 0} (p : A → Bool) (f : ℕ → A) (b k : ℕ) → T (all p (map f (from-to b k))) → (a : ℕ) → b ≤ a → a < b + k → T (p (f a))
+pub from-all : {A : Type 0} (p : A → Bool) (f : ℕ → A) (b k : ℕ) → T (all p (map f (from-to b k))) → (a : ℕ) → b ≤ a → a < b + k → T (p (f a))
 unfolding all from-to
 from-all p f b zero t a u v = absurd (omega arith)
 from-all p f b (suc k) t a u v =
@@ -77,7 +77,7 @@ all-append p (x ∷ l) r t =
     (and-in (p x) (all p l) (d .0) (c .0), c .1)
 
 -- all that is wanted, action by action
-wanted-each : (p : Slot → Bool) (S : Site) (b k : ℕ) → T (all p (wanted-by S (from-to b k))) → (a : ℕ) → b ≤ a → a < b + k
+pub wanted-each : (p : Slot → Bool) (S : Site) (b k : ℕ) → T (all p (wanted-by S (from-to b k))) → (a : ℕ) → b ≤ a → a < b + k
     → T (p (reward-slot a)) × (T (all p (map (chance-slot a) (from-to 1 (S .conditions)))) × T (all p (map (level-slot a) (from-to 1 (S .levels)))))
 unfolding all wanted-by from-to
 wanted-each p S b zero t a u v = absurd (omega arith)

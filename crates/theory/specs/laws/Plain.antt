@@ -40,10 +40,10 @@ first-action M = refl
 
 -- ---- sums over settings
 
-no-answer : {A : Type 0} (v : ℤ) (a : ℕ) → over ≡ is v a → A
+pub no-answer : {A : Type 0} (v : ℤ) (a : ℕ) → over ≡ is v a → A
 no-answer v a e = absurd (let z : _≡_ {A = ℕ} 0 1 = cc in omega arith)
 
-if-answer : (b : Bool) (x : Worth) (v : ℤ) (a : ℕ) → if b x over ≡ is v a → x ≡ is v a
+pub if-answer : (b : Bool) (x : Worth) (v : ℤ) (a : ℕ) → if b x over ≡ is v a → x ≡ is v a
 if-answer true x v a e = e
 if-answer false x v a e = no-answer v a e
 

@@ -1,119 +1,246 @@
 -- Every outcome is one row of "What a refusal gives".
-use mathlib.Core.Path.{_≡_, refl, sym, ap, _∙_, subst}
-use mathlib.Core.Logic.{_⊎_, inl, inr}
+use mathlib.Core.Path.{_≡_, refl, sym, ap, ap₂, _∙_, subst}
+use mathlib.Core.Logic.{_⊎_, inl, inr, ⊎-elim}
 use mathlib.Core.Bool.{Bool, true, false, not, _&&_}
 use mathlib.Core.List.{List, [], _∷_, _++_}
 use Prim.Native.Nat.{ℕ, zero, suc, _+_, _-_, _*_, _/_, _≤_, _<_, min}
-use native.Mathlib.Nat.{le-refl, min-le-left, div-mul-le-self}
+use native.Mathlib.Nat.{le-refl, min-le-left, min-le-right, le-min, le-div-iff-mul-le, div-mul-le-self}
 use native.Mathlib.Omega.{arith}
 use borrow.Author.Tests.{ne-eqb}
-use lib.Dec.{T, T-not, eqb, ltb, leb, eqb→eq, eqb-refl, leb→le, ltb→lt, nltb→le}
+use lib.Dec.{T, T-not, eqb, ltb, leb, eqb→eq, eqb-refl, leb→le, nleb→lt, ltb→lt, lt→ltb, nltb→le}
 use lib.IntN.{ℤ, pos, negsuc, natAbs}
-use lib.ListN.{length, getD, take, drop, replicate, length-append, length-replicate, length-drop}
+use lib.ListN.{length, getD, take, drop, replicate, length-append, length-replicate, length-drop, take-append-drop}
 use lib.Seq.{length-take-le, take-at, drop-at, drop-drop, take-append-seam, drop-append-seam}
 use lib.Signed.{leZ}
-use Rattle.whole.specs.Cases.{if, by-test, both, not-not}
+use Rattle.whole.specs.Cases.{if, by-test, both, and-in, not-not}
 use Rattle.whole.specs.Numerator.{words}
 use Rattle.theory.specs.Widths.{levels-most, steps-most, bytes-most, node-words, nodes-most}
 use Rattle.theory.specs.Diagram.{Tree, zeros}
 use Rattle.theory.specs.Computation.{Out, done, stopped, result, run, Solved, solved, refused, run-all}
-use Rattle.theory.specs.Meaning.{Action, Model, State, nth}
+use Rattle.theory.specs.Process.{optimum, lowest-best}
+use Rattle.theory.specs.Meaning.{Action, Model, State, nth, process}
 use Rattle.theory.specs.Stage.{all-stages}
 use Rattle.theory.specs.Valid.{all, among, small-linear}
-use Rattle.theory.specs.Command.{Command, site, push-leaf, push-condition, push-test, take-reward, take-chance, take-level, name-action, end-model, whole, byte-at, width, command-at, goes-on, readings-from, readings}
+use Rattle.theory.specs.Command.{Command, site, push-leaf, push-condition, push-test, take-reward, take-chance, take-level, name-action, end-model, Read, whole, unknown, short, byte-at, width, command-at, read-at, goes-on, readings-from, readings}
 use Rattle.theory.specs.Verdict.{Verdict, Site, refusal, Progress, Rule, first-broken, site-rules, first-rules, later-rules, rules-of, after, ended, judged, at-start, verdict, from-to, or}
 use Rattle.theory.specs.Load.{site-at, load, model}
-use Rattle.theory.specs.Solve.{room, solve-in, table-of, rows, solved-nodes, solve-left, early, solve}
+use Rattle.theory.specs.Solve.{room, solve-in, table-of, rows, SolveOut, solved-nodes, solve-left, early, solve}
 use Rattle.theory.specs.Value.{Asked, accepted, bits, numerator-of, state-of, node-word, node-linear, high-of, low-of, amongZ, good-branches, good-leaf-row, good-condition-row, good-test-row, good-row, taken, walk, ValueOut, refused-value, value-at, value-of}
 use Rattle.theory.specs.Plain.{Worth, is, over, better, try-actions, numbered, action-worth, state-worth, worth-out, if-true, plain-of}
 use Rattle.theory.specs.Name.{name-refusal}
 use Rattle.theory.specs.Listing.{greatest-root, text, written, ListingOut, listing-refusal, listing}
-use Rattle.theory.specs.Rows.{VerdictRow, verdict-0, verdict-1-8, verdict-2, EarlyRow, early-10, early-9, early-1-8, SolveRow, solve-0, solve-1-10, solve-11-12, OnWalk, first-met, then-met, ValueRow, value-0, value-1-10, value-13, value-14, value-15, PlainRow, plain-0, plain-1-10, plain-13, plain-11, NameRow, name-0, name-1-10, name-16, ListingRow, listing-0, listing-1-10, listing-14, listing-15, listing-17}
+use Rattle.theory.specs.Rows.{Keeps, Breaks, Range, asks-of, Whole, Comes, comes-first, comes-next, EndsAt, VerdictRow, verdict-0, verdict-3, verdict-2, verdict-2-end, verdict-1-7, verdict-8, Admitted, EarlyRow, early-10, early-9, early-1-8, Room, SolveRow, solve-0, solve-1-10, solve-11-12, OnWalk, first-met, then-met, Stated, ValueRow, value-0, value-1-10, value-13, value-14, value-15, PlainRow, plain-0, plain-1-10, plain-13, plain-11, NameRow, name-0, name-1-10, name-16, Rooted, Tabled, ListingRow, listing-0, listing-1-10, listing-14, listing-15, listing-17}
+use Rattle.theory.specs.laws.Plain.{plain-exact, plain-action}
+use Rattle.theory.specs.laws.Staying.{answers-stay, over-leaves, stays-some}
+use Rattle.theory.specs.laws.Rules.{by-rules, kept-zero, broken-number, rules-agree}
 use Rattle.theory.specs.laws.Comps.{run-result, run-all-final}
 use Rattle.theory.specs.laws.Stages.{all-stages-length}
 use Rattle.theory.specs.laws.Refusals.{refused-number, refused-place, peak-decides}
 use Rattle.theory.specs.laws.Chain.{all-chained, table-fits}
 use Rattle.theory.specs.laws.Words.{rows-length, by-kind}
 use Rattle.theory.specs.laws.Reading.{stages-length}
-use Rattle.theory.specs.laws.Valid.{among-in, among-out}
+use Rattle.theory.specs.laws.Valid.{among-in, among-out, other-above}
 use Rattle.theory.specs.laws.Loading.{positive, by-reading, behind, accepted-site}
+
+-- ---- tests
+
+-- what a test that holds, or fails, picks
+pub if-yes : {A : Type 0} (b : Bool) (x y : A) → T b → if b x y ≡ x
+if-yes true x y t = refl
+if-yes false x y t = absurd t
+
+pub if-no : {A : Type 0} (b : Bool) (x y : A) → T (not b) → if b x y ≡ y
+if-no true x y t = absurd t
+if-no false x y t = refl
+
+some-not : (n : ℕ) → 1 ≤ n → T (not (eqb n 0))
+some-not n h = by-test (eqb n 0) (λ b. T (not b)) (λ t. absurd (omega (arith, eqb→eq n 0 t))) (λ _. tt)
+
+zero-is : (n : ℕ) → n ≡ 0 → T (eqb n 0)
+zero-is n e = rw e tt
+
+not-twice : (b : Bool) → T b → T (not (not b))
+not-twice true t = tt
+not-twice false t = absurd t
 
 -- ---- the verdict
 
-numbered-to : ℕ → List Rule → Bool
-numbered-to k = all (λ r. leb (r .number) k)
+going-not-end : (c : Command) → T (goes-on (whole c)) → c ≡ end-model → ⊥
+unfolding goes-on
+going-not-end c t e = subst (λ (c : Command). T (goes-on (whole c))) e t
 
-broken-most : (k : ℕ) (l : List Rule) → T (numbered-to k l) → first-broken l ≤ k
-unfolding numbered-to all first-broken
-broken-most k [] t = omega arith
-broken-most k (r ∷ l) t =
-    let d = both (leb (r .number) k) (all (λ r. leb (r .number) k) l) t in
-    by-test (r .broken) (λ b. if b (r .number) (first-broken l) ≤ k) (λ _. leb→le (r .number) k (d .0)) (λ _. broken-most k l (d .1))
-
-first-numbered : (c : Command) → T (numbered-to 7 (first-rules c))
-unfolding numbered-to all first-rules site-rules
-first-numbered (site m n a w) = tt
-first-numbered (push-leaf p) = tt
-first-numbered (push-condition k) = tt
-first-numbered (push-test p) = tt
-first-numbered (take-reward a) = tt
-first-numbered (take-chance a k) = tt
-first-numbered (take-level a i) = tt
-first-numbered (name-action a b) = tt
-first-numbered end-model = tt
-
-later-numbered : (s : Progress) (c : Command) → T (numbered-to 7 (later-rules (s .site) (s .stack) (s .given) c))
-unfolding numbered-to all later-rules
-later-numbered s (site m n a w) = tt
-later-numbered s (push-leaf p) = tt
-later-numbered s (push-condition k) = tt
-later-numbered s (push-test p) = tt
-later-numbered s (take-reward a) = tt
-later-numbered s (take-chance a k) = tt
-later-numbered s (take-level a i) = tt
-later-numbered s (name-action a b) = tt
-later-numbered s end-model = tt
-
-rules-numbered : (s : Progress) (c : Command) → T (numbered-to 7 (rules-of s c))
-unfolding rules-of
-rules-numbered s c = by-test (s .begun) (λ b. T (numbered-to 7 (if b (later-rules (s .site) (s .stack) (s .given) c) (first-rules c)))) (λ _. later-numbered s c) (λ _. first-numbered c)
+not-end-going : (c : Command) → (c ≡ end-model → ⊥) → T (goes-on (whole c))
+unfolding goes-on
+not-end-going (site m n a w) f = tt
+not-end-going (push-leaf p) f = tt
+not-end-going (push-condition k) f = tt
+not-end-going (push-test p) f = tt
+not-end-going (take-reward a) f = tt
+not-end-going (take-chance a k) f = tt
+not-end-going (take-level a i) f = tt
+not-end-going (name-action a b) f = tt
+not-end-going end-model f = absurd (f refl)
 
 module _ (B : List ℕ) where
+  -- what is read at an offset, with why
+  pub by-read : (at : ℕ) (P : Read → Type 0) → (length B ≤ at → P short) → (at < length B → width (byte-at B at) ≡ 0 → P unknown)
+      → (at < length B → 1 ≤ width (byte-at B at) → length B < at + width (byte-at B at) → P short) → (Whole B at → P (whole (command-at B at))) → P (read-at B at)
+  unfolding read-at
+  by-read at P a b c d =
+      let w = width (byte-at B at) in
+      let r = if (ltb (length B) (at + w)) short (whole (command-at B at)) in
+      by-test (leb (length B) at) (λ x. P (if x short (if (eqb w 0) unknown r)))
+      (λ o. a (leb→le (length B) at o))
+      (λ o.
+      let l = nleb→lt (length B) at o in
+      by-test (eqb w 0) (λ x. P (if x unknown r))
+      (λ e. b l (eqb→eq w 0 e))
+      (λ n. by-test (ltb (length B) (at + w)) (λ x. P (if x short (whole (command-at B at))))
+      (λ m. c l (positive w n) (ltb→lt (length B) (at + w) m)) (λ m. d (record { known = positive w n; inside = nltb→le (length B) (at + w) m }))))
+
   -- the byte behind the end, or what the commands behind another one say
-  ended-row : (k at : ℕ) (s : Progress) (c : Command) → ((s : Progress) → VerdictRow B (judged (length B) s (behind B k at true)))
+  ended-row : (k at : ℕ) (s : Progress) → Comes B at s → Whole B at → (c : Command) → command-at B at ≡ c → Keeps (asks-of s c)
+      → ((command-at B at ≡ end-model → ⊥) → VerdictRow B (judged (length B) (after s c) (behind B k at true)))
       → VerdictRow B (ended (length B) at c (judged (length B) (after s c) (behind B k at (goes-on (whole c)))))
   unfolding ended goes-on
-  ended-row k at s end-model ih = by-test (ltb (at + 1) (length B)) (λ b. VerdictRow B (if b (refusal 8 (at + 1)) (refusal 0 0)))
-      (λ t. verdict-1-8 (omega arith) (omega arith) (ltb→lt (at + 1) (length B) t)) (λ _. verdict-0)
-  ended-row k at s (site m n a w) ih = ih _
-  ended-row k at s (push-leaf p) ih = ih _
-  ended-row k at s (push-condition c) ih = ih _
-  ended-row k at s (push-test p) ih = ih _
-  ended-row k at s (take-reward a) ih = ih _
-  ended-row k at s (take-chance a c) ih = ih _
-  ended-row k at s (take-level a i) ih = ih _
-  ended-row k at s (name-action a b) ih = ih _
+  ended-row k at s m w end-model e f ih =
+      let d : EndsAt B at = record { so-far = s; comes = m; whole = w; end = e; keeps = f } in
+      by-test (ltb (at + 1) (length B)) (λ b. VerdictRow B (if b (refusal 8 (at + 1)) (refusal 0 0)))
+      (λ t. verdict-8 d (ltb→lt (at + 1) (length B) t)) (λ t. verdict-0 d (omega (arith, nltb→le (at + 1) (length B) t, w .known, w .inside)))
+  ended-row k at s m w (site x n a v) e f ih = ih (λ z. going-not-end (site x n a v) tt (sym e ∙ z))
+  ended-row k at s m w (push-leaf p) e f ih = ih (λ z. going-not-end (push-leaf p) tt (sym e ∙ z))
+  ended-row k at s m w (push-condition c) e f ih = ih (λ z. going-not-end (push-condition c) tt (sym e ∙ z))
+  ended-row k at s m w (push-test p) e f ih = ih (λ z. going-not-end (push-test p) tt (sym e ∙ z))
+  ended-row k at s m w (take-reward a) e f ih = ih (λ z. going-not-end (take-reward a) tt (sym e ∙ z))
+  ended-row k at s m w (take-chance a c) e f ih = ih (λ z. going-not-end (take-chance a c) tt (sym e ∙ z))
+  ended-row k at s m w (take-level a i) e f ih = ih (λ z. going-not-end (take-level a i) tt (sym e ∙ z))
+  ended-row k at s m w (name-action a b) e f ih = ih (λ z. going-not-end (name-action a b) tt (sym e ∙ z))
 
-  short-row : (at : ℕ) → at ≤ length B → VerdictRow B (refusal 2 at)
-  short-row at h = by-test (ltb at (length B)) (λ _. VerdictRow B (refusal 2 at)) (λ t. verdict-1-8 (omega arith) (omega arith) (ltb→lt at (length B) t))
-      (λ t. let e : length B ≡ at = omega (arith, nltb→le at (length B) t) in subst (λ (p : ℕ). VerdictRow B (refusal 2 p)) e verdict-2)
+  past-row : (at : ℕ) (s : Progress) → Comes B at s → length B ≡ at → VerdictRow B (refusal 2 at)
+  past-row at s m e = subst (λ (p : ℕ). Comes B p s → VerdictRow B (refusal 2 p)) e verdict-2-end m
 
-  judged-row : (k at : ℕ) (s : Progress) → at ≤ length B → VerdictRow B (judged (length B) s (readings-from B k at))
+  judged-row : (k at : ℕ) (s : Progress) → Comes B at s → at ≤ length B → length B < at + k → VerdictRow B (judged (length B) s (readings-from B k at))
   unfolding readings-from judged
-  judged-row zero at s h = verdict-0
-  judged-row (suc k) at s h = by-reading B at (λ r. VerdictRow B (judged (length B) s (record { at = at; read = r } ∷ behind B k at (goes-on r))))
-      (short-row at h)
-      (λ l. verdict-1-8 (omega arith) (omega arith) l)
-      (λ w l.
+  judged-row zero at s m h l = absurd (omega arith)
+  judged-row (suc k) at s m h l = by-read at (λ r. VerdictRow B (judged (length B) s (record { at = at; read = r } ∷ behind B k at (goes-on r))))
+      (λ g. past-row at s m (omega arith))
+      (λ g e. verdict-3 m g e)
+      (λ g e f. verdict-2 m g e f)
+      (λ w.
       let c = command-at B at in
       let n = first-broken (rules-of s c) in
-      by-test (eqb n 0) (λ b. VerdictRow B (if b (ended (length B) at c (judged (length B) (after s c) (behind B k at (goes-on (whole c))))) (refusal n at)))
-      (λ _. ended-row k at s c (λ s. judged-row k (at + width (byte-at B at)) s l))
-      (λ t. verdict-1-8 (positive n t) (omega (arith, broken-most 7 (rules-of s c) (rules-numbered s c))) (omega arith)))
+      let rest = ended (length B) at c (judged (length B) (after s c) (behind B k at (goes-on (whole c)))) in
+      ⊎-elim
+      (λ d. subst (VerdictRow B) (sym (if-yes (eqb n 0) rest (refusal n at) (zero-is n (d .0))))
+      (ended-row k at s m w c refl (d .1) (λ z. judged-row k (at + width (byte-at B at)) (after s c) (comes-next m w (d .1) z) (w .inside) (omega (arith, w .known)))))
+      (λ d. subst (VerdictRow B) (sym (if-no (eqb n 0) rest (refusal n at) (some-not n (d .0)))) (verdict-1-7 m w (d .1)))
+      (by-rules (rules-of s c) (asks-of s c) (rules-agree s c)))
 
   pub verdict-row : VerdictRow B (verdict B)
   unfolding verdict readings
-  verdict-row = judged-row (suc (length B)) 0 at-start (omega arith)
+  verdict-row = judged-row (suc (length B)) 0 at-start comes-first (omega arith) (omega arith)
+
+  -- ---- a row decides
+
+  abbrev from : ℕ → ℕ → Progress → Read → Verdict
+  from k at s r = judged (length B) s (record { at = at; read = r } ∷ behind B k at (goes-on r))
+
+  read-whole : (at : ℕ) → Whole B at → read-at B at ≡ whole (command-at B at)
+  read-whole at w = by-read at (λ r. r ≡ whole (command-at B at)) (λ g. absurd (omega (arith, w .known, w .inside))) (λ g e. absurd (omega (arith, w .known)))
+      (λ g e f. absurd (omega (arith, w .inside))) (λ _. refl)
+
+  judged-whole : (k at : ℕ) (s : Progress) → Whole B at → judged (length B) s (readings-from B (suc k) at) ≡ from k at s (whole (command-at B at))
+  unfolding readings-from
+  judged-whole k at s w = ap (from k at s) (read-whole at w)
+
+  ended-going : (k at : ℕ) (s : Progress) (c : Command) → T (goes-on (whole c))
+      → ended (length B) at c (judged (length B) (after s c) (behind B k at (goes-on (whole c)))) ≡ judged (length B) (after s c) (behind B k at true)
+  unfolding ended goes-on
+  ended-going k at s (site x n a v) t = refl
+  ended-going k at s (push-leaf p) t = refl
+  ended-going k at s (push-condition c) t = refl
+  ended-going k at s (push-test p) t = refl
+  ended-going k at s (take-reward a) t = refl
+  ended-going k at s (take-chance a c) t = refl
+  ended-going k at s (take-level a i) t = refl
+  ended-going k at s (name-action a b) t = refl
+  ended-going k at s end-model t = absurd t
+
+  kept-judged : (k at : ℕ) (s : Progress) (c : Command) → Keeps (asks-of s c)
+      → from k at s (whole c) ≡ ended (length B) at c (judged (length B) (after s c) (behind B k at (goes-on (whole c))))
+  unfolding judged
+  kept-judged k at s c f =
+      let n = first-broken (rules-of s c) in
+      if-yes (eqb n 0) _ (refusal n at) (zero-is n (kept-zero (rules-of s c) (asks-of s c) (rules-agree s c) f))
+
+  -- the verdict from a command that comes
+  abbrev Reaches : ℕ → Progress → Type 0
+  Reaches at s = (k : ℕ) × ((at ≤ length B) × ((length B < at + k) × (verdict B ≡ judged (length B) s (readings-from B k at))))
+
+  onward : (k at : ℕ) (s : Progress) → Whole B at → Keeps (asks-of s (command-at B at)) → (command-at B at ≡ end-model → ⊥) → length B < at + k
+      → verdict B ≡ judged (length B) s (readings-from B k at) → Reaches (at + width (byte-at B at)) (after s (command-at B at))
+  onward zero at s w f n l e = absurd (omega (arith, w .known, w .inside))
+  onward (suc k) at s w f n l e = (
+    k,
+    (
+      w .inside,
+      (
+        omega (arith, w .known),
+        e ∙ judged-whole k at s w ∙ kept-judged k at s (command-at B at) f ∙ ended-going k at s (command-at B at) (not-end-going (command-at B at) n),
+      ),
+    ),
+  )
+
+  reaches : {at : ℕ} {s : Progress} → Comes B at s → Reaches at s
+  unfolding verdict readings
+  reaches comes-first = (suc (length B), (omega arith, (omega arith, refl)))
+  reaches (comes-next {at = at} {s = s} m w f n) = let r = reaches m in onward (r .0) at s w f n (r .1 .1 .0) (r .1 .1 .1)
+
+  here : {at : ℕ} {s : Progress} → Comes B at s → (k : ℕ) × (verdict B ≡ from k at s (read-at B at))
+  unfolding readings-from
+  here {at} {s} m = let r = reaches m in go (r .0) (r .1 .0) (r .1 .1 .0) (r .1 .1 .1)
+    where
+      go : (k : ℕ) → at ≤ length B → length B < at + k → verdict B ≡ judged (length B) s (readings-from B k at) → (k : ℕ) × (verdict B ≡ from k at s (read-at B at))
+      go zero h l e = absurd (omega arith)
+      go (suc k) h l e = (k, e)
+
+  end-verdict : (at : ℕ) → EndsAt B at → verdict B ≡ if (ltb (at + 1) (length B)) (refusal 8 (at + 1)) (refusal 0 0)
+  unfolding ended
+  end-verdict at d =
+      let r = here (d .comes) in
+      r .1 ∙ ap (from (r .0) at (d .so-far)) (read-whole at (d .whole) ∙ ap whole (d .end)) ∙ kept-judged (r .0) at (d .so-far) end-model (d .keeps)
+
+  -- the verdict is each of its rows
+  pub verdict-is : {v : Verdict} → VerdictRow B v → verdict B ≡ v
+  unfolding judged
+  verdict-is (verdict-0 {at = at} d e) = end-verdict at d ∙ by-test (ltb (at + 1) (length B)) (λ b. if b (refusal 8 (at + 1)) (refusal 0 0) ≡ refusal 0 0)
+      (λ t. absurd (omega (arith, ltb→lt (at + 1) (length B) t))) (λ _. refl)
+  verdict-is (verdict-8 {at = at} d l) = end-verdict at d ∙ by-test (ltb (at + 1) (length B)) (λ b. if b (refusal 8 (at + 1)) (refusal 0 0) ≡ refusal 8 (at + 1))
+      (λ _. refl) (λ t. absurd (omega (arith, nltb→le (at + 1) (length B) t)))
+  verdict-is (verdict-3 {at = at} {s = s} m l e) = let r = here m in r .1 ∙ by-read at (λ x. from (r .0) at s x ≡ refusal 3 at)
+      (λ g. absurd (omega arith)) (λ _ _. refl) (λ g h _. absurd (omega arith)) (λ w. absurd (omega (arith, w .known)))
+  verdict-is (verdict-2 {at = at} {s = s} m l e f) = let r = here m in r .1 ∙ by-read at (λ x. from (r .0) at s x ≡ refusal 2 at)
+      (λ _. refl) (λ g h. absurd (omega arith)) (λ _ _ _. refl) (λ w. absurd (omega (arith, w .inside)))
+  verdict-is (verdict-2-end {s = s} m) = let r = here m in r .1 ∙ by-read (length B) (λ x. from (r .0) (length B) s x ≡ refusal 2 (length B))
+      (λ _. refl) (λ g h. absurd (omega arith)) (λ _ _ _. refl) (λ w. absurd (omega (arith, w .known, w .inside)))
+  verdict-is (verdict-1-7 {k = k} {at = at} {s = s} m w d) =
+      let r = here m in
+      let c = command-at B at in
+      let n = first-broken (rules-of s c) in
+      let i = broken-number (rules-of s c) (asks-of s c) (rules-agree s c) k d in
+      r .1 ∙ ap (from (r .0) at s) (read-whole at w) ∙ if-no (eqb n 0) _ (refusal n at) (some-not n (omega (arith, i .0, i .1))) ∙ ap (λ (n : ℕ). refusal n at) (i .0)
+
+  pub verdict-one : {v w : Verdict} → VerdictRow B v → VerdictRow B w → v ≡ w
+  verdict-one r t = sym (verdict-is r) ∙ verdict-is t
+
+  -- a row's place is at most the length
+  pub place-inside : {v : Verdict} → VerdictRow B v → v .place ≤ length B
+  place-inside (verdict-0 d e) = omega arith
+  place-inside (verdict-3 m l e) = omega arith
+  place-inside (verdict-2 m l e f) = omega arith
+  place-inside (verdict-2-end m) = omega arith
+  place-inside (verdict-1-7 {at = at} m w d) = omega (arith, w .known, w .inside)
+  place-inside (verdict-8 d l) = omega arith
 
 -- ---- what every call that takes a model goes through first
 
@@ -125,17 +252,35 @@ pub record Passed (B : List ℕ) (steps size : ℕ) : Type 0 where
   pub bytes : length B ≤ bytes-most
   pub own : verdict B .number ≡ 0
 
+zero-row : {B : List ℕ} {v : Verdict} → VerdictRow B v → v .number ≡ 0 → VerdictRow B (refusal 0 0)
+zero-row (verdict-0 d e) z = verdict-0 d e
+zero-row (verdict-3 m l e) z = absurd (omega arith)
+zero-row (verdict-2 m l e f) z = absurd (omega arith)
+zero-row (verdict-2-end m) z = absurd (omega arith)
+zero-row {B} (verdict-1-7 {k = k} {at = at} {s = s} m w d) z =
+    let i = broken-number (rules-of s (command-at B at)) (asks-of s (command-at B at)) (rules-agree s (command-at B at)) k d in
+    absurd (omega (arith, i .1))
+zero-row (verdict-8 d l) z = absurd (omega arith)
+
+pub admitted : {B : List ℕ} {steps size : ℕ} → Passed B steps size → Admitted B steps size
+admitted {B} p = record { eight = p .eight; bytes = p .bytes; horizon = (p .least, p .most); own = zero-row (verdict-row B) (p .own) }
+
 module _ (B : List ℕ) (steps size : ℕ) (P : Verdict → Bool → Type 0) (pass : Passed B steps size → P (refusal 0 0) true) (stop : (k p : ℕ) → EarlyRow B steps size k p → P (refusal k p) false) where
   abbrev Goal : Verdict → Type 0
   Goal v = P v (eqb (v .number) 0)
 
-  some-row : (k p : ℕ) → verdict B ≡ refusal k p → 1 ≤ k → k ≤ 8 → p ≤ length B → Goal (refusal k p)
-  some-row k p e a b c = subst (P (refusal k p)) (sym (ne-eqb k 0 (λ z. omega arith))) (stop k p (early-1-8 e a b c))
+  module _ (eight : size ≡ steps-most) (bytes : length B ≤ bytes-most) (least : 1 ≤ steps) (most : steps ≤ steps-most) where
+    some-row : (k p : ℕ) → VerdictRow B (refusal k p) → 1 ≤ k → Goal (refusal k p)
+    some-row k p r a = subst (P (refusal k p)) (sym (ne-eqb k 0 (λ z. omega arith))) (stop k p (early-1-8 eight bytes (least, most) r a))
 
-  own-row : (verdict B .number ≡ 0 → Passed B steps size) → (v : Verdict) → VerdictRow B v → verdict B ≡ v → Goal v
-  own-row f v verdict-0 e = pass (f (ap (λ v. v .number) e))
-  own-row f v (verdict-1-8 {k = k} {p = p} a b c) e = some-row k p e a b (omega arith)
-  own-row f v verdict-2 e = some-row 2 (length B) e (omega arith) (omega arith) (omega arith)
+    own-row : (v : Verdict) → VerdictRow B v → verdict B ≡ v → Goal v
+    own-row v (verdict-0 d z) e = pass (record { eight = eight; least = least; most = most; bytes = bytes; own = ap (λ v. v .number) e })
+    own-row v (verdict-3 {at = at} m l z) e = some-row 3 at (verdict-3 m l z) (omega arith)
+    own-row v (verdict-2 {at = at} m l z f) e = some-row 2 at (verdict-2 m l z f) (omega arith)
+    own-row v (verdict-2-end m) e = some-row 2 (length B) (verdict-2-end m) (omega arith)
+    own-row v (verdict-1-7 {k = k} {at = at} {s = s} m w d) e =
+        some-row k at (verdict-1-7 m w d) (broken-number (rules-of s (command-at B at)) (asks-of s (command-at B at)) (rules-agree s (command-at B at)) k d .1)
+    own-row v (verdict-8 {at = at} d l) e = some-row 8 (at + 1) (verdict-8 d l) (omega arith)
 
   -- a call goes on, or is refused by a row that all have
   pub by-early : P (early B steps size) (eqb (early B steps size .number) 0)
@@ -148,26 +293,75 @@ module _ (B : List ℕ) (steps size : ℕ) (P : Verdict → Bool → Type 0) (pa
       (λ t. by-test (among steps-most steps) (λ b. Goal (rest b))
       (λ u.
       let i = among-out steps-most steps u in
-      own-row (λ e. record { eight = eqb→eq size steps-most s; least = i .0; most = i .1; bytes = nltb→le bytes-most (length B) t; own = e }) (verdict B) (verdict-row B) refl)
-      (λ u. stop 9 0 (early-9 (λ a b. T-not (among steps-most steps) u (among-in steps-most steps a b))))))
+      own-row (eqb→eq size steps-most s) (nltb→le bytes-most (length B) t) (i .0) (i .1) (verdict B) (verdict-row B) refl)
+      (λ u. stop 9 0 (early-9 (eqb→eq size steps-most s) (nltb→le bytes-most (length B) t) (λ d. T-not (among steps-most steps) u (among-in steps-most steps (d .0) (d .1)))))))
       (λ s. stop 10 0 (early-10 (λ a _. T-not (eqb size steps-most) s (rw a (eqb-refl steps-most)))))
 
 pub early-some : {B : List ℕ} {steps size k p : ℕ} → EarlyRow B steps size k p → 1 ≤ k
 early-some (early-10 f) = omega arith
-early-some (early-9 f) = omega arith
-early-some (early-1-8 e a b c) = a
+early-some (early-9 e b f) = omega arith
+early-some (early-1-8 e b h r a) = a
 
 -- what passes is not refused
 pub passed-not : {B : List ℕ} {steps size k p : ℕ} → Passed B steps size → EarlyRow B steps size k p → ⊥
 passed-not d (early-10 f) = f (d .eight) (d .bytes)
-passed-not d (early-9 f) = f (d .least) (d .most)
-passed-not d (early-1-8 {k = k} e a b c) = let z : k ≡ 0 = ap (λ v. v .number) (sym e) ∙ d .own in omega arith
+passed-not d (early-9 e b f) = f (d .least, d .most)
+passed-not {B = B} d (early-1-8 {k = k} e b h r a) = let z : k ≡ 0 = ap (λ v. v .number) (sym (verdict-is B r)) ∙ d .own in omega arith
+
+-- ---- .. and a row decides
+
+module _ (B : List ℕ) (steps size : ℕ) where
+  past-ten : size ≡ steps-most → length B ≤ bytes-most → early B steps size ≡ if (not (among steps-most steps)) (refusal 9 0) (verdict B)
+  unfolding early
+  past-ten e h =
+      let rest : Verdict = if (not (among steps-most steps)) (refusal 9 0) (verdict B) in
+      by-test (eqb size steps-most) (λ b. if (or (not b) (ltb bytes-most (length B))) (refusal 10 0) rest ≡ rest)
+      (λ _. if-no (ltb bytes-most (length B)) (refusal 10 0) rest (by-test (ltb bytes-most (length B)) (λ b. T (not b)) (λ t. absurd (omega (arith, ltb→lt bytes-most (length B) t))) (λ _. tt)))
+      (λ t. absurd (T-not (eqb size steps-most) t (rw e (eqb-refl steps-most))))
+
+  past-nine : size ≡ steps-most → length B ≤ bytes-most → Range 1 steps-most steps → early B steps size ≡ verdict B
+  past-nine e h d = past-ten e h ∙ by-test (among steps-most steps) (λ b. if (not b) (refusal 9 0) (verdict B) ≡ verdict B) (λ _. refl) (λ t. absurd (T-not (among steps-most steps) t (among-in steps-most steps (d .0) (d .1))))
+
+  early-row-is : {k p : ℕ} → EarlyRow B steps size k p → early B steps size ≡ refusal k p
+  unfolding early
+  early-row-is (early-10 f) =
+      let rest : Verdict = if (not (among steps-most steps)) (refusal 9 0) (verdict B) in
+      by-test (eqb size steps-most) (λ b. if (or (not b) (ltb bytes-most (length B))) (refusal 10 0) rest ≡ refusal 10 0)
+      (λ s. by-test (ltb bytes-most (length B)) (λ b. if b (refusal 10 0) rest ≡ refusal 10 0) (λ _. refl) (λ t. absurd (f (eqb→eq size steps-most s) (nltb→le bytes-most (length B) t))))
+      (λ _. refl)
+  early-row-is (early-9 e h f) = past-ten e h ∙ by-test (among steps-most steps) (λ b. if (not b) (refusal 9 0) (verdict B) ≡ refusal 9 0) (λ t. absurd (f (among-out steps-most steps t))) (λ _. refl)
+  early-row-is (early-1-8 e h d r a) = past-nine e h d ∙ verdict-is B r
+
+pub early-is : {B : List ℕ} {steps size k p : ℕ} → EarlyRow B steps size k p → early B steps size ≡ refusal k p
+early-is {B} {steps} {size} r = early-row-is B steps size r
+
+pub admitted-is : {B : List ℕ} {steps size : ℕ} → Admitted B steps size → early B steps size ≡ refusal 0 0
+admitted-is {B} {steps} {size} d = past-nine B steps size (d .eight) (d .bytes) (d .horizon) ∙ verdict-is B (d .own)
 
 -- ---- solve
 
 room-nodes : (nodes work : ℕ) → room nodes work * node-words ≤ nodes
 unfolding room
 room-nodes nodes work = omega (arith, min-le-left (nodes / node-words) (min (work / node-words) nodes-most), div-mul-le-self nodes node-words)
+
+room-holds : (nodes work : ℕ) → Room nodes work (room nodes work)
+unfolding room
+room-holds nodes work =
+    let W = min (work / node-words) nodes-most in
+    let a = min-le-right (nodes / node-words) W in
+    let b = min-le-left (work / node-words) nodes-most in
+    let c = min-le-right (work / node-words) nodes-most in
+    record {
+      in-nodes = room-nodes nodes work;
+      in-work = omega (arith, a, b, div-mul-le-self work node-words);
+      most = omega (arith, a, c);
+      no-more = λ k l m n. le-min (le-div-iff-mul-le {k = node-words} {x = k} {y = nodes} (omega arith) .1 l) (le-min (le-div-iff-mul-le {k = node-words} {x = k} {y = work} (omega arith) .1 m) n);
+    }
+
+room-is : {nodes work N : ℕ} → Room nodes work N → room nodes work ≡ N
+room-is {nodes} {work} {N} r =
+    let h = room-holds nodes work in
+    omega (arith, (r .no-more) (room nodes work) (h .in-nodes) (h .in-work) (h .most), (h .no-more) N (r .in-nodes) (r .in-work) (r .most))
 
 -- the rows of the table lie within the words that are lent
 pub nodes-length : (size : ℕ) (S : List Tree) → length (table-of S) * node-words ≤ size → length (solved-nodes size S) ≡ size
@@ -202,14 +396,24 @@ module _ (B : List ℕ) (H : ℕ) (nodes : List ℤ) (stages work : List ℕ) wh
       let f = table-fits N B H (p .own) S peak e in
       let d = peak-decides all-chained N B H S peak (p .own) e .0 in
       let r = room-nodes (length nodes) (length work) in
-      solve-0 e (nodes-length (length nodes) S (omega arith)) (stages-length S (omega (arith, solved-length N B H S peak e, p .most)) ∙ sym (p .eight))
-  left-row p (refused r h) e = solve-11-12 e (refused-number N B H r h e) (refused-place N B H r h (p .least) e)
+      solve-0 (admitted p) (room-holds (length nodes) (length work)) e (nodes-length (length nodes) S (omega arith)) (stages-length S (omega (arith, solved-length N B H S peak e, p .most)) ∙ sym (p .eight))
+  left-row p (refused r h) e = solve-11-12 (admitted p) (room-holds (length nodes) (length work)) e (refused-number N B H r h e) (refused-place N B H r h (p .least) e)
 
   pub solve-row : SolveRow B H nodes stages work (solve B H nodes stages work)
   unfolding solve
   solve-row = by-early B H (length stages)
       (λ v b. SolveRow B H nodes stages work (if b (solve-left nodes stages work (solve-in N B H)) (record { number = v .number; place = v .place; peak = 0; nodes = nodes; stages = stages; work = work })))
       (λ p. left-row p (solve-in N B H) refl) (λ k p r. solve-1-10 r)
+
+  from-early : Verdict → SolveOut
+  from-early v = if (eqb (v .number) 0) (solve-left nodes stages work (solve-in N B H)) (record { number = v .number; place = v .place; peak = 0; nodes = nodes; stages = stages; work = work })
+
+  -- solve is each of its rows
+  pub solve-is : {o : SolveOut} → SolveRow B H nodes stages work o → solve B H nodes stages work ≡ o
+  unfolding solve from-early solve-left
+  solve-is (solve-0 a r e _ _) = ap from-early (admitted-is a) ∙ ap (λ (n : ℕ). solve-left nodes stages work (solve-in n B H)) (room-is r) ∙ ap (solve-left nodes stages work) e
+  solve-is (solve-11-12 a r e _ _) = ap from-early (admitted-is a) ∙ ap (λ (n : ℕ). solve-left nodes stages work (solve-in n B H)) (room-is r) ∙ ap (solve-left nodes stages work) e
+  solve-is (solve-1-10 {k = k} r) = ap from-early (early-is r) ∙ if-no (eqb k 0) _ _ (some-not k (early-some r))
 
 -- ---- value
 
@@ -269,16 +473,55 @@ module _ (n A : ℕ) (q : Asked) (W : List ℤ) where
   module _ (root : ℕ) where
     -- at a node that is refused, or at a leaf that is not
     abbrev Ends : ℕ → Type 0
-    Ends w = ((w ≡ 0) × ((r : ℕ) × (OnWalk n A q W root r × T (not (good-row n A W r))))) ⊎ ((1 ≤ w) × T (good-leaf-row A W w))
+    Ends w = ((w ≡ 0) × ((r : ℕ) × (OnWalk n A q W root r × T (not (good-row n A W r))))) ⊎ ((1 ≤ w) × (T (good-leaf-row A W w) × (OnWalk n A q W root w × (T (good-row n A W w) × T (eqb (natAbs (node-word W w 0)) 0)))))
 
     walk-ends : (k r : ℕ) → OnWalk n A q W root r → 1 ≤ r → r ≤ k → Ends (walk n A q W k r)
     unfolding walk
     walk-ends zero r m a b = absurd (omega arith)
     walk-ends (suc k) r m a b = by-test (good-row n A W r) (λ z. Ends (elim z [ true ↦ if (eqb (natAbs (node-word W r 0)) 0) r (walk n A q W k (taken n q W r)) | false ↦ 0 ]))
         (λ g. by-test (eqb (natAbs (node-word W r 0)) 0) (λ z. Ends (if z r (walk n A q W k (taken n q W r))))
-        (λ e. inr (a, good-leaf r g e))
+        (λ e. inr (a, (good-leaf r g e, (m, (g, e)))))
         (λ e. let i = taken-below r a g e in walk-ends k (taken n q W r) (then-met m g e) (i .0) (omega (arith, i .1))))
         (λ g. inl (refl, (r, (m, g))))
+
+    -- ---- the walk goes through the nodes that are met
+
+    walk-on : (k r : ℕ) → T (good-row n A W r) → T (not (eqb (natAbs (node-word W r 0)) 0)) → walk n A q W (suc k) r ≡ walk n A q W k (taken n q W r)
+    unfolding walk
+    walk-on k r g z = by-test (good-row n A W r) (λ b. elim b [ true ↦ if (eqb (natAbs (node-word W r 0)) 0) r (walk n A q W k (taken n q W r)) | false ↦ 0 ] ≡ walk n A q W k (taken n q W r))
+        (λ _. if-no (eqb (natAbs (node-word W r 0)) 0) r _ z) (λ t. absurd (T-not (good-row n A W r) t g))
+
+    walk-leaf : (k r : ℕ) → T (good-row n A W r) → T (eqb (natAbs (node-word W r 0)) 0) → walk n A q W (suc k) r ≡ r
+    unfolding walk
+    walk-leaf k r g z = by-test (good-row n A W r) (λ b. elim b [ true ↦ if (eqb (natAbs (node-word W r 0)) 0) r (walk n A q W k (taken n q W r)) | false ↦ 0 ] ≡ r)
+        (λ _. if-yes (eqb (natAbs (node-word W r 0)) 0) r _ z) (λ t. absurd (T-not (good-row n A W r) t g))
+
+    walk-bad : (k r : ℕ) → T (not (good-row n A W r)) → walk n A q W (suc k) r ≡ 0
+    unfolding walk
+    walk-bad k r g = by-test (good-row n A W r) (λ b. _≡_ {A = ℕ} (elim b [ true ↦ if (eqb (natAbs (node-word W r 0)) 0) r (walk n A q W k (taken n q W r)) | false ↦ 0 ]) 0)
+        (λ t. absurd (T-not (good-row n A W r) g t)) (λ _. refl)
+
+    -- what is left of the walk at a node that is met
+    abbrev Left : ℕ → Type 0
+    Left r = (k : ℕ) × ((1 ≤ r) × ((r ≤ suc k) × (walk n A q W root root ≡ walk n A q W (suc k) r)))
+
+    walk-left : {r : ℕ} → 1 ≤ root → OnWalk n A q W root r → Left r
+    walk-left h first-met = at-root root h refl
+      where
+        at-root : (x : ℕ) → 1 ≤ x → x ≡ root → Left root
+        at-root zero l e = absurd (omega arith)
+        at-root (suc k) l e = (k, (h, (omega arith, ap (λ (j : ℕ). walk n A q W j root) (sym e))))
+    walk-left h (then-met {r = r} m g z) = let d = walk-left h m in next (d .0) (d .1 .0) (d .1 .1 .0) (d .1 .1 .1)
+      where
+        next : (k : ℕ) → 1 ≤ r → r ≤ suc k → walk n A q W root root ≡ walk n A q W (suc k) r → Left (taken n q W r)
+        next zero a b e = let i = taken-below r a g z in absurd (omega (arith, i .0, i .1))
+        next (suc k) a b e = let i = taken-below r a g z in (k, (i .0, (omega (arith, i .1), e ∙ walk-on (suc k) r g z)))
+
+    walk-read : {r : ℕ} → 1 ≤ root → OnWalk n A q W root r → T (good-row n A W r) → T (eqb (natAbs (node-word W r 0)) 0) → (walk n A q W root root ≡ r) × (1 ≤ r)
+    walk-read {r} h m g z = let d = walk-left h m in (d .1 .1 .1 ∙ walk-leaf (d .0) r g z, d .1 .0)
+
+    walk-refused : {r : ℕ} → 1 ≤ root → OnWalk n A q W root r → T (not (good-row n A W r)) → walk n A q W root root ≡ 0
+    walk-refused {r} h m g = let d = walk-left h m in d .1 .1 .1 ∙ walk-bad (d .0) r g
 
 module _ (B : List ℕ) (nodes : List ℤ) (stages : List ℕ) (steps : ℕ) (q : Asked) where
   abbrev S : Site
@@ -287,14 +530,17 @@ module _ (B : List ℕ) (nodes : List ℤ) (stages : List ℕ) (steps : ℕ) (q 
   abbrev root : ℕ
   root = getD stages (steps - 1) 0
 
-  read-row : (w : ℕ) → Ends (S .conditions) (S .actions) q nodes root w → ValueRow B nodes stages steps q (value-at q nodes w)
+  read-row : Stated B nodes stages steps q → 1 ≤ root → (w : ℕ) → Ends (S .conditions) (S .actions) q nodes root w → ValueRow B nodes stages steps q (value-at q nodes w)
   unfolding value-at good-leaf-row
-  read-row w (inl d) = subst (λ (w : ℕ). ValueRow B nodes stages steps q (value-at q nodes w)) (sym (d .0)) (value-14 (d .1 .1 .0) (d .1 .1 .1))
-  read-row w (inr d) =
-      let a = amongZ-out (S .actions) (high-of nodes w) (both (amongZ (S .actions) (high-of nodes w)) _ (both (small-linear (node-linear nodes w)) _ (d .1) .1) .0) in
+  read-row st l w (inl d) = subst (λ (w : ℕ). ValueRow B nodes stages steps q (value-at q nodes w)) (sym (d .0)) (value-14 st l (d .1 .1 .0) (d .1 .1 .1))
+  read-row st l w (inr d) =
+      let a = amongZ-out (S .actions) (high-of nodes w) (both (amongZ (S .actions) (high-of nodes w)) _ (both (small-linear (node-linear nodes w)) _ (d .1 .0) .1) .0) in
       by-test (eqb w 0)
       (λ b. ValueRow B nodes stages steps q (if b (refused-value 14 0) (record { number = 0; place = 0; action = natAbs (high-of nodes w); numerator = words (numerator-of q (node-linear nodes w)) })))
-      (λ t. absurd (omega (arith, eqb→eq w 0 t, d .0))) (λ _. value-0 (a .0) (a .1))
+      (λ t. absurd (omega (arith, eqb→eq w 0 t, d .0))) (λ _. value-0 st l (d .1 .1 .0) (d .1 .1 .1 .0) (d .1 .1 .1 .1) a)
+
+  stated : Passed B steps (length stages) → T (accepted (S .levels) (S .conditions) q) → Stated B nodes stages steps q
+  stated p u = record { early = admitted p; state = u }
 
   pub value-row : ValueRow B nodes stages steps q (value-of B nodes stages steps q)
   unfolding value-of
@@ -302,12 +548,33 @@ module _ (B : List ℕ) (nodes : List ℤ) (stages : List ℕ) (steps : ℕ) (q 
       (λ v b. ValueRow B nodes stages steps q (if b
       (if (accepted (S .levels) (S .conditions) q) (if (eqb root 0) (refused-value 15 0) (value-at q nodes (walk (S .conditions) (S .actions) q nodes root root))) (refused-value 13 0))
       (refused-value (v .number) (v .place))))
-      (λ _. by-test (accepted (S .levels) (S .conditions) q)
+      (λ p. by-test (accepted (S .levels) (S .conditions) q)
       (λ b. ValueRow B nodes stages steps q (if b (if (eqb root 0) (refused-value 15 0) (value-at q nodes (walk (S .conditions) (S .actions) q nodes root root))) (refused-value 13 0)))
-      (λ _. by-test (eqb root 0) (λ b. ValueRow B nodes stages steps q (if b (refused-value 15 0) (value-at q nodes (walk (S .conditions) (S .actions) q nodes root root))))
-      (λ t. value-15 (eqb→eq root 0 t)) (λ t. read-row _ (walk-ends (S .conditions) (S .actions) q nodes root root root first-met (positive root t) (le-refl root))))
-      (λ t. value-13 t))
+      (λ u. by-test (eqb root 0) (λ b. ValueRow B nodes stages steps q (if b (refused-value 15 0) (value-at q nodes (walk (S .conditions) (S .actions) q nodes root root))))
+      (λ t. value-15 (stated p u) (eqb→eq root 0 t)) (λ t. read-row (stated p u) (positive root t) _ (walk-ends (S .conditions) (S .actions) q nodes root root root first-met (positive root t) (le-refl root))))
+      (λ t. value-13 (admitted p) t))
       (λ k p r. value-1-10 r)
+
+  on-from : Verdict → ValueOut
+  on-from v = if (eqb (v .number) 0)
+      (if (accepted (S .levels) (S .conditions) q) (if (eqb root 0) (refused-value 15 0) (value-at q nodes (walk (S .conditions) (S .actions) q nodes root root))) (refused-value 13 0))
+      (refused-value (v .number) (v .place))
+
+  stated-is : Stated B nodes stages steps q → value-of B nodes stages steps q ≡ if (eqb root 0) (refused-value 15 0) (value-at q nodes (walk (S .conditions) (S .actions) q nodes root root))
+  unfolding value-of on-from
+  stated-is d = ap on-from (admitted-is (d .early)) ∙ if-yes (accepted (S .levels) (S .conditions) q) _ (refused-value 13 0) (d .state)
+
+  -- the value is each of its rows
+  pub value-is : {o : ValueOut} → ValueRow B nodes stages steps q o → value-of B nodes stages steps q ≡ o
+  unfolding value-of on-from value-at
+  value-is (value-0 {r = r} d l m g z a) =
+      let w = walk-read (S .conditions) (S .actions) q nodes root l m g z in
+      stated-is d ∙ if-no (eqb root 0) (refused-value 15 0) _ (some-not root l) ∙ ap (value-at q nodes) (w .0) ∙ if-no (eqb r 0) (refused-value 14 0) _ (some-not r (w .1))
+  value-is (value-1-10 {k = k} r) = ap on-from (early-is r) ∙ if-no (eqb k 0) _ _ (some-not k (early-some r))
+  value-is (value-13 d t) = ap on-from (admitted-is d) ∙ if-no (accepted (S .levels) (S .conditions) q) _ (refused-value 13 0) t
+  value-is (value-15 d e) = stated-is d ∙ if-yes (eqb root 0) (refused-value 15 0) _ (zero-is root e)
+  value-is (value-14 {r = r} d l m g) =
+      stated-is d ∙ if-no (eqb root 0) (refused-value 15 0) _ (some-not root l) ∙ ap (value-at q nodes) (walk-refused (S .conditions) (S .actions) q nodes root l m g)
 
 -- ---- plain working
 
@@ -339,6 +606,10 @@ state-picks M h s = tried-picks (λ x. action-worth M (suc h) (state-worth M h) 
     first (is v a) = (omega arith, omega arith)
     first over = tt
 
+plain-lowest : (M : Model) (h : ℕ) (s : State) (v : ℤ) (a : ℕ) → 1 ≤ h → state-worth M h s ≡ is v a → a ≡ lowest-best (process M) h s
+plain-lowest M zero s v a l e = absurd (omega arith)
+plain-lowest M (suc h) s v a l e = plain-action M h s v a e
+
 module _ (B : List ℕ) (steps : ℕ) (q : Asked) where
   abbrev Answer : ValueOut → Type 0
   Answer o = PlainRow B steps q o
@@ -346,11 +617,16 @@ module _ (B : List ℕ) (steps : ℕ) (q : Asked) where
   abbrev sited : Site
   sited = site-at B
 
-  worth-row : (t : T (accepted (sited .levels) (sited .conditions) q)) (o : Worth) → state-worth (model B) steps (state-of (sited .levels) (sited .conditions) q t) ≡ o
+  worth-row : Passed B steps steps-most → (t : T (accepted (sited .levels) (sited .conditions) q)) (o : Worth) → state-worth (model B) steps (state-of (sited .levels) (sited .conditions) q t) ≡ o
       → Picks (sited .actions) o → Answer (worth-out o)
   unfolding worth-out
-  worth-row t (is v a) e d = plain-0 (d .0) (d .1)
-  worth-row t over e d = plain-11 t e
+  worth-row p t (is v a) e d =
+      let s = state-of (sited .levels) (sited .conditions) q t in
+      let i = plain-lowest (model B) steps s v a (p .least) e in
+      subst (λ (c : ℕ). Answer (record { number = 0; place = 0; action = c; numerator = words v })) (sym i)
+      (subst (λ (z : ℤ). Answer (record { number = 0; place = 0; action = lowest-best (process (model B)) steps s; numerator = words z })) (sym (plain-exact (model B) steps s v a e))
+      (plain-0 (admitted p) t (answers-stay (model B) steps s v a e) (subst (Range 1 (sited .actions)) i d)))
+  worth-row p t over e d = plain-11 (admitted p) t (over-leaves (model B) steps (state-of (sited .levels) (sited .conditions) q t) e)
 
   picks : Passed B steps steps-most → (s : State) → Picks (sited .actions) (state-worth (model B) steps s)
   picks p s = go steps (p .least)
@@ -370,8 +646,45 @@ module _ (B : List ℕ) (steps : ℕ) (q : Asked) where
       let out : T (accepted (sited .levels) (sited .conditions) q) → ValueOut = λ t. worth-out (state-worth (model B) steps (state-of (sited .levels) (sited .conditions) q t)) in
       by-early B steps steps-most
       (λ v b. Answer (if b (if-true (accepted (sited .levels) (sited .conditions) q) out (refused-value 13 0)) (refused-value (v .number) (v .place))))
-      (λ p. state-row (accepted (sited .levels) (sited .conditions) q) out (λ t. worth-row t _ refl (picks p _)) plain-13)
+      (λ p. state-row (accepted (sited .levels) (sited .conditions) q) out (λ t. worth-row p t _ refl (picks p _)) (plain-13 (admitted p)))
       (λ k p r. plain-1-10 r)
+
+  abbrev plain-out : T (accepted (sited .levels) (sited .conditions) q) → ValueOut
+  plain-out t = worth-out (state-worth (model B) steps (state-of (sited .levels) (sited .conditions) q t))
+
+  plain-from : Verdict → ValueOut
+  plain-from v = if (eqb (v .number) 0) (if-true (accepted (sited .levels) (sited .conditions) q) plain-out (refused-value 13 0)) (refused-value (v .number) (v .place))
+
+  accepted-out : (b : Bool) (f : T b → ValueOut) (t : T b) → if-true b f (refused-value 13 0) ≡ f t
+  unfolding if-true
+  accepted-out true f t = refl
+  accepted-out false f t = absurd t
+
+  refused-out : (b : Bool) (f : T b → ValueOut) → T (not b) → if-true b f (refused-value 13 0) ≡ refused-value 13 0
+  unfolding if-true
+  refused-out true f t = absurd t
+  refused-out false f t = refl
+
+  -- plain working is each of its rows
+  pub plain-is : {o : ValueOut} → PlainRow B steps q o → plain-of B steps q ≡ o
+  unfolding plain-of plain-from worth-out
+  plain-is (plain-0 d t s a) =
+      let r = state-of (sited .levels) (sited .conditions) q t in
+      let i = stays-some (model B) steps r s in
+      ap plain-from (admitted-is d) ∙ accepted-out _ plain-out t ∙ ap worth-out (i .1 .1)
+      ∙ (λ j. record {
+        number = 0;
+        place = 0;
+        action = plain-lowest (model B) steps r (i .0) (i .1 .0) (d .horizon .0) (i .1 .1) j;
+        numerator = words (plain-exact (model B) steps r (i .0) (i .1 .0) (i .1 .1) j);
+      })
+  plain-is (plain-1-10 {k = k} r) = ap plain-from (early-is r) ∙ if-no (eqb k 0) _ _ (some-not k (early-some r))
+  plain-is (plain-13 d t) = ap plain-from (admitted-is d) ∙ refused-out _ plain-out t
+  plain-is (plain-11 d t f) = ap plain-from (admitted-is d) ∙ accepted-out _ plain-out t ∙ leaves (state-worth (model B) steps (state-of (sited .levels) (sited .conditions) q t)) refl
+    where
+      leaves : (o : Worth) → state-worth (model B) steps (state-of (sited .levels) (sited .conditions) q t) ≡ o → worth-out o ≡ refused-value 11 0
+      leaves (is v a) e = absurd (f (answers-stay (model B) steps (state-of (sited .levels) (sited .conditions) q t) v a e))
+      leaves over e = refl
 
 -- ---- name
 
@@ -380,9 +693,28 @@ unfolding name-refusal
 name-row B a =
     let A = site-at B .actions in
     by-early B 1 steps-most (λ v b. NameRow B a (if b (if (among A a) (refusal 0 0) (refusal 16 0)) v))
-    (λ _. by-test (among A a) (λ b. NameRow B a (if b (refusal 0 0) (refusal 16 0)))
-    (λ t. let i = among-out A a t in name-0 (i .0) (i .1)) (λ t. name-16 (λ h l. T-not (among A a) t (among-in A a h l))))
+    (λ p. by-test (among A a) (λ b. NameRow B a (if b (refusal 0 0) (refusal 16 0)))
+    (λ t. name-0 (admitted p) (among-out A a t)) (λ t. name-16 (admitted p) (λ d. T-not (among A a) t (among-in A a (d .0) (d .1)))))
     (λ k p r. name-1-10 r)
+
+module _ (B : List ℕ) (a : ℕ) where
+  pub zero-name : name-refusal B a .number ≡ 0 → NameRow B a (refusal 0 0)
+  zero-name z = go (name-row B a) z
+    where
+      go : {v : Verdict} → NameRow B a v → v .number ≡ 0 → NameRow B a (refusal 0 0)
+      go (name-0 d h) e = name-0 d h
+      go (name-1-10 r) e = absurd (omega (arith, early-some r))
+      go (name-16 d f) e = absurd (omega arith)
+
+  name-from : Verdict → Verdict
+  name-from v = if (eqb (v .number) 0) (if (among (site-at B .actions) a) (refusal 0 0) (refusal 16 0)) v
+
+  -- a name's refusal is each of its rows
+  pub name-is : {v : Verdict} → NameRow B a v → name-refusal B a ≡ v
+  unfolding name-refusal name-from
+  name-is (name-0 d h) = ap name-from (admitted-is d) ∙ if-yes (among (site-at B .actions) a) (refusal 0 0) (refusal 16 0) (among-in (site-at B .actions) a (h .0) (h .1))
+  name-is (name-1-10 {k = k} r) = ap name-from (early-is r) ∙ if-no (eqb k 0) _ _ (some-not k (early-some r))
+  name-is (name-16 d f) = ap name-from (admitted-is d) ∙ by-test (among (site-at B .actions) a) (λ b. if b (refusal 0 0) (refusal 16 0) ≡ refusal 16 0) (λ t. absurd (f (among-out (site-at B .actions) a t))) (λ _. refl)
 
 -- ---- listing
 
@@ -394,6 +726,21 @@ not-all p b (suc k) t = by-test (p b) (λ z. T (not (z && all p (from-to (suc b)
     (λ n _. (b, (omega arith, (omega arith, n))))
     t
 
+all-from : (p : ℕ → Bool) (b k : ℕ) → T (all p (from-to b k)) → (i : ℕ) → b ≤ i → i < b + k → T (p i)
+unfolding all from-to
+all-from p b zero t i h l = absurd (omega arith)
+all-from p b (suc k) t i h l =
+    let d = both (p b) (all p (from-to (suc b) k)) t in
+    by-test (eqb b i) (λ _. T (p i)) (λ e. subst (λ (j : ℕ). T (p j)) (eqb→eq b i e) (d .0)) (λ n. all-from p (suc b) k (d .1) i (other-above b i h (not-sym b i n)) (omega arith))
+  where
+    not-sym : (b i : ℕ) → T (not (eqb b i)) → T (not (eqb i b))
+    not-sym b i n = by-test (eqb i b) (λ x. T (not x)) (λ e. absurd (T-not (eqb b i) n (rw (eqb→eq i b e) (eqb-refl b)))) (λ _. tt)
+
+from-each : (p : ℕ → Bool) (b k : ℕ) → ((i : ℕ) → b ≤ i → i < b + k → T (p i)) → T (all p (from-to b k))
+unfolding all from-to
+from-each p b zero f = tt
+from-each p b (suc k) f = and-in (p b) (all p (from-to (suc b) k)) (f b (omega arith) (omega arith)) (from-each p (suc b) k (λ i h l. f i (omega arith) (omega arith)))
+
 module _ (B : List ℕ) (H : ℕ) (nodes : List ℤ) (stages buffer : List ℕ) (at : ℕ) where
   abbrev t : List ℕ
   t = text (site-at B) H nodes stages
@@ -404,13 +751,29 @@ module _ (B : List ℕ) (H : ℕ) (nodes : List ℤ) (stages buffer : List ℕ) 
   abbrev Row : Verdict → Type 0
   Row v = ListingRow B H nodes stages buffer at (out (eqb (v .number) 0) v)
 
-  written-row : at + length t ≤ length buffer → Row (refusal 0 0)
+  -- no stage word is 0; every node is good
+  abbrev set : Bool
+  set = all (λ h. not (eqb (getD stages (h - 1) 0) 0)) (from-to 1 H)
+
+  abbrev good : Bool
+  good = all (good-row (site-at B .conditions) (site-at B .actions) nodes) (from-to 1 (greatest-root H stages))
+
+  rooted : Passed B H (length stages) → T set → Rooted B H nodes stages buffer at
+  rooted p s = record {
+    early = admitted p;
+    roots = λ h d. positive (getD stages (h - 1) 0) (all-from (λ h. not (eqb (getD stages (h - 1) 0) 0)) 1 H s h (d .0) (omega (arith, d .1)));
+  }
+
+  tabled : Rooted B H nodes stages buffer at → T good → Tabled B H nodes stages buffer at
+  tabled r g = record { rooted = r; rows = λ r d. all-from (good-row (site-at B .conditions) (site-at B .actions) nodes) 1 (greatest-root H stages) g r (d .0) (omega (arith, d .1)) }
+
+  written-row : Tabled B H nodes stages buffer at → at + length t ≤ length buffer → Row (refusal 0 0)
   unfolding written
-  written-row h =
+  written-row d h =
       let first = length-take-le at buffer (omega arith) in
       let rest : List ℕ = drop (at + length t) buffer in
       let behind = drop-at (take at buffer) (t ++ rest) at first in
-      listing-0 refl h
+      listing-0 d refl h
       (length-append (take at buffer) (t ++ rest) ∙ omega (arith, first, length-append t rest, length-drop (at + length t) buffer))
       (take-at (take at buffer) (t ++ rest) at first)
       (ap (take (length t)) behind ∙ take-append-seam t rest)
@@ -419,15 +782,62 @@ module _ (B : List ℕ) (H : ℕ) (nodes : List ℤ) (stages buffer : List ℕ) 
   pub listing-row : ListingRow B H nodes stages buffer at (listing B H nodes stages buffer at)
   unfolding listing listing-refusal
   listing-row =
-      let S = site-at B in
       let short : Verdict = if (ltb (length buffer) (at + length t)) (refusal 17 0) (refusal 0 0) in
-      let set = all (λ h. not (eqb (getD stages (h - 1) 0) 0)) (from-to 1 H) in
-      let good = all (good-row (S .conditions) (S .actions) nodes) (from-to 1 (greatest-root H stages)) in
       by-early B H (length stages) (λ v b. Row (if (not b) v (if (not set) (refusal 15 0) (if (not good) (refusal 14 0) short))))
-      (λ _. by-test set (λ b. Row (if (not b) (refusal 15 0) (if (not good) (refusal 14 0) short)))
-      (λ _. by-test good (λ b. Row (if (not b) (refusal 14 0) short))
-      (λ _. by-test (ltb (length buffer) (at + length t)) (λ b. Row (if b (refusal 17 0) (refusal 0 0)))
-      (λ l. listing-17 (ltb→lt (length buffer) (at + length t) l)) (λ l. written-row (nltb→le (length buffer) (at + length t) l)))
-      (λ g. let d = not-all _ 1 (greatest-root H stages) g in listing-14 (d .1 .0) (omega (arith, d .1 .1 .0)) (d .1 .1 .1)))
-      (λ g. let d = not-all (λ h. not (eqb (getD stages (h - 1) 0) 0)) 1 H g in listing-15 (d .1 .0) (omega (arith, d .1 .1 .0)) (eqb→eq (getD stages (d .0 - 1) 0) 0 (not-not (eqb (getD stages (d .0 - 1) 0) 0) (d .1 .1 .1)))))
+      (λ p. by-test set (λ b. Row (if (not b) (refusal 15 0) (if (not good) (refusal 14 0) short)))
+      (λ s. by-test good (λ b. Row (if (not b) (refusal 14 0) short))
+      (λ g. by-test (ltb (length buffer) (at + length t)) (λ b. Row (if b (refusal 17 0) (refusal 0 0)))
+      (λ l. listing-17 (tabled (rooted p s) g) (ltb→lt (length buffer) (at + length t) l)) (λ l. written-row (tabled (rooted p s) g) (nltb→le (length buffer) (at + length t) l)))
+      (λ g. let d = not-all _ 1 (greatest-root H stages) g in listing-14 (rooted p s) (d .1 .0, omega (arith, d .1 .1 .0)) (d .1 .1 .1)))
+      (λ g. let d = not-all (λ h. not (eqb (getD stages (h - 1) 0) 0)) 1 H g in listing-15 (admitted p) (d .1 .0, omega (arith, d .1 .1 .0)) (eqb→eq (getD stages (d .0 - 1) 0) 0 (not-not (eqb (getD stages (d .0 - 1) 0) 0) (d .1 .1 .1)))))
       (λ k p r. subst (λ (b : Bool). ListingRow B H nodes stages buffer at (out b (refusal k p))) (sym (ne-eqb k 0 (λ z. omega (arith, early-some r)))) (listing-1-10 r))
+
+  -- ---- a row decides
+
+  listed-from : Verdict → Verdict
+  listed-from v = if (not (eqb (v .number) 0)) v (if (not set) (refusal 15 0) (if (not good) (refusal 14 0) (if (ltb (length buffer) (at + length t)) (refusal 17 0) (refusal 0 0))))
+
+  abbrev refuses : Verdict
+  refuses = listing-refusal B H nodes stages (length buffer) at
+
+  rooted-is : Rooted B H nodes stages buffer at → refuses ≡ if (not good) (refusal 14 0) (if (ltb (length buffer) (at + length t)) (refusal 17 0) (refusal 0 0))
+  unfolding listing-refusal listed-from
+  rooted-is d =
+      let s = from-each (λ h. not (eqb (getD stages (h - 1) 0) 0)) 1 H (λ h a b. some-not (getD stages (h - 1) 0) ((d .roots) h (a, omega arith))) in
+      ap listed-from (admitted-is (d .early)) ∙ if-no (not set) (refusal 15 0) _ (not-twice set s)
+
+  tabled-is : Tabled B H nodes stages buffer at → refuses ≡ if (ltb (length buffer) (at + length t)) (refusal 17 0) (refusal 0 0)
+  tabled-is d =
+      let g = from-each (good-row (site-at B .conditions) (site-at B .actions) nodes) 1 (greatest-root H stages) (λ r a b. (d .rows) r (a, omega arith)) in
+      rooted-is (d .rooted) ∙ if-no (not good) (refusal 14 0) _ (not-twice good g)
+
+  refused-as : (k p : ℕ) → 1 ≤ k → refuses ≡ refusal k p → listing B H nodes stages buffer at ≡ record { number = k; place = p; size = 0; buffer = buffer }
+  unfolding listing
+  refused-as k p h e = ap (λ (v : Verdict). out (eqb (v .number) 0) v) e ∙ if-no (eqb k 0) _ _ (some-not k h)
+
+  -- the buffer is settled by what stands before the text, the text, and what stands behind it
+  settled : (after : List ℕ) → take at after ≡ take at buffer → take (length t) (drop at after) ≡ t → drop (at + length t) after ≡ drop (at + length t) buffer → after ≡ written buffer at t
+  unfolding written
+  settled after a b c =
+      sym (take-append-drop at after) ∙ ap₂ _++_ a (sym (take-append-drop (length t) (drop at after)) ∙ ap₂ _++_ b (drop-drop (length t) at after ∙ c))
+
+  -- the listing is each of its rows
+  pub listing-is : {o : ListingOut} → ListingRow B H nodes stages buffer at o → listing B H nodes stages buffer at ≡ o
+  unfolding listing listing-refusal listed-from
+  listing-is (listing-0 {size = size} {after = after} d e h _ a b c) =
+      ap (λ (v : Verdict). out (eqb (v .number) 0) v) (tabled-is d ∙ if-no (ltb (length buffer) (at + length t)) (refusal 17 0) (refusal 0 0)
+      (by-test (ltb (length buffer) (at + length t)) (λ x. T (not x)) (λ z. absurd (omega (arith, ltb→lt (length buffer) (at + length t) z))) (λ _. tt)))
+      ∙ same-out after e a b c
+    where
+      same-out : (after : List ℕ) → size ≡ length t → take at after ≡ take at buffer → take size (drop at after) ≡ t → drop (at + size) after ≡ drop (at + size) buffer
+          → _≡_ {A = ListingOut} (record { number = 0; place = 0; size = length t; buffer = written buffer at t }) (record { number = 0; place = 0; size = size; buffer = after })
+      same-out after e a b c =
+          let w = settled after a (subst (λ (n : ℕ). take n (drop at after) ≡ t) e b) (subst (λ (n : ℕ). drop (at + n) after ≡ drop (at + n) buffer) e c) in
+          λ i. record { number = 0; place = 0; size = sym e i; buffer = sym w i }
+  listing-is (listing-1-10 {k = k} {p = p} r) =
+      refused-as k p (early-some r) (ap listed-from (early-is r) ∙ if-yes (not (eqb k 0)) (refusal k p) _ (some-not k (early-some r)))
+  listing-is (listing-15 {h = h} d i z) = refused-as 15 0 (omega arith) (ap listed-from (admitted-is d) ∙ if-yes (not set) (refusal 15 0) _
+      (by-test set (λ b. T (not b)) (λ s. absurd (T-not (eqb (getD stages (h - 1) 0) 0) (all-from (λ h. not (eqb (getD stages (h - 1) 0) 0)) 1 H s h (i .0) (omega (arith, i .1))) (zero-is (getD stages (h - 1) 0) z))) (λ _. tt)))
+  listing-is (listing-14 {r = r} d i z) = refused-as 14 0 (omega arith) (rooted-is d ∙ if-yes (not good) (refusal 14 0) _
+      (by-test good (λ b. T (not b)) (λ s. absurd (T-not (good-row (site-at B .conditions) (site-at B .actions) nodes r) z (all-from (good-row (site-at B .conditions) (site-at B .actions) nodes) 1 (greatest-root H stages) s r (i .0) (omega (arith, i .1))))) (λ _. tt)))
+  listing-is (listing-17 d l) = refused-as 17 0 (omega arith) (tabled-is d ∙ if-yes (ltb (length buffer) (at + length t)) (refusal 17 0) (refusal 0 0) (lt→ltb (length buffer) (at + length t) l))
