@@ -131,8 +131,8 @@ sum-on F (c ∷ cs) (D ∷ Ds) = bind (scale c D) (λ G. bind (sum F G) (λ S. s
 
 -- "the sum over levels 1 to m of coefficient × next-level diagram, zero coefficients too"
 unfoldable pub levels-sum : List ℤ → List Tree → Comp Tree
-levels-sum [] Ds = ret zero-leaf
-levels-sum (c ∷ cs) [] = ret zero-leaf
+levels-sum [] Ds = make zero-leaf
+levels-sum (c ∷ cs) [] = make zero-leaf
 levels-sum (c ∷ cs) (D ∷ Ds) = bind (scale c D) (λ F. sum-on F cs Ds)
 
 -- "plus the constant"

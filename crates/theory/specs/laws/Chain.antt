@@ -21,7 +21,7 @@ use Rattle.theory.specs.laws.Events.{run-done}
 use Rattle.theory.specs.laws.Counting.{roots-fit}
 use Rattle.theory.specs.laws.Refusals.{AllChained}
 use Rattle.theory.specs.laws.Loading.{entry-trees, loaded-entries, diagrams-loaded}
-use Rattle.theory.specs.laws.Inside.{sub-needed, all-none, all-parts, all-cons, all-more, all-left, all-right, all-append, roots-inside, bind-gives, Built, builds, leaf-built, choose-built, best-built, substitute-built, expectation-built, reward-built}
+use Rattle.theory.specs.laws.Inside.{sub-needed, all-none, all-parts, all-cons, all-more, all-left, all-right, roots-inside, bind-gives, Built, builds, leaf-built, zero-built, choose-built, best-built, substitute-built, expectation-built, reward-built}
 
 -- ---- operations
 
@@ -75,78 +75,63 @@ sum-out-leads W h kept k (w ∷ ws) F X a i = operation-leads (With kept) X h (F
     let d = all-parts _ (F ∷ kept) Y j in
     sum-out-leads W h kept (suc k) ws _ Y (λ Z q. all-parts w ws Z (a Z q) .1) (all-cons _ kept Y (d .0) (all-parts F kept Y (d .1) .1)))
 
-action-total-leads : (M : Model) (h : ℕ) (kept : List Tree) (P : Tree) (a : ℕ) (x : Action) (X : List Tree) → Among (zero-leaf ∷ action-diagrams x) kept → T (all-inside kept X)
+action-total-leads : (M : Model) (h : ℕ) (kept : List Tree) (P : Tree) (a : ℕ) (x : Action) (X : List Tree) → Among (action-diagrams x) kept → T (all-inside kept X)
     → Leads (With kept) X (action-total M h kept P a x)
 unfolding action-total
 action-total-leads M h kept P a x X m i =
-    operation-leads (With kept) X h kept _ _ i (λ Y j. substitute-built Y (x .levels) P (all-parts zero-leaf (action-diagrams x) Y (m Y j) .0) (all-right (x .chances) (x .levels) Y (own Y j .1)))
+    operation-leads (With kept) X h kept _ _ i (λ Y j. substitute-built Y (x .levels) P (all-right (x .chances) (x .levels) Y (own Y j .1)))
     (λ Y j. and-then-leads (With kept) (With kept) Y _ _ (sum-out-leads (M .weights) h kept 1 (x .chances) _ Y (λ Z q. all-left (x .chances) (x .levels) Z (own Z q .1)) j)
     (λ Z q. operation-leads (With kept) Z h _ _ end q
     (λ U r. let d = all-parts _ kept U r in reward-built (power M h) (x .reward) a _ U (own U (d .1) .0) (d .0))
     (λ U r. let d = all-parts _ _ U r in end-leads (With kept) U _ (all-cons _ kept U (d .0) (all-parts _ kept U (d .1) .1)))))
   where
     own : (Y : List Tree) → T (all-inside kept Y) → T (inside (x .reward) Y) × T (all-inside (x .chances ++ x .levels) Y)
-    own Y j = all-parts (x .reward) (x .chances ++ x .levels) Y (all-parts zero-leaf (action-diagrams x) Y (m Y j) .1)
+    own Y j = all-parts (x .reward) (x .chances ++ x .levels) Y (m Y j)
 
-best-on-leads : (M : Model) (h : ℕ) (kept : List Tree) (P : Tree) (a : ℕ) (l : List Action) (F : Tree) (X : List Tree) → Among (zero-leaf ∷ all-diagrams l) kept → T (all-inside (F ∷ kept) X)
+best-on-leads : (M : Model) (h : ℕ) (kept : List Tree) (P : Tree) (a : ℕ) (l : List Action) (F : Tree) (X : List Tree) → Among (all-diagrams l) kept → T (all-inside (F ∷ kept) X)
     → Leads (With kept) X (best-on M h kept P a l F)
 unfolding best-on all-diagrams
 best-on-leads M h kept P a [] F X m i = end-leads (With kept) X F i
 best-on-leads M h kept P a (x ∷ l) F X m i =
     and-then-leads (With (F ∷ kept)) (With kept) X (action-total M h (F ∷ kept) P a x) _
-    (action-total-leads M h (F ∷ kept) P a x X
-    (λ Y j. let d = parts Y (all-parts F kept Y j .1) in all-cons zero-leaf (action-diagrams x) Y (d .0) (all-left (action-diagrams x) (all-diagrams l) Y (d .1))) i)
+    (action-total-leads M h (F ∷ kept) P a x X (λ Y j. all-left (action-diagrams x) (all-diagrams l) Y (m Y (all-parts F kept Y j .1))) i)
     (λ Y j. operation-leads (With kept) Y h _ _ (best-on M h kept P (suc a) l) j
     (λ Z q. let d = all-parts _ (F ∷ kept) Z q in best-built Z F _ (all-parts F kept Z (d .1) .0) (d .0))
     (λ Z q.
     let d = all-parts _ _ Z q in
     let e = all-parts _ (F ∷ kept) Z (d .1) in
-    best-on-leads M h kept P (suc a) l _ Z
-    (λ U r. let p = parts U r in all-cons zero-leaf (all-diagrams l) U (p .0) (all-right (action-diagrams x) (all-diagrams l) U (p .1)))
+    best-on-leads M h kept P (suc a) l _ Z (λ U r. all-right (action-diagrams x) (all-diagrams l) U (m U r))
     (all-cons _ kept Z (d .0) (all-parts F kept Z (e .1) .1))))
-  where
-    parts : (Y : List Tree) → T (all-inside kept Y) → T (inside zero-leaf Y) × T (all-inside (action-diagrams x ++ all-diagrams l) Y)
-    parts Y j = all-parts zero-leaf (action-diagrams x ++ all-diagrams l) Y (m Y j)
 
-stage-over-leads : (M : Model) (h : ℕ) (kept : List Tree) (P : Tree) (X : List Tree) → Among (zero-leaf ∷ model-diagrams M) kept → T (all-inside kept X)
+stage-over-leads : (M : Model) (h : ℕ) (kept : List Tree) (P : Tree) (X : List Tree) → Among (model-diagrams M) kept → T (all-inside kept X)
     → Leads (With kept) X (stage-over M h kept P)
 unfolding stage-over model-diagrams all-diagrams
 stage-over-leads M h kept P X m i =
     and-then-leads (With kept) (With kept) X (action-total M h kept P 1 (M .first)) (best-on M h kept P 2 (M .others))
-    (action-total-leads M h kept P 1 (M .first) X
-    (λ Y j. let d = parts Y j in all-cons zero-leaf (action-diagrams (M .first)) Y (d .0) (all-left (action-diagrams (M .first)) (all-diagrams (M .others)) Y (d .1))) i)
-    (λ Y j. best-on-leads M h kept P 2 (M .others) _ Y
-    (λ Z q. let d = parts Z q in all-cons zero-leaf (all-diagrams (M .others)) Z (d .0) (all-right (action-diagrams (M .first)) (all-diagrams (M .others)) Z (d .1))) j)
-  where
-    parts : (Y : List Tree) → T (all-inside kept Y) → T (inside zero-leaf Y) × T (all-inside (action-diagrams (M .first) ++ all-diagrams (M .others)) Y)
-    parts Y j = all-parts zero-leaf (action-diagrams (M .first) ++ all-diagrams (M .others)) Y (m Y j)
+    (action-total-leads M h kept P 1 (M .first) X (λ Y j. all-left (action-diagrams (M .first)) (all-diagrams (M .others)) Y (m Y j)) i)
+    (λ Y j. best-on-leads M h kept P 2 (M .others) _ Y (λ Z q. all-right (action-diagrams (M .first)) (all-diagrams (M .others)) Z (m Z q)) j)
 
 -- the new stages are there at the end, with those that were finished
 abbrev Stages : List Tree → List Tree → List Tree → Type 0
 Stages finished l Y = T (all-inside l Y) × T (all-inside finished Y)
 
-stages-on-leads : (M : Model) (k h : ℕ) (finished : List Tree) (P : Tree) (X : List Tree) → Among (zero-leaf ∷ []) finished → T (all-inside (finished ++ model-diagrams M) X)
+stages-on-leads : (M : Model) (k h : ℕ) (finished : List Tree) (P : Tree) (X : List Tree) → T (all-inside (finished ++ model-diagrams M) X)
     → Leads (Stages finished) X (stages-on M k h finished P)
 unfolding stages-on
-stages-on-leads M zero h finished P X z i = end-leads (Stages finished) X [] (all-none X, all-left finished (model-diagrams M) X i)
-stages-on-leads M (suc k) h finished P X z i =
+stages-on-leads M zero h finished P X i = end-leads (Stages finished) X [] (all-none X, all-left finished (model-diagrams M) X i)
+stages-on-leads M (suc k) h finished P X i =
     and-then-leads (With (finished ++ model-diagrams M)) (Stages finished) X (stage-over M h (finished ++ model-diagrams M) P) _
-    (stage-over-leads M h (finished ++ model-diagrams M) P X
-    (λ Y j. all-append (zero-leaf ∷ []) (model-diagrams M) Y (z Y (all-left finished (model-diagrams M) Y j)) (all-right finished (model-diagrams M) Y j)) i)
+    (stage-over-leads M h (finished ++ model-diagrams M) P X (λ Y j. all-right finished (model-diagrams M) Y j) i)
     (λ Y j. and-then-leads (Stages (_ ∷ finished)) (Stages finished) Y _ _
-    (stages-on-leads M k (suc h) (_ ∷ finished) _ Y (λ Z q. z Z (all-parts _ finished Z q .1)) j)
+    (stages-on-leads M k (suc h) (_ ∷ finished) _ Y j)
     (λ Z q. let d = all-parts _ finished Z (q .1) in end-leads (Stages finished) Z _ (all-cons _ _ Z (d .0) (q .0), d .1)))
-
-zero-built : (Y : List Tree) → Built Y (make zero-leaf)
-unfolding zero-leaf
-zero-built Y = leaf-built Y _
 
 -- where the model's diagrams are there, all its stages are chained, and are there at the end
 pub all-stages-lead : (M : Model) (H : ℕ) (X : List Tree) → T (all-inside (model-diagrams M) X) → Leads (λ l Y. T (all-inside l Y)) X (all-stages M H)
 unfolding all-stages result make
 all-stages-lead M H X i =
     operation-leads _ X 1 (model-diagrams M) (make zero-leaf) (λ Z. stages-on M H 1 (Z ∷ []) Z) i (λ Y _. zero-built Y)
-    (λ Y j. let l = stages-on-leads M H 1 (zero-leaf ∷ []) zero-leaf Y (λ _ q. q) j in record { chain = l .chain; last = l .last .0 })
+    (λ Y j. let l = stages-on-leads M H 1 (zero-leaf ∷ []) zero-leaf Y j in record { chain = l .chain; last = l .last .0 })
 
 -- ---- loading
 

@@ -13,7 +13,7 @@ use lib.Signed.{_≤ℤ_, leZ, leZ-yes}
 use Rattle.whole.specs.Cases.{if, by-test, both}
 use Rattle.whole.specs.Int.{atom, up, diff, le-in}
 use Rattle.theory.specs.Diagram.{Linear, Test, now, later, linear, Leaf, Tree, leaf, branch, zeros}
-use Rattle.theory.specs.Computation.{result, final}
+use Rattle.theory.specs.Computation.{result, make, final}
 use Rattle.theory.specs.Computation as C
 use Rattle.theory.specs.Rules.{node, choose, sum, product, scale, shift, complement, no-coeffs, zero-leaf, sum-on, levels-sum, linear-diagram, substitute, is-later, side}
 use Rattle.theory.specs.Rules.{expectation}
@@ -44,7 +44,7 @@ module _ (e : Env) where
       ∙ +ℤ-assoc (worth-at e F) (c *ℤ worth-at e D) (dot cs (map (worth-at e) Ds))
 
   levels-at : (cs : List ℤ) (Ds : List Tree) → worth-at e (result (levels-sum cs Ds)) ≡ dot cs (map (worth-at e) Ds)
-  unfolding levels-sum dot result
+  unfolding levels-sum dot result make
   levels-at [] Ds = zero-at
   levels-at (c ∷ cs) [] = zero-at
   levels-at (c ∷ cs) (D ∷ Ds) = ap (worth-at e) (result-bind (scale c D) _) ∙ sum-on-at _ cs Ds ∙ ap (λ z. z +ℤ dot cs (map (worth-at e) Ds)) (scale-at e c D)

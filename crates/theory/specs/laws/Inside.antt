@@ -358,28 +358,32 @@ sum-on-built X F (c ∷ cs) (D ∷ Ds) a b =
     (λ Y s g. bind-built _ (sum-built Y F _ (inside-more s F a) g)
     (λ Z r i. sum-on-built Z _ cs Ds i (all-more (sub-trans s r) Ds (d .1))))
 
-pub levels-built : (X : List Tree) (cs : List ℤ) (Ds : List Tree) → T (inside zero-leaf X) → T (all-inside Ds X) → Built X (levels-sum cs Ds)
+pub zero-built : (X : List Tree) → Built X (make zero-leaf)
+unfolding zero-leaf
+zero-built X = leaf-built X _
+
+pub levels-built : (X : List Tree) (cs : List ℤ) (Ds : List Tree) → T (all-inside Ds X) → Built X (levels-sum cs Ds)
 unfolding levels-sum
-levels-built X [] Ds z b = ret-built X zero-leaf z
-levels-built X (c ∷ cs) [] z b = ret-built X zero-leaf z
-levels-built X (c ∷ cs) (D ∷ Ds) z b =
+levels-built X [] Ds b = zero-built X
+levels-built X (c ∷ cs) [] b = zero-built X
+levels-built X (c ∷ cs) (D ∷ Ds) b =
     let d = all-parts D Ds X b in
     bind-built _ (scale-built c X D (d .0)) (λ Y s i. sum-on-built Y _ cs Ds i (all-more s Ds (d .1)))
 
-pub linear-built : (X : List Tree) (Ds : List Tree) (p : Linear) → T (inside zero-leaf X) → T (all-inside Ds X) → Built X (linear-diagram Ds p)
+pub linear-built : (X : List Tree) (Ds : List Tree) (p : Linear) → T (all-inside Ds X) → Built X (linear-diagram Ds p)
 unfolding linear-diagram
-linear-built X Ds p z b = bind-built (shift (p .const)) (levels-built X (p .coeffs) Ds z b) (λ Y s i. shift-built (p .const) Y _ i)
+linear-built X Ds p b = bind-built (shift (p .const)) (levels-built X (p .coeffs) Ds b) (λ Y s i. shift-built (p .const) Y _ i)
 
 -- the diagram that is substituted in is taken apart, and need not be there
-pub substitute-built : (X : List Tree) (Ds : List Tree) (F : Tree) → T (inside zero-leaf X) → T (all-inside Ds X) → Built X (substitute Ds F)
+pub substitute-built : (X : List Tree) (Ds : List Tree) (F : Tree) → T (all-inside Ds X) → Built X (substitute Ds F)
 unfolding substitute
-substitute-built X Ds (leaf f) z b = linear-built X Ds (f .lin) z b
-substitute-built X Ds (branch (now k) h l) z b = both-built (choose (later k)) (choose-built (later k)) (substitute-built X Ds h z b) (substitute-built X Ds l z b)
-substitute-built X Ds (branch (later k) h l) z b = both-built (choose (later k)) (choose-built (later k)) (substitute-built X Ds h z b) (substitute-built X Ds l z b)
-substitute-built X Ds (branch (linear p) h l) z b =
-    bind-built _ (linear-built X Ds p z b)
-    (λ Y₁ s₁ i. bind-built _ (built-more s₁ (substitute-built X Ds h z b))
-    (λ Y₂ s₂ j. bind-built _ (built-more (sub-trans s₁ s₂) (substitute-built X Ds l z b))
+substitute-built X Ds (leaf f) b = linear-built X Ds (f .lin) b
+substitute-built X Ds (branch (now k) h l) b = both-built (choose (later k)) (choose-built (later k)) (substitute-built X Ds h b) (substitute-built X Ds l b)
+substitute-built X Ds (branch (later k) h l) b = both-built (choose (later k)) (choose-built (later k)) (substitute-built X Ds h b) (substitute-built X Ds l b)
+substitute-built X Ds (branch (linear p) h l) b =
+    bind-built _ (linear-built X Ds p b)
+    (λ Y₁ s₁ i. bind-built _ (built-more s₁ (substitute-built X Ds h b))
+    (λ Y₂ s₂ j. bind-built _ (built-more (sub-trans s₁ s₂) (substitute-built X Ds l b))
     (λ Y₃ s₃ k. over-built choose choose-built (λ f. decide (f .lin) (result (substitute Ds h)) (result (substitute Ds l))) Y₃
     (λ Z r f _. decide-built (f .lin) Z _ _ (inside-more (sub-trans s₃ r) _ j) (inside-more r _ k))
     Y₃ sub-refl _ (inside-more (sub-trans s₂ s₃) _ i))))

@@ -241,8 +241,8 @@ module _ {s? : ℤ → Bool} {g? : Leaf → Bool} {Long : Linear → Type 0} (c 
 
     levels-safe : (cs : List ℤ) (Ds : List Tree) → Goods Ds → Made (levels-sum cs Ds)
     unfolding levels-sum all
-    levels-safe [] Ds b = safe-ret zero-good
-    levels-safe (k ∷ cs) [] b = safe-ret zero-good
+    levels-safe [] Ds b = safe-make zero-leaf zero-good
+    levels-safe (k ∷ cs) [] b = safe-make zero-leaf zero-good
     levels-safe (k ∷ cs) (D ∷ Ds) b =
         let d = both (all-nodes t? g? D) (all (all-nodes t? g?) Ds) b in
         safe-bind (scale k D) _ (scale-safe k D (d .0)) (λ F f. sum-on-safe F cs Ds f (d .1))

@@ -225,8 +225,8 @@ module _ (s? : ℤ → Bool) where
 
   levels-ordered : (cs : List ℤ) (Ds : List Tree) → AllOrdered Ds → Makes (levels-sum cs Ds)
   unfolding levels-sum
-  levels-ordered [] Ds b = safe-ret zero-ordered
-  levels-ordered (k ∷ cs) [] b = safe-ret zero-ordered
+  levels-ordered [] Ds b = safe-make zero-leaf zero-ordered
+  levels-ordered (k ∷ cs) [] b = safe-make zero-leaf zero-ordered
   levels-ordered (k ∷ cs) (D ∷ Ds) b = safe-bind (scale k D) _ (scale-ordered k D (b .0)) (λ F f. sum-on-ordered F cs Ds f (b .1))
 
   linear-ordered : (Ds : List Tree) (p : Linear) → AllOrdered Ds → Makes (linear-diagram Ds p)
