@@ -18,7 +18,7 @@ use Rattle.theory.specs.Meaning.{State, Env, env, at}
 use Rattle.theory.specs.Valid.{all, among, wide}
 use Rattle.theory.specs.Command.{Command, site, push-leaf, push-condition, push-test, take-reward, take-chance, take-level, name-action, end-model, Read, whole, Placed, byte-at, width, command-at, read-at, goes-on, readings-from, readings}
 use Rattle.theory.specs.Verdict.{Site, site-of, Facts, Slot, Progress, reward-slot, chance-slot, level-slot, name-slot, same-slot, has-slot, or, Rule, rule, first-broken, next-condition, joined, wanted-by, wanted, from-to, site-rules, first-rules, later-rules, rules-of, after, Verdict, refusal, ended, judged, at-start, verdict}
-use Rattle.theory.specs.Load.{Entry, Loaded, condition-test, load-choice, load-entry, load-one, load-on, find-slot, site-at}
+use Rattle.theory.specs.Load.{Entry, Loaded, condition-test, load-choice, load-choice-with, load-entry, load-one, load-one-with, load-on, load-on-with, find-slot, site-at}
 use Rattle.theory.specs.laws.Comps.{result-bind}
 use Rattle.theory.specs.laws.Loading.{by-reading, behind, loaded-entries, accepted, linear-wide}
 use Rattle.command.specs.Held.{pushed}
@@ -126,7 +126,7 @@ abbrev placed : ℕ → Read → Placed
 placed i r = record { at = i; read = r }
 
 choice-entries : (t : Test) (X : List Tree) (E : List Entry) → result (load-choice t X E) .entries ≡ E
-unfolding load-choice result
+unfolding load-choice-with result
 choice-entries t [] E = refl
 choice-entries t (L ∷ []) E = refl
 choice-entries t (L ∷ H ∷ X) E = ap (λ (s : Loaded). s .entries) (result-bind (choose t H L) _)
@@ -167,7 +167,7 @@ module _ (B : List ℕ) (S : Site) (x : Point) (g : Slot) (s : State) (r : List 
         ap (λ (a : Loaded). find-slot g (a .entries)) (result-bind (load-one c (loaded Y F)) (load-on ys)) ∙ (rw z (ih K G (result (load-one c (loaded X E)) .stack) (result (load-one c (loaded X E)) .entries) q j ∙ k))
 
     stays-step : (c : Command) → goes-on (whole c) ≡ true → Stays (placed i (whole c) ∷ ys)
-    unfolding judged load-on rules-of later-rules ended after goes-on load-one make bind result
+    unfolding judged load-on-with rules-of later-rules ended after goes-on load-one-with make bind result
     stays-step (site m n a w) w′ K G X E q j = broken 0 _ (judged-whole (first-broken (rule 1 true ∷ [])) i _ j .0)
     stays-step (push-leaf p) w K G X E q j = ih _ G _ E q (judged-whole (first-broken (later-rules S K G (push-leaf p))) i _ j .1)
     stays-step (push-condition k) w K G X E q j =
@@ -195,7 +195,7 @@ module _ (B : List ℕ) (S : Site) (x : Point) (g : Slot) (s : State) (r : List 
     stays-step end-model w K G X E q j = clash (sym w)
 
   stays-end : (i : ℕ) → Stays (placed i (whole end-model) ∷ [])
-  unfolding load-on load-one bind result
+  unfolding load-on-with load-one-with bind result
   stays-end i K G X E q j = refl
 
   -- ---- each offset on the stack is the leaf that its diagram comes to
@@ -212,7 +212,7 @@ module _ (B : List ℕ) (S : Site) (x : Point) (g : Slot) (s : State) (r : List 
 
   agree-chosen : (t : Test) (b : Bool) (E : List Entry) → Sides st t b → (l : List ℕ) (X : List Tree) → 2 ≤ length l → length l ≤ stack-most → Agree l X
       → Agree (chosen b l) (result (load-choice t X E) .stack) × (suc (length (chosen b l)) ≡ length l)
-  unfolding Agree load-choice result chosen
+  unfolding Agree load-choice-with result chosen
   agree-chosen t b E y [] X h k a = absurd (omega arith)
   agree-chosen t b E y (o ∷ []) X h k a = absurd (omega arith)
   agree-chosen t b E y (o ∷ o′ ∷ l) [] h k a = absurd a
@@ -252,7 +252,7 @@ module _ (B : List ℕ) (S : Site) (x : Point) (g : Slot) (s : State) (r : List 
         rw (result-bind (load-choice t X E) (load-on ys)) (ih K′ G (v .stack) (v .entries) (chosen b l) (d .0) (omega arith) (omega arith) f j)
 
     reach-step : (c : Command) → read-at B i ≡ whole c → goes-on (whole c) ≡ true → Reach (placed i (whole c) ∷ ys)
-    unfolding Agree judged load-on rules-of later-rules ended after goes-on load-one make bind result pass takes stepped at has-slot
+    unfolding Agree judged load-on-with rules-of later-rules ended after goes-on load-one-with make bind result pass takes stepped at has-slot
     reach-step (site m n a w) o w′ K G X E l y q z f j = broken 0 _ (judged-whole (first-broken (rule 1 true ∷ [])) i _ j .0)
     reach-step (push-leaf p) o w K G X E l y q z f j =
         let d = judged-whole (first-broken (later-rules S K G (push-leaf p))) i _ j in
@@ -339,7 +339,7 @@ module _ (B : List ℕ) (x : Point) (g : Slot) (s : State) (r : List Bool) (st :
   Begins ys = judged (length B) at-start ys .number ≡ 0 → Leaf-at B (site-at B .levels) (pass x g ys []) (at (env s r) (find-slot g (result (load-on ys (loaded [] [])) .entries)) .lin)
 
   first-command : 0 + width (byte-at B 0) ≤ length B → 1 ≤ width (byte-at B 0) → (c : Command) → Fit B 0 c → Begins (placed 0 (whole c) ∷ behind B (length B) 0 (goes-on (whole c)))
-  unfolding judged load-on goes-on rules-of first-rules ended load-one bind result after Fit Agree pass takes stepped has-slot site-at
+  unfolding judged load-on-with goes-on rules-of first-rules ended load-one-with bind result after Fit Agree pass takes stepped has-slot site-at
   first-command h n (site m k a w) f j =
       let d = judged-whole (first-broken (site-rules (site-of m k a w))) 0 _ j in
       both-from B (site-at B) x g s r st few wants (length B) (0 + width (byte-at B 0)) h (omega arith) .0 [] [] [] [] [] tt refl (omega arith) refl

@@ -17,7 +17,7 @@ use Rattle.theory.specs.Meaning.{Model}
 use Rattle.theory.specs.Computation.{Comp, ret, bind, Out, done, stopped, run}
 use Rattle.theory.specs.Command.{Command, site, push-leaf, push-condition, push-test, take-reward, take-chance, take-level, name-action, end-model, Read, whole, Placed, byte-at, width, command-at, goes-on, readings-from, readings}
 use Rattle.theory.specs.Verdict.{Site, site-of, Slot, Progress, reward-slot, chance-slot, level-slot, has-slot, first-broken, from-to, wanted-by, wanted, site-rules, first-rules, rules-of, after, ended, judged, at-start, verdict}
-use Rattle.theory.specs.Load.{Entry, Loaded as Loading, load-one, load-on, find-slot, action-of, model-of, site-at, load, model}
+use Rattle.theory.specs.Load.{Entry, Loaded as Loading, load-one-with, load-on, load-on-with, find-slot, action-of, model-of, site-at, load, load-with, model}
 use Rattle.theory.specs.Stage.{all-diagrams, model-diagrams}
 use Rattle.theory.specs.laws.Comps.{run-bind, run-result}
 use Rattle.theory.specs.laws.Comps.{after as after-out}
@@ -74,7 +74,7 @@ abbrev Begins : List ℕ → Read → Type 0
 Begins B r = judged (length B) at-start (record { at = 0; read = r } ∷ behind B (length B) 0 (goes-on r)) .number ≡ 0 → Begun B (record { at = 0; read = r } ∷ behind B (length B) 0 (goes-on r))
 
 first-command : (B : List ℕ) → 1 ≤ width (byte-at B 0) → 0 + width (byte-at B 0) ≤ length B → (c : Command) → site-fits B c → Begins B (whole c)
-unfolding judged load-on goes-on rules-of first-rules ended load-one bind after site-fits first-broken
+unfolding judged load-on-with goes-on rules-of first-rules ended load-one-with bind after site-fits first-broken
 first-command B w h (site m n a v) f e = record {
   bytes = record { starts = omega arith; known = λ z. omega (arith, z); ends = h };
   judges = subst (λ (S : Site). judged (length B) (begun S) (Rest B) .number ≡ 0) f (judged-whole (first-broken (site-rules (site-of m n a v))) 0 _ e .1);
@@ -245,7 +245,7 @@ module _ (S : Site) (E : List Entry) where
 -- ---- the end
 
 load-run : (B : List ℕ) (cap : ℕ) → run cap (load B) [] ≡ after-out (run cap (load-on (readings B) (loading [] [])) []) (λ s Y. run cap (ret (model-of (site-at B) (s .entries))) Y)
-unfolding load
+unfolding load-with
 load-run B cap = run-bind cap (load-on (readings B) (loading [] [])) _ []
 
 load-stops : (B : List ℕ) (cap : ℕ) {k : ℕ} → run cap (load-on (readings B) (loading [] [])) [] ≡ stopped k → run cap (load B) [] ≡ stopped k

@@ -17,7 +17,7 @@ use Rattle.theory.specs.Valid.{all, among}
 use Rattle.theory.specs.Computation.{Comp, bind, Out, done, stopped, run}
 use Rattle.theory.specs.Command.{Command, site, push-leaf, push-condition, push-test, take-reward, take-chance, take-level, name-action, end-model, Read, whole, unknown, short, Placed, byte-at, width, read-at, goes-on, readings-from, readings}
 use Rattle.theory.specs.Verdict.{Site, Slot, Facts, Progress, reward-slot, chance-slot, level-slot, name-slot, has-slot, or, Rule, rule, first-broken, next-condition, joined, wanted, later-rules, rules-of, after, Verdict, refusal, ended, judged}
-use Rattle.theory.specs.Load.{Entry, Loaded as Loading, load-one, load-on, site-at}
+use Rattle.theory.specs.Load.{Entry, Loaded as Loading, load-one, load-one-with, load-on, load-on-with, site-at}
 use Rattle.theory.specs.laws.Comps.{run-bind}
 use Rattle.theory.specs.laws.Comps.{after as after-out}
 use Rattle.theory.specs.laws.Valid.{among-out}
@@ -186,7 +186,7 @@ unfolding judged rules-of
 judge-one B S K G at c L e = judged-whole (first-broken (later-rules S K G c)) at _ e
 
 load-one-on : (at : ℕ) (c : Command) (L : List Placed) (s : Loading) → load-on (record { at = at; read = whole c } ∷ L) s ≡ bind (load-one c s) (load-on L)
-unfolding load-on
+unfolding load-on-with
 load-one-on at c L s = refl
 
 refused-unknown : (n : ℕ) (s : Progress) (at : ℕ) (L : List Placed) {A : Type 0} → judged n s (record { at = at; read = unknown } ∷ L) .number ≡ 0 → A
@@ -204,7 +204,7 @@ not-whole B at Unknown k P p f g = f p
 not-whole B at Short k P p f g = g p
 
 end-on : (cap at : ℕ) (L : List Placed) (s : Loading) (Y : List Tree) → run cap (load-on (record { at = at; read = whole end-model } ∷ []) s) Y ≡ done s Y
-unfolding load-on load-one bind run
+unfolding load-on-with load-one-with bind run
 end-on cap at L s Y = refl
 
 end-first : (B : List ℕ) (at n : ℕ) → from-first B at n (whole end-model) ≡ record { at = at; read = whole end-model } ∷ []

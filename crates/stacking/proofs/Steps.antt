@@ -20,7 +20,7 @@ use Rattle.theory.specs.Computation.{Comp, ret, bind, make, Out, done, stopped,
 use Rattle.theory.specs.Rules.{choose}
 use Rattle.theory.specs.Command.{Command, site, push-leaf, push-condition, push-test, take-reward, take-chance, take-level, name-action, end-model, whole, read-at}
 use Rattle.theory.specs.Verdict.{Slot, reward-slot, chance-slot, level-slot}
-use Rattle.theory.specs.Load.{Entry, Loaded as Loading, condition-test, load-choice, load-entry, load-one}
+use Rattle.theory.specs.Load.{Entry, Loaded as Loading, condition-test, load-choice, load-choice-with, load-entry, load-one, load-one-with}
 use Rattle.theory.specs.laws.Comps.{after, run-bind}
 use Rattle.command.proofs.Command.{the-type as command-type}
 use Rattle.command.specs.declared.Linear.{Linear as CodeLinear}
@@ -159,12 +159,12 @@ small-ran {k = k} Q ok = index-small (k .at) (Q .table .bare) (Q .within ok)
 -- ---- each command
 
 leaf-one : (p : Linear) (X : List Tree) (E : List Entry) → load-one (push-leaf p) (loading X E) ≡ bind (make (leaf (plain p))) (λ t. ret (loading (t ∷ X) E))
-unfolding load-one
+unfolding load-one-with
 leaf-one p X E = refl
 
 -- a choice of a stack of two at least
 choice-one : (l : List ℤ) (t : Test) (n : ℕ) (H : List ℕ) → 2 ≤ length H → (E : List Entry) → load-choice t (standing l n H) E ≡ bind (choose t (treeAt l n (getD (drop 1 H) 0 0)) (treeAt l n (getD H 0 0))) (λ x. ret (loading (x ∷ standing l n (drop 1 (drop 1 H))) E))
-unfolding load-choice
+unfolding load-choice-with
 choice-one l t n [] h E = absurd (omega arith)
 choice-one l t n (i ∷ []) h E = absurd (omega arith)
 choice-one l t n (i ∷ j ∷ H) h E = refl
@@ -215,11 +215,11 @@ module _ (B : List ℕ) (at : ℕ) {cap : ℕ} {l : List ℤ} {w : List ℕ} {s 
   leaf-step p y G = made-step B (held (s .stack)) (push-leaf p) (held (s .stack)) (lifted (y .table) (G .grew)) (G .put) (y .below) (y .able) refl (leaf-one p (standing l (s .count) (held (s .stack)))) (λ E. refl)
 
   pub condition-step : (k : ℕ) → Ready B cap l w at (push-condition k) s → Chose B cap l w at s l′ w′ r → Stepped B cap l w (push-condition k) (s .count) (held (s .stack)) l′ w′ r
-  unfolding Able height entered load-one
+  unfolding Able height entered load-one-with
   condition-step k y G = chosen-step B at (s .count) (condition-test k) (push-condition k) (condition-at B at (y .here)) (held (s .stack)) (y .below) (y .able .0) (y .able .1) refl (λ X E. refl) (λ X E. refl) G
 
   pub test-step : (p : Linear) → Ready B cap l w at (push-test p) s → Chose B cap l w at s l′ w′ r → Stepped B cap l w (push-test p) (s .count) (held (s .stack)) l′ w′ r
-  unfolding Able height entered load-one
+  unfolding Able height entered load-one-with
   test-step p y G = chosen-step B at (s .count) (test-of p) (push-test p) (linear-at B at (y .here)) (held (s .stack)) (y .below) (y .able .0) (y .able .1) refl (λ X E. refl) (λ X E. refl) G
 
 -- what a choice asks
@@ -274,21 +274,21 @@ module _ {B : List ℕ} {cap : ℕ} {l : List ℤ} {w : List ℕ} {at : ℕ} {s 
       (λ E. is _ E ∙ (entry-one g _ E ∙ ap₂ (λ (X : List Tree) (F : List Entry). ret (loading X F)) (sym (standing-drop l (s .count) (held (s .stack)))) (sym (en _ E))))
 
   pub reward-step : (a : ℕ) → Ready B cap l w at (take-reward a) s → Popped s r → Stepped B cap l w (take-reward a) (s .count) (held (s .stack)) l w r
-  unfolding height entered load-one
+  unfolding height entered load-one-with
   reward-step a y P = took (take-reward a) (reward-slot a) y P refl (λ X E. refl) (λ X E. refl)
 
   pub chance-step : (a k : ℕ) → Ready B cap l w at (take-chance a k) s → Popped s r → Stepped B cap l w (take-chance a k) (s .count) (held (s .stack)) l w r
-  unfolding height entered load-one
+  unfolding height entered load-one-with
   chance-step a k y P = took (take-chance a k) (chance-slot a k) y P refl (λ X E. refl) (λ X E. refl)
 
   pub level-step : (a i : ℕ) → Ready B cap l w at (take-level a i) s → Popped s r → Stepped B cap l w (take-level a i) (s .count) (held (s .stack)) l w r
-  unfolding height entered load-one
+  unfolding height entered load-one-with
   level-step a i y P = took (take-level a i) (level-slot a i) y P refl (λ X E. refl) (λ X E. refl)
 
 -- a command that leaves all as it is
 module _ {B : List ℕ} {cap : ℕ} {l : List ℤ} {w : List ℕ} {at : ℕ} {s : Loaded} where
   pub other-step : (d : CodeCommand) → OneOf (0 ∷ 7 ∷ 8 ∷ []) (tagOf command-type d) → Ready B cap l w at (command-of B at d) s → Stepped B cap l w (command-of B at d) (s .count) (held (s .stack)) l w s
-  unfolding command-of height entered load-one
+  unfolding command-of height entered load-one-with
   other-step (Site m n a v) k y = still-step (site m n a v) y refl refl (held (s .stack)) refl (y .below) refl (λ E. refl)
   other-step (Leaf p) k y = absurd (miss (0 ∷ 7 ∷ 8 ∷ []) 1 tt k)
   other-step (Condition i) k y = absurd (miss (0 ∷ 7 ∷ 8 ∷ []) 2 tt k)

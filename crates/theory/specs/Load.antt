@@ -4,7 +4,7 @@ use Prim.Native.Nat.{ℕ, _-_}
 use lib.Dec.{leb}
 use Rattle.whole.specs.Cases.{if}
 use Rattle.theory.specs.Widths.{conditions-most}
-use Rattle.theory.specs.Diagram.{Test, now, later, Tree, leaf, plain, test-of}
+use Rattle.theory.specs.Diagram.{Test, now, later, Tree, leaf, branch, plain, test-of}
 use Rattle.theory.specs.Computation.{Comp, ret, bind, make, result}
 use Rattle.theory.specs.Rules.{choose, zero-leaf}
 use Rattle.theory.specs.Meaning.{Action, Model}
@@ -29,37 +29,49 @@ condition-test k = if (leb k conditions-most) (now k) (later (k - conditions-mos
 abbrev pub push : Tree → Loaded → Loaded
 push t s = record { stack = t ∷ s .stack; entries = s .entries }
 
--- "takes low, then high, off the stack and pushes the choice"
-unfoldable pub load-choice : Test → List Tree → List Entry → Comp Loaded
-load-choice t [] E = ret (record { stack = []; entries = E })
-load-choice t (low ∷ []) E = ret (record { stack = []; entries = E })
-load-choice t (low ∷ high ∷ K) E = bind (choose t high low) (λ r. ret (record { stack = r ∷ K; entries = E }))
-
 -- "takes one diagram off the stack"
 unfoldable pub load-entry : Slot → List Tree → List Entry → Comp Loaded
 load-entry g [] E = ret (record { stack = []; entries = E })
 load-entry g (t ∷ K) E = ret (record { stack = K; entries = record { slot = g; tree = t } ∷ E })
 
--- one command; what it makes is made by the rules
-unfoldable pub load-one : Command → Loaded → Comp Loaded
-load-one (site m n a w) s = ret s
-load-one (push-leaf p) s = bind (make (leaf (plain p))) (λ t. ret (push t s))
-load-one (push-condition k) s = load-choice (condition-test k) (s .stack) (s .entries)
-load-one (push-test p) s = load-choice (test-of p) (s .stack) (s .entries)
-load-one (take-reward a) s = load-entry (reward-slot a) (s .stack) (s .entries)
-load-one (take-chance a k) s = load-entry (chance-slot a k) (s .stack) (s .entries)
-load-one (take-level a i) s = load-entry (level-slot a i) (s .stack) (s .entries)
-load-one (name-action a b) s = ret s
-load-one end-model s = ret s
+-- `by` is how a test, high and low are made one diagram
+module _ (by : Test → Tree → Tree → Comp Tree) where
+  -- "takes low, then high, off the stack and pushes the choice"
+  unfoldable pub load-choice-with : Test → List Tree → List Entry → Comp Loaded
+  load-choice-with t [] E = ret (record { stack = []; entries = E })
+  load-choice-with t (low ∷ []) E = ret (record { stack = []; entries = E })
+  load-choice-with t (low ∷ high ∷ K) E = bind (by t high low) (λ r. ret (record { stack = r ∷ K; entries = E }))
 
--- the commands that are left
-unfoldable pub load-on : List Placed → Loaded → Comp Loaded
-load-on [] s = ret s
-load-on (x ∷ l) s = elim (x .read) [
-  | whole c ↦ bind (load-one c s) (load-on l)
-  | unknown ↦ ret s
-  | short ↦ ret s
-]
+  -- one command; what it makes is made by the rules
+  unfoldable pub load-one-with : Command → Loaded → Comp Loaded
+  load-one-with (site m n a w) s = ret s
+  load-one-with (push-leaf p) s = bind (make (leaf (plain p))) (λ t. ret (push t s))
+  load-one-with (push-condition k) s = load-choice-with (condition-test k) (s .stack) (s .entries)
+  load-one-with (push-test p) s = load-choice-with (test-of p) (s .stack) (s .entries)
+  load-one-with (take-reward a) s = load-entry (reward-slot a) (s .stack) (s .entries)
+  load-one-with (take-chance a k) s = load-entry (chance-slot a k) (s .stack) (s .entries)
+  load-one-with (take-level a i) s = load-entry (level-slot a i) (s .stack) (s .entries)
+  load-one-with (name-action a b) s = ret s
+  load-one-with end-model s = ret s
+
+  -- the commands that are left
+  unfoldable pub load-on-with : List Placed → Loaded → Comp Loaded
+  load-on-with [] s = ret s
+  load-on-with (x ∷ l) s = elim (x .read) [
+    | whole c ↦ bind (load-one-with c s) (load-on-with l)
+    | unknown ↦ ret s
+    | short ↦ ret s
+  ]
+
+-- by the rule "Choose"
+abbrev pub load-choice : Test → List Tree → List Entry → Comp Loaded
+load-choice = load-choice-with choose
+
+abbrev pub load-one : Command → Loaded → Comp Loaded
+load-one = load-one-with choose
+
+abbrev pub load-on : List Placed → Loaded → Comp Loaded
+load-on = load-on-with choose
 
 -- ---- the model
 
@@ -90,10 +102,18 @@ model-of S E = record {
 unfoldable pub site-at : List ℕ → Site
 site-at B = site-of (byte-at B 1) (byte-at B 2) (byte-at B 3) (byte-at B 4)
 
--- "and so is loading the model": one operation, of all commands
-unfoldable pub load : List ℕ → Comp Model
-load B = bind (load-on (readings B) (record { stack = []; entries = [] })) (λ s. ret (model-of (site-at B) (s .entries)))
+-- all commands from the first on, and the model of what they gave
+unfoldable pub load-with : (Test → Tree → Tree → Comp Tree) → List ℕ → Comp Model
+load-with by B = bind (load-on-with by (readings B) (record { stack = []; entries = [] })) (λ s. ret (model-of (site-at B) (s .entries)))
 
--- the model that bytes spell
+-- "and so is loading the model": one operation, of all commands
+abbrev pub load : List ℕ → Comp Model
+load = load-with choose
+
+-- the model that is loaded
 unfoldable pub model : List ℕ → Model
 model B = result (load B)
+
+-- the model as its bytes spell it: each test over its branches as they stand
+unfoldable pub spelled : List ℕ → Model
+spelled B = result (load-with (λ t h l. ret (branch t h l)) B)

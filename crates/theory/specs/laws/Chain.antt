@@ -13,7 +13,7 @@ use Rattle.theory.specs.Meaning.{Action, Model, power}
 use Rattle.theory.specs.Stage.{action-diagrams, all-diagrams, model-diagrams, sum-out, action-total, best-on, stage-over, stages-on, all-stages}
 use Rattle.theory.specs.Command.{Command, site, push-leaf, push-condition, push-test, take-reward, take-chance, take-level, name-action, end-model, Read, whole, unknown, short, Placed, readings}
 use Rattle.theory.specs.Verdict.{verdict, Slot, reward-slot, chance-slot, level-slot}
-use Rattle.theory.specs.Load.{Entry, Loaded, condition-test, load-choice, load-entry, load-one, load-on, model-of, site-at, load, model}
+use Rattle.theory.specs.Load.{Entry, Loaded, condition-test, load-choice, load-choice-with, load-entry, load-one, load-one-with, load-on, load-on-with, model-of, site-at, load, load-with, model}
 use Rattle.theory.specs.Solve.{solve-in, table-of}
 use Rattle.theory.specs.Events.{events, needed, inside, all-inside, Chained}
 use Rattle.theory.specs.laws.Comps.{run-all-final}
@@ -155,7 +155,7 @@ push-loads X m K E b a e =
     bind-gives Stands X m (λ r. ret (record { stack = r ∷ K; entries = E })) (ret-loads _ _ (all-cons _ K _ (builds b) (all-more s K a), all-more s (entry-trees E) e))
 
 choice-loads : (X : List Tree) (t : Test) (K : List Tree) (E : List Entry) → T (all-inside K X) → T (all-inside (entry-trees E) X) → Loads X (load-choice t K E)
-unfolding load-choice
+unfolding load-choice-with
 choice-loads X t [] E a e = ret-loads X _ (all-none X, e)
 choice-loads X t (low ∷ []) E a e = ret-loads X _ (all-none X, e)
 choice-loads X t (low ∷ high ∷ K) E a e =
@@ -169,7 +169,7 @@ entry-loads X g [] E a e = ret-loads X _ (all-none X, e)
 entry-loads X g (t ∷ K) E a e = let d = all-parts t K X a in ret-loads X _ (d .1, all-cons t (entry-trees E) X (d .0) e)
 
 one-loads : (X : List Tree) (c : Command) (s : Loaded) → Stands s X → Loads X (load-one c s)
-unfolding load-one
+unfolding load-one-with
 one-loads X (site m n a w) s d = ret-loads X s d
 one-loads X (push-leaf p) s d = push-loads X (make (leaf (plain p))) (s .stack) (s .entries) (leaf-built X (plain p)) (d .0) (d .1)
 one-loads X (push-condition k) s d = choice-loads X (condition-test k) (s .stack) (s .entries) (d .0) (d .1)
@@ -182,7 +182,7 @@ one-loads X end-model s d = ret-loads X s d
 
 -- what stood over X stands when loading ends
 pub load-on-stands : (X : List Tree) (l : List Placed) (s : Loaded) → Stands s X → Loads X (load-on l s)
-unfolding load-on
+unfolding load-on-with
 load-on-stands X [] s d = ret-loads X s d
 load-on-stands X (x ∷ l) s d = go (λ Y u. load-on-stands Y l u) (x .read)
   where
@@ -193,7 +193,7 @@ load-on-stands X (x ∷ l) s d = go (λ Y u. load-on-stands Y l u) (x .read)
 
 -- every diagram that has been given is there when loading ends
 pub entries-inside : (B : List ℕ) → T (all-inside (entry-trees (loaded-entries B)) (needed [] (events (load B))))
-unfolding load events needed
+unfolding load-with events needed
 entries-inside B = bind-gives (λ _ Y. T (all-inside (entry-trees (loaded-entries B)) Y)) [] (load-on (readings B) (record { stack = []; entries = [] })) (λ s. ret (model-of (site-at B) (s .entries)))
     (load-on-stands [] (readings B) (record { stack = []; entries = [] }) (all-none [], all-none []) .1)
 

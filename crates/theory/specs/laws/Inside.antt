@@ -99,10 +99,6 @@ pub all-right : (l k X : List Tree) → T (all-inside (l ++ k) X) → T (all-ins
 all-right [] k X a = a
 all-right (t ∷ l) k X a = all-right l k X (all-parts t (l ++ k) X a .1)
 
-pub all-append : (l k X : List Tree) → T (all-inside l X) → T (all-inside k X) → T (all-inside (l ++ k) X)
-all-append [] k X a b = b
-all-append (t ∷ l) k X a b = let d = all-parts t l X a in all-cons t (l ++ k) X (d .0) (all-append l k X (d .1) b)
-
 -- ---- what is entered is there
 
 -- with each node there is all that is below it

@@ -19,7 +19,7 @@ use Rattle.theory.specs.Stage.{action-diagrams, all-diagrams, model-diag
 use Rattle.theory.specs.Valid.{all, all-nodes, among, wide, good-test, good-leaf, weight-leaf, valid-action, valid, small-linear}
 use Rattle.theory.specs.Command.{Command, site, push-leaf, push-condition, push-test, take-reward, take-chance, take-level, name-action, end-model, Read, whole, unknown, short, Placed, byte-at, word-at, signed, signed-from, linear-at, width, command-at, read-at, goes-on, readings-from, readings}
 use Rattle.theory.specs.Verdict.{Site, Facts, Slot, Progress, reward-slot, chance-slot, level-slot, name-slot, same-slot, has-slot, or, Rule, rule, first-broken, next-condition, is-weight, top, joined, from-to, wanted-by, wanted, site-rules, site-of, first-rules, later-rules, rules-of, after, Verdict, refusal, ended, judged, at-start, verdict}
-use Rattle.theory.specs.Load.{Entry, Loaded, condition-test, load-choice, load-entry, load-one, load-on, find-slot, action-of, model-of, site-at, load, model}
+use Rattle.theory.specs.Load.{Entry, Loaded, condition-test, load-choice, load-choice-with, load-entry, load-one, load-one-with, load-on, load-on-with, find-slot, action-of, model-of, site-at, load-with, model}
 use Rattle.theory.specs.laws.Comps.{result-bind}
 use Rattle.theory.specs.laws.Safe.{any, sure}
 use Rattle.theory.specs.laws.Nodes.{widen, choose-safe}
@@ -251,7 +251,7 @@ condition-good n k h o next = by-test (leb k conditions-most) (λ b. T (good-tes
 -- a choice takes two and leaves one
 stacked-choice : (S : Site) (b : Bool) (t : Test) (E : List Entry) → ((next : Bool) → T (good-test (S .conditions) (or b next) t)) → (K : List Facts) (X : List Tree) → 2 ≤ length K
     → Stacked S K X → Stacked S (joined b K) (result (load-choice t X E) .stack) × (result (load-choice t X E) .entries ≡ E)
-unfolding Stacked load-choice joined result
+unfolding Stacked load-choice-with joined result
 stacked-choice S b t E g [] X n s = absurd (omega arith)
 stacked-choice S b t E g (l ∷ []) X n s = absurd (omega arith)
 stacked-choice S b t E g (l ∷ h ∷ K) [] n s = absurd s
@@ -296,7 +296,7 @@ module _ (B : List ℕ) (at : ℕ) (S : Site) (ok : In-range S) (K : List Facts)
   chose b t n g = let d = stacked-choice S b t E g K X (nltb→le (length K) 2 n) stacked in record { is-begun = refl; is-site = refl; stacked = d .0; entered = rw (d .1) entered }
 
   stepped : (c : Command) → Fit B at c → first-broken (later-rules S K G c) ≡ 0 → Kept S (after (state S K G) c) (result (load-one c (loaded X E)))
-  unfolding Fit later-rules after load-one make bind result Stacked test-of good-test
+  unfolding Fit later-rules after load-one-with make bind result Stacked test-of good-test
   stepped (site m n a w) f e = broken 0 _ e
   stepped (push-leaf p) f e = record { is-begun = refl; is-site = refl; stacked = (sound-leaf S p f, stacked); entered = entered }
   stepped (push-condition k) f e =
@@ -389,7 +389,7 @@ module _ (B : List ℕ) (k at : ℕ) (S : Site) (ok : In-range S) where
       (ih (s .stack) (s .given) (t .stack) (t .entries) (q .stacked) (q .entered) (subst (λ (s : Progress). judged (length B) s (behind B k at true) .number ≡ 0) same (d .1)))
 
   one-more : Accepted B S (behind B k at true) → (c : Command) → Fit B at c → Accepted B S (record { at = at; read = whole c } ∷ behind B k at (goes-on (whole c)))
-  unfolding judged load-on goes-on rules-of ended later-rules load-one bind result
+  unfolding judged load-on-with goes-on rules-of ended later-rules load-one-with bind result
   one-more ih (site m n a w) f K G X E u v e = broken 0 _ (judged-whole (first-broken (rule 1 true ∷ [])) at _ e .0)
   one-more ih (push-leaf p) f K G X E u v e = goes ih K G X E u v (push-leaf p) f e
   one-more ih (push-condition c) f K G X E u v e = goes ih K G X E u v (push-condition c) f e
@@ -443,7 +443,7 @@ Begins B l = judged (length B) at-start l .number ≡ 0 → In-range (site-at B)
 
 first-command : (B : List ℕ) → 0 + width (byte-at B 0) ≤ length B → 1 ≤ width (byte-at B 0) → (c : Command) → Fit B 0 c
     → Begins B (record { at = 0; read = whole c } ∷ behind B (length B) 0 (goes-on (whole c)))
-unfolding judged load-on goes-on rules-of first-rules ended load-one bind result after Fit Stacked site-at
+unfolding judged load-on-with goes-on rules-of first-rules ended load-one-with bind result after Fit Stacked site-at
 first-command B h l (site m n a w) f e =
     let d = judged-whole (first-broken (site-rules (site-of m n a w))) 0 _ e in
     let ok = in-range (site-of m n a w) (d .0) in
@@ -466,7 +466,7 @@ accepted B = by-reading B 0 (λ r. Begins B (record { at = 0; read = r } ∷ beh
 
 -- the model that bytes spell, of what is loaded
 pub model-loaded : (B : List ℕ) → model B ≡ model-of (site-at B) (loaded-entries B)
-unfolding model load result
+unfolding model load-with result
 model-loaded B = result-bind (load-on (readings B) (loaded [] [])) _
 
 -- ---- the model is valid

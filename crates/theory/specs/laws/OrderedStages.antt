@@ -14,7 +14,7 @@ use Rattle.theory.specs.Meaning.{Action, Model, power}
 use Rattle.theory.specs.Stage.{model-diagrams, sum-out, action-total, best-on, stage-over, stages-on, all-stages}
 use Rattle.theory.specs.Command.{Command, site, push-leaf, push-condition, push-test, take-reward, take-chance, take-level, name-action, end-model, Read, whole, unknown, short, Placed, readings}
 use Rattle.theory.specs.Verdict.{Site, Slot, same-slot, reward-slot, chance-slot, level-slot, from-to}
-use Rattle.theory.specs.Load.{Entry, Loaded, condition-test, load-choice, load-entry, load-one, load-on, find-slot, action-of, model-of, site-at, model}
+use Rattle.theory.specs.Load.{Entry, Loaded, condition-test, load-choice, load-choice-with, load-entry, load-one, load-one-with, load-on, load-on-with, find-slot, action-of, model-of, site-at, model}
 use Rattle.theory.specs.Solve.{solve-in}
 use Rattle.theory.specs.Ordered.{Ordered, AllOrdered, ActionOrdered, ActionsOrdered, ModelOrdered}
 use Rattle.theory.specs.laws.Safe.{Safe, safe-ret, safe-make, safe-bind, any, sure, SafeOps, safe-end, safe-operation, safe-then, run-all-safe}
@@ -35,7 +35,7 @@ abbrev Holds : Comp Loaded → Type 0
 Holds m = Safe any Held m
 
 choice-ordered : (t : Test) (K : List Tree) (E : List Entry) → AllOrdered K → EntriesOrdered E → Holds (load-choice t K E)
-unfolding load-choice
+unfolding load-choice-with
 choice-ordered t [] E k e = safe-ret (tt, e)
 choice-ordered t (low ∷ []) E k e = safe-ret (tt, e)
 choice-ordered t (low ∷ high ∷ K) E k e = safe-bind (choose t high low) _ (choose-ordered any t high low (k .1 .0) (k .0)) (λ r o. safe-ret ((o, k .1 .1), e))
@@ -46,7 +46,7 @@ entry-ordered g [] E k e = safe-ret (tt, e)
 entry-ordered g (t ∷ K) E k e = safe-ret {a = record { stack = K; entries = record { slot = g; tree = t } ∷ E }} (k .1, (k .0, e))
 
 one-ordered : (c : Command) (s : Loaded) → Held s → Holds (load-one c s)
-unfolding load-one
+unfolding load-one-with
 one-ordered (site m n a w) s d = safe-ret d
 one-ordered (push-leaf p) s d = safe-bind (make (leaf (plain p))) _ (safe-make {R = Ordered} (leaf (plain p)) tt) (λ t o. safe-ret ((o, d .0), d .1))
 one-ordered (push-condition k) s d = choice-ordered (condition-test k) (s .stack) (s .entries) (d .0) (d .1)
@@ -58,7 +58,7 @@ one-ordered (name-action a b) s d = safe-ret d
 one-ordered end-model s d = safe-ret d
 
 on-ordered : (l : List Placed) (s : Loaded) → Held s → Holds (load-on l s)
-unfolding load-on
+unfolding load-on-with
 on-ordered [] s d = safe-ret d
 on-ordered (x ∷ l) s d = go (x .read) (λ s d. on-ordered l s d)
   where
