@@ -1,7 +1,7 @@
 // Solving and then reading in the same lent tables: the demands as the contract of running code.
 ghost use Rattle.values.specs.Out.{out};
 ghost use Rattle.values.specs.State.{asked-by};
-ghost use Rattle.theory.specs.Advice.{Advises};
+ghost use Rattle.theorems.specs.Advice.{Advises};
 use values::Value;
 use whole::Numerator;
 

@@ -13,8 +13,7 @@ use Rattle.table.specs.Table.{nodeAt, eqZ}
 use Rattle.theory.specs.Diagram.{Leaf, Tree, leaf, branch, same}
 use Rattle.theory.specs.Computation.{Comp, member, run, enter-all}
 use Rattle.theory.specs.Rules.{zero-leaf}
-use Rattle.theory.specs.Events.{inside, all-inside}
-use Rattle.theory.specs.Demands.{Distinct}
+use Rattle.theory.specs.Events.{Distinct, inside, all-inside}
 use Rattle.theory.specs.laws.Comps.{member-in}
 use Rattle.theory.specs.laws.Counting.{distinct-roots}
 use Rattle.theory.specs.laws.Inside.{inside-parts, inside-branch, all-none, all-parts, all-cons, roots-inside, roots-sub}

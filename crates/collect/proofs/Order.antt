@@ -10,7 +10,7 @@ use Rattle.whole.specs.Cases.{if, by-test}
 use Rattle.whole.specs.Within.{small}
 use Rattle.theory.specs.Diagram.{Tree, same}
 use Rattle.theory.specs.Computation.{Comp, ret, named, made, Out, done, stopped, member, run}
-use Rattle.theory.specs.Demands.{Distinct}
+use Rattle.theory.specs.Events.{Distinct}
 use Rattle.theory.specs.laws.Counting.{distinct-fit}
 use Rattle.theory.specs.laws.Table.{distinct-add}
 

@@ -15,7 +15,7 @@ use Rattle.table.proofs.Look.{split}
 use Rattle.table.specs.Table.{nodeAt, eqZ}
 use Rattle.theory.specs.Diagram.{Tree, branch}
 use Rattle.theory.specs.Computation.{member, enter}
-use Rattle.theory.specs.Demands.{Distinct}
+use Rattle.theory.specs.Events.{Distinct}
 use Rattle.theory.specs.Solve.{number-of}
 use Rattle.theory.specs.laws.Comps.{same-not, member-in, member-cases}
 use Rattle.theory.specs.laws.Counting.{distinct-fit}

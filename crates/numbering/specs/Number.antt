@@ -7,7 +7,7 @@ use lib.ListN.{length, getD, set, replicate}
 use Rattle.theory.specs.Widths.{nodes-most, node-words}
 use Rattle.theory.specs.Diagram.{Tree}
 use Rattle.theory.specs.Computation.{enter, enter-all}
-use Rattle.theory.specs.Demands.{Distinct}
+use Rattle.theory.specs.Events.{Distinct}
 use Rattle.theory.specs.Solve.{number-of}
 use Rattle.diagrams.specs.Nodes.{none, trees, treeAt, Good}
 

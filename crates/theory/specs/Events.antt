@@ -5,11 +5,12 @@ use mathlib.Core.List.{List, [], _∷_, _++_}
 use Prim.Native.Nat.{ℕ, _≤_, _<_, max}
 use lib.Dec.{T}
 use lib.IntN.{ℤ}
-use lib.ListN.{length}
+use lib.ListN.{length, getD}
 use Rattle.whole.specs.Cases.{if}
 use Rattle.whole.specs.Within.{small}
 use Rattle.theory.specs.Diagram.{Tree, leaf, branch}
 use Rattle.theory.specs.Computation.{Comp, ret, named, made, result, member, enter-all, Ops, end, operation}
+use Rattle.theory.specs.Rules.{zero-leaf}
 
 -- a number is named, or a node is made
 pub data Event : Type 0 where
@@ -33,6 +34,10 @@ unfoldable pub needed : List Tree → List Event → List Tree
 needed X [] = X
 needed X (names z ∷ l) = needed X l
 needed X (makes t ∷ l) = needed (if (member t X) X (X ++ (t ∷ []))) l
+
+-- "distinct": no two of them are equal
+abbrev pub Distinct : List Tree → Type 0
+Distinct X = (i j : ℕ) → i < length X → j < length X → getD X i zero-leaf ≡ getD X j zero-leaf → i ≡ j
 
 -- the first moment at which a computation is refused, over the nodes of X with room for N
 pub data Refused (N : ℕ) (X : List Tree) (l : List Event) : ℕ → Type 0 where

@@ -1,4 +1,4 @@
--- Document 01: definitions in its order, statements, examples, and under laws/ what is proved about them.
+-- Document 01: definitions in its order, the rows of its table of refusals, and under laws/ what is proved about them. Its demands and what goes with them are in `theorems`.
 
 -- ---- definitions
 
@@ -12,13 +12,11 @@ pub mod Load
 -- "The value that is meant"
 pub mod Process
 pub mod Meaning
-pub mod Fraction
 -- "Diagrams"
 pub mod Diagram
 pub mod Computation
 pub mod Rules
 pub mod Stage
-pub mod Ordered
 -- "Tables after solving"
 pub mod Solve
 -- "States and values"
@@ -33,14 +31,6 @@ pub mod Listing
 -- "What a refusal gives": its rows, and 11 and 12 by what is named and made
 pub mod Rows
 pub mod Events
--- the demands
-pub mod Demands
--- demands 2 and 3 of one call that solves and then reads
-pub mod Advice
--- ---- examples
-
--- the pond, rain, and what is marked ★
-pub mod Examples
 -- ---- laws
 
 pub mod laws

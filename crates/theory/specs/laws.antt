@@ -7,8 +7,6 @@ pub mod Inside
 pub mod Safe
 -- which tests and leaves stand in diagrams, in an accepted model and in its stages
 pub mod Nodes
-pub mod Order
-pub mod Ordered
 pub mod Valid
 pub mod Loading
 pub mod Good
@@ -16,9 +14,7 @@ pub mod Good
 pub mod Process
 pub mod Values
 pub mod Expectation
-pub mod Weights
 pub mod Stages
-pub mod Formula
 -- tables: nodes and their numbers, counts, words, readings
 pub mod Table
 pub mod Counting
@@ -30,12 +26,6 @@ pub mod Chain
 pub mod Rules
 pub mod Rows
 pub mod Name
--- the order down a path
-pub mod OrderedStages
--- plain working and equal fractions
+-- plain working
 pub mod Plain
 pub mod Staying
-pub mod SameValue
--- the demands
-pub mod Demands
-pub mod Advice

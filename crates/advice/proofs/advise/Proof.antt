@@ -1,7 +1,7 @@
 -- `advice::advise` meets its contract.
 use Rattle.values.specs.Out.{out}
 use Rattle.values.specs.State.{asked-by}
-use Rattle.theory.specs.laws.Advice.{refusal-given, value-given}
+use Rattle.theorems.specs.laws.Advice.{refusal-given, value-given}
 use Rattle.values.proofs.Entry.{state-is}
 use borrow.Author.Needs.{needs}
 use Rattle.advice.proofs.advise.Statement.{statement}

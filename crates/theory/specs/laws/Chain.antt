@@ -19,7 +19,7 @@ use Rattle.theory.specs.Events.{events, needed, inside, all-inside, Chai
 use Rattle.theory.specs.laws.Comps.{run-all-final}
 use Rattle.theory.specs.laws.Events.{run-done}
 use Rattle.theory.specs.laws.Counting.{roots-fit}
-use Rattle.theory.specs.laws.Refusals.{AllChained}
+use Rattle.theory.specs.laws.Refusals.{loaded, solve-passes, run-all-peak}
 use Rattle.theory.specs.laws.Loading.{entry-trees, loaded-entries, diagrams-loaded}
 use Rattle.theory.specs.laws.Inside.{sub-needed, all-none, all-parts, all-cons, all-more, all-left, all-right, roots-inside, bind-gives, Built, builds, leaf-built, zero-built, choose-built, best-built, substitute-built, expectation-built, reward-built}
 
@@ -212,8 +212,14 @@ pub model-inside : (B : List ℕ) → verdict B .number ≡ 0 → T (all-inside 
 model-inside B v = all-each (model-diagrams (model B)) _ (λ t m. all-at t (entry-trees (loaded-entries B)) _ (diagrams-loaded B v t m) (entries-inside B))
 
 -- each operation begins with nodes that were there when the one before it ended, the first with those of loading
-pub all-chained : AllChained
+pub all-chained : (B : List ℕ) (H : ℕ) → verdict B .number ≡ 0 → Chained (needed [] (events (load B))) (all-stages (model B) H)
 all-chained B H v = all-stages-lead (model B) H (needed [] (events (load B))) (model-inside B v) .chain
+
+-- the peak of a solve is no more than there is room for
+pub peak-fits : (N : ℕ) (B : List ℕ) (H : ℕ) (S : List Tree) (peak : ℕ) → verdict B .number ≡ 0 → solve-in N B H ≡ solved S peak → peak ≤ N
+peak-fits N B H S peak v e =
+    let d = solve-passes N B H S peak e in
+    run-all-peak N (length (loaded B)) (loaded B) (all-stages (model B) H) S peak (all-chained B H v) (omega arith) (d .0 .1) (d .1) .0
 
 -- ---- the table fits where the peak fits
 

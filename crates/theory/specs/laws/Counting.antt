@@ -10,8 +10,7 @@ use Rattle.whole.specs.Cases.{if, by-eq, is-true, from-true, clash}
 use Rattle.theory.specs.Diagram.{Tree, same}
 use Rattle.theory.specs.Computation.{member, enter-all}
 use Rattle.theory.specs.Rules.{zero-leaf}
-use Rattle.theory.specs.Events.{Event, names, makes, needed, all-inside}
-use Rattle.theory.specs.Demands.{Distinct, CountsDistinct}
+use Rattle.theory.specs.Events.{Event, names, makes, needed, Distinct, all-inside}
 use Rattle.theory.specs.laws.Comps.{same-eq, same-refl, member-find, with-made}
 use Rattle.theory.specs.laws.Table.{distinct-add, enter-all-table, no-table}
 use Rattle.theory.specs.laws.Inside.{roots-sub}
@@ -31,7 +30,7 @@ distinct-needed X (makes t ∷ l) D = distinct-needed (with-made t X) l (distinc
 pub distinct-roots : (roots : List Tree) → Distinct (enter-all roots [])
 distinct-roots roots = enter-all-table roots [] no-table .distinct
 
-pub counts-distinct : CountsDistinct
+pub counts-distinct : (roots : List Tree) (l : List Event) → Distinct (needed (enter-all roots []) l)
 counts-distinct roots l = distinct-needed (enter-all roots []) l (distinct-roots roots)
 
 -- ---- no more distinct nodes than there are

@@ -19,7 +19,6 @@ use Rattle.theory.specs.Valid.{all}
 use Rattle.theory.specs.Load.{site-at, model}
 use Rattle.theory.specs.Solve.{early}
 use Rattle.theory.specs.Value.{Asked, accepted, state-of, ValueOut, refused-value}
-use Rattle.theory.specs.Demands.{Exact, PlainAgrees}
 use Rattle.theory.specs.Plain.{Worth, is, over, judged, in-32-bits, sum-settings, action-worth, better, try-actions, numbered, state-worth, worth-out, if-true, plain-of}
 
 -- ---- actions and their numbers
@@ -218,9 +217,3 @@ plain-of-exact B h q k n = go (eqb (early B h steps-most .number) 0) refl n
         × ((t : T (accepted m c q)) × (if b (if-true (accepted m c q) out (refused-value 13 0)) (refused-value (early B h steps-most .number) (early B h steps-most .place)) ≡ good t))
     go true e n = (eqb→eq _ 0 (from-true e), some (accepted m c q) out good (λ t. worth-exact (model B) h (state-of m c q t) k) n)
     go false e n = absurd (let z : _≡_ {A = ℕ} 0 1 = cc (eq-eqb (early B h steps-most .number) 0 n) in omega arith)
-
--- it agrees with the tables where they are exact
-pub plain-agrees : Exact → PlainAgrees
-plain-agrees exact g h low high q _ n =
-    let r = plain-of-exact (g .bytes) h q low n .1 in
-    r .1 ∙ sym (exact g h low high q (r .0))

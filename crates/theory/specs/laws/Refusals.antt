@@ -15,7 +15,6 @@ use Rattle.theory.specs.Verdict.{verdict}
 use Rattle.theory.specs.Load.{load, model}
 use Rattle.theory.specs.Solve.{solve-in}
 use Rattle.theory.specs.Events.{events, needed, Refused, Passes, RefusedAt, here, later, PassesAll, peak-of, Chained}
-use Rattle.theory.specs.Demands.{FirstMet, SolvedExactly, PeakDecides}
 use Rattle.theory.specs.laws.Events.{run-passes, run-refused, run-cases, stopped-number, refused-eleven-twelve, exceeds}
 use Rattle.theory.specs.laws.Counting.{roots-fit}
 
@@ -23,7 +22,7 @@ use Rattle.theory.specs.laws.Counting.{roots-fit}
 abbrev left-by : List Tree → Comp Tree → List Tree
 left-by roots c = needed (enter-all roots []) (events c)
 
-abbrev loaded : List ℕ → List Tree
+abbrev pub loaded : List ℕ → List Tree
 loaded B = needed [] (events (load B))
 
 -- ---- operations
@@ -152,16 +151,16 @@ run-all-peak N p X m a peak g l h e =
 -- ---- solving
 
 module _ (N : ℕ) (B : List ℕ) (H : ℕ) where
-  solve-loaded : Passes N [] (events (load B)) → solve-in N B H ≡ run-all N (length (loaded B)) (all-stages (model B) H)
+  pub solve-loaded : Passes N [] (events (load B)) → solve-in N B H ≡ run-all N (length (loaded B)) (all-stages (model B) H)
   unfolding solve-in model
   solve-loaded p = ap (λ (o : Out Model). elim o [ done M X ↦ run-all N (length X) (all-stages M H) | stopped r ↦ refused r 0 ]) (run-passes N (load B) [] p)
 
-  solve-stopped : (r : ℕ) → run N (load B) [] ≡ stopped r → solve-in N B H ≡ refused r 0
+  pub solve-stopped : (r : ℕ) → run N (load B) [] ≡ stopped r → solve-in N B H ≡ refused r 0
   unfolding solve-in
   solve-stopped r e = ap (λ (o : Out Model). elim o [ done M X ↦ run-all N (length X) (all-stages M H) | stopped r ↦ refused r 0 ]) e
 
   -- loading passes, or is refused at place 0
-  solve-cases : (Passes N [] (events (load B)) × (solve-in N B H ≡ run-all N (length (loaded B)) (all-stages (model B) H)))
+  pub solve-cases : (Passes N [] (events (load B)) × (solve-in N B H ≡ run-all N (length (loaded B)) (all-stages (model B) H)))
       ⊎ ((r : ℕ) × (Refused N [] (events (load B)) r × (solve-in N B H ≡ refused r 0)))
   solve-cases = ⊎-elim (λ d. inl (d .0, solve-loaded (d .0))) (λ d. inr (d .0, (d .1 .0, solve-stopped (d .0) (d .1 .1)))) (run-cases N (load B) [] (omega arith))
 
@@ -173,7 +172,7 @@ module _ (N : ℕ) (B : List ℕ) (H : ℕ) where
       solve-cases
 
   -- solved: loading passes, and the stages are solved
-  solve-passes : (S : List Tree) (peak : ℕ) → solve-in N B H ≡ solved S peak
+  pub solve-passes : (S : List Tree) (peak : ℕ) → solve-in N B H ≡ solved S peak
       → Passes N [] (events (load B)) × (run-all N (length (loaded B)) (all-stages (model B) H) ≡ solved S peak)
   solve-passes S peak e = ⊎-elim (λ d. (d .0, sym (d .1) ∙ e)) (λ d. let i = d .1 .1 in absurd (let z : _≡_ {A = ℕ} 0 1 = cc in omega arith)) solve-cases
 
@@ -234,61 +233,3 @@ refused-place N B H r p l e = ⊎-elim
     (λ d. run-all-place H N (length (loaded B)) (all-stages (model B) H) r p (all-places (model B) H l) (sym (d .1) ∙ e))
     (λ d. let i = d .1 .1 in let j : p ≡ 0 = cc in omega arith)
     (solve-cases N B H)
-
--- ---- the demands, where each operation begins with nodes that are there
-
--- each operation of the stages begins with nodes that are there
-abbrev pub AllChained : Type 0
-AllChained = (B : List ℕ) (H : ℕ) → verdict B .number ≡ 0 → Chained (needed [] (events (load B))) (all-stages (model B) H)
-
-module _ (chained : AllChained) where
-  pub first-met : FirstMet
-  first-met N B H r p v = (
-    λ e. ⊎-elim
-        (λ d. inr (d .0, run-all-refused N (length (loaded B)) (loaded B) (all-stages (model B) H) r p (chained B H v) (d .0 .1) .0 (sym (d .1) ∙ e)))
-        (λ d.
-        let i = d .1 .1 in
-        let j : d .0 ≡ r = cc in
-        inl (subst (Refused N [] (events (load B))) j (d .1 .0), (cc)))
-        (solve-cases N B H),
-    ⊎-elim
-        (λ d. solve-stopped N B H r (run-refused N (load B) [] r (omega arith) .1 (d .0)) ∙ ap (refused r) (sym (d .1)))
-        (λ d. solve-loaded N B H (d .0)
-        ∙ run-all-refused N (length (loaded B)) (loaded B) (all-stages (model B) H) r p (chained B H v) (d .0 .1) .1 (d .1)),
-  )
-
-  pub solved-exactly : SolvedExactly
-  solved-exactly N B H v = (
-    λ S peak e.
-        let d = solve-passes N B H S peak e in
-        solved-passes N (length (loaded B)) (loaded B) (all-stages (model B) H) S peak (chained B H v) (d .0 .1) (d .1) .2,
-    (
-      λ s.
-          let d = solve-passes N B H (s .0) (s .1) (s .2) in
-          (d .0, solved-passes N (length (loaded B)) (loaded B) (all-stages (model B) H) (s .0) (s .1) (chained B H v) (d .0 .1) (d .1) .0),
-      λ d. (
-        final (all-stages (model B) H),
-        peak-of (length (loaded B)) (all-stages (model B) H),
-        solve-loaded N B H (d .0) ∙ passes-solved N (length (loaded B)) (all-stages (model B) H) (d .1),
-      ),
-    ),
-  )
-
-  pub peak-decides : PeakDecides
-  peak-decides N B H S peak v e =
-      let L = loaded B in
-      let d = solve-passes N B H S peak e in
-      let w = d .0 .0 in
-      let s = solved-passes N (length L) L (all-stages (model B) H) S peak (chained B H v) (d .0 .1) (d .1) in
-      let a = peak-above (length L) (all-stages (model B) H) in
-      let i = s .2 in
-      let r = run-all-peak N (length L) L (all-stages (model B) H) S peak (chained B H v) (omega arith) (d .0 .1) (d .1) in (
-        r .0,
-        (λ K k. solve-loaded K B H (w, (omega arith)) ∙ r .1 K k),
-        (λ K k. by-test (leb (length L) K) (λ _. (p : ℕ) × (solve-in K B H ≡ refused 12 p))
-            (λ t.
-            let o = leb→le (length L) K t in
-            let q = r .2 K k o in
-            (q .0, solve-loaded K B H (w, o) ∙ q .1))
-            (λ t. (0, solve-stopped K B H 12 (run-refused K (load B) [] 12 (omega arith) .1 (exceeds K [] (events (load B)) (omega arith) w (nleb→lt (length L) K t)))))),
-      )

@@ -35,8 +35,8 @@ use Rattle.theory.specs.laws.Staying.{answers-stay, over-leaves, stays-s
 use Rattle.theory.specs.laws.Rules.{by-rules, kept-zero, broken-number, rules-agree}
 use Rattle.theory.specs.laws.Comps.{run-result, run-all-final}
 use Rattle.theory.specs.laws.Stages.{all-stages-length}
-use Rattle.theory.specs.laws.Refusals.{refused-number, refused-place, peak-decides}
-use Rattle.theory.specs.laws.Chain.{all-chained, table-fits}
+use Rattle.theory.specs.laws.Refusals.{refused-number, refused-place}
+use Rattle.theory.specs.laws.Chain.{peak-fits, table-fits}
 use Rattle.theory.specs.laws.Words.{rows-length, by-kind}
 use Rattle.theory.specs.laws.Reading.{stages-length}
 use Rattle.theory.specs.laws.Valid.{among-in, among-out, other-above}
@@ -394,7 +394,7 @@ module _ (B : List ℕ) (H : ℕ) (nodes : List ℤ) (stages work : List ℕ) wh
   unfolding solve-left
   left-row p (solved S peak) e =
       let f = table-fits N B H (p .own) S peak e in
-      let d = peak-decides all-chained N B H S peak (p .own) e .0 in
+      let d = peak-fits N B H S peak (p .own) e in
       let r = room-nodes (length nodes) (length work) in
       solve-0 (admitted p) (room-holds (length nodes) (length work)) e (nodes-length (length nodes) S (omega arith)) (stages-length S (omega (arith, solved-length N B H S peak e, p .most)) ∙ sym (p .eight))
   left-row p (refused r h) e = solve-11-12 (admitted p) (room-holds (length nodes) (length work)) e (refused-number N B H r h e) (refused-place N B H r h (p .least) e)

@@ -13,7 +13,7 @@ use Rattle.theory.specs.Diagram.{Test, Tree, leaf, branch, same}
 use Rattle.theory.specs.Computation.{member, enter, enter-all}
 use Rattle.theory.specs.Rules.{zero-leaf}
 use Rattle.theory.specs.Solve.{number-of, table-of}
-use Rattle.theory.specs.Demands.{Distinct}
+use Rattle.theory.specs.Events.{Distinct}
 use Rattle.theory.specs.laws.Comps.{same-eq, same-refl, member-append, member-cases, member-last, member-in}
 
 -- ---- numbers

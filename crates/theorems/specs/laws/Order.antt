@@ -6,9 +6,9 @@ use Prim.Native.Nat.{ℕ, _<_, compare, Ordering, Ordering·lt, Ordering·eq, Or
 use native.Mathlib.Omega.{arith}
 use lib.Dec.{T, isEq, isLe, eqb→eq, eqb-refl, leb→le, nleb→lt}
 use lib.IntN.{ℤ, pos, negsuc}
 use Rattle.theory.specs.Diagram.{Linear, Test, now, later, linear, then, cmpZ, cmpList, cmpLinear, cmp}
-use Rattle.theory.specs.Ordered.{is-lt, before}
+use Rattle.theorems.specs.Ordered.{is-lt, before}
 use Rattle.theory.specs.laws.Comps.{cmpZ-eq, cmpZ-refl, cmpList-eq, cmpList-refl, cmpLinear-eq, cmpLinear-refl}
 
 abbrev pub lt : Ordering
 lt = Ordering·lt

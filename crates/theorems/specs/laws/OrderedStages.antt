@@ -7,20 +7,20 @@ use lib.Dec.{T}
 use lib.IntN.{ℤ}
 use Rattle.whole.specs.Cases.{if, by-test}
 use Rattle.whole.specs.Within.{small}
 use Rattle.theory.specs.Diagram.{Test, Tree, leaf, plain, test-of}
 use Rattle.theory.specs.Computation.{Comp, ret, bind, make, result, Ops, end, operation, and-then, solved}
 use Rattle.theory.specs.Rules.{choose, best, zero-leaf, substitute, expectation, add-reward}
 use Rattle.theory.specs.Meaning.{Action, Model, power}
 use Rattle.theory.specs.Stage.{model-diagrams, sum-out, action-total, best-on, stage-over, stages-on, all-stages}
 use Rattle.theory.specs.Command.{Command, site, push-leaf, push-condition, push-test, take-reward, take-chance, take-level, name-action, end-model, Read, whole, unknown, short, Placed, readings}
 use Rattle.theory.specs.Verdict.{Site, Slot, same-slot, reward-slot, chance-slot, level-slot, from-to}
 use Rattle.theory.specs.Load.{Entry, Loaded, condition-test, load-choice, load-choice-with, load-entry, load-one, load-one-with, load-on, load-on-with, find-slot, action-of, model-of, site-at, model}
 use Rattle.theory.specs.Solve.{solve-in}
-use Rattle.theory.specs.Ordered.{Ordered, AllOrdered, ActionOrdered, ActionsOrdered, ModelOrdered}
+use Rattle.theorems.specs.Ordered.{Ordered, AllOrdered, ActionOrdered, ActionsOrdered, ModelOrdered}
 use Rattle.theory.specs.laws.Safe.{Safe, safe-ret, safe-make, safe-bind, any, sure, SafeOps, safe-end, safe-operation, safe-then, run-all-safe}
 use Rattle.theory.specs.laws.Loading.{loaded-entries, model-loaded}
 use Rattle.theory.specs.laws.Rows.{solve-runs}
-use Rattle.theory.specs.laws.Ordered.{zero-ordered, choose-ordered, best-ordered, substitute-ordered, expectation-ordered, reward-ordered}
+use Rattle.theorems.specs.laws.Ordered.{zero-ordered, choose-ordered, best-ordered, substitute-ordered, expectation-ordered, reward-ordered}
 
 -- ---- loading
 

@@ -4,11 +4,11 @@ use mathlib.Core.List.{List}
 use Prim.Native.Nat.{ℕ, _≤_}
 use lib.IntN.{ℤ, pos}
 use Rattle.whole.specs.Numerator.{words}
 use Rattle.theory.specs.Solve.{SolveOut, solve}
 use Rattle.theory.specs.Value.{Asked, ValueOut, refused-value, value-of}
-use Rattle.theory.specs.Demands.{Solving}
-use Rattle.theory.specs.laws.Demands as demands
-use Rattle.theory.specs.Advice.{Left, Exact, Optimal, Advises}
+use Rattle.theorems.specs.Demands.{Solving}
+use Rattle.theorems.specs.laws.Demands as demands
+use Rattle.theorems.specs.Advice.{Left, Exact, Optimal, Advises}
 
 -- solved
 module _ (B : List ℕ) (H : ℕ) (nodes : List ℤ) (stages work : List ℕ) (is : solve B H nodes stages work .number ≡ 0) (h : ℕ) (low : 1 ≤ h) (high : h ≤ H) (q : Asked) where

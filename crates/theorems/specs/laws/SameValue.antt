@@ -13,12 +13,12 @@ use lib.Signed.{_≤ℤ_, leZ, leZ-yes}
 use Rattle.whole.specs.Cases.{if, by-test, both, same-bool}
 use Rattle.whole.specs.Int.{atom, up, diff, ring, mul-mono, distrib, mul-left-comm}
 use Rattle.whole.specs.Numerator.{number, words}
 use Rattle.theory.specs.Diagram.{Linear, Test, now, later, linear, Leaf, Tree, leaf, branch, scaleL, zeros}
 use Rattle.theory.specs.Process.{Process, mean, maxZ, greatest-from, first-best, total, optimum, lowest-best}
 use Rattle.theory.specs.Meaning.{Model, State, env, dot, value, holds, at, worth-at, action-at, chance-at, weight, settings, moved, power, process}
 use Rattle.theory.specs.Load.{model, site-at}
 use Rattle.theory.specs.Value.{Asked, accepted, bits, state-of, ValueOut}
-use Rattle.theory.specs.Demands.{Exact, SameValue}
+use Rattle.theorems.specs.Demands.{Exact, SameValue}
 
 -- ---- processes: states scaled by one number above 0
 

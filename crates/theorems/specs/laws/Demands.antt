@@ -13,38 +13,38 @@ use lib.Signed.{_≤ℤ_, _<ℤ_}
 use Rattle.whole.specs.Cases.{if}
 use Rattle.whole.specs.Numerator.{number, words}
 use Rattle.whole.specs.NumeratorLaws.{number-words}
 use Rattle.theory.specs.Widths.{steps-most}
 use Rattle.theory.specs.Diagram.{Tree}
 use Rattle.theory.specs.Computation.{Solved, solved, refused, final}
 use Rattle.theory.specs.Process.{optimum, expected}
 use Rattle.theory.specs.Meaning.{env, worth-at, at}
 use Rattle.theory.specs.Rules.{zero-leaf}
 use Rattle.theory.specs.Stage.{all-stages}
 use Rattle.theory.specs.Verdict.{Verdict}
 use Rattle.theory.specs.Load.{model}
 use Rattle.theory.specs.Solve.{room, solve-in, SolveOut, solve-left, early, solve, solved-nodes, solved-stages}
 use Rattle.theory.specs.Value.{value-of}
 use Rattle.theory.specs.Listing.{greatest-root}
-use Rattle.theory.specs.Demands.{Solving, left, start, site, reading, Exact, Optimal, PlainAgrees, SameValue, FirstMet, SolvedExactly, CountsDistinct, PeakDecides, VerdictRows, SolveRows, ValueRows, PlainRows, NameRows, NameParts, ListingRows, VerdictRowOne, SolveRowOne, ValueRowOne, PlainRowOne, NameRowOne, ListingRowOne, Formula, WeightsSum, LoadedOrdered, StagesOrdered, SideLiteral, TablesHold}
+use Rattle.theorems.specs.Demands.{Solving, left, start, site, reading, Exact, Optimal, PlainAgrees, SameValue, FirstMet, SolvedExactly, CountsDistinct, PeakDecides, VerdictRows, SolveRows, ValueRows, PlainRows, NameRows, NameParts, ListingRows, VerdictRowOne, SolveRowOne, ValueRowOne, PlainRowOne, NameRowOne, ListingRowOne, Formula, WeightsSum, LoadedOrdered, StagesOrdered, SideLiteral, TablesHold}
 use Rattle.theory.specs.Rows.{VerdictRow, SolveRow, ValueRow, PlainRow, NameRow, ListingRow}
 use Rattle.theory.specs.laws.Loading.{accepted-valid, accepted-site}
 use Rattle.theory.specs.laws.Good.{stages-good}
 use Rattle.theory.specs.laws.Stages.{stages-at, stage-of}
 use Rattle.theory.specs.laws.Reading.{reading-exact, root-last}
 use Rattle.theory.specs.laws.Rows.{Passed, by-early, early-some, passed-not, solve-runs}
 use Rattle.theory.specs.laws.Rows as Rows
 use Rattle.theory.specs.laws.Name as Name
-use Rattle.theory.specs.laws.Formula as Formulas
-use Rattle.theory.specs.laws.Weights as Weights
-use Rattle.theory.specs.laws.Ordered as Ordered
-use Rattle.theory.specs.laws.OrderedStages as OrderedStages
+use Rattle.theorems.specs.laws.Formula as Formulas
+use Rattle.theorems.specs.laws.Weights as Weights
+use Rattle.theorems.specs.laws.Ordered as Ordered
+use Rattle.theorems.specs.laws.OrderedStages as OrderedStages
 use Rattle.theory.specs.laws.Process.{policy-theorem}
-use Rattle.theory.specs.laws.Plain as Plain
-use Rattle.theory.specs.laws.SameValue as SameValue
-use Rattle.theory.specs.laws.Refusals as Refusals
+use Rattle.theory.specs.laws.Plain.{plain-of-exact}
+use Rattle.theorems.specs.laws.SameValue as SameValue
+use Rattle.theory.specs.laws.Refusals.{refused-number}
+use Rattle.theorems.specs.laws.Peak as Peak
 use Rattle.theory.specs.laws.Counting as Counting
-use Rattle.theory.specs.laws.Chain.{all-chained}
 use Rattle.theory.specs.laws.Comps.{run-all-final}
 
 -- ---- what a solve with number 0 has gone through
 
@@ -67,7 +67,7 @@ module _ (g : Solving) where
   solved-went : Passed (g .bytes) (g .horizon) (length (g .stages)) → (o : Solved (List Tree)) → solve-in N (g .bytes) (g .horizon) ≡ o → out o .number ≡ 0 → Went g (out o)
   unfolding solve-left
   solved-went p (solved S peak) e z = record { before = p; trees = S; peak = peak; solves = e; nodes-left = refl; stages-left = refl }
-  solved-went p (refused r h) e z = absurd (⊎-elim (λ q. omega arith) (λ q. omega arith) (Refusals.refused-number N (g .bytes) (g .horizon) r h e))
+  solved-went p (refused r h) e z = absurd (⊎-elim (λ q. omega arith) (λ q. omega arith) (refused-number N (g .bytes) (g .horizon) r h e))
 
   pub went : Went g (left g)
   unfolding solve
@@ -129,22 +129,24 @@ optimal g h a b q t π =
     )
 
 pub plain-agrees : PlainAgrees
-plain-agrees = Plain.plain-agrees exact
+plain-agrees g h low high q _ n =
+    let r = plain-of-exact (g .bytes) h q low n .1 in
+    r .1 ∙ sym (exact g h low high q (r .0))
 
 pub same-value : SameValue
 same-value = SameValue.same-values number-words exact
 
 pub first-met : FirstMet
-first-met = Refusals.first-met all-chained
+first-met = Peak.first-met
 
 pub solved-exactly : SolvedExactly
-solved-exactly = Refusals.solved-exactly all-chained
+solved-exactly = Peak.solved-exactly
 
 pub counts-distinct : CountsDistinct
 counts-distinct = Counting.counts-distinct
 
 pub peak-decides : PeakDecides
-peak-decides = Refusals.peak-decides all-chained
+peak-decides = Peak.peak-decides
 
 pub verdict-rows : VerdictRows
 verdict-rows = Rows.verdict-row

@@ -6,12 +6,12 @@ use native.Mathlib.Omega.{arith}
 use lib.IntN.{ℤ, pos, _+ℤ_, _*ℤ_, *ℤ-comm}
 use lib.Signed.{_≤ℤ_}
 use Rattle.whole.specs.Int.{ring, ≤-trans, ≤-of-eq, mul-mono}
 use Rattle.theory.specs.Process.{Process, mean, Action, total, optimum, lowest-best}
 use Rattle.theory.specs.Meaning.{Model, State, action-at, env, worth-at, chance-at, weight, settings, moved, power, process}
-use Rattle.theory.specs.Fraction.{Fraction, Equal, AtMost, plus, times, divided, weighed}
-use Rattle.theory.specs.Demands.{meant, formula, Formula}
+use Rattle.theorems.specs.Fraction.{Fraction, Equal, AtMost, plus, times, divided, weighed}
+use Rattle.theorems.specs.Demands.{meant, formula, Formula}
 use Rattle.theory.specs.laws.Process.{total-below, lowest-best-action, lowest-best-total}
-use Rattle.theory.specs.laws.Weights.{power-step}
+use Rattle.theorems.specs.laws.Weights.{power-step}
 
 one-more : (w x n m d k : ℤ) → n *ℤ d ≡ m *ℤ k → (w *ℤ x *ℤ k +ℤ n *ℤ d) *ℤ d ≡ (w *ℤ x +ℤ m) *ℤ (d *ℤ k)
 one-more w x n m d k e = ap (λ (z : ℤ). (w *ℤ x *ℤ k +ℤ z) *ℤ d) e ∙ regroup

@@ -9,23 +9,23 @@ use lib.IntN.{ℤ, pos, _*ℤ_}
 use lib.ListN.{length, getD}
 use lib.Signed.{_<ℤ_}
 use Rattle.whole.specs.Numerator.{number, words}
 use Rattle.theory.specs.Diagram.{Tree, scaleL}
 use Rattle.theory.specs.Computation.{solved, refused, enter-all, result}
 use Rattle.theory.specs.Rules.{zero-leaf, side}
 use Rattle.theory.specs.Process.{Process, Policy, Action, mean, optimum, lowest-best, expected, Sound}
 use Rattle.theory.specs.Meaning.{Model, State, action-at, env, worth-at, chance-at, weight, settings, moved, power, process}
-use Rattle.theory.specs.Fraction.{Fraction, Equal, AtMost, plus, divided, weighed}
+use Rattle.theorems.specs.Fraction.{Fraction, Equal, AtMost, plus, divided, weighed}
 use Rattle.theory.specs.Stage.{all-stages}
 use Rattle.theory.specs.Verdict.{Verdict, verdict}
 use Rattle.theory.specs.Load.{load, model, site-at}
 use Rattle.theory.specs.Solve.{solve-in, table-of, solved-stages, SolveOut, solve}
 use Rattle.theory.specs.Value.{Asked, accepted, state-of, ValueOut, value-of}
 use Rattle.theory.specs.Plain.{plain-of}
 use Rattle.theory.specs.Name.{name-refusal, name-part}
 use Rattle.theory.specs.Listing.{greatest-root, ListingOut, listing}
 use Rattle.theory.specs.Rows.{VerdictRow, SolveRow, ValueRow, PlainRow, NameRow, NamePartRow, ListingRow}
-use Rattle.theory.specs.Ordered.{Ordered, AllOrdered, ModelOrdered, replaced}
-use Rattle.theory.specs.Events.{Event, events, Refused, Passes, needed, RefusedAt, PassesAll, peak-of}
+use Rattle.theorems.specs.Ordered.{Ordered, AllOrdered, ModelOrdered, replaced}
+use Rattle.theory.specs.Events.{Event, events, Refused, Passes, needed, Distinct, RefusedAt, PassesAll, peak-of}
 
 -- "a model is solved when solve's number is 0": bytes, horizon and tables of which that holds
 pub record Solving : Type 0 where
@@ -164,10 +164,6 @@ abbrev pub SolvedExactly : Type 0
 SolvedExactly = (N : ℕ) (B : List ℕ) (H : ℕ) → verdict B .number ≡ 0
     → ((S : List Tree) (peak : ℕ) → solve-in N B H ≡ solved S peak → peak ≡ peak-of (length (needed [] (events (load B)))) (all-stages (model B) H))
     × (((S : List Tree) × (peak : ℕ) × (solve-in N B H ≡ solved S peak)) ↔ (Passes N [] (events (load B)) × PassesAll N (all-stages (model B) H)))
-
--- needed nodes are counted once: no two of them are equal
-abbrev pub Distinct : List Tree → Type 0
-Distinct X = (i j : ℕ) → i < length X → j < length X → getD X i zero-leaf ≡ getD X j zero-leaf → i ≡ j
 
 -- "the distinct nodes .. with those that the operation's rules make"
 abbrev pub CountsDistinct : Type 0

@@ -1,0 +1,18 @@
+-- What is proved of document 01's definitions: its demands and what goes with them, as types, and under laws/ their proofs. Nothing above needs more of it than Advice.
+
+-- ---- statements
+
+-- what they are said with: the order down a path, fractions
+pub mod Ordered
+pub mod Fraction
+-- the demands
+pub mod Demands
+-- demands 2 and 3 of one call that solves and then reads
+pub mod Advice
+-- ---- examples
+
+-- the pond, rain, and what is marked ★
+pub mod Examples
+-- ---- laws
+
+pub mod laws

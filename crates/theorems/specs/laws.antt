@@ -1,0 +1,16 @@
+-- Proofs of the statements, over the laws of `theory`.
+
+-- the value that is meant, as 01 writes it
+pub mod Weights
+pub mod Formula
+-- 11, 12 and the peak
+pub mod Peak
+-- the order down a path
+pub mod Order
+pub mod Ordered
+pub mod OrderedStages
+-- equal fractions
+pub mod SameValue
+-- the demands
+pub mod Demands
+pub mod Advice
