@@ -6,12 +6,12 @@ use mathlib.Core.List.{List, [], map, List·Memᴰ}
 use Prim.Native.Nat.{ℕ, suc, _*_, _^_, _≤_, _<_}
 use lib.Dec.{T}
 use lib.IntN.{ℤ, pos, _*ℤ_}
-use lib.ListN.{length, getD}
+use lib.ListN.{length}
 use lib.Signed.{_<ℤ_}
 use Rattle.whole.specs.Numerator.{number, words}
 use Rattle.theory.specs.Diagram.{Tree, scaleL}
 use Rattle.theory.specs.Computation.{solved, refused, enter-all, result}
-use Rattle.theory.specs.Rules.{zero-leaf, side}
+use Rattle.theory.specs.Rules.{side}
 use Rattle.theory.specs.Process.{Process, Policy, Action, mean, optimum, lowest-best, expected, Sound}
 use Rattle.theory.specs.Meaning.{Model, State, action-at, env, worth-at, chance-at, weight, settings, moved, power, process}
 use Rattle.theorems.specs.Fraction.{Fraction, Equal, AtMost, plus, divided, weighed}

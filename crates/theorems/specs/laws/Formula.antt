@@ -1,14 +1,13 @@
 -- The optimum, times D × W^(n×h), is 01's formula: the largest over the actions of reward plus the weighed sum ÷ Wⁿ.
 use mathlib.Core.Path.{_≡_, refl, sym, ap, _∙_, subst}
 use mathlib.Core.List.{List, [], _∷_, map}
-use Prim.Native.Nat.{ℕ, zero, suc, _*_, _^_}
+use Prim.Native.Nat.{ℕ, suc, _*_, _^_}
 use native.Mathlib.Omega.{arith}
 use lib.IntN.{ℤ, pos, _+ℤ_, _*ℤ_, *ℤ-comm}
-use lib.Signed.{_≤ℤ_}
 use Rattle.whole.specs.Int.{ring, ≤-trans, ≤-of-eq, mul-mono}
-use Rattle.theory.specs.Process.{Process, mean, Action, total, optimum, lowest-best}
+use Rattle.theory.specs.Process.{mean, Action, total, optimum, lowest-best}
 use Rattle.theory.specs.Meaning.{Model, State, action-at, env, worth-at, chance-at, weight, settings, moved, power, process}
-use Rattle.theorems.specs.Fraction.{Fraction, Equal, AtMost, plus, times, divided, weighed}
+use Rattle.theorems.specs.Fraction.{Equal, AtMost, plus, times, divided, weighed}
 use Rattle.theorems.specs.Demands.{meant, formula, Formula}
 use Rattle.theory.specs.laws.Process.{total-below, lowest-best-action, lowest-best-total}
 use Rattle.theorems.specs.laws.Weights.{power-step}

@@ -1,6 +1,6 @@
 -- The order of tests is strict and total.
 use mathlib.Core.Path.{_≡_, refl, sym, ap, _∙_, subst}
-use mathlib.Core.Bool.{Bool, true, false, not}
+use mathlib.Core.Bool.{not}
 use mathlib.Core.List.{List, [], _∷_}
 use Prim.Native.Nat.{ℕ, _<_, compare, Ordering, Ordering·lt, Ordering·eq, Ordering·gt}
 use native.Mathlib.Omega.{arith}
@@ -8,7 +8,7 @@ use lib.Dec.{T, isEq, isLe, eqb→eq, eqb-refl, leb→le, nleb→lt}
 use lib.IntN.{ℤ, pos, negsuc}
 use Rattle.theory.specs.Diagram.{Linear, Test, now, later, linear, then, cmpZ, cmpList, cmpLinear, cmp}
 use Rattle.theorems.specs.Ordered.{is-lt, before}
-use Rattle.theory.specs.laws.Comps.{cmpZ-eq, cmpZ-refl, cmpList-eq, cmpList-refl, cmpLinear-eq, cmpLinear-refl}
+use Rattle.theory.specs.laws.Comps.{cmpZ-eq, cmpZ-refl, cmpList-eq, cmpList-refl}
 
 abbrev pub lt : Ordering
 lt = Ordering·lt

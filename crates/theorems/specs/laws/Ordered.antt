@@ -1,9 +1,9 @@
 -- The rules make diagrams in which the order rises strictly down each path and no node has equal branches; of those, a side takes the branch as it is.
 use mathlib.Core.Path.{_≡_, refl, sym, ap, ap₂, _∙_, subst}
-use mathlib.Core.Bool.{Bool, true, false, not, _&&_}
+use mathlib.Core.Bool.{Bool, true, false, not}
 use mathlib.Core.List.{List, [], _∷_}
-use Prim.Native.Nat.{ℕ, Ordering, Ordering·lt, Ordering·eq, Ordering·gt}
-use lib.Dec.{T, T-not, isEq, eqb, eqb→eq}
+use Prim.Native.Nat.{ℕ, Ordering·lt, Ordering·eq, Ordering·gt}
+use lib.Dec.{T, T-not, eqb, eqb→eq}
 use lib.IntN.{ℤ, pos}
 use lib.Signed.{leZ}
 use Rattle.whole.specs.Cases.{if, by-test, both, from-true}
@@ -11,12 +11,11 @@ use Rattle.theory.specs.Diagram.{Linear, Test, now, later, linear, Leaf, Tree, 
 use Rattle.theory.specs.Computation.{Comp, ret, named, made, make, result}
 use Rattle.theory.specs.Computation as C
 use Rattle.theory.specs.Rules.{node, step, choose, over, merge, make-leaf, leaf-sum, leaf-product, leaf-scale, leaf-shift, leaf-complement, leaf-number, decide, leaf-best, sum, product, scale, shift, complement, number, best, zero-leaf, sum-on, levels-sum, linear-diagram, substitute, is-later, side, expectation, add-reward}
-use Rattle.theory.specs.Valid.{all-nodes}
 use Rattle.theorems.specs.Ordered.{before, Above, Ordered, AllOrdered, replaced}
 use Rattle.theory.specs.laws.Comps.{cmp-eq, cmp-refl, same-eq, same-refl, result-both}
 use Rattle.theory.specs.laws.Safe.{Safe, safe-ret, safe-named, safe-made, safe-make, safe-bind, safe-both, safe-weaken, safe-judge, any}
 use Rattle.theory.specs.laws.Nodes.{Tests, parts, branch-good, leaf-good, widen, node-safe, step-safe, choose-safe, over-safe, merge-safe, side-safe}
-use Rattle.theorems.specs.laws.Order.{lt, eq, gt, by-cases, is-eq, before-lt, before-gt, before-trans, not-before}
+use Rattle.theorems.specs.laws.Order.{eq, by-cases, is-eq, before-lt, before-gt, before-trans, not-before}
 
 -- what comes before a test comes before those behind it
 above-trans : (t u : Test) (F : Tree) → T (before t u) → Above u F → Above t F

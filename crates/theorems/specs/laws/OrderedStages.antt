@@ -1,14 +1,11 @@
 -- Every diagram of a model that is loaded, and of its stages, is ordered.
-use mathlib.Core.Path.{_≡_, refl, sym, subst}
-use mathlib.Core.Bool.{Bool, true, false}
+use mathlib.Core.Path.{_≡_, sym, subst}
 use mathlib.Core.List.{List, [], _∷_, _++_, map}
 use Prim.Native.Nat.{ℕ, zero, suc, _-_}
-use lib.Dec.{T}
-use lib.IntN.{ℤ}
 use Rattle.whole.specs.Cases.{if, by-test}
 use Rattle.whole.specs.Within.{small}
 use Rattle.theory.specs.Diagram.{Test, Tree, leaf, plain, test-of}
-use Rattle.theory.specs.Computation.{Comp, ret, bind, make, result, Ops, end, operation, and-then, solved}
+use Rattle.theory.specs.Computation.{Comp, ret, bind, make, end, solved}
 use Rattle.theory.specs.Rules.{choose, best, zero-leaf, substitute, expectation, add-reward}
 use Rattle.theory.specs.Meaning.{Action, Model, power}
 use Rattle.theory.specs.Stage.{model-diagrams, sum-out, action-total, best-on, stage-over, stages-on, all-stages}

@@ -1,18 +1,18 @@
 -- A name is the bytes of the command that names the action, without the spaces at their end.
 use mathlib.Core.Path.{_≡_, refl, sym, ap, _∙_, subst}
 use mathlib.Core.Logic.{_⊎_, inl, inr, ⊎-elim}
-use mathlib.Core.Bool.{Bool, true, false, not}
+use mathlib.Core.Bool.{Bool, true, false}
 use mathlib.Core.List.{List, [], _∷_, _++_, append-assoc, append-nil, List·Memᴰ, List·Memᴰ·head, List·Memᴰ·tail, List·Memᴰ·cases-cons, List·Memᴰ·not-nil}
-use Prim.Native.Nat.{ℕ, zero, suc, _+_, _-_, _≤_, _<_}
+use Prim.Native.Nat.{ℕ, zero, suc, _+_, _-_, _≤_}
 use native.Mathlib.Omega.{arith}
 use lib.Dec.{T, T-not, eqb, eqb→eq, eqb-refl}
 use lib.ListN.{length, getD, take, drop, replicate, replicate-append-replicate, length-drop}
-use lib.Seq.{take-suc, getD-take}
+use lib.Seq.{take-suc}
 use Rattle.whole.specs.Cases.{if, by-test}
 use Rattle.theory.specs.Command.{Command, site, push-leaf, push-condition, push-test, take-reward, take-chance, take-level, name-action, end-model, Read, whole, unknown, short, Placed, byte-at, width, command-at, read-at, goes-on, readings-from, readings}
-use Rattle.theory.specs.Verdict.{Verdict, refusal}
-use Rattle.theory.specs.Name.{names-action, Part, no-part, trimmed, named-part, name-refusal, name-part}
-use Rattle.theory.specs.Rows.{Whole, NameRow, NamePartRow, name-given, name-empty, name-refused}
+use Rattle.theory.specs.Verdict.{refusal}
+use Rattle.theory.specs.Name.{names-action, no-part, trimmed, named-part, name-refusal, name-part}
+use Rattle.theory.specs.Rows.{NameRow, NamePartRow, name-given, name-empty, name-refused}
 use Rattle.theory.specs.laws.Loading.{positive}
 use Rattle.theory.specs.laws.Rows.{by-read, name-row, zero-name, if-yes, if-no}
 

@@ -11,7 +11,6 @@ use Rattle.theory.specs.Diagram.{Tree}
 use Rattle.theory.specs.Computation.{Comp, result, Out, done, stopped, run, enter-all, Ops, end, operation, and-then, final, Solved, solved, refused, run-all}
 use Rattle.theory.specs.Meaning.{Action, Model}
 use Rattle.theory.specs.Stage.{sum-out, action-total, best-on, stage-over, stages-on, all-stages, model-diagrams}
-use Rattle.theory.specs.Verdict.{verdict}
 use Rattle.theory.specs.Load.{load, model}
 use Rattle.theory.specs.Solve.{solve-in}
 use Rattle.theory.specs.Events.{events, needed, Refused, Passes, RefusedAt, here, later, PassesAll, peak-of, Chained}

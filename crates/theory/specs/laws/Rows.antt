@@ -17,19 +17,19 @@ use Rattle.whole.specs.Numerator.{words}
 use Rattle.theory.specs.Widths.{levels-most, steps-most, bytes-most, node-words, nodes-most}
 use Rattle.theory.specs.Diagram.{Tree, zeros}
 use Rattle.theory.specs.Computation.{Out, done, stopped, result, run, Solved, solved, refused, run-all}
-use Rattle.theory.specs.Process.{optimum, lowest-best}
+use Rattle.theory.specs.Process.{lowest-best}
 use Rattle.theory.specs.Meaning.{Action, Model, State, nth, process}
 use Rattle.theory.specs.Stage.{all-stages}
 use Rattle.theory.specs.Valid.{all, among, small-linear}
 use Rattle.theory.specs.Command.{Command, site, push-leaf, push-condition, push-test, take-reward, take-chance, take-level, name-action, end-model, Read, whole, unknown, short, byte-at, width, command-at, read-at, goes-on, readings-from, readings}
-use Rattle.theory.specs.Verdict.{Verdict, Site, refusal, Progress, Rule, first-broken, site-rules, first-rules, later-rules, rules-of, after, ended, judged, at-start, verdict, from-to, or}
+use Rattle.theory.specs.Verdict.{Verdict, Site, refusal, Progress, first-broken, rules-of, after, ended, judged, at-start, verdict, from-to, or}
 use Rattle.theory.specs.Load.{site-at, load, model}
 use Rattle.theory.specs.Solve.{room, solve-in, table-of, rows, SolveOut, solved-nodes, solve-left, early, solve}
 use Rattle.theory.specs.Value.{Asked, accepted, bits, numerator-of, state-of, node-word, node-linear, high-of, low-of, amongZ, good-branches, good-leaf-row, good-condition-row, good-test-row, good-row, taken, walk, ValueOut, refused-value, value-at, value-of}
 use Rattle.theory.specs.Plain.{Worth, is, over, better, try-actions, numbered, action-worth, state-worth, worth-out, if-true, plain-of}
 use Rattle.theory.specs.Name.{name-refusal}
 use Rattle.theory.specs.Listing.{greatest-root, text, written, ListingOut, listing-refusal, listing}
-use Rattle.theory.specs.Rows.{Keeps, Breaks, Range, asks-of, Whole, Comes, comes-first, comes-next, EndsAt, VerdictRow, verdict-0, verdict-3, verdict-2, verdict-2-end, verdict-1-7, verdict-8, Admitted, EarlyRow, early-10, early-9, early-1-8, Room, SolveRow, solve-0, solve-1-10, solve-11-12, OnWalk, first-met, then-met, Stated, ValueRow, value-0, value-1-10, value-13, value-14, value-15, PlainRow, plain-0, plain-1-10, plain-13, plain-11, NameRow, name-0, name-1-10, name-16, Rooted, Tabled, ListingRow, listing-0, listing-1-10, listing-14, listing-15, listing-17}
+use Rattle.theory.specs.Rows.{Keeps, Range, asks-of, Whole, Comes, comes-first, comes-next, EndsAt, VerdictRow, verdict-0, verdict-3, verdict-2, verdict-2-end, verdict-1-7, verdict-8, Admitted, EarlyRow, early-10, early-9, early-1-8, Room, SolveRow, solve-0, solve-1-10, solve-11-12, OnWalk, first-met, then-met, Stated, ValueRow, value-0, value-1-10, value-13, value-14, value-15, PlainRow, plain-0, plain-1-10, plain-13, plain-11, NameRow, name-0, name-1-10, name-16, Rooted, Tabled, ListingRow, listing-0, listing-1-10, listing-14, listing-15, listing-17}
 use Rattle.theory.specs.laws.Plain.{plain-exact, plain-action}
 use Rattle.theory.specs.laws.Staying.{answers-stay, over-leaves, stays-some}
 use Rattle.theory.specs.laws.Rules.{by-rules, kept-zero, broken-number, rules-agree}
@@ -40,7 +40,7 @@ use Rattle.theory.specs.laws.Chain.{peak-fits, table-fits}
 use Rattle.theory.specs.laws.Words.{rows-length, by-kind}
 use Rattle.theory.specs.laws.Reading.{stages-length}
 use Rattle.theory.specs.laws.Valid.{among-in, among-out, other-above}
-use Rattle.theory.specs.laws.Loading.{positive, by-reading, behind, accepted-site}
+use Rattle.theory.specs.laws.Loading.{positive, behind, accepted-site}
 
 -- ---- tests
 

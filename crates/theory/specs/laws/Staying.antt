@@ -1,18 +1,18 @@
 -- Plain working answers exactly where it stays within its limits.
 use mathlib.Core.Path.{_≡_, refl, sym, ap, _∙_, subst}
 use mathlib.Core.Logic.{⊎-elim}
-use mathlib.Core.Bool.{Bool, true, false, not, _&&_}
-use mathlib.Core.List.{List, [], _∷_, map, List·Memᴰ, List·Memᴰ·head, List·Memᴰ·tail, List·Memᴰ·cases-cons, List·Memᴰ·not-nil}
-use Prim.Native.Nat.{ℕ, zero, suc, _≤_, _<_}
+use mathlib.Core.Bool.{Bool, true, false}
+use mathlib.Core.List.{List, [], _∷_, List·Memᴰ, List·Memᴰ·head, List·Memᴰ·tail, List·Memᴰ·cases-cons, List·Memᴰ·not-nil}
+use Prim.Native.Nat.{ℕ, zero, suc, _≤_}
 use native.Mathlib.Omega.{arith}
-use lib.Dec.{T, T-not, eqb, leb, eqb→eq, leb→le, le→leb, ltb→lt, lt→ltb}
+use lib.Dec.{T, eqb, leb, eqb→eq, leb→le, le→leb, ltb→lt, lt→ltb}
 use lib.IntN.{ℤ, pos, negsuc, natAbs, _+ℤ_, _*ℤ_}
-use lib.Signed.{_≤ℤ_, _<ℤ_, leZ}
+use lib.Signed.{leZ}
 use Rattle.whole.specs.Cases.{if, by-test, both, and-in, from-true}
 use Rattle.whole.specs.Int.{ring}
 use Rattle.whole.specs.Within.{small}
 use Rattle.theory.specs.Process.{optimum}
-use Rattle.theory.specs.Meaning.{Action, Model, State, env, worth-at, chance-at, weight, settings, moved, power, process}
+use Rattle.theory.specs.Meaning.{Action, Model, State, process}
 use Rattle.theory.specs.Valid.{all}
 use Rattle.theory.specs.Plain.{Worth, is, over, judged, in-32-bits, sum-settings, action-worth, better, try-actions, numbered, state-worth}
 use Rattle.theory.specs.Staying.{In32, In62, SumStays, ActionStays, Stays}
