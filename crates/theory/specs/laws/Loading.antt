@@ -205,12 +205,12 @@ pub record In-range (S : Site) : Type 0 where
   pub weights-in : T (among weights-most (S .weights))
 
 -- the first of some rules is not broken, nor is one of the others
-unbroken : (k : ℕ) (b : Bool) (l : List Rule) → first-broken (rule (suc k) b ∷ l) ≡ 0 → T (not b) × (first-broken l ≡ 0)
+pub unbroken : (k : ℕ) (b : Bool) (l : List Rule) → first-broken (rule (suc k) b ∷ l) ≡ 0 → T (not b) × (first-broken l ≡ 0)
 unfolding first-broken
 unbroken k true l e = absurd (omega arith)
 unbroken k false l e = (tt, e)
 
-broken : {A : Type 0} (k : ℕ) (l : List Rule) → first-broken (rule (suc k) true ∷ l) ≡ 0 → A
+pub broken : {A : Type 0} (k : ℕ) (l : List Rule) → first-broken (rule (suc k) true ∷ l) ≡ 0 → A
 broken k l e = absurd (unbroken k true l e .0)
 
 or-out : {C : Type 0} (a b : Bool) → T (or a b) → (T a → C) → (T b → C) → C
@@ -362,7 +362,8 @@ by-reading B at P a b c =
     (λ _. b (nleb→lt (length B) at o))
     (λ n. by-test (ltb (length B) (at + w)) (λ x. P (if x short (whole (command-at B at)))) (λ _. a) (λ m. c (positive w n) (nltb→le (length B) (at + w) m))))
 
-judged-whole : (k at : ℕ) (v : Verdict) → (if (eqb k 0) v (refusal k at)) .number ≡ 0 → (k ≡ 0) × (v .number ≡ 0)
+-- nothing is broken, and what follows is accepted
+pub judged-whole : (k at : ℕ) (v : Verdict) → (if (eqb k 0) v (refusal k at)) .number ≡ 0 → (k ≡ 0) × (v .number ≡ 0)
 judged-whole k at v = by-test (eqb k 0) (λ b. (if b v (refusal k at)) .number ≡ 0 → (k ≡ 0) × (v .number ≡ 0))
     (λ t e. (eqb→eq k 0 t, e)) (λ n e. absurd (T-not (eqb k 0) n (rw e tt)))
 

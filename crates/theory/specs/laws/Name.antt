@@ -1,20 +1,22 @@
--- A name is the bytes of the command that names the action, without the spaces at their end.
+-- A name is the bytes of the command that names the action, without the spaces at their end; and there is one such command at most.
 use mathlib.Core.Path.{_≡_, refl, sym, ap, _∙_, subst}
 use mathlib.Core.Logic.{_⊎_, inl, inr, ⊎-elim}
-use mathlib.Core.Bool.{Bool, true, false}
+use mathlib.Core.Bool.{Bool, true, false, not}
 use mathlib.Core.List.{List, [], _∷_, _++_, append-assoc, append-nil, List·Memᴰ, List·Memᴰ·head, List·Memᴰ·tail, List·Memᴰ·cases-cons, List·Memᴰ·not-nil}
-use Prim.Native.Nat.{ℕ, zero, suc, _+_, _-_, _≤_}
+use Prim.Native.Nat.{ℕ, zero, suc, _+_, _-_, _≤_, _<_}
+use native.Mathlib.Nat.{le-antisymm}
 use native.Mathlib.Omega.{arith}
-use lib.Dec.{T, T-not, eqb, eqb→eq, eqb-refl}
-use lib.ListN.{length, getD, take, drop, replicate, replicate-append-replicate, length-drop}
-use lib.Seq.{take-suc}
+use lib.Dec.{T, T-not, eqb, leb, eqb→eq, eqb-refl, leb→le, nleb→lt}
+use lib.ListN.{length, getD, take, drop, replicate, getD-replicate, replicate-append-replicate, length-drop}
+use lib.Seq.{take-suc, getD-take, length-take-le, getD-append-add}
 use Rattle.whole.specs.Cases.{if, by-test}
 use Rattle.theory.specs.Command.{Command, site, push-leaf, push-condition, push-test, take-reward, take-chance, take-level, name-action, end-model, Read, whole, unknown, short, Placed, byte-at, width, command-at, read-at, goes-on, readings-from, readings}
-use Rattle.theory.specs.Verdict.{refusal}
-use Rattle.theory.specs.Name.{names-action, no-part, trimmed, named-part, name-refusal, name-part}
-use Rattle.theory.specs.Rows.{NameRow, NamePartRow, name-given, name-empty, name-refused}
-use Rattle.theory.specs.laws.Loading.{positive}
-use Rattle.theory.specs.laws.Rows.{by-read, name-row, zero-name, if-yes, if-no}
+use Rattle.theory.specs.Verdict.{Slot, Progress, Verdict, refusal, reward-slot, chance-slot, level-slot, name-slot, same-slot, has-slot, first-broken, first-rules, later-rules, rules-of, after, judged, verdict, at-start}
+use Rattle.theory.specs.Name.{names-action, Part, no-part, trimmed, named-part, name-refusal, name-part}
+use Rattle.theory.specs.Rows.{NameRow, name-0, name-1-10, name-16, NamePartRow, name-given, name-empty, name-refused}
+use Rattle.theory.specs.laws.Rules.{or-left, or-right, same-self}
+use Rattle.theory.specs.laws.Loading.{unbroken, broken, judged-whole, behind, positive}
+use Rattle.theory.specs.laws.Rows.{by-read, ended-going, name-row, zero-name, name-is, verdict-is, early-some, some-not, if-yes, if-no}
 
 -- ---- spaces at the end
 
@@ -55,6 +57,28 @@ trimmed-last l (suc k) = by-test (eqb (getD l k 0) 0x20) (λ b. (if b (trimmed l
   where
     before : (k : ℕ) → k ≡ suc k - 1
     before k = omega arith
+
+-- what stands behind the name is spaces
+space-at : (l : List ℕ) (n size i : ℕ) → take size l ++ replicate (n - size) 0x20 ≡ take n l → n ≤ length l → size ≤ i → i < n → getD l i 0 ≡ 0x20
+space-at l n size i e h a b =
+    let short = length-take-le size l (omega arith) in
+    sym (getD-take n l i 0 b)
+    ∙ ap (λ (r : List ℕ). getD r i 0) (sym e)
+    ∙ ap (λ (j : ℕ). getD (take size l ++ replicate (n - size) 0x20) j 0) (behind size i (length (take size l)) short a)
+    ∙ getD-append-add (take size l) (replicate (n - size) 0x20) (i - size) 0
+    ∙ getD-replicate (n - size) (i - size) 0x20 0 (omega arith)
+  where
+    behind : (size i k : ℕ) → k ≡ size → size ≤ i → i ≡ k + (i - size)
+    behind size i k e h = omega arith
+
+-- it and the spaces are the n bytes, and it does not end in one
+abbrev Trims : List ℕ → ℕ → ℕ → Type 0
+Trims l n size = (size ≤ n) × ((take size l ++ replicate (n - size) 0x20 ≡ take n l) × ((size ≡ 0) ⊎ (getD l (size - 1) 0 ≡ 0x20 → ⊥)))
+
+-- so no other is longer
+trims-most : (l : List ℕ) (n : ℕ) → n ≤ length l → (x y : ℕ) → Trims l n x → Trims l n y → y ≤ x
+trims-most l n h x y a b = by-test (leb y x) (λ _. y ≤ x) (leb→le y x)
+    (λ t. let o = nleb→lt y x t in ⊎-elim (λ z. omega arith) (λ f. absurd (f (space-at l n x (y - 1) (a .1 .0) h (omega arith) (omega (arith, b .0))))) (b .1 .1))
 
 -- ---- the command
 
@@ -112,6 +136,23 @@ read-there B (suc k) at x m = ⊎-elim
     go true i ih = ih i
     go false i ih = absurd (List·Memᴰ·not-nil i)
 
+-- what has been given stays given, once the site is there
+stays : (g : Slot) (s : Progress) (c : Command) → first-broken (rules-of s c) ≡ 0 → T (s .begun) → T (has-slot g (s .given)) → T (after s c .begun) × T (has-slot g (after s c .given))
+unfolding after has-slot rules-of later-rules
+stays g s (site m n a w) e b t = go (s .begun) e b
+  where
+    go : {C : Type 0} (b : Bool) → first-broken (if b (later-rules (s .site) (s .stack) (s .given) (site m n a w)) (first-rules (site m n a w))) ≡ 0 → T b → C
+    go true e b = broken 0 _ e
+    go false e b = absurd b
+stays g s (push-leaf p) e b t = (b, t)
+stays g s (push-condition k) e b t = (b, t)
+stays g s (push-test p) e b t = (b, t)
+stays g s (take-reward a) e b t = (b, or-right (same-slot g (reward-slot a)) _ t)
+stays g s (take-chance a k) e b t = (b, or-right (same-slot g (chance-slot a k)) _ t)
+stays g s (take-level a i) e b t = (b, or-right (same-slot g (level-slot a i)) _ t)
+stays g s (name-action a l) e b t = (b, or-right (same-slot g (name-slot a)) _ t)
+stays g s end-model e b t = (b, t)
+
 module _ (B : List ℕ) (a : ℕ) where
   abbrev naming : ℕ → List ℕ → Placed
   naming at t = record { at = at; read = whole (name-action a t) }
@@ -159,17 +200,100 @@ module _ (B : List ℕ) (a : ℕ) where
       (found l))
       refl
 
-  given-row : NameRow B a (refusal 0 0) → NamePartRow B a (named-part B a (readings B))
+  -- ---- a name is given once
+
+  -- a name command that breaks nothing: the site is there, and the action has no name yet
+  name-rules : (s : Progress) (t : List ℕ) → first-broken (rules-of s (name-action a t)) ≡ 0 → T (s .begun) × T (not (has-slot (name-slot a) (s .given)))
+  unfolding rules-of later-rules first-rules
+  name-rules s t = go (s .begun)
+    where
+      go : (b : Bool) → first-broken (if b (later-rules (s .site) (s .stack) (s .given) (name-action a t)) (first-rules (name-action a t))) ≡ 0 → T b × T (not (has-slot (name-slot a) (s .given)))
+      go true e = (tt, unbroken 5 _ _ (unbroken 3 _ _ (unbroken 3 _ _ e .1) .1) .0)
+      go false e = broken 0 _ e
+
+  -- what stands in the readings from an offset on
+  abbrev from : ℕ → ℕ → Read → List Placed
+  from k p r = record { at = p; read = r } ∷ behind B k p (goes-on r)
+
+  -- the first of some is c, which breaks nothing
+  first-kept : (k p : ℕ) (s : Progress) (c : Command) → judged (length B) s (from k p (whole c)) .number ≡ 0 → first-broken (rules-of s c) ≡ 0
+  unfolding judged
+  first-kept k p s c e = judged-whole (first-broken (rules-of s c)) p _ e .0
+
+  -- and the others are accepted behind it
+  others-kept : (k p : ℕ) (s : Progress) (c : Command) → T (goes-on (whole c)) → judged (length B) s (from k p (whole c)) .number ≡ 0
+      → judged (length B) (after s c) (readings-from B k (p + width (byte-at B p))) .number ≡ 0
+  unfolding judged
+  others-kept k p s c g e = ap (λ (v : Verdict). v .number) (sym (ended-going B k p s c g)) ∙ judged-whole (first-broken (rules-of s c)) p _ e .1
+
+  -- one of those behind a command, if any is there
+  in-others : (k p : ℕ) (c : Command) (x : Placed) (P : Type 0) → List·Memᴰ x (behind B k p (goes-on (whole c)))
+      → (T (goes-on (whole c)) → List·Memᴰ x (readings-from B k (p + width (byte-at B p))) → P) → P
+  in-others k p c x P m f = by-test (goes-on (whole c)) (λ b. List·Memᴰ x (behind B k p b) → P) f (λ _ m. absurd (List·Memᴰ·not-nil m)) m
+
+  is-naming : (p at : ℕ) (c : Command) (t : List ℕ) → naming at t ≡ record { at = p; read = whole c } → c ≡ name-action a t
+  is-naming p at c t i = let j : whole (name-action a t) ≡ whole c = ap (λ (x : Placed). x .read) i in (cc)
+
+  -- what is read of an accepted model is whole
+  by-whole : (k p : ℕ) (s : Progress) (P : Read → Type 0) → ((c : Command) → judged (length B) s (from k p (whole c)) .number ≡ 0 → P (whole c))
+      → (r : Read) → judged (length B) s (from k p r) .number ≡ 0 → P r
+  unfolding judged
+  by-whole k p s P f (whole c) e = f c e
+  by-whole k p s P f unknown e = absurd (let z : _≡_ {A = ℕ} 3 0 = e in omega arith)
+  by-whole k p s P f short e = absurd (let z : _≡_ {A = ℕ} 2 0 = e in omega arith)
+
+  -- an action that has a name is not named again
+  not-again : (k p : ℕ) (s : Progress) → T (s .begun) → T (has-slot (name-slot a) (s .given)) → judged (length B) s (readings-from B k p) .number ≡ 0
+      → (at : ℕ) (t : List ℕ) → List·Memᴰ (naming at t) (readings-from B k p) → ⊥
+  unfolding readings-from
+  not-again zero p s b h e at t m = List·Memᴰ·not-nil m
+  not-again (suc k) p s b h e at t m = by-whole k p s (λ r. List·Memᴰ (naming at t) (from k p r) → ⊥)
+      (λ c e m. ⊎-elim
+      (λ i. T-not (has-slot (name-slot a) (s .given)) (name-rules s t (subst (λ (c : Command). first-broken (rules-of s c) ≡ 0) (is-naming p at c t i) (first-kept k p s c e)) .1) h)
+      (λ j. in-others k p c (naming at t) ⊥ j (λ g i.
+      let d = stays (name-slot a) s c (first-kept k p s c e) b h in
+      not-again k (p + width (byte-at B p)) (after s c) (d .0) (d .1) (others-kept k p s c g e) at t i))
+      (List·Memᴰ·cases-cons m))
+      (read-at B p) e m
+
+  -- behind the command that names it there is none that does
+  named-here : (k p : ℕ) (s : Progress) (c : Command) → judged (length B) s (from k p (whole c)) .number ≡ 0 → (at : ℕ) (t : List ℕ) → naming at t ≡ record { at = p; read = whole c }
+      → (x : ℕ) (u : List ℕ) → List·Memᴰ (naming x u) (behind B k p (goes-on (whole c))) → ⊥
+  unfolding after has-slot same-slot
+  named-here k p s c e at t i x u m =
+      let j = is-naming p at c t i in
+      let b = name-rules s t (subst (λ (c : Command). first-broken (rules-of s c) ≡ 0) j (first-kept k p s c e)) .0 in
+      in-others k p c (naming x u) ⊥ m (λ g n. not-again k (p + width (byte-at B p)) (after s (name-action a t)) b (or-left (same-slot (name-slot a) (name-slot a)) _ (same-self (name-slot a)))
+      (subst (λ (c : Command). judged (length B) (after s c) (readings-from B k (p + width (byte-at B p))) .number ≡ 0) j (others-kept k p s c g e)) x u n)
+
+  -- two commands that name it are one
+  named-once : (k p : ℕ) (s : Progress) → judged (length B) s (readings-from B k p) .number ≡ 0
+      → (at : ℕ) (t : List ℕ) → List·Memᴰ (naming at t) (readings-from B k p) → (x : ℕ) (u : List ℕ) → List·Memᴰ (naming x u) (readings-from B k p) → at ≡ x
+  unfolding readings-from
+  named-once zero p s e at t m x u n = absurd (List·Memᴰ·not-nil m)
+  named-once (suc k) p s e at t m x u n = by-whole k p s (λ r. List·Memᴰ (naming at t) (from k p r) → List·Memᴰ (naming x u) (from k p r) → at ≡ x)
+      (λ c e m n. ⊎-elim
+      (λ i. ⊎-elim (λ j. ap (λ (y : Placed). y .at) i ∙ sym (ap (λ (y : Placed). y .at) j)) (λ j. absurd (named-here k p s c e at t i x u j)) (List·Memᴰ·cases-cons n))
+      (λ i. ⊎-elim (λ j. absurd (named-here k p s c e x u j at t i))
+      (λ j. in-others k p c (naming at t) (at ≡ x) i (λ g i. in-others k p c (naming x u) (at ≡ x) j (λ _ j.
+      named-once k (p + width (byte-at B p)) (after s c) (others-kept k p s c g e) at t i x u j)))
+      (List·Memᴰ·cases-cons n))
+      (List·Memᴰ·cases-cons m))
+      (read-at B p) e m n
+
+  -- the bytes that a name command has, inside the model
+  bytes-there : (at : ℕ) (t : List ℕ) → List·Memᴰ (naming at t) (readings B) → (t ≡ take 16 (drop (at + 2) B)) × (16 ≤ length (drop (at + 2) B))
   unfolding readings
+  bytes-there at t m =
+      let b = name-bytes-at B at a t (sym (read-there B (suc (length B)) 0 (naming at t) m)) in
+      (b .0, omega (arith, length-drop (at + 2) B, b .1))
+
+  given-row : NameRow B a (refusal 0 0) → NamePartRow B a (named-part B a (readings B))
   given-row r = ⊎-elim
       (λ d.
-      let at = d .0 in
-      let t = d .1 .0 in
-      let l = drop (at + 2) B in
-      let b = name-bytes-at B at a t (sym (read-there B (suc (length B)) 0 (naming at t) (d .1 .1 .0))) in
-      let h : 16 ≤ length l = omega (arith, length-drop (at + 2) B, b .1) in
-      rw (d .1 .1 .1) (name-given {t = t} r (d .1 .1 .0) (trimmed-most l 16) (trimmed-spaces l 16 h ∙ sym (b .0))
-      (⊎-elim (λ z. inl z) (λ f. inr (λ e. f e)) (trimmed-last l 16))))
+      let l = drop (d .0 + 2) B in
+      let b = bytes-there (d .0) (d .1 .0) (d .1 .1 .0) in
+      rw (d .1 .1 .1) (name-given {t = d .1 .0} r (d .1 .1 .0) (trimmed-most l 16) (trimmed-spaces l 16 (b .1) ∙ sym (b .0)) (trimmed-last l 16)))
       (λ d. rw (d .0) (name-empty r (d .1)))
       (found (readings B))
 
@@ -178,3 +302,32 @@ module _ (B : List ℕ) (a : ℕ) where
   name-part-row = by-test (eqb (name-refusal B a .number) 0) (λ b. NamePartRow B a (if b (named-part B a (readings B)) no-part))
       (λ t. given-row (zero-name B a (eqb→eq (name-refusal B a .number) 0 t)))
       (λ n. name-refused (name-row B a) (positive (name-refusal B a .number) n))
+
+  -- ---- a row decides
+
+  accepted-name : {v : Verdict} → NameRow B a v → v .number ≡ 0 → verdict B .number ≡ 0
+  accepted-name (name-0 d h) e = ap (λ (v : Verdict). v .number) (verdict-is B (d .own))
+  accepted-name (name-1-10 r) e = absurd (omega (arith, early-some r))
+  accepted-name (name-16 d f) e = absurd (omega arith)
+
+  -- where the call is not refused
+  name-found : NameRow B a (refusal 0 0) → name-part B a ≡ named-part B a (readings B)
+  unfolding name-part
+  name-found r = ap (λ (v : Verdict). if (eqb (v .number) 0) (named-part B a (readings B)) no-part) (name-is B a r)
+
+  -- a name's part is each of its rows
+  pub name-part-is : {p : Part} → NamePartRow B a p → name-part B a ≡ p
+  unfolding name-part verdict readings
+  name-part-is (name-given {at = at} {size = size} {t = t} r m h e l) = name-found r ∙ ⊎-elim
+      (λ d.
+      let i : d .0 ≡ at = named-once (suc (length B)) 0 at-start (accepted-name r refl) (d .0) (d .1 .0) (d .1 .1 .0) at t m in
+      let b = bytes-there at t m in
+      let y = drop (at + 2) B in
+      let own : Trims y 16 (trimmed y 16) = (trimmed-most y 16, (trimmed-spaces y 16 (b .1), trimmed-last y 16)) in
+      let stated : Trims y 16 size = (h, (e ∙ b .0, l)) in
+      d .1 .1 .1 ∙ ap (λ (x : ℕ). record { start = x + 2; size = trimmed (drop (x + 2) B) 16 }) i
+      ∙ (λ j. record { start = at + 2; size = le-antisymm (trims-most y 16 (b .1) size (trimmed y 16) stated own) (trims-most y 16 (b .1) (trimmed y 16) size own stated) j }))
+      (λ d. absurd (d .1 at t m))
+      (found (readings B))
+  name-part-is (name-empty r f) = name-found r ∙ ⊎-elim (λ d. absurd (f (d .0) (d .1 .0) (d .1 .1 .0))) (λ d. d .0) (found (readings B))
+  name-part-is (name-refused {v = v} r h) = ap (λ (v : Verdict). if (eqb (v .number) 0) (named-part B a (readings B)) no-part) (name-is B a r) ∙ if-no (eqb (v .number) 0) _ no-part (some-not (v .number) h)

@@ -53,7 +53,7 @@ pub if-no : {A : Type 0} (b : Bool) (x y : A) → T (not b) → if b x y ≡ y
 if-no true x y t = absurd t
 if-no false x y t = refl
 
-some-not : (n : ℕ) → 1 ≤ n → T (not (eqb n 0))
+pub some-not : (n : ℕ) → 1 ≤ n → T (not (eqb n 0))
 some-not n h = by-test (eqb n 0) (λ b. T (not b)) (λ t. absurd (omega (arith, eqb→eq n 0 t))) (λ _. tt)
 
 zero-is : (n : ℕ) → n ≡ 0 → T (eqb n 0)
@@ -153,7 +153,7 @@ module _ (B : List ℕ) where
   unfolding readings-from
   judged-whole k at s w = ap (from k at s) (read-whole at w)
 
-  ended-going : (k at : ℕ) (s : Progress) (c : Command) → T (goes-on (whole c))
+  pub ended-going : (k at : ℕ) (s : Progress) (c : Command) → T (goes-on (whole c))
       → ended (length B) at c (judged (length B) (after s c) (behind B k at (goes-on (whole c)))) ≡ judged (length B) (after s c) (behind B k at true)
   unfolding ended goes-on
   ended-going k at s (site x n a v) t = refl

@@ -85,11 +85,11 @@ or-cases : (a b : Bool) → T (or a b) → T a ⊎ T b
 or-cases true b t = inl tt
 or-cases false b t = inr t
 
-or-left : (a b : Bool) → T a → T (or a b)
+pub or-left : (a b : Bool) → T a → T (or a b)
 or-left true b t = tt
 or-left false b t = absurd t
 
-or-right : (a b : Bool) → T b → T (or a b)
+pub or-right : (a b : Bool) → T b → T (or a b)
 or-right true b t = tt
 or-right false b t = t
 
@@ -135,7 +135,7 @@ slot-same s t h =
     let e = both (eqb (s .action) (t .action)) (eqb (s .index) (t .index)) (d .1) in
     λ i. record { command = eqb→eq (s .command) (t .command) (d .0) i; action = eqb→eq (s .action) (t .action) (e .0) i; index = eqb→eq (s .index) (t .index) (e .1) i }
 
-same-self : (s : Slot) → T (same-slot s s)
+pub same-self : (s : Slot) → T (same-slot s s)
 unfolding same-slot
 same-self s = and-in (eqb (s .command) (s .command)) _ (eqb-refl (s .command)) (and-in (eqb (s .action) (s .action)) (eqb (s .index) (s .index)) (eqb-refl (s .action)) (eqb-refl (s .index)))
 
