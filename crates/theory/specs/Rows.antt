@@ -1,13 +1,14 @@
 -- "What a refusal gives", row by row: a type for each kind of outcome, a constructor for each of its rows, with when it is given: its own condition, and that no row before it in 01's order applies.
--- Demands says that every outcome is one of them, and that no two are rows of the same call: "No refusal is given outside its row."
+-- The crate `theorems` says that every outcome is one of them, and that no two are rows of the same call: "No refusal is given outside its row."
 use mathlib.Core.Path.{_≡_}
 use mathlib.Core.Logic.{_⊎_}
-use mathlib.Core.Bool.{true, false, not}
+use mathlib.Core.Bool.{true, false}
 use mathlib.Core.List.{List, _++_, List·Memᴰ}
-use Prim.Native.Nat.{ℕ, _+_, _-_, _*_, _≤_, _<_}
-use lib.Dec.{T, eqb}
+use Prim.Native.Nat.{ℕ, _+_, _-_, _*_, _^_, _≤_, _<_}
+use lib.Dec.{T}
 use lib.IntN.{ℤ, pos, natAbs}
 use lib.ListN.{length, getD, take, drop, replicate}
+use lib.Signed.{_≤ℤ_}
 use Rattle.whole.specs.Numerator.{words}
 use Rattle.theory.specs.Diagram.{Tree, zeros}
 use Rattle.theory.specs.Computation.{solved, refused}
@@ -15,10 +16,10 @@ use Rattle.theory.specs.Command.{Command, site, push-leaf, push-conditio
 use Rattle.theory.specs.Verdict.{Verdict, refusal, Site, Facts, Slot, Progress, at-start, after, top, reward-slot, chance-slot, level-slot, name-slot}
 use Rattle.theory.specs.Load.{site-at, model}
 use Rattle.theory.specs.Solve.{solve-in, SolveOut, solved-nodes, solved-stages}
-use Rattle.theory.specs.Value.{Asked, accepted, state-of, node-word, node-linear, high-of, numerator-of, good-row, taken, ValueOut, refused-value}
+use Rattle.theory.specs.Value.{Asked, accepted, state-of, node-word, node-linear, high-of, low-of, numerator-of, taken, ValueOut, refused-value}
 use Rattle.theory.specs.Process.{optimum, lowest-best}
-use Rattle.theory.specs.Meaning.{process}
-use Rattle.theory.specs.Staying.{Stays}
+use Rattle.theory.specs.Meaning.{State, process}
+use Rattle.theory.specs.Staying.{In62, Stays}
 use Rattle.theory.specs.Name.{Part}
 use Rattle.theory.specs.Listing.{greatest-root, text, ListingOut}
 
@@ -179,50 +180,95 @@ pub data SolveRow (B : List ℕ) (H : ℕ) (nodes : List ℤ) (stages work : Lis
 
 -- ---- value
 
--- the nodes "on the walk" from a root
+-- z is 1 to n
+abbrev pub Among : ℕ → ℤ → Type 0
+Among n z = (pos 1 ≤ℤ z) × (z ≤ℤ pos n)
+
+-- 13 does not apply: "D < 1, mask bit n or above, nonzero numerator beyond m"
+pub record StateFits (m n : ℕ) (q : Asked) : Type 0 where
+  pub den : pos 1 ≤ℤ q .den
+  pub mask : q .mask < 2 ^ n
+  pub beyond : (i : ℕ) → m ≤ i → getD (q .nums) i (pos 0) ≡ pos 0
+
+-- node r of the words W, with n conditions and A actions
+module _ (n A : ℕ) (W : List ℤ) (r : ℕ) where
+  -- not "a number outside ±(2⁶² − 1)": four coefficients and the constant
+  abbrev pub NumbersFit : Type 0
+  NumbersFit = (i : ℕ) → Range 1 5 i → In62 (node-word W r i)
+
+  -- not "a branch .. not from 1 to below its node"
+  abbrev pub BranchesFit : Type 0
+  BranchesFit = Among (r - 1) (high-of W r) × Among (r - 1) (low-of W r)
+
+  -- not "a kind not 0 to 2 or a nonzero word where the layout has zero .., a condition not 1 to n or an action not 1 to A"
+  pub data KindFits : Type 0 where
+    fits-leaf : node-word W r 0 ≡ pos 0 → NumbersFit → Among A (high-of W r) → low-of W r ≡ pos 0 → KindFits
+    fits-condition : node-word W r 0 ≡ pos 1 → Among n (node-word W r 1) → ((i : ℕ) → Range 2 5 i → node-word W r i ≡ pos 0) → BranchesFit → KindFits
+    fits-test : node-word W r 0 ≡ pos 2 → NumbersFit → BranchesFit → KindFits
+
+  -- 14 does not apply: nor is it "outside the table"
+  pub record NodeFits : Type 0 where
+    pub inside : r * 8 ≤ length W
+    pub kind : KindFits
+
+-- the nodes "on the walk" from a root: at one that fits and is no leaf it goes on
 pub data OnWalk (n A : ℕ) (q : Asked) (W : List ℤ) (root : ℕ) : ℕ → Type 0 where
   first-met : OnWalk n A q W root root
-  then-met : {r : ℕ} → OnWalk n A q W root r → T (good-row n A W r) → T (not (eqb (natAbs (node-word W r 0)) 0)) → OnWalk n A q W root (taken n q W r)
+  then-met : {r : ℕ} → OnWalk n A q W root r → NodeFits n A W r → (node-word W r 0 ≡ pos 0 → ⊥) → OnWalk n A q W root (taken n q W r)
 
 -- a value and an action: "then .. 13, 15, 14"
 module _ (B : List ℕ) (nodes : List ℤ) (stages : List ℕ) (steps : ℕ) (q : Asked) where
   -- no early row, and not 13
   pub record Stated : Type 0 where
     pub early : Admitted B steps (length stages)
-    pub state : T (accepted (site-at B .levels) (site-at B .conditions) q)
+    pub state : StateFits (site-at B .levels) (site-at B .conditions) q
+
+  -- the stage word that is read
+  abbrev pub root-word : ℕ
+  root-word = getD stages (steps - 1) 0
+
+  -- a node on the walk from it
+  abbrev pub Met : ℕ → Type 0
+  Met r = OnWalk (site-at B .conditions) (site-at B .actions) q nodes root-word r
 
   pub data ValueRow : ValueOut → Type 0 where
     -- read: the walk ends at a leaf, its action one of the model's
-    value-0 : {r : ℕ} → Stated → 1 ≤ getD stages (steps - 1) 0 → OnWalk (site-at B .conditions) (site-at B .actions) q nodes (getD stages (steps - 1) 0) r
-        → T (good-row (site-at B .conditions) (site-at B .actions) nodes r) → T (eqb (natAbs (node-word nodes r 0)) 0) → Range 1 (site-at B .actions) (natAbs (high-of nodes r))
+    value-0 : {r : ℕ} → Stated → 1 ≤ root-word → Met r → NodeFits (site-at B .conditions) (site-at B .actions) nodes r → node-word nodes r 0 ≡ pos 0
+        → Range 1 (site-at B .actions) (natAbs (high-of nodes r))
         → ValueRow (record { number = 0; place = 0; action = natAbs (high-of nodes r); numerator = words (numerator-of q (node-linear nodes r)) })
     value-1-10 : {k p : ℕ} → EarlyRow B steps (length stages) k p → ValueRow (refused-value k p)
     -- "13: D < 1, mask bit n or above, nonzero numerator beyond m"
-    value-13 : Admitted B steps (length stages) → T (not (accepted (site-at B .levels) (site-at B .conditions) q)) → ValueRow (refused-value 13 0)
+    value-13 : Admitted B steps (length stages) → (StateFits (site-at B .levels) (site-at B .conditions) q → ⊥) → ValueRow (refused-value 13 0)
     -- "15: stage word 0"
-    value-15 : Stated → getD stages (steps - 1) 0 ≡ 0 → ValueRow (refused-value 15 0)
+    value-15 : Stated → root-word ≡ 0 → ValueRow (refused-value 15 0)
     -- "14: a node on the walk .. is outside the table, has a kind not 0 to 2 .."
-    value-14 : {r : ℕ} → Stated → 1 ≤ getD stages (steps - 1) 0 → OnWalk (site-at B .conditions) (site-at B .actions) q nodes (getD stages (steps - 1) 0) r
-        → T (not (good-row (site-at B .conditions) (site-at B .actions) nodes r)) → ValueRow (refused-value 14 0)
+    value-14 : {r : ℕ} → Stated → 1 ≤ root-word → Met r → (NodeFits (site-at B .conditions) (site-at B .actions) nodes r → ⊥) → ValueRow (refused-value 14 0)
 
 -- ---- plain working
 
--- the same by plain working, which is lent no stage words
-pub data PlainRow (B : List ℕ) (steps : ℕ) (q : Asked) : ValueOut → Type 0 where
-  -- answered: no number leaves its limits
-  plain-0 : Admitted B steps 8 → (t : T (accepted (site-at B .levels) (site-at B .conditions) q)) → Stays (model B) steps (state-of (site-at B .levels) (site-at B .conditions) q t)
-      → Range 1 (site-at B .actions) (lowest-best (process (model B)) steps (state-of (site-at B .levels) (site-at B .conditions) q t))
-      → PlainRow B steps q (record {
-        number = 0;
-        place = 0;
-        action = lowest-best (process (model B)) steps (state-of (site-at B .levels) (site-at B .conditions) q t);
-        numerator = words (optimum (process (model B)) steps (state-of (site-at B .levels) (site-at B .conditions) q t));
-      })
-  plain-1-10 : {k p : ℕ} → EarlyRow B steps 8 k p → PlainRow B steps q (refused-value k p)
-  plain-13 : Admitted B steps 8 → T (not (accepted (site-at B .levels) (site-at B .conditions) q)) → PlainRow B steps q (refused-value 13 0)
-  -- "stage, 0 .. in plain working": 11
-  plain-11 : Admitted B steps 8 → (t : T (accepted (site-at B .levels) (site-at B .conditions) q))
-      → (Stays (model B) steps (state-of (site-at B .levels) (site-at B .conditions) q t) → ⊥) → PlainRow B steps q (refused-value 11 0)
+-- the same by plain working, which is lent no stage words: "then .. 13 ..; last 11"
+module _ (B : List ℕ) (steps : ℕ) (q : Asked) where
+  -- 13 does not apply, by its test, which makes of q the state that is asked for
+  abbrev pub Accepts : Type 0
+  Accepts = T (accepted (site-at B .levels) (site-at B .conditions) q)
+
+  abbrev pub asked-state : Accepts → State
+  asked-state t = state-of (site-at B .levels) (site-at B .conditions) q t
+
+  pub data PlainRow : ValueOut → Type 0 where
+    -- answered: no number leaves its limits; the action is one of the model's
+    plain-0 : Admitted B steps 8 → (t : Accepts) → Stays (model B) steps (asked-state t) → Range 1 (site-at B .actions) (lowest-best (process (model B)) steps (asked-state t))
+        → PlainRow (record {
+          number = 0;
+          place = 0;
+          action = lowest-best (process (model B)) steps (asked-state t);
+          numerator = words (optimum (process (model B)) steps (asked-state t));
+        })
+    plain-1-10 : {k p : ℕ} → EarlyRow B steps 8 k p → PlainRow (refused-value k p)
+    -- "13: D < 1, mask bit n or above, nonzero numerator beyond m"
+    plain-13 : Admitted B steps 8 → (StateFits (site-at B .levels) (site-at B .conditions) q → ⊥) → PlainRow (refused-value 13 0)
+    -- "stage, 0 .. in plain working": 11
+    plain-11 : Admitted B steps 8 → (t : Accepts) → (Stays (model B) steps (asked-state t) → ⊥) → PlainRow (refused-value 11 0)
 
 -- ---- name
 
@@ -255,7 +301,7 @@ module _ (B : List ℕ) (H : ℕ) (nodes : List ℤ) (stages buffer : List ℕ) 
   -- .. nor 14
   pub record Tabled : Type 0 where
     pub rooted : Rooted
-    pub rows : (r : ℕ) → Range 1 (greatest-root H stages) r → T (good-row (site-at B .conditions) (site-at B .actions) nodes r)
+    pub rows : (r : ℕ) → Range 1 (greatest-root H stages) r → NodeFits (site-at B .conditions) (site-at B .actions) nodes r
 
   pub data ListingRow : ListingOut → Type 0 where
     -- written: the text from the stated place on, "touches nothing before it", nor behind the text
@@ -266,7 +312,7 @@ module _ (B : List ℕ) (H : ℕ) (nodes : List ℤ) (stages buffer : List ℕ) 
     -- "15: stage word 0"
     listing-15 : {h : ℕ} → Admitted B H (length stages) → Range 1 H h → getD stages (h - 1) 0 ≡ 0 → ListingRow (record { number = 15; place = 0; size = 0; buffer = buffer })
     -- "14: a node .. (in a listing, any up to the greatest root)"
-    listing-14 : {r : ℕ} → Rooted → Range 1 (greatest-root H stages) r → T (not (good-row (site-at B .conditions) (site-at B .actions) nodes r))
+    listing-14 : {r : ℕ} → Rooted → Range 1 (greatest-root H stages) r → (NodeFits (site-at B .conditions) (site-at B .actions) nodes r → ⊥)
         → ListingRow (record { number = 14; place = 0; size = 0; buffer = buffer })
     -- "17: buffer too short, or the stated place past its end"
     listing-17 : Tabled → length buffer < at + length (text (site-at B) H nodes stages) → ListingRow (record { number = 17; place = 0; size = 0; buffer = buffer })

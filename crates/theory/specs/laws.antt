@@ -24,6 +24,7 @@ pub mod Reading
 pub mod Refusals
 pub mod Chain
 pub mod Rules
+pub mod Fits
 pub mod Rows
 pub mod Name
 -- plain working

@@ -33,6 +33,7 @@ use Rattle.theory.specs.Rows.{Keeps, Range, asks-of, Whole, Comes, comes
 use Rattle.theory.specs.laws.Plain.{plain-exact, plain-action}
 use Rattle.theory.specs.laws.Staying.{answers-stay, over-leaves, stays-some}
 use Rattle.theory.specs.laws.Rules.{by-rules, kept-zero, broken-number, rules-agree}
+use Rattle.theory.specs.laws.Fits.{state-fits, state-accepted, state-refused, node-fits, fits-good, misfits, misfits-bad, kind-zero, zero-kind, kind-other}
 use Rattle.theory.specs.laws.Comps.{run-result, run-all-final}
 use Rattle.theory.specs.laws.Stages.{all-stages-length}
 use Rattle.theory.specs.laws.Refusals.{refused-number, refused-place}
@@ -481,7 +482,7 @@ module _ (n A : ℕ) (q : Asked) (W : List ℤ) where
     walk-ends (suc k) r m a b = by-test (good-row n A W r) (λ z. Ends (elim z [ true ↦ if (eqb (natAbs (node-word W r 0)) 0) r (walk n A q W k (taken n q W r)) | false ↦ 0 ]))
         (λ g. by-test (eqb (natAbs (node-word W r 0)) 0) (λ z. Ends (if z r (walk n A q W k (taken n q W r))))
         (λ e. inr (a, (good-leaf r g e, (m, (g, e)))))
-        (λ e. let i = taken-below r a g e in walk-ends k (taken n q W r) (then-met m g e) (i .0) (omega (arith, i .1))))
+        (λ e. let i = taken-below r a g e in walk-ends k (taken n q W r) (then-met m (node-fits n A W r g) (λ z. T-not (eqb (natAbs (node-word W r 0)) 0) e (zero-kind (node-word W r 0) z))) (i .0) (omega (arith, i .1))))
         (λ g. inl (refl, (r, (m, g))))
 
     -- ---- the walk goes through the nodes that are met
@@ -511,8 +512,14 @@ module _ (n A : ℕ) (q : Asked) (W : List ℤ) where
         at-root : (x : ℕ) → 1 ≤ x → x ≡ root → Left root
         at-root zero l e = absurd (omega arith)
         at-root (suc k) l e = (k, (h, (omega arith, ap (λ (j : ℕ). walk n A q W j root) (sym e))))
-    walk-left h (then-met {r = r} m g z) = let d = walk-left h m in next (d .0) (d .1 .0) (d .1 .1 .0) (d .1 .1 .1)
+    walk-left h (then-met {r = r} m f o) = let d = walk-left h m in next (d .0) (d .1 .0) (d .1 .1 .0) (d .1 .1 .1)
       where
+        g : T (good-row n A W r)
+        g = fits-good n A W r f
+
+        z : T (not (eqb (natAbs (node-word W r 0)) 0))
+        z = kind-other (node-word W r 0) o
+
         next : (k : ℕ) → 1 ≤ r → r ≤ suc k → walk n A q W root root ≡ walk n A q W (suc k) r → Left (taken n q W r)
         next zero a b e = let i = taken-below r a g z in absurd (omega (arith, i .0, i .1))
         next (suc k) a b e = let i = taken-below r a g z in (k, (i .0, (omega (arith, i .1), e ∙ walk-on (suc k) r g z)))
@@ -532,15 +539,15 @@ module _ (B : List ℕ) (nodes : List ℤ) (stages : List ℕ) (steps : ℕ) (q 
 
   read-row : Stated B nodes stages steps q → 1 ≤ root → (w : ℕ) → Ends (S .conditions) (S .actions) q nodes root w → ValueRow B nodes stages steps q (value-at q nodes w)
   unfolding value-at good-leaf-row
-  read-row st l w (inl d) = subst (λ (w : ℕ). ValueRow B nodes stages steps q (value-at q nodes w)) (sym (d .0)) (value-14 st l (d .1 .1 .0) (d .1 .1 .1))
+  read-row st l w (inl d) = subst (λ (w : ℕ). ValueRow B nodes stages steps q (value-at q nodes w)) (sym (d .0)) (value-14 st l (d .1 .1 .0) (misfits _ _ nodes _ (d .1 .1 .1)))
   read-row st l w (inr d) =
       let a = amongZ-out (S .actions) (high-of nodes w) (both (amongZ (S .actions) (high-of nodes w)) _ (both (small-linear (node-linear nodes w)) _ (d .1 .0) .1) .0) in
       by-test (eqb w 0)
       (λ b. ValueRow B nodes stages steps q (if b (refused-value 14 0) (record { number = 0; place = 0; action = natAbs (high-of nodes w); numerator = words (numerator-of q (node-linear nodes w)) })))
-      (λ t. absurd (omega (arith, eqb→eq w 0 t, d .0))) (λ _. value-0 st l (d .1 .1 .0) (d .1 .1 .1 .0) (d .1 .1 .1 .1) a)
+      (λ t. absurd (omega (arith, eqb→eq w 0 t, d .0))) (λ _. value-0 st l (d .1 .1 .0) (node-fits _ _ nodes w (d .1 .1 .1 .0)) (kind-zero (node-word nodes w 0) (d .1 .1 .1 .1)) a)
 
   stated : Passed B steps (length stages) → T (accepted (S .levels) (S .conditions) q) → Stated B nodes stages steps q
-  stated p u = record { early = admitted p; state = u }
+  stated p u = record { early = admitted p; state = state-fits (S .levels) (S .conditions) q u }
 
   pub value-row : ValueRow B nodes stages steps q (value-of B nodes stages steps q)
   unfolding value-of
@@ -552,7 +559,7 @@ module _ (B : List ℕ) (nodes : List ℤ) (stages : List ℕ) (steps : ℕ) (q 
       (λ b. ValueRow B nodes stages steps q (if b (if (eqb root 0) (refused-value 15 0) (value-at q nodes (walk (S .conditions) (S .actions) q nodes root root))) (refused-value 13 0)))
       (λ u. by-test (eqb root 0) (λ b. ValueRow B nodes stages steps q (if b (refused-value 15 0) (value-at q nodes (walk (S .conditions) (S .actions) q nodes root root))))
       (λ t. value-15 (stated p u) (eqb→eq root 0 t)) (λ t. read-row (stated p u) (positive root t) _ (walk-ends (S .conditions) (S .actions) q nodes root root root first-met (positive root t) (le-refl root))))
-      (λ t. value-13 (admitted p) t))
+      (λ t. value-13 (admitted p) (λ f. T-not (accepted (S .levels) (S .conditions) q) t (state-accepted (S .levels) (S .conditions) q f))))
       (λ k p r. value-1-10 r)
 
   on-from : Verdict → ValueOut
@@ -562,19 +569,19 @@ module _ (B : List ℕ) (nodes : List ℤ) (stages : List ℕ) (steps : ℕ) (q 
 
   stated-is : Stated B nodes stages steps q → value-of B nodes stages steps q ≡ if (eqb root 0) (refused-value 15 0) (value-at q nodes (walk (S .conditions) (S .actions) q nodes root root))
   unfolding value-of on-from
-  stated-is d = ap on-from (admitted-is (d .early)) ∙ if-yes (accepted (S .levels) (S .conditions) q) _ (refused-value 13 0) (d .state)
+  stated-is d = ap on-from (admitted-is (d .early)) ∙ if-yes (accepted (S .levels) (S .conditions) q) _ (refused-value 13 0) (state-accepted (S .levels) (S .conditions) q (d .state))
 
   -- the value is each of its rows
   pub value-is : {o : ValueOut} → ValueRow B nodes stages steps q o → value-of B nodes stages steps q ≡ o
   unfolding value-of on-from value-at
   value-is (value-0 {r = r} d l m g z a) =
-      let w = walk-read (S .conditions) (S .actions) q nodes root l m g z in
+      let w = walk-read (S .conditions) (S .actions) q nodes root l m (fits-good _ _ nodes r g) (zero-kind (node-word nodes r 0) z) in
       stated-is d ∙ if-no (eqb root 0) (refused-value 15 0) _ (some-not root l) ∙ ap (value-at q nodes) (w .0) ∙ if-no (eqb r 0) (refused-value 14 0) _ (some-not r (w .1))
   value-is (value-1-10 {k = k} r) = ap on-from (early-is r) ∙ if-no (eqb k 0) _ _ (some-not k (early-some r))
-  value-is (value-13 d t) = ap on-from (admitted-is d) ∙ if-no (accepted (S .levels) (S .conditions) q) _ (refused-value 13 0) t
+  value-is (value-13 d t) = ap on-from (admitted-is d) ∙ if-no (accepted (S .levels) (S .conditions) q) _ (refused-value 13 0) (state-refused (S .levels) (S .conditions) q t)
   value-is (value-15 d e) = stated-is d ∙ if-yes (eqb root 0) (refused-value 15 0) _ (zero-is root e)
   value-is (value-14 {r = r} d l m g) =
-      stated-is d ∙ if-no (eqb root 0) (refused-value 15 0) _ (some-not root l) ∙ ap (value-at q nodes) (walk-refused (S .conditions) (S .actions) q nodes root l m g)
+      stated-is d ∙ if-no (eqb root 0) (refused-value 15 0) _ (some-not root l) ∙ ap (value-at q nodes) (walk-refused (S .conditions) (S .actions) q nodes root l m (misfits-bad _ _ nodes r g))
 
 -- ---- plain working
 
@@ -646,7 +653,7 @@ module _ (B : List ℕ) (steps : ℕ) (q : Asked) where
       let out : T (accepted (sited .levels) (sited .conditions) q) → ValueOut = λ t. worth-out (state-worth (model B) steps (state-of (sited .levels) (sited .conditions) q t)) in
       by-early B steps steps-most
       (λ v b. Answer (if b (if-true (accepted (sited .levels) (sited .conditions) q) out (refused-value 13 0)) (refused-value (v .number) (v .place))))
-      (λ p. state-row (accepted (sited .levels) (sited .conditions) q) out (λ t. worth-row p t _ refl (picks p _)) (plain-13 (admitted p)))
+      (λ p. state-row (accepted (sited .levels) (sited .conditions) q) out (λ t. worth-row p t _ refl (picks p _)) (λ t. plain-13 (admitted p) (λ f. T-not (accepted (sited .levels) (sited .conditions) q) t (state-accepted (sited .levels) (sited .conditions) q f))))
       (λ k p r. plain-1-10 r)
 
   abbrev plain-out : T (accepted (sited .levels) (sited .conditions) q) → ValueOut
@@ -679,7 +686,7 @@ module _ (B : List ℕ) (steps : ℕ) (q : Asked) where
         numerator = words (plain-exact (model B) steps r (i .0) (i .1 .0) (i .1 .1) j);
       })
   plain-is (plain-1-10 {k = k} r) = ap plain-from (early-is r) ∙ if-no (eqb k 0) _ _ (some-not k (early-some r))
-  plain-is (plain-13 d t) = ap plain-from (admitted-is d) ∙ refused-out _ plain-out t
+  plain-is (plain-13 d t) = ap plain-from (admitted-is d) ∙ refused-out _ plain-out (state-refused (sited .levels) (sited .conditions) q t)
   plain-is (plain-11 d t f) = ap plain-from (admitted-is d) ∙ accepted-out _ plain-out t ∙ leaves (state-worth (model B) steps (state-of (sited .levels) (sited .conditions) q t)) refl
     where
       leaves : (o : Worth) → state-worth (model B) steps (state-of (sited .levels) (sited .conditions) q t) ≡ o → worth-out o ≡ refused-value 11 0
@@ -765,7 +772,7 @@ module _ (B : List ℕ) (H : ℕ) (nodes : List ℤ) (stages buffer : List ℕ) 
   }
 
   tabled : Rooted B H nodes stages buffer at → T good → Tabled B H nodes stages buffer at
-  tabled r g = record { rooted = r; rows = λ r d. all-from (good-row (site-at B .conditions) (site-at B .actions) nodes) 1 (greatest-root H stages) g r (d .0) (omega (arith, d .1)) }
+  tabled r g = record { rooted = r; rows = λ r d. node-fits _ _ nodes r (all-from (good-row (site-at B .conditions) (site-at B .actions) nodes) 1 (greatest-root H stages) g r (d .0) (omega (arith, d .1))) }
 
   written-row : Tabled B H nodes stages buffer at → at + length t ≤ length buffer → Row (refusal 0 0)
   unfolding written
@@ -788,7 +795,7 @@ module _ (B : List ℕ) (H : ℕ) (nodes : List ℤ) (stages buffer : List ℕ) 
       (λ s. by-test good (λ b. Row (if (not b) (refusal 14 0) short))
       (λ g. by-test (ltb (length buffer) (at + length t)) (λ b. Row (if b (refusal 17 0) (refusal 0 0)))
       (λ l. listing-17 (tabled (rooted p s) g) (ltb→lt (length buffer) (at + length t) l)) (λ l. written-row (tabled (rooted p s) g) (nltb→le (length buffer) (at + length t) l)))
-      (λ g. let d = not-all _ 1 (greatest-root H stages) g in listing-14 (rooted p s) (d .1 .0, omega (arith, d .1 .1 .0)) (d .1 .1 .1)))
+      (λ g. let d = not-all _ 1 (greatest-root H stages) g in listing-14 (rooted p s) (d .1 .0, omega (arith, d .1 .1 .0)) (misfits _ _ nodes _ (d .1 .1 .1))))
       (λ g. let d = not-all (λ h. not (eqb (getD stages (h - 1) 0) 0)) 1 H g in listing-15 (admitted p) (d .1 .0, omega (arith, d .1 .1 .0)) (eqb→eq (getD stages (d .0 - 1) 0) 0 (not-not (eqb (getD stages (d .0 - 1) 0) 0) (d .1 .1 .1)))))
       (λ k p r. subst (λ (b : Bool). ListingRow B H nodes stages buffer at (out b (refusal k p))) (sym (ne-eqb k 0 (λ z. omega (arith, early-some r)))) (listing-1-10 r))
 
@@ -808,7 +815,7 @@ module _ (B : List ℕ) (H : ℕ) (nodes : List ℤ) (stages buffer : List ℕ) 
 
   tabled-is : Tabled B H nodes stages buffer at → refuses ≡ if (ltb (length buffer) (at + length t)) (refusal 17 0) (refusal 0 0)
   tabled-is d =
-      let g = from-each (good-row (site-at B .conditions) (site-at B .actions) nodes) 1 (greatest-root H stages) (λ r a b. (d .rows) r (a, omega arith)) in
+      let g = from-each (good-row (site-at B .conditions) (site-at B .actions) nodes) 1 (greatest-root H stages) (λ r a b. fits-good _ _ nodes r ((d .rows) r (a, omega arith))) in
       rooted-is (d .rooted) ∙ if-no (not good) (refusal 14 0) _ (not-twice good g)
 
   refused-as : (k p : ℕ) → 1 ≤ k → refuses ≡ refusal k p → listing B H nodes stages buffer at ≡ record { number = k; place = p; size = 0; buffer = buffer }
@@ -839,5 +846,5 @@ module _ (B : List ℕ) (H : ℕ) (nodes : List ℤ) (stages buffer : List ℕ) 
   listing-is (listing-15 {h = h} d i z) = refused-as 15 0 (omega arith) (ap listed-from (admitted-is d) ∙ if-yes (not set) (refusal 15 0) _
       (by-test set (λ b. T (not b)) (λ s. absurd (T-not (eqb (getD stages (h - 1) 0) 0) (all-from (λ h. not (eqb (getD stages (h - 1) 0) 0)) 1 H s h (i .0) (omega (arith, i .1))) (zero-is (getD stages (h - 1) 0) z))) (λ _. tt)))
   listing-is (listing-14 {r = r} d i z) = refused-as 14 0 (omega arith) (rooted-is d ∙ if-yes (not good) (refusal 14 0) _
-      (by-test good (λ b. T (not b)) (λ s. absurd (T-not (good-row (site-at B .conditions) (site-at B .actions) nodes r) z (all-from (good-row (site-at B .conditions) (site-at B .actions) nodes) 1 (greatest-root H stages) s r (i .0) (omega (arith, i .1))))) (λ _. tt)))
+      (by-test good (λ b. T (not b)) (λ s. absurd (T-not (good-row (site-at B .conditions) (site-at B .actions) nodes r) (misfits-bad _ _ nodes r z) (all-from (good-row (site-at B .conditions) (site-at B .actions) nodes) 1 (greatest-root H stages) s r (i .0) (omega (arith, i .1))))) (λ _. tt)))
   listing-is (listing-17 d l) = refused-as 17 0 (omega arith) (tabled-is d ∙ if-yes (ltb (length buffer) (at + length t)) (refusal 17 0) (refusal 0 0) (lt→ltb (length buffer) (at + length t) l))

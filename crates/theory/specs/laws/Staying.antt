@@ -31,11 +31,11 @@ unfolding in-32-bits
 back-32 (pos n) d = le→leb n 2147483647 (omega (arith, ltb→lt n 2147483648 (d .1 .lt)))
 back-32 (negsuc n) d = and-in (leb n 2147483647) true (d .0 .le) tt
 
-in-62 : (z : ℤ) → T (small z) → In62 z
+pub in-62 : (z : ℤ) → T (small z) → In62 z
 unfolding small
 in-62 z t = let h = leb→le (natAbs z) 4611686018427387903 t in omega arith
 
-back-62 : (z : ℤ) → In62 z → T (small z)
+pub back-62 : (z : ℤ) → In62 z → T (small z)
 unfolding small
 back-62 z h = le→leb (natAbs z) 4611686018427387903 (omega arith)
 
