@@ -112,7 +112,7 @@ says-condition n k = record {
 
 -- ---- lists
 
-all-each : {A : Type 0} (p : A → Bool) (l : List A) → T (all p l) → (x : A) → List·Memᴰ x l → T (p x)
+pub all-each : {A : Type 0} (p : A → Bool) (l : List A) → T (all p l) → (x : A) → List·Memᴰ x l → T (p x)
 unfolding all
 all-each p [] t x m = absurd (List·Memᴰ·not-nil m)
 all-each p (y ∷ l) t x m = let d = both (p y) (all p l) t in ⊎-elim (λ i. rw i (d .0)) (λ i. all-each p l (d .1) x i) (List·Memᴰ·cases-cons m)

@@ -32,7 +32,7 @@ length-padded zero l = refl
 length-padded (suc k) [] = ap suc (length-padded k [])
 length-padded (suc k) (z ∷ l) = ap suc (length-padded k l)
 
-padded-full : (k : ℕ) (l : List ℤ) → length l ≡ k → padded k l ≡ l
+pub padded-full : (k : ℕ) (l : List ℤ) → length l ≡ k → padded k l ≡ l
 unfolding padded
 padded-full zero [] e = refl
 padded-full zero (z ∷ l) e = absurd (omega arith)
@@ -46,7 +46,7 @@ as-words p = record { coeffs = padded levels-most (p .coeffs); const = p .const 
 wide-as : (p : Linear) → T (wide p) → as-words p ≡ p
 wide-as p t = λ i. record { coeffs = padded-full levels-most (p .coeffs) (wide-long p t) i; const = p .const }
 
-test-length : (t : Test) → length (test-words t) ≡ 6
+pub test-length : (t : Test) → length (test-words t) ≡ 6
 unfolding test-words padded
 test-length (now k) = refl
 test-length (later k) = refl
