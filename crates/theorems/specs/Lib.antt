@@ -4,6 +4,7 @@
 
 -- what they are said with: the order down a path, fractions
 pub mod Ordered
+pub mod Reduced
 pub mod Fraction
 -- the demands
 pub mod Demands

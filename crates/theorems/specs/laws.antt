@@ -9,6 +9,7 @@ pub mod Peak
 pub mod Order
 pub mod Ordered
 pub mod OrderedStages
+pub mod Reduced
 -- equal fractions
 pub mod SameValue
 -- the demands

@@ -25,7 +25,7 @@ by-cases Ordering·lt P a b c = a refl
 by-cases Ordering·eq P a b c = b refl
 by-cases Ordering·gt P a b c = c refl
 
-gt-lt : gt ≡ lt → ⊥
+pub gt-lt : gt ≡ lt → ⊥
 gt-lt e = subst (λ (o : Ordering). T (not (is-lt o))) e tt
 
 eq-lt : eq ≡ lt → ⊥
@@ -54,7 +54,7 @@ eq-of Ordering·lt t = absurd t
 eq-of Ordering·eq t = refl
 eq-of Ordering·gt t = absurd t
 
-lt-of : (a b : ℕ) → compare a b ≡ lt → a < b
+pub lt-of : (a b : ℕ) → compare a b ≡ lt → a < b
 lt-of a b e =
     let h = leb→le a b (subst (λ (o : Ordering). T (isLe o)) (sym e) tt) in
     let n : a ≡ b → ⊥ = λ z. subst (λ (o : Ordering). T (isEq o)) e (subst (λ (x : ℕ). T (isEq (compare a x))) z (eqb-refl a)) in
