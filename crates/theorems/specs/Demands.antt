@@ -1,9 +1,10 @@
--- The three demands and what goes with them, as types. Each is proved of the definitions under laws/; nothing here is assumed.
+-- The three demands and what goes with them, as types: each is proved in laws/Demands, and nothing is assumed.
 use mathlib.Core.Path.{_≡_}
 use mathlib.Core.Logic.{_↔_, _⊎_}
 use mathlib.Core.Bool.{Bool}
 use mathlib.Core.List.{List, [], map, List·Memᴰ}
 use Prim.Native.Nat.{ℕ, suc, _*_, _^_, _≤_, _<_}
+use native.Mathlib.Nat.{mul-pos, one-le-pow}
 use lib.Dec.{T}
 use lib.IntN.{ℤ, pos, _*ℤ_}
 use lib.ListN.{length}
@@ -14,18 +15,19 @@ use Rattle.theory.specs.Computation.{solved, refused, enter-all, result}
 use Rattle.theory.specs.Rules.{side}
 use Rattle.theory.specs.Process.{Process, Policy, Action, mean, optimum, lowest-best, expected, Sound}
 use Rattle.theory.specs.Meaning.{Model, State, action-at, env, worth-at, chance-at, weight, settings, moved, power, process}
-use Rattle.theorems.specs.Fraction.{Fraction, Equal, AtMost, plus, divided, weighed}
 use Rattle.theory.specs.Stage.{all-stages}
 use Rattle.theory.specs.Verdict.{Verdict, verdict}
 use Rattle.theory.specs.Load.{load, model, site-at}
 use Rattle.theory.specs.Solve.{solve-in, table-of, solved-stages, SolveOut, solve}
 use Rattle.theory.specs.Value.{Asked, accepted, state-of, ValueOut, value-of}
 use Rattle.theory.specs.Plain.{plain-of}
-use Rattle.theory.specs.Name.{name-refusal, name-part}
+use Rattle.theory.specs.Name.{Part, name-refusal, name-part}
 use Rattle.theory.specs.Listing.{greatest-root, ListingOut, listing}
 use Rattle.theory.specs.Rows.{VerdictRow, SolveRow, ValueRow, PlainRow, NameRow, NamePartRow, ListingRow}
-use Rattle.theorems.specs.Ordered.{Ordered, AllOrdered, ModelOrdered, replaced}
 use Rattle.theory.specs.Events.{Event, events, Refused, Passes, needed, Distinct, RefusedAt, PassesAll, peak-of}
+use Rattle.theorems.specs.Fraction.{Fraction, Equal, AtMost, plus, divided, weighed}
+use Rattle.theorems.specs.Ordered.{Ordered, AllOrdered, ModelOrdered, replaced}
+use Rattle.theorems.specs.Reduced.{Reduced}
 
 -- "a model is solved when solve's number is 0": bytes, horizon and tables of which that holds
 pub record Solving : Type 0 where
@@ -57,24 +59,39 @@ module _ (g : Solving) where
   abbrev pub reading : ℕ → Asked → ValueOut
   reading h q = value-of (g .bytes) (left .nodes) (left .stages) h q
 
--- "V_h(s)": the best expected total, over D × W^(n×h)
-abbrev pub meant : Model → ℕ → State → Fraction
-meant M h s = record { num = optimum (process M) h s; den = s .den * power M h }
+-- ---- demand 1, total: each call is given a row of "What a refusal gives", and the row decides
+-- From right to left: whatever the bytes, the horizon, the tables and what is asked, the outcome is a row. From left to right: it is the only one, so that "No refusal is given outside its row", and the order is theirs.
 
--- "reward at s plus the sum, over all settings of the next conditions, of the setting's weight × V_(h−1) of the next state, divided by Wⁿ"
-abbrev pub formula : Model → ℕ → State → ℕ → Fraction
-formula M h s a = plus (record { num = worth-at (env s []) (action-at M a .reward); den = s .den })
-    (divided (weighed (weight (M .weights) (map (chance-at (env s [])) (action-at M a .chances))) (λ r. meant M h (moved s (action-at M a .levels) r)) (settings (M .conditions)))
-    ((M .weights) ^ (M .conditions)))
+-- the model's own numbers, 1 to 8
+abbrev pub VerdictRows : Type 0
+VerdictRows = (B : List ℕ) (v : Verdict) → VerdictRow B v ↔ (verdict B ≡ v)
 
--- "V₀ is 0. V_h(s) is the largest over the actions of": none is larger, and one is equal
-abbrev pub Formula : Type 0
-Formula = (M : Model) (s : State) → (meant M 0 s .num ≡ pos 0) × ((h : ℕ)
-    → ((a : ℕ) → Action (process M) a → AtMost (formula M h s a) (meant M (suc h) s)) × ((a : ℕ) × (Action (process M) a × Equal (formula M h s a) (meant M (suc h) s))))
+-- solve
+abbrev pub SolveRows : Type 0
+SolveRows = (B : List ℕ) (H : ℕ) (nodes : List ℤ) (stages work : List ℕ) (o : SolveOut) → SolveRow B H nodes stages work o ↔ (solve B H nodes stages work ≡ o)
 
--- "all weights of a state sum to Wⁿ", where each chance is at most W
-abbrev pub WeightsSum : Type 0
-WeightsSum = (W : ℕ) (ws : List ℕ) → ((w : ℕ) → List·Memᴰ w ws → w ≤ W) → mean (weight W ws) (λ _. pos 1) (settings (length ws)) ≡ pos (W ^ length ws)
+-- value
+abbrev pub ValueRows : Type 0
+ValueRows = (B : List ℕ) (nodes : List ℤ) (stages : List ℕ) (steps : ℕ) (q : Asked) (o : ValueOut) → ValueRow B nodes stages steps q o ↔ (value-of B nodes stages steps q ≡ o)
+
+-- plain working
+abbrev pub PlainRows : Type 0
+PlainRows = (B : List ℕ) (steps : ℕ) (q : Asked) (o : ValueOut) → PlainRow B steps q o ↔ (plain-of B steps q ≡ o)
+
+-- an action's name: "the refusal's number is had by a call of its own"
+abbrev pub NameRows : Type 0
+NameRows = (B : List ℕ) (a : ℕ) (v : Verdict) → NameRow B a v ↔ (name-refusal B a ≡ v)
+
+-- the part of the model that a name is
+abbrev pub NamePartRows : Type 0
+NamePartRows = (B : List ℕ) (a : ℕ) (p : Part) → NamePartRow B a p ↔ (name-part B a ≡ p)
+
+-- listing
+abbrev pub ListingRows : Type 0
+ListingRows = (B : List ℕ) (H : ℕ) (nodes : List ℤ) (stages buffer : List ℕ) (at : ℕ) (o : ListingOut)
+    → ListingRow B H nodes stages buffer at o ↔ (listing B H nodes stages buffer at ≡ o)
+
+-- ---- demands 2 and 3
 
 -- Demand 2, exact: the value read is the best expected total, times D × W^(n×h), and the action the lowest that reaches it.
 abbrev pub Exact : Type 0
@@ -92,67 +109,61 @@ Optimal = (g : Solving) (h : ℕ) → 1 ≤ h → h ≤ g .horizon → (q : Aske
     → ((number (reading g h q .numerator) ≡ expected (site g) π h (start g q t)) ↔ Sound (site g) π h (start g q t))
     × ((Sound (site g) π h (start g q t) → ⊥) → expected (site g) π h (start g q t) <ℤ number (reading g h q .numerator))
 
--- "It answers with the same words and action as the tables, wherever both answer."
-abbrev pub PlainAgrees : Type 0
-PlainAgrees = (g : Solving) (h : ℕ) → 1 ≤ h → h ≤ g .horizon → (q : Asked)
-    → reading g h q .number ≡ 0 → plain-of (g .bytes) h q .number ≡ 0 → plain-of (g .bytes) h q ≡ reading g h q
+-- ---- "The value that is meant"
 
--- "20/2 and 10/1 may give different numerators, never different values": one mask and the same fractions
-abbrev pub SameValue : Type 0
-SameValue = (g : Solving) (h : ℕ) → 1 ≤ h → h ≤ g .horizon → (q r : Asked) → Accepted g q → Accepted g r
-    → q .mask ≡ r .mask → scaleL (r .den) (q .nums) ≡ scaleL (q .den) (r .nums)
-    → (number (reading g h q .numerator) *ℤ (r .den) ≡ number (reading g h r .numerator) *ℤ (q .den)) × (reading g h q .action ≡ reading g h r .action)
+-- "weight total W (1 to 100)"
+module _ (M : Model) (W>0 : 1 ≤ M .weights) where
+  -- "V_h(s)": the best expected total, over D × W^(n×h)
+  abbrev pub meant : ℕ → State → Fraction
+  meant h s = record { num = optimum (process M) h s; den = s .den * power M h; den>0 = mul-pos (s .D>0) (one-le-pow ((M .conditions) * h) (M .weights) W>0) }
 
--- Demand 1, total: whatever the bytes, the horizon, the tables and what is asked, an outcome is one row of "What a refusal gives".
+  -- "reward at s plus the sum, over all settings of the next conditions, of the setting's weight × V_(h−1) of the next state, divided by Wⁿ"
+  abbrev pub formula : ℕ → State → ℕ → Fraction
+  formula h s a = plus
+      (record { num = worth-at (env s []) (action-at M a .reward); den = s .den; den>0 = s .D>0 })
+      (divided
+      (weighed (weight (M .weights) (map (chance-at (env s [])) (action-at M a .chances))) (λ r. meant h (moved s (action-at M a .levels) r)) (settings (M .conditions)))
+      ((M .weights) ^ (M .conditions))
+      (one-le-pow (M .conditions) (M .weights) W>0))
 
--- the model's own numbers, 1 to 8
-abbrev pub VerdictRows : Type 0
-VerdictRows = (B : List ℕ) → VerdictRow B (verdict B)
+-- "V₀ is 0. V_h(s) is the largest over the actions of" it: none is larger, and one is equal
+abbrev pub Formula : Type 0
+Formula = (M : Model) (w : 1 ≤ M .weights) (s : State) → (meant M w 0 s .num ≡ pos 0) × ((h : ℕ)
+    → ((a : ℕ) → Action (process M) a → AtMost (formula M w h s a) (meant M w (suc h) s))
+    × ((a : ℕ) × (Action (process M) a × Equal (formula M w h s a) (meant M w (suc h) s))))
 
--- solve: "tables, stages, work" are as the row says
-abbrev pub SolveRows : Type 0
-SolveRows = (B : List ℕ) (H : ℕ) (nodes : List ℤ) (stages work : List ℕ) → SolveRow B H nodes stages work (solve B H nodes stages work)
+-- "The leaves of a chance are constants 0 to W": of an accepted model, at every state
+abbrev pub ChancesWithin : Type 0
+ChancesWithin = (B : List ℕ) → verdict B .number ≡ 0 → (a : ℕ) → Action (process (model B)) a → (C : Tree) → List·Memᴰ C (action-at (model B) a .chances)
+    → (s : State) → (worth-at (env s []) C ≡ pos (chance-at (env s []) C * s .den)) × (chance-at (env s []) C ≤ model B .weights)
 
--- value
-abbrev pub ValueRows : Type 0
-ValueRows = (B : List ℕ) (nodes : List ℤ) (stages : List ℕ) (steps : ℕ) (q : Asked) → ValueRow B nodes stages steps q (value-of B nodes stages steps q)
+-- "all weights of a state sum to Wⁿ"
+abbrev pub WeightsSum : Type 0
+WeightsSum = (B : List ℕ) → verdict B .number ≡ 0 → (a : ℕ) → Action (process (model B)) a
+    → (s : State) → mean ((process (model B) .weight) a s) (λ _. pos 1) (process (model B) .settings) ≡ pos ((model B .weights) ^ (model B .conditions))
 
--- plain working
-abbrev pub PlainRows : Type 0
-PlainRows = (B : List ℕ) (steps : ℕ) (q : Asked) → PlainRow B steps q (plain-of B steps q)
+-- ---- "Diagrams" and "Tables after solving"
 
--- an action's name: "the refusal's number is had by a call of its own"
-abbrev pub NameRows : Type 0
-NameRows = (B : List ℕ) (a : ℕ) → NameRow B a (name-refusal B a)
+-- "Down a path the order rises strictly .. A node whose branches are equal is that branch": of each diagram that is loaded, and of each stage
+abbrev pub LoadedOrdered : Type 0
+LoadedOrdered = (B : List ℕ) → ModelOrdered (model B)
 
--- listing
-abbrev pub ListingRows : Type 0
-ListingRows = (B : List ℕ) (H : ℕ) (nodes : List ℤ) (stages buffer : List ℕ) (at : ℕ) → ListingRow B H nodes stages buffer at (listing B H nodes stages buffer at)
+abbrev pub StagesOrdered : Type 0
+StagesOrdered = (N : ℕ) (B : List ℕ) (H : ℕ) (S : List Tree) (peak : ℕ) → solve-in N B H ≡ solved S peak → AllOrdered S
 
--- the part of the model that a name is
-abbrev pub NameParts : Type 0
-NameParts = (B : List ℕ) (a : ℕ) → NamePartRow B a (name-part B a)
+-- .. and, with "Equal nodes are one node", of the words that solve leaves
+abbrev pub TablesReduced : Type 0
+TablesReduced = (g : Solving) → Reduced (left g .nodes) (greatest-root (g .horizon) (left g .stages))
 
--- "No refusal is given outside its row", and the order of rows: what a call comes to is decided by its row. An outcome is one of the rows exactly where the call comes to it, so that two rows of one call are equal.
+-- "a side has each node of that next-step condition replaced by its high (yes) or low branch": of an ordered diagram, that branch as it stands
+abbrev pub SideLiteral : Type 0
+SideLiteral = (b : Bool) (k : ℕ) (F : Tree) → Ordered F → result (side b k F) ≡ result (replaced b k F)
 
-abbrev pub VerdictRowOne : Type 0
-VerdictRowOne = (B : List ℕ) (v : Verdict) → VerdictRow B v ↔ (verdict B ≡ v)
+-- "The table holds the nodes of stages 1 to H and no others, numbered from 1: stage by stage": the greatest stage root is the number of nodes
+abbrev pub TablesHold : Type 0
+TablesHold = (N : ℕ) (B : List ℕ) (H : ℕ) (S : List Tree) (peak : ℕ) → solve-in N B H ≡ solved S peak → greatest-root H (solved-stages S) ≡ length (table-of S)
 
-abbrev pub SolveRowOne : Type 0
-SolveRowOne = (B : List ℕ) (H : ℕ) (nodes : List ℤ) (stages work : List ℕ) (o : SolveOut) → SolveRow B H nodes stages work o ↔ (solve B H nodes stages work ≡ o)
-
-abbrev pub ValueRowOne : Type 0
-ValueRowOne = (B : List ℕ) (nodes : List ℤ) (stages : List ℕ) (steps : ℕ) (q : Asked) (o : ValueOut) → ValueRow B nodes stages steps q o ↔ (value-of B nodes stages steps q ≡ o)
-
-abbrev pub PlainRowOne : Type 0
-PlainRowOne = (B : List ℕ) (steps : ℕ) (q : Asked) (o : ValueOut) → PlainRow B steps q o ↔ (plain-of B steps q ≡ o)
-
-abbrev pub NameRowOne : Type 0
-NameRowOne = (B : List ℕ) (a : ℕ) (v : Verdict) → NameRow B a v ↔ (name-refusal B a ≡ v)
-
-abbrev pub ListingRowOne : Type 0
-ListingRowOne = (B : List ℕ) (H : ℕ) (nodes : List ℤ) (stages buffer : List ℕ) (at : ℕ) (o : ListingOut)
-    → ListingRow B H nodes stages buffer at o ↔ (listing B H nodes stages buffer at ≡ o)
+-- ---- 11, 12 and the peak
 
 -- 11 or 12 with its place is given exactly where it is the first met, while loading or in an operation of the stages
 abbrev pub FirstMet : Type 0
@@ -174,17 +185,15 @@ abbrev pub PeakDecides : Type 0
 PeakDecides = (N : ℕ) (B : List ℕ) (H : ℕ) (S : List Tree) (peak : ℕ) → verdict B .number ≡ 0 → solve-in N B H ≡ solved S peak
     → (peak ≤ N) × ((K : ℕ) → peak ≤ K → solve-in K B H ≡ solved S peak) × ((K : ℕ) → K < peak → (p : ℕ) × (solve-in K B H ≡ refused 12 p))
 
--- "The table holds the nodes of stages 1 to H and no others, numbered from 1: stage by stage": the greatest stage root is the number of nodes
-abbrev pub TablesHold : Type 0
-TablesHold = (N : ℕ) (B : List ℕ) (H : ℕ) (S : List Tree) (peak : ℕ) → solve-in N B H ≡ solved S peak → greatest-root H (solved-stages S) ≡ length (table-of S)
+-- ---- "States and values"
 
--- "Down a path the order rises strictly .. A node whose branches are equal is that branch": of each diagram that is loaded, and of each stage
-abbrev pub LoadedOrdered : Type 0
-LoadedOrdered = (B : List ℕ) → ModelOrdered (model B)
+-- "20/2 and 10/1 may give different numerators, never different values": one mask and the same fractions
+abbrev pub SameValue : Type 0
+SameValue = (g : Solving) (h : ℕ) → 1 ≤ h → h ≤ g .horizon → (q r : Asked) → Accepted g q → Accepted g r
+    → q .mask ≡ r .mask → scaleL (r .den) (q .nums) ≡ scaleL (q .den) (r .nums)
+    → (number (reading g h q .numerator) *ℤ (r .den) ≡ number (reading g h r .numerator) *ℤ (q .den)) × (reading g h q .action ≡ reading g h r .action)
 
-abbrev pub StagesOrdered : Type 0
-StagesOrdered = (N : ℕ) (B : List ℕ) (H : ℕ) (S : List Tree) (peak : ℕ) → solve-in N B H ≡ solved S peak → AllOrdered S
-
--- of those, a side is 01's: the branch that is picked stays as it is
-abbrev pub SideLiteral : Type 0
-SideLiteral = (b : Bool) (k : ℕ) (F : Tree) → Ordered F → result (side b k F) ≡ result (replaced b k F)
+-- plain working: "It answers with the same words and action as the tables, wherever both answer."
+abbrev pub PlainAgrees : Type 0
+PlainAgrees = (g : Solving) (h : ℕ) → 1 ≤ h → h ≤ g .horizon → (q : Asked)
+    → reading g h q .number ≡ 0 → plain-of (g .bytes) h q .number ≡ 0 → plain-of (g .bytes) h q ≡ reading g h q

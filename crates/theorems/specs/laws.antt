@@ -2,6 +2,7 @@
 
 -- the value that is meant, as 01 writes it
 pub mod Weights
+pub mod Chances
 pub mod Formula
 -- 11, 12 and the peak
 pub mod Peak

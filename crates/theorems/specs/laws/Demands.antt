@@ -1,12 +1,12 @@
 -- The demands, proved: a term of each type of Demands.
 use mathlib.Core.Path.{_≡_, refl, sym, ap, ap₂, _∙_, subst}
-use mathlib.Core.Logic.{⊎-elim}
-use mathlib.Core.Bool.{Bool}
+use mathlib.Core.Logic.{_↔_, ⊎-elim}
+use mathlib.Core.Bool.{Bool, false}
 use mathlib.Core.List.{List, []}
-use Prim.Native.Nat.{ℕ, _-_, _≤_, _<_}
+use Prim.Native.Nat.{ℕ, suc, _-_, _≤_, _<_}
 use native.Mathlib.Nat.{eq-or-lt-of-le}
 use native.Mathlib.Omega.{arith}
-use lib.Dec.{leb→le, lt→ltb}
+use lib.Dec.{T, leb→le, lt→ltb}
 use lib.IntN.{ℤ, pos, negsuc}
 use lib.ListN.{length, getD}
 use lib.Signed.{_≤ℤ_, _<ℤ_}
@@ -20,13 +20,17 @@ use Rattle.theory.specs.Process.{optimum, expected}
 use Rattle.theory.specs.Meaning.{env, worth-at, at}
 use Rattle.theory.specs.Rules.{zero-leaf}
 use Rattle.theory.specs.Stage.{all-stages}
-use Rattle.theory.specs.Verdict.{Verdict}
+use Rattle.theory.specs.Valid.{all, all-nodes, good-test, stage-leaf}
+use Rattle.theory.specs.Verdict.{Verdict, verdict}
 use Rattle.theory.specs.Load.{model}
 use Rattle.theory.specs.Solve.{room, solve-in, SolveOut, solve-left, early, solve, solved-nodes, solved-stages}
 use Rattle.theory.specs.Value.{value-of}
-use Rattle.theory.specs.Listing.{greatest-root}
-use Rattle.theorems.specs.Demands.{Solving, left, start, site, reading, Exact, Optimal, PlainAgrees, SameValue, FirstMet, SolvedExactly, CountsDistinct, PeakDecides, VerdictRows, SolveRows, ValueRows, PlainRows, NameRows, NameParts, ListingRows, VerdictRowOne, SolveRowOne, ValueRowOne, PlainRowOne, NameRowOne, ListingRowOne, Formula, WeightsSum, LoadedOrdered, StagesOrdered, SideLiteral, TablesHold}
-use Rattle.theory.specs.Rows.{VerdictRow, SolveRow, ValueRow, PlainRow, NameRow, ListingRow}
+use Rattle.theory.specs.Plain.{plain-of}
+use Rattle.theory.specs.Name.{name-refusal, name-part}
+use Rattle.theory.specs.Listing.{greatest-root, listing}
+use Rattle.theorems.specs.Demands.{Solving, left, start, site, reading, Exact, Optimal, PlainAgrees, SameValue, FirstMet, SolvedExactly, CountsDistinct, PeakDecides, VerdictRows, SolveRows, ValueRows, PlainRows, NameRows, NamePartRows, ListingRows, Formula, ChancesWithin, WeightsSum, LoadedOrdered, StagesOrdered, TablesReduced, SideLiteral, TablesHold}
+use Rattle.theorems.specs.Reduced.{Reduced}
+use Rattle.theory.specs.Rows.{VerdictRow, SolveRow, ValueRow, PlainRow, NameRow, NamePartRow, ListingRow}
 use Rattle.theory.specs.laws.Loading.{accepted-valid, accepted-site}
 use Rattle.theory.specs.laws.Good.{stages-good}
 use Rattle.theory.specs.laws.Stages.{stages-at, stage-of}
@@ -35,9 +39,10 @@ use Rattle.theory.specs.laws.Rows.{Passed, by-early, early-some, passed-not, so
 use Rattle.theory.specs.laws.Rows as Rows
 use Rattle.theory.specs.laws.Name as Name
 use Rattle.theorems.specs.laws.Formula as Formulas
-use Rattle.theorems.specs.laws.Weights as Weights
+use Rattle.theorems.specs.laws.Chances as Chances
 use Rattle.theorems.specs.laws.Ordered as Ordered
 use Rattle.theorems.specs.laws.OrderedStages as OrderedStages
+use Rattle.theorems.specs.laws.Reduced.{stages-reduced}
 use Rattle.theory.specs.laws.Process.{policy-theorem}
 use Rattle.theory.specs.laws.Plain.{plain-of-exact}
 use Rattle.theorems.specs.laws.SameValue as SameValue
@@ -82,6 +87,13 @@ pub early-within : (B : List ℕ) (H size h : ℕ) → Passed B H size → 1 ≤
 early-within B H size h p a b = by-early B h steps-most (λ v _. v .number ≡ 0) (λ _. refl)
     (λ k q r. absurd (passed-not (record { eight = refl; least = a; most = omega (arith, p .most); bytes = p .bytes; own = p .own }) r))
 
+-- every node of its stages is good, and there are as many as steps
+all-good : (g : Solving) (w : Went g (left g))
+    → T (all (all-nodes (good-test (model (g .bytes) .conditions) false) (stage-leaf (suc (length (model (g .bytes) .others))))) (w .trees)) × (length (w .trees) ≡ g .horizon)
+all-good g w =
+    let r = solve-runs (room (length (g .nodes)) (length (g .work))) (g .bytes) (g .horizon) (w .trees) (w .peak) (w .solves) in
+    stages-good (model (g .bytes)) (accepted-valid (g .bytes) (w .before .own)) _ (r .0) (g .horizon) (w .trees) (w .peak) (r .1)
+
 -- ---- the demands
 
 apart : (a b : ℕ) → a ≤ b → (a ≡ b → ⊥) → a < b
@@ -102,7 +114,7 @@ exact g h a b q t =
     let v = accepted-valid B (w .before .own) in
     let site = accepted-site B (w .before .own) .1 in
     let r = solve-runs (room (length (g .nodes)) (length (g .work))) B (g .horizon) (w .trees) (w .peak) (w .solves) in
-    let d = stages-good (model B) v _ (r .0) (g .horizon) (w .trees) (w .peak) (r .1) in
+    let d = all-good g w in
     let is : final (all-stages (model B) (g .horizon)) ≡ w .trees = sym (run-all-final _ (r .0) (all-stages (model B) (g .horizon)) (w .trees) (w .peak) (r .1)) in
     let S = stages-at (model B) v (g .horizon) h a b in
     let F = getD (w .trees) (h - 1) zero-leaf in
@@ -148,50 +160,41 @@ counts-distinct = Counting.counts-distinct
 pub peak-decides : PeakDecides
 peak-decides = Peak.peak-decides
 
+-- an outcome that is a row, and that each row is
+decides : {A : Type 0} (Row : A → Type 0) (a : A) → Row a → ((o : A) → Row o → a ≡ o) → (o : A) → Row o ↔ (a ≡ o)
+decides Row a r f o = (f o, λ e. subst Row e r)
+
 pub verdict-rows : VerdictRows
-verdict-rows = Rows.verdict-row
+verdict-rows B = decides (VerdictRow B) (verdict B) (Rows.verdict-row B) (λ _ r. Rows.verdict-is B r)
 
 pub solve-rows : SolveRows
-solve-rows = Rows.solve-row
+solve-rows B H nodes stages work = decides (SolveRow B H nodes stages work) (solve B H nodes stages work) (Rows.solve-row B H nodes stages work) (λ _ r. Rows.solve-is B H nodes stages work r)
 
 pub value-rows : ValueRows
-value-rows = Rows.value-row
+value-rows B nodes stages steps q =
+    decides (ValueRow B nodes stages steps q) (value-of B nodes stages steps q) (Rows.value-row B nodes stages steps q) (λ _ r. Rows.value-is B nodes stages steps q r)
 
 pub plain-rows : PlainRows
-plain-rows = Rows.plain-row
+plain-rows B steps q = decides (PlainRow B steps q) (plain-of B steps q) (Rows.plain-row B steps q) (λ _ r. Rows.plain-is B steps q r)
 
 pub name-rows : NameRows
-name-rows = Rows.name-row
+name-rows B a = decides (NameRow B a) (name-refusal B a) (Rows.name-row B a) (λ _ r. Rows.name-is B a r)
+
+pub name-part-rows : NamePartRows
+name-part-rows B a = decides (NamePartRow B a) (name-part B a) (Name.name-part-row B a) (λ _ r. Name.name-part-is B a r)
 
 pub listing-rows : ListingRows
-listing-rows = Rows.listing-row
-
-pub name-parts : NameParts
-name-parts = Name.name-part-row
-
-pub verdict-row-one : VerdictRowOne
-verdict-row-one B v = (λ r. Rows.verdict-is B r, λ e. subst (VerdictRow B) e (Rows.verdict-row B))
-
-pub solve-row-one : SolveRowOne
-solve-row-one B H nodes stages work o = (λ r. Rows.solve-is B H nodes stages work r, λ e. subst (SolveRow B H nodes stages work) e (Rows.solve-row B H nodes stages work))
-
-pub value-row-one : ValueRowOne
-value-row-one B nodes stages steps q o = (λ r. Rows.value-is B nodes stages steps q r, λ e. subst (ValueRow B nodes stages steps q) e (Rows.value-row B nodes stages steps q))
-
-pub plain-row-one : PlainRowOne
-plain-row-one B steps q o = (λ r. Rows.plain-is B steps q r, λ e. subst (PlainRow B steps q) e (Rows.plain-row B steps q))
-
-pub name-row-one : NameRowOne
-name-row-one B a v = (λ r. Rows.name-is B a r, λ e. subst (NameRow B a) e (Rows.name-row B a))
-
-pub listing-row-one : ListingRowOne
-listing-row-one B H nodes stages buffer at o = (λ r. Rows.listing-is B H nodes stages buffer at r, λ e. subst (ListingRow B H nodes stages buffer at) e (Rows.listing-row B H nodes stages buffer at))
+listing-rows B H nodes stages buffer at = decides (ListingRow B H nodes stages buffer at) (listing B H nodes stages buffer at)
+    (Rows.listing-row B H nodes stages buffer at) (λ _ r. Rows.listing-is B H nodes stages buffer at r)
 
 pub formula-holds : Formula
 formula-holds = Formulas.formula-holds
 
+pub chances-within : ChancesWithin
+chances-within = Chances.chances-within
+
 pub weights-sum : WeightsSum
-weights-sum = Weights.weights-sum
+weights-sum = Chances.state-weights-sum
 
 pub loaded-ordered : LoadedOrdered
 loaded-ordered = OrderedStages.loaded-ordered
@@ -204,3 +207,11 @@ side-literal = Ordered.side-literal
 
 pub tables-hold : TablesHold
 tables-hold N B H S peak e = ap (λ (n : ℕ). greatest-root n (solved-stages S)) (sym (Rows.solved-length N B H S peak e)) ∙ root-last S
+
+pub tables-reduced : TablesReduced
+tables-reduced g =
+    let w = went g in
+    let size = length (g .nodes) in
+    subst (λ (l : List ℤ). Reduced l (greatest-root (g .horizon) (left g .stages))) (sym (w .nodes-left))
+    (subst (Reduced (solved-nodes size (w .trees))) (sym (ap (greatest-root (g .horizon)) (w .stages-left) ∙ tables-hold _ (g .bytes) (g .horizon) (w .trees) (w .peak) (w .solves)))
+    (stages-reduced _ _ size (w .trees) (stages-ordered _ (g .bytes) (g .horizon) (w .trees) (w .peak) (w .solves)) (all-good g w .0)))

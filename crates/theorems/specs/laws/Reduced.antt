@@ -1,13 +1,13 @@
 -- The words of a solved table are ordered and reduced: each row is a node of the stages, and those are.
-use mathlib.Core.Path.{_≡_, refl, sym, ap, ap₂, _∙_, subst}
+use mathlib.Core.Path.{_≡_, refl, sym, ap, _∙_, subst}
 use mathlib.Core.Logic.{_⊎_, inl, inr, ⊎-elim}
 use mathlib.Core.Bool.{true, false}
 use mathlib.Core.List.{List, [], _∷_, _++_, List·Memᴰ, List·Memᴰ·head, List·Memᴰ·tail, List·Memᴰ·cases-cons, List·Memᴰ·not-nil}
-use Prim.Native.Nat.{ℕ, suc, _+_, _-_, _*_, _≤_, _<_, Ordering, Ordering·lt, Ordering·eq, Ordering·gt}
+use Prim.Native.Nat.{ℕ, suc, _+_, _-_, _*_, _<_, Ordering, Ordering·lt, Ordering·eq, Ordering·gt}
 use native.Mathlib.Omega.{arith}
 use lib.Dec.{T, lt→ltb}
 use lib.IntN.{ℤ, pos, negsuc, natAbs}
-use lib.ListN.{length, getD, take, drop, replicate, length-append}
+use lib.ListN.{length, getD, take, drop, replicate}
 use lib.Seq.{take-at, take-append-le, getD-take, getD-drop, ext-getD}
 use lib.Signed.{_<ℤ_}
 use Rattle.whole.specs.Cases.{if, by-test, clash}
@@ -15,7 +15,7 @@ use Rattle.theory.specs.Widths.{levels-most, node-words}
 use Rattle.theory.specs.Diagram.{Linear, Test, now, later, linear, Leaf, Tree, leaf, branch, then, cmpZ, cmpList, cmpLinear, cmp}
 use Rattle.theory.specs.Computation.{member, enter, enter-all}
 use Rattle.theory.specs.Rules.{zero-leaf}
-use Rattle.theory.specs.Valid.{all, all-nodes, wide, good-test, stage-leaf}
+use Rattle.theory.specs.Valid.{all, all-nodes, good-test, stage-leaf}
 use Rattle.theory.specs.Solve.{number-of, padded, test-words, row, rows, table-of, solved-nodes}
 use Rattle.theory.specs.Value.{node-word, node-linear, high-of, low-of}
 use Rattle.theory.specs.Rows.{Range}
@@ -27,7 +27,7 @@ use Rattle.theory.specs.laws.Table.{number-below, number-above, number-entry, T
 use Rattle.theory.specs.laws.Words.{Stage-good, padded-full, test-length, row-length, Shows, laid, node-has, leaf-shows, condition-shows, test-shows}
 use Rattle.theorems.specs.Ordered.{is-lt, before, Above, Ordered, AllOrdered}
 use Rattle.theorems.specs.Reduced.{Smaller, test-part, Inner, Reduced}
-use Rattle.theorems.specs.laws.Order.{lt, by-cases, gt-lt, lt-of}
+use Rattle.theorems.specs.laws.Order.{lt, gt-lt, lt-of}
 
 -- ---- the order of tests, by their words
 
@@ -61,8 +61,11 @@ unfolding good-test before cmp test-words padded cmpLinear
 words-rise n (now i) (now j) a b e = inr (refl, inl (record { lt = lt→ltb i j (lt-of i j (lt-is _ e)) }))
 words-rise n (now i) (linear q) a b e = inl (record { lt = tt })
 words-rise n (linear p) (now j) a b e = absurd e
-words-rise n (linear p) (linear q) a b e = inr (refl, rw (padded-full levels-most (p .coeffs) (wide-long p a), padded-full levels-most (q .coeffs) (wide-long q b))
-    (numbers-rise (p .coeffs) (q .coeffs) (p .const) (q .const) (wide-long p a ∙ sym (wide-long q b)) (lt-is _ e)))
+words-rise n (linear p) (linear q) a b e = inr (
+  refl,
+  rw (padded-full levels-most (p .coeffs) (wide-long p a), padded-full levels-most (q .coeffs) (wide-long q b))
+      (numbers-rise (p .coeffs) (q .coeffs) (p .const) (q .const) (wide-long p a ∙ sym (wide-long q b)) (lt-is _ e)),
+)
 words-rise n (later i) u a b e = absurd a
 words-rise n (now i) (later j) a b e = absurd b
 words-rise n (linear p) (later j) a b e = absurd b
