@@ -6,10 +6,10 @@ use lib.ListN.{length, take, drop}
 use Rattle.whole.specs.Cases.{if}
 use Rattle.theory.specs.Widths.{name-bytes}
 use Rattle.theory.specs.Diagram.{Linear}
-use Rattle.theory.specs.Command.{Command, site, push-leaf, push-condition, push-test, take-reward, take-chance, take-level, name-action, end-model, Read, whole, unknown, short, byte-at, width}
+use Rattle.theory.specs.Command.{Command, site, push-leaf, push-condition, push-test, give, name-action, end-model, Read, whole, unknown, short, byte-at, width}
 use Rattle.command.specs.declared.Linear.{Linear as CodeLinear}
 use Rattle.command.specs.declared.Command.{Command as CodeCommand}
-use Rattle.command.specs.declared.Command.the-variants.{Site, Leaf, Condition, Test, Reward, Chance, Level, Name, End}
+use Rattle.command.specs.declared.Command.the-variants.{Site, Leaf, Condition, Test, Give, Name, End}
 use Rattle.command.specs.declared.Read.{Read as CodeRead}
 use Rattle.command.specs.declared.Read.the-variants.{Whole, Unknown, Short}
 
@@ -22,9 +22,7 @@ command-of B at (Site m n a w) = site m n a w
 command-of B at (Leaf p) = push-leaf (linear-of p)
 command-of B at (Condition k) = push-condition k
 command-of B at (Test p) = push-test (linear-of p)
-command-of B at (Reward a) = take-reward a
-command-of B at (Chance a k) = take-chance a k
-command-of B at (Level a i) = take-level a i
+command-of B at (Give c a i) = give (record { command = c; action = a; index = i })
 command-of B at (Name a) = name-action a (take name-bytes (drop (at + 2) B))
 command-of B at End = end-model
 

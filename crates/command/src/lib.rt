@@ -17,15 +17,14 @@ pub struct Linear {
     pub constant: i64,
 }
 
-// A command with its operands. A name's bytes stay in the model, behind the action.
+// A command with its operands. What is given has its command's byte, the action, and the condition or level (0 where there is none).
+// A name's bytes stay in the model, behind the action.
 pub enum Command {
     Site(u8, u8, u8, u8),
     Leaf(Linear),
     Condition(u8),
     Test(Linear),
-    Reward(u8),
-    Chance(u8, u8),
-    Level(u8, u8),
+    Give(u8, u8, u8),
     Name(u8),
     End,
 }
@@ -127,9 +126,9 @@ fn whole_at(model: &[u8], at: usize, op: u8) -> Command
         0x10 => Command::Leaf(linear_at(model, at + 1)),
         0x11 => Command::Condition(byte_at(model, at + 1)),
         0x12 => Command::Test(linear_at(model, at + 1)),
-        0x20 => Command::Reward(byte_at(model, at + 1)),
-        0x21 => Command::Chance(byte_at(model, at + 1), byte_at(model, at + 2)),
-        0x22 => Command::Level(byte_at(model, at + 1), byte_at(model, at + 2)),
+        0x20 => Command::Give(0x20, byte_at(model, at + 1), 0),
+        0x21 => Command::Give(0x21, byte_at(model, at + 1), byte_at(model, at + 2)),
+        0x22 => Command::Give(0x22, byte_at(model, at + 1), byte_at(model, at + 2)),
         0x30 => Command::Name(byte_at(model, at + 1)),
         _ => Command::End,
     }

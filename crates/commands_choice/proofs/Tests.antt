@@ -23,7 +23,7 @@ use Rattle.table.specs.declared.Node.{Node}
 use Rattle.theory.specs.Widths.{conditions-most}
 use Rattle.theory.specs.Diagram.{Test, now, later, quotL, quotient, divisor, test-of}
 use Rattle.theory.specs.Valid.{all, small-linear, wide}
-use Rattle.theory.specs.Command.{Command, site, push-leaf, push-condition, push-test, take-reward, take-chance, take-level, name-action, end-model, Read, whole, unknown, short, byte-at, command-at, read-at}
+use Rattle.theory.specs.Command.{Command, site, push-leaf, push-condition, push-test, give, name-action, end-model, Read, whole, unknown, short, byte-at, command-at, read-at}
 use Rattle.theory.specs.Load.{condition-test}
 use Rattle.theory.specs.laws.Valid.{wide-small}
 use Rattle.theory.specs.laws.Loading.{linear-wide, by-reading}
@@ -31,7 +31,7 @@ use Rattle.command.proofs.Command.{the-type as command-type}
 use Rattle.command.proofs.Read.{the-type as read-type}
 use Rattle.command.specs.declared.Linear.{Linear as CodeLinear}
 use Rattle.command.specs.declared.Command.{Command as CodeCommand}
-use Rattle.command.specs.declared.Command.the-variants.{Site, Leaf, Condition, Test as TestBy, Reward, Chance, Level, Name, End}
+use Rattle.command.specs.declared.Command.the-variants.{Site, Leaf, Condition, Test as TestBy, Give, Name, End}
 use Rattle.command.specs.declared.Read.{Read as CodeRead}
 use Rattle.command.specs.declared.Read.the-variants.{Whole, Unknown, Short}
 use Rattle.command.specs.Reading.{linear-of, command-of, read-of}
@@ -79,9 +79,7 @@ wide-command (site m n a w) = true
 wide-command (push-leaf p) = wide p
 wide-command (push-condition k) = true
 wide-command (push-test p) = wide p
-wide-command (take-reward a) = true
-wide-command (take-chance a k) = true
-wide-command (take-level a i) = true
+wide-command (give g) = true
 wide-command (name-action a b) = true
 wide-command end-model = true
 
@@ -156,15 +154,13 @@ not-whole B at (Whole c) k = absurd (miss (1 ∷ 2 ∷ []) 0 tt k)
 not-whole B at Unknown k = refl
 not-whole B at Short k = refl
 
-other-test : (B : List ℕ) (at : ℕ) (d : CodeCommand) → OneOf (0 ∷ 1 ∷ 4 ∷ 5 ∷ 6 ∷ 7 ∷ 8 ∷ []) (tagOf command-type d) → test-read (whole (command-of B at d)) ≡ condition-test 1
+other-test : (B : List ℕ) (at : ℕ) (d : CodeCommand) → OneOf (0 ∷ 1 ∷ 4 ∷ 5 ∷ 6 ∷ []) (tagOf command-type d) → test-read (whole (command-of B at d)) ≡ condition-test 1
 unfolding test-read test-in command-of
 other-test B at (Site m n a w) k = refl
 other-test B at (Leaf p) k = refl
-other-test B at (Condition i) k = absurd (miss (0 ∷ 1 ∷ 4 ∷ 5 ∷ 6 ∷ 7 ∷ 8 ∷ []) 2 tt k)
-other-test B at (TestBy p) k = absurd (miss (0 ∷ 1 ∷ 4 ∷ 5 ∷ 6 ∷ 7 ∷ 8 ∷ []) 3 tt k)
-other-test B at (Reward a) k = refl
-other-test B at (Chance a i) k = refl
-other-test B at (Level a i) k = refl
+other-test B at (Condition i) k = absurd (miss (0 ∷ 1 ∷ 4 ∷ 5 ∷ 6 ∷ []) 2 tt k)
+other-test B at (TestBy p) k = absurd (miss (0 ∷ 1 ∷ 4 ∷ 5 ∷ 6 ∷ []) 3 tt k)
+other-test B at (Give x a j) k = refl
 other-test B at (Name a) k = refl
 other-test B at End k = refl
 
@@ -179,7 +175,7 @@ module _ (B : List ℕ) (at : ℕ) (r : CodeRead) (e : read-of B at r ≡ read-a
 
   module _ {c : CodeCommand} (f : r ≡ Whole c) where
     -- a command of no test
-    pub other-stood : OneOf (0 ∷ 1 ∷ 4 ∷ 5 ∷ 6 ∷ 7 ∷ 8 ∷ []) (tagOf command-type c) → {x : Node} → Stood (condition-test 1) x → Stood (testAt B at) x
+    pub other-stood : OneOf (0 ∷ 1 ∷ 4 ∷ 5 ∷ 6 ∷ []) (tagOf command-type c) → {x : Node} → Stood (condition-test 1) x → Stood (testAt B at) x
     other-stood k {x} s = subst (λ (t : Test). Stood t x) (sym (other-test B at c k) ∙ ap test-read (whole-is f)) s
 
     -- a condition

@@ -7,7 +7,7 @@ use Rattle.table.specs.declared.Node.{Node}
 use Rattle.theory.specs.Widths.{conditions-most}
 use Rattle.theory.specs.Diagram.{Test, test-of}
 use Rattle.theory.specs.Rules.{choose}
-use Rattle.theory.specs.Command.{Command, site, push-leaf, push-condition, push-test, take-reward, take-chance, take-level, name-action, end-model, Read, whole, unknown, short, read-at}
+use Rattle.theory.specs.Command.{Command, site, push-leaf, push-condition, push-test, give, name-action, end-model, Read, whole, unknown, short, read-at}
 use Rattle.theory.specs.Load.{condition-test}
 use Rattle.command.specs.declared.Linear.{Linear as CodeLinear}
 use Rattle.diagrams.specs.Nodes.{testOf, treeAt, Proper}
@@ -28,9 +28,7 @@ condition-in (site m n a w) = 1
 condition-in (push-leaf p) = 1
 condition-in (push-condition k) = k
 condition-in (push-test p) = 1
-condition-in (take-reward a) = 1
-condition-in (take-chance a k) = 1
-condition-in (take-level a i) = 1
+condition-in (give g) = 1
 condition-in (name-action a b) = 1
 condition-in end-model = 1
 
@@ -45,9 +43,7 @@ test-in (site m n a w) = condition-test 1
 test-in (push-leaf p) = condition-test 1
 test-in (push-condition k) = condition-test k
 test-in (push-test p) = test-of p
-test-in (take-reward a) = condition-test 1
-test-in (take-chance a k) = condition-test 1
-test-in (take-level a i) = condition-test 1
+test-in (give g) = condition-test 1
 test-in (name-action a b) = condition-test 1
 test-in end-model = condition-test 1
 

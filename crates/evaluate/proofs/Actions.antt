@@ -15,7 +15,7 @@ use Rattle.theory.specs.Valid.{good-test, good-leaf, weight-leaf}
 use Rattle.theory.specs.Verdict.{chance-slot, from-to, verdict}
 use Rattle.theory.specs.Load.{action-of, find-slot, model, model-of, site-at}
 use Rattle.theory.specs.laws.Expectation.{at-good}
-use Rattle.theory.specs.laws.Loading.{fits, accepted, loaded-entries, model-loaded}
+use Rattle.theory.specs.laws.Loading.{fits, leaf-as, accepted, loaded-entries, model-loaded}
 
 nth-from : (φ : ℕ → Action) (b k j : ℕ) → j ≤ k → nth-action (φ b) (map φ (from-to (suc b) k)) j ≡ φ (b + j)
 unfolding nth-action from-to
@@ -38,7 +38,7 @@ up-within (negsuc n) W t = omega arith
 -- a chance of an accepted model
 pub chance-within : (B : List ℕ) → verdict B .number ≡ 0 → (a k : ℕ) → 1 ≤ a → a ≤ site-at B .actions → 1 ≤ k → k ≤ site-at B .conditions → (e : Env)
     → chance-at e (find-slot (chance-slot a k) (loaded-entries B)) ≤ site-at B .weights
-unfolding fits weight-leaf chance-at
+unfolding fits leaf-as weight-leaf chance-at
 chance-within B v a k u l h n e =
     let S = site-at B in
     let F : Tree = find-slot (chance-slot a k) (loaded-entries B) in

@@ -16,8 +16,8 @@ use Rattle.theory.specs.Computation.{ret, bind, make, result}
 use Rattle.theory.specs.Rules.{choose}
 use Rattle.theory.specs.Meaning.{State, Env, env, at}
 use Rattle.theory.specs.Valid.{all, among, wide}
-use Rattle.theory.specs.Command.{Command, site, push-leaf, push-condition, push-test, take-reward, take-chance, take-level, name-action, end-model, Read, whole, Placed, byte-at, width, command-at, read-at, goes-on, readings-from, readings}
-use Rattle.theory.specs.Verdict.{Site, site-of, Facts, Slot, Progress, reward-slot, chance-slot, level-slot, name-slot, same-slot, has-slot, or, Rule, rule, first-broken, next-condition, joined, wanted-by, wanted, from-to, site-rules, first-rules, later-rules, rules-of, after, Verdict, refusal, ended, judged, at-start, verdict}
+use Rattle.theory.specs.Command.{Command, site, push-leaf, push-condition, push-test, name-action, end-model, Read, whole, Placed, byte-at, width, command-at, read-at, goes-on, readings-from, readings, give, Slot}
+use Rattle.theory.specs.Verdict.{Site, site-of, Facts, Progress, chance-slot, level-slot, name-slot, same-slot, has-slot, or, Rule, rule, first-broken, next-condition, joined, wanted-by, wanted, from-to, site-rules, first-rules, later-rules, rules-of, after, Verdict, refusal, ended, judged, at-start, verdict}
 use Rattle.theory.specs.Load.{Entry, Loaded, condition-test, load-choice, load-choice-with, load-entry, load-one, load-one-with, load-on, load-on-with, find-slot, site-at}
 use Rattle.theory.specs.laws.Comps.{result-bind}
 use Rattle.theory.specs.laws.Loading.{by-reading, behind, loaded-entries, accepted, linear-wide}
@@ -33,9 +33,7 @@ Fit B i (site m n a w) = site-of m n a w ≡ site-of (byte-at B (i + 1)) (byte-a
 Fit B i (push-leaf p) = T (wide p)
 Fit B i (push-condition k) = T true
 Fit B i (push-test p) = T (wide p)
-Fit B i (take-reward a) = T true
-Fit B i (take-chance a k) = T true
-Fit B i (take-level a k) = T true
+Fit B i (give h) = T true
 Fit B i (name-action a b) = T true
 Fit B i end-model = T true
 
@@ -174,23 +172,11 @@ module _ (B : List ℕ) (S : Site) (x : Point) (g : Slot) (s : State) (r : List 
         stays-on (push-condition k) _ G X E q (judged-whole (first-broken (later-rules S K G (push-condition k))) i _ j .1) (ap (find-slot g) (choice-entries (condition-test k) X E)) X E refl
     stays-step (push-test p) w K G X E q j =
         stays-on (push-test p) _ G X E q (judged-whole (first-broken (later-rules S K G (push-test p))) i _ j .1) (ap (find-slot g) (choice-entries (test-of p) X E)) X E refl
-    stays-step (take-reward a) w K G X E q j =
-        let d = judged-whole (first-broken (later-rules S K G (take-reward a))) i _ j in
+    stays-step (give h) w K G X E q j =
+        let d = judged-whole (first-broken (later-rules S K G (give h))) i _ j in
         let u = unbroken 3 _ _ (d .0) in
         let v = unbroken 4 _ _ (u .1) in
-        stays-on (take-reward a) _ (reward-slot a ∷ G) X E (has-more (reward-slot a) G q) (d .1) (entry-stays (reward-slot a) G X E q (unbroken 5 _ _ (v .1) .0)) X E refl
-    stays-step (take-chance a k) w K G X E q j =
-        let d = judged-whole (first-broken (later-rules S K G (take-chance a k))) i _ j in
-        let u = unbroken 3 _ _ (d .0) in
-        let u = unbroken 3 _ _ (u .1) in
-        let v = unbroken 4 _ _ (u .1) in
-        stays-on (take-chance a k) _ (chance-slot a k ∷ G) X E (has-more (chance-slot a k) G q) (d .1) (entry-stays (chance-slot a k) G X E q (unbroken 5 _ _ (v .1) .0)) X E refl
-    stays-step (take-level a k) w K G X E q j =
-        let d = judged-whole (first-broken (later-rules S K G (take-level a k))) i _ j in
-        let u = unbroken 3 _ _ (d .0) in
-        let u = unbroken 3 _ _ (u .1) in
-        let v = unbroken 4 _ _ (u .1) in
-        stays-on (take-level a k) _ (level-slot a k ∷ G) X E (has-more (level-slot a k) G q) (d .1) (entry-stays (level-slot a k) G X E q (unbroken 5 _ _ (v .1) .0)) X E refl
+        stays-on (give h) _ (h ∷ G) X E (has-more h G q) (d .1) (entry-stays h G X E q (unbroken 5 _ _ (v .1) .0)) X E refl
     stays-step (name-action a b) w K G X E q j = ih K (name-slot a ∷ G) X E (has-more (name-slot a) G q) (judged-whole (first-broken (later-rules S K G (name-action a b))) i _ j .1)
     stays-step end-model w K G X E q j = clash (sym w)
 
@@ -230,13 +216,13 @@ module _ (B : List ℕ) (S : Site) (x : Point) (g : Slot) (s : State) (r : List 
       → judged (length B) (state S K G) ys .number ≡ 0 → Leaf-at B m (pass x g ys l) (at e (find-slot g (result (load-on ys (loaded X E)) .entries)) .lin)
 
   module _ (i : ℕ) (ys : List Placed) (ih : Reach ys) (keeps : Stays ys) where
-    give : (h : Slot) (K : List Facts) (G : List Slot) (X : List Tree) (E : List Entry) (l : List ℕ) → Agree l X → length K ≡ length l → length K ≤ stack-most → 1 ≤ length K → has-slot g G ≡ false
+    took : (h : Slot) (K : List Facts) (G : List Slot) (X : List Tree) (E : List Entry) (l : List ℕ) → Agree l X → length K ≡ length l → length K ≤ stack-most → 1 ≤ length K → has-slot g G ≡ false
         → judged (length B) (state S (drop 1 K) (h ∷ G)) ys .number ≡ 0
         → Leaf-at B m (if (same-slot g h) (getD l 0 0) (pass x g ys (drop 1 l))) (at e (find-slot g (result (load-on ys (result (load-entry h X E))) .entries)) .lin)
     unfolding Agree load-entry result has-slot find-slot
-    give h K G X E [] a q z n f j = absurd (omega arith)
-    give h K G [] E (o ∷ l) a q z n f j = absurd a
-    give h K G (t ∷ X) E (o ∷ l) a q z n f j = by-eq (same-slot g h)
+    took h K G X E [] a q z n f j = absurd (omega arith)
+    took h K G [] E (o ∷ l) a q z n f j = absurd a
+    took h K G (t ∷ X) E (o ∷ l) a q z n f j = by-eq (same-slot g h)
         (λ b. Leaf-at B m (if b o (pass x g ys l)) (at e (find-slot g (result (load-on ys (loaded X (record { slot = h; tree = t } ∷ E))) .entries)) .lin))
         (λ y. subst (λ (F : Tree). Leaf-at B m o (at e F .lin))
         (sym (keeps (drop 1 K) (h ∷ G) X (record { slot = h; tree = t } ∷ E) (ap (λ (b : Bool). or b (has-slot g G)) y) j ∙ ap (λ (b : Bool). if b t (find-slot g E)) y)) (a .0))
@@ -272,20 +258,10 @@ module _ (B : List ℕ) (S : Site) (x : Point) (g : Slot) (s : State) (r : List 
         let n = nltb→le (length K) 2 (unbroken 4 _ _ (v .1) .0) in
         choose-on (test-of p) (leZ (numerator x p) (pos 0)) K _ G X E l (test-sides st p (by-eq (zeros (p .coeffs)) (λ b. T (not b) → b ≡ false) (λ _ t. absurd t) (λ _ t. refl) (v .0)) (u .0))
         y q z n (joined-length _ K n) f (d .1)
-    reach-step (take-reward a) o w K G X E l y q z f j =
-        let d = judged-whole (first-broken (later-rules S K G (take-reward a))) i _ j in
+    reach-step (give h) o w K G X E l y q z f j =
+        let d = judged-whole (first-broken (later-rules S K G (give h))) i _ j in
         let u = unbroken 3 _ _ (d .0) in
-        rw (result-bind (load-entry (reward-slot a) X E) (load-on ys)) (give (reward-slot a) K G X E l y q z (nltb→le (length K) 1 (unbroken 4 _ _ (u .1) .0)) f (d .1))
-    reach-step (take-chance a k) o w K G X E l y q z f j =
-        let d = judged-whole (first-broken (later-rules S K G (take-chance a k))) i _ j in
-        let u = unbroken 3 _ _ (d .0) in
-        let u = unbroken 3 _ _ (u .1) in
-        rw (result-bind (load-entry (chance-slot a k) X E) (load-on ys)) (give (chance-slot a k) K G X E l y q z (nltb→le (length K) 1 (unbroken 4 _ _ (u .1) .0)) f (d .1))
-    reach-step (take-level a k) o w K G X E l y q z f j =
-        let d = judged-whole (first-broken (later-rules S K G (take-level a k))) i _ j in
-        let u = unbroken 3 _ _ (d .0) in
-        let u = unbroken 3 _ _ (u .1) in
-        rw (result-bind (load-entry (level-slot a k) X E) (load-on ys)) (give (level-slot a k) K G X E l y q z (nltb→le (length K) 1 (unbroken 4 _ _ (u .1) .0)) f (d .1))
+        rw (result-bind (load-entry h X E) (load-on ys)) (took h K G X E l y q z (nltb→le (length K) 1 (unbroken 4 _ _ (u .1) .0)) f (d .1))
     reach-step (name-action a b) o w K G X E l y q z f j =
         ih K (name-slot a ∷ G) X E l y q z (other-name a G f) (judged-whole (first-broken (later-rules S K G (name-action a b))) i _ j .1)
       where
@@ -314,9 +290,7 @@ module _ (B : List ℕ) (S : Site) (x : Point) (g : Slot) (s : State) (r : List 
   ends i (push-leaf p) q = clash q
   ends i (push-condition k) q = clash q
   ends i (push-test p) q = clash q
-  ends i (take-reward a) q = clash q
-  ends i (take-chance a k) q = clash q
-  ends i (take-level a k) q = clash q
+  ends i (give h) q = clash q
   ends i (name-action a b) q = clash q
   ends i end-model q = (reach-end i, stays-end i)
 
@@ -347,9 +321,7 @@ module _ (B : List ℕ) (x : Point) (g : Slot) (s : State) (r : List Bool) (st :
   first-command h n (push-leaf p) f j = broken 0 _ (judged-whole (first-broken (rule 1 true ∷ [])) 0 _ j .0)
   first-command h n (push-condition k) f j = broken 0 _ (judged-whole (first-broken (rule 1 true ∷ [])) 0 _ j .0)
   first-command h n (push-test p) f j = broken 0 _ (judged-whole (first-broken (rule 1 true ∷ [])) 0 _ j .0)
-  first-command h n (take-reward a) f j = broken 0 _ (judged-whole (first-broken (rule 1 true ∷ [])) 0 _ j .0)
-  first-command h n (take-chance a k) f j = broken 0 _ (judged-whole (first-broken (rule 1 true ∷ [])) 0 _ j .0)
-  first-command h n (take-level a k) f j = broken 0 _ (judged-whole (first-broken (rule 1 true ∷ [])) 0 _ j .0)
+  first-command h n (give c) f j = broken 0 _ (judged-whole (first-broken (rule 1 true ∷ [])) 0 _ j .0)
   first-command h n (name-action a b) f j = broken 0 _ (judged-whole (first-broken (rule 1 true ∷ [])) 0 _ j .0)
   first-command h n end-model f j = broken 0 _ (judged-whole (first-broken (rule 1 true ∷ [])) 0 _ j .0)
 

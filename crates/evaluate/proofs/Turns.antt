@@ -16,15 +16,14 @@ use Rattle.theory.specs.Diagram.{Linear, Tree}
 use Rattle.theory.specs.Meaning.{State, env, nth, dot, at, worth-at, chance-at}
 use Rattle.theory.specs.Valid.{all, wide, small-linear}
 use Rattle.theory.specs.Value.{bits}
-use Rattle.theory.specs.Command.{Command, push-leaf, end-model, Read, whole, unknown, short, byte-at, width, read-at, goes-on, readings-from, readings}
-use Rattle.theory.specs.Verdict.{Slot}
+use Rattle.theory.specs.Command.{Command, push-leaf, end-model, Read, whole, unknown, short, byte-at, width, read-at, goes-on, readings-from, readings, Slot}
 use Rattle.theory.specs.Load.{find-slot, site-at}
 use Rattle.theory.specs.laws.Loading.{loaded-entries}
 use Rattle.command.proofs.Command.{the-type as command-type}
 use Rattle.command.proofs.Read.{the-type as read-type}
 use Rattle.command.specs.declared.Linear.{Linear as CodeLinear}
 use Rattle.command.specs.declared.Command.{Command as CodeCommand}
-use Rattle.command.specs.declared.Command.the-variants.{Site, Leaf, Condition, Test, Reward, Chance, Level, Name, End}
+use Rattle.command.specs.declared.Command.the-variants.{Site, Leaf, Condition, Test, Give, Name, End}
 use Rattle.command.specs.declared.Read.{Read as CodeRead}
 use Rattle.command.specs.declared.Read.the-variants.{Whole, Unknown, Short}
 use Rattle.command.specs.Reading.{linear-of, command-of, read-of, next-at}
@@ -81,15 +80,13 @@ module _ (high : Bool) (l rest under : List ℕ) (e : rest ≡ drop 1 l) (g : un
   unfolding chosen
   took-low low t f = rw t (ap₂ pushed f (g ∙ ap (drop 1) e))
 
-pub takes-other : (g : Slot) (B : List ℕ) (i : ℕ) (c : CodeCommand) → OneOf (0 ∷ 1 ∷ 2 ∷ 3 ∷ 7 ∷ 8 ∷ []) (tagOf command-type c) → false ≡ takes g (command-of B i c)
+pub takes-other : (g : Slot) (B : List ℕ) (i : ℕ) (c : CodeCommand) → OneOf (0 ∷ 1 ∷ 2 ∷ 3 ∷ 5 ∷ 6 ∷ []) (tagOf command-type c) → false ≡ takes g (command-of B i c)
 unfolding takes command-of
 takes-other g B i (Site m n a w) k = refl
 takes-other g B i (Leaf p) k = refl
 takes-other g B i (Condition j) k = refl
 takes-other g B i (Test p) k = refl
-takes-other g B i (Reward a) k = absurd (miss (0 ∷ 1 ∷ 2 ∷ 3 ∷ 7 ∷ 8 ∷ []) 4 tt k)
-takes-other g B i (Chance a j) k = absurd (miss (0 ∷ 1 ∷ 2 ∷ 3 ∷ 7 ∷ 8 ∷ []) 5 tt k)
-takes-other g B i (Level a j) k = absurd (miss (0 ∷ 1 ∷ 2 ∷ 3 ∷ 7 ∷ 8 ∷ []) 6 tt k)
+takes-other g B i (Give x a j) k = absurd (miss (0 ∷ 1 ∷ 2 ∷ 3 ∷ 5 ∷ 6 ∷ []) 4 tt k)
 takes-other g B i (Name a) k = refl
 takes-other g B i End k = refl
 
@@ -101,9 +98,7 @@ fit-small B i (Site m n a w) f = tt
 fit-small B i (Leaf p) f = f
 fit-small B i (Condition k) f = tt
 fit-small B i (Test p) f = f
-fit-small B i (Reward a) f = tt
-fit-small B i (Chance a k) f = tt
-fit-small B i (Level a k) f = tt
+fit-small B i (Give x a j) f = tt
 fit-small B i (Name a) f = tt
 fit-small B i End f = tt
 
@@ -164,15 +159,13 @@ pub leaf-small : (B : List ℕ) (i : ℕ) (c : CodeCommand) (q : CodeLinear) →
 unfolding Small-command
 leaf-small B i c q e f = subst Small-command f (command-small B i c e)
 
-pub no-leaf : (B : List ℕ) (i : ℕ) (c : CodeCommand) → whole (command-of B i c) ≡ read-at B i → OneOf (0 ∷ 2 ∷ 3 ∷ 4 ∷ 5 ∷ 6 ∷ 7 ∷ 8 ∷ []) (tagOf command-type c) → (p : Linear) → read-at B i ≡ whole (push-leaf p) → ⊥
+pub no-leaf : (B : List ℕ) (i : ℕ) (c : CodeCommand) → whole (command-of B i c) ≡ read-at B i → OneOf (0 ∷ 2 ∷ 3 ∷ 4 ∷ 5 ∷ 6 ∷ []) (tagOf command-type c) → (p : Linear) → read-at B i ≡ whole (push-leaf p) → ⊥
 unfolding command-of
 no-leaf B i (Site m n a w) e k p h = let y = e ∙ h in let z : _≡_ {A = ℕ} 0 1 = cc in omega arith
-no-leaf B i (Leaf q) e k p h = miss (0 ∷ 2 ∷ 3 ∷ 4 ∷ 5 ∷ 6 ∷ 7 ∷ 8 ∷ []) 1 tt k
+no-leaf B i (Leaf q) e k p h = miss (0 ∷ 2 ∷ 3 ∷ 4 ∷ 5 ∷ 6 ∷ []) 1 tt k
 no-leaf B i (Condition j) e k p h = let y = e ∙ h in let z : _≡_ {A = ℕ} 0 1 = cc in omega arith
 no-leaf B i (Test q) e k p h = let y = e ∙ h in let z : _≡_ {A = ℕ} 0 1 = cc in omega arith
-no-leaf B i (Reward a) e k p h = let y = e ∙ h in let z : _≡_ {A = ℕ} 0 1 = cc in omega arith
-no-leaf B i (Chance a j) e k p h = let y = e ∙ h in let z : _≡_ {A = ℕ} 0 1 = cc in omega arith
-no-leaf B i (Level a j) e k p h = let y = e ∙ h in let z : _≡_ {A = ℕ} 0 1 = cc in omega arith
+no-leaf B i (Give x a j) e k p h = let y = e ∙ h in let z : _≡_ {A = ℕ} 0 1 = cc in omega arith
 no-leaf B i (Name a) e k p h = let y = e ∙ h in let z : _≡_ {A = ℕ} 0 1 = cc in omega arith
 no-leaf B i End e k p h = let y = e ∙ h in let z : _≡_ {A = ℕ} 0 1 = cc in omega arith
 

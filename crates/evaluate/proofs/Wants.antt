@@ -5,7 +5,8 @@ use Prim.Native.Nat.{ℕ, zero, suc, _+_, _≤_, _<_}
 use native.Mathlib.Omega.{arith}
 use lib.Dec.{T, eqb, eqb→eq, eqb-refl}
 use Rattle.whole.specs.Cases.{by-test, and-in}
-use Rattle.theory.specs.Verdict.{Site, Slot, same-slot, has-slot, reward-slot, chance-slot, level-slot, from-to, wanted-by, wanted}
+use Rattle.theory.specs.Command.{Slot}
+use Rattle.theory.specs.Verdict.{Site, same-slot, has-slot, reward-slot, chance-slot, level-slot, from-to, wanted-by, wanted}
 use Rattle.theory.specs.laws.Valid.{other-above}
 use Rattle.theory.specs.laws.Loading.{or-left, or-right}
 use Rattle.evaluate.proofs.Points.{or-out}

@@ -12,13 +12,13 @@ use Rattle.theory.specs.Widths.{conditions-most}
 use Rattle.theory.specs.Diagram.{Linear}
 use Rattle.theory.specs.Meaning.{State, env, nth, dot, at}
 use Rattle.theory.specs.Valid.{wide}
-use Rattle.theory.specs.Command.{Command, site, push-leaf, push-condition, push-test, take-reward, take-chance, take-level, name-action, end-model, whole, unknown, short, Placed, read-at}
-use Rattle.theory.specs.Verdict.{Slot, same-slot, reward-slot, chance-slot, level-slot, beyond}
+use Rattle.theory.specs.Command.{Command, site, push-leaf, push-condition, push-test, give, name-action, end-model, whole, unknown, short, Placed, read-at, Slot}
+use Rattle.theory.specs.Verdict.{same-slot, beyond}
 use Rattle.theory.specs.Load.{find-slot, site-at}
 use Rattle.theory.specs.Value.{bits}
 use Rattle.theory.specs.laws.Loading.{loaded-entries}
 use Rattle.command.specs.declared.Command.{Command as CodeCommand}
-use Rattle.command.specs.declared.Command.the-variants.{Site, Leaf, Condition, Test, Reward, Chance, Level, Name, End}
+use Rattle.command.specs.declared.Command.the-variants.{Site, Leaf, Condition, Test, Give, Name, End}
 use Rattle.command.specs.Reading.{linear-of}
 use Rattle.command.specs.Held.{pushed}
 use Rattle.evaluate.specs.declared.Point.{Point}
@@ -50,9 +50,7 @@ stepped x i (site m n a w) l = l
 stepped x i (push-leaf p) l = pushed i l
 stepped x i (push-condition k) l = chosen (condition-holds x k) l
 stepped x i (push-test p) l = chosen (leZ (numerator x p) (pos 0)) l
-stepped x i (take-reward a) l = drop 1 l
-stepped x i (take-chance a k) l = drop 1 l
-stepped x i (take-level a k) l = drop 1 l
+stepped x i (give g) l = drop 1 l
 stepped x i (name-action a b) l = l
 stepped x i end-model l = l
 
@@ -62,9 +60,7 @@ takes g (site m n a w) = false
 takes g (push-leaf p) = false
 takes g (push-condition k) = false
 takes g (push-test p) = false
-takes g (take-reward a) = same-slot g (reward-slot a)
-takes g (take-chance a k) = same-slot g (chance-slot a k)
-takes g (take-level a i) = same-slot g (level-slot a i)
+takes g (give h) = same-slot g h
 takes g (name-action a b) = false
 takes g end-model = false
 
@@ -86,9 +82,7 @@ Small-command (Site m n a w) = T true
 Small-command (Leaf p) = Small-linear (linear-of p)
 Small-command (Condition k) = T true
 Small-command (Test p) = Small-linear (linear-of p)
-Small-command (Reward a) = T true
-Small-command (Chance a k) = T true
-Small-command (Level a i) = T true
+Small-command (Give x a j) = T true
 Small-command (Name a) = T true
 Small-command End = T true
 

@@ -125,9 +125,7 @@ fn after(t: Stack, at: u32, c: Command, x: Point) -> Stack
         Command::Leaf(_) => t.push(at),
         Command::Condition(k) => chosen(t, condition(k, x)),
         Command::Test(p) => chosen(t, test(p, x)),
-        Command::Reward(_) => t.pop(),
-        Command::Chance(_, _) => t.pop(),
-        Command::Level(_, _) => t.pop(),
+        Command::Give(_, _, _) => t.pop(),
         Command::Site(_, _, _, _) => t,
         Command::Name(_) => t,
         Command::End => t,
@@ -154,9 +152,7 @@ fn takes(c: Command, g: Slot) -> bool
     ensures { λ r. ⌜ ((B : List ℕ) (i : ℕ) → r ≡ takes-slot (slot-of g) (command-of B i c)) ⌝ }
 {
     match c {
-        Command::Reward(a) => same(g, 0x20, a, 0),
-        Command::Chance(a, k) => same(g, 0x21, a, k),
-        Command::Level(a, i) => same(g, 0x22, a, i),
+        Command::Give(b, a, i) => same(g, b, a, i),
         _ => false,
     }
 }

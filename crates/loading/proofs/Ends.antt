@@ -15,8 +15,8 @@ use Rattle.theory.specs.Diagram.{Tree}
 use Rattle.theory.specs.Valid.{all}
 use Rattle.theory.specs.Meaning.{Model}
 use Rattle.theory.specs.Computation.{Comp, ret, bind, Out, done, stopped, run}
-use Rattle.theory.specs.Command.{Command, site, push-leaf, push-condition, push-test, take-reward, take-chance, take-level, name-action, end-model, Read, whole, Placed, byte-at, width, command-at, goes-on, readings-from, readings}
-use Rattle.theory.specs.Verdict.{Site, site-of, Slot, Progress, reward-slot, chance-slot, level-slot, has-slot, first-broken, from-to, wanted-by, wanted, site-rules, first-rules, rules-of, after, ended, judged, at-start, verdict}
+use Rattle.theory.specs.Command.{Command, site, push-leaf, push-condition, push-test, name-action, end-model, Read, whole, Placed, byte-at, width, command-at, goes-on, readings-from, readings, give, Slot}
+use Rattle.theory.specs.Verdict.{Site, site-of, Progress, reward-slot, chance-slot, level-slot, has-slot, first-broken, from-to, wanted-by, wanted, site-rules, first-rules, rules-of, after, ended, judged, at-start, verdict}
 use Rattle.theory.specs.Load.{Entry, Loaded as Loading, load-one-with, load-on, load-on-with, find-slot, action-of, model-of, site-at, load, load-with, model}
 use Rattle.theory.specs.Stage.{all-diagrams, model-diagrams}
 use Rattle.theory.specs.laws.Comps.{run-bind, run-result}
@@ -45,9 +45,7 @@ site-fits B (site m n a w) = site-of m n a w ≡ site-at B
 site-fits B (push-leaf p) = T true
 site-fits B (push-condition k) = T true
 site-fits B (push-test p) = T true
-site-fits B (take-reward a) = T true
-site-fits B (take-chance a k) = T true
-site-fits B (take-level a i) = T true
+site-fits B (give g) = T true
 site-fits B (name-action a b) = T true
 site-fits B end-model = T true
 
@@ -83,9 +81,7 @@ first-command B w h (site m n a v) f e = record {
 first-command B w h (push-leaf p) f e = absurd (let z : _≡_ {A = ℕ} 1 0 = e in omega arith)
 first-command B w h (push-condition k) f e = absurd (let z : _≡_ {A = ℕ} 1 0 = e in omega arith)
 first-command B w h (push-test p) f e = absurd (let z : _≡_ {A = ℕ} 1 0 = e in omega arith)
-first-command B w h (take-reward a) f e = absurd (let z : _≡_ {A = ℕ} 1 0 = e in omega arith)
-first-command B w h (take-chance a k) f e = absurd (let z : _≡_ {A = ℕ} 1 0 = e in omega arith)
-first-command B w h (take-level a i) f e = absurd (let z : _≡_ {A = ℕ} 1 0 = e in omega arith)
+first-command B w h (give g) f e = absurd (let z : _≡_ {A = ℕ} 1 0 = e in omega arith)
 first-command B w h (name-action a b) f e = absurd (let z : _≡_ {A = ℕ} 1 0 = e in omega arith)
 first-command B w h end-model f e = absurd (let z : _≡_ {A = ℕ} 1 0 = e in omega arith)
 

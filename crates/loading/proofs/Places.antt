@@ -1,12 +1,12 @@
 -- Roots at their places: what a store leaves, and all roots in their order.
 use mathlib.Core.Path.{_≡_, refl, sym, ap, ap₂, _∙_, subst}
 use mathlib.Core.Bool.{Bool, true, false, not}
-use mathlib.Core.Logic.{⊎-elim, _⊎_}
+use mathlib.Core.Logic.{⊎-elim, _⊎_, inl, inr}
 use mathlib.Core.List.{List, [], _∷_}
 use Prim.Native.Nat.{ℕ, zero, suc, _+_, _-_, _*_, _≤_, _<_}
 use native.Mathlib.Nat.{suc-mul, lt-of-lt-of-le, mul-le-mul-right}
 use native.Mathlib.Omega.{arith}
-use borrow.Author.Tests.{lt-ltb, le-ltb}
+use borrow.Author.Tests.{lt-ltb, le-ltb, ne-eqb, eq-eqb}
 use lib.Dec.{T, eqb, ltb, eqb→eq, eqb-refl}
 use lib.IntN.{ℤ}
 use lib.ListN.{length, getD, set, length-set}
@@ -15,15 +15,17 @@ use types.Run.{OneOf, miss}
 use denote.Enum.Declared.{tagOf}
 use Rattle.whole.specs.Cases.{if, by-test, both, and-in}
 use Rattle.theory.specs.Diagram.{Tree}
-use Rattle.theory.specs.Verdict.{Site, Slot, name-slot, same-slot, has-slot, or}
+use Rattle.theory.specs.Command.{give, Slot}
+use Rattle.theory.specs.Verdict.{Site, name-slot, same-slot, has-slot, or}
 use Rattle.theory.specs.Load.{Entry, find-slot}
+use Rattle.theory.specs.Rows.{OfSite}
 use Rattle.diagrams.specs.Nodes.{treeAt, Grown}
 use Rattle.diagrams.proofs.Trees.{trees-kept}
 use Rattle.command.proofs.Command.{the-type as command-type}
 use Rattle.command.specs.declared.Command.{Command as CodeCommand}
-use Rattle.command.specs.declared.Command.the-variants.{Site as SiteBy, Leaf, Condition, Test, Reward, Chance, Level, Name, End}
+use Rattle.command.specs.declared.Command.the-variants.{Site as SiteBy, Leaf, Condition, Test, Give, Name, End}
 use Rattle.command.specs.Reading.{command-of}
-use Rattle.loading.specs.Rooting.{place-of, storedIn}
+use Rattle.loading.specs.Rooting.{offset-of, place-of, storedIn}
 
 -- ---- places
 
@@ -37,6 +39,30 @@ pub record Placed-at (S : Site) (g : Slot) (i : ℕ) : Type 0 where
   pub most : g .action ≤ S .actions
   pub which : ((g .command ≡ 0x20) × (g .index ≡ 0) × (offset ≡ 0)) ⊎ (((g .command ≡ 0x21) × (1 ≤ g .index) × (g .index ≤ S .conditions) × (offset ≡ g .index)) ⊎ ((g .command ≡ 0x22) × (1 ≤ g .index) × (g .index ≤ S .levels) × (offset ≡ S .conditions + g .index)))
   pub place : i ≡ (g .action - 1) * width-of S + offset
+
+offset-row : (n : ℕ) (g : Slot) → (g .command ≡ 0x22 → ⊥) → offset-of n g ≡ g .index
+unfolding offset-of
+offset-row n g h = rw (ne-eqb (g .command) 0x22 h)
+
+offset-level : (n : ℕ) (g : Slot) → g .command ≡ 0x22 → offset-of n g ≡ n + g .index
+unfolding offset-of
+offset-level n g e = rw (eq-eqb (g .command) 0x22 e)
+
+-- what a command gives has its place
+pub placed-given : (S : Site) (g : Slot) → OfSite S g → Placed-at S g (place-of (S .levels) (S .conditions) (give g))
+unfolding place-of
+placed-given S g d = record {
+  offset = offset-of (S .conditions) g;
+  least = d .0 .0;
+  most = d .0 .1;
+  which = ⊎-elim
+      (λ e. inl (e .0, e .1, offset-row (S .conditions) g (λ f. omega (arith, e .0)) ∙ e .1))
+      (⊎-elim
+      (λ e. inr (inl (e .0, e .1 .0, e .1 .1, offset-row (S .conditions) g (λ f. omega (arith, e .0)))))
+      (λ e. inr (inr (e .0, e .1 .0, e .1 .1, offset-level (S .conditions) g (e .0)))))
+      (d .1);
+  place = refl;
+}
 
 offset-less : {S : Site} {g : Slot} {i : ℕ} (p : Placed-at S g i) → p .offset < width-of S
 offset-less p = ⊎-elim (λ e. omega (arith, e .2)) (⊎-elim (λ e. omega (arith, e .2, e .3)) (λ e. omega (arith, e .2, e .3))) (p .which)
@@ -180,14 +206,12 @@ pub stored-no : (R : List ℕ) (i x : ℕ) → 72 ≤ i → R ≡ storedIn R i x
 unfolding storedIn
 stored-no R i x h = ap (λ (b : Bool). if b (set R i x) R) (sym (le-ltb i 72 h))
 
-pub place-other : (m n : ℕ) (B : List ℕ) (at : ℕ) (d : CodeCommand) → OneOf (0 ∷ 1 ∷ 2 ∷ 3 ∷ 7 ∷ 8 ∷ []) (tagOf command-type d) → 72 ≡ place-of m n (command-of B at d)
+pub place-other : (m n : ℕ) (B : List ℕ) (at : ℕ) (d : CodeCommand) → OneOf (0 ∷ 1 ∷ 2 ∷ 3 ∷ 5 ∷ 6 ∷ []) (tagOf command-type d) → 72 ≡ place-of m n (command-of B at d)
 unfolding place-of command-of
 place-other m n B at (SiteBy x y a w) k = refl
 place-other m n B at (Leaf p) k = refl
 place-other m n B at (Condition i) k = refl
 place-other m n B at (Test p) k = refl
-place-other m n B at (Reward a) k = absurd (miss (0 ∷ 1 ∷ 2 ∷ 3 ∷ 7 ∷ 8 ∷ []) 4 tt k)
-place-other m n B at (Chance a i) k = absurd (miss (0 ∷ 1 ∷ 2 ∷ 3 ∷ 7 ∷ 8 ∷ []) 5 tt k)
-place-other m n B at (Level a i) k = absurd (miss (0 ∷ 1 ∷ 2 ∷ 3 ∷ 7 ∷ 8 ∷ []) 6 tt k)
+place-other m n B at (Give x a j) k = absurd (miss (0 ∷ 1 ∷ 2 ∷ 3 ∷ 5 ∷ 6 ∷ []) 4 tt k)
 place-other m n B at (Name a) k = refl
 place-other m n B at End k = refl

@@ -15,12 +15,13 @@ use Rattle.theory.specs.Widths.{levels-most, conditions-most, actions-most, sta
 use Rattle.theory.specs.Diagram.{Tree}
 use Rattle.theory.specs.Valid.{all, among}
 use Rattle.theory.specs.Computation.{Comp, bind, Out, done, stopped, run}
-use Rattle.theory.specs.Command.{Command, site, push-leaf, push-condition, push-test, take-reward, take-chance, take-level, name-action, end-model, Read, whole, unknown, short, Placed, byte-at, width, read-at, goes-on, readings-from, readings}
-use Rattle.theory.specs.Verdict.{Site, Slot, Facts, Progress, reward-slot, chance-slot, level-slot, name-slot, has-slot, or, Rule, rule, first-broken, next-condition, joined, wanted, later-rules, rules-of, after, Verdict, refusal, ended, judged}
+use Rattle.theory.specs.Command.{Command, site, push-leaf, push-condition, push-test, name-action, end-model, Read, whole, unknown, short, Placed, byte-at, width, read-at, goes-on, readings-from, readings, give, Slot}
+use Rattle.theory.specs.Verdict.{Site, Facts, Progress, name-slot, has-slot, or, Rule, rule, first-broken, next-condition, joined, wanted, later-rules, rules-of, after, Verdict, refusal, ended, judged}
 use Rattle.theory.specs.Load.{Entry, Loaded as Loading, load-one, load-one-with, load-on, load-on-with, site-at}
 use Rattle.theory.specs.laws.Comps.{run-bind}
 use Rattle.theory.specs.laws.Comps.{after as after-out}
 use Rattle.theory.specs.laws.Valid.{among-out}
+use Rattle.theory.specs.laws.Rules.{says-of-site}
 use Rattle.theory.specs.laws.Loading.{In-range}
 use Rattle.command.proofs.Read.{the-type as read-type}
 use Rattle.command.specs.declared.Command.{Command as CodeCommand}
@@ -38,7 +39,7 @@ use Rattle.stacking.specs.Stepping.{standing, Below, Able, height, given-to, en
 use Rattle.stacking.proofs.Steps.{top-below}
 use Rattle.stacking.specs.declared.Loaded.{Loaded}
 use Rattle.loading.specs.Rooting.{place-of, storedIn}
-use Rattle.loading.proofs.Places.{Placed-at, Rooted, rooted-grown, rooted-name, rooted-entry, stored-none, stored-length}
+use Rattle.loading.proofs.Places.{Placed-at, placed-given, Rooted, rooted-grown, rooted-name, rooted-entry, stored-none, stored-length}
 
 -- ---- a command that breaks no rule
 
@@ -92,9 +93,7 @@ module _ (S : Site) (few : S .conditions ≤ conditions-most) (K : List Facts) (
       let h = nltb→le (length K) 2 (unbroken 4 _ _ (unbroken 3 _ _ (u .1) .1) .0) in
       let j = joined-less false K h in
       record { same = refl; high = j; most = λ m. omega arith; able = λ m. (h, m) }
-  checked (take-reward a) e = let j = drop-less K in record { same = refl; high = j; most = λ m. omega arith; able = λ m. tt }
-  checked (take-chance a k) e = let j = drop-less K in record { same = refl; high = j; most = λ m. omega arith; able = λ m. tt }
-  checked (take-level a i) e = let j = drop-less K in record { same = refl; high = j; most = λ m. omega arith; able = λ m. tt }
+  checked (give g) e = let j = drop-less K in record { same = refl; high = j; most = λ m. omega arith; able = λ m. tt }
   checked (name-action a b) e = record { same = refl; high = refl; most = λ m. m; able = λ m. tt }
   checked end-model e = record { same = refl; high = refl; most = λ m. m; able = λ m. tt }
 
@@ -115,22 +114,9 @@ module _ (S : Site) (A : S .actions ≤ 8) (N : S .conditions ≤ 4) (M : S .lev
   given-roots (push-leaf p) e = subst (λ (R : List ℕ). Rooted S l n R G E) (sym (stored-none R (getD H 0 0))) r
   given-roots (push-condition k) e = subst (λ (R : List ℕ). Rooted S l n R G E) (sym (stored-none R (getD H 0 0))) r
   given-roots (push-test p) e = subst (λ (R : List ℕ). Rooted S l n R G E) (sym (stored-none R (getD H 0 0))) r
-  given-roots (take-reward a) e =
+  given-roots (give g) e =
       let u = unbroken 3 _ _ e in
-      let d = among-out (S .actions) a (not-not (among (S .actions) a) (u .0)) in
-      took (reward-slot a) _ (record { offset = 0; least = d .0; most = d .1; which = inl (refl, refl, refl); place = (let z : (a - 1) * (1 + S .conditions + S .levels) ≡ (a - 1) * (1 + S .conditions + S .levels) + 0 = omega arith in z) }) (nltb→le (length K) 1 (unbroken 4 _ _ (u .1) .0))
-  given-roots (take-chance a k) e =
-      let u = unbroken 3 _ _ e in
-      let v = unbroken 3 _ _ (u .1) in
-      let d = among-out (S .actions) a (not-not (among (S .actions) a) (u .0)) in
-      let f = among-out (S .conditions) k (not-not (among (S .conditions) k) (v .0)) in
-      took (chance-slot a k) _ (record { offset = k; least = d .0; most = d .1; which = inr (inl (refl, f .0, f .1, refl)); place = refl }) (nltb→le (length K) 1 (unbroken 4 _ _ (v .1) .0))
-  given-roots (take-level a i) e =
-      let u = unbroken 3 _ _ e in
-      let v = unbroken 3 _ _ (u .1) in
-      let d = among-out (S .actions) a (not-not (among (S .actions) a) (u .0)) in
-      let f = among-out (S .levels) i (not-not (among (S .levels) i) (v .0)) in
-      took (level-slot a i) _ (record { offset = S .conditions + i; least = d .0; most = d .1; which = inr (inr (refl, f .0, f .1, refl)); place = refl }) (nltb→le (length K) 1 (unbroken 4 _ _ (v .1) .0))
+      took g _ (placed-given S g (says-of-site S g .kept (u .0))) (nltb→le (length K) 1 (unbroken 4 _ _ (u .1) .0))
   given-roots (name-action a b) e = subst (λ (R : List ℕ). Rooted S l n R (name-slot a ∷ G) E) (sym (stored-none R (getD H 0 0))) (rooted-name a r)
   given-roots end-model e = subst (λ (R : List ℕ). Rooted S l n R G E) (sym (stored-none R (getD H 0 0))) r
 

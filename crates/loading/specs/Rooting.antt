@@ -2,12 +2,12 @@
 use mathlib.Core.Path.{_≡_}
 use mathlib.Core.List.{List, [], map}
 use Prim.Native.Nat.{ℕ, _+_, _-_, _*_}
-use lib.Dec.{ltb}
+use lib.Dec.{ltb, eqb}
 use lib.IntN.{ℤ}
 use lib.ListN.{getD, set}
 use Rattle.whole.specs.Cases.{if}
 use Rattle.theory.specs.Computation.{done, stopped, run}
-use Rattle.theory.specs.Command.{Command, site, push-leaf, push-condition, push-test, take-reward, take-chance, take-level, name-action, end-model}
+use Rattle.theory.specs.Command.{Command, site, push-leaf, push-condition, push-test, give, name-action, end-model, Slot}
 use Rattle.theory.specs.Verdict.{Site, from-to}
 use Rattle.theory.specs.Load.{site-at, load, model}
 use Rattle.theory.specs.Stage.{model-diagrams}
@@ -19,15 +19,17 @@ use Rattle.stacking.specs.Stepping.{standing, Below}
 use Rattle.stacking.specs.declared.Loaded.{Loaded}
 use Rattle.loading.specs.declared.Done.{Done}
 
+-- within an action's roots: its reward, its n chances, its next levels
+unfoldable pub offset-of : ℕ → Slot → ℕ
+offset-of n g = if (eqb (g .command) 0x22) (n + g .index) (g .index)
+
 -- the place of what a command gives, with m levels and n conditions; 72 where it gives nothing
 unfoldable pub place-of : ℕ → ℕ → Command → ℕ
 place-of m n (site b c a w) = 72
 place-of m n (push-leaf p) = 72
 place-of m n (push-condition k) = 72
 place-of m n (push-test p) = 72
-place-of m n (take-reward a) = (a - 1) * (1 + n + m)
-place-of m n (take-chance a k) = (a - 1) * (1 + n + m) + k
-place-of m n (take-level a i) = (a - 1) * (1 + n + m) + (n + i)
+place-of m n (give g) = (g .action - 1) * (1 + n + m) + offset-of n g
 place-of m n (name-action a b) = 72
 place-of m n end-model = 72
 

@@ -8,7 +8,7 @@ ghost use Rattle.theory.specs.Verdict.{verdict};
 ghost use Rattle.command.specs.Reading.{command-of};
 ghost use Rattle.diagrams.specs.Table.{Table};
 ghost use Rattle.commands_choice.specs.Testing.{loadRule};
-ghost use Rattle.loading.specs.Rooting.{place-of, storedIn, Starts, Loads};
+ghost use Rattle.loading.specs.Rooting.{offset-of, place-of, storedIn, Starts, Loads};
 use command::Command;
 use command::Read;
 use command::stack::Stack;
@@ -40,14 +40,23 @@ fn row(levels: u8, conditions: u8, action: u8) -> usize
     (a - 1) * n
 }
 
-// Where the root goes that a command gives: an action's reward, its chances, its next levels; 72 where it gives none.
+// Within an action's roots: its reward, its chances, its next levels.
+fn offset(conditions: u8, command: u8, index: u8) -> usize
+    ensures { λ r. ⌜ ((a : ℕ) → r ≡ offset-of conditions (record { command = command; action = a; index = index })) × (r < 512) ⌝ }
+{
+    if command == 0x22 {
+        wide(conditions) + wide(index)
+    } else {
+        wide(index)
+    }
+}
+
+// Where the root goes that a command gives; 72 where it gives none.
 fn place(levels: u8, conditions: u8, c: Command) -> usize
     ensures { λ r. ⌜ ((B : List ℕ) (at : ℕ) → r ≡ place-of levels conditions (command-of B at c)) ⌝ }
 {
     match c {
-        Command::Reward(a) => row(levels, conditions, a),
-        Command::Chance(a, k) => row(levels, conditions, a) + wide(k),
-        Command::Level(a, i) => row(levels, conditions, a) + (wide(conditions) + wide(i)),
+        Command::Give(c, a, i) => row(levels, conditions, a) + offset(conditions, c, i),
         _ => 72,
     }
 }

@@ -10,7 +10,7 @@ use lib.ListN.{length}
 use Rattle.whole.specs.Cases.{if}
 use Rattle.theory.specs.Widths.{levels-most, conditions-most, actions-most, weights-most, bytes-most, steps-most}
 use Rattle.theory.specs.Valid.{among}
-use Rattle.theory.specs.Command.{Command, site, push-leaf, push-condition, push-test, take-reward, take-chance, take-level, name-action, end-model, Read, whole, unknown, short, byte-at, width, command-at, read-at, goes-on, readings-from, readings}
+use Rattle.theory.specs.Command.{Command, site, push-leaf, push-condition, push-test, give, name-action, end-model, Read, whole, unknown, short, byte-at, width, command-at, read-at, goes-on, readings-from, readings}
 use Rattle.theory.specs.Verdict.{or, Site, site-of, Verdict, refusal, verdict, judged, at-start, rule, Rule, first-broken, first-rules, site-rules, rules-of, ended, after}
 use Rattle.theory.specs.Load.{site-at}
 use Rattle.theory.specs.Solve.{early}
@@ -88,9 +88,7 @@ is-site (site m n a w) = true
 is-site (push-leaf p) = false
 is-site (push-condition k) = false
 is-site (push-test p) = false
-is-site (take-reward a) = false
-is-site (take-chance a k) = false
-is-site (take-level a i) = false
+is-site (give g) = false
 is-site (name-action a b) = false
 is-site end-model = false
 
@@ -127,9 +125,7 @@ first-site B (site m n a w) e u = subst Sited (operands B 0 m n a w (whole-bytes
 first-site B (push-leaf p) e u = absurd (no-site u)
 first-site B (push-condition k) e u = absurd (no-site u)
 first-site B (push-test p) e u = absurd (no-site u)
-first-site B (take-reward a) e u = absurd (no-site u)
-first-site B (take-chance a k) e u = absurd (no-site u)
-first-site B (take-level a i) e u = absurd (no-site u)
+first-site B (give g) e u = absurd (no-site u)
 first-site B (name-action a b) e u = absurd (no-site u)
 first-site B end-model e u = absurd (no-site u)
 

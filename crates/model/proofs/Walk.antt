@@ -13,7 +13,7 @@ use Rattle.theory.specs.Command.{Command, end-model, Read, whole, unknown, shor
 use Rattle.theory.specs.Verdict.{Progress, at-start, first-broken, rules-of, after, Verdict, refusal, ended, judged, verdict}
 use Rattle.command.proofs.Command.{the-type}
 use Rattle.command.specs.declared.Command.{Command as CodeCommand}
-use Rattle.command.specs.declared.Command.the-variants.{Site, Leaf, Condition, Test, Reward, Chance, Level, Name, End}
+use Rattle.command.specs.declared.Command.the-variants.{Site, Leaf, Condition, Test, Give, Name, End}
 use Rattle.command.specs.declared.Read.{Read as CodeRead}
 use Rattle.command.specs.declared.Read.the-variants.{Whole, Unknown, Short}
 use Rattle.command.specs.Reading.{command-of, read-of, next-at}
@@ -37,17 +37,15 @@ module _ (B : List ℕ) (at : ℕ) {r : CodeRead} (e : read-of B at r ≡ read-a
   unfolding read-of
   short-is f = ap (read-of B at) (sym f) ∙ e
 
-pub not-end : (c : CodeCommand) → OneOf (0 ∷ 1 ∷ 2 ∷ 3 ∷ 4 ∷ 5 ∷ 6 ∷ 7 ∷ []) (tagOf the-type c) → false ≡ is-end c
+pub not-end : (c : CodeCommand) → OneOf (0 ∷ 1 ∷ 2 ∷ 3 ∷ 4 ∷ 5 ∷ []) (tagOf the-type c) → false ≡ is-end c
 unfolding is-end
 not-end (Site m n a w) k = refl
 not-end (Leaf p) k = refl
 not-end (Condition i) k = refl
 not-end (Test p) k = refl
-not-end (Reward a) k = refl
-not-end (Chance a i) k = refl
-not-end (Level a i) k = refl
+not-end (Give x a j) k = refl
 not-end (Name a) k = refl
-not-end End k = absurd (miss (0 ∷ 1 ∷ 2 ∷ 3 ∷ 4 ∷ 5 ∷ 6 ∷ 7 ∷ []) 8 tt k)
+not-end End k = absurd (miss (0 ∷ 1 ∷ 2 ∷ 3 ∷ 4 ∷ 5 ∷ []) 6 tt k)
 
 module _ (B : List ℕ) (at : ℕ) where
   pub at-end : (c : CodeCommand) → is-end c ≡ true → command-of B at c ≡ end-model
@@ -56,9 +54,7 @@ module _ (B : List ℕ) (at : ℕ) where
   at-end (Leaf p) e = absurd (let z : _≡_ {A = ℕ} 0 1 = cc in omega arith)
   at-end (Condition i) e = absurd (let z : _≡_ {A = ℕ} 0 1 = cc in omega arith)
   at-end (Test p) e = absurd (let z : _≡_ {A = ℕ} 0 1 = cc in omega arith)
-  at-end (Reward a) e = absurd (let z : _≡_ {A = ℕ} 0 1 = cc in omega arith)
-  at-end (Chance a i) e = absurd (let z : _≡_ {A = ℕ} 0 1 = cc in omega arith)
-  at-end (Level a i) e = absurd (let z : _≡_ {A = ℕ} 0 1 = cc in omega arith)
+  at-end (Give x a j) e = absurd (let z : _≡_ {A = ℕ} 0 1 = cc in omega arith)
   at-end (Name a) e = absurd (let z : _≡_ {A = ℕ} 0 1 = cc in omega arith)
   at-end End e = refl
 
@@ -69,9 +65,7 @@ module _ (B : List ℕ) (at : ℕ) where
   going (Leaf p) e = (refl, λ n v. refl)
   going (Condition i) e = (refl, λ n v. refl)
   going (Test p) e = (refl, λ n v. refl)
-  going (Reward a) e = (refl, λ n v. refl)
-  going (Chance a i) e = (refl, λ n v. refl)
-  going (Level a i) e = (refl, λ n v. refl)
+  going (Give x a j) e = (refl, λ n v. refl)
   going (Name a) e = (refl, λ n v. refl)
   going End e = absurd (let z : _≡_ {A = ℕ} 0 1 = cc in omega arith)
 

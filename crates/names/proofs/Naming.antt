@@ -11,7 +11,7 @@ use lib.Seq.{getD-drop}
 use types.Run.{OneOf, miss}
 use denote.Enum.Declared.{tagOf}
 use Rattle.whole.specs.Cases.{if}
-use Rattle.theory.specs.Command.{Command, site, push-leaf, push-condition, push-test, take-reward, take-chance, take-level, name-action, end-model, Read, whole, unknown, short, byte-at, width, command-at, read-at, goes-on, readings-from, readings}
+use Rattle.theory.specs.Command.{Command, site, push-leaf, push-condition, push-test, give, name-action, end-model, Read, whole, unknown, short, byte-at, width, command-at, read-at, goes-on, readings-from, readings}
 use Rattle.theory.specs.Valid.{among}
 use Rattle.theory.specs.Verdict.{Verdict, refusal}
 use Rattle.theory.specs.Load.{site-at}
@@ -20,7 +20,7 @@ use Rattle.theory.specs.Name.{names-action, Part, no-part, trimmed, named-part,
 use Rattle.command.proofs.Command.{the-type as command-type}
 use Rattle.command.proofs.Read.{the-type as read-type}
 use Rattle.command.specs.declared.Command.{Command as CodeCommand}
-use Rattle.command.specs.declared.Command.the-variants.{Site, Leaf, Condition, Test, Reward, Chance, Level, Name, End}
+use Rattle.command.specs.declared.Command.the-variants.{Site, Leaf, Condition, Test, Give, Name, End}
 use Rattle.command.specs.declared.Read.{Read as CodeRead}
 use Rattle.command.specs.declared.Read.the-variants.{Whole, Unknown, Short}
 use Rattle.command.specs.Reading.{command-of, read-of, next-at}
@@ -51,16 +51,14 @@ module _ (l : List ℕ) (at : ℕ) where
 
 -- ---- the command that names an action
 
-pub names-other : (a : ℕ) (B : List ℕ) (at : ℕ) (c : CodeCommand) → OneOf (0 ∷ 1 ∷ 2 ∷ 3 ∷ 4 ∷ 5 ∷ 6 ∷ 8 ∷ []) (tagOf command-type c) → false ≡ names-action a (whole (command-of B at c))
+pub names-other : (a : ℕ) (B : List ℕ) (at : ℕ) (c : CodeCommand) → OneOf (0 ∷ 1 ∷ 2 ∷ 3 ∷ 4 ∷ 6 ∷ []) (tagOf command-type c) → false ≡ names-action a (whole (command-of B at c))
 unfolding names-action command-of
 names-other a B at (Site m n b w) k = refl
 names-other a B at (Leaf p) k = refl
 names-other a B at (Condition i) k = refl
 names-other a B at (Test p) k = refl
-names-other a B at (Reward b) k = refl
-names-other a B at (Chance b i) k = refl
-names-other a B at (Level b i) k = refl
-names-other a B at (Name b) k = absurd (miss (0 ∷ 1 ∷ 2 ∷ 3 ∷ 4 ∷ 5 ∷ 6 ∷ 8 ∷ []) 7 tt k)
+names-other a B at (Give x b j) k = refl
+names-other a B at (Name b) k = absurd (miss (0 ∷ 1 ∷ 2 ∷ 3 ∷ 4 ∷ 6 ∷ []) 5 tt k)
 names-other a B at End k = refl
 
 -- a command that names an action is one of 18 bytes
@@ -69,9 +67,7 @@ is-name (site m n a w) = false
 is-name (push-leaf p) = false
 is-name (push-condition k) = false
 is-name (push-test p) = false
-is-name (take-reward a) = false
-is-name (take-chance a k) = false
-is-name (take-level a i) = false
+is-name (give g) = false
 is-name (name-action a b) = true
 is-name end-model = false
 
@@ -81,9 +77,7 @@ named-is a (site m n b w) e = e
 named-is a (push-leaf p) e = e
 named-is a (push-condition k) e = e
 named-is a (push-test p) e = e
-named-is a (take-reward b) e = e
-named-is a (take-chance b k) e = e
-named-is a (take-level b i) e = e
+named-is a (give g) e = e
 named-is a (name-action b t) e = refl
 named-is a end-model e = e
 

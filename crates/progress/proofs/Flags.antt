@@ -1,17 +1,22 @@
 -- A flag for each thing that can be given: places differ, and a store is one thing more.
-use mathlib.Core.Path.{_≡_, refl, sym, ap, _∙_}
+use mathlib.Core.Path.{_≡_, refl, sym, ap, _∙_, subst}
 use mathlib.Core.Bool.{Bool, true, false, _&&_}
 use mathlib.Core.List.{List, [], _∷_}
 use Prim.Native.Nat.{ℕ, zero, suc, _≤_, _<_}
 use native.Mathlib.Omega.{arith}
 use borrow.Author.Tests.{ne-eqb, eq-eqb, eqb-true, eqb-false}
-use lib.Dec.{eqb, eqb→eq, eqb-refl}
+use mathlib.Core.Logic.{⊎-elim}
+use lib.Dec.{T, eqb, eqb→eq, eqb-refl}
 use lib.ListN.{length, getD, set, replicate}
 use lib.Seq.{getD-set-same, getD-set-other}
 use Rattle.whole.specs.Cases.{both, same-bool}
-use Rattle.theory.specs.Verdict.{or, Slot, same-slot, has-slot}
-use Rattle.progress.specs.Standing.{place, Slotted, for-reward, for-chance, for-level, for-name}
-use Rattle.progress.proofs.Numbers.{bounds}
+use Rattle.theory.specs.Command.{Slot}
+use Rattle.theory.specs.Verdict.{or, Site, same-slot, has-slot, reward-slot, chance-slot, level-slot, of-site}
+use Rattle.theory.specs.laws.Rules.{of-site-out}
+use Rattle.theory.specs.Widths.{levels-most, conditions-most, actions-most}
+use Rattle.theory.specs.Valid.{among}
+use Rattle.progress.specs.Standing.{place, base-of, flag-of, Slotted, for-reward, for-chance, for-level, for-name}
+use Rattle.progress.proofs.Numbers.{bounds, is-among}
 
 -- a store past the end changes nothing
 pub set-past : (l : List Bool) (i : ℕ) (x : Bool) → length l ≤ i → l ≡ set l i x
@@ -66,6 +71,20 @@ same-place (for-name {a = a} t) (for-reward {a = b} u) = apart (place 9 0 a) (pl
 same-place (for-name {a = a} t) (for-chance {a = b} {k = l} u v) = apart (place 9 0 a) (place 0 l b) (let x = bounds 8 a t in let y = bounds 8 b u in let z = bounds 4 l v in λ e. omega arith)
 same-place (for-name {a = a} t) (for-level {a = b} {i = l} u v) = apart (place 9 0 a) (place 4 l b) (let x = bounds 8 a t in let y = bounds 8 b u in let z = bounds 4 l v in λ e. omega arith)
 same-place (for-name {a = a} t) (for-name {a = b} u) = one a b (place 9 0 a) (place 9 0 b) (λ e. omega arith) (λ e. omega arith)
+
+-- what the rules let be given
+pub slotted-given : (S : Site) (g : Slot) → S .levels ≤ levels-most → S .conditions ≤ conditions-most → S .actions ≤ actions-most → T (of-site S g) → Slotted g (flag-of g)
+unfolding base-of
+slotted-given S g m n a t =
+    let d = of-site-out S g t in
+    let act : T (among actions-most (g .action)) = is-among actions-most (g .action) (d .0 .0) (let h = d .0 .1 in omega arith) in
+    let from : (h : Slot) → g ≡ h → Slotted h (flag-of h) → Slotted g (flag-of g) = λ h e s. subst (λ (k : Slot). Slotted k (flag-of k)) (sym e) s in
+    ⊎-elim
+    (λ e. from (reward-slot (g .action)) (λ i. record { command = e .0 i; action = g .action; index = e .1 i }) (for-reward act))
+    (⊎-elim
+    (λ e. from (chance-slot (g .action) (g .index)) (λ i. record { command = e .0 i; action = g .action; index = g .index }) (for-chance act (is-among conditions-most (g .index) (e .1 .0) (let h = e .1 .1 in omega arith))))
+    (λ e. from (level-slot (g .action) (g .index)) (λ i. record { command = e .0 i; action = g .action; index = g .index }) (for-level act (is-among levels-most (g .index) (e .1 .0) (let h = e .1 .1 in omega arith)))))
+    (d .1)
 
 -- a flag set is one thing more that is given
 pub flag-more : (G : List Slot) (F : List Bool) {g h : Slot} {i j : ℕ} → length F ≡ 81 → Slotted g i → Slotted h j → has-slot h G ≡ getD F j false

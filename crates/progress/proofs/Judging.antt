@@ -10,13 +10,14 @@ use lib.ListN.{length, length-map, getD}
 use Rattle.theory.specs.Widths.{levels-most, conditions-most, actions-most}
 use Rattle.theory.specs.Diagram.{Linear, zeros}
 use Rattle.theory.specs.Valid.{all, among}
-use Rattle.theory.specs.Command.{Command, push-leaf, push-condition, push-test, take-reward, take-chance, take-level, name-action, end-model}
-use Rattle.theory.specs.Verdict.{or, Facts, Site, Slot, reward-slot, chance-slot, level-slot, name-slot, has-slot, Progress, Rule, rule, first-broken, first-rules, later-rules, rules-of, beyond, next-condition, printable, top, from-to, wanted, wanted-by}
+use Rattle.theory.specs.Command.{Command, push-leaf, push-condition, push-test, give, name-action, end-model, Slot}
+use Rattle.theory.specs.Verdict.{or, Facts, Site, reward-slot, chance-slot, level-slot, name-slot, has-slot, Progress, Rule, rule, first-broken, first-rules, later-rules, rules-of, beyond, next-condition, printable, of-site, may-be, top, from-to, wanted, wanted-by}
 use Rattle.command.specs.Held.{held}
 use Rattle.command.proofs.Stacked.{held-length}
 use Rattle.progress.specs.declared.Progress.{Progress as CodeProgress}
-use Rattle.progress.specs.Standing.{facts-of, site-as, place, for-reward, for-chance, for-level, for-name, Stands, in-order, row-given, action-given, all-given}
+use Rattle.progress.specs.Standing.{facts-of, site-as, place, flag-of, for-reward, for-chance, for-level, for-name, Stands, in-order, row-given, action-given, all-given}
 use Rattle.progress.proofs.Numbers.{bounds, is-among, not-false-T}
+use Rattle.progress.proofs.Flags.{slotted-given}
 use Rattle.progress.proofs.Runs.{run-same, all-map, all-append, and-assoc}
 
 -- ---- the order of the rules
@@ -27,13 +28,6 @@ two-operands true y l = refl
 two-operands false y l = refl
 
 -- rules that a command has none of
-no-diagram : (o k t : Bool) → first-broken (in-order o k t false) ≡ first-broken (rule 4 o ∷ rule 5 k ∷ rule 6 t ∷ [])
-unfolding first-broken
-no-diagram true k t = refl
-no-diagram false true t = refl
-no-diagram false false true = refl
-no-diagram false false false = refl
-
 stack-only : (o k : Bool) → first-broken (in-order o k false false) ≡ first-broken (rule 4 o ∷ rule 5 k ∷ [])
 unfolding first-broken
 stack-only true k = refl
@@ -45,15 +39,6 @@ unfolding first-broken
 no-stack true t = refl
 no-stack false true = refl
 no-stack false false = refl
-
-two-diagrams : (o k t x y : Bool) → first-broken (in-order o k t (or x y)) ≡ first-broken (rule 4 o ∷ rule 5 k ∷ rule 6 t ∷ rule 4 x ∷ rule 4 y ∷ [])
-unfolding first-broken
-two-diagrams true k t x y = refl
-two-diagrams false true t x y = refl
-two-diagrams false false true x y = refl
-two-diagrams false false false true y = refl
-two-diagrams false false false false true = refl
-two-diagrams false false false false false = refl
 
 -- what is given twice matters only where the operands are good
 twice-alike : (o k t u d : Bool) → (o ≡ false → t ≡ u) → first-broken (in-order o k t d) ≡ first-broken (in-order o k u d)
@@ -83,12 +68,6 @@ module _ {s : CodeProgress} {p : Progress} (st : Stands s p) where
   act : (a : ℕ) → not (among (s .site .actions) a) ≡ false → T (among actions-most a)
   act a e = let h = bounds (s .site .actions) a (not-false-T (among (s .site .actions) a) e) in let q = ap (λ (S : Site). S .actions) (st .site) in let m = st .actions in is-among 8 a (omega arith) (omega arith)
 
-  cond : (k : ℕ) → not (among (s .site .conditions) k) ≡ false → T (among conditions-most k)
-  cond k e = let h = bounds (s .site .conditions) k (not-false-T (among (s .site .conditions) k) e) in let q = ap (λ (S : Site). S .conditions) (st .site) in let m = st .conditions in is-among 4 k (omega arith) (omega arith)
-
-  lev : (i : ℕ) → not (among (s .site .levels) i) ≡ false → T (among levels-most i)
-  lev i e = let h = bounds (s .site .levels) i (not-false-T (among (s .site .levels) i) e) in let q = ap (λ (S : Site). S .levels) (st .site) in let m = st .levels in is-among 4 i (omega arith) (omega arith)
-
   pub later-leaf : (P : Linear) → first-broken (in-order (beyond (s .site .levels) P) (leb 32 (s .stack .len)) false false)
       ≡ first-broken (later-rules (p .site) (p .stack) (p .given) (push-leaf P))
   unfolding later-rules
@@ -108,33 +87,13 @@ module _ {s : CodeProgress} {p : Progress} (st : Stands s p) where
       stack-only _ _ ∙ two-operands _ _ _
       ∙ ap₂ (λ (S : Site) (n : ℕ). first-broken (rule 4 (beyond (S .levels) P) ∷ rule 4 (zeros (P .coeffs)) ∷ rule 5 (ltb n 2) ∷ [])) (st .site) depth
 
-  pub later-reward : (a : ℕ) → first-broken (in-order (not (among (s .site .actions) a)) (ltb (s .stack .len) 1) (getD (s .given) (place 0 0 a) false) (facts-of (getD (held (s .stack)) 0 0) .next-step))
-      ≡ first-broken (later-rules (p .site) (p .stack) (p .given) (take-reward a))
+  pub later-give : (g : Slot) → first-broken (in-order (not (of-site (site-as (s .site)) g)) (ltb (s .stack .len) 1) (getD (s .given) (flag-of g) false) (not (may-be g (facts-of (getD (held (s .stack)) 0 0)))))
+      ≡ first-broken (later-rules (p .site) (p .stack) (p .given) (give g))
   unfolding later-rules
-  later-reward a =
-      twice-alike _ _ _ (has-slot (reward-slot a) (p .given)) _ (λ e. sym (st .given (for-reward (act a e))))
-      ∙ ap₂ (λ (S : Site) (n : ℕ). first-broken (in-order (not (among (S .actions) a)) (ltb n 1) (has-slot (reward-slot a) (p .given)) (facts-of (getD (held (s .stack)) 0 0) .next-step))) (st .site) depth
-      ∙ ap (λ (f : Facts). first-broken (in-order (not (among (p .site .actions) a)) (ltb (length (p .stack)) 1) (has-slot (reward-slot a) (p .given)) (f .next-step))) top-is
-
-  pub later-chance : (a k : ℕ) → first-broken (in-order (or (not (among (s .site .actions) a)) (not (among (s .site .conditions) k))) (ltb (s .stack .len) 1) (getD (s .given) (place 0 k a) false)
-      (or (facts-of (getD (held (s .stack)) 0 0) .next-step) (not (facts-of (getD (held (s .stack)) 0 0) .weights))))
-      ≡ first-broken (later-rules (p .site) (p .stack) (p .given) (take-chance a k))
-  unfolding later-rules
-  later-chance a k =
-      twice-alike _ _ _ (has-slot (chance-slot a k) (p .given)) _ (λ e. let n = neither _ _ e in sym (st .given (for-chance (act a (n .0)) (cond k (n .1)))))
-      ∙ two-diagrams _ _ _ _ _ ∙ two-operands _ _ _
-      ∙ ap₂ (λ (S : Site) (n : ℕ). first-broken (rule 4 (not (among (S .actions) a)) ∷ rule 4 (not (among (S .conditions) k)) ∷ rule 5 (ltb n 1) ∷ rule 6 (has-slot (chance-slot a k) (p .given))
-      ∷ rule 4 (facts-of (getD (held (s .stack)) 0 0) .next-step) ∷ rule 4 (not (facts-of (getD (held (s .stack)) 0 0) .weights)) ∷ [])) (st .site) depth
-      ∙ ap (λ (f : Facts). first-broken (rule 4 (not (among (p .site .actions) a)) ∷ rule 4 (not (among (p .site .conditions) k)) ∷ rule 5 (ltb (length (p .stack)) 1)
-      ∷ rule 6 (has-slot (chance-slot a k) (p .given)) ∷ rule 4 (f .next-step) ∷ rule 4 (not (f .weights)) ∷ [])) top-is
-
-  pub later-level : (a i : ℕ) → first-broken (in-order (or (not (among (s .site .actions) a)) (not (among (s .site .levels) i))) (ltb (s .stack .len) 1) (getD (s .given) (place 4 i a) false) false)
-      ≡ first-broken (later-rules (p .site) (p .stack) (p .given) (take-level a i))
-  unfolding later-rules
-  later-level a i =
-      twice-alike _ _ _ (has-slot (level-slot a i) (p .given)) _ (λ e. let n = neither _ _ e in sym (st .given (for-level (act a (n .0)) (lev i (n .1)))))
-      ∙ no-diagram _ _ _ ∙ two-operands _ _ _
-      ∙ ap₂ (λ (S : Site) (n : ℕ). first-broken (rule 4 (not (among (S .actions) a)) ∷ rule 4 (not (among (S .levels) i)) ∷ rule 5 (ltb n 1) ∷ rule 6 (has-slot (level-slot a i) (p .given)) ∷ [])) (st .site) depth
+  later-give g =
+      ap₂ (λ (S : Site) (n : ℕ). first-broken (in-order (not (of-site S g)) (ltb n 1) (getD (s .given) (flag-of g) false) (not (may-be g (facts-of (getD (held (s .stack)) 0 0)))))) (st .site) depth
+      ∙ ap (λ (f : Facts). first-broken (in-order (not (of-site (p .site) g)) (ltb (length (p .stack)) 1) (getD (s .given) (flag-of g) false) (not (may-be g f)))) top-is
+      ∙ twice-alike _ _ _ (has-slot g (p .given)) _ (λ e. sym (st .given (slotted-given (p .site) g (st .levels) (st .conditions) (st .actions) (not-false-T (of-site (p .site) g) e))))
 
   pub later-name : (a : ℕ) (b : List ℕ) → first-broken (in-order (or (not (among (s .site .actions) a)) (not (all printable b))) false (getD (s .given) (place 9 0 a) false) false)
       ≡ first-broken (later-rules (p .site) (p .stack) (p .given) (name-action a b))

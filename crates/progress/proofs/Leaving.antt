@@ -11,16 +11,16 @@ use Rattle.whole.specs.Cases.{if}
 use Rattle.theory.specs.Widths.{stack-most}
 use Rattle.theory.specs.Diagram.{Linear}
 use Rattle.theory.specs.Valid.{among}
-use Rattle.theory.specs.Command.{Command, site, push-leaf, push-condition, push-test, take-reward, take-chance, take-level, name-action, end-model}
-use Rattle.theory.specs.Verdict.{or, Facts, Site, Slot, has-slot, Progress, with-stack, with-slot, at-start, Rule, rule, first-broken, first-rules, later-rules, site-rules, rules-of, after, joined, is-weight}
+use Rattle.theory.specs.Command.{Command, site, push-leaf, push-condition, push-test, give, name-action, end-model, Slot}
+use Rattle.theory.specs.Verdict.{or, Facts, Site, has-slot, Progress, with-stack, with-slot, at-start, Rule, rule, first-broken, first-rules, later-rules, site-rules, rules-of, after, joined, is-weight, of-site}
 use Rattle.command.specs.declared.Command.{Command as CodeCommand}
 use Rattle.command.specs.declared.stack.Stack.{Stack}
 use Rattle.command.specs.Reading.{command-of}
 use Rattle.command.specs.Held.{held, pushed}
 use Rattle.progress.specs.declared.Progress.{Progress as CodeProgress}
-use Rattle.progress.specs.Standing.{facts-of, facts, place, Slotted, for-reward, for-chance, for-level, for-name, Stands, Leaves, Later}
+use Rattle.progress.specs.Standing.{facts-of, facts, place, flag-of, Slotted, for-name, Stands, Leaves, Later}
 use Rattle.progress.proofs.Numbers.{bounds, is-among, not-false-T}
-use Rattle.progress.proofs.Flags.{flag-more, no-flag}
+use Rattle.progress.proofs.Flags.{flag-more, no-flag, slotted-given}
 
 -- ---- rules that are not broken
 
@@ -152,28 +152,12 @@ module _ {s : CodeProgress} {p : Progress} (st : Stands s p) where
   taken-keeps t h sl =
       keep-flag t _ sl (ap (map facts-of) h ∙ map-drop-one (held (s .stack)) ∙ ap (drop 1) (st .stack)) (let z = st .sized in omega (arith, length-drop-one (p .stack)))
 
-  pub after-reward : (a : ℕ) (t : Stack) → held t ≡ drop 1 (held (s .stack)) → first-broken (rules-of p (take-reward a)) ≡ 0
-      → Stands (record { begun = s .begun; site = s .site; stack = t; given = set (s .given) (place 0 0 a) true }) (after p (take-reward a))
+  pub after-give : (g : Slot) (t : Stack) → held t ≡ drop 1 (held (s .stack)) → first-broken (rules-of p (give g)) ≡ 0
+      → Stands (record { begun = s .begun; site = s .site; stack = t; given = set (s .given) (flag-of g) true }) (after p (give g))
   unfolding after first-rules later-rules
-  after-reward a t h u =
-      let v = passes 3 _ _ (later-unbroken p (take-reward a) (one-rule 1) u) in
-      taken-keeps t h (for-reward (good (p .site .actions) a 8 (st .actions) (v .0)))
-
-  pub after-chance : (a k : ℕ) (t : Stack) → held t ≡ drop 1 (held (s .stack)) → first-broken (rules-of p (take-chance a k)) ≡ 0
-      → Stands (record { begun = s .begun; site = s .site; stack = t; given = set (s .given) (place 0 k a) true }) (after p (take-chance a k))
-  unfolding after first-rules later-rules
-  after-chance a k t h u =
-      let v = passes 3 _ _ (later-unbroken p (take-chance a k) (one-rule 1) u) in
-      let w = passes 3 _ _ (v .1) in
-      taken-keeps t h (for-chance (good (p .site .actions) a 8 (st .actions) (v .0)) (good (p .site .conditions) k 4 (st .conditions) (w .0)))
-
-  pub after-level : (a i : ℕ) (t : Stack) → held t ≡ drop 1 (held (s .stack)) → first-broken (rules-of p (take-level a i)) ≡ 0
-      → Stands (record { begun = s .begun; site = s .site; stack = t; given = set (s .given) (place 4 i a) true }) (after p (take-level a i))
-  unfolding after first-rules later-rules
-  after-level a i t h u =
-      let v = passes 3 _ _ (later-unbroken p (take-level a i) (one-rule 1) u) in
-      let w = passes 3 _ _ (v .1) in
-      taken-keeps t h (for-level (good (p .site .actions) a 8 (st .actions) (v .0)) (good (p .site .levels) i 4 (st .levels) (w .0)))
+  after-give g t h u =
+      let v = passes 3 _ _ (later-unbroken p (give g) (one-rule 1) u) in
+      taken-keeps t h (slotted-given (p .site) g (st .levels) (st .conditions) (st .actions) (not-false-T (of-site (p .site) g) (v .0)))
 
   pub after-name : (a : ℕ) (b : List ℕ) → first-broken (rules-of p (name-action a b)) ≡ 0
       → Stands (record { begun = s .begun; site = s .site; stack = s .stack; given = set (s .given) (place 9 0 a) true }) (after p (name-action a b))

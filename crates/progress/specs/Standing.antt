@@ -5,10 +5,11 @@ use mathlib.Core.List.{List, [], _∷_, map}
 use Prim.Native.Nat.{ℕ, _+_, _*_, _%_, _≤_}
 use lib.Dec.{T, eqb, leb}
 use lib.ListN.{length, getD}
+use Rattle.whole.specs.Cases.{if}
 use Rattle.theory.specs.Widths.{levels-most, conditions-most, actions-most, stack-most}
 use Rattle.theory.specs.Valid.{all, among}
-use Rattle.theory.specs.Command.{Command}
-use Rattle.theory.specs.Verdict.{Site, site-of, Facts, Slot, reward-slot, chance-slot, level-slot, name-slot, has-slot, Progress, rule, Rule, first-broken, rules-of, later-rules, after, from-to}
+use Rattle.theory.specs.Command.{Command, Slot}
+use Rattle.theory.specs.Verdict.{Site, site-of, Facts, reward-slot, chance-slot, level-slot, name-slot, has-slot, Progress, rule, Rule, first-broken, rules-of, later-rules, after, from-to}
 use Rattle.command.specs.declared.Command.{Command as CodeCommand}
 use Rattle.command.specs.declared.stack.Stack.{Stack}
 use Rattle.command.specs.Reading.{command-of}
@@ -29,6 +30,14 @@ facts t = map facts-of (held t)
 -- the place of a flag: ten rows of the eight actions, rewards in row 0, chances in 1 to 4, next levels in 5 to 8, names in 9
 abbrev pub place : ℕ → ℕ → ℕ → ℕ
 place base i a = (base + i) * 8 + a
+
+-- the base of what a command gives
+unfoldable pub base-of : ℕ → ℕ
+base-of c = if (eqb c 0x22) 4 0
+
+-- the place of what is given
+abbrev pub flag-of : Slot → ℕ
+flag-of g = place (base-of (g .command)) (g .index) (g .action)
 
 -- what can be given, and its flag's place
 pub data Slotted : Slot → ℕ → Type 0 where

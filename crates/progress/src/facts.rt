@@ -1,12 +1,13 @@
 // "These rules judge each leaf and condition as written": two facts of a diagram, kept in one number on the stack.
 ghost use mathlib.Core.Path.{_≡_};
-ghost use Prim.Native.Nat.{_≤_};
+ghost use Prim.Native.Nat.{ℕ, _≤_};
 ghost use lib.ListN.{length};
 ghost use Rattle.whole.specs.Cases.{if};
 ghost use mathlib.Core.Bool.{_&&_, false};
 ghost use Rattle.theory.specs.Widths.{stack-most};
 ghost use Rattle.theory.specs.Verdict.{or, is-weight};
 ghost use Rattle.theory.specs.Verdict.{joined as joined-facts};
+ghost use Rattle.theory.specs.Verdict.{may-be as may-be-given};
 ghost use Rattle.command.specs.Reading.{linear-of};
 ghost use Rattle.command.specs.Held.{held};
 ghost use Rattle.progress.specs.Standing.{facts-of};
@@ -48,6 +49,16 @@ pub fn all_weights(x: u32) -> bool
     ensures { λ r. ⌜ r ≡ facts-of x .weights ⌝ }
 {
     x % 2 == 1
+}
+
+// What is given: "Next-step conditions stand only in next levels"; "The leaves of a chance are constants 0 to W".
+pub fn may_be(command: u8, x: u32) -> bool
+    ensures { λ r. ⌜ ((a i : ℕ) → r ≡ may-be-given (record { command = command; action = a; index = i }) (facts-of x)) ⌝ }
+{
+    both(
+        either(command == 0x22, !has_next_step(x)),
+        either(command != 0x21, all_weights(x)),
+    )
 }
 
 pub fn leaf_entry(w: u8, p: Linear) -> u32

@@ -3,7 +3,7 @@ ghost use mathlib.Core.Path.{_≡_};
 ghost use mathlib.Core.Bool.{true, false};
 ghost use Prim.Native.Nat.{_≤_, _<_};
 ghost use lib.ListN.{getD, set};
-ghost use Rattle.progress.specs.Standing.{row-given, action-given, all-given, site-as};
+ghost use Rattle.progress.specs.Standing.{base-of, row-given, action-given, all-given, site-as};
 ghost use Rattle.progress.specs.Standing.{place as place-of};
 use super::Site;
 
@@ -19,6 +19,13 @@ pub fn place(base: usize, i: u8, a: u8) -> usize
     ensures { λ r. ⌜ r ≡ place-of base i a ⌝ }
 {
     (base + wide(i)) * 8 + wide(a)
+}
+
+// The base of what a command gives.
+pub fn base(command: u8) -> usize
+    ensures { λ r. ⌜ (r ≡ base-of command) × (r < 256) ⌝ }
+{
+    if command == 0x22 { 4 } else { 0 }
 }
 
 pub fn has(given: [bool; 81], i: usize) -> bool

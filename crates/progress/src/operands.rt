@@ -2,7 +2,7 @@
 ghost use mathlib.Core.Path.{_≡_};
 ghost use mathlib.Core.Bool.{_&&_, not, true};
 ghost use mathlib.Core.List.{[]};
-ghost use lib.Dec.{isEq, ltb};
+ghost use lib.Dec.{isEq, eqb, ltb};
 ghost use lib.IntN.{pos};
 ghost use lib.ListN.{take, drop};
 ghost use lib.Signed.{leZ};
@@ -11,10 +11,13 @@ ghost use Rattle.theory.specs.Diagram.{cmpZ};
 ghost use Rattle.theory.specs.Diagram.{zeros as zeros-in};
 ghost use Rattle.theory.specs.Valid.{all};
 ghost use Rattle.theory.specs.Valid.{among as is-among};
-ghost use Rattle.theory.specs.Verdict.{or, next-condition, first-broken, site-rules, site-of, is-weight};
+ghost use Rattle.theory.specs.Verdict.{or, next-condition, first-broken, site-rules, site-of, is-weight, of-site};
+ghost use Rattle.progress.specs.Standing.{site-as};
+ghost use Rattle.whole.specs.Cases.{if};
 ghost use Rattle.theory.specs.Verdict.{beyond as some-beyond};
 ghost use Rattle.theory.specs.Verdict.{printable as is-printable};
 ghost use Rattle.command.specs.Reading.{linear-of};
+use super::Site;
 use super::facts::both;
 use super::facts::either;
 use command::Linear;
@@ -79,6 +82,24 @@ pub fn condition(n: u8, k: u8) -> bool
     } else {
         among(n, k)
     }
+}
+
+fn index(site: Site, command: u8, i: u8) -> bool
+    ensures { λ r. ⌜ r ≡ if (eqb command 0x20) (eqb i 0) (if (eqb command 0x21) (is-among (site .conditions) i) (eqb command 0x22 && is-among (site .levels) i)) ⌝ }
+{
+    match command {
+        0x20 => i == 0,
+        0x21 => among(site.conditions, i),
+        0x22 => among(site.levels, i),
+        _ => false,
+    }
+}
+
+// "20 reward: action", "21 chance: action, condition", "22 next level: action, level": each is one of the site's.
+pub fn slot(site: Site, command: u8, a: u8, i: u8) -> bool
+    ensures { λ r. ⌜ r ≡ of-site (site-as site) (record { command = command; action = a; index = i }) ⌝ }
+{
+    both(among(site.actions, a), index(site, command, i))
 }
 
 fn printable(b: u8) -> bool

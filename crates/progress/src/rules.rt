@@ -3,7 +3,8 @@ ghost use mathlib.Core.Path.{_≡_};
 ghost use Prim.Native.Nat.{ℕ, _<_};
 ghost use lib.ListN.{length};
 ghost use mathlib.Core.List.{List};
-ghost use Rattle.theory.specs.Command.{push-leaf, push-condition, push-test, take-reward, take-chance, take-level, name-action, end-model};
+ghost use Rattle.theory.specs.Command.{push-leaf, push-condition, push-test, name-action, end-model};
+ghost use Rattle.theory.specs.Command.{give as given-to};
 ghost use Rattle.theory.specs.Valid.{all};
 ghost use Rattle.theory.specs.Verdict.{printable, first-broken, first-rules};
 ghost use Rattle.command.specs.Reading.{command-of, linear-of};
@@ -58,48 +59,20 @@ fn test(s: Progress, p: Linear) -> u32
     ordered(operand, short, false, false)
 }
 
-fn reward(s: Progress, a: u8) -> u32
-    ensures { λ r. ⌜ Later s (take-reward a) r ⌝ }
+fn give(s: Progress, c: u8, a: u8, i: u8) -> u32
+    ensures { λ r. ⌜ Later s (given-to (record { command = c; action = a; index = i })) r ⌝ }
 {
     let short = s.stack.len < 1;
     let flags = s.given;
     let stack = s.stack;
-    let twice = given::has(flags, given::place(0, 0, a));
+    let site = s.site;
+    let twice = given::has(flags, given::place(given::base(c), i, a));
     ordered(
-        !operands::among(s.site.actions, a),
+        !operands::slot(site, c, a, i),
         short,
         twice,
-        facts::has_next_step(stack.top()),
+        !facts::may_be(c, stack.top()),
     )
-}
-
-fn chance(s: Progress, a: u8, k: u8) -> u32
-    ensures { λ r. ⌜ Later s (take-chance a k) r ⌝ }
-{
-    let short = s.stack.len < 1;
-    let flags = s.given;
-    let stack = s.stack;
-    let twice = given::has(flags, given::place(0, k, a));
-    let operand = facts::either(
-        !operands::among(s.site.actions, a),
-        !operands::among(s.site.conditions, k),
-    );
-    let top = stack.top();
-    let diagram = facts::either(facts::has_next_step(top), !facts::all_weights(top));
-    ordered(operand, short, twice, diagram)
-}
-
-fn level(s: Progress, a: u8, i: u8) -> u32
-    ensures { λ r. ⌜ Later s (take-level a i) r ⌝ }
-{
-    let short = s.stack.len < 1;
-    let flags = s.given;
-    let twice = given::has(flags, given::place(4, i, a));
-    let operand = facts::either(
-        !operands::among(s.site.actions, a),
-        !operands::among(s.site.levels, i),
-    );
-    ordered(operand, short, twice, false)
 }
 
 // `text`: whether the name's bytes are printable.
@@ -143,9 +116,7 @@ fn later(model: &[u8], at: usize, c: Command, s: Progress) -> u32
         Command::Leaf(p) => leaf(s, p),
         Command::Condition(k) => condition(s, k),
         Command::Test(p) => test(s, p),
-        Command::Reward(a) => reward(s, a),
-        Command::Chance(a, k) => chance(s, a, k),
-        Command::Level(a, i) => level(s, a, i),
+        Command::Give(c, a, i) => give(s, c, a, i),
         Command::Name(a) => name(s, a, operands::text(model, at + 2)),
         Command::End => end(s),
     }

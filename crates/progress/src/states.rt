@@ -92,17 +92,9 @@ pub fn after(s: Progress, c: Command) -> Progress
             let stack = s.stack;
             with_stack(s, facts::joined(stack, false))
         }
-        Command::Reward(a) => {
+        Command::Give(c, a, i) => {
             let stack = s.stack;
-            with_flag(s, stack.pop(), given::place(0, 0, a))
-        }
-        Command::Chance(a, k) => {
-            let stack = s.stack;
-            with_flag(s, stack.pop(), given::place(0, k, a))
-        }
-        Command::Level(a, i) => {
-            let stack = s.stack;
-            with_flag(s, stack.pop(), given::place(4, i, a))
+            with_flag(s, stack.pop(), given::place(given::base(c), i, a))
         }
         Command::Name(a) => {
             let stack = s.stack;

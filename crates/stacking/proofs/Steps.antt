@@ -18,14 +18,13 @@ use Rattle.theory.specs.Widths.{stack-most, conditions-most}
 use Rattle.theory.specs.Diagram.{Linear, Test, Tree, leaf, plain, test-of}
 use Rattle.theory.specs.Computation.{Comp, ret, bind, make, Out, done, stopped, run}
 use Rattle.theory.specs.Rules.{choose}
-use Rattle.theory.specs.Command.{Command, site, push-leaf, push-condition, push-test, take-reward, take-chance, take-level, name-action, end-model, whole, read-at}
-use Rattle.theory.specs.Verdict.{Slot, reward-slot, chance-slot, level-slot}
+use Rattle.theory.specs.Command.{Command, site, push-leaf, push-condition, push-test, name-action, end-model, whole, read-at, give, Slot}
 use Rattle.theory.specs.Load.{Entry, Loaded as Loading, condition-test, load-choice, load-choice-with, load-entry, load-one, load-one-with}
 use Rattle.theory.specs.laws.Comps.{after, run-bind}
 use Rattle.command.proofs.Command.{the-type as command-type}
 use Rattle.command.specs.declared.Linear.{Linear as CodeLinear}
 use Rattle.command.specs.declared.Command.{Command as CodeCommand}
-use Rattle.command.specs.declared.Command.the-variants.{Site, Leaf, Condition, Test as TestBy, Reward, Chance, Level, Name, End}
+use Rattle.command.specs.declared.Command.the-variants.{Site, Leaf, Condition, Test as TestBy, Give, Name, End}
 use Rattle.command.specs.Held.{held, pushed}
 use Rattle.command.specs.Reading.{linear-of, command-of}
 use Rattle.diagrams.specs.Nodes.{none, linOf, leafOf, treeOf, trees, treeAt, Nums, Valid, Grown}
@@ -273,29 +272,19 @@ module _ {B : List ℕ} {cap : ℕ} {l : List ℤ} {w : List ℕ} {at : ℕ} {s 
       still-step c y (P .stop) (P .count) (drop 1 (held (s .stack))) (P .stack) (below-drop (s .count) (held (s .stack)) (y .below)) (length-drop (held (s .stack)) ∙ up)
       (λ E. is _ E ∙ (entry-one g _ E ∙ ap₂ (λ (X : List Tree) (F : List Entry). ret (loading X F)) (sym (standing-drop l (s .count) (held (s .stack)))) (sym (en _ E))))
 
-  pub reward-step : (a : ℕ) → Ready B cap l w at (take-reward a) s → Popped s r → Stepped B cap l w (take-reward a) (s .count) (held (s .stack)) l w r
+  pub give-step : (g : Slot) → Ready B cap l w at (give g) s → Popped s r → Stepped B cap l w (give g) (s .count) (held (s .stack)) l w r
   unfolding height entered load-one-with
-  reward-step a y P = took (take-reward a) (reward-slot a) y P refl (λ X E. refl) (λ X E. refl)
-
-  pub chance-step : (a k : ℕ) → Ready B cap l w at (take-chance a k) s → Popped s r → Stepped B cap l w (take-chance a k) (s .count) (held (s .stack)) l w r
-  unfolding height entered load-one-with
-  chance-step a k y P = took (take-chance a k) (chance-slot a k) y P refl (λ X E. refl) (λ X E. refl)
-
-  pub level-step : (a i : ℕ) → Ready B cap l w at (take-level a i) s → Popped s r → Stepped B cap l w (take-level a i) (s .count) (held (s .stack)) l w r
-  unfolding height entered load-one-with
-  level-step a i y P = took (take-level a i) (level-slot a i) y P refl (λ X E. refl) (λ X E. refl)
+  give-step g y P = took (give g) g y P refl (λ X E. refl) (λ X E. refl)
 
 -- a command that leaves all as it is
 module _ {B : List ℕ} {cap : ℕ} {l : List ℤ} {w : List ℕ} {at : ℕ} {s : Loaded} where
-  pub other-step : (d : CodeCommand) → OneOf (0 ∷ 7 ∷ 8 ∷ []) (tagOf command-type d) → Ready B cap l w at (command-of B at d) s → Stepped B cap l w (command-of B at d) (s .count) (held (s .stack)) l w s
+  pub other-step : (d : CodeCommand) → OneOf (0 ∷ 5 ∷ 6 ∷ []) (tagOf command-type d) → Ready B cap l w at (command-of B at d) s → Stepped B cap l w (command-of B at d) (s .count) (held (s .stack)) l w s
   unfolding command-of height entered load-one-with
   other-step (Site m n a v) k y = still-step (site m n a v) y refl refl (held (s .stack)) refl (y .below) refl (λ E. refl)
-  other-step (Leaf p) k y = absurd (miss (0 ∷ 7 ∷ 8 ∷ []) 1 tt k)
-  other-step (Condition i) k y = absurd (miss (0 ∷ 7 ∷ 8 ∷ []) 2 tt k)
-  other-step (TestBy p) k y = absurd (miss (0 ∷ 7 ∷ 8 ∷ []) 3 tt k)
-  other-step (Reward a) k y = absurd (miss (0 ∷ 7 ∷ 8 ∷ []) 4 tt k)
-  other-step (Chance a i) k y = absurd (miss (0 ∷ 7 ∷ 8 ∷ []) 5 tt k)
-  other-step (Level a i) k y = absurd (miss (0 ∷ 7 ∷ 8 ∷ []) 6 tt k)
+  other-step (Leaf p) k y = absurd (miss (0 ∷ 5 ∷ 6 ∷ []) 1 tt k)
+  other-step (Condition i) k y = absurd (miss (0 ∷ 5 ∷ 6 ∷ []) 2 tt k)
+  other-step (TestBy p) k y = absurd (miss (0 ∷ 5 ∷ 6 ∷ []) 3 tt k)
+  other-step (Give x a j) k y = absurd (miss (0 ∷ 5 ∷ 6 ∷ []) 4 tt k)
   other-step (Name a) k y = still-step (name-action a _) y refl refl (held (s .stack)) refl (y .below) refl (λ E. refl)
   other-step End k y = still-step end-model y refl refl (held (s .stack)) refl (y .below) refl (λ E. refl)
 

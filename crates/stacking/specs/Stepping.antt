@@ -10,8 +10,7 @@ use Rattle.table.specs.declared.Made.{Made}
 use Rattle.theory.specs.Widths.{stack-most, conditions-most}
 use Rattle.theory.specs.Diagram.{Tree}
 use Rattle.theory.specs.Computation.{Comp, done, stopped, run}
-use Rattle.theory.specs.Command.{Command, site, push-leaf, push-condition, push-test, take-reward, take-chance, take-level, name-action, end-model, whole, read-at}
-use Rattle.theory.specs.Verdict.{Slot, reward-slot, chance-slot, level-slot}
+use Rattle.theory.specs.Command.{Command, site, push-leaf, push-condition, push-test, give, name-action, end-model, whole, read-at, Slot}
 use Rattle.theory.specs.Load.{Entry, Loaded as Loading, load-one}
 use Rattle.command.specs.Held.{held, pushed}
 use Rattle.diagrams.specs.Nodes.{trees, treeAt, Grown}
@@ -59,9 +58,7 @@ Able (site m n a w) h = T true
 Able (push-leaf p) h = h < stack-most
 Able (push-condition k) h = (2 ≤ h) × (h ≤ stack-most) × (0 < k) × (k ≤ conditions-most + conditions-most)
 Able (push-test p) h = (2 ≤ h) × (h ≤ stack-most)
-Able (take-reward a) h = T true
-Able (take-chance a k) h = T true
-Able (take-level a i) h = T true
+Able (give g) h = T true
 Able (name-action a b) h = T true
 Able end-model h = T true
 
@@ -71,9 +68,7 @@ height (site m n a w) h = h
 height (push-leaf p) h = suc h
 height (push-condition k) h = h - 1
 height (push-test p) h = h - 1
-height (take-reward a) h = h - 1
-height (take-chance a k) h = h - 1
-height (take-level a i) h = h - 1
+height (give g) h = h - 1
 height (name-action a b) h = h
 height end-model h = h
 
@@ -87,9 +82,7 @@ entered (site m n a w) X E = E
 entered (push-leaf p) X E = E
 entered (push-condition k) X E = E
 entered (push-test p) X E = E
-entered (take-reward a) X E = given-to (reward-slot a) X E
-entered (take-chance a k) X E = given-to (chance-slot a k) X E
-entered (take-level a i) X E = given-to (level-slot a i) X E
+entered (give g) X E = given-to g X E
 entered (name-action a b) X E = E
 entered end-model X E = E
 

@@ -114,9 +114,7 @@ pub fn step(
         Command::Leaf(p) => leaf(nodes, work, cap, s, p),
         Command::Condition(_) => choice(model, nodes, work, cap, at, s),
         Command::Test(_) => choice(model, nodes, work, cap, at, s),
-        Command::Reward(_) => taken(s),
-        Command::Chance(_, _) => taken(s),
-        Command::Level(_, _) => taken(s),
+        Command::Give(_, _, _) => taken(s),
         _ => s,
     }
 }

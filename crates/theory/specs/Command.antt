@@ -9,15 +9,19 @@ use Rattle.whole.specs.Cases.{if}
 use Rattle.theory.specs.Widths.{levels-most, name-bytes}
 use Rattle.theory.specs.Diagram.{Linear}
 
+-- what is given to an action: the command's byte, the action, the condition or level (0 where there is none)
+pub record Slot : Type 0 where
+  pub command : ℕ
+  pub action : ℕ
+  pub index : ℕ
+
 -- the commands, with their operands as they are written
 pub data Command : Type 0 where
   site : ℕ → ℕ → ℕ → ℕ → Command
   push-leaf : Linear → Command
   push-condition : ℕ → Command
   push-test : Linear → Command
-  take-reward : ℕ → Command
-  take-chance : ℕ → ℕ → Command
-  take-level : ℕ → ℕ → Command
+  give : Slot → Command
   name-action : ℕ → List ℕ → Command
   end-model : Command
 
@@ -71,9 +75,9 @@ command-at B at =
     (if (eqb op 0x10) (push-leaf (linear-at B (at + 1)))
     (if (eqb op 0x11) (push-condition x)
     (if (eqb op 0x12) (push-test (linear-at B (at + 1)))
-    (if (eqb op 0x20) (take-reward x)
-    (if (eqb op 0x21) (take-chance x y)
-    (if (eqb op 0x22) (take-level x y)
+    (if (eqb op 0x20) (give (record { command = 0x20; action = x; index = 0 }))
+    (if (eqb op 0x21) (give (record { command = 0x21; action = x; index = y }))
+    (if (eqb op 0x22) (give (record { command = 0x22; action = x; index = y }))
     (if (eqb op 0x30) (name-action x (take name-bytes (drop (at + 2) B)))
     end-model)))))))
 
@@ -97,9 +101,7 @@ goes-on (whole c) = elim c [
   | push-leaf p ↦ true
   | push-condition k ↦ true
   | push-test p ↦ true
-  | take-reward a ↦ true
-  | take-chance a k ↦ true
-  | take-level a i ↦ true
+  | give g ↦ true
   | name-action a b ↦ true
   | end-model ↦ false
 ]

@@ -8,8 +8,8 @@ use Rattle.theory.specs.Diagram.{Test, now, later, Tree, leaf, branch, p
 use Rattle.theory.specs.Computation.{Comp, ret, bind, make, result}
 use Rattle.theory.specs.Rules.{choose, zero-leaf}
 use Rattle.theory.specs.Meaning.{Action, Model}
-use Rattle.theory.specs.Command.{Command, site, push-leaf, push-condition, push-test, take-reward, take-chance, take-level, name-action, end-model, whole, unknown, short, Placed, byte-at, readings}
-use Rattle.theory.specs.Verdict.{Site, site-of, Slot, same-slot, reward-slot, chance-slot, level-slot, from-to}
+use Rattle.theory.specs.Command.{Command, site, push-leaf, push-condition, push-test, give, name-action, end-model, whole, unknown, short, Placed, byte-at, readings, Slot}
+use Rattle.theory.specs.Verdict.{Site, site-of, same-slot, reward-slot, chance-slot, level-slot, from-to}
 
 -- a diagram and what it was given as
 pub record Entry : Type 0 where
@@ -48,9 +48,7 @@ module _ (by : Test → Tree → Tree → Comp Tree) where
   load-one-with (push-leaf p) s = bind (make (leaf (plain p))) (λ t. ret (push t s))
   load-one-with (push-condition k) s = load-choice-with (condition-test k) (s .stack) (s .entries)
   load-one-with (push-test p) s = load-choice-with (test-of p) (s .stack) (s .entries)
-  load-one-with (take-reward a) s = load-entry (reward-slot a) (s .stack) (s .entries)
-  load-one-with (take-chance a k) s = load-entry (chance-slot a k) (s .stack) (s .entries)
-  load-one-with (take-level a i) s = load-entry (level-slot a i) (s .stack) (s .entries)
+  load-one-with (give g) s = load-entry g (s .stack) (s .entries)
   load-one-with (name-action a b) s = ret s
   load-one-with end-model s = ret s
 

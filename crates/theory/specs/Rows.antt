@@ -12,8 +12,8 @@ use lib.Signed.{_≤ℤ_}
 use Rattle.whole.specs.Numerator.{words}
 use Rattle.theory.specs.Diagram.{Tree, zeros}
 use Rattle.theory.specs.Computation.{solved, refused}
-use Rattle.theory.specs.Command.{Command, site, push-leaf, push-condition, push-test, take-reward, take-chance, take-level, name-action, end-model, whole, readings, byte-at, width, command-at}
-use Rattle.theory.specs.Verdict.{Verdict, refusal, Site, Facts, Slot, Progress, at-start, after, top, reward-slot, chance-slot, level-slot, name-slot}
+use Rattle.theory.specs.Command.{Command, site, push-leaf, push-condition, push-test, name-action, end-model, whole, readings, byte-at, width, command-at, give, Slot}
+use Rattle.theory.specs.Verdict.{Verdict, refusal, Site, Facts, Progress, at-start, after, top, reward-slot, chance-slot, level-slot, name-slot}
 use Rattle.theory.specs.Load.{site-at, model}
 use Rattle.theory.specs.Solve.{solve-in, SolveOut, solved-nodes, solved-stages}
 use Rattle.theory.specs.Value.{Asked, accepted, state-of, node-word, node-linear, high-of, low-of, numerator-of, taken, ValueOut, refused-value}
@@ -49,15 +49,23 @@ abbrev pub AllGiven : Site → List Slot → Type 0
 AllGiven S G = (a : ℕ) → Range 1 (S .actions) a → List·Memᴰ (reward-slot a) G
     × (((k : ℕ) → Range 1 (S .conditions) k → List·Memᴰ (chance-slot a k) G) × ((i : ℕ) → Range 1 (S .levels) i → List·Memᴰ (level-slot a i) G))
 
+-- "20 reward: action", "21 chance: action, condition", "22 next level: action, level": each is one of the site's
+abbrev pub OfSite : Site → Slot → Type 0
+OfSite S g =
+    Range 1 (S .actions) (g .action)
+    × (((g .command ≡ 0x20) × (g .index ≡ 0)) ⊎ (((g .command ≡ 0x21) × Range 1 (S .conditions) (g .index)) ⊎ ((g .command ≡ 0x22) × Range 1 (S .levels) (g .index))))
+
+-- "Next-step conditions stand only in next levels"; "The leaves of a chance are constants 0 to W"
+abbrev pub MayBe : Slot → Facts → Type 0
+MayBe g f = (T (f .next-step) → g .command ≡ 0x22) × (g .command ≡ 0x21 → T (f .weights))
+
 -- "01 site: m levels (1 to 4), n conditions (0 to 4), A actions (1 to 8), weight total W (1 to 100) .. It is first and only there."
 abbrev pub first-asks : Command → Rules
 first-asks (site m n a w) = asks 4 (Range 1 4 m) (asks 4 (n ≤ 4) (asks 4 (Range 1 8 a) (asks 4 (Range 1 100 w) none)))
 first-asks (push-leaf p) = asks 1 ⊥ none
 first-asks (push-condition k) = asks 1 ⊥ none
 first-asks (push-test p) = asks 1 ⊥ none
-first-asks (take-reward a) = asks 1 ⊥ none
-first-asks (take-chance a k) = asks 1 ⊥ none
-first-asks (take-level a i) = asks 1 ⊥ none
+first-asks (give g) = asks 1 ⊥ none
 first-asks (name-action a b) = asks 1 ⊥ none
 first-asks end-model = asks 1 ⊥ none
 
@@ -70,15 +78,8 @@ later-asks S K G (push-leaf p) = asks 4 (T (zeros (drop (S .levels) (p .coeffs))
 later-asks S K G (push-condition k) = asks 4 (Range 1 (S .conditions) k ⊎ Range 5 (4 + S .conditions) k) (asks 5 (2 ≤ length K) none)
 -- "A test has some coefficient not zero."
 later-asks S K G (push-test p) = asks 4 (T (zeros (drop (S .levels) (p .coeffs)))) (asks 4 (T (zeros (p .coeffs)) → ⊥) (asks 5 (2 ≤ length K) none))
--- "6: given twice"; "Next-step conditions stand only in next levels."
-later-asks S K G (take-reward a) =
-    asks 4 (Range 1 (S .actions) a) (asks 5 (1 ≤ length K) (asks 6 (List·Memᴰ (reward-slot a) G → ⊥) (asks 4 (T (top K .next-step) → ⊥) none)))
--- "The leaves of a chance are constants 0 to W"
-later-asks S K G (take-chance a k) =
-    asks 4 (Range 1 (S .actions) a) (asks 4 (Range 1 (S .conditions) k) (asks 5 (1 ≤ length K) (asks 6 (List·Memᴰ (chance-slot a k) G → ⊥)
-    (asks 4 (T (top K .next-step) → ⊥) (asks 4 (T (top K .weights)) none)))))
-later-asks S K G (take-level a i) =
-    asks 4 (Range 1 (S .actions) a) (asks 4 (Range 1 (S .levels) i) (asks 5 (1 ≤ length K) (asks 6 (List·Memᴰ (level-slot a i) G → ⊥) none)))
+-- "6: given twice"
+later-asks S K G (give g) = asks 4 (OfSite S g) (asks 5 (1 ≤ length K) (asks 6 (List·Memᴰ g G → ⊥) (asks 4 (MayBe g (top K)) none)))
 -- "30 name: action, 16 bytes, each 20 to 7E. Optional; at most one per action."
 later-asks S K G (name-action a b) =
     asks 4 (Range 1 (S .actions) a) (asks 4 ((x : ℕ) → List·Memᴰ x b → Range 0x20 0x7e x) (asks 6 (List·Memᴰ (name-slot a) G → ⊥) none))

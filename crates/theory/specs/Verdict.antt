@@ -10,7 +10,7 @@ use Rattle.whole.specs.Cases.{if}
 use Rattle.theory.specs.Widths.{levels-most, conditions-most, actions-most, weights-most, stack-most}
 use Rattle.theory.specs.Diagram.{Linear, zeros}
 use Rattle.theory.specs.Valid.{all, among}
-use Rattle.theory.specs.Command.{Command, site, push-leaf, push-condition, push-test, take-reward, take-chance, take-level, name-action, end-model, whole, unknown, short, Placed, readings}
+use Rattle.theory.specs.Command.{Command, site, push-leaf, push-condition, push-test, give, Slot, name-action, end-model, whole, unknown, short, Placed, readings}
 
 -- one or the other
 abbrev pub or : Bool → Bool → Bool
@@ -27,12 +27,6 @@ pub record Site : Type 0 where
 pub record Facts : Type 0 where
   pub next-step : Bool
   pub weights : Bool
-
--- what is given to an action: the command's byte, the action, the condition or level (0 where there is none)
-pub record Slot : Type 0 where
-  pub command : ℕ
-  pub action : ℕ
-  pub index : ℕ
 
 -- the commands so far: whether the site is there, the stack (its top first) and what has been given
 pub record Progress : Type 0 where
@@ -100,12 +94,22 @@ printable b = leb 0x20 b && leb b 0x7e
 unfoldable pub is-weight : ℕ → Linear → Bool
 is-weight W p = zeros (p .coeffs) && (leZ (pos 0) (p .const) && leZ (p .const) (pos W))
 
+-- "20 reward: action", "21 chance: action, condition", "22 next level: action, level": each is one of the site's
+unfoldable pub of-site : Site → Slot → Bool
+of-site S g =
+    among (S .actions) (g .action)
+    && (if (eqb (g .command) 0x20) (eqb (g .index) 0) (if (eqb (g .command) 0x21) (among (S .conditions) (g .index)) (eqb (g .command) 0x22 && among (S .levels) (g .index))))
+
 -- ---- the stack
 
 -- the top of the stack
 abbrev pub top : List Facts → Facts
 top [] = record { next-step = false; weights = false }
 top (f ∷ l) = f
+
+-- "Next-step conditions stand only in next levels"; "The leaves of a chance are constants 0 to W"
+unfoldable pub may-be : Slot → Facts → Bool
+may-be g f = or (eqb (g .command) 0x22) (not (f .next-step)) && or (not (eqb (g .command) 0x21)) (f .weights)
 
 -- "takes low, then high, off the stack and pushes the choice"
 unfoldable pub joined : Bool → List Facts → List Facts
@@ -147,9 +151,7 @@ first-rules (site m n a w) = site-rules (site-of m n a w)
 first-rules (push-leaf p) = rule 1 true ∷ []
 first-rules (push-condition k) = rule 1 true ∷ []
 first-rules (push-test p) = rule 1 true ∷ []
-first-rules (take-reward a) = rule 1 true ∷ []
-first-rules (take-chance a k) = rule 1 true ∷ []
-first-rules (take-level a i) = rule 1 true ∷ []
+first-rules (give g) = rule 1 true ∷ []
 first-rules (name-action a b) = rule 1 true ∷ []
 first-rules end-model = rule 1 true ∷ []
 
@@ -159,13 +161,8 @@ later-rules S K G (site m n a w) = rule 1 true ∷ []
 later-rules S K G (push-leaf p) = rule 4 (beyond (S .levels) p) ∷ rule 5 (leb stack-most (length K)) ∷ []
 later-rules S K G (push-condition k) = rule 4 (not (or (among (S .conditions) k) (next-condition (S .conditions) k))) ∷ rule 5 (ltb (length K) 2) ∷ []
 later-rules S K G (push-test p) = rule 4 (beyond (S .levels) p) ∷ rule 4 (zeros (p .coeffs)) ∷ rule 5 (ltb (length K) 2) ∷ []
-later-rules S K G (take-reward a) =
-    rule 4 (not (among (S .actions) a)) ∷ rule 5 (ltb (length K) 1) ∷ rule 6 (has-slot (reward-slot a) G) ∷ rule 4 (top K .next-step) ∷ []
-later-rules S K G (take-chance a k) =
-    rule 4 (not (among (S .actions) a)) ∷ rule 4 (not (among (S .conditions) k)) ∷ rule 5 (ltb (length K) 1) ∷ rule 6 (has-slot (chance-slot a k) G)
-    ∷ rule 4 (top K .next-step) ∷ rule 4 (not (top K .weights)) ∷ []
-later-rules S K G (take-level a i) =
-    rule 4 (not (among (S .actions) a)) ∷ rule 4 (not (among (S .levels) i)) ∷ rule 5 (ltb (length K) 1) ∷ rule 6 (has-slot (level-slot a i) G) ∷ []
+later-rules S K G (give g) =
+    rule 4 (not (of-site S g)) ∷ rule 5 (ltb (length K) 1) ∷ rule 6 (has-slot g G) ∷ rule 4 (not (may-be g (top K))) ∷ []
 later-rules S K G (name-action a b) = rule 4 (not (among (S .actions) a)) ∷ rule 4 (not (all printable b)) ∷ rule 6 (has-slot (name-slot a) G) ∷ []
 later-rules S K G end-model = rule 7 (not (all (λ s. has-slot s G) (wanted S))) ∷ rule 7 (ltb 0 (length K)) ∷ []
 
@@ -189,9 +186,7 @@ after s (site m n a w) = record { begun = true; site = site-of m n a w; stack = 
 after s (push-leaf p) = with-stack s (record { next-step = false; weights = is-weight (s .site .weights) p } ∷ s .stack)
 after s (push-condition k) = with-stack s (joined (ltb conditions-most k) (s .stack))
 after s (push-test p) = with-stack s (joined false (s .stack))
-after s (take-reward a) = with-slot s (drop 1 (s .stack)) (reward-slot a)
-after s (take-chance a k) = with-slot s (drop 1 (s .stack)) (chance-slot a k)
-after s (take-level a i) = with-slot s (drop 1 (s .stack)) (level-slot a i)
+after s (give g) = with-slot s (drop 1 (s .stack)) g
 after s (name-action a b) = with-slot s (s .stack) (name-slot a)
 after s end-model = s
 
@@ -213,9 +208,7 @@ ended size at (site m n a w) rest = rest
 ended size at (push-leaf p) rest = rest
 ended size at (push-condition k) rest = rest
 ended size at (push-test p) rest = rest
-ended size at (take-reward a) rest = rest
-ended size at (take-chance a k) rest = rest
-ended size at (take-level a i) rest = rest
+ended size at (give g) rest = rest
 ended size at (name-action a b) rest = rest
 
 -- "the model by offset": the first command at fault decides

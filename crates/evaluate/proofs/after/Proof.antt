@@ -45,23 +45,11 @@ pop-requires c κs = search needs
 enum-told-3 : tie.Need-enum-told-3
 enum-told-3 c = search needs
 
-pop-requires-2 : tie.Need-pop-requires-2
-pop-requires-2 c κs = search needs
-
 enum-told-4 : tie.Need-enum-told-4
 enum-told-4 c = search needs
 
-pop-requires-3 : tie.Need-pop-requires-3
-pop-requires-3 c κs = search needs
-
 enum-told-5 : tie.Need-enum-told-5
 enum-told-5 c = search needs
-
-enum-told-6 : tie.Need-enum-told-6
-enum-told-6 c = search needs
-
-enum-told-7 : tie.Need-enum-told-7
-enum-told-7 c = search needs
 
 returns : tie.Need-returns
 unfolding stepped command-of
@@ -86,27 +74,17 @@ returns-4 c =
 returns-5 : tie.Need-returns-5
 unfolding stepped command-of
 returns-5 c =
-    λ B i. c .pop2 .ensures ∙ ap (λ (d : CodeCommand). stepped ((c .before .before .before) .args .x) ((c .before .before .before) .args .at) (command-of B i d) (held ((c .before .before .before) .args .t))) (sym (c .before .enum-told3 .given .1))
+    λ B i. ap (λ (d : CodeCommand). stepped ((c .before .before) .args .x) ((c .before .before) .args .at) (command-of B i d) (held ((c .before .before) .args .t))) (sym (c .enum-told3 .given .1))
 
 returns-6 : tie.Need-returns-6
 unfolding stepped command-of
 returns-6 c =
-    λ B i. c .pop3 .ensures ∙ ap (λ (d : CodeCommand). stepped ((c .before .before .before) .args .x) ((c .before .before .before) .args .at) (command-of B i d) (held ((c .before .before .before) .args .t))) (sym (c .before .enum-told4 .given .1))
+    λ B i. ap (λ (d : CodeCommand). stepped ((c .before .before) .args .x) ((c .before .before) .args .at) (command-of B i d) (held ((c .before .before) .args .t))) (sym (c .enum-told4 .given .1))
 
 returns-7 : tie.Need-returns-7
 unfolding stepped command-of
 returns-7 c =
     λ B i. ap (λ (d : CodeCommand). stepped ((c .before .before) .args .x) ((c .before .before) .args .at) (command-of B i d) (held ((c .before .before) .args .t))) (sym (c .enum-told5 .given .1))
-
-returns-8 : tie.Need-returns-8
-unfolding stepped command-of
-returns-8 c =
-    λ B i. ap (λ (d : CodeCommand). stepped ((c .before .before) .args .x) ((c .before .before) .args .at) (command-of B i d) (held ((c .before .before) .args .t))) (sym (c .enum-told6 .given .1))
-
-returns-9 : tie.Need-returns-9
-unfolding stepped command-of
-returns-9 c =
-    λ B i. ap (λ (d : CodeCommand). stepped ((c .before .before) .args .x) ((c .before .before) .args .at) (command-of B i d) (held ((c .before .before) .args .t))) (sym (c .enum-told7 .given .1))
 
 pub after-spec : {M : Type 1} → statement M
 after-spec =
@@ -123,18 +101,12 @@ after-spec =
     enum-told-2
     pop-requires
     enum-told-3
-    pop-requires-2
     enum-told-4
-    pop-requires-3
     enum-told-5
-    enum-told-6
-    enum-told-7
     returns
     returns-2
     returns-3
     returns-4
     returns-5
     returns-6
-    returns-7
-    returns-8
-    returns-9)
+    returns-7)

@@ -1,6 +1,6 @@
 -- `stacking::step` meets its contract.
 use Rattle.command.specs.Reading.{command-of}
-use Rattle.stacking.proofs.Steps.{leaf-asks, condition-asks, test-asks, leaf-step, condition-step, test-step, reward-step, chance-step, level-step, other-step, ready-as, step-as}
+use Rattle.stacking.proofs.Steps.{leaf-asks, condition-asks, test-asks, leaf-step, condition-step, test-step, give-step, other-step, ready-as, step-as}
 use borrow.Author.Needs.{needs}
 use Rattle.stacking.proofs.step.Statement.{statement}
 use Rattle.stacking.proofs.step.Tie as tie
@@ -34,18 +34,6 @@ enum-told-3 c = search needs
 
 taken-requires : tie.Need-taken-requires
 taken-requires c κs = search needs
-
-enum-told-4 : tie.Need-enum-told-4
-enum-told-4 c = search needs
-
-taken-requires-2 : tie.Need-taken-requires-2
-taken-requires-2 c κs = search needs
-
-enum-told-5 : tie.Need-enum-told-5
-enum-told-5 c = search needs
-
-taken-requires-3 : tie.Need-taken-requires-3
-taken-requires-3 c κs = search needs
 
 same-length : tie.Need-same-length
 same-length c = search needs
@@ -83,21 +71,11 @@ returns-3 c =
 returns-4 : tie.Need-returns-4
 unfolding command-of
 returns-4 c =
-    step-as _ _ (c .before .enum-told3 .given .1) ((c .before .before .before .before .before) .pre) (λ y. reward-step _ y (c .taken .ensures))
+    step-as _ _ (c .before .enum-told3 .given .1) ((c .before .before .before .before .before) .pre) (λ y. give-step _ y (c .taken .ensures))
 
 returns-5 : tie.Need-returns-5
-unfolding command-of
 returns-5 c =
-    step-as _ _ (c .before .enum-told4 .given .1) ((c .before .before .before .before .before) .pre) (λ y. chance-step _ _ y (c .taken2 .ensures))
-
-returns-6 : tie.Need-returns-6
-unfolding command-of
-returns-6 c =
-    step-as _ _ (c .before .enum-told5 .given .1) ((c .before .before .before .before .before) .pre) (λ y. level-step _ _ y (c .taken3 .ensures))
-
-returns-7 : tie.Need-returns-7
-returns-7 c =
-    other-step ((c .before .before .before) .args .c) (c .match .keys7) ((c .before .before .before) .pre)
+    other-step ((c .before .before .before) .args .c) (c .match .keys5) ((c .before .before .before) .pre)
 
 pub step-spec : {M : Type 1} → statement M
 step-spec =
@@ -111,10 +89,6 @@ step-spec =
     choice-requires-2
     enum-told-3
     taken-requires
-    enum-told-4
-    taken-requires-2
-    enum-told-5
-    taken-requires-3
     same-length
     same-length-2
     returns
@@ -125,6 +99,4 @@ step-spec =
     same-length-6
     returns-3
     returns-4
-    returns-5
-    returns-6
-    returns-7)
+    returns-5)

@@ -11,8 +11,8 @@ use Rattle.theory.specs.Computation.{Comp, ret, bind, result, make, Out,
 use Rattle.theory.specs.Rules.{choose, zero-leaf, expectation}
 use Rattle.theory.specs.Meaning.{Action, Model, power}
 use Rattle.theory.specs.Stage.{action-diagrams, all-diagrams, model-diagrams, sum-out, action-total, best-on, stage-over, stages-on, all-stages}
-use Rattle.theory.specs.Command.{Command, site, push-leaf, push-condition, push-test, take-reward, take-chance, take-level, name-action, end-model, Read, whole, unknown, short, Placed, readings}
-use Rattle.theory.specs.Verdict.{verdict, Slot, reward-slot, chance-slot, level-slot}
+use Rattle.theory.specs.Command.{Command, site, push-leaf, push-condition, push-test, name-action, end-model, Read, whole, unknown, short, Placed, readings, give, Slot}
+use Rattle.theory.specs.Verdict.{verdict}
 use Rattle.theory.specs.Load.{Entry, Loaded, condition-test, load-choice, load-choice-with, load-entry, load-one, load-one-with, load-on, load-on-with, model-of, site-at, load, load-with, model}
 use Rattle.theory.specs.Solve.{solve-in, table-of}
 use Rattle.theory.specs.Events.{events, needed, inside, all-inside, Chained}
@@ -174,9 +174,7 @@ one-loads X (site m n a w) s d = ret-loads X s d
 one-loads X (push-leaf p) s d = push-loads X (make (leaf (plain p))) (s .stack) (s .entries) (leaf-built X (plain p)) (d .0) (d .1)
 one-loads X (push-condition k) s d = choice-loads X (condition-test k) (s .stack) (s .entries) (d .0) (d .1)
 one-loads X (push-test p) s d = choice-loads X (test-of p) (s .stack) (s .entries) (d .0) (d .1)
-one-loads X (take-reward a) s d = entry-loads X (reward-slot a) (s .stack) (s .entries) (d .0) (d .1)
-one-loads X (take-chance a k) s d = entry-loads X (chance-slot a k) (s .stack) (s .entries) (d .0) (d .1)
-one-loads X (take-level a i) s d = entry-loads X (level-slot a i) (s .stack) (s .entries) (d .0) (d .1)
+one-loads X (give g) s d = entry-loads X g (s .stack) (s .entries) (d .0) (d .1)
 one-loads X (name-action a b) s d = ret-loads X s d
 one-loads X end-model s d = ret-loads X s d
 

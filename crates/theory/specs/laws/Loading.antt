@@ -17,8 +17,8 @@ use Rattle.theory.specs.Rules.{choose}
 use Rattle.theory.specs.Meaning.{Model}
 use Rattle.theory.specs.Stage.{action-diagrams, all-diagrams, model-diagrams}
 use Rattle.theory.specs.Valid.{all, all-nodes, among, wide, good-test, good-leaf, weight-leaf, valid-action, valid, small-linear}
-use Rattle.theory.specs.Command.{Command, site, push-leaf, push-condition, push-test, take-reward, take-chance, take-level, name-action, end-model, Read, whole, unknown, short, Placed, byte-at, word-at, signed, signed-from, linear-at, width, command-at, read-at, goes-on, readings-from, readings}
-use Rattle.theory.specs.Verdict.{Site, Facts, Slot, Progress, reward-slot, chance-slot, level-slot, name-slot, same-slot, has-slot, or, Rule, rule, first-broken, next-condition, is-weight, top, joined, from-to, wanted-by, wanted, site-rules, site-of, first-rules, later-rules, rules-of, after, Verdict, refusal, ended, judged, at-start, verdict}
+use Rattle.theory.specs.Command.{Command, site, push-leaf, push-condition, push-test, name-action, end-model, Read, whole, unknown, short, Placed, byte-at, word-at, signed, signed-from, linear-at, width, command-at, read-at, goes-on, readings-from, readings, give, Slot}
+use Rattle.theory.specs.Verdict.{Site, Facts, Progress, reward-slot, chance-slot, level-slot, name-slot, same-slot, has-slot, or, Rule, rule, first-broken, next-condition, is-weight, top, joined, from-to, wanted-by, wanted, site-rules, site-of, first-rules, later-rules, rules-of, after, Verdict, refusal, ended, judged, at-start, verdict, may-be}
 use Rattle.theory.specs.Load.{Entry, Loaded, condition-test, load-choice, load-choice-with, load-entry, load-one, load-one-with, load-on, load-on-with, find-slot, action-of, model-of, site-at, load-with, model}
 use Rattle.theory.specs.laws.Comps.{result-bind}
 use Rattle.theory.specs.laws.Safe.{any, sure}
@@ -91,12 +91,13 @@ wanted-each p S b (suc k) t a u v =
 
 -- ---- what is loaded for a slot
 
+-- a constant 0 to W where w, a leaf within the limits else
+unfoldable pub leaf-as : ℕ → Bool → Leaf → Bool
+leaf-as W w f = if w (weight-leaf W f) (good-leaf f)
+
 -- the diagrams that a command may give
 unfoldable pub fits : Site → ℕ → Tree → Bool
-fits S c t =
-    if (eqb c 0x20) (all-nodes (good-test (S .conditions) false) good-leaf t)
-    (if (eqb c 0x21) (all-nodes (good-test (S .conditions) false) (weight-leaf (S .weights)) t)
-    (all-nodes (good-test (S .conditions) true) good-leaf t))
+fits S c t = all-nodes (good-test (S .conditions) (eqb c 0x22)) (leaf-as (S .weights) (eqb c 0x21)) t
 
 abbrev pub entry-trees : List Entry → List Tree
 entry-trees E = map (λ e. e .tree) E
@@ -137,9 +138,6 @@ unfolding Given has-slot
 given-none S h r n = absurd r
 
 -- ---- diagrams on the stack are what the checker says of them
-
-unfoldable leaf-as : ℕ → Bool → Leaf → Bool
-leaf-as W w f = if w (weight-leaf W f) (good-leaf f)
 
 Sound : Site → Facts → Tree → Type 0
 Sound S f t = T (all-nodes (good-test (S .conditions) (f .next-step)) (leaf-as (S .weights) (f .weights)) t)
@@ -223,9 +221,7 @@ Fit B at (site m n a w) = site-of m n a w ≡ site-of (byte-at B (at + 1)) (byte
 Fit B at (push-leaf p) = T (wide p)
 Fit B at (push-condition k) = T true
 Fit B at (push-test p) = T (wide p)
-Fit B at (take-reward a) = T true
-Fit B at (take-chance a k) = T true
-Fit B at (take-level a i) = T true
+Fit B at (give g) = T true
 Fit B at (name-action a b) = T true
 Fit B at end-model = T true
 
@@ -268,17 +264,21 @@ stacked-entry S G E g [] X n w s u = absurd (omega arith)
 stacked-entry S G E g (f ∷ K) [] n w s u = absurd s
 stacked-entry S G E g (f ∷ K) (t ∷ X) n w s u = (s .1, given-entry S G E g t (w t (s .0)) u)
 
-fits-reward : (S : Site) (f : Facts) → T (not (f .next-step)) → (t : Tree) → Sound S f t → T (fits S 0x20 t)
-unfolding Sound fits leaf-as
-fits-reward S f n t s = widen _ _ _ _ (test-less (S .conditions) (f .next-step) false (T-not (f .next-step) n)) (leaf-less (S .weights) (f .weights) false absurd) t s
+or-not : (a b : Bool) → T (or a (not b)) → T b → T a
+or-not true b t u = tt
+or-not false b t u = absurd (T-not b t u)
 
-fits-chance : (S : Site) (f : Facts) → T (not (f .next-step)) → T (f .weights) → (t : Tree) → Sound S f t → T (fits S 0x21 t)
-unfolding Sound fits leaf-as
-fits-chance S f n w t s = widen _ _ _ _ (test-less (S .conditions) (f .next-step) false (T-not (f .next-step) n)) (leaf-less (S .weights) (f .weights) true (λ _. w)) t s
+not-or : (a b : Bool) → T (or (not a) b) → T a → T b
+not-or true b t u = t
+not-or false b t u = absurd u
 
-fits-level : (S : Site) (f : Facts) (t : Tree) → Sound S f t → T (fits S 0x22 t)
-unfolding Sound fits leaf-as
-fits-level S f t s = widen _ _ _ _ (test-less (S .conditions) (f .next-step) true (λ _. tt)) (leaf-less (S .weights) (f .weights) false (λ x. absurd x)) t s
+-- a diagram that may be what it is given as
+fits-given : (S : Site) (g : Slot) (f : Facts) → T (may-be g f) → (t : Tree) → Sound S f t → T (fits S (g .command) t)
+unfolding Sound fits may-be
+fits-given S g f m t s =
+    let d = both (or (eqb (g .command) 0x22) (not (f .next-step))) _ m in
+    widen _ _ _ _ (test-less (S .conditions) (f .next-step) (eqb (g .command) 0x22) (or-not (eqb (g .command) 0x22) (f .next-step) (d .0)))
+    (leaf-less (S .weights) (f .weights) (eqb (g .command) 0x21) (not-or (eqb (g .command) 0x21) (f .weights) (d .1))) t s
 
 -- the checker's and the loader's states agree
 record Kept (S : Site) (s : Progress) (t : Loaded) : Type 0 where
@@ -307,23 +307,11 @@ module _ (B : List ℕ) (at : ℕ) (S : Site) (ok : In-range S) (K : List Facts)
       let u = unbroken 3 _ _ e in
       let v = unbroken 3 _ _ (u .1) in
       chose false (test-of p) (unbroken 4 _ _ (v .1) .0) (λ _. quotient-wide (divisor p) p f)
-  stepped (take-reward a) f e =
+  stepped (give g) f e =
       let u = unbroken 3 _ _ e in
       let v = unbroken 4 _ _ (u .1) in
       let w = unbroken 5 _ _ (v .1) in
-      took (reward-slot a) (v .0) (fits-reward S (top K) (unbroken 3 _ _ (w .1) .0))
-  stepped (take-chance a k) f e =
-      let u = unbroken 3 _ _ e in
-      let u = unbroken 3 _ _ (u .1) in
-      let v = unbroken 4 _ _ (u .1) in
-      let w = unbroken 5 _ _ (v .1) in
-      let x = unbroken 3 _ _ (w .1) in
-      took (chance-slot a k) (v .0) (fits-chance S (top K) (x .0) (not-not (top K .weights) (unbroken 3 _ _ (x .1) .0)))
-  stepped (take-level a i) f e =
-      let u = unbroken 3 _ _ e in
-      let u = unbroken 3 _ _ (u .1) in
-      let v = unbroken 4 _ _ (u .1) in
-      took (level-slot a i) (v .0) (fits-level S (top K))
+      took g (v .0) (fits-given S g (top K) (not-not (may-be g (top K)) (unbroken 3 _ _ (w .1) .0)))
   stepped (name-action a b) f e = record { is-begun = refl; is-site = refl; stacked = stacked; entered = given-name S G E a entered }
   stepped end-model f e = record { is-begun = refl; is-site = refl; stacked = stacked; entered = entered }
 
@@ -395,9 +383,7 @@ module _ (B : List ℕ) (k at : ℕ) (S : Site) (ok : In-range S) where
   one-more ih (push-leaf p) f K G X E u v e = goes ih K G X E u v (push-leaf p) f e
   one-more ih (push-condition c) f K G X E u v e = goes ih K G X E u v (push-condition c) f e
   one-more ih (push-test p) f K G X E u v e = goes ih K G X E u v (push-test p) f e
-  one-more ih (take-reward a) f K G X E u v e = goes ih K G X E u v (take-reward a) f e
-  one-more ih (take-chance a c) f K G X E u v e = goes ih K G X E u v (take-chance a c) f e
-  one-more ih (take-level a i) f K G X E u v e = goes ih K G X E u v (take-level a i) f e
+  one-more ih (give g) f K G X E u v e = goes ih K G X E u v (give g) f e
   one-more ih (name-action a b) f K G X E u v e = goes ih K G X E u v (name-action a b) f e
   one-more ih end-model f K G X E u v e =
       let d = judged-whole (first-broken (later-rules S K G end-model)) at _ e in
@@ -453,9 +439,7 @@ first-command B h l (site m n a w) f e =
 first-command B h l (push-leaf p) f e = broken 0 _ (judged-whole (first-broken (rule 1 true ∷ [])) 0 _ e .0)
 first-command B h l (push-condition k) f e = broken 0 _ (judged-whole (first-broken (rule 1 true ∷ [])) 0 _ e .0)
 first-command B h l (push-test p) f e = broken 0 _ (judged-whole (first-broken (rule 1 true ∷ [])) 0 _ e .0)
-first-command B h l (take-reward a) f e = broken 0 _ (judged-whole (first-broken (rule 1 true ∷ [])) 0 _ e .0)
-first-command B h l (take-chance a k) f e = broken 0 _ (judged-whole (first-broken (rule 1 true ∷ [])) 0 _ e .0)
-first-command B h l (take-level a i) f e = broken 0 _ (judged-whole (first-broken (rule 1 true ∷ [])) 0 _ e .0)
+first-command B h l (give g) f e = broken 0 _ (judged-whole (first-broken (rule 1 true ∷ [])) 0 _ e .0)
 first-command B h l (name-action a b) f e = broken 0 _ (judged-whole (first-broken (rule 1 true ∷ [])) 0 _ e .0)
 first-command B h l end-model f e = broken 0 _ (judged-whole (first-broken (rule 1 true ∷ [])) 0 _ e .0)
 
@@ -473,15 +457,15 @@ model-loaded B = result-bind (load-on (readings B) (loaded [] [])) _
 -- ---- the model is valid
 
 fits-as-reward : (S : Site) (t : Tree) → T (fits S 0x20 t) → T (all-nodes (good-test (S .conditions) false) good-leaf t)
-unfolding fits
+unfolding fits leaf-as
 fits-as-reward S t h = h
 
 fits-as-chance : (S : Site) (t : Tree) → T (fits S 0x21 t) → T (all-nodes (good-test (S .conditions) false) (weight-leaf (S .weights)) t)
-unfolding fits
+unfolding fits leaf-as
 fits-as-chance S t h = h
 
 fits-as-level : (S : Site) (t : Tree) → T (fits S 0x22 t) → T (all-nodes (good-test (S .conditions) true) good-leaf t)
-unfolding fits
+unfolding fits leaf-as
 fits-as-level S t h = h
 
 length-is : (f : ℕ → Tree) (b k : ℕ) → T (eqb (length (map f (from-to b k))) k)
@@ -522,15 +506,15 @@ pub record Of-site (S : Site) (M : Model) : Type 0 where
   pub same-weights : M .weights ≡ S .weights
   pub same-actions : suc (length (M .others)) ≡ S .actions
 
-of-site : (S : Site) (E : List Entry) → In-range S → Of-site S (model-of S E)
+numbers-of-site : (S : Site) (E : List Entry) → In-range S → Of-site S (model-of S E)
 unfolding model-of
-of-site S E ok =
+numbers-of-site S E ok =
     let r = among-out actions-most (S .actions) (ok .actions-in) in
     record { same-levels = refl; same-conditions = refl; same-weights = refl; same-actions = rw (from-length (action-of S E) 2 (S .actions - 1)) (omega arith) }
 
 -- the site's numbers are in range, and the model's are the site's
 pub accepted-site : (B : List ℕ) → verdict B .number ≡ 0 → In-range (site-at B) × Of-site (site-at B) (model B)
-accepted-site B e = let ok = accepted B e .0 in (ok, rw (model-loaded B) (of-site (site-at B) (loaded-entries B) ok))
+accepted-site B e = let ok = accepted B e .0 in (ok, rw (model-loaded B) (numbers-of-site (site-at B) (loaded-entries B) ok))
 
 -- ---- its diagrams are all loaded
 

@@ -10,8 +10,8 @@ use lib.Dec.{T, T-not, eqb, leb, eqb→eq, eqb-refl, leb→le, nleb→lt}
 use lib.ListN.{length, getD, take, drop, replicate, getD-replicate, replicate-append-replicate, length-drop}
 use lib.Seq.{take-suc, getD-take, length-take-le, getD-append-add}
 use Rattle.whole.specs.Cases.{if, by-test}
-use Rattle.theory.specs.Command.{Command, site, push-leaf, push-condition, push-test, take-reward, take-chance, take-level, name-action, end-model, Read, whole, unknown, short, Placed, byte-at, width, command-at, read-at, goes-on, readings-from, readings}
-use Rattle.theory.specs.Verdict.{Slot, Progress, Verdict, refusal, reward-slot, chance-slot, level-slot, name-slot, same-slot, has-slot, first-broken, first-rules, later-rules, rules-of, after, judged, verdict, at-start}
+use Rattle.theory.specs.Command.{Command, site, push-leaf, push-condition, push-test, name-action, end-model, Read, whole, unknown, short, Placed, byte-at, width, command-at, read-at, goes-on, readings-from, readings, give, Slot}
+use Rattle.theory.specs.Verdict.{Progress, Verdict, refusal, name-slot, same-slot, has-slot, first-broken, first-rules, later-rules, rules-of, after, judged, verdict, at-start}
 use Rattle.theory.specs.Name.{names-action, Part, no-part, trimmed, named-part, name-refusal, name-part}
 use Rattle.theory.specs.Rows.{NameRow, name-0, name-1-10, name-16, NamePartRow, name-given, name-empty, name-refused}
 use Rattle.theory.specs.laws.Rules.{or-left, or-right, same-self}
@@ -88,9 +88,7 @@ Spelt B at (site m n a w) = Unit {0}
 Spelt B at (push-leaf p) = Unit {0}
 Spelt B at (push-condition k) = Unit {0}
 Spelt B at (push-test p) = Unit {0}
-Spelt B at (take-reward a) = Unit {0}
-Spelt B at (take-chance a k) = Unit {0}
-Spelt B at (take-level a i) = Unit {0}
+Spelt B at (give g) = Unit {0}
 Spelt B at (name-action a t) = (t ≡ take 16 (drop (at + 2) B)) × (width (byte-at B at) ≡ 18)
 Spelt B at end-model = Unit {0}
 
@@ -147,9 +145,7 @@ stays g s (site m n a w) e b t = go (s .begun) e b
 stays g s (push-leaf p) e b t = (b, t)
 stays g s (push-condition k) e b t = (b, t)
 stays g s (push-test p) e b t = (b, t)
-stays g s (take-reward a) e b t = (b, or-right (same-slot g (reward-slot a)) _ t)
-stays g s (take-chance a k) e b t = (b, or-right (same-slot g (chance-slot a k)) _ t)
-stays g s (take-level a i) e b t = (b, or-right (same-slot g (level-slot a i)) _ t)
+stays g s (give x) e b t = (b, or-right (same-slot g x) _ t)
 stays g s (name-action a l) e b t = (b, or-right (same-slot g (name-slot a)) _ t)
 stays g s end-model e b t = (b, t)
 
@@ -163,9 +159,7 @@ module _ (B : List ℕ) (a : ℕ) where
   named-by (whole (push-leaf p)) t = absurd t
   named-by (whole (push-condition k)) t = absurd t
   named-by (whole (push-test p)) t = absurd t
-  named-by (whole (take-reward b)) t = absurd t
-  named-by (whole (take-chance b k)) t = absurd t
-  named-by (whole (take-level b i)) t = absurd t
+  named-by (whole (give g)) t = absurd t
   named-by (whole (name-action b l)) t = (l, ap (λ (c : ℕ). whole (name-action c l)) (sym (eqb→eq a b t)))
   named-by (whole end-model) t = absurd t
   named-by unknown t = absurd t

@@ -21,7 +21,7 @@ use Rattle.theory.specs.Process.{lowest-best}
 use Rattle.theory.specs.Meaning.{Action, Model, State, nth, process}
 use Rattle.theory.specs.Stage.{all-stages}
 use Rattle.theory.specs.Valid.{all, among, small-linear}
-use Rattle.theory.specs.Command.{Command, site, push-leaf, push-condition, push-test, take-reward, take-chance, take-level, name-action, end-model, Read, whole, unknown, short, byte-at, width, command-at, read-at, goes-on, readings-from, readings}
+use Rattle.theory.specs.Command.{Command, site, push-leaf, push-condition, push-test, name-action, end-model, Read, whole, unknown, short, byte-at, width, command-at, read-at, goes-on, readings-from, readings, give}
 use Rattle.theory.specs.Verdict.{Verdict, Site, refusal, Progress, first-broken, rules-of, after, ended, judged, at-start, verdict, from-to, or}
 use Rattle.theory.specs.Load.{site-at, load, model}
 use Rattle.theory.specs.Solve.{room, solve-in, table-of, rows, SolveOut, solved-nodes, solve-left, early, solve}
@@ -76,9 +76,7 @@ not-end-going (site m n a w) f = tt
 not-end-going (push-leaf p) f = tt
 not-end-going (push-condition k) f = tt
 not-end-going (push-test p) f = tt
-not-end-going (take-reward a) f = tt
-not-end-going (take-chance a k) f = tt
-not-end-going (take-level a i) f = tt
+not-end-going (give g) f = tt
 not-end-going (name-action a b) f = tt
 not-end-going end-model f = absurd (f refl)
 
@@ -112,9 +110,7 @@ module _ (B : List ℕ) where
   ended-row k at s m w (push-leaf p) e f ih = ih (λ z. going-not-end (push-leaf p) tt (sym e ∙ z))
   ended-row k at s m w (push-condition c) e f ih = ih (λ z. going-not-end (push-condition c) tt (sym e ∙ z))
   ended-row k at s m w (push-test p) e f ih = ih (λ z. going-not-end (push-test p) tt (sym e ∙ z))
-  ended-row k at s m w (take-reward a) e f ih = ih (λ z. going-not-end (take-reward a) tt (sym e ∙ z))
-  ended-row k at s m w (take-chance a c) e f ih = ih (λ z. going-not-end (take-chance a c) tt (sym e ∙ z))
-  ended-row k at s m w (take-level a i) e f ih = ih (λ z. going-not-end (take-level a i) tt (sym e ∙ z))
+  ended-row k at s m w (give g) e f ih = ih (λ z. going-not-end (give g) tt (sym e ∙ z))
   ended-row k at s m w (name-action a b) e f ih = ih (λ z. going-not-end (name-action a b) tt (sym e ∙ z))
 
   past-row : (at : ℕ) (s : Progress) → Comes B at s → length B ≡ at → VerdictRow B (refusal 2 at)
@@ -161,9 +157,7 @@ module _ (B : List ℕ) where
   ended-going k at s (push-leaf p) t = refl
   ended-going k at s (push-condition c) t = refl
   ended-going k at s (push-test p) t = refl
-  ended-going k at s (take-reward a) t = refl
-  ended-going k at s (take-chance a c) t = refl
-  ended-going k at s (take-level a i) t = refl
+  ended-going k at s (give g) t = refl
   ended-going k at s (name-action a b) t = refl
   ended-going k at s end-model t = absurd t
 

@@ -10,9 +10,9 @@ use lib.ListN.{length, drop}
 use Rattle.whole.specs.Cases.{if, by-test, both, and-in, not-not}
 use Rattle.theory.specs.Diagram.{Linear, zeros}
 use Rattle.theory.specs.Valid.{all, among}
-use Rattle.theory.specs.Command.{Command, site, push-leaf, push-condition, push-test, take-reward, take-chance, take-level, name-action, end-model}
-use Rattle.theory.specs.Verdict.{Site, Facts, Slot, Progress, Rule, rule, first-broken, same-slot, has-slot, reward-slot, chance-slot, level-slot, from-to, wanted-by, or, beyond, next-condition, printable, top, wanted, site-rules, first-rules, later-rules, rules-of}
-use Rattle.theory.specs.Rows.{Rules, AllGiven, none, asks, Keeps, Breaks, Range, first-asks, later-asks, asks-of}
+use Rattle.theory.specs.Command.{Command, site, push-leaf, push-condition, push-test, give, name-action, end-model, Slot}
+use Rattle.theory.specs.Verdict.{Site, Facts, Progress, Rule, rule, first-broken, same-slot, has-slot, reward-slot, chance-slot, level-slot, from-to, wanted-by, or, beyond, next-condition, printable, of-site, may-be, top, wanted, site-rules, first-rules, later-rules, rules-of}
+use Rattle.theory.specs.Rows.{Rules, AllGiven, OfSite, MayBe, none, asks, Keeps, Breaks, Range, first-asks, later-asks, asks-of}
 use Rattle.theory.specs.laws.Loading.{from-all, wanted-each}
 use Rattle.theory.specs.laws.Valid.{among-in, among-out}
 
@@ -200,6 +200,50 @@ says-given S G = record {
       );
 }
 
+-- where a number is k, a test
+only : (c k : ℕ) (b : Bool) (P : Type 0) → Says (not b) P → Says (not (or (not (eqb c k)) b)) (c ≡ k → P)
+only c k b P s = by-test (eqb c k) (λ z. Says (not (or (not z) b)) (c ≡ k → P))
+    (λ t. record { broken = λ u f. s .broken u (f (eqb→eq c k t)); kept = λ u _. s .kept u })
+    (λ n. record { broken = λ u f. absurd u; kept = λ u e. absurd (T-not (eqb c k) n (rw e (eqb-refl k))) })
+
+-- two tests
+pair : (a b : Bool) (P Q : Type 0) → Says (not a) P → Says (not b) Q → Says (not (a && b)) (P × Q)
+pair true b P Q s t = record { broken = λ u f. t .broken u (f .1); kept = λ u. (s .kept tt, t .kept u) }
+pair false b P Q s t = record { broken = λ u f. s .broken tt (f .0); kept = λ u. absurd u }
+
+-- where a number is k, one test, and another elsewhere
+either-at : (c k : ℕ) (a b : Bool) (P Q : Type 0) → Says (not a) P → Says (not b) Q → (Q → c ≡ k → ⊥) → Says (not (if (eqb c k) a b)) (((c ≡ k) × P) ⊎ Q)
+either-at c k a b P Q s t f = by-test (eqb c k) (λ z. Says (not (if z a b)) (((c ≡ k) × P) ⊎ Q))
+    (λ u. let e = eqb→eq c k u in record { broken = λ v. ⊎-elim (λ d. s .broken v (d .1)) (λ q. f q e); kept = λ v. inl (e, s .kept v) })
+    (λ n. record { broken = λ v. ⊎-elim (λ d. T-not (eqb c k) n (rw (d .0) (eqb-refl k))) (λ q. t .broken v q); kept = λ v. inr (t .kept v) })
+
+says-is : (a b : ℕ) → Says (not (eqb a b)) (a ≡ b)
+says-is a b = record { broken = λ t e. T-not (eqb a b) t (rw e (eqb-refl b)); kept = λ t. eqb→eq a b (not-not (eqb a b) t) }
+
+pub says-of-site : (S : Site) (g : Slot) → Says (not (of-site S g)) (OfSite S g)
+unfolding of-site
+says-of-site S g = pair (among (S .actions) (g .action)) _ _ _ (says-among (S .actions) (g .action))
+    (either-at (g .command) 0x20 _ _ _ _ (says-is (g .index) 0)
+    (either-at (g .command) 0x21 _ _ _ _ (says-among (S .conditions) (g .index)) (pair (eqb (g .command) 0x22) _ _ _ (says-is (g .command) 0x22) (says-among (S .levels) (g .index))) (λ d e. omega (arith, d .0)))
+    (⊎-elim (λ d e. omega (arith, d .0)) (λ d e. omega (arith, d .0))))
+
+-- what is given by the rules is the site's
+pub of-site-out : (S : Site) (g : Slot) → T (of-site S g) → OfSite S g
+of-site-out S g t = says-of-site S g .kept (twice (of-site S g) t)
+  where
+    twice : (b : Bool) → T b → T (not (not b))
+    twice true t = tt
+    twice false t = absurd t
+
+says-may-be : (g : Slot) (f : Facts) → Says (not (may-be g f)) (MayBe g f)
+unfolding may-be
+says-may-be g f = pair (or (eqb (g .command) 0x22) (not (f .next-step))) _ _ _ (level (g .command)) (only (g .command) 0x21 (f .weights) _ (says-true (f .weights)))
+  where
+    level : (c : ℕ) → Says (not (or (eqb c 0x22) (not (f .next-step)))) (T (f .next-step) → c ≡ 0x22)
+    level c = by-test (eqb c 0x22) (λ z. Says (not (or z (not (f .next-step)))) (T (f .next-step) → c ≡ 0x22))
+        (λ t. record { broken = λ u h. absurd u; kept = λ u _. eqb→eq c 0x22 t })
+        (λ n. record { broken = λ u h. T-not (eqb c 0x22) n (rw (h (not-not (f .next-step) u)) (eqb-refl 0x22)); kept = λ u x. absurd (T-not (f .next-step) (not-not (not (f .next-step)) u) x) })
+
 says-beyond : (m : ℕ) (p : Linear) → Says (beyond m p) (T (zeros (drop m (p .coeffs))))
 unfolding beyond
 says-beyond m p = says-true (zeros (drop m (p .coeffs)))
@@ -230,9 +274,7 @@ first-agree (site m n a w) = (refl, (n4, (says-among 4 m, (refl, (n4, (says-belo
 first-agree (push-leaf p) = only-first
 first-agree (push-condition k) = only-first
 first-agree (push-test p) = only-first
-first-agree (take-reward a) = only-first
-first-agree (take-chance a k) = only-first
-first-agree (take-level a i) = only-first
+first-agree (give g) = only-first
 first-agree (name-action a b) = only-first
 first-agree end-model = only-first
 
@@ -242,36 +284,7 @@ later-agree S K G (site m n a w) = only-first
 later-agree S K G (push-leaf p) = (refl, (n4, (says-beyond (S .levels) p, (refl, (n5, (says-from 32 (length K), tt))))))
 later-agree S K G (push-condition k) = (refl, (n4, (says-condition (S .conditions) k, (refl, (n5, (says-below (length K) 2, tt))))))
 later-agree S K G (push-test p) = (refl, (n4, (says-beyond (S .levels) p, (refl, (n4, (says-not (zeros (p .coeffs)), (refl, (n5, (says-below (length K) 2, tt)))))))))
-later-agree S K G (take-reward a) = (refl, (n4, (says-among (S .actions) a, (refl, (n5, (says-below (length K) 1, (refl, (n6, (says-once _ G, (refl, (n4, (says-not (top K .next-step), tt))))))))))))
-later-agree S K G (take-chance a k) = (
-  refl,
-  (
-    n4,
-    (
-      says-among (S .actions) a,
-      (
-        refl,
-        (
-          n4,
-          (
-            says-among (S .conditions) k,
-            (
-              refl,
-              (
-                n5,
-                (
-                  says-below (length K) 1,
-                  (refl, (n6, (says-once _ G, (refl, (n4, (says-not (top K .next-step), (refl, (n4, (says-true (top K .weights), tt))))))))),
-                ),
-              ),
-            ),
-          ),
-        ),
-      ),
-    ),
-  ),
-)
-later-agree S K G (take-level a i) = (refl, (n4, (says-among (S .actions) a, (refl, (n4, (says-among (S .levels) i, (refl, (n5, (says-below (length K) 1, (refl, (n6, (says-once _ G, tt))))))))))))
+later-agree S K G (give g) = (refl, (n4, (says-of-site S g, (refl, (n5, (says-below (length K) 1, (refl, (n6, (says-once g G, (refl, (n4, (says-may-be g (top K), tt))))))))))))
 later-agree S K G (name-action a b) = (refl, (n4, (says-among (S .actions) a, (refl, (n4, (says-printable b, (refl, (n6, (says-once _ G, tt)))))))))
 later-agree S K G end-model = (refl, (n7, (says-given S G, (refl, (n7, (says-empty (length K), tt))))))
 

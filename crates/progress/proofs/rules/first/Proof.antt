@@ -7,21 +7,19 @@ use denote.Enum.Declared.{tagOf}
 use Rattle.theory.specs.Verdict.{first-broken, first-rules}
 use Rattle.command.proofs.Command.{the-type}
 use Rattle.command.specs.declared.Command.{Command as CodeCommand}
-use Rattle.command.specs.declared.Command.the-variants.{Site, Leaf, Condition, Test, Reward, Chance, Level, Name, End}
+use Rattle.command.specs.declared.Command.the-variants.{Site, Leaf, Condition, Test, Give, Name, End}
 use Rattle.command.specs.Reading.{command-of}
 use borrow.Author.Needs.{needs}
 use Rattle.progress.proofs.rules.first.Statement.{statement}
 use Rattle.progress.proofs.rules.first.Tie as tie
 
-other : (B : List ℕ) (at : ℕ) (c : CodeCommand) → OneOf (1 ∷ 2 ∷ 3 ∷ 4 ∷ 5 ∷ 6 ∷ 7 ∷ 8 ∷ []) (tagOf the-type c) → 1 ≡ first-broken (first-rules (command-of B at c))
+other : (B : List ℕ) (at : ℕ) (c : CodeCommand) → OneOf (1 ∷ 2 ∷ 3 ∷ 4 ∷ 5 ∷ 6 ∷ []) (tagOf the-type c) → 1 ≡ first-broken (first-rules (command-of B at c))
 unfolding command-of first-rules first-broken
-other B at (Site m n a w) k = absurd (miss (1 ∷ 2 ∷ 3 ∷ 4 ∷ 5 ∷ 6 ∷ 7 ∷ 8 ∷ []) 0 tt k)
+other B at (Site m n a w) k = absurd (miss (1 ∷ 2 ∷ 3 ∷ 4 ∷ 5 ∷ 6 ∷ []) 0 tt k)
 other B at (Leaf p) k = refl
 other B at (Condition i) k = refl
 other B at (Test p) k = refl
-other B at (Reward a) k = refl
-other B at (Chance a i) k = refl
-other B at (Level a i) k = refl
+other B at (Give x a j) k = refl
 other B at (Name a) k = refl
 other B at End k = refl
 

@@ -33,23 +33,11 @@ test-requires c κs = search needs
 enum-known-c-4 : tie.Need-enum-known-c-4
 enum-known-c-4 c = search needs
 
-reward-requires : tie.Need-reward-requires
-reward-requires c κs = search needs
+give-requires : tie.Need-give-requires
+give-requires c κs = search needs
 
 enum-known-c-5 : tie.Need-enum-known-c-5
 enum-known-c-5 c = search needs
-
-chance-requires : tie.Need-chance-requires
-chance-requires c κs = search needs
-
-enum-known-c-6 : tie.Need-enum-known-c-6
-enum-known-c-6 c = search needs
-
-level-requires : tie.Need-level-requires
-level-requires c κs = search needs
-
-enum-known-c-7 : tie.Need-enum-known-c-7
-enum-known-c-7 c = search needs
 
 add-text : tie.Need-add-text
 add-text c = search needs
@@ -89,26 +77,16 @@ returns-4 c =
 returns-5 : tie.Need-returns-5
 unfolding command-of
 returns-5 c =
-    known-command ((c .before .before .before .before .before) .args .s) ((c .before .before .before .before .before) .args .model .now) ((c .before .before .before .before .before) .args .at) _ (c .before .before .c4 .given .1) (c .reward .ensures)
+    known-command ((c .before .before .before .before .before) .args .s) ((c .before .before .before .before .before) .args .model .now) ((c .before .before .before .before .before) .args .at) _ (c .before .before .c4 .given .1) (c .give .ensures)
 
 returns-6 : tie.Need-returns-6
 unfolding command-of
 returns-6 c =
-    known-command ((c .before .before .before .before .before) .args .s) ((c .before .before .before .before .before) .args .model .now) ((c .before .before .before .before .before) .args .at) _ (c .before .before .c5 .given .1) (c .chance .ensures)
+    known-command ((c .before .before .before .before .before .before) .args .s) ((c .before .before .before .before .before .before) .args .model .now) ((c .before .before .before .before .before .before) .args .at) _ (c .before .before .before .c5 .given .1) (c .name .ensures (take 16 (drop ((c .before .before .before .before .before .before) .args .at + 2) ((c .before .before .before .before .before .before) .args .model .now))) (c .before .text .ensures))
 
 returns-7 : tie.Need-returns-7
 unfolding command-of
 returns-7 c =
-    known-command ((c .before .before .before .before .before) .args .s) ((c .before .before .before .before .before) .args .model .now) ((c .before .before .before .before .before) .args .at) _ (c .before .before .c6 .given .1) (c .level .ensures)
-
-returns-8 : tie.Need-returns-8
-unfolding command-of
-returns-8 c =
-    known-command ((c .before .before .before .before .before .before) .args .s) ((c .before .before .before .before .before .before) .args .model .now) ((c .before .before .before .before .before .before) .args .at) _ (c .before .before .before .c7 .given .1) (c .name .ensures (take 16 (drop ((c .before .before .before .before .before .before) .args .at + 2) ((c .before .before .before .before .before .before) .args .model .now))) (c .before .text .ensures))
-
-returns-9 : tie.Need-returns-9
-unfolding command-of
-returns-9 c =
     known-command ((c .before .before .before .before) .args .s) ((c .before .before .before .before) .args .model .now) ((c .before .before .before .before) .args .at) _ (c .before .enum-told2 .given .1) (c .end .ensures)
 
 pub later-spec : {M : Type 1} → statement M
@@ -123,12 +101,8 @@ later-spec =
     enum-known-c-3
     test-requires
     enum-known-c-4
-    reward-requires
+    give-requires
     enum-known-c-5
-    chance-requires
-    enum-known-c-6
-    level-requires
-    enum-known-c-7
     add-text
     text-requires
     name-requires
@@ -140,6 +114,4 @@ later-spec =
     returns-4
     returns-5
     returns-6
-    returns-7
-    returns-8
-    returns-9)
+    returns-7)

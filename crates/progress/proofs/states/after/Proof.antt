@@ -4,7 +4,8 @@ use mathlib.Core.Bool.{true}
 use Prim.Native.Nat.{ℕ}
 use lib.ListN.{set}
 use Rattle.command.specs.Reading.{command-of}
-use Rattle.progress.proofs.Leaving.{by-command, after-site, after-leaf, after-condition, after-test, after-reward, after-chance, after-level, after-name, after-end}
+use Rattle.progress.proofs.Leaving.{by-command, after-site, after-leaf, after-condition, after-test, after-give, after-name, after-end}
+use Rattle.progress.specs.Standing.{place}
 use borrow.Author.Needs.{needs}
 use Rattle.progress.proofs.states.after.Statement.{statement}
 use Rattle.progress.proofs.states.after.Tie as tie
@@ -51,17 +52,14 @@ enum-known-c-4 c = search needs
 pop-requires : tie.Need-pop-requires
 pop-requires c κs = search needs
 
+base-requires : tie.Need-base-requires
+base-requires c κs = search needs
+
 place-requires : tie.Need-place-requires
 place-requires c κs = search needs
 
 with-flag-requires : tie.Need-with-flag-requires
 with-flag-requires c κs = search needs
-
-enum-known-c-5 : tie.Need-enum-known-c-5
-enum-known-c-5 c = search needs
-
-pop-requires-2 : tie.Need-pop-requires-2
-pop-requires-2 c κs = search needs
 
 place-requires-2 : tie.Need-place-requires-2
 place-requires-2 c κs = search needs
@@ -69,26 +67,8 @@ place-requires-2 c κs = search needs
 with-flag-requires-2 : tie.Need-with-flag-requires-2
 with-flag-requires-2 c κs = search needs
 
-enum-known-c-6 : tie.Need-enum-known-c-6
-enum-known-c-6 c = search needs
-
-pop-requires-3 : tie.Need-pop-requires-3
-pop-requires-3 c κs = search needs
-
-place-requires-3 : tie.Need-place-requires-3
-place-requires-3 c κs = search needs
-
-with-flag-requires-3 : tie.Need-with-flag-requires-3
-with-flag-requires-3 c κs = search needs
-
-enum-known-c-7 : tie.Need-enum-known-c-7
-enum-known-c-7 c = search needs
-
-place-requires-4 : tie.Need-place-requires-4
-place-requires-4 c κs = search needs
-
-with-flag-requires-4 : tie.Need-with-flag-requires-4
-with-flag-requires-4 c κs = search needs
+enum-known-c-5 : tie.Need-enum-known-c-5
+enum-known-c-5 c = search needs
 
 enum-told-2 : tie.Need-enum-told-2
 enum-told-2 c = search needs
@@ -116,26 +96,18 @@ returns-4 c =
 returns-5 : tie.Need-returns-5
 unfolding command-of
 returns-5 c =
-    by-command ((c .before .before .before .before .before .before .before) .args .s) (c .before .before .before .before .before .c4 .given .1) (c .with-flag .ensures ∙ ap (λ (i : ℕ). record { begun = (c .before .before .before .before .before .before .before) .args .s .begun; site = (c .before .before .before .before .before .before .before) .args .s .site; stack = c .before .before .pop .result; given = set ((c .before .before .before .before .before .before .before) .args .s .given) i true }) (c .before .place .ensures)) (λ B at p st u. after-reward st _ (c .before .before .pop .result) (c .before .before .pop .ensures) u)
+    by-command ((c .before .before .before .before .before .before .before .before) .args .s) (c .before .before .before .before .before .before .c4 .given .1)
+    (c .with-flag .ensures ∙ ap (λ (i : ℕ). record { begun = (c .before .before .before .before .before .before .before .before) .args .s .begun; site = (c .before .before .before .before .before .before .before .before) .args .s .site; stack = c .before .before .before .pop .result; given = set ((c .before .before .before .before .before .before .before .before) .args .s .given) i true }) (c .before .place .ensures ∙ ap (λ (b : ℕ). place b (c .before .before .before .before .before .before .c4 .given .0 .1 .1 .0) (c .before .before .before .before .before .before .c4 .given .0 .1 .0)) (c .before .before .base .ensures .0)))
+    (λ B at p st u. after-give st _ (c .before .before .before .pop .result) (c .before .before .before .pop .ensures) u)
 
 returns-6 : tie.Need-returns-6
 unfolding command-of
 returns-6 c =
-    by-command ((c .before .before .before .before .before .before .before) .args .s) (c .before .before .before .before .before .c5 .given .1) (c .with-flag2 .ensures ∙ ap (λ (i : ℕ). record { begun = (c .before .before .before .before .before .before .before) .args .s .begun; site = (c .before .before .before .before .before .before .before) .args .s .site; stack = c .before .before .pop2 .result; given = set ((c .before .before .before .before .before .before .before) .args .s .given) i true }) (c .before .place2 .ensures)) (λ B at p st u. after-chance st _ _ (c .before .before .pop2 .result) (c .before .before .pop2 .ensures) u)
+    by-command ((c .before .before .before .before .before .before) .args .s) (c .before .before .before .before .c5 .given .1) (c .with-flag2 .ensures ∙ ap (λ (i : ℕ). record { begun = (c .before .before .before .before .before .before) .args .s .begun; site = (c .before .before .before .before .before .before) .args .s .site; stack = (c .before .before .before .before .before .before) .args .s .stack; given = set ((c .before .before .before .before .before .before) .args .s .given) i true }) (c .before .place2 .ensures)) (λ B at p st u. after-name st _ _ u)
 
 returns-7 : tie.Need-returns-7
 unfolding command-of
 returns-7 c =
-    by-command ((c .before .before .before .before .before .before .before) .args .s) (c .before .before .before .before .before .c6 .given .1) (c .with-flag3 .ensures ∙ ap (λ (i : ℕ). record { begun = (c .before .before .before .before .before .before .before) .args .s .begun; site = (c .before .before .before .before .before .before .before) .args .s .site; stack = c .before .before .pop3 .result; given = set ((c .before .before .before .before .before .before .before) .args .s .given) i true }) (c .before .place3 .ensures)) (λ B at p st u. after-level st _ _ (c .before .before .pop3 .result) (c .before .before .pop3 .ensures) u)
-
-returns-8 : tie.Need-returns-8
-unfolding command-of
-returns-8 c =
-    by-command ((c .before .before .before .before .before .before) .args .s) (c .before .before .before .before .c7 .given .1) (c .with-flag4 .ensures ∙ ap (λ (i : ℕ). record { begun = (c .before .before .before .before .before .before) .args .s .begun; site = (c .before .before .before .before .before .before) .args .s .site; stack = (c .before .before .before .before .before .before) .args .s .stack; given = set ((c .before .before .before .before .before .before) .args .s .given) i true }) (c .before .place4 .ensures)) (λ B at p st u. after-name st _ _ u)
-
-returns-9 : tie.Need-returns-9
-unfolding command-of
-returns-9 c =
     by-command ((c .before .before) .args .s) (c .enum-told2 .given .1) (refl) (λ B at p st u. after-end st)
 
 pub after-spec : {M : Type 1} → statement M
@@ -156,19 +128,12 @@ after-spec =
     with-stack-requires-3
     enum-known-c-4
     pop-requires
+    base-requires
     place-requires
     with-flag-requires
     enum-known-c-5
-    pop-requires-2
     place-requires-2
     with-flag-requires-2
-    enum-known-c-6
-    pop-requires-3
-    place-requires-3
-    with-flag-requires-3
-    enum-known-c-7
-    place-requires-4
-    with-flag-requires-4
     enum-told-2
     returns
     returns-2
@@ -176,6 +141,4 @@ after-spec =
     returns-4
     returns-5
     returns-6
-    returns-7
-    returns-8
-    returns-9)
+    returns-7)
