@@ -98,3 +98,20 @@ pub fn same(x: Node, y: Node) -> bool
     }
     true
 }
+
+// Whether the node at index i is x: the words that differ most often are compared first, before all are read.
+pub fn is_at(nodes: &[i64], i: usize, x: Node) -> bool
+    requires { ⌜ i * 8 + 8 ≤ length (now nodes) ⌝ }
+    ensures { λ r. ⌜ SameNode (nodeAt (now (nodes .entry)) i) x r ⌝ }
+{
+    let at = i * 8;
+    let low = nodes[at + 7];
+    if low != x.low {
+        return false;
+    }
+    let constant = nodes[at + 5];
+    if constant != x.constant {
+        return false;
+    }
+    same(get(nodes, i), x)
+}

@@ -2,7 +2,7 @@
 use mathlib.Core.Path.{_≡_}
 use mathlib.Core.Bool.{Bool, true, false, cond}
 use mathlib.Core.List.{List}
-use Prim.Native.Nat.{ℕ, zero, suc, _+_, _*_, _%_, _≤_, _<_}
+use Prim.Native.Nat.{ℕ, zero, suc, _+_, _*_, _/_, _%_, _≤_, _<_}
 use lib.Dec.{eqb}
 use lib.IntN.{ℤ, natAbs}
 use lib.ListN.{length, getD}
@@ -12,10 +12,13 @@ use Rattle.table.specs.declared.Node.{Node}
 
 -- each of a node's words has a share in its hash, none waits for another
 unfoldable pub shareOf : ℤ → ℕ → ℕ
-shareOf z k = natAbs z % 65521 * k
+shareOf z k = (natAbs z % 4294967296 + natAbs z / 4294967296) * k % 4294967296
+
+unfoldable pub bucketOf : ℕ → ℕ → ℕ
+bucketOf s cap = s % 4294967296 * cap / 4294967296
 
 unfoldable pub hashOf : ℕ → Node → ℕ
-hashOf cap x = (shareOf (x .kind) 8167 + shareOf (x .c1) 6247 + shareOf (x .c2) 5171 + shareOf (x .c3) 4057 + shareOf (x .c4) 3371 + shareOf (x .constant) 1723 + shareOf (x .high) 613 + shareOf (x .low) 31) % cap
+hashOf cap x = bucketOf (shareOf (x .kind) 1640531527 + shareOf (x .c1) 1367130551 + shareOf (x .c2) 2073287029 + shareOf (x .c3) 1181783497 + shareOf (x .c4) 1540483477 + shareOf (x .constant) 1013904223 + shareOf (x .high) 2024237689 + shareOf (x .low) 1812433253) cap
 
 -- one more than the last index below n whose bucket is b, or 0
 unfoldable pub lastOf : (ℕ → ℕ) → ℕ → ℕ → ℕ

@@ -4,32 +4,42 @@ use table::Made;
 use table::Node;
 use whole::limits::mag;
 ghost use mathlib.Core.Path.{_≡_};
-ghost use Prim.Native.Nat.{_<_};
+ghost use Prim.Native.Nat.{_≤_, _<_};
 ghost use Rattle.table.specs.Table.{firstNode};
-ghost use Rattle.unique.specs.Unique.{shareOf, hashOf, Chained, Entered};
+ghost use Rattle.unique.specs.Unique.{shareOf, bucketOf, hashOf, Chained, Entered};
 
-// One word's share in a hash.
+// One word's share in a hash: both halves of its magnitude, spread over 32 bits.
 pub fn share(z: i64, k: u64) -> u64
-    requires { ⌜ k < 8192 ⌝ }
-    ensures { λ r. ⌜ (r ≡ shareOf z k) × (r < 536870912) ⌝ }
+    requires { ⌜ k < 2147483648 ⌝ }
+    ensures { λ r. ⌜ (r ≡ shareOf z k) × (r < 4294967296) ⌝ }
 {
-    mag(z) % 65521 * k
+    let m = mag(z);
+    (m % 4294967296 + m / 4294967296) * k % 4294967296
+}
+
+// The bucket of a sum of shares, by its 32 low bits as a fraction: no division by the room.
+pub fn bucket(sum: u64, cap: usize) -> usize
+    requires { ⌜ (0 < cap) × (cap ≤ 65535) ⌝ }
+    ensures { λ r. ⌜ (r ≡ bucketOf sum cap) × (r < cap) ⌝ }
+{
+    let fraction = (sum % 4294967296) as usize;
+    fraction * cap / 4294967296
 }
 
 // A node's bucket.
 pub fn hash(x: Node, cap: usize) -> usize
-    requires { ⌜ 0 < cap ⌝ }
+    requires { ⌜ (0 < cap) × (cap ≤ 65535) ⌝ }
     ensures { λ r. ⌜ (r ≡ hashOf cap x) × (r < cap) ⌝ }
 {
-    let a = share(x.kind, 8167);
-    let b = share(x.c1, 6247);
-    let c = share(x.c2, 5171);
-    let d = share(x.c3, 4057);
-    let e = share(x.c4, 3371);
-    let f = share(x.constant, 1723);
-    let g = share(x.high, 613);
-    let h = share(x.low, 31);
-    (a + b + c + d + e + f + g + h) as usize % cap
+    let a = share(x.kind, 1640531527);
+    let b = share(x.c1, 1367130551);
+    let c = share(x.c2, 2073287029);
+    let d = share(x.c3, 1181783497);
+    let e = share(x.c4, 1540483477);
+    let f = share(x.constant, 1013904223);
+    let g = share(x.high, 2024237689);
+    let h = share(x.low, 1812433253);
+    bucket(a + b + c + d + e + f + g + h, cap)
 }
 
 // The node that equals x, or count where there is none: along its bucket's chain.
@@ -41,7 +51,7 @@ pub fn find(nodes: &[i64], work: &[u32], cap: usize, count: usize, x: Node) -> u
     let mut at = work[b] as usize;
     while at != 0 {
         let i = at - 1;
-        if table::same(table::get(nodes, i), x) {
+        if table::is_at(nodes, i, x) {
             return i;
         }
         at = work[cap + i] as usize;

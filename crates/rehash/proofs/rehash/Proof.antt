@@ -38,7 +38,7 @@ get-requires c κs =
 
 hash-requires : tie.Need-hash-requires Inv-loop μ-loop
 hash-requires c κs =
-    (c .before .before .before .before .before .before .before .before .before .before .before .before) .pre .some
+    let z = (c .before .before .before .before .before .before .before .before .before .before .before .before) .pre in (z .some, z .few)
 
 mul-work-3 : tie.Need-mul-work-3 Inv-loop μ-loop
 mul-work-3 c =

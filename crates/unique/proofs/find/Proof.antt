@@ -1,3 +1,4 @@
+use mathlib.Core.Path.{refl}
 use Prim.Native.Nat.{ℕ, _+_, _-_}
 use borrow.Author.Needs.{needs}
 use native.Mathlib.Omega.{arith}
@@ -13,7 +14,7 @@ abbrev μ-loop : tie.MeasureT-loop
 μ-loop nodes work cap count x b at₀ at = at
 
 hash-requires : tie.Need-hash-requires Inv-loop μ-loop
-hash-requires c κs = c .before .pre .some
+hash-requires c κs = (c .before .pre .some, c .before .pre .few)
 
 mul-at : tie.Need-mul-at Inv-loop μ-loop
 mul-at c = let q = c .before .before .pre .few in omega (arith, c .hash .ensures .1)
@@ -30,32 +31,29 @@ loop-holds c = begins (c .before .before .before .pre) (c .before .before .befor
 sub-i : tie.Need-sub-i Inv-loop μ-loop
 sub-i c = omega arith
 
-get-requires : tie.Need-get-requires Inv-loop μ-loop
-get-requires c κs = let q = c .before .loop .inv .within in let r = c .before .before .before .before .before .pre .room in let w = c .before .before .before .before .before .pre .words in omega arith
-
-same-requires : tie.Need-same-requires Inv-loop μ-loop
-same-requires c κs = search needs
+is-at-requires : tie.Need-is-at-requires Inv-loop μ-loop
+is-at-requires c κs = let q = c .before .loop .inv .within in let r = c .before .before .before .before .before .pre .room in let w = c .before .before .before .before .before .pre .words in omega arith
 
 returns : tie.Need-returns Inv-loop μ-loop
-returns c = hits (c .before .before .before .before .before .before .before .before .pre) (c .before .before .before .before .before .before .before .before .args .x) (c .before .before .before .before .loop .at) (c .before .before .before .loop-test .taken) (c .before .before .before .before .loop .inv) (hit (c .before .before .get .ensures) (c .before .same .ensures) (c .if1 .taken))
+returns c = hits (c .before .before .before .before .before .before .before .pre) (c .before .before .before .before .before .before .before .args .x) (c .before .before .before .loop .at) (c .before .before .loop-test .taken) (c .before .before .before .loop .inv) (hit refl (c .before .is-at .ensures) (c .if1 .taken))
 
 add-at : tie.Need-add-at Inv-loop μ-loop
-add-at c = let q = c .before .before .before .before .loop .inv .within in let r = c .before .before .before .before .before .before .before .before .pre .room in let f = c .before .before .before .before .before .before .before .before .pre .few in omega arith
+add-at c = let q = c .before .before .before .loop .inv .within in let r = c .before .before .before .before .before .before .before .pre .room in let f = c .before .before .before .before .before .before .before .pre .few in omega arith
 
 mul-at-2 : tie.Need-mul-at-2 Inv-loop μ-loop
-mul-at-2 c = let q = c .before .before .before .before .loop .inv .within in let r = c .before .before .before .before .before .before .before .before .pre .room in let f = c .before .before .before .before .before .before .before .before .pre .few in omega arith
+mul-at-2 c = let q = c .before .before .before .loop .inv .within in let r = c .before .before .before .before .before .before .before .pre .room in let f = c .before .before .before .before .before .before .before .pre .few in omega arith
 
 shared-slice-read-at-2 : tie.Need-shared-slice-read-at-2 Inv-loop μ-loop
-shared-slice-read-at-2 c = let q = c .before .before .before .before .before .loop .inv .within in let r = c .before .before .before .before .before .before .before .before .before .pre .room in let f = c .before .before .before .before .before .before .before .before .before .pre .works in let z = c .before .before .before .before .loop-test .taken in omega arith
+shared-slice-read-at-2 c = let q = c .before .before .before .before .loop .inv .within in let r = c .before .before .before .before .before .before .before .before .pre .room in let f = c .before .before .before .before .before .before .before .before .pre .works in let z = c .before .before .before .loop-test .taken in omega arith
 
 cast-at-2 : tie.Need-cast-at-2 Inv-loop μ-loop
-cast-at-2 c = omega (arith, c .shared-slice-known3 .given (c .before .before .before .before .before .before .before .before .before .args .cap + (c .before .before .before .before .before .loop .at - 1)))
+cast-at-2 c = omega (arith, c .shared-slice-known3 .given (c .before .before .before .before .before .before .before .before .args .cap + (c .before .before .before .before .loop .at - 1)))
 
 loop-less : tie.Need-loop-less Inv-loop μ-loop
-loop-less c = less (c .before .before .before .before .before .before .before .before .before .pre) (c .before .before .before .before .before .before .before .before .before .args .x) (c .before .before .before .before .before .loop .at) (c .before .before .before .before .loop-test .taken) (c .before .before .before .before .before .loop .inv)
+loop-less c = less (c .before .before .before .before .before .before .before .before .pre) (c .before .before .before .before .before .before .before .before .args .x) (c .before .before .before .before .loop .at) (c .before .before .before .loop-test .taken) (c .before .before .before .before .loop .inv)
 
 loop-again : tie.Need-loop-again Inv-loop μ-loop
-loop-again c = goes-on (c .before .before .before .before .before .before .before .before .before .pre) (c .before .before .before .before .before .before .before .before .before .args .x) (c .before .before .before .before .before .loop .at) (c .before .before .before .before .loop-test .taken) (c .before .before .before .before .before .loop .inv) (miss (c .before .before .before .get .ensures) (c .before .before .same .ensures) (c .before .if1 .left))
+loop-again c = goes-on (c .before .before .before .before .before .before .before .before .pre) (c .before .before .before .before .before .before .before .before .args .x) (c .before .before .before .before .loop .at) (c .before .before .before .loop-test .taken) (c .before .before .before .before .loop .inv) (miss refl (c .before .before .is-at .ensures) (c .before .if1 .left))
 
 returns-2 : tie.Need-returns-2 Inv-loop μ-loop
 returns-2 c = misses (c .before .before .before .before .before .pre) (c .before .before .before .before .before .args .x) (c .before .loop .at) (c .loop-test .left) (c .before .loop .inv)
@@ -72,8 +70,7 @@ find-spec =
     cast-at
     loop-holds
     sub-i
-    get-requires
-    same-requires
+    is-at-requires
     returns
     add-at
     mul-at-2
