@@ -2,15 +2,16 @@
 use mathlib.Core.Path.{_≡_}
 use mathlib.Core.Logic.{_↔_, _⊎_}
 use mathlib.Core.Bool.{Bool}
-use mathlib.Core.List.{List, [], map, List·Memᴰ}
+use mathlib.Core.List.{List, [], _∷_, _++_, map, List·Memᴰ}
 use Prim.Native.Nat.{ℕ, suc, _*_, _^_, _≤_, _<_}
 use native.Mathlib.Nat.{mul-pos, one-le-pow}
 use lib.Dec.{T}
-use lib.IntN.{ℤ, pos, _*ℤ_}
+use lib.IntN.{ℤ, pos, natAbs, _*ℤ_}
 use lib.ListN.{length}
 use lib.Signed.{_<ℤ_}
+use Rattle.whole.specs.Divisor.{Divides}
 use Rattle.whole.specs.Numerator.{number, words}
-use Rattle.theory.specs.Diagram.{Tree, scaleL}
+use Rattle.theory.specs.Diagram.{Linear, linear, Tree, scaleL, _⊠_, zeros, test-of}
 use Rattle.theory.specs.Computation.{solved, refused, enter-all, result}
 use Rattle.theory.specs.Rules.{side}
 use Rattle.theory.specs.Process.{Process, Policy, Action, mean, optimum, lowest-best, expected, Sound}
@@ -143,6 +144,15 @@ WeightsSum = (B : List ℕ) → verdict B .number ≡ 0 → (a : ℕ) → Action
     → (s : State) → mean ((process (model B) .weight) a s) (λ _. pos 1) (process (model B) .settings) ≡ pos ((model B .weights) ^ (model B .conditions))
 
 -- ---- "Diagrams" and "Tables after solving"
+
+-- g divides each number of a linear
+abbrev pub DividesAll : ℕ → Linear → Type 0
+DividesAll g p = (z : ℤ) → List·Memᴰ z (p .coeffs ++ (p .const ∷ [])) → Divides g (natAbs z)
+
+-- "A test is divided by the greatest common divisor of its five numbers": p is g × the test's linear, g divides p's numbers, and whatever does divides g
+abbrev pub TestsDivided : Type 0
+TestsDivided = (p : Linear) → (T (zeros (p .coeffs)) → ⊥)
+    → (g : ℕ) × ((q : Linear) × ((test-of p ≡ linear q) × ((pos g ⊠ q ≡ p) × (DividesAll g p × ((k : ℕ) → DividesAll k p → Divides k g)))))
 
 -- "Down a path the order rises strictly .. A node whose branches are equal is that branch": of each diagram that is loaded, and of each stage
 abbrev pub LoadedOrdered : Type 0

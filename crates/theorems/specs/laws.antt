@@ -6,7 +6,8 @@ pub mod Chances
 pub mod Formula
 -- 11, 12 and the peak
 pub mod Peak
--- the order down a path
+-- tests and the order down a path
+pub mod Divided
 pub mod Order
 pub mod Ordered
 pub mod OrderedStages
