@@ -18,7 +18,7 @@ use Rattle.theory.specs.Process.{Process, Policy, Action, mean, optimum, lowest
 use Rattle.theory.specs.Meaning.{Model, State, action-at, env, worth-at, chance-at, weight, settings, moved, power, process}
 use Rattle.theory.specs.Stage.{all-stages}
 use Rattle.theory.specs.Verdict.{Verdict, verdict}
-use Rattle.theory.specs.Load.{load, model, site-at}
+use Rattle.theory.specs.Load.{load, model, spelled, site-at}
 use Rattle.theory.specs.Solve.{solve-in, table-of, solved-stages, SolveOut, solve}
 use Rattle.theory.specs.Value.{Asked, accepted, state-of, ValueOut, value-of}
 use Rattle.theory.specs.Plain.{plain-of}
@@ -142,6 +142,10 @@ ChancesWithin = (B : List ℕ) → verdict B .number ≡ 0 → (a : ℕ) → Act
 abbrev pub WeightsSum : Type 0
 WeightsSum = (B : List ℕ) → verdict B .number ≡ 0 → (a : ℕ) → Action (process (model B)) a
     → (s : State) → mean ((process (model B) .weight) a s) (λ _. pos 1) (process (model B) .settings) ≡ pos ((model B .weights) ^ (model B .conditions))
+
+-- what is loaded means what the bytes spell: one decision process
+abbrev pub SpelledSame : Type 0
+SpelledSame = (B : List ℕ) → process (model B) ≡ process (spelled B)
 
 -- ---- "Diagrams" and "Tables after solving"
 

@@ -4,6 +4,7 @@
 pub mod Weights
 pub mod Chances
 pub mod Formula
+pub mod Spelled
 -- 11, 12 and the peak
 pub mod Peak
 -- tests and the order down a path

@@ -28,7 +28,7 @@ use Rattle.theory.specs.Value.{value-of}
 use Rattle.theory.specs.Plain.{plain-of}
 use Rattle.theory.specs.Name.{name-refusal, name-part}
 use Rattle.theory.specs.Listing.{greatest-root, listing}
-use Rattle.theorems.specs.Demands.{Solving, left, start, site, reading, Exact, Optimal, PlainAgrees, SameValue, FirstMet, SolvedExactly, CountsDistinct, PeakDecides, VerdictRows, SolveRows, ValueRows, PlainRows, NameRows, NamePartRows, ListingRows, Formula, ChancesWithin, WeightsSum, TestsDivided, LoadedOrdered, StagesOrdered, TablesReduced, SideLiteral, TablesHold}
+use Rattle.theorems.specs.Demands.{Solving, left, start, site, reading, Exact, Optimal, PlainAgrees, SameValue, FirstMet, SolvedExactly, CountsDistinct, PeakDecides, VerdictRows, SolveRows, ValueRows, PlainRows, NameRows, NamePartRows, ListingRows, Formula, ChancesWithin, WeightsSum, SpelledSame, TestsDivided, LoadedOrdered, StagesOrdered, TablesReduced, SideLiteral, TablesHold}
 use Rattle.theorems.specs.Reduced.{Reduced}
 use Rattle.theory.specs.Rows.{VerdictRow, SolveRow, ValueRow, PlainRow, NameRow, NamePartRow, ListingRow}
 use Rattle.theory.specs.laws.Loading.{accepted-valid, accepted-site}
@@ -40,6 +40,7 @@ use Rattle.theory.specs.laws.Rows as Rows
 use Rattle.theory.specs.laws.Name as Name
 use Rattle.theorems.specs.laws.Formula as Formulas
 use Rattle.theorems.specs.laws.Chances as Chances
+use Rattle.theorems.specs.laws.Spelled as Spelled
 use Rattle.theorems.specs.laws.Divided as Divided
 use Rattle.theorems.specs.laws.Ordered as Ordered
 use Rattle.theorems.specs.laws.OrderedStages as OrderedStages
@@ -196,6 +197,9 @@ chances-within = Chances.chances-within
 
 pub weights-sum : WeightsSum
 weights-sum = Chances.state-weights-sum
+
+pub spelled-same : SpelledSame
+spelled-same = Spelled.spelled-same
 
 pub tests-divided : TestsDivided
 tests-divided = Divided.tests-divided
