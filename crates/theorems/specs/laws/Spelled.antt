@@ -9,8 +9,8 @@ use Rattle.theory.specs.Diagram.{Test, Leaf, Tree, branch, test-of}
 use Rattle.theory.specs.Computation.{Comp, ret, bind, make, result}
 use Rattle.theory.specs.Rules.{choose}
 use Rattle.theory.specs.Meaning.{Action, nth-action, action-at, numbers-from, Env, env, value, holds, at, worth-at, chance-at, weight, moved, settings, power, process}
-use Rattle.theory.specs.Command.{Command, site, push-leaf, push-condition, push-test, take-reward, take-chance, take-level, name-action, end-model, Read, whole, unknown, short, Placed, readings}
-use Rattle.theory.specs.Verdict.{Site, Slot, same-slot, reward-slot, chance-slot, level-slot, from-to}
+use Rattle.theory.specs.Command.{Command, site, push-leaf, push-condition, push-test, give, name-action, end-model, Read, whole, unknown, short, Placed, readings, Slot}
+use Rattle.theory.specs.Verdict.{Site, same-slot, reward-slot, chance-slot, level-slot, from-to}
 use Rattle.theory.specs.Load.{Entry, Loaded, condition-test, load-entry, load-choice-with, load-one-with, load-on-with, find-slot, action-of, model-of, site-at, load-with, model, spelled}
 use Rattle.theory.specs.laws.Comps.{result-bind}
 use Rattle.theory.specs.laws.Values.{Makes, choose-at}
@@ -72,9 +72,7 @@ module _ (by : Test → Tree → Tree → Comp Tree) (ok : (e : Env) → Makes e
   one-like (push-leaf p) s u d = ((λ e. refl, d .0), d .1)
   one-like (push-condition k) s u d = choice-like (condition-test k) (s .stack) (u .stack) (s .entries) (u .entries) (d .0) (d .1)
   one-like (push-test p) s u d = choice-like (test-of p) (s .stack) (u .stack) (s .entries) (u .entries) (d .0) (d .1)
-  one-like (take-reward a) s u d = entry-like (reward-slot a) (s .stack) (u .stack) (s .entries) (u .entries) (d .0) (d .1)
-  one-like (take-chance a k) s u d = entry-like (chance-slot a k) (s .stack) (u .stack) (s .entries) (u .entries) (d .0) (d .1)
-  one-like (take-level a i) s u d = entry-like (level-slot a i) (s .stack) (u .stack) (s .entries) (u .entries) (d .0) (d .1)
+  one-like (give g) s u d = entry-like g (s .stack) (u .stack) (s .entries) (u .entries) (d .0) (d .1)
   one-like (name-action a b) s u d = d
   one-like end-model s u d = d
 
