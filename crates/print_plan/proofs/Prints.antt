@@ -2,16 +2,16 @@
 use mathlib.Core.Path.{_≡_, refl, sym, ap, _∙_}
 use mathlib.Core.Bool.{Bool, true, false, not}
 use mathlib.Core.List.{List, [], _∷_, _++_}
-use Prim.Native.Nat.{ℕ, zero, suc, _+_, _-_, _≤_, _/_, _%_}
+use Prim.Native.Nat.{ℕ, zero, suc, _+_, _-_, _≤_, _<_, _/_, _%_}
 use native.Mathlib.Omega.{arith}
-use borrow.Author.Tests.{eq-eqb, ne-eqb, eqb-true, ltb-false}
+use borrow.Author.Tests.{eq-eqb, ne-eqb, eqb-true, ltb-false, lt-ltb}
 use lib.Dec.{eqb, ltb}
 use lib.IntN.{ℤ, pos}
-use lib.ListN.{length, getD, take, drop, length-append}
-use lib.Seq.{take-at}
+use lib.ListN.{length, getD, take, drop, replicate, length-append}
+use lib.Seq.{take-at, take-all, length-take-le}
 use Rattle.whole.specs.Cases.{if}
 use Rattle.theory.specs.Valid.{all}
-use Rattle.theory.specs.Verdict.{Verdict, refusal, from-to}
+use Rattle.theory.specs.Verdict.{Verdict, refusal, or, from-to}
 use Rattle.theory.specs.Load.{site-at}
 use Rattle.theory.specs.Solve.{early, SolveOut, solve}
 use Rattle.theory.specs.Value.{good-row}
@@ -19,7 +19,7 @@ use Rattle.theory.specs.Listing.{digits, spaced, spaced-all, greatest-root, ref
 use Rattle.decimal.specs.Put.{PutAt}
 use Rattle.decimal.proofs.Numbers.{spaced-plain}
 use Rattle.decimal.proofs.Rows.{line-length}
-use Rattle.print_plan.specs.Printed.{listed, printed}
+use Rattle.print_plan.specs.Printed.{listed, printed, plan-printed, program}
 
 -- ---- a refusal's line has room
 
@@ -61,11 +61,18 @@ judged-fits v true true false d e z = absurd (omega arith)
 judged-fits v true true true true e z = absurd (omega arith)
 judged-fits v true true true false e z = refl
 
-accepted : (v : Verdict) (ok : ListingOut) (buffer : List ℕ) (b : Bool) → eqb (v .number) 0 ≡ b
-    → if b ok (record { number = v .number; place = v .place; size = 0; buffer = buffer }) .number ≡ 0
-    → (v .number ≡ 0) × (if b ok (record { number = v .number; place = v .place; size = 0; buffer = buffer }) ≡ ok)
+-- the outcome by whether the plan is accepted
+abbrev by-verdict : Verdict → ListingOut → List ℕ → Bool → ListingOut
+by-verdict v ok buffer b = if b ok (record { number = v .number; place = v .place; size = 0; buffer = buffer })
+
+accepted : (v : Verdict) (ok : ListingOut) (buffer : List ℕ) (b : Bool) → eqb (v .number) 0 ≡ b → by-verdict v ok buffer b .number ≡ 0 → (v .number ≡ 0) × (by-verdict v ok buffer b ≡ ok)
 accepted v ok buffer true e z = (eqb-true (v .number) 0 e, refl)
 accepted v ok buffer false e z = absurd (let f = eq-eqb (v .number) 0 z in let y : _≡_ {A = ℕ} 0 1 = cc in omega arith)
+
+refused : (v : Verdict) (ok : ListingOut) (buffer : List ℕ) (b : Bool) → ok .number ≡ 0 → (by-verdict v ok buffer b .number ≡ 0 → ⊥)
+    → (b ≡ false) × (refusal (by-verdict v ok buffer b .number) (by-verdict v ok buffer b .place) ≡ v)
+refused v ok buffer true z n = absurd (n z)
+refused v ok buffer false z n = (refl, refl)
 
 module _ (B : List ℕ) (H : ℕ) (nodes : List ℤ) (stages buffer : List ℕ) where
   abbrev whole : List ℕ
@@ -73,6 +80,9 @@ module _ (B : List ℕ) (H : ℕ) (nodes : List ℤ) (stages buffer : List ℕ) 
 
   abbrev judged : Verdict
   judged = listing-refusal B H nodes stages (length buffer) 0
+
+  abbrev done : ListingOut
+  done = record { number = 0; place = 0; size = length whole; buffer = written buffer 0 whole }
 
   fits : judged .number ≡ 0 → length whole ≤ length buffer
   unfolding listing-refusal
@@ -82,49 +92,86 @@ module _ (B : List ℕ) (H : ℕ) (nodes : List ℤ) (stages buffer : List ℕ) 
       let f = judged-fits v (eqb (v .number) 0) (all (λ h. not (eqb (getD stages (h - 1) 0) 0)) (from-to 1 H)) (all (good-row (S .conditions) (S .actions) nodes) (from-to 1 (greatest-root H stages))) (ltb (length buffer) (0 + length whole)) refl z in
       omega (arith, ltb-false (length buffer) (0 + length whole) f)
 
-  -- the text stands at the front
-  listed-front : {n p size : ℕ} {after : List ℕ} → record { number = n; place = p; size = size; buffer = after } ≡ listing B H nodes stages buffer 0 → n ≡ 0 → (size ≤ length buffer) × (take size after ≡ whole)
-  unfolding listing
-  listed-front {n} {p} {size} {after} e z =
-      let ok : ListingOut = record { number = 0; place = 0; size = length whole; buffer = written buffer 0 whole } in
-      let a = accepted judged ok buffer (eqb (judged .number) 0) refl (ap (λ (o : ListingOut). o .number) (sym e) ∙ z) in
-      let o = e ∙ a .1 in
-      let s : size ≡ length whole = ap (λ (o : ListingOut). o .size) o in
-      (omega (arith, fits (a .0)), ap (take size) (ap (λ (o : ListingOut). o .buffer) o) ∙ front buffer whole size s)
+  module _ {n p size : ℕ} {after : List ℕ} (e : record { number = n; place = p; size = size; buffer = after } ≡ listing B H nodes stages buffer 0) where
+    -- the text stands at the front
+    listed-front : n ≡ 0 → (size ≤ length buffer) × (take size after ≡ listed B H nodes stages (length buffer))
+    unfolding listing listed
+    listed-front z =
+        let a = accepted judged done buffer (eqb (judged .number) 0) refl (ap (λ (o : ListingOut). o .number) (sym e) ∙ z) in
+        let o = e ∙ a .1 in
+        let s : size ≡ length whole = ap (λ (o : ListingOut). o .size) o in (
+          omega (arith, fits (a .0)),
+          ap (take size) (ap (λ (o : ListingOut). o .buffer) o)
+              ∙ front buffer whole size s
+              ∙ sym (ap (λ (b : Bool). if b whole (refusal-line judged)) (eq-eqb (judged .number) 0 (a .0))),
+        )
+
+    listed-refused : (n ≡ 0 → ⊥) → refusal-line (refusal n p) ≡ listed B H nodes stages (length buffer)
+    unfolding listing listed
+    listed-refused m =
+        let r = refused judged done buffer (eqb (judged .number) 0) refl (λ z. m (ap (λ (o : ListingOut). o .number) e ∙ z)) in
+        ap (λ (o : ListingOut). refusal-line (refusal (o .number) (o .place))) e
+        ∙ ap refusal-line (r .1)
+        ∙ sym (ap (λ (b : Bool). if b whole (refusal-line judged)) (r .0))
 
 -- ---- what is printed
 
 -- a solve's answer and tables
-module _ (B : List ℕ) (H : ℕ) (nodes : List ℤ) (stages work buffer : List ℕ) {k q peak : ℕ} {l : List ℤ} {s w : List ℕ} (e : record { number = k; place = q; peak = peak; nodes = l; stages = s; work = w } ≡ solve B H nodes stages work) where
-  pub refused-printed : (k ≡ 0 → ⊥) → refusal-line (refusal k q) ≡ printed B H nodes stages work buffer
+module _ (B : List ℕ) (H : ℕ) (nodes : List ℤ) (stages work : List ℕ) (room : ℕ) {k q peak : ℕ} {l : List ℤ} {s w : List ℕ} (e : record { number = k; place = q; peak = peak; nodes = l; stages = s; work = w } ≡ solve B H nodes stages work) where
+  abbrev by-solve : SolveOut → List ℕ
+  by-solve o = if (eqb (o .number) 0) (listed B H (o .nodes) (o .stages) room) (refusal-line (refusal (o .number) (o .place)))
+
+  pub refused-printed : (k ≡ 0 → ⊥) → refusal-line (refusal k q) ≡ printed B H nodes stages work room
   unfolding printed
-  refused-printed n = go (solve B H nodes stages work) e
-    where
-      go : (o : SolveOut) → record { number = k; place = q; peak = peak; nodes = l; stages = s; work = w } ≡ o → refusal-line (refusal k q) ≡ if (eqb (o .number) 0) (listed B H (o .nodes) (o .stages) (listing B H (o .nodes) (o .stages) buffer 0)) (refusal-line (refusal (o .number) (o .place)))
-      go o e = rw (← e) (rw (ne-eqb k 0 n))
+  refused-printed n = sym (ap (λ (b : Bool). if b (listed B H l s room) (refusal-line (refusal k q))) (ne-eqb k 0 n)) ∙ ap by-solve e
 
-  solved-printed : k ≡ 0 → listed B H l s (listing B H l s buffer 0) ≡ printed B H nodes stages work buffer
+  pub solved-printed : k ≡ 0 → listed B H l s room ≡ printed B H nodes stages work room
   unfolding printed
-  solved-printed z = go (solve B H nodes stages work) e
-    where
-      go : (o : SolveOut) → record { number = k; place = q; peak = peak; nodes = l; stages = s; work = w } ≡ o → listed B H l s (listing B H l s buffer 0) ≡ if (eqb (o .number) 0) (listed B H (o .nodes) (o .stages) (listing B H (o .nodes) (o .stages) buffer 0)) (refusal-line (refusal (o .number) (o .place)))
-      go o e = rw (← e) (rw (eq-eqb k 0 z))
+  solved-printed z = sym (ap (λ (b : Bool). if b (listed B H l s room) (refusal-line (refusal k q))) (eq-eqb k 0 z)) ∙ ap by-solve e
 
-  -- the listing's answer, from the tables that the solve left
-  module _ (z : k ≡ 0) {n p size : ℕ} {after : List ℕ} (f : record { number = n; place = p; size = size; buffer = after } ≡ listing B H l s buffer 0) where
-    pub listing-refused-printed : (n ≡ 0 → ⊥) → refusal-line (refusal n p) ≡ printed B H nodes stages work buffer
-    unfolding listed
-    listing-refused-printed m = go (listing B H l s buffer 0) f ∙ solved-printed z
-      where
-        go : (o : ListingOut) → record { number = n; place = p; size = size; buffer = after } ≡ o → refusal-line (refusal n p) ≡ if (eqb (o .number) 0) (text (site-at B) H l s) (refusal-line (refusal (o .number) (o .place)))
-        go o e = rw (← e) (rw (ne-eqb n 0 m))
+-- the listing's answer, from the tables that the solve left
+module _ (B : List ℕ) (H : ℕ) (nodes : List ℤ) (stages work buffer : List ℕ) {k q peak : ℕ} {l : List ℤ} {s w : List ℕ} (e : record { number = k; place = q; peak = peak; nodes = l; stages = s; work = w } ≡ solve B H nodes stages work) (z : k ≡ 0)
+    {n p size : ℕ} {after : List ℕ} (f : record { number = n; place = p; size = size; buffer = after } ≡ listing B H l s buffer 0) where
+  pub listing-refused-printed : (n ≡ 0 → ⊥) → refusal-line (refusal n p) ≡ printed B H nodes stages work (length buffer)
+  listing-refused-printed m = listed-refused B H l s buffer f m ∙ solved-printed B H nodes stages work (length buffer) e z
 
-    whole-printed : n ≡ 0 → text (site-at B) H l s ≡ printed B H nodes stages work buffer
-    unfolding listed
-    whole-printed m = go (listing B H l s buffer 0) f ∙ solved-printed z
-      where
-        go : (o : ListingOut) → record { number = n; place = p; size = size; buffer = after } ≡ o → text (site-at B) H l s ≡ if (eqb (o .number) 0) (text (site-at B) H l s) (refusal-line (refusal (o .number) (o .place)))
-        go o e = rw (← e) (rw (eq-eqb n 0 m))
+  pub listing-printed : n ≡ 0 → (size ≤ length buffer) × (take size after ≡ printed B H nodes stages work (length buffer))
+  listing-printed m = let r = listed-front B H l s buffer f m in (r .0, r .1 ∙ solved-printed B H nodes stages work (length buffer) e z)
 
-    pub listing-printed : n ≡ 0 → (size ≤ length buffer) × (take size after ≡ printed B H nodes stages work buffer)
-    listing-printed m = let r = listed-front B H l s buffer f m in (r .0, r .1 ∙ whole-printed m)
+-- ---- from the input
+
+-- a plan in a buffer of 65,536 bytes
+pub plan-is : (B : List ℕ) (H : ℕ) {room : ℕ} {t : List ℕ} → room ≡ 65536 → t ≡ printed B H (replicate 8192 (pos 0)) (replicate 8 0) (replicate 8192 0) room → t ≡ plan-printed B H
+unfolding plan-printed
+plan-is B H e f = f ∙ ap (printed B H (replicate 8192 (pos 0)) (replicate 8 0) (replicate 8192 0)) e
+
+-- no byte
+pub none-given : (input : List ℕ) {t : List ℕ} → length input ≡ 0 → t ≡ plan-printed input 0 → t ≡ program input
+unfolding program
+none-given [] e f = f
+none-given (x ∷ l) e f = absurd (omega arith)
+
+-- a horizon byte, and the rest
+pub horizon-given : (input : List ℕ) (h : ℕ) {t : List ℕ} → (length input ≡ 0 → ⊥) → h ≡ getD input 0 0 → t ≡ plan-printed (take (length input - 1) (drop 1 input)) h → t ≡ program input
+unfolding program
+horizon-given [] h n e f = absurd (n refl)
+horizon-given (x ∷ l) h n e f = f ∙ (λ i. plan-printed (take-all (length (x ∷ l) - 1) l (omega arith) i) (e i))
+
+-- ---- bytes behind the room decide nothing
+
+or-true : (b : Bool) → or b true ≡ true
+or-true true = refl
+or-true false = refl
+
+too-long : (B : List ℕ) (H : ℕ) (nodes : List ℤ) (stages work : List ℕ) (room : ℕ) → 65535 < length B → printed B H nodes stages work room ≡ refusal-line (refusal 10 0)
+unfolding printed solve early
+too-long B H nodes stages work room h = rw (lt-ltb 65535 (length B) h, or-true (not (eqb (length stages) 8)))
+
+-- the program reads 65,537 bytes: of a longer input it prints what it would of the whole
+pub rest-unread : (input : List ℕ) → 65537 ≤ length input → program (take 65537 input) ≡ program input
+unfolding program plan-printed
+rest-unread [] h = refl
+rest-unread (x ∷ B) h =
+    let e = length-take-le 65536 B (omega arith) in
+    too-long (take 65536 B) x (replicate 8192 (pos 0)) (replicate 8 0) (replicate 8192 0) 65536 (omega arith)
+    ∙ sym (too-long B x (replicate 8192 (pos 0)) (replicate 8 0) (replicate 8192 0) 65536 (omega arith))

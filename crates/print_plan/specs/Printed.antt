@@ -1,21 +1,32 @@
 -- "The listing program": the listing of what is solved, or `R number place`.
-use mathlib.Core.List.{List}
+use mathlib.Core.List.{List, [], _∷_}
 use Prim.Native.Nat.{ℕ}
 use lib.Dec.{eqb}
-use lib.IntN.{ℤ}
+use lib.IntN.{ℤ, pos}
+use lib.ListN.{replicate}
 use Rattle.whole.specs.Cases.{if}
 use Rattle.theory.specs.Verdict.{Verdict, refusal}
 use Rattle.theory.specs.Load.{site-at}
 use Rattle.theory.specs.Solve.{SolveOut, solve}
-use Rattle.theory.specs.Listing.{text, refusal-line, ListingOut, listing}
+use Rattle.theory.specs.Listing.{text, refusal-line, listing-refusal}
 
--- the text that was written, or the listing's refusal
-unfoldable pub listed : List ℕ → ℕ → List ℤ → List ℕ → ListingOut → List ℕ
-listed B H nodes stages o = if (eqb (o .number) 0) (text (site-at B) H nodes stages) (refusal-line (refusal (o .number) (o .place)))
+-- the text that fits into so many bytes, or the listing's refusal
+unfoldable pub listed : List ℕ → ℕ → List ℤ → List ℕ → ℕ → List ℕ
+listed B H nodes stages room =
+    let v = listing-refusal B H nodes stages room 0 in
+    if (eqb (v .number) 0) (text (site-at B) H nodes stages) (refusal-line v)
 
--- the listing from the start of the buffer, or the refusal of solving
-unfoldable pub printed : List ℕ → ℕ → List ℤ → List ℕ → List ℕ → List ℕ → List ℕ
-printed B H nodes stages work buffer =
+-- the listing from the start of a buffer of so many bytes, or the refusal of solving
+unfoldable pub printed : List ℕ → ℕ → List ℤ → List ℕ → List ℕ → ℕ → List ℕ
+printed B H nodes stages work room =
     let o = solve B H nodes stages work in
-    if (eqb (o .number) 0) (listed B H (o .nodes) (o .stages) (listing B H (o .nodes) (o .stages) buffer 0))
-    (refusal-line (refusal (o .number) (o .place)))
+    if (eqb (o .number) 0) (listed B H (o .nodes) (o .stages) room) (refusal-line (refusal (o .number) (o .place)))
+
+-- "has 1,024 nodes, and prints from the start of its 65,536-byte buffer"
+unfoldable pub plan-printed : List ℕ → ℕ → List ℕ
+plan-printed B H = printed B H (replicate 8192 (pos 0)) (replicate 8 0) (replicate 8192 0) 65536
+
+-- "reads standard input, horizon byte then model .. empty input counts as horizon 0"
+unfoldable pub program : List ℕ → List ℕ
+program [] = plan-printed [] 0
+program (horizon ∷ B) = plan-printed B horizon

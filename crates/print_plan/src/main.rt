@@ -1,11 +1,10 @@
 // The listing program: a horizon byte and a model on standard input, the listing of the plan or the refusal on standard output.
 ghost use mathlib.Core.Path.{_≡_};
 ghost use Prim.Native.Nat.{_≤_};
-ghost use lib.IntN.{pos};
-ghost use lib.ListN.{length, replicate, take};
+ghost use lib.ListN.{length, take};
 ghost use Rattle.theory.specs.Verdict.{refusal as refusal-of};
 ghost use Rattle.theory.specs.Listing.{refusal-line};
-ghost use Rattle.print_plan.specs.Printed.{printed};
+ghost use Rattle.print_plan.specs.Printed.{printed, plan-printed, program};
 use libc::STDIN_FILENO;
 use libc::STDOUT_FILENO;
 use solver::solve;
@@ -28,7 +27,7 @@ fn print(
     text: &mut [u8],
 ) -> usize
     requires { ⌜ 185 ≤ length (now text) ⌝ }
-    ensures { λ r. ⌜ (r ≤ length (now (text .entry))) × (take r (now (text .exit)) ≡ printed (now (model .entry)) horizon (now (nodes .entry)) (now (stages .entry)) (now (work .entry)) (now (text .entry))) ⌝ }
+    ensures { λ r. ⌜ (r ≤ length (now (text .entry))) × (take r (now (text .exit)) ≡ printed (now (model .entry)) horizon (now (nodes .entry)) (now (stages .entry)) (now (work .entry)) (length (now (text .entry)))) ⌝ }
 {
     let s = solve(model, horizon, nodes, stages, work);
     if s.number != 0 {
@@ -43,8 +42,8 @@ fn print(
 
 // The tables have room for 1,024 nodes.
 fn plan(model: &[u8], horizon: u32, text: &mut [u8]) -> usize
-    requires { ⌜ 185 ≤ length (now text) ⌝ }
-    ensures { λ r. ⌜ (r ≤ length (now (text .entry))) × (take r (now (text .exit)) ≡ printed (now (model .entry)) horizon (replicate 8192 (pos 0)) (replicate 8 0) (replicate 8192 0) (now (text .entry))) ⌝ }
+    requires { ⌜ length (now text) ≡ 65536 ⌝ }
+    ensures { λ r. ⌜ (r ≤ 65536) × (take r (now (text .exit)) ≡ plan-printed (now (model .entry)) horizon) ⌝ }
 {
     let mut nodes = [0i64; 8192];
     let mut stages = [0u32; 8];
@@ -52,20 +51,38 @@ fn plan(model: &[u8], horizon: u32, text: &mut [u8]) -> usize
     print(model, horizon, &mut nodes, &mut stages, &mut work, text)
 }
 
-// Prints the plan of the first n bytes. A model above 65,535 bytes fills the room, and is refused by its length.
-fn show(room: &[u8], n: usize, horizon: u8) {
-    let mut text = io::large_buffer();
-    if room.len() < n {
-        return;
+fn wide(b: u8) -> u32
+    ensures { λ r. ⌜ r ≡ b ⌝ }
+{
+    b as u32
+}
+
+// From the input's bytes to the text that is printed.
+fn answer(input: &[u8], text: &mut [u8]) -> usize
+    requires { ⌜ length (now text) ≡ 65536 ⌝ }
+    ensures { λ r. ⌜ (r ≤ 65536) × (take r (now (text .exit)) ≡ program (now (input .entry))) ⌝ }
+{
+    if input.len() == 0 {
+        return plan(input, 0, text);
     }
-    let size = plan(&room[..n], horizon as u32, &mut text);
+    plan(&input[1..], wide(input[0]), text)
+}
+
+fn show(input: &[u8]) {
+    let mut text = io::large_buffer();
+    let size = answer(input, &mut text);
     io::write_all(STDOUT_FILENO, &text[..size]);
 }
 
+fn run(room: &mut [u8]) {
+    let n = io::read_full(STDIN_FILENO, room);
+    if n <= room.len() {
+        show(&room[..n]);
+    }
+}
+
+// The room takes a horizon byte and a model of one byte more than is accepted: a longer one is refused by its length.
 fn main() {
-    let mut first = [0u8; 1];
-    io::read_full(STDIN_FILENO, &mut first);
-    let mut room = io::large_buffer();
-    let n = io::read_full(STDIN_FILENO, &mut room);
-    show(&room, n, first[0]);
+    let mut room = [0u8; 65537];
+    run(&mut room);
 }

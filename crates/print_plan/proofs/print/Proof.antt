@@ -1,6 +1,7 @@
 -- `print_plan::print` meets its contract.
 use mathlib.Core.Path.{_∙_}
 use native.Mathlib.Omega.{arith}
+use lib.ListN.{length}
 use Rattle.print_plan.proofs.Prints.{refused-printed, listing-refused-printed, listing-printed}
 use borrow.Author.Needs.{needs}
 use Rattle.print_plan.proofs.print.Statement.{statement}
@@ -27,7 +28,9 @@ same-length-4 c = search needs
 returns : tie.Need-returns
 returns c =
     let a = c .before .before .before .before .before .before .before .before .before .before .before .before .before .before .before .before .before .before .before .args in
-    (c .before .before .refusal .ensures .0, c .before .before .refusal .ensures .1 ∙ refused-printed (a .model .now) (a .horizon) (a .nodes .now) (a .stages .now) (a .work .now) (a .text .now) (c .before .before .before .before .before .before .before .before .before .before .before .solve .ensures) (c .before .before .before .before .if1 .taken))
+    let v = c .before .before .before .before .before .before .before .before .before .before .before .solve in
+    let p = c .before .before .refusal in
+    (p .ensures .0, p .ensures .1 ∙ refused-printed (a .model .now) (a .horizon) (a .nodes .now) (a .stages .now) (a .work .now) (length (a .text .now)) {k = v .result .number} {q = v .result .place} {peak = v .result .peak} {l = v .last .1 .1 .0} {s = v .last .1 .1 .1 .0} {w = v .last .1 .1 .1 .1 .0} (v .ensures) (c .before .before .before .before .if1 .taken))
 
 listing-requires : tie.Need-listing-requires
 listing-requires c κs = search needs
@@ -50,7 +53,10 @@ same-length-8 c = search needs
 returns-2 : tie.Need-returns-2
 returns-2 c =
     let a = c .before .before .before .before .before .before .before .before .before .before .before .before .before .before .before .before .before .before .before .before .before .before .before .before .before .before .before .args in
-    (omega (arith, c .before .before .refusal2 .ensures .0, c .before .before .before .before .before .before .before .before .listing .kept .1 .1 .1 .1 .0), c .before .before .refusal2 .ensures .1 ∙ listing-refused-printed (a .model .now) (a .horizon) (a .nodes .now) (a .stages .now) (a .work .now) (a .text .now) (c .before .before .before .before .before .before .before .before .before .before .before .before .before .before .before .before .before .before .before .solve .ensures) (c .before .before .before .before .before .before .before .before .before .before .before .before .if1 .left) (c .before .before .before .before .before .before .before .before .listing .ensures) (c .before .before .before .before .if2 .taken))
+    let v = c .before .before .before .before .before .before .before .before .before .before .before .before .before .before .before .before .before .before .before .solve in
+    let o = c .before .before .before .before .before .before .before .before .listing in
+    let p = c .before .before .refusal2 in
+    (omega (arith, p .ensures .0, o .kept .1 .1 .1 .1 .0), p .ensures .1 ∙ listing-refused-printed (a .model .now) (a .horizon) (a .nodes .now) (a .stages .now) (a .work .now) (a .text .now) {k = v .result .number} {q = v .result .place} {peak = v .result .peak} {l = v .last .1 .1 .0} {s = v .last .1 .1 .1 .0} {w = v .last .1 .1 .1 .1 .0} (v .ensures) (c .before .before .before .before .before .before .before .before .before .before .before .before .if1 .left) {n = o .result .number} {p = o .result .place} {size = o .result .size} {after = o .last .1 .1 .1 .1 .0} (o .ensures) (c .before .before .before .before .if2 .taken))
 
 same-length-9 : tie.Need-same-length-9
 same-length-9 c = search needs
@@ -67,7 +73,9 @@ same-length-12 c = search needs
 returns-3 : tie.Need-returns-3
 returns-3 c =
     let a = c .before .before .before .before .before .before .before .before .before .before .before .before .before .before .before .before .before .before .before .before .before .before .before .args in
-    listing-printed (a .model .now) (a .horizon) (a .nodes .now) (a .stages .now) (a .work .now) (a .text .now) (c .before .before .before .before .before .before .before .before .before .before .before .before .before .before .before .solve .ensures) (c .before .before .before .before .before .before .before .before .if1 .left) (c .before .before .before .before .listing .ensures) (c .if2 .left)
+    let v = c .before .before .before .before .before .before .before .before .before .before .before .before .before .before .before .solve in
+    let o = c .before .before .before .before .listing in
+    listing-printed (a .model .now) (a .horizon) (a .nodes .now) (a .stages .now) (a .work .now) (a .text .now) {k = v .result .number} {q = v .result .place} {peak = v .result .peak} {l = v .last .1 .1 .0} {s = v .last .1 .1 .1 .0} {w = v .last .1 .1 .1 .1 .0} (v .ensures) (c .before .before .before .before .before .before .before .before .if1 .left) {n = o .result .number} {p = o .result .place} {size = o .result .size} {after = o .last .1 .1 .1 .1 .0} (o .ensures) (c .if2 .left)
 
 pub print-spec : {M : Type 1} → statement M
 print-spec =

@@ -1,0 +1,38 @@
+-- `print_plan::plan` meets its contract.
+use native.Mathlib.Omega.{arith}
+use Rattle.print_plan.proofs.Prints.{plan-is}
+use borrow.Author.Needs.{needs}
+use Rattle.print_plan.proofs.plan.Statement.{statement}
+use Rattle.print_plan.proofs.plan.Tie as tie
+
+slice-aggregate-print : tie.Need-slice-aggregate-print
+slice-aggregate-print c = search needs
+
+slice-aggregate-print-2 : tie.Need-slice-aggregate-print-2
+slice-aggregate-print-2 c = search needs
+
+slice-aggregate-print-3 : tie.Need-slice-aggregate-print-3
+slice-aggregate-print-3 c = search needs
+
+print-requires : tie.Need-print-requires
+print-requires c κs = search needs
+
+same-length : tie.Need-same-length
+same-length c = search needs
+
+returns : tie.Need-returns
+returns c =
+    let p = c .before .before .before .before .before .print in
+    let s = c .before .before .before .before .before .before .before .before .before .before .before .before in
+    (omega (arith, p .ensures .0, s .pre), plan-is (s .args .model .now) (s .args .horizon) (s .pre) (p .ensures .1))
+
+pub plan-spec : {M : Type 1} → statement M
+plan-spec =
+    tie.close
+    (tie.spec
+    slice-aggregate-print
+    slice-aggregate-print-2
+    slice-aggregate-print-3
+    print-requires
+    same-length
+    returns)
