@@ -15,8 +15,8 @@
 #include <stdlib.h>
 #include <string.h>
 
-/* The longest line of a listing. */
-#define LINE_BYTES_MOST ((size_t)185)
+/* No line of a listing is longer. */
+#define LINE_BYTES_MOST ((size_t)207)
 
 typedef struct plan {
     uint8_t *model;
@@ -24,7 +24,7 @@ typedef struct plan {
     uint32_t horizon;
     size_t capacity;
     int64_t *nodes;
-    uint32_t stages[8];
+    uint32_t stages[PLANNER_STAGE_WORDS];
     uint32_t *work;
     uint32_t number;
     uint8_t out[PLANNER_SOLVE_BYTES];

@@ -82,7 +82,8 @@ uint32_t planner_listing(const uint8_t *model, size_t model_len, uint32_t horizo
                          const int64_t *nodes, size_t node_words, const uint32_t *stages, size_t stage_words,
                          uint8_t *text, size_t text_len, size_t place, uint8_t *out, size_t out_len);
 
-/* The number and the place of a model's own refusal, 1 to 8; 0 and 0 where it is accepted. */
+/* The number and the place of a model's refusal: 10 and 0 for a model above 65,535 bytes, else 1 to 8; 0 and 0 where it is
+ * accepted. */
 typedef struct planner_judged {
     uint32_t number;
     size_t place;

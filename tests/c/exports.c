@@ -326,7 +326,11 @@ static void long_models_refused(void)
            "a long model's value");
     expect(planner_listing(bytes, 65536, 0, c.nodes, WORDS, c.stages, 8, NULL, 0, 1, out, sizeof out) == 10,
            "a long model's listing");
+    planner_judged judged = planner_validate(bytes, 65536);
+    expect(judged.number == 10 && judged.place == 0, "a long model judged");
     expect(planner_name(bytes, 65535, 1, out, sizeof out) == 3, "a model of the greatest length");
+    judged = planner_validate(bytes, 65535);
+    expect(judged.number == 3 && judged.place == 0, "a model of the greatest length judged");
     free(bytes);
 }
 

@@ -9,9 +9,7 @@ use lib.ListN.{length, drop}
 use Rattle.whole.specs.Cases.{if}
 use Rattle.decimal.specs.Put.{PutAt}
 use Rattle.theory.specs.Listing.{written}
-use Rattle.theory.specs.Value.{Asked, ValueOut}
-use Rattle.answers.specs.Answers.{value-bytes, short, Answer, answered, answer, value-answer}
-use Rattle.answers.proofs.Bytes.{value-length}
+use Rattle.answers.specs.Answers.{short, answered, answer}
 
 -- from the start of the slice on
 pub at-start : {out bytes after : List ℕ} {n size : ℕ} → length bytes ≡ size → PutAt out 0 bytes n after → after ≡ bytes ++ drop size out
@@ -32,18 +30,3 @@ module _ (size number : ℕ) (bytes out : List ℕ) where
   room h e p =
       ap (answered number) (at-start e p)
       ∙ sym (ap (λ (b : Bool). if b (answered (short number) out) (answered number (bytes ++ drop size out))) (le-ltb (length out) size h))
-
--- ---- a value
-
-module _ (v : ValueOut) (out : List ℕ) where
-  pub value-short : {r : ℕ} → length out < 24 → r ≡ short (v .number) → answered r out ≡ value-answer v out
-  unfolding value-answer
-  value-short h e = no-room 24 (v .number) (value-bytes v) out h e
-
-  pub value-whole : {after : List ℕ} {n : ℕ} → 24 ≤ length out → PutAt out 0 (value-bytes v) n after → answered (v .number) after ≡ value-answer v out
-  unfolding value-answer
-  value-whole h p = room 24 (v .number) (value-bytes v) out h (value-length v) p
-
--- o is what the code found at the state p, as it is read back, by a definition f
-pub value-found : (f : Asked → ValueOut) {p q : Asked} (out : List ℕ) {o : ValueOut} {x : Answer} → x ≡ value-answer o out → o ≡ f p → p ≡ q → x ≡ value-answer (f q) out
-value-found f out e g h = e ∙ ap (λ (o : ValueOut). value-answer o out) g ∙ ap (λ (q : Asked). value-answer (f q) out) h

@@ -3,22 +3,17 @@ use mathlib.Core.Path.{_≡_, refl, sym, ap, _∙_, subst}
 use mathlib.Core.List.{List, [], _∷_, _++_, append-assoc, append-nil}
 use Prim.Native.Nat.{ℕ, zero, suc, _+_, _-_, _/_, _%_, _≤_, _<_}
 use native.Mathlib.Omega.{arith}
-use lib.IntN.{ℤ}
-use lib.ListN.{length, set, replicate, length-append, length-replicate}
-use mir.Syntax.{w64}
-use mir.Val.{SFits, ofZ}
-use Rattle.whole.proofs.Signed.{R, back}
+use lib.ListN.{length, set, replicate, length-append}
 use Rattle.decimal.specs.Put.{PutAt}
 use Rattle.decimal.proofs.Puts.{none, put-next, then, rename, written-length}
-use Rattle.theory.specs.Value.{ValueOut}
-use Rattle.answers.specs.Answers.{le, pair-bytes, word-bytes, padded-name, value-bytes, named-bytes}
+use Rattle.answers.specs.Answers.{le, pair-bytes}
 
 pub le-length : (k x : ℕ) → length (le k x) ≡ k
 unfolding le
 le-length zero x = refl
 le-length (suc k) x = ap suc (le-length k _)
 
-le-zeros : (k : ℕ) → le k 0 ≡ replicate k 0
+pub le-zeros : (k : ℕ) → le k 0 ≡ replicate k 0
 unfolding le
 le-zeros zero = refl
 le-zeros (suc k) = ap (λ (l : List ℕ). 0 ∷ l) (le-zeros k)
@@ -77,25 +72,6 @@ pub pair-length : (place second : ℕ) → length (pair-bytes place second) ≡ 
 unfolding pair-bytes
 pair-length place second = omega (arith, length-append (le 4 place) (le 4 second), le-length 4 place, le-length 4 second)
 
-pub words-length : (low : ℕ) (high : ℤ) → length (word-bytes low high) ≡ 16
-unfolding word-bytes
-words-length low high = omega (arith, length-append (le 8 low) (le 8 (ofZ w64 high)), le-length 8 low, le-length 8 (ofZ w64 high))
-
-pub padded-length : (t : List ℕ) → length t ≤ 16 → length (padded-name t) ≡ 16
-unfolding padded-name
-padded-length t h = omega (arith, length-append t (replicate (16 - length t) 0), length-replicate {A = ℕ} (16 - length t) 0)
-
-pub value-length : (v : ValueOut) → length (value-bytes v) ≡ 24
-unfolding value-bytes
-value-length v =
-    let p = pair-bytes (v .place) (v .action) in
-    let w = word-bytes (v .numerator .low) (v .numerator .high) in
-    omega (arith, length-append p w, pair-length (v .place) (v .action), words-length (v .numerator .low) (v .numerator .high))
-
-pub named-length : (place : ℕ) (t : List ℕ) → length t ≤ 16 → length (named-bytes place t) ≡ 24
-unfolding named-bytes
-named-length place t h = omega (arith, length-append (pair-bytes place (length t)) (padded-name t), pair-length place (length t), padded-length t h)
-
 -- ---- parts of an answer, one behind the other
 
 module _ {l l₁ l₂ : List ℕ} {n m : ℕ} where
@@ -105,21 +81,3 @@ module _ {l l₁ l₂ : List ℕ} {n m : ℕ} where
       let a = p .behind in
       let b = q .behind in
       (then (omega arith) p q, omega (arith, le-length 4 place, le-length 4 second))
-
-  -- x is what the high word's bits came to
-  pub words-put : {at x : ℕ} (low : ℕ) (high : ℤ) → at ≤ length l → SFits w64 high → x ≡ ofZ w64 (R high) → PutAt l at (le 8 low) n l₁ → PutAt l₁ n (le 8 x) m l₂ → PutAt l at (word-bytes low high) m l₂
-  unfolding word-bytes
-  words-put low high h f e p q = then h p (rename (ap (le 8) (e ∙ ap (ofZ w64) (back high f))) q)
-
-  pub padded-put : {at : ℕ} (t : List ℕ) → at ≤ length l → PutAt l at t n l₁ → PutAt l₁ n (le (16 - length t) 0) m l₂ → PutAt l at (padded-name t) m l₂
-  unfolding padded-name
-  padded-put t h p q = then h p (rename (le-zeros (16 - length t)) q)
-
-  pub value-put : (v : ValueOut) → SFits w64 (v .numerator .high) → PutAt l 0 (pair-bytes (v .place) (v .action)) n l₁
-      → PutAt l₁ n (word-bytes (v .numerator .low) (R (v .numerator .high))) m l₂ → PutAt l 0 (value-bytes v) m l₂
-  unfolding value-bytes
-  value-put v f p q = then (omega arith) p (rename (ap (word-bytes (v .numerator .low)) (back (v .numerator .high) f)) q)
-
-  pub named-put : (place : ℕ) (t : List ℕ) → PutAt l 0 (pair-bytes place (length t)) n l₁ → PutAt l₁ n (padded-name t) m l₂ → PutAt l 0 (named-bytes place t) m l₂
-  unfolding named-bytes
-  named-put place t p q = then (omega arith) p q

@@ -16,7 +16,8 @@ use Rattle.theory.specs.Load.{site-at}
 use Rattle.theory.specs.Solve.{early}
 use Rattle.theory.specs.Value.{good-row}
 use Rattle.theory.specs.Listing.{first-line, greatest-root, text, written, ListingOut, listing-refusal, listing}
-use Rattle.answers.specs.Answers.{pair-bytes, short, listed, listing-answer}
+use Rattle.answers.specs.Answers.{pair-bytes, short}
+use Rattle.answers.specs.Texts.{listed, listing-answer}
 use Rattle.answers.proofs.Bytes.{pair-length}
 use Rattle.answers.proofs.Answered.{at-start}
 

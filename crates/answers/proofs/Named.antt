@@ -1,19 +1,41 @@
 -- A name has at most 16 bytes; its answer.
 use mathlib.Core.Path.{_≡_, refl, ap, _∙_}
-use mathlib.Core.List.{List, [], _∷_}
-use Prim.Native.Nat.{ℕ, zero, suc, _+_, _≤_, _<_}
+use mathlib.Core.List.{List, [], _∷_, _++_}
+use Prim.Native.Nat.{ℕ, zero, suc, _+_, _-_, _≤_, _<_}
 use native.Mathlib.Omega.{arith}
 use lib.Dec.{eqb}
-use lib.ListN.{length, getD, drop, length-take}
+use lib.ListN.{length, getD, drop, replicate, length-append, length-replicate, length-take}
 use Rattle.whole.specs.Cases.{if, by-test}
 use Rattle.decimal.specs.Put.{PutAt}
-use Rattle.decimal.proofs.Puts.{rename}
+use Rattle.decimal.proofs.Puts.{then, rename}
 use Rattle.theory.specs.Command.{Placed, readings}
 use Rattle.theory.specs.Verdict.{Verdict}
 use Rattle.theory.specs.Name.{names-action, no-part, trimmed, named-part, name-refusal, name-part, name}
-use Rattle.answers.specs.Answers.{named-bytes, short, answered, name-answer}
-use Rattle.answers.proofs.Bytes.{named-length}
+use Rattle.answers.specs.Answers.{le, pair-bytes, short, answered}
+use Rattle.answers.specs.Texts.{padded-name, named-bytes, name-answer}
+use Rattle.answers.proofs.Bytes.{le-zeros, pair-length}
 use Rattle.answers.proofs.Answered.{no-room, room}
+
+pub padded-length : (t : List ℕ) → length t ≤ 16 → length (padded-name t) ≡ 16
+unfolding padded-name
+padded-length t h = omega (arith, length-append t (replicate (16 - length t) 0), length-replicate {A = ℕ} (16 - length t) 0)
+
+pub named-length : (place : ℕ) (t : List ℕ) → length t ≤ 16 → length (named-bytes place t) ≡ 24
+unfolding named-bytes
+named-length place t h = omega (arith, length-append (pair-bytes place (length t)) (padded-name t), pair-length place (length t), padded-length t h)
+
+-- ---- one part behind the other
+
+module _ {l l₁ l₂ : List ℕ} {n m : ℕ} where
+  pub padded-put : {at : ℕ} (t : List ℕ) → at ≤ length l → PutAt l at t n l₁ → PutAt l₁ n (le (16 - length t) 0) m l₂ → PutAt l at (padded-name t) m l₂
+  unfolding padded-name
+  padded-put t h p q = then h p (rename (le-zeros (16 - length t)) q)
+
+  pub named-put : (place : ℕ) (t : List ℕ) → PutAt l 0 (pair-bytes place (length t)) n l₁ → PutAt l₁ n (padded-name t) m l₂ → PutAt l 0 (named-bytes place t) m l₂
+  unfolding named-bytes
+  named-put place t p q = then (omega arith) p q
+
+-- ---- the answer
 
 trimmed-most : (l : List ℕ) (k : ℕ) → trimmed l k ≤ k
 unfolding trimmed

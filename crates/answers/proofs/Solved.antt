@@ -12,11 +12,13 @@ use Rattle.whole.specs.Cases.{if, by-eq}
 use Rattle.decimal.specs.Put.{PutAt}
 use Rattle.theory.specs.Diagram.{Tree}
 use Rattle.theory.specs.Computation.{Solved, solved, refused}
+use Rattle.theory.specs.Valid.{among}
 use Rattle.theory.specs.Verdict.{Verdict}
 use Rattle.theory.specs.Solve.{room, solve-in, SolveOut, solve-left, early, solve}
 use Rattle.theory.specs.laws.Refusals.{refused-number}
-use Rattle.answers.specs.Answers as A
-use Rattle.answers.specs.Answers.{pair-bytes, short, solve-answer}
+use Rattle.answers.specs.Answers.{pair-bytes, short}
+use Rattle.answers.specs.Solving as A
+use Rattle.answers.specs.Solving.{model-verdict, solve-answer}
 use Rattle.answers.proofs.Bytes.{pair-length}
 use Rattle.answers.proofs.Answered.{at-start}
 
@@ -55,3 +57,8 @@ solve-whole nodes stages work out {o} {v} h e p =
     (λ i. A.solved (o .number) (at-start (pair-length (o .place) (o .peak)) p i) (o .nodes) (o .stages) (o .work))
     ∙ ap (λ (w : SolveOut). A.solved (w .number) (pair-bytes (w .place) (w .peak) ++ drop 8 out) (w .nodes) (w .stages) (w .work)) e
     ∙ sym (ap (λ (b : Bool). if b (A.solved (short (v .number)) out nodes stages work) (A.solved (v .number) (pair-bytes (v .place) (v .peak) ++ drop 8 out) (v .nodes) (v .stages) (v .work))) (le-ltb (length out) 8 h))
+
+-- a model alone: the steps and stage words that no one asks for are good ones
+pub model-judged : (B : List ℕ) {v : Verdict} → v ≡ early B 1 8 → v ≡ model-verdict B
+unfolding early among model-verdict
+model-judged B e = e

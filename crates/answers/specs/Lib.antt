@@ -1,2 +1,5 @@
 -- What the exports promise, in the terms of document 01.
 pub mod Answers
+pub mod Solving
+pub mod Reading
+pub mod Texts

@@ -1,5 +1,5 @@
 //! `validation COUNT SEED`: the proved validation and the second program's judge COUNT random models and as many
-//! damaged ones alike; then the time of both on one large model, in one run.
+//! damaged ones alike, and models about as long as one may be; then the time of both on one large model, in one run.
 
 use models::{damaged, random, staircases, Rng};
 use std::time::{Duration, Instant};
@@ -36,24 +36,34 @@ fn best_of(runs: u32, mut work: impl FnMut()) -> Duration {
         .unwrap_or_default()
 }
 
+/// What both come to; they come to the same.
+fn judged_alike(model: &[u8]) -> (u32, usize) {
+    let (ours, theirs) = (library(model), second(model));
+    if ours != theirs {
+        println!("validation: library {ours:?}, second program {theirs:?}, model {model:?}");
+        std::process::exit(1);
+    }
+    ours
+}
+
 fn main() {
     let number = |place: usize| std::env::args().nth(place).and_then(|arg| arg.parse::<u64>().ok());
     let count = number(1).unwrap_or(2000);
     let mut rng = Rng(number(2).unwrap_or(1));
-    let mut seen = [0u32; 9];
+    let mut seen = [0u32; 11];
     for _ in 0..count {
         let whole = random(&mut rng);
         for model in [damaged(&mut rng, &whole), whole] {
-            let (ours, theirs) = (library(&model), second(&model));
-            if ours != theirs {
-                println!("validation: library {ours:?}, second program {theirs:?}, model {model:?}");
-                std::process::exit(1);
-            }
-            seen[ours.0 as usize] += 1;
+            seen[judged_alike(&model).0 as usize] += 1;
         }
     }
     println!("validation: {} models judged alike, by number {seen:?}", 2 * count);
     let large = staircases();
+    for (size, expected) in [(65_535, (8, large.len())), (65_536, (10, 0)), (70_000, (10, 0))] {
+        let mut longer = large.clone();
+        longer.resize(size, 0);
+        assert_eq!(judged_alike(&longer), expected, "{size} bytes");
+    }
     let ours = best_of(200, || assert_eq!(library(&large).0, 0));
     let theirs = best_of(200, || assert_eq!(second(&large).0, 0));
     let rate = |time: Duration| large.len() as f64 / time.as_secs_f64() / 1e6;

@@ -1,9 +1,9 @@
--- `answers::bits` meets its contract.
+-- `answers::reading::bits` meets its contract.
 use native.Mathlib.Omega.{arith}
 use Rattle.answers.proofs.Signs.{negative, natural}
 use borrow.Author.Needs.{needs}
-use Rattle.answers.proofs.bits.Statement.{statement}
-use Rattle.answers.proofs.bits.Tie as tie
+use Rattle.answers.proofs.reading.bits.Statement.{statement}
+use Rattle.answers.proofs.reading.bits.Tie as tie
 
 mag-requires : tie.Need-mag-requires
 mag-requires c κs = search needs

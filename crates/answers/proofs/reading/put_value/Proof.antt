@@ -1,9 +1,9 @@
--- `answers::put_value` meets its contract.
+-- `answers::reading::put_value` meets its contract.
 use Rattle.values.specs.Out.{out as value-out}
-use Rattle.answers.proofs.Bytes.{value-put}
+use Rattle.answers.proofs.Read.{value-put}
 use borrow.Author.Needs.{needs}
-use Rattle.answers.proofs.put_value.Statement.{statement}
-use Rattle.answers.proofs.put_value.Tie as tie
+use Rattle.answers.proofs.reading.put_value.Statement.{statement}
+use Rattle.answers.proofs.reading.put_value.Tie as tie
 
 cast-put-pair : tie.Need-cast-put-pair
 cast-put-pair c = search needs

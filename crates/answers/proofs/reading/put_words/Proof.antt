@@ -1,11 +1,12 @@
--- `answers::put_words` meets its contract.
+-- `answers::reading::put_words` meets its contract.
 use native.Mathlib.Omega.{arith}
 use Prim.Native.Nat.{_≤_}
 use lib.ListN.{length}
-use Rattle.answers.proofs.Bytes.{le-length, words-put}
+use Rattle.answers.proofs.Bytes.{le-length}
+use Rattle.answers.proofs.Read.{words-put}
 use borrow.Author.Needs.{needs}
-use Rattle.answers.proofs.put_words.Statement.{statement}
-use Rattle.answers.proofs.put_words.Tie as tie
+use Rattle.answers.proofs.reading.put_words.Statement.{statement}
+use Rattle.answers.proofs.reading.put_words.Tie as tie
 
 put-le-requires : tie.Need-put-le-requires
 put-le-requires c κs = search needs

@@ -1,9 +1,9 @@
--- `answers::value` meets its contract.
+-- `answers::reading::value` meets its contract.
 use Rattle.values.specs.Out.{out as value-out}
-use Rattle.answers.proofs.Answered.{value-short, value-whole}
+use Rattle.answers.proofs.Read.{value-short, value-whole}
 use borrow.Author.Needs.{needs}
-use Rattle.answers.proofs.value.Statement.{statement}
-use Rattle.answers.proofs.value.Tie as tie
+use Rattle.answers.proofs.reading.value.Statement.{statement}
+use Rattle.answers.proofs.reading.value.Tie as tie
 
 short-requires : tie.Need-short-requires
 short-requires c κs = search needs

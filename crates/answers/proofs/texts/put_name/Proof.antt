@@ -1,8 +1,8 @@
--- `answers::put_name` meets its contract.
-use Rattle.answers.proofs.Bytes.{named-put}
+-- `answers::texts::put_name` meets its contract.
+use Rattle.answers.proofs.Named.{named-put}
 use borrow.Author.Needs.{needs}
-use Rattle.answers.proofs.put_name.Statement.{statement}
-use Rattle.answers.proofs.put_name.Tie as tie
+use Rattle.answers.proofs.texts.put_name.Statement.{statement}
+use Rattle.answers.proofs.texts.put_name.Tie as tie
 
 put-pair-requires : tie.Need-put-pair-requires
 put-pair-requires c κs = search needs

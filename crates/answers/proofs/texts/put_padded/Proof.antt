@@ -1,11 +1,11 @@
--- `answers::put_padded` meets its contract.
+-- `answers::texts::put_padded` meets its contract.
 use native.Mathlib.Omega.{arith}
 use Prim.Native.Nat.{_≤_}
 use lib.ListN.{length}
-use Rattle.answers.proofs.Bytes.{padded-put}
+use Rattle.answers.proofs.Named.{padded-put}
 use borrow.Author.Needs.{needs}
-use Rattle.answers.proofs.put_padded.Statement.{statement}
-use Rattle.answers.proofs.put_padded.Tie as tie
+use Rattle.answers.proofs.texts.put_padded.Statement.{statement}
+use Rattle.answers.proofs.texts.put_padded.Tie as tie
 
 put-bytes-requires : tie.Need-put-bytes-requires
 put-bytes-requires c κs = search needs

@@ -1,8 +1,9 @@
--- `planner::planner_solve` meets its contract.
+-- `planner::solving::planner_solve` meets its contract.
+use Rattle.theory.specs.Solve.{solve}
 use Rattle.answers.proofs.Solved.{solve-short, solve-whole}
 use borrow.Author.Needs.{needs}
-use Rattle.planner.proofs.planner_solve.Statement.{statement}
-use Rattle.planner.proofs.planner_solve.Tie as tie
+use Rattle.planner.proofs.solving.planner_solve.Statement.{statement}
+use Rattle.planner.proofs.solving.planner_solve.Tie as tie
 
 early-requires : tie.Need-early-requires
 early-requires c κs = search needs
@@ -36,7 +37,10 @@ same-length-4 c = search needs
 returns-2 : tie.Need-returns-2
 returns-2 c =
     let a = c .before .before .before .before .before .before .before .before .before .before .before .before .before .before .before .before .before .before .args in
-    solve-whole (a .nodes .now) (a .stages .now) (a .work .now) (a .out .now) (c .before .before .before .before .before .before .before .before .before .before .before .before .before .if1 .left) (c .before .before .before .before .before .before .before .before .before .solve .ensures) (c .before .before .put-pair .ensures .0)
+    let v = c .before .before .before .before .before .before .before .before .before .solve in
+    solve-whole (a .nodes .now) (a .stages .now) (a .work .now) (a .out .now)
+    {o = record { number = v .result .number; place = v .result .place; peak = v .result .peak; nodes = v .last .1 .1 .0; stages = v .last .1 .1 .1 .0; work = v .last .1 .1 .1 .1 .0 }}
+    {v = solve (a .bytes .now) (a .horizon) (a .nodes .now) (a .stages .now) (a .work .now)} (c .before .before .before .before .before .before .before .before .before .before .before .before .before .if1 .left) (v .ensures) (c .before .before .put-pair .ensures .0)
 
 pub planner-solve-spec : {M : Type 1} → statement M
 planner-solve-spec =

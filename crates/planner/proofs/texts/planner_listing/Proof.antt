@@ -1,8 +1,8 @@
--- `planner::planner_listing` meets its contract.
+-- `planner::texts::planner_listing` meets its contract.
 use Rattle.answers.proofs.Listed.{listing-short, listing-whole}
 use borrow.Author.Needs.{needs}
-use Rattle.planner.proofs.planner_listing.Statement.{statement}
-use Rattle.planner.proofs.planner_listing.Tie as tie
+use Rattle.planner.proofs.texts.planner_listing.Statement.{statement}
+use Rattle.planner.proofs.texts.planner_listing.Tie as tie
 
 slice-relend-prefix-listing : tie.Need-slice-relend-prefix-listing
 slice-relend-prefix-listing c = search needs

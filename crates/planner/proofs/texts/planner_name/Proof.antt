@@ -1,8 +1,8 @@
--- `planner::planner_name` meets its contract.
+-- `planner::texts::planner_name` meets its contract.
 use Rattle.answers.proofs.Named.{name-most, name-short, name-whole}
 use borrow.Author.Needs.{needs}
-use Rattle.planner.proofs.planner_name.Statement.{statement}
-use Rattle.planner.proofs.planner_name.Tie as tie
+use Rattle.planner.proofs.texts.planner_name.Statement.{statement}
+use Rattle.planner.proofs.texts.planner_name.Tie as tie
 
 name-refusal-requires : tie.Need-name-refusal-requires
 name-refusal-requires c κs = search needs

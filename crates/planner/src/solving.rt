@@ -1,0 +1,44 @@
+// Exports that judge a model and solve it.
+ghost use mathlib.Core.Path.{_≡_};
+ghost use Rattle.theory.specs.Solve.{solve as solve-of};
+ghost use Rattle.answers.specs.Solving.{model-verdict, solved, solve-answer};
+
+#[repr(C)]
+pub struct Judged {
+    pub number: u32,
+    pub place: usize,
+}
+
+// Number and place of a model's refusal: 10 for its length, then its own, 1 to 8; 0 and 0 where it is accepted.
+// No steps are asked, and no stage words lent: both are given as good ones.
+#[no_mangle]
+pub extern "C" fn planner_validate(bytes: &[u8]) -> Judged
+    ensures { λ r. ⌜ (r .number ≡ model-verdict (now (bytes .entry)) .number) × (r .place ≡ model-verdict (now (bytes .entry)) .place) ⌝ }
+{
+    let v = model::early(bytes, 1, 8);
+    Judged {
+        number: v.number,
+        place: v.place,
+    }
+}
+
+// Answer, 8 bytes: place, peak. Where `out` has no room for it nothing runs: the early refusals alone decide.
+#[no_mangle]
+pub extern "C" fn planner_solve(
+    bytes: &[u8],
+    horizon: u32,
+    nodes: &mut [i64],
+    stages: &mut [u32],
+    work: &mut [u32],
+    out: &mut [u8],
+) -> u32
+    ensures { λ r. ⌜ solved r (now (out .exit)) (now (nodes .exit)) (now (stages .exit)) (now (work .exit)) ≡ solve-answer (solve-of (now (bytes .entry)) horizon (now (nodes .entry)) (now (stages .entry)) (now (work .entry))) (now (nodes .entry)) (now (stages .entry)) (now (work .entry)) (now (out .entry)) ⌝ }
+{
+    if out.len() < 8 {
+        let early = model::early(bytes, horizon, stages.len());
+        return answers::short(early.number);
+    }
+    let v = solver::solve(bytes, horizon, nodes, stages, work);
+    answers::put_pair(out, v.place, v.peak);
+    v.number
+}

@@ -1,0 +1,41 @@
+// Exports that write a name or a listing.
+ghost use mathlib.Core.Path.{_≡_};
+ghost use Rattle.theory.specs.Listing.{listing as listing-of};
+ghost use Rattle.answers.specs.Answers.{answered};
+ghost use Rattle.answers.specs.Texts.{name-answer, listed, listing-answer};
+
+// Answer, 24 bytes: place, length, the name, zeros up to 16.
+#[no_mangle]
+pub extern "C" fn planner_name(bytes: &[u8], action: u32, out: &mut [u8]) -> u32
+    ensures { λ r. ⌜ answered r (now (out .exit)) ≡ name-answer (now (bytes .entry)) action (now (out .entry)) ⌝ }
+{
+    let v = names::name_refusal(bytes, action);
+    if out.len() < 24 {
+        return answers::short(v.number);
+    }
+    answers::texts::put_name(out, v.place, names::name(bytes, action));
+    v.number
+}
+
+// Answer, 8 bytes: place of a refusal, length written to `text` from `place` on.
+// Where `out` has no room for it the plan is judged with an empty text, so that nothing is written.
+#[no_mangle]
+pub extern "C" fn planner_listing(
+    bytes: &[u8],
+    horizon: u32,
+    nodes: &[i64],
+    stages: &[u32],
+    text: &mut [u8],
+    place: usize,
+    out: &mut [u8],
+) -> u32
+    ensures { λ r. ⌜ listed r (now (out .exit)) (now (text .exit)) ≡ listing-answer (listing-of (now (bytes .entry)) horizon (now (nodes .entry)) (now (stages .entry)) (now (text .entry)) place) (now (text .entry)) (now (out .entry)) ⌝ }
+{
+    if out.len() < 8 {
+        let v = listing::listing(bytes, horizon, nodes, stages, &mut text[..0], place);
+        return answers::short(v.number);
+    }
+    let v = listing::listing(bytes, horizon, nodes, stages, text, place);
+    answers::put_pair(out, v.place, v.size);
+    v.number
+}
