@@ -21,13 +21,13 @@ fn add(room: &mut [u8], at: usize, text: &[u8]) -> usize {
 
 // An accepted model of 77 bytes and 23 for each turn: its reward is a choice over as many leaves and one.
 fn fill(room: &mut [u8], turns: usize) -> usize {
-    let mut at = add(room, 0, b"01 01 01 01 01 P");
+    let mut at = add(room, 0, b"S 01 01 01A 01 P");
     let mut i: usize = 0;
     while i < turns {
         at = add(room, at, b"P 11 01");
         i += 1;
     }
-    add(room, at, b"20 01 P 21 01 01 P 22 01 01 ff")
+    add(room, at, b"20 01A P 21 01A 01 P 22 01A 01 ff")
 }
 
 fn print(name: &[u8], v: model::Verdict) {

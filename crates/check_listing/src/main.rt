@@ -111,7 +111,7 @@ fn of_model(name: &[u8], model: &[u8], horizon: u32, stages: &[u32], n: usize, p
 // The model has 184 bytes.
 fn pond(room: &mut [u8]) {
     hex_text::bytes_of(
-        b"01 01 00 02 01 P 20 01 10 01000000 OOOO 22 01 01 10 OOOO 32000000 10 OOOO ffffffff 12 ffffffff OOO 0a000000 20 02 10 01000000 OOO f6ffffff 10 01000000 OOOO 12 ffffffff OOO 0a000000 22 02 01 ff",
+        b"S 01 00 02A 01 P 20 01A 10 01000000 OOOKO 22 01A 01 10 OOOOK 32000000 10 OOOOK ffffffff 12 ffffffff OOOK 0a000000 20 02A 10 01000000 OOOK f6ffffff 10 01000000 OOOKO 12 ffffffff OOOK 0a000000 22 02A 01 ff",
         room,
     );
 }

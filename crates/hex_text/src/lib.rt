@@ -1,5 +1,7 @@
-// Models written as text, for test programs: pairs of hexadecimal digits, O for a number 0 (four bytes),
-// P for a leaf 0 (10 and five numbers 0). Other characters stand for nothing. And what such programs print.
+// Models written as text, for test programs: pairs of hexadecimal digits, O for a number 0 (four bytes), and letters for
+// what depends on the widths of operands, so that a change of them changes the letters' meaning here and no text:
+// S for the byte of a site; A, behind the low byte of an action, for its other bytes; K, behind the coefficients of L1 to
+// L4, for those of further levels; P for a leaf 0. Other characters stand for nothing. And what such programs print.
 ghost use mathlib.Core.Path.{_≡_};
 ghost use Prim.Native.Nat.{_≤_, _<_};
 ghost use lib.ListN.{length};
@@ -37,20 +39,35 @@ fn digit(c: u8) -> u8
     if c <= 102 { c - 87 } else { 16 }
 }
 
+// Bytes of a number; of a leaf and its numbers; of an action behind the low one; of coefficients behind L4.
+const NUMBER: usize = 4;
+
+const LEAF: usize = 21;
+
+const ACTION_MORE: usize = 0;
+
+const COEFFICIENTS_MORE: usize = 0;
+
 // How many bytes a character stands for, with the one behind it.
 fn count(c: u8) -> usize {
     if digit(c) < 16 {
         return 1;
     }
     match c {
-        b'O' => 4,
-        b'P' => 21,
+        b'S' => 1,
+        b'A' => ACTION_MORE,
+        b'K' => COEFFICIENTS_MORE,
+        b'O' => NUMBER,
+        b'P' => LEAF,
         _ => 0,
     }
 }
 
 // The first of these bytes; the others are 0.
 fn first(c: u8, d: u8) -> u8 {
+    if c == b'S' {
+        return 0x01;
+    }
     if c == b'P' {
         return 0x10;
     }
@@ -71,10 +88,10 @@ fn put(out: &mut [u8], at: usize, b: u8) {
 }
 
 // A digit is read with the one behind it.
-fn step(n: usize) -> usize
+fn step(c: u8) -> usize
     ensures { λ r. ⌜ (1 ≤ r) × (r ≤ 2) ⌝ }
 {
-    if n == 1 { 2 } else { 1 }
+    if digit(c) < 16 { 2 } else { 1 }
 }
 
 // The character at a place, 0 past the end.
@@ -97,7 +114,7 @@ pub fn bytes_of(text: &[u8], out: &mut [u8]) -> usize
         let b = first(c, char_at(text, i + 1));
         put(out, at, b);
         at += n;
-        i += step(n);
+        i += step(c);
     }
     at
 }
