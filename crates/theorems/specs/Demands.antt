@@ -17,18 +17,19 @@ use Rattle.theory.specs.Rules.{side}
 use Rattle.theory.specs.Process.{Process, Policy, Action, mean, optimum, lowest-best, expected, Sound}
 use Rattle.theory.specs.Meaning.{Model, State, action-at, env, worth-at, chance-at, weight, settings, moved, power, process}
 use Rattle.theory.specs.Stage.{all-stages}
-use Rattle.theory.specs.Verdict.{Verdict, verdict}
-use Rattle.theory.specs.Load.{load, model, spelled, site-at}
+use Rattle.theory.specs.Verdict.{Progress, Verdict, verdict}
+use Rattle.theory.specs.Load.{Loaded, load, model, spelled, site-at}
 use Rattle.theory.specs.Solve.{solve-in, table-of, solved-stages, SolveOut, solve}
 use Rattle.theory.specs.Value.{Asked, accepted, state-of, ValueOut, value-of}
 use Rattle.theory.specs.Plain.{plain-of}
 use Rattle.theory.specs.Name.{Part, name-refusal, name-part}
 use Rattle.theory.specs.Listing.{greatest-root, ListingOut, listing}
-use Rattle.theory.specs.Rows.{VerdictRow, SolveRow, ValueRow, PlainRow, NameRow, NamePartRow, ListingRow}
+use Rattle.theory.specs.Rows.{Comes, VerdictRow, SolveRow, ValueRow, PlainRow, NameRow, NamePartRow, ListingRow}
 use Rattle.theory.specs.Events.{Event, events, Refused, Passes, needed, Distinct, RefusedAt, PassesAll, peak-of}
 use Rattle.theorems.specs.Fraction.{Fraction, Equal, AtMost, plus, divided, weighed}
 use Rattle.theorems.specs.Ordered.{Ordered, AllOrdered, ModelOrdered, replaced}
 use Rattle.theorems.specs.Reduced.{Reduced}
+use Rattle.theorems.specs.Written.{JudgesAll, Writes}
 
 -- "a model is solved when solve's number is 0": bytes, horizon and tables of which that holds
 pub record Solving : Type 0 where
@@ -66,6 +67,10 @@ module _ (g : Solving) where
 -- the model's own numbers, 1 to 8
 abbrev pub VerdictRows : Type 0
 VerdictRows = (B : List ℕ) (v : Verdict) → VerdictRow B v ↔ (verdict B ≡ v)
+
+-- "These rules judge each leaf and condition as written": wherever a command comes, the facts on the stack are those of the diagrams that the commands before it write
+abbrev pub AsWritten : Type 0
+AsWritten = (B : List ℕ) (at : ℕ) (s : Progress) → Comes B at s → (u : Loaded) × (Writes B at u × JudgesAll (s .site .weights) (s .stack) (u .stack))
 
 -- solve
 abbrev pub SolveRows : Type 0

@@ -2,7 +2,8 @@
 
 -- ---- statements
 
--- what they are said with: the order down a path, fractions
+-- what they are said with: diagrams as they are written, the order down a path, fractions
+pub mod Written
 pub mod Ordered
 pub mod Reduced
 pub mod Fraction

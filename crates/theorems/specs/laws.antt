@@ -5,6 +5,8 @@ pub mod Weights
 pub mod Chances
 pub mod Formula
 pub mod Spelled
+-- diagrams as they are written
+pub mod Written
 -- 11, 12 and the peak
 pub mod Peak
 -- tests and the order down a path

@@ -28,7 +28,7 @@ use Rattle.theory.specs.Value.{value-of}
 use Rattle.theory.specs.Plain.{plain-of}
 use Rattle.theory.specs.Name.{name-refusal, name-part}
 use Rattle.theory.specs.Listing.{greatest-root, listing}
-use Rattle.theorems.specs.Demands.{Solving, left, start, site, reading, Exact, Optimal, PlainAgrees, SameValue, FirstMet, SolvedExactly, CountsDistinct, PeakDecides, VerdictRows, SolveRows, ValueRows, PlainRows, NameRows, NamePartRows, ListingRows, Formula, ChancesWithin, WeightsSum, SpelledSame, TestsDivided, LoadedOrdered, StagesOrdered, TablesReduced, SideLiteral, TablesHold}
+use Rattle.theorems.specs.Demands.{Solving, left, start, site, reading, Exact, Optimal, PlainAgrees, SameValue, FirstMet, SolvedExactly, CountsDistinct, PeakDecides, VerdictRows, AsWritten, SolveRows, ValueRows, PlainRows, NameRows, NamePartRows, ListingRows, Formula, ChancesWithin, WeightsSum, SpelledSame, TestsDivided, LoadedOrdered, StagesOrdered, TablesReduced, SideLiteral, TablesHold}
 use Rattle.theorems.specs.Reduced.{Reduced}
 use Rattle.theory.specs.Rows.{VerdictRow, SolveRow, ValueRow, PlainRow, NameRow, NamePartRow, ListingRow}
 use Rattle.theory.specs.laws.Loading.{accepted-valid, accepted-site}
@@ -41,6 +41,7 @@ use Rattle.theory.specs.laws.Name as Name
 use Rattle.theorems.specs.laws.Formula as Formulas
 use Rattle.theorems.specs.laws.Chances as Chances
 use Rattle.theorems.specs.laws.Spelled as Spelled
+use Rattle.theorems.specs.laws.Written as Written
 use Rattle.theorems.specs.laws.Divided as Divided
 use Rattle.theorems.specs.laws.Ordered as Ordered
 use Rattle.theorems.specs.laws.OrderedStages as OrderedStages
@@ -168,6 +169,9 @@ decides Row a r f o = (f o, λ e. subst Row e r)
 
 pub verdict-rows : VerdictRows
 verdict-rows B = decides (VerdictRow B) (verdict B) (Rows.verdict-row B) (λ _ r. Rows.verdict-is B r)
+
+pub judged-as-written : AsWritten
+judged-as-written = Written.judged-as-written
 
 pub solve-rows : SolveRows
 solve-rows B H nodes stages work = decides (SolveRow B H nodes stages work) (solve B H nodes stages work) (Rows.solve-row B H nodes stages work) (λ _ r. Rows.solve-is B H nodes stages work r)
