@@ -24,7 +24,7 @@ use Rattle.theory.specs.Value.{Asked, accepted, state-of, ValueOut, value-of}
 use Rattle.theory.specs.Plain.{plain-of}
 use Rattle.theory.specs.Name.{Part, name-refusal, name-part}
 use Rattle.theory.specs.Listing.{greatest-root, ListingOut, listing}
-use Rattle.theory.specs.Rows.{Comes, VerdictRow, SolveRow, ValueRow, PlainRow, NameRow, NamePartRow, ListingRow}
+use Rattle.theory.specs.Rows.{Comes, VerdictRow, SolveRow, StateFits, ValueRow, PlainRow, NameRow, NamePartRow, ListingRow}
 use Rattle.theory.specs.Events.{Event, events, Refused, Passes, needed, Distinct, RefusedAt, PassesAll, peak-of}
 use Rattle.theorems.specs.Fraction.{Fraction, Equal, AtMost, plus, divided, weighed}
 use Rattle.theorems.specs.Ordered.{Ordered, AllOrdered, ModelOrdered, replaced}
@@ -205,6 +205,10 @@ PeakDecides = (N : ℕ) (B : List ℕ) (H : ℕ) (S : List Tree) (peak : ℕ) �
     → (peak ≤ N) × ((K : ℕ) → peak ≤ K → solve-in K B H ≡ solved S peak) × ((K : ℕ) → K < peak → (p : ℕ) × (solve-in K B H ≡ refused 12 p))
 
 -- ---- "States and values"
+
+-- "A state is accepted when 13 does not apply": its test is its row's condition
+abbrev pub StateAccepted : Type 0
+StateAccepted = (m n : ℕ) (q : Asked) → T (accepted m n q) ↔ StateFits m n q
 
 -- "20/2 and 10/1 may give different numerators, never different values": one mask and the same fractions
 abbrev pub SameValue : Type 0

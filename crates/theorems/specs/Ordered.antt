@@ -4,8 +4,8 @@ use mathlib.Core.Bool.{Bool, true, false}
 use mathlib.Core.List.{List, [], _∷_}
 use Prim.Native.Nat.{ℕ, Ordering, Ordering·lt, Ordering·eq, Ordering·gt}
 use lib.Dec.{T}
-use Rattle.theory.specs.Diagram.{Test, Tree, leaf, branch, cmp}
 use Rattle.whole.specs.Cases.{if}
+use Rattle.theory.specs.Diagram.{Test, Tree, leaf, branch, cmp}
 use Rattle.theory.specs.Computation.{Comp, ret, both}
 use Rattle.theory.specs.Rules.{node, is-later}
 use Rattle.theory.specs.Meaning.{Action, Model}

@@ -28,7 +28,7 @@ use Rattle.theory.specs.Value.{value-of}
 use Rattle.theory.specs.Plain.{plain-of}
 use Rattle.theory.specs.Name.{name-refusal, name-part}
 use Rattle.theory.specs.Listing.{greatest-root, listing}
-use Rattle.theorems.specs.Demands.{Solving, left, start, site, reading, Exact, Optimal, PlainAgrees, SameValue, FirstMet, SolvedExactly, CountsDistinct, PeakDecides, VerdictRows, AsWritten, SolveRows, ValueRows, PlainRows, NameRows, NamePartRows, ListingRows, Formula, ChancesWithin, WeightsSum, SpelledSame, TestsDivided, LoadedOrdered, StagesOrdered, TablesReduced, SideLiteral, TablesHold}
+use Rattle.theorems.specs.Demands.{Solving, left, start, site, reading, Exact, Optimal, StateAccepted, PlainAgrees, SameValue, FirstMet, SolvedExactly, CountsDistinct, PeakDecides, VerdictRows, AsWritten, SolveRows, ValueRows, PlainRows, NameRows, NamePartRows, ListingRows, Formula, ChancesWithin, WeightsSum, SpelledSame, TestsDivided, LoadedOrdered, StagesOrdered, TablesReduced, SideLiteral, TablesHold}
 use Rattle.theorems.specs.Reduced.{Reduced}
 use Rattle.theory.specs.Rows.{VerdictRow, SolveRow, ValueRow, PlainRow, NameRow, NamePartRow, ListingRow}
 use Rattle.theory.specs.laws.Loading.{accepted-valid, accepted-site}
@@ -36,6 +36,7 @@ use Rattle.theory.specs.laws.Good.{stages-good}
 use Rattle.theory.specs.laws.Stages.{stages-at, stage-of}
 use Rattle.theory.specs.laws.Reading.{reading-exact, root-last}
 use Rattle.theory.specs.laws.Rows.{Passed, by-early, early-some, passed-not, solve-runs}
+use Rattle.theory.specs.laws.Fits as Fits
 use Rattle.theory.specs.laws.Rows as Rows
 use Rattle.theory.specs.laws.Name as Name
 use Rattle.theorems.specs.laws.Formula as Formulas
@@ -142,6 +143,9 @@ optimal g h a b q t π =
       (λ e. p .1 .0 (sym e ∙ v), λ k. v ∙ sym (p .1 .1 k)),
       λ n. rw v (below (expected (site g) π h s) (optimum (site g) h s) (p .0) (λ e. n (p .1 .0 e))),
     )
+
+pub state-accepted : StateAccepted
+state-accepted m n q = (Fits.state-fits m n q, Fits.state-accepted m n q)
 
 pub plain-agrees : PlainAgrees
 plain-agrees g h low high q _ n =
