@@ -3,33 +3,40 @@
 //! Between operations the store is cut down to the needed nodes, so that its length is the count of needed nodes at
 //! every moment: what is needed from before, and what the operation's rules have made.
 
+use crate::unique::{hash, Computed, Places};
 use crate::LIMIT;
-use std::collections::HashMap;
-use std::hash::{BuildHasherDefault, Hash, Hasher};
 
 /// A node's place in the store. Branches stand before their node.
 pub type Id = u32;
 pub type Fault = u32;
-type Map<K, V> = HashMap<K, V, BuildHasherDefault<Mix>>;
+/// A label's place in the store.
+type LabelId = u32;
 
-/// A test; the derived order is that of 01 (23). Kind 1 is a condition, its number in the first place, 2 a linear.
-#[derive(Clone, Copy, Debug, PartialEq, Eq, PartialOrd, Ord, Hash)]
-pub struct Test {
-    pub kind: u8,
+#[derive(Clone, Copy, Debug, PartialEq, Eq, PartialOrd, Ord)]
+pub enum Kind {
+    /// The condition's number is the first of the label's.
+    Condition = 1,
+    Test,
+    Leaf,
+}
+
+/// What a node tests or a leaf holds. The derived order is that of tests in 01 (23); leaves come last.
+#[derive(Clone, Copy, Debug, PartialEq, Eq, PartialOrd, Ord)]
+pub struct Label {
+    pub kind: Kind,
     pub nums: [i64; 5],
 }
 
-/// A node: kind 0 is a leaf, with its action in place of `high`.
-#[derive(Clone, Copy, Debug, PartialEq, Eq, Hash)]
+/// A node; equal labels are one label, so that it is three numbers. A leaf has its action in place of `high`.
+#[derive(Clone, Copy, Debug, PartialEq, Eq)]
 pub struct Node {
-    pub kind: u8,
-    pub nums: [i64; 5],
+    label: LabelId,
     pub high: Id,
     pub low: Id,
 }
 
 /// What a result is remembered under, within one operation (52).
-#[derive(Clone, Copy, PartialEq, Eq, Hash)]
+#[derive(Clone, Copy)]
 enum Rule {
     Choose,
     Sum,
@@ -44,226 +51,300 @@ enum Rule {
     Walk,
 }
 
-pub struct Store {
-    pub nodes: Vec<Node>,
-    index: Map<Node, Id>,
-    most: usize,
-    memo: Map<(Rule, i64, Id, Id), Id>,
-    tests: Map<Test, i64>,
-    /// Rule calls that were worked out, and how deep they went, over all operations.
+/// Rule calls that were worked out, and how deep they went, over all operations.
+#[derive(Default)]
+pub struct Effort {
     pub calls: u64,
     pub deepest: u32,
     depth: u32,
 }
 
-/// Judges a number (46).
-fn judge(number: i128) -> Result<i64, Fault> {
-    if number.abs() <= LIMIT {
-        Ok(number as i64)
-    } else {
-        Err(11)
+pub struct Store {
+    nodes: Vec<Node>,
+    node_places: Places,
+    labels: Vec<Label>,
+    label_places: Places,
+    computed: Computed,
+    most: usize,
+    pub effort: Effort,
+}
+
+impl Effort {
+    fn begin(&mut self) {
+        self.calls += 1;
+        self.depth += 1;
+        self.deepest = self.deepest.max(self.depth);
+    }
+
+    fn end(&mut self) {
+        self.depth -= 1;
     }
 }
 
-fn combine(f: &[i64; 5], g: &[i64; 5], with: impl Fn(i128, i128) -> i128) -> Result<[i64; 5], Fault> {
+/// A leaf's `low`.
+const NO_BRANCH: Id = Id::MAX;
+/// Where a node goes that is not needed.
+const GONE: Id = Id::MAX;
+/// Labels that no node has are dropped once there are so many for each node, and some.
+const LABELS_A_NODE: usize = 4;
+
+/// Judges a number (46); nothing is one that does not even fit.
+fn judge(number: Option<i64>) -> Result<i64, Fault> {
+    number.filter(|x| (-LIMIT..=LIMIT).contains(x)).ok_or(11)
+}
+
+/// Number by number.
+fn combine(f: &[i64; 5], g: &[i64; 5], with: fn(i64, i64) -> Option<i64>) -> Result<[i64; 5], Fault> {
     let mut nums = [0; 5];
     for i in 0..5 {
-        nums[i] = judge(with(f[i].into(), g[i].into()))?;
+        nums[i] = judge(with(f[i], g[i]))?;
     }
     Ok(nums)
 }
 
-pub fn condition(number: i64) -> Test {
-    Test { kind: 1, nums: [number, 0, 0, 0, 0] }
+pub fn condition(number: i64) -> Label {
+    Label { kind: Kind::Condition, nums: [number, 0, 0, 0, 0] }
 }
 
 /// A linear with some coefficient not 0, divided by the common divisor (22).
-pub fn divided(nums: [i64; 5]) -> Test {
-    let mut divisor = 0;
-    for mut x in nums {
-        while x != 0 {
-            (divisor, x) = (x, divisor % x);
-        }
+pub fn divided(nums: [i64; 5]) -> Label {
+    let divisor = nums.iter().fold(0, |divisor, &x| common_divisor(divisor, x));
+    Label { kind: Kind::Test, nums: if divisor == 1 { nums } else { nums.map(|x| x / divisor) } }
+}
+
+fn common_divisor(mut x: i64, mut y: i64) -> i64 {
+    while y != 0 && x != 1 {
+        (x, y) = (y, x % y);
     }
-    Test { kind: 2, nums: nums.map(|x| x / divisor.abs()) }
+    x.abs()
+}
+
+impl Label {
+    fn hash(&self) -> u32 {
+        let [a, b, c, d, k] = self.nums.map(|x| x as u64);
+        hash([a, b, c, d, k, self.kind as u64])
+    }
 }
 
 impl Node {
-    fn root(&self) -> Option<Test> {
-        (self.kind != 0).then_some(Test { kind: self.kind, nums: self.nums })
+    fn is_leaf(&self) -> bool {
+        self.low == NO_BRANCH
     }
-}
 
-/// The first of some roots; a leaf has none.
-fn first(roots: &[Option<Test>]) -> Option<Test> {
-    roots.iter().flatten().min().copied()
+    fn hash(&self) -> u32 {
+        hash([self.label.into(), self.high.into(), self.low.into()])
+    }
 }
 
 impl Store {
     pub fn new(most: usize) -> Store {
         Store {
             nodes: Vec::new(),
-            index: Map::default(),
+            node_places: Places::new(),
+            labels: Vec::new(),
+            label_places: Places::new(),
+            computed: Computed::new(),
             most,
-            memo: Map::default(),
-            tests: Map::default(),
-            calls: 0,
-            deepest: 0,
-            depth: 0,
+            effort: Effort::default(),
         }
+    }
+
+    /// How many nodes there are.
+    pub fn count(&self) -> usize {
+        self.nodes.len()
+    }
+
+    pub fn node(&self, id: Id) -> Node {
+        self.nodes[id as usize]
+    }
+
+    pub fn label(&self, id: Id) -> &Label {
+        &self.labels[self.node(id).label as usize]
     }
 
     /// Cuts the store down to what the roots lead to, and forgets all results.
     pub fn keep<'a>(&mut self, roots: impl Iterator<Item = &'a mut Id>) {
         let roots: Vec<&mut Id> = roots.collect();
-        let mut places = vec![Id::MAX; self.nodes.len()];
-        for root in &roots {
+        let mut places = self.needed(&roots);
+        self.slide(&mut places);
+        for root in roots {
+            *root = places[*root as usize];
+        }
+        if self.labels.len() > LABELS_A_NODE * (self.nodes.len() + 256) {
+            self.keep_labels();
+        }
+        self.computed.forget();
+    }
+
+    /// 0 for each node that the roots lead to.
+    fn needed(&self, roots: &[&mut Id]) -> Vec<Id> {
+        let mut places = vec![GONE; self.nodes.len()];
+        for root in roots {
             places[**root as usize] = 0;
         }
-        for i in (0..self.nodes.len()).rev() {
-            let node = self.nodes[i];
-            if places[i] == 0 && node.kind != 0 {
+        for (i, node) in self.nodes.iter().enumerate().rev() {
+            if places[i] == 0 && !node.is_leaf() {
                 places[node.high as usize] = 0;
                 places[node.low as usize] = 0;
             }
         }
-        self.index.clear();
-        self.memo.clear();
-        self.tests.clear();
-        let mut count: Id = 0;
-        for i in 0..self.nodes.len() {
-            if places[i] == 0 {
-                let mut node = self.nodes[i];
-                if node.kind != 0 {
-                    node.high = places[node.high as usize];
-                    node.low = places[node.low as usize];
-                }
-                places[i] = count;
-                self.nodes[count as usize] = node;
-                self.index.insert(node, count);
-                count += 1;
-            }
+        places
+    }
+
+    /// Moves the needed nodes together, and says where each one went. Those before the first gap stay as they are.
+    fn slide(&mut self, places: &mut [Id]) {
+        let standing = places.iter().position(|&place| place == GONE).unwrap_or(places.len());
+        for node in self.nodes[standing..].iter().rev() {
+            self.node_places.take_last(node.hash());
         }
-        self.nodes.truncate(count as usize);
-        for root in roots {
-            *root = places[*root as usize];
+        for (i, place) in places[..standing].iter_mut().enumerate() {
+            *place = i as Id;
+        }
+        let mut count = standing;
+        for i in standing..self.nodes.len() {
+            if places[i] == GONE {
+                continue;
+            }
+            let mut node = self.nodes[i];
+            if !node.is_leaf() {
+                node.high = places[node.high as usize];
+                node.low = places[node.low as usize];
+            }
+            places[i] = self.node_places.enter(node.hash());
+            self.nodes[count] = node;
+            count += 1;
+        }
+        self.nodes.truncate(count);
+    }
+
+    /// Drops the labels that no node has.
+    fn keep_labels(&mut self) {
+        let labels = std::mem::take(&mut self.labels);
+        self.label_places = Places::new();
+        self.node_places = Places::new();
+        for i in 0..self.nodes.len() {
+            let mut node = self.nodes[i];
+            node.label = self.label_id(labels[node.label as usize]);
+            self.nodes[i] = node;
+            self.node_places.enter(node.hash());
         }
     }
 
+    fn label_id(&mut self, label: Label) -> LabelId {
+        let hash = label.hash();
+        let labels = &self.labels;
+        if let Some(id) = self.label_places.find(hash, |id| labels[id as usize] == label) {
+            return id;
+        }
+        self.labels.push(label);
+        self.label_places.enter(hash)
+    }
+
     fn make(&mut self, node: Node) -> Result<Id, Fault> {
-        if let Some(&id) = self.index.get(&node) {
+        let hash = node.hash();
+        let nodes = &self.nodes;
+        if let Some(id) = self.node_places.find(hash, |id| nodes[id as usize] == node) {
             return Ok(id);
         }
         if self.nodes.len() == self.most {
             return Err(12);
         }
-        let id = self.nodes.len() as Id;
         self.nodes.push(node);
-        self.index.insert(node, id);
-        Ok(id)
+        Ok(self.node_places.enter(hash))
     }
 
     pub fn leaf(&mut self, nums: [i64; 5], action: Id) -> Result<Id, Fault> {
-        self.make(Node { kind: 0, nums, high: action, low: 0 })
+        let label = self.label_id(Label { kind: Kind::Leaf, nums });
+        self.make(Node { label, high: action, low: NO_BRANCH })
     }
 
-    fn over(&mut self, test: Test, high: Id, low: Id) -> Result<Id, Fault> {
+    fn over(&mut self, label: LabelId, high: Id, low: Id) -> Result<Id, Fault> {
         if high == low {
             return Ok(high);
         }
-        self.make(Node { kind: test.kind, nums: test.nums, high, low })
+        self.make(Node { label, high, low })
     }
 
-    fn node(&self, id: Id) -> Node {
-        self.nodes[id as usize]
-    }
-
-    fn root(&self, id: Id) -> Option<Test> {
-        self.nodes[id as usize].root()
+    fn first(&self, one: LabelId, other: LabelId) -> LabelId {
+        if one == other || self.labels[one as usize] < self.labels[other as usize] {
+            one
+        } else {
+            other
+        }
     }
 
     /// High and low side at a test; a diagram without it at its root stands whole (24).
-    fn sides(&self, id: Id, test: Test) -> (Id, Id) {
-        let node = &self.nodes[id as usize];
-        if node.root() == Some(test) {
+    fn sides(&self, id: Id, test: LabelId) -> (Id, Id) {
+        let node = self.node(id);
+        if node.label == test {
             (node.high, node.low)
         } else {
             (id, id)
         }
     }
 
-    /// Works a rule out once.
+    /// Works a rule out, unless the result is known.
+    #[inline(always)]
     fn once(
         &mut self,
-        key: (Rule, i64, Id, Id),
-        rule: impl FnOnce(&mut Store) -> Result<Id, Fault>,
+        rule: Rule,
+        operands: [u32; 3],
+        work: impl FnOnce(&mut Store) -> Result<Id, Fault>,
     ) -> Result<Id, Fault> {
-        if let Some(&id) = self.memo.get(&key) {
+        let key = (rule as u32, operands);
+        if let Some(id) = self.computed.find(key) {
             return Ok(id);
         }
-        self.calls += 1;
-        self.depth += 1;
-        self.deepest = self.deepest.max(self.depth);
-        let id = rule(self)?;
-        self.depth -= 1;
-        self.memo.insert(key, id);
+        self.effort.begin();
+        let id = work(self)?;
+        self.effort.end();
+        self.computed.keep(key, id);
         Ok(id)
     }
 
-    pub fn choose(&mut self, test: Test, high: Id, low: Id) -> Result<Id, Fault> {
-        let fresh = self.tests.len() as i64;
-        let number = *self.tests.entry(test).or_insert(fresh);
-        self.choose_by(test, number, high, low)
+    pub fn choose(&mut self, test: Label, high: Id, low: Id) -> Result<Id, Fault> {
+        let test = self.label_id(test);
+        self.choose_by(test, high, low)
     }
 
-    fn choose_by(&mut self, test: Test, number: i64, high: Id, low: Id) -> Result<Id, Fault> {
-        self.once((Rule::Choose, number, high, low), |s| {
-            let root = first(&[Some(test), s.root(high), s.root(low)]).unwrap_or(test);
+    fn choose_by(&mut self, test: LabelId, high: Id, low: Id) -> Result<Id, Fault> {
+        if high == low {
+            return Ok(high);
+        }
+        self.once(Rule::Choose, [test, high, low], |s| {
+            let root = s.first(test, s.first(s.node(high).label, s.node(low).label));
             let (high_sides, low_sides) = (s.sides(high, root), s.sides(low, root));
             if root == test {
                 return s.over(test, high_sides.0, low_sides.1);
             }
-            let high = s.choose_by(test, number, high_sides.0, low_sides.0)?;
-            let low = s.choose_by(test, number, high_sides.1, low_sides.1)?;
+            let high = s.choose_by(test, high_sides.0, low_sides.0)?;
+            let low = s.choose_by(test, high_sides.1, low_sides.1)?;
             s.over(root, high, low)
         })
     }
 
-    /// A rule by the first root: sum, product, best (29, 30, 31).
+    /// Sum and product, by the first root (29, 30).
     fn pair(&mut self, rule: Rule, f: Id, g: Id) -> Result<Id, Fault> {
-        self.once((rule, 0, f, g), |s| {
-            let Some(root) = first(&[s.root(f), s.root(g)]) else {
+        self.once(rule, [f, g, 0], |s| {
+            let (x, y) = (s.node(f), s.node(g));
+            if x.is_leaf() && y.is_leaf() {
                 return s.pair_of_leaves(rule, f, g);
-            };
+            }
+            let root = s.first(x.label, y.label);
             let (f, g) = (s.sides(f, root), s.sides(g, root));
             let high = s.pair(rule, f.0, g.0)?;
             let low = s.pair(rule, f.1, g.1)?;
-            match rule {
-                Rule::Best => s.choose(root, high, low),
-                _ => s.over(root, high, low),
-            }
+            s.over(root, high, low)
         })
     }
 
     fn pair_of_leaves(&mut self, rule: Rule, f: Id, g: Id) -> Result<Id, Fault> {
-        let (x, y) = (self.node(f).nums, self.node(g).nums);
-        match rule {
-            Rule::Sum => {
-                let nums = combine(&x, &y, |a, b| a + b)?;
-                self.leaf(nums, 0)
-            }
-            Rule::Product => {
-                let nums = combine(&[x[4]; 5], &y, |a, b| a * b)?;
-                self.leaf(nums, 0)
-            }
-            _ => {
-                let d = combine(&x, &y, |a, b| b - a)?;
-                if d[..4] != [0; 4] {
-                    return self.choose(divided(d), f, g);
-                }
-                Ok(if d[4] <= 0 { f } else { g })
-            }
-        }
+        let (x, y) = (&self.label(f).nums, &self.label(g).nums);
+        let nums = match rule {
+            Rule::Sum => combine(x, y, i64::checked_add)?,
+            _ => combine(&[x[4]; 5], y, i64::checked_mul)?,
+        };
+        self.leaf(nums, 0)
     }
 
     pub fn sum(&mut self, f: Id, g: Id) -> Result<Id, Fault> {
@@ -274,29 +355,54 @@ impl Store {
         self.pair(Rule::Product, weight, f)
     }
 
+    /// The better of two (31). Two leaves are sooner compared than looked up.
     pub fn best(&mut self, f: Id, g: Id) -> Result<Id, Fault> {
-        self.pair(Rule::Best, f, g)
+        let (x, y) = (self.node(f), self.node(g));
+        if x.is_leaf() && y.is_leaf() {
+            return self.best_of_leaves(f, g);
+        }
+        self.once(Rule::Best, [f, g, 0], |s| {
+            let root = s.first(x.label, y.label);
+            let (f, g) = (s.sides(f, root), s.sides(g, root));
+            let high = s.best(f.0, g.0)?;
+            let low = s.best(f.1, g.1)?;
+            s.choose_by(root, high, low)
+        })
+    }
+
+    fn best_of_leaves(&mut self, f: Id, g: Id) -> Result<Id, Fault> {
+        self.effort.begin();
+        let d = combine(&self.label(g).nums, &self.label(f).nums, i64::checked_sub)?;
+        let result = match d {
+            [0, 0, 0, 0, constant] => Ok(if constant <= 0 { f } else { g }),
+            _ => self.choose(divided(d), f, g),
+        };
+        self.effort.end();
+        result
     }
 
     /// A bare number acting on the leaves (32).
     fn act(&mut self, rule: Rule, number: i64, f: Id) -> Result<Id, Fault> {
-        self.once((rule, number, f, 0), |s| {
+        self.once(rule, [f, number as u32, (number >> 32) as u32], |s| {
             let node = s.node(f);
-            let Some(root) = node.root() else {
-                let c = i128::from(number);
-                let mut nums = node.nums;
-                match rule {
-                    Rule::Scale => nums = combine(&nums, &nums, |x, _| c * x)?,
-                    Rule::Add => nums[4] = judge(c + i128::from(nums[4]))?,
-                    Rule::From => nums[4] = judge(c - i128::from(nums[4]))?,
-                    _ => return s.leaf(nums, number as Id),
-                }
-                return s.leaf(nums, 0);
-            };
+            if node.is_leaf() {
+                return s.act_on_leaf(rule, number, f);
+            }
             let high = s.act(rule, number, node.high)?;
             let low = s.act(rule, number, node.low)?;
-            s.over(root, high, low)
+            s.over(node.label, high, low)
         })
+    }
+
+    fn act_on_leaf(&mut self, rule: Rule, number: i64, f: Id) -> Result<Id, Fault> {
+        let mut nums = self.label(f).nums;
+        match rule {
+            Rule::Scale => nums = combine(&[number; 5], &nums, i64::checked_mul)?,
+            Rule::Add => nums[4] = judge(number.checked_add(nums[4]))?,
+            Rule::From => nums[4] = judge(number.checked_sub(nums[4]))?,
+            _ => return self.leaf(nums, number as Id),
+        }
+        self.leaf(nums, 0)
     }
 
     pub fn scale(&mut self, number: i64, f: Id) -> Result<Id, Fault> {
@@ -313,16 +419,23 @@ impl Store {
     }
 
     /// The yes or no side of a next-step condition (40).
-    pub fn side(&mut self, test: Test, yes: bool, f: Id) -> Result<Id, Fault> {
-        self.once((Rule::Side, yes.into(), f, 0), |s| {
+    pub fn side(&mut self, test: Label, yes: bool, f: Id) -> Result<Id, Fault> {
+        let test = self.label_id(test);
+        self.side_by(test, yes, f)
+    }
+
+    fn side_by(&mut self, test: LabelId, yes: bool, f: Id) -> Result<Id, Fault> {
+        self.once(Rule::Side, [f, test, yes.into()], |s| {
             let node = s.node(f);
-            let Some(root) = node.root() else { return Ok(f) };
-            if root == test {
+            if node.is_leaf() {
+                return Ok(f);
+            }
+            if node.label == test {
                 return Ok(if yes { node.high } else { node.low });
             }
-            let high = s.side(test, yes, node.high)?;
-            let low = s.side(test, yes, node.low)?;
-            s.over(root, high, low)
+            let high = s.side_by(test, yes, node.high)?;
+            let low = s.side_by(test, yes, node.low)?;
+            s.over(node.label, high, low)
         })
     }
 
@@ -338,73 +451,35 @@ impl Store {
 
     /// Substitutes the next levels, one operation having one list of them (35 to 38).
     pub fn substitute(&mut self, f: Id, nexts: &[Id]) -> Result<Id, Fault> {
-        self.once((Rule::Substitute, 0, f, 0), |s| {
-            let node = s.node(f);
-            match node.kind {
-                0 => s.linear(&node.nums, nexts),
-                1 => {
-                    let high = s.substitute(node.high, nexts)?;
-                    let low = s.substitute(node.low, nexts)?;
-                    s.choose(condition(node.nums[0] + 4), high, low)
-                }
-                _ => {
-                    let linear = s.linear(&node.nums, nexts)?;
-                    let high = s.substitute(node.high, nexts)?;
-                    let low = s.substitute(node.low, nexts)?;
-                    s.walk(linear, high, low)
-                }
+        self.once(Rule::Substitute, [f, 0, 0], |s| {
+            let (node, Label { kind, nums }) = (s.node(f), *s.label(f));
+            if kind == Kind::Leaf {
+                return s.linear(&nums, nexts);
             }
+            if kind == Kind::Condition {
+                let high = s.substitute(node.high, nexts)?;
+                let low = s.substitute(node.low, nexts)?;
+                return s.choose(condition(nums[0] + 4), high, low);
+            }
+            let linear = s.linear(&nums, nexts)?;
+            let high = s.substitute(node.high, nexts)?;
+            let low = s.substitute(node.low, nexts)?;
+            s.walk(linear, high, low)
         })
     }
 
     fn walk(&mut self, linear: Id, high: Id, low: Id) -> Result<Id, Fault> {
-        self.once((Rule::Walk, linear.into(), high, low), |s| {
+        self.once(Rule::Walk, [linear, high, low], |s| {
             let node = s.node(linear);
-            let Some(root) = node.root() else {
-                if node.nums[..4] != [0; 4] {
-                    return s.choose(divided(node.nums), high, low);
-                }
-                return Ok(if node.nums[4] <= 0 { high } else { low });
-            };
+            if node.is_leaf() {
+                return match s.label(linear).nums {
+                    [0, 0, 0, 0, constant] => Ok(if constant <= 0 { high } else { low }),
+                    nums => s.choose(divided(nums), high, low),
+                };
+            }
             let on_high = s.walk(node.high, high, low)?;
             let on_low = s.walk(node.low, high, low)?;
-            s.choose(root, on_high, on_low)
+            s.choose_by(node.label, on_high, on_low)
         })
-    }
-}
-
-/// A quick hash.
-#[derive(Default)]
-pub struct Mix(u64);
-
-impl Hasher for Mix {
-    fn write(&mut self, bytes: &[u8]) {
-        for chunk in bytes.chunks(8) {
-            let mut word = [0; 8];
-            word[..chunk.len()].copy_from_slice(chunk);
-            self.write_u64(u64::from_le_bytes(word));
-        }
-    }
-    fn write_u8(&mut self, x: u8) {
-        self.write_u64(x.into());
-    }
-    fn write_u32(&mut self, x: u32) {
-        self.write_u64(x.into());
-    }
-    fn write_u64(&mut self, x: u64) {
-        self.0 = (self.0.rotate_left(5) ^ x).wrapping_mul(0x9E37_79B9_7F4A_7C15);
-    }
-    fn write_usize(&mut self, x: usize) {
-        self.write_u64(x as u64);
-    }
-    fn write_isize(&mut self, x: isize) {
-        self.write_u64(x as u64);
-    }
-    fn write_i64(&mut self, x: i64) {
-        self.write_u64(x as u64);
-    }
-    fn finish(&self) -> u64 {
-        let x = (self.0 ^ self.0 >> 32).wrapping_mul(0xD6E8_FEB8_6659_FD93);
-        x ^ x >> 32
     }
 }

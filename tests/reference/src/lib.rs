@@ -1,22 +1,24 @@
 //! The second program: document 01 as settled by docs/DECISIONS.md, written for speed and for reading, not proved.
 //! The numbers in brackets are those of the decisions.
 //!
-//! `model` reads and judges the bytes, `diagram` has the rules on diagrams, `solve` the operations of a solve,
-//! `read` the readers of tables, and `plain` works a state out from the written model, without diagrams.
+//! `model` reads and judges the bytes, `diagram` has the rules on diagrams and `unique` their hash tables, `solve` the
+//! operations of a solve, `read` the readers of tables, and `plain` works a state out from the written model, without
+//! diagrams.
 
 pub mod diagram;
 pub mod model;
 pub mod plain;
 pub mod read;
 pub mod solve;
+mod unique;
 
-pub use model::{validate, Model, Refusal};
+pub use model::{validate, Model, Refusal, Site};
 pub use plain::worth;
 pub use read::{listing, name, program, value, Reading};
 pub use solve::{solve, Outcome};
 
 /// The largest size of a number (46).
-pub const LIMIT: i128 = (1 << 62) - 1;
+pub const LIMIT: i64 = (1 << 62) - 1;
 
 /// What 01 says of a state: mask, four numerators, denominator.
 #[derive(Clone, Copy, Debug, PartialEq, Eq, Hash)]
@@ -28,9 +30,9 @@ pub struct State {
 
 impl State {
     /// Row 13 (70).
-    fn judge(&self, model: &Model) -> Result<(), Refusal> {
-        let beyond = self.nums[model.m..].iter().any(|&x| x != 0);
-        if self.d < 1 || u64::from(self.mask) >> model.n != 0 || beyond {
+    fn judge(&self, site: &Site) -> Result<(), Refusal> {
+        let beyond = self.nums[site.m..].iter().any(|&x| x != 0);
+        if self.d < 1 || u64::from(self.mask) >> site.n != 0 || beyond {
             return Refusal::of(13);
         }
         Ok(())
@@ -46,7 +48,7 @@ fn at(linear: &[i64; 5], nums: &[i32; 4], d: i32) -> i128 {
     sum
 }
 
-/// Runs a job on a thread with a stack deep enough for every model.
+/// Runs a job on a thread with a stack deep enough to solve every model: rules call themselves down the paths.
 pub fn with_deep_stack<T: Send>(job: impl FnOnce() -> T + Send) -> T {
     std::thread::scope(|scope| {
         let thread = std::thread::Builder::new().stack_size(1 << 30).spawn_scoped(scope, job);

@@ -1,6 +1,6 @@
 //! A small command line over the second program.
 
-use reference::{name, program, solve, validate, value, worth, Reading, State};
+use reference::{name, program, solve, validate, value, with_deep_stack, worth, Reading, State};
 use std::str::FromStr;
 use std::time::Instant;
 
@@ -38,8 +38,20 @@ fn show(reading: Reading) {
     println!("{number} {place} {action} {low} {high}");
 }
 
+fn show_solve(model: &[u8], horizon: u32, nodes: usize) {
+    let start = Instant::now();
+    let done = solve(model, horizon, 8 * nodes, 8, 8 * nodes);
+    let time = start.elapsed().as_secs_f64();
+    println!("{} {} {}", done.number, done.place, done.peak);
+    eprintln!("roots {:?}, {} rule calls, {} deep, {time:.3} s", done.stages, done.calls, done.deepest);
+}
+
 fn main() {
     let args: Vec<String> = std::env::args().skip(1).collect();
+    with_deep_stack(|| run(&args));
+}
+
+fn run(args: &[String]) {
     let (Some(command), Some(path)) = (args.first(), args.get(1)) else { usage() };
     let model = std::fs::read(path).unwrap_or_else(|error| {
         eprintln!("{path}: {error}");
@@ -50,31 +62,23 @@ fn main() {
             let (number, place) = validate(&model);
             println!("{number} {place}");
         }
-        "solve" => {
-            let words = 8 * number::<usize>(&args, 3);
-            let start = Instant::now();
-            let done = solve(&model, number(&args, 2), words, 8, words);
-            let time = start.elapsed().as_secs_f64();
-            println!("{} {} {}", done.number, done.place, done.peak);
-            let roots = done.stages;
-            eprintln!("roots {roots:?}, {} rule calls, {} deep, {time:.3} s", done.calls, done.deepest);
-        }
+        "solve" => show_solve(&model, number(args, 2), number(args, 3)),
         "list" => {
-            let input: Vec<u8> = std::iter::once(number(&args, 2)).chain(model).collect();
+            let input: Vec<u8> = std::iter::once(number(args, 2)).chain(model).collect();
             print!("{}", program(&input));
         }
         "print" => print!("{}", program(&model)),
         "value" => {
             let words = 8 * 65_535;
-            let mut done = solve(&model, number(&args, 2), words, 8, words);
+            let mut done = solve(&model, number(args, 2), words, 8, words);
             if done.number != 0 {
                 return println!("{} {} 0 0 0", done.number, done.place);
             }
             done.nodes.resize(words, 0);
-            show(value(&model, &done.nodes, &done.stages, number(&args, 3), state(&args, 4)));
+            show(value(&model, &done.nodes, &done.stages, number(args, 3), state(args, 4)));
         }
-        "worth" => show(worth(&model, number(&args, 2), state(&args, 3))),
-        "name" => match name(&model, number(&args, 2)) {
+        "worth" => show(worth(&model, number(args, 2), state(args, 3))),
+        "name" => match name(&model, number(args, 2)) {
             Ok(name) => println!("0 0 {}", String::from_utf8_lossy(name)),
             Err(refusal) => println!("{} {}", refusal.number, refusal.place),
         },

@@ -12,7 +12,7 @@ pub fn worth(bytes: &[u8], steps: u32, state: State) -> Reading {
 
 fn try_worth(bytes: &[u8], steps: u32, state: State) -> Result<Reading, Refusal> {
     let model = open(bytes, None, Some(steps))?;
-    state.judge(&model)?;
+    state.judge(&model.site)?;
     let (worth, action) = worth_of_state(&model, steps, &state).ok_or(Refusal { number: 11, place: 0 })?;
     Ok(Reading::new(worth, action))
 }
@@ -23,7 +23,7 @@ fn worth_of_state(model: &Model, h: u32, state: &State) -> Option<(i128, u32)> {
         return Some((0, 0));
     }
     let mut best = None;
-    for action in 0..model.a {
+    for action in 0..model.site.a {
         let worth = worth_of_action(model, h, action, state)?;
         if best.is_none_or(|(most, _)| worth > most) {
             best = Some((worth, action as u32 + 1));
@@ -33,45 +33,50 @@ fn worth_of_state(model: &Model, h: u32, state: &State) -> Option<(i128, u32)> {
 }
 
 fn judged(number: i128) -> Option<i128> {
-    (number.abs() <= LIMIT).then_some(number)
+    (number.abs() <= i128::from(LIMIT)).then_some(number)
 }
 
 /// The steps are those of decision 73, in its order.
 fn worth_of_action(model: &Model, h: u32, action: usize, state: &State) -> Option<i128> {
-    let power = power(model.w, model.n as u32 * h)?;
-    let reward = judged(evaluate(model, model.rewards[action], state, 0))?;
+    let power = power(model.site.w, model.site.n as u32 * h)?;
+    let reward = judged(evaluate(model, model.reward(action), state, 0))?;
     let mut sum = judged(i128::from(power) * reward)?;
-    for setting in 0..1u32 << model.n {
-        let mut weight = 1;
-        for (i, &chance) in model.chances[action].iter().enumerate() {
-            let yes = evaluate(model, chance, state, 0) / i128::from(state.d);
-            weight *= if setting >> i & 1 == 1 { yes } else { i128::from(model.w) - yes };
-        }
+    let mut chances = [0; 4];
+    for (yes, &chance) in chances.iter_mut().zip(model.chances(action)) {
+        *yes = (evaluate(model, chance, state, 0) / i128::from(state.d)) as i64;
+    }
+    for setting in 0..1u32 << model.site.n {
+        let weight = weight(model, &chances, setting);
         if weight == 0 {
             continue;
         }
         let mut next = State { mask: setting, nums: [0; 4], d: state.d };
-        for (num, &level) in next.nums.iter_mut().zip(&model.nexts[action]) {
+        for (num, &level) in next.nums.iter_mut().zip(model.nexts(action)) {
             *num = i32::try_from(evaluate(model, level, state, setting)).ok()?;
         }
         let (worth, _) = worth_of_state(model, h - 1, &next)?;
-        sum = judged(sum + judged(weight * worth)?)?;
+        sum = judged(sum + judged(i128::from(weight) * worth)?)?;
     }
     Some(sum)
 }
 
+/// A setting's weight, of the weights for yes.
+fn weight(model: &Model, chances: &[i64; 4], setting: u32) -> i64 {
+    let one = |(i, &yes): (usize, &i64)| if setting >> i & 1 == 1 { yes } else { model.site.w - yes };
+    chances[..model.site.n].iter().enumerate().map(one).product()
+}
+
 /// A written diagram at a state and a setting of the next conditions, times D.
-fn evaluate(model: &Model, tree: usize, state: &State, setting: u32) -> i128 {
-    match model.trees[tree] {
-        Tree::Leaf(linear) => at(&linear, &state.nums, state.d),
-        Tree::Condition { number, high, low } => {
-            let bits = state.mask | setting << 4;
-            let yes = bits >> (number - 1) & 1 == 1;
-            evaluate(model, if yes { high } else { low }, state, setting)
-        }
-        Tree::Test { linear, high, low } => {
-            let holds = at(&linear, &state.nums, state.d) <= 0;
-            evaluate(model, if holds { high } else { low }, state, setting)
-        }
+fn evaluate(model: &Model, mut tree: u32, state: &State, setting: u32) -> i128 {
+    loop {
+        let (holds, high, low) = match &model.trees[tree as usize] {
+            Tree::Leaf(linear) => return at(linear, &state.nums, state.d),
+            Tree::Condition { number, high, low } => {
+                let bits = state.mask | setting << 4;
+                (bits >> (number - 1) & 1 == 1, high, low)
+            }
+            Tree::Test { linear, high, low } => (at(linear, &state.nums, state.d) <= 0, high, low),
+        };
+        tree = *if holds { high } else { low };
     }
 }

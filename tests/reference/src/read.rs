@@ -1,6 +1,6 @@
 //! Readers: a value from the tables, a name, the listing, and what the listing program prints.
 
-use crate::model::{open, Model, Refusal};
+use crate::model::{open, NoTrees, Refusal, Site};
 use crate::{at, solve, State, LIMIT};
 use std::fmt::Write;
 
@@ -25,7 +25,7 @@ impl Reading {
 }
 
 /// A row of the table, or 14 (65 to 69). Kind, numbers, high, low.
-fn row(model: &Model, nodes: &[i64], number: i64) -> Result<(i64, [i64; 5], i64, i64), Refusal> {
+fn row(site: &Site, nodes: &[i64], number: i64) -> Result<(i64, [i64; 5], i64, i64), Refusal> {
     let inside = 1 <= number && number <= (nodes.len() / 8) as i64;
     if !inside {
         return Refusal::of(14);
@@ -33,11 +33,11 @@ fn row(model: &Model, nodes: &[i64], number: i64) -> Result<(i64, [i64; 5], i64,
     let words = &nodes[8 * (number as usize - 1)..][..8];
     let nums = [words[1], words[2], words[3], words[4], words[5]];
     let (kind, high, low) = (words[0], words[6], words[7]);
-    let in_limits = nums.iter().all(|&x| i128::from(x).abs() <= LIMIT);
+    let in_limits = nums.iter().all(|x| (-LIMIT..=LIMIT).contains(x));
     let branches = 1 <= high && high < number && 1 <= low && low < number;
     let good = match kind {
-        0 => in_limits && (1..=model.a as i64).contains(&high) && low == 0,
-        1 => (1..=model.n as i64).contains(&nums[0]) && nums[1..] == [0; 4] && branches,
+        0 => in_limits && (1..=site.a as i64).contains(&high) && low == 0,
+        1 => (1..=site.n as i64).contains(&nums[0]) && nums[1..] == [0; 4] && branches,
         2 => in_limits && branches,
         _ => false,
     };
@@ -54,14 +54,14 @@ pub fn value(bytes: &[u8], nodes: &[i64], stages: &[u32], steps: u32, state: Sta
 }
 
 fn try_value(bytes: &[u8], nodes: &[i64], stages: &[u32], steps: u32, state: State) -> Result<Reading, Refusal> {
-    let model = open(bytes, Some(stages.len()), Some(steps))?;
-    state.judge(&model)?;
+    let site = open::<NoTrees>(bytes, Some(stages.len()), Some(steps))?.site;
+    state.judge(&site)?;
     let mut place = i64::from(stages[steps as usize - 1]);
     if place == 0 {
         return Refusal::of(15);
     }
     loop {
-        let (kind, nums, high, low) = row(&model, nodes, place)?;
+        let (kind, nums, high, low) = row(&site, nodes, place)?;
         let holds = match kind {
             0 => return Ok(Reading::new(at(&nums, &state.nums, state.d), high as u32)),
             1 => state.mask >> (nums[0] - 1) & 1 == 1,
@@ -73,11 +73,11 @@ fn try_value(bytes: &[u8], nodes: &[i64], stages: &[u32], steps: u32, state: Sta
 
 /// An action's name, as a part of the model (80).
 pub fn name(bytes: &[u8], action: u32) -> Result<&[u8], Refusal> {
-    let model = open(bytes, None, None)?;
-    if !(1..=model.a as u32).contains(&action) {
+    let model = open::<NoTrees>(bytes, None, None)?;
+    if !(1..=model.site.a as u32).contains(&action) {
         return Refusal::of(16);
     }
-    let Some(start) = model.names[action as usize - 1] else { return Ok(&[]) };
+    let Some(start) = model.name(action as usize - 1) else { return Ok(&[]) };
     let name = &bytes[start..start + 16];
     let length = name.iter().rposition(|&b| b != b' ').map_or(0, |last| last + 1);
     Ok(&name[..length])
@@ -92,7 +92,7 @@ pub fn listing(
     text_length: usize,
     place: usize,
 ) -> Result<String, Refusal> {
-    let model = open(bytes, Some(stages.len()), Some(horizon))?;
+    let site = open::<NoTrees>(bytes, Some(stages.len()), Some(horizon))?.site;
     let roots = &stages[..horizon as usize];
     if roots.contains(&0) {
         return Refusal::of(15);
@@ -105,9 +105,9 @@ pub fn listing(
         }
         text.push('\n');
     };
-    line(&[model.m as i64, model.n as i64, model.a as i64, model.w, horizon.into()], "PLAN");
+    line(&[site.m as i64, site.n as i64, site.a as i64, site.w, horizon.into()], "PLAN");
     for number in 1..=i64::from(*roots.iter().max().expect("a stage")) {
-        let (kind, [a, b, c, d, k], high, low) = row(&model, nodes, number)?;
+        let (kind, [a, b, c, d, k], high, low) = row(&site, nodes, number)?;
         match kind {
             0 => line(&[a, b, c, d, k, high], &format!("N {number} V")),
             1 => line(&[a, high, low], &format!("N {number} B")),

@@ -1,7 +1,7 @@
 //! A solve: loading, the operations of each stage, and the tables.
 
-use crate::diagram::{condition, divided, Fault, Id, Store};
-use crate::model::{open, Model, Tree};
+use crate::diagram::{condition, divided, Effort, Fault, Id, Kind, Label, Store};
+use crate::model::{open, Model, Site, Tree};
 use crate::LIMIT;
 
 /// What a solve returns and leaves. `nodes` has the rows in use; every node word after them is zero, and so is every
@@ -25,12 +25,23 @@ impl Outcome {
     }
 }
 
+/// The loaded diagrams of an action.
+struct Action {
+    reward: Id,
+    chances: Vec<Id>,
+    nexts: Vec<Id>,
+}
+
+impl Action {
+    fn roots(&mut self) -> impl Iterator<Item = &mut Id> {
+        std::iter::once(&mut self.reward).chain(&mut self.chances).chain(&mut self.nexts)
+    }
+}
+
 struct Solver<'a> {
     model: &'a Model,
     store: Store,
-    rewards: Vec<Id>,
-    chances: Vec<Vec<Id>>,
-    nexts: Vec<Vec<Id>>,
+    actions: Vec<Action>,
     stages: Vec<Id>,
     best: Option<Id>,
     last: Option<Id>,
@@ -39,14 +50,14 @@ struct Solver<'a> {
     stage: u32,
 }
 
-/// Solves a model for tables of so many words.
+/// Solves a model for tables of so many words; a large model asks for `with_deep_stack`.
 pub fn solve(bytes: &[u8], horizon: u32, node_words: usize, stage_words: usize, work_words: usize) -> Outcome {
     let model = match open(bytes, Some(stage_words), Some(horizon)) {
         Ok(model) => model,
         Err(refusal) => return Outcome { number: refusal.number, place: refusal.place, ..Outcome::default() },
     };
     let most = (node_words / 8).min(work_words / 8).min(65_535);
-    crate::with_deep_stack(|| Solver::new(&model, most).run(horizon))
+    Solver::new(&model, most).run(horizon)
 }
 
 impl Solver<'_> {
@@ -54,9 +65,7 @@ impl Solver<'_> {
         Solver {
             model,
             store: Store::new(most),
-            rewards: Vec::new(),
-            chances: Vec::new(),
-            nexts: Vec::new(),
+            actions: Vec::new(),
             stages: Vec::new(),
             best: None,
             last: None,
@@ -67,7 +76,8 @@ impl Solver<'_> {
 
     fn run(mut self, horizon: u32) -> Outcome {
         let done = self.all_stages(horizon);
-        let mut outcome = Outcome { calls: self.store.calls, deepest: self.store.deepest, ..Outcome::default() };
+        let Effort { calls, deepest, .. } = self.store.effort;
+        let mut outcome = Outcome { calls, deepest, ..Outcome::default() };
         match done {
             Ok(()) => {
                 outcome.peak = self.peak as u32;
@@ -80,7 +90,7 @@ impl Solver<'_> {
 
     /// Keeps the needed nodes only: model, finished stages, best so far, last result (47, 50).
     fn begin(&mut self) {
-        let model = self.rewards.iter_mut().chain(self.chances.iter_mut().chain(&mut self.nexts).flatten());
+        let model = self.actions.iter_mut().flat_map(Action::roots);
         self.store.keep(model.chain(&mut self.stages).chain(&mut self.best).chain(&mut self.last));
     }
 
@@ -88,26 +98,31 @@ impl Solver<'_> {
     fn operation(&mut self, rule: impl FnOnce(&mut Self) -> Result<Id, Fault>) -> Result<(), Fault> {
         self.begin();
         self.last = Some(rule(self)?);
-        self.peak = self.peak.max(self.store.nodes.len());
+        self.peak = self.peak.max(self.store.count());
         Ok(())
     }
 
     fn load(&mut self) -> Result<(), Fault> {
-        let mut made: Vec<Id> = Vec::new();
+        let mut made: Vec<Id> = Vec::with_capacity(self.model.trees.len());
         for tree in &self.model.trees {
             made.push(match *tree {
                 Tree::Leaf(nums) => self.store.leaf(nums, 0)?,
                 Tree::Condition { number, high, low } => {
-                    self.store.choose(condition(number.into()), made[high], made[low])?
+                    self.store.choose(condition(number.into()), made[high as usize], made[low as usize])?
                 }
-                Tree::Test { linear, high, low } => self.store.choose(divided(linear), made[high], made[low])?,
+                Tree::Test { linear, high, low } => {
+                    self.store.choose(divided(linear), made[high as usize], made[low as usize])?
+                }
             });
         }
-        self.peak = self.store.nodes.len();
-        let of = |trees: &[usize]| -> Vec<Id> { trees.iter().map(|&tree| made[tree]).collect() };
-        self.rewards = of(&self.model.rewards);
-        self.chances = self.model.chances.iter().map(|trees| of(trees)).collect();
-        self.nexts = self.model.nexts.iter().map(|trees| of(trees)).collect();
+        self.peak = self.store.count();
+        let of = |trees: &[u32]| -> Vec<Id> { trees.iter().map(|&tree| made[tree as usize]).collect() };
+        let action = |i| Action {
+            reward: made[self.model.reward(i) as usize],
+            chances: of(self.model.chances(i)),
+            nexts: of(self.model.nexts(i)),
+        };
+        self.actions = (0..self.model.site.a).map(action).collect();
         Ok(())
     }
 
@@ -120,7 +135,7 @@ impl Solver<'_> {
                 let zero = self.store.leaf([0; 5], 0)?; // 49
                 self.stages.push(zero);
             }
-            for action in 0..self.model.a {
+            for action in 0..self.model.site.a {
                 self.try_action(h, action)?;
             }
             self.stages.extend(self.best.take());
@@ -129,14 +144,14 @@ impl Solver<'_> {
     }
 
     fn try_action(&mut self, h: u32, action: usize) -> Result<(), Fault> {
-        let (n, w) = (self.model.n, self.model.w);
+        let Site { n, w, .. } = self.model.site;
         self.operation(|s| {
             let before = s.stages[h as usize - 1];
-            s.store.substitute(before, &s.nexts[action])
+            s.store.substitute(before, &s.actions[action].nexts)
         })?;
         for i in 0..n {
             self.operation(|s| {
-                let (weight, last) = (s.chances[action][i], s.last());
+                let (weight, last) = (s.actions[action].chances[i], s.last());
                 let next = condition(5 + i as i64);
                 let side = s.store.side(next, true, last)?; // 41
                 let yes = s.store.product(weight, side)?;
@@ -148,7 +163,7 @@ impl Solver<'_> {
         }
         self.operation(|s| {
             let power = power(w, n as u32 * h).ok_or(11u32)?; // 42
-            let reward = s.store.scale(power, s.rewards[action])?;
+            let reward = s.store.scale(power, s.actions[action].reward)?;
             let total = s.store.sum(s.last(), reward)?;
             s.store.number(action as Id + 1, total) // 43
         })?;
@@ -166,7 +181,7 @@ impl Solver<'_> {
 
     /// Numbers the nodes of stages 1 to H and writes them (57).
     fn write(&self, outcome: &mut Outcome) {
-        let mut numbers = vec![0; self.store.nodes.len()];
+        let mut numbers = vec![0; self.store.count()];
         for (h, &root) in self.stages.iter().enumerate().skip(1) {
             outcome.stages[h - 1] = self.write_diagram(root, &mut numbers, &mut outcome.nodes);
         }
@@ -174,17 +189,15 @@ impl Solver<'_> {
 
     fn write_diagram(&self, id: Id, numbers: &mut Vec<u32>, rows: &mut Vec<i64>) -> u32 {
         if numbers[id as usize] == 0 {
-            let node = self.store.nodes[id as usize];
-            let (high, low) = match node.kind {
-                0 => (node.high, 0),
-                _ => {
+            let (node, &Label { kind, nums: [a, b, c, d, k] }) = (self.store.node(id), self.store.label(id));
+            let (kind, high, low) = match kind {
+                Kind::Leaf => (0, node.high, 0),
+                kind => {
                     let high = self.write_diagram(node.high, numbers, rows);
-                    (high, self.write_diagram(node.low, numbers, rows))
+                    (kind as i64, high, self.write_diagram(node.low, numbers, rows))
                 }
             };
-            rows.push(node.kind.into());
-            rows.extend(node.nums);
-            rows.extend([i64::from(high), i64::from(low)]);
+            rows.extend([kind, a, b, c, d, k, high.into(), low.into()]);
             numbers[id as usize] = (rows.len() / 8) as u32;
         }
         numbers[id as usize]
@@ -193,5 +206,5 @@ impl Solver<'_> {
 
 /// W to a power, if it is within the limits.
 pub fn power(w: i64, exponent: u32) -> Option<i64> {
-    w.checked_pow(exponent).filter(|&x| i128::from(x) <= LIMIT)
+    w.checked_pow(exponent).filter(|&x| x <= LIMIT)
 }

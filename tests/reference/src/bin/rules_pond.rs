@@ -1,6 +1,6 @@
 //! What `crates/rules_pond` has to print, worked out by the second program.
 
-use reference::diagram::{condition, divided, Id, Store};
+use reference::diagram::{condition, divided, Id, Kind, Store};
 use reference::model::{open, Model, Tree};
 use reference::{listing, solve};
 
@@ -19,12 +19,15 @@ fn load(model: &Model, store: &mut Store) -> Vec<Id> {
     for tree in &model.trees {
         let id = match *tree {
             Tree::Leaf(nums) => store.leaf(nums, 0),
-            Tree::Condition { number, high, low } => store.choose(condition(number.into()), made[high], made[low]),
-            Tree::Test { linear, high, low } => store.choose(divided(linear), made[high], made[low]),
+            Tree::Condition { number, high, low } => {
+                store.choose(condition(number.into()), made[high as usize], made[low as usize])
+            }
+            Tree::Test { linear, high, low } => store.choose(divided(linear), made[high as usize], made[low as usize]),
         };
         made.push(id.expect("room"));
     }
-    (0..model.a).flat_map(|a| [made[model.rewards[a]], made[model.nexts[a][0]]]).collect()
+    let diagrams = (0..model.site.a).flat_map(|action| [model.reward(action), model.nexts(action)[0]]);
+    diagrams.map(|tree| made[tree as usize]).collect()
 }
 
 fn operation(store: &mut Store, roots: &[Id], row: &[usize]) -> Id {
@@ -47,20 +50,21 @@ fn main() {
     let Ok(model) = open(&pond, None, None) else { panic!("the pond is accepted") };
     let mut store = Store::new(32);
     let mut roots = load(&model, &mut store);
-    println!("0 {} loaded, roots {} ", store.nodes.len(), roots.len());
-    let mut peak = store.nodes.len();
+    println!("0 {} loaded, roots {} ", store.count(), roots.len());
+    let mut peak = store.count();
     for row in ROWS.split(' ') {
         let row: Vec<usize> = row.bytes().map(|b| (b - b'0').into()).collect();
         store.keep(roots.iter_mut());
         let made = operation(&mut store, &roots, &row);
         roots.truncate(row[4]);
         roots.push(made);
-        peak = peak.max(store.nodes.len());
-        print!("0 {} {peak} : ", store.nodes.len());
-        let node = store.nodes[made as usize];
-        print!("{} ", node.kind);
-        node.nums.iter().for_each(|x| print!("{x} "));
-        println!("{} {} ", node.high, node.low);
+        peak = peak.max(store.count());
+        print!("0 {} {peak} : ", store.count());
+        let (node, label) = (store.node(made), store.label(made));
+        let (kind, low) = if label.kind == Kind::Leaf { (0, 0) } else { (label.kind as i64, node.low) };
+        print!("{kind} ");
+        label.nums.iter().for_each(|x| print!("{x} "));
+        println!("{} {low} ", node.high);
     }
     let done = solve(&pond, 2, 256, 8, 256);
     let text = listing(&pond, 2, &done.nodes, &done.stages, usize::MAX, 0);
