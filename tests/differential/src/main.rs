@@ -2,11 +2,13 @@
 //! names, listings, plain working. See tests/README.md for the link line.
 
 mod expected;
+mod meter;
 #[cfg(not(linked))]
 #[path = "mock.rs"]
 mod planner;
 #[cfg(linked)]
 mod planner;
+mod speed;
 
 use models::{damaged, deep, near_limit, pond, rain, random, staircases, Rng};
 use reference::{solve, validate, with_deep_stack, Outcome, State};
@@ -16,7 +18,8 @@ use std::time::Instant;
 const USAGE: &str = "differential random [COUNT [SEED]]      random models, tables, states, damage
 differential endurance [COUNT [SEED]]   the same tables for one model after another
 differential large                      the large models, with times
-differential speed                      the README's figures, library and second program in one run";
+differential speed                      the README's figures, library and second program in one run
+differential time MODEL HORIZON         the time of both to solve the model of a file";
 
 /// What a call was made with, kept for the report of a difference.
 struct Calls {
@@ -219,9 +222,8 @@ fn any_model(rng: &mut Rng) -> Vec<u8> {
     model
 }
 
-fn one_round(calls: &mut Calls, rng: &mut Rng) {
-    calls.model = any_model(rng);
-    let horizon = any_horizon(rng);
+/// Solves with room at the peak, around it and anywhere below; the last tables that were solved.
+fn solve_around_peak(calls: &mut Calls, rng: &mut Rng, horizon: u32) -> Option<Tables> {
     let most = rng.pick(&[60, 200, 600, 2_000]);
     let first = solve(&calls.model, horizon, 8 * most, 8, 8 * most);
     let peak = if first.number == 0 { first.peak as usize } else { most };
@@ -240,6 +242,13 @@ fn one_round(calls: &mut Calls, rng: &mut Rng) {
             break;
         }
     }
+    solved
+}
+
+fn one_round(calls: &mut Calls, rng: &mut Rng) {
+    calls.model = any_model(rng);
+    let horizon = any_horizon(rng);
+    let solved = solve_around_peak(calls, rng, horizon);
     for _ in 0..2 {
         let action = if rng.once_in(9) { rng.pick(&[0, 9, u32::MAX]) } else { rng.between(1, 8) as u32 };
         compare_name(calls, rng, action);
@@ -327,91 +336,57 @@ fn large(calls: &mut Calls) {
     }
 }
 
-/// The least time of some runs, in microseconds.
-fn best<T>(runs: u32, mut job: impl FnMut() -> T) -> f64 {
-    let timed = |_| {
-        let start = Instant::now();
-        std::hint::black_box(job());
-        start.elapsed().as_secs_f64() * 1e6
-    };
-    (0..runs).map(timed).fold(f64::INFINITY, f64::min)
+fn usage() -> ! {
+    eprintln!("{USAGE}");
+    std::process::exit(2)
 }
 
-fn print_speed(what: &str, library: f64, reference: f64) {
-    println!("{what}: library {library:.2} µs, reference {reference:.2} µs, ratio {:.2}", library / reference);
-}
-
-/// Solves with tables of 65,535 nodes, then single reads of the pond at horizon 8.
-fn speed() {
-    let words = 8 * 65_535;
-    let mut tables = Tables { nodes: vec![0; words], stages: vec![0; 8], work: vec![0; words] };
-    let mut out = [0; 24];
-    for (name, model, horizon, runs) in [
-        ("near_limit, horizon 6", near_limit(), 6, 5),
-        ("staircases, horizon 1", staircases(), 1, 5),
-        ("deep, horizon 4", deep(), 4, 3),
-        ("rain, horizon 8", rain(), 8, 50),
-        ("pond, horizon 8", pond(), 8, 50),
-    ] {
-        let Tables { nodes, stages, work } = &mut tables;
-        let library = best(runs, || planner::solve(&model, horizon, nodes, stages, work, &mut out));
-        let reference = best(runs, || solve(&model, horizon, words, 8, words));
-        print_speed(&format!("solve {name}"), library, reference);
-    }
-    let (model, state) = (pond(), State { mask: 0, nums: [39, 0, 0, 0], d: 2 });
-    let Tables { nodes, stages, .. } = &tables;
-    // A read is shorter than the clock's step: a thousand at a time.
-    let thousand = |mut job: Box<dyn FnMut() + '_>| best(50, || (0..1_000).for_each(|_| job())) / 1_000.0;
-    let mut ours = [0; 24];
-    print_speed(
-        "value of the pond, its validation included",
-        thousand(Box::new(|| _ = planner::value(&model, nodes, stages, 8, state, &mut out))),
-        thousand(Box::new(|| _ = expected::valued(&model, nodes, stages, 8, state, &mut ours))),
-    );
-    print_speed(
-        "plain working of the pond, 4 steps",
-        best(50, || planner::worth(&model, 4, state, &mut out)),
-        best(50, || expected::worked(&model, 4, state, &mut ours)),
-    );
-}
-
-fn run(args: &[String]) {
-    let number = |place: usize, otherwise: u64| args.get(place).map_or(Some(otherwise), |arg| arg.parse().ok());
-    let (Some(mode), Some(count), Some(seed)) = (args.first(), number(1, 2_000), number(2, 1)) else {
-        eprintln!("{USAGE}");
-        std::process::exit(2)
-    };
-    let mut calls = Calls { by_number: [0; 18], model: Vec::new(), round: 0 };
-    let start = Instant::now();
-    let mut lent = Tables::full_of_anything(&mut Rng(seed), 8 * 2_000 + 3, 8, 8 * 2_000 + 5);
-    match mode.as_str() {
-        "large" => large(&mut calls),
-        "speed" => return speed(),
-        "random" | "endurance" => {
-            for round in 0..count {
-                // Each round has a seed of its own, so that one can be run again alone.
-                let mut rng = Rng(seed.wrapping_mul(1_000_003).wrapping_add(round));
-                calls.round = round;
-                match mode.as_str() {
-                    "random" => one_round(&mut calls, &mut rng),
-                    _ => endurance_round(&mut calls, &mut rng, &mut lent),
-                }
-            }
-        }
-        _ => {
-            eprintln!("{USAGE}");
+fn time(path: &str, horizon: u32) {
+    match std::fs::read(path) {
+        Ok(model) => speed::time(model, horizon),
+        Err(error) => {
+            eprintln!("{path}: {error}");
             std::process::exit(2)
         }
     }
+}
+
+/// Each round has a seed of its own, so that one can be run again alone.
+fn rounds(calls: &mut Calls, count: u64, seed: u64, mut round: impl FnMut(&mut Calls, &mut Rng)) {
+    for number in 0..count {
+        calls.round = number;
+        round(calls, &mut Rng(seed.wrapping_mul(1_000_003).wrapping_add(number)));
+    }
+}
+
+fn compare(mode: &str, count: u64, seed: u64) {
+    let mut calls = Calls { by_number: [0; 18], model: Vec::new(), round: 0 };
+    let start = Instant::now();
+    let mut lent = Tables::full_of_anything(&mut Rng(seed), 8 * 2_000 + 3, 8, 8 * 2_000 + 5);
+    match mode {
+        "large" => large(&mut calls),
+        "random" => rounds(&mut calls, count, seed, one_round),
+        "endurance" => rounds(&mut calls, count, seed, |calls, rng| endurance_round(calls, rng, &mut lent)),
+        _ => usage(),
+    }
     let library = if cfg!(linked) { "libplanner.a" } else { "the mock" };
     let time = start.elapsed().as_secs_f64();
-    println!(
-        "{mode}: {} calls of {library}, all as expected, seed {seed}, {time:.1} s",
-        calls.by_number.iter().sum::<u64>()
-    );
+    let total = calls.by_number.iter().sum::<u64>();
+    println!("{mode}: {total} calls of {library}, all as expected, seed {seed}, {time:.1} s");
     let numbers: Vec<String> =
         calls.by_number.iter().enumerate().map(|(number, count)| format!("{number}:{count}")).collect();
     println!("by number {}", numbers.join(" "));
+}
+
+fn run(args: &[String]) {
+    let number =
+        |place: usize, otherwise: u64| args.get(place).map_or(otherwise, |arg| arg.parse().unwrap_or_else(|_| usage()));
+    match args.first().map_or("", |mode| mode) {
+        "speed" => speed::speed(),
+        "count" => speed::count(),
+        "time" if args.len() == 3 => time(&args[1], number(2, 1) as u32),
+        mode => compare(mode, number(1, 2_000), number(2, 1)),
+    }
 }
 
 fn main() {

@@ -15,6 +15,11 @@ fn spoil(function: &str, number: u32, out: &mut [u8]) -> u32 {
     number
 }
 
+pub fn validate(model: &[u8]) -> (u32, usize) {
+    let (number, place) = reference::validate(model);
+    (number, place as usize)
+}
+
 pub fn solve(m: &[u8], horizon: u32, nodes: &mut [i64], stages: &mut [u32], work: &mut [u32], out: &mut [u8]) -> u32 {
     spoil("solve", expected::solved(m, horizon, nodes, stages, work, out), out)
 }

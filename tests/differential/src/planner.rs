@@ -2,7 +2,14 @@
 
 use reference::State;
 
+#[repr(C)]
+struct Judged {
+    number: u32,
+    place: usize,
+}
+
 extern "C" {
+    fn planner_validate(model: *const u8, model_len: usize) -> Judged;
     #[rustfmt::skip]
     fn planner_solve(
         model: *const u8,
@@ -68,6 +75,12 @@ extern "C" {
 }
 
 // In every call a pointer comes with the length of its slice, and the slices do not overlap.
+
+pub fn validate(model: &[u8]) -> (u32, usize) {
+    // SAFETY: as said above.
+    let judged = unsafe { planner_validate(model.as_ptr(), model.len()) };
+    (judged.number, judged.place)
+}
 
 #[rustfmt::skip]
 pub fn solve(m: &[u8], horizon: u32, nodes: &mut [i64], stages: &mut [u32], work: &mut [u32], out: &mut [u8]) -> u32 {

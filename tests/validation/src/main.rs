@@ -1,8 +1,7 @@
 //! `validation COUNT SEED`: the proved validation and the second program's judge COUNT random models and as many
-//! damaged ones alike, and models about as long as one may be; then the time of both on one large model, in one run.
+//! damaged ones alike, and models about as long as one may be.
 
 use models::{damaged, random, staircases, Rng};
-use std::time::{Duration, Instant};
 
 #[repr(C)]
 struct Judged {
@@ -23,17 +22,6 @@ fn library(model: &[u8]) -> (u32, usize) {
 fn second(model: &[u8]) -> (u32, usize) {
     let (number, place) = reference::validate(model);
     (number, place as usize)
-}
-
-fn best_of(runs: u32, mut work: impl FnMut()) -> Duration {
-    (0..runs)
-        .map(|_| {
-            let began = Instant::now();
-            work();
-            began.elapsed()
-        })
-        .min()
-        .unwrap_or_default()
 }
 
 /// What both come to; they come to the same.
@@ -64,14 +52,4 @@ fn main() {
         longer.resize(size, 0);
         assert_eq!(judged_alike(&longer), expected, "{size} bytes");
     }
-    let ours = best_of(200, || assert_eq!(library(&large).0, 0));
-    let theirs = best_of(200, || assert_eq!(second(&large).0, 0));
-    let rate = |time: Duration| large.len() as f64 / time.as_secs_f64() / 1e6;
-    println!(
-        "validation: {} bytes, library {:.0} MB/s, second program {:.0} MB/s, ratio {:.2}",
-        large.len(),
-        rate(ours),
-        rate(theirs),
-        rate(ours) / rate(theirs)
-    );
 }

@@ -1,0 +1,239 @@
+//! The README's figures: the library and the second program on the same input, in one run.
+
+use crate::meter::{by_callgrind, counted, keep_memory, least_time, Counter};
+use crate::{planner, Tables};
+use models::{commands, deep, near_limit, pond, rain, staircases};
+use reference::diagram::Store;
+use reference::{solve, validate, value, worth, State};
+use std::hint::black_box;
+
+const NODES: usize = 65_535;
+const STATE: State = State { mask: 0, nums: [39, 0, 0, 0], d: 2 };
+
+#[derive(Clone, Copy, PartialEq)]
+enum Job {
+    /// What no solve can do without: the library's lent words are cleared, the second program's store is made.
+    Floor,
+    Solve(u32),
+    Value,
+    Worth,
+    Validate,
+}
+
+struct Row {
+    what: &'static str,
+    model: Vec<u8>,
+    job: Job,
+}
+
+fn row(what: &'static str, model: Vec<u8>, job: Job) -> Row {
+    Row { what, model, job }
+}
+
+/// The first two are floors: what every solve has to do, and every reading of the pond.
+fn rows() -> Vec<Row> {
+    vec![
+        row("clear all lent words once; the second program's start", Vec::new(), Job::Floor),
+        row("validate the pond", pond(), Job::Validate),
+        row("solve the near-limit model of two rain tanks, horizon 6", near_limit(), Job::Solve(6)),
+        row("solve two staircases of 750 tests each", staircases(), Job::Solve(1)),
+        row("solve the deepest model known, horizon 4", deep(), Job::Solve(4)),
+        row("solve the pond, horizon 8", pond(), Job::Solve(8)),
+        row("solve the rain, horizon 8", rain(), Job::Solve(8)),
+        row("read a value of the pond, its validation included", pond(), Job::Value),
+        row("plain working of the pond, 4 steps", pond(), Job::Worth),
+        row("validate a model of 63,100 bytes", staircases(), Job::Validate),
+    ]
+}
+
+/// What the library is lent: the tables and an answer's bytes.
+struct Lent {
+    tables: Tables,
+    out: [u8; 24],
+}
+
+impl Lent {
+    fn new() -> Lent {
+        keep_memory();
+        let tables = Tables { nodes: vec![1; 8 * NODES], stages: vec![1; 8], work: vec![1; 8 * NODES] };
+        Lent { tables, out: [0; 24] }
+    }
+
+    /// A value is read from solved tables.
+    fn prepare(&mut self, row: &Row) {
+        if row.job == Job::Value {
+            self.library(&Row { what: row.what, model: row.model.clone(), job: Job::Solve(8) });
+        }
+    }
+
+    fn library(&mut self, row: &Row) -> u32 {
+        let (Tables { nodes, stages, work }, out) = (&mut self.tables, &mut self.out);
+        match row.job {
+            Job::Floor => {
+                black_box(&mut *nodes).fill(0);
+                black_box(&mut *work).fill(0);
+                0
+            }
+            Job::Solve(horizon) => planner::solve(&row.model, horizon, nodes, stages, work, out),
+            Job::Value => planner::value(&row.model, nodes, stages, 8, STATE, out),
+            Job::Worth => planner::worth(&row.model, 4, STATE, out),
+            Job::Validate => planner::validate(&row.model).0,
+        }
+    }
+
+    fn second_program(&self, row: &Row) -> u32 {
+        let Tables { nodes, stages, .. } = &self.tables;
+        match row.job {
+            Job::Floor => black_box(Store::new(NODES)).count() as u32,
+            Job::Solve(horizon) => black_box(solve(&row.model, horizon, 8 * NODES, 8, 8 * NODES)).number,
+            Job::Value => black_box(value(&row.model, nodes, stages, 8, STATE)).number,
+            Job::Worth => black_box(worth(&row.model, 4, STATE)).number,
+            Job::Validate => black_box(validate(&row.model)).0,
+        }
+    }
+}
+
+/// What the library costs and what the second program costs: seconds and instructions.
+#[derive(Clone, Copy)]
+struct Cost {
+    times: [f64; 2],
+    counts: [Option<f64>; 2],
+}
+
+impl Cost {
+    /// The cost of one of so many parts.
+    fn of_each(&self, parts: usize) -> Cost {
+        let part = |whole: f64| whole / parts as f64;
+        Cost { times: self.times.map(part), counts: self.counts.map(|count| count.map(part)) }
+    }
+
+    fn cells(&self) -> [String; 6] {
+        let ([time, other_time], [count, other_count]) = (self.times, self.counts);
+        let ratio = |x: f64, y: f64| three_digits(x / y);
+        let dash = || "-".to_string();
+        [
+            seconds(time),
+            seconds(other_time),
+            ratio(time, other_time),
+            count.map_or_else(dash, instructions),
+            other_count.map_or_else(dash, instructions),
+            count.zip(other_count).map_or_else(dash, |(count, other)| ratio(count, other)),
+        ]
+    }
+}
+
+fn three_digits(x: f64) -> String {
+    match x {
+        x if x < 10.0 => format!("{x:.2}"),
+        x if x < 100.0 => format!("{x:.1}"),
+        _ => format!("{x:.0}"),
+    }
+}
+
+fn seconds(time: f64) -> String {
+    match time {
+        t if t < 1e-6 => three_digits(t * 1e9) + " ns",
+        t if t < 1e-3 => three_digits(t * 1e6) + " µs",
+        t => three_digits(t * 1e3) + " ms",
+    }
+}
+
+fn instructions(count: f64) -> String {
+    match count {
+        x if x < 1e4 => format!("{x:.0}"),
+        x if x < 1e6 => three_digits(x / 1e3) + " k",
+        x => three_digits(x / 1e6) + " M",
+    }
+}
+
+fn times(lent: &mut Lent, row: &Row) -> [f64; 2] {
+    lent.prepare(row);
+    assert_eq!(lent.library(row), lent.second_program(row), "{}", row.what);
+    [least_time(|| _ = lent.library(row)), least_time(|| _ = lent.second_program(row))]
+}
+
+/// By the machine's counter, or else by callgrind; nothing without either.
+fn counts(lent: &mut Lent, rows: &[Row]) -> Vec<[Option<f64>; 2]> {
+    let Some(counter) = Counter::open() else {
+        let counts = by_callgrind("count").unwrap_or_default();
+        let count = |place: usize| counts.get(place).copied();
+        return (0..rows.len()).map(|i| [count(2 * i), count(2 * i + 1)]).collect();
+    };
+    let count = |row| {
+        lent.prepare(row);
+        let library = counter.instructions(|| _ = lent.library(row));
+        [Some(library), Some(counter.instructions(|| _ = lent.second_program(row)))]
+    };
+    rows.iter().map(count).collect()
+}
+
+/// What callgrind runs: every job, counted once. Short ones have run before, so that their memory is at hand.
+pub fn count() {
+    let mut lent = Lent::new();
+    for row in rows() {
+        lent.prepare(&row);
+        if !matches!(row.job, Job::Solve(_)) {
+            lent.library(&row);
+            lent.second_program(&row);
+        }
+        counted(|| _ = lent.library(&row));
+        counted(|| _ = lent.second_program(&row));
+    }
+}
+
+/// What bounds a row, and its floor's share of the library's time.
+fn bound(job: Job, cost: &Cost, clearing: &Cost, validation: &Cost) -> String {
+    let (floor, name, otherwise) = match job {
+        Job::Floor => return "memory, 96 bytes a node".to_string(),
+        Job::Validate => return "commands".to_string(),
+        Job::Solve(_) => (clearing, "clearing", "rules; "),
+        Job::Value => (validation, "validation", "walk; "),
+        Job::Worth => (validation, "validation", "evaluations; "),
+    };
+    let share = 100.0 * floor.times[0] / cost.times[0];
+    format!("{}{name} {share:.0} %", if share < 25.0 { otherwise } else { "" })
+}
+
+fn line(what: &str, cells: [String; 6], bound: &str) -> Vec<String> {
+    [what.to_string()].into_iter().chain(cells).chain([bound.to_string()]).collect()
+}
+
+fn print_table(lines: &[Vec<String>]) {
+    let width = |column: usize| lines.iter().map(|line| line[column].chars().count()).max().unwrap_or(0);
+    for line in lines {
+        let cells = line.iter().enumerate().map(|(i, cell)| format!("{cell:0$}", width(i)));
+        println!("| {} |", cells.collect::<Vec<_>>().join(" | "));
+    }
+}
+
+/// Prints the table; tests/README.md says how to read it.
+pub fn speed() {
+    let (mut lent, rows) = (Lent::new(), rows());
+    let times: Vec<_> = rows.iter().map(|row| times(&mut lent, row)).collect();
+    let counts = counts(&mut lent, &rows);
+    let costs: Vec<_> = times.into_iter().zip(counts).map(|(times, counts)| Cost { times, counts }).collect();
+    let titles =
+        ["what", "library", "second program", "ratio", "instructions", "second program", "ratio", "bounded by"];
+    let mut lines = vec![titles.map(String::from).to_vec(), vec!["---".to_string(); titles.len()]];
+    for (row, cost) in rows.iter().zip(&costs) {
+        let mut cells = cost.cells();
+        if row.job == Job::Floor {
+            // Two different things, which have no ratio.
+            [cells[2], cells[5]] = ["-", "-"].map(String::from);
+        }
+        lines.push(line(row.what, cells, &bound(row.job, cost, &costs[0], &costs[1])));
+    }
+    let (large, whole) = (&rows[rows.len() - 1].model, costs[costs.len() - 1]);
+    lines.push(line("each of its commands", whole.of_each(commands(large).len() - 1).cells(), "commands"));
+    print_table(&lines);
+}
+
+/// Times one model: both programs in tables of 65,535 nodes.
+pub fn time(model: Vec<u8>, horizon: u32) {
+    let mut lent = Lent::new();
+    let done = solve(&model, horizon, 8 * NODES, 8, 8 * NODES);
+    println!("number {}, place {}, peak {}, {} rule calls", done.number, done.place, done.peak, done.calls);
+    let times = times(&mut lent, &row("the model", model, Job::Solve(horizon)));
+    let [library, second, ratio, ..] = Cost { times, counts: [None; 2] }.cells();
+    println!("library {library}, second program {second}, ratio {ratio}");
+}
