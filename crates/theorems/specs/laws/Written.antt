@@ -3,21 +3,21 @@ use mathlib.Core.Path.{_≡_, refl, sym, subst}
 use mathlib.Core.Logic.{_↔_, _⊎_, inl, inr, ⊎-elim}
 use mathlib.Core.Bool.{Bool, true, false, not, _&&_}
 use mathlib.Core.List.{List, [], _∷_}
-use Prim.Native.Nat.{ℕ, zero, suc, _-_}
+use Prim.Native.Nat.{ℕ, _-_}
 use native.Mathlib.Omega.{arith}
-use lib.Dec.{T, isEq, ltb, leb, leb→le, nleb→lt, ltb→lt, lt→ltb}
-use lib.IntN.{ℤ, pos}
-use lib.ListN.{getD, drop}
+use lib.Dec.{T, ltb, leb, leb→le, nleb→lt, ltb→lt, lt→ltb}
+use lib.IntN.{pos}
+use lib.ListN.{drop}
 use lib.Signed.{leZ}
 use Rattle.whole.specs.Cases.{if, by-test, both, and-in}
-use Rattle.theory.specs.Diagram.{Linear, Test, now, later, Tree, leaf, branch, plain, cmpZ, zeros, test-of}
+use Rattle.theory.specs.Diagram.{Linear, Test, now, later, Tree, leaf, branch, plain, zeros, test-of}
 use Rattle.theory.specs.Computation.{bind, make, result}
-use Rattle.theory.specs.Command.{Command, site, push-leaf, push-condition, push-test, take-reward, take-chance, take-level, name-action, end-model, command-at}
-use Rattle.theory.specs.Verdict.{Facts, Slot, Progress, reward-slot, chance-slot, level-slot, or, is-weight, joined, after}
+use Rattle.theory.specs.Command.{Command, site, push-leaf, push-condition, push-test, give, name-action, end-model, command-at, Slot}
+use Rattle.theory.specs.Verdict.{Facts, Progress, or, is-weight, joined, after}
 use Rattle.theory.specs.Load.{Entry, Loaded, condition-test, load-entry, load-choice-with, load-one-with}
 use Rattle.theory.specs.Rows.{Keeps, first-asks, later-asks, asks-of, Comes, comes-first, comes-next}
-use Rattle.theory.specs.laws.Comps.{cmpZ-eq}
 use Rattle.theory.specs.laws.Rules.{or-left, or-right}
+use Rattle.theory.specs.laws.Fits.{zeros-each, each-zeros}
 use Rattle.theorems.specs.Written.{IsLater, HasLater, AllWeights, Judges, JudgesAll, as-written, Writes, writes-none, writes-one}
 use Rattle.theorems.specs.Demands.{AsWritten}
 
@@ -40,17 +40,6 @@ choice-judged W b t p f g h l a c = record {
   next-step = either b (or (f .next-step) (g .next-step)) (IsLater t) (HasLater h ⊎ HasLater l) p (either (f .next-step) (g .next-step) (HasLater h) (HasLater l) (a .next-step) (c .next-step));
   weights = each (f .weights) (g .weights) (AllWeights W h) (AllWeights W l) (a .weights) (c .weights);
 }
-
-zeros-each : (l : List ℤ) → T (zeros l) → (i : ℕ) → getD l i (pos 0) ≡ pos 0
-unfolding zeros
-zeros-each [] t i = refl
-zeros-each (z ∷ l) t zero = cmpZ-eq z (pos 0) (both (isEq (cmpZ z (pos 0))) (zeros l) t .0)
-zeros-each (z ∷ l) t (suc i) = zeros-each l (both (isEq (cmpZ z (pos 0))) (zeros l) t .1) i
-
-each-zeros : (l : List ℤ) → ((i : ℕ) → getD l i (pos 0) ≡ pos 0) → T (zeros l)
-unfolding zeros
-each-zeros [] f = tt
-each-zeros (z ∷ l) f = and-in (isEq (cmpZ z (pos 0))) (zeros l) (subst (λ (y : ℤ). T (isEq (cmpZ y (pos 0)))) (sym (f 0)) tt) (each-zeros l (λ i. f (suc i)))
 
 -- a leaf's
 leaf-judged : (W : ℕ) (p : Linear) → Judges W (record { next-step = false; weights = is-weight W p }) (leaf (plain p))
@@ -127,9 +116,7 @@ one-judged (push-test p) s u k d = (
   joined-judged (s .site .weights) false (test-of p) (linear-not-later p) (s .stack) (u .stack) (u .entries) (d .0),
   λ t. absurd (not-first s (push-test p) (λ z. z .0) k t),
 )
-one-judged (take-reward a) s u k d = (entry-judged (s .site .weights) (reward-slot a) (s .stack) (u .stack) (u .entries) (d .0), λ t. absurd (not-first s (take-reward a) (λ z. z .0) k t))
-one-judged (take-chance a j) s u k d = (entry-judged (s .site .weights) (chance-slot a j) (s .stack) (u .stack) (u .entries) (d .0), λ t. absurd (not-first s (take-chance a j) (λ z. z .0) k t))
-one-judged (take-level a i) s u k d = (entry-judged (s .site .weights) (level-slot a i) (s .stack) (u .stack) (u .entries) (d .0), λ t. absurd (not-first s (take-level a i) (λ z. z .0) k t))
+one-judged (give g) s u k d = (entry-judged (s .site .weights) g (s .stack) (u .stack) (u .entries) (d .0), λ t. absurd (not-first s (give g) (λ z. z .0) k t))
 one-judged (name-action a b) s u k d = (d .0, λ t. absurd (not-first s (name-action a b) (λ z. z .0) k t))
 one-judged end-model s u k d = (d .0, λ t. absurd (not-first s end-model (λ z. z .0) k t))
 

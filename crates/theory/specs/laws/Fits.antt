@@ -1,6 +1,6 @@
 -- 13 and 14 by computed tests, and as 01 lists them.
 use mathlib.Core.Path.{_≡_, refl, sym, ap, _∙_, subst}
-use mathlib.Core.Bool.{Bool, true, false, not, _&&_}
+use mathlib.Core.Bool.{false, not, _&&_}
 use mathlib.Core.List.{List, [], _∷_}
 use Prim.Native.Nat.{ℕ, zero, suc, _+_, _-_, _*_, _^_, _≤_, _<_}
 use native.Mathlib.Omega.{arith}
@@ -8,7 +8,7 @@ use lib.Dec.{T, T-not, isEq, eqb, ltb, leb, eqb→eq, leb→le, le→leb, nleb�
 use lib.IntN.{ℤ, pos, negsuc, natAbs}
 use lib.ListN.{length, getD, take, drop}
 use lib.Seq.{getD-take, getD-drop}
-use lib.Signed.{_≤ℤ_, leZ}
+use lib.Signed.{leZ}
 use Rattle.whole.specs.Cases.{if, by-test, both, and-in}
 use Rattle.whole.specs.Within.{small}
 use Rattle.theory.specs.Widths.{levels-most, node-words}
@@ -16,20 +16,20 @@ use Rattle.theory.specs.Diagram.{cmpZ, zeros}
 use Rattle.theory.specs.Valid.{all, small-linear}
 use Rattle.theory.specs.Value.{Asked, accepted, node-word, node-linear, high-of, low-of, amongZ, good-branches, good-leaf-row, good-condition-row, good-test-row, good-row}
 use Rattle.theory.specs.Staying.{In62}
-use Rattle.theory.specs.Rows.{Range, Among, StateFits, NumbersFit, BranchesFit, KindFits, fits-leaf, fits-condition, fits-test, NodeFits}
+use Rattle.theory.specs.Rows.{Among, StateFits, NumbersFit, BranchesFit, KindFits, fits-leaf, fits-condition, fits-test, NodeFits}
 use Rattle.theory.specs.laws.Comps.{cmpZ-eq}
 use Rattle.theory.specs.laws.Staying.{in-62, back-62}
 use Rattle.theory.specs.laws.Words.{by-kind}
 
 -- ---- lists, word by word
 
-zeros-each : (l : List ℤ) → T (zeros l) → (i : ℕ) → getD l i (pos 0) ≡ pos 0
+pub zeros-each : (l : List ℤ) → T (zeros l) → (i : ℕ) → getD l i (pos 0) ≡ pos 0
 unfolding zeros
 zeros-each [] t i = refl
 zeros-each (z ∷ l) t zero = cmpZ-eq z (pos 0) (both (isEq (cmpZ z (pos 0))) (zeros l) t .0)
 zeros-each (z ∷ l) t (suc i) = zeros-each l (both (isEq (cmpZ z (pos 0))) (zeros l) t .1) i
 
-each-zeros : (l : List ℤ) → ((i : ℕ) → getD l i (pos 0) ≡ pos 0) → T (zeros l)
+pub each-zeros : (l : List ℤ) → ((i : ℕ) → getD l i (pos 0) ≡ pos 0) → T (zeros l)
 unfolding zeros
 each-zeros [] f = tt
 each-zeros (z ∷ l) f = and-in (isEq (cmpZ z (pos 0))) (zeros l) (subst (λ (y : ℤ). T (isEq (cmpZ y (pos 0)))) (sym (f 0)) tt) (each-zeros l (λ i. f (suc i)))

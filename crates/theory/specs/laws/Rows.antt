@@ -225,9 +225,6 @@ module _ (B : List ℕ) where
       let i = broken-number (rules-of s c) (asks-of s c) (rules-agree s c) k d in
       r .1 ∙ ap (from (r .0) at s) (read-whole at w) ∙ if-no (eqb n 0) _ (refusal n at) (some-not n (omega (arith, i .0, i .1))) ∙ ap (λ (n : ℕ). refusal n at) (i .0)
 
-  pub verdict-one : {v w : Verdict} → VerdictRow B v → VerdictRow B w → v ≡ w
-  verdict-one r t = sym (verdict-is r) ∙ verdict-is t
-
   -- a row's place is at most the length
   pub place-inside : {v : Verdict} → VerdictRow B v → v .place ≤ length B
   place-inside (verdict-0 d e) = omega arith
