@@ -28,6 +28,10 @@ pub fn choose(
     requires { ⌜ Table ruleOf cap (now nodes) (now work) count × Names count op p × (f < count) × (g < count) ⌝ }
     ensures { λ r. ⌜ Ran ruleOf cap (now (nodes .entry)) (now (work .entry)) count (T.choose (testBy (now (nodes .entry)) count op p) (treeAt (now (nodes .entry)) count f) (treeAt (now (nodes .entry)) count g)) (now (nodes .exit)) (now (work .exit)) r ⌝ }
 {
+    let s = choice_at(nodes, test_at(nodes, op, p), f, g);
+    if s.ends {
+        return join_test(nodes, work, cap, count, test_at(nodes, op, p), s.fh, s.gl);
+    }
     let c = look(work, cap, op, f, g, p, 0);
     if c != 0 {
         return Made {
@@ -35,10 +39,6 @@ pub fn choose(
             at: c - 1,
             count,
         };
-    }
-    let s = choice_at(nodes, test_at(nodes, op, p), f, g);
-    if s.ends {
-        return join_test(nodes, work, cap, count, test_at(nodes, op, p), s.fh, s.gl);
     }
     let h = choose(nodes, work, cap, count, op, p, s.fh, s.gh);
     if h.stop != 0 {

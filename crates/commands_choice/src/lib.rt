@@ -82,6 +82,10 @@ pub fn choose_command(
     requires { ⌜ Table (loadRule (now model)) cap (now nodes) (now work) count × Testing (now model) at × (f < count) × (g < count) ⌝ }
     ensures { λ r. ⌜ Ran (loadRule (now (model .entry))) cap (now (nodes .entry)) (now (work .entry)) count (choose (testAt (now (model .entry)) at) (treeAt (now (nodes .entry)) count f) (treeAt (now (nodes .entry)) count g)) (now (nodes .exit)) (now (work .exit)) r ⌝ }
 {
+    let s = choice_at(nodes, test_from(model, at), f, g);
+    if s.ends {
+        return join_test(nodes, work, cap, count, test_from(model, at), s.fh, s.gl);
+    }
     let c = look(work, cap, 13, f, g, at, 0);
     if c != 0 {
         return Made {
@@ -89,10 +93,6 @@ pub fn choose_command(
             at: c - 1,
             count,
         };
-    }
-    let s = choice_at(nodes, test_from(model, at), f, g);
-    if s.ends {
-        return join_test(nodes, work, cap, count, test_from(model, at), s.fh, s.gl);
     }
     let h = choose_command(model, nodes, work, cap, count, at, s.fh, s.gh);
     if h.stop != 0 {

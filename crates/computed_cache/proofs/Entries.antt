@@ -13,7 +13,7 @@ use Rattle.computed_cache.specs.Cache.{slotOf, Entry, storeOf}
 
 pub slot-at : (cap op f g p q : ℕ) → 0 < cap → (j : ℕ) × (j < cap) × (slotOf cap op f g p q ≡ cap * 2 + j * 6)
 unfolding slotOf
-slot-at cap op f g p q h = ((op * 7919 + f * 31 + g * 1009 + p * 263 + q) % cap, mod-lt _ h, refl)
+slot-at cap op f g p q h = ((op * 7919 + f + g * 1009 + p * 263 + q) % cap, mod-lt _ h, refl)
 
 pub slot-lt : (cap op f g p q : ℕ) → 0 < cap → slotOf cap op f g p q + 6 ≤ cap * 8
 slot-lt cap op f g p q h = let a = slot-at cap op f g p q h in let b = a .1 in let e = a .2 in omega arith

@@ -6,7 +6,7 @@ use lib.ListN.{length, getD, set}
 
 -- the entry's place: any, so long as it is one of cap
 unfoldable pub slotOf : ℕ → ℕ → ℕ → ℕ → ℕ → ℕ → ℕ
-slotOf cap op f g p q = cap * 2 + ((op * 7919 + f * 31 + g * 1009 + p * 263 + q) % cap) * 6
+slotOf cap op f g p q = cap * 2 + ((op * 7919 + f + g * 1009 + p * 263 + q) % cap) * 6
 
 -- words that fit an entry
 pub record Key (op f g p q : ℕ) : Type 0 where

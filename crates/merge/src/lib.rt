@@ -46,6 +46,10 @@ pub fn merge(
     requires { ⌜ Table ruleOf cap (now nodes) (now work) count × (op ≤ 2) × (f < count) × (g < count) ⌝ }
     ensures { λ r. ⌜ Ran ruleOf cap (now (nodes .entry)) (now (work .entry)) count (ruleOf (now (nodes .entry)) count op f g 0 0) (now (nodes .exit)) (now (work .exit)) r ⌝ }
 {
+    let s = sides_at(nodes, f, g);
+    if s.ends {
+        return combine(nodes, work, cap, count, op, f, g);
+    }
     let c = look(work, cap, op, f, g, 0, 0);
     if c != 0 {
         return Made {
@@ -53,10 +57,6 @@ pub fn merge(
             at: c - 1,
             count,
         };
-    }
-    let s = sides_at(nodes, f, g);
-    if s.ends {
-        return combine(nodes, work, cap, count, op, f, g);
     }
     let h = merge(nodes, work, cap, count, op, s.fh, s.gh);
     if h.stop != 0 {

@@ -32,6 +32,13 @@ pub fn over(
     requires { ⌜ Table ruleOf cap (now nodes) (now work) count × Acts op p q × (f < count) ⌝ }
     ensures { λ r. ⌜ Ran ruleOf cap (now (nodes .entry)) (now (work .entry)) count (ruleOf (now (nodes .entry)) count op f 0 p q) (now (nodes .exit)) (now (work .exit)) r ⌝ }
 {
+    let s = way_at(nodes, op, f, p);
+    if s.ends {
+        return at_leaf(nodes, work, cap, count, op, f, p, q);
+    }
+    if s.picks {
+        return over(nodes, work, cap, count, op, s.high, p, q);
+    }
     let c = look(work, cap, op, f, 0, p, q);
     if c != 0 {
         return Made {
@@ -39,13 +46,6 @@ pub fn over(
             at: c - 1,
             count,
         };
-    }
-    let s = way_at(nodes, op, f, p);
-    if s.ends {
-        return at_leaf(nodes, work, cap, count, op, f, p, q);
-    }
-    if s.picks {
-        return over(nodes, work, cap, count, op, s.high, p, q);
     }
     let h = over(nodes, work, cap, count, op, s.high, p, q);
     if h.stop != 0 {
