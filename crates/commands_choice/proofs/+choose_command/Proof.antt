@@ -1,3 +1,13 @@
+use native.Mathlib.Omega.{arith}
+use native.Mathlib.Nat.{lt-of-lt-of-le}
+use borrow.Author.Needs.{needs}
+use Rattle.diagrams.proofs.Outcomes.{lifted}
+use Rattle.diagrams.proofs.Caching.{room-in, keepable}
+use Rattle.diagrams.proofs.Going.{at-in, high-stops, low-stops, root-on, high-in, joined}
+use Rattle.commands_choice.proofs.Commands.{choice-key, choice-goes, choice-ends, choice-answered, choice-stored}
+use Prim.Native.Nat.{ℕ, _<_, _+_}
+use borrow.Fn.Kinds.{In}
+use borrow.Fn.PlainCycle.{Measures, is, falls, and}
 use Prim.Native.Nat.{ℕ, _<_}
 use borrow.Fn.Kinds.{In}
 use borrow.Fn.PlainCycle.{Measures, is, falls, and}
@@ -26,6 +36,11 @@ choose-command-at t =
 
 abbrev choose-command-below : ℕ → In 3 choose-command-kinds.ps
 choose-command-below t =
+    and
+    3
+    choose-command-kinds.ps
+    (falls 3 choose-command-kinds.ps _<_ μ-choose-command t)
+    choose-command.Pre
 
 -- the contracts that `choose-command` calls by, itself at a smaller measure
 abbrev choose-command-claims : ℕ → choose-command-lts.Claims
@@ -45,23 +60,24 @@ choose-command-claims t = (
   keep-reads.Asked,
   keep-reads.Learnt,
 )
-    and
-    3
-    choose-command-kinds.ps
-    (falls 3 choose-command-kinds.ps _<_ μ-choose-command t)
-    choose-command.Pre
 
 choose-command-test-from-requires : (t : ℕ) → choose-command-lts.Need-test-from-requires (choose-command-claims t) (choose-command-at t) choose-command.Post
-choose-command-test-from-requires t c κs = ?
+choose-command-test-from-requires t c κs =
+    (c .before .before .before) .pre .1 .1
 
 choose-command-choice-at-requires : (t : ℕ) → choose-command-lts.Need-choice-at-requires (choose-command-claims t) (choose-command-at t) choose-command.Post
-choose-command-choice-at-requires t c κs = ?
+choose-command-choice-at-requires t c κs =
+    (at-in ((c .before .before .before .before) .args .f) ((c .before .before .before .before) .pre .1 .0 .bare) ((c .before .before .before .before) .pre .1 .2), at-in ((c .before .before .before .before) .args .g) ((c .before .before .before .before) .pre .1 .0 .bare) ((c .before .before .before .before) .pre .1 .3))
 
 choose-command-test-from-requires-2 : (t : ℕ) → choose-command-lts.Need-test-from-requires-2 (choose-command-claims t) (choose-command-at t) choose-command.Post
-choose-command-test-from-requires-2 t c κs = ?
+choose-command-test-from-requires-2 t c κs =
+    (c .before .before .before .before .before .before .before .before) .pre .1 .1
 
 choose-command-join-test-requires : (t : ℕ) → choose-command-lts.Need-join-test-requires (choose-command-claims t) (choose-command-at t) choose-command.Post
-choose-command-join-test-requires t c κs = ?
+choose-command-join-test-requires t c κs =
+    let w = choice-goes ((c .before .before .before .before .before .before .before .before .before) .pre .1 .0) ((c .before .before .before .before .before .before .before .before .before) .pre .1 .1) ((c .before .before .before .before .before .before .before .before .before) .args .f) ((c .before .before .before .before .before .before .before .before .before) .args .g) ((c .before .before .before .before .before .before .before .before .before) .pre .1 .2) ((c .before .before .before .before .before .before .before .before .before) .pre .1 .3) (c .before .before .before .before .before .test-from .ensures) (c .before .before .before .before .choice-at .ensures) in
+    let o = w .0 (c .before .before .before .if1 .taken) in
+    ((c .before .before .before .before .before .before .before .before .before) .pre .1 .0 .bare, c .test-from2 .ensures .proper, o .fh, o .gl)
 
 choose-command-same-length : (t : ℕ) → choose-command-lts.Need-same-length (choose-command-claims t) (choose-command-at t) choose-command.Post
 choose-command-same-length t c = search needs
@@ -70,10 +86,14 @@ choose-command-same-length-2 : (t : ℕ) → choose-command-lts.Need-same-length
 choose-command-same-length-2 t c = search needs
 
 choose-command-returns : (t : ℕ) → choose-command-lts.Need-returns (choose-command-claims t) (choose-command-at t) choose-command.Post
-choose-command-returns t c = ?
+choose-command-returns t c =
+    let w = choice-goes ((c .before .before .before .before .before .before .before .before .before .before .before .before .before) .pre .1 .0) ((c .before .before .before .before .before .before .before .before .before .before .before .before .before) .pre .1 .1) ((c .before .before .before .before .before .before .before .before .before .before .before .before .before) .args .f) ((c .before .before .before .before .before .before .before .before .before .before .before .before .before) .args .g) ((c .before .before .before .before .before .before .before .before .before .before .before .before .before) .pre .1 .2) ((c .before .before .before .before .before .before .before .before .before .before .before .before .before) .pre .1 .3) (c .before .before .before .before .before .before .before .before .before .test-from .ensures) (c .before .before .before .before .before .before .before .before .choice-at .ensures) in
+    let o = w .0 (c .before .before .before .before .before .before .before .if1 .taken) in
+    choice-ends ((c .before .before .before .before .before .before .before .before .before .before .before .before .before) .pre .1 .0) ((c .before .before .before .before .before .before .before .before .before .before .before .before .before) .pre .1 .1) ((c .before .before .before .before .before .before .before .before .before .before .before .before .before) .args .f) ((c .before .before .before .before .before .before .before .before .before .before .before .before .before) .args .g) ((c .before .before .before .before .before .before .before .before .before .before .before .before .before) .pre .1 .2) ((c .before .before .before .before .before .before .before .before .before .before .before .before .before) .pre .1 .3) o (c .before .before .before .before .test-from2 .ensures) (c .before .before .before .join-test .ensures)
 
 choose-command-look-requires : (t : ℕ) → choose-command-lts.Need-look-requires (choose-command-claims t) (choose-command-at t) choose-command.Post
-choose-command-look-requires t c κs = ?
+choose-command-look-requires t c κs =
+    (room-in ((c .before .before .before .before .before .before .before) .pre .1 .0), choice-key ((c .before .before .before .before .before .before .before) .pre .1 .0) ((c .before .before .before .before .before .before .before) .pre .1 .1) ((c .before .before .before .before .before .before .before) .args .f) ((c .before .before .before .before .before .before .before) .args .g) ((c .before .before .before .before .before .before .before) .pre .1 .2) ((c .before .before .before .before .before .before .before) .pre .1 .3))
 
 choose-command-sub-t25 : (t : ℕ) → choose-command-lts.Need-sub-t25 (choose-command-claims t) (choose-command-at t) choose-command.Post
 choose-command-sub-t25 t c = omega arith
@@ -85,10 +105,14 @@ choose-command-same-length-4 : (t : ℕ) → choose-command-lts.Need-same-length
 choose-command-same-length-4 t c = search needs
 
 choose-command-returns-2 : (t : ℕ) → choose-command-lts.Need-returns-2 (choose-command-claims t) (choose-command-at t) choose-command.Post
-choose-command-returns-2 t c = ?
+choose-command-returns-2 t c =
+    choice-answered ((c .before .before .before .before .before .before .before .before .before) .pre .1 .0) ((c .before .before .before .before .before .before .before .before .before) .pre .1 .1) ((c .before .before .before .before .before .before .before .before .before) .args .f) ((c .before .before .before .before .before .before .before .before .before) .args .g) ((c .before .before .before .before .before .before .before .before .before) .pre .1 .2) ((c .before .before .before .before .before .before .before .before .before) .pre .1 .3) _ (c .before .look .ensures (c .if2 .taken))
 
 choose-command-choose-command-requires : (t : ℕ) → choose-command-lts.Need-choose-command-requires (choose-command-claims t) (choose-command-at t) choose-command.Post
-choose-command-choose-command-requires t c κs = ?
+choose-command-choose-command-requires t c κs =
+    let w = choice-goes ((c .before .before .before .before .before .before .before .before .before .before .before) .pre .1 .0) ((c .before .before .before .before .before .before .before .before .before .before .before) .pre .1 .1) ((c .before .before .before .before .before .before .before .before .before .before .before) .args .f) ((c .before .before .before .before .before .before .before .before .before .before .before) .args .g) ((c .before .before .before .before .before .before .before .before .before .before .before) .pre .1 .2) ((c .before .before .before .before .before .before .before .before .before .before .before) .pre .1 .3) (c .before .before .before .before .before .before .before .test-from .ensures) (c .before .before .before .before .before .before .choice-at .ensures) in
+    let o = w .1 (c .before .before .before .before .before .if1 .left) in
+    (omega (arith, o .high, (c .before .before .before .before .before .before .before .before .before .before .before) .pre .0), ((c .before .before .before .before .before .before .before .before .before .before .before) .pre .1 .0, (c .before .before .before .before .before .before .before .before .before .before .before) .pre .1 .1, o .fh, o .gh))
 
 choose-command-same-length-5 : (t : ℕ) → choose-command-lts.Need-same-length-5 (choose-command-claims t) (choose-command-at t) choose-command.Post
 choose-command-same-length-5 t c = search needs
@@ -97,26 +121,18 @@ choose-command-same-length-6 : (t : ℕ) → choose-command-lts.Need-same-length
 choose-command-same-length-6 t c = search needs
 
 choose-command-returns-3 : (t : ℕ) → choose-command-lts.Need-returns-3 (choose-command-claims t) (choose-command-at t) choose-command.Post
-choose-command-returns-3 t c = ?
+choose-command-returns-3 t c =
+    let w = choice-goes ((c .before .before .before .before .before .before .before .before .before .before .before .before .before .before .before .before .before) .pre .1 .0) ((c .before .before .before .before .before .before .before .before .before .before .before .before .before .before .before .before .before) .pre .1 .1) ((c .before .before .before .before .before .before .before .before .before .before .before .before .before .before .before .before .before) .args .f) ((c .before .before .before .before .before .before .before .before .before .before .before .before .before .before .before .before .before) .args .g) ((c .before .before .before .before .before .before .before .before .before .before .before .before .before .before .before .before .before) .pre .1 .2) ((c .before .before .before .before .before .before .before .before .before .before .before .before .before .before .before .before .before) .pre .1 .3) (c .before .before .before .before .before .before .before .before .before .before .before .before .before .test-from .ensures) (c .before .before .before .before .before .before .before .before .before .before .before .before .choice-at .ensures) in
+    let o = w .1 (c .before .before .before .before .before .before .before .before .before .before .before .if1 .left) in
+    let Q = c .before .before .before .before .before .choose-command .ensures in
+    high-stops _ _ _ _ _ _ _ _ _ _ _ o _ Q (c .if3 .taken)
 
-choose-command-choose-command-requires-2 :
-    (t : ℕ) → choose-command-lts.Need-choose-command-requires-2 (
-      test-from-reads.Asked,
-      test-from-reads.Learnt,
-      choice-at-reads.Asked,
-      choice-at-reads.Learnt,
-      join-test-reads.Asked,
-      join-test-reads.Learnt,
-      look-reads.Asked,
-      look-reads.Learnt,
-      choose-command-below t,
-      choose-command.Post,
-      join-reads.Asked,
-      join-reads.Learnt,
-      keep-reads.Asked,
-      keep-reads.Learnt,
-    ) (choose-command-at t) choose-command.Post
-choose-command-choose-command-requires-2 t c κs = ?
+choose-command-choose-command-requires-2 : (t : ℕ) → choose-command-lts.Need-choose-command-requires-2 (choose-command-claims t) (choose-command-at t) choose-command.Post
+choose-command-choose-command-requires-2 t c κs =
+    let w = choice-goes ((c .before .before .before .before .before .before .before .before .before .before .before .before .before .before .before .before .before .before .before) .pre .1 .0) ((c .before .before .before .before .before .before .before .before .before .before .before .before .before .before .before .before .before .before .before) .pre .1 .1) ((c .before .before .before .before .before .before .before .before .before .before .before .before .before .before .before .before .before .before .before) .args .f) ((c .before .before .before .before .before .before .before .before .before .before .before .before .before .before .before .before .before .before .before) .args .g) ((c .before .before .before .before .before .before .before .before .before .before .before .before .before .before .before .before .before .before .before) .pre .1 .2) ((c .before .before .before .before .before .before .before .before .before .before .before .before .before .before .before .before .before .before .before) .pre .1 .3) (c .before .before .before .before .before .before .before .before .before .before .before .before .before .before .before .test-from .ensures) (c .before .before .before .before .before .before .before .before .before .before .before .before .before .before .choice-at .ensures) in
+    let o = w .1 (c .before .before .before .before .before .before .before .before .before .before .before .before .before .if1 .left) in
+    let Q = c .before .before .before .before .before .before .before .choose-command .ensures in
+    (omega (arith, o .low, (c .before .before .before .before .before .before .before .before .before .before .before .before .before .before .before .before .before .before .before) .pre .0), (Q .table, (c .before .before .before .before .before .before .before .before .before .before .before .before .before .before .before .before .before .before .before) .pre .1 .1, lt-of-lt-of-le (o .fl) (Q .more), lt-of-lt-of-le (o .gl) (Q .more)))
 
 choose-command-same-length-7 : (t : ℕ) → choose-command-lts.Need-same-length-7 (choose-command-claims t) (choose-command-at t) choose-command.Post
 choose-command-same-length-7 t c = search needs
@@ -125,10 +141,20 @@ choose-command-same-length-8 : (t : ℕ) → choose-command-lts.Need-same-length
 choose-command-same-length-8 t c = search needs
 
 choose-command-returns-4 : (t : ℕ) → choose-command-lts.Need-returns-4 (choose-command-claims t) (choose-command-at t) choose-command.Post
-choose-command-returns-4 t c = ?
+choose-command-returns-4 t c =
+    let w = choice-goes ((c .before .before .before .before .before .before .before .before .before .before .before .before .before .before .before .before .before .before .before .before .before .before .before .before .before) .pre .1 .0) ((c .before .before .before .before .before .before .before .before .before .before .before .before .before .before .before .before .before .before .before .before .before .before .before .before .before) .pre .1 .1) ((c .before .before .before .before .before .before .before .before .before .before .before .before .before .before .before .before .before .before .before .before .before .before .before .before .before) .args .f) ((c .before .before .before .before .before .before .before .before .before .before .before .before .before .before .before .before .before .before .before .before .before .before .before .before .before) .args .g) ((c .before .before .before .before .before .before .before .before .before .before .before .before .before .before .before .before .before .before .before .before .before .before .before .before .before) .pre .1 .2) ((c .before .before .before .before .before .before .before .before .before .before .before .before .before .before .before .before .before .before .before .before .before .before .before .before .before) .pre .1 .3) (c .before .before .before .before .before .before .before .before .before .before .before .before .before .before .before .before .before .before .before .before .before .test-from .ensures) (c .before .before .before .before .before .before .before .before .before .before .before .before .before .before .before .before .before .before .before .before .choice-at .ensures) in
+    let o = w .1 (c .before .before .before .before .before .before .before .before .before .before .before .before .before .before .before .before .before .before .before .if1 .left) in
+    let Q = c .before .before .before .before .before .before .before .before .before .before .before .before .before .choose-command .ensures in
+    let S = c .before .before .before .before .before .choose-command2 .ensures in
+    low-stops _ _ _ _ _ _ _ _ _ _ _ o _ Q (c .before .before .before .before .before .before .before .before .if3 .left) _ _ _ S (c .if4 .taken)
 
 choose-command-join-requires : (t : ℕ) → choose-command-lts.Need-join-requires (choose-command-claims t) (choose-command-at t) choose-command.Post
-choose-command-join-requires t c κs = ?
+choose-command-join-requires t c κs =
+    let w = choice-goes ((c .before .before .before .before .before .before .before .before .before .before .before .before .before .before .before .before .before .before .before .before .before .before .before .before .before .before .before) .pre .1 .0) ((c .before .before .before .before .before .before .before .before .before .before .before .before .before .before .before .before .before .before .before .before .before .before .before .before .before .before .before) .pre .1 .1) ((c .before .before .before .before .before .before .before .before .before .before .before .before .before .before .before .before .before .before .before .before .before .before .before .before .before .before .before) .args .f) ((c .before .before .before .before .before .before .before .before .before .before .before .before .before .before .before .before .before .before .before .before .before .before .before .before .before .before .before) .args .g) ((c .before .before .before .before .before .before .before .before .before .before .before .before .before .before .before .before .before .before .before .before .before .before .before .before .before .before .before) .pre .1 .2) ((c .before .before .before .before .before .before .before .before .before .before .before .before .before .before .before .before .before .before .before .before .before .before .before .before .before .before .before) .pre .1 .3) (c .before .before .before .before .before .before .before .before .before .before .before .before .before .before .before .before .before .before .before .before .before .before .before .test-from .ensures) (c .before .before .before .before .before .before .before .before .before .before .before .before .before .before .before .before .before .before .before .before .before .before .choice-at .ensures) in
+    let o = w .1 (c .before .before .before .before .before .before .before .before .before .before .before .before .before .before .before .before .before .before .before .before .before .if1 .left) in
+    let Q = c .before .before .before .before .before .before .before .before .before .before .before .before .before .before .before .choose-command .ensures in
+    let S = c .before .before .before .before .before .before .before .choose-command2 .ensures in
+    (S .table .bare, root-on _ _ _ _ _ _ _ _ _ _ _ o _ Q (c .before .before .before .before .before .before .before .before .before .before .if3 .left) _ _ _ S, high-in _ _ _ _ _ _ _ _ _ _ _ o _ Q (c .before .before .before .before .before .before .before .before .before .before .if3 .left) _ _ _ S, S .within (c .before .before .if4 .left))
 
 choose-command-same-length-9 : (t : ℕ) → choose-command-lts.Need-same-length-9 (choose-command-claims t) (choose-command-at t) choose-command.Post
 choose-command-same-length-9 t c = search needs
@@ -137,19 +163,38 @@ choose-command-same-length-10 : (t : ℕ) → choose-command-lts.Need-same-lengt
 choose-command-same-length-10 t c = search needs
 
 choose-command-returns-5 : (t : ℕ) → choose-command-lts.Need-returns-5 (choose-command-claims t) (choose-command-at t) choose-command.Post
-choose-command-returns-5 t c = ?
+choose-command-returns-5 t c =
+    let w = choice-goes ((c .before .before .before .before .before .before .before .before .before .before .before .before .before .before .before .before .before .before .before .before .before .before .before .before .before .before .before .before .before .before .before .before .before) .pre .1 .0) ((c .before .before .before .before .before .before .before .before .before .before .before .before .before .before .before .before .before .before .before .before .before .before .before .before .before .before .before .before .before .before .before .before .before) .pre .1 .1) ((c .before .before .before .before .before .before .before .before .before .before .before .before .before .before .before .before .before .before .before .before .before .before .before .before .before .before .before .before .before .before .before .before .before) .args .f) ((c .before .before .before .before .before .before .before .before .before .before .before .before .before .before .before .before .before .before .before .before .before .before .before .before .before .before .before .before .before .before .before .before .before) .args .g) ((c .before .before .before .before .before .before .before .before .before .before .before .before .before .before .before .before .before .before .before .before .before .before .before .before .before .before .before .before .before .before .before .before .before) .pre .1 .2) ((c .before .before .before .before .before .before .before .before .before .before .before .before .before .before .before .before .before .before .before .before .before .before .before .before .before .before .before .before .before .before .before .before .before) .pre .1 .3) (c .before .before .before .before .before .before .before .before .before .before .before .before .before .before .before .before .before .before .before .before .before .before .before .before .before .before .before .before .before .test-from .ensures) (c .before .before .before .before .before .before .before .before .before .before .before .before .before .before .before .before .before .before .before .before .before .before .before .before .before .before .before .before .choice-at .ensures) in
+    let o = w .1 (c .before .before .before .before .before .before .before .before .before .before .before .before .before .before .before .before .before .before .before .before .before .before .before .before .before .before .before .if1 .left) in
+    let Q = c .before .before .before .before .before .before .before .before .before .before .before .before .before .before .before .before .before .before .before .before .before .choose-command .ensures in
+    let S = c .before .before .before .before .before .before .before .before .before .before .before .before .before .choose-command2 .ensures in
+    joined _ _ _ _ _ _ _ _ _ _ _ o _ Q (c .before .before .before .before .before .before .before .before .before .before .before .before .before .before .before .before .if3 .left) _ _ _ S (c .before .before .before .before .before .before .before .before .if4 .left) _ _ _ (lifted (S .table) (c .before .before .before .before .before .join .ensures))
 
 choose-command-keep-requires : (t : ℕ) → choose-command-lts.Need-keep-requires (choose-command-claims t) (choose-command-at t) choose-command.Post
-choose-command-keep-requires t c κs = ?
+choose-command-keep-requires t c κs =
+    let w = choice-goes ((c .before .before .before .before .before .before .before .before .before .before .before .before .before .before .before .before .before .before .before .before .before .before .before .before .before .before .before .before .before .before .before .before .before .before) .pre .1 .0) ((c .before .before .before .before .before .before .before .before .before .before .before .before .before .before .before .before .before .before .before .before .before .before .before .before .before .before .before .before .before .before .before .before .before .before) .pre .1 .1) ((c .before .before .before .before .before .before .before .before .before .before .before .before .before .before .before .before .before .before .before .before .before .before .before .before .before .before .before .before .before .before .before .before .before .before) .args .f) ((c .before .before .before .before .before .before .before .before .before .before .before .before .before .before .before .before .before .before .before .before .before .before .before .before .before .before .before .before .before .before .before .before .before .before) .args .g) ((c .before .before .before .before .before .before .before .before .before .before .before .before .before .before .before .before .before .before .before .before .before .before .before .before .before .before .before .before .before .before .before .before .before .before) .pre .1 .2) ((c .before .before .before .before .before .before .before .before .before .before .before .before .before .before .before .before .before .before .before .before .before .before .before .before .before .before .before .before .before .before .before .before .before .before) .pre .1 .3) (c .before .before .before .before .before .before .before .before .before .before .before .before .before .before .before .before .before .before .before .before .before .before .before .before .before .before .before .before .before .before .test-from .ensures) (c .before .before .before .before .before .before .before .before .before .before .before .before .before .before .before .before .before .before .before .before .before .before .before .before .before .before .before .before .before .choice-at .ensures) in
+    let o = w .1 (c .before .before .before .before .before .before .before .before .before .before .before .before .before .before .before .before .before .before .before .before .before .before .before .before .before .before .before .before .if1 .left) in
+    let Q = c .before .before .before .before .before .before .before .before .before .before .before .before .before .before .before .before .before .before .before .before .before .before .choose-command .ensures in
+    let S = c .before .before .before .before .before .before .before .before .before .before .before .before .before .before .choose-command2 .ensures in
+    let J = joined _ _ _ _ _ _ _ _ _ _ _ o _ Q (c .before .before .before .before .before .before .before .before .before .before .before .before .before .before .before .before .before .if3 .left) _ _ _ S (c .before .before .before .before .before .before .before .before .before .if4 .left) _ _ _ (lifted (S .table) (c .before .before .before .before .before .before .join .ensures)) in
+    keepable J (c .before .if5 .left) (choice-key ((c .before .before .before .before .before .before .before .before .before .before .before .before .before .before .before .before .before .before .before .before .before .before .before .before .before .before .before .before .before .before .before .before .before .before) .pre .1 .0) ((c .before .before .before .before .before .before .before .before .before .before .before .before .before .before .before .before .before .before .before .before .before .before .before .before .before .before .before .before .before .before .before .before .before .before) .pre .1 .1) ((c .before .before .before .before .before .before .before .before .before .before .before .before .before .before .before .before .before .before .before .before .before .before .before .before .before .before .before .before .before .before .before .before .before .before) .args .f) ((c .before .before .before .before .before .before .before .before .before .before .before .before .before .before .before .before .before .before .before .before .before .before .before .before .before .before .before .before .before .before .before .before .before .before) .args .g) ((c .before .before .before .before .before .before .before .before .before .before .before .before .before .before .before .before .before .before .before .before .before .before .before .before .before .before .before .before .before .before .before .before .before .before) .pre .1 .2) ((c .before .before .before .before .before .before .before .before .before .before .before .before .before .before .before .before .before .before .before .before .before .before .before .before .before .before .before .before .before .before .before .before .before .before) .pre .1 .3))
 
 choose-command-same-length-11 : (t : ℕ) → choose-command-lts.Need-same-length-11 (choose-command-claims t) (choose-command-at t) choose-command.Post
-choose-command-same-length-11 t c = search needs
+choose-command-same-length-11 t c =
+    search (needs, c .before .before .before .before .before .before .before .before .before .before .before .before .before .before .before .before .before .before .before .before .before .before .before .before .before .choose-command .kept, c .before .before .before .before .before .before .before .before .before .before .before .before .before .before .before .before .before .choose-command2 .kept, c .before .before .before .before .before .before .before .before .before .join .kept, c .before .before .keep .kept)
 
 choose-command-same-length-12 : (t : ℕ) → choose-command-lts.Need-same-length-12 (choose-command-claims t) (choose-command-at t) choose-command.Post
-choose-command-same-length-12 t c = search needs
+choose-command-same-length-12 t c =
+    search (needs, c .before .before .before .before .before .before .before .before .before .before .before .before .before .before .before .before .before .before .before .before .before .before .before .before .before .choose-command .kept, c .before .before .before .before .before .before .before .before .before .before .before .before .before .before .before .before .before .choose-command2 .kept, c .before .before .before .before .before .before .before .before .before .join .kept, c .before .before .keep .kept)
 
 choose-command-returns-6 : (t : ℕ) → choose-command-lts.Need-returns-6 (choose-command-claims t) (choose-command-at t) choose-command.Post
-choose-command-returns-6 t c = ?
+choose-command-returns-6 t c =
+    let w = choice-goes ((c .before .before .before .before .before .before .before .before .before .before .before .before .before .before .before .before .before .before .before .before .before .before .before .before .before .before .before .before .before .before .before .before .before .before .before .before .before) .pre .1 .0) ((c .before .before .before .before .before .before .before .before .before .before .before .before .before .before .before .before .before .before .before .before .before .before .before .before .before .before .before .before .before .before .before .before .before .before .before .before .before) .pre .1 .1) ((c .before .before .before .before .before .before .before .before .before .before .before .before .before .before .before .before .before .before .before .before .before .before .before .before .before .before .before .before .before .before .before .before .before .before .before .before .before) .args .f) ((c .before .before .before .before .before .before .before .before .before .before .before .before .before .before .before .before .before .before .before .before .before .before .before .before .before .before .before .before .before .before .before .before .before .before .before .before .before) .args .g) ((c .before .before .before .before .before .before .before .before .before .before .before .before .before .before .before .before .before .before .before .before .before .before .before .before .before .before .before .before .before .before .before .before .before .before .before .before .before) .pre .1 .2) ((c .before .before .before .before .before .before .before .before .before .before .before .before .before .before .before .before .before .before .before .before .before .before .before .before .before .before .before .before .before .before .before .before .before .before .before .before .before) .pre .1 .3) (c .before .before .before .before .before .before .before .before .before .before .before .before .before .before .before .before .before .before .before .before .before .before .before .before .before .before .before .before .before .before .before .before .before .test-from .ensures) (c .before .before .before .before .before .before .before .before .before .before .before .before .before .before .before .before .before .before .before .before .before .before .before .before .before .before .before .before .before .before .before .before .choice-at .ensures) in
+    let o = w .1 (c .before .before .before .before .before .before .before .before .before .before .before .before .before .before .before .before .before .before .before .before .before .before .before .before .before .before .before .before .before .before .before .if1 .left) in
+    let Q = c .before .before .before .before .before .before .before .before .before .before .before .before .before .before .before .before .before .before .before .before .before .before .before .before .before .choose-command .ensures in
+    let S = c .before .before .before .before .before .before .before .before .before .before .before .before .before .before .before .before .before .choose-command2 .ensures in
+    let J = joined _ _ _ _ _ _ _ _ _ _ _ o _ Q (c .before .before .before .before .before .before .before .before .before .before .before .before .before .before .before .before .before .before .before .before .if3 .left) _ _ _ S (c .before .before .before .before .before .before .before .before .before .before .before .before .if4 .left) _ _ _ (lifted (S .table) (c .before .before .before .before .before .before .before .before .before .join .ensures)) in
+    choice-stored ((c .before .before .before .before .before .before .before .before .before .before .before .before .before .before .before .before .before .before .before .before .before .before .before .before .before .before .before .before .before .before .before .before .before .before .before .before .before) .pre .1 .0) ((c .before .before .before .before .before .before .before .before .before .before .before .before .before .before .before .before .before .before .before .before .before .before .before .before .before .before .before .before .before .before .before .before .before .before .before .before .before) .pre .1 .1) ((c .before .before .before .before .before .before .before .before .before .before .before .before .before .before .before .before .before .before .before .before .before .before .before .before .before .before .before .before .before .before .before .before .before .before .before .before .before) .args .f) ((c .before .before .before .before .before .before .before .before .before .before .before .before .before .before .before .before .before .before .before .before .before .before .before .before .before .before .before .before .before .before .before .before .before .before .before .before .before) .args .g) ((c .before .before .before .before .before .before .before .before .before .before .before .before .before .before .before .before .before .before .before .before .before .before .before .before .before .before .before .before .before .before .before .before .before .before .before .before .before) .pre .1 .2) ((c .before .before .before .before .before .before .before .before .before .before .before .before .before .before .before .before .before .before .before .before .before .before .before .before .before .before .before .before .before .before .before .before .before .before .before .before .before) .pre .1 .3) J (c .before .before .before .before .if5 .left) (c .before .before .keep .ensures)
 
 pub +choose-command-spec : {M : Type 1} → statement M
 +choose-command-spec = close μ-choose-command λ t. choose-command-lts.spec (choose-command-claims t)
