@@ -57,10 +57,6 @@ module _ {A : Type 0} (z : A) (f : ℕ) (l : List A) where
 pub all-wiped : {A : Type 0} (z : A) (l : List A) {l′ : List A} → l′ ≡ take 0 l ++ replicate (length l - 0) z → l′ ≡ replicate (length l) z
 all-wiped z l e = e ∙ ap (λ (k : ℕ). replicate k z) (let q : length l - 0 ≡ length l = omega arith in q)
 
--- so that it is blank
-pub wiped-blank : (w : List ℕ) {w′ : List ℕ} → w′ ≡ take 0 w ++ replicate (length w - 0) 0 → w′ ≡ replicate (length w′) 0
-wiped-blank w e = let f = all-wiped 0 w e in f ∙ ap (λ (k : ℕ). replicate k 0) (sym (ap length f ∙ length-replicate (length w) 0))
-
 -- ---- the roots' numbers
 
 map-last : {A B : Type 0} (g : A → B) (l : List A) (x : A) → map g (l ++ (x ∷ [])) ≡ map g l ++ (g x ∷ [])

@@ -21,7 +21,7 @@ pub fn number_stages(
     requires { ⌜ Held cap (now nodes) count × (cap * 2 ≤ length (now work)) × Roots (now roots) count ⌝ }
     ensures { λ r. ⌜ Listed cap (now (nodes .entry)) count (now (work .exit)) r (now (roots .entry)) ⌝ }
 {
-    zeros::words_from(work, 0);
+    clear::work(work, cap, cap + count);
     numbering::number_all(nodes, work, roots, cap, count)
 }
 

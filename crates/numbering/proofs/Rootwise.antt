@@ -5,7 +5,7 @@ use Prim.Native.Nat.{ℕ, suc, _+_, _*_, _≤_, _<_}
 use native.Mathlib.Numerals.{add-one}
 use native.Mathlib.Omega.{arith}
 use lib.IntN.{ℤ}
-use lib.ListN.{length, getD, drop, getD-replicate, drop-of-length-le}
+use lib.ListN.{length, getD, drop, drop-of-length-le}
 use lib.Seq.{drop-cons}
 use Rattle.theory.specs.Diagram.{Tree}
 use Rattle.theory.specs.Computation.{enter, enter-all}
@@ -20,10 +20,7 @@ pub record Going (cap : ℕ) (l : List ℤ) (n : ℕ) (w₀ w : List ℕ) (R : L
   pub state : Numbered cap l n w c
   pub ahead : enter-all (treesOf l n (drop j R)) (listOf (trees l n) w c) ≡ enter-all (treesOf l n R) []
 
-zero-at : (w : List ℕ) → Blank w → (k : ℕ) → k < length w → getD w k 0 ≡ 0
-zero-at w b k h = ap (λ (t : List ℕ). getD t k 0) b ∙ getD-replicate (length w) k 0 0 h
-
-pub begins : (cap : ℕ) (l : List ℤ) (n : ℕ) (w : List ℕ) (R : List ℕ) → n ≤ cap → cap * 2 ≤ length w → Blank w → Going cap l n w w R 0 0
+pub begins : (cap : ℕ) (l : List ℤ) (n : ℕ) (w : List ℕ) (R : List ℕ) → n ≤ cap → cap * 2 ≤ length w → Blank cap n w → Going cap l n w w R 0 0
 unfolding listOf number-of
 begins cap l n w R room big b = record {
   len = refl;
@@ -32,7 +29,7 @@ begins cap l n w R room big b = record {
     distinct = no-table .distinct;
     within = λ k q. absurd (omega arith);
     inverse = λ k q. absurd (omega arith);
-    numbers = λ i q. zero-at w b (cap + i) (omega arith);
+    numbers = b;
   };
   ahead = refl;
 }

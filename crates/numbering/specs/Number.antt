@@ -3,7 +3,7 @@ use mathlib.Core.Path.{_≡_}
 use mathlib.Core.List.{List, [], _∷_, _++_, map}
 use Prim.Native.Nat.{ℕ, zero, suc, _+_, _*_, _≤_, _<_}
 use lib.IntN.{ℤ}
-use lib.ListN.{length, getD, set, replicate}
+use lib.ListN.{length, getD, set}
 use Rattle.theory.specs.Widths.{nodes-most, node-words}
 use Rattle.theory.specs.Diagram.{Tree}
 use Rattle.theory.specs.Computation.{enter, enter-all}
@@ -26,9 +26,9 @@ pub record Roots (R : List ℕ) (n : ℕ) : Type 0 where
 abbrev pub treesOf : List ℤ → ℕ → List ℕ → List Tree
 treesOf l n R = map (λ r. treeAt l n r) R
 
--- nothing but zeros
-abbrev pub Blank : List ℕ → Type 0
-Blank w = w ≡ replicate (length w) 0
+-- none of n nodes has a number
+abbrev pub Blank : ℕ → ℕ → List ℕ → Type 0
+Blank cap n w = (i : ℕ) → i < n → getD w (cap + i) 0 ≡ 0
 
 -- ---- at 0 to cap the index of each number's node, at cap to 2 cap each node's number, 0 for none
 

@@ -46,7 +46,7 @@ pub fn number(
 
 // All nodes of the roots; the answer is their count.
 pub fn number_all(nodes: &[i64], work: &mut [u32], roots: &[u32], cap: usize, count: usize) -> usize
-    requires { ⌜ Held cap (now nodes) count × (cap * 2 ≤ length (now work)) × Blank (now work) × Roots (now roots) count ⌝ }
+    requires { ⌜ Held cap (now nodes) count × (cap * 2 ≤ length (now work)) × Blank cap count (now work) × Roots (now roots) count ⌝ }
     ensures { λ r. ⌜ Listed cap (now (nodes .entry)) count (now (work .exit)) r (now (roots .entry)) ⌝ }
 {
     let mut j: usize = 0;

@@ -18,6 +18,7 @@ use Rattle.theory.specs.Diagram.{Tree}
 use Rattle.theory.specs.Computation.{Comp, ret, named, made, Out, done, stopped, member, run}
 use Rattle.diagrams.specs.Nodes.{none, treeOf, trees, Valid, Good}
 use Rattle.diagrams.specs.Table.{Table, Ran, outOf}
+use Rattle.diagrams.specs.Table.{Rule as Entries}
 use Rattle.diagrams.specs.Meaning.{ruleOf}
 use Rattle.diagrams.proofs.Trees.{trees-same, tree-at}
 use Rattle.diagrams.proofs.Outcomes.{fresh}
@@ -49,7 +50,8 @@ more-room N M h (made t m) X = go (member t X) (ltb (length X) N) (ltb (length X
     go false true false f r s = clash (sym (f refl))
     go false false c f r s = inl refl
 
-unfoldable stop-of : Out Tree → ℕ
+-- the number that stops a run
+unfoldable pub stop-of : {A : Type 0} → Out A → ℕ
 stop-of (done t X) = 0
 stop-of (stopped k) = k
 
@@ -57,13 +59,13 @@ stop-is : (r : Made) (X : List Tree) → stop-of (outOf r X) ≡ r .stop
 unfolding stop-of outOf
 stop-is r X = by-eq (eqb (r .stop) 0) (λ b. stop-of (if b (done (getD X (r .at) none) X) (stopped (r .stop))) ≡ r .stop) (λ e. sym (eqb-true (r .stop) 0 e)) (λ e. refl)
 
-stop-twelve : stop-of (stopped 12) ≡ 12
+stop-twelve : stop-of {A = Tree} (stopped 12) ≡ 12
 unfolding stop-of
 stop-twelve = refl
 
 -- ---- the chains made anew
 
-pub rehashed-table : {part n : ℕ} {l : List ℤ} {w w′ : List ℕ} → Space part l w n → Good l n → Rehashed part l w w′ n → Table ruleOf part l w′ n
+pub rehashed-table : {M : Entries} {part n : ℕ} {l : List ℤ} {w w′ : List ℕ} → Space part l w n → Good l n → Rehashed part l w w′ n → Table M part l w′ n
 rehashed-table {n = n} {l = l} S G H = fresh (record {
   good = G;
   chained = record {

@@ -28,13 +28,14 @@ pub struct Run {
     pub peak: usize,
 }
 
-fn larger(a: usize, b: usize) -> usize
+// The larger and the least of two numbers.
+pub fn larger(a: usize, b: usize) -> usize
     ensures { λ r. ⌜ r ≡ max a b ⌝ }
 {
     if a < b { b } else { a }
 }
 
-fn least(a: usize, b: usize) -> usize
+pub fn least(a: usize, b: usize) -> usize
     ensures { λ r. ⌜ r ≡ min a b ⌝ }
 {
     if a < b { a } else { b }
@@ -178,10 +179,11 @@ fn first_part(cap: usize, count: usize) -> usize
     requires { ⌜ (0 < cap) × (cap ≤ 65535) × (count ≤ cap) ⌝ }
     ensures { λ r. ⌜ (0 < r) × (count ≤ r) × (r ≤ cap) ⌝ }
 {
-    least(cap, larger(2048, count * 16))
+    least(cap, larger(512, count * 16))
 }
 
-fn wider_part(cap: usize, part: usize) -> usize
+// The part after one that was too small.
+pub fn wider_part(cap: usize, part: usize) -> usize
     requires { ⌜ (0 < part) × (cap ≤ 65535) × (part < cap) ⌝ }
     ensures { λ r. ⌜ (part < r) × (r ≤ cap) ⌝ }
 {

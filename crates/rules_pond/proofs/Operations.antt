@@ -23,6 +23,7 @@ use Rattle.operate.specs.declared.Rule.the-variants.{Zero, Levels, Reward, Best
 use Rattle.operate.specs.declared.Run.{Run}
 use Rattle.rules_pond.specs.declared.Stand.{Stand}
 use Rattle.value_iteration.proofs.Start.{size-few, loaded-standing}
+use Rattle.value_iteration.proofs.Parts.{brought}
 
 -- ---- the places of a rule are held
 
@@ -57,7 +58,7 @@ judged B v e z = ap (λ (x : Verdict). x .number) (sym e) ∙ z
 
 -- the model's roots are held
 pub loaded : {B : List ℕ} {cap : ℕ} {l : List ℤ} {w R : List ℕ} {r : Done} {held : ℕ} → verdict B .number ≡ 0 → Loads B cap l w R r → length R ≡ 96 → held ≡ modelSize B → r .stop ≡ 0 → Standing cap l w (r .count) R held
-loaded {B} {cap} {l} {w} {R} {r} v L n e ok = subst (Standing cap l w (r .count) R) (sym e) (loaded-standing L ok (let f = size-few B v in omega arith))
+loaded {B} {cap} {l} {w} {R} {r} v L n e ok = subst (Standing cap l w (r .count) R) (sym e) (loaded-standing (brought L) ok (let f = size-few B v in omega arith))
 
 -- the result is the last root that is held
 pub stepped : {cap p : ℕ} {l : List ℤ} {n : ℕ} {R : List ℕ} {held to : ℕ} {rule : Rule} {l′ : List ℤ} {w′ R′ : List ℕ} {r : Run} → Operated cap p l n R held to rule l′ w′ R′ r → length R′ ≡ length R → to < length R → r .stop ≡ 0 → Standing cap l′ w′ (r .count) R′ (to + 1)

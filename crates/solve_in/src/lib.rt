@@ -23,7 +23,6 @@ fn fill(
     requires { ⌜ (verdict (now model) .number ≡ 0) × (length (now model) ≤ bytes-most) × (horizon ≤ steps-most) × (1 ≤ horizon) × Room cap (now nodes) (now work) × (length (now stages) ≡ steps-most) × (length (now roots) ≡ 96) ⌝ }
     ensures { λ r. ⌜ Solves (now (model .entry)) horizon cap (now (nodes .entry)) (now (nodes .exit)) (now (stages .exit)) (now (work .entry)) (now (work .exit)) r ⌝ }
 {
-    finish::zeros::words_from(work, 0);
     let first = model_size(model);
     let r = run_stages(model, horizon, nodes, work, cap, roots, first);
     if r.stop == 0 {

@@ -1,3 +1,4 @@
 -- Laws that the proofs cite.
 pub mod Start
+pub mod Parts
 pub mod Runs

@@ -16,7 +16,6 @@ use Rattle.theory.specs.Stage.{model-diagrams, stages-on, all-stages}
 use Rattle.theory.specs.Solve.{solve-in}
 use Rattle.diagrams.specs.Nodes.{trees}
 use Rattle.diagrams.proofs.Trees.{trees-length}
-use Rattle.loading.specs.Rooting.{Loads}
 use Rattle.loading.specs.declared.Done.{Done}
 use Rattle.solving.specs.Alike.{Alike, alike-eq}
 use Rattle.solving.specs.Onward.{answered-no}
@@ -30,11 +29,11 @@ use Rattle.staging.specs.declared.Planned.{Planned}
 use Rattle.operate.specs.Operation.{compOf, Fits, heldTrees, Standing, Operated}
 use Rattle.totals.specs.Planning.{modelSize, rootAt, Ready}
 use Rattle.staging.specs.Stages.{Staged}
-use Rattle.value_iteration.specs.Iteration.{stageTrees, Plans}
+use Rattle.value_iteration.specs.Iteration.{stageTrees, Brought, Plans}
 use Rattle.value_iteration.proofs.Start.{size-few, loaded-models, loaded-standing}
 
 -- loading is refused
-pub unloaded : (B : List ℕ) (H : ℕ) {cap : ℕ} {l : List ℤ} {w R : List ℕ} {r : Done} → Loads B cap l w R r → (r .stop ≡ 0 → ⊥) → Plans B H cap l w R (record { stop = r .stop; place = 0; count = 0; peak = 0 })
+pub unloaded : (B : List ℕ) (H : ℕ) {cap : ℕ} {l : List ℤ} {w R : List ℕ} {r : Done} → Brought B cap l w R r → (r .stop ≡ 0 → ⊥) → Plans B H cap l w R (record { stop = r .stop; place = 0; count = 0; peak = 0 })
 unloaded B H {cap} {l} {w} {R} {r} L off = record {
   outcome = solve-unloaded cap B H (r .stop) (L .stops off) ∙ sym (answered-no (r .stop) 0 (stageTrees B H l 0 R) 0 off);
   standing = λ z. absurd (off z);
@@ -42,7 +41,7 @@ unloaded B H {cap} {l} {w} {R} {r} L off = record {
 
 -- the model is loaded, its roots the first of 96
 module _ (B : List ℕ) (H first : ℕ) (v : verdict B .number ≡ 0) (at : first ≡ modelSize B) {cap : ℕ} {l : List ℤ} {w R : List ℕ} {r : Done}
-    (L : Loads B cap l w R r) (go : r .stop ≡ 0) (size : length R ≡ 96) where
+    (L : Brought B cap l w R r) (go : r .stop ≡ 0) (size : length R ≡ 96) where
   few : modelSize B ≤ length R
   few = let z = size-few B v in omega arith
 

@@ -20,16 +20,15 @@ use Rattle.unique.specs.Unique.{lastOf}
 use Rattle.diagrams.specs.Nodes.{trees, treeAt}
 use Rattle.diagrams.specs.Table.{Rule, Table}
 use Rattle.diagrams.proofs.Outcomes.{fresh}
-use Rattle.mark.specs.Mark.{rootsOf}
+use Rattle.mark.specs.Mark.{rootsOf, Space}
 use Rattle.mark.specs.Mark.{Below as Lower}
 use Rattle.finish.proofs.Fill.{all-wiped}
 use Rattle.stacking.specs.Stepping.{Below}
-use Rattle.loading.specs.Rooting.{Loads}
 use Rattle.loading.specs.declared.Done.{Done}
 use Rattle.solving.specs.Operated.{below-cons}
 use Rattle.operate.specs.Operation.{heldTrees, Standing}
 use Rattle.totals.specs.Planning.{modelSize}
-use Rattle.value_iteration.specs.Iteration.{Room}
+use Rattle.value_iteration.specs.Iteration.{Room, Brought}
 
 -- ---- no node yet
 
@@ -55,6 +54,10 @@ zeros-table R {cap} {l} {w} S {w′} e n =
 -- the work words filled with zeros
 pub wiped-table : (R : Rule) {cap : ℕ} {l : List ℤ} {w w′ : List ℕ} → Room cap l w → w′ ≡ take 0 w ++ replicate (length w - 0) 0 → length w′ ≡ length w → Table R cap l w′ 0
 wiped-table R {w = w} S e n = zeros-table R S (all-wiped 0 w e) n
+
+-- any words will do
+pub no-nodes : {cap : ℕ} {l : List ℤ} {w : List ℕ} → Room cap l w → Space cap l w 0
+no-nodes S = record { some = S .some; few = S .few; room = omega arith; words = S .words; works = S .works }
 
 -- ---- how many roots a model has
 
@@ -94,7 +97,7 @@ unfolding Below
 below-lower n [] b = none-lower n
 below-lower n (i ∷ K) b = below-cons (b .0) (below-lower n K (b .1))
 
-module _ {B : List ℕ} {cap : ℕ} {l : List ℤ} {w R : List ℕ} {r : Done} (L : Loads B cap l w R r) (go : r .stop ≡ 0) (few : modelSize B ≤ length R) where
+module _ {B : List ℕ} {cap : ℕ} {l : List ℤ} {w R : List ℕ} {r : Done} (L : Brought B cap l w R r) (go : r .stop ≡ 0) (few : modelSize B ≤ length R) where
   numbers : map (λ i. getD R i 0) (from-to 0 (modelSize B)) ≡ take (modelSize B) R
   numbers = part-of R 0 (modelSize B) (omega arith)
 
@@ -103,9 +106,9 @@ module _ {B : List ℕ} {cap : ℕ} {l : List ℤ} {w R : List ℕ} {r : Done} (
   loaded-models = ap (rootsOf (trees l (r .count))) (sym numbers) ∙ (sym (standing-roots l (r .count) (map (λ i. getD R i 0) (from-to 0 (modelSize B)))) ∙ L .roots go)
 
   pub loaded-standing : Standing cap l w (r .count) R (modelSize B)
-  loaded-standing = let C = L .table .bare .chained in record {
-    good = L .table .bare .good;
-    space = record { some = C .some; few = C .few; room = C .room; words = C .words; works = C .works };
+  loaded-standing = record {
+    good = L .good;
+    space = L .space;
     below = subst (λ (K : List ℕ). Lower K (r .count)) numbers (below-lower (r .count) (map (λ i. getD R i 0) (from-to 0 (modelSize B))) (L .below go));
     few = few;
   }

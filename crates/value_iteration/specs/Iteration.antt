@@ -1,14 +1,20 @@
 -- Room for a run, and what value iteration leaves.
 use mathlib.Core.Path.{_≡_}
-use mathlib.Core.List.{List}
+use mathlib.Core.List.{List, []}
 use Prim.Native.Nat.{ℕ, suc, _+_, _*_, _≤_, _<_}
 use lib.IntN.{ℤ}
 use lib.ListN.{length, take, drop}
 use Rattle.theory.specs.Widths.{nodes-most, node-words}
 use Rattle.theory.specs.Diagram.{Tree}
+use Rattle.theory.specs.Computation.{done, stopped, run}
+use Rattle.theory.specs.Load.{site-at, load, model}
+use Rattle.theory.specs.Stage.{model-diagrams}
 use Rattle.theory.specs.Solve.{solve-in}
-use Rattle.diagrams.specs.Nodes.{trees}
-use Rattle.mark.specs.Mark.{rootsOf}
+use Rattle.diagrams.specs.Nodes.{trees, Good}
+use Rattle.mark.specs.Mark.{rootsOf, Space}
+use Rattle.stacking.specs.Stepping.{standing, Below}
+use Rattle.loading.specs.Rooting.{rootsOf as numbersOf}
+use Rattle.loading.specs.declared.Done.{Done}
 use Rattle.solving.specs.Onward.{answered}
 use Rattle.operate.specs.Operation.{Standing}
 use Rattle.totals.specs.Planning.{modelSize}
@@ -20,6 +26,15 @@ pub record Room (cap : ℕ) (l : List ℤ) (w : List ℕ) : Type 0 where
   pub few : cap ≤ nodes-most
   pub words : cap * node-words ≤ length l
   pub works : cap * node-words ≤ length w
+
+-- what loading leaves, in whatever part of the room: nodes and the roots of the model's diagrams; or it stopped
+pub record Brought (B : List ℕ) (cap : ℕ) (l : List ℤ) (w R : List ℕ) (r : Done) : Type 0 where
+  pub good : Good l (r .count)
+  pub space : Space cap l w (r .count)
+  pub ran : r .stop ≡ 0 → run cap (load B) [] ≡ done (model B) (trees l (r .count))
+  pub below : r .stop ≡ 0 → Below (r .count) (numbersOf (site-at B) R)
+  pub roots : r .stop ≡ 0 → standing l (r .count) (numbersOf (site-at B) R) ≡ model-diagrams (model B)
+  pub stops : (r .stop ≡ 0 → ⊥) → run cap (load B) [] ≡ stopped (r .stop)
 
 -- the diagrams of stages 1 to H, by their roots
 abbrev pub stageTrees : List ℕ → ℕ → List ℤ → ℕ → List ℕ → List Tree

@@ -4,13 +4,16 @@ ghost use Prim.Native.Nat.{_*_, _≤_, _<_};
 ghost use lib.ListN.{length};
 ghost use Rattle.theory.specs.Widths.{bytes-most, steps-most};
 ghost use Rattle.theory.specs.Verdict.{verdict};
-ghost use Rattle.diagrams.specs.Table.{Table};
-ghost use Rattle.value_iteration.specs.Iteration.{Plans};
+ghost use Rattle.mark.specs.Mark.{Space};
+ghost use Rattle.value_iteration.specs.Iteration.{Brought, Plans};
 ghost use Rattle.totals.specs.Planning.{modelSize};
-ghost use Rattle.commands_choice.specs.Testing.{loadRule};
+use loading::Done;
 use operate::Rule;
 use operate::Run;
+use operate::larger;
+use operate::least;
 use operate::operate;
+use operate::wider_part;
 use staging::Planned;
 use staging::stages;
 
@@ -24,7 +27,52 @@ pub fn model_size(model: &[u8]) -> usize
     a * (1 + n + m)
 }
 
-// The model loaded and the stages run, in a table without nodes: the stages' roots stand from one behind the model's on.
+// The model loaded with room for a part: the table is made empty there.
+fn load_within(
+    model: &[u8],
+    nodes: &mut [i64],
+    work: &mut [u32],
+    part: usize,
+    roots: &mut [u32],
+) -> Done
+    requires { ⌜ (verdict (now model) .number ≡ 0) × (length (now model) ≤ bytes-most) × Space part (now nodes) (now work) 0 × (72 ≤ length (now roots)) ⌝ }
+    ensures { λ r. ⌜ Brought (now (model .entry)) part (now (nodes .exit)) (now (work .exit)) (now (roots .exit)) r ⌝ }
+{
+    rehash::rehash(nodes, work, part, 0);
+    loading::load(model, nodes, work, part, roots)
+}
+
+// The part of the room that loading begins with: a model seldom has more nodes than bytes.
+fn first_part(cap: usize, bytes: usize) -> usize
+    requires { ⌜ 0 < cap ⌝ }
+    ensures { λ r. ⌜ (0 < r) × (r ≤ cap) ⌝ }
+{
+    least(cap, larger(512, bytes))
+}
+
+// The model loaded in parts of the room, each wider, as operations run. What does not end with 12 in a part ends alike with more room.
+fn load_in_parts(
+    model: &[u8],
+    nodes: &mut [i64],
+    work: &mut [u32],
+    cap: usize,
+    roots: &mut [u32],
+) -> Done
+    requires { ⌜ (verdict (now model) .number ≡ 0) × (length (now model) ≤ bytes-most) × Space cap (now nodes) (now work) 0 × (72 ≤ length (now roots)) ⌝ }
+    ensures { λ r. ⌜ Brought (now (model .entry)) cap (now (nodes .exit)) (now (work .exit)) (now (roots .exit)) r ⌝ }
+{
+    let mut part = first_part(cap, model.len());
+    while part < cap {
+        let made = load_within(model, nodes, work, part, roots);
+        if made.stop != 12 {
+            return made;
+        }
+        part = wider_part(cap, part);
+    }
+    load_within(model, nodes, work, cap, roots)
+}
+
+// The model loaded and the stages run, in tables of any words: the stages' roots stand from one behind the model's on.
 pub fn run_stages(
     model: &[u8],
     horizon: usize,
@@ -34,10 +82,10 @@ pub fn run_stages(
     roots: &mut [u32],
     first: usize,
 ) -> Planned
-    requires { ⌜ (verdict (now model) .number ≡ 0) × (length (now model) ≤ bytes-most) × (horizon ≤ steps-most) × Table (loadRule (now model)) cap (now nodes) (now work) 0 × (length (now roots) ≡ 96) × (first ≡ modelSize (now model)) ⌝ }
+    requires { ⌜ (verdict (now model) .number ≡ 0) × (length (now model) ≤ bytes-most) × (horizon ≤ steps-most) × Space cap (now nodes) (now work) 0 × (length (now roots) ≡ 96) × (first ≡ modelSize (now model)) ⌝ }
     ensures { λ r. ⌜ Plans (now (model .entry)) horizon cap (now (nodes .exit)) (now (work .exit)) (now (roots .exit)) r ⌝ }
 {
-    let loaded = loading::load(model, nodes, work, cap, roots);
+    let loaded = load_in_parts(model, nodes, work, cap, roots);
     if loaded.stop != 0 {
         return Planned {
             stop: loaded.stop,
