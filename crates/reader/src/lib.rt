@@ -40,3 +40,10 @@ pub fn first(model: &[u8]) -> Read
 {
     next(new(model))
 }
+
+// The command behind the first one, for such a caller.
+pub fn second(model: &[u8]) -> Read
+    ensures { λ s. ⌜ read-of (now (model .entry)) (next-at (now (model .entry)) 0) s ≡ read-at (now (model .entry)) (next-at (now (model .entry)) 0) ⌝ }
+{
+    next(past(new(model)))
+}
