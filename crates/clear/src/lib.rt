@@ -1,7 +1,6 @@
-// Parts of slices filled with zeros.
+// Parts of the work words filled with zeros.
 ghost use mathlib.Core.Path.{_≡_};
 ghost use Prim.Native.Nat.{_≤_};
-ghost use lib.IntN.{pos};
 ghost use lib.ListN.{length};
 ghost use Rattle.clear.specs.Wipe.{wiped};
 
@@ -9,18 +8,6 @@ ghost use Rattle.clear.specs.Wipe.{wiped};
 pub fn work(words: &mut [u32], from: usize, to: usize)
     requires { ⌜ (from ≤ to) × (to ≤ length (now words)) ⌝ }
     ensures { λ _. ⌜ now (words .exit) ≡ wiped 0 from to (now (words .entry)) ⌝ }
-{
-    let mut i = from;
-    while i < to {
-        words[i] = 0;
-        i += 1;
-    }
-}
-
-// The same of node words.
-pub fn nodes(words: &mut [i64], from: usize, to: usize)
-    requires { ⌜ (from ≤ to) × (to ≤ length (now words)) ⌝ }
-    ensures { λ _. ⌜ now (words .exit) ≡ wiped (pos 0) from to (now (words .entry)) ⌝ }
 {
     let mut i = from;
     while i < to {

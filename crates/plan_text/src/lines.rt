@@ -139,10 +139,3 @@ pub fn refusal_line(out: &mut [u8], number: u32, place: usize) -> usize
     let xs = [number as u64, place as u64];
     put_line(out, 0, b"R", &xs)
 }
-
-pub fn refusal_line_len(number: u32, place: usize) -> usize
-    ensures { λ n. ⌜ (n ≡ length (refusal-line (refusal number place))) × (n ≤ 185) ⌝ }
-{
-    let xs = [number as u64, place as u64];
-    line_len(b"R", &xs)
-}

@@ -19,7 +19,8 @@ pub struct Node {
     pub low: i64,
 }
 
-// What a look-up or an append answers: stop is 0, or 12 where the table is full.
+// What a look-up, an append or a rule answers: stop is 0, 12 where the table is full, or 11 where a rule names a number
+// outside its limits.
 pub struct Made {
     pub stop: usize,
     pub at: usize,

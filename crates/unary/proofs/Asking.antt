@@ -1,6 +1,5 @@
 -- The rules by name, as they ask for the rule by number.
 use mathlib.Core.Path.{_≡_, sym, ap, ap₂, _∙_, subst}
-use mathlib.Core.Bool.{true, false}
 use mathlib.Core.List.{List}
 use Prim.Native.Nat.{ℕ, _≤_, _<_}
 use native.Mathlib.Omega.{arith}
@@ -10,13 +9,13 @@ use mir.Val.{SFits}
 use Rattle.whole.specs.Within.{Small}
 use Rattle.whole.proofs.Signed.{R, back}
 use Rattle.table.specs.declared.Made.{Made}
-use Rattle.theory.specs.Widths.{conditions-most, weights-most, actions-most}
-use Rattle.theory.specs.Rules.{scale, shift, complement, number, side}
+use Rattle.theory.specs.Widths.{weights-most, actions-most}
+use Rattle.theory.specs.Rules.{scale, shift, complement, number}
 use Rattle.diagrams.specs.Nodes.{treeAt}
 use Rattle.diagrams.specs.Table.{Ran}
 use Rattle.diagrams.specs.Meaning.{cOf, ruleOf}
 use Rattle.diagrams.proofs.Outcomes.{ran-as}
-use Rattle.diagrams.proofs.Meanings.{rule-scale, rule-shift, rule-complement, rule-number, rule-yes, rule-no}
+use Rattle.diagrams.proofs.Meanings.{rule-scale, rule-shift, rule-complement, rule-number}
 use Rattle.unary_node.specs.Acts.{Acts, lowOf, highOf}
 use Rattle.unary.specs.Picks.{Picks}
 use Rattle.unary_node.proofs.Halving.{halves, low-lt, high-lt}
@@ -36,12 +35,6 @@ complement-acts h =
 pub number-acts : {a : ℕ} → a ≤ actions-most → Acts 6 a 0
 number-acts h =
     record { from = omega arith; to = omega arith; low = omega arith; high = omega arith; shifts = λ e. absurd (omega arith); weighs = λ e. absurd (omega arith); numbers = λ _. h; some = λ e. absurd (omega arith); picks = λ e. absurd (omega arith) }
-
-pub yes-picks : {k : ℕ} → 0 < k → k ≤ conditions-most → Picks 7 k
-yes-picks a b = record { from = omega arith; to = omega arith; some = a; most = b }
-
-pub no-picks : {k : ℕ} → 0 < k → k ≤ conditions-most → Picks 8 k
-no-picks a b = record { from = omega arith; to = omega arith; some = a; most = b }
 
 -- the halves of c, as the code has them
 module _ (c : ℤ) (fc : SFits w64 c) {a b : ℕ} (ea : a ≡ lowOf (R c)) (eb : b ≡ highOf (R c)) where
@@ -83,9 +76,3 @@ module _ {cap : ℕ} {l l₁ : List ℤ} {w w₁ : List ℕ} {n : ℕ} (f p : �
 
   pub number-ran : Ran ruleOf cap l w n (ruleOf l n 6 f 0 p 0) l₁ w₁ r → Ran ruleOf cap l w n (number p (treeAt l n f)) l₁ w₁ r
   number-ran S = ran-as (rule-number l n f 0 p 0) S
-
-  pub yes-ran : Ran ruleOf cap l w n (ruleOf l n 7 f 0 p 0) l₁ w₁ r → Ran ruleOf cap l w n (side true p (treeAt l n f)) l₁ w₁ r
-  yes-ran S = ran-as (rule-yes l n f 0 p 0) S
-
-  pub no-ran : Ran ruleOf cap l w n (ruleOf l n 8 f 0 p 0) l₁ w₁ r → Ran ruleOf cap l w n (side false p (treeAt l n f)) l₁ w₁ r
-  no-ran S = ran-as (rule-no l n f 0 p 0) S

@@ -1,8 +1,7 @@
 // The rules of one diagram and a bare number.
 ghost use Prim.Native.Nat.{_≤_, _<_};
-ghost use mathlib.Core.Bool.{true, false};
 ghost use Rattle.whole.specs.Within.{Small};
-ghost use Rattle.theory.specs.Widths.{conditions-most, weights-most, actions-most};
+ghost use Rattle.theory.specs.Widths.{weights-most, actions-most};
 ghost use Rattle.theory.specs.Rules as T;
 ghost use Rattle.diagrams.specs.Nodes.{treeAt};
 ghost use Rattle.diagrams.specs.Table.{Table, Ran};
@@ -137,34 +136,4 @@ pub fn number(
     ensures { λ r. ⌜ Ran ruleOf cap (now (nodes .entry)) (now (work .entry)) count (T.number action (treeAt (now (nodes .entry)) count f)) (now (nodes .exit)) (now (work .exit)) r ⌝ }
 {
     over(nodes, work, cap, count, 6, f, action, 0)
-}
-
-// The yes side of the diagram f at the next step's condition k.
-pub fn yes_side(
-    nodes: &mut [i64],
-    work: &mut [u32],
-    cap: usize,
-    count: usize,
-    f: usize,
-    k: usize,
-) -> Made
-    requires { ⌜ Table ruleOf cap (now nodes) (now work) count × (f < count) × (0 < k) × (k ≤ conditions-most) ⌝ }
-    ensures { λ r. ⌜ Ran ruleOf cap (now (nodes .entry)) (now (work .entry)) count (T.side true k (treeAt (now (nodes .entry)) count f)) (now (nodes .exit)) (now (work .exit)) r ⌝ }
-{
-    side(nodes, work, cap, count, 7, f, k)
-}
-
-// The no side of the diagram f at the next step's condition k.
-pub fn no_side(
-    nodes: &mut [i64],
-    work: &mut [u32],
-    cap: usize,
-    count: usize,
-    f: usize,
-    k: usize,
-) -> Made
-    requires { ⌜ Table ruleOf cap (now nodes) (now work) count × (f < count) × (0 < k) × (k ≤ conditions-most) ⌝ }
-    ensures { λ r. ⌜ Ran ruleOf cap (now (nodes .entry)) (now (work .entry)) count (T.side false k (treeAt (now (nodes .entry)) count f)) (now (nodes .exit)) (now (work .exit)) r ⌝ }
-{
-    side(nodes, work, cap, count, 8, f, k)
 }

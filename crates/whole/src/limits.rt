@@ -1,7 +1,7 @@
 // Whole numbers judged: a result is given where it lies within ±(2⁶² − 1).
 ghost use mathlib.Core.Path.{_≡_};
 ghost use Prim.Native.Nat.{_^_};
-ghost use lib.IntN.{pos, natAbs, _+ℤ_, _-ℤ_, _*ℤ_};
+ghost use lib.IntN.{pos, natAbs, _+ℤ_, _*ℤ_};
 ghost use Rattle.whole.specs.Within.{limited, Small};
 use super::Within;
 
@@ -36,14 +36,6 @@ pub fn add_within(a: i64, b: i64) -> Within
     ensures { λ r. ⌜ r ≡ limited (a +ℤ b) ⌝ }
 {
     keep(a + b)
-}
-
-// a - b.
-pub fn sub_within(a: i64, b: i64) -> Within
-    requires { ⌜ Small a × Small b ⌝ }
-    ensures { λ r. ⌜ r ≡ limited (a -ℤ b) ⌝ }
-{
-    keep(a - b)
 }
 
 // a × b, of any two numbers. The magnitudes decide before anything is multiplied.
