@@ -10,7 +10,7 @@ use diagrams::tests::index;
 use table::Node;
 
 // A node with its branches' numbers.
-pub fn renumbered(work: &[u32], cap: usize, x: Node) -> Node
+fn renumbered(work: &[u32], cap: usize, x: Node) -> Node
     requires { ⌜ (cap * 2 ≤ length (now work)) × (cap ≤ nodes-most) × Valid x cap ⌝ }
     ensures { λ r. ⌜ r ≡ renumber (now (work .entry)) cap x ⌝ }
 {
@@ -49,7 +49,7 @@ pub fn rewrite(nodes: &mut [i64], work: &[u32], cap: usize, count: usize)
 }
 
 // Nodes k and p change places.
-pub fn swap_nodes(nodes: &mut [i64], k: usize, p: usize)
+fn swap_nodes(nodes: &mut [i64], k: usize, p: usize)
     requires { ⌜ (k * 8 + 8 ≤ length (now nodes)) × (p * 8 + 8 ≤ length (now nodes)) ⌝ }
     ensures { λ _. ⌜ now (nodes .exit) ≡ swapN (now (nodes .entry)) k p ⌝ }
 {
@@ -60,7 +60,7 @@ pub fn swap_nodes(nodes: &mut [i64], k: usize, p: usize)
 }
 
 // The work words after that: what stood at k stands at p. Nothing asks for k again.
-pub fn swap_work(work: &mut [u32], cap: usize, k: usize, p: usize)
+fn swap_work(work: &mut [u32], cap: usize, k: usize, p: usize)
     requires { ⌜ (cap * 2 ≤ length (now work)) × (cap ≤ nodes-most) × (k < cap) × (p < cap) × (getD (now work) (cap + k) 0 ≤ cap) ⌝ }
     ensures { λ _. ⌜ now (work .exit) ≡ swapW (now (work .entry)) cap k p ⌝ }
 {

@@ -6,7 +6,7 @@ ghost use lib.ListN.{length, getD};
 ghost use Rattle.computed_cache.specs.Cache.{slotOf, Key, Room, Entry, storeOf};
 
 // The place of the entry for a rule's five words. Neighbours of f are neighbours there: a walk over a diagram stays near.
-pub fn slot(cap: usize, op: usize, f: usize, g: usize, p: usize, q: usize) -> usize
+fn slot(cap: usize, op: usize, f: usize, g: usize, p: usize, q: usize) -> usize
     requires { ⌜ (0 < cap) × (cap ≤ 65535) × Key op f g p q ⌝ }
     ensures { λ r. ⌜ (r ≡ slotOf cap op f g p q) × (r + 6 ≤ cap * 8) ⌝ }
 {

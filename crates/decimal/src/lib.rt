@@ -70,7 +70,7 @@ pub fn number_len(x: u64) -> usize
 }
 
 // A space and a number, with its sign where it is negative.
-pub fn put_signed(out: &mut [u8], at: usize, z: i64) -> usize
+fn put_signed(out: &mut [u8], at: usize, z: i64) -> usize
     requires { ⌜ at + length (spaced z) ≤ length (now out) ⌝ }
     ensures { λ r. ⌜ PutAt (now (out .entry)) at (spaced z) r (now (out .exit)) ⌝ }
 {

@@ -12,7 +12,7 @@ use super::put_number;
 use super::put_signed;
 use super::signed_len;
 
-pub fn put_numbers(out: &mut [u8], at: usize, xs: &[u64]) -> usize
+fn put_numbers(out: &mut [u8], at: usize, xs: &[u64]) -> usize
     requires { ⌜ at + length (spaced-all (map pos (now xs))) ≤ length (now out) ⌝ }
     ensures { λ r. ⌜ PutAt (now (out .entry)) at (spaced-all (map pos (now (xs .entry)))) r (now (out .exit)) ⌝ }
 {
@@ -38,7 +38,7 @@ pub fn put_words(out: &mut [u8], at: usize, xs: &[i64]) -> usize
     next
 }
 
-pub fn numbers_len(xs: &[u64]) -> usize
+fn numbers_len(xs: &[u64]) -> usize
     requires { ⌜ length (now xs) ≤ 8 ⌝ }
     ensures { λ r. ⌜ (r ≡ length (spaced-all (map pos (now (xs .entry))))) × (r ≤ 176) ⌝ }
 {
@@ -51,7 +51,7 @@ pub fn numbers_len(xs: &[u64]) -> usize
     n
 }
 
-pub fn words_len(xs: &[i64]) -> usize
+fn words_len(xs: &[i64]) -> usize
     requires { ⌜ length (now xs) ≤ 8 ⌝ }
     ensures { λ r. ⌜ (r ≡ length (spaced-all (now (xs .entry)))) × (r ≤ 176) ⌝ }
 {

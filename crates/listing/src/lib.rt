@@ -9,7 +9,7 @@ ghost use Rattle.listing.specs.Answer.{outcome, refused-as};
 use model::early;
 use progress::Site;
 
-pub mod judging; // judging.rt: whether a plan can be listed
+mod judging; // judging.rt: whether a plan can be listed
 
 // A refusal's number and place, both 0 where there is none; then how many bytes were written.
 pub struct Listed {

@@ -7,7 +7,7 @@ ghost use Rattle.diagrams.specs.Nodes.{Valid, Good};
 ghost use Rattle.mark.specs.Mark.{Space, Below, markStep, markDown, Marked};
 
 // The branches of a marked node become marked.
-pub fn below(nodes: &[i64], work: &mut [u32], i: usize)
+fn below(nodes: &[i64], work: &mut [u32], i: usize)
     requires { ⌜ (i * 8 + 8 ≤ length (now nodes)) × (i < length (now work)) × (i ≤ 65535) × Valid (nodeAt (now nodes) i) i ⌝ }
     ensures { λ _. ⌜ now (work .exit) ≡ markStep (now (nodes .entry)) (now (work .entry)) i ⌝ }
 {
@@ -25,7 +25,7 @@ pub fn below(nodes: &[i64], work: &mut [u32], i: usize)
 }
 
 // So for all nodes. From the last down, for a node's branches lie below it.
-pub fn descend(nodes: &[i64], work: &mut [u32], count: usize)
+fn descend(nodes: &[i64], work: &mut [u32], count: usize)
     requires { ⌜ (count * 8 ≤ length (now nodes)) × (count ≤ length (now work)) × (count ≤ 65535) × Good (now nodes) count ⌝ }
     ensures { λ _. ⌜ now (work .exit) ≡ markDown (now (nodes .entry)) (now (work .entry)) count ⌝ }
 {

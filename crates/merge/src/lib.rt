@@ -14,7 +14,7 @@ use merge_leaves::combine;
 use table::Made;
 
 // What a rule makes of two results over the root at t: best chooses, the others have a node.
-pub fn over_root(
+fn over_root(
     nodes: &mut [i64],
     work: &mut [u32],
     cap: usize,

@@ -17,7 +17,7 @@ use leaves::numbers::product;
 use table::Made;
 
 // The sum.
-pub fn sum_leaves(
+fn sum_leaves(
     nodes: &mut [i64],
     work: &mut [u32],
     cap: usize,
@@ -33,7 +33,7 @@ pub fn sum_leaves(
 }
 
 // The first leaf's constant times the second leaf.
-pub fn product_leaves(
+fn product_leaves(
     nodes: &mut [i64],
     work: &mut [u32],
     cap: usize,
@@ -50,7 +50,7 @@ pub fn product_leaves(
 }
 
 // The better leaf, the first where they are equal; a test of the difference where neither always is.
-pub fn best_leaves(
+fn best_leaves(
     nodes: &mut [i64],
     work: &mut [u32],
     cap: usize,

@@ -1,6 +1,6 @@
 // Numbers nodes from 1: root by root, high before low, a node after its branches.
 // Work words: at 0 to cap the index of each number's node, at cap to 2 cap each node's number, 0 for none.
-pub mod branches; // branches.rt: single words of a node
+mod branches; // branches.rt: single words of a node
 
 ghost use mathlib.Core.Path.{_≡_};
 ghost use Prim.Native.Nat.{_+_, _*_, _≤_, _<_};
@@ -12,7 +12,7 @@ use branches::HIGH;
 use branches::LOW;
 
 // Node i gets the number after c.
-pub fn assign(work: &mut [u32], cap: usize, c: usize, i: usize) -> usize
+fn assign(work: &mut [u32], cap: usize, c: usize, i: usize) -> usize
     requires { ⌜ (cap * 2 ≤ length (now work)) × (cap ≤ nodes-most) × (c < cap) × (i < cap) ⌝ }
     ensures { λ r. ⌜ (r ≡ c + 1) × (now (work .exit) ≡ assigned (now (work .entry)) cap c i) ⌝ }
 {
@@ -22,14 +22,7 @@ pub fn assign(work: &mut [u32], cap: usize, c: usize, i: usize) -> usize
 }
 
 // The node at i and all below it, after the first c. Only indexes live over the calls: the depth is that of the diagram.
-pub fn number(
-    nodes: &[i64],
-    work: &mut [u32],
-    cap: usize,
-    count: usize,
-    c: usize,
-    i: usize,
-) -> usize
+fn number(nodes: &[i64], work: &mut [u32], cap: usize, count: usize, c: usize, i: usize) -> usize
     requires { ⌜ Held cap (now nodes) count × (i < count) × Numbered cap (now nodes) count (now work) c ⌝ }
     ensures { λ r. ⌜ Entered cap (now (nodes .entry)) count (now (work .entry)) (now (work .exit)) c r (treeAt (now (nodes .entry)) count i) ⌝ }
 {

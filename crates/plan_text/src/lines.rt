@@ -33,7 +33,7 @@ fn first_numbers(site: Site, horizon: u32) -> [u64; 5]
     ]
 }
 
-pub fn first_line(out: &mut [u8], site: Site, horizon: u32) -> usize
+pub(crate) fn first_line(out: &mut [u8], site: Site, horizon: u32) -> usize
     requires { ⌜ length (first-line (site-as site) horizon) ≤ length (now out) ⌝ }
     ensures { λ n. ⌜ PutAt (now (out .entry)) 0 (first-line (site-as site) horizon) n (now (out .exit)) ⌝ }
 {
@@ -41,7 +41,7 @@ pub fn first_line(out: &mut [u8], site: Site, horizon: u32) -> usize
     put_line(out, 0, b"PLAN", &xs)
 }
 
-pub fn first_line_len(site: Site, horizon: u32) -> usize
+pub(crate) fn first_line_len(site: Site, horizon: u32) -> usize
     ensures { λ n. ⌜ (n ≡ length (first-line (site-as site) horizon)) × (n ≤ 185) ⌝ }
 {
     let xs = first_numbers(site, horizon);
@@ -93,7 +93,7 @@ fn node_rest_len(nodes: &[i64], r: usize) -> usize
     words_line_len(b" L", &nodes[first..end])
 }
 
-pub fn node_line(out: &mut [u8], nodes: &[i64], r: usize) -> usize
+pub(crate) fn node_line(out: &mut [u8], nodes: &[i64], r: usize) -> usize
     requires { ⌜ Inside (now nodes) r × (length (node-line (now nodes) r) ≤ length (now out)) ⌝ }
     ensures { λ n. ⌜ PutAt (now (out .entry)) 0 (node-line (now (nodes .entry)) r) n (now (out .exit)) ⌝ }
 {
@@ -102,7 +102,7 @@ pub fn node_line(out: &mut [u8], nodes: &[i64], r: usize) -> usize
     node_rest(out, m, nodes, r)
 }
 
-pub fn node_line_len(nodes: &[i64], r: usize) -> usize
+pub(crate) fn node_line_len(nodes: &[i64], r: usize) -> usize
     requires { ⌜ Inside (now nodes) r ⌝ }
     ensures { λ n. ⌜ (n ≡ length (node-line (now (nodes .entry)) r)) × (n ≤ 207) ⌝ }
 {
@@ -116,7 +116,7 @@ fn stage_numbers(stages: &[u32], h: usize) -> [u64; 2]
     [h as u64, stages[h - 1] as u64]
 }
 
-pub fn stage_line(out: &mut [u8], stages: &[u32], h: usize) -> usize
+pub(crate) fn stage_line(out: &mut [u8], stages: &[u32], h: usize) -> usize
     requires { ⌜ (1 ≤ h) × (h ≤ length (now stages)) × (length (stage-line (now stages) h) ≤ length (now out)) ⌝ }
     ensures { λ n. ⌜ PutAt (now (out .entry)) 0 (stage-line (now (stages .entry)) h) n (now (out .exit)) ⌝ }
 {
@@ -124,7 +124,7 @@ pub fn stage_line(out: &mut [u8], stages: &[u32], h: usize) -> usize
     put_line(out, 0, b"S", &xs)
 }
 
-pub fn stage_line_len(stages: &[u32], h: usize) -> usize
+pub(crate) fn stage_line_len(stages: &[u32], h: usize) -> usize
     requires { ⌜ (1 ≤ h) × (h ≤ length (now stages)) ⌝ }
     ensures { λ n. ⌜ (n ≡ length (stage-line (now (stages .entry)) h)) × (n ≤ 185) ⌝ }
 {

@@ -27,7 +27,7 @@ pub fn magnitude(nodes: &[i64], r: usize, i: usize) -> usize
 }
 
 // Word i of node r lies within the limits.
-pub fn is_small(nodes: &[i64], r: usize, i: usize) -> bool
+pub(crate) fn is_small(nodes: &[i64], r: usize, i: usize) -> bool
     requires { ⌜ Inside (now nodes) r × (i < 8) ⌝ }
     ensures { λ b. ⌜ b ≡ small (node-word (now (nodes .entry)) r i) ⌝ }
 {
@@ -35,7 +35,7 @@ pub fn is_small(nodes: &[i64], r: usize, i: usize) -> bool
 }
 
 // Word i of node r is 0.
-pub fn is_zero(nodes: &[i64], r: usize, i: usize) -> bool
+pub(crate) fn is_zero(nodes: &[i64], r: usize, i: usize) -> bool
     requires { ⌜ Inside (now nodes) r × (i < 8) ⌝ }
     ensures { λ b. ⌜ b ≡ zeros (node-word (now (nodes .entry)) r i ∷ []) ⌝ }
 {
@@ -43,7 +43,7 @@ pub fn is_zero(nodes: &[i64], r: usize, i: usize) -> bool
 }
 
 // Word i of node r is 1 to n.
-pub fn is_among(n: usize, nodes: &[i64], r: usize, i: usize) -> bool
+pub(crate) fn is_among(n: usize, nodes: &[i64], r: usize, i: usize) -> bool
     requires { ⌜ Inside (now nodes) r × (i < 8) ⌝ }
     ensures { λ b. ⌜ b ≡ amongZ n (node-word (now (nodes .entry)) r i) ⌝ }
 {

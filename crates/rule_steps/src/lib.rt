@@ -1,6 +1,6 @@
 // Rules on a table step by step, for test programs: each step a row of four numbers, each outcome a line.
-pub mod rules; // rules.rt: one step on the table
-pub mod lines; // lines.rt: rows read, outcomes printed
+mod rules; // rules.rt: one step on the table
+mod lines; // lines.rt: rows read, outcomes printed
 pub mod runs; // runs.rt: all rows from an empty table
 
 // A step: the rule's number, the nodes it works on, its numbers as written.

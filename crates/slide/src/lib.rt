@@ -10,7 +10,7 @@ ghost use Rattle.mark.specs.Mark.{Space};
 ghost use Rattle.slide.specs.Slide.{renumber, SlidOne, Closed, Slid};
 
 // A node with its branches' new indexes.
-pub fn moved(work: &[u32], cap: usize, x: Node) -> Node
+fn moved(work: &[u32], cap: usize, x: Node) -> Node
     requires { ⌜ (cap * 2 ≤ length (now work)) × (cap ≤ 65535) × Valid x cap ⌝ }
     ensures { λ r. ⌜ r ≡ renumber (now (work .entry)) cap x ⌝ }
 {
@@ -34,7 +34,7 @@ pub fn moved(work: &[u32], cap: usize, x: Node) -> Node
 }
 
 // One node: where it is marked it goes to index j. Answers the next such index.
-pub fn slide_one(nodes: &mut [i64], work: &mut [u32], cap: usize, i: usize, j: usize) -> usize
+fn slide_one(nodes: &mut [i64], work: &mut [u32], cap: usize, i: usize, j: usize) -> usize
     requires { ⌜ (cap * 8 ≤ length (now nodes)) × (cap * 2 ≤ length (now work)) × (cap ≤ 65535) × (i < cap) × (j ≤ i) × Valid (nodeAt (now nodes) i) cap ⌝ }
     ensures { λ r. ⌜ SlidOne (now (nodes .entry)) (now (work .entry)) cap i j (now (nodes .exit)) (now (work .exit)) r ⌝ }
 {

@@ -99,7 +99,7 @@ fn others(
 }
 
 // A stage, over the one before it: the last root that is held.
-pub fn stage(
+fn stage(
     model: &[u8],
     nodes: &mut [i64],
     work: &mut [u32],

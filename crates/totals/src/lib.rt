@@ -22,7 +22,7 @@ fn wide(x: u8) -> usize
 }
 
 // The conditions, their weights from the place `first` on, summed out of the last root.
-pub fn sum_out(
+fn sum_out(
     nodes: &mut [i64],
     work: &mut [u32],
     cap: usize,

@@ -8,7 +8,7 @@ ghost use Rattle.unary_node.specs.Acts.{lowOf, highOf};
 use whole::limits::mag;
 
 // The i64 with the low half p and the high half q.
-pub fn number_of(p: usize, q: usize) -> i64
+pub(crate) fn number_of(p: usize, q: usize) -> i64
     requires { ⌜ (p < 4294967296) × (q < 4294967296) ⌝ }
     ensures { λ r. ⌜ r ≡ cOf p q ⌝ }
 {

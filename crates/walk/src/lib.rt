@@ -26,7 +26,7 @@ pub fn down_at(nodes: &[i64], f: usize) -> Down
 }
 
 // At the leaf f: a constant decides, g where it is at most 0 and else p; another linear is a choice by the test that the leaf names.
-pub fn decide_at(
+fn decide_at(
     nodes: &mut [i64],
     work: &mut [u32],
     cap: usize,
