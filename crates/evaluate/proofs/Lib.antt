@@ -4,3 +4,6 @@ pub mod Reach
 pub mod Turns
 pub mod Wants
 pub mod Actions
+pub mod Holding
+pub mod Places
+pub mod Finds

@@ -50,7 +50,7 @@ fit B i =
 
 -- ---- slots
 
-same-is : (g h : Slot) → T (same-slot g h) → g ≡ h
+pub same-is : (g h : Slot) → T (same-slot g h) → g ≡ h
 unfolding same-slot
 same-is g h t =
     let d = both (eqb (g .command) (h .command)) (eqb (g .action) (h .action) && eqb (g .index) (h .index)) t in
@@ -91,20 +91,20 @@ unfolding first-broken
 unbroken k true l e = absurd (omega arith)
 unbroken k false l e = (tt, e)
 
-broken : {A : Type 0} (k : ℕ) (l : List Rule) → first-broken (rule (suc k) true ∷ l) ≡ 0 → A
+pub broken : {A : Type 0} (k : ℕ) (l : List Rule) → first-broken (rule (suc k) true ∷ l) ≡ 0 → A
 broken k l e = absurd (unbroken k true l e .0)
 
-judged-whole : (k i : ℕ) (v : Verdict) → (if (eqb k 0) v (refusal k i)) .number ≡ 0 → (k ≡ 0) × (v .number ≡ 0)
+pub judged-whole : (k i : ℕ) (v : Verdict) → (if (eqb k 0) v (refusal k i)) .number ≡ 0 → (k ≡ 0) × (v .number ≡ 0)
 judged-whole k i v = by-test (eqb k 0) (λ b. (if b v (refusal k i)) .number ≡ 0 → (k ≡ 0) × (v .number ≡ 0))
     (λ t e. (eqb→eq k 0 t, e)) (λ n e. absurd (T-not (eqb k 0) n (rw e tt)))
 
 -- ---- stacks
 
-pushed-room : (i : ℕ) (l : List ℕ) → length l < stack-most → pushed i l ≡ i ∷ l
+pub pushed-room : (i : ℕ) (l : List ℕ) → length l < stack-most → pushed i l ≡ i ∷ l
 unfolding pushed
 pushed-room i l h = simp (lt-ltb (length l) stack-most h)
 
-drop-one : {A : Type 0} (l : List A) → length (drop 1 l) ≡ length l - 1
+pub drop-one : {A : Type 0} (l : List A) → length (drop 1 l) ≡ length l - 1
 drop-one [] = refl
 drop-one (x ∷ l) = omega arith
 
@@ -120,7 +120,7 @@ state S K G = record { begun = true; site = S; stack = K; given = G }
 abbrev loaded : List Tree → List Entry → Loaded
 loaded X E = record { stack = X; entries = E }
 
-abbrev placed : ℕ → Read → Placed
+abbrev pub placed : ℕ → Read → Placed
 placed i r = record { at = i; read = r }
 
 choice-entries : (t : Test) (X : List Tree) (E : List Entry) → result (load-choice t X E) .entries ≡ E
@@ -196,19 +196,18 @@ module _ (B : List ℕ) (S : Site) (x : Point) (g : Slot) (s : State) (r : List 
   pick true high low H L u v = u
   pick false high low H L u v = v
 
-  agree-chosen : (t : Test) (b : Bool) (E : List Entry) → Sides st t b → (l : List ℕ) (X : List Tree) → 2 ≤ length l → length l ≤ stack-most → Agree l X
+  agree-chosen : (t : Test) (b : Bool) (E : List Entry) → Sides st t b → (l : List ℕ) (X : List Tree) → 2 ≤ length l → Agree l X
       → Agree (chosen b l) (result (load-choice t X E) .stack) × (suc (length (chosen b l)) ≡ length l)
   unfolding Agree load-choice-with result chosen
-  agree-chosen t b E y [] X h k a = absurd (omega arith)
-  agree-chosen t b E y (o ∷ []) X h k a = absurd (omega arith)
-  agree-chosen t b E y (o ∷ o′ ∷ l) [] h k a = absurd a
-  agree-chosen t b E y (o ∷ o′ ∷ l) (L ∷ []) h k a = absurd (a .1)
-  agree-chosen t b E y (o ∷ o′ ∷ l) (L ∷ H ∷ X) h k a =
-      let f = pushed-room (if b o′ o) l (omega arith) in
+  agree-chosen t b E y [] X h a = absurd (omega arith)
+  agree-chosen t b E y (o ∷ []) X h a = absurd (omega arith)
+  agree-chosen t b E y (o ∷ o′ ∷ l) [] h a = absurd a
+  agree-chosen t b E y (o ∷ o′ ∷ l) (L ∷ []) h a = absurd (a .1)
+  agree-chosen t b E y (o ∷ o′ ∷ l) (L ∷ H ∷ X) h a =
       let q = result-bind (choose t H L) (λ r. ret (loaded (r ∷ X) E)) in (
-        subst (λ (z : List ℕ). Agree z (result (load-choice t (L ∷ H ∷ X) E) .stack)) (sym f) (subst (λ (z : Loaded). Agree (if b o′ o ∷ l) (z .stack)) (sym q)
-            (subst (λ (z : Leaf). Leaf-at B m (if b o′ o) (z .lin)) (sym (y H L)) (pick b o′ o (at e H) (at e L) (a .1 .0) (a .0)), a .1 .1)),
-        ap (λ (z : List ℕ). suc (length z)) f,
+        subst (λ (z : Loaded). Agree (if b o′ o ∷ l) (z .stack)) (sym q)
+            (subst (λ (z : Leaf). Leaf-at B m (if b o′ o) (z .lin)) (sym (y H L)) (pick b o′ o (at e H) (at e L) (a .1 .0) (a .0)), a .1 .1),
+        refl,
       )
 
   abbrev Reach : List Placed → Type 0
@@ -232,7 +231,7 @@ module _ (B : List ℕ) (S : Site) (x : Point) (g : Slot) (s : State) (r : List 
         → suc (length K′) ≡ length K → has-slot g G ≡ false → judged (length B) (state S K′ G) ys .number ≡ 0
         → Leaf-at B m (pass x g ys (chosen b l)) (at e (find-slot g (result (bind (load-choice t X E) (load-on ys)) .entries)) .lin)
     choose-on t b K K′ G X E l y a q z n n′ f j =
-        let d = agree-chosen t b E y l X (omega arith) (omega arith) a in
+        let d = agree-chosen t b E y l X (omega arith) a in
         let v = result (load-choice t X E) in
         let k = d .1 in
         rw (result-bind (load-choice t X E) (load-on ys)) (ih K′ G (v .stack) (v .entries) (chosen b l) (d .0) (omega arith) (omega arith) f j)

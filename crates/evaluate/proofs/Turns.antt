@@ -1,12 +1,12 @@
 -- One turn of the pass, with fuel enough for the rest; and what the code's numbers are.
-use mathlib.Core.Path.{_≡_, refl, sym, ap, ap₂, _∙_, subst}
+use mathlib.Core.Path.{_≡_, refl, sym, ap, _∙_, subst}
 use mathlib.Core.Bool.{Bool, true, false}
 use mathlib.Core.List.{List, [], _∷_}
 use Prim.Native.Nat.{ℕ, zero, suc, _+_, _-_, _<_}
 use native.Mathlib.Omega.{arith}
 use lib.Dec.{T, eqb, leb→le}
 use lib.IntN.{ℤ, pos, _+ℤ_, _*ℤ_}
-use lib.ListN.{length, getD, drop}
+use lib.ListN.{length, getD}
 use types.Run.{OneOf, miss}
 use denote.Enum.Declared.{tagOf}
 use Rattle.whole.specs.Cases.{if, both}
@@ -27,12 +27,12 @@ use Rattle.command.specs.declared.Command.the-variants.{Site, Leaf, Condition, 
 use Rattle.command.specs.declared.Read.{Read as CodeRead}
 use Rattle.command.specs.declared.Read.the-variants.{Whole, Unknown, Short}
 use Rattle.command.specs.Reading.{linear-of, command-of, read-of, next-at}
-use Rattle.command.specs.Held.{pushed}
 use Rattle.command.proofs.Forward.{whole-bytes}
 use Rattle.model.specs.Answers.{is-end}
 use Rattle.model.proofs.Walk.{opened, from-first, at-end, going, forward}
 use Rattle.evaluate.specs.declared.Point.{Point}
-use Rattle.evaluate.specs.Pass.{numerator, chosen, stepped, takes, pass, Small-command, Stands, Comes}
+use Rattle.evaluate.specs.Pass.{numerator, stepped, takes, pass, Small-command, Stands, Comes}
+use Rattle.evaluate.specs.Parts.{Seek}
 use Rattle.evaluate.proofs.Points.{value-is}
 use Rattle.evaluate.proofs.Reach.{Fit, fit}
 
@@ -69,16 +69,7 @@ bit-past m (suc (suc (suc zero))) a b c d = absurd (c refl)
 bit-past m (suc (suc (suc (suc zero)))) a b c d = absurd (d refl)
 bit-past m (suc (suc (suc (suc (suc k))))) a b c d = refl
 
--- ---- choices on the stack
-
-module _ (high : Bool) (l rest under : List ℕ) (e : rest ≡ drop 1 l) (g : under ≡ drop 1 rest) where
-  pub took-high : (above : ℕ) → high ≡ true → above ≡ getD rest 0 0 → pushed above under ≡ chosen high l
-  unfolding chosen
-  took-high above t f = rw t (ap₂ pushed (f ∙ ap (λ (z : List ℕ). getD z 0 0) e) (g ∙ ap (drop 1) e))
-
-  pub took-low : (low : ℕ) → high ≡ false → low ≡ getD l 0 0 → pushed low under ≡ chosen high l
-  unfolding chosen
-  took-low low t f = rw t (ap₂ pushed f (g ∙ ap (drop 1) e))
+-- ---- a command that gives nothing
 
 pub takes-other : (g : Slot) (B : List ℕ) (i : ℕ) (c : CodeCommand) → OneOf (0 ∷ 1 ∷ 2 ∷ 3 ∷ 5 ∷ 6 ∷ []) (tagOf command-type c) → false ≡ takes g (command-of B i c)
 unfolding takes command-of
@@ -106,11 +97,6 @@ pub command-small : (B : List ℕ) (i : ℕ) (c : CodeCommand) → whole (comman
 command-small B i c e = fit-small B i c (subst (Fit B i) (sym (whole-bytes B i (command-of B i c) e .1)) (fit B i))
 
 -- ---- one turn
-
-pub record Seek (B : List ℕ) (x : Point) (g : Slot) (i : ℕ) (l : List ℕ) : Type 0 where
-  pub fuel : ℕ
-  pub enough : length B - i < fuel
-  pub comes : pass x g (readings-from B fuel i) l ≡ pass x g (readings B) []
 
 pub seek-starts : (B : List ℕ) (x : Point) (g : Slot) (l : List ℕ) → l ≡ [] → Seek B x g 0 l
 unfolding readings
@@ -140,13 +126,15 @@ module _ {B : List ℕ} {x : Point} {g : Slot} {i : ℕ} {l : List ℕ} (w : See
   unfolding pass takes goes-on
   seek-ends c e q = other end-model (ap whole (sym (at-end B i c q)) ∙ e) refl .2
 
+  pub seek-next : (c : Command) (next : ℕ) → whole c ≡ read-at B i → takes g c ≡ false → goes-on (whole c) ≡ true → next ≡ next-at B i → Seek B x g next (stepped x i c l)
+  seek-next c next e f q n =
+      let o = other c e f in
+      let h = forward B i c next e n in
+      record { fuel = o .0; enough = omega (arith, o .1, h .1, h .2); comes = rw (q, ← h .0) at (o .2) }
+
   pub seek-on : (c : CodeCommand) (next : ℕ) (l′ : List ℕ) → whole (command-of B i c) ≡ read-at B i → takes g (command-of B i c) ≡ false → is-end c ≡ false → next ≡ next-at B i
       → l′ ≡ stepped x i (command-of B i c) l → Seek B x g next l′
-  seek-on c next l′ e f q n s =
-      let o = other (command-of B i c) e f in
-      let h = forward B i (command-of B i c) next e n in
-      let y = going B i c q in
-      record { fuel = o .0; enough = omega (arith, o .1, h .1, h .2); comes = rw (y .0, ← h .0, ← s) at (o .2) }
+  seek-on c next l′ e f q n s = subst (Seek B x g next) (sym s) (seek-next (command-of B i c) next e f (going B i c q .0) n)
 
 -- ---- the leaf's linear
 

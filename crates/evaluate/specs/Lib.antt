@@ -1,2 +1,3 @@
 -- What a pass over a model's commands comes to at a state.
 pub mod Pass
+pub mod Parts

@@ -42,7 +42,9 @@ condition-holds x k = if (leb k conditions-most) (nth (bits 4 (x .mask)) k) (nth
 
 -- "takes low, then high, off the stack" and pushes the one that is taken
 unfoldable pub chosen : Bool → List ℕ → List ℕ
-chosen high l = pushed (if high (getD (drop 1 l) 0 0) (getD l 0 0)) (drop 1 (drop 1 l))
+chosen high [] = []
+chosen high (low ∷ []) = low ∷ []
+chosen high (low ∷ above ∷ l) = if high above low ∷ l
 
 -- the stack behind the command at an offset
 unfoldable pub stepped : Point → ℕ → Command → List ℕ → List ℕ

@@ -1,7 +1,7 @@
 // Plain evaluation: the leaf that an action's diagram comes to at a state, found in the model's own bytes.
-// One pass over the commands; on the stack stands for each diagram the offset of the leaf that it comes to.
+// A pass over the commands of that diagram; on the stack stands for each diagram the offset of the leaf that it comes to.
 ghost use mathlib.Core.Path.{_≡_};
-ghost use mathlib.Core.List.{List};
+ghost use mathlib.Core.List.{List, []};
 ghost use mathlib.Core.Bool.{Bool};
 ghost use Prim.Native.Nat.{ℕ, _<_};
 ghost use lib.Dec.{T};
@@ -20,18 +20,20 @@ ghost use Rattle.theory.specs.Value.{bits};
 ghost use Rattle.theory.specs.Verdict.{verdict, has-slot, wanted, same-slot};
 ghost use Rattle.theory.specs.laws.Loading.{loaded-entries};
 ghost use Rattle.command.specs.Reading.{linear-of, command-of};
-ghost use Rattle.command.specs.Held.{held};
+ghost use Rattle.command.specs.Held.{last-first};
 ghost use Rattle.evaluate.specs.Pass.{slot-of, condition-holds, stepped, Small-linear, Small-command, Stands, Comes};
 ghost use Rattle.evaluate.specs.Pass.{takes as takes-slot};
-ghost use Rattle.evaluate.specs.Pass.{chosen as chosen-of};
 ghost use Rattle.evaluate.specs.Pass.{numerator as numerator-at};
+ghost use Rattle.evaluate.specs.Parts.{Room, Holds, Seek, Parts};
 use command::Command;
 use command::Linear;
 use command::Read;
-use command::stack::Stack;
 use whole::Numerator;
 use whole::limits::mag;
 use whole::two_words;
+
+mod offsets; // offsets.rt: the stack of a pass
+pub mod parts; // parts.rt: where each slot's diagram begins
 
 // What is given to an action: the command's byte, the action, the condition or level (0 for a reward).
 pub struct Slot {
@@ -101,34 +103,19 @@ fn test(p: Linear, x: Point) -> bool
     two_words::not_positive(numerator(p, x))
 }
 
-// "takes low, then high, off the stack" and pushes the one that is taken.
-fn chosen(t: Stack, high: bool) -> Stack
-    ensures { λ r. ⌜ held r ≡ chosen-of high (held t) ⌝ }
-{
-    let low = t.top();
-    let rest = t.pop();
-    let above = rest.top();
-    let under = rest.pop();
-    if high {
-        under.push(above)
-    } else {
-        under.push(low)
-    }
-}
-
 // What the command at an offset leaves of the stack.
-fn after(t: Stack, at: u32, c: Command, x: Point) -> Stack
-    requires { ⌜ Small-command c ⌝ }
-    ensures { λ r. ⌜ ((B : List ℕ) (i : ℕ) → held r ≡ stepped x at (command-of B i c) (held t)) ⌝ }
+fn after(items: &mut [u32], len: usize, at: u32, c: Command, x: Point) -> usize
+    requires { ⌜ Room (now items) len × Small-command c ⌝ }
+    ensures { λ r. ⌜ ((B : List ℕ) (i : ℕ) → Holds (now (items .exit)) r (stepped x at (command-of B i c) (last-first (now (items .entry)) len))) ⌝ }
 {
     match c {
-        Command::Leaf(_) => t.push(at),
-        Command::Condition(k) => chosen(t, condition(k, x)),
-        Command::Test(p) => chosen(t, test(p, x)),
-        Command::Give(_, _, _) => t.pop(),
-        Command::Site(_, _, _, _) => t,
-        Command::Name(_) => t,
-        Command::End => t,
+        Command::Leaf(_) => offsets::push(items, len, at),
+        Command::Condition(k) => offsets::choose(items, len, condition(k, x)),
+        Command::Test(p) => offsets::choose(items, len, test(p, x)),
+        Command::Give(_, _, _) => offsets::pop(items, len),
+        Command::Site(_, _, _, _) => len,
+        Command::Name(_) => len,
+        Command::End => len,
     }
 }
 
@@ -157,27 +144,37 @@ fn takes(c: Command, g: Slot) -> bool
     }
 }
 
-// The offset of the leaf that a slot's diagram comes to, in an accepted model whose site has that slot.
-pub fn leaf_at(model: &[u8], g: Slot, x: Point) -> usize
-    requires { ⌜ (verdict (now model) .number ≡ 0) × (length (now model) < 4294967296) × T (has-slot (slot-of g) (wanted (site-at (now model)))) ⌝ }
+// From an offset on, with nothing on the stack there, to the command that gives the slot.
+fn pass_from(model: &[u8], begin: usize, g: Slot, x: Point, items: &mut [u32]) -> usize
+    requires { ⌜ (verdict (now model) .number ≡ 0) × (length (now model) < 4294967296) × T (has-slot (slot-of g) (wanted (site-at (now model)))) × Room (now items) 0 × Seek (now model) x (slot-of g) begin [] ⌝ }
     ensures { λ r. ⌜ Comes (now (model .entry)) (slot-of g) x r ⌝ }
 {
-    let mut at: usize = 0;
-    let mut stack = Stack::new();
+    let mut at = begin;
+    let mut len: usize = 0;
     loop {
         let read = command::command_at(model, at);
         let Read::Whole(c) = read else {
             return 0;
         };
         if takes(c, g) {
-            return stack.top() as usize;
+            return offsets::top(items, len) as usize;
         }
         if model::is_end(c) {
             return 0;
         }
-        stack = after(stack, at as u32, c, x);
+        len = after(items, len, at as u32, c, x);
         at = command::next_after(model, at);
     }
+}
+
+// The offset of the leaf that a slot's diagram comes to, in an accepted model whose site has that slot.
+pub fn leaf_at(model: &[u8], parts: &[u32], g: Slot, x: Point) -> usize
+    requires { ⌜ (verdict (now model) .number ≡ 0) × (length (now model) < 4294967296) × T (has-slot (slot-of g) (wanted (site-at (now model)))) × Parts (now model) (now parts) ⌝ }
+    ensures { λ r. ⌜ Comes (now (model .entry)) (slot-of g) x r ⌝ }
+{
+    let begin = parts::begin(parts, g);
+    let mut items = [0u32; 32];
+    pass_from(model, begin, g, x, &mut items)
 }
 
 // The linear of the leaf command at an offset.
@@ -199,22 +196,22 @@ fn leaf(model: &[u8], at: usize) -> Linear
 }
 
 // What a slot's diagram comes to, times d: a reward, or a next level.
-pub fn worth_at(model: &[u8], g: Slot, x: Point) -> Numerator
-    requires { ⌜ (verdict (now model) .number ≡ 0) × (length (now model) < 4294967296) × T (has-slot (slot-of g) (wanted (site-at (now model)))) ⌝ }
+pub fn worth_at(model: &[u8], parts: &[u32], g: Slot, x: Point) -> Numerator
+    requires { ⌜ (verdict (now model) .number ≡ 0) × (length (now model) < 4294967296) × T (has-slot (slot-of g) (wanted (site-at (now model)))) × Parts (now model) (now parts) ⌝ }
     ensures { λ r. ⌜ ((s : State) (z : List Bool) → Stands (site-at (now (model .entry)) .levels) (site-at (now (model .entry)) .conditions) x s z
         → r ≡ words (worth-of (env s z) (find-slot (slot-of g) (loaded-entries (now (model .entry)))))) ⌝ }
 {
-    let at = leaf_at(model, g, x);
+    let at = leaf_at(model, parts, g, x);
     numerator(leaf(model, at), x)
 }
 
 // The weight, out of W, that a slot's diagram comes to.
-pub fn chance_at(model: &[u8], g: Slot, x: Point) -> u64
-    requires { ⌜ (verdict (now model) .number ≡ 0) × (length (now model) < 4294967296) × T (has-slot (slot-of g) (wanted (site-at (now model)))) ⌝ }
+pub fn chance_at(model: &[u8], parts: &[u32], g: Slot, x: Point) -> u64
+    requires { ⌜ (verdict (now model) .number ≡ 0) × (length (now model) < 4294967296) × T (has-slot (slot-of g) (wanted (site-at (now model)))) × Parts (now model) (now parts) ⌝ }
     ensures { λ r. ⌜ ((s : State) (z : List Bool) → Stands (site-at (now (model .entry)) .levels) (site-at (now (model .entry)) .conditions) x s z
         → r ≡ chance-of (env s z) (find-slot (slot-of g) (loaded-entries (now (model .entry))))) ⌝ }
 {
-    let at = leaf_at(model, g, x);
+    let at = leaf_at(model, parts, g, x);
     let p = leaf(model, at);
     weight(p.constant)
 }

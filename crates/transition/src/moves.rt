@@ -1,6 +1,7 @@
 // The state after an action and a setting of the next conditions.
 ghost use mathlib.Core.Path.{_≡_};
 ghost use Prim.Native.Nat.{_≤_};
+ghost use Rattle.evaluate.specs.Parts.{Parts};
 ghost use Rattle.transition.specs.Standing.{Ready, Standing, Acts, under, Level-is, Leads};
 use super::Next;
 use super::sites;
@@ -16,8 +17,8 @@ fn with_setting(mut x: Point, r: u32) -> Point
 }
 
 // The numerator of next level i at a point and its setting; 0 beyond level m.
-fn next_level(model: &[u8], a: u8, i: u8, x: Point) -> Level
-    requires { ⌜ Ready (now model) × Acts (now model) a × (1 ≤ i) ⌝ }
+fn next_level(model: &[u8], parts: &[u32], a: u8, i: u8, x: Point) -> Level
+    requires { ⌜ Ready (now model) × Acts (now model) a × (1 ≤ i) × Parts (now model) (now parts) ⌝ }
     ensures { λ z. ⌜ Level-is (now (model .entry)) a i x z ⌝ }
 {
     if sites::levels(model) < i {
@@ -28,25 +29,25 @@ fn next_level(model: &[u8], a: u8, i: u8, x: Point) -> Level
         action: a,
         index: i,
     };
-    judging::in_32_bits(judging::narrow(evaluate::worth_at(model, g, x)))
+    judging::in_32_bits(judging::narrow(evaluate::worth_at(model, parts, g, x)))
 }
 
 // The next state has the setting as its mask, and the same denominator.
-pub fn next_state(model: &[u8], a: u8, x: Point, r: u32) -> Next
-    requires { ⌜ Ready (now model) × Acts (now model) a ⌝ }
+pub fn next_state(model: &[u8], parts: &[u32], a: u8, x: Point, r: u32) -> Next
+    requires { ⌜ Ready (now model) × Acts (now model) a × Parts (now model) (now parts) ⌝ }
     ensures { λ y. ⌜ Leads (now (model .entry)) a x r y ⌝ }
 {
     let y = with_setting(x, r);
-    let Level::Is(n1) = next_level(model, a, 1, y) else {
+    let Level::Is(n1) = next_level(model, parts, a, 1, y) else {
         return Next::Over;
     };
-    let Level::Is(n2) = next_level(model, a, 2, y) else {
+    let Level::Is(n2) = next_level(model, parts, a, 2, y) else {
         return Next::Over;
     };
-    let Level::Is(n3) = next_level(model, a, 3, y) else {
+    let Level::Is(n3) = next_level(model, parts, a, 3, y) else {
         return Next::Over;
     };
-    let Level::Is(n4) = next_level(model, a, 4, y) else {
+    let Level::Is(n4) = next_level(model, parts, a, 4, y) else {
         return Next::Over;
     };
     let d = x.d;

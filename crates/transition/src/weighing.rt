@@ -7,6 +7,7 @@ ghost use Rattle.whole.specs.Cases.{if};
 ghost use Rattle.theory.specs.Load.{site-at};
 ghost use Rattle.theory.specs.Meaning.{nth};
 ghost use Rattle.theory.specs.Value.{bits};
+ghost use Rattle.evaluate.specs.Parts.{Parts};
 ghost use Rattle.transition.specs.Standing.{Ready, Standing, Acts, Chance, Chances-are, Out-of, Weighs};
 use super::Chances;
 use super::sites;
@@ -14,8 +15,8 @@ use evaluate::Point;
 use evaluate::Slot;
 use values::states::condition;
 
-fn chance(model: &[u8], a: u8, k: u8, x: Point) -> u64
-    requires { ⌜ Standing (now model) x × Acts (now model) a × (1 ≤ k) ⌝ }
+fn chance(model: &[u8], parts: &[u32], a: u8, k: u8, x: Point) -> u64
+    requires { ⌜ Standing (now model) x × Acts (now model) a × (1 ≤ k) × Parts (now model) (now parts) ⌝ }
     ensures { λ w. ⌜ Chance (now (model .entry)) a k x w ⌝ }
 {
     if sites::conditions(model) < k {
@@ -26,18 +27,18 @@ fn chance(model: &[u8], a: u8, k: u8, x: Point) -> u64
         action: a,
         index: k,
     };
-    evaluate::chance_at(model, g, x)
+    evaluate::chance_at(model, parts, g, x)
 }
 
 // The chances of an action at a state.
-pub fn chances(model: &[u8], a: u8, x: Point) -> Chances
-    requires { ⌜ Standing (now model) x × Acts (now model) a ⌝ }
+pub fn chances(model: &[u8], parts: &[u32], a: u8, x: Point) -> Chances
+    requires { ⌜ Standing (now model) x × Acts (now model) a × Parts (now model) (now parts) ⌝ }
     ensures { λ r. ⌜ Chances-are (now (model .entry)) a x r ⌝ }
 {
-    let c1 = chance(model, a, 1, x);
-    let c2 = chance(model, a, 2, x);
-    let c3 = chance(model, a, 3, x);
-    let c4 = chance(model, a, 4, x);
+    let c1 = chance(model, parts, a, 1, x);
+    let c2 = chance(model, parts, a, 2, x);
+    let c3 = chance(model, parts, a, 3, x);
+    let c4 = chance(model, parts, a, 4, x);
     Chances { c1, c2, c3, c4 }
 }
 

@@ -80,5 +80,5 @@ pub fn worth(
         n4: l4,
         d,
     };
-    answer(worths::state_worth(bytes, steps, x))
+    answer(worths::worked(bytes, steps, x))
 }

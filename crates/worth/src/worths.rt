@@ -1,10 +1,12 @@
 // The worth of a state and the worth of an action, which call each other, steps left falling.
 ghost use mathlib.Core.Path.{_≡_};
 ghost use Prim.Native.Nat.{_≤_};
+ghost use Rattle.evaluate.specs.Parts.{Parts};
 ghost use Rattle.transition.specs.Standing.{Standing, Acts};
 ghost use Rattle.worth.specs.Worths.{Earned, State-worth, Action-worth};
 use evaluate::Point;
 use evaluate::Slot;
+use evaluate::parts;
 use judging::Total;
 use transition::Next;
 use transition::moves;
@@ -14,8 +16,8 @@ use whole::Within;
 use whole::limits::power_within;
 
 // "W^(n×h), a reward, W^(n×h) × reward"
-fn earned(model: &[u8], steps: u32, a: u8, x: Point) -> Within
-    requires { ⌜ Standing (now model) x × Acts (now model) a × (steps ≤ 8) ⌝ }
+fn earned(model: &[u8], parts: &[u32], steps: u32, a: u8, x: Point) -> Within
+    requires { ⌜ Standing (now model) x × Acts (now model) a × (steps ≤ 8) × Parts (now model) (now parts) ⌝ }
     ensures { λ r. ⌜ Earned (now (model .entry)) steps a x r ⌝ }
 {
     let n = sites::conditions(model) as u32;
@@ -25,38 +27,38 @@ fn earned(model: &[u8], steps: u32, a: u8, x: Point) -> Within
         action: a,
         index: 0,
     };
-    let z = judging::narrow(evaluate::worth_at(model, g, x));
+    let z = judging::narrow(evaluate::worth_at(model, parts, g, x));
     judging::times(p, z)
 }
 
 // "the worth of a state tries each action"
-pub fn state_worth(model: &[u8], steps: u32, x: Point) -> Total
-    requires { ⌜ Standing (now model) x × (steps ≤ 8) ⌝ }
+fn state_worth(model: &[u8], parts: &[u32], steps: u32, x: Point) -> Total
+    requires { ⌜ Standing (now model) x × (steps ≤ 8) × Parts (now model) (now parts) ⌝ }
     ensures { λ r. ⌜ State-worth (now (model .entry)) steps x r ⌝ }
 {
     if steps == 0 {
         return Total::Is(0, 0);
     }
     let last = sites::actions(model);
-    let mut best = judging::numbered(action_worth(model, steps, 1, x));
+    let mut best = judging::numbered(action_worth(model, parts, steps, 1, x));
     let mut a: u8 = 2;
     loop {
         if judging::actions_done(best, a, last) {
             return best;
         }
-        best = judging::better(best, a, action_worth(model, steps, a, x));
+        best = judging::better(best, a, action_worth(model, parts, steps, a, x));
         a += 1;
     }
 }
 
 // "an action's worth sums the worth of its next states; those of weight 0 are skipped"
-fn action_worth(model: &[u8], steps: u32, a: u8, x: Point) -> Total
-    requires { ⌜ Standing (now model) x × Acts (now model) a × (1 ≤ steps) × (steps ≤ 8) ⌝ }
+fn action_worth(model: &[u8], parts: &[u32], steps: u32, a: u8, x: Point) -> Total
+    requires { ⌜ Standing (now model) x × Acts (now model) a × (1 ≤ steps) × (steps ≤ 8) × Parts (now model) (now parts) ⌝ }
     ensures { λ r. ⌜ Action-worth (now (model .entry)) steps a x r ⌝ }
 {
-    let c = weighing::chances(model, a, x);
+    let c = weighing::chances(model, parts, a, x);
     let count = sites::settings(model);
-    let mut sum = earned(model, steps, a, x);
+    let mut sum = earned(model, parts, steps, a, x);
     let mut r: u32 = 0;
     loop {
         if judging::settings_done(sum, r, count) {
@@ -67,10 +69,20 @@ fn action_worth(model: &[u8], steps: u32, a: u8, x: Point) -> Total
             r += 1;
             continue;
         }
-        let Next::At(y) = moves::next_state(model, a, x, r) else {
+        let Next::At(y) = moves::next_state(model, parts, a, x, r) else {
             return Total::Over;
         };
-        sum = judging::added(sum, w, state_worth(model, steps - 1, y));
+        sum = judging::added(sum, w, state_worth(model, parts, steps - 1, y));
         r += 1;
     }
+}
+
+// The worth of a state, where the diagrams begin found first.
+pub fn worked(model: &[u8], steps: u32, x: Point) -> Total
+    requires { ⌜ Standing (now model) x × (steps ≤ 8) ⌝ }
+    ensures { λ r. ⌜ State-worth (now (model .entry)) steps x r ⌝ }
+{
+    let mut parts = [0u32; parts::SLOTS];
+    parts::find(model, &mut parts);
+    state_worth(model, &parts, steps, x)
 }

@@ -1,11 +1,11 @@
 -- `evaluate::after` meets its contract.
-use mathlib.Core.Path.{sym, ap, subst, _∙_}
+use mathlib.Core.Path.{refl, sym, ap, _∙_, subst}
 use mathlib.Core.Bool.{Bool}
 use Rattle.command.specs.declared.Command.{Command as CodeCommand}
 use Rattle.command.specs.Reading.{command-of}
-use Rattle.command.specs.Held.{held}
-use Rattle.evaluate.specs.Pass.{stepped, Small-command}
-use Rattle.evaluate.specs.Pass.{chosen as chosen-of}
+use Rattle.command.specs.Held.{last-first}
+use Rattle.evaluate.specs.Pass.{chosen, stepped, Small-command}
+use Rattle.evaluate.proofs.Holding.{holds-as}
 use borrow.Author.Needs.{needs}
 use Rattle.evaluate.proofs.after.Statement.{statement}
 use Rattle.evaluate.proofs.after.Tie as tie
@@ -22,8 +22,8 @@ enum-known-c c = search needs
 condition-requires : tie.Need-condition-requires
 condition-requires c κs = search needs
 
-chosen-requires : tie.Need-chosen-requires
-chosen-requires c κs = search needs
+choose-requires : tie.Need-choose-requires
+choose-requires c κs = search needs
 
 enum-known-c-2 : tie.Need-enum-known-c-2
 enum-known-c-2 c = search needs
@@ -31,10 +31,10 @@ enum-known-c-2 c = search needs
 test-requires : tie.Need-test-requires
 unfolding Small-command
 test-requires c κs =
-    subst Small-command (c .before .c2 .given .1) ((c .before .before .before) .pre)
+    subst Small-command (c .before .before .c2 .given .1) (c .before .before .before .before .before .pre .1)
 
-chosen-requires-2 : tie.Need-chosen-requires-2
-chosen-requires-2 c κs = search needs
+choose-requires-2 : tie.Need-choose-requires-2
+choose-requires-2 c κs = search needs
 
 enum-told-2 : tie.Need-enum-told-2
 enum-told-2 c = search needs
@@ -51,40 +51,52 @@ enum-told-4 c = search needs
 enum-told-5 : tie.Need-enum-told-5
 enum-told-5 c = search needs
 
+same-length : tie.Need-same-length
+same-length c = search needs
+
 returns : tie.Need-returns
 unfolding stepped command-of
 returns c =
-    λ B i. c .push .ensures ∙ ap (λ (d : CodeCommand). stepped ((c .before .before .before) .args .x) ((c .before .before .before) .args .at) (command-of B i d) (held ((c .before .before .before) .args .t))) (sym (c .before .enum-told .given .1))
+    λ B i. holds-as (c .before .before .push .ensures) (ap (λ (d : CodeCommand). stepped (c .before .before .before .before .before .before .before .args .x) (c .before .before .before .before .before .before .before .args .at) (command-of B i d) (last-first (c .before .before .before .before .before .before .before .args .items .now) (c .before .before .before .before .before .before .before .args .len))) (sym (c .before .before .before .before .enum-told .given .1)))
+
+same-length-2 : tie.Need-same-length-2
+same-length-2 c = search needs
 
 returns-2 : tie.Need-returns-2
 unfolding stepped command-of
 returns-2 c =
-    λ B i. c .chosen .ensures ∙ ap (λ (b : Bool). chosen-of b (held ((c .before .before .before .before .before) .args .t))) (c .before .condition .ensures) ∙ ap (λ (d : CodeCommand). stepped ((c .before .before .before .before .before) .args .x) ((c .before .before .before .before .before) .args .at) (command-of B i d) (held ((c .before .before .before .before .before) .args .t))) (sym (c .before .before .before .c .given .1))
+    λ B i. holds-as (c .before .before .choose .ensures) (ap (λ (b : Bool). chosen b (last-first (c .before .before .before .before .before .before .before .before .before .args .items .now) (c .before .before .before .before .before .before .before .before .before .args .len))) (c .before .before .before .condition .ensures) ∙ ap (λ (d : CodeCommand). stepped (c .before .before .before .before .before .before .before .before .before .args .x) (c .before .before .before .before .before .before .before .before .before .args .at) (command-of B i d) (last-first (c .before .before .before .before .before .before .before .before .before .args .items .now) (c .before .before .before .before .before .before .before .before .before .args .len))) (sym (c .before .before .before .before .before .before .c .given .1)))
+
+same-length-3 : tie.Need-same-length-3
+same-length-3 c = search needs
 
 returns-3 : tie.Need-returns-3
 unfolding stepped command-of
 returns-3 c =
-    λ B i. c .chosen2 .ensures ∙ ap (λ (b : Bool). chosen-of b (held ((c .before .before .before .before .before) .args .t))) (c .before .test .ensures) ∙ ap (λ (d : CodeCommand). stepped ((c .before .before .before .before .before) .args .x) ((c .before .before .before .before .before) .args .at) (command-of B i d) (held ((c .before .before .before .before .before) .args .t))) (sym (c .before .before .before .c2 .given .1))
+    λ B i. holds-as (c .before .before .choose2 .ensures) (ap (λ (b : Bool). chosen b (last-first (c .before .before .before .before .before .before .before .before .before .args .items .now) (c .before .before .before .before .before .before .before .before .before .args .len))) (c .before .before .before .test .ensures) ∙ ap (λ (d : CodeCommand). stepped (c .before .before .before .before .before .before .before .before .before .args .x) (c .before .before .before .before .before .before .before .before .before .args .at) (command-of B i d) (last-first (c .before .before .before .before .before .before .before .before .before .args .items .now) (c .before .before .before .before .before .before .before .before .before .args .len))) (sym (c .before .before .before .before .before .before .c2 .given .1)))
+
+same-length-4 : tie.Need-same-length-4
+same-length-4 c = search needs
 
 returns-4 : tie.Need-returns-4
 unfolding stepped command-of
 returns-4 c =
-    λ B i. c .pop .ensures ∙ ap (λ (d : CodeCommand). stepped ((c .before .before .before) .args .x) ((c .before .before .before) .args .at) (command-of B i d) (held ((c .before .before .before) .args .t))) (sym (c .before .enum-told2 .given .1))
+    λ B i. holds-as (c .pop .ensures) (ap (λ (d : CodeCommand). stepped (c .before .before .before .before .before .args .x) (c .before .before .before .before .before .args .at) (command-of B i d) (last-first (c .before .before .before .before .before .args .items .now) (c .before .before .before .before .before .args .len))) (sym (c .before .before .enum-told2 .given .1)))
 
 returns-5 : tie.Need-returns-5
 unfolding stepped command-of
 returns-5 c =
-    λ B i. ap (λ (d : CodeCommand). stepped ((c .before .before) .args .x) ((c .before .before) .args .at) (command-of B i d) (held ((c .before .before) .args .t))) (sym (c .enum-told3 .given .1))
+    λ B i. holds-as (record { room = c .before .before .before .pre .0; holds = refl }) (ap (λ (d : CodeCommand). stepped (c .before .before .before .args .x) (c .before .before .before .args .at) (command-of B i d) (last-first (c .before .before .before .args .items .now) (c .before .before .before .args .len))) (sym (c .enum-told3 .given .1)))
 
 returns-6 : tie.Need-returns-6
 unfolding stepped command-of
 returns-6 c =
-    λ B i. ap (λ (d : CodeCommand). stepped ((c .before .before) .args .x) ((c .before .before) .args .at) (command-of B i d) (held ((c .before .before) .args .t))) (sym (c .enum-told4 .given .1))
+    λ B i. holds-as (record { room = c .before .before .before .pre .0; holds = refl }) (ap (λ (d : CodeCommand). stepped (c .before .before .before .args .x) (c .before .before .before .args .at) (command-of B i d) (last-first (c .before .before .before .args .items .now) (c .before .before .before .args .len))) (sym (c .enum-told4 .given .1)))
 
 returns-7 : tie.Need-returns-7
 unfolding stepped command-of
 returns-7 c =
-    λ B i. ap (λ (d : CodeCommand). stepped ((c .before .before) .args .x) ((c .before .before) .args .at) (command-of B i d) (held ((c .before .before) .args .t))) (sym (c .enum-told5 .given .1))
+    λ B i. holds-as (record { room = c .before .before .before .pre .0; holds = refl }) (ap (λ (d : CodeCommand). stepped (c .before .before .before .args .x) (c .before .before .before .args .at) (command-of B i d) (last-first (c .before .before .before .args .items .now) (c .before .before .before .args .len))) (sym (c .enum-told5 .given .1)))
 
 pub after-spec : {M : Type 1} → statement M
 after-spec =
@@ -94,18 +106,22 @@ after-spec =
     push-requires
     enum-known-c
     condition-requires
-    chosen-requires
+    choose-requires
     enum-known-c-2
     test-requires
-    chosen-requires-2
+    choose-requires-2
     enum-told-2
     pop-requires
     enum-told-3
     enum-told-4
     enum-told-5
+    same-length
     returns
+    same-length-2
     returns-2
+    same-length-3
     returns-3
+    same-length-4
     returns-4
     returns-5
     returns-6

@@ -10,7 +10,7 @@ use Rattle.evaluate.proofs.chance_at.Tie as tie
 
 leaf-at-requires : tie.Need-leaf-at-requires
 leaf-at-requires c κs =
-    c .before .pre
+    c .before .before .pre
 
 leaf-requires : tie.Need-leaf-requires
 leaf-requires c κs =
@@ -22,7 +22,7 @@ weight-requires c κs =
 
 returns : tie.Need-returns
 returns c =
-    λ s z st. c .weight .ensures ∙ ap up (toZ-ofZ w64 (c .before .before .leaf .result .constant) (record { sfits = c .before .struct-told .given .1 .1 .1 .1 .0 .1 })) ∙ chance-is (c .before .before .before .before .before .args .model .now) (slot-of (c .before .before .before .before .before .args .g)) (c .before .before .before .before .before .args .x) _ (c .before .before .before .leaf-at .ensures) _ (c .before .before .leaf .ensures .1) s z st
+    λ s z st. c .weight .ensures ∙ ap up (toZ-ofZ w64 (c .before .before .leaf .result .constant) (record { sfits = c .before .struct-told .given .1 .1 .1 .1 .0 .1 })) ∙ chance-is (c .before .before .before .before .before .before .args .model .now) (slot-of (c .before .before .before .before .before .before .args .g)) (c .before .before .before .before .before .before .args .x) _ (c .before .before .before .leaf-at .ensures) _ (c .before .before .leaf .ensures .1) s z st
 
 pub chance-at-spec : {M : Type 1} → statement M
 chance-at-spec = tie.close (tie.spec leaf-at-requires leaf-requires weight-requires returns)

@@ -1,110 +1,27 @@
 -- `evaluate::leaf_at` meets its contract.
-use mathlib.Core.Path.{sym, _∙_}
-use Prim.Native.Nat.{_-_}
+use mathlib.Core.Path.{refl, sym, subst}
+use Prim.Native.Nat.{ℕ}
 use native.Mathlib.Omega.{arith}
-use lib.ListN.{length}
-use borrow.Author.Needs.{needs}
-use Rattle.command.specs.Held.{held}
-use Rattle.command.proofs.Forward.{whole-bytes}
-use Rattle.model.proofs.Walk.{whole-is, forward}
+use mathlib.Core.List.{[]}
 use Rattle.evaluate.specs.Pass.{slot-of}
-use Rattle.evaluate.proofs.Reach.{pass-comes}
-use Rattle.evaluate.proofs.Turns.{Seek, seek-starts, seek-stops, seek-found, seek-ends, seek-on, command-small}
+use Rattle.evaluate.specs.Parts.{Seek}
+use borrow.Author.Needs.{needs}
 use Rattle.evaluate.proofs.leaf_at.Statement.{statement}
 use Rattle.evaluate.proofs.leaf_at.Tie as tie
 
-abbrev Inv-loop : tie.InvT-loop
-Inv-loop model g x at₀ stack₀ at stack = Seek model x (slot-of g) at (held stack)
+begin-requires : tie.Need-begin-requires
+begin-requires c κs = search needs
 
-abbrev μ-loop : tie.MeasureT-loop
-μ-loop model g x at₀ stack₀ at stack = length model - at
+slice-aggregate-pass-from : tie.Need-slice-aggregate-pass-from
+slice-aggregate-pass-from c = search needs
 
-new-requires : tie.Need-new-requires Inv-loop μ-loop
-new-requires c κs =
-    tt
+pass-from-requires : tie.Need-pass-from-requires
+pass-from-requires c κs =
+    (c .before .before .before .before .pre .0, c .before .before .before .before .pre .1, c .before .before .before .before .pre .2, record { long = refl; few = omega arith }, subst (λ (k : ℕ). Seek (c .before .before .before .before .args .model .now) (c .before .before .before .before .args .x) (slot-of (c .before .before .before .before .args .g)) k []) (sym (c .before .begin .ensures)) (c .before .before .before .before .pre .3 .begins (slot-of (c .before .before .before .before .args .g)) (c .before .before .before .before .args .x)))
 
-loop-holds : tie.Need-loop-holds Inv-loop μ-loop
-loop-holds c =
-    seek-starts ((c .before .before) .args .model .now) ((c .before .before) .args .x) (slot-of ((c .before .before) .args .g)) _ (c .new .ensures)
-
-command-at-requires : tie.Need-command-at-requires Inv-loop μ-loop
-command-at-requires c κs =
-    tt
-
-enum-known-read : tie.Need-enum-known-read Inv-loop μ-loop
-enum-known-read c =
-    search needs
-
-returns : tie.Need-returns Inv-loop μ-loop
-returns c =
-    pass-comes ((c .before .before .before .before .before) .args .model .now) ((c .before .before .before .before .before) .args .x) (slot-of ((c .before .before .before .before .before) .args .g)) 0 ((c .before .before .before .before .before) .pre .0) ((c .before .before .before .before .before) .pre .2) (seek-stops (c .before .before .loop .inv) (c .before .command-at .result) (c .match .keys2) (c .before .command-at .ensures))
-
-takes-requires : tie.Need-takes-requires Inv-loop μ-loop
-takes-requires c κs =
-    tt
-
-top-requires : tie.Need-top-requires Inv-loop μ-loop
-top-requires c κs =
-    tt
-
-cast-result : tie.Need-cast-result Inv-loop μ-loop
-cast-result c =
-    search needs
-
-returns-2 : tie.Need-returns-2 Inv-loop μ-loop
-returns-2 c =
-    let e = whole-is ((c .before .before .before .before .before .before .before .before .before .before) .args .model .now) (c .before .before .before .before .before .before .before .loop .at) (c .before .before .before .before .before .before .command-at .ensures) (c .before .before .before .before .read .given .1) in
-    pass-comes ((c .before .before .before .before .before .before .before .before .before .before) .args .model .now) ((c .before .before .before .before .before .before .before .before .before .before) .args .x) (slot-of ((c .before .before .before .before .before .before .before .before .before .before) .args .g)) _ ((c .before .before .before .before .before .before .before .before .before .before) .pre .0) ((c .before .before .before .before .before .before .before .before .before .before) .pre .2) (seek-found (c .before .before .before .before .before .before .before .loop .inv) _ _ e (sym (c .before .before .takes .ensures ((c .before .before .before .before .before .before .before .before .before .before) .args .model .now) (c .before .before .before .before .before .before .before .loop .at)) ∙ c .before .if1 .taken) (c .top .ensures))
-
-is-end-requires : tie.Need-is-end-requires Inv-loop μ-loop
-is-end-requires c κs =
-    tt
-
-returns-3 : tie.Need-returns-3 Inv-loop μ-loop
-returns-3 c =
-    let e = whole-is ((c .before .before .before .before .before .before .before .before .before .before .before) .args .model .now) (c .before .before .before .before .before .before .before .before .loop .at) (c .before .before .before .before .before .before .before .command-at .ensures) (c .before .before .before .before .before .read .given .1) in
-    pass-comes ((c .before .before .before .before .before .before .before .before .before .before .before) .args .model .now) ((c .before .before .before .before .before .before .before .before .before .before .before) .args .x) (slot-of ((c .before .before .before .before .before .before .before .before .before .before .before) .args .g)) 0 ((c .before .before .before .before .before .before .before .before .before .before .before) .pre .0) ((c .before .before .before .before .before .before .before .before .before .before .before) .pre .2) (seek-ends (c .before .before .before .before .before .before .before .before .loop .inv) _ e (sym (c .before .is-end .ensures) ∙ c .if2 .taken))
-
-cast-after : tie.Need-cast-after Inv-loop μ-loop
-cast-after c =
-    let h = whole-bytes ((c .before .before .before .before .before .before .before .before .before .before .before) .args .model .now) (c .before .before .before .before .before .before .before .before .loop .at) _ (whole-is ((c .before .before .before .before .before .before .before .before .before .before .before) .args .model .now) (c .before .before .before .before .before .before .before .before .loop .at) (c .before .before .before .before .before .before .before .command-at .ensures) (c .before .before .before .before .before .read .given .1)) .0 .starts in omega (arith, (c .before .before .before .before .before .before .before .before .before .before .before) .pre .1)
-
-after-requires : tie.Need-after-requires Inv-loop μ-loop
-after-requires c κs =
-    command-small ((c .before .before .before .before .before .before .before .before .before .before .before) .args .model .now) (c .before .before .before .before .before .before .before .before .loop .at) _ (whole-is ((c .before .before .before .before .before .before .before .before .before .before .before) .args .model .now) (c .before .before .before .before .before .before .before .before .loop .at) (c .before .before .before .before .before .before .before .command-at .ensures) (c .before .before .before .before .before .read .given .1))
-
-next-after-requires : tie.Need-next-after-requires Inv-loop μ-loop
-next-after-requires c κs =
-    tt
-
-loop-less : tie.Need-loop-less Inv-loop μ-loop
-loop-less c =
-    let f = forward ((c .before .before .before .before .before .before .before .before .before .before .before .before .before) .args .model .now) (c .before .before .before .before .before .before .before .before .before .before .loop .at) _ (c .next-after .result) (whole-is ((c .before .before .before .before .before .before .before .before .before .before .before .before .before) .args .model .now) (c .before .before .before .before .before .before .before .before .before .before .loop .at) (c .before .before .before .before .before .before .before .before .before .command-at .ensures) (c .before .before .before .before .before .before .before .read .given .1)) (c .next-after .ensures) in
-    omega (arith, f .1, f .2)
-
-loop-again : tie.Need-loop-again Inv-loop μ-loop
-loop-again c =
-    seek-on (c .before .before .before .before .before .before .before .before .before .before .loop .inv) _ (c .next-after .result) _ (whole-is ((c .before .before .before .before .before .before .before .before .before .before .before .before .before) .args .model .now) (c .before .before .before .before .before .before .before .before .before .before .loop .at) (c .before .before .before .before .before .before .before .before .before .command-at .ensures) (c .before .before .before .before .before .before .before .read .given .1)) (sym (c .before .before .before .before .before .takes .ensures ((c .before .before .before .before .before .before .before .before .before .before .before .before .before) .args .model .now) (c .before .before .before .before .before .before .before .before .before .before .loop .at)) ∙ c .before .before .before .before .if1 .left) (sym (c .before .before .before .is-end .ensures) ∙ c .before .before .if2 .left) (c .next-after .ensures) (c .before .after .ensures ((c .before .before .before .before .before .before .before .before .before .before .before .before .before) .args .model .now) (c .before .before .before .before .before .before .before .before .before .before .loop .at))
+returns : tie.Need-returns
+returns c = search needs
 
 pub leaf-at-spec : {M : Type 1} → statement M
 leaf-at-spec =
-    tie.close
-    (tie.spec
-    Inv-loop
-    μ-loop
-    new-requires
-    loop-holds
-    command-at-requires
-    enum-known-read
-    returns
-    takes-requires
-    top-requires
-    cast-result
-    returns-2
-    is-end-requires
-    returns-3
-    cast-after
-    after-requires
-    next-after-requires
-    loop-less
-    loop-again)
+    tie.close (tie.spec begin-requires slice-aggregate-pass-from pass-from-requires returns)

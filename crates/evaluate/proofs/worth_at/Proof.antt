@@ -8,7 +8,7 @@ use Rattle.evaluate.proofs.worth_at.Tie as tie
 
 leaf-at-requires : tie.Need-leaf-at-requires
 leaf-at-requires c κs =
-    c .before .pre
+    c .before .before .pre
 
 leaf-requires : tie.Need-leaf-requires
 leaf-requires c κs =
@@ -20,7 +20,7 @@ numerator-requires c κs =
 
 returns : tie.Need-returns
 returns c =
-    λ s z st. c .numerator .ensures ∙ ap words (worth-is (c .before .before .before .before .args .model .now) (slot-of (c .before .before .before .before .args .g)) (c .before .before .before .before .args .x) _ (c .before .before .leaf-at .ensures) _ (c .before .leaf .ensures .1) s z st)
+    λ s z st. c .numerator .ensures ∙ ap words (worth-is (c .before .before .before .before .before .args .model .now) (slot-of (c .before .before .before .before .before .args .g)) (c .before .before .before .before .before .args .x) _ (c .before .before .leaf-at .ensures) _ (c .before .leaf .ensures .1) s z st)
 
 pub worth-at-spec : {M : Type 1} → statement M
 worth-at-spec = tie.close (tie.spec leaf-at-requires leaf-requires numerator-requires returns)

@@ -38,8 +38,8 @@ returns-2 c =
     let s = (c .before .before .before .before .before .before .before .before .before) in
     refused-state (s .args .bytes .now) (s .args .steps) (c .before .before .before .before .before .before .before .early .ensures) (c .before .before .before .before .before .if1 .left) _ _ _ _ _ _ (s .fits .l1) (s .fits .l2) (s .fits .l3) (s .fits .l4) (s .fits .d) (c .before .before .before .before .levels .ensures) (c .before .before .before .conditions .ensures) (c .before .before .accepted .ensures) (c .before .if2 .left) (c .refused2 .ensures)
 
-state-worth-requires : tie.Need-state-worth-requires
-state-worth-requires c κs =
+worked-requires : tie.Need-worked-requires
+worked-requires c κs =
     let s = (c .before .before .before .before .before .before .before .before) in (
       stands (s .args .bytes .now) (s .args .steps) (c .before .before .before .before .before .before .early .ensures) (c .before .before .before .before .if1 .left) _ _ _ _ _ _ (s .fits .l1) (s .fits .l2) (s .fits .l3) (s .fits .l4) (s .fits .d) (c .before .before .before .levels .ensures) (c .before .before .conditions .ensures) (c .before .accepted .ensures) (c .if2 .taken),
       passed (s .args .bytes .now) (s .args .steps) (c .before .before .before .before .before .before .early .ensures) (c .before .before .before .before .if1 .left) .steps .1,
@@ -51,7 +51,7 @@ answer-requires c κs = search needs
 returns-3 : tie.Need-returns-3
 returns-3 c =
     let s = (c .before .before .before .before .before .before .before .before .before .before) in
-    answered (s .args .bytes .now) (s .args .steps) (c .before .before .before .before .before .before .before .before .early .ensures) (c .before .before .before .before .before .before .if1 .left) _ _ _ _ _ _ (s .fits .l1) (s .fits .l2) (s .fits .l3) (s .fits .l4) (s .fits .d) (c .before .before .before .before .before .levels .ensures) (c .before .before .before .before .conditions .ensures) (c .before .before .before .accepted .ensures) (c .before .before .if2 .taken) (c .before .state-worth .ensures) (c .answer .ensures)
+    answered (s .args .bytes .now) (s .args .steps) (c .before .before .before .before .before .before .before .before .early .ensures) (c .before .before .before .before .before .before .if1 .left) _ _ _ _ _ _ (s .fits .l1) (s .fits .l2) (s .fits .l3) (s .fits .l4) (s .fits .d) (c .before .before .before .before .before .levels .ensures) (c .before .before .before .before .conditions .ensures) (c .before .before .before .accepted .ensures) (c .before .before .if2 .taken) (c .before .worked .ensures) (c .answer .ensures)
 
 pub worth-spec : {M : Type 1} → statement M
 worth-spec =
@@ -67,6 +67,6 @@ worth-spec =
     accepted-requires
     refused-requires-2
     returns-2
-    state-worth-requires
+    worked-requires
     answer-requires
     returns-3)

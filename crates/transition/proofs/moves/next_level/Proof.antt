@@ -12,14 +12,14 @@ levels-requires c κs = search needs
 
 returns : tie.Need-returns
 returns c =
-    let s = (c .before .before .before) in
+    let s = (c .before .before .before .before) in
     level-beyond (s .args .model .now) (s .args .a) (s .args .i) (s .args .x) _ (c .before .levels .ensures) (c .if1 .taken)
 
 worth-at-requires : tie.Need-worth-at-requires
 worth-at-requires c κs =
-    let s = (c .before .before .before) in
+    let s = (c .before .before .before .before) in
     let e = c .before .levels .ensures in
-    (s .pre .0 .accepted, s .pre .0 .short, wants-level (site-at (s .args .model .now)) (s .args .a) (s .pre .1 .0) (s .pre .1 .1) (s .args .i) (s .pre .2) (omega (arith, c .if1 .left)))
+    (s .pre .0 .accepted, s .pre .0 .short, wants-level (site-at (s .args .model .now)) (s .args .a) (s .pre .1 .0) (s .pre .1 .1) (s .args .i) (s .pre .2) (omega (arith, c .if1 .left)), s .pre .3)
 
 narrow-requires : tie.Need-narrow-requires
 narrow-requires c κs = search needs
@@ -29,7 +29,7 @@ in-32-bits-requires c κs = search needs
 
 returns-2 : tie.Need-returns-2
 returns-2 c =
-    let s = (c .before .before .before .before .before .before) in
+    let s = (c .before .before .before .before .before .before .before) in
     level-found (s .args .model .now) (s .args .a) (s .args .i) (s .args .x) _ (c .before .before .before .before .levels .ensures) (c .before .before .before .if1 .left) _ (c .before .before .worth-at .ensures) (c .before .narrow .ensures) (c .in-32-bits .ensures)
 
 pub next-level-spec : {M : Type 1} → statement M

@@ -12,18 +12,18 @@ conditions-requires c κs = search needs
 
 returns : tie.Need-returns
 returns c =
-    let s = (c .before .before .before) in
+    let s = (c .before .before .before .before) in
     chance-beyond (s .args .model .now) (s .args .a) (s .args .k) (s .args .x) (s .pre .0) (s .pre .1) (s .pre .2) _ (c .before .conditions .ensures) (c .if1 .taken)
 
 chance-at-requires : tie.Need-chance-at-requires
 chance-at-requires c κs =
-    let s = (c .before .before .before) in
+    let s = (c .before .before .before .before) in
     let e = c .before .conditions .ensures in
-    (s .pre .0 .ready .accepted, s .pre .0 .ready .short, wants-chance (site-at (s .args .model .now)) (s .args .a) (s .pre .1 .0) (s .pre .1 .1) (s .args .k) (s .pre .2) (omega (arith, c .if1 .left)))
+    (s .pre .0 .ready .accepted, s .pre .0 .ready .short, wants-chance (site-at (s .args .model .now)) (s .args .a) (s .pre .1 .0) (s .pre .1 .1) (s .args .k) (s .pre .2) (omega (arith, c .if1 .left)), s .pre .3)
 
 returns-2 : tie.Need-returns-2
 returns-2 c =
-    let s = (c .before .before .before .before) in
+    let s = (c .before .before .before .before .before) in
     chance-found (s .args .model .now) (s .args .a) (s .args .k) (s .args .x) (s .pre .0) (s .pre .1) (s .pre .2) _ (c .before .before .conditions .ensures) (c .before .if1 .left) _ (c .chance-at .ensures)
 
 pub chance-spec : {M : Type 1} → statement M

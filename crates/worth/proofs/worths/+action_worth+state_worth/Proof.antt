@@ -37,37 +37,37 @@ to-state h t n e = omega arith
 to-action : (h t : ℕ) → 2 * h + 1 ≡ t → 2 * h < t
 to-action h t e = omega arith
 
-abbrev μ-action-worth : Measures 1 action-worth-kinds.ps ℕ
-μ-action-worth κs a = 2 * a .1 .0
+abbrev μ-action-worth : Measures 2 action-worth-kinds.ps ℕ
+μ-action-worth κs a = 2 * a .1 .1 .0
 
-abbrev μ-state-worth : Measures 1 state-worth-kinds.ps ℕ
-μ-state-worth κs a = 2 * a .1 .0 + 1
+abbrev μ-state-worth : Measures 2 state-worth-kinds.ps ℕ
+μ-state-worth κs a = 2 * a .1 .1 .0 + 1
 
-abbrev action-worth-at : ℕ → In 1 action-worth-kinds.ps
+abbrev action-worth-at : ℕ → In 2 action-worth-kinds.ps
 action-worth-at t =
-    and 1 action-worth-kinds.ps (is 1 action-worth-kinds.ps μ-action-worth t) action-worth.Pre
+    and 2 action-worth-kinds.ps (is 2 action-worth-kinds.ps μ-action-worth t) action-worth.Pre
 
-abbrev action-worth-below : ℕ → In 1 action-worth-kinds.ps
+abbrev action-worth-below : ℕ → In 2 action-worth-kinds.ps
 action-worth-below t =
     and
-    1
+    2
     action-worth-kinds.ps
-    (falls 1 action-worth-kinds.ps _<_ μ-action-worth t)
+    (falls 2 action-worth-kinds.ps _<_ μ-action-worth t)
     action-worth.Pre
 
-abbrev state-worth-at : ℕ → In 1 state-worth-kinds.ps
+abbrev state-worth-at : ℕ → In 2 state-worth-kinds.ps
 state-worth-at t =
-    and 1 state-worth-kinds.ps (is 1 state-worth-kinds.ps μ-state-worth t) state-worth.Pre
+    and 2 state-worth-kinds.ps (is 2 state-worth-kinds.ps μ-state-worth t) state-worth.Pre
 
-abbrev state-worth-below : ℕ → In 1 state-worth-kinds.ps
+abbrev state-worth-below : ℕ → In 2 state-worth-kinds.ps
 state-worth-below t =
-    and 1 state-worth-kinds.ps (falls 1 state-worth-kinds.ps _<_ μ-state-worth t) state-worth.Pre
+    and 2 state-worth-kinds.ps (falls 2 state-worth-kinds.ps _<_ μ-state-worth t) state-worth.Pre
 
 abbrev action-worth-Inv-loop : action-worth-lts.InvT-loop
-action-worth-Inv-loop model steps a x c count sum₀ r₀ sum r = Sums model steps a x count sum r
+action-worth-Inv-loop model parts steps a x c count sum₀ r₀ sum r = Sums model steps a x count sum r
 
 abbrev action-worth-μ-loop : action-worth-lts.MeasureT-loop
-action-worth-μ-loop model steps a x c count sum₀ r₀ sum r = count - r
+action-worth-μ-loop model parts steps a x c count sum₀ r₀ sum r = count - r
 
 -- the contracts that `action_worth` calls by, itself at a smaller measure
 abbrev action-worth-claims : ℕ → action-worth-lts.Claims
@@ -109,19 +109,19 @@ state-worth-claims t = (
 
 action-worth-chances-requires : (t : ℕ) → action-worth-lts.Need-chances-requires (action-worth-claims t) (action-worth-at t) action-worth.Post action-worth-Inv-loop action-worth-μ-loop
 action-worth-chances-requires t c κs =
-    ((c .before) .pre .1 .0, (c .before) .pre .1 .1)
+    ((c .before .before) .pre .1 .0, (c .before .before) .pre .1 .1, (c .before .before) .pre .1 .4)
 
 action-worth-settings-requires : (t : ℕ) → action-worth-lts.Need-settings-requires (action-worth-claims t) (action-worth-at t) action-worth.Post action-worth-Inv-loop action-worth-μ-loop
 action-worth-settings-requires t c κs =
-    (c .before .before) .pre .1 .0 .ready
+    (c .before .before .before) .pre .1 .0 .ready
 
 action-worth-earned-requires : (t : ℕ) → action-worth-lts.Need-earned-requires (action-worth-claims t) (action-worth-at t) action-worth.Post action-worth-Inv-loop action-worth-μ-loop
 action-worth-earned-requires t c κs =
-    ((c .before .before .before) .pre .1 .0, (c .before .before .before) .pre .1 .1, (c .before .before .before) .pre .1 .3)
+    ((c .before .before .before .before) .pre .1 .0, (c .before .before .before .before) .pre .1 .1, (c .before .before .before .before) .pre .1 .3, (c .before .before .before .before) .pre .1 .4)
 
 action-worth-loop-holds : (t : ℕ) → action-worth-lts.Need-loop-holds (action-worth-claims t) (action-worth-at t) action-worth.Post action-worth-Inv-loop action-worth-μ-loop
 action-worth-loop-holds t c =
-    let s = (c .before .before .before .before) in
+    let s = (c .before .before .before .before .before) in
     sums-start (s .args .model .now) (s .args .steps) (s .args .a) (s .args .x) _ _ (s .pre .1 .0) (s .pre .1 .1) (c .before .settings .ensures) (c .earned .ensures)
 
 action-worth-settings-done-requires : (t : ℕ) → action-worth-lts.Need-settings-done-requires (action-worth-claims t) (action-worth-at t) action-worth.Post action-worth-Inv-loop action-worth-μ-loop
@@ -134,12 +134,12 @@ action-worth-worth-of-requires t c κs =
 
 action-worth-returns : (t : ℕ) → action-worth-lts.Need-returns (action-worth-claims t) (action-worth-at t) action-worth.Post action-worth-Inv-loop action-worth-μ-loop
 action-worth-returns t c =
-    let s = (c .before .before .before .before .before .before .before .before) in
+    let s = (c .before .before .before .before .before .before .before .before .before) in
     sums-end (s .args .model .now) (s .args .steps) (s .args .a) (s .args .x) _ _ _ (c .before .before .before .loop .inv) (c .before .before .settings-done .ensures) (c .before .if1 .taken) (c .worth-of .ensures)
 
 action-worth-weight-requires : (t : ℕ) → action-worth-lts.Need-weight-requires (action-worth-claims t) (action-worth-at t) action-worth.Post action-worth-Inv-loop action-worth-μ-loop
 action-worth-weight-requires t c κs =
-    ((c .before .before .before .before .before .before .before) .pre .1 .0 .ready, c .before .before .before .before .before .chances .ensures .bounded)
+    ((c .before .before .before .before .before .before .before .before) .pre .1 .0 .ready, c .before .before .before .before .before .chances .ensures .bounded)
 
 action-worth-add-r : (t : ℕ) → action-worth-lts.Need-add-r (action-worth-claims t) (action-worth-at t) action-worth.Post action-worth-Inv-loop action-worth-μ-loop
 action-worth-add-r t c =
@@ -151,12 +151,12 @@ action-worth-loop-less t c =
 
 action-worth-loop-again : (t : ℕ) → action-worth-lts.Need-loop-again (action-worth-claims t) (action-worth-at t) action-worth.Post action-worth-Inv-loop action-worth-μ-loop
 action-worth-loop-again t c =
-    let s = (c .before .before .before .before .before .before .before .before .before) in
+    let s = (c .before .before .before .before .before .before .before .before .before .before) in
     sums-skip (s .args .model .now) (s .args .steps) (s .args .a) (s .args .x) _ _ _ (c .before .before .before .before .loop .inv) _ (c .before .before .before .before .before .before .before .chances .ensures) _ (c .before .weight .ensures) (goes-on (is-over (c .before .before .before .before .loop .sum)) (c .before .before .before .before .before .before .settings .result) (c .before .before .before .before .loop .r) _ (c .before .before .before .settings-done .ensures) (c .before .before .if1 .left)) (c .if2 .taken)
 
 action-worth-next-state-requires : (t : ℕ) → action-worth-lts.Need-next-state-requires (action-worth-claims t) (action-worth-at t) action-worth.Post action-worth-Inv-loop action-worth-μ-loop
 action-worth-next-state-requires t c κs =
-    ((c .before .before .before .before .before .before .before .before .before) .pre .1 .0 .ready, (c .before .before .before .before .before .before .before .before .before) .pre .1 .1)
+    ((c .before .before .before .before .before .before .before .before .before .before) .pre .1 .0 .ready, (c .before .before .before .before .before .before .before .before .before .before) .pre .1 .1, (c .before .before .before .before .before .before .before .before .before .before) .pre .1 .4)
 
 action-worth-enum-known-y : (t : ℕ) → action-worth-lts.Need-enum-known-y (action-worth-claims t) (action-worth-at t) action-worth.Post action-worth-Inv-loop action-worth-μ-loop
 action-worth-enum-known-y t c =
@@ -168,17 +168,17 @@ action-worth-enum-told t c =
 
 action-worth-returns-2 : (t : ℕ) → action-worth-lts.Need-returns-2 (action-worth-claims t) (action-worth-at t) action-worth.Post action-worth-Inv-loop action-worth-μ-loop
 action-worth-returns-2 t c =
-    let s = (c .before .before .before .before .before .before .before .before .before .before .before .before) in
+    let s = (c .before .before .before .before .before .before .before .before .before .before .before .before .before) in
     sums-over (s .args .model .now) (s .args .steps) (s .args .a) (s .args .x) _ _ _ (c .before .before .before .before .before .before .before .loop .inv) _ (c .before .before .before .before .before .before .before .before .before .before .chances .ensures) _ (c .before .before .before .before .weight .ensures) (goes-on (is-over (c .before .before .before .before .before .before .before .loop .sum)) (c .before .before .before .before .before .before .before .before .before .settings .result) (c .before .before .before .before .before .before .before .loop .r) _ (c .before .before .before .before .before .before .settings-done .ensures) (c .before .before .before .before .before .if1 .left)) (c .before .before .before .if2 .left) _ (c .before .before .next-state .ensures) (c .enum-told .given .1)
 
 action-worth-sub-state-worth : (t : ℕ) → action-worth-lts.Need-sub-state-worth (action-worth-claims t) (action-worth-at t) action-worth.Post action-worth-Inv-loop action-worth-μ-loop
 action-worth-sub-state-worth t c =
-    (c .before .before .before .before .before .before .before .before .before .before .before .before .before) .pre .1 .2
+    (c .before .before .before .before .before .before .before .before .before .before .before .before .before .before) .pre .1 .2
 
 action-worth-state-worth-requires : (t : ℕ) → action-worth-lts.Need-state-worth-requires (action-worth-claims t) (action-worth-at t) action-worth.Post action-worth-Inv-loop action-worth-μ-loop
 action-worth-state-worth-requires t c κs =
-    let s = (c .before .before .before .before .before .before .before .before .before .before .before .before .before) in
-    (to-state (s .args .steps) t (s .pre .1 .2) (s .pre .0), (next-stands (s .args .model .now) (s .args .a) (s .args .x) _ _ (s .pre .1 .0) (c .before .before .before .next-state .ensures) _ (c .before .y .given .1), omega (arith, s .pre .1 .3)))
+    let s = (c .before .before .before .before .before .before .before .before .before .before .before .before .before .before) in
+    (to-state (s .args .steps) t (s .pre .1 .2) (s .pre .0), (next-stands (s .args .model .now) (s .args .a) (s .args .x) _ _ (s .pre .1 .0) (c .before .before .before .next-state .ensures) _ (c .before .y .given .1), omega (arith, s .pre .1 .3), s .pre .1 .4))
 
 action-worth-added-requires : (t : ℕ) → action-worth-lts.Need-added-requires (action-worth-claims t) (action-worth-at t) action-worth.Post action-worth-Inv-loop action-worth-μ-loop
 action-worth-added-requires t c κs =
@@ -194,18 +194,18 @@ action-worth-loop-less-2 t c =
 
 action-worth-loop-again-2 : (t : ℕ) → action-worth-lts.Need-loop-again-2 (action-worth-claims t) (action-worth-at t) action-worth.Post action-worth-Inv-loop action-worth-μ-loop
 action-worth-loop-again-2 t c =
-    let s = (c .before .before .before .before .before .before .before .before .before .before .before .before .before .before .before) in
+    let s = (c .before .before .before .before .before .before .before .before .before .before .before .before .before .before .before .before) in
     sums-add (s .args .model .now) (s .args .steps) (s .args .a) (s .args .x) _ _ _ (c .before .before .before .before .before .before .before .before .before .before .loop .inv) _ (c .before .before .before .before .before .before .before .before .before .before .before .before .before .chances .ensures) _ (c .before .before .before .before .before .before .before .weight .ensures) (goes-on (is-over (c .before .before .before .before .before .before .before .before .before .before .loop .sum)) (c .before .before .before .before .before .before .before .before .before .before .before .before .settings .result) (c .before .before .before .before .before .before .before .before .before .before .loop .r) _ (c .before .before .before .before .before .before .before .before .before .settings-done .ensures) (c .before .before .before .before .before .before .before .before .if1 .left)) (c .before .before .before .before .before .before .if2 .left) _ (c .before .before .before .before .before .next-state .ensures) _ (c .before .before .before .y .given .1) _ (c .before .state-worth .ensures) _ (c .added .ensures)
 
 abbrev state-worth-Inv-loop : state-worth-lts.InvT-loop
-state-worth-Inv-loop model steps x last best₀ a₀ best a = Tries model steps x last best a
+state-worth-Inv-loop model parts steps x last best₀ a₀ best a = Tries model steps x last best a
 
 abbrev state-worth-μ-loop : state-worth-lts.MeasureT-loop
-state-worth-μ-loop model steps x last best₀ a₀ best a = last + 1 - a
+state-worth-μ-loop model parts steps x last best₀ a₀ best a = last + 1 - a
 
 state-worth-returns : (t : ℕ) → state-worth-lts.Need-returns (state-worth-claims t) (state-worth-at t) state-worth.Post state-worth-Inv-loop state-worth-μ-loop
 state-worth-returns t c =
-    none-left-worth ((c .before .before) .args .model .now) ((c .before .before) .args .steps) ((c .before .before) .args .x) (c .if1 .taken)
+    none-left-worth ((c .before .before .before) .args .model .now) ((c .before .before .before) .args .steps) ((c .before .before .before) .args .x) (c .if1 .taken)
 
 state-worth-actions-requires : (t : ℕ) → state-worth-lts.Need-actions-requires (state-worth-claims t) (state-worth-at t) state-worth.Post state-worth-Inv-loop state-worth-μ-loop
 state-worth-actions-requires t c κs =
@@ -213,8 +213,8 @@ state-worth-actions-requires t c κs =
 
 state-worth-action-worth-requires : (t : ℕ) → state-worth-lts.Need-action-worth-requires (state-worth-claims t) (state-worth-at t) state-worth.Post state-worth-Inv-loop state-worth-μ-loop
 state-worth-action-worth-requires t c κs =
-    let s = (c .before .before .before) in
-    (to-action (s .args .steps) t (s .pre .0), (s .pre .1 .0, (omega arith, site-accepted (s .args .model .now) (s .pre .1 .0 .ready .accepted) .actions .0), omega (arith, c .before .if1 .left), s .pre .1 .1))
+    let s = (c .before .before .before .before) in
+    (to-action (s .args .steps) t (s .pre .0), (s .pre .1 .0, (omega arith, site-accepted (s .args .model .now) (s .pre .1 .0 .ready .accepted) .actions .0), omega (arith, c .before .if1 .left), s .pre .1 .1, s .pre .1 .2))
 
 state-worth-numbered-requires : (t : ℕ) → state-worth-lts.Need-numbered-requires (state-worth-claims t) (state-worth-at t) state-worth.Post state-worth-Inv-loop state-worth-μ-loop
 state-worth-numbered-requires t c κs =
@@ -222,7 +222,7 @@ state-worth-numbered-requires t c κs =
 
 state-worth-loop-holds : (t : ℕ) → state-worth-lts.Need-loop-holds (state-worth-claims t) (state-worth-at t) state-worth.Post state-worth-Inv-loop state-worth-μ-loop
 state-worth-loop-holds t c =
-    let s = (c .before .before .before .before .before) in
+    let s = (c .before .before .before .before .before .before) in
     tries-start (s .args .model .now) (s .args .steps) (s .args .x) _ (c .before .before .actions .ensures) (s .pre .1 .0 .ready) (c .before .before .before .if1 .left) _ (c .before .action-worth .ensures) _ (c .numbered .ensures)
 
 state-worth-actions-done-requires : (t : ℕ) → state-worth-lts.Need-actions-done-requires (state-worth-claims t) (state-worth-at t) state-worth.Post state-worth-Inv-loop state-worth-μ-loop
@@ -231,14 +231,14 @@ state-worth-actions-done-requires t c κs =
 
 state-worth-returns-2 : (t : ℕ) → state-worth-lts.Need-returns-2 (state-worth-claims t) (state-worth-at t) state-worth.Post state-worth-Inv-loop state-worth-μ-loop
 state-worth-returns-2 t c =
-    let s = (c .before .before .before .before .before .before .before .before) in
+    let s = (c .before .before .before .before .before .before .before .before .before) in
     tries-end (s .args .model .now) (s .args .steps) (s .args .x) _ (c .before .before .before .before .before .actions .ensures) _ _ (c .before .before .loop .inv) (c .before .actions-done .ensures) (c .if2 .taken)
 
 state-worth-action-worth-requires-2 : (t : ℕ) → state-worth-lts.Need-action-worth-requires-2 (state-worth-claims t) (state-worth-at t) state-worth.Post state-worth-Inv-loop state-worth-μ-loop
 state-worth-action-worth-requires-2 t c κs =
-    let s = (c .before .before .before .before .before .before .before .before) in
+    let s = (c .before .before .before .before .before .before .before .before .before) in
     let h = not-last (none-left (total-of (c .before .before .loop .best))) (c .before .before .before .before .before .actions .result) (c .before .before .loop .a) _ (c .before .actions-done .ensures) (c .if2 .left) in
-    (to-action (s .args .steps) t (s .pre .0), (s .pre .1 .0, (omega (arith, c .before .before .loop .inv .low), omega (arith, h, c .before .before .before .before .before .actions .ensures)), omega (arith, c .before .before .before .before .before .before .if1 .left), s .pre .1 .1))
+    (to-action (s .args .steps) t (s .pre .0), (s .pre .1 .0, (omega (arith, c .before .before .loop .inv .low), omega (arith, h, c .before .before .before .before .before .actions .ensures)), omega (arith, c .before .before .before .before .before .before .if1 .left), s .pre .1 .1, s .pre .1 .2))
 
 state-worth-better-requires : (t : ℕ) → state-worth-lts.Need-better-requires (state-worth-claims t) (state-worth-at t) state-worth.Post state-worth-Inv-loop state-worth-μ-loop
 state-worth-better-requires t c κs =
@@ -246,7 +246,7 @@ state-worth-better-requires t c κs =
 
 state-worth-add-a : (t : ℕ) → state-worth-lts.Need-add-a (state-worth-claims t) (state-worth-at t) state-worth.Post state-worth-Inv-loop state-worth-μ-loop
 state-worth-add-a t c =
-    let s = (c .before .before .before .before .before .before .before .before .before .before) in
+    let s = (c .before .before .before .before .before .before .before .before .before .before .before) in
     omega (arith, not-last (none-left (total-of (c .before .before .before .before .loop .best))) (c .before .before .before .before .before .before .before .actions .result) (c .before .before .before .before .loop .a) _ (c .before .before .before .actions-done .ensures) (c .before .before .if2 .left), c .before .before .before .before .before .before .before .actions .ensures, site-accepted (s .args .model .now) (s .pre .1 .0 .ready .accepted) .actions .1)
 
 state-worth-loop-less : (t : ℕ) → state-worth-lts.Need-loop-less (state-worth-claims t) (state-worth-at t) state-worth.Post state-worth-Inv-loop state-worth-μ-loop
@@ -255,7 +255,7 @@ state-worth-loop-less t c =
 
 state-worth-loop-again : (t : ℕ) → state-worth-lts.Need-loop-again (state-worth-claims t) (state-worth-at t) state-worth.Post state-worth-Inv-loop state-worth-μ-loop
 state-worth-loop-again t c =
-    let s = (c .before .before .before .before .before .before .before .before .before .before) in
+    let s = (c .before .before .before .before .before .before .before .before .before .before .before) in
     tries-on (s .args .model .now) (s .args .steps) (s .args .x) _ (c .before .before .before .before .before .before .before .actions .ensures) _ _ (c .before .before .before .before .loop .inv) (not-last (none-left (total-of (c .before .before .before .before .loop .best))) (c .before .before .before .before .before .before .before .actions .result) (c .before .before .before .before .loop .a) _ (c .before .before .before .actions-done .ensures) (c .before .before .if2 .left)) _ (c .before .action-worth2 .ensures) _ (c .better .ensures)
 
 pub +action-worth+state-worth-spec : {M : Type 1} → statement M

@@ -21,7 +21,7 @@ cast-power-within c = search needs
 
 mul-power-within : tie.Need-mul-power-within
 mul-power-within c =
-    let s = (c .before .before .before) in
+    let s = (c .before .before .before .before) in
     omega (arith, exponent-fits (s .args .model .now) (s .pre .0 .ready) _ (s .args .steps) (c .before .conditions .ensures) (s .pre .2))
 
 power-within-requires : tie.Need-power-within-requires
@@ -29,8 +29,8 @@ power-within-requires c κs = search needs
 
 worth-at-requires : tie.Need-worth-at-requires
 worth-at-requires c κs =
-    let s = (c .before .before .before .before) in
-    (s .pre .0 .ready .accepted, s .pre .0 .ready .short, wants-reward (site-at (s .args .model .now)) (s .args .a) (s .pre .1 .0) (s .pre .1 .1))
+    let s = (c .before .before .before .before .before) in
+    (s .pre .0 .ready .accepted, s .pre .0 .ready .short, wants-reward (site-at (s .args .model .now)) (s .args .a) (s .pre .1 .0) (s .pre .1 .1), s .pre .3)
 
 narrow-requires : tie.Need-narrow-requires
 narrow-requires c κs = search needs
@@ -40,7 +40,7 @@ times-requires c κs = search needs
 
 returns : tie.Need-returns
 returns c =
-    let s = (c .before .before .before .before .before .before .before) in
+    let s = (c .before .before .before .before .before .before .before .before) in
     earned-is (s .args .model .now) (s .args .steps) (s .args .a) (s .args .x) (s .pre .0) (c .before .before .before .before .before .conditions .ensures) (c .before .before .before .before .weights .ensures) (c .before .before .before .power-within .ensures) (c .before .before .worth-at .ensures) (c .before .narrow .ensures) (c .times .ensures)
 
 pub earned-spec : {M : Type 1} → statement M

@@ -1,0 +1,134 @@
+-- Each slot has its own place, and a word that is put there stands there alone.
+use mathlib.Core.Path.{_≡_, refl, sym, ap, _∙_}
+use mathlib.Core.Bool.{Bool, true, false}
+use mathlib.Core.List.{List}
+use Prim.Native.Nat.{ℕ, _+_, _-_, _*_, _≤_, _<_}
+use native.Mathlib.Omega.{arith}
+use borrow.Author.Tests.{eq-eqb, ne-eqb, eqb-true, eqb-false, ltb-true, ltb-false, leb-true, leb-false}
+use lib.Dec.{eqb, leb, ltb}
+use lib.ListN.{length, getD, set, length-set}
+use lib.Seq.{set-out, getD-set-same, getD-set-other}
+use Rattle.whole.specs.Cases.{if, by-eq}
+use Rattle.theory.specs.Widths.{conditions-most}
+use Rattle.theory.specs.Command.{Slot}
+use Rattle.evaluate.specs.Parts.{slots-each, slots-most, row, place, put}
+
+-- ---- rows
+
+-- the command and the index that a row has
+record Back (c i r : ℕ) : Type 0 where
+  reward : r ≡ 0 → (c ≡ 0x20) × (i ≡ 0)
+  chance : 1 ≤ r → r ≤ conditions-most → (c ≡ 0x21) × (i ≡ r)
+  level : conditions-most < r → (c ≡ 0x22) × (i ≡ r - conditions-most)
+
+row-back : (c i : ℕ) → row c i < slots-each → Back c i (row c i)
+unfolding row
+row-back c i = by-eq (eqb c 0x20) (λ b. (if b (if (eqb i 0) 0 slots-each) (rest (eqb i 0) (ltb conditions-most i) (eqb c 0x21) (eqb c 0x22))) < slots-each → Back c i (if b (if (eqb i 0) 0 slots-each) (rest (eqb i 0) (ltb conditions-most i) (eqb c 0x21) (eqb c 0x22))))
+    (λ e. by-eq (eqb i 0) (λ b. if b 0 slots-each < slots-each → Back c i (if b 0 slots-each))
+    (λ f _. record { reward = λ _. (eqb-true c 0x20 e, eqb-true i 0 f); chance = λ u _. absurd (omega arith); level = λ u. absurd (omega arith) })
+    (λ _ h. absurd (omega arith)))
+    (λ _. others (eqb i 0) (ltb conditions-most i) (eqb c 0x21) (eqb c 0x22) refl refl refl refl)
+  where
+    rest : Bool → Bool → Bool → Bool → ℕ
+    rest z m d l = if z slots-each (if m slots-each (if d i (if l (conditions-most + i) slots-each)))
+
+    others : (z m d l : Bool) → eqb i 0 ≡ z → ltb conditions-most i ≡ m → eqb c 0x21 ≡ d → eqb c 0x22 ≡ l → rest z m d l < slots-each → Back c i (rest z m d l)
+    others true m d l e₁ e₂ e₃ e₄ h = absurd (omega arith)
+    others false true d l e₁ e₂ e₃ e₄ h = absurd (omega arith)
+    others false false true l e₁ e₂ e₃ e₄ h =
+        let z = eqb-false i 0 e₁ in
+        let m = ltb-false conditions-most i e₂ in
+        record { reward = λ u. absurd (z u); chance = λ _ _. (eqb-true c 0x21 e₃, refl); level = λ u. absurd (omega arith) }
+    others false false false true e₁ e₂ e₃ e₄ h =
+        let z = eqb-false i 0 e₁ in
+        record { reward = λ u. absurd (omega arith); chance = λ u v. absurd (z (omega arith)); level = λ u. (eqb-true c 0x22 e₄, omega arith) }
+    others false false false false e₁ e₂ e₃ e₄ h = absurd (omega arith)
+
+one-slot : (c i d j r : ℕ) → Back c i r → Back d j r → (c ≡ d) × (i ≡ j)
+one-slot c i d j r a b = go (eqb r 0) (leb r conditions-most) refl refl
+  where
+    go : (z m : Bool) → eqb r 0 ≡ z → leb r conditions-most ≡ m → (c ≡ d) × (i ≡ j)
+    go true m e f = let u = eqb-true r 0 e in (a .reward u .0 ∙ sym (b .reward u .0), a .reward u .1 ∙ sym (b .reward u .1))
+    go false true e f =
+        let z = eqb-false r 0 e in
+        let u : 1 ≤ r = omega arith in
+        let v = leb-true r conditions-most f in
+        (a .chance u v .0 ∙ sym (b .chance u v .0), a .chance u v .1 ∙ sym (b .chance u v .1))
+    go false false e f = let u = leb-false r conditions-most f in (a .level u .0 ∙ sym (b .level u .0), a .level u .1 ∙ sym (b .level u .1))
+
+-- ---- places
+
+-- a place below slots-most is that of an action and a row
+record Placed (g : Slot) : Type 0 where
+  below : row (g .command) (g .index) < slots-each
+  is : place g ≡ (g .action) * slots-each + row (g .command) (g .index)
+
+placed : (g : Slot) → place g < slots-most → Placed g
+unfolding place
+placed g = by-eq (ltb (row (g .command) (g .index)) slots-each)
+    (λ b. if b ((g .action) * slots-each + row (g .command) (g .index)) slots-most < slots-most → Placed g)
+    (λ e _. record { below = ltb-true _ _ e; is = ap (λ (b : Bool). if b ((g .action) * slots-each + row (g .command) (g .index)) slots-most) e })
+    (λ _ h. absurd (omega arith))
+
+pub one-place : (g h : Slot) → place g < slots-most → place g ≡ place h → g ≡ h
+one-place g h u e =
+    let p = placed g u in
+    let q = placed h (omega arith) in
+    let pb = p .below in
+    let qb = q .below in
+    let pi = p .is in
+    let qi = q .is in
+    let a : g .action ≡ h .action = omega arith in
+    let r : row (g .command) (g .index) ≡ row (h .command) (h .index) = omega arith in
+    let s = one-slot (g .command) (g .index) (h .command) (h .index) (row (g .command) (g .index)) (row-back (g .command) (g .index) pb) (rw r (row-back (h .command) (h .index) qb)) in
+    λ i. record { command = s .0 i; action = a i; index = s .1 i }
+
+-- ---- what is put
+
+-- the three ways of `enter`
+module _ (g : Slot) (b : ℕ) (t : List ℕ) {p : ℕ} (e : p ≡ place g) where
+  as-put : put g b t ≡ if (eqb (getD t p 0) 0) (set t p b) t
+  unfolding put
+  as-put = rw (← e)
+
+  pub put-beyond : length t ≤ p → t ≡ put g b t
+  put-beyond h = sym (as-put ∙ by-eq (eqb (getD t p 0) 0) (λ c. if c (set t p b) t ≡ t) (λ _. set-out t p b h) (λ _. refl))
+
+  pub put-new : getD t p 0 ≡ 0 → set t p b ≡ put g b t
+  put-new h = sym (as-put ∙ ap (λ (c : Bool). if c (set t p b) t) (eq-eqb _ 0 h))
+
+  pub put-old : (getD t p 0 ≡ 0 → ⊥) → t ≡ put g b t
+  put-old h = sym (as-put ∙ ap (λ (c : Bool). if c (set t p b) t) (ne-eqb _ 0 h))
+
+pub put-long : (g : Slot) (b : ℕ) (t : List ℕ) → length (put g b t) ≡ length t
+unfolding put
+put-long g b t = by-eq (eqb (getD t (place g) 0) 0) (λ c. length (if c (set t (place g) b) t) ≡ length t) (λ _. length-set t (place g) b) (λ _. refl)
+
+-- a place that still has 0 has not been put anything, and is not that of the slot
+pub put-open : (g h : Slot) (b : ℕ) (t : List ℕ) → 1 ≤ b → place h < length t → getD (put g b t) (place h) 0 ≡ 0 → (getD t (place h) 0 ≡ 0) × (place g ≡ place h → ⊥)
+unfolding put
+put-open g h b t u v e = go (eqb (getD t (place g) 0) 0) refl e
+  where
+    go : (c : Bool) → eqb (getD t (place g) 0) 0 ≡ c → getD (if c (set t (place g) b) t) (place h) 0 ≡ 0 → (getD t (place h) 0 ≡ 0) × (place g ≡ place h → ⊥)
+    go true f e = by-eq (eqb (place g) (place h)) (λ _. (getD t (place h) 0 ≡ 0) × (place g ≡ place h → ⊥))
+        (λ q. absurd (let p = eqb-true (place g) (place h) q in let z = sym (getD-set-same t (place h) b 0 v) ∙ ap (λ (k : ℕ). getD (set t k b) (place h) 0) (sym p) ∙ e in omega arith))
+        (λ q. let p = eqb-false (place g) (place h) q in (sym (getD-set-other t (place g) (place h) b 0 (λ k. p (sym k))) ∙ e, p))
+    go false f e = (e, λ p. eqb-false (getD t (place g) 0) 0 f (ap (λ (k : ℕ). getD t k 0) p ∙ e))
+
+-- what stands at a place was there, or is what was put
+pub put-is : (P : Slot → ℕ → Type 0) (g : Slot) (b : ℕ) (t : List ℕ) → length t ≡ slots-most → ((h : Slot) → P h (getD t (place h) 0)) → (place g < slots-most → getD t (place g) 0 ≡ 0 → P g b) → (h : Slot) → P h (getD (put g b t) (place h) 0)
+unfolding put
+put-is P g b t long stands f h = go (eqb (getD t (place g) 0) 0) refl
+  where
+    go : (c : Bool) → eqb (getD t (place g) 0) 0 ≡ c → P h (getD (if c (set t (place g) b) t) (place h) 0)
+    go false e = stands h
+    go true e = by-eq (ltb (place g) slots-most) (λ _. P h (getD (set t (place g) b) (place h) 0))
+        (λ q. inside (ltb-true _ _ q)) (λ q. outside (ltb-false _ _ q))
+      where
+        inside : place g < slots-most → P h (getD (set t (place g) b) (place h) 0)
+        inside u = by-eq (eqb (place g) (place h)) (λ _. P h (getD (set t (place g) b) (place h) 0))
+            (λ q. let p = eqb-true (place g) (place h) q in let s = one-place g h u p in rw (← s, getD-set-same t (place g) b 0 (omega (arith, long))) (f u (eqb-true _ 0 e)))
+            (λ q. let p = eqb-false (place g) (place h) q in rw (getD-set-other t (place g) (place h) b 0 (λ k. p (sym k))) (stands h))
+
+        outside : slots-most ≤ place g → P h (getD (set t (place g) b) (place h) 0)
+        outside u = rw (set-out t (place g) b (omega (arith, long))) (stands h)

@@ -1,0 +1,119 @@
+-- `evaluate::pass_from` meets its contract.
+use mathlib.Core.Path.{sym, _∙_}
+use Prim.Native.Nat.{_-_}
+use native.Mathlib.Omega.{arith}
+use lib.ListN.{length}
+use Rattle.command.specs.Held.{last-first}
+use Rattle.command.proofs.Forward.{whole-bytes}
+use Rattle.model.proofs.Walk.{whole-is, forward}
+use Rattle.evaluate.specs.Pass.{slot-of}
+use Rattle.evaluate.specs.Parts.{Room, Seek}
+use Rattle.evaluate.proofs.Reach.{pass-comes}
+use Rattle.evaluate.proofs.Turns.{seek-stops, seek-found, seek-ends, seek-on, command-small}
+use borrow.Author.Needs.{needs}
+use Rattle.evaluate.proofs.pass_from.Statement.{statement}
+use Rattle.evaluate.proofs.pass_from.Tie as tie
+
+abbrev Inv-loop : tie.InvT-loop
+Inv-loop model begin g x items₀ at₀ len₀ items at len = Room items len × Seek model x (slot-of g) at (last-first items len)
+
+abbrev μ-loop : tie.MeasureT-loop
+μ-loop model begin g x items₀ at₀ len₀ items at len = length model - at
+
+loop-holds : tie.Need-loop-holds Inv-loop μ-loop
+unfolding last-first
+loop-holds c =
+    (c .before .before .pre .3, c .before .before .pre .4)
+
+command-at-requires : tie.Need-command-at-requires Inv-loop μ-loop
+command-at-requires c κs =
+    tt
+
+enum-known-read : tie.Need-enum-known-read Inv-loop μ-loop
+enum-known-read c =
+    search needs
+
+same-length : tie.Need-same-length Inv-loop μ-loop
+same-length c =
+    search needs
+
+returns : tie.Need-returns Inv-loop μ-loop
+returns c =
+    pass-comes (c .before .before .before .before .before .args .model .now) (c .before .before .before .before .before .args .x) (slot-of (c .before .before .before .before .before .args .g)) 0 (c .before .before .before .before .before .pre .0) (c .before .before .before .before .before .pre .2) (seek-stops (c .before .before .loop .inv .1) (c .before .command-at .result) (c .match .keys2) (c .before .command-at .ensures))
+
+takes-requires : tie.Need-takes-requires Inv-loop μ-loop
+takes-requires c κs =
+    tt
+
+top-requires : tie.Need-top-requires Inv-loop μ-loop
+top-requires c κs =
+    c .before .before .before .before .before .before .before .loop .inv .0
+
+cast-result : tie.Need-cast-result Inv-loop μ-loop
+cast-result c =
+    search needs
+
+same-length-2 : tie.Need-same-length-2 Inv-loop μ-loop
+same-length-2 c =
+    search needs
+
+returns-2 : tie.Need-returns-2 Inv-loop μ-loop
+returns-2 c =
+    pass-comes (c .before .before .before .before .before .before .before .before .before .before .before .args .model .now) (c .before .before .before .before .before .before .before .before .before .before .before .args .x) (slot-of (c .before .before .before .before .before .before .before .before .before .before .before .args .g)) _ (c .before .before .before .before .before .before .before .before .before .before .before .pre .0) (c .before .before .before .before .before .before .before .before .before .before .before .pre .2) (seek-found (c .before .before .before .before .before .before .before .before .loop .inv .1) _ _ (whole-is (c .before .before .before .before .before .before .before .before .before .before .before .args .model .now) (c .before .before .before .before .before .before .before .before .loop .at) (c .before .before .before .before .before .before .before .command-at .ensures) (c .before .before .before .before .before .read .given .1)) (sym (c .before .before .before .takes .ensures (c .before .before .before .before .before .before .before .before .before .before .before .args .model .now) (c .before .before .before .before .before .before .before .before .loop .at)) ∙ c .before .before .if1 .taken) (c .top .ensures))
+
+is-end-requires : tie.Need-is-end-requires Inv-loop μ-loop
+is-end-requires c κs =
+    tt
+
+same-length-3 : tie.Need-same-length-3 Inv-loop μ-loop
+same-length-3 c =
+    search needs
+
+returns-3 : tie.Need-returns-3 Inv-loop μ-loop
+returns-3 c =
+    pass-comes (c .before .before .before .before .before .before .before .before .before .before .before .args .model .now) (c .before .before .before .before .before .before .before .before .before .before .before .args .x) (slot-of (c .before .before .before .before .before .before .before .before .before .before .before .args .g)) 0 (c .before .before .before .before .before .before .before .before .before .before .before .pre .0) (c .before .before .before .before .before .before .before .before .before .before .before .pre .2) (seek-ends (c .before .before .before .before .before .before .before .before .loop .inv .1) _ (whole-is (c .before .before .before .before .before .before .before .before .before .before .before .args .model .now) (c .before .before .before .before .before .before .before .before .loop .at) (c .before .before .before .before .before .before .before .command-at .ensures) (c .before .before .before .before .before .read .given .1)) (sym (c .before .is-end .ensures) ∙ c .if2 .taken))
+
+cast-after : tie.Need-cast-after Inv-loop μ-loop
+cast-after c =
+    let h = whole-bytes (c .before .before .before .before .before .before .before .before .before .before .before .before .args .model .now) (c .before .before .before .before .before .before .before .before .before .loop .at) _ (whole-is (c .before .before .before .before .before .before .before .before .before .before .before .before .args .model .now) (c .before .before .before .before .before .before .before .before .before .loop .at) (c .before .before .before .before .before .before .before .before .command-at .ensures) (c .before .before .before .before .before .before .read .given .1)) .0 .starts in omega (arith, c .before .before .before .before .before .before .before .before .before .before .before .before .pre .1)
+
+after-requires : tie.Need-after-requires Inv-loop μ-loop
+after-requires c κs =
+    (c .before .before .before .before .before .before .before .before .before .loop .inv .0, command-small (c .before .before .before .before .before .before .before .before .before .before .before .before .args .model .now) (c .before .before .before .before .before .before .before .before .before .loop .at) _ (whole-is (c .before .before .before .before .before .before .before .before .before .before .before .before .args .model .now) (c .before .before .before .before .before .before .before .before .before .loop .at) (c .before .before .before .before .before .before .before .before .command-at .ensures) (c .before .before .before .before .before .before .read .given .1)))
+
+next-after-requires : tie.Need-next-after-requires Inv-loop μ-loop
+next-after-requires c κs =
+    tt
+
+loop-less : tie.Need-loop-less Inv-loop μ-loop
+loop-less c =
+    let f = forward (c .before .before .before .before .before .before .before .before .before .before .before .before .before .before .before .before .args .model .now) (c .before .before .before .before .before .before .before .before .before .before .before .before .before .loop .at) _ (c .next-after .result) (whole-is (c .before .before .before .before .before .before .before .before .before .before .before .before .before .before .before .before .args .model .now) (c .before .before .before .before .before .before .before .before .before .before .before .before .before .loop .at) (c .before .before .before .before .before .before .before .before .before .before .before .before .command-at .ensures) (c .before .before .before .before .before .before .before .before .before .before .read .given .1)) (c .next-after .ensures) in omega (arith, f .1, f .2)
+
+loop-again : tie.Need-loop-again Inv-loop μ-loop
+loop-again c =
+    let h = c .before .before .before .after .ensures (c .before .before .before .before .before .before .before .before .before .before .before .before .before .before .before .before .args .model .now) (c .before .before .before .before .before .before .before .before .before .before .before .before .before .loop .at) in (h .room, seek-on (c .before .before .before .before .before .before .before .before .before .before .before .before .before .loop .inv .1) _ (c .next-after .result) _ (whole-is (c .before .before .before .before .before .before .before .before .before .before .before .before .before .before .before .before .args .model .now) (c .before .before .before .before .before .before .before .before .before .before .before .before .before .loop .at) (c .before .before .before .before .before .before .before .before .before .before .before .before .command-at .ensures) (c .before .before .before .before .before .before .before .before .before .before .read .given .1)) (sym (c .before .before .before .before .before .before .before .before .takes .ensures (c .before .before .before .before .before .before .before .before .before .before .before .before .before .before .before .before .args .model .now) (c .before .before .before .before .before .before .before .before .before .before .before .before .before .loop .at)) ∙ c .before .before .before .before .before .before .before .if1 .left) (sym (c .before .before .before .before .before .before .is-end .ensures) ∙ c .before .before .before .before .before .if2 .left) (c .next-after .ensures) (h .holds))
+
+pub pass-from-spec : {M : Type 1} → statement M
+pass-from-spec =
+    tie.close
+    (tie.spec
+    Inv-loop
+    μ-loop
+    loop-holds
+    command-at-requires
+    enum-known-read
+    same-length
+    returns
+    takes-requires
+    top-requires
+    cast-result
+    same-length-2
+    returns-2
+    is-end-requires
+    same-length-3
+    returns-3
+    cast-after
+    after-requires
+    next-after-requires
+    loop-less
+    loop-again)

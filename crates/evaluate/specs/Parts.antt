@@ -1,0 +1,83 @@
+-- The stack of a pass, and where each slot's diagram begins.
+use mathlib.Core.Path.{_≡_}
+use mathlib.Core.List.{List, []}
+use Prim.Native.Nat.{ℕ, suc, _+_, _-_, _*_, _≤_, _<_}
+use lib.Dec.{eqb, leb, ltb}
+use lib.ListN.{length, getD, set}
+use Rattle.whole.specs.Cases.{if}
+use Rattle.theory.specs.Widths.{levels-most, conditions-most, actions-most, stack-most}
+use Rattle.theory.specs.Command.{Command, site, push-leaf, push-condition, push-test, give, name-action, end-model, Slot, readings-from, readings}
+use Rattle.command.specs.Held.{last-first}
+use Rattle.evaluate.specs.declared.Point.{Point}
+use Rattle.evaluate.specs.Pass.{pass}
+
+-- ---- the stack
+
+-- words for a stack of which n are used
+pub record Room (l : List ℕ) (n : ℕ) : Type 0 where
+  pub long : length l ≡ stack-most
+  pub few : n ≤ stack-most
+
+-- words that hold a stack
+pub record Holds (l : List ℕ) (n : ℕ) (s : List ℕ) : Type 0 where
+  pub room : Room l n
+  pub holds : last-first l n ≡ s
+
+-- ---- the rest of a pass
+
+-- with fuel enough, the pass from an offset on with that stack comes to what the whole pass comes to
+pub record Seek (B : List ℕ) (x : Point) (g : Slot) (i : ℕ) (l : List ℕ) : Type 0 where
+  pub fuel : ℕ
+  pub enough : length B - i < fuel
+  pub comes : pass x g (readings-from B fuel i) l ≡ pass x g (readings B) []
+
+-- ---- a place for each slot
+
+-- a reward, and a chance and a next level for each number
+abbrev pub slots-each : ℕ
+slots-each = 1 + conditions-most + levels-most
+
+-- action 0 has its words too, and no slots
+abbrev pub slots-most : ℕ
+slots-most = (1 + actions-most) * slots-each
+
+-- the place among an action's slots, slots-each where there is no such slot
+unfoldable pub row : ℕ → ℕ → ℕ
+row c i =
+    if (eqb c 0x20) (if (eqb i 0) 0 slots-each)
+    (if (eqb i 0) slots-each
+    (if (ltb conditions-most i) slots-each
+    (if (eqb c 0x21) i
+    (if (eqb c 0x22) (conditions-most + i) slots-each))))
+
+unfoldable pub place : Slot → ℕ
+place g = if (ltb (row (g .command) (g .index)) slots-each) ((g .action) * slots-each + row (g .command) (g .index)) slots-most
+
+-- ---- what the pass over all commands notes
+
+-- the first that is given stays
+unfoldable pub put : Slot → ℕ → List ℕ → List ℕ
+put g b t = if (eqb (getD t (place g) 0) 0) (set t (place g) b) t
+
+unfoldable pub noted : Command → ℕ → List ℕ → List ℕ
+noted (site m n a w) b t = t
+noted (push-leaf p) b t = t
+noted (push-condition k) b t = t
+noted (push-test p) b t = t
+noted (give g) b t = put g b t
+noted (name-action a b′) b t = t
+noted end-model b t = t
+
+-- how many diagrams the stack holds behind a command
+unfoldable pub depth-after : Command → ℕ → ℕ
+depth-after (site m k a w) n = n
+depth-after (push-leaf p) n = if (ltb n stack-most) (n + 1) n
+depth-after (push-condition k) n = if (ltb n 2) n (n - 1)
+depth-after (push-test p) n = if (ltb n 2) n (n - 1)
+depth-after (give g) n = n - 1
+depth-after (name-action a b) n = n
+depth-after end-model n = n
+
+-- at each slot's place stands an offset from which the pass, with nothing on the stack, comes to what the whole pass comes to
+pub record Parts (B t : List ℕ) : Type 0 where
+  pub begins : (g : Slot) (x : Point) → Seek B x g (getD t (place g) 0) []

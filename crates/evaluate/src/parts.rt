@@ -1,0 +1,161 @@
+// Where each slot's diagram begins: one pass over a model finds it, later evaluations start there.
+// A model written diagram by diagram has nothing on the stack before each diagram, and evaluation then reads that diagram alone.
+ghost use mathlib.Core.Path.{_≡_};
+ghost use mathlib.Core.List.{List};
+ghost use Prim.Native.Nat.{ℕ, _+_, _-_, _<_};
+ghost use lib.Dec.{eqb, ltb};
+ghost use lib.ListN.{length, getD, replicate};
+ghost use Rattle.whole.specs.Cases.{if};
+ghost use Rattle.theory.specs.Widths.{stack-most};
+ghost use Rattle.theory.specs.Verdict.{verdict};
+ghost use Rattle.command.specs.Reading.{command-of};
+ghost use Rattle.evaluate.specs.Pass.{slot-of};
+ghost use Rattle.evaluate.specs.Parts.{slots-most, depth-after, noted, put, Parts};
+ghost use Rattle.evaluate.specs.Parts.{row as row-of};
+ghost use Rattle.evaluate.specs.Parts.{place as place-of};
+use super::Slot;
+use command::Command;
+use command::Read;
+
+// A reward, and a chance and a next level for each number that a condition or a level can have.
+pub const SLOTS_EACH: usize = 9;
+
+// For each action; action 0 has its words too, and no slots.
+pub const SLOTS: usize = 81;
+
+// The place among an action's slots, SLOTS_EACH where there is no such slot.
+fn row(command: u8, index: u8) -> usize
+    ensures { λ r. ⌜ r ≡ row-of command index ⌝ }
+{
+    if command == 0x20 {
+        if index == 0 {
+            return 0;
+        }
+        return SLOTS_EACH;
+    }
+    if index == 0 {
+        return SLOTS_EACH;
+    }
+    if 4 < index {
+        return SLOTS_EACH;
+    }
+    if command == 0x21 {
+        return index as usize;
+    }
+    if command == 0x22 {
+        return 4 + index as usize;
+    }
+    SLOTS_EACH
+}
+
+fn place(g: Slot) -> usize
+    ensures { λ r. ⌜ r ≡ place-of (slot-of g) ⌝ }
+{
+    let a = g.action;
+    let r = row(g.command, g.index);
+    if r < SLOTS_EACH {
+        return a as usize * SLOTS_EACH + r;
+    }
+    SLOTS
+}
+
+// The offset that a slot's diagram is read from; 0 serves every slot.
+pub fn begin(parts: &[u32], g: Slot) -> usize
+    ensures { λ r. ⌜ r ≡ getD (now (parts .entry)) (place-of (slot-of g)) 0 ⌝ }
+{
+    let p = place(g);
+    if p < parts.len() {
+        parts[p] as usize
+    } else {
+        0
+    }
+}
+
+// The first that is given stays.
+fn enter(parts: &mut [u32], g: Slot, begin: u32)
+    ensures { λ _. ⌜ now (parts .exit) ≡ put (slot-of g) begin (now (parts .entry)) ⌝ }
+{
+    let p = place(g);
+    if parts.len() <= p {
+        return;
+    }
+    if parts[p] == 0 {
+        parts[p] = begin;
+    }
+}
+
+fn note(parts: &mut [u32], c: Command, begin: u32)
+    ensures { λ _. ⌜ ((B : List ℕ) (i : ℕ) → now (parts .exit) ≡ noted (command-of B i c) begin (now (parts .entry))) ⌝ }
+{
+    if let Command::Give(command, action, index) = c {
+        let g = Slot {
+            command,
+            action,
+            index,
+        };
+        enter(parts, g, begin);
+    }
+}
+
+fn pushed(n: usize) -> usize
+    ensures { λ r. ⌜ r ≡ if (ltb n stack-most) (n + 1) n ⌝ }
+{
+    if n < 32 { n + 1 } else { n }
+}
+
+fn joined(n: usize) -> usize
+    ensures { λ r. ⌜ r ≡ if (ltb n 2) n (n - 1) ⌝ }
+{
+    if n < 2 { n } else { n - 1 }
+}
+
+fn popped(n: usize) -> usize
+    ensures { λ r. ⌜ r ≡ n - 1 ⌝ }
+{
+    if n == 0 { 0 } else { n - 1 }
+}
+
+// How many diagrams the stack holds behind a command.
+fn depth(c: Command, n: usize) -> usize
+    ensures { λ r. ⌜ ((B : List ℕ) (i : ℕ) → r ≡ depth-after (command-of B i c) n) ⌝ }
+{
+    match c {
+        Command::Leaf(_) => pushed(n),
+        Command::Condition(_) => joined(n),
+        Command::Test(_) => joined(n),
+        Command::Give(_, _, _) => popped(n),
+        Command::Site(_, _, _, _) => n,
+        Command::Name(_) => n,
+        Command::End => n,
+    }
+}
+
+// Where the stack was empty last: here, or where it was so before.
+fn last_empty(depth: usize, begin: u32, at: u32) -> u32
+    ensures { λ r. ⌜ r ≡ if (eqb depth 0) at begin ⌝ }
+{
+    if depth == 0 { at } else { begin }
+}
+
+// "one pass": of each slot the last offset before its command at which nothing was on the stack.
+pub fn find(model: &[u8], parts: &mut [u32])
+    requires { ⌜ (verdict (now model) .number ≡ 0) × (length (now model) < 4294967296) × (now parts ≡ replicate slots-most 0) ⌝ }
+    ensures { λ _. ⌜ Parts (now (model .entry)) (now (parts .exit)) ⌝ }
+{
+    let mut at = command::next_after(model, 0);
+    let mut begin = at as u32;
+    let mut held: usize = 0;
+    loop {
+        let read = command::command_at(model, at);
+        let Read::Whole(c) = read else {
+            return;
+        };
+        if model::is_end(c) {
+            return;
+        }
+        begin = last_empty(held, begin, at as u32);
+        note(parts, c, begin);
+        held = depth(c, held);
+        at = command::next_after(model, at);
+    }
+}
