@@ -31,9 +31,9 @@ fn command_row(c: Command) -> Row {
         Command::Site(levels, conditions, actions, weights) => {
             row_of(0x01, levels, conditions, actions, weights)
         }
-        Command::Leaf(_) => row_of(0x10, 0, 0, 0, 0),
+        Command::Leaf => row_of(0x10, 0, 0, 0, 0),
         Command::Condition(k) => row_of(0x11, k, 0, 0, 0),
-        Command::Test(_) => row_of(0x12, 0, 0, 0, 0),
+        Command::Test => row_of(0x12, 0, 0, 0, 0),
         Command::Give(byte, action, index) => row_of(byte, action, index, 0, 0),
         Command::Name(action) => row_of(0x30, action, 0, 0, 0),
         Command::End => row_of(0xff, 0, 0, 0, 0),

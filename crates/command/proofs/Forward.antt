@@ -1,14 +1,14 @@
 -- Where a command is whole: its bytes are there, and the next offset lies behind it and within the model.
-use mathlib.Core.Path.{_≡_, refl}
-use mathlib.Core.Bool.{Bool, true, false}
+use mathlib.Core.Path.{_≡_, refl, subst}
+use mathlib.Core.Bool.{Bool, true, false, not}
 use mathlib.Core.List.{List}
 use Prim.Native.Nat.{ℕ, _+_, _-_, _≤_, _<_}
 use native.Mathlib.Omega.{arith}
-use lib.Dec.{eqb, ltb, leb}
+use lib.Dec.{T, T-not, eqb, ltb, leb}
 use lib.ListN.{length}
 use borrow.Author.Tests.{lt-leb, le-ltb, leb-false, ltb-false, eqb-false}
 use Rattle.whole.specs.Cases.{if}
-use Rattle.theory.specs.Command.{Command, whole, unknown, short, byte-at, width, command-at, read-at}
+use Rattle.theory.specs.Command.{Command, site, push-leaf, push-condition, push-test, give, name-action, end-model, whole, unknown, short, byte-at, width, command-at, read-at}
 use Rattle.command.specs.Reading.{next-at}
 
 -- the bytes of a command that is whole
@@ -16,6 +16,24 @@ pub record Bytes (B : List ℕ) (at : ℕ) : Type 0 where
   pub starts : at < length B
   pub known : width (byte-at B at) ≡ 0 → ⊥
   pub ends : at + width (byte-at B at) ≤ length B
+
+-- a command with a linear
+unfoldable pub has-linear : Command → Bool
+has-linear (site m n a w) = false
+has-linear (push-leaf p) = true
+has-linear (push-condition k) = false
+has-linear (push-test p) = true
+has-linear (give g) = false
+has-linear (name-action a b) = false
+has-linear end-model = false
+
+skip : (b : Bool) (w v : ℕ) (c d : Command) → T (not (has-linear c)) → (T (has-linear d) → v ≡ 21) → T (has-linear (if b c d)) → _≡_ {A = ℕ} (if b w v) 21
+skip true w v c d n f t = absurd (T-not (has-linear c) n t)
+skip false w v c d n f t = f t
+
+found : (b : Bool) (v : ℕ) (c d : Command) → (T (has-linear d) → v ≡ 21) → T (has-linear (if b c d)) → _≡_ {A = ℕ} (if b 21 v) 21
+found true v c d f t = refl
+found false v c d f t = f t
 
 module _ (B : List ℕ) (at : ℕ) where
   pub whole-bytes : (c : Command) → whole c ≡ read-at B at → Bytes B at × (c ≡ command-at B at)
@@ -29,6 +47,27 @@ module _ (B : List ℕ) (at : ℕ) where
       go false false true e₁ e₂ e₃ e = absurd (let z : _≡_ {A = ℕ} 0 1 = cc in omega arith)
       go false false false e₁ e₂ e₃ e =
           (record { starts = leb-false _ _ e₁; known = eqb-false _ _ e₂; ends = ltb-false _ _ e₃ }, cc)
+
+  linear-wide : T (has-linear (command-at B at)) → width (byte-at B at) ≡ 21
+  unfolding command-at width has-linear
+  linear-wide t =
+      skip (eqb (byte-at B at) 0x01) 5 _ _ _ tt
+      (found (eqb (byte-at B at) 0x10) _ _ _
+      (skip (eqb (byte-at B at) 0x11) 2 _ _ _ tt
+      (found (eqb (byte-at B at) 0x12) _ _ _
+      (skip (eqb (byte-at B at) 0x20) 2 _ _ _ tt
+      (skip (eqb (byte-at B at) 0x21) 3 _ _ _ tt
+      (skip (eqb (byte-at B at) 0x22) 3 _ _ _ tt
+      (skip (eqb (byte-at B at) 0x30) 18 _ _ _ tt
+      (λ u. absurd u)))))))) t
+
+  -- where a linear is written, its twenty bytes are there
+  pub linear-room : (c : Command) → T (has-linear c) → whole c ≡ read-at B at → at + 21 ≤ length B
+  linear-room c t e =
+      let b = whole-bytes c e in
+      let w = linear-wide (subst (λ (d : Command). T (has-linear d)) (b .1) t) in
+      let h = b .0 .ends in
+      omega arith
 
   pub next-whole : Bytes B at → next-at B at ≡ at + width (byte-at B at)
   unfolding next-at

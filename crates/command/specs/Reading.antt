@@ -6,7 +6,7 @@ use lib.ListN.{length, take, drop}
 use Rattle.whole.specs.Cases.{if}
 use Rattle.theory.specs.Widths.{name-bytes}
 use Rattle.theory.specs.Diagram.{Linear}
-use Rattle.theory.specs.Command.{Command, site, push-leaf, push-condition, push-test, give, name-action, end-model, Read, whole, unknown, short, byte-at, width}
+use Rattle.theory.specs.Command.{Command, site, push-leaf, push-condition, push-test, give, name-action, end-model, Read, whole, unknown, short, byte-at, width, linear-at}
 use Rattle.command.specs.declared.Linear.{Linear as CodeLinear}
 use Rattle.command.specs.declared.Command.{Command as CodeCommand}
 use Rattle.command.specs.declared.Command.the-variants.{Site, Leaf, Condition, Test, Give, Name, End}
@@ -16,12 +16,12 @@ use Rattle.command.specs.declared.Read.the-variants.{Whole, Unknown, Sho
 abbrev pub linear-of : CodeLinear → Linear
 linear-of p = record { coeffs = p .c1 ∷ p .c2 ∷ p .c3 ∷ p .c4 ∷ []; const = p .constant }
 
--- A name's bytes are those behind its action, in the model itself.
+-- A linear's bytes are those behind the command's byte, a name's those behind its action, in the model itself.
 unfoldable pub command-of : List ℕ → ℕ → CodeCommand → Command
 command-of B at (Site m n a w) = site m n a w
-command-of B at (Leaf p) = push-leaf (linear-of p)
+command-of B at Leaf = push-leaf (linear-at B (at + 1))
 command-of B at (Condition k) = push-condition k
-command-of B at (Test p) = push-test (linear-of p)
+command-of B at Test = push-test (linear-at B (at + 1))
 command-of B at (Give c a i) = give (record { command = c; action = a; index = i })
 command-of B at (Name a) = name-action a (take name-bytes (drop (at + 2) B))
 command-of B at End = end-model

@@ -18,12 +18,12 @@ pub struct Linear {
 }
 
 // A command with its operands. What is given has its command's byte, the action, and the condition or level (0 where there is none).
-// A name's bytes stay in the model, behind the action.
+// A linear's bytes stay in the model, behind the command's byte; a name's, behind the action.
 pub enum Command {
     Site(u8, u8, u8, u8),
-    Leaf(Linear),
+    Leaf,
     Condition(u8),
-    Test(Linear),
+    Test,
     Give(u8, u8, u8),
     Name(u8),
     End,
@@ -50,7 +50,7 @@ fn wide(x: u8) -> u32
 }
 
 // Four bytes, low byte first.
-fn word(model: &[u8], at: usize) -> u32
+pub fn word(model: &[u8], at: usize) -> u32
     requires { ⌜ at + 4 ≤ length (now model) ⌝ }
     ensures { λ r. ⌜ r ≡ word-at (now (model .entry)) at ⌝ }
 {
@@ -80,7 +80,7 @@ fn number(model: &[u8], at: usize) -> i64
     from_bits(word(model, at))
 }
 
-fn linear_at(model: &[u8], at: usize) -> Linear
+pub fn linear_at(model: &[u8], at: usize) -> Linear
     requires { ⌜ at + 20 ≤ length (now model) ⌝ }
     ensures { λ r. ⌜ linear-of r ≡ linear-at (now (model .entry)) at ⌝ }
 {
@@ -123,9 +123,9 @@ fn whole_at(model: &[u8], at: usize, op: u8) -> Command
             byte_at(model, at + 3),
             byte_at(model, at + 4),
         ),
-        0x10 => Command::Leaf(linear_at(model, at + 1)),
+        0x10 => Command::Leaf,
         0x11 => Command::Condition(byte_at(model, at + 1)),
-        0x12 => Command::Test(linear_at(model, at + 1)),
+        0x12 => Command::Test,
         0x20 => Command::Give(0x20, byte_at(model, at + 1), 0),
         0x21 => Command::Give(0x21, byte_at(model, at + 1), byte_at(model, at + 2)),
         0x22 => Command::Give(0x22, byte_at(model, at + 1), byte_at(model, at + 2)),

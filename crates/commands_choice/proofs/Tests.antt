@@ -21,12 +21,14 @@ use Rattle.table.proofs.Words.{R, back}
 use Rattle.table.specs.Table.{eqZ}
 use Rattle.table.specs.declared.Node.{Node}
 use Rattle.theory.specs.Widths.{conditions-most}
-use Rattle.theory.specs.Diagram.{Test, now, later, quotL, quotient, divisor, test-of}
+use Rattle.theory.specs.Diagram.{Linear, Test, now, later, quotL, quotient, divisor, test-of}
 use Rattle.theory.specs.Valid.{all, small-linear, wide}
-use Rattle.theory.specs.Command.{Command, site, push-leaf, push-condition, push-test, give, name-action, end-model, Read, whole, unknown, short, byte-at, command-at, read-at}
+use Rattle.theory.specs.Command.{Command, site, push-leaf, push-condition, push-test, give, name-action, end-model, Read, whole, unknown, short, byte-at, command-at, read-at, linear-at}
 use Rattle.theory.specs.Load.{condition-test}
 use Rattle.theory.specs.laws.Valid.{wide-small}
 use Rattle.theory.specs.laws.Loading.{linear-wide, by-reading}
+use lib.ListN.{length}
+use Rattle.command.proofs.Forward.{has-linear, linear-room}
 use Rattle.command.proofs.Command.{the-type as command-type}
 use Rattle.command.proofs.Read.{the-type as read-type}
 use Rattle.command.specs.declared.Linear.{Linear as CodeLinear}
@@ -122,7 +124,7 @@ pub leaf-nums : (B : List ℕ) (at : ℕ) (p : CodeLinear) → whole (push-leaf 
 unfolding wide-read wide-command
 leaf-nums B at p e = nums-of p (subst (λ (r : Read). T (wide-read r)) (sym e) (read-wide B at))
 
-pub test-nums : (B : List ℕ) (at : ℕ) (p : CodeLinear) → whole (push-test (linear-of p)) ≡ read-at B at → Nums (wordsOf p)
+test-nums : (B : List ℕ) (at : ℕ) (p : CodeLinear) → whole (push-test (linear-of p)) ≡ read-at B at → Nums (wordsOf p)
 unfolding wide-read wide-command
 test-nums B at p e = nums-of p (subst (λ (r : Read). T (wide-read r)) (sym e) (read-wide B at))
 
@@ -157,9 +159,9 @@ not-whole B at Short k = refl
 other-test : (B : List ℕ) (at : ℕ) (d : CodeCommand) → OneOf (0 ∷ 1 ∷ 4 ∷ 5 ∷ 6 ∷ []) (tagOf command-type d) → test-read (whole (command-of B at d)) ≡ condition-test 1
 unfolding test-read test-in command-of
 other-test B at (Site m n a w) k = refl
-other-test B at (Leaf p) k = refl
+other-test B at Leaf k = refl
 other-test B at (Condition i) k = absurd (miss (0 ∷ 1 ∷ 4 ∷ 5 ∷ 6 ∷ []) 2 tt k)
-other-test B at (TestBy p) k = absurd (miss (0 ∷ 1 ∷ 4 ∷ 5 ∷ 6 ∷ []) 3 tt k)
+other-test B at TestBy k = absurd (miss (0 ∷ 1 ∷ 4 ∷ 5 ∷ 6 ∷ []) 3 tt k)
 other-test B at (Give x a j) k = refl
 other-test B at (Name a) k = refl
 other-test B at End k = refl
@@ -193,10 +195,21 @@ module _ (B : List ℕ) (at : ℕ) (r : CodeRead) (e : read-of B at r ≡ read-a
     condition-test-stood {k} g {x} s = subst (λ (t : Test). Stood t x) (ap test-read (condition-is g)) s
 
     -- a linear
-    pub linear-is : {p : CodeLinear} → c ≡ TestBy p → whole (push-test (linear-of p)) ≡ read-at B at
+    linear-is : c ≡ TestBy → whole (push-test (linear-at B (at + 1))) ≡ read-at B at
     unfolding command-of
     linear-is g = ap (λ (d : CodeCommand). whole (command-of B at d)) (sym g) ∙ whole-is f
 
-    pub linear-test-stood : {p : CodeLinear} → c ≡ TestBy p → {x y : Node} → y ≡ wordsOf p → x ≡ namedNode y → Stood (testAt B at) x
-    unfolding test-read test-in
-    linear-test-stood {p} g {x} a b = subst (λ (t : Test). Stood t x) (ap test-read (linear-is g)) (linear-stood p a b (test-nums B at p (linear-is g)))
+    pub linear-there : c ≡ TestBy → at + 21 ≤ length B
+    unfolding has-linear
+    linear-there g = linear-room B at (push-test (linear-at B (at + 1))) tt (linear-is g)
+
+    module _ {p : CodeLinear} (g : c ≡ TestBy) (q : linear-of p ≡ linear-at B (at + 1)) where
+      linear-read : whole (push-test (linear-of p)) ≡ read-at B at
+      linear-read = ap (λ (z : Linear). whole (push-test z)) q ∙ linear-is g
+
+      pub linear-nums : Nums (wordsOf p)
+      linear-nums = test-nums B at p linear-read
+
+      pub linear-test-stood : {x y : Node} → y ≡ wordsOf p → x ≡ namedNode y → Stood (testAt B at) x
+      unfolding test-read test-in
+      linear-test-stood {x} a b = subst (λ (t : Test). Stood t x) (ap test-read linear-read) (linear-stood p a b linear-nums)

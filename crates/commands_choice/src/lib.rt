@@ -63,7 +63,7 @@ fn test_from(model: &[u8], at: usize) -> Node
     };
     match c {
         Command::Condition(k) => condition(k),
-        Command::Test(p) => named(words(p)),
+        Command::Test => named(words(command::linear_at(model, at + 1))),
         _ => condition(1),
     }
 }

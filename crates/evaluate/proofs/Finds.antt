@@ -89,9 +89,9 @@ by-given end-model b t P none gives = none (λ g. refl) refl
 pub noted-other : (B : List ℕ) (i : ℕ) (c : CodeCommand) (b : ℕ) (t : List ℕ) → OneOf (0 ∷ 1 ∷ 2 ∷ 3 ∷ 5 ∷ 6 ∷ []) (tagOf command-type c) → t ≡ noted (command-of B i c) b t
 unfolding noted command-of
 noted-other B i (Site m n a w) b t k = refl
-noted-other B i (Leaf p) b t k = refl
+noted-other B i Leaf b t k = refl
 noted-other B i (Condition j) b t k = refl
-noted-other B i (Test p) b t k = refl
+noted-other B i Test b t k = refl
 noted-other B i (Give x a j) b t k = absurd (miss (0 ∷ 1 ∷ 2 ∷ 3 ∷ 5 ∷ 6 ∷ []) 4 tt k)
 noted-other B i (Name a) b t k = refl
 noted-other B i End b t k = refl

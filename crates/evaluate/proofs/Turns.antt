@@ -2,7 +2,7 @@
 use mathlib.Core.Path.{_≡_, refl, sym, ap, _∙_, subst}
 use mathlib.Core.Bool.{Bool, true, false}
 use mathlib.Core.List.{List, [], _∷_}
-use Prim.Native.Nat.{ℕ, zero, suc, _+_, _-_, _<_}
+use Prim.Native.Nat.{ℕ, zero, suc, _+_, _-_, _≤_, _<_}
 use native.Mathlib.Omega.{arith}
 use lib.Dec.{T, eqb, leb→le}
 use lib.IntN.{ℤ, pos, _+ℤ_, _*ℤ_}
@@ -16,9 +16,9 @@ use Rattle.theory.specs.Diagram.{Linear, Tree}
 use Rattle.theory.specs.Meaning.{State, env, nth, dot, at, worth-at, chance-at}
 use Rattle.theory.specs.Valid.{all, wide, small-linear}
 use Rattle.theory.specs.Value.{bits}
-use Rattle.theory.specs.Command.{Command, push-leaf, end-model, Read, whole, unknown, short, byte-at, width, read-at, goes-on, readings-from, readings, Slot}
+use Rattle.theory.specs.Command.{Command, push-leaf, end-model, Read, whole, unknown, short, byte-at, width, read-at, goes-on, readings-from, readings, Slot, linear-at}
 use Rattle.theory.specs.Load.{find-slot, site-at}
-use Rattle.theory.specs.laws.Loading.{loaded-entries}
+use Rattle.theory.specs.laws.Loading.{loaded-entries, linear-wide}
 use Rattle.command.proofs.Command.{the-type as command-type}
 use Rattle.command.proofs.Read.{the-type as read-type}
 use Rattle.command.specs.declared.Linear.{Linear as CodeLinear}
@@ -27,14 +27,13 @@ use Rattle.command.specs.declared.Command.the-variants.{Site, Leaf, Condition, 
 use Rattle.command.specs.declared.Read.{Read as CodeRead}
 use Rattle.command.specs.declared.Read.the-variants.{Whole, Unknown, Short}
 use Rattle.command.specs.Reading.{linear-of, command-of, read-of, next-at}
-use Rattle.command.proofs.Forward.{whole-bytes}
+use Rattle.command.proofs.Forward.{has-linear, linear-room}
 use Rattle.model.specs.Answers.{is-end}
 use Rattle.model.proofs.Walk.{opened, from-first, at-end, going, forward}
 use Rattle.evaluate.specs.declared.Point.{Point}
-use Rattle.evaluate.specs.Pass.{numerator, stepped, takes, pass, Small-command, Stands, Comes}
+use Rattle.evaluate.specs.Pass.{numerator, stepped, takes, pass, Stands, Comes, Small-linear}
 use Rattle.evaluate.specs.Parts.{Seek}
 use Rattle.evaluate.proofs.Points.{value-is}
-use Rattle.evaluate.proofs.Reach.{Fit, fit}
 
 -- ---- numbers
 
@@ -74,27 +73,26 @@ bit-past m (suc (suc (suc (suc (suc k))))) a b c d = refl
 pub takes-other : (g : Slot) (B : List ℕ) (i : ℕ) (c : CodeCommand) → OneOf (0 ∷ 1 ∷ 2 ∷ 3 ∷ 5 ∷ 6 ∷ []) (tagOf command-type c) → false ≡ takes g (command-of B i c)
 unfolding takes command-of
 takes-other g B i (Site m n a w) k = refl
-takes-other g B i (Leaf p) k = refl
+takes-other g B i Leaf k = refl
 takes-other g B i (Condition j) k = refl
-takes-other g B i (Test p) k = refl
+takes-other g B i Test k = refl
 takes-other g B i (Give x a j) k = absurd (miss (0 ∷ 1 ∷ 2 ∷ 3 ∷ 5 ∷ 6 ∷ []) 4 tt k)
 takes-other g B i (Name a) k = refl
 takes-other g B i End k = refl
 
 -- ---- a command of the bytes
 
-fit-small : (B : List ℕ) (i : ℕ) (c : CodeCommand) → Fit B i (command-of B i c) → Small-command c
-unfolding Fit Small-command command-of
-fit-small B i (Site m n a w) f = tt
-fit-small B i (Leaf p) f = f
-fit-small B i (Condition k) f = tt
-fit-small B i (Test p) f = f
-fit-small B i (Give x a j) f = tt
-fit-small B i (Name a) f = tt
-fit-small B i End f = tt
+-- a linear of the bytes lies within the limits, as all of 32 bits do
+pub linear-small : (B : List ℕ) (i : ℕ) (q : CodeLinear) → linear-of q ≡ linear-at B i → Small-linear (linear-of q)
+linear-small B i q e = subst Small-linear (sym e) (linear-wide B i)
 
-pub command-small : (B : List ℕ) (i : ℕ) (c : CodeCommand) → whole (command-of B i c) ≡ read-at B i → Small-command c
-command-small B i c e = fit-small B i c (subst (Fit B i) (sym (whole-bytes B i (command-of B i c) e .1)) (fit B i))
+pub leaf-there : (B : List ℕ) (i : ℕ) {c : CodeCommand} → c ≡ Leaf → whole (command-of B i c) ≡ read-at B i → i + 21 ≤ length B
+unfolding command-of has-linear
+leaf-there B i {c} e w = linear-room B i _ (subst (λ (d : CodeCommand). T (has-linear (command-of B i d))) (sym e) tt) w
+
+pub test-there : (B : List ℕ) (i : ℕ) {c : CodeCommand} → c ≡ Test → whole (command-of B i c) ≡ read-at B i → i + 21 ≤ length B
+unfolding command-of has-linear
+test-there B i {c} e w = linear-room B i _ (subst (λ (d : CodeCommand). T (has-linear (command-of B i d))) (sym e) tt) w
 
 -- ---- one turn
 
@@ -139,20 +137,16 @@ module _ {B : List ℕ} {x : Point} {g : Slot} {i : ℕ} {l : List ℕ} (w : See
 -- ---- the leaf's linear
 
 -- what is read at an offset where a leaf stands
-pub leaf-reads : (B : List ℕ) (i : ℕ) (c : CodeCommand) (q : CodeLinear) → whole (command-of B i c) ≡ read-at B i → c ≡ Leaf q → (p : Linear) → read-at B i ≡ whole (push-leaf p) → linear-of q ≡ p
+pub leaf-reads : (B : List ℕ) (i : ℕ) (c : CodeCommand) (q : CodeLinear) → whole (command-of B i c) ≡ read-at B i → c ≡ Leaf → linear-of q ≡ linear-at B (i + 1) → (p : Linear) → read-at B i ≡ whole (push-leaf p) → linear-of q ≡ p
 unfolding command-of
-leaf-reads B i c q e f p h = let z : whole (push-leaf (linear-of q)) ≡ whole (push-leaf p) = ap (λ (d : CodeCommand). whole (command-of B i d)) (sym f) ∙ e ∙ h in cc
-
-pub leaf-small : (B : List ℕ) (i : ℕ) (c : CodeCommand) (q : CodeLinear) → whole (command-of B i c) ≡ read-at B i → c ≡ Leaf q → T (wide (linear-of q))
-unfolding Small-command
-leaf-small B i c q e f = subst Small-command f (command-small B i c e)
+leaf-reads B i c q e f r p h = let z : whole (push-leaf (linear-at B (i + 1))) ≡ whole (push-leaf p) = ap (λ (d : CodeCommand). whole (command-of B i d)) (sym f) ∙ e ∙ h in r ∙ cc
 
 pub no-leaf : (B : List ℕ) (i : ℕ) (c : CodeCommand) → whole (command-of B i c) ≡ read-at B i → OneOf (0 ∷ 2 ∷ 3 ∷ 4 ∷ 5 ∷ 6 ∷ []) (tagOf command-type c) → (p : Linear) → read-at B i ≡ whole (push-leaf p) → ⊥
 unfolding command-of
 no-leaf B i (Site m n a w) e k p h = let y = e ∙ h in let z : _≡_ {A = ℕ} 0 1 = cc in omega arith
-no-leaf B i (Leaf q) e k p h = miss (0 ∷ 2 ∷ 3 ∷ 4 ∷ 5 ∷ 6 ∷ []) 1 tt k
+no-leaf B i Leaf e k p h = miss (0 ∷ 2 ∷ 3 ∷ 4 ∷ 5 ∷ 6 ∷ []) 1 tt k
 no-leaf B i (Condition j) e k p h = let y = e ∙ h in let z : _≡_ {A = ℕ} 0 1 = cc in omega arith
-no-leaf B i (Test q) e k p h = let y = e ∙ h in let z : _≡_ {A = ℕ} 0 1 = cc in omega arith
+no-leaf B i Test e k p h = let y = e ∙ h in let z : _≡_ {A = ℕ} 0 1 = cc in omega arith
 no-leaf B i (Give x a j) e k p h = let y = e ∙ h in let z : _≡_ {A = ℕ} 0 1 = cc in omega arith
 no-leaf B i (Name a) e k p h = let y = e ∙ h in let z : _≡_ {A = ℕ} 0 1 = cc in omega arith
 no-leaf B i End e k p h = let y = e ∙ h in let z : _≡_ {A = ℕ} 0 1 = cc in omega arith

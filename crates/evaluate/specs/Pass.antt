@@ -17,8 +17,6 @@ use Rattle.theory.specs.Verdict.{same-slot, beyond}
 use Rattle.theory.specs.Load.{find-slot, site-at}
 use Rattle.theory.specs.Value.{bits}
 use Rattle.theory.specs.laws.Loading.{loaded-entries}
-use Rattle.command.specs.declared.Command.{Command as CodeCommand}
-use Rattle.command.specs.declared.Command.the-variants.{Site, Leaf, Condition, Test, Give, Name, End}
 use Rattle.command.specs.Reading.{linear-of}
 use Rattle.command.specs.Held.{pushed}
 use Rattle.evaluate.specs.declared.Point.{Point}
@@ -78,15 +76,6 @@ pass x g (y ∷ ys) l = elim (y .read) [
 -- the numbers of a command's linear lie within the limits, as all of 32 bits do
 abbrev pub Small-linear : Linear → Type 0
 Small-linear p = T (wide p)
-
-unfoldable pub Small-command : CodeCommand → Type 0
-Small-command (Site m n a w) = T true
-Small-command (Leaf p) = Small-linear (linear-of p)
-Small-command (Condition k) = T true
-Small-command (Test p) = Small-linear (linear-of p)
-Small-command (Give x a j) = T true
-Small-command (Name a) = T true
-Small-command End = T true
 
 -- ---- what it comes to
 

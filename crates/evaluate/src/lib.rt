@@ -21,7 +21,7 @@ ghost use Rattle.theory.specs.Verdict.{verdict, has-slot, wanted, same-slot};
 ghost use Rattle.theory.specs.laws.Loading.{loaded-entries};
 ghost use Rattle.command.specs.Reading.{linear-of, command-of};
 ghost use Rattle.command.specs.Held.{last-first};
-ghost use Rattle.evaluate.specs.Pass.{slot-of, condition-holds, stepped, Small-linear, Small-command, Stands, Comes};
+ghost use Rattle.evaluate.specs.Pass.{slot-of, condition-holds, stepped, Small-linear, Stands, Comes};
 ghost use Rattle.evaluate.specs.Pass.{takes as takes-slot};
 ghost use Rattle.evaluate.specs.Pass.{numerator as numerator-at};
 ghost use Rattle.evaluate.specs.Parts.{Room, Holds, Seek, Parts};
@@ -104,14 +104,14 @@ fn test(p: Linear, x: Point) -> bool
 }
 
 // What the command at an offset leaves of the stack.
-fn after(items: &mut [u32], len: usize, at: u32, c: Command, x: Point) -> usize
-    requires { ⌜ Room (now items) len × Small-command c ⌝ }
-    ensures { λ r. ⌜ ((B : List ℕ) (i : ℕ) → Holds (now (items .exit)) r (stepped x at (command-of B i c) (last-first (now (items .entry)) len))) ⌝ }
+fn after(model: &[u8], at: usize, c: Command, items: &mut [u32], len: usize, x: Point) -> usize
+    requires { ⌜ Room (now items) len × (whole (command-of (now model) at c) ≡ read-at (now model) at) × (length (now model) < 4294967296) ⌝ }
+    ensures { λ r. ⌜ Holds (now (items .exit)) r (stepped x at (command-of (now (model .entry)) at c) (last-first (now (items .entry)) len)) ⌝ }
 {
     match c {
-        Command::Leaf(_) => offsets::push(items, len, at),
+        Command::Leaf => offsets::push(items, len, at as u32),
         Command::Condition(k) => offsets::choose(items, len, condition(k, x)),
-        Command::Test(p) => offsets::choose(items, len, test(p, x)),
+        Command::Test => offsets::choose(items, len, test(command::linear_at(model, at + 1), x)),
         Command::Give(_, _, _) => offsets::pop(items, len),
         Command::Site(_, _, _, _) => len,
         Command::Name(_) => len,
@@ -162,7 +162,7 @@ fn pass_from(model: &[u8], begin: usize, g: Slot, x: Point, items: &mut [u32]) -
         if model::is_end(c) {
             return 0;
         }
-        len = after(items, len, at as u32, c, x);
+        len = after(model, at, c, items, len, x);
         at = command::next_after(model, at);
     }
 }
@@ -192,7 +192,11 @@ fn leaf(model: &[u8], at: usize) -> Linear
     let Read::Whole(c) = read else {
         return none;
     };
-    if let Command::Leaf(p) = c { p } else { none }
+    if let Command::Leaf = c {
+        command::linear_at(model, at + 1)
+    } else {
+        none
+    }
 }
 
 // What a slot's diagram comes to, times d: a reward, or a next level.

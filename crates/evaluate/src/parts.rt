@@ -120,9 +120,9 @@ fn depth(c: Command, n: usize) -> usize
     ensures { λ r. ⌜ ((B : List ℕ) (i : ℕ) → r ≡ depth-after (command-of B i c) n) ⌝ }
 {
     match c {
-        Command::Leaf(_) => pushed(n),
+        Command::Leaf => pushed(n),
         Command::Condition(_) => joined(n),
-        Command::Test(_) => joined(n),
+        Command::Test => joined(n),
         Command::Give(_, _, _) => popped(n),
         Command::Site(_, _, _, _) => n,
         Command::Name(_) => n,

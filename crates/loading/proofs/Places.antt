@@ -209,9 +209,9 @@ stored-no R i x h = ap (λ (b : Bool). if b (set R i x) R) (sym (le-ltb i 72 h))
 pub place-other : (m n : ℕ) (B : List ℕ) (at : ℕ) (d : CodeCommand) → OneOf (0 ∷ 1 ∷ 2 ∷ 3 ∷ 5 ∷ 6 ∷ []) (tagOf command-type d) → 72 ≡ place-of m n (command-of B at d)
 unfolding place-of command-of
 place-other m n B at (SiteBy x y a w) k = refl
-place-other m n B at (Leaf p) k = refl
+place-other m n B at Leaf k = refl
 place-other m n B at (Condition i) k = refl
-place-other m n B at (Test p) k = refl
+place-other m n B at Test k = refl
 place-other m n B at (Give x a j) k = absurd (miss (0 ∷ 1 ∷ 2 ∷ 3 ∷ 5 ∷ 6 ∷ []) 4 tt k)
 place-other m n B at (Name a) k = refl
 place-other m n B at End k = refl

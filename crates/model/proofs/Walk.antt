@@ -1,11 +1,11 @@
 -- A walk over the commands of a model: one turn of validation, with fuel enough for the rest.
 use mathlib.Core.Path.{_≡_, refl, sym, ap, _∙_, subst}
-use mathlib.Core.Bool.{true, false}
+use mathlib.Core.Bool.{Bool, true, false}
 use mathlib.Core.List.{List, [], _∷_}
 use Prim.Native.Nat.{ℕ, zero, suc, _+_, _-_, _≤_, _<_}
 use native.Mathlib.Omega.{arith}
 use borrow.Author.Tests.{ne-eqb}
-use lib.ListN.{length}
+use lib.ListN.{length, replicate, length-replicate}
 use types.Run.{OneOf, miss}
 use denote.Enum.Declared.{tagOf}
 use Rattle.whole.specs.Cases.{if}
@@ -19,7 +19,7 @@ use Rattle.command.specs.declared.Read.the-variants.{Whole, Unknown, Short}
 use Rattle.command.specs.Reading.{command-of, read-of, next-at}
 use Rattle.command.proofs.Forward.{whole-bytes, next-whole}
 use Rattle.progress.specs.declared.Progress.{Progress as CodeProgress}
-use Rattle.progress.specs.Standing.{Stands}
+use Rattle.progress.specs.Standing.{flags-most, noted, Stands, Leaves}
 use Rattle.model.specs.Answers.{is-end}
 
 -- ---- what the code's answers say of the command
@@ -40,9 +40,9 @@ module _ (B : List ℕ) (at : ℕ) {r : CodeRead} (e : read-of B at r ≡ read-a
 pub not-end : (c : CodeCommand) → OneOf (0 ∷ 1 ∷ 2 ∷ 3 ∷ 4 ∷ 5 ∷ []) (tagOf the-type c) → false ≡ is-end c
 unfolding is-end
 not-end (Site m n a w) k = refl
-not-end (Leaf p) k = refl
+not-end Leaf k = refl
 not-end (Condition i) k = refl
-not-end (Test p) k = refl
+not-end Test k = refl
 not-end (Give x a j) k = refl
 not-end (Name a) k = refl
 not-end End k = absurd (miss (0 ∷ 1 ∷ 2 ∷ 3 ∷ 4 ∷ 5 ∷ []) 6 tt k)
@@ -51,9 +51,9 @@ module _ (B : List ℕ) (at : ℕ) where
   pub at-end : (c : CodeCommand) → is-end c ≡ true → command-of B at c ≡ end-model
   unfolding is-end command-of
   at-end (Site m n a w) e = absurd (let z : _≡_ {A = ℕ} 0 1 = cc in omega arith)
-  at-end (Leaf p) e = absurd (let z : _≡_ {A = ℕ} 0 1 = cc in omega arith)
+  at-end Leaf e = absurd (let z : _≡_ {A = ℕ} 0 1 = cc in omega arith)
   at-end (Condition i) e = absurd (let z : _≡_ {A = ℕ} 0 1 = cc in omega arith)
-  at-end (Test p) e = absurd (let z : _≡_ {A = ℕ} 0 1 = cc in omega arith)
+  at-end Test e = absurd (let z : _≡_ {A = ℕ} 0 1 = cc in omega arith)
   at-end (Give x a j) e = absurd (let z : _≡_ {A = ℕ} 0 1 = cc in omega arith)
   at-end (Name a) e = absurd (let z : _≡_ {A = ℕ} 0 1 = cc in omega arith)
   at-end End e = refl
@@ -62,9 +62,9 @@ module _ (B : List ℕ) (at : ℕ) where
   pub going : (c : CodeCommand) → is-end c ≡ false → (goes-on (whole (command-of B at c)) ≡ true) × ((n : ℕ) (v : Verdict) → ended n at (command-of B at c) v ≡ v)
   unfolding is-end command-of goes-on ended
   going (Site m n a w) e = (refl, λ n v. refl)
-  going (Leaf p) e = (refl, λ n v. refl)
+  going Leaf e = (refl, λ n v. refl)
   going (Condition i) e = (refl, λ n v. refl)
-  going (Test p) e = (refl, λ n v. refl)
+  going Test e = (refl, λ n v. refl)
   going (Give x a j) e = (refl, λ n v. refl)
   going (Name a) e = (refl, λ n v. refl)
   going End e = absurd (let z : _≡_ {A = ℕ} 0 1 = cc in omega arith)
@@ -81,16 +81,19 @@ module _ (B : List ℕ) (at : ℕ) where
 -- ---- one turn
 
 -- with fuel enough, what is left of the readings gives the verdict
-pub record Walk (B : List ℕ) (at : ℕ) (s : CodeProgress) : Type 0 where
+pub record Walk (B : List ℕ) (at : ℕ) (s : CodeProgress) (F : List Bool) : Type 0 where
   pub fuel : ℕ
   pub enough : length B - at < fuel
   pub so-far : Progress
-  pub stands : Stands s so-far
+  pub stands : Stands s F so-far
   pub judges : judged (length B) so-far (readings-from B fuel at) ≡ verdict B
 
-pub walk-starts : (B : List ℕ) (s : CodeProgress) → Stands s at-start → Walk B 0 s
+pub walk-starts : (B : List ℕ) (s : CodeProgress) (F : List Bool) → Stands s F at-start → Walk B 0 s F
 unfolding verdict readings
-walk-starts B s st = record { fuel = suc (length B); enough = omega arith; so-far = at-start; stands = st; judges = refl }
+walk-starts B s F st = record { fuel = suc (length B); enough = omega arith; so-far = at-start; stands = st; judges = refl }
+
+pub flags-kept : (F G : List Bool) → F ≡ replicate flags-most false → length G ≡ flags-most → length G ≡ length F
+flags-kept F G e h = h ∙ sym (ap length e ∙ length-replicate flags-most false)
 
 -- the readings from an offset on, of which the first is known
 abbrev pub from-first : List ℕ → ℕ → ℕ → Read → List Placed
@@ -102,7 +105,7 @@ unfolding readings-from
 opened f v B at zero h j r e = absurd (omega arith)
 opened f v B at (suc k) h j r e = (k, h, subst (λ (q : Read). f (from-first B at k q) ≡ v) (sym e) j)
 
-module _ {B : List ℕ} {at : ℕ} {s : CodeProgress} (w : Walk B at s) where
+module _ {B : List ℕ} {at : ℕ} {s : CodeProgress} {F : List Bool} (w : Walk B at s F) where
   first : (r : Read) → r ≡ read-at B at → (n : ℕ) × (length B - at < suc n) × (judged (length B) (w .so-far) (from-first B at n r) ≡ verdict B)
   first = opened (judged (length B) (w .so-far)) (verdict B) B at (w .fuel) (w .enough) (w .judges)
 
@@ -133,9 +136,10 @@ module _ {B : List ℕ} {at : ℕ} {s : CodeProgress} (w : Walk B at s) where
       let rest : Verdict = judged (length B) (after (w .so-far) (command-of B at c)) (if (goes-on (whole (command-of B at c))) (readings-from B (o .0) (at + width (byte-at B at))) []) in
       g rest ∙ ap (λ (d : Command). ended (length B) at d rest) (sym (at-end B at c i)) ∙ unbroken (command-of B at c) e (sym f ∙ z) (o .0) (o .2)
 
-  pub turn-on : (c : CodeCommand) (n next : ℕ) (t : CodeProgress) → whole (command-of B at c) ≡ read-at B at → n ≡ first-broken (rules-of (w .so-far) (command-of B at c)) → n ≡ 0 → is-end c ≡ false
-      → next ≡ next-at B at → Stands t (after (w .so-far) (command-of B at c)) → Walk B next t
-  turn-on c n next t e f z i g st =
+  pub turn-on : (c : CodeCommand) (n next : ℕ) (t : CodeProgress) (G : List Bool) → whole (command-of B at c) ≡ read-at B at → n ≡ first-broken (rules-of (w .so-far) (command-of B at c)) → n ≡ 0 → is-end c ≡ false
+      → next ≡ next-at B at → G ≡ noted c F → Leaves B at s c t → Walk B next t G
+  turn-on c n next t G e f z i g h′ lv =
+      let st = subst (λ (H : List Bool). Stands t H (after (w .so-far) (command-of B at c))) (sym h′) (lv F (w .so-far) (w .stands) (sym f ∙ z)) in
       let o = first (whole (command-of B at c)) e in
       let h = forward B at (command-of B at c) next e g in
       let y = going B at c i in

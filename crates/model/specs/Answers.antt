@@ -10,9 +10,9 @@ shown v = refusal (v .number) (v .place)
 
 unfoldable pub is-end : CodeCommand → Bool
 is-end (Site m n a w) = false
-is-end (Leaf p) = false
+is-end Leaf = false
 is-end (Condition k) = false
-is-end (Test p) = false
+is-end Test = false
 is-end (Give x a j) = false
 is-end (Name a) = false
 is-end End = true

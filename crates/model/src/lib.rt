@@ -2,19 +2,34 @@
 ghost use mathlib.Core.Path.{_≡_};
 ghost use mathlib.Core.Bool.{false, true};
 ghost use Prim.Native.Nat.{ℕ, _<_};
-ghost use lib.ListN.{length};
+ghost use lib.ListN.{length, replicate};
 ghost use Rattle.theory.specs.Command.{end-model};
 ghost use Rattle.theory.specs.Verdict.{verdict};
+ghost use Rattle.theory.specs.Verdict.{refusal as refused};
 ghost use Rattle.theory.specs.Verdict.{ended as ended-at};
 ghost use Rattle.theory.specs.Verdict.{Verdict as Outcome};
 ghost use Rattle.theory.specs.Load.{site-at};
 ghost use Rattle.theory.specs.Solve.{early as early-of};
-ghost use Rattle.progress.specs.Standing.{site-as};
+ghost use Rattle.progress.specs.Standing.{flags-most, site-as};
 ghost use Rattle.model.specs.Answers.{shown};
 ghost use Rattle.model.specs.Answers.{is-end as ends};
 use command::Command;
 use command::Read;
 use progress::Site;
+use progress::given::FLAGS;
+use progress::refusals::EXTRA;
+use progress::refusals::SHORT;
+use progress::refusals::SIZES;
+use progress::refusals::STEPS;
+use progress::refusals::UNKNOWN;
+
+// "model above 65,535 bytes"
+const BYTES_MOST: usize = 65535;
+
+// "horizon or steps not 1 to 8", and the eight stage words.
+const STEPS_MOST: u32 = 8;
+
+const STAGE_WORDS: usize = 8;
 
 // The number and the place of a refusal; 0 and 0 where there is none.
 pub struct Verdict {
@@ -28,6 +43,12 @@ pub fn is_end(c: Command) -> bool
     if let Command::End = c { true } else { false }
 }
 
+fn refusal(number: u32, place: usize) -> Verdict
+    ensures { λ r. ⌜ shown r ≡ refused number place ⌝ }
+{
+    Verdict { number, place }
+}
+
 // "8: bytes after end", at the offset of the extra byte.
 fn ended(size: usize, at: usize) -> Verdict
     requires { ⌜ at < size ⌝ }
@@ -35,7 +56,7 @@ fn ended(size: usize, at: usize) -> Verdict
 {
     if at + 1 < size {
         Verdict {
-            number: 8,
+            number: EXTRA,
             place: at + 1,
         }
     } else {
@@ -46,8 +67,9 @@ fn ended(size: usize, at: usize) -> Verdict
     }
 }
 
-// "the model by offset": the first command at fault decides.
-pub fn validate(model: &[u8]) -> Verdict
+// "the model by offset": the first command at fault decides. `flags`: what has been given.
+fn judge(model: &[u8], flags: &mut [bool]) -> Verdict
+    requires { ⌜ now flags ≡ replicate flags-most false ⌝ }
     ensures { λ r. ⌜ shown r ≡ verdict (now (model .entry)) ⌝ }
 {
     let mut at: usize = 0;
@@ -56,62 +78,45 @@ pub fn validate(model: &[u8]) -> Verdict
         let read = command::command_at(model, at);
         match read {
             Read::Whole(c) => {
-                let k = progress::rules::broken(model, at, c, s);
+                let k = progress::rules::broken(model, at, c, flags, s);
                 if k != 0 {
-                    return Verdict {
-                        number: k,
-                        place: at,
-                    };
+                    return refusal(k, at);
                 }
                 if is_end(c) {
                     return ended(model.len(), at);
                 }
-                s = progress::states::after(s, c);
+                progress::given::note(flags, c);
+                s = progress::states::after(model, at, c, s);
                 at = command::next_after(model, at);
             }
-            Read::Unknown => {
-                return Verdict {
-                    number: 3,
-                    place: at,
-                };
-            }
-            Read::Short => {
-                return Verdict {
-                    number: 2,
-                    place: at,
-                };
-            }
+            Read::Unknown => return refusal(UNKNOWN, at),
+            Read::Short => return refusal(SHORT, at),
         }
     }
+}
+
+pub fn validate(model: &[u8]) -> Verdict
+    ensures { λ r. ⌜ shown r ≡ verdict (now (model .entry)) ⌝ }
+{
+    let mut flags = [false; FLAGS];
+    judge(model, &mut flags)
 }
 
 // "10: stage words not eight, or model above 65,535 bytes; 9: horizon or steps not 1 to 8", then the model's own.
 pub fn early(model: &[u8], steps: u32, stage_words: usize) -> Verdict
     ensures { λ r. ⌜ shown r ≡ early-of (now (model .entry)) steps «stage_words» ⌝ }
 {
-    if stage_words != 8 {
-        return Verdict {
-            number: 10,
-            place: 0,
-        };
+    if stage_words != STAGE_WORDS {
+        return refusal(SIZES, 0);
     }
-    if 65535 < model.len() {
-        return Verdict {
-            number: 10,
-            place: 0,
-        };
+    if BYTES_MOST < model.len() {
+        return refusal(SIZES, 0);
     }
     if steps < 1 {
-        return Verdict {
-            number: 9,
-            place: 0,
-        };
+        return refusal(STEPS, 0);
     }
-    if 8 < steps {
-        return Verdict {
-            number: 9,
-            place: 0,
-        };
+    if STEPS_MOST < steps {
+        return refusal(STEPS, 0);
     }
     validate(model)
 }

@@ -54,9 +54,9 @@ module _ (l : List ℕ) (at : ℕ) where
 pub names-other : (a : ℕ) (B : List ℕ) (at : ℕ) (c : CodeCommand) → OneOf (0 ∷ 1 ∷ 2 ∷ 3 ∷ 4 ∷ 6 ∷ []) (tagOf command-type c) → false ≡ names-action a (whole (command-of B at c))
 unfolding names-action command-of
 names-other a B at (Site m n b w) k = refl
-names-other a B at (Leaf p) k = refl
+names-other a B at Leaf k = refl
 names-other a B at (Condition i) k = refl
-names-other a B at (Test p) k = refl
+names-other a B at Test k = refl
 names-other a B at (Give x b j) k = refl
 names-other a B at (Name b) k = absurd (miss (0 ∷ 1 ∷ 2 ∷ 3 ∷ 4 ∷ 6 ∷ []) 5 tt k)
 names-other a B at End k = refl

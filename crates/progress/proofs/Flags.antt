@@ -15,7 +15,12 @@ use Rattle.theory.specs.Verdict.{or, Site, same-slot, has-slot, reward-slot, ch
 use Rattle.theory.specs.laws.Rules.{of-site-out}
 use Rattle.theory.specs.Widths.{levels-most, conditions-most, actions-most}
 use Rattle.theory.specs.Valid.{among}
-use Rattle.progress.specs.Standing.{place, base-of, flag-of, Slotted, for-reward, for-chance, for-level, for-name}
+use types.Run.{OneOf, miss}
+use denote.Enum.Declared.{tagOf}
+use Rattle.command.proofs.Command.{the-type}
+use Rattle.command.specs.declared.Command.{Command as CodeCommand}
+use Rattle.command.specs.declared.Command.the-variants.{Site as SiteBy, Leaf, Condition, Test, Give, Name, End}
+use Rattle.progress.specs.Standing.{flags-most, noted, place, base-of, flag-of, Slotted, for-reward, for-chance, for-level, for-name}
 use Rattle.progress.proofs.Numbers.{bounds, is-among}
 
 -- a store past the end changes nothing
@@ -29,7 +34,7 @@ no-flag zero i = refl
 no-flag (suc n) zero = refl
 no-flag (suc n) (suc i) = no-flag n i
 
-pub slotted-below : {g : Slot} {i : ℕ} → Slotted g i → i < 81
+pub slotted-below : {g : Slot} {i : ℕ} → Slotted g i → i < flags-most
 slotted-below (for-reward {a = a} t) = let h = bounds 8 a t in omega arith
 slotted-below (for-chance {a = a} {k = k} t u) = let h = bounds 8 a t in let m = bounds 4 k u in omega arith
 slotted-below (for-level {a = a} {i = k} t u) = let h = bounds 8 a t in let m = bounds 4 k u in omega arith
@@ -87,7 +92,7 @@ slotted-given S g m n a t =
     (d .1)
 
 -- a flag set is one thing more that is given
-pub flag-more : (G : List Slot) (F : List Bool) {g h : Slot} {i j : ℕ} → length F ≡ 81 → Slotted g i → Slotted h j → has-slot h G ≡ getD F j false
+pub flag-more : (G : List Slot) (F : List Bool) {g h : Slot} {i j : ℕ} → length F ≡ flags-most → Slotted g i → Slotted h j → has-slot h G ≡ getD F j false
     → has-slot h (g ∷ G) ≡ getD (set F i true) j false
 unfolding has-slot
 flag-more G F {g} {h} {i} {j} n p q e =
@@ -96,3 +101,14 @@ flag-more G F {g} {h} {i} {j} n p q e =
     go : (b : Bool) → eqb j i ≡ b → or b (getD F j false) ≡ getD (set F i true) j false
     go true x = let y = eqb-true j i x in let l : i < length F = omega (arith, slotted-below p) in rw y (sym (getD-set-same F i true false l))
     go false x = sym (getD-set-other F i j true false (eqb-false j i x))
+
+-- a command that gives nothing
+pub noted-other : (c : CodeCommand) (F : List Bool) → OneOf (0 ∷ 1 ∷ 2 ∷ 3 ∷ 6 ∷ []) (tagOf the-type c) → F ≡ noted c F
+unfolding noted
+noted-other (SiteBy m n a w) F k = refl
+noted-other Leaf F k = refl
+noted-other (Condition i) F k = refl
+noted-other Test F k = refl
+noted-other (Give x a j) F k = absurd (miss (0 ∷ 1 ∷ 2 ∷ 3 ∷ 6 ∷ []) 4 tt k)
+noted-other (Name a) F k = absurd (miss (0 ∷ 1 ∷ 2 ∷ 3 ∷ 6 ∷ []) 5 tt k)
+noted-other End F k = refl

@@ -4,7 +4,7 @@ use mathlib.Core.Bool.{Bool, true, false, not, _&&_}
 use mathlib.Core.List.{List, [], _∷_, _++_, map}
 use Prim.Native.Nat.{ℕ, zero, suc, _+_, _≤_, _<_}
 use native.Mathlib.Omega.{arith}
-use borrow.Author.Tests.{lt-ltb, le-ltb}
+use borrow.Author.Tests.{lt-ltb, le-ltb, ltb-false}
 use lib.Dec.{T, ltb, leb}
 use lib.ListN.{length, length-map, getD}
 use Rattle.theory.specs.Widths.{levels-most, conditions-most, actions-most}
@@ -12,12 +12,11 @@ use Rattle.theory.specs.Diagram.{Linear, zeros}
 use Rattle.theory.specs.Valid.{all, among}
 use Rattle.theory.specs.Command.{Command, push-leaf, push-condition, push-test, give, name-action, end-model, Slot}
 use Rattle.theory.specs.Verdict.{or, Facts, Site, reward-slot, chance-slot, level-slot, name-slot, has-slot, Progress, Rule, rule, first-broken, first-rules, later-rules, rules-of, beyond, next-condition, printable, of-site, may-be, top, from-to, wanted, wanted-by}
-use Rattle.command.specs.Held.{held}
-use Rattle.command.proofs.Stacked.{held-length}
 use Rattle.progress.specs.declared.Progress.{Progress as CodeProgress}
-use Rattle.progress.specs.Standing.{facts-of, site-as, place, flag-of, for-reward, for-chance, for-level, for-name, Stands, in-order, row-given, action-given, all-given}
+use Rattle.progress.specs.Standing.{seen, site-as, place, flag-of, for-reward, for-chance, for-level, for-name, Stands, in-order, row-given, action-given, all-given}
 use Rattle.progress.proofs.Numbers.{bounds, is-among, not-false-T}
 use Rattle.progress.proofs.Flags.{slotted-given}
+use Rattle.progress.proofs.Bits.{seen-length}
 use Rattle.progress.proofs.Runs.{run-same, all-map, all-append, and-assoc}
 
 -- ---- the order of the rules
@@ -50,52 +49,52 @@ neither : (x y : Bool) → or x y ≡ false → (x ≡ false) × (y ≡ false)
 neither true y e = absurd (let z : _≡_ {A = ℕ} 0 1 = cc in omega arith)
 neither false y e = (refl, e)
 
-top-map : (l : List ℕ) → facts-of (getD l 0 0) ≡ top (map facts-of l)
-unfolding facts-of
-top-map [] = refl
-top-map (x ∷ l) = refl
+-- a diagram matters only where there is one
+diagram-alike : (o k t d e : Bool) → (k ≡ false → d ≡ e) → first-broken (in-order o k t d) ≡ first-broken (in-order o k t e)
+unfolding first-broken
+diagram-alike true k t d e f = refl
+diagram-alike false true t d e f = refl
+diagram-alike false false t d e f = ap (λ (b : Bool). first-broken (in-order false false t b)) (f refl)
 
 -- ---- what the code keeps
 
-module _ {s : CodeProgress} {p : Progress} (st : Stands s p) where
-  pub depth : s .stack .len ≡ length (p .stack)
-  depth = sym (held-length (s .stack .items) (s .stack .len)) ∙ sym (length-map (held (s .stack)) facts-of) ∙ ap length (st .stack)
-
-  pub top-is : facts-of (getD (held (s .stack)) 0 0) ≡ top (p .stack)
-  top-is = top-map (held (s .stack)) ∙ ap top (st .stack)
+module _ {s : CodeProgress} {F : List Bool} {p : Progress} (st : Stands s F p) where
+  pub depth : s .seen .len ≡ length (p .stack)
+  depth = sym (seen-length (s .seen .later) (s .seen .weights) (s .seen .len)) ∙ ap length (st .stack)
 
   -- an operand that is good for the site is good for the widths
   act : (a : ℕ) → not (among (s .site .actions) a) ≡ false → T (among actions-most a)
   act a e = let h = bounds (s .site .actions) a (not-false-T (among (s .site .actions) a) e) in let q = ap (λ (S : Site). S .actions) (st .site) in let m = st .actions in is-among 8 a (omega arith) (omega arith)
 
-  pub later-leaf : (P : Linear) → first-broken (in-order (beyond (s .site .levels) P) (leb 32 (s .stack .len)) false false)
+  pub later-leaf : (P : Linear) → first-broken (in-order (beyond (s .site .levels) P) (leb 32 (s .seen .len)) false false)
       ≡ first-broken (later-rules (p .site) (p .stack) (p .given) (push-leaf P))
   unfolding later-rules
   later-leaf P = stack-only _ _ ∙ ap₂ (λ (S : Site) (n : ℕ). first-broken (rule 4 (beyond (S .levels) P) ∷ rule 5 (leb 32 n) ∷ [])) (st .site) depth
 
-  pub later-condition : (k : ℕ) → first-broken (in-order (not (or (among (s .site .conditions) k) (next-condition (s .site .conditions) k))) (ltb (s .stack .len) 2) false false)
+  pub later-condition : (k : ℕ) → first-broken (in-order (not (or (among (s .site .conditions) k) (next-condition (s .site .conditions) k))) (ltb (s .seen .len) 2) false false)
       ≡ first-broken (later-rules (p .site) (p .stack) (p .given) (push-condition k))
   unfolding later-rules
   later-condition k =
       stack-only _ _
       ∙ ap₂ (λ (S : Site) (n : ℕ). first-broken (rule 4 (not (or (among (S .conditions) k) (next-condition (S .conditions) k))) ∷ rule 5 (ltb n 2) ∷ [])) (st .site) depth
 
-  pub later-test : (P : Linear) → first-broken (in-order (or (beyond (s .site .levels) P) (zeros (P .coeffs))) (ltb (s .stack .len) 2) false false)
+  pub later-test : (P : Linear) → first-broken (in-order (or (beyond (s .site .levels) P) (zeros (P .coeffs))) (ltb (s .seen .len) 2) false false)
       ≡ first-broken (later-rules (p .site) (p .stack) (p .given) (push-test P))
   unfolding later-rules
   later-test P =
       stack-only _ _ ∙ two-operands _ _ _
       ∙ ap₂ (λ (S : Site) (n : ℕ). first-broken (rule 4 (beyond (S .levels) P) ∷ rule 4 (zeros (P .coeffs)) ∷ rule 5 (ltb n 2) ∷ [])) (st .site) depth
 
-  pub later-give : (g : Slot) → first-broken (in-order (not (of-site (site-as (s .site)) g)) (ltb (s .stack .len) 1) (getD (s .given) (flag-of g) false) (not (may-be g (facts-of (getD (held (s .stack)) 0 0)))))
+  pub later-give : (g : Slot) (m : Bool) → (0 < s .seen .len → m ≡ may-be g (top (seen (s .seen))))
+      → first-broken (in-order (not (of-site (site-as (s .site)) g)) (ltb (s .seen .len) 1) (getD F (flag-of g) false) (not m))
       ≡ first-broken (later-rules (p .site) (p .stack) (p .given) (give g))
   unfolding later-rules
-  later-give g =
-      ap₂ (λ (S : Site) (n : ℕ). first-broken (in-order (not (of-site S g)) (ltb n 1) (getD (s .given) (flag-of g) false) (not (may-be g (facts-of (getD (held (s .stack)) 0 0)))))) (st .site) depth
-      ∙ ap (λ (f : Facts). first-broken (in-order (not (of-site (p .site) g)) (ltb (length (p .stack)) 1) (getD (s .given) (flag-of g) false) (not (may-be g f)))) top-is
+  later-give g m e =
+      diagram-alike _ _ _ _ (not (may-be g (top (p .stack)))) (λ k. ap not (e (ltb-false (s .seen .len) 1 k) ∙ ap (λ (K : List Facts). may-be g (top K)) (st .stack)))
+      ∙ ap₂ (λ (S : Site) (n : ℕ). first-broken (in-order (not (of-site S g)) (ltb n 1) (getD F (flag-of g) false) (not (may-be g (top (p .stack)))))) (st .site) depth
       ∙ twice-alike _ _ _ (has-slot g (p .given)) _ (λ e. sym (st .given (slotted-given (p .site) g (st .levels) (st .conditions) (st .actions) (not-false-T (of-site (p .site) g) e))))
 
-  pub later-name : (a : ℕ) (b : List ℕ) → first-broken (in-order (or (not (among (s .site .actions) a)) (not (all printable b))) false (getD (s .given) (place 9 0 a) false) false)
+  pub later-name : (a : ℕ) (b : List ℕ) → first-broken (in-order (or (not (among (s .site .actions) a)) (not (all printable b))) false (getD F (place 9 0 a) false) false)
       ≡ first-broken (later-rules (p .site) (p .stack) (p .given) (name-action a b))
   unfolding later-rules
   later-name a b =
@@ -108,17 +107,17 @@ module _ {s : CodeProgress} {p : Progress} (st : Stands s p) where
   has : Slot → Bool
   has g = has-slot g (p .given)
 
-  row-0 : (a n : ℕ) → T (among actions-most a) → n ≤ conditions-most → row-given (s .given) 0 a n ≡ all has (map (chance-slot a) (from-to 1 n))
+  row-0 : (a n : ℕ) → T (among actions-most a) → n ≤ conditions-most → row-given F 0 a n ≡ all has (map (chance-slot a) (from-to 1 n))
   unfolding row-given has
   row-0 a n t h =
       run-same _ _ 1 n (λ i x y. sym (st .given (for-chance t (is-among 4 i x (omega arith))))) ∙ sym (all-map has (chance-slot a) (from-to 1 n))
 
-  row-4 : (a n : ℕ) → T (among actions-most a) → n ≤ levels-most → row-given (s .given) 4 a n ≡ all has (map (level-slot a) (from-to 1 n))
+  row-4 : (a n : ℕ) → T (among actions-most a) → n ≤ levels-most → row-given F 4 a n ≡ all has (map (level-slot a) (from-to 1 n))
   unfolding row-given has
   row-4 a n t h =
       run-same _ _ 1 n (λ i x y. sym (st .given (for-level t (is-among 4 i x (omega arith))))) ∙ sym (all-map has (level-slot a) (from-to 1 n))
 
-  wanted-run : (x k : ℕ) → 1 ≤ x → x + k ≤ 9 → all (action-given (s .given) (p .site)) (from-to x k) ≡ all has (wanted-by (p .site) (from-to x k))
+  wanted-run : (x k : ℕ) → 1 ≤ x → x + k ≤ 9 → all (action-given F (p .site)) (from-to x k) ≡ all has (wanted-by (p .site) (from-to x k))
   unfolding all from-to wanted-by action-given has
   wanted-run x zero h i = refl
   wanted-run x (suc k) h i =
@@ -130,11 +129,11 @@ module _ {s : CodeProgress} {p : Progress} (st : Stands s p) where
       ∙ and-assoc (has (reward-slot x)) (all has C && all has L) (all has R)
       ∙ ap (λ (b : Bool). has (reward-slot x) && b) (and-assoc (all has C) (all has L) (all has R) ∙ ap (λ (b : Bool). all has C && b) (sym (all-append has L R)) ∙ sym (all-append has C (L ++ R)))
 
-  wanted-all : all-given (s .given) (site-as (s .site)) ≡ all has (wanted (p .site))
+  wanted-all : all-given F (site-as (s .site)) ≡ all has (wanted (p .site))
   unfolding all-given wanted
-  wanted-all = ap (all-given (s .given)) (st .site) ∙ wanted-run 1 (p .site .actions) (omega arith) (let h = st .actions in omega arith)
+  wanted-all = ap (all-given F) (st .site) ∙ wanted-run 1 (p .site .actions) (omega arith) (let h = st .actions in omega arith)
 
-  pub later-end : first-broken (rule 7 (not (all-given (s .given) (site-as (s .site)))) ∷ rule 7 (ltb 0 (s .stack .len)) ∷ [])
+  pub later-end : first-broken (rule 7 (not (all-given F (site-as (s .site)))) ∷ rule 7 (ltb 0 (s .seen .len)) ∷ [])
       ≡ first-broken (later-rules (p .site) (p .stack) (p .given) end-model)
   unfolding later-rules has
   later-end = ap₂ (λ (b : Bool) (n : ℕ). first-broken (rule 7 (not b) ∷ rule 7 (ltb 0 n) ∷ [])) wanted-all depth
@@ -155,7 +154,7 @@ end-done b n e h = rw (e, le-ltb 0 n h)
 
 -- ---- the first command and the later ones
 
-module _ {s : CodeProgress} {p : Progress} (st : Stands s p) (c : Command) where
+module _ {s : CodeProgress} {F : List Bool} {p : Progress} (st : Stands s F p) (c : Command) where
   pub begun-rules : s .begun ≡ true → first-broken (later-rules (p .site) (p .stack) (p .given) c) ≡ first-broken (rules-of p c)
   unfolding rules-of
   begun-rules e = let b : p .begun ≡ true = sym (st .begun) ∙ e in rw b

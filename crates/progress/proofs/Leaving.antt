@@ -1,26 +1,28 @@
 -- What a command that breaks no rule leaves in the code stands for what document 01 says it leaves.
 use mathlib.Core.Path.{_≡_, refl, sym, ap, ap₂, _∙_, subst}
 use mathlib.Core.Bool.{Bool, true, false, not, _&&_}
-use mathlib.Core.List.{List, [], _∷_, map}
-use Prim.Native.Nat.{ℕ, suc, _≤_, _<_}
+use mathlib.Core.List.{List, [], _∷_}
+use Prim.Native.Nat.{ℕ, suc, _+_, _≤_, _<_}
 use native.Mathlib.Omega.{arith}
 use borrow.Author.Tests.{lt-ltb, leb-false, ltb-false}
 use lib.Dec.{T, ltb}
-use lib.ListN.{length, length-map, length-set, length-replicate, getD, set, drop, replicate}
+use lib.ListN.{length, length-set, length-replicate, getD, set, drop, replicate}
 use Rattle.whole.specs.Cases.{if}
 use Rattle.theory.specs.Widths.{stack-most}
 use Rattle.theory.specs.Diagram.{Linear}
 use Rattle.theory.specs.Valid.{among}
-use Rattle.theory.specs.Command.{Command, site, push-leaf, push-condition, push-test, give, name-action, end-model, Slot}
-use Rattle.theory.specs.Verdict.{or, Facts, Site, has-slot, Progress, with-stack, with-slot, at-start, Rule, rule, first-broken, first-rules, later-rules, site-rules, rules-of, after, joined, is-weight, of-site}
+use Rattle.theory.specs.Command.{Command, site, push-leaf, push-condition, push-test, give, name-action, end-model, Slot, whole, read-at}
+use Rattle.theory.specs.Verdict.{or, Facts, Site, site-of, has-slot, Progress, with-stack, with-slot, at-start, Rule, rule, first-broken, first-rules, later-rules, site-rules, rules-of, after, joined, is-weight, of-site}
 use Rattle.command.specs.declared.Command.{Command as CodeCommand}
-use Rattle.command.specs.declared.stack.Stack.{Stack}
+use Rattle.command.specs.declared.Command.the-variants.{Leaf, Test}
+use Rattle.command.proofs.Forward.{has-linear, linear-room}
+use Rattle.progress.specs.declared.Seen.{Seen}
 use Rattle.command.specs.Reading.{command-of}
-use Rattle.command.specs.Held.{held, pushed}
 use Rattle.progress.specs.declared.Progress.{Progress as CodeProgress}
-use Rattle.progress.specs.Standing.{facts-of, facts, place, flag-of, Slotted, for-name, Stands, Leaves, Later}
+use Rattle.progress.specs.Standing.{flags-most, site-as, seen, place, flag-of, noted, Slotted, for-name, Stands, Leaves, Later}
 use Rattle.progress.proofs.Numbers.{bounds, is-among, not-false-T}
 use Rattle.progress.proofs.Flags.{flag-more, no-flag, slotted-given}
+use Rattle.progress.proofs.Bits.{seen-length}
 
 -- ---- rules that are not broken
 
@@ -42,13 +44,23 @@ later-unbroken p c f e = go (p .begun) e
     go true e = e
     go false e = absurd (let z : _≡_ {A = ℕ} 0 1 = cc in omega arith)
 
-not-site : (p : Progress) (m n a w : ℕ) → first-broken (rules-of p (site m n a w)) ≡ 0 → first-broken (rules-of at-start (site m n a w)) ≡ 0
-unfolding rules-of later-rules first-broken
+-- a site that breaks none is the first command
+not-site : (p : Progress) (m n a w : ℕ) → first-broken (rules-of p (site m n a w)) ≡ 0 → (p .begun ≡ false) × (first-broken (site-rules (site-of m n a w)) ≡ 0)
+unfolding rules-of later-rules first-rules first-broken
 not-site p m n a w e = go (p .begun) e
   where
-    go : (b : Bool) → first-broken (if b (later-rules (p .site) (p .stack) (p .given) (site m n a w)) (first-rules (site m n a w))) ≡ 0 → first-broken (first-rules (site m n a w)) ≡ 0
+    go : (b : Bool) → first-broken (if b (later-rules (p .site) (p .stack) (p .given) (site m n a w)) (first-rules (site m n a w))) ≡ 0 → (b ≡ false) × (first-broken (site-rules (site-of m n a w)) ≡ 0)
     go true e = absurd (let z : _≡_ {A = ℕ} 0 1 = cc in omega arith)
-    go false e = e
+    go false e = (refl, e)
+
+-- any other that breaks none is a later one
+is-later : (p : Progress) (c : Command) → first-broken (first-rules c) ≡ 1 → first-broken (rules-of p c) ≡ 0 → p .begun ≡ true
+unfolding rules-of
+is-later p c f e = go (p .begun) e
+  where
+    go : (b : Bool) → first-broken (if b (later-rules (p .site) (p .stack) (p .given) c) (first-rules c)) ≡ 0 → b ≡ true
+    go true e = refl
+    go false e = absurd (let z : _≡_ {A = ℕ} 0 1 = cc in omega arith)
 
 good : (n k : ℕ) (m : ℕ) → n ≤ m → not (among n k) ≡ false → T (among m k)
 good n k m h e = let b = bounds n k (not-false-T (among n k) e) in is-among m k (omega arith) (omega arith)
@@ -59,43 +71,22 @@ length-drop-one : (l : List Facts) → length (drop 1 l) ≤ length l
 length-drop-one [] = omega arith
 length-drop-one (x ∷ l) = omega arith
 
-map-drop-one : (l : List ℕ) → map facts-of (drop 1 l) ≡ drop 1 (map facts-of l)
-map-drop-one [] = refl
-map-drop-one (x ∷ l) = refl
-
 length-joined : (b : Bool) (l : List Facts) → length (joined b l) ≤ length l
 unfolding joined
 length-joined b [] = omega arith
 length-joined b (x ∷ []) = omega arith
 length-joined b (x ∷ y ∷ l) = omega arith
 
-pushed-more : (x : ℕ) (l : List ℕ) → length l < stack-most → pushed x l ≡ x ∷ l
-unfolding pushed
-pushed-more x l h = rw (lt-ltb (length l) stack-most h)
-
--- ---- "takes low, then high, off the stack and pushes the choice"
-
-pub join-law : (l : List ℕ) (later : Bool) (e : ℕ)
-    → facts-of e ≡ record {
-      next-step = or later (or (facts-of (getD (drop 1 l) 0 0) .next-step) (facts-of (getD l 0 0) .next-step));
-      weights = facts-of (getD (drop 1 l) 0 0) .weights && facts-of (getD l 0 0) .weights;
-    }
-    → 2 ≤ length l → length l ≤ stack-most → map facts-of (pushed e (drop 1 (drop 1 l))) ≡ joined later (map facts-of l)
-unfolding joined
-join-law [] later e h a b = absurd (omega arith)
-join-law (x ∷ []) later e h a b = absurd (omega arith)
-join-law (x ∷ y ∷ l) later e h a b =
-    ap (map facts-of) (pushed-more e l (omega arith)) ∙ ap (λ (f : Facts). f ∷ map facts-of l) h
-
 -- ---- the state made anew
 
-module _ {s : CodeProgress} {p : Progress} (st : Stands s p) where
-  pub keep-stack : (t : Stack) (K : List Facts) → facts t ≡ K → length K ≤ stack-most → Stands (record { begun = s .begun; site = s .site; stack = t; given = s .given }) (with-stack p K)
+module _ {s : CodeProgress} {F : List Bool} {p : Progress} (st : Stands s F p) where
+  keep-stack : (t : Seen) (K : List Facts) → seen t ≡ K → length K ≤ stack-most → Stands (record { begun = s .begun; site = s .site; seen = t }) F (with-stack p K)
   keep-stack t K e h = record {
     begun = st .begun;
     site = st .site;
     stack = e;
     given = λ q. st .given q;
+    none = st .none;
     flags = st .flags;
     levels = st .levels;
     conditions = st .conditions;
@@ -103,127 +94,125 @@ module _ {s : CodeProgress} {p : Progress} (st : Stands s p) where
     sized = h;
   }
 
-  pub keep-flag : (t : Stack) (K : List Facts) {g : Slot} {i : ℕ} → Slotted g i → facts t ≡ K → length K ≤ stack-most
-      → Stands (record { begun = s .begun; site = s .site; stack = t; given = set (s .given) i true }) (with-slot p K g)
-  keep-flag t K {g} {i} sl e h = record {
+  keep-flag : (t : Seen) (K : List Facts) {g : Slot} {i : ℕ} → Slotted g i → p .begun ≡ true → seen t ≡ K → length K ≤ stack-most
+      → Stands (record { begun = s .begun; site = s .site; seen = t }) (set F i true) (with-slot p K g)
+  keep-flag t K {g} {i} sl b e h = record {
     begun = st .begun;
     site = st .site;
     stack = e;
-    given = λ q. flag-more (p .given) (s .given) (st .flags) sl q (st .given q);
-    flags = length-set (s .given) i true ∙ st .flags;
+    given = λ q. flag-more (p .given) F (st .flags) sl q (st .given q);
+    none = λ z. absurd (let y : true ≡ false = sym b ∙ z in let q : _≡_ {A = ℕ} 0 1 = cc in omega arith);
+    flags = length-set F i true ∙ st .flags;
     levels = st .levels;
     conditions = st .conditions;
     actions = st .actions;
     sized = h;
   }
 
-  depth-held : length (held (s .stack)) ≡ length (p .stack)
-  depth-held = sym (length-map (held (s .stack)) facts-of) ∙ ap length (st .stack)
+  depth : s .seen .len ≡ length (p .stack)
+  depth = sym (seen-length (s .seen .later) (s .seen .weights) (s .seen .len)) ∙ ap length (st .stack)
 
-  pub after-leaf : (P : Linear) (e : ℕ) (t : Stack) → facts-of e ≡ record { next-step = false; weights = is-weight (s .site .weights) P } → held t ≡ pushed e (held (s .stack))
-      → first-broken (rules-of p (push-leaf P)) ≡ 0 → Stands (record { begun = s .begun; site = s .site; stack = t; given = s .given }) (after p (push-leaf P))
+  pub after-leaf : (P : Linear) (w : Bool) (t : Seen) → w ≡ is-weight (s .site .weights) P → (s .seen .len < stack-most → seen t ≡ record { next-step = false; weights = w } ∷ seen (s .seen))
+      → first-broken (rules-of p (push-leaf P)) ≡ 0 → Stands (record { begun = s .begun; site = s .site; seen = t }) F (after p (push-leaf P))
   unfolding after first-rules later-rules
-  after-leaf P e t f h u =
+  after-leaf P w t f h u =
       let v = passes 4 _ _ (passes 3 _ _ (later-unbroken p (push-leaf P) (one-rule 1) u) .1) in
       let n : length (p .stack) < stack-most = leb-false stack-most (length (p .stack)) (v .0) in
-      keep-stack t _ (ap (map facts-of) (h ∙ pushed-more e (held (s .stack)) (rw depth-held n)) ∙ ap₂ _∷_ (f ∙ ap (λ (S : Site). record { next-step = false; weights = is-weight (S .weights) P }) (st .site)) (st .stack)) n
+      let d = depth in
+      keep-stack t _ (h (omega arith) ∙ ap₂ (λ (x : Bool) (K : List Facts). record { next-step = false; weights = x } ∷ K) (f ∙ ap (λ (S : Site). is-weight (S .weights) P) (st .site)) (st .stack)) n
 
-  joined-keeps : (later : Bool) (t : Stack) → (2 ≤ length (held (s .stack)) → length (held (s .stack)) ≤ stack-most → facts t ≡ joined later (facts (s .stack)))
-      → ltb (length (p .stack)) 2 ≡ false → Stands (record { begun = s .begun; site = s .site; stack = t; given = s .given }) (with-stack p (joined later (p .stack)))
+  joined-keeps : (later : Bool) (t : Seen) → (2 ≤ s .seen .len → s .seen .len ≤ stack-most → seen t ≡ joined later (seen (s .seen)))
+      → ltb (length (p .stack)) 2 ≡ false → Stands (record { begun = s .begun; site = s .site; seen = t }) F (with-stack p (joined later (p .stack)))
   joined-keeps later t f u =
       let n = ltb-false (length (p .stack)) 2 u in
       let z = st .sized in
-      let d = depth-held in
+      let d = depth in
       keep-stack t _ (f (omega arith) (omega arith) ∙ ap (joined later) (st .stack)) (omega (arith, length-joined later (p .stack)))
 
-  pub after-condition : (k : ℕ) (t : Stack) → (2 ≤ length (held (s .stack)) → length (held (s .stack)) ≤ stack-most → facts t ≡ joined (ltb 4 k) (facts (s .stack)))
-      → first-broken (rules-of p (push-condition k)) ≡ 0 → Stands (record { begun = s .begun; site = s .site; stack = t; given = s .given }) (after p (push-condition k))
+  pub after-condition : (k : ℕ) (t : Seen) → (2 ≤ s .seen .len → s .seen .len ≤ stack-most → seen t ≡ joined (ltb 4 k) (seen (s .seen)))
+      → first-broken (rules-of p (push-condition k)) ≡ 0 → Stands (record { begun = s .begun; site = s .site; seen = t }) F (after p (push-condition k))
   unfolding after first-rules later-rules
   after-condition k t f u = joined-keeps (ltb 4 k) t f (passes 4 _ _ (passes 3 _ _ (later-unbroken p (push-condition k) (one-rule 1) u) .1) .0)
 
-  pub after-test : (P : Linear) (t : Stack) → (2 ≤ length (held (s .stack)) → length (held (s .stack)) ≤ stack-most → facts t ≡ joined false (facts (s .stack)))
-      → first-broken (rules-of p (push-test P)) ≡ 0 → Stands (record { begun = s .begun; site = s .site; stack = t; given = s .given }) (after p (push-test P))
+  pub after-test : (P : Linear) (t : Seen) → (2 ≤ s .seen .len → s .seen .len ≤ stack-most → seen t ≡ joined false (seen (s .seen)))
+      → first-broken (rules-of p (push-test P)) ≡ 0 → Stands (record { begun = s .begun; site = s .site; seen = t }) F (after p (push-test P))
   unfolding after first-rules later-rules
   after-test P t f u = joined-keeps false t f (passes 4 _ _ (passes 3 _ _ (passes 3 _ _ (later-unbroken p (push-test P) (one-rule 1) u) .1) .1) .0)
 
-  -- a diagram off the stack
-  taken-keeps : (t : Stack) {g : Slot} {i : ℕ} → held t ≡ drop 1 (held (s .stack)) → Slotted g i
-      → Stands (record { begun = s .begun; site = s .site; stack = t; given = set (s .given) i true }) (with-slot p (drop 1 (p .stack)) g)
-  taken-keeps t h sl =
-      keep-flag t _ sl (ap (map facts-of) h ∙ map-drop-one (held (s .stack)) ∙ ap (drop 1) (st .stack)) (let z = st .sized in omega (arith, length-drop-one (p .stack)))
-
-  pub after-give : (g : Slot) (t : Stack) → held t ≡ drop 1 (held (s .stack)) → first-broken (rules-of p (give g)) ≡ 0
-      → Stands (record { begun = s .begun; site = s .site; stack = t; given = set (s .given) (flag-of g) true }) (after p (give g))
+  pub after-give : (g : Slot) (t : Seen) → seen t ≡ drop 1 (seen (s .seen)) → first-broken (rules-of p (give g)) ≡ 0
+      → Stands (record { begun = s .begun; site = s .site; seen = t }) (set F (flag-of g) true) (after p (give g))
   unfolding after first-rules later-rules
   after-give g t h u =
       let v = passes 3 _ _ (later-unbroken p (give g) (one-rule 1) u) in
-      taken-keeps t h (slotted-given (p .site) g (st .levels) (st .conditions) (st .actions) (not-false-T (of-site (p .site) g) (v .0)))
+      keep-flag t _ (slotted-given (p .site) g (st .levels) (st .conditions) (st .actions) (not-false-T (of-site (p .site) g) (v .0))) (is-later p (give g) (one-rule 1) u)
+      (h ∙ ap (drop 1) (st .stack)) (let z = st .sized in omega (arith, length-drop-one (p .stack)))
 
-  pub after-name : (a : ℕ) (b : List ℕ) → first-broken (rules-of p (name-action a b)) ≡ 0
-      → Stands (record { begun = s .begun; site = s .site; stack = s .stack; given = set (s .given) (place 9 0 a) true }) (after p (name-action a b))
+  pub after-name : (a : ℕ) (b : List ℕ) → first-broken (rules-of p (name-action a b)) ≡ 0 → Stands s (set F (place 9 0 a) true) (after p (name-action a b))
   unfolding after first-rules later-rules
   after-name a b u =
       let v = passes 3 _ _ (later-unbroken p (name-action a b) (one-rule 1) u) in
-      keep-flag (s .stack) _ (for-name (good (p .site .actions) a 8 (st .actions) (v .0))) (st .stack) (st .sized)
+      keep-flag (s .seen) _ (for-name (good (p .site .actions) a 8 (st .actions) (v .0))) (is-later p (name-action a b) (one-rule 1) u) (st .stack) (st .sized)
 
-  pub after-end : Stands s (after p end-model)
+  pub after-end : Stands s F (after p end-model)
   unfolding after
   after-end = st
 
-  pub after-site : (m n a w : ℕ) (r : CodeProgress) → (first-broken (rules-of at-start (site m n a w)) ≡ 0 → Stands r (after at-start (site m n a w)))
-      → first-broken (rules-of p (site m n a w)) ≡ 0 → Stands r (after p (site m n a w))
-  unfolding after
-  after-site m n a w r f u = f (not-site p m n a w u)
+  -- nothing has been given before the site
+  pub after-site : (m n a w : ℕ) (r : CodeProgress) → r .begun ≡ true → site-as (r .site) ≡ site-of m n a w → seen (r .seen) ≡ []
+      → first-broken (rules-of p (site m n a w)) ≡ 0 → Stands r F (after p (site m n a w))
+  unfolding after site-rules
+  after-site m n a w r b i e u =
+      let q = not-site p m n a w u in
+      let v = passes 3 _ _ (q .1) in
+      let x = passes 3 _ _ (v .1) in
+      let y = passes 3 _ _ (x .1) in
+      record {
+        begun = b;
+        site = i;
+        stack = e;
+        given = λ {g} o. ap (has-slot g) (sym (st .none (q .0))) ∙ st .given o;
+        none = λ z. refl;
+        flags = st .flags;
+        levels = bounds 4 m (not-false-T (among 4 m) (v .0)) .1;
+        conditions = ltb-false 4 n (x .0);
+        actions = bounds 8 a (not-false-T (among 8 a) (y .0)) .1;
+        sized = omega arith;
+      }
 
--- ---- the first states
+-- ---- the first state
 
-none-held : (t : Stack) → held t ≡ [] → facts t ≡ []
-none-held t e = ap (map facts-of) e
-
-no-flags : (F : List Bool) → F ≡ replicate 81 false → {g : Slot} {i : ℕ} → Slotted g i → has-slot g [] ≡ getD F i false
+no-flags : {g : Slot} {i : ℕ} → Slotted g i → has-slot g [] ≡ getD (replicate flags-most false) i false
 unfolding has-slot
-no-flags F e {i = i} q = rw e (sym (no-flag 81 i))
+no-flags {i = i} q = sym (no-flag flags-most i)
 
-count-flags : (F : List Bool) → F ≡ replicate 81 false → length F ≡ 81
-count-flags F e = rw e (length-replicate 81 false)
-
-pub stands-start : (t : Stack) (F : List Bool) → held t ≡ [] → F ≡ replicate 81 false
-    → Stands (record { begun = false; site = record { levels = 0; conditions = 0; actions = 0; weights = 0 }; stack = t; given = F }) at-start
-stands-start t F e f = record {
+pub stands-start : (t : Seen) → seen t ≡ []
+    → Stands (record { begun = false; site = record { levels = 0; conditions = 0; actions = 0; weights = 0 }; seen = t }) (replicate flags-most false) at-start
+stands-start t e = record {
   begun = refl;
   site = refl;
-  stack = none-held t e;
-  given = λ q. no-flags F f q;
-  flags = count-flags F f;
+  stack = e;
+  given = λ q. no-flags q;
+  none = λ z. refl;
+  flags = length-replicate flags-most false;
   levels = omega arith;
   conditions = omega arith;
   actions = omega arith;
   sized = omega arith;
 }
 
-pub stands-begun : (m n a w : ℕ) (t : Stack) (F : List Bool) → held t ≡ [] → F ≡ replicate 81 false → first-broken (rules-of at-start (site m n a w)) ≡ 0
-    → Stands (record { begun = true; site = record { levels = m; conditions = n; actions = a; weights = w }; stack = t; given = F }) (after at-start (site m n a w))
-unfolding after rules-of first-rules site-rules
-stands-begun m n a w t F e f u =
-    let v = passes 3 _ _ u in
-    let x = passes 3 _ _ (v .1) in
-    let y = passes 3 _ _ (x .1) in
-    record {
-      begun = refl;
-      site = refl;
-      stack = none-held t e;
-      given = λ q. no-flags F f q;
-      flags = count-flags F f;
-      levels = bounds 4 m (not-false-T (among 4 m) (v .0)) .1;
-      conditions = ltb-false 4 n (x .0);
-      actions = bounds 8 a (not-false-T (among 8 a) (y .0)) .1;
-      sized = omega arith;
-    }
-
 -- ---- a command that is known by its case
 
-pub by-command : (s : CodeProgress) {c d : CodeCommand} {r q : CodeProgress} → c ≡ d → r ≡ q → Leaves s d q → Leaves s c r
-by-command s {c} {d} {r} {q} e f g = subst (λ (x : CodeCommand). Leaves s x r) (sym e) (subst (λ (x : CodeProgress). Leaves s d x) (sym f) g)
+pub by-command : (B : List ℕ) (at : ℕ) (s : CodeProgress) {c d : CodeCommand} {r q : CodeProgress} → c ≡ d → r ≡ q → Leaves B at s d q → Leaves B at s c r
+by-command B at s {c} {d} {r} {q} e f g = subst (λ (x : CodeCommand). Leaves B at s x r) (sym e) (subst (λ (x : CodeProgress). Leaves B at s d x) (sym f) g)
 
-pub known-command : (s : CodeProgress) (B : List ℕ) (at k : ℕ) {c d : CodeCommand} → c ≡ d → Later s (command-of B at d) k → Later s (command-of B at c) k
-known-command s B at k e g = subst (λ (x : CodeCommand). Later s (command-of B at x) k) (sym e) g
+pub known-command : (s : CodeProgress) (F : List Bool) (B : List ℕ) (at k : ℕ) {c d : CodeCommand} → c ≡ d → Later s F (command-of B at d) k → Later s F (command-of B at c) k
+known-command s F B at k e g = subst (λ (x : CodeCommand). Later s F (command-of B at x) k) (sym e) g
+
+-- the bytes of a command that is known by its case
+pub leaf-there : (B : List ℕ) (at : ℕ) {c : CodeCommand} → c ≡ Leaf → whole (command-of B at c) ≡ read-at B at → at + 21 ≤ length B
+unfolding command-of has-linear
+leaf-there B at {c} e w = linear-room B at _ (subst (λ (d : CodeCommand). T (has-linear (command-of B at d))) (sym e) tt) w
+
+pub test-there : (B : List ℕ) (at : ℕ) {c : CodeCommand} → c ≡ Test → whole (command-of B at c) ≡ read-at B at → at + 21 ≤ length B
+unfolding command-of has-linear
+test-there B at {c} e w = linear-room B at _ (subst (λ (d : CodeCommand). T (has-linear (command-of B at d))) (sym e) tt) w

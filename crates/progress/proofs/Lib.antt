@@ -3,4 +3,5 @@ pub mod Numbers
 pub mod Runs
 pub mod Flags
 pub mod Judging
+pub mod Bits
 pub mod Leaving

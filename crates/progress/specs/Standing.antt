@@ -1,35 +1,40 @@
--- The code keeps two facts of a diagram in one number, and what is given in flags at fixed places; document 01's definitions keep records and a list.
+-- The code keeps the two facts of the diagrams in two words of bits, and what is given in flags at fixed places; document 01's definitions keep records and a list.
 use mathlib.Core.Path.{_≡_}
-use mathlib.Core.Bool.{Bool, false, _&&_}
-use mathlib.Core.List.{List, [], _∷_, map}
-use Prim.Native.Nat.{ℕ, _+_, _*_, _%_, _≤_}
-use lib.Dec.{T, eqb, leb}
-use lib.ListN.{length, getD}
+use mathlib.Core.Bool.{Bool, true, false, _&&_}
+use mathlib.Core.List.{List, [], _∷_}
+use Prim.Native.Nat.{ℕ, zero, suc, _+_, _*_, _/_, _%_, _≤_}
+use lib.Dec.{T, eqb}
+use lib.ListN.{length, getD, set}
 use Rattle.whole.specs.Cases.{if}
 use Rattle.theory.specs.Widths.{levels-most, conditions-most, actions-most, stack-most}
 use Rattle.theory.specs.Valid.{all, among}
 use Rattle.theory.specs.Command.{Command, Slot}
 use Rattle.theory.specs.Verdict.{Site, site-of, Facts, reward-slot, chance-slot, level-slot, name-slot, has-slot, Progress, rule, Rule, first-broken, rules-of, later-rules, after, from-to}
 use Rattle.command.specs.declared.Command.{Command as CodeCommand}
-use Rattle.command.specs.declared.stack.Stack.{Stack}
+use Rattle.command.specs.declared.Command.the-variants.{Site as SiteBy, Leaf, Condition, Test, Give, Name, End}
 use Rattle.command.specs.Reading.{command-of}
-use Rattle.command.specs.Held.{held}
 use Rattle.progress.specs.declared.Site.{Site as CodeSite}
+use Rattle.progress.specs.declared.Seen.{Seen}
 use Rattle.progress.specs.declared.Progress.{Progress as CodeProgress}
 
 abbrev pub site-as : CodeSite → Site
 site-as s = site-of (s .levels) (s .conditions) (s .actions) (s .weights)
 
--- the two facts that a number on the stack stands for
-unfoldable pub facts-of : ℕ → Facts
-facts-of x = record { next-step = leb 2 x; weights = eqb (x % 2) 1 }
+-- the facts of the n diagrams on the stack, its top first, of two words of bits
+unfoldable pub seen-in : ℕ → ℕ → ℕ → List Facts
+seen-in later weights zero = []
+seen-in later weights (suc n) = record { next-step = eqb (later % 2) 1; weights = eqb (weights % 2) 1 } ∷ seen-in (later / 2) (weights / 2) n
 
-abbrev pub facts : Stack → List Facts
-facts t = map facts-of (held t)
+abbrev pub seen : Seen → List Facts
+seen t = seen-in (t .later) (t .weights) (t .len)
 
 -- the place of a flag: ten rows of the eight actions, rewards in row 0, chances in 1 to 4, next levels in 5 to 8, names in 9
 abbrev pub place : ℕ → ℕ → ℕ → ℕ
 place base i a = (base + i) * 8 + a
+
+-- flags in all: a row of the actions, from 1 on, for the reward, each chance, each next level and the name
+abbrev pub flags-most : ℕ
+flags-most = (2 + conditions-most + levels-most) * actions-most + 1
 
 -- the base of what a command gives
 unfoldable pub base-of : ℕ → ℕ
@@ -56,29 +61,40 @@ action-given F S a = getD F (place 0 0 a) false && (row-given F 0 a (S .conditio
 unfoldable pub all-given : List Bool → Site → Bool
 all-given F S = all (action-given F S) (from-to 1 (S .actions))
 
--- what the code keeps stands for the commands so far
-pub record Stands (s : CodeProgress) (p : Progress) : Type 0 where
+-- the flags behind a command
+unfoldable pub noted : CodeCommand → List Bool → List Bool
+noted (SiteBy m n a w) F = F
+noted Leaf F = F
+noted (Condition k) F = F
+noted Test F = F
+noted (Give c a i) F = set F (flag-of (record { command = c; action = a; index = i })) true
+noted (Name a) F = set F (place 9 0 a) true
+noted End F = F
+
+-- what the code keeps, with the flags F, stands for the commands so far
+pub record Stands (s : CodeProgress) (F : List Bool) (p : Progress) : Type 0 where
   pub begun : s .begun ≡ p .begun
   pub site : site-as (s .site) ≡ p .site
-  pub stack : facts (s .stack) ≡ p .stack
-  pub given : {g : Slot} {i : ℕ} → Slotted g i → has-slot g (p .given) ≡ getD (s .given) i false
-  pub flags : length (s .given) ≡ 81
+  pub stack : seen (s .seen) ≡ p .stack
+  pub given : {g : Slot} {i : ℕ} → Slotted g i → has-slot g (p .given) ≡ getD F i false
+  pub none : p .begun ≡ false → p .given ≡ []
+  pub flags : length F ≡ flags-most
   pub levels : p .site .levels ≤ levels-most
   pub conditions : p .site .conditions ≤ conditions-most
   pub actions : p .site .actions ≤ actions-most
   pub sized : length (p .stack) ≤ stack-most
 
 -- k is the number of the first rule that a command breaks, 0 where it breaks none
-abbrev pub Breaks : CodeProgress → Command → ℕ → Type 0
-Breaks s c k = (p : Progress) → Stands s p → k ≡ first-broken (rules-of p c)
+abbrev pub Breaks : CodeProgress → List Bool → Command → ℕ → Type 0
+Breaks s F c k = (p : Progress) → Stands s F p → k ≡ first-broken (rules-of p c)
 
 -- the same of a command that is not the first
-abbrev pub Later : CodeProgress → Command → ℕ → Type 0
-Later s c k = (p : Progress) → Stands s p → k ≡ first-broken (later-rules (p .site) (p .stack) (p .given) c)
+abbrev pub Later : CodeProgress → List Bool → Command → ℕ → Type 0
+Later s F c k = (p : Progress) → Stands s F p → k ≡ first-broken (later-rules (p .site) (p .stack) (p .given) c)
 
--- r is what a command that breaks none leaves
-abbrev pub Leaves : CodeProgress → CodeCommand → CodeProgress → Type 0
-Leaves s c r = (B : List ℕ) (at : ℕ) (p : Progress) → Stands s p → first-broken (rules-of p (command-of B at c)) ≡ 0 → Stands r (after p (command-of B at c))
+-- r is what a command at an offset leaves that breaks none
+abbrev pub Leaves : List ℕ → ℕ → CodeProgress → CodeCommand → CodeProgress → Type 0
+Leaves B at s c r = (F : List Bool) (p : Progress) → Stands s F p → first-broken (rules-of p (command-of B at c)) ≡ 0 → Stands r (noted c F) (after p (command-of B at c))
 
 -- "operands 4, then 5, 6, diagram 4": the rules of a command in their order
 abbrev pub in-order : Bool → Bool → Bool → Bool → List Rule

@@ -1,20 +1,17 @@
-// "These rules judge each leaf and condition as written": two facts of a diagram, kept in one number on the stack.
+// "These rules judge each leaf and condition as written": two facts of each diagram on the stack.
 ghost use mathlib.Core.Path.{_≡_};
-ghost use Prim.Native.Nat.{ℕ, _≤_};
-ghost use lib.ListN.{length};
+ghost use mathlib.Core.List.{[], _∷_};
+ghost use Prim.Native.Nat.{ℕ, _+_, _*_, _%_, _≤_, _<_};
+ghost use lib.Dec.{eqb};
+ghost use lib.ListN.{length, drop};
 ghost use Rattle.whole.specs.Cases.{if};
-ghost use mathlib.Core.Bool.{_&&_, false};
+ghost use mathlib.Core.Bool.{_&&_};
 ghost use Rattle.theory.specs.Widths.{stack-most};
-ghost use Rattle.theory.specs.Verdict.{or, is-weight};
+ghost use Rattle.theory.specs.Verdict.{or, top};
 ghost use Rattle.theory.specs.Verdict.{joined as joined-facts};
 ghost use Rattle.theory.specs.Verdict.{may-be as may-be-given};
-ghost use Rattle.command.specs.Reading.{linear-of};
-ghost use Rattle.command.specs.Held.{held};
-ghost use Rattle.progress.specs.Standing.{facts-of};
-ghost use Rattle.progress.specs.Standing.{facts as facts-on};
-use super::operands;
-use command::Linear;
-use command::stack::Stack;
+ghost use Rattle.progress.specs.Standing.{seen-in, seen};
+use super::Seen;
 
 pub fn either(a: bool, b: bool) -> bool
     ensures { λ r. ⌜ r ≡ or a b ⌝ }
@@ -28,54 +25,81 @@ pub fn both(a: bool, b: bool) -> bool
     if a { b } else { false }
 }
 
-// The number for a diagram with or without next-step conditions, whose leaves are weights or not.
-pub fn entry(next_step: bool, weights: bool) -> u32
-    ensures { λ r. ⌜ facts-of r ≡ record { next-step = «next_step»; weights = weights } ⌝ }
+pub fn none() -> Seen
+    ensures { λ r. ⌜ seen r ≡ [] ⌝ }
 {
-    if next_step {
-        if weights { 3 } else { 2 }
-    } else {
-        if weights { 1 } else { 0 }
+    Seen {
+        len: 0,
+        later: 0,
+        weights: 0,
     }
 }
 
-pub fn has_next_step(x: u32) -> bool
-    ensures { λ r. ⌜ r ≡ facts-of x .next-step ⌝ }
+// The lowest bit.
+fn low(word: u32) -> bool
+    ensures { λ r. ⌜ r ≡ eqb (word % 2) 1 ⌝ }
 {
-    2 <= x
+    word % 2 == 1
 }
 
-pub fn all_weights(x: u32) -> bool
-    ensures { λ r. ⌜ r ≡ facts-of x .weights ⌝ }
+// A bit below those of a word, which keeps 31 of them.
+fn below(word: u32, b: bool) -> u32
+    ensures { λ r. ⌜ r ≡ word % 2147483648 * 2 + if b 1 0 ⌝ }
 {
-    x % 2 == 1
+    let rest = word % 2147483648 * 2;
+    if b { rest + 1 } else { rest }
+}
+
+// A full stack stays as it is.
+pub fn pushed(t: Seen, next_step: bool, weights: bool) -> Seen
+    ensures { λ r. ⌜ (t .len < stack-most → seen r ≡ record { next-step = «next_step»; weights = weights } ∷ seen t) ⌝ }
+{
+    let later = t.later;
+    let weighed = t.weights;
+    if t.len < 32 {
+        Seen {
+            len: t.len + 1,
+            later: below(later, next_step),
+            weights: below(weighed, weights),
+        }
+    } else {
+        t
+    }
+}
+
+pub fn popped(t: Seen) -> Seen
+    ensures { λ r. ⌜ (r .len ≤ t .len) × ((0 < t .len → r .len < t .len) × (seen r ≡ drop 1 (seen t))) ⌝ }
+{
+    let later = t.later;
+    let weighed = t.weights;
+    if 0 < t.len {
+        Seen {
+            len: t.len - 1,
+            later: later / 2,
+            weights: weighed / 2,
+        }
+    } else {
+        t
+    }
 }
 
 // What is given: "Next-step conditions stand only in next levels"; "The leaves of a chance are constants 0 to W".
-pub fn may_be(command: u8, x: u32) -> bool
-    ensures { λ r. ⌜ ((a i : ℕ) → r ≡ may-be-given (record { command = command; action = a; index = i }) (facts-of x)) ⌝ }
+pub fn may_be(command: u8, t: Seen) -> bool
+    ensures { λ r. ⌜ (0 < t .len → (a i : ℕ) → r ≡ may-be-given (record { command = command; action = a; index = i }) (top (seen t))) ⌝ }
 {
     both(
-        either(command == 0x22, !has_next_step(x)),
-        either(command != 0x21, all_weights(x)),
+        either(command == 0x22, !low(t.later)),
+        either(command != 0x21, low(t.weights)),
     )
 }
 
-pub fn leaf_entry(w: u8, p: Linear) -> u32
-    ensures { λ r. ⌜ facts-of r ≡ record { next-step = false; weights = is-weight w (linear-of p) } ⌝ }
-{
-    entry(false, operands::weight(w, p))
-}
-
 // "takes low, then high, off the stack and pushes the choice"
-pub fn joined(t: Stack, later: bool) -> Stack
-    ensures { λ r. ⌜ (2 ≤ length (held t) → length (held t) ≤ stack-most → facts-on r ≡ joined-facts later (facts-on t)) ⌝ }
+pub fn joined(t: Seen, later: bool) -> Seen
+    ensures { λ r. ⌜ (2 ≤ t .len → t .len ≤ stack-most → seen r ≡ joined-facts later (seen t)) ⌝ }
 {
-    let low = t.top();
-    let rest = t.pop();
-    let high = rest.top();
-    let under = rest.pop();
-    let next = either(later, either(has_next_step(high), has_next_step(low)));
-    let weights = both(all_weights(high), all_weights(low));
-    under.push(entry(next, weights))
+    let high = popped(t);
+    let under = popped(high);
+    let next = either(later, either(low(high.later), low(t.later)));
+    let weights = both(low(high.weights), low(t.weights));
+    pushed(under, next, weights)
 }

@@ -3,9 +3,19 @@ ghost use mathlib.Core.Path.{_≡_};
 ghost use mathlib.Core.Bool.{true, false};
 ghost use Prim.Native.Nat.{_≤_, _<_};
 ghost use lib.ListN.{getD, set};
-ghost use Rattle.progress.specs.Standing.{base-of, row-given, action-given, all-given, site-as};
+ghost use Rattle.progress.specs.Standing.{base-of, row-given, action-given, all-given, site-as, noted};
 ghost use Rattle.progress.specs.Standing.{place as place-of};
 use super::Site;
+use command::Command;
+
+// Flags in all: rows of the eight actions from 1 on, for the reward, each chance, each next level and the name.
+pub const FLAGS: usize = 81;
+
+// The row before the first next level's.
+pub const LEVELS: usize = 4;
+
+// The row of names.
+pub const NAMES: usize = 9;
 
 fn wide(x: u8) -> usize
     ensures { λ r. ⌜ (r ≡ x) × (r < 256) ⌝ }
@@ -25,62 +35,71 @@ pub fn place(base: usize, i: u8, a: u8) -> usize
 pub fn base(command: u8) -> usize
     ensures { λ r. ⌜ (r ≡ base-of command) × (r < 256) ⌝ }
 {
-    if command == 0x22 { 4 } else { 0 }
+    if command == 0x22 { LEVELS } else { 0 }
 }
 
-pub fn has(given: [bool; 81], i: usize) -> bool
-    ensures { λ r. ⌜ r ≡ getD given i false ⌝ }
+pub fn has(flags: &[bool], i: usize) -> bool
+    ensures { λ r. ⌜ r ≡ getD (now (flags .entry)) i false ⌝ }
 {
-    if i < 81 { given[i] } else { false }
+    if i < flags.len() { flags[i] } else { false }
 }
 
-pub fn with(given: [bool; 81], i: usize) -> [bool; 81]
-    ensures { λ r. ⌜ r ≡ set given i true ⌝ }
+fn raise(flags: &mut [bool], i: usize)
+    ensures { λ _. ⌜ now (flags .exit) ≡ set (now (flags .entry)) i true ⌝ }
 {
-    let mut flags = given;
-    if i < 81 {
+    if i < flags.len() {
         flags[i] = true;
     }
-    flags
+}
+
+// What a command gives is flagged.
+pub fn note(flags: &mut [bool], c: Command)
+    ensures { λ _. ⌜ now (flags .exit) ≡ noted c (now (flags .entry)) ⌝ }
+{
+    match c {
+        Command::Give(command, a, i) => raise(flags, place(base(command), i, a)),
+        Command::Name(a) => raise(flags, place(NAMES, 0, a)),
+        _ => {}
+    }
 }
 
 // Flags 1 to n of an action's row.
-fn row(given: [bool; 81], base: usize, a: u8, n: u8) -> bool
+fn row(flags: &[bool], base: usize, a: u8, n: u8) -> bool
     requires { ⌜ base < 256 ⌝ }
-    ensures { λ r. ⌜ r ≡ row-given given base a n ⌝ }
+    ensures { λ r. ⌜ r ≡ row-given (now (flags .entry)) base a n ⌝ }
 {
     let mut i: u8 = 0;
     while i < n {
         i += 1;
-        if has(given, place(base, i, a)) {} else {
+        if has(flags, place(base, i, a)) {} else {
             return false;
         }
     }
     true
 }
 
-fn action(given: [bool; 81], site: Site, a: u8) -> bool
-    ensures { λ r. ⌜ r ≡ action-given given (site-as site) a ⌝ }
+fn action(flags: &[bool], site: Site, a: u8) -> bool
+    ensures { λ r. ⌜ r ≡ action-given (now (flags .entry)) (site-as site) a ⌝ }
 {
-    if has(given, place(0, 0, a)) {} else {
+    if has(flags, place(0, 0, a)) {} else {
         return false;
     }
-    if row(given, 0, a, site.conditions) {
-        row(given, 4, a, site.levels)
+    if row(flags, 0, a, site.conditions) {
+        row(flags, LEVELS, a, site.levels)
     } else {
         false
     }
 }
 
 // All that the site asks for.
-pub fn complete(given: [bool; 81], site: Site) -> bool
-    ensures { λ r. ⌜ r ≡ all-given given (site-as site) ⌝ }
+pub fn complete(flags: &[bool], site: Site) -> bool
+    ensures { λ r. ⌜ r ≡ all-given (now (flags .entry)) (site-as site) ⌝ }
 {
     let n = site.actions;
     let mut a: u8 = 0;
     while a < n {
         a += 1;
-        if action(given, site, a) {} else {
+        if action(flags, site, a) {} else {
             return false;
         }
     }

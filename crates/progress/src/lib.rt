@@ -2,6 +2,7 @@
 pub mod facts;
 pub mod given;
 pub mod operands;
+pub mod refusals;
 pub mod rules;
 pub mod states;
 
@@ -13,10 +14,16 @@ pub struct Site {
     pub weights: u8,
 }
 
-// The commands so far. On the stack stands for each diagram a number for its two facts.
+// The two facts of each diagram on the stack, a word of bits for each fact, the top's lowest.
+pub struct Seen {
+    pub len: usize,
+    pub later: u32,
+    pub weights: u32,
+}
+
+// The commands so far, but for what has been given: that stands in flags, which are lent.
 pub struct Progress {
     pub begun: bool,
     pub site: Site,
-    pub stack: command::stack::Stack,
-    pub given: [bool; 81],
+    pub seen: Seen,
 }

@@ -2,12 +2,12 @@
 ghost use mathlib.Core.Path.{_≡_};
 ghost use mathlib.Core.Bool.{_&&_, not, true};
 ghost use mathlib.Core.List.{[]};
-ghost use lib.Dec.{isEq, eqb, ltb};
+ghost use lib.Dec.{eqb, ltb};
+ghost use Prim.Native.Nat.{_+_, _*_, _≤_};
 ghost use lib.IntN.{pos};
-ghost use lib.ListN.{take, drop};
+ghost use lib.ListN.{length, take, drop};
 ghost use lib.Signed.{leZ};
 ghost use Rattle.theory.specs.Widths.{conditions-most};
-ghost use Rattle.theory.specs.Diagram.{cmpZ};
 ghost use Rattle.theory.specs.Diagram.{zeros as zeros-in};
 ghost use Rattle.theory.specs.Valid.{all};
 ghost use Rattle.theory.specs.Valid.{among as is-among};
@@ -16,11 +16,22 @@ ghost use Rattle.progress.specs.Standing.{site-as};
 ghost use Rattle.whole.specs.Cases.{if};
 ghost use Rattle.theory.specs.Verdict.{beyond as some-beyond};
 ghost use Rattle.theory.specs.Verdict.{printable as is-printable};
-ghost use Rattle.command.specs.Reading.{linear-of};
+ghost use Rattle.theory.specs.Command.{signed, signed-from, linear-at};
 use super::Site;
 use super::facts::both;
 use super::facts::either;
-use command::Linear;
+use super::refusals::OPERAND;
+
+// "m levels (1 to 4)", as many coefficients; "n conditions (0 to 4)"; "A actions (1 to 8)"; "weight total W (1 to 100)".
+const LEVELS: u8 = 4;
+
+const COEFFICIENTS: usize = 4;
+
+const CONDITIONS: u8 = 4;
+
+const ACTIONS: u8 = 8;
+
+const WEIGHTS: u8 = 100;
 
 // 1 to n.
 pub fn among(n: u8, k: u8) -> bool
@@ -29,56 +40,59 @@ pub fn among(n: u8, k: u8) -> bool
     both(1 <= k, k <= n)
 }
 
-fn zero(z: i64) -> bool
-    ensures { λ r. ⌜ r ≡ isEq (cmpZ z (pos 0)) ⌝ }
+// n numbers from an offset on are zero: as words, no sign is needed.
+pub fn zeros(model: &[u8], from: usize, n: usize) -> bool
+    requires { ⌜ from + n * 4 ≤ length (now model) ⌝ }
+    ensures { λ r. ⌜ r ≡ zeros-in (signed-from (now (model .entry)) from n) ⌝ }
 {
-    z == 0
+    let mut at = from;
+    let mut left = n;
+    while 0 < left {
+        if command::word(model, at) != 0 {
+            return false;
+        }
+        at += 4;
+        left -= 1;
+    }
+    true
 }
 
-pub fn zeros(p: Linear) -> bool
-    ensures { λ r. ⌜ r ≡ zeros-in (linear-of p .coeffs) ⌝ }
+// "Coefficients beyond level m are zero", of the linear at an offset.
+pub fn beyond(model: &[u8], from: usize, m: u8) -> bool
+    requires { ⌜ from + 20 ≤ length (now model) ⌝ }
+    ensures { λ r. ⌜ r ≡ some-beyond m (linear-at (now (model .entry)) from) ⌝ }
 {
-    both(
-        zero(p.c1),
-        both(zero(p.c2), both(zero(p.c3), both(zero(p.c4), true))),
-    )
-}
-
-// "Coefficients beyond level m are zero."
-pub fn beyond(m: u8, p: Linear) -> bool
-    ensures { λ r. ⌜ r ≡ some-beyond m (linear-of p) ⌝ }
-{
-    let z4 = both(zero(p.c4), true);
-    let z3 = both(zero(p.c3), z4);
-    let z2 = both(zero(p.c2), z3);
-    match m {
-        0 => !both(zero(p.c1), z2),
-        1 => !z2,
-        2 => !z3,
-        3 => !z4,
-        _ => false,
+    if m < LEVELS {
+        let k = m as usize;
+        !zeros(model, from + k * 4, COEFFICIENTS - k)
+    } else {
+        false
     }
 }
 
-fn weight_of(w: u8, z: i64) -> bool
-    ensures { λ r. ⌜ r ≡ (leZ (pos 0) z && leZ z (pos w)) ⌝ }
+fn weight_of(w: u8, n: u32) -> bool
+    ensures { λ r. ⌜ r ≡ (leZ (pos 0) (signed n) && leZ (signed n) (pos w)) ⌝ }
 {
-    both(0 <= z, z <= w as i64)
+    n <= w as u32
 }
 
-// A constant 0 to W.
-pub fn weight(w: u8, p: Linear) -> bool
-    ensures { λ r. ⌜ r ≡ is-weight w (linear-of p) ⌝ }
+// A constant 0 to W, of the linear at an offset.
+pub fn weight(model: &[u8], from: usize, w: u8) -> bool
+    requires { ⌜ from + 20 ≤ length (now model) ⌝ }
+    ensures { λ r. ⌜ r ≡ is-weight w (linear-at (now (model .entry)) from) ⌝ }
 {
-    both(zeros(p), weight_of(w, p.constant))
+    both(
+        zeros(model, from, COEFFICIENTS),
+        weight_of(w, command::word(model, from + 16)),
+    )
 }
 
 // "1 to n for a condition now, 5 to 4+n for the next step's"
 pub fn condition(n: u8, k: u8) -> bool
     ensures { λ r. ⌜ r ≡ or (is-among n k) (next-condition n k) ⌝ }
 {
-    if 4 < k {
-        either(among(n, k), among(n, k - 4))
+    if CONDITIONS < k {
+        either(among(n, k), among(n, k - CONDITIONS))
     } else {
         among(n, k)
     }
@@ -131,14 +145,14 @@ pub fn text(model: &[u8], from: usize) -> bool
 pub fn site(m: u8, n: u8, a: u8, w: u8) -> u32
     ensures { λ r. ⌜ r ≡ first-broken (site-rules (site-of m n a w)) ⌝ }
 {
-    if among(4, m) {} else {
-        return 4;
+    if among(LEVELS, m) {} else {
+        return OPERAND;
     }
-    if 4 < n {
-        return 4;
+    if CONDITIONS < n {
+        return OPERAND;
     }
-    if among(8, a) {} else {
-        return 4;
+    if among(ACTIONS, a) {} else {
+        return OPERAND;
     }
-    if among(100, w) { 0 } else { 4 }
+    if among(WEIGHTS, w) { 0 } else { OPERAND }
 }

@@ -1,28 +1,23 @@
 // What a command that breaks no rule leaves.
 ghost use mathlib.Core.Path.{_≡_};
+ghost use lib.ListN.{replicate};
 ghost use mathlib.Core.Bool.{true, false};
-ghost use lib.ListN.{set, replicate};
-ghost use Rattle.theory.specs.Command.{site};
-ghost use Rattle.theory.specs.Verdict.{at-start, first-broken, rules-of};
-ghost use Rattle.theory.specs.Verdict.{after as after-of};
-ghost use Rattle.progress.specs.Standing.{Stands, Leaves};
+ghost use mathlib.Core.List.{[]};
+ghost use Rattle.theory.specs.Command.{whole, read-at};
+ghost use Rattle.theory.specs.Verdict.{at-start, site-of};
+ghost use Rattle.command.specs.Reading.{command-of};
+ghost use Rattle.progress.specs.Standing.{flags-most, Stands, Leaves, site-as};
+ghost use Rattle.progress.specs.Standing.{seen as seen-of};
 use super::Progress;
+use super::Seen;
 use super::Site;
 use super::facts;
-use super::given;
+use super::operands;
 use command::Command;
-use command::stack::Stack;
-
-fn no_flags() -> [bool; 81]
-    ensures { λ r. ⌜ r ≡ replicate 81 false ⌝ }
-{
-    [false; 81]
-}
 
 pub fn start() -> Progress
-    ensures { λ r. ⌜ Stands r at-start ⌝ }
+    ensures { λ r. ⌜ Stands r (replicate flags-most false) at-start ⌝ }
 {
-    let given = no_flags();
     Progress {
         begun: false,
         site: Site {
@@ -31,15 +26,13 @@ pub fn start() -> Progress
             actions: 0,
             weights: 0,
         },
-        stack: Stack::new(),
-        given,
+        seen: facts::none(),
     }
 }
 
 fn begun(m: u8, n: u8, a: u8, w: u8) -> Progress
-    ensures { λ r. ⌜ (first-broken (rules-of at-start (site m n a w)) ≡ 0 → Stands r (after-of at-start (site m n a w))) ⌝ }
+    ensures { λ r. ⌜ (r .begun ≡ true) × ((site-as (r .site) ≡ site-of m n a w) × (seen-of (r .seen) ≡ [])) ⌝ }
 {
-    let given = no_flags();
     Progress {
         begun: true,
         site: Site {
@@ -48,58 +41,34 @@ fn begun(m: u8, n: u8, a: u8, w: u8) -> Progress
             actions: a,
             weights: w,
         },
-        stack: Stack::new(),
-        given,
+        seen: facts::none(),
     }
 }
 
-fn with_stack(s: Progress, stack: Stack) -> Progress
-    ensures { λ r. ⌜ r ≡ record { begun = s .begun; site = s .site; stack = stack; given = s .given } ⌝ }
+fn with_seen(s: Progress, seen: Seen) -> Progress
+    ensures { λ r. ⌜ r ≡ record { begun = s .begun; site = s .site; seen = seen } ⌝ }
 {
     let mut t = s;
-    t.stack = stack;
+    t.seen = seen;
     t
 }
 
-fn with_flag(s: Progress, stack: Stack, i: usize) -> Progress
-    ensures { λ r. ⌜ r ≡ record { begun = s .begun; site = s .site; stack = stack; given = set (s .given) i true } ⌝ }
+// Behind the command at an offset; what it gives is `given::note`'s.
+pub fn after(model: &[u8], at: usize, c: Command, s: Progress) -> Progress
+    requires { ⌜ whole (command-of (now model) at c) ≡ read-at (now model) at ⌝ }
+    ensures { λ r. ⌜ Leaves (now (model .entry)) at s c r ⌝ }
 {
-    let flags = s.given;
-    let given = given::with(flags, i);
-    let site = s.site;
-    Progress {
-        begun: s.begun,
-        site,
-        stack,
-        given,
-    }
-}
-
-pub fn after(s: Progress, c: Command) -> Progress
-    ensures { λ r. ⌜ Leaves s c r ⌝ }
-{
+    let seen = s.seen;
     match c {
         Command::Site(m, n, a, w) => begun(m, n, a, w),
-        Command::Leaf(p) => {
-            let stack = s.stack;
-            with_stack(s, stack.push(facts::leaf_entry(s.site.weights, p)))
+        Command::Leaf => {
+            let weight = operands::weight(model, at + 1, s.site.weights);
+            with_seen(s, facts::pushed(seen, false, weight))
         }
-        Command::Condition(k) => {
-            let stack = s.stack;
-            with_stack(s, facts::joined(stack, 4 < k))
-        }
-        Command::Test(_) => {
-            let stack = s.stack;
-            with_stack(s, facts::joined(stack, false))
-        }
-        Command::Give(c, a, i) => {
-            let stack = s.stack;
-            with_flag(s, stack.pop(), given::place(given::base(c), i, a))
-        }
-        Command::Name(a) => {
-            let stack = s.stack;
-            with_flag(s, stack, given::place(9, 0, a))
-        }
+        Command::Condition(k) => with_seen(s, facts::joined(seen, 4 < k)),
+        Command::Test => with_seen(s, facts::joined(seen, false)),
+        Command::Give(_, _, _) => with_seen(s, facts::popped(seen)),
+        Command::Name(_) => s,
         Command::End => s,
     }
 }

@@ -21,6 +21,7 @@ use Rattle.theory.specs.Rules.{choose}
 use Rattle.theory.specs.Command.{Command, site, push-leaf, push-condition, push-test, name-action, end-model, whole, read-at, give, Slot}
 use Rattle.theory.specs.Load.{Entry, Loaded as Loading, condition-test, load-choice, load-choice-with, load-entry, load-one, load-one-with}
 use Rattle.theory.specs.laws.Comps.{after, run-bind}
+use Rattle.command.proofs.Forward.{has-linear, linear-room}
 use Rattle.command.proofs.Command.{the-type as command-type}
 use Rattle.command.specs.declared.Linear.{Linear as CodeLinear}
 use Rattle.command.specs.declared.Command.{Command as CodeCommand}
@@ -281,9 +282,9 @@ module _ {B : List ℕ} {cap : ℕ} {l : List ℤ} {w : List ℕ} {at : ℕ} {s 
   pub other-step : (d : CodeCommand) → OneOf (0 ∷ 5 ∷ 6 ∷ []) (tagOf command-type d) → Ready B cap l w at (command-of B at d) s → Stepped B cap l w (command-of B at d) (s .count) (held (s .stack)) l w s
   unfolding command-of height entered load-one-with
   other-step (Site m n a v) k y = still-step (site m n a v) y refl refl (held (s .stack)) refl (y .below) refl (λ E. refl)
-  other-step (Leaf p) k y = absurd (miss (0 ∷ 5 ∷ 6 ∷ []) 1 tt k)
+  other-step Leaf k y = absurd (miss (0 ∷ 5 ∷ 6 ∷ []) 1 tt k)
   other-step (Condition i) k y = absurd (miss (0 ∷ 5 ∷ 6 ∷ []) 2 tt k)
-  other-step (TestBy p) k y = absurd (miss (0 ∷ 5 ∷ 6 ∷ []) 3 tt k)
+  other-step TestBy k y = absurd (miss (0 ∷ 5 ∷ 6 ∷ []) 3 tt k)
   other-step (Give x a j) k y = absurd (miss (0 ∷ 5 ∷ 6 ∷ []) 4 tt k)
   other-step (Name a) k y = still-step (name-action a _) y refl refl (held (s .stack)) refl (y .below) refl (λ E. refl)
   other-step End k y = still-step end-model y refl refl (held (s .stack)) refl (y .below) refl (λ E. refl)
@@ -297,6 +298,16 @@ pub step-as : {B : List ℕ} {cap : ℕ} {l : List ℤ} {w : List ℕ} {at : ℕ
     → (Ready B cap l w at (command-of B at e) s → Stepped B cap l w (command-of B at e) (s .count) (held (s .stack)) l′ w′ r) → Stepped B cap l w (command-of B at d) (s .count) (held (s .stack)) l′ w′ r
 step-as {B} {cap} {l} {w} {at} {s} {l′} {w′} {r} d e p y k = subst (λ (x : CodeCommand). Stepped B cap l w (command-of B at x) (s .count) (held (s .stack)) l′ w′ r) (sym p) (k (ready-as d e p y))
 
--- what a leaf asks
-pub leaf-asks : {B : List ℕ} {cap : ℕ} {l : List ℤ} {w : List ℕ} {at : ℕ} {s : Loaded} (p : CodeLinear) → Ready B cap l w at (push-leaf (linear-of p)) s → Bare cap l w (s .count) × Nums (wordsOf p)
-leaf-asks {B} {at = at} p y = (y .table .bare, leaf-nums B at p (y .here))
+-- a leaf whose linear is read from the bytes
+module _ {B : List ℕ} {cap : ℕ} {l : List ℤ} {w : List ℕ} {at : ℕ} {s : Loaded} {q : Linear} (y : Ready B cap l w at (push-leaf q) s) where
+  pub leaf-there : at + 21 ≤ length B
+  unfolding has-linear
+  leaf-there = linear-room B at (push-leaf q) tt (y .here)
+
+  module _ (p : CodeLinear) (e : linear-of p ≡ q) where
+    pub leaf-read : Bare cap l w (s .count) × Nums (wordsOf p)
+    leaf-read = (y .table .bare, leaf-nums B at p (ap (λ (z : Linear). whole (push-leaf z)) e ∙ y .here))
+
+    pub leaf-loaded : {l′ : List ℤ} {w′ : List ℕ} {r : Loaded} → Grown-on cap l w (s .count) (make (leaf (plain (linear-of p)))) (held (s .stack)) l′ w′ r
+        → Stepped B cap l w (push-leaf q) (s .count) (held (s .stack)) l′ w′ r
+    leaf-loaded {l′} {w′} {r} G = leaf-step B at q y (subst (λ (z : Linear). Grown-on cap l w (s .count) (make (leaf (plain z))) (held (s .stack)) l′ w′ r) e G)

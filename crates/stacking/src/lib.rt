@@ -111,9 +111,9 @@ pub fn step(
     ensures { λ r. ⌜ Stepped (now (model .entry)) cap (now (nodes .entry)) (now (work .entry)) (command-of (now (model .entry)) at c) (s .count) (held (s .stack)) (now (nodes .exit)) (now (work .exit)) r ⌝ }
 {
     match c {
-        Command::Leaf(p) => leaf(nodes, work, cap, s, p),
+        Command::Leaf => leaf(nodes, work, cap, s, command::linear_at(model, at + 1)),
         Command::Condition(_) => choice(model, nodes, work, cap, at, s),
-        Command::Test(_) => choice(model, nodes, work, cap, at, s),
+        Command::Test => choice(model, nodes, work, cap, at, s),
         Command::Give(_, _, _) => taken(s),
         _ => s,
     }

@@ -31,27 +31,11 @@ add-byte-at-4 c = search needs
 byte-at-requires-4 : tie.Need-byte-at-requires-4
 byte-at-requires-4 c κs = search needs
 
-add-linear-at : tie.Need-add-linear-at
-add-linear-at c = search needs
-
-linear-at-requires : tie.Need-linear-at-requires
-unfolding width
-linear-at-requires c κs =
-    let h = rw (c .match .keys2) at ((c .before .before) .pre .2) in omega arith
-
 add-byte-at-5 : tie.Need-add-byte-at-5
 add-byte-at-5 c = search needs
 
 byte-at-requires-5 : tie.Need-byte-at-requires-5
 byte-at-requires-5 c κs = search needs
-
-add-linear-at-2 : tie.Need-add-linear-at-2
-add-linear-at-2 c = search needs
-
-linear-at-requires-2 : tie.Need-linear-at-requires-2
-unfolding width
-linear-at-requires-2 c κs =
-    let h = rw (c .match .keys4) at ((c .before .before) .pre .2) in omega arith
 
 add-byte-at-6 : tie.Need-add-byte-at-6
 add-byte-at-6 c = search needs
@@ -97,7 +81,7 @@ returns c =
 returns-2 : tie.Need-returns-2
 unfolding command-of command-at
 returns-2 c =
-    simp (← (c .before .before .before) .pre .0, c .before .match .keys2, c .linear-at .ensures)
+    simp (← (c .before .before) .pre .0, c .match .keys2)
 
 returns-3 : tie.Need-returns-3
 unfolding command-of command-at
@@ -107,7 +91,7 @@ returns-3 c =
 returns-4 : tie.Need-returns-4
 unfolding command-of command-at
 returns-4 c =
-    simp (← (c .before .before .before) .pre .0, c .before .match .keys4, c .linear-at2 .ensures)
+    simp (← (c .before .before) .pre .0, c .match .keys4)
 
 returns-5 : tie.Need-returns-5
 unfolding command-of command-at
@@ -147,12 +131,8 @@ whole-at-spec =
     byte-at-requires-3
     add-byte-at-4
     byte-at-requires-4
-    add-linear-at
-    linear-at-requires
     add-byte-at-5
     byte-at-requires-5
-    add-linear-at-2
-    linear-at-requires-2
     add-byte-at-6
     byte-at-requires-6
     add-byte-at-7

@@ -1,5 +1,6 @@
 -- `commands_choice::test_from` meets its contract.
-use Rattle.commands_choice.proofs.Tests.{none-stood, other-stood, condition-fits, condition-test-stood, linear-is, linear-test-stood, test-nums}
+use Rattle.commands_choice.proofs.Tests.{none-stood, other-stood, condition-fits, condition-test-stood, linear-there, linear-nums, linear-test-stood}
+use native.Mathlib.Omega.{arith}
 use mathlib.Core.Path.{sym, subst}
 use Rattle.diagrams.specs.Nodes.{Nums}
 use borrow.Author.Needs.{needs}
@@ -26,15 +27,23 @@ condition-requires-2 : tie.Need-condition-requires-2
 condition-requires-2 c κs =
     condition-fits ((c .before .before .before .before .before .before .before .before) .args .model .now) ((c .before .before .before .before .before .before .before .before) .args .at) (c .before .before .before .before .before .before .command-at .result) (c .before .before .before .before .before .before .command-at .ensures) (c .before .before .before .before .read .given .1) (c .before .c .given .1) ((c .before .before .before .before .before .before .before .before) .pre)
 
-enum-known-c-2 : tie.Need-enum-known-c-2
-enum-known-c-2 c = search needs
+enum-told : tie.Need-enum-told
+enum-told c = search needs
+
+add-linear-at : tie.Need-add-linear-at
+add-linear-at c =
+    let h = linear-there (c .before .before .before .before .before .before .before .args .model .now) (c .before .before .before .before .before .before .before .args .at) (c .before .before .before .before .before .command-at .result) (c .before .before .before .before .before .command-at .ensures) (c .before .before .before .read .given .1) (c .enum-told .given .1) in omega arith
+
+linear-at-requires : tie.Need-linear-at-requires
+linear-at-requires c κs =
+    let h = linear-there (c .before .before .before .before .before .before .before .args .model .now) (c .before .before .before .before .before .before .before .args .at) (c .before .before .before .before .before .command-at .result) (c .before .before .before .before .before .command-at .ensures) (c .before .before .before .read .given .1) (c .enum-told .given .1) in omega arith
 
 words-requires : tie.Need-words-requires
 words-requires c κs = search needs
 
 named-requires : tie.Need-named-requires
 named-requires c κs =
-    subst Nums (sym (c .words .ensures)) (test-nums ((c .before .before .before .before .before .before .before .before .before) .args .model .now) ((c .before .before .before .before .before .before .before .before .before) .args .at) _ (linear-is ((c .before .before .before .before .before .before .before .before .before) .args .model .now) ((c .before .before .before .before .before .before .before .before .before) .args .at) (c .before .before .before .before .before .before .before .command-at .result) (c .before .before .before .before .before .before .before .command-at .ensures) (c .before .before .before .before .before .read .given .1) (c .before .before .c2 .given .1)))
+    subst Nums (sym (c .words .ensures)) (linear-nums (c .before .before .before .before .before .before .before .before .before .args .model .now) (c .before .before .before .before .before .before .before .before .before .args .at) (c .before .before .before .before .before .before .before .command-at .result) (c .before .before .before .before .before .before .before .command-at .ensures) (c .before .before .before .before .before .read .given .1) (c .before .before .enum-told .given .1) (c .before .linear-at .ensures))
 
 condition-requires-3 : tie.Need-condition-requires-3
 condition-requires-3 c κs = search needs
@@ -45,7 +54,7 @@ returns-2 c =
 
 returns-3 : tie.Need-returns-3
 returns-3 c =
-    linear-test-stood ((c .before .before .before .before .before .before .before .before .before .before) .args .model .now) ((c .before .before .before .before .before .before .before .before .before .before) .args .at) (c .before .before .before .before .before .before .before .before .command-at .result) (c .before .before .before .before .before .before .before .before .command-at .ensures) (c .before .before .before .before .before .before .read .given .1) (c .before .before .before .c2 .given .1) (c .before .words .ensures) (c .named .ensures)
+    linear-test-stood (c .before .before .before .before .before .before .before .before .before .before .args .model .now) (c .before .before .before .before .before .before .before .before .before .before .args .at) (c .before .before .before .before .before .before .before .before .command-at .result) (c .before .before .before .before .before .before .before .before .command-at .ensures) (c .before .before .before .before .before .before .read .given .1) (c .before .before .before .enum-told .given .1) (c .before .before .linear-at .ensures) (c .before .words .ensures) (c .named .ensures)
 
 returns-4 : tie.Need-returns-4
 returns-4 c =
@@ -61,7 +70,9 @@ test-from-spec =
     returns
     enum-known-c
     condition-requires-2
-    enum-known-c-2
+    enum-told
+    add-linear-at
+    linear-at-requires
     words-requires
     named-requires
     condition-requires-3

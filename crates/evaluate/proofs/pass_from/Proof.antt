@@ -4,12 +4,11 @@ use Prim.Native.Nat.{_-_}
 use native.Mathlib.Omega.{arith}
 use lib.ListN.{length}
 use Rattle.command.specs.Held.{last-first}
-use Rattle.command.proofs.Forward.{whole-bytes}
 use Rattle.model.proofs.Walk.{whole-is, forward}
 use Rattle.evaluate.specs.Pass.{slot-of}
 use Rattle.evaluate.specs.Parts.{Room, Seek}
 use Rattle.evaluate.proofs.Reach.{pass-comes}
-use Rattle.evaluate.proofs.Turns.{seek-stops, seek-found, seek-ends, seek-on, command-small}
+use Rattle.evaluate.proofs.Turns.{seek-stops, seek-found, seek-ends, seek-on}
 use borrow.Author.Needs.{needs}
 use Rattle.evaluate.proofs.pass_from.Statement.{statement}
 use Rattle.evaluate.proofs.pass_from.Tie as tie
@@ -73,13 +72,9 @@ returns-3 : tie.Need-returns-3 Inv-loop μ-loop
 returns-3 c =
     pass-comes (c .before .before .before .before .before .before .before .before .before .before .before .args .model .now) (c .before .before .before .before .before .before .before .before .before .before .before .args .x) (slot-of (c .before .before .before .before .before .before .before .before .before .before .before .args .g)) 0 (c .before .before .before .before .before .before .before .before .before .before .before .pre .0) (c .before .before .before .before .before .before .before .before .before .before .before .pre .2) (seek-ends (c .before .before .before .before .before .before .before .before .loop .inv .1) _ (whole-is (c .before .before .before .before .before .before .before .before .before .before .before .args .model .now) (c .before .before .before .before .before .before .before .before .loop .at) (c .before .before .before .before .before .before .before .command-at .ensures) (c .before .before .before .before .before .read .given .1)) (sym (c .before .is-end .ensures) ∙ c .if2 .taken))
 
-cast-after : tie.Need-cast-after Inv-loop μ-loop
-cast-after c =
-    let h = whole-bytes (c .before .before .before .before .before .before .before .before .before .before .before .before .args .model .now) (c .before .before .before .before .before .before .before .before .before .loop .at) _ (whole-is (c .before .before .before .before .before .before .before .before .before .before .before .before .args .model .now) (c .before .before .before .before .before .before .before .before .before .loop .at) (c .before .before .before .before .before .before .before .before .command-at .ensures) (c .before .before .before .before .before .before .read .given .1)) .0 .starts in omega (arith, c .before .before .before .before .before .before .before .before .before .before .before .before .pre .1)
-
 after-requires : tie.Need-after-requires Inv-loop μ-loop
 after-requires c κs =
-    (c .before .before .before .before .before .before .before .before .before .loop .inv .0, command-small (c .before .before .before .before .before .before .before .before .before .before .before .before .args .model .now) (c .before .before .before .before .before .before .before .before .before .loop .at) _ (whole-is (c .before .before .before .before .before .before .before .before .before .before .before .before .args .model .now) (c .before .before .before .before .before .before .before .before .before .loop .at) (c .before .before .before .before .before .before .before .before .command-at .ensures) (c .before .before .before .before .before .before .read .given .1)))
+    (c .before .before .before .before .before .before .before .before .before .loop .inv .0, whole-is (c .before .before .before .before .before .before .before .before .before .before .before .before .args .model .now) (c .before .before .before .before .before .before .before .before .before .loop .at) (c .before .before .before .before .before .before .before .before .command-at .ensures) (c .before .before .before .before .before .before .read .given .1), c .before .before .before .before .before .before .before .before .before .before .before .before .pre .1)
 
 next-after-requires : tie.Need-next-after-requires Inv-loop μ-loop
 next-after-requires c κs =
@@ -91,7 +86,7 @@ loop-less c =
 
 loop-again : tie.Need-loop-again Inv-loop μ-loop
 loop-again c =
-    let h = c .before .before .before .after .ensures (c .before .before .before .before .before .before .before .before .before .before .before .before .before .before .before .before .args .model .now) (c .before .before .before .before .before .before .before .before .before .before .before .before .before .loop .at) in (h .room, seek-on (c .before .before .before .before .before .before .before .before .before .before .before .before .before .loop .inv .1) _ (c .next-after .result) _ (whole-is (c .before .before .before .before .before .before .before .before .before .before .before .before .before .before .before .before .args .model .now) (c .before .before .before .before .before .before .before .before .before .before .before .before .before .loop .at) (c .before .before .before .before .before .before .before .before .before .before .before .before .command-at .ensures) (c .before .before .before .before .before .before .before .before .before .before .read .given .1)) (sym (c .before .before .before .before .before .before .before .before .takes .ensures (c .before .before .before .before .before .before .before .before .before .before .before .before .before .before .before .before .args .model .now) (c .before .before .before .before .before .before .before .before .before .before .before .before .before .loop .at)) ∙ c .before .before .before .before .before .before .before .if1 .left) (sym (c .before .before .before .before .before .before .is-end .ensures) ∙ c .before .before .before .before .before .if2 .left) (c .next-after .ensures) (h .holds))
+    let h = c .before .before .before .after .ensures in (h .room, seek-on (c .before .before .before .before .before .before .before .before .before .before .before .before .before .loop .inv .1) _ (c .next-after .result) _ (whole-is (c .before .before .before .before .before .before .before .before .before .before .before .before .before .before .before .before .args .model .now) (c .before .before .before .before .before .before .before .before .before .before .before .before .before .loop .at) (c .before .before .before .before .before .before .before .before .before .before .before .before .command-at .ensures) (c .before .before .before .before .before .before .before .before .before .before .read .given .1)) (sym (c .before .before .before .before .before .before .before .before .takes .ensures (c .before .before .before .before .before .before .before .before .before .before .before .before .before .before .before .before .args .model .now) (c .before .before .before .before .before .before .before .before .before .before .before .before .before .loop .at)) ∙ c .before .before .before .before .before .before .before .if1 .left) (sym (c .before .before .before .before .before .before .is-end .ensures) ∙ c .before .before .before .before .before .if2 .left) (c .next-after .ensures) (h .holds))
 
 pub pass-from-spec : {M : Type 1} → statement M
 pass-from-spec =
@@ -112,7 +107,6 @@ pass-from-spec =
     is-end-requires
     same-length-3
     returns-3
-    cast-after
     after-requires
     next-after-requires
     loop-less

@@ -1,36 +1,47 @@
 -- `stacking::step` meets its contract.
+use native.Mathlib.Omega.{arith}
 use Rattle.command.specs.Reading.{command-of}
-use Rattle.stacking.proofs.Steps.{leaf-asks, condition-asks, test-asks, leaf-step, condition-step, test-step, give-step, other-step, ready-as, step-as}
+use Rattle.stacking.proofs.Steps.{leaf-there, leaf-read, leaf-loaded, condition-asks, test-asks, condition-step, test-step, give-step, other-step, ready-as, step-as}
 use borrow.Author.Needs.{needs}
 use Rattle.stacking.proofs.step.Statement.{statement}
 use Rattle.stacking.proofs.step.Tie as tie
 
-enum-known-c : tie.Need-enum-known-c
-enum-known-c c = search needs
+enum-told : tie.Need-enum-told
+enum-told c = search needs
+
+add-linear-at : tie.Need-add-linear-at
+unfolding command-of
+add-linear-at c =
+    let h = leaf-there (ready-as _ _ (c .before .before .enum-told .given .1) (c .before .before .before .before .before .before .pre)) in omega arith
+
+linear-at-requires : tie.Need-linear-at-requires
+unfolding command-of
+linear-at-requires c κs =
+    let h = leaf-there (ready-as _ _ (c .before .before .enum-told .given .1) (c .before .before .before .before .before .before .pre)) in omega arith
 
 leaf-requires : tie.Need-leaf-requires
 unfolding command-of
 leaf-requires c κs =
-    leaf-asks _ (ready-as _ _ (c .before .before .before .c .given .1) ((c .before .before .before .before .before .before .before) .pre))
-
-enum-told : tie.Need-enum-told
-enum-told c = search needs
-
-choice-requires : tie.Need-choice-requires
-unfolding command-of
-choice-requires c κs =
-    condition-asks _ (ready-as _ _ (c .before .before .enum-told .given .1) ((c .before .before .before .before .before .before) .pre))
+    leaf-read (ready-as _ _ (c .before .before .before .enum-told .given .1) (c .before .before .before .before .before .before .before .pre)) (c .linear-at .result) (c .linear-at .ensures)
 
 enum-told-2 : tie.Need-enum-told-2
 enum-told-2 c = search needs
 
-choice-requires-2 : tie.Need-choice-requires-2
+choice-requires : tie.Need-choice-requires
 unfolding command-of
-choice-requires-2 c κs =
-    test-asks _ (ready-as _ _ (c .before .before .enum-told2 .given .1) ((c .before .before .before .before .before .before) .pre))
+choice-requires c κs =
+    condition-asks _ (ready-as _ _ (c .before .before .enum-told2 .given .1) (c .before .before .before .before .before .before .pre))
 
 enum-told-3 : tie.Need-enum-told-3
 enum-told-3 c = search needs
+
+choice-requires-2 : tie.Need-choice-requires-2
+unfolding command-of
+choice-requires-2 c κs =
+    test-asks _ (ready-as _ _ (c .before .before .enum-told3 .given .1) (c .before .before .before .before .before .before .pre))
+
+enum-told-4 : tie.Need-enum-told-4
+enum-told-4 c = search needs
 
 taken-requires : tie.Need-taken-requires
 taken-requires c κs = search needs
@@ -44,7 +55,7 @@ same-length-2 c = search needs
 returns : tie.Need-returns
 unfolding command-of
 returns c =
-    step-as _ _ (c .before .before .before .before .before .before .before .c .given .1) ((c .before .before .before .before .before .before .before .before .before .before .before) .pre) (λ y. leaf-step _ _ _ y (c .before .before .before .leaf .ensures))
+    step-as _ _ (c .before .before .before .before .before .before .before .enum-told .given .1) (c .before .before .before .before .before .before .before .before .before .before .before .pre) (λ y. leaf-loaded y (c .before .before .before .before .linear-at .result) (c .before .before .before .before .linear-at .ensures) (c .before .before .before .leaf .ensures))
 
 same-length-3 : tie.Need-same-length-3
 same-length-3 c = search needs
@@ -55,7 +66,7 @@ same-length-4 c = search needs
 returns-2 : tie.Need-returns-2
 unfolding command-of
 returns-2 c =
-    step-as _ _ (c .before .before .before .before .before .before .enum-told .given .1) ((c .before .before .before .before .before .before .before .before .before .before) .pre) (λ y. condition-step _ _ _ y (c .before .before .before .choice .ensures))
+    step-as _ _ (c .before .before .before .before .before .before .enum-told2 .given .1) (c .before .before .before .before .before .before .before .before .before .before .pre) (λ y. condition-step _ _ _ y (c .before .before .before .choice .ensures))
 
 same-length-5 : tie.Need-same-length-5
 same-length-5 c = search needs
@@ -66,28 +77,30 @@ same-length-6 c = search needs
 returns-3 : tie.Need-returns-3
 unfolding command-of
 returns-3 c =
-    step-as _ _ (c .before .before .before .before .before .before .enum-told2 .given .1) ((c .before .before .before .before .before .before .before .before .before .before) .pre) (λ y. test-step _ _ _ y (c .before .before .before .choice2 .ensures))
+    step-as _ _ (c .before .before .before .before .before .before .enum-told3 .given .1) (c .before .before .before .before .before .before .before .before .before .before .pre) (λ y. test-step _ _ _ y (c .before .before .before .choice2 .ensures))
 
 returns-4 : tie.Need-returns-4
 unfolding command-of
 returns-4 c =
-    step-as _ _ (c .before .enum-told3 .given .1) ((c .before .before .before .before .before) .pre) (λ y. give-step _ y (c .taken .ensures))
+    step-as _ _ (c .before .enum-told4 .given .1) (c .before .before .before .before .before .pre) (λ y. give-step _ y (c .taken .ensures))
 
 returns-5 : tie.Need-returns-5
 returns-5 c =
-    other-step ((c .before .before .before) .args .c) (c .match .keys5) ((c .before .before .before) .pre)
+    other-step (c .before .before .before .args .c) (c .match .keys5) (c .before .before .before .pre)
 
 pub step-spec : {M : Type 1} → statement M
 step-spec =
     tie.close
     (tie.spec
-    enum-known-c
-    leaf-requires
     enum-told
-    choice-requires
+    add-linear-at
+    linear-at-requires
+    leaf-requires
     enum-told-2
-    choice-requires-2
+    choice-requires
     enum-told-3
+    choice-requires-2
+    enum-told-4
     taken-requires
     same-length
     same-length-2

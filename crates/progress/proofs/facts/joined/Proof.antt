@@ -1,34 +1,24 @@
 -- `progress::facts::joined` meets its contract.
 use mathlib.Core.Path.{ap, ap₂, _∙_}
-use mathlib.Core.Bool.{Bool, _&&_}
-use mathlib.Core.List.{map}
-use Prim.Native.Nat.{ℕ}
-use lib.ListN.{drop, getD}
+use mathlib.Core.Bool.{_&&_}
 use Rattle.theory.specs.Verdict.{or}
-use Rattle.command.specs.Held.{held, pushed}
-use Rattle.progress.specs.Standing.{facts-of}
-use Rattle.progress.proofs.Leaving.{join-law}
+use Rattle.progress.specs.Standing.{seen}
+use Rattle.progress.proofs.Bits.{seen-joined}
 use borrow.Author.Needs.{needs}
 use Rattle.progress.proofs.facts.joined.Statement.{statement}
 use Rattle.progress.proofs.facts.joined.Tie as tie
 
-top-requires : tie.Need-top-requires
-top-requires c κs = search needs
+popped-requires : tie.Need-popped-requires
+popped-requires c κs = search needs
 
-pop-requires : tie.Need-pop-requires
-pop-requires c κs = search needs
+popped-requires-2 : tie.Need-popped-requires-2
+popped-requires-2 c κs = search needs
 
-top-requires-2 : tie.Need-top-requires-2
-top-requires-2 c κs = search needs
+low-requires : tie.Need-low-requires
+low-requires c κs = search needs
 
-pop-requires-2 : tie.Need-pop-requires-2
-pop-requires-2 c κs = search needs
-
-has-next-step-requires : tie.Need-has-next-step-requires
-has-next-step-requires c κs = search needs
-
-has-next-step-requires-2 : tie.Need-has-next-step-requires-2
-has-next-step-requires-2 c κs = search needs
+low-requires-2 : tie.Need-low-requires-2
+low-requires-2 c κs = search needs
 
 either-requires : tie.Need-either-requires
 either-requires c κs = search needs
@@ -36,51 +26,40 @@ either-requires c κs = search needs
 either-requires-2 : tie.Need-either-requires-2
 either-requires-2 c κs = search needs
 
-all-weights-requires : tie.Need-all-weights-requires
-all-weights-requires c κs = search needs
+low-requires-3 : tie.Need-low-requires-3
+low-requires-3 c κs = search needs
 
-all-weights-requires-2 : tie.Need-all-weights-requires-2
-all-weights-requires-2 c κs = search needs
+low-requires-4 : tie.Need-low-requires-4
+low-requires-4 c κs = search needs
 
 both-requires : tie.Need-both-requires
 both-requires c κs = search needs
 
-entry-requires : tie.Need-entry-requires
-entry-requires c κs = search needs
-
-push-requires : tie.Need-push-requires
-push-requires c κs = search needs
+pushed-requires : tie.Need-pushed-requires
+pushed-requires c κs = search needs
 
 returns : tie.Need-returns
 returns c =
-    λ a b.
-    let low = c .before .before .before .before .before .before .before .before .before .before .before .before .top .ensures in
-    let rest = c .before .before .before .before .before .before .before .before .before .before .before .pop .ensures in
-    let high = c .before .before .before .before .before .before .before .before .before .before .top2 .ensures ∙ ap (λ l. getD l 0 0) rest in
-    let n₁ = c .before .before .before .before .before .before .before .before .has-next-step .ensures ∙ ap (λ (x : ℕ). facts-of x .next-step) high in
-    let n₂ = c .before .before .before .before .before .before .before .has-next-step2 .ensures ∙ ap (λ (x : ℕ). facts-of x .next-step) low in
-    let w₁ = c .before .before .before .before .all-weights .ensures ∙ ap (λ (x : ℕ). facts-of x .weights) high in
-    let w₂ = c .before .before .before .all-weights2 .ensures ∙ ap (λ (x : ℕ). facts-of x .weights) low in
-    let n = c .before .before .before .before .before .either2 .ensures ∙ ap (or ((c .before .before .before .before .before .before .before .before .before .before .before .before .before) .args .later)) (c .before .before .before .before .before .before .either .ensures ∙ ap₂ or n₁ n₂) in
-    let w = c .before .before .both .ensures ∙ ap₂ _&&_ w₁ w₂ in
-    let e = c .before .entry .ensures ∙ ap₂ (λ (x y : Bool). record { next-step = x; weights = y }) n w in
-    ap (map facts-of) (c .push .ensures ∙ ap (pushed (c .before .entry .result)) (c .before .before .before .before .before .before .before .before .before .pop2 .ensures ∙ ap (drop 1) rest)) ∙ join-law (held ((c .before .before .before .before .before .before .before .before .before .before .before .before .before) .args .t)) ((c .before .before .before .before .before .before .before .before .before .before .before .before .before) .args .later) (c .before .entry .result) e a b
+    let t = c .before .before .before .before .before .before .before .before .before .before .args .t in
+    let h = c .before .before .before .before .before .before .before .before .before .popped .result in
+    let u = c .before .before .before .before .before .before .before .before .popped2 .result in
+    let x = c .before .before .before .before .either2 .ensures ∙ ap (or (c .before .before .before .before .before .before .before .before .before .before .args .later)) (c .before .before .before .before .before .either .ensures ∙ ap₂ or (c .before .before .before .before .before .before .before .low .ensures) (c .before .before .before .before .before .before .low2 .ensures)) in
+    let y = c .before .both .ensures ∙ ap₂ _&&_ (c .before .before .before .low3 .ensures) (c .before .before .low4 .ensures) in
+    seen-joined (c .before .before .before .before .before .before .before .before .before .before .args .later) (t .later) (t .weights) (t .len) (h .later) (h .weights) (h .len) (u .later) (u .weights) (u .len) (c .before .before .before .before .before .before .before .before .before .popped .ensures .1 .1) (c .before .before .before .before .before .before .before .before .popped2 .ensures .1 .1)
+    (c .before .before .before .before .either2 .result) (c .before .both .result) (seen (c .pushed .result)) x y (c .pushed .ensures)
 
 pub joined-spec : {M : Type 1} → statement M
 joined-spec =
     tie.close
     (tie.spec
-    top-requires
-    pop-requires
-    top-requires-2
-    pop-requires-2
-    has-next-step-requires
-    has-next-step-requires-2
+    popped-requires
+    popped-requires-2
+    low-requires
+    low-requires-2
     either-requires
     either-requires-2
-    all-weights-requires
-    all-weights-requires-2
+    low-requires-3
+    low-requires-4
     both-requires
-    entry-requires
-    push-requires
+    pushed-requires
     returns)

@@ -17,7 +17,7 @@ has-requires c κs = search needs
 returns : tie.Need-returns
 unfolding action-given
 returns c =
-    let h = sym (c .before .has .ensures ∙ ap (λ (k : ℕ). getD ((c .before .before .before) .args .given) k false) (c .before .before .place .ensures)) ∙ c .if1 .left in
+    let h = sym (c .before .has .ensures ∙ ap (λ (k : ℕ). getD ((c .before .before .before .before) .args .flags .now) k false) (c .before .before .place .ensures)) ∙ c .if1 .left in
     rw h
 
 row-requires : tie.Need-row-requires
@@ -29,14 +29,14 @@ row-requires-2 c κs = search needs
 returns-2 : tie.Need-returns-2
 unfolding action-given
 returns-2 c =
-    let h = sym (c .before .before .before .before .has .ensures ∙ ap (λ (k : ℕ). getD ((c .before .before .before .before .before .before) .args .given) k false) (c .before .before .before .before .before .place .ensures)) ∙ c .before .before .before .if1 .taken in
+    let h = sym (c .before .before .before .before .has .ensures ∙ ap (λ (k : ℕ). getD ((c .before .before .before .before .before .before .before) .args .flags .now) k false) (c .before .before .before .before .before .place .ensures)) ∙ c .before .before .before .if1 .taken in
     let r = sym (c .before .before .row .ensures) ∙ c .before .if2 .taken in
     rw (h, r) (c .row2 .ensures)
 
 returns-3 : tie.Need-returns-3
 unfolding action-given
 returns-3 c =
-    let h = sym (c .before .before .before .has .ensures ∙ ap (λ (k : ℕ). getD ((c .before .before .before .before .before) .args .given) k false) (c .before .before .before .before .place .ensures)) ∙ c .before .before .if1 .taken in
+    let h = sym (c .before .before .before .has .ensures ∙ ap (λ (k : ℕ). getD ((c .before .before .before .before .before .before) .args .flags .now) k false) (c .before .before .before .before .place .ensures)) ∙ c .before .before .if1 .taken in
     let r = sym (c .before .row .ensures) ∙ c .if2 .left in
     rw (h, r)
 

@@ -18,11 +18,11 @@ abbrev μ-loop : tie.MeasureT-loop
 loop-holds : tie.Need-loop-holds Inv-loop μ-loop
 unfolding all-given
 loop-holds c =
-    (omega arith, let e : c .args .site .actions - 0 ≡ c .args .site .actions = omega arith in rw e)
+    (omega arith, let e : c .before .args .site .actions - 0 ≡ c .before .args .site .actions = omega arith in rw e)
 
 add-a : tie.Need-add-a Inv-loop μ-loop
 add-a c =
-    omega (arith, (c .before .before) .good .1 .0)
+    omega (arith, (c .before .before .before) .good .1 .0)
 
 action-requires : tie.Need-action-requires Inv-loop μ-loop
 action-requires c κs =
@@ -34,19 +34,19 @@ loop-less c =
 
 loop-again : tie.Need-loop-again Inv-loop μ-loop
 loop-again c =
-    let t = run-turn (action-given ((c .before .before .before .before) .args .given) (site-as ((c .before .before .before .before) .args .site))) (c .before .before .before .loop .a) ((c .before .before .before .before) .args .site .actions) (c .before .before .loop-test .taken) in
+    let t = run-turn (action-given ((c .before .before .before .before .before) .args .flags .now) (site-as ((c .before .before .before .before .before) .args .site))) (c .before .before .before .loop .a) ((c .before .before .before .before .before) .args .site .actions) (c .before .before .loop-test .taken) in
     let p = sym (c .before .action .ensures) ∙ c .if1 .taken in
     (omega arith, sym (rw p at t) ∙ c .before .before .before .loop .inv .1)
 
 returns : tie.Need-returns Inv-loop μ-loop
 returns c =
-    let t = run-turn (action-given ((c .before .before .before .before) .args .given) (site-as ((c .before .before .before .before) .args .site))) (c .before .before .before .loop .a) ((c .before .before .before .before) .args .site .actions) (c .before .before .loop-test .taken) in
+    let t = run-turn (action-given ((c .before .before .before .before .before) .args .flags .now) (site-as ((c .before .before .before .before .before) .args .site))) (c .before .before .before .loop .a) ((c .before .before .before .before .before) .args .site .actions) (c .before .before .loop-test .taken) in
     let p = sym (c .before .action .ensures) ∙ c .if1 .left in
     sym (rw p at t) ∙ c .before .before .before .loop .inv .1
 
 returns-2 : tie.Need-returns-2 Inv-loop μ-loop
 returns-2 c =
-    sym (run-done (action-given ((c .before .before) .args .given) (site-as ((c .before .before) .args .site))) (c .before .loop .a) ((c .before .before) .args .site .actions) (c .loop-test .left)) ∙ c .before .loop .inv .1
+    sym (run-done (action-given ((c .before .before .before) .args .flags .now) (site-as ((c .before .before .before) .args .site))) (c .before .loop .a) ((c .before .before .before) .args .site .actions) (c .loop-test .left)) ∙ c .before .loop .inv .1
 
 pub complete-spec : {M : Type 1} → statement M
 complete-spec =

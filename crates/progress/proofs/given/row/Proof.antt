@@ -20,15 +20,15 @@ abbrev μ-loop : tie.MeasureT-loop
 loop-holds : tie.Need-loop-holds Inv-loop μ-loop
 unfolding row-given
 loop-holds c =
-    (omega arith, let e : c .args .n - 0 ≡ c .args .n = omega arith in rw e)
+    (omega arith, let e : c .before .args .n - 0 ≡ c .before .args .n = omega arith in rw e)
 
 add-i : tie.Need-add-i Inv-loop μ-loop
 add-i c =
-    omega (arith, (c .before .before) .fits .n)
+    omega (arith, (c .before .before .before) .fits .n)
 
 place-requires : tie.Need-place-requires Inv-loop μ-loop
 place-requires c κs =
-    (c .before .before) .pre
+    (c .before .before .before) .pre
 
 has-requires : tie.Need-has-requires Inv-loop μ-loop
 has-requires c κs =
@@ -40,19 +40,19 @@ loop-less c =
 
 loop-again : tie.Need-loop-again Inv-loop μ-loop
 loop-again c =
-    let t = run-turn (λ k. getD ((c .before .before .before .before .before) .args .given) (place ((c .before .before .before .before .before) .args .base) k ((c .before .before .before .before .before) .args .a)) false) (c .before .before .before .before .loop .i) ((c .before .before .before .before .before) .args .n) (c .before .before .before .loop-test .taken) in
-    let p = sym (c .before .has .ensures ∙ ap (λ k. getD ((c .before .before .before .before .before) .args .given) k false) (c .before .before .place .ensures)) ∙ c .if1 .taken in
+    let t = run-turn (λ k. getD ((c .before .before .before .before .before .before) .args .flags .now) (place ((c .before .before .before .before .before .before) .args .base) k ((c .before .before .before .before .before .before) .args .a)) false) (c .before .before .before .before .loop .i) ((c .before .before .before .before .before .before) .args .n) (c .before .before .before .loop-test .taken) in
+    let p = sym (c .before .has .ensures ∙ ap (λ k. getD ((c .before .before .before .before .before .before) .args .flags .now) k false) (c .before .before .place .ensures)) ∙ c .if1 .taken in
     (omega arith, sym (rw p at t) ∙ c .before .before .before .before .loop .inv .1)
 
 returns : tie.Need-returns Inv-loop μ-loop
 returns c =
-    let t = run-turn (λ k. getD ((c .before .before .before .before .before) .args .given) (place ((c .before .before .before .before .before) .args .base) k ((c .before .before .before .before .before) .args .a)) false) (c .before .before .before .before .loop .i) ((c .before .before .before .before .before) .args .n) (c .before .before .before .loop-test .taken) in
-    let p = sym (c .before .has .ensures ∙ ap (λ k. getD ((c .before .before .before .before .before) .args .given) k false) (c .before .before .place .ensures)) ∙ c .if1 .left in
+    let t = run-turn (λ k. getD ((c .before .before .before .before .before .before) .args .flags .now) (place ((c .before .before .before .before .before .before) .args .base) k ((c .before .before .before .before .before .before) .args .a)) false) (c .before .before .before .before .loop .i) ((c .before .before .before .before .before .before) .args .n) (c .before .before .before .loop-test .taken) in
+    let p = sym (c .before .has .ensures ∙ ap (λ k. getD ((c .before .before .before .before .before .before) .args .flags .now) k false) (c .before .before .place .ensures)) ∙ c .if1 .left in
     sym (rw p at t) ∙ c .before .before .before .before .loop .inv .1
 
 returns-2 : tie.Need-returns-2 Inv-loop μ-loop
 returns-2 c =
-    sym (run-done (λ k. getD ((c .before .before) .args .given) (place ((c .before .before) .args .base) k ((c .before .before) .args .a)) false) (c .before .loop .i) ((c .before .before) .args .n) (c .loop-test .left)) ∙ c .before .loop .inv .1
+    sym (run-done (λ k. getD ((c .before .before .before) .args .flags .now) (place ((c .before .before .before) .args .base) k ((c .before .before .before) .args .a)) false) (c .before .loop .i) ((c .before .before .before) .args .n) (c .loop-test .left)) ∙ c .before .loop .inv .1
 
 pub row-spec : {M : Type 1} → statement M
 row-spec =

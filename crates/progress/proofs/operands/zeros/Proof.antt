@@ -1,55 +1,73 @@
 -- `progress::operands::zeros` meets its contract.
-use mathlib.Core.Path.{ap, ap₂, _∙_}
-use mathlib.Core.Bool.{Bool, true, _&&_}
+use mathlib.Core.Path.{_≡_, refl, sym, ap, ap₂, _∙_}
+use mathlib.Core.Bool.{true, _&&_}
+use Prim.Native.Nat.{_+_, _-_, _*_, _≤_, _<_}
+use native.Mathlib.Omega.{arith}
+use borrow.Author.Tests.{eq-eqb, ne-eqb}
+use lib.Dec.{eqb}
+use lib.ListN.{length}
 use Rattle.theory.specs.Diagram.{zeros}
-use Rattle.progress.proofs.Numbers.{zero-field}
-use borrow.Author.Needs.{needs}
+use Rattle.theory.specs.Command.{signed-from}
+use Rattle.progress.proofs.Numbers.{zeros-turn, zeros-done}
 use Rattle.progress.proofs.operands.zeros.Statement.{statement}
 use Rattle.progress.proofs.operands.zeros.Tie as tie
 
-zero-requires : tie.Need-zero-requires
-zero-requires c κs = search needs
+abbrev Inv-loop : tie.InvT-loop
+Inv-loop model from n at₀ left₀ at left =
+    (at + left * 4 ≤ length model) × (zeros (signed-from model at left) ≡ zeros (signed-from model from n))
 
-zero-requires-2 : tie.Need-zero-requires-2
-zero-requires-2 c κs = search needs
+abbrev μ-loop : tie.MeasureT-loop
+μ-loop model from n at₀ left₀ at left =
+    left
 
-zero-requires-3 : tie.Need-zero-requires-3
-zero-requires-3 c κs = search needs
+loop-holds : tie.Need-loop-holds Inv-loop μ-loop
+loop-holds c =
+    (c .before .pre, refl)
 
-zero-requires-4 : tie.Need-zero-requires-4
-zero-requires-4 c κs = search needs
+word-requires : tie.Need-word-requires Inv-loop μ-loop
+word-requires c κs =
+    let h = c .before .loop .inv .0 in omega (arith, c .loop-test .taken)
 
-both-requires : tie.Need-both-requires
-both-requires c κs = search needs
-
-both-requires-2 : tie.Need-both-requires-2
-both-requires-2 c κs = search needs
-
-both-requires-3 : tie.Need-both-requires-3
-both-requires-3 c κs = search needs
-
-both-requires-4 : tie.Need-both-requires-4
-both-requires-4 c κs = search needs
-
-returns : tie.Need-returns
-unfolding zeros
+returns : tie.Need-returns Inv-loop μ-loop
 returns c =
-    let z₁ = (zero-field ((c .before .before .before .before .before .before .before .before .before .before .before .before) .args .p .c1) (c .before .before .before .before .before .before .before .before .before .before .zero .result) (record { sfits = c .before .before .before .before .before .before .before .before .before .before .before .struct-told .given .0 .1 }) (c .before .before .before .before .before .before .before .before .before .before .zero .ensures)) in
-    let z₂ = (zero-field ((c .before .before .before .before .before .before .before .before .before .before .before .before) .args .p .c2) (c .before .before .before .before .before .before .before .before .zero2 .result) (record { sfits = c .before .before .before .before .before .before .before .before .before .struct-told2 .given .1 .0 .1 }) (c .before .before .before .before .before .before .before .before .zero2 .ensures)) in
-    let z₃ = (zero-field ((c .before .before .before .before .before .before .before .before .before .before .before .before) .args .p .c3) (c .before .before .before .before .before .before .zero3 .result) (record { sfits = c .before .before .before .before .before .before .before .struct-told3 .given .1 .1 .0 .1 }) (c .before .before .before .before .before .before .zero3 .ensures)) in
-    let z₄ = (zero-field ((c .before .before .before .before .before .before .before .before .before .before .before .before) .args .p .c4) (c .before .before .before .before .zero4 .result) (record { sfits = c .before .before .before .before .before .struct-told4 .given .1 .1 .1 .0 .1 }) (c .before .before .before .before .zero4 .ensures)) in
-    c .both4 .ensures ∙ ap₂ _&&_ z₁ (c .before .both3 .ensures ∙ ap₂ _&&_ z₂ (c .before .before .both2 .ensures ∙ ap₂ _&&_ z₃ (c .before .before .before .both .ensures ∙ ap (λ (b : Bool). b && true) z₄)))
+    let t = zeros-turn (c .before .before .before .before .before .args .model .now) (c .before .before .before .loop .at) (c .before .before .before .loop .left) (c .before .before .loop-test .taken) in
+    let p = ne-eqb _ _ (λ z. c .if1 .taken (c .before .word .ensures ∙ z)) in
+    sym (rw p at t) ∙ c .before .before .before .loop .inv .1
+
+add-at : tie.Need-add-at Inv-loop μ-loop
+add-at c =
+    let h = c .before .before .before .loop .inv .0 in omega (arith, c .before .before .loop-test .taken, c .before .before .before .before .before .fits)
+
+sub-left : tie.Need-sub-left Inv-loop μ-loop
+sub-left c =
+    omega (arith, c .before .before .loop-test .taken)
+
+loop-less : tie.Need-loop-less Inv-loop μ-loop
+loop-less c =
+    omega (arith, c .before .before .loop-test .taken)
+
+loop-again : tie.Need-loop-again Inv-loop μ-loop
+loop-again c =
+    let t = zeros-turn (c .before .before .before .before .before .args .model .now) (c .before .before .before .loop .at) (c .before .before .before .loop .left) (c .before .before .loop-test .taken) in
+    let p = eq-eqb _ _ (sym (c .before .word .ensures) ∙ c .if1 .left) in
+    let h = c .before .before .before .loop .inv .0 in
+    (omega (arith, c .before .before .loop-test .taken), sym (rw p at t) ∙ c .before .before .before .loop .inv .1)
+
+returns-2 : tie.Need-returns-2 Inv-loop μ-loop
+returns-2 c =
+    zeros-done (c .before .before .before .args .model .now) (c .before .loop .at) (c .before .loop .left) (c .loop-test .left) ∙ c .before .loop .inv .1
 
 pub zeros-spec : {M : Type 1} → statement M
 zeros-spec =
     tie.close
     (tie.spec
-    zero-requires
-    zero-requires-2
-    zero-requires-3
-    zero-requires-4
-    both-requires
-    both-requires-2
-    both-requires-3
-    both-requires-4
-    returns)
+    Inv-loop
+    μ-loop
+    loop-holds
+    word-requires
+    returns
+    add-at
+    sub-left
+    loop-less
+    loop-again
+    returns-2)

@@ -17,7 +17,7 @@ returns c =
 
 returns-2 : tie.Need-returns-2
 returns-2 c =
-    λ p st. c .first .ensures ((c .before .before .before) .args .model .now) ((c .before .before .before) .args .at) ∙ first-rules-of st _ (c .before .if1 .left)
+    λ p st. c .first .ensures (c .before .before .before .before .args .model .now) (c .before .before .before .before .args .at) ∙ first-rules-of st _ (c .before .if1 .left)
 
 pub broken-spec : {M : Type 1} → statement M
 broken-spec = tie.close (tie.spec later-requires first-requires returns returns-2)

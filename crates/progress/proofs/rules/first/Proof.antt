@@ -16,9 +16,9 @@ use Rattle.progress.proofs.rules.first.Tie as tie
 other : (B : List ℕ) (at : ℕ) (c : CodeCommand) → OneOf (1 ∷ 2 ∷ 3 ∷ 4 ∷ 5 ∷ 6 ∷ []) (tagOf the-type c) → 1 ≡ first-broken (first-rules (command-of B at c))
 unfolding command-of first-rules first-broken
 other B at (Site m n a w) k = absurd (miss (1 ∷ 2 ∷ 3 ∷ 4 ∷ 5 ∷ 6 ∷ []) 0 tt k)
-other B at (Leaf p) k = refl
+other B at Leaf k = refl
 other B at (Condition i) k = refl
-other B at (Test p) k = refl
+other B at Test k = refl
 other B at (Give x a j) k = refl
 other B at (Name a) k = refl
 other B at End k = refl

@@ -5,8 +5,8 @@ use Prim.Native.Nat.{ℕ}
 use lib.Dec.{ltb}
 use lib.ListN.{getD}
 use Rattle.theory.specs.Command.{Slot}
-use Rattle.theory.specs.Verdict.{first-broken, may-be}
-use Rattle.progress.specs.Standing.{facts-of, in-order, place}
+use Rattle.theory.specs.Verdict.{first-broken}
+use Rattle.progress.specs.Standing.{in-order, place}
 use Rattle.progress.proofs.Judging.{later-give}
 use borrow.Author.Needs.{needs}
 use Rattle.progress.proofs.rules.give.Statement.{statement}
@@ -24,9 +24,6 @@ has-requires c κs = search needs
 slot-requires : tie.Need-slot-requires
 slot-requires c κs = search needs
 
-top-requires : tie.Need-top-requires
-top-requires c κs = search needs
-
 may-be-requires : tie.Need-may-be-requires
 may-be-requires c κs = search needs
 
@@ -36,11 +33,11 @@ ordered-requires c κs = search needs
 returns : tie.Need-returns
 returns c =
     λ p st.
-    let g : Slot = record { command = c .before .before .before .before .before .before .before .before .before .before .before .args .c; action = c .before .before .before .before .before .before .before .before .before .before .before .args .a; index = c .before .before .before .before .before .before .before .before .before .before .before .args .i } in
-    let i = c .before .before .before .before .before .place .ensures ∙ ap (λ (b : ℕ). place b (c .before .before .before .before .before .before .before .before .before .before .before .args .i) (c .before .before .before .before .before .before .before .before .before .before .before .args .a)) (c .before .before .before .before .before .before .base .ensures .0) in
-    let t = c .before .before .before .before .has .ensures ∙ ap (λ (k : ℕ). getD (c .before .before .before .before .before .before .before .before .before .before .before .args .s .given) k false) i in
-    let d = c .before .may-be .ensures (c .before .before .before .before .before .before .before .before .before .before .before .args .a) (c .before .before .before .before .before .before .before .before .before .before .before .args .i) ∙ ap (λ (x : ℕ). may-be g (facts-of x)) (c .before .before .top .ensures) in
-    c .ordered .ensures ∙ (λ j. first-broken (in-order (not (c .before .before .before .slot .ensures j)) (ltb (c .before .before .before .before .before .before .before .before .before .before .before .args .s .stack .len) 1) (t j) (not (d j)))) ∙ later-give st g
+    let g : Slot = record { command = c .before .before .before .before .before .before .before .before .before .before .args .c; action = c .before .before .before .before .before .before .before .before .before .before .args .a; index = c .before .before .before .before .before .before .before .before .before .before .args .i } in
+    let i = c .before .before .before .before .place .ensures ∙ ap (λ (b : ℕ). place b (c .before .before .before .before .before .before .before .before .before .before .args .i) (c .before .before .before .before .before .before .before .before .before .before .args .a)) (c .before .before .before .before .before .base .ensures .0) in
+    let t = c .before .before .before .has .ensures ∙ ap (λ (k : ℕ). getD (c .before .before .before .before .before .before .before .before .before .before .args .flags .now) k false) i in
+    c .ordered .ensures ∙ (λ j. first-broken (in-order (not (c .before .before .slot .ensures j)) (ltb (c .before .before .before .before .before .before .before .before .before .before .args .s .seen .len) 1) (t j) (not (c .before .may-be .result))))
+    ∙ later-give st g (c .before .may-be .result) (λ h. c .before .may-be .ensures h (c .before .before .before .before .before .before .before .before .before .before .args .a) (c .before .before .before .before .before .before .before .before .before .before .args .i))
 
 pub give-spec : {M : Type 1} → statement M
 give-spec =
@@ -50,7 +47,6 @@ give-spec =
     place-requires
     has-requires
     slot-requires
-    top-requires
     may-be-requires
     ordered-requires
     returns)

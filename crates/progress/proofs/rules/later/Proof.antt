@@ -1,10 +1,12 @@
 -- `progress::rules::later` meets its contract.
 use mathlib.Core.Path.{refl}
 use Prim.Native.Nat.{_+_}
+use native.Mathlib.Omega.{arith}
 use lib.ListN.{take, drop}
 use Rattle.theory.specs.Verdict.{first-broken, later-rules}
 use Rattle.command.specs.Reading.{command-of}
-use Rattle.progress.proofs.Leaving.{known-command}
+use Rattle.command.proofs.Forward.{whole-bytes}
+use Rattle.progress.proofs.Leaving.{known-command, leaf-there, test-there}
 use borrow.Author.Needs.{needs}
 use Rattle.progress.proofs.rules.later.Statement.{statement}
 use Rattle.progress.proofs.rules.later.Tie as tie
@@ -12,35 +14,46 @@ use Rattle.progress.proofs.rules.later.Tie as tie
 enum-told : tie.Need-enum-told
 enum-told c = search needs
 
-enum-known-c : tie.Need-enum-known-c
-enum-known-c c = search needs
+enum-told-2 : tie.Need-enum-told-2
+enum-told-2 c = search needs
+
+add-leaf : tie.Need-add-leaf
+add-leaf c =
+    let h = leaf-there (c .before .before .before .before .args .model .now) (c .before .before .before .before .args .at) (c .enum-told2 .given .1) (c .before .before .before .before .pre) in omega arith
 
 leaf-requires : tie.Need-leaf-requires
-leaf-requires c κs = search needs
+leaf-requires c κs =
+    let h = leaf-there (c .before .before .before .before .args .model .now) (c .before .before .before .before .args .at) (c .enum-told2 .given .1) (c .before .before .before .before .pre) in omega arith
 
-enum-known-c-2 : tie.Need-enum-known-c-2
-enum-known-c-2 c = search needs
+enum-known-c : tie.Need-enum-known-c
+enum-known-c c = search needs
 
 condition-requires : tie.Need-condition-requires
 condition-requires c κs = search needs
 
-enum-known-c-3 : tie.Need-enum-known-c-3
-enum-known-c-3 c = search needs
+enum-told-3 : tie.Need-enum-told-3
+enum-told-3 c = search needs
+
+add-test : tie.Need-add-test
+add-test c =
+    let h = test-there (c .before .before .before .before .args .model .now) (c .before .before .before .before .args .at) (c .enum-told3 .given .1) (c .before .before .before .before .pre) in omega arith
 
 test-requires : tie.Need-test-requires
-test-requires c κs = search needs
+test-requires c κs =
+    let h = test-there (c .before .before .before .before .args .model .now) (c .before .before .before .before .args .at) (c .enum-told3 .given .1) (c .before .before .before .before .pre) in omega arith
 
-enum-known-c-4 : tie.Need-enum-known-c-4
-enum-known-c-4 c = search needs
+enum-known-c-2 : tie.Need-enum-known-c-2
+enum-known-c-2 c = search needs
 
 give-requires : tie.Need-give-requires
 give-requires c κs = search needs
 
-enum-known-c-5 : tie.Need-enum-known-c-5
-enum-known-c-5 c = search needs
+enum-known-c-3 : tie.Need-enum-known-c-3
+enum-known-c-3 c = search needs
 
 add-text : tie.Need-add-text
-add-text c = search needs
+add-text c =
+    let h = whole-bytes (c .before .before .before .before .before .args .model .now) (c .before .before .before .before .before .args .at) _ (c .before .before .before .before .before .pre) .0 .starts in omega arith
 
 text-requires : tie.Need-text-requires
 text-requires c κs = search needs
@@ -48,8 +61,8 @@ text-requires c κs = search needs
 name-requires : tie.Need-name-requires
 name-requires c κs = search needs
 
-enum-told-2 : tie.Need-enum-told-2
-enum-told-2 c = search needs
+enum-told-4 : tie.Need-enum-told-4
+enum-told-4 c = search needs
 
 end-requires : tie.Need-end-requires
 end-requires c κs = search needs
@@ -57,56 +70,58 @@ end-requires c κs = search needs
 returns : tie.Need-returns
 unfolding command-of later-rules first-broken
 returns c =
-    known-command ((c .before .before .before) .args .s) ((c .before .before .before) .args .model .now) ((c .before .before .before) .args .at) _ (c .enum-told .given .1) (λ p st. refl)
+    known-command (c .before .before .before .before .args .s) (c .before .before .before .before .args .flags .now) (c .before .before .before .before .args .model .now) (c .before .before .before .before .args .at) _ (c .enum-told .given .1) (λ p st. refl)
 
 returns-2 : tie.Need-returns-2
 unfolding command-of
 returns-2 c =
-    known-command ((c .before .before .before .before .before) .args .s) ((c .before .before .before .before .before) .args .model .now) ((c .before .before .before .before .before) .args .at) _ (c .before .before .c .given .1) (c .leaf .ensures)
+    known-command (c .before .before .before .before .before .args .s) (c .before .before .before .before .before .args .flags .now) (c .before .before .before .before .before .args .model .now) (c .before .before .before .before .before .args .at) _ (c .before .enum-told2 .given .1) (c .leaf .ensures (c .before .before .before .before .before .args .flags .now))
 
 returns-3 : tie.Need-returns-3
 unfolding command-of
 returns-3 c =
-    known-command ((c .before .before .before .before .before) .args .s) ((c .before .before .before .before .before) .args .model .now) ((c .before .before .before .before .before) .args .at) _ (c .before .before .c2 .given .1) (c .condition .ensures)
+    known-command (c .before .before .before .before .before .before .args .s) (c .before .before .before .before .before .before .args .flags .now) (c .before .before .before .before .before .before .args .model .now) (c .before .before .before .before .before .before .args .at) _ (c .before .before .c .given .1) (c .condition .ensures (c .before .before .before .before .before .before .args .flags .now))
 
 returns-4 : tie.Need-returns-4
 unfolding command-of
 returns-4 c =
-    known-command ((c .before .before .before .before .before) .args .s) ((c .before .before .before .before .before) .args .model .now) ((c .before .before .before .before .before) .args .at) _ (c .before .before .c3 .given .1) (c .test .ensures)
+    known-command (c .before .before .before .before .before .args .s) (c .before .before .before .before .before .args .flags .now) (c .before .before .before .before .before .args .model .now) (c .before .before .before .before .before .args .at) _ (c .before .enum-told3 .given .1) (c .test .ensures (c .before .before .before .before .before .args .flags .now))
 
 returns-5 : tie.Need-returns-5
 unfolding command-of
 returns-5 c =
-    known-command ((c .before .before .before .before .before) .args .s) ((c .before .before .before .before .before) .args .model .now) ((c .before .before .before .before .before) .args .at) _ (c .before .before .c4 .given .1) (c .give .ensures)
+    known-command (c .before .before .before .before .before .before .args .s) (c .before .before .before .before .before .before .args .flags .now) (c .before .before .before .before .before .before .args .model .now) (c .before .before .before .before .before .before .args .at) _ (c .before .before .c2 .given .1) (c .give .ensures)
 
 returns-6 : tie.Need-returns-6
 unfolding command-of
 returns-6 c =
-    known-command ((c .before .before .before .before .before .before) .args .s) ((c .before .before .before .before .before .before) .args .model .now) ((c .before .before .before .before .before .before) .args .at) _ (c .before .before .before .c5 .given .1) (c .name .ensures (take 16 (drop ((c .before .before .before .before .before .before) .args .at + 2) ((c .before .before .before .before .before .before) .args .model .now))) (c .before .text .ensures))
+    known-command (c .before .before .before .before .before .before .before .args .s) (c .before .before .before .before .before .before .before .args .flags .now) (c .before .before .before .before .before .before .before .args .model .now) (c .before .before .before .before .before .before .before .args .at) _ (c .before .before .before .c3 .given .1) (c .name .ensures (take 16 (drop (c .before .before .before .before .before .before .before .args .at + 2) (c .before .before .before .before .before .before .before .args .model .now))) (c .before .text .ensures))
 
 returns-7 : tie.Need-returns-7
 unfolding command-of
 returns-7 c =
-    known-command ((c .before .before .before .before) .args .s) ((c .before .before .before .before) .args .model .now) ((c .before .before .before .before) .args .at) _ (c .before .enum-told2 .given .1) (c .end .ensures)
+    known-command (c .before .before .before .before .before .args .s) (c .before .before .before .before .before .args .flags .now) (c .before .before .before .before .before .args .model .now) (c .before .before .before .before .before .args .at) _ (c .before .enum-told4 .given .1) (c .end .ensures)
 
 pub later-spec : {M : Type 1} → statement M
 later-spec =
     tie.close
     (tie.spec
     enum-told
-    enum-known-c
+    enum-told-2
+    add-leaf
     leaf-requires
-    enum-known-c-2
+    enum-known-c
     condition-requires
-    enum-known-c-3
+    enum-told-3
+    add-test
     test-requires
-    enum-known-c-4
+    enum-known-c-2
     give-requires
-    enum-known-c-5
+    enum-known-c-3
     add-text
     text-requires
     name-requires
-    enum-told-2
+    enum-told-4
     end-requires
     returns
     returns-2

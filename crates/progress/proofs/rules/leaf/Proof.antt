@@ -3,7 +3,7 @@ use mathlib.Core.Path.{ap, _∙_}
 use mathlib.Core.Bool.{Bool, false}
 use lib.Dec.{leb}
 use Rattle.theory.specs.Verdict.{first-broken}
-use Rattle.command.specs.Reading.{linear-of}
+use Rattle.theory.specs.Command.{linear-at}
 use Rattle.progress.specs.Standing.{in-order}
 use Rattle.progress.proofs.Judging.{later-leaf}
 use borrow.Author.Needs.{needs}
@@ -18,7 +18,7 @@ ordered-requires c κs = search needs
 
 returns : tie.Need-returns
 returns c =
-    λ p st. c .ordered .ensures ∙ ap (λ (o : Bool). first-broken (in-order o (leb 32 ((c .before .before .before) .args .s .stack .len)) false false)) (c .before .beyond .ensures) ∙ later-leaf st (linear-of ((c .before .before .before) .args .p))
+    λ F p st. c .ordered .ensures ∙ ap (λ (o : Bool). first-broken (in-order o (leb 32 (c .before .before .before .before .args .s .seen .len)) false false)) (c .before .beyond .ensures) ∙ later-leaf st (linear-at (c .before .before .before .before .args .model .now) (c .before .before .before .before .args .from))
 
 pub leaf-spec : {M : Type 1} → statement M
 leaf-spec = tie.close (tie.spec beyond-requires ordered-requires returns)

@@ -29,8 +29,8 @@ returns : tie.Need-returns
 returns c =
     λ b e p st.
     let o = c .before .either .ensures ∙ (λ i. or (not (c .before .before .among .ensures i)) (not (e i))) in
-    let t = c .before .before .before .has .ensures ∙ ap (λ (k : ℕ). getD ((c .before .before .before .before .before .before) .args .s .given) k false) (c .before .before .before .before .place .ensures) in
-    c .ordered .ensures ∙ (λ i. first-broken (in-order (o i) false (t i) false)) ∙ later-name st ((c .before .before .before .before .before .before) .args .a) b
+    let t = c .before .before .before .has .ensures ∙ ap (λ (k : ℕ). getD (c .before .before .before .before .before .before .args .flags .now) k false) (c .before .before .before .before .place .ensures) in
+    c .ordered .ensures ∙ (λ i. first-broken (in-order (o i) false (t i) false)) ∙ later-name st (c .before .before .before .before .before .before .args .a) b
 
 pub name-spec : {M : Type 1} → statement M
 name-spec =

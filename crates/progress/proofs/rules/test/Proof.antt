@@ -3,7 +3,7 @@ use mathlib.Core.Path.{ap, _∙_}
 use mathlib.Core.Bool.{Bool, false}
 use lib.Dec.{ltb}
 use Rattle.theory.specs.Verdict.{or, first-broken}
-use Rattle.command.specs.Reading.{linear-of}
+use Rattle.theory.specs.Command.{linear-at}
 use Rattle.progress.specs.Standing.{in-order}
 use Rattle.progress.proofs.Judging.{later-test}
 use borrow.Author.Needs.{needs}
@@ -23,10 +23,11 @@ ordered-requires : tie.Need-ordered-requires
 ordered-requires c κs = search needs
 
 returns : tie.Need-returns
+unfolding linear-at
 returns c =
-    λ p st.
+    λ F p st.
     let o = c .before .either .ensures ∙ (λ i. or (c .before .before .before .beyond .ensures i) (c .before .before .zeros .ensures i)) in
-    c .ordered .ensures ∙ ap (λ (o : Bool). first-broken (in-order o (ltb ((c .before .before .before .before .before) .args .s .stack .len) 2) false false)) o ∙ later-test st (linear-of ((c .before .before .before .before .before) .args .p))
+    c .ordered .ensures ∙ ap (λ (o : Bool). first-broken (in-order o (ltb (c .before .before .before .before .before .before .args .s .seen .len) 2) false false)) o ∙ later-test st (linear-at (c .before .before .before .before .before .before .args .model .now) (c .before .before .before .before .before .before .args .from))
 
 pub test-spec : {M : Type 1} → statement M
 test-spec =
