@@ -1,7 +1,8 @@
 // Solving and then reading in the same lent tables: the demands as the contract of running code.
 ghost use Rattle.values.specs.Out.{out};
-ghost use Rattle.values.specs.State.{asked-by};
+ghost use Rattle.values.specs.State.{asked};
 ghost use Rattle.theorems.specs.Advice.{Advises};
+use values::Asked;
 use values::Value;
 use whole::Numerator;
 
@@ -13,14 +14,9 @@ pub fn advise(
     stages: &mut [u32],
     work: &mut [u32],
     steps: u32,
-    mask: u32,
-    l1: i32,
-    l2: i32,
-    l3: i32,
-    l4: i32,
-    d: i32,
+    q: Asked,
 ) -> Value
-    ensures { λ v. ⌜ Advises (now (model .entry)) horizon (now (nodes .entry)) (now (stages .entry)) (now (work .entry)) steps (asked-by mask l1 l2 l3 l4 d) (now (nodes .exit)) (now (stages .exit)) (now (work .exit)) (out v) ⌝ }
+    ensures { λ v. ⌜ Advises (now (model .entry)) horizon (now (nodes .entry)) (now (stages .entry)) (now (work .entry)) steps (asked q) (now (nodes .exit)) (now (stages .exit)) (now (work .exit)) (out v) ⌝ }
 {
     let s = solver::solve(model, horizon, nodes, stages, work);
     if s.number != 0 {
@@ -31,5 +27,5 @@ pub fn advise(
             numerator: Numerator { low: 0, high: 0 },
         };
     }
-    values::reading::value(model, nodes, stages, steps, mask, l1, l2, l3, l4, d)
+    values::reading::value(model, nodes, stages, steps, q)
 }

@@ -5,6 +5,7 @@ ghost use lib.ListN.{length};
 use libc::STDOUT_FILENO;
 use solver::Solved;
 use solver::solve;
+use values::Asked;
 use values::Value;
 use values::reading::value;
 
@@ -264,6 +265,18 @@ fn case_at(i: u32, room: usize, peak: usize) -> Case {
     )
 }
 
+// A state by its mask, four numerators and the denominator.
+fn state(mask: u32, n1: i32, n2: i32, n3: i32, n4: i32, d: i32) -> Asked {
+    Asked {
+        mask,
+        n1,
+        n2,
+        n3,
+        n4,
+        d,
+    }
+}
+
 // The value at a level with each number of steps left, and with too few and too many.
 fn all_steps(label: &[u8], model: &[u8], nodes: &[i64], stages: &[u32], mask: u32, l: i32, d: i32) {
     let mut h: u32 = 0;
@@ -271,7 +284,7 @@ fn all_steps(label: &[u8], model: &[u8], nodes: &[i64], stages: &[u32], mask: u3
         print_value(
             label,
             h,
-            value(model, nodes, stages, h, mask, l, 0, 0, 0, d),
+            value(model, nodes, stages, h, state(mask, l, 0, 0, 0, d)),
         );
         h += 1;
     }
@@ -291,36 +304,40 @@ fn rain_values(model: &[u8], nodes: &[i64], stages: &[u32]) {
 
 // 13, 15 and 14, the first that applies.
 fn refused_values(model: &[u8], nodes: &[i64], stages: &[u32]) {
-    print_value(b"D 0", 2, value(model, nodes, stages, 2, 0, 20, 0, 0, 0, 0));
+    print_value(
+        b"D 0",
+        2,
+        value(model, nodes, stages, 2, state(0, 20, 0, 0, 0, 0)),
+    );
     print_value(
         b"mask 1 of no condition",
         2,
-        value(model, nodes, stages, 2, 1, 20, 0, 0, 0, 1),
+        value(model, nodes, stages, 2, state(1, 20, 0, 0, 0, 1)),
     );
     print_value(
         b"level 2 of 1",
         2,
-        value(model, nodes, stages, 2, 0, 20, 1, 0, 0, 1),
+        value(model, nodes, stages, 2, state(0, 20, 1, 0, 0, 1)),
     );
     print_value(
         b"level 4 of 1, no stage",
         3,
-        value(model, nodes, stages, 3, 0, 20, 0, 0, 1, 1),
+        value(model, nodes, stages, 3, state(0, 20, 0, 0, 1, 1)),
     );
     print_value(
         b"no stage",
         3,
-        value(model, nodes, stages, 3, 0, 20, 0, 0, 0, 1),
+        value(model, nodes, stages, 3, state(0, 20, 0, 0, 0, 1)),
     );
     print_value(
         b"no table",
         2,
-        value(model, &nodes[..0], stages, 2, 0, 20, 0, 0, 0, 1),
+        value(model, &nodes[..0], stages, 2, state(0, 20, 0, 0, 0, 1)),
     );
     print_value(
         b"no stage words",
         2,
-        value(model, nodes, &stages[..0], 2, 0, 20, 0, 0, 0, 1),
+        value(model, nodes, &stages[..0], 2, state(0, 20, 0, 0, 0, 1)),
     );
 }
 

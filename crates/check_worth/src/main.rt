@@ -55,16 +55,15 @@ fn show(v: values::Value) {
 
 // The worth of the state that the input begins with.
 fn asked(input: &[u8], model: &[u8]) -> values::Value {
-    worth::worth(
-        model,
-        word(input, 0),
-        word(input, 4),
-        level(input, 8),
-        level(input, 12),
-        level(input, 16),
-        level(input, 20),
-        level(input, 24),
-    )
+    let q = values::Asked {
+        mask: word(input, 4),
+        n1: level(input, 8),
+        n2: level(input, 12),
+        n3: level(input, 16),
+        n4: level(input, 20),
+        d: level(input, 24),
+    };
+    worth::worth(model, word(input, 0), q)
 }
 
 fn work(name: &[u8], input: &[u8]) {

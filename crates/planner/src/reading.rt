@@ -23,10 +23,15 @@ pub extern "C" fn planner_value(
 ) -> u32
     ensures { λ r. ⌜ answered r (now (out .exit)) ≡ value-answer (value-of (now (bytes .entry)) (now (nodes .entry)) (now (stages .entry)) steps (asked-by mask l1 l2 l3 l4 d)) (now (out .entry)) ⌝ }
 {
-    answers::reading::value(
-        out,
-        values::reading::value(bytes, nodes, stages, steps, mask, l1, l2, l3, l4, d),
-    )
+    let q = values::Asked {
+        mask,
+        n1: l1,
+        n2: l2,
+        n3: l3,
+        n4: l4,
+        d,
+    };
+    answers::reading::value(out, values::reading::value(bytes, nodes, stages, steps, q))
 }
 
 // Answer, 24 bytes, as planner_value's: plain working.
@@ -44,5 +49,13 @@ pub extern "C" fn planner_worth(
 ) -> u32
     ensures { λ r. ⌜ answered r (now (out .exit)) ≡ value-answer (plain-of (now (bytes .entry)) steps (asked-by mask l1 l2 l3 l4 d)) (now (out .entry)) ⌝ }
 {
-    answers::reading::value(out, worth::worth(bytes, steps, mask, l1, l2, l3, l4, d))
+    let q = values::Asked {
+        mask,
+        n1: l1,
+        n2: l2,
+        n3: l3,
+        n4: l4,
+        d,
+    };
+    answers::reading::value(out, worth::worth(bytes, steps, q))
 }

@@ -2,7 +2,7 @@
 ghost use mathlib.Core.Path.{_≡_};
 ghost use Rattle.theory.specs.Value.{refused-value, value-at, value-of};
 ghost use Rattle.values.specs.Step.{Ends};
-ghost use Rattle.values.specs.State.{asked, asked-by};
+ghost use Rattle.values.specs.State.{asked};
 ghost use Rattle.values.specs.Out.{out, value-after};
 use super::Asked;
 use super::Value;
@@ -55,19 +55,8 @@ pub fn value_after(m: u32, n: u32, a: u32, nodes: &[i64], root: u32, q: Asked) -
 }
 
 // "Order: 10, 9, the model by offset, .. then 16, 13, 15, 14": the value and the action of a state, with some steps left.
-pub fn value(
-    bytes: &[u8],
-    nodes: &[i64],
-    stages: &[u32],
-    steps: u32,
-    mask: u32,
-    l1: i32,
-    l2: i32,
-    l3: i32,
-    l4: i32,
-    d: i32,
-) -> Value
-    ensures { λ v. ⌜ out v ≡ value-of (now (bytes .entry)) (now (nodes .entry)) (now (stages .entry)) steps (asked-by mask l1 l2 l3 l4 d) ⌝ }
+pub fn value(bytes: &[u8], nodes: &[i64], stages: &[u32], steps: u32, q: Asked) -> Value
+    ensures { λ v. ⌜ out v ≡ value-of (now (bytes .entry)) (now (nodes .entry)) (now (stages .entry)) steps (asked q) ⌝ }
 {
     let early = model::early(bytes, steps, stages.len());
     if early.number != 0 {
@@ -75,14 +64,6 @@ pub fn value(
     }
     let site = model::site(bytes);
     let root = stages[(steps - 1) as usize];
-    let q = Asked {
-        mask: mask,
-        n1: l1,
-        n2: l2,
-        n3: l3,
-        n4: l4,
-        d: d,
-    };
     value_after(
         site.levels as u32,
         site.conditions as u32,

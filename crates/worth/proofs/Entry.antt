@@ -1,19 +1,16 @@
 -- The public entry: what the refusals leave, and the state that is asked for.
 use mathlib.Core.Path.{_≡_, refl, sym, ap, _∙_}
 use mathlib.Core.Bool.{Bool, true, false, _&&_}
-use mathlib.Core.List.{List, [], _∷_}
+use mathlib.Core.List.{List}
 use Prim.Native.Nat.{ℕ, _^_}
 use native.Mathlib.Omega.{arith}
 use borrow.Author.Tests.{eq-eqb, ne-eqb}
 use lib.Dec.{T, eqb, ltb}
 use lib.IntN.{ℤ, pos, negsuc}
-use lib.ListN.{take, drop}
+use lib.ListN.{drop}
 use lib.Signed.{leZ}
-use mir.Syntax.{w32}
-use mir.Val.{SFits}
 use Rattle.whole.specs.Cases.{if, both, from-true}
 use Rattle.whole.specs.Int.{up}
-use Rattle.whole.proofs.Signed.{R32, back32}
 use Rattle.theory.specs.Diagram.{zeros}
 use Rattle.theory.specs.Meaning.{State}
 use Rattle.theory.specs.Load.{site-at, model}
@@ -24,13 +21,13 @@ use Rattle.theory.specs.Plain.{state-worth, worth-out, if-true, plain-of}
 use Rattle.model.specs.declared.Verdict.{Verdict as CodeVerdict}
 use Rattle.model.specs.Answers.{shown}
 use Rattle.model.proofs.Accepted.{Passed, early-passed}
-use Rattle.values.specs.State.{asked-by}
-use Rattle.values.proofs.Entry.{state-is}
+use Rattle.values.specs.State.{asked}
+use Rattle.values.specs.declared.Asked.{Asked as CodeAsked}
 use Rattle.evaluate.specs.declared.Point.{Point}
 use Rattle.judging.specs.declared.Total.{Total}
 use Rattle.judging.specs.Totals.{total-of}
 use Rattle.transition.specs.Standing.{Ready, Spells, Standing}
-use Rattle.worth.specs.Worths.{State-worth}
+use Rattle.worth.specs.Worths.{point-of, State-worth}
 
 if-yes : {A : Type 0} (b : Bool) (f : T b → A) (x : A) (t : T b) → if-true b f x ≡ f t
 unfolding if-true
@@ -67,37 +64,30 @@ module _ (B : List ℕ) (steps : ℕ) {v : CodeVerdict} (e : shown v ≡ early B
     onward : (q : Asked) {x : ValueOut} → x ≡ worked q → x ≡ plain-of B steps q
     onward q p = p ∙ ap (λ (b : Bool). if b (worked q) (refused-value (v .number) (v .place))) (sym (eq-eqb (v .number) 0 z)) ∙ from-is q
 
-    module _ (mask : ℕ) (l1 l2 l3 l4 d : ℤ) (f1 : SFits w32 l1) (f2 : SFits w32 l2) (f3 : SFits w32 l3) (f4 : SFits w32 l4) (fd : SFits w32 d)
-        {m n : ℕ} (em : m ≡ site-at B .levels) (en : n ≡ site-at B .conditions) {b : Bool} (eb : b ≡ accepted m n (asked-by mask (R32 l1) (R32 l2) (R32 l3) (R32 l4) (R32 d))) where
-      abbrev q : Asked
-      q = asked-by mask l1 l2 l3 l4 d
+    module _ (a : CodeAsked) {m n : ℕ} (em : m ≡ site-at B .levels) (en : n ≡ site-at B .conditions) {b : Bool} (eb : b ≡ accepted m n (asked a)) where
+      judged : b ≡ accepted (site-at B .levels) (site-at B .conditions) (asked a)
+      judged = eb ∙ (λ i. accepted (em i) (en i) (asked a))
 
-      abbrev x : Point
-      x = record { mask = mask; setting = 0; n1 = R32 l1; n2 = R32 l2; n3 = R32 l3; n4 = R32 l4; d = R32 d }
-
-      judged : b ≡ accepted (site-at B .levels) (site-at B .conditions) q
-      judged = eb ∙ (λ i. accepted (em i) (en i) (state-is mask l1 l2 l3 l4 d f1 f2 f3 f4 fd i))
-
-      pub refused-state : b ≡ false → {o : ValueOut} → o ≡ refused-value 13 0 → o ≡ plain-of B steps q
-      refused-state f p = onward q (p ∙ sym (if-no (accepted (site-at B .levels) (site-at B .conditions) q) _ (refused-value 13 0) (sym judged ∙ f)))
+      pub refused-state : b ≡ false → {o : ValueOut} → o ≡ refused-value 13 0 → o ≡ plain-of B steps (asked a)
+      refused-state f p = onward (asked a) (p ∙ sym (if-no (accepted (site-at B .levels) (site-at B .conditions) (asked a)) _ (refused-value 13 0) (sym judged ∙ f)))
 
       module _ (f : b ≡ true) where
-        holds : T (accepted (site-at B .levels) (site-at B .conditions) q)
+        holds : T (accepted (site-at B .levels) (site-at B .conditions) (asked a))
         holds = from-true (sym judged ∙ f)
 
         abbrev s : State
-        s = state-of (site-at B .levels) (site-at B .conditions) q holds
+        s = state-of (site-at B .levels) (site-at B .conditions) (asked a) holds
 
-        spells : Spells (site-at B) x s
+        spells : Spells (site-at B) (point-of a) s
         unfolding state-of accepted
         spells = record {
           conditions-are = refl;
-          nums-are = λ i. take (site-at B .levels) (sym (back32 l1 f1) i ∷ sym (back32 l2 f2) i ∷ sym (back32 l3 f3) i ∷ sym (back32 l4 f4) i ∷ []);
-          den-is = pos-up d (both (leZ (pos 1) d) (ltb mask (2 ^ (site-at B .conditions)) && zeros (drop (site-at B .levels) (l1 ∷ l2 ∷ l3 ∷ l4 ∷ []))) holds .0) ∙ sym (back32 d fd);
+          nums-are = refl;
+          den-is = pos-up (a .d) (both (leZ (pos 1) (a .d)) (ltb (a .mask) (2 ^ (site-at B .conditions)) && zeros (drop (site-at B .levels) (asked a .nums))) holds .0);
         }
 
-        pub stands : Standing B x
-        stands = record { ready = ready; alone = refl; state = s; spells = spells }
+        pub stands : {x : Point} → x ≡ point-of a → Standing B x
+        stands e = rw e (record { ready = ready; alone = refl; state = s; spells = spells })
 
-        pub answered : {t : Total} → State-worth B steps x t → {o : ValueOut} → o ≡ worth-out (total-of t) → o ≡ plain-of B steps q
-        answered W p = onward q (p ∙ ap worth-out (W .is s spells) ∙ sym (if-yes (accepted (site-at B .levels) (site-at B .conditions) q) _ (refused-value 13 0) holds))
+        pub answered : {x : Point} → x ≡ point-of a → {t : Total} → State-worth B steps x t → {o : ValueOut} → o ≡ worth-out (total-of t) → o ≡ plain-of B steps (asked a)
+        answered e W p = onward (asked a) (p ∙ ap worth-out (W .is s (rw e spells)) ∙ sym (if-yes (accepted (site-at B .levels) (site-at B .conditions) (asked a)) _ (refused-value 13 0) holds))

@@ -10,10 +10,15 @@ use Rattle.theory.specs.Verdict.{reward-slot}
 use Rattle.theory.specs.Load.{find-slot, site-at, model}
 use Rattle.theory.specs.Plain.{state-worth, action-worth}
 use Rattle.theory.specs.laws.Loading.{loaded-entries}
+use Rattle.values.specs.declared.Asked.{Asked}
 use Rattle.evaluate.specs.declared.Point.{Point}
 use Rattle.judging.specs.declared.Total.{Total}
 use Rattle.judging.specs.Totals.{total-of, times-of}
 use Rattle.transition.specs.Standing.{Spells}
+
+-- the point that a state asked for stands at, with no setting
+abbrev pub point-of : Asked → Point
+point-of q = record { mask = q .mask; setting = 0; n1 = q .n1; n2 = q .n2; n3 = q .n3; n4 = q .n4; d = q .d }
 
 -- W^(n×h) × reward, each judged
 pub record Earned (B : List ℕ) (h a : ℕ) (x : Point) (r : Within) : Type 0 where

@@ -3,8 +3,9 @@ ghost use mathlib.Core.Path.{_≡_};
 ghost use Rattle.theory.specs.Value.{refused-value};
 ghost use Rattle.theory.specs.Plain.{plain-of, worth-out};
 ghost use Rattle.values.specs.Out.{out};
-ghost use Rattle.values.specs.State.{asked-by};
+ghost use Rattle.values.specs.State.{asked};
 ghost use Rattle.judging.specs.Totals.{total-of};
+ghost use Rattle.worth.specs.Worths.{point-of};
 use evaluate::Point;
 use judging::Total;
 use transition::sites;
@@ -41,18 +42,24 @@ fn answer(t: Total) -> Value
     }
 }
 
+// The state that is asked for, with no setting.
+fn point(q: Asked) -> Point
+    ensures { λ x. ⌜ x ≡ point-of q ⌝ }
+{
+    Point {
+        mask: q.mask,
+        setting: 0,
+        n1: q.n1,
+        n2: q.n2,
+        n3: q.n3,
+        n4: q.n4,
+        d: q.d,
+    }
+}
+
 // "Order: 10, 9, the model by offset, .. 13, .. last 11": the worth of a state with some steps left, and the action that has it.
-pub fn worth(
-    bytes: &[u8],
-    steps: u32,
-    mask: u32,
-    l1: i32,
-    l2: i32,
-    l3: i32,
-    l4: i32,
-    d: i32,
-) -> Value
-    ensures { λ v. ⌜ out v ≡ plain-of (now (bytes .entry)) steps (asked-by mask l1 l2 l3 l4 d) ⌝ }
+pub fn worth(bytes: &[u8], steps: u32, q: Asked) -> Value
+    ensures { λ v. ⌜ out v ≡ plain-of (now (bytes .entry)) steps (asked q) ⌝ }
 {
     let early = model::early(bytes, steps, 8);
     if early.number != 0 {
@@ -60,25 +67,8 @@ pub fn worth(
     }
     let m = sites::levels(bytes) as u32;
     let n = sites::conditions(bytes) as u32;
-    let q = Asked {
-        mask,
-        n1: l1,
-        n2: l2,
-        n3: l3,
-        n4: l4,
-        d,
-    };
     if values::states::accepted(m, n, q) {} else {
         return refused(13, 0);
     }
-    let x = Point {
-        mask,
-        setting: 0,
-        n1: l1,
-        n2: l2,
-        n3: l3,
-        n4: l4,
-        d,
-    };
-    answer(worths::worked(bytes, steps, x))
+    answer(worths::worked(bytes, steps, point(q)))
 }

@@ -1,8 +1,8 @@
 -- `advice::advise` meets its contract.
+use mathlib.Core.Path.{refl}
 use Rattle.values.specs.Out.{out}
-use Rattle.values.specs.State.{asked-by}
+use Rattle.values.specs.State.{asked}
 use Rattle.theorems.specs.laws.Advice.{refusal-given, value-given}
-use Rattle.values.proofs.Entry.{state-is}
 use borrow.Author.Needs.{needs}
 use Rattle.advice.proofs.advise.Statement.{statement}
 use Rattle.advice.proofs.advise.Tie as tie
@@ -22,7 +22,7 @@ same-length-3 c = search needs
 returns : tie.Need-returns
 returns c =
     let a = c .before .before .before .before .before .before .before .before .before .before .before .before .before .before .args in
-    refusal-given (a .model .now) (a .horizon) (a .nodes .now) (a .stages .now) (a .work .now) (c .before .before .before .before .before .before .before .solve .ensures) (a .steps) (asked-by (a .mask) (a .l1) (a .l2) (a .l3) (a .l4) (a .d)) (c .if1 .taken)
+    refusal-given (a .model .now) (a .horizon) (a .nodes .now) (a .stages .now) (a .work .now) (c .before .before .before .before .before .before .before .solve .ensures) (a .steps) (asked (a .q)) (c .if1 .taken)
 
 value-requires : tie.Need-value-requires
 value-requires c κs = search needs
@@ -40,9 +40,8 @@ returns-2 : tie.Need-returns-2
 returns-2 c =
     let s = c .before .before .before .before .before .before .before .before .before .before .before .before .before .before .before .before .before in
     let a = s .args in
-    value-given (a .model .now) (a .horizon) (a .nodes .now) (a .stages .now) (a .work .now) (c .before .before .before .before .before .before .before .before .before .before .solve .ensures) (a .steps) (asked-by (a .mask) (a .l1) (a .l2) (a .l3) (a .l4) (a .d)) _ (out (c .value .result)) (c .before .before .before .if1 .left)
-    (state-is (a .mask) (a .l1) (a .l2) (a .l3) (a .l4) (a .d) (s .fits .l1) (s .fits .l2) (s .fits .l3) (s .fits .l4) (s .fits .d))
-    (c .value .ensures)
+    value-given (a .model .now) (a .horizon) (a .nodes .now) (a .stages .now) (a .work .now) (c .before .before .before .before .before .before .before .before .before .before .solve .ensures) (a .steps) (asked (a .q)) _ (out (c .value .result)) (c .before .before .before .if1 .left)
+    refl (c .value .ensures)
 
 pub advise-spec : {M : Type 1} → statement M
 advise-spec =

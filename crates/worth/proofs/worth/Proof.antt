@@ -36,22 +36,21 @@ refused-requires-2 c κs = search needs
 returns-2 : tie.Need-returns-2
 returns-2 c =
     let s = (c .before .before .before .before .before .before .before .before .before) in
-    refused-state (s .args .bytes .now) (s .args .steps) (c .before .before .before .before .before .before .before .early .ensures) (c .before .before .before .before .before .if1 .left) _ _ _ _ _ _ (s .fits .l1) (s .fits .l2) (s .fits .l3) (s .fits .l4) (s .fits .d) (c .before .before .before .before .levels .ensures) (c .before .before .before .conditions .ensures) (c .before .before .accepted .ensures) (c .before .if2 .left) (c .refused2 .ensures)
+    refused-state (s .args .bytes .now) (s .args .steps) (c .before .before .before .before .before .before .before .early .ensures) (c .before .before .before .before .before .if1 .left) (s .args .q) (c .before .before .before .before .levels .ensures) (c .before .before .before .conditions .ensures) (c .before .before .accepted .ensures) (c .before .if2 .left) (c .refused2 .ensures)
+
+point-requires : tie.Need-point-requires
+point-requires c κs = search needs
 
 worked-requires : tie.Need-worked-requires
 worked-requires c κs =
-    let s = (c .before .before .before .before .before .before .before .before) in (
-      stands (s .args .bytes .now) (s .args .steps) (c .before .before .before .before .before .before .early .ensures) (c .before .before .before .before .if1 .left) _ _ _ _ _ _ (s .fits .l1) (s .fits .l2) (s .fits .l3) (s .fits .l4) (s .fits .d) (c .before .before .before .levels .ensures) (c .before .before .conditions .ensures) (c .before .accepted .ensures) (c .if2 .taken),
-      passed (s .args .bytes .now) (s .args .steps) (c .before .before .before .before .before .before .early .ensures) (c .before .before .before .before .if1 .left) .steps .1,
-    )
+    (stands (c .before .before .before .before .before .before .before .before .before .args .bytes .now) (c .before .before .before .before .before .before .before .before .before .args .steps) (c .before .before .before .before .before .before .before .early .ensures) (c .before .before .before .before .before .if1 .left) (c .before .before .before .before .before .before .before .before .before .args .q) (c .before .before .before .before .levels .ensures) (c .before .before .before .conditions .ensures) (c .before .before .accepted .ensures) (c .before .if2 .taken) (c .point .ensures), passed (c .before .before .before .before .before .before .before .before .before .args .bytes .now) (c .before .before .before .before .before .before .before .before .before .args .steps) (c .before .before .before .before .before .before .before .early .ensures) (c .before .before .before .before .before .if1 .left) .steps .1)
 
 answer-requires : tie.Need-answer-requires
 answer-requires c κs = search needs
 
 returns-3 : tie.Need-returns-3
 returns-3 c =
-    let s = (c .before .before .before .before .before .before .before .before .before .before) in
-    answered (s .args .bytes .now) (s .args .steps) (c .before .before .before .before .before .before .before .before .early .ensures) (c .before .before .before .before .before .before .if1 .left) _ _ _ _ _ _ (s .fits .l1) (s .fits .l2) (s .fits .l3) (s .fits .l4) (s .fits .d) (c .before .before .before .before .before .levels .ensures) (c .before .before .before .before .conditions .ensures) (c .before .before .before .accepted .ensures) (c .before .before .if2 .taken) (c .before .worked .ensures) (c .answer .ensures)
+    answered (c .before .before .before .before .before .before .before .before .before .before .before .args .bytes .now) (c .before .before .before .before .before .before .before .before .before .before .before .args .steps) (c .before .before .before .before .before .before .before .before .before .early .ensures) (c .before .before .before .before .before .before .before .if1 .left) (c .before .before .before .before .before .before .before .before .before .before .before .args .q) (c .before .before .before .before .before .before .levels .ensures) (c .before .before .before .before .before .conditions .ensures) (c .before .before .before .before .accepted .ensures) (c .before .before .before .if2 .taken) (c .before .before .point .ensures) (c .before .worked .ensures) (c .answer .ensures)
 
 pub worth-spec : {M : Type 1} → statement M
 worth-spec =
@@ -67,6 +66,7 @@ worth-spec =
     accepted-requires
     refused-requires-2
     returns-2
+    point-requires
     worked-requires
     answer-requires
     returns-3)

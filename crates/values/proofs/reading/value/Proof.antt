@@ -1,7 +1,8 @@
 -- `values::reading::value` meets its contract.
+use mathlib.Core.Path.{refl}
 use native.Mathlib.Omega.{arith}
 use borrow.Author.Needs.{needs}
-use Rattle.values.proofs.Entry.{left-of, state-is, refused-early, read-early}
+use Rattle.values.proofs.Entry.{left-of, refused-early, read-early}
 use Rattle.values.proofs.reading.value.Statement.{statement}
 use Rattle.values.proofs.reading.value.Tie as tie
 
@@ -46,8 +47,7 @@ value-after-requires c κs = search needs
 
 returns-2 : tie.Need-returns-2
 returns-2 c =
-    read-early _ _ _ _ _ (c .before .before .before .before .before .before .before .before .early .ensures) (c .before .before .before .before .before .before .if1 .left) (c .before .before .before .before .before .site .ensures)
-    (state-is _ _ _ _ _ _ ((c .before .before .before .before .before .before .before .before .before .before .before) .fits .l1) ((c .before .before .before .before .before .before .before .before .before .before .before) .fits .l2) ((c .before .before .before .before .before .before .before .before .before .before .before) .fits .l3) ((c .before .before .before .before .before .before .before .before .before .before .before) .fits .l4) ((c .before .before .before .before .before .before .before .before .before .before .before) .fits .d)) (c .value-after .ensures)
+    read-early _ _ _ _ _ (c .before .before .before .before .before .before .before .before .early .ensures) (c .before .before .before .before .before .before .if1 .left) (c .before .before .before .before .before .site .ensures) refl (c .value-after .ensures)
 
 pub value-spec : {M : Type 1} → statement M
 value-spec =
