@@ -9,6 +9,7 @@ use lib.ListN.{length, replicate, length-replicate}
 use types.Run.{OneOf, miss}
 use denote.Enum.Declared.{tagOf}
 use Rattle.whole.specs.Cases.{if}
+use Rattle.theory.specs.Widths.{flags-most}
 use Rattle.theory.specs.Command.{Command, end-model, Read, whole, unknown, short, Placed, byte-at, width, read-at, goes-on, readings-from, readings}
 use Rattle.theory.specs.Verdict.{Progress, at-start, first-broken, rules-of, after, Verdict, refusal, ended, judged, verdict}
 use Rattle.command.proofs.Command.{the-type}
@@ -19,7 +20,7 @@ use Rattle.command.specs.declared.Read.the-variants.{Whole, Unknown, Short}
 use Rattle.command.specs.Reading.{command-of, read-of, next-at}
 use Rattle.command.proofs.Forward.{whole-bytes, next-whole}
 use Rattle.progress.specs.declared.Progress.{Progress as CodeProgress}
-use Rattle.progress.specs.Standing.{flags-most, noted, Stands, Leaves}
+use Rattle.progress.specs.Standing.{noted, Stands, Leaves}
 use Rattle.model.specs.Answers.{is-end}
 
 -- ---- what the code's answers say of the command

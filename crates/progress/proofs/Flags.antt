@@ -13,14 +13,14 @@ use Rattle.whole.specs.Cases.{both, same-bool}
 use Rattle.theory.specs.Command.{Slot}
 use Rattle.theory.specs.Verdict.{or, Site, same-slot, has-slot, reward-slot, chance-slot, level-slot, of-site}
 use Rattle.theory.specs.laws.Rules.{of-site-out}
-use Rattle.theory.specs.Widths.{levels-most, conditions-most, actions-most}
+use Rattle.theory.specs.Widths.{levels-most, conditions-most, actions-most, flags-most}
 use Rattle.theory.specs.Valid.{among}
 use types.Run.{OneOf, miss}
 use denote.Enum.Declared.{tagOf}
 use Rattle.command.proofs.Command.{the-type}
 use Rattle.command.specs.declared.Command.{Command as CodeCommand}
 use Rattle.command.specs.declared.Command.the-variants.{Site as SiteBy, Leaf, Condition, Test, Give, Name, End}
-use Rattle.progress.specs.Standing.{flags-most, noted, place, base-of, flag-of, Slotted, for-reward, for-chance, for-level, for-name}
+use Rattle.progress.specs.Standing.{noted, place, base-of, flag-of, Slotted, for-reward, for-chance, for-level, for-name}
 use Rattle.progress.proofs.Numbers.{bounds, is-among}
 
 -- a store past the end changes nothing

@@ -8,7 +8,7 @@ use borrow.Author.Tests.{lt-ltb, leb-false, ltb-false}
 use lib.Dec.{T, ltb}
 use lib.ListN.{length, length-set, length-replicate, getD, set, drop, replicate}
 use Rattle.whole.specs.Cases.{if}
-use Rattle.theory.specs.Widths.{stack-most}
+use Rattle.theory.specs.Widths.{stack-most, flags-most}
 use Rattle.theory.specs.Diagram.{Linear}
 use Rattle.theory.specs.Valid.{among}
 use Rattle.theory.specs.Command.{Command, site, push-leaf, push-condition, push-test, give, name-action, end-model, Slot, whole, read-at}
@@ -19,7 +19,7 @@ use Rattle.command.proofs.Forward.{has-linear, linear-room}
 use Rattle.progress.specs.declared.Seen.{Seen}
 use Rattle.command.specs.Reading.{command-of}
 use Rattle.progress.specs.declared.Progress.{Progress as CodeProgress}
-use Rattle.progress.specs.Standing.{flags-most, site-as, seen, place, flag-of, noted, Slotted, for-name, Stands, Leaves, Later}
+use Rattle.progress.specs.Standing.{site-as, seen, place, flag-of, noted, Slotted, for-name, Stands, Leaves, Later}
 use Rattle.progress.proofs.Numbers.{bounds, is-among, not-false-T}
 use Rattle.progress.proofs.Flags.{flag-more, no-flag, slotted-given}
 use Rattle.progress.proofs.Bits.{seen-length}

@@ -6,7 +6,7 @@ use Prim.Native.Nat.{ℕ, zero, suc, _+_, _*_, _/_, _%_, _≤_}
 use lib.Dec.{T, eqb}
 use lib.ListN.{length, getD, set}
 use Rattle.whole.specs.Cases.{if}
-use Rattle.theory.specs.Widths.{levels-most, conditions-most, actions-most, stack-most}
+use Rattle.theory.specs.Widths.{levels-most, conditions-most, actions-most, stack-most, flags-most}
 use Rattle.theory.specs.Valid.{all, among}
 use Rattle.theory.specs.Command.{Command, Slot}
 use Rattle.theory.specs.Verdict.{Site, site-of, Facts, reward-slot, chance-slot, level-slot, name-slot, has-slot, Progress, rule, Rule, first-broken, rules-of, later-rules, after, from-to}
@@ -31,10 +31,6 @@ seen t = seen-in (t .later) (t .weights) (t .len)
 -- the place of a flag: ten rows of the eight actions, rewards in row 0, chances in 1 to 4, next levels in 5 to 8, names in 9
 abbrev pub place : ℕ → ℕ → ℕ → ℕ
 place base i a = (base + i) * 8 + a
-
--- flags in all: a row of the actions, from 1 on, for the reward, each chance, each next level and the name
-abbrev pub flags-most : ℕ
-flags-most = (2 + conditions-most + levels-most) * actions-most + 1
 
 -- the base of what a command gives
 unfoldable pub base-of : ℕ → ℕ

@@ -1,5 +1,5 @@
 -- The widths of document 01, each named once. The rules of diagrams know none of them.
-use Prim.Native.Nat.{ℕ}
+use Prim.Native.Nat.{ℕ, _+_, _*_}
 
 -- "m levels (1 to 4)"
 abbrev pub levels-most : ℕ
@@ -12,6 +12,10 @@ conditions-most = 4
 -- "A actions (1 to 8)"
 abbrev pub actions-most : ℕ
 actions-most = 8
+
+-- a flag for each thing that an action is given, and for its name: a row of the actions, from 1 on, for the reward, each chance, each next level and the name
+abbrev pub flags-most : ℕ
+flags-most = (2 + conditions-most + levels-most) * actions-most + 1
 
 -- "weight total W (1 to 100)"
 abbrev pub weights-most : ℕ
