@@ -4,7 +4,7 @@ ghost use mathlib.Core.List.{[]};
 ghost use lib.ListN.{drop, getD};
 ghost use Rattle.command.specs.Held.{held, pushed};
 
-// Diagram numbers, or in validation what is judged of each diagram. The top is at len − 1.
+// Diagram numbers. The top is at len − 1.
 pub struct Stack {
     pub items: [u32; 32],
     pub len: usize,

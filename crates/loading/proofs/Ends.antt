@@ -10,7 +10,7 @@ use lib.Dec.{T, eqb}
 use lib.IntN.{ℤ}
 use lib.ListN.{length, getD}
 use Rattle.whole.specs.Cases.{if, both}
-use Rattle.theory.specs.Widths.{bytes-most}
+use Rattle.theory.specs.Widths.{bytes-most, model-roots-most}
 use Rattle.theory.specs.Diagram.{Tree}
 use Rattle.theory.specs.Valid.{all}
 use Rattle.theory.specs.Meaning.{Model}
@@ -100,7 +100,7 @@ empty-run B cap l s st L eL e =
     ∙ (ap (run cap (load-on L (loading [] []))) (ap (trees l) (st .count) ∙ trees-none l)
     ∙ (ap (λ (M : List Placed). run cap (load-on M (loading [] [])) []) eL ∙ ap (λ (m : Comp Loading). run cap m []) (sym e)))
 
-pub walk-starts : {B : List ℕ} {cap : ℕ} {l : List ℤ} {w : List ℕ} {R : List ℕ} {at : ℕ} {s : Loaded} → verdict B .number ≡ 0 → length B ≤ bytes-most → Table (loadRule B) cap l w 0 → 72 ≤ length R → at ≡ next-at B 0 → Starts s → Walk B cap l w R at s
+pub walk-starts : {B : List ℕ} {cap : ℕ} {l : List ℤ} {w : List ℕ} {R : List ℕ} {at : ℕ} {s : Loaded} → verdict B .number ≡ 0 → length B ≤ bytes-most → Table (loadRule B) cap l w 0 → model-roots-most ≤ length R → at ≡ next-at B 0 → Starts s → Walk B cap l w R at s
 unfolding Below
 walk-starts {B} {cap} {l} {w} {R} {at} {s} ok small A room ea st =
     let b = begins B ok in

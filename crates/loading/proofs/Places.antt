@@ -14,6 +14,7 @@ use lib.Seq.{getD-set-same, getD-set-other}
 use types.Run.{OneOf, miss}
 use denote.Enum.Declared.{tagOf}
 use Rattle.whole.specs.Cases.{if, by-test, both, and-in}
+use Rattle.theory.specs.Widths.{model-roots-most}
 use Rattle.theory.specs.Diagram.{Tree}
 use Rattle.theory.specs.Command.{give, Slot}
 use Rattle.theory.specs.Verdict.{Site, name-slot, same-slot, has-slot, or}
@@ -143,10 +144,10 @@ rooted-name {l = l} {n} {R} {G} {E} a r = record {
       (λ _ t. r .root g i p t) t;
 }
 
-place-few : {S : Site} {g : Slot} {i : ℕ} → S .actions ≤ 8 → S .conditions ≤ 4 → S .levels ≤ 4 → Placed-at S g i → i < 72
+place-few : {S : Site} {g : Slot} {i : ℕ} → S .actions ≤ 8 → S .conditions ≤ 4 → S .levels ≤ 4 → Placed-at S g i → i < model-roots-most
 place-few {S} {g} {i} A N M p = few (g .action) (p .least) (let b = p .most in omega arith) (offset-less p) (p .place)
   where
-    few : (a : ℕ) → 1 ≤ a → a ≤ 8 → p .offset < width-of S → i ≡ (a - 1) * width-of S + p .offset → i < 72
+    few : (a : ℕ) → 1 ≤ a → a ≤ 8 → p .offset < width-of S → i ≡ (a - 1) * width-of S + p .offset → i < model-roots-most
     few zero h k o e = absurd (omega arith)
     few (suc zero) h k o e = omega arith
     few (suc (suc zero)) h k o e = omega arith
@@ -158,19 +159,19 @@ place-few {S} {g} {i} A N M p = few (g .action) (p .least) (let b = p .most in o
     few (suc (suc (suc (suc (suc (suc (suc (suc zero)))))))) h k o e = omega arith
     few (suc (suc (suc (suc (suc (suc (suc (suc (suc a))))))))) h k o e = absurd (omega arith)
 
-stored-at : (R : List ℕ) (i x : ℕ) → 72 ≤ length R → i < 72 → getD (storedIn R i x) i 0 ≡ x
+stored-at : (R : List ℕ) (i x : ℕ) → model-roots-most ≤ length R → i < model-roots-most → getD (storedIn R i x) i 0 ≡ x
 unfolding storedIn
-stored-at R i x r h = ap (λ (b : Bool). getD (if b (set R i x) R) i 0) (lt-ltb i 72 h) ∙ getD-set-same R i x 0 (omega arith)
+stored-at R i x r h = ap (λ (b : Bool). getD (if b (set R i x) R) i 0) (lt-ltb i model-roots-most h) ∙ getD-set-same R i x 0 (omega arith)
 
 stored-away : (R : List ℕ) (i j x : ℕ) → (j ≡ i → ⊥) → getD (storedIn R i x) j 0 ≡ getD R j 0
 unfolding storedIn
-stored-away R i j x h = by-test (ltb i 72) (λ b. getD (if b (set R i x) R) j 0 ≡ getD R j 0) (λ _. getD-set-other R i j x 0 h) (λ _. refl)
+stored-away R i j x h = by-test (ltb i model-roots-most) (λ b. getD (if b (set R i x) R) j 0 ≡ getD R j 0) (λ _. getD-set-other R i j x 0 h) (λ _. refl)
 
 pub stored-length : (R : List ℕ) (i x : ℕ) → length (storedIn R i x) ≡ length R
 unfolding storedIn
-stored-length R i x = by-test (ltb i 72) (λ b. length (if b (set R i x) R) ≡ length R) (λ _. length-set R i x) (λ _. refl)
+stored-length R i x = by-test (ltb i model-roots-most) (λ b. length (if b (set R i x) R) ≡ length R) (λ _. length-set R i x) (λ _. refl)
 
-pub stored-none : (R : List ℕ) (x : ℕ) → storedIn R 72 x ≡ R
+pub stored-none : (R : List ℕ) (x : ℕ) → storedIn R model-roots-most x ≡ R
 unfolding storedIn
 stored-none R x = refl
 
@@ -179,7 +180,7 @@ differ true a b = a
 differ false a b = b
 
 -- what is given now stands at its place
-pub rooted-entry : {S : Site} {l : List ℤ} {n : ℕ} {R : List ℕ} {G : List Slot} {E : List Entry} {g : Slot} {i : ℕ} {x : ℕ} {t : Tree} → S .actions ≤ 8 → S .conditions ≤ 4 → S .levels ≤ 4 → 72 ≤ length R → Placed-at S g i → Root-of l n x t → Rooted S l n R G E → Rooted S l n (storedIn R i x) (g ∷ G) (record { slot = g; tree = t } ∷ E)
+pub rooted-entry : {S : Site} {l : List ℤ} {n : ℕ} {R : List ℕ} {G : List Slot} {E : List Entry} {g : Slot} {i : ℕ} {x : ℕ} {t : Tree} → S .actions ≤ 8 → S .conditions ≤ 4 → S .levels ≤ 4 → model-roots-most ≤ length R → Placed-at S g i → Root-of l n x t → Rooted S l n R G E → Rooted S l n (storedIn R i x) (g ∷ G) (record { slot = g; tree = t } ∷ E)
 unfolding has-slot find-slot
 rooted-entry {S} {l} {n} {R} {G} {E} {g} {i} {x} {t} A N M room p o r = record {
   root = λ h j q u.
@@ -198,15 +199,15 @@ pub row-none : (a w : ℕ) → a ≡ 0 → 0 ≡ (a - 1) * w
 row-none zero w e = omega arith
 row-none (suc a) w e = absurd (omega arith)
 
-pub stored-yes : (R : List ℕ) (i x : ℕ) → i < 72 → set R i x ≡ storedIn R i x
+pub stored-yes : (R : List ℕ) (i x : ℕ) → i < model-roots-most → set R i x ≡ storedIn R i x
 unfolding storedIn
-stored-yes R i x h = ap (λ (b : Bool). if b (set R i x) R) (sym (lt-ltb i 72 h))
+stored-yes R i x h = ap (λ (b : Bool). if b (set R i x) R) (sym (lt-ltb i model-roots-most h))
 
-pub stored-no : (R : List ℕ) (i x : ℕ) → 72 ≤ i → R ≡ storedIn R i x
+pub stored-no : (R : List ℕ) (i x : ℕ) → model-roots-most ≤ i → R ≡ storedIn R i x
 unfolding storedIn
-stored-no R i x h = ap (λ (b : Bool). if b (set R i x) R) (sym (le-ltb i 72 h))
+stored-no R i x h = ap (λ (b : Bool). if b (set R i x) R) (sym (le-ltb i model-roots-most h))
 
-pub place-other : (m n : ℕ) (B : List ℕ) (at : ℕ) (d : CodeCommand) → OneOf (0 ∷ 1 ∷ 2 ∷ 3 ∷ 5 ∷ 6 ∷ []) (tagOf command-type d) → 72 ≡ place-of m n (command-of B at d)
+pub place-other : (m n : ℕ) (B : List ℕ) (at : ℕ) (d : CodeCommand) → OneOf (0 ∷ 1 ∷ 2 ∷ 3 ∷ 5 ∷ 6 ∷ []) (tagOf command-type d) → model-roots-most ≡ place-of m n (command-of B at d)
 unfolding place-of command-of
 place-other m n B at (SiteBy x y a w) k = refl
 place-other m n B at Leaf k = refl

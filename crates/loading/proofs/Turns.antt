@@ -10,7 +10,7 @@ use lib.ListN.{length, getD, drop}
 use types.Run.{OneOf, miss}
 use denote.Enum.Declared.{tagOf}
 use Rattle.whole.specs.Cases.{if, by-test, both, not-not}
-use Rattle.theory.specs.Widths.{levels-most, conditions-most, actions-most, stack-most, bytes-most}
+use Rattle.theory.specs.Widths.{levels-most, conditions-most, actions-most, stack-most, bytes-most, model-roots-most}
 use Rattle.theory.specs.Diagram.{Tree}
 use Rattle.theory.specs.Valid.{all, among}
 use Rattle.theory.specs.Computation.{Comp, bind, Out, done, stopped, run}
@@ -103,7 +103,7 @@ unfolding given-to
 given-first l n [] g E h P p = absurd (omega arith)
 given-first l n (x ∷ H) g E h P p = p
 
-module _ (S : Site) (A : S .actions ≤ 8) (N : S .conditions ≤ 4) (M : S .levels ≤ 4) (K : List Facts) (G : List Slot) {l : List ℤ} {n : ℕ} (H : List ℕ) (b : Below n H) (tall : length H ≡ length K) {R : List ℕ} (room : 72 ≤ length R) {E : List Entry} (r : Rooted S l n R G E) where
+module _ (S : Site) (A : S .actions ≤ 8) (N : S .conditions ≤ 4) (M : S .levels ≤ 4) (K : List Facts) (G : List Slot) {l : List ℤ} {n : ℕ} (H : List ℕ) (b : Below n H) (tall : length H ≡ length K) {R : List ℕ} (room : model-roots-most ≤ length R) {E : List Entry} (r : Rooted S l n R G E) where
   took : (g : Slot) (i : ℕ) → Placed-at S g i → 1 ≤ length K → Rooted S l n (storedIn R i (getD H 0 0)) (g ∷ G) (given-to g (standing l n H) E)
   took g i p h = given-first l n H g E (omega arith) (λ F. Rooted S l n (storedIn R i (getD H 0 0)) (g ∷ G) F) (rooted-entry A N M room p (record { below = top-below n H (omega arith) b; tree = refl }) r)
 
@@ -150,7 +150,7 @@ pub record Walk (B : List ℕ) (cap : ℕ) (l : List ℤ) (w : List ℕ) (R : Li
   pub judges : judged (length B) (state (site-at B) facts given) (readings-from B fuel at) .number ≡ 0
   pub runs : run cap (load-on (readings-from B fuel at) (loading (standing l (s .count) (held (s .stack))) entries)) (trees l (s .count)) ≡ run cap (load-on (readings B) (loading [] [])) []
   pub rooted : Rooted (site-at B) l (s .count) R given entries
-  pub room : 72 ≤ length R
+  pub room : model-roots-most ≤ length R
 
 opened : (P : List Placed → Type 0) (B : List ℕ) (at k : ℕ) → length B - at < k → P (readings-from B k at) → (r : Read) → r ≡ read-at B at → (n : ℕ) × (length B - at < suc n) × P (from-first B at n r)
 unfolding readings-from

@@ -6,6 +6,7 @@ use lib.Dec.{ltb, eqb}
 use lib.IntN.{ℤ}
 use lib.ListN.{getD, set}
 use Rattle.whole.specs.Cases.{if}
+use Rattle.theory.specs.Widths.{model-roots-most}
 use Rattle.theory.specs.Computation.{done, stopped, run}
 use Rattle.theory.specs.Command.{Command, site, push-leaf, push-condition, push-test, give, name-action, end-model, Slot}
 use Rattle.theory.specs.Verdict.{Site, from-to}
@@ -23,18 +24,18 @@ use Rattle.loading.specs.declared.Done.{Done}
 unfoldable pub offset-of : ℕ → Slot → ℕ
 offset-of n g = if (eqb (g .command) 0x22) (n + g .index) (g .index)
 
--- the place of what a command gives, with m levels and n conditions; 72 where it gives nothing
+-- the place of what a command gives, with m levels and n conditions; past all roots where it gives nothing
 unfoldable pub place-of : ℕ → ℕ → Command → ℕ
-place-of m n (site b c a w) = 72
-place-of m n (push-leaf p) = 72
-place-of m n (push-condition k) = 72
-place-of m n (push-test p) = 72
+place-of m n (site b c a w) = model-roots-most
+place-of m n (push-leaf p) = model-roots-most
+place-of m n (push-condition k) = model-roots-most
+place-of m n (push-test p) = model-roots-most
 place-of m n (give g) = (g .action - 1) * (1 + n + m) + offset-of n g
-place-of m n (name-action a b) = 72
-place-of m n end-model = 72
+place-of m n (name-action a b) = model-roots-most
+place-of m n end-model = model-roots-most
 
 unfoldable pub storedIn : List ℕ → ℕ → ℕ → List ℕ
-storedIn R at x = if (ltb at 72) (set R at x) R
+storedIn R at x = if (ltb at model-roots-most) (set R at x) R
 
 pub record Starts (s : Loaded) : Type 0 where
   pub stop : s .stop ≡ 0

@@ -3,7 +3,7 @@ ghost use mathlib.Core.Path.{_≡_};
 ghost use mathlib.Core.List.{List};
 ghost use Prim.Native.Nat.{ℕ, _+_, _-_, _*_, _≤_, _<_};
 ghost use lib.ListN.{length};
-ghost use Rattle.theory.specs.Widths.{bytes-most};
+ghost use Rattle.theory.specs.Widths.{bytes-most, model-roots-most};
 ghost use Rattle.theory.specs.Verdict.{verdict};
 ghost use Rattle.command.specs.Reading.{command-of};
 ghost use Rattle.diagrams.specs.Table.{Table};
@@ -15,6 +15,9 @@ use command::stack::Stack;
 use model::is_end;
 use stacking::Loaded;
 use stacking::step;
+
+// The most roots that a model has.
+pub const MODEL_ROOTS: usize = 72;
 
 // The number that stops the load, or 0, and how many nodes there are.
 pub struct Done {
@@ -51,22 +54,22 @@ fn offset(conditions: u8, command: u8, index: u8) -> usize
     }
 }
 
-// Where the root goes that a command gives; 72 where it gives none.
+// Where the root goes that a command gives; past all roots where it gives none.
 fn place(levels: u8, conditions: u8, c: Command) -> usize
     ensures { λ r. ⌜ ((B : List ℕ) (at : ℕ) → r ≡ place-of levels conditions (command-of B at c)) ⌝ }
 {
     match c {
         Command::Give(c, a, i) => row(levels, conditions, a) + offset(conditions, c, i),
-        _ => 72,
+        _ => MODEL_ROOTS,
     }
 }
 
 // Keeps a root.
 fn store(roots: &mut [u32], at: usize, x: u32)
-    requires { ⌜ 72 ≤ length (now roots) ⌝ }
+    requires { ⌜ model-roots-most ≤ length (now roots) ⌝ }
     ensures { λ _. ⌜ now (roots .exit) ≡ storedIn (now (roots .entry)) at x ⌝ }
 {
-    if at < 72 {
+    if at < MODEL_ROOTS {
         roots[at] = x;
     }
 }
@@ -89,7 +92,7 @@ pub fn load(
     cap: usize,
     roots: &mut [u32],
 ) -> Done
-    requires { ⌜ (verdict (now model) .number ≡ 0) × (length (now model) ≤ bytes-most) × Table (loadRule (now model)) cap (now nodes) (now work) 0 × (72 ≤ length (now roots)) ⌝ }
+    requires { ⌜ (verdict (now model) .number ≡ 0) × (length (now model) ≤ bytes-most) × Table (loadRule (now model)) cap (now nodes) (now work) 0 × (model-roots-most ≤ length (now roots)) ⌝ }
     ensures { λ r. ⌜ Loads (now (model .entry)) cap (now (nodes .exit)) (now (work .exit)) (now (roots .exit)) r ⌝ }
 {
     let levels = command::byte_at(model, 1);

@@ -10,6 +10,7 @@ use lib.Dec.{ltb}
 use lib.IntN.{ℤ}
 use lib.ListN.{length, getD, take, drop, length-drop}
 use lib.Seq.{length-take-le, getD-take, getD-drop}
+use Rattle.theory.specs.Widths.{roots-most}
 use Rattle.theory.specs.Verdict.{Verdict, verdict}
 use Rattle.model.specs.Answers.{shown}
 use Rattle.model.specs.declared.Verdict.{Verdict as CodeVerdict}
@@ -57,7 +58,7 @@ pub judged : (B : List ℕ) (v : CodeVerdict) → shown v ≡ verdict B → v .n
 judged B v e z = ap (λ (x : Verdict). x .number) (sym e) ∙ z
 
 -- the model's roots are held
-pub loaded : {B : List ℕ} {cap : ℕ} {l : List ℤ} {w R : List ℕ} {r : Done} {held : ℕ} → verdict B .number ≡ 0 → Loads B cap l w R r → length R ≡ 96 → held ≡ modelSize B → r .stop ≡ 0 → Standing cap l w (r .count) R held
+pub loaded : {B : List ℕ} {cap : ℕ} {l : List ℤ} {w R : List ℕ} {r : Done} {held : ℕ} → verdict B .number ≡ 0 → Loads B cap l w R r → length R ≡ roots-most → held ≡ modelSize B → r .stop ≡ 0 → Standing cap l w (r .count) R held
 loaded {B} {cap} {l} {w} {R} {r} v L n e ok = subst (Standing cap l w (r .count) R) (sym e) (loaded-standing (brought L) ok (let f = size-few B v in omega arith))
 
 -- the result is the last root that is held

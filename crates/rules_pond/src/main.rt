@@ -4,7 +4,7 @@ ghost use mathlib.Core.Path.{_≡_};
 ghost use mathlib.Core.Bool.{true};
 ghost use Prim.Native.Nat.{_≤_, _<_};
 ghost use lib.ListN.{length};
-ghost use Rattle.theory.specs.Widths.{bytes-most};
+ghost use Rattle.theory.specs.Widths.{bytes-most, roots-most};
 ghost use Rattle.theory.specs.Verdict.{verdict};
 ghost use Rattle.operate.specs.Operation.{Fits, Standing};
 ghost use Rattle.value_iteration.specs.Iteration.{Room};
@@ -12,6 +12,7 @@ use libc::STDOUT_FILENO;
 use operate::Rule;
 use operate::Run;
 use operate::operate;
+use value_iteration::ROOTS;
 
 fn text(s: &[u8]) {
     io::write_all(STDOUT_FILENO, s);
@@ -219,7 +220,7 @@ fn steps(
 
 // An accepted model in a table with room for 32 nodes: its roots are held.
 fn loaded(model: &[u8], nodes: &mut [i64], work: &mut [u32], roots: &mut [u32]) -> Stand
-    requires { ⌜ (verdict (now model) .number ≡ 0) × (length (now model) ≤ bytes-most) × Room 32 (now nodes) (now work) × (length (now roots) ≡ 96) ⌝ }
+    requires { ⌜ (verdict (now model) .number ≡ 0) × (length (now model) ≤ bytes-most) × Room 32 (now nodes) (now work) × (length (now roots) ≡ roots-most) ⌝ }
     ensures { λ s. ⌜ (s .stop ≡ 0 → Standing 32 (now (nodes .exit)) (now (work .exit)) (s .count) (now (roots .exit)) (s .held)) ⌝ }
 {
     finish::zeros::words_from(work, 0);
@@ -262,7 +263,7 @@ fn finished(model: &[u8], nodes: &mut [i64], work: &mut [u32], s: Stand, roots: 
 
 // The rows on an accepted model.
 fn planned(model: &[u8], nodes: &mut [i64], work: &mut [u32], roots: &mut [u32], rows: &[u8])
-    requires { ⌜ (verdict (now model) .number ≡ 0) × (length (now model) ≤ bytes-most) × Room 32 (now nodes) (now work) × (length (now roots) ≡ 96) ⌝ }
+    requires { ⌜ (verdict (now model) .number ≡ 0) × (length (now model) ≤ bytes-most) × Room 32 (now nodes) (now work) × (length (now roots) ≡ roots-most) ⌝ }
 {
     let s = loaded(model, nodes, work, roots);
     if s.stop != 0 {
@@ -276,7 +277,7 @@ fn planned(model: &[u8], nodes: &mut [i64], work: &mut [u32], roots: &mut [u32],
 }
 
 fn run(model: &[u8], nodes: &mut [i64], work: &mut [u32], roots: &mut [u32], rows: &[u8])
-    requires { ⌜ Room 32 (now nodes) (now work) × (length (now roots) ≡ 96) ⌝ }
+    requires { ⌜ Room 32 (now nodes) (now work) × (length (now roots) ≡ roots-most) ⌝ }
 {
     if model.len() > 65535 {
         return;
@@ -291,7 +292,7 @@ fn run(model: &[u8], nodes: &mut [i64], work: &mut [u32], roots: &mut [u32], row
 fn pond(room: &[u8], n: usize) {
     let mut nodes = [0i64; 256];
     let mut work = [0u32; 256];
-    let mut roots = [0u32; 96];
+    let mut roots = [0u32; ROOTS];
     if room.len() < n {
         return;
     }

@@ -2,11 +2,12 @@
 ghost use mathlib.Core.Path.{_≡_};
 ghost use Prim.Native.Nat.{_*_, _≤_};
 ghost use lib.ListN.{length};
-ghost use Rattle.theory.specs.Widths.{bytes-most, steps-most, nodes-most};
+ghost use Rattle.theory.specs.Widths.{bytes-most, steps-most, nodes-most, roots-most};
 ghost use Rattle.theory.specs.Verdict.{verdict};
 ghost use Rattle.value_iteration.specs.Iteration.{Room};
 ghost use Rattle.solve_in.specs.Solves.{Solves};
 use staging::Planned;
+use value_iteration::ROOTS;
 use value_iteration::model_size;
 use value_iteration::run_stages;
 
@@ -20,7 +21,7 @@ fn fill(
     cap: usize,
     roots: &mut [u32],
 ) -> Planned
-    requires { ⌜ (verdict (now model) .number ≡ 0) × (length (now model) ≤ bytes-most) × (horizon ≤ steps-most) × (1 ≤ horizon) × Room cap (now nodes) (now work) × (length (now stages) ≡ steps-most) × (length (now roots) ≡ 96) ⌝ }
+    requires { ⌜ (verdict (now model) .number ≡ 0) × (length (now model) ≤ bytes-most) × (horizon ≤ steps-most) × (1 ≤ horizon) × Room cap (now nodes) (now work) × (length (now stages) ≡ steps-most) × (length (now roots) ≡ roots-most) ⌝ }
     ensures { λ r. ⌜ Solves (now (model .entry)) horizon cap (now (nodes .entry)) (now (nodes .exit)) (now (stages .exit)) (now (work .entry)) (now (work .exit)) r ⌝ }
 {
     let first = model_size(model);
@@ -58,6 +59,6 @@ pub fn solve_in(
             peak: 0,
         };
     }
-    let mut roots = [0u32; 96];
+    let mut roots = [0u32; ROOTS];
     fill(model, horizon, nodes, stages, work, cap, &mut roots)
 }

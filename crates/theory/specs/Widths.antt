@@ -33,6 +33,14 @@ bytes-most = 65535
 abbrev pub steps-most : ℕ
 steps-most = 8
 
+-- the diagrams of a model: "Every reward, chance and next level is given exactly once"
+abbrev pub model-roots-most : ℕ
+model-roots-most = (1 + conditions-most + levels-most) * actions-most
+
+-- "the model, finished stages, best so far and last result", with stage 0
+abbrev pub roots-most : ℕ
+roots-most = model-roots-most + 1 + steps-most + 2
+
 -- "What the tables hold, N, is the least of node words ÷ 8, work words ÷ 8 and 65,535"
 abbrev pub nodes-most : ℕ
 nodes-most = 65535

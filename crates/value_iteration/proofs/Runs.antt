@@ -7,7 +7,7 @@ use native.Mathlib.Omega.{arith}
 use lib.IntN.{ℤ}
 use lib.ListN.{length, take}
 use lib.Seq.{length-take-le, take-all, take-at}
-use Rattle.theory.specs.Widths.{bytes-most, steps-most}
+use Rattle.theory.specs.Widths.{bytes-most, steps-most, roots-most}
 use Rattle.theory.specs.Diagram.{Tree}
 use Rattle.theory.specs.Computation.{run-all}
 use Rattle.theory.specs.Verdict.{verdict}
@@ -39,9 +39,9 @@ unloaded B H {cap} {l} {w} {R} {r} L off = record {
   standing = λ z. absurd (off z);
 }
 
--- the model is loaded, its roots the first of 96
+-- the model is loaded, its roots the first of roots-most
 module _ (B : List ℕ) (H first : ℕ) (v : verdict B .number ≡ 0) (at : first ≡ modelSize B) {cap : ℕ} {l : List ℤ} {w R : List ℕ} {r : Done}
-    (L : Brought B cap l w R r) (go : r .stop ≡ 0) (size : length R ≡ 96) where
+    (L : Brought B cap l w R r) (go : r .stop ≡ 0) (size : length R ≡ roots-most) where
   few : modelSize B ≤ length R
   few = let z = size-few B v in omega arith
 
@@ -80,7 +80,7 @@ module _ (B : List ℕ) (H first : ℕ) (v : verdict B .number ≡ 0) (at : firs
       front x = let e = take-all (modelSize B) held (let q = held-length in omega arith) in
           ap (λ (X : List Tree). take (modelSize B) (X ++ (x ∷ []))) e ∙ take-at held (x ∷ []) (modelSize B) held-length
 
-      pub stages-ready : length B ≤ bytes-most → length R′ ≡ 96 → Ready B cap l′ w′ (z .count) R′ (first + 1)
+      pub stages-ready : length B ≤ bytes-most → length R′ ≡ roots-most → Ready B cap l′ w′ (z .count) R′ (first + 1)
       unfolding held
       stages-ready b n = subst (Ready B cap l′ w′ (z .count) R′) (sym (add-one first ∙ ap suc at)) (record {
         accepted = v;
@@ -90,7 +90,7 @@ module _ (B : List ℕ) (H first : ℕ) (v : verdict B .number ≡ 0) (at : firs
         first = omega arith;
       })
 
-      pub stages-fit : H ≤ steps-most → length R′ ≡ 96 → first + 1 + H + 1 ≤ length R′
+      pub stages-fit : H ≤ steps-most → length R′ ≡ roots-most → first + 1 + H + 1 ≤ length R′
       stages-fit h n = let q = size-few B v in omega arith
 
       pub stages-run : {l″ : List ℤ} {w″ R″ : List ℕ} {s : Planned} → Staged B cap (z .peak) H l′ (z .count) R′ l″ w″ R″ s → Plans B H cap l″ w″ R″ s

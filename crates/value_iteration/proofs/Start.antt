@@ -8,7 +8,7 @@ use lib.Dec.{leb→le}
 use lib.IntN.{ℤ}
 use lib.ListN.{length, getD, take, drop, replicate, getD-replicate}
 use lib.Seq.{drop-cons}
-use Rattle.theory.specs.Widths.{levels-most, conditions-most, actions-most}
+use Rattle.theory.specs.Widths.{levels-most, conditions-most, actions-most, model-roots-most}
 use Rattle.theory.specs.Diagram.{Tree}
 use Rattle.theory.specs.Command.{byte-at}
 use Rattle.theory.specs.Verdict.{verdict, from-to}
@@ -68,7 +68,7 @@ size-of B em en ea = ap₂ _*_ ea (ap₂ (λ (m n : ℕ). 1 + n + m) em en)
 pub size-fits : (m n a : ℕ) → m < 256 → n < 256 → a < 256 → a * (1 + n + m) < 131072
 size-fits m n a h k j = let q = mul-le-mul {n₁ = a} {m₁ = 1 + n + m} {n₂ = 255} {m₂ = 511} (omega arith) (omega arith) in omega arith
 
-pub size-few : (B : List ℕ) → verdict B .number ≡ 0 → modelSize B ≤ 72
+pub size-few : (B : List ℕ) → verdict B .number ≡ 0 → modelSize B ≤ model-roots-most
 size-few B v =
     let r = accepted-site B v .0 in
     let a = among-out actions-most (site-at B .actions) (r .actions-in) .1 in

@@ -2,7 +2,7 @@
 ghost use mathlib.Core.Path.{_≡_};
 ghost use Prim.Native.Nat.{_*_, _≤_, _<_};
 ghost use lib.ListN.{length};
-ghost use Rattle.theory.specs.Widths.{bytes-most, steps-most};
+ghost use Rattle.theory.specs.Widths.{bytes-most, steps-most, model-roots-most, roots-most};
 ghost use Rattle.theory.specs.Verdict.{verdict};
 ghost use Rattle.mark.specs.Mark.{Space};
 ghost use Rattle.value_iteration.specs.Iteration.{Brought, Plans};
@@ -16,6 +16,9 @@ use operate::operate;
 use operate::wider_part;
 use staging::Planned;
 use staging::stages;
+
+// The roots that a solve keeps: the model's, stage 0, the finished stages, the best so far and the last result.
+pub const ROOTS: usize = 83;
 
 // How many roots the model's diagrams have.
 pub fn model_size(model: &[u8]) -> usize
@@ -35,7 +38,7 @@ fn load_within(
     part: usize,
     roots: &mut [u32],
 ) -> Done
-    requires { ⌜ (verdict (now model) .number ≡ 0) × (length (now model) ≤ bytes-most) × Space part (now nodes) (now work) 0 × (72 ≤ length (now roots)) ⌝ }
+    requires { ⌜ (verdict (now model) .number ≡ 0) × (length (now model) ≤ bytes-most) × Space part (now nodes) (now work) 0 × (model-roots-most ≤ length (now roots)) ⌝ }
     ensures { λ r. ⌜ Brought (now (model .entry)) part (now (nodes .exit)) (now (work .exit)) (now (roots .exit)) r ⌝ }
 {
     rehash::rehash(nodes, work, part, 0);
@@ -58,7 +61,7 @@ fn load_in_parts(
     cap: usize,
     roots: &mut [u32],
 ) -> Done
-    requires { ⌜ (verdict (now model) .number ≡ 0) × (length (now model) ≤ bytes-most) × Space cap (now nodes) (now work) 0 × (72 ≤ length (now roots)) ⌝ }
+    requires { ⌜ (verdict (now model) .number ≡ 0) × (length (now model) ≤ bytes-most) × Space cap (now nodes) (now work) 0 × (model-roots-most ≤ length (now roots)) ⌝ }
     ensures { λ r. ⌜ Brought (now (model .entry)) cap (now (nodes .exit)) (now (work .exit)) (now (roots .exit)) r ⌝ }
 {
     let mut part = first_part(cap, model.len());
@@ -82,7 +85,7 @@ pub fn run_stages(
     roots: &mut [u32],
     first: usize,
 ) -> Planned
-    requires { ⌜ (verdict (now model) .number ≡ 0) × (length (now model) ≤ bytes-most) × (horizon ≤ steps-most) × Space cap (now nodes) (now work) 0 × (length (now roots) ≡ 96) × (first ≡ modelSize (now model)) ⌝ }
+    requires { ⌜ (verdict (now model) .number ≡ 0) × (length (now model) ≤ bytes-most) × (horizon ≤ steps-most) × Space cap (now nodes) (now work) 0 × (length (now roots) ≡ roots-most) × (first ≡ modelSize (now model)) ⌝ }
     ensures { λ r. ⌜ Plans (now (model .entry)) horizon cap (now (nodes .exit)) (now (work .exit)) (now (roots .exit)) r ⌝ }
 {
     let loaded = load_in_parts(model, nodes, work, cap, roots);
