@@ -13,6 +13,9 @@ abbrev μ-loop : tie.MeasureT-loop
 loop-holds : tie.Need-loop-holds Inv-loop μ-loop
 loop-holds c = search needs
 
+state-requires : tie.Need-state-requires Inv-loop μ-loop
+state-requires c κs = search needs
+
 value-requires : tie.Need-value-requires Inv-loop μ-loop
 value-requires c κs = search needs
 
@@ -38,6 +41,7 @@ all-steps-spec =
     Inv-loop
     μ-loop
     loop-holds
+    state-requires
     value-requires
     print-value-requires
     add-h
