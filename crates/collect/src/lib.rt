@@ -7,7 +7,7 @@ ghost use Rattle.mark.specs.Mark.{Below, Space};
 ghost use Rattle.collect.specs.Collect.{forwarded, Collected};
 
 // Each root's new index.
-pub fn forward(work: &[u32], cap: usize, roots: &mut [u32])
+fn forward(work: &[u32], cap: usize, roots: &mut [u32])
     requires { ⌜ (cap * 2 ≤ length (now work)) × (cap ≤ 65535) × Below (now roots) cap ⌝ }
     ensures { λ _. ⌜ now (roots .exit) ≡ forwarded (now (work .entry)) cap (length (now (roots .entry))) (now (roots .entry)) ⌝ }
 {

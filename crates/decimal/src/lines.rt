@@ -25,7 +25,7 @@ fn put_numbers(out: &mut [u8], at: usize, xs: &[u64]) -> usize
     next
 }
 
-pub fn put_words(out: &mut [u8], at: usize, xs: &[i64]) -> usize
+fn put_words(out: &mut [u8], at: usize, xs: &[i64]) -> usize
     requires { ⌜ at + length (spaced-all (now xs)) ≤ length (now out) ⌝ }
     ensures { λ r. ⌜ PutAt (now (out .entry)) at (spaced-all (now (xs .entry))) r (now (out .exit)) ⌝ }
 {

@@ -168,7 +168,7 @@ fn pass_from(model: &[u8], begin: usize, g: Slot, x: Point, items: &mut [u32]) -
 }
 
 // The offset of the leaf that a slot's diagram comes to, in an accepted model whose site has that slot.
-pub fn leaf_at(model: &[u8], parts: &[u32], g: Slot, x: Point) -> usize
+fn leaf_at(model: &[u8], parts: &[u32], g: Slot, x: Point) -> usize
     requires { ⌜ (verdict (now model) .number ≡ 0) × (length (now model) < 4294967296) × T (has-slot (slot-of g) (wanted (site-at (now model)))) × Parts (now model) (now parts) ⌝ }
     ensures { λ r. ⌜ Comes (now (model .entry)) (slot-of g) x r ⌝ }
 {

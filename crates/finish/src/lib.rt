@@ -1,6 +1,6 @@
 // The tables after solving: the nodes of the stages in canonical order, the stages' numbers, zeros elsewhere.
 pub mod zeros; // zeros.rt: words filled with zeros
-pub mod stages; // stages.rt: the stage words
+mod stages; // stages.rt: the stage words
 
 ghost use mathlib.Core.Path.{_≡_};
 ghost use Prim.Native.Nat.{_*_, _≤_};
@@ -11,13 +11,7 @@ ghost use Rattle.arrange.specs.Arrange.{Inverse};
 ghost use Rattle.finish.specs.Finish.{Unfinished, Finished, LaidOut, Cleared};
 
 // The roots' nodes get their numbers, whatever the work words held; the answer is their count.
-pub fn number_stages(
-    nodes: &[i64],
-    work: &mut [u32],
-    roots: &[u32],
-    cap: usize,
-    count: usize,
-) -> usize
+fn number_stages(nodes: &[i64], work: &mut [u32], roots: &[u32], cap: usize, count: usize) -> usize
     requires { ⌜ Held cap (now nodes) count × (cap * 2 ≤ length (now work)) × Roots (now roots) count ⌝ }
     ensures { λ r. ⌜ Listed cap (now (nodes .entry)) count (now (work .exit)) r (now (roots .entry)) ⌝ }
 {
@@ -26,7 +20,7 @@ pub fn number_stages(
 }
 
 // The first c nodes by their numbers, and nothing else.
-pub fn lay_out(nodes: &mut [i64], work: &mut [u32], cap: usize, count: usize, c: usize)
+fn lay_out(nodes: &mut [i64], work: &mut [u32], cap: usize, count: usize, c: usize)
     requires { ⌜ Inverse cap count (now work) 0 c × (cap ≤ nodes-most) × (cap * 8 ≤ length (now nodes)) ⌝ }
     ensures { λ _. ⌜ LaidOut (now (nodes .entry)) (now (nodes .exit)) (now (work .entry)) (now (work .exit)) c ⌝ }
 {

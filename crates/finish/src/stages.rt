@@ -9,7 +9,7 @@ ghost use Rattle.finish.specs.Finish.{numbersOf};
 use super::zeros;
 
 // Each root's number, stage by stage.
-pub fn root_numbers(work: &[u32], roots: &[u32], stages: &mut [u32], cap: usize)
+fn root_numbers(work: &[u32], roots: &[u32], stages: &mut [u32], cap: usize)
     requires { ⌜ (cap * 2 ≤ length (now work)) × (cap ≤ nodes-most) × Roots (now roots) cap × (length (now roots) ≤ length (now stages)) ⌝ }
     ensures { λ _. ⌜ now (stages .exit) ≡ numbersOf (now (work .entry)) cap (now (roots .entry)) ++ drop (length (now (roots .entry))) (now (stages .entry)) ⌝ }
 {

@@ -6,7 +6,7 @@ ghost use lib.IntN.{pos};
 ghost use lib.ListN.{length, take, replicate};
 
 // The words of nodes from `from` on.
-pub fn nodes_from(nodes: &mut [i64], from: usize)
+pub(crate) fn nodes_from(nodes: &mut [i64], from: usize)
     requires { ⌜ from ≤ length (now nodes) ⌝ }
     ensures { λ _. ⌜ now (nodes .exit) ≡ take from (now (nodes .entry)) ++ replicate (length (now (nodes .entry)) - from) (pos 0) ⌝ }
 {

@@ -24,7 +24,7 @@ fn wide(x: u8) -> usize
 }
 
 // The place of a flag: rewards have base 0 and i 0, chances base 0, next levels base 4, names base 9 and i 0.
-pub fn place(base: usize, i: u8, a: u8) -> usize
+pub(crate) fn place(base: usize, i: u8, a: u8) -> usize
     requires { ⌜ base < 256 ⌝ }
     ensures { λ r. ⌜ r ≡ place-of base i a ⌝ }
 {

@@ -1,7 +1,7 @@
 // "The site model": what is known after some commands, which rule the next one breaks, and what it leaves.
-pub mod facts;
+mod facts;
 pub mod given;
-pub mod operands;
+mod operands;
 pub mod refusals;
 pub mod rules;
 pub mod states;

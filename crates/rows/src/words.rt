@@ -55,7 +55,7 @@ pub(crate) fn is_among(n: usize, nodes: &[i64], r: usize, i: usize) -> bool
 }
 
 // The kind in node r's first word; none is below 0.
-pub fn kind(nodes: &[i64], r: usize) -> usize
+pub(crate) fn kind(nodes: &[i64], r: usize) -> usize
     requires { ⌜ Inside (now nodes) r ⌝ }
     ensures { λ k. ⌜ k ≡ kind-number (node-word (now (nodes .entry)) r 0) ⌝ }
 {

@@ -9,7 +9,7 @@ ghost use Rattle.table.specs.Table.{firstNode};
 ghost use Rattle.unique.specs.Unique.{shareOf, bucketOf, hashOf, Chained, Entered};
 
 // One word's share in a hash: both halves of its magnitude, spread over 32 bits.
-pub fn share(z: i64, k: u64) -> u64
+fn share(z: i64, k: u64) -> u64
     requires { ⌜ k < 2147483648 ⌝ }
     ensures { λ r. ⌜ (r ≡ shareOf z k) × (r < 4294967296) ⌝ }
 {
@@ -18,7 +18,7 @@ pub fn share(z: i64, k: u64) -> u64
 }
 
 // The bucket of a sum of shares, by its 32 low bits as a fraction: no division by the room.
-pub fn bucket(sum: u64, cap: usize) -> usize
+fn bucket(sum: u64, cap: usize) -> usize
     requires { ⌜ (0 < cap) × (cap ≤ 65535) ⌝ }
     ensures { λ r. ⌜ (r ≡ bucketOf sum cap) × (r < cap) ⌝ }
 {
@@ -43,7 +43,7 @@ pub fn hash(x: Node, cap: usize) -> usize
 }
 
 // The node that equals x, or count where there is none: along its bucket's chain.
-pub fn find(nodes: &[i64], work: &[u32], cap: usize, count: usize, x: Node) -> usize
+fn find(nodes: &[i64], work: &[u32], cap: usize, count: usize, x: Node) -> usize
     requires { ⌜ Chained cap (now nodes) (now work) count ⌝ }
     ensures { λ r. ⌜ r ≡ firstNode (now (nodes .entry)) x count ⌝ }
 {

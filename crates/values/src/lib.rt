@@ -1,6 +1,6 @@
 // Reading a value and an action from lent tables.
 pub mod states; // states.rt: accepted states, and what tests and linears come to at them
-pub mod walks; // walks.rt: the walk from a root to a leaf
+mod walks; // walks.rt: the walk from a root to a leaf
 pub mod reading; // reading.rt: the value and the action at a state
 
 // A state as it is asked: bit i-1 of the mask for condition i, the numerators of the levels, and the denominator.
