@@ -1,4 +1,3 @@
-pub mod Above
 pub mod Renumber
 pub mod Perm
 pub mod Rewrites

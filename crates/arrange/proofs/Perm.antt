@@ -11,11 +11,10 @@ use lib.IntN.{ℤ}
 use lib.ListN.{length, getD, set, length-set}
 use lib.Seq.{getD-set-same, getD-set-other}
 use Rattle.table.proofs.Look.{split}
-use Rattle.table.proofs.Store.{put-length, put-same}
-use Rattle.table.specs.Table.{nodeAt, putAt}
+use Rattle.table.proofs.Store.{numbers-at, put-length, put-else, put-same}
+use Rattle.table.specs.Table.{node-words, nodeAt, putAt}
 use Rattle.table.specs.declared.Node.{Node}
 use Rattle.arrange.specs.Arrange.{swapN, placed, swapW, Inverse, Arranged}
-use Rattle.arrange.proofs.Above.{put-else}
 
 same-or : (a b : ℕ) → (a ≡ b) ⊎ (a ≡ b → ⊥)
 same-or a b = go (eqb a b) refl
@@ -26,25 +25,25 @@ same-or a b = go (eqb a b) refl
 
 -- ---- the swap of nodes
 
-module _ (l : List ℤ) (k p : ℕ) (hk : k * 8 + 8 ≤ length l) (hp : p * 8 + 8 ≤ length l) where
+module _ (l : List ℤ) (k p : ℕ) (hk : k * node-words + node-words ≤ length l) (hp : p * node-words + node-words ≤ length l) where
   pub swap-length : length (swapN l k p) ≡ length l
   unfolding swapN
   swap-length = put-length (putAt l k (nodeAt l p)) p (nodeAt l k) ∙ put-length l k (nodeAt l p)
 
   swap-p : nodeAt (swapN l k p) p ≡ nodeAt l k
   unfolding swapN
-  swap-p = put-same (putAt l k (nodeAt l p)) p (nodeAt l k) (let e = put-length l k (nodeAt l p) in omega arith)
+  swap-p = put-same (putAt l k (nodeAt l p)) p (nodeAt l k) (let e = put-length l k (nodeAt l p) in omega arith) (numbers-at l k hk)
 
   swap-k : nodeAt (swapN l k p) k ≡ nodeAt l p
   unfolding swapN
   swap-k = ⊎-elim
       (λ (e : k ≡ p). ap (nodeAt (swapN l k p)) e ∙ (swap-p ∙ ap (nodeAt l) e))
-      (λ (d : k ≡ p → ⊥). put-else (putAt l k (nodeAt l p)) p (nodeAt l k) k d ∙ put-same l k (nodeAt l p) hk)
+      (λ (d : k ≡ p → ⊥). put-else (putAt l k (nodeAt l p)) p (nodeAt l k) (numbers-at l k hk) k d ∙ put-same l k (nodeAt l p) hk (numbers-at l p hp))
       (same-or k p)
 
   swap-else : (j : ℕ) → (j ≡ k → ⊥) → (j ≡ p → ⊥) → nodeAt (swapN l k p) j ≡ nodeAt l j
   unfolding swapN
-  swap-else j dk dp = put-else (putAt l k (nodeAt l p)) p (nodeAt l k) j dp ∙ put-else l k (nodeAt l p) j dk
+  swap-else j dk dp = put-else (putAt l k (nodeAt l p)) p (nodeAt l k) (numbers-at l k hk) j dp ∙ put-else l k (nodeAt l p) (numbers-at l p hp) j dk
 
 pub swap-is : (l : List ℤ) (k p : ℕ) {x y : Node} {l₁ l₂ : List ℤ} → x ≡ nodeAt l k → y ≡ nodeAt l p → l₁ ≡ putAt l k y → l₂ ≡ putAt l₁ p x → l₂ ≡ swapN l k p
 unfolding swapN
@@ -116,8 +115,8 @@ module _ {cap n : ℕ} {l l′ : List ℤ} {w w′ : List ℕ} {k c : ℕ} (S : 
       go zero e = omega arith
       go (suc m) e = let a = mine m e .1 in let b = S .inv .upto in let d = S .inv .fits in omega arith
 
-  module _ (words : cap * 8 ≤ length l) where
-    pub roomy : (k * 8 + 8 ≤ length l′) × (getD w′ k 0 * 8 + 8 ≤ length l′) × (k < cap) × (getD w′ k 0 < cap) × (cap * 2 ≤ length w′)
+  module _ (words : cap * node-words ≤ length l) where
+    pub roomy : (k * node-words + node-words ≤ length l′) × (getD w′ k 0 * node-words + node-words ≤ length l′) × (k < cap) × (getD w′ k 0 < cap) × (cap * 2 ≤ length w′)
     roomy =
         let a = S .len in
         let b = S .inv .fits in

@@ -12,7 +12,7 @@ use Rattle.table.specs.declared.Node.{Node}
 unfoldable pub renumber : List ℕ → ℕ → Node → Node
 renumber w cap x =
     cond (eqZ (x .kind) (pos 0)) x
-    (record { kind = x .kind; c1 = x .c1; c2 = x .c2; c3 = x .c3; c4 = x .c4; constant = x .constant; high = pos (getD w (cap + natAbs (x .high)) 0); low = pos (getD w (cap + natAbs (x .low)) 0) })
+    (record { kind = x .kind; n = x .n; high = pos (getD w (cap + natAbs (x .high)) 0); low = pos (getD w (cap + natAbs (x .low)) 0) })
 
 -- nodes k and p in each other's place
 unfoldable pub swapN : List ℤ → ℕ → ℕ → List ℤ

@@ -2,6 +2,7 @@
 ghost use mathlib.Core.Path.{_≡_};
 ghost use Prim.Native.Nat.{_+_, _*_, _≤_, _<_};
 ghost use lib.ListN.{length, getD};
+ghost use Rattle.table.specs.Table.{node-words};
 ghost use Rattle.theory.specs.Widths.{nodes-most};
 ghost use Rattle.diagrams.specs.Nodes.{Valid};
 ghost use Rattle.numbering.specs.Number.{Held};
@@ -23,16 +24,10 @@ fn renumbered(work: &[u32], cap: usize, x: Node) -> Node
     let lo = cap + index(l);
     let p = work[hi] as i64;
     let q = work[lo] as i64;
-    Node {
-        kind: x.kind,
-        c1: x.c1,
-        c2: x.c2,
-        c3: x.c3,
-        c4: x.c4,
-        constant: x.constant,
-        high: p,
-        low: q,
-    }
+    let mut y = x;
+    y.high = p;
+    y.low = q;
+    y
 }
 
 // Each node's branches become their numbers.
@@ -50,7 +45,7 @@ pub fn rewrite(nodes: &mut [i64], work: &[u32], cap: usize, count: usize)
 
 // Nodes k and p change places.
 fn swap_nodes(nodes: &mut [i64], k: usize, p: usize)
-    requires { ⌜ (k * 8 + 8 ≤ length (now nodes)) × (p * 8 + 8 ≤ length (now nodes)) ⌝ }
+    requires { ⌜ (k * node-words + node-words ≤ length (now nodes)) × (p * node-words + node-words ≤ length (now nodes)) ⌝ }
     ensures { λ _. ⌜ now (nodes .exit) ≡ swapN (now (nodes .entry)) k p ⌝ }
 {
     let x = table::get(nodes, k);

@@ -10,7 +10,7 @@ use lib.ListN.{length, getD, set, take}
 use lib.Seq.{take-suc, take-length}
 use Rattle.table.specs.Table.{nodeAt, eqZ}
 use Rattle.theory.specs.Diagram.{Tree}
-use Rattle.diagrams.specs.Nodes.{testOf, none, trees, Good}
+use Rattle.diagrams.specs.Nodes.{testOf, blank, trees, Good}
 use Rattle.mark.specs.Mark.{needed, rootsOf, flag, markOf, Below, Space, Marked}
 use Rattle.diagrams.proofs.Trees.{trees-length, at-branch}
 use Rattle.mark.proofs.Reach.{needed-branch, needed-root}
@@ -49,7 +49,7 @@ module _ (w : List ℕ) (cap : ℕ) where
   forward-is (r ∷ R) zero h = refl
   forward-is (r ∷ R) (suc j) h = forward-is R j (omega arith)
 
-  forward-roots : (X Y : List Tree) (R : List ℕ) → ((j : ℕ) → j < length R → getD Y (getD w (cap + getD R j 0) 0) none ≡ getD X (getD R j 0) none) → rootsOf Y (forwarded w cap (length R) R) ≡ rootsOf X R
+  forward-roots : (X Y : List Tree) (R : List ℕ) → ((j : ℕ) → j < length R → getD Y (getD w (cap + getD R j 0) 0) blank ≡ getD X (getD R j 0) blank) → rootsOf Y (forwarded w cap (length R) R) ≡ rootsOf X R
   unfolding forwarded rootsOf
   forward-roots X Y [] h = refl
   forward-roots X Y (r ∷ R) h = ap₂ (λ (a : Tree) (b : List Tree). a ∷ b) (h 0 (omega arith)) (forward-roots X Y R (λ j q. h (suc j) (omega arith)))
@@ -95,12 +95,12 @@ keep-more p (y ∷ X) x = ap (λ (t : List Tree). cond (p y) (y ∷ t) t) (keep-
     go false true = refl
     go false false = refl
 
-keep-take : (m : ℕ → Bool) (p : Tree → Bool) (X : List Tree) (k : ℕ) → k ≤ length X → ((i : ℕ) → i < k → m i ≡ p (getD X i none)) → keepOf m X k ≡ keepIf p (take k X)
+keep-take : (m : ℕ → Bool) (p : Tree → Bool) (X : List Tree) (k : ℕ) → k ≤ length X → ((i : ℕ) → i < k → m i ≡ p (getD X i blank)) → keepOf m X k ≡ keepIf p (take k X)
 unfolding keepOf keepIf
 keep-take m p X zero h e = refl
 keep-take m p X (suc k) h e =
-    ap₂ (λ (b : Bool) (t : List Tree). cond b (t ++ (getD X k none ∷ [])) t) (e k (omega arith)) (keep-take m p X k (omega arith) (λ i q. e i (omega arith)))
-    ∙ (sym (keep-more p (take k X) (getD X k none)) ∙ ap (keepIf p) (sym (take-suc X k none (omega arith))))
+    ap₂ (λ (b : Bool) (t : List Tree). cond b (t ++ (getD X k blank ∷ [])) t) (e k (omega arith)) (keep-take m p X k (omega arith) (λ i q. e i (omega arith)))
+    ∙ (sym (keep-more p (take k X) (getD X k blank)) ∙ ap (keepIf p) (sym (take-suc X k blank (omega arith))))
 
 -- ---- the collection
 
@@ -117,12 +117,12 @@ module _ {cap : ℕ} {l : List ℤ} {w w′ R : List ℕ} {n : ℕ} (C : Space c
   abbrev S : List Tree
   S = rootsOf (trees l n) R
 
-  mark-is : (i : ℕ) → i < n → markOf w′ i ≡ needed S (getD X i none)
+  mark-is : (i : ℕ) → i < n → markOf w′ i ≡ needed S (getD X i blank)
   unfolding markOf
-  mark-is i h = ap (λ (v : ℕ). not (eqb v 0)) (M .marks i h) ∙ flag-mark (needed S (getD X i none))
+  mark-is i h = ap (λ (v : ℕ). not (eqb v 0)) (M .marks i h) ∙ flag-mark (needed S (getD X i blank))
 
-  branches : (i : ℕ) (h : i < n) → markOf w′ i ≡ true → (d : eqZ (nodeAt l i .kind) (pos 0) ≡ false) → (needed S (getD X (natAbs (nodeAt l i .high)) none) ≡ true) × (needed S (getD X (natAbs (nodeAt l i .low)) none) ≡ true)
-  branches i h a d = needed-branch (testOf (nodeAt l i)) (getD X (natAbs (nodeAt l i .high)) none) (getD X (natAbs (nodeAt l i .low)) none) S (ap (needed S) (sym (at-branch G i h d)) ∙ (sym (mark-is i h) ∙ a))
+  branches : (i : ℕ) (h : i < n) → markOf w′ i ≡ true → (d : eqZ (nodeAt l i .kind) (pos 0) ≡ false) → (needed S (getD X (natAbs (nodeAt l i .high)) blank) ≡ true) × (needed S (getD X (natAbs (nodeAt l i .low)) blank) ≡ true)
+  branches i h a d = needed-branch (testOf (nodeAt l i)) (getD X (natAbs (nodeAt l i .high)) blank) (getD X (natAbs (nodeAt l i .low)) blank) S (ap (needed S) (sym (at-branch G i h d)) ∙ (sym (mark-is i h) ∙ a))
 
   pub closed : Closed l w′ n
   closed = record {
@@ -156,8 +156,8 @@ module _ {cap : ℕ} {l : List ℤ} {w w′ R : List ℕ} {n : ℕ} (C : Space c
       new : getD w″ (cap + k) 0 ≡ rank (markOf w′) k
       new = L .moved k (B .at j h) marked
 
-      same : getD (trees l′ r) (getD w″ (cap + k) 0) none ≡ getD X k none
-      same = ap₂ (λ (Y : List Tree) (z : ℕ). getD Y z none) (L .kept) new ∙ keep-at (markOf w′) X n k (B .at j h) marked .1
+      same : getD (trees l′ r) (getD w″ (cap + k) 0) blank ≡ getD X k blank
+      same = ap₂ (λ (Y : List Tree) (z : ℕ). getD Y z blank) (L .kept) new ∙ keep-at (markOf w′) X n k (B .at j h) marked .1
 
       under : getD w″ (cap + k) 0 < r
       under = let e = new in let q = keep-at (markOf w′) X n k (B .at j h) marked .0 in let d = L .count in omega arith

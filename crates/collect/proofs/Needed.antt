@@ -18,7 +18,7 @@ use Rattle.theory.specs.laws.Comps.{member-in}
 use Rattle.theory.specs.laws.Counting.{distinct-roots}
 use Rattle.theory.specs.laws.Inside.{inside-parts, inside-branch, all-none, all-parts, all-cons, roots-inside, roots-sub}
 use Rattle.collect.proofs.Order.{SameNodes, same-nodes, SameOut, run-order}
-use Rattle.diagrams.specs.Nodes.{leafOf, testOf, none, trees, Good}
+use Rattle.diagrams.specs.Nodes.{leafOf, testOf, blank, trees, Good}
 use Rattle.mark.specs.Mark.{sub, needed, rootsOf, Below}
 use Rattle.diagrams.proofs.Trees.{trees-length, at-leaf, at-branch}
 use Rattle.mark.proofs.Reach.{clash, either, same-true, needed-branch, needed-root}
@@ -99,7 +99,7 @@ any-default (x ∷ X) (suc i) d e h = any-default X i d e (omega arith)
 pub trees-distinct : {l : List ℤ} {n : ℕ} → Good l n → Distinct (trees l n)
 trees-distinct {l} {n} G i j p q e =
     let z = trees-length l n in
-    G .distinct i j (omega arith) (omega arith) (any-default (trees l n) i none zero-leaf p ∙ (e ∙ any-default (trees l n) j zero-leaf none q))
+    G .distinct i j (omega arith) (omega arith) (any-default (trees l n) i blank zero-leaf p ∙ (e ∙ any-default (trees l n) j zero-leaf blank q))
 
 module _ {l : List ℤ} {n : ℕ} {R : List ℕ} (G : Good l n) (B : Below R n) where
   abbrev X : List Tree
@@ -111,29 +111,29 @@ module _ {l : List ℤ} {n : ℕ} {R : List ℕ} (G : Good l n) (B : Below R n) 
   abbrev K : List Tree
   K = keepIf (needed (rootsOf (trees l n) R)) (trees l n)
 
-  kept-in : (i : ℕ) → i < n → needed S (getD X i none) ≡ true → T (member (getD X i none) K)
-  kept-in i h e = from-true (keep-in (needed S) (getD X i none) X (member-in none (getD X i none) X i (let z = trees-length l n in omega arith) refl) e)
+  kept-in : (i : ℕ) → i < n → needed S (getD X i blank) ≡ true → T (member (getD X i blank) K)
+  kept-in i h e = from-true (keep-in (needed S) (getD X i blank) X (member-in blank (getD X i blank) X i (let z = trees-length l n in omega arith) refl) e)
 
   -- with a needed node all below it is kept
-  kept-inside : (d i : ℕ) → i < d → i < n → needed S (getD X i none) ≡ true → T (inside (getD X i none) K)
+  kept-inside : (d i : ℕ) → i < d → i < n → needed S (getD X i blank) ≡ true → T (inside (getD X i blank) K)
   kept-inside zero i a h e = absurd (omega arith)
   kept-inside (suc d) i a h e = go (eqZ (nodeAt l i .kind) (pos 0)) refl (λ k b. kept-inside d k (omega arith) (omega arith))
     where
-      go : (b : Bool) → eqZ (nodeAt l i .kind) (pos 0) ≡ b → ((k : ℕ) → k < i → needed S (getD X k none) ≡ true → T (inside (getD X k none) K)) → T (inside (getD X i none) K)
-      go true f rec = leaf-inside (leafOf (nodeAt l i)) (getD X i none) K (at-leaf G i h f) (kept-in i h e)
+      go : (b : Bool) → eqZ (nodeAt l i .kind) (pos 0) ≡ b → ((k : ℕ) → k < i → needed S (getD X k blank) ≡ true → T (inside (getD X k blank) K)) → T (inside (getD X i blank) K)
+      go true f rec = leaf-inside (leafOf (nodeAt l i)) (getD X i blank) K (at-leaf G i h f) (kept-in i h e)
       go false f rec =
           let q = at-branch G i h f in
           let v = G .valid i h in
-          let b = needed-branch (testOf (nodeAt l i)) (getD X (natAbs (nodeAt l i .high)) none) (getD X (natAbs (nodeAt l i .low)) none) S (ap (needed S) (sym q) ∙ e) in
+          let b = needed-branch (testOf (nodeAt l i)) (getD X (natAbs (nodeAt l i .high)) blank) (getD X (natAbs (nodeAt l i .low)) blank) S (ap (needed S) (sym q) ∙ e) in
           subst (λ (t : Tree). T (inside t K)) (sym q)
-          (inside-branch (testOf (nodeAt l i)) (getD X (natAbs (nodeAt l i .high)) none) (getD X (natAbs (nodeAt l i .low)) none) K
+          (inside-branch (testOf (nodeAt l i)) (getD X (natAbs (nodeAt l i .high)) blank) (getD X (natAbs (nodeAt l i .low)) blank) K
           (subst (λ (t : Tree). T (member t K)) q (kept-in i h e))
           (rec (natAbs (nodeAt l i .high)) (v .high-below f) (b .0)) (rec (natAbs (nodeAt l i .low)) (v .low-below f) (b .1)))
 
-  roots-kept : (Q : List ℕ) → ((j : ℕ) → j < length Q → T (inside (getD X (getD Q j 0) none) K)) → T (all-inside (rootsOf X Q) K)
+  roots-kept : (Q : List ℕ) → ((j : ℕ) → j < length Q → T (inside (getD X (getD Q j 0) blank) K)) → T (all-inside (rootsOf X Q) K)
   unfolding rootsOf
   roots-kept [] f = all-none K
-  roots-kept (r ∷ Q) f = all-cons (getD X r none) (rootsOf X Q) K (f 0 (omega arith)) (roots-kept Q (λ j h. f (suc j) (omega arith)))
+  roots-kept (r ∷ Q) f = all-cons (getD X r blank) (rootsOf X Q) K (f 0 (omega arith)) (roots-kept Q (λ j h. f (suc j) (omega arith)))
 
   -- a node is kept where entering the roots' diagrams enters it
   pub kept-member : (u : Tree) → member u K ≡ member u (enter-all S [])

@@ -2,26 +2,24 @@
 use mathlib.Core.Path.{_≡_, refl, sym, ap, _∙_, subst}
 use mathlib.Core.Bool.{Bool, true, false, _&&_}
 use mathlib.Core.List.{List, [], _∷_}
-use Prim.Native.Nat.{ℕ, _+_, _-_, _^_, _≤_, _<_}
+use Prim.Native.Nat.{ℕ, zero, suc, _+_, _-_, _≤_, _<_}
 use native.Mathlib.Omega.{arith}
 use lib.Dec.{T, eqb, leb, leb→le, nleb→lt}
 use lib.IntN.{ℤ, pos, natAbs}
-use lib.Signed.{mag}
+use lib.ListN.{getD, replicate}
 use mir.Syntax.{w64}
 use mir.Val.{toZ}
 use types.Run.{OneOf, miss}
 use denote.Enum.Declared.{tagOf}
 use Rattle.whole.specs.Cases.{if, by-test, both}
 use Rattle.whole.specs.Within.{Small, small, limit}
-use Rattle.whole.specs.Divisor.{gcd-all}
-use Rattle.whole.specs.Five.{SmallFive, divisorOf, dividedOf}
-use Rattle.whole.specs.FiveLaws.{divided-small}
-use Rattle.whole.specs.declared.Five.{Five}
-use Rattle.table.proofs.Words.{R, back}
+use Rattle.whole.specs.Linears.{divisorL}
+use Rattle.whole.specs.LinearsLaws.{quot-smalls}
+use Rattle.table.proofs.Words.{back}
 use Rattle.table.specs.Table.{eqZ}
 use Rattle.table.specs.declared.Node.{Node}
-use Rattle.theory.specs.Widths.{conditions-most}
-use Rattle.theory.specs.Diagram.{Linear, Test, now, later, quotL, quotient, divisor, test-of}
+use Rattle.theory.specs.Widths.{levels-most, conditions-most}
+use Rattle.theory.specs.Diagram.{Linear, Test, now, later, quotL, test-of}
 use Rattle.theory.specs.Valid.{all, small-linear, wide}
 use Rattle.theory.specs.Command.{Command, site, push-leaf, push-condition, push-test, give, name-action, end-model, Read, whole, unknown, short, byte-at, command-at, read-at, linear-at}
 use Rattle.theory.specs.Load.{condition-test}
@@ -38,9 +36,9 @@ use Rattle.command.specs.declared.Read.{Read as CodeRead}
 use Rattle.command.specs.declared.Read.the-variants.{Whole, Unknown, Short}
 use Rattle.command.specs.Reading.{linear-of, command-of, read-of}
 use Rattle.diagrams.specs.Nodes.{linOf, testOf, conditionOf, Nums, Proper}
-use Rattle.diagrams.specs.Roots.{fiveOf, fiveNode, namedNode}
+use Rattle.diagrams.specs.Roots.{linearNode, namedNode}
 use Rattle.diagrams.proofs.Trees.{later-is, now-is}
-use Rattle.diagrams.proofs.Meanings.{five-small-as}
+use Rattle.diagrams.proofs.Meanings.{zeros-behind, proper-linear, divided-test}
 use Rattle.commands_choice.specs.Testing.{Stood, wordsOf, condition-in, condition-read, test-in, test-read, testAt, Testing}
 
 -- ---- a condition
@@ -51,29 +49,29 @@ condition-same k = by-test (leb k conditions-most) (λ b. conditionOf k ≡ if b
     (λ t. now-is k (leb→le k conditions-most t)) (λ t. later-is k (nleb→lt k conditions-most t))
 
 conditionNode : ℕ → Node
-conditionNode k = record { kind = pos 1; c1 = pos k; c2 = pos 0; c3 = pos 0; c4 = pos 0; constant = pos 0; high = pos 0; low = pos 0 }
+conditionNode k = record { kind = pos 1; n = pos k ∷ replicate levels-most (pos 0); high = pos 0; low = pos 0 }
+
+small-number : (n : ℕ) → n ≤ conditions-most + conditions-most → (k : ℕ) → Small (getD (pos n ∷ replicate levels-most (pos 0)) k (pos 0))
+small-number n h zero = record { small = omega arith }
+small-number n h (suc k) = subst Small (sym (zeros-behind (pos n) (suc k) (omega arith))) (record { small = omega arith })
 
 stood-condition : (k : ℕ) → 0 < k → k ≤ conditions-most + conditions-most → Stood (condition-test k) (conditionNode k)
 unfolding conditionNode testOf eqZ
 stood-condition k a b = record {
   proper = record {
     branches = refl;
-    nums = record { c1 = record { small = omega arith }; c2 = record { small = omega arith }; c3 = record { small = omega arith }; c4 = record { small = omega arith }; constant = record { small = omega arith } };
-    tested = record { kind = λ e. absurd (let z : _≡_ {A = ℕ} 0 1 = cc in omega arith); number = λ _. tt; bounds = λ _. (a, b); rest = λ _. (refl, refl, refl, refl) };
+    nums = record { long = refl; each = small-number k b };
+    tested = record { kind = λ e. absurd (let z : _≡_ {A = ℕ} 0 1 = cc in omega arith); long = refl; number = λ _. tt; bounds = λ _. (a, b); rest = λ _. zeros-behind (pos k) };
   };
   test = condition-same k;
 }
 
 -- with the words that the code has
-pub condition-stood : (k : ℕ) → 0 < k → k ≤ conditions-most + conditions-most → Stood (condition-test k) (record { kind = pos 1; c1 = toZ w64 k; c2 = pos 0; c3 = pos 0; c4 = pos 0; constant = pos 0; high = pos 0; low = pos 0 })
+pub condition-stood : (k : ℕ) → 0 < k → k ≤ conditions-most + conditions-most → Stood (condition-test k) (record { kind = pos 1; n = toZ w64 k ∷ replicate levels-most (pos 0); high = pos 0; low = pos 0 })
 unfolding conditionNode
-condition-stood k a b = subst (Stood (condition-test k)) (ap (λ (z : ℤ). record { kind = pos 1; c1 = z; c2 = pos 0; c3 = pos 0; c4 = pos 0; constant = pos 0; high = pos 0; low = pos 0 }) (sym (back (pos k) (omega arith)))) (stood-condition k a b)
+condition-stood k a b = subst (Stood (condition-test k)) (ap (λ (z : ℤ). record { kind = pos 1; n = z ∷ replicate levels-most (pos 0); high = pos 0; low = pos 0 }) (sym (back (pos k) (omega arith)))) (stood-condition k a b)
 
 -- ---- a linear
-
-pub words-of : (p : CodeLinear) → mag (p .c1) < 2 ^ 63 → mag (p .c2) < 2 ^ 63 → mag (p .c3) < 2 ^ 63 → mag (p .c4) < 2 ^ 63 → mag (p .constant) < 2 ^ 63 → _≡_ {A = Node} (record { kind = pos 0; c1 = R (p .c1); c2 = R (p .c2); c3 = R (p .c3); c4 = R (p .c4); constant = R (p .constant); high = pos 0; low = pos 0 }) (wordsOf p)
-unfolding wordsOf
-words-of p a b c d e = λ i. record { kind = pos 0; c1 = back (p .c1) a i; c2 = back (p .c2) b i; c3 = back (p .c3) c i; c4 = back (p .c4) d i; constant = back (p .constant) e i; high = pos 0; low = pos 0 }
 
 -- numbers that are written lie within the limits
 wide-command : Command → Bool
@@ -109,6 +107,14 @@ is-small : (z : ℤ) → T (small z) → Small z
 unfolding small
 is-small z t = record { small = leb→le (natAbs z) limit t }
 
+five : {a b c d e : ℤ} → Small a → Small b → Small c → Small d → Small e → (k : ℕ) → Small (getD (a ∷ b ∷ c ∷ d ∷ e ∷ []) k (pos 0))
+five a b c d e zero = a
+five a b c d e (suc zero) = b
+five a b c d e (suc (suc zero)) = c
+five a b c d e (suc (suc (suc zero))) = d
+five a b c d e (suc (suc (suc (suc zero)))) = e
+five a b c d e (suc (suc (suc (suc (suc k))))) = record { small = omega arith }
+
 nums-of : (p : CodeLinear) → T (wide (linear-of p)) → Nums (wordsOf p)
 unfolding wordsOf small-linear all
 nums-of p t =
@@ -117,7 +123,7 @@ nums-of p t =
     let a₂ = both (small (p .c2)) (small (p .c3) && (small (p .c4) && true)) (a₁ .1) in
     let a₃ = both (small (p .c3)) (small (p .c4) && true) (a₂ .1) in
     let a₄ = both (small (p .c4)) true (a₃ .1) in
-    record { c1 = is-small _ (a₁ .0); c2 = is-small _ (a₂ .0); c3 = is-small _ (a₃ .0); c4 = is-small _ (a₄ .0); constant = is-small _ (c .1) }
+    record { long = refl; each = five (is-small _ (a₁ .0)) (is-small _ (a₂ .0)) (is-small _ (a₃ .0)) (is-small _ (a₄ .0)) (is-small _ (c .1)) }
 
 -- of a command that is there
 pub leaf-nums : (B : List ℕ) (at : ℕ) (p : CodeLinear) → whole (push-leaf (linear-of p)) ≡ read-at B at → Nums (wordsOf p)
@@ -128,25 +134,17 @@ test-nums : (B : List ℕ) (at : ℕ) (p : CodeLinear) → whole (push-test (lin
 unfolding wide-read wide-command
 test-nums B at p e = nums-of p (subst (λ (r : Read). T (wide-read r)) (sym e) (read-wide B at))
 
-proper-five : (v : Five) → SmallFive v → Proper (fiveNode v)
-unfolding fiveNode eqZ
-proper-five v s = record {
-  branches = refl;
-  nums = record { c1 = s .b; c2 = s .c; c3 = s .d; c4 = s .e; constant = s .a };
-  tested = record { kind = λ _. refl; number = λ e. absurd (let z : _≡_ {A = ℕ} 0 1 = cc in omega arith); bounds = λ e. absurd (let z : _≡_ {A = ℕ} 0 1 = cc in omega arith); rest = λ e. absurd (let z : _≡_ {A = ℕ} 0 1 = cc in omega arith) };
-}
+linear-same : (p : CodeLinear) → linOf (wordsOf p) ≡ linear-of p
+unfolding linOf wordsOf
+linear-same p = refl
 
-divided-test : (p : CodeLinear) → testOf (fiveNode (dividedOf (fiveOf (wordsOf p)))) ≡ test-of (linear-of p)
-unfolding testOf fiveNode eqZ dividedOf divisorOf fiveOf linOf test-of quotient quotL divisor gcd-all wordsOf
-divided-test p = refl
-
-named-words : (p : CodeLinear) → namedNode (wordsOf p) ≡ fiveNode (dividedOf (fiveOf (wordsOf p)))
+named-words : (p : CodeLinear) → namedNode (wordsOf p) ≡ linearNode (quotL (divisorL (wordsOf p .n)) (wordsOf p .n))
 unfolding namedNode wordsOf eqZ
 named-words p = refl
 
 pub linear-stood : (p : CodeLinear) {x r : Node} → x ≡ wordsOf p → r ≡ namedNode x → Nums (wordsOf p) → Stood (test-of (linear-of p)) r
 linear-stood p {x} {r} e f s = subst (Stood (test-of (linear-of p))) (sym (f ∙ (ap namedNode e ∙ named-words p)))
-    (record { proper = proper-five _ (divided-small _ (five-small-as (wordsOf p) refl s)); test = divided-test p })
+    (record { proper = proper-linear _ (quot-smalls _ _ s); test = divided-test (wordsOf p) (s .long) ∙ ap test-of (linear-same p) })
 
 -- ---- by what the code reads
 

@@ -1,6 +1,6 @@
 -- The test that a command of the model gives, in words, and what the five words of a cache entry mean while the model is loaded.
 use mathlib.Core.Path.{_≡_}
-use mathlib.Core.List.{List}
+use mathlib.Core.List.{List, [], _∷_}
 use Prim.Native.Nat.{ℕ, _+_, _≤_, _<_}
 use lib.IntN.{pos}
 use Rattle.table.specs.declared.Node.{Node}
@@ -20,7 +20,7 @@ pub record Stood (t : Test) (x : Node) : Type 0 where
 
 -- a linear as a leaf's words
 unfoldable pub wordsOf : CodeLinear → Node
-wordsOf p = record { kind = pos 0; c1 = p .c1; c2 = p .c2; c3 = p .c3; c4 = p .c4; constant = p .constant; high = pos 0; low = pos 0 }
+wordsOf p = record { kind = pos 0; n = p .c1 ∷ p .c2 ∷ p .c3 ∷ p .c4 ∷ p .constant ∷ []; high = pos 0; low = pos 0 }
 
 -- the number of a command's condition, 1 where it has none
 unfoldable pub condition-in : Command → ℕ

@@ -13,24 +13,25 @@ use command::Linear;
 use command::Read;
 use computed_cache::keep;
 use computed_cache::look;
+use diagrams::codes::CHOOSE_COMMAND;
 use diagrams::making::join;
 use diagrams::making::join_test;
 use diagrams::tests::named;
 use table::Made;
 use table::Node;
+use whole::NUMBERS;
 
 // Condition k as a test: "1 to n for a condition now, 5 to 4+n for the next step's".
 fn condition(k: u8) -> Node
     requires { ⌜ (0 < k) × (k ≤ conditions-most + conditions-most) ⌝ }
     ensures { λ r. ⌜ Stood (condition-test k) r ⌝ }
 {
+    let number = k as i64;
+    let mut n = [0i64; NUMBERS];
+    n[0] = number;
     Node {
         kind: 1,
-        c1: k as i64,
-        c2: 0,
-        c3: 0,
-        c4: 0,
-        constant: 0,
+        n,
         high: 0,
         low: 0,
     }
@@ -40,13 +41,20 @@ fn condition(k: u8) -> Node
 pub fn words(p: Linear) -> Node
     ensures { λ r. ⌜ r ≡ wordsOf p ⌝ }
 {
+    let c1 = p.c1;
+    let c2 = p.c2;
+    let c3 = p.c3;
+    let c4 = p.c4;
+    let constant = p.constant;
+    let mut n = [0i64; NUMBERS];
+    n[0] = c1;
+    n[1] = c2;
+    n[2] = c3;
+    n[3] = c4;
+    n[4] = constant;
     Node {
         kind: 0,
-        c1: p.c1,
-        c2: p.c2,
-        c3: p.c3,
-        c4: p.c4,
-        constant: p.constant,
+        n,
         high: 0,
         low: 0,
     }
@@ -86,7 +94,7 @@ pub fn choose_command(
     if s.ends {
         return join_test(nodes, work, cap, count, test_from(model, at), s.fh, s.gl);
     }
-    let c = look(work, cap, 13, f, g, at, 0);
+    let c = look(work, cap, CHOOSE_COMMAND, f, g, at, 0);
     if c != 0 {
         return Made {
             stop: 0,
@@ -106,6 +114,6 @@ pub fn choose_command(
     if r.stop != 0 {
         return r;
     }
-    keep(work, cap, 13, f, g, at, 0, r.at);
+    keep(work, cap, CHOOSE_COMMAND, f, g, at, 0, r.at);
     r
 }

@@ -16,7 +16,7 @@ use Rattle.unique.specs.Unique.{Chained}
 use Rattle.theory.specs.Diagram.{Tree}
 use Rattle.theory.specs.Computation.{Comp, done, run, member}
 use Rattle.theory.specs.laws.Comps.{member-in, member-find, rerun}
-use Rattle.diagrams.specs.Nodes.{none, trees, treeAt, Grown}
+use Rattle.diagrams.specs.Nodes.{blank, trees, treeAt, Grown}
 use Rattle.diagrams.specs.Table.{Rule, Stands, Lasting, Cached, Table, Ran, outOf}
 use Rattle.diagrams.proofs.Trees.{trees-length, trees-kept, grown-not, grown-on}
 use Rattle.diagrams.proofs.Outcomes.{out-ok, grown}
@@ -112,12 +112,12 @@ module _ {R : Rule} {cap : ℕ} {l : List ℤ} {w : List ℕ} {n : ℕ} (A : Tab
 -- trees that are there stay there
 pub there : {l l′ : List ℤ} {n n′ : ℕ} → Grown l n l′ n′ → (u : Tree) → member u (trees l n) ≡ true → member u (trees l′ n′) ≡ true
 there {l} {l′} {n} {n′} G u e =
-    let p = member-find none u (trees l n) e in
+    let p = member-find blank u (trees l n) e in
     let a = trees-length l n in
     let b = trees-length l′ n′ in
     let m = G .more in
     let q = p .1 in
-    member-in none u (trees l′ n′) (p .0) (omega arith) (trees-kept G (p .0) (omega arith) ∙ p .2)
+    member-in blank u (trees l′ n′) (p .0) (omega arith) (trees-kept G (p .0) (omega arith) ∙ p .2)
 
 -- what a run left stands, where the meaning lasts
 pub stands-new : {R : Rule} {cap : ℕ} {l l′ : List ℤ} {w w′ : List ℕ} {n op f g p q : ℕ} {r : Made} → Lasting R l n op f g p q → Ran R cap l w n (R l n op f g p q) l′ w′ r → r .stop ≡ 0 → Stands R cap l′ (r .count) op f g p q (r .at)

@@ -21,7 +21,7 @@ use Rattle.unique.specs.Unique.{Chained, Entered}
 use Rattle.theory.specs.Diagram.{Tree}
 use Rattle.theory.specs.Computation.{make, done, stopped, run, member}
 use Rattle.theory.specs.laws.Comps.{member-in, member-out}
-use Rattle.diagrams.specs.Nodes.{treeOf, trees, treeAt, none, Valid, Good}
+use Rattle.diagrams.specs.Nodes.{treeOf, trees, treeAt, blank, Valid, Good}
 use Rattle.diagrams.specs.Table.{Bare, Grew, outOf}
 use Rattle.diagrams.proofs.Trees.{trees-length, trees-same, tree-at, inj, weaken}
 
@@ -38,7 +38,7 @@ module _ {cap : ℕ} {l : List ℤ} {w : List ℕ} {n : ℕ} (A : Bare cap l w n
   ran-old : {w′ : List ℕ} → Chained cap l w′ n → Frame w′ → (i : ℕ) → i < n → nodeAt l i ≡ x → Grew cap l w n (make tree) l w′ (record { stop = 0; at = i; count = n })
   unfolding run outOf make
   ran-old C F i h e = record {
-    ran = ap (λ (z : Tree). done z (trees l n)) (found i h e) ∙ sym (ap (λ (b : Bool). if b (done tree (trees l n)) (if (ltb (length (trees l n)) cap) (done tree (trees l n ++ (tree ∷ []))) (stopped 12))) (member-in none tree (trees l n) i (let q = trees-length l n in omega arith) (found i h e)));
+    ran = ap (λ (z : Tree). done z (trees l n)) (found i h e) ∙ sym (ap (λ (b : Bool). if b (done tree (trees l n)) (if (ltb (length (trees l n)) cap) (done tree (trees l n ++ (tree ∷ []))) (stopped 12))) (member-in blank tree (trees l n) i (let q = trees-length l n in omega arith) (found i h e)));
     bare = record { good = A .good; chained = C };
     within = λ t. h;
     more = omega arith;
@@ -51,7 +51,7 @@ module _ {cap : ℕ} {l : List ℤ} {w : List ℕ} {n : ℕ} (A : Bare cap l w n
     apart i h e = absent i h (inj (A .good) (nodeAt l i) x (weaken (omega arith) (A .good .valid i h)) vx (sym (tree-at (A .good) i h) ∙ e))
 
     not-there : member tree (trees l n) ≡ false
-    not-there = member-out none tree (trees l n) (λ i h. apart i (let q = trees-length l n in omega arith))
+    not-there = member-out blank tree (trees l n) (λ i h. apart i (let q = trees-length l n in omega arith))
 
     ran-full : {w′ : List ℕ} → Chained cap l w′ n → Frame w′ → cap ≤ n → Grew cap l w n (make tree) l w′ (record { stop = 12; at = 0; count = n })
     unfolding run outOf make
@@ -72,17 +72,17 @@ module _ {cap : ℕ} {l : List ℤ} {w : List ℕ} {n : ℕ} (A : Bare cap l w n
       trees-n = trees-same l l′ n (put-other l n x)
 
       at-n : nodeAt l′ n ≡ x
-      at-n = put-same l n x (let w = A .chained .words in omega arith)
+      at-n = put-same l n x (let w = A .chained .words in omega arith) (vx .nums .long)
 
       trees-new : trees l′ (n + 1) ≡ trees l n ++ (tree ∷ [])
       unfolding trees
       trees-new = rw (add-one n) (ap₂ (λ (X : List Tree) (x : Node). X ++ (treeOf x X ∷ [])) trees-n at-n)
 
       old-at : (i : ℕ) → i < n → treeAt l′ (n + 1) i ≡ treeAt l n i
-      old-at i q = ap (λ (X : List Tree). getD X i none) trees-new ∙ List·getD-append (trees l n) _ none i (let w = trees-length l n in omega arith)
+      old-at i q = ap (λ (X : List Tree). getD X i blank) trees-new ∙ List·getD-append (trees l n) _ blank i (let w = trees-length l n in omega arith)
 
       new-at : treeAt l′ (n + 1) n ≡ tree
-      new-at = ap (λ (X : List Tree). getD X n none) trees-new ∙ getD-at (trees l n) tree [] none n (trees-length l n)
+      new-at = ap (λ (X : List Tree). getD X n blank) trees-new ∙ getD-at (trees l n) tree [] blank n (trees-length l n)
 
       good-new : Good l′ (n + 1)
       good-new = record {

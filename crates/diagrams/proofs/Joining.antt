@@ -2,15 +2,16 @@
 use mathlib.Core.Path.{_≡_, sym, ap, _∙_, subst}
 use mathlib.Core.Bool.{Bool, true, false}
 use mathlib.Core.List.{List}
-use Prim.Native.Nat.{ℕ, _+_, _*_, _≤_, _<_}
+use Prim.Native.Nat.{ℕ, _+_, _*_, _^_, _≤_, _<_}
 use native.Mathlib.Omega.{arith}
 use lib.IntN.{ℤ, pos}
 use lib.ListN.{length}
+use lib.Signed.{mag}
 use mir.Syntax.{w64}
 use mir.Val.{toZ}
 use Rattle.whole.specs.Cases.{if}
-use Rattle.table.proofs.Words.{R, back, Fit}
-use Rattle.table.specs.Table.{nodeAt, eqZ}
+use Rattle.table.proofs.Words.{R, back}
+use Rattle.table.specs.Table.{node-words, nodeAt, eqZ}
 use Rattle.table.specs.declared.Node.{Node}
 use Rattle.table.specs.declared.Made.{Made}
 use Rattle.theory.specs.Diagram.{Tree, branch, same}
@@ -35,20 +36,11 @@ node-no t h l e = ap (λ (b : Bool). if b (ret h) (make (branch (testOf t) h l))
 
 -- a node of t over two branches
 pub over-node : Node → ℤ → ℤ → Node
-over-node t h l = record { kind = t .kind; c1 = t .c1; c2 = t .c2; c3 = t .c3; c4 = t .c4; constant = t .constant; high = h; low = l }
+over-node t h l = record { kind = t .kind; n = t .n; high = h; low = l }
 
-literal : (t : Node) → Fit t → (h l : ℕ) → h < 65536 → l < 65536 → _≡_ {A = Node} (record { kind = R (t .kind); c1 = R (t .c1); c2 = R (t .c2); c3 = R (t .c3); c4 = R (t .c4); constant = R (t .constant); high = toZ w64 h; low = toZ w64 l }) (over-node t (pos h) (pos l))
+literal : (t : Node) → mag (t .kind) < 2 ^ 63 → (h l : ℕ) → h < 65536 → l < 65536 → _≡_ {A = Node} (record { kind = R (t .kind); n = t .n; high = toZ w64 h; low = toZ w64 l }) (over-node t (pos h) (pos l))
 unfolding over-node
-literal t f h l qh ql = λ i. record {
-  kind = back (t .kind) (f .kind) i;
-  c1 = back (t .c1) (f .c1) i;
-  c2 = back (t .c2) (f .c2) i;
-  c3 = back (t .c3) (f .c3) i;
-  c4 = back (t .c4) (f .c4) i;
-  constant = back (t .constant) (f .constant) i;
-  high = back (pos h) (omega arith) i;
-  low = back (pos l) (omega arith) i;
-}
+literal t f h l qh ql = λ i. record { kind = back (t .kind) f i; n = t .n; high = back (pos h) (omega arith) i; low = back (pos l) (omega arith) i }
 
 module _ {cap : ℕ} {s : List ℤ} {w : List ℕ} {n : ℕ} (A : Bare cap s w n) (t : Node) (P : Proper t) (h l : ℕ) (hh : h < n) (hl : l < n) where
   -- the branches are one
@@ -57,11 +49,11 @@ module _ {cap : ℕ} {s : List ℤ} {w : List ℕ} {n : ℕ} (A : Bare cap s w n
 
   valid-over : Valid (over-node t (pos h) (pos l)) n
   unfolding over-node
-  valid-over = record { nums = record { c1 = P .nums .c1; c2 = P .nums .c2; c3 = P .nums .c3; c4 = P .nums .c4; constant = P .nums .constant }; high-nat = tt; low-nat = tt; leaf-low = λ e. no (sym e ∙ P .branches); tested = λ e. record { kind = P .tested .kind; number = P .tested .number; bounds = P .tested .bounds; rest = P .tested .rest }; high-below = λ e. hh; low-below = λ e. hl }
+  valid-over = record { nums = P .nums; high-nat = tt; low-nat = tt; leaf-low = λ e. no (sym e ∙ P .branches); tested = λ e. record { kind = P .tested .kind; long = P .tested .long; number = P .tested .number; bounds = P .tested .bounds; rest = P .tested .rest }; high-below = λ e. hh; low-below = λ e. hl }
 
-  module _ (f : Fit t) (e : h ≡ l → ⊥) where
+  module _ (f : mag (t .kind) < 2 ^ 63) (e : h ≡ l → ⊥) where
     abbrev x′ : Node
-    x′ = record { kind = R (t .kind); c1 = R (t .c1); c2 = R (t .c2); c3 = R (t .c3); c4 = R (t .c4); constant = R (t .constant); high = toZ w64 h; low = toZ w64 l }
+    x′ = record { kind = R (t .kind); n = t .n; high = toZ w64 h; low = toZ w64 l }
 
     is : x′ ≡ over-node t (pos h) (pos l)
     is = literal t f h l (let q = A .chained .room in let r = A .chained .few in omega arith) (let q = A .chained .room in let r = A .chained .few in omega arith)
@@ -82,7 +74,7 @@ module _ {cap : ℕ} {s : List ℤ} {w : List ℕ} {n : ℕ} (A : Bare cap s w n
 pub proper-as : {cap : ℕ} {l : List ℤ} {w : List ℕ} {n t : ℕ} {x : Node} → Bare cap l w n → Root l n t → x ≡ nodeAt l t → Proper x
 proper-as {l = l} {t = t} A q e = subst Proper (sym e) (record { branches = q .branches; nums = A .good .valid t (q .below) .nums; tested = A .good .valid t (q .below) .tested (q .branches) })
 
-pub word-at : {cap : ℕ} {l : List ℤ} {w : List ℕ} {n : ℕ} (t : ℕ) → Bare cap l w n → t < n → t * 8 + 8 ≤ length l
+pub word-at : {cap : ℕ} {l : List ℤ} {w : List ℕ} {n : ℕ} (t : ℕ) → Bare cap l w n → t < n → t * node-words + node-words ≤ length l
 word-at t A h = let q = A .chained .room in let r = A .chained .words in omega arith
 
 -- a root stays one as the table grows

@@ -3,29 +3,27 @@ use mathlib.Core.Path.{_≡_, refl, sym, ap, ap₂, _∙_, subst}
 use mathlib.Core.Bool.{Bool, true, false}
 use mathlib.Core.Logic.{⊎-elim, inl, inr}
 use mathlib.Core.List.{List, [], _∷_}
-use Prim.Native.Nat.{ℕ, _+_, _-_, _/_, _%_, _^_, _≤_, _<_}
+use Prim.Native.Nat.{ℕ, zero, suc, _+_, _-_, _/_, _%_, _≤_, _<_}
 use native.Mathlib.Omega.{arith}
 use borrow.Author.Tests.{eq-eqb, ne-eqb}
 use lib.IntN.{ℤ, pos}
-use lib.Signed.{mag}
-use lib.ListN.{take}
+use lib.ListN.{length, getD, replicate, take}
 use mir.Syntax.{w64}
 use mir.Val.{toZ}
 use Rattle.whole.specs.Cases.{if}
-use Rattle.whole.specs.Divisor.{gcd-all}
-use Rattle.whole.specs.Five.{SmallFive, divisorOf, dividedOf}
-use Rattle.whole.specs.FiveLaws.{divided-small}
-use Rattle.whole.specs.declared.Five.{Five}
-use Rattle.table.proofs.Words.{R, back, Fit}
+use Rattle.whole.specs.Within.{Small}
+use Rattle.whole.specs.Linears.{numbers, Smalls, divisorL}
+use Rattle.whole.specs.LinearsLaws.{quot-take, quot-at, quot-smalls}
+use Rattle.table.proofs.Words.{back}
 use Rattle.table.specs.Table.{nodeAt, eqZ}
 use Rattle.table.specs.declared.Node.{Node}
-use Rattle.theory.specs.Widths.{conditions-most}
+use Rattle.theory.specs.Widths.{levels-most, conditions-most}
 use Rattle.theory.specs.Diagram.{Test, later, linear, Leaf, Tree, leaf, branch, quotL, quotient, divisor, test-of}
 use Rattle.theory.specs.Rules.{choose, over, decide, sum, product, best, scale, shift, complement, number, side, substitute}
 use Rattle.diagrams.specs.Nodes.{linOf, leafOf, testOf, treeAt, Nums, Good, Proper, Grown, Root}
 use Rattle.diagrams.specs.Table.{Lasting, Bare, Table}
 use Rattle.diagrams.specs.Meaning.{cOf, testIn, testBy, Names, packed, ruleOf}
-use Rattle.diagrams.specs.Roots.{laterNode, fiveOf, fiveNode, namedNode, testNode, Readable}
+use Rattle.diagrams.specs.Roots.{laterNode, linearNode, namedNode, testNode, Readable}
 use Rattle.diagrams.proofs.Trees.{trees-kept, later-is, at-leaf, at-branch}
 
 -- ---- the rules, each by its number
@@ -139,33 +137,45 @@ record Stood (x : Node) (t : Test) : Type 0 where
   pub proper : Proper x
   pub test : testOf x ≡ t
 
+zero-at : (k : ℕ) → getD (replicate levels-most (pos 0)) k (pos 0) ≡ pos 0
+zero-at k = go levels-most k
+  where
+    go : (m k : ℕ) → getD (replicate m (pos 0)) k (pos 0) ≡ pos 0
+    go zero k = refl
+    go (suc m) zero = refl
+    go (suc m) (suc k) = go m k
+
+pub zeros-behind : (z : ℤ) (k : ℕ) → 0 < k → getD (z ∷ replicate levels-most (pos 0)) k (pos 0) ≡ pos 0
+zeros-behind z zero h = absurd (omega arith)
+zeros-behind z (suc k) h = zero-at k
+
+small-first : {p : ℕ} → p ≤ conditions-most → (k : ℕ) → Small (getD (pos (conditions-most + p) ∷ replicate levels-most (pos 0)) k (pos 0))
+small-first h zero = record { small = omega arith }
+small-first h (suc k) = subst Small (sym (zero-at k)) (record { small = omega arith })
+
 stood-later : (p : ℕ) → 0 < p → p ≤ conditions-most → Stood (laterNode p) (later p)
 unfolding laterNode testOf eqZ
 stood-later p a b = record {
   proper = record {
     branches = refl;
-    nums = record { c1 = record { small = omega arith }; c2 = record { small = omega arith }; c3 = record { small = omega arith }; c4 = record { small = omega arith }; constant = record { small = omega arith } };
-    tested = record { kind = λ e. absurd (let z : _≡_ {A = ℕ} 0 1 = cc in omega arith); number = λ _. tt; bounds = λ _. (omega arith, omega arith); rest = λ _. (refl, refl, refl, refl) };
+    nums = record { long = refl; each = small-first b };
+    tested = record { kind = λ e. absurd (let z : _≡_ {A = ℕ} 0 1 = cc in omega arith); long = refl; number = λ _. tt; bounds = λ _. (omega arith, omega arith); rest = λ _. zeros-behind _ };
   };
   test = later-is (conditions-most + p) (omega arith) ∙ ap later (let e : conditions-most + p - conditions-most ≡ p = omega arith in e);
 }
 
-pub five-small : (x : Node) → Nums x → SmallFive (fiveOf x)
-unfolding fiveOf
-five-small x s = record { a = s .constant; b = s .c1; c = s .c2; d = s .c3; e = s .c4 }
-
-pub proper-five : (v : Five) → SmallFive v → Proper (fiveNode v)
-unfolding fiveNode eqZ
-proper-five v s = record {
+pub proper-linear : (l : List ℤ) → Smalls l → Proper (linearNode l)
+unfolding linearNode eqZ
+proper-linear l s = record {
   branches = refl;
-  nums = record { c1 = s .b; c2 = s .c; c3 = s .d; c4 = s .e; constant = s .a };
-  tested = record { kind = λ _. refl; number = λ e. absurd (let z : _≡_ {A = ℕ} 0 1 = cc in omega arith); bounds = λ e. absurd (let z : _≡_ {A = ℕ} 0 1 = cc in omega arith); rest = λ e. absurd (let z : _≡_ {A = ℕ} 0 1 = cc in omega arith) };
+  nums = s;
+  tested = record { kind = λ _. refl; long = s .long; number = λ e. absurd (let z : _≡_ {A = ℕ} 0 1 = cc in omega arith); bounds = λ e. absurd (let z : _≡_ {A = ℕ} 0 1 = cc in omega arith); rest = λ e. absurd (let z : _≡_ {A = ℕ} 0 1 = cc in omega arith) };
 }
 
 -- a leaf's linear divided is the test that it names
-pub divided-test : (x : Node) → testOf (fiveNode (dividedOf (fiveOf x))) ≡ test-of (linOf x)
-unfolding testOf fiveNode eqZ dividedOf divisorOf fiveOf linOf test-of quotient quotL divisor gcd-all
-divided-test x = refl
+pub divided-test : (x : Node) → length (x .n) ≡ numbers → testOf (linearNode (quotL (divisorL (x .n)) (x .n))) ≡ test-of (linOf x)
+unfolding testOf linearNode eqZ divisorL linOf test-of quotient divisor
+divided-test x n = λ i. linear (record { coeffs = quot-take levels-most (divisorL (x .n)) (x .n) i; const = quot-at (divisorL (x .n)) (x .n) levels-most (omega arith) i })
 
 in-leaf : (f : Leaf) → testIn (leaf f) ≡ test-of (f .lin)
 unfolding testIn
@@ -175,13 +185,13 @@ in-branch : (t : Test) (h l : Tree) → testIn (branch t h l) ≡ t
 unfolding testIn
 in-branch t h l = refl
 
-pub named-leaf : (x : Node) → eqZ (x .kind) (pos 0) ≡ true → namedNode x ≡ fiveNode (dividedOf (fiveOf x))
+pub named-leaf : (x : Node) → eqZ (x .kind) (pos 0) ≡ true → namedNode x ≡ linearNode (quotL (divisorL (x .n)) (x .n))
 unfolding namedNode
-named-leaf x e = ap (λ (b : Bool). if b (fiveNode (dividedOf (fiveOf x))) x) e
+named-leaf x e = ap (λ (b : Bool). if b (linearNode (quotL (divisorL (x .n)) (x .n))) x) e
 
 named-branch : (x : Node) → eqZ (x .kind) (pos 0) ≡ false → namedNode x ≡ x
 unfolding namedNode
-named-branch x e = ap (λ (b : Bool). if b (fiveNode (dividedOf (fiveOf x))) x) e
+named-branch x e = ap (λ (b : Bool). if b (linearNode (quotL (divisorL (x .n)) (x .n))) x) e
 
 leaf-lin : (x : Node) → leafOf x .lin ≡ linOf x
 unfolding leafOf
@@ -192,8 +202,8 @@ stood-named {l} {n} D p h = go (eqZ (nodeAt l p .kind) (pos 0)) refl
   where
     go : (b : Bool) → eqZ (nodeAt l p .kind) (pos 0) ≡ b → Stood (namedNode (nodeAt l p)) (testIn (treeAt l n p))
     go true e = subst (λ (x : Node). Stood x (testIn (treeAt l n p))) (sym (named-leaf (nodeAt l p) e)) (record {
-      proper = proper-five _ (divided-small _ (five-small _ (D .valid p h .nums)));
-      test = divided-test (nodeAt l p) ∙ (ap test-of (sym (leaf-lin (nodeAt l p))) ∙ (sym (in-leaf _) ∙ ap testIn (sym (at-leaf D p h e))));
+      proper = proper-linear _ (quot-smalls _ _ (D .valid p h .nums));
+      test = divided-test (nodeAt l p) (D .valid p h .nums .long) ∙ (ap test-of (sym (leaf-lin (nodeAt l p))) ∙ (sym (in-leaf _) ∙ ap testIn (sym (at-leaf D p h e))));
     })
     go false e = subst (λ (x : Node). Stood x (testIn (treeAt l n p))) (sym (named-branch (nodeAt l p) e)) (record {
       proper = record { branches = e; nums = D .valid p h .nums; tested = D .valid p h .tested e };
@@ -268,23 +278,15 @@ module _ (l : List ℤ) (n f : ℕ) (hf : f < n) where
 
 -- ---- what the code reads is that test
 
-pub later-node : (k : ℕ) → k ≤ conditions-most → _≡_ {A = Node} (record { kind = pos 1; c1 = toZ w64 (conditions-most + k); c2 = pos 0; c3 = pos 0; c4 = pos 0; constant = pos 0; high = pos 0; low = pos 0 }) (laterNode k)
+pub later-node : (k : ℕ) → k ≤ conditions-most → _≡_ {A = Node} (record { kind = pos 1; n = toZ w64 (conditions-most + k) ∷ replicate levels-most (pos 0); high = pos 0; low = pos 0 }) (laterNode k)
 unfolding laterNode
-later-node k h = λ i. record { kind = pos 1; c1 = back (pos (conditions-most + k)) (omega arith) i; c2 = pos 0; c3 = pos 0; c4 = pos 0; constant = pos 0; high = pos 0; low = pos 0 }
+later-node k h =
+    let e : toZ w64 (conditions-most + k) ≡ pos (conditions-most + k) = back (pos (conditions-most + k)) (omega arith) in
+    λ i. record { kind = pos 1; n = e i ∷ replicate levels-most (pos 0); high = pos 0; low = pos 0 }
 
-pub five-of : (x : Node) → Fit x → _≡_ {A = Five} (record { a = R (x .constant); b = R (x .c1); c = R (x .c2); d = R (x .c3); e = R (x .c4) }) (fiveOf x)
-unfolding fiveOf
-five-of x f = λ i. record { a = back (x .constant) (f .constant) i; b = back (x .c1) (f .c1) i; c = back (x .c2) (f .c2) i; d = back (x .c3) (f .c3) i; e = back (x .c4) (f .c4) i }
-
-pub five-node : (v : Five) → mag (v .a) < 2 ^ 63 → mag (v .b) < 2 ^ 63 → mag (v .c) < 2 ^ 63 → mag (v .d) < 2 ^ 63 → mag (v .e) < 2 ^ 63 → _≡_ {A = Node} (record { kind = pos 2; c1 = R (v .b); c2 = R (v .c); c3 = R (v .d); c4 = R (v .e); constant = R (v .a); high = pos 0; low = pos 0 }) (fiveNode v)
-unfolding fiveNode
-five-node v a b c d e = λ i. record { kind = pos 2; c1 = back (v .b) b i; c2 = back (v .c) c i; c3 = back (v .d) d i; c4 = back (v .e) e i; constant = back (v .a) a i; high = pos 0; low = pos 0 }
-
-pub five-small-as : {v : Five} (x : Node) → v ≡ fiveOf x → Nums x → SmallFive v
-five-small-as x e s = subst SmallFive (sym e) (five-small x s)
-
-pub named-leaf-as : {r : Node} {v d : Five} (x : Node) → eqZ (x .kind) (pos 0) ≡ true → v ≡ fiveOf x → d ≡ dividedOf v → r ≡ fiveNode d → r ≡ namedNode x
-named-leaf-as x k ev ed er = er ∙ (ap fiveNode (ed ∙ ap dividedOf ev) ∙ sym (named-leaf x k))
+pub named-leaf-as : {d : List ℤ} (x : Node) → eqZ (x .kind) (pos 0) ≡ true → d ≡ quotL (divisorL (x .n)) (x .n) → _≡_ {A = Node} (record { kind = pos 2; n = d; high = pos 0; low = pos 0 }) (namedNode x)
+unfolding linearNode
+named-leaf-as x k ed = ap linearNode ed ∙ sym (named-leaf x k)
 
 pub named-branch-as : (x : Node) → eqZ (x .kind) (pos 0) ≡ false → x ≡ namedNode x
 named-branch-as x k = sym (named-branch x k)

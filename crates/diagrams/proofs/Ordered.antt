@@ -1,21 +1,25 @@
 -- The order of the words is the order of the tests.
 use mathlib.Core.Path.{_≡_, refl, sym, ap, ap₂, _∙_}
 use mathlib.Core.Bool.{Bool, true, false}
-use Prim.Native.Nat.{ℕ, _-_, _<_, compare, Ordering, Ordering·lt, Ordering·eq, Ordering·gt}
+use Prim.Native.Nat.{ℕ, zero, suc, _-_, _<_, compare, Ordering, Ordering·lt, Ordering·eq, Ordering·gt}
 use native.Mathlib.Omega.{arith}
 use borrow.Author.Tests.{ltb-true, ltb-false}
+use mathlib.Core.List.{List, [], _∷_}
+use native.Mathlib.Nat.{suc-inj}
 use lib.Dec.{ltb}
 use lib.IntN.{ℤ, pos, natAbs}
+use lib.ListN.{length, getD, take}
 use lib.Signed.{pos-natAbs}
+use Rattle.whole.specs.Linears.{numbers}
+use Rattle.whole.proofs.Comparing.{lt-cmp, gt-cmp, eq-cmp}
 use Rattle.table.proofs.Look.{eqZ-true}
 use Rattle.table.specs.Table.{eqZ}
 use Rattle.table.specs.declared.Node.{Node}
-use Rattle.theory.specs.Widths.{conditions-most}
+use Rattle.theory.specs.Widths.{levels-most, conditions-most}
 use Rattle.theory.specs.Diagram.{Linear, Test, now, later, linear, then, cmpZ, cmpList, cmpLinear, cmp}
-use Rattle.diagrams.specs.Nodes.{linOf, conditionOf, testOf, Tested}
+use Rattle.diagrams.specs.Nodes.{linOf, firstOf, conditionOf, testOf, Tested}
 use Rattle.diagrams.specs.Roots.{orderOf}
 use Rattle.diagrams.proofs.Trees.{test-con, test-lin, later-is, now-is, by-word}
-use Rattle.diagrams.proofs.Comparing.{lt-cmp, gt-cmp, eq-cmp}
 
 then-idr : (o : Ordering) → then o Ordering·eq ≡ o
 then-idr Ordering·lt = refl
@@ -27,13 +31,34 @@ then-assoc Ordering·lt p q = refl
 then-assoc Ordering·eq p q = refl
 then-assoc Ordering·gt p q = refl
 
-linear-order : (x y : Node) → then (cmpZ (x .c1) (y .c1)) (then (cmpZ (x .c2) (y .c2)) (then (cmpZ (x .c3) (y .c3)) (then (cmpZ (x .c4) (y .c4)) (cmpZ (x .constant) (y .constant))))) ≡ cmp (linear (linOf x)) (linear (linOf y))
-unfolding cmp cmpLinear linOf cmpList
-linear-order x y = sym (
-    then-assoc (cmpZ (x .c1) (y .c1)) _ _ ∙ ap (then (cmpZ (x .c1) (y .c1))) (
-    then-assoc (cmpZ (x .c2) (y .c2)) _ _ ∙ ap (then (cmpZ (x .c2) (y .c2))) (
-    then-assoc (cmpZ (x .c3) (y .c3)) _ _ ∙ ap (then (cmpZ (x .c3) (y .c3))) (
-    then-assoc (cmpZ (x .c4) (y .c4)) _ _))))
+-- by the first m numbers and then by the last
+last-order : (m : ℕ) (a b : List ℤ) → length a ≡ suc m → length b ≡ suc m → cmpList a b ≡ then (cmpList (take m a) (take m b)) (cmpZ (getD a m (pos 0)) (getD b m (pos 0)))
+unfolding cmpList
+last-order m [] b e d = absurd (omega arith)
+last-order m (x ∷ a) [] e d = absurd (omega arith)
+last-order zero (x ∷ []) (y ∷ []) e d = then-idr (cmpZ x y)
+last-order zero (x ∷ []) (y ∷ z ∷ b) e d = absurd (omega arith)
+last-order zero (x ∷ w ∷ a) (y ∷ b) e d = absurd (omega arith)
+last-order (suc m) (x ∷ a) (y ∷ b) e d = ap (then (cmpZ x y)) (last-order m a b (suc-inj e) (suc-inj d)) ∙ sym (then-assoc (cmpZ x y) (cmpList (take m a) (take m b)) (cmpZ (getD a m (pos 0)) (getD b m (pos 0))))
+
+linear-order : (x y : Node) → length (x .n) ≡ numbers → length (y .n) ≡ numbers → cmpList (x .n) (y .n) ≡ cmp (linear (linOf x)) (linear (linOf y))
+unfolding cmp cmpLinear linOf
+linear-order x y n m = last-order levels-most (x .n) (y .n) n m
+
+-- zeros do not differ
+zero-order : (a b : List ℤ) → length a ≡ length b → ((k : ℕ) → getD a k (pos 0) ≡ pos 0) → ((k : ℕ) → getD b k (pos 0) ≡ pos 0) → cmpList a b ≡ Ordering·eq
+unfolding cmpList
+zero-order [] [] e u v = refl
+zero-order [] (y ∷ b) e u v = absurd (omega arith)
+zero-order (x ∷ a) [] e u v = absurd (omega arith)
+zero-order (x ∷ a) (y ∷ b) e u v = ap₂ then (ap₂ cmpZ (u 0) (v 0) ∙ eq-cmp 0 0 refl) (zero-order a b (suc-inj e) (λ k. u (suc k)) (λ k. v (suc k)))
+
+-- the first decides where zeros follow
+first-order : (a b : List ℤ) → length a ≡ numbers → length b ≡ numbers → ((k : ℕ) → 0 < k → getD a k (pos 0) ≡ pos 0) → ((k : ℕ) → 0 < k → getD b k (pos 0) ≡ pos 0) → cmpList a b ≡ cmpZ (getD a 0 (pos 0)) (getD b 0 (pos 0))
+unfolding cmpList
+first-order [] b e d u v = absurd (omega arith)
+first-order (x ∷ a) [] e d u v = absurd (omega arith)
+first-order (x ∷ a) (y ∷ b) e d u v = ap (then (cmpZ x y)) (zero-order a b (omega arith) (λ k. u (suc k) (omega arith)) (λ k. v (suc k) (omega arith))) ∙ then-idr (cmpZ x y)
 
 -- a smaller part taken off both leaves their order
 less-both : (i j k : ℕ) → k < i → k < j → compare i j ≡ compare (i - k) (j - k)
@@ -102,19 +127,16 @@ module _ (x y : Node) (vx : Tested x) (vy : Tested y) where
   unfolding orderOf
   order-is = go (eqZ (x .kind) (pos 1)) (eqZ (y .kind) (pos 1)) refl refl
     where
-      go : (p q : Bool) → eqZ (x .kind) (pos 1) ≡ p → eqZ (y .kind) (pos 1) ≡ q → then (cmpZ (x .kind) (y .kind)) (then (cmpZ (x .c1) (y .c1)) (then (cmpZ (x .c2) (y .c2)) (then (cmpZ (x .c3) (y .c3)) (then (cmpZ (x .c4) (y .c4)) (cmpZ (x .constant) (y .constant)))))) ≡ cmp (testOf x) (testOf y)
+      go : (p q : Bool) → eqZ (x .kind) (pos 1) ≡ p → eqZ (y .kind) (pos 1) ≡ q → then (cmpZ (x .kind) (y .kind)) (cmpList (x .n) (y .n)) ≡ cmp (testOf x) (testOf y)
       go true true p q =
-          let u = vx .rest p in
-          let v = vy .rest q in
-          (λ i. then (cmpZ (eqZ-true (x .kind) (pos 1) p i) (eqZ-true (y .kind) (pos 1) q i)) (then (cmpZ (x .c1) (y .c1)) (then (cmpZ (u .0 i) (v .0 i)) (then (cmpZ (u .1 i) (v .1 i)) (then (cmpZ (u .2 i) (v .2 i)) (cmpZ (u .3 i) (v .3 i)))))))
-          ∙ (then-idr (cmpZ (x .c1) (y .c1))
-          ∙ (nat-order (x .c1) (y .c1) (sym (pos-natAbs (x .c1) (vx .number p))) (sym (pos-natAbs (y .c1) (vy .number q))) ∙ sym (ap₂ cmp (test-con x p) (test-con y q))))
+          (λ i. then (cmpZ (eqZ-true (x .kind) (pos 1) p i) (eqZ-true (y .kind) (pos 1) q i)) (first-order (x .n) (y .n) (vx .long) (vy .long) (vx .rest p) (vy .rest q) i))
+          ∙ (nat-order (firstOf x) (firstOf y) (sym (pos-natAbs (firstOf x) (vx .number p))) (sym (pos-natAbs (firstOf y) (vy .number q))) ∙ sym (ap₂ cmp (test-con x p) (test-con y q)))
       go true false p q =
-          (λ i. then (cmpZ (eqZ-true (x .kind) (pos 1) p i) (vy .kind q i)) (then (cmpZ (x .c1) (y .c1)) (then (cmpZ (x .c2) (y .c2)) (then (cmpZ (x .c3) (y .c3)) (then (cmpZ (x .c4) (y .c4)) (cmpZ (x .constant) (y .constant)))))))
-          ∙ (con-lin (natAbs (x .c1)) (linOf y) ∙ sym (ap₂ cmp (test-con x p) (test-lin y q)))
+          (λ i. then (cmpZ (eqZ-true (x .kind) (pos 1) p i) (vy .kind q i)) (cmpList (x .n) (y .n)))
+          ∙ (con-lin (natAbs (firstOf x)) (linOf y) ∙ sym (ap₂ cmp (test-con x p) (test-lin y q)))
       go false true p q =
-          (λ i. then (cmpZ (vx .kind p i) (eqZ-true (y .kind) (pos 1) q i)) (then (cmpZ (x .c1) (y .c1)) (then (cmpZ (x .c2) (y .c2)) (then (cmpZ (x .c3) (y .c3)) (then (cmpZ (x .c4) (y .c4)) (cmpZ (x .constant) (y .constant)))))))
-          ∙ (lin-con (linOf x) (natAbs (y .c1)) ∙ sym (ap₂ cmp (test-lin x p) (test-con y q)))
+          (λ i. then (cmpZ (vx .kind p i) (eqZ-true (y .kind) (pos 1) q i)) (cmpList (x .n) (y .n)))
+          ∙ (lin-con (linOf x) (natAbs (firstOf y)) ∙ sym (ap₂ cmp (test-lin x p) (test-con y q)))
       go false false p q =
-          (λ i. then (cmpZ (vx .kind p i) (vy .kind q i)) (then (cmpZ (x .c1) (y .c1)) (then (cmpZ (x .c2) (y .c2)) (then (cmpZ (x .c3) (y .c3)) (then (cmpZ (x .c4) (y .c4)) (cmpZ (x .constant) (y .constant)))))))
-          ∙ (linear-order x y ∙ sym (ap₂ cmp (test-lin x p) (test-lin y q)))
+          (λ i. then (cmpZ (vx .kind p i) (vy .kind q i)) (cmpList (x .n) (y .n)))
+          ∙ (linear-order x y (vx .long) (vy .long) ∙ sym (ap₂ cmp (test-lin x p) (test-lin y q)))

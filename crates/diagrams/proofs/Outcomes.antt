@@ -10,23 +10,24 @@ use lib.IntN.{ℤ}
 use lib.ListN.{getD}
 use Rattle.whole.specs.Cases.{if}
 use Rattle.table.specs.declared.Made.{Made}
+use Rattle.unique.specs.Unique.{work-words}
 use Rattle.theory.specs.Diagram.{Linear, Tree}
 use Rattle.theory.specs.Computation.{Comp, ret, judge, bind, both, Out, done, stopped, run}
 use Rattle.theory.specs.laws.Comps.{after, run-bind, run-judge}
 use Rattle.theory.specs.Valid.{small-linear}
-use Rattle.diagrams.specs.Nodes.{none, trees, treeAt, Grown}
+use Rattle.diagrams.specs.Nodes.{blank, trees, treeAt, Grown}
 use Rattle.diagrams.specs.Table.{Rule, Stands, Cached, Bare, Table, Ran, Grew, outOf}
 use Rattle.diagrams.proofs.Trees.{trees-kept, grown-on}
 
 -- ---- an answer, as an outcome
 
-pub out-ok : (r : Made) (X : List Tree) → r .stop ≡ 0 → outOf r X ≡ done (getD X (r .at) none) X
+pub out-ok : (r : Made) (X : List Tree) → r .stop ≡ 0 → outOf r X ≡ done (getD X (r .at) blank) X
 unfolding outOf
-out-ok r X e = ap (λ (b : Bool). if b (done (getD X (r .at) none) X) (stopped (r .stop))) (eq-eqb (r .stop) 0 e)
+out-ok r X e = ap (λ (b : Bool). if b (done (getD X (r .at) blank) X) (stopped (r .stop))) (eq-eqb (r .stop) 0 e)
 
 pub out-no : (r : Made) (X : List Tree) → (r .stop ≡ 0 → ⊥) → outOf r X ≡ stopped (r .stop)
 unfolding outOf
-out-no r X e = ap (λ (b : Bool). if b (done (getD X (r .at) none) X) (stopped (r .stop))) (ne-eqb (r .stop) 0 e)
+out-no r X e = ap (λ (b : Bool). if b (done (getD X (r .at) blank) X) (stopped (r .stop))) (ne-eqb (r .stop) 0 e)
 
 -- ---- the cache stands as the table grows
 
@@ -44,7 +45,7 @@ cached-grown {cap = cap} G e C j op f g p q r h E = stands-grown G (C j op f g p
 }))
 
 -- an empty cache is right, whatever entries mean
-pub fresh : {R : Rule} {cap : ℕ} {l : List ℤ} {w : List ℕ} {n : ℕ} → Bare cap l w n → ((j : ℕ) → cap * 2 ≤ j → j < cap * 8 → getD w j 0 ≡ 0) → Table R cap l w n
+pub fresh : {R : Rule} {cap : ℕ} {l : List ℤ} {w : List ℕ} {n : ℕ} → Bare cap l w n → ((j : ℕ) → cap * 2 ≤ j → j < cap * work-words → getD w j 0 ≡ 0) → Table R cap l w n
 fresh {cap = cap} B z = record {
   bare = B;
   cached = λ j op f g p q r h E. absurd (omega (arith, E .full, z (cap * 2 + j * 6 + 5) (omega arith) (omega arith)));

@@ -10,15 +10,16 @@ use borrow.Author.Tests.{ltb-true, ltb-false, lt-ltb, le-ltb}
 use lib.Dec.{T, ltb}
 use lib.IntN.{ℤ, pos, natAbs}
 use lib.Signed.{nonNeg, pos-natAbs}
-use lib.ListN.{length, getD, length-append, List·getD-append}
-use lib.Seq.{getD-at}
+use lib.ListN.{length, getD, take, length-append, List·getD-append}
+use lib.Seq.{getD-at, take-suc, take-all, ext-getD}
 use Rattle.whole.specs.Cases.{if}
+use Rattle.whole.specs.Linears.{numbers}
 use Rattle.table.proofs.Look.{split, eqZ-true}
 use Rattle.table.specs.Table.{nodeAt, eqZ}
 use Rattle.table.specs.declared.Node.{Node}
-use Rattle.theory.specs.Widths.{conditions-most}
+use Rattle.theory.specs.Widths.{levels-most, conditions-most}
 use Rattle.theory.specs.Diagram.{Linear, now, later, linear, Leaf, Tree, leaf, branch}
-use Rattle.diagrams.specs.Nodes.{linOf, leafOf, conditionOf, testOf, treeOf, trees, treeAt, none, Tested, Valid, Good, Grown}
+use Rattle.diagrams.specs.Nodes.{linOf, leafOf, firstOf, conditionOf, testOf, treeOf, trees, treeAt, blank, Tested, Valid, Good, Grown}
 
 -- ---- lists of trees
 
@@ -32,8 +33,8 @@ pub trees-at : (l : List ℤ) (n i : ℕ) → i < n → treeAt l n i ≡ treeOf 
 unfolding trees
 trees-at l zero i h = absurd (omega arith)
 trees-at l (suc n) i h = ⊎-elim
-    (λ q. List·getD-append (trees l n) _ none i (let e = trees-length l n in omega arith) ∙ trees-at l n i q)
-    (λ q. ap (λ (k : ℕ). getD (trees l (suc n)) k none) q ∙ (getD-at (trees l n) (treeOf (nodeAt l n) (trees l n)) [] none n (trees-length l n) ∙ ap (λ (k : ℕ). treeOf (nodeAt l k) (trees l k)) (sym q)))
+    (λ q. List·getD-append (trees l n) _ blank i (let e = trees-length l n in omega arith) ∙ trees-at l n i q)
+    (λ q. ap (λ (k : ℕ). getD (trees l (suc n)) k blank) q ∙ (getD-at (trees l n) (treeOf (nodeAt l n) (trees l n)) [] blank n (trees-length l n) ∙ ap (λ (k : ℕ). treeOf (nodeAt l k) (trees l k)) (sym q)))
     (split n i h)
 
 pub trees-le : (l : List ℤ) (n m i : ℕ) → i < n → n ≤ m → treeAt l n i ≡ treeAt l m i
@@ -60,7 +61,7 @@ pub grown-on : {l₁ l₂ l₃ : List ℤ} {n₁ n₂ n₃ : ℕ} → Grown l₁
 grown-on G H = let a = G .more in let b = H .more in record { more = omega arith; kept = λ i q. H .kept i (omega arith) ∙ G .kept i q }
 
 abbrev pub branchOf : Node → List Tree → Tree
-branchOf x X = branch (testOf x) (getD X (natAbs (x .high)) none) (getD X (natAbs (x .low)) none)
+branchOf x X = branch (testOf x) (getD X (natAbs (x .high)) blank) (getD X (natAbs (x .low)) blank)
 
 pub tree-leaf : (x : Node) (X : List Tree) → eqZ (x .kind) (pos 0) ≡ true → treeOf x X ≡ leaf (leafOf x)
 unfolding treeOf
@@ -80,11 +81,23 @@ no e = absurd (let z : _≡_ {A = ℕ} 0 1 = cc in omega arith)
 
 record SameTest (x y : Node) : Type 0 where
   pub kind : x .kind ≡ y .kind
-  pub c1 : x .c1 ≡ y .c1
-  pub c2 : x .c2 ≡ y .c2
-  pub c3 : x .c3 ≡ y .c3
-  pub c4 : x .c4 ≡ y .c4
-  pub constant : x .constant ≡ y .constant
+  pub n : x .n ≡ y .n
+
+-- a list is its first numbers and the last
+pub split-last : (m : ℕ) (l : List ℤ) → length l ≡ suc m → take m l ++ (getD l m (pos 0) ∷ []) ≡ l
+split-last m l e = sym (take-suc l m (pos 0) (omega arith)) ∙ take-all (suc m) l (omega arith)
+
+-- the parts of a linear decide its numbers
+same-numbers : (m : ℕ) (a b : List ℤ) → length a ≡ suc m → length b ≡ suc m → take m a ≡ take m b → getD a m (pos 0) ≡ getD b m (pos 0) → a ≡ b
+same-numbers m a b ea eb t c = sym (split-last m a ea) ∙ (ap₂ (λ (l : List ℤ) (z : ℤ). l ++ (z ∷ [])) t c ∙ split-last m b eb)
+
+-- numbers that agree in the first, and are 0 behind it
+pub same-firsts : (a b : List ℤ) → length a ≡ length b → getD a 0 (pos 0) ≡ getD b 0 (pos 0) → ((k : ℕ) → 0 < k → getD a k (pos 0) ≡ pos 0) → ((k : ℕ) → 0 < k → getD b k (pos 0) ≡ pos 0) → a ≡ b
+same-firsts a b e f u v = ext-getD (pos 0) a b e go
+  where
+    go : (k : ℕ) → k < length a → getD a k (pos 0) ≡ getD b k (pos 0)
+    go zero h = f
+    go (suc k) h = u (suc k) (omega arith) ∙ sym (v (suc k) (omega arith))
 
 -- ---- conditions in words
 
@@ -129,47 +142,41 @@ condition-linear i p e = by-word i
     (λ h. let s = sym (later-is i h) ∙ e in absurd (let z : _≡_ {A = ℕ} 0 1 = cc in omega arith))
     (λ h. let s = sym (now-is i h) ∙ e in absurd (let z : _≡_ {A = ℕ} 0 1 = cc in omega arith))
 
-pub test-con : (x : Node) → eqZ (x .kind) (pos 1) ≡ true → testOf x ≡ conditionOf (natAbs (x .c1))
+pub test-con : (x : Node) → eqZ (x .kind) (pos 1) ≡ true → testOf x ≡ conditionOf (natAbs (firstOf x))
 unfolding testOf
-test-con x e = ap (λ (b : Bool). if b (conditionOf (natAbs (x .c1))) (linear (linOf x))) e
+test-con x e = ap (λ (b : Bool). if b (conditionOf (natAbs (firstOf x))) (linear (linOf x))) e
 
 pub test-lin : (x : Node) → eqZ (x .kind) (pos 1) ≡ false → testOf x ≡ linear (linOf x)
 unfolding testOf
-test-lin x e = ap (λ (b : Bool). if b (conditionOf (natAbs (x .c1))) (linear (linOf x))) e
+test-lin x e = ap (λ (b : Bool). if b (conditionOf (natAbs (firstOf x))) (linear (linOf x))) e
 
 -- ---- equal tests have equal words
 
-lin : (x y : Node) → linOf x ≡ linOf y → x .kind ≡ y .kind → SameTest x y
+lin : (x y : Node) → length (x .n) ≡ numbers → length (y .n) ≡ numbers → linOf x ≡ linOf y → x .n ≡ y .n
 unfolding linOf
-lin x y e k = record { kind = k; c1 = ap (λ (p : Linear). getD (p .coeffs) 0 (pos 0)) e; c2 = ap (λ (p : Linear). getD (p .coeffs) 1 (pos 0)) e; c3 = ap (λ (p : Linear). getD (p .coeffs) 2 (pos 0)) e; c4 = ap (λ (p : Linear). getD (p .coeffs) 3 (pos 0)) e; constant = ap (λ (p : Linear). p .const) e }
+lin x y n m e = same-numbers levels-most (x .n) (y .n) n m (ap (λ (p : Linear). p .coeffs) e) (ap (λ (p : Linear). p .const) e)
 
 same-test : (x y : Node) → Tested x → Tested y → testOf x ≡ testOf y → SameTest x y
 same-test x y vx vy e = go (eqZ (x .kind) (pos 1)) (eqZ (y .kind) (pos 1)) refl refl
   where
     go : (p q : Bool) → eqZ (x .kind) (pos 1) ≡ p → eqZ (y .kind) (pos 1) ≡ q → SameTest x y
     go true true p q =
-        let u = vx .rest p in
-        let v = vy .rest q in
         record {
           kind = eqZ-true (x .kind) (pos 1) p ∙ sym (eqZ-true (y .kind) (pos 1) q);
-          c1 = nat-eq (x .c1) (y .c1) (vx .number p) (vy .number q) (condition-same _ _ (sym (test-con x p) ∙ (e ∙ test-con y q)));
-          c2 = u .0 ∙ sym (v .0);
-          c3 = u .1 ∙ sym (v .1);
-          c4 = u .2 ∙ sym (v .2);
-          constant = u .3 ∙ sym (v .3);
+          n = same-firsts (x .n) (y .n) (vx .long ∙ sym (vy .long)) (nat-eq (firstOf x) (firstOf y) (vx .number p) (vy .number q) (condition-same _ _ (sym (test-con x p) ∙ (e ∙ test-con y q)))) (vx .rest p) (vy .rest q);
         }
     go true false p q = condition-linear _ _ (sym (test-con x p) ∙ (e ∙ test-lin y q))
     go false true p q = condition-linear _ _ (sym (test-con y q) ∙ (sym e ∙ test-lin x p))
     go false false p q =
         let s : linear (linOf x) ≡ linear (linOf y) = sym (test-lin x p) ∙ (e ∙ test-lin y q) in
-        lin x y (cc) (vx .kind p ∙ sym (vy .kind q))
+        record { kind = vx .kind p ∙ sym (vy .kind q); n = lin x y (vx .long) (vy .long) (cc) }
 
-same-leaf : (x y : Node) → leafOf x ≡ leafOf y → x .kind ≡ y .kind → SameTest x y × (natAbs (x .high) ≡ natAbs (y .high))
-unfolding leafOf linOf
-same-leaf x y e k = (record { kind = k; c1 = ap (λ (p : Leaf). getD (p .lin .coeffs) 0 (pos 0)) e; c2 = ap (λ (p : Leaf). getD (p .lin .coeffs) 1 (pos 0)) e; c3 = ap (λ (p : Leaf). getD (p .lin .coeffs) 2 (pos 0)) e; c4 = ap (λ (p : Leaf). getD (p .lin .coeffs) 3 (pos 0)) e; constant = ap (λ (p : Leaf). p .lin .const) e }, ap (λ (p : Leaf). p .act) e)
+same-leaf : (x y : Node) → length (x .n) ≡ numbers → length (y .n) ≡ numbers → leafOf x ≡ leafOf y → x .kind ≡ y .kind → SameTest x y × (natAbs (x .high) ≡ natAbs (y .high))
+unfolding leafOf
+same-leaf x y n m e k = (record { kind = k; n = lin x y n m (ap (λ (p : Leaf). p .lin) e) }, ap (λ (p : Leaf). p .act) e)
 
 same-node : (x y : Node) → SameTest x y → x .high ≡ y .high → x .low ≡ y .low → x ≡ y
-same-node x y t h l = λ i. record { kind = t .kind i; c1 = t .c1 i; c2 = t .c2 i; c3 = t .c3 i; c4 = t .c4 i; constant = t .constant i; high = h i; low = l i }
+same-node x y t h l = λ i. record { kind = t .kind i; n = t .n i; high = h i; low = l i }
 
 -- a node that can stand lower can stand here
 pub weaken : {x : Node} {i n : ℕ} → i ≤ n → Valid x i → Valid x n
@@ -208,7 +215,7 @@ module _ {l : List ℤ} {n : ℕ} (G : Good l n) where
       go : (a b : Bool) → eqZ (x .kind) (pos 0) ≡ a → eqZ (y .kind) (pos 0) ≡ b → x ≡ y
       go true true p q =
           let s : leaf (leafOf x) ≡ leaf (leafOf y) = sym (tree-leaf x (trees l n) p) ∙ (e ∙ tree-leaf y (trees l n) q) in
-          let u = same-leaf x y (cc) (eqZ-true (x .kind) (pos 0) p ∙ sym (eqZ-true (y .kind) (pos 0) q)) in
+          let u = same-leaf x y (vx .nums .long) (vy .nums .long) (cc) (eqZ-true (x .kind) (pos 0) p ∙ sym (eqZ-true (y .kind) (pos 0) q)) in
           same-node x y (u .0) (nat-eq (x .high) (y .high) (vx .high-nat) (vy .high-nat) (u .1)) (vx .leaf-low p ∙ sym (vy .leaf-low q))
       go true false p q =
           let s : leaf (leafOf x) ≡ branchOf y (trees l n) = sym (tree-leaf x (trees l n) p) ∙ (e ∙ tree-branch y (trees l n) q) in

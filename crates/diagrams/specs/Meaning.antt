@@ -14,7 +14,7 @@ use Rattle.theory.specs.Widths.{conditions-most}
 use Rattle.theory.specs.Diagram.{Test, later, Tree, leaf, branch, test-of}
 use Rattle.theory.specs.Computation.{Comp, ret}
 use Rattle.theory.specs.Rules.{choose, over, decide, sum, product, best, scale, shift, complement, number, side, substitute}
-use Rattle.diagrams.specs.Nodes.{none, treeAt}
+use Rattle.diagrams.specs.Nodes.{blank, treeAt}
 
 -- the i64 with the low half p and the high half q
 unfoldable pub cOf : ℕ → ℕ → ℤ
@@ -52,4 +52,4 @@ ruleOf l n op f g p q =
     (if (eqb op 10) (choose (testBy l n 10 p) (treeAt l n f) (treeAt l n g))
     (if (eqb op 11) (choose (testBy l n 11 p) (treeAt l n f) (treeAt l n g))
     (if (eqb op 12) (substitute (packed l n g p q) (treeAt l n f))
-    (ret none)))))))))))))
+    (ret blank)))))))))))))

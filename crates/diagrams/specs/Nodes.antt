@@ -6,18 +6,22 @@ use Prim.Native.Nat.{ℕ, zero, suc, _+_, _-_, _*_, _≤_, _<_}
 use lib.Dec.{T, ltb}
 use lib.IntN.{ℤ, pos, natAbs}
 use lib.Signed.{nonNeg}
-use lib.ListN.{length, getD}
+use lib.ListN.{length, getD, take}
 use Rattle.whole.specs.Cases.{if}
-use Rattle.whole.specs.Within.{Small}
-use Rattle.table.specs.Table.{nodeAt, eqZ}
+use Rattle.whole.specs.Linears.{numbers, Smalls}
+use Rattle.table.specs.Table.{node-words, nodeAt, eqZ}
 use Rattle.table.specs.declared.Node.{Node}
-use Rattle.theory.specs.Widths.{conditions-most}
+use Rattle.theory.specs.Widths.{levels-most, conditions-most}
 use Rattle.theory.specs.Diagram.{Linear, Test, now, later, linear, Leaf, Tree, leaf, branch}
 
 -- ---- a node's words
 
 unfoldable pub linOf : Node → Linear
-linOf x = record { coeffs = x .c1 ∷ x .c2 ∷ x .c3 ∷ x .c4 ∷ []; const = x .constant }
+linOf x = record { coeffs = take levels-most (x .n); const = getD (x .n) levels-most (pos 0) }
+
+-- the last number: a linear's constant
+abbrev pub constantOf : Node → ℤ
+constantOf x = getD (x .n) levels-most (pos 0)
 
 unfoldable pub leafOf : Node → Leaf
 leafOf x = record { lin = linOf x; act = natAbs (x .high) }
@@ -26,16 +30,20 @@ leafOf x = record { lin = linOf x; act = natAbs (x .high) }
 unfoldable pub conditionOf : ℕ → Test
 conditionOf k = if (ltb conditions-most k) (later (k - conditions-most)) (now k)
 
+-- the first number: a condition's own
+abbrev pub firstOf : Node → ℤ
+firstOf x = getD (x .n) 0 (pos 0)
+
 unfoldable pub testOf : Node → Test
-testOf x = if (eqZ (x .kind) (pos 1)) (conditionOf (natAbs (x .c1))) (linear (linOf x))
+testOf x = if (eqZ (x .kind) (pos 1)) (conditionOf (natAbs (firstOf x))) (linear (linOf x))
 
 -- what stands where nothing is
-unfoldable pub none : Tree
-none = leaf (record { lin = record { coeffs = []; const = pos 0 }; act = 0 })
+unfoldable pub blank : Tree
+blank = leaf (record { lin = record { coeffs = []; const = pos 0 }; act = 0 })
 
 -- the tree of a node over the trees of those below it
 unfoldable pub treeOf : Node → List Tree → Tree
-treeOf x X = if (eqZ (x .kind) (pos 0)) (leaf (leafOf x)) (branch (testOf x) (getD X (natAbs (x .high)) none) (getD X (natAbs (x .low)) none))
+treeOf x X = if (eqZ (x .kind) (pos 0)) (leaf (leafOf x)) (branch (testOf x) (getD X (natAbs (x .high)) blank) (getD X (natAbs (x .low)) blank))
 
 -- the trees of the first n nodes
 unfoldable pub trees : List ℤ → ℕ → List Tree
@@ -44,24 +52,21 @@ trees l (suc n) = trees l n ++ (treeOf (nodeAt l n) (trees l n) ∷ [])
 
 -- the tree at an index
 abbrev pub treeAt : List ℤ → ℕ → ℕ → Tree
-treeAt l n i = getD (trees l n) i none
+treeAt l n i = getD (trees l n) i blank
 
 -- ---- good nodes
 
--- its five numbers lie within the limits
-pub record Nums (x : Node) : Type 0 where
-  pub c1 : Small (x .c1)
-  pub c2 : Small (x .c2)
-  pub c3 : Small (x .c3)
-  pub c4 : Small (x .c4)
-  pub constant : Small (x .constant)
+-- its numbers are as many as there are words for, and lie within the limits
+abbrev pub Nums : Node → Type 0
+Nums x = Smalls (x .n)
 
 -- a node's test, as it stands in words
 pub record Tested (x : Node) : Type 0 where
   pub kind : eqZ (x .kind) (pos 1) ≡ false → x .kind ≡ pos 2
-  pub number : eqZ (x .kind) (pos 1) ≡ true → T (nonNeg (x .c1))
-  pub bounds : eqZ (x .kind) (pos 1) ≡ true → (0 < natAbs (x .c1)) × (natAbs (x .c1) ≤ conditions-most + conditions-most)
-  pub rest : eqZ (x .kind) (pos 1) ≡ true → (x .c2 ≡ pos 0) × (x .c3 ≡ pos 0) × (x .c4 ≡ pos 0) × (x .constant ≡ pos 0)
+  pub long : length (x .n) ≡ numbers
+  pub number : eqZ (x .kind) (pos 1) ≡ true → T (nonNeg (firstOf x))
+  pub bounds : eqZ (x .kind) (pos 1) ≡ true → (0 < natAbs (firstOf x)) × (natAbs (firstOf x) ≤ conditions-most + conditions-most)
+  pub rest : eqZ (x .kind) (pos 1) ≡ true → (k : ℕ) → 0 < k → getD (x .n) k (pos 0) ≡ pos 0
 
 -- a node that can stand at index n: its branches lie below
 pub record Valid (x : Node) (n : ℕ) : Type 0 where
@@ -87,7 +92,7 @@ pub record Grown (l : List ℤ) (n : ℕ) (l′ : List ℤ) (n′ : ℕ) : Type 
 
 -- an index can be read
 pub record At (l : List ℤ) (i : ℕ) : Type 0 where
-  pub words : i * 8 + 8 ≤ length l
+  pub words : i * node-words + node-words ≤ length l
   pub high : T (nonNeg (nodeAt l i .high))
   pub low : T (nonNeg (nodeAt l i .low))
 

@@ -12,7 +12,7 @@ use Rattle.table.specs.declared.Made.{Made}
 use Rattle.unique.specs.Unique.{Chained}
 use Rattle.theory.specs.Diagram.{Tree}
 use Rattle.theory.specs.Computation.{Comp, Out, done, stopped, run}
-use Rattle.diagrams.specs.Nodes.{none, trees, treeAt, Good, Grown}
+use Rattle.diagrams.specs.Nodes.{blank, trees, treeAt, Good, Grown}
 
 -- ---- the computed cache
 
@@ -46,7 +46,7 @@ pub record Table (rule : Rule) (cap : ℕ) (l : List ℤ) (w : List ℕ) (n : �
 -- ---- what an operation on the table of n nodes did, at the words l′, w′ and the answer r: the computation m
 
 unfoldable pub outOf : Made → List Tree → Out Tree
-outOf r X = if (eqb (r .stop) 0) (done (getD X (r .at) none) X) (stopped (r .stop))
+outOf r X = if (eqb (r .stop) 0) (done (getD X (r .at) blank) X) (stopped (r .stop))
 
 pub record Ran (rule : Rule) (cap : ℕ) (l : List ℤ) (w : List ℕ) (n : ℕ) (m : Comp Tree) (l′ : List ℤ) (w′ : List ℕ) (r : Made) : Type 0 where
   pub ran : outOf r (trees l′ (r .count)) ≡ run cap m (trees l n)

@@ -9,8 +9,6 @@ ghost use Rattle.diagrams.specs.Nodes.{linOf, testOf, treeOf, trees, tre
 ghost use Rattle.diagrams.specs.Table.{Bare, Grew};
 use table::Made;
 use table::Node;
-use whole::limits::LIMIT;
-use whole::limits::mag;
 
 // Looks a node up or makes it.
 pub fn intern(nodes: &mut [i64], work: &mut [u32], cap: usize, count: usize, x: Node) -> Made
@@ -40,13 +38,10 @@ pub fn join_test(
             count,
         };
     }
+    let n = t.n;
     let x = Node {
         kind: t.kind,
-        c1: t.c1,
-        c2: t.c2,
-        c3: t.c3,
-        c4: t.c4,
-        constant: t.constant,
+        n,
         high: h as i64,
         low: l as i64,
     };
@@ -74,22 +69,8 @@ pub fn join(
 pub fn within(x: Node) -> bool
     ensures { λ r. ⌜ r ≡ small-linear (linOf x) ⌝ }
 {
-    if mag(x.c1) > LIMIT {
-        return false;
-    }
-    if mag(x.c2) > LIMIT {
-        return false;
-    }
-    if mag(x.c3) > LIMIT {
-        return false;
-    }
-    if mag(x.c4) > LIMIT {
-        return false;
-    }
-    if mag(x.constant) > LIMIT {
-        return false;
-    }
-    true
+    let n = x.n;
+    whole::linears::within(n)
 }
 
 // A leaf without action, its numbers judged first.

@@ -5,13 +5,15 @@ ghost use lib.Dec.{T};
 ghost use lib.Signed.{nonNeg};
 ghost use lib.IntN.{natAbs};
 ghost use Rattle.theory.specs.Widths.{conditions-most};
-ghost use Rattle.theory.specs.Diagram.{cmpZ};
 ghost use Rattle.diagrams.specs.Nodes.{Nums};
-ghost use Rattle.diagrams.specs.Roots.{ordNum, orderOf, laterNode, fiveOf, fiveNode, namedNode, testNode, Readable, downOf};
+ghost use Rattle.diagrams.specs.Roots.{ordNum, orderOf, laterNode, namedNode, testNode, Readable, downOf};
 use super::Down;
+use super::codes::CHOOSE_LATER;
 use table::Node;
-use whole::Five;
-use whole::divisors::divided;
+use whole::NUMBERS;
+use whole::linears::compare;
+use whole::linears::compare_two;
+use whole::linears::divided;
 
 // A branch word as an index.
 pub fn index(z: i64) -> usize
@@ -44,44 +46,17 @@ pub fn below(x: Node) -> Down
     }
 }
 
-// 0, 1, 2: smaller, equal, greater.
-pub fn compare(a: i64, b: i64) -> usize
-    ensures { λ r. ⌜ r ≡ ordNum (cmpZ a b) ⌝ }
-{
-    if a < b {
-        return 0;
-    }
-    if b < a {
-        return 2;
-    }
-    1
-}
-
-// The order of two tests, by kind, coefficients and constant.
+// The order of two tests, by kind and then by their numbers.
 pub fn order(x: Node, y: Node) -> usize
     ensures { λ r. ⌜ r ≡ ordNum (orderOf x y) ⌝ }
 {
-    let o = compare(x.kind, y.kind);
+    let o = compare_two(x.kind, y.kind);
     if o != 1 {
         return o;
     }
-    let p = compare(x.c1, y.c1);
-    if p != 1 {
-        return p;
-    }
-    let q = compare(x.c2, y.c2);
-    if q != 1 {
-        return q;
-    }
-    let r = compare(x.c3, y.c3);
-    if r != 1 {
-        return r;
-    }
-    let s = compare(x.c4, y.c4);
-    if s != 1 {
-        return s;
-    }
-    compare(x.constant, y.constant)
+    let a = x.n;
+    let b = y.n;
+    compare(a, b)
 }
 
 // The next step's condition k as a test.
@@ -89,42 +64,12 @@ pub fn later(k: usize) -> Node
     requires { ⌜ k ≤ conditions-most ⌝ }
     ensures { λ r. ⌜ r ≡ laterNode k ⌝ }
 {
+    let number = (4 + k) as i64;
+    let mut n = [0i64; NUMBERS];
+    n[0] = number;
     Node {
         kind: 1,
-        c1: (4 + k) as i64,
-        c2: 0,
-        c3: 0,
-        c4: 0,
-        constant: 0,
-        high: 0,
-        low: 0,
-    }
-}
-
-// A node's five numbers, as the divisor takes them in.
-fn five(x: Node) -> Five
-    ensures { λ r. ⌜ r ≡ fiveOf x ⌝ }
-{
-    Five {
-        a: x.constant,
-        b: x.c1,
-        c: x.c2,
-        d: x.c3,
-        e: x.c4,
-    }
-}
-
-// Five numbers as a linear test.
-fn linear(v: Five) -> Node
-    ensures { λ r. ⌜ r ≡ fiveNode v ⌝ }
-{
-    Node {
-        kind: 2,
-        c1: v.b,
-        c2: v.c,
-        c3: v.d,
-        c4: v.e,
-        constant: v.a,
+        n,
         high: 0,
         low: 0,
     }
@@ -136,7 +81,14 @@ pub fn named(x: Node) -> Node
     ensures { λ r. ⌜ r ≡ namedNode x ⌝ }
 {
     if x.kind == 0 {
-        return linear(divided(five(x)));
+        let l = x.n;
+        let n = divided(l);
+        return Node {
+            kind: 2,
+            n,
+            high: 0,
+            low: 0,
+        };
     }
     x
 }
@@ -146,7 +98,7 @@ pub fn test_at(nodes: &[i64], op: usize, p: usize) -> Node
     requires { ⌜ Readable (now nodes) op p ⌝ }
     ensures { λ r. ⌜ r ≡ testNode (now (nodes .entry)) op p ⌝ }
 {
-    if op == 10 {
+    if op == CHOOSE_LATER {
         return later(p);
     }
     named(table::get(nodes, p))

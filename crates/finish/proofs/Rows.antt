@@ -3,84 +3,101 @@ use mathlib.Core.Path.{_≡_, refl, sym, ap, ap₂, _∙_}
 use mathlib.Core.Bool.{Bool, true, false}
 use mathlib.Core.List.{List, [], _∷_, _++_, append-assoc, append-nil}
 use Prim.Native.Nat.{ℕ, zero, suc, _+_, _-_, _*_, _≤_, _<_}
+use native.Mathlib.Nat.{suc-inj}
 use native.Mathlib.Omega.{arith}
 use borrow.Author.Tests.{ltb-true}
 use lib.Dec.{ltb}
 use lib.IntN.{ℤ, pos, natAbs}
 use lib.Signed.{pos-natAbs}
-use lib.ListN.{length, getD, take, drop}
-use lib.Seq.{take-add, drop-cons}
+use lib.ListN.{length, getD, take, drop, replicate}
+use lib.Seq.{take-add, drop-cons, drop-drop, length-take-le}
 use Rattle.whole.specs.Cases.{if}
+use Rattle.whole.specs.Linears.{numbers}
 use Rattle.table.proofs.Look.{eqZ-true}
-use Rattle.table.specs.Table.{nodeAt, eqZ}
+use Rattle.table.specs.Table.{high-word, low-word, nodeAt, eqZ}
 use Rattle.table.specs.declared.Node.{Node}
-use Rattle.theory.specs.Widths.{conditions-most, node-words}
+use Rattle.theory.specs.Widths.{levels-most, conditions-most, node-words}
 use Rattle.theory.specs.Diagram.{now, later, linear, Tree, leaf, branch}
-use Rattle.theory.specs.Solve.{number-of, padded, test-words, row, rows}
-use Rattle.diagrams.specs.Nodes.{linOf, leafOf, conditionOf, testOf, none, Tested, Valid}
+use Rattle.theory.specs.Solve.{number-of, padded, linear-words, test-words, row, rows}
+use Rattle.diagrams.specs.Nodes.{linOf, leafOf, firstOf, conditionOf, testOf, blank, Tested, Valid}
+use Rattle.diagrams.proofs.Trees.{split-last, same-firsts}
+use Rattle.diagrams.proofs.Meanings.{zeros-behind}
 use Rattle.numbering.specs.Number.{listOf}
 
 -- ---- a node's words and its row
 
 unfoldable pub words-of : Node → List ℤ
-words-of x = x .kind ∷ x .c1 ∷ x .c2 ∷ x .c3 ∷ x .c4 ∷ x .constant ∷ x .high ∷ x .low ∷ []
+words-of x = x .kind ∷ (x .n ++ (x .high ∷ x .low ∷ []))
 
 -- the same node over other branches
 abbrev pub over : Node → ℤ → ℤ → Node
-over x h l = record { kind = x .kind; c1 = x .c1; c2 = x .c2; c3 = x .c3; c4 = x .c4; constant = x .constant; high = h; low = l }
+over x h l = record { kind = x .kind; n = x .n; high = h; low = l }
+
+padded-all : (m : ℕ) (l : List ℤ) → length l ≡ m → padded m l ≡ l
+unfolding padded
+padded-all zero [] e = refl
+padded-all zero (z ∷ l) e = absurd (omega arith)
+padded-all (suc m) [] e = absurd (omega arith)
+padded-all (suc m) (z ∷ l) e = ap (λ (r : List ℤ). z ∷ r) (padded-all m l (suc-inj e))
+
+-- a linear's words are its numbers
+linear-word : (x : Node) → length (x .n) ≡ numbers → linear-words (linOf x) ≡ x .n
+unfolding linOf
+linear-word x e =
+    ap (λ (t : List ℤ). t ++ (getD (x .n) levels-most (pos 0) ∷ [])) (padded-all levels-most (take levels-most (x .n)) (length-take-le levels-most (x .n) (omega arith)))
+    ∙ split-last levels-most (x .n) e
 
 pub row-leaf : (Y : List Tree) (x : Node) (n : ℕ) → Valid x n → eqZ (x .kind) (pos 0) ≡ true → words-of x ≡ row Y (leaf (leafOf x))
-unfolding words-of row padded leafOf linOf
+unfolding words-of row leafOf
 row-leaf Y x n v e =
     let k = eqZ-true (x .kind) (pos 0) e in
+    let a = sym (linear-word x (v .nums .long)) in
     let h = sym (pos-natAbs (x .high) (v .high-nat)) in
     let l = v .leaf-low e in
-    λ t. k t ∷ x .c1 ∷ x .c2 ∷ x .c3 ∷ x .c4 ∷ x .constant ∷ h t ∷ l t ∷ []
+    λ t. k t ∷ (a t ++ (h t ∷ l t ∷ []))
 
 -- a condition's number is the word that it came from
-condition-word : (k : ℕ) → 0 < k → test-words (conditionOf k) ≡ pos 1 ∷ pos k ∷ pos 0 ∷ pos 0 ∷ pos 0 ∷ pos 0 ∷ []
+condition-word : (k : ℕ) → 0 < k → test-words (conditionOf k) ≡ pos 1 ∷ pos k ∷ replicate levels-most (pos 0)
 unfolding conditionOf test-words padded
 condition-word k q = go (ltb conditions-most k) refl
   where
-    go : (b : Bool) → ltb conditions-most k ≡ b → test-words (if b (later (k - conditions-most)) (now k)) ≡ pos 1 ∷ pos k ∷ pos 0 ∷ pos 0 ∷ pos 0 ∷ pos 0 ∷ []
-    go true e = ap (λ (m : ℕ). pos 1 ∷ pos m ∷ pos 0 ∷ pos 0 ∷ pos 0 ∷ pos 0 ∷ []) (let h = ltb-true conditions-most k e in let r : conditions-most + (k - conditions-most) ≡ k = omega arith in r)
+    go : (b : Bool) → ltb conditions-most k ≡ b → test-words (if b (later (k - conditions-most)) (now k)) ≡ pos 1 ∷ pos k ∷ replicate levels-most (pos 0)
+    go true e = ap (λ (m : ℕ). pos 1 ∷ pos m ∷ replicate levels-most (pos 0)) (let h = ltb-true conditions-most k e in let r : conditions-most + (k - conditions-most) ≡ k = omega arith in r)
     go false e = refl
 
-test-word : (x : Node) → Tested x → test-words (testOf x) ≡ x .kind ∷ x .c1 ∷ x .c2 ∷ x .c3 ∷ x .c4 ∷ x .constant ∷ []
-unfolding testOf test-words padded linOf
+test-word : (x : Node) → Tested x → test-words (testOf x) ≡ x .kind ∷ x .n
+unfolding testOf test-words
 test-word x v = go (eqZ (x .kind) (pos 1)) refl
   where
-    go : (b : Bool) → eqZ (x .kind) (pos 1) ≡ b → test-words (if b (conditionOf (natAbs (x .c1))) (linear (linOf x))) ≡ x .kind ∷ x .c1 ∷ x .c2 ∷ x .c3 ∷ x .c4 ∷ x .constant ∷ []
+    go : (b : Bool) → eqZ (x .kind) (pos 1) ≡ b → test-words (if b (conditionOf (natAbs (firstOf x))) (linear (linOf x))) ≡ x .kind ∷ x .n
     go true e =
         let k = sym (eqZ-true (x .kind) (pos 1) e) in
-        let a = pos-natAbs (x .c1) (v .number e) in
-        let r = v .rest e in
-        condition-word (natAbs (x .c1)) (v .bounds e .0) ∙ (λ t. k t ∷ a t ∷ sym (r .0) t ∷ sym (r .1) t ∷ sym (r .2) t ∷ sym (r .3) t ∷ [])
-    go false e = let k = sym (v .kind e) in λ t. k t ∷ x .c1 ∷ x .c2 ∷ x .c3 ∷ x .c4 ∷ x .constant ∷ []
+        let a : pos (natAbs (firstOf x)) ∷ replicate levels-most (pos 0) ≡ x .n = same-firsts (pos (natAbs (firstOf x)) ∷ replicate levels-most (pos 0)) (x .n) (sym (v .long)) (pos-natAbs (firstOf x) (v .number e)) (zeros-behind (pos (natAbs (firstOf x)))) (v .rest e) in
+        condition-word (natAbs (firstOf x)) (v .bounds e .0) ∙ (λ t. k t ∷ a t)
+    go false e = let k = sym (v .kind e) in λ t. k t ∷ linear-word x (v .long) t
 
 pub row-branch : (Y : List Tree) (x : Node) (h l : Tree) → Tested x → words-of (over x (pos (number-of h Y)) (pos (number-of l Y))) ≡ row Y (branch (testOf x) h l)
 unfolding words-of row
 row-branch Y x h l v = sym (ap (λ (t : List ℤ). t ++ (pos (number-of h Y) ∷ pos (number-of l Y) ∷ [])) (test-word x v))
 
--- ---- eight words
+-- ---- a node's words, one after another
 
 next : (l : List ℤ) (a b n : ℕ) → a < length l → b ≡ suc a → take (suc n) (drop a l) ≡ getD l a (pos 0) ∷ take n (drop b l)
 next l a b n h e = ap (take (suc n)) (drop-cons l a (pos 0) h) ∙ ap (λ (k : ℕ). getD l a (pos 0) ∷ take n (drop k l)) (sym e)
 
-eight : (l : List ℤ) (a : ℕ) → a + 8 ≤ length l → take 8 (drop a l) ≡ getD l a (pos 0) ∷ getD l (a + 1) (pos 0) ∷ getD l (a + 2) (pos 0) ∷ getD l (a + 3) (pos 0) ∷ getD l (a + 4) (pos 0) ∷ getD l (a + 5) (pos 0) ∷ getD l (a + 6) (pos 0) ∷ getD l (a + 7) (pos 0) ∷ []
-eight l a h =
-    next l a (a + 1) 7 (omega arith) (omega arith)
-    ∙ ap (λ (t : List ℤ). getD l a (pos 0) ∷ t) (next l (a + 1) (a + 2) 6 (omega arith) (omega arith)
-    ∙ ap (λ (t : List ℤ). getD l (a + 1) (pos 0) ∷ t) (next l (a + 2) (a + 3) 5 (omega arith) (omega arith)
-    ∙ ap (λ (t : List ℤ). getD l (a + 2) (pos 0) ∷ t) (next l (a + 3) (a + 4) 4 (omega arith) (omega arith)
-    ∙ ap (λ (t : List ℤ). getD l (a + 3) (pos 0) ∷ t) (next l (a + 4) (a + 5) 3 (omega arith) (omega arith)
-    ∙ ap (λ (t : List ℤ). getD l (a + 4) (pos 0) ∷ t) (next l (a + 5) (a + 6) 2 (omega arith) (omega arith)
-    ∙ ap (λ (t : List ℤ). getD l (a + 5) (pos 0) ∷ t) (next l (a + 6) (a + 7) 1 (omega arith) (omega arith)
-    ∙ ap (λ (t : List ℤ). getD l (a + 6) (pos 0) ∷ t) (next l (a + 7) (a + 8) 0 (omega arith) (omega arith))))))))
+all-words : (l : List ℤ) (a : ℕ) → a + node-words ≤ length l → take node-words (drop a l) ≡ getD l a (pos 0) ∷ (take numbers (drop (a + 1) l) ++ (getD l (a + high-word) (pos 0) ∷ getD l (a + low-word) (pos 0) ∷ []))
+all-words l a h =
+    next l a (a + 1) (numbers + 2) (omega arith) (omega arith)
+    ∙ ap (λ (t : List ℤ). getD l a (pos 0) ∷ t)
+    (take-add numbers 2 (drop (a + 1) l)
+    ∙ ap (λ (t : List ℤ). take numbers (drop (a + 1) l) ++ t)
+    (ap (take 2) (drop-drop numbers (a + 1) l ∙ ap (λ (k : ℕ). drop k l) (let e : a + 1 + numbers ≡ a + high-word = omega arith in e))
+    ∙ (next l (a + high-word) (a + low-word) 1 (omega arith) (omega arith)
+    ∙ ap (λ (t : List ℤ). getD l (a + high-word) (pos 0) ∷ t) (next l (a + low-word) (a + node-words) 0 (omega arith) (omega arith)))))
 
-take-words : (l : List ℤ) (k : ℕ) → k * 8 + 8 ≤ length l → take (k * 8 + 8) l ≡ take (k * 8) l ++ words-of (nodeAt l k)
+take-words : (l : List ℤ) (k : ℕ) → k * node-words + node-words ≤ length l → take (k * node-words + node-words) l ≡ take (k * node-words) l ++ words-of (nodeAt l k)
 unfolding words-of nodeAt
-take-words l k h = take-add (k * 8) 8 l ∙ ap (λ (t : List ℤ). take (k * 8) l ++ t) (eight l (k * 8) h)
+take-words l k h = take-add (k * node-words) node-words l ∙ ap (λ (t : List ℤ). take (k * node-words) l ++ t) (all-words l (k * node-words) h)
 
 -- ---- rows one after another
 
@@ -89,11 +106,11 @@ unfolding rows
 rows-more Y [] t = append-nil (row Y t)
 rows-more Y (x ∷ L) t = ap (λ (r : List ℤ). row Y x ++ r) (rows-more Y L t) ∙ sym (append-assoc (row Y x) (rows Y L) (row Y t))
 
-pub rows-take : (l : List ℤ) (Y X : List Tree) (w : List ℕ) (k : ℕ) → k * node-words ≤ length l → ((m : ℕ) → m < k → words-of (nodeAt l m) ≡ row Y (getD X (getD w m 0) none)) → take (k * node-words) l ≡ rows Y (listOf X w k)
+pub rows-take : (l : List ℤ) (Y X : List Tree) (w : List ℕ) (k : ℕ) → k * node-words ≤ length l → ((m : ℕ) → m < k → words-of (nodeAt l m) ≡ row Y (getD X (getD w m 0) blank)) → take (k * node-words) l ≡ rows Y (listOf X w k)
 unfolding rows listOf
 rows-take l Y X w zero h e = refl
 rows-take l Y X w (suc k) h e =
-    ap (λ (z : ℕ). take z l) (let q : suc k * 8 ≡ k * 8 + 8 = omega arith in q)
+    ap (λ (z : ℕ). take z l) (let q : suc k * node-words ≡ k * node-words + node-words = omega arith in q)
     ∙ (take-words l k (omega arith)
     ∙ (ap₂ (λ (s t : List ℤ). s ++ t) (rows-take l Y X w k (omega arith) (λ m q. e m (omega arith))) (e k (omega arith))
-    ∙ sym (rows-more Y (listOf X w k) (getD X (getD w k 0) none))))
+    ∙ sym (rows-more Y (listOf X w k) (getD X (getD w k 0) blank))))

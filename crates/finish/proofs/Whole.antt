@@ -15,7 +15,7 @@ use Rattle.theory.specs.Diagram.{Tree}
 use Rattle.theory.specs.Solve.{number-of, row, rows, table-of, solved-nodes, solved-stages}
 use Rattle.theory.specs.laws.Table.{number-below, number-entry}
 use Rattle.theory.specs.laws.Words.{rows-length}
-use Rattle.diagrams.specs.Nodes.{none, trees, treeAt}
+use Rattle.diagrams.specs.Nodes.{blank, trees, treeAt}
 use Rattle.numbering.specs.Number.{Held, Roots, treesOf, listOf, Numbered, Listed}
 use Rattle.diagrams.proofs.Trees.{at-leaf, at-branch}
 use Rattle.numbering.proofs.Numbers.{number-in}
@@ -26,21 +26,21 @@ use Rattle.finish.proofs.Rows.{words-of, over, row-leaf, row-branch, ro
 
 -- ---- numbers and places are inverse
 
-list-at : (X : List Tree) (w : List ℕ) (c m : ℕ) → m < c → getD (listOf X w c) m none ≡ getD X (getD w m 0) none
+list-at : (X : List Tree) (w : List ℕ) (c m : ℕ) → m < c → getD (listOf X w c) m blank ≡ getD X (getD w m 0) blank
 unfolding listOf
 list-at X w zero m h = absurd (omega arith)
 list-at X w (suc c) m h = ⊎-elim
-    (λ (q : m < c). List·getD-append (listOf X w c) _ none m (let e = list-length X w c in omega arith) ∙ list-at X w c m q)
-    (λ (q : m ≡ c). getD-at (listOf X w c) (getD X (getD w c 0) none) [] none m (list-length X w c ∙ sym q) ∙ ap (λ (k : ℕ). getD X (getD w k 0) none) (sym q))
+    (λ (q : m < c). List·getD-append (listOf X w c) _ blank m (let e = list-length X w c in omega arith) ∙ list-at X w c m q)
+    (λ (q : m ≡ c). getD-at (listOf X w c) (getD X (getD w c 0) blank) [] blank m (list-length X w c ∙ sym q) ∙ ap (λ (k : ℕ). getD X (getD w k 0) blank) (sym q))
     (split c m h)
 
-number-found : (t : Tree) (X : List Tree) (w : List ℕ) (c m : ℕ) → number-of t (listOf X w c) ≡ suc m → (m < c) × (getD X (getD w m 0) none ≡ t)
+number-found : (t : Tree) (X : List Tree) (w : List ℕ) (c m : ℕ) → number-of t (listOf X w c) ≡ suc m → (m < c) × (getD X (getD w m 0) blank ≡ t)
 number-found t X w c m e =
     let q = number-below t (listOf X w c) in
     let s = list-length X w c in
     let h : m < c = omega arith in
     let i : number-of t (listOf X w c) - 1 ≡ m = omega arith in
-    (h, sym (list-at X w c m h) ∙ (ap (λ (k : ℕ). getD (listOf X w c) k none) (sym i) ∙ number-entry none t (listOf X w c) (number-in t (listOf X w c) (λ z. omega arith))))
+    (h, sym (list-at X w c m h) ∙ (ap (λ (k : ℕ). getD (listOf X w c) k blank) (sym i) ∙ number-entry blank t (listOf X w c) (number-in t (listOf X w c) (λ z. omega arith))))
 
 module _ {cap : ℕ} {l : List ℤ} {n : ℕ} (G : Held cap l n) {w : List ℕ} {c : ℕ} (N : Numbered cap l n w c) where
   abbrev X : List Tree
@@ -83,7 +83,7 @@ module _ {cap : ℕ} {l : List ℤ} {n : ℕ} (G : Held cap l n) {w : List ℕ} 
     inside : c * node-words ≤ length l₂
     inside = let a = len in let b = numbered-fits N in let d = G .room in let e = G .words in omega arith
 
-    placed : (m : ℕ) → m < c → words-of (nodeAt l₂ m) ≡ row Y (getD X (getD w m 0) none)
+    placed : (m : ℕ) → m < c → words-of (nodeAt l₂ m) ≡ row Y (getD X (getD w m 0) blank)
     placed m h = ap words-of (A .at m h ∙ W .at (getD w m 0) (N .within m h)) ∙ renumbered-row (getD w m 0) (N .within m h)
 
     table : {l₃ : List ℤ} → l₃ ≡ take (c * node-words) l₂ ++ replicate (length l₂ - c * node-words) (pos 0) → l₃ ≡ rows Y Y ++ replicate (length l - length (rows Y Y)) (pos 0)

@@ -5,6 +5,7 @@ mod stages; // stages.rt: the stage words
 ghost use mathlib.Core.Path.{_≡_};
 ghost use Prim.Native.Nat.{_*_, _≤_};
 ghost use lib.ListN.{length};
+ghost use Rattle.table.specs.Table.{node-words};
 ghost use Rattle.theory.specs.Widths.{nodes-most};
 ghost use Rattle.numbering.specs.Number.{Held, Roots, Listed, treesOf};
 ghost use Rattle.arrange.specs.Arrange.{Inverse};
@@ -21,11 +22,11 @@ fn number_stages(nodes: &[i64], work: &mut [u32], roots: &[u32], cap: usize, cou
 
 // The first c nodes by their numbers, and nothing else.
 fn lay_out(nodes: &mut [i64], work: &mut [u32], cap: usize, count: usize, c: usize)
-    requires { ⌜ Inverse cap count (now work) 0 c × (cap ≤ nodes-most) × (cap * 8 ≤ length (now nodes)) ⌝ }
+    requires { ⌜ Inverse cap count (now work) 0 c × (cap ≤ nodes-most) × (cap * node-words ≤ length (now nodes)) ⌝ }
     ensures { λ _. ⌜ LaidOut (now (nodes .entry)) (now (nodes .exit)) (now (work .entry)) (now (work .exit)) c ⌝ }
 {
     arrange::arrange(nodes, work, cap, count, c);
-    zeros::nodes_from(nodes, c * 8);
+    zeros::nodes_from(nodes, c * table::NODE_WORDS);
     zeros::words_from(work, 0);
 }
 

@@ -1,176 +1,107 @@
 -- Linears added, subtracted and multiplied: as the code computes them, and as leaves' rules name them.
 use mathlib.Core.Path.{_≡_, refl, sym, ap, ap₂, _∙_}
 use mathlib.Core.Bool.{Bool, true, false, _&&_}
-use mathlib.Core.List.{List, [], _∷_}
-use Prim.Native.Nat.{ℕ, suc, _^_, _<_}
+use mathlib.Core.List.{List, [], _∷_, map}
+use Prim.Native.Nat.{ℕ, zero, suc, _+_, _^_, _≤_, _<_}
 use native.Mathlib.Omega.{arith}
-use borrow.Author.Tests.{le-leb, lt-leb, leb-true, eqb-true, eqb-false}
-use lib.Dec.{eqb, isEq}
-use lib.IntN.{ℤ, pos, negsuc, natAbs, _+ℤ_, _-ℤ_, _*ℤ_}
+use borrow.Author.Tests.{leb-true}
+use lib.Dec.{isEq}
+use lib.IntN.{ℤ, pos, negsuc, _+ℤ_, _*ℤ_}
+use lib.ListN.{length, getD, take, drop, drop-of-length-le}
+use lib.Seq.{length-take-le, getD-take}
 use mir.Syntax.{w64}
 use mir.Val.{SFits, ofZ}
 use lib.Signed.{leZ, mag}
 use Rattle.whole.specs.Cases.{if, from-true}
-use Rattle.whole.specs.Int.{minus-one}
-use Rattle.whole.specs.Within.{limit, Small, small, limited}
-use Rattle.whole.specs.WithinLaws.{limited-gives, limited-lacks}
-use Rattle.whole.specs.declared.Within.{Within}
-use Rattle.whole.specs.declared.Within.the-variants.{Is, Over}
-use Rattle.whole.proofs.Signed.{R, back, by-abs, small-fits, small-back}
-use Rattle.whole.proofs.Laws.{sum-fits, difference-fits}
+use Rattle.whole.specs.Linears.{numbers, clipped, clipL}
+use Rattle.whole.specs.LinearsLaws.{add-take, add-at, scale-length, scale-take, scale-at, clip-at, sub-length, rest}
+use Rattle.whole.specs.Within.{small}
+use Rattle.whole.proofs.Clipped.{small-clipped, clipped-in}
+use Rattle.whole.proofs.Signed.{R, back}
 use Rattle.table.proofs.Words.{same-bits}
 use Rattle.table.specs.declared.Node.{Node}
+use Rattle.theory.specs.Widths.{levels-most}
 use Rattle.theory.specs.laws.Comps.{run-judge, cmpZ-eq, cmpZ-refl}
 use Rattle.theory.specs.Diagram.{Linear, Tree, leaf, plain, cmpZ, zeros, test-of, addL, scaleL, _⊞_, _⊠_, _⊟_}
 use Rattle.theory.specs.Computation.{ret, make, stopped, run}
 use Rattle.theory.specs.Rules.{choose, decide, make-leaf}
 use Rattle.theory.specs.Valid.{all, small-linear}
-use Rattle.diagrams.specs.Nodes.{linOf, Nums}
-use Rattle.diagrams.proofs.Judging.{nums-of}
-use Rattle.leaves.specs.Leaves.{sumNode, lessNode, clipped, productNode}
-
--- ---- two numbers within the limits
-
-module _ (a b : ℤ) (p : Small a) (q : Small b) where
-  pub add-fits : SFits w64 (R a +ℤ R b)
-  add-fits = sum-fits a b (small-fits a p) (small-fits b q) (p, q)
-
-  add-is : R (R a +ℤ R b) ≡ a +ℤ b
-  add-is = back (R a +ℤ R b) add-fits ∙ ap₂ _+ℤ_ (small-back a p) (small-back b q)
-
-  pub sub-fits : SFits w64 (R a -ℤ R b)
-  sub-fits = difference-fits a b (small-fits a p) (small-fits b q) (p, q)
-
-  sub-is : R (R a -ℤ R b) ≡ a -ℤ b
-  sub-is = back (R a -ℤ R b) sub-fits ∙ ap₂ _-ℤ_ (small-back a p) (small-back b q)
-
-module _ (x y : Node) (p : Nums x × Nums y) where
-  pub plus-is : _≡_ {A = Node} (record { kind = pos 0; c1 = R (R (x .c1) +ℤ R (y .c1)); c2 = R (R (x .c2) +ℤ R (y .c2)); c3 = R (R (x .c3) +ℤ R (y .c3)); c4 = R (R (x .c4) +ℤ R (y .c4)); constant = R (R (x .constant) +ℤ R (y .constant)); high = pos 0; low = pos 0 }) (sumNode x y)
-  unfolding sumNode
-  plus-is = λ i. record {
-    kind = pos 0;
-    c1 = add-is (x .c1) (y .c1) (p .0 .c1) (p .1 .c1) i;
-    c2 = add-is (x .c2) (y .c2) (p .0 .c2) (p .1 .c2) i;
-    c3 = add-is (x .c3) (y .c3) (p .0 .c3) (p .1 .c3) i;
-    c4 = add-is (x .c4) (y .c4) (p .0 .c4) (p .1 .c4) i;
-    constant = add-is (x .constant) (y .constant) (p .0 .constant) (p .1 .constant) i;
-    high = pos 0;
-    low = pos 0;
-  }
-
-  pub less-is : _≡_ {A = Node} (record { kind = pos 0; c1 = R (R (x .c1) -ℤ R (y .c1)); c2 = R (R (x .c2) -ℤ R (y .c2)); c3 = R (R (x .c3) -ℤ R (y .c3)); c4 = R (R (x .c4) -ℤ R (y .c4)); constant = R (R (x .constant) -ℤ R (y .constant)); high = pos 0; low = pos 0 }) (lessNode x y)
-  unfolding lessNode
-  less-is = λ i. record {
-    kind = pos 0;
-    c1 = sub-is (x .c1) (y .c1) (p .0 .c1) (p .1 .c1) i;
-    c2 = sub-is (x .c2) (y .c2) (p .0 .c2) (p .1 .c2) i;
-    c3 = sub-is (x .c3) (y .c3) (p .0 .c3) (p .1 .c3) i;
-    c4 = sub-is (x .c4) (y .c4) (p .0 .c4) (p .1 .c4) i;
-    constant = sub-is (x .constant) (y .constant) (p .0 .constant) (p .1 .constant) i;
-    high = pos 0;
-    low = pos 0;
-  }
+use Rattle.diagrams.specs.Nodes.{linOf, constantOf, Nums}
+use Rattle.leaves.specs.Leaves.{leafNode, sumNode, lessNode, productNode}
 
 -- ---- the linear of a result
 
-pub sum-lin : (x y : Node) → linOf (sumNode x y) ≡ linOf x ⊞ linOf y
-unfolding sumNode linOf _⊞_ addL
-sum-lin x y = refl
+pub sum-lin : (x y : Node) → Nums x → Nums y → linOf (sumNode x y) ≡ linOf x ⊞ linOf y
+unfolding sumNode linOf _⊞_
+sum-lin x y p q =
+    let e : length (x .n) ≡ length (y .n) = p .long ∙ sym (q .long) in
+    λ i. record { coeffs = add-take levels-most (x .n) (y .n) e i; const = add-at (x .n) (y .n) e levels-most i }
 
-minus : (a b : ℤ) → a -ℤ b ≡ a +ℤ (negsuc 0 *ℤ b)
-minus a b = ap (λ (z : ℤ). a +ℤ z) (sym (minus-one b))
+pub less-lin : (x y : Node) → Nums x → Nums y → linOf (lessNode x y) ≡ linOf x ⊟ linOf y
+unfolding lessNode linOf _⊟_ _⊞_ _⊠_
+less-lin x y p q =
+    let d : length (scaleL (negsuc 0) (y .n)) ≡ length (y .n) = scale-length (negsuc 0) (y .n) in
+    let e : length (x .n) ≡ length (scaleL (negsuc 0) (y .n)) = p .long ∙ sym (d ∙ q .long) in
+    let k : levels-most < length (y .n) = let w = q .long in omega arith in
+    λ i. record {
+      coeffs = (add-take levels-most (x .n) (scaleL (negsuc 0) (y .n)) e ∙ ap (addL (take levels-most (x .n))) (scale-take levels-most (negsuc 0) (y .n))) i;
+      const = (add-at (x .n) (scaleL (negsuc 0) (y .n)) e levels-most ∙ ap (λ (z : ℤ). constantOf x +ℤ z) (scale-at (negsuc 0) (y .n) levels-most k)) i;
+    }
 
-pub less-lin : (x y : Node) → linOf (lessNode x y) ≡ linOf x ⊟ linOf y
-unfolding lessNode linOf _⊟_ _⊞_ _⊠_ addL scaleL
-less-lin x y = λ i. record {
-  coeffs = minus (x .c1) (y .c1) i ∷ minus (x .c2) (y .c2) i ∷ minus (x .c3) (y .c3) i ∷ minus (x .c4) (y .c4) i ∷ [];
-  const = minus (x .constant) (y .constant) i;
-}
+both-true : (a b : Bool) → (a && b) ≡ true → (a ≡ true) × (b ≡ true)
+both-true true b e = (refl, e)
+both-true false b e = absurd (let z : _≡_ {A = ℕ} 0 1 = cc in omega arith)
 
 -- ---- a product, clipped
 
-first-over : small (pos (suc limit)) ≡ false
-unfolding small
-first-over = lt-leb (suc limit) limit (omega arith)
+clipped-all : (l : List ℤ) → all small (map clipped l) ≡ all small l
+unfolding all
+clipped-all [] = refl
+clipped-all (z ∷ l) = ap₂ _&&_ (small-clipped z) (clipped-all l)
 
-small-clipped : (z : ℤ) → small (clipped z) ≡ small z
-unfolding clipped
-small-clipped z = go (small z) refl
-  where
-    go : (b : Bool) → small z ≡ b → small (if b z (pos (suc limit))) ≡ b
-    go true e = e
-    go false e = first-over
+clipped-same : (l : List ℤ) → all small (map clipped l) ≡ true → map clipped l ≡ l
+unfolding all small
+clipped-same [] e = refl
+clipped-same (z ∷ l) e =
+    let d = both-true (small (clipped z)) (all small (map clipped l)) e in
+    ap₂ _∷_ (clipped-in z (record { small = leb-true _ _ (d .0) })) (clipped-same l (d .1))
 
-clipped-is : (z : ℤ) → small z ≡ true → clipped z ≡ z
-unfolding clipped
-clipped-is z e = ap (λ (b : Bool). if b z (pos (suc limit))) e
+map-take : (m : ℕ) (l : List ℤ) → take m (map clipped l) ≡ map clipped (take m l)
+map-take zero l = refl
+map-take (suc m) [] = refl
+map-take (suc m) (z ∷ l) = ap (λ (r : List ℤ). clipped z ∷ r) (map-take m l)
 
-clipped-over : (z : ℤ) → small z ≡ false → clipped z ≡ pos (suc limit)
-unfolding clipped
-clipped-over z e = ap (λ (b : Bool). if b z (pos (suc limit))) e
+module _ (k : ℤ) (y : Node) (n : length (y .n) ≡ numbers) where
+  coeffs-are : take levels-most (clipL k (y .n)) ≡ map clipped (scaleL k (take levels-most (y .n)))
+  coeffs-are = map-take levels-most (scaleL k (y .n)) ∙ ap (map clipped) (scale-take levels-most k (y .n))
 
--- it fits, whatever it was
-clipped-fits : (z : ℤ) → SFits w64 (clipped z)
-unfolding clipped small
-clipped-fits z = go (small z) refl
-  where
-    go : (b : Bool) → small z ≡ b → SFits w64 (if b z (pos (suc limit)))
-    go true e = by-abs z (let h = leb-true (natAbs z) limit e in omega arith)
-    go false e = by-abs (pos (suc limit)) (omega arith)
+  const-is : getD (clipL k (y .n)) levels-most (pos 0) ≡ clipped (k *ℤ constantOf y)
+  const-is = clip-at k (y .n) levels-most (omega arith)
 
-module _ (a b : ℤ) {o : Within} (fa : SFits w64 a) (fb : SFits w64 b) (e : o ≡ limited (R a *ℤ R b)) where
-  judged : limited (a *ℤ b) ≡ o
-  judged = sym (e ∙ ap₂ (λ (x y : ℤ). limited (x *ℤ y)) (back a fa) (back b fb))
-
-  pub times-over : o ≡ Over → pos (suc limit) ≡ clipped (a *ℤ b)
-  unfolding small
-  times-over q = sym (clipped-over (a *ℤ b) (lt-leb (natAbs (a *ℤ b)) limit (limited-lacks (a *ℤ b) (judged ∙ q))))
-
-  pub times-is : (p : ℤ) → o ≡ Is p → R p ≡ clipped (a *ℤ b)
-  unfolding small
-  times-is p q =
-      let g = limited-gives (a *ℤ b) p (judged ∙ q) in
-      ap R (g .0) ∙ (small-back (a *ℤ b) (record { small = g .1 }) ∙ sym (clipped-is (a *ℤ b) (le-leb (natAbs (a *ℤ b)) limit (g .1))))
-
--- a product as it is read back
-pub times-back : (k z : ℤ) {r : ℤ} → SFits w64 k → mag z < 2 ^ 63 → r ≡ clipped (R k *ℤ R z) → R r ≡ clipped (k *ℤ z)
-times-back k z fk fz e =
-    ap R (e ∙ ap₂ (λ (x y : ℤ). clipped (x *ℤ y)) (back k fk) (back z (record { sfits = fz }))) ∙ back (clipped (k *ℤ z)) (clipped-fits (k *ℤ z))
-
-pub product-is : (k : ℤ) (y : Node) {a b c d e : ℤ} → a ≡ clipped (k *ℤ y .c1) → b ≡ clipped (k *ℤ y .c2) → c ≡ clipped (k *ℤ y .c3) → d ≡ clipped (k *ℤ y .c4) → e ≡ clipped (k *ℤ y .constant) → _≡_ {A = Node} (record { kind = pos 0; c1 = a; c2 = b; c3 = c; c4 = d; constant = e; high = pos 0; low = pos 0 }) (productNode k y)
-unfolding productNode
-product-is k y ea eb ec ed ee = λ i. record { kind = pos 0; c1 = ea i; c2 = eb i; c3 = ec i; c4 = ed i; constant = ee i; high = pos 0; low = pos 0 }
-
-clipped-in : (z : ℤ) → Small (clipped z) → clipped z ≡ z
-unfolding small
-clipped-in z s = clipped-is z (sym (small-clipped z) ∙ le-leb (natAbs (clipped z)) limit (s .small))
-
-module _ (k : ℤ) (y : Node) where
   product-all : small-linear (linOf (productNode k y)) ≡ small-linear (k ⊠ linOf y)
-  unfolding small-linear all linOf productNode _⊠_ scaleL
-  product-all = λ i. (small-clipped (k *ℤ y .c1) i && (small-clipped (k *ℤ y .c2) i && (small-clipped (k *ℤ y .c3) i && (small-clipped (k *ℤ y .c4) i && true)))) && small-clipped (k *ℤ y .constant) i
-
-  same : Nums (productNode k y) → linOf (productNode k y) ≡ k ⊠ linOf y
-  unfolding linOf productNode _⊠_ scaleL
-  same s = λ i. record {
-    coeffs = clipped-in (k *ℤ y .c1) (s .c1) i ∷ clipped-in (k *ℤ y .c2) (s .c2) i ∷ clipped-in (k *ℤ y .c3) (s .c3) i ∷ clipped-in (k *ℤ y .c4) (s .c4) i ∷ [];
-    const = clipped-in (k *ℤ y .constant) (s .constant) i;
-  }
+  unfolding small-linear linOf productNode _⊠_
+  product-all = ap₂ _&&_ (ap (all small) coeffs-are ∙ clipped-all (scaleL k (take levels-most (y .n)))) (ap small const-is ∙ small-clipped (k *ℤ constantOf y))
 
   product-lin : small-linear (k ⊠ linOf y) ≡ true → linOf (productNode k y) ≡ k ⊠ linOf y
-  product-lin e = same (nums-of (productNode k y) (product-all ∙ e))
+  unfolding small-linear linOf productNode _⊠_ small
+  product-lin e =
+      let d = both-true _ _ e in
+      λ i. record {
+        coeffs = (coeffs-are ∙ clipped-same (scaleL k (take levels-most (y .n))) (clipped-all (scaleL k (take levels-most (y .n))) ∙ d .0)) i;
+        const = (const-is ∙ clipped-in (k *ℤ constantOf y) (record { small = leb-true _ _ (small-clipped (k *ℤ constantOf y) ∙ d .1) })) i;
+      }
 
 over-stops : (cap : ℕ) (p : Linear) (X : List Tree) → small-linear p ≡ false → run cap (make-leaf p) X ≡ stopped 11
 unfolding make-leaf
 over-stops cap p X e = run-judge cap p _ X ∙ ap (λ (b : Bool). if b (run cap (make (leaf (plain p))) X) (stopped 11)) e
 
 -- where the product is over, so is the leaf that is made of it
-pub product-run : (cap : ℕ) (k : ℤ) (z : Node) (X : List Tree) → run cap (make-leaf (linOf (productNode k z))) X ≡ run cap (make-leaf (k ⊠ linOf z)) X
-product-run cap k z X = go (small-linear (k ⊠ linOf z)) refl
+pub product-run : (cap : ℕ) (k : ℤ) (z : Node) → length (z .n) ≡ numbers → (X : List Tree) → run cap (make-leaf (linOf (productNode k z))) X ≡ run cap (make-leaf (k ⊠ linOf z)) X
+product-run cap k z n X = go (small-linear (k ⊠ linOf z)) refl
   where
     go : (b : Bool) → small-linear (k ⊠ linOf z) ≡ b → run cap (make-leaf (linOf (productNode k z))) X ≡ run cap (make-leaf (k ⊠ linOf z)) X
-    go true e = ap (λ (p : Linear). run cap (make-leaf p) X) (product-lin k z e)
-    go false e = over-stops cap (linOf (productNode k z)) X (product-all k z ∙ e) ∙ sym (over-stops cap (k ⊠ linOf z) X e)
+    go true e = ap (λ (p : Linear). run cap (make-leaf p) X) (product-lin k z n e)
+    go false e = over-stops cap (linOf (productNode k z)) X (product-all k z n ∙ e) ∙ sym (over-stops cap (k ⊠ linOf z) X e)
 
 -- ---- a constant
 
@@ -184,20 +115,30 @@ zero-no z n = go (isEq (cmpZ z (pos 0))) refl
     go true e = absurd (n (ap (ofZ w64) (cmpZ-eq z (pos 0) (from-true e))))
     go false e = refl
 
-pub zero-test : (z : ℤ) → mag z < 2 ^ 63 → eqb (ofZ w64 z) 0 ≡ isEq (cmpZ z (pos 0))
-zero-test z f = go (eqb (ofZ w64 z) 0) refl
-  where
-    go : (b : Bool) → eqb (ofZ w64 z) 0 ≡ b → b ≡ isEq (cmpZ z (pos 0))
-    go true e = sym (zero-yes z f (eqb-true (ofZ w64 z) 0 e))
-    go false e = sym (zero-no z (eqb-false (ofZ w64 z) 0 e))
+-- what is left of the coefficients decides
+module _ (a : List ℤ) (n : length a ≡ numbers) (i : ℕ) (is : zeros (drop i (take levels-most a)) ≡ zeros (take levels-most a)) where
+  abbrev z : ℤ
+  z = getD a i (pos 0)
 
-pub zeros-as : (x : Node) (p q r s : Bool) → isEq (cmpZ (x .c1) (pos 0)) ≡ p → isEq (cmpZ (x .c2) (pos 0)) ≡ q → isEq (cmpZ (x .c3) (pos 0)) ≡ r → s ≡ isEq (cmpZ (x .c4) (pos 0)) → (p && (q && (r && s))) ≡ zeros (linOf x .coeffs)
-unfolding zeros linOf
-zeros-as x p q r s e₁ e₂ e₃ e₄ = λ i. sym e₁ i && (sym e₂ i && (sym e₃ i && (e₄ ∙ sym (and-true (isEq (cmpZ (x .c4) (pos 0))))) i))
-  where
-    and-true : (b : Bool) → (b && true) ≡ b
-    and-true true = refl
-    and-true false = refl
+  firsts : length (take levels-most a) ≡ levels-most
+  firsts = length-take-le levels-most a (omega arith)
+
+  here : i < levels-most → (isEq (cmpZ z (pos 0)) && zeros (drop (i + 1) (take levels-most a))) ≡ zeros (take levels-most a)
+  unfolding zeros
+  here h =
+      ap (λ (y : ℤ). isEq (cmpZ y (pos 0)) && zeros (drop (i + 1) (take levels-most a))) (sym (getD-take levels-most a i (pos 0) h))
+      ∙ (sym (ap zeros (rest (take levels-most a) i (let w = firsts in omega arith))) ∙ is)
+
+  module _ (h : i < levels-most) where
+    pub one-not-zero : (ofZ w64 z ≡ 0 → ⊥) → false ≡ zeros (take levels-most a)
+    one-not-zero q = ap (λ (b : Bool). b && zeros (drop (i + 1) (take levels-most a))) (sym (zero-no z q)) ∙ here h
+
+    pub one-zero : mag z < 2 ^ 63 → ofZ w64 z ≡ 0 → zeros (drop (i + 1) (take levels-most a)) ≡ zeros (take levels-most a)
+    one-zero f q = ap (λ (b : Bool). b && zeros (drop (i + 1) (take levels-most a))) (sym (zero-yes z f q)) ∙ here h
+
+  pub all-zero : levels-most ≤ i → true ≡ zeros (take levels-most a)
+  unfolding zeros
+  all-zero h = sym (ap zeros (drop-of-length-le (take levels-most a) {i = i} (let w = firsts in omega arith))) ∙ is
 
 module _ (k : ℤ) (f g : ℕ) (fk : SFits w64 k) where
   pub decided-is : (b : Bool) → leZ (R k) (pos 0) ≡ b → if b f g ≡ if (leZ k (pos 0)) f g
@@ -212,3 +153,12 @@ decide-constant p H L e = ap (λ (b : Bool). if b (if (leZ (p .const) (pos 0)) (
 pub decide-test : (p : Linear) (H L : Tree) → zeros (p .coeffs) ≡ false → decide p H L ≡ choose (test-of p) H L
 unfolding decide
 decide-test p H L e = ap (λ (b : Bool). if b (if (leZ (p .const) (pos 0)) (ret H) (ret L)) (choose (test-of p) H L)) e
+
+-- a product as it is read back
+pub product-as : (k : ℤ) (y : Node) → SFits w64 k → {n : List ℤ} → n ≡ clipL (R k) (y .n) → leafNode n ≡ productNode k y
+unfolding productNode
+product-as k y f e = ap leafNode (e ∙ ap (λ (z : ℤ). clipL z (y .n)) (back k f))
+
+pub less-long : (x y : Node) → Nums x → Nums y → length (lessNode x y .n) ≡ numbers
+unfolding lessNode
+less-long x y p q = sub-length (x .n) (y .n) (p .long ∙ sym (q .long)) ∙ p .long

@@ -2,42 +2,48 @@
 use mathlib.Core.Path.{_≡_}
 use mathlib.Core.Bool.{true}
 use mathlib.Core.List.{List}
-use Prim.Native.Nat.{ℕ, suc, _<_}
-use lib.IntN.{ℤ, pos, _+ℤ_, _-ℤ_, _*ℤ_}
-use Rattle.whole.specs.Cases.{if}
-use Rattle.whole.specs.Within.{limit, small}
+use Prim.Native.Nat.{ℕ, _<_}
+use lib.IntN.{ℤ, pos, _+ℤ_, _-ℤ_}
+use lib.ListN.{set}
+use Rattle.whole.specs.Linears.{addL, subL, clipL}
 use Rattle.table.specs.Table.{nodeAt, eqZ}
 use Rattle.table.specs.declared.Node.{Node}
+use Rattle.theory.specs.Widths.{levels-most}
+use Rattle.diagrams.specs.Nodes.{constantOf}
 
 -- a leaf of the table
 pub record AtLeaf (l : List ℤ) (n f : ℕ) : Type 0 where
   pub below : f < n
   pub ends : eqZ (nodeAt l f .kind) (pos 0) ≡ true
 
+-- a leaf of these numbers, without action
+abbrev pub leafNode : List ℤ → Node
+leafNode n = record { kind = pos 0; n = n; high = pos 0; low = pos 0 }
+
 -- the sum of two leaves
 unfoldable pub sumNode : Node → Node → Node
-sumNode x y = record { kind = pos 0; c1 = x .c1 +ℤ y .c1; c2 = x .c2 +ℤ y .c2; c3 = x .c3 +ℤ y .c3; c4 = x .c4 +ℤ y .c4; constant = x .constant +ℤ y .constant; high = pos 0; low = pos 0 }
+sumNode x y = leafNode (addL (x .n) (y .n))
 
 -- their difference
 unfoldable pub lessNode : Node → Node → Node
-lessNode x y = record { kind = pos 0; c1 = x .c1 -ℤ y .c1; c2 = x .c2 -ℤ y .c2; c3 = x .c3 -ℤ y .c3; c4 = x .c4 -ℤ y .c4; constant = x .constant -ℤ y .constant; high = pos 0; low = pos 0 }
-
--- a number that lies within the limits as it is, and any other as the first beyond them
-unfoldable pub clipped : ℤ → ℤ
-clipped z = if (small z) z (pos (suc limit))
+lessNode x y = leafNode (subL (x .n) (y .n))
 
 -- a number times a leaf
 unfoldable pub productNode : ℤ → Node → Node
-productNode k y = record { kind = pos 0; c1 = clipped (k *ℤ y .c1); c2 = clipped (k *ℤ y .c2); c3 = clipped (k *ℤ y .c3); c4 = clipped (k *ℤ y .c4); constant = clipped (k *ℤ y .constant); high = pos 0; low = pos 0 }
+productNode k y = leafNode (clipL k (y .n))
+
+-- a leaf with another constant
+abbrev pub withConstant : Node → ℤ → Node
+withConstant x z = leafNode (set (x .n) levels-most z)
 
 -- a leaf plus a number
 unfoldable pub shiftNode : ℤ → Node → Node
-shiftNode c x = record { kind = pos 0; c1 = x .c1; c2 = x .c2; c3 = x .c3; c4 = x .c4; constant = (x .constant) +ℤ c; high = pos 0; low = pos 0 }
+shiftNode c x = withConstant x (constantOf x +ℤ c)
 
 -- a weight less a leaf
 unfoldable pub complementNode : ℕ → Node → Node
-complementNode W x = record { kind = pos 0; c1 = x .c1; c2 = x .c2; c3 = x .c3; c4 = x .c4; constant = pos W -ℤ (x .constant); high = pos 0; low = pos 0 }
+complementNode W x = withConstant x (pos W -ℤ constantOf x)
 
 -- a leaf numbered with an action
 unfoldable pub numberNode : ℕ → Node → Node
-numberNode a x = record { kind = pos 0; c1 = x .c1; c2 = x .c2; c3 = x .c3; c4 = x .c4; constant = x .constant; high = pos a; low = pos 0 }
+numberNode a x = record { kind = pos 0; n = x .n; high = pos a; low = pos 0 }

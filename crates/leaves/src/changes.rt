@@ -6,19 +6,19 @@ ghost use Rattle.theory.specs.Widths.{weights-most, actions-most};
 ghost use Rattle.diagrams.specs.Nodes.{Nums};
 ghost use Rattle.leaves.specs.Leaves.{shiftNode, complementNode, numberNode};
 use table::Node;
+use whole::COEFFICIENTS;
 
 // A leaf plus c. The sum of two numbers within the limits fits.
 pub fn shifted(x: Node, c: i64) -> Node
     requires { ⌜ Nums x × Small c ⌝ }
     ensures { λ r. ⌜ r ≡ shiftNode c x ⌝ }
 {
+    let mut n = x.n;
+    let z = n[COEFFICIENTS] + c;
+    n[COEFFICIENTS] = z;
     Node {
         kind: 0,
-        c1: x.c1,
-        c2: x.c2,
-        c3: x.c3,
-        c4: x.c4,
-        constant: x.constant + c,
+        n,
         high: 0,
         low: 0,
     }
@@ -29,13 +29,12 @@ pub fn complemented(x: Node, weights: usize) -> Node
     requires { ⌜ Nums x × (weights ≤ weights-most) ⌝ }
     ensures { λ r. ⌜ r ≡ complementNode weights x ⌝ }
 {
+    let mut n = x.n;
+    let z = weights as i64 - n[COEFFICIENTS];
+    n[COEFFICIENTS] = z;
     Node {
         kind: 0,
-        c1: x.c1,
-        c2: x.c2,
-        c3: x.c3,
-        c4: x.c4,
-        constant: weights as i64 - x.constant,
+        n,
         high: 0,
         low: 0,
     }
@@ -46,13 +45,10 @@ pub fn numbered(x: Node, action: usize) -> Node
     requires { ⌜ action ≤ actions-most ⌝ }
     ensures { λ r. ⌜ r ≡ numberNode action x ⌝ }
 {
+    let n = x.n;
     Node {
         kind: 0,
-        c1: x.c1,
-        c2: x.c2,
-        c3: x.c3,
-        c4: x.c4,
-        constant: x.constant,
+        n,
         high: action as i64,
         low: 0,
     }

@@ -1,27 +1,28 @@
 // The linears of two leaves added, subtracted and multiplied, each as the leaf that it would be. Nothing is judged here.
 ghost use mathlib.Core.Path.{_≡_};
-ghost use lib.IntN.{pos, _*ℤ_};
+ghost use lib.IntN.{pos};
 ghost use lib.Signed.{leZ};
 ghost use Rattle.whole.specs.Cases.{if};
 ghost use Rattle.theory.specs.Diagram.{zeros};
-ghost use Rattle.diagrams.specs.Nodes.{linOf, Nums};
-ghost use Rattle.leaves.specs.Leaves.{clipped, sumNode, lessNode, productNode};
+ghost use Rattle.diagrams.specs.Nodes.{linOf, constantOf, Nums};
+ghost use Rattle.leaves.specs.Leaves.{sumNode, lessNode, productNode};
 use table::Node;
-use whole::Within;
-use whole::limits::mul_within;
+use whole::COEFFICIENTS;
+use whole::linears::add;
+use whole::linears::sub;
+use whole::linears::times;
 
 // x + y. Numbers within the limits have sums that fit.
 pub fn plus(x: Node, y: Node) -> Node
     requires { ⌜ Nums x × Nums y ⌝ }
     ensures { λ r. ⌜ r ≡ sumNode x y ⌝ }
 {
+    let a = x.n;
+    let b = y.n;
+    let n = add(a, b);
     Node {
         kind: 0,
-        c1: x.c1 + y.c1,
-        c2: x.c2 + y.c2,
-        c3: x.c3 + y.c3,
-        c4: x.c4 + y.c4,
-        constant: x.constant + y.constant,
+        n,
         high: 0,
         low: 0,
     }
@@ -32,63 +33,53 @@ pub fn less(x: Node, y: Node) -> Node
     requires { ⌜ Nums x × Nums y ⌝ }
     ensures { λ r. ⌜ r ≡ lessNode x y ⌝ }
 {
+    let a = x.n;
+    let b = y.n;
+    let n = sub(a, b);
     Node {
         kind: 0,
-        c1: x.c1 - y.c1,
-        c2: x.c2 - y.c2,
-        c3: x.c3 - y.c3,
-        c4: x.c4 - y.c4,
-        constant: x.constant - y.constant,
+        n,
         high: 0,
         low: 0,
     }
 }
 
-// a × b, or a number beyond the limits where it lies beyond them: a product need not fit.
-pub fn times(a: i64, b: i64) -> i64
-    ensures { λ r. ⌜ r ≡ clipped (a *ℤ b) ⌝ }
-{
-    let Within::Is(p) = mul_within(a, b) else {
-        return 4611686018427387904;
-    };
-    p
-}
-
-// k × y, each number so.
+// k × y; a number beyond the limits is seen to be.
 pub fn product(k: i64, y: Node) -> Node
     ensures { λ r. ⌜ r ≡ productNode k y ⌝ }
 {
-    let c1 = times(k, y.c1);
-    let c2 = times(k, y.c2);
-    let c3 = times(k, y.c3);
-    let c4 = times(k, y.c4);
-    let constant = times(k, y.constant);
+    let a = y.n;
+    let n = times(k, a);
     Node {
         kind: 0,
-        c1,
-        c2,
-        c3,
-        c4,
-        constant,
+        n,
         high: 0,
         low: 0,
     }
+}
+
+// A linear's constant.
+pub fn constant(x: Node) -> i64
+    ensures { λ r. ⌜ r ≡ constantOf x ⌝ }
+{
+    let n = x.n;
+    n[COEFFICIENTS]
 }
 
 // Whether a linear has no coefficient but 0.
 pub fn is_constant(x: Node) -> bool
     ensures { λ r. ⌜ r ≡ zeros (linOf x .coeffs) ⌝ }
 {
-    if x.c1 != 0 {
-        return false;
+    let n = x.n;
+    let mut i: usize = 0;
+    while i < COEFFICIENTS {
+        let z = n[i];
+        if z != 0 {
+            return false;
+        }
+        i += 1;
     }
-    if x.c2 != 0 {
-        return false;
-    }
-    if x.c3 != 0 {
-        return false;
-    }
-    x.c4 == 0
+    true
 }
 
 // f where k ≤ 0, and else g.

@@ -1,196 +1,197 @@
 -- A linear over the levels: scaled, added in order, shifted.
-use mathlib.Core.Path.{_≡_, refl, sym, ap, _∙_, subst}
-use mathlib.Core.Bool.{Bool, true, false}
+use mathlib.Core.Path.{_≡_, refl, sym, ap, ap₂, _∙_, subst}
 use mathlib.Core.List.{List, [], _∷_}
-use Prim.Native.Nat.{ℕ, zero, suc, _≤_, _<_}
+use Prim.Native.Nat.{ℕ, zero, suc, _+_, _≤_, _<_, min}
 use native.Mathlib.Nat.{lt-of-lt-of-le}
+use native.Mathlib.Numerals.{add-one}
 use native.Mathlib.Omega.{arith}
-use borrow.Author.Tests.{eqb-true, eqb-false, lt-ltb, le-ltb}
-use lib.Dec.{eqb}
-use lib.IntN.{ℤ}
-use lib.ListN.{take}
-use Rattle.whole.specs.Cases.{if}
+use lib.IntN.{ℤ, pos}
+use lib.ListN.{length, getD, take, drop, drop-of-length-le, length-take, length-map, List·getD-map}
+use lib.Seq.{drop-cons}
+use Rattle.whole.specs.Linears.{numbers}
+use Rattle.whole.specs.LinearsLaws.{rest}
 use Rattle.whole.specs.Within.{Small}
-use Rattle.whole.proofs.Signed.{R, small-back}
 use Rattle.table.specs.Table.{nodeAt}
 use Rattle.table.specs.declared.Node.{Node}
 use Rattle.table.specs.declared.Made.{Made}
+use Rattle.theory.specs.Widths.{levels-most}
 use Rattle.theory.specs.Diagram.{Tree}
 use Rattle.theory.specs.Computation.{Comp, ret, bind}
 use Rattle.theory.specs.laws.Comps.{bind-bind, bind-ret}
 use Rattle.theory.specs.Rules.{scale, shift, sum, sum-on, levels-sum, linear-diagram}
-use Rattle.diagrams.specs.Nodes.{linOf, treeAt, Nums, Grown}
-use Rattle.diagrams.specs.Table.{Rule, Table, Ran}
+use Rattle.diagrams.specs.Nodes.{linOf, constantOf, treeAt, Grown}
+use Rattle.diagrams.specs.Table.{Table, Ran}
 use Rattle.diagrams.specs.Meaning.{ruleOf}
 use Rattle.diagrams.proofs.Trees.{trees-kept}
 use Rattle.diagrams.proofs.Outcomes.{grown, stop, seq, ran-as, ran-ret}
-use Rattle.diagrams.proofs.Judging.{nums-at}
 use Rattle.diagrams.proofs.Meanings.{rule-sum}
-use Rattle.linear_combination.specs.Levels.{Levels, levelsAt, addOn, Onward}
+use Rattle.linear_combination.specs.Levels.{Levels, levelsAt, addOn}
 
--- ---- computations one after another
+-- ---- the sum, level by level
+
+-- what is left of it from level k on, F being the sum so far
+abbrev pub Left : List ℤ → List Tree → ℕ → Tree → Comp Tree
+Left cs Ds k F = sum-on F (drop k cs) (drop k Ds)
 
 bind-as : {A B : Type 0} (m : Comp A) {j k : A → Comp B} → ((x : A) → j x ≡ k x) → bind m j ≡ bind m k
 bind-as m e = λ i. bind m (λ x. e x i)
 
--- ---- the sum, level by level
-
-module _ (S : Comp Tree) (K2 K3 K4 T2 T3 T4 : Tree → Comp Tree) where
-  chain : ((F : Tree) → T2 F ≡ bind (K2 F) T3) → ((F : Tree) → T3 F ≡ bind (K3 F) T4) → ((F : Tree) → T4 F ≡ K4 F) → bind S T2 ≡ bind (bind (bind S K2) K3) K4
-  chain e2 e3 e4 = bind-as S e2 ∙ (sym (bind-bind S K2 T3) ∙ (bind-as (bind S K2) e3 ∙ (sym (bind-bind (bind S K2) K3 T4) ∙ bind-as (bind (bind S K2) K3) e4)))
-
-level : (c : ℤ) (cs : List ℤ) (D : Tree) (Ds : List Tree) (F : Tree) → sum-on F (c ∷ cs) (D ∷ Ds) ≡ bind (bind (scale c D) (λ G. sum F G)) (λ S. sum-on S cs Ds)
+none-left : (F : Tree) (cs : List ℤ) → sum-on F cs [] ≡ ret F
 unfolding sum-on
-level c cs D Ds F = sym (bind-bind (scale c D) (λ G. sum F G) (λ S. sum-on S cs Ds))
+none-left F [] = refl
+none-left F (c ∷ cs) = refl
 
-last-level : (c : ℤ) (D : Tree) (F : Tree) → sum-on F (c ∷ []) (D ∷ []) ≡ bind (scale c D) (λ G. sum F G)
-unfolding sum-on
-last-level c D F = bind-as (scale c D) (λ G. bind-ret (sum F G))
+one-left : (c : ℤ) (cs : List ℤ) (D : Tree) (Ds : List Tree) (F : Tree) → sum-on F (c ∷ cs) (D ∷ Ds) ≡ bind (addOn c D F) (λ S. sum-on S cs Ds)
+unfolding sum-on addOn
+one-left c cs D Ds F = sym (bind-bind (scale c D) (λ G. sum F G) (λ S. sum-on S cs Ds))
 
-module _ (a b c d : ℤ) (A B C D : Tree) where
-  abbrev Total : ℕ → Type 0
-  Total m = levels-sum (a ∷ b ∷ c ∷ d ∷ []) (take m (A ∷ B ∷ C ∷ D ∷ [])) ≡ bind (bind (bind (scale a A) (addOn b B 2 m)) (addOn c C 3 m)) (addOn d D 4 m)
+module _ (cs : List ℤ) (Ds : List Tree) where
+  ends : (k : ℕ) → length Ds ≤ k → (F : Tree) → Left cs Ds k F ≡ ret F
+  ends k h F = ap (sum-on F (drop k cs)) (drop-of-length-le Ds {i = k} h) ∙ none-left F (drop k cs)
 
-  -- the levels that are left after the first, the second and the third
-  chained : (m : ℕ) (X Y Z : List Tree) → ((F : Tree) → sum-on F (b ∷ c ∷ d ∷ []) X ≡ bind (addOn b B 2 m F) (λ S. sum-on S (c ∷ d ∷ []) Y)) → ((F : Tree) → sum-on F (c ∷ d ∷ []) Y ≡ bind (addOn c C 3 m F) (λ S. sum-on S (d ∷ []) Z)) → ((F : Tree) → sum-on F (d ∷ []) Z ≡ addOn d D 4 m F) → bind (scale a A) (λ F. sum-on F (b ∷ c ∷ d ∷ []) X) ≡ bind (bind (bind (scale a A) (addOn b B 2 m)) (addOn c C 3 m)) (addOn d D 4 m)
-  chained m X Y Z = chain (scale a A) (addOn b B 2 m) (addOn c C 3 m) (addOn d D 4 m) (λ F. sum-on F (b ∷ c ∷ d ∷ []) X) (λ F. sum-on F (c ∷ d ∷ []) Y) (λ F. sum-on F (d ∷ []) Z)
+  steps : (k : ℕ) (z : Tree) → k < length cs → k < length Ds → (F : Tree) → Left cs Ds k F ≡ bind (addOn (getD cs k (pos 0)) (getD Ds k z) F) (Left cs Ds (k + 1))
+  steps k z h q F =
+      ap₂ (sum-on F) (rest cs k h) (drop-cons Ds k z q ∙ ap (λ (j : ℕ). getD Ds k z ∷ drop j Ds) (sym (add-one k)))
+      ∙ one-left (getD cs k (pos 0)) (drop (k + 1) cs) (getD Ds k z) (drop (k + 1) Ds) F
 
-  one : Total 1
-  unfolding levels-sum sum-on addOn take bind
-  one = chained 1 [] [] [] (λ F. refl) (λ F. refl) (λ F. refl)
+begins : (cs : List ℤ) (Ds : List Tree) (z : Tree) → 0 < length cs → 0 < length Ds → bind (scale (getD cs 0 (pos 0)) (getD Ds 0 z)) (Left cs Ds 1) ≡ levels-sum cs Ds
+unfolding levels-sum
+begins [] Ds z h q = absurd (omega arith)
+begins (c ∷ cs) [] z h q = absurd (omega arith)
+begins (c ∷ cs) (D ∷ Ds) z h q = refl
 
-  two : Total 2
-  unfolding levels-sum sum-on addOn take bind
-  two = chained 2 (B ∷ []) [] [] (λ F. level b (c ∷ d ∷ []) B [] F) (λ F. refl) (λ F. refl)
+-- ---- levels and numbers
 
-  three : Total 3
-  unfolding levels-sum sum-on addOn take bind
-  three = chained 3 (B ∷ C ∷ []) (C ∷ []) [] (λ F. level b (c ∷ d ∷ []) B (C ∷ []) F) (λ F. level c (d ∷ []) C [] F) (λ F. refl)
-
-  four : Total 4
-  unfolding levels-sum addOn take
-  four = chained 4 (B ∷ C ∷ D ∷ []) (C ∷ D ∷ []) (D ∷ []) (λ F. level b (c ∷ d ∷ []) B (C ∷ D ∷ []) F) (λ F. level c (d ∷ []) C (D ∷ []) F) (λ F. last-level d D F)
-
-  total : (m : ℕ) → 1 ≤ m → m ≤ 4 → Total m
-  total zero h k = absurd (omega arith)
-  total (suc zero) h k = one
-  total (suc (suc zero)) h k = two
-  total (suc (suc (suc zero))) h k = three
-  total (suc (suc (suc (suc zero)))) h k = four
-  total (suc (suc (suc (suc (suc m))))) h k = absurd (omega arith)
-
--- ---- an operation that goes on
-
-pub onward : {R : Rule} {cap : ℕ} {l l₁ l₂ : List ℤ} {w w₁ w₂ : List ℕ} {n : ℕ} {m : Comp Tree} {K : Tree → Comp Tree} {s r : Made} → Ran R cap l w n m l₁ w₁ s → Onward R cap l₁ w₁ s K l₂ w₂ r → Ran R cap l w n (bind m K) l₂ w₂ r
-onward {R} {cap} {l} {l₁} {l₂} {w} {w₁} {w₂} {n} {m} {K} {s} {r} Q O = go (eqb (s .stop) 0) refl
+pub levels-kept : {l l′ : List ℤ} {n n′ : ℕ} {L : List ℕ} → Levels n L → Grown l n l′ n′ → levelsAt l′ n′ L ≡ levelsAt l n L
+levels-kept {l} {l′} {n} {n′} {L} B G = go L (B .below)
   where
-    go : (b : Bool) → eqb (s .stop) 0 ≡ b → Ran R cap l w n (bind m K) l₂ w₂ r
-    go true e = let ok = eqb-true (s .stop) 0 e in seq K Q ok (O .runs ok)
-    go false e =
-        let off = eqb-false (s .stop) 0 e in
-        let q = O .stays off in
-        subst (λ (r : Made). Ran R cap l w n (bind m K) l₂ w₂ r) (sym (q .2))
-        (subst (λ (w₂ : List ℕ). Ran R cap l w n (bind m K) l₂ w₂ s) (sym (q .1))
-        (subst (λ (l₂ : List ℤ). Ran R cap l w n (bind m K) l₂ w₁ s) (sym (q .0)) (stop K Q off)))
+    go : (L : List ℕ) → ((k : ℕ) → getD L k 0 < n) → levelsAt l′ n′ L ≡ levelsAt l n L
+    go [] h = refl
+    go (d ∷ L) h = ap₂ (λ (D : Tree) (Ds : List Tree). D ∷ Ds) (trees-kept G d (h 0)) (go L (λ k. h (suc k)))
 
--- it goes on with what it did
-pub onward-as : {R : Rule} {cap : ℕ} {l l′ : List ℤ} {w w′ : List ℕ} {s r : Made} {K J : Tree → Comp Tree} → ((F : Tree) → K F ≡ J F) → Onward R cap l w s K l′ w′ r → Onward R cap l w s J l′ w′ r
-onward-as e O = record { runs = λ ok. ran-as (e _) (O .runs ok); stays = O .stays }
+pub levels-more : {n n′ : ℕ} {L : List ℕ} → Levels n L → n ≤ n′ → Levels n′ L
+levels-more B h = record { below = λ k. lt-of-lt-of-le (B .below k) h; some = B .some; most = B .most }
 
-module _ {R : Rule} {cap : ℕ} {l : List ℤ} {w : List ℕ} {s : Made} (K : Tree → Comp Tree) where
-  pub onward-stays : (s .stop ≡ 0 → ⊥) → Onward R cap l w s K l w s
-  onward-stays off = record { runs = λ ok. absurd (off ok); stays = λ _. (refl, refl, refl) }
+abbrev coeffs : List ℤ → ℕ → List ℤ
+coeffs l i = linOf (nodeAt l i) .coeffs
 
-  pub onward-runs : s .stop ≡ 0 → {l₁ : List ℤ} {w₁ : List ℕ} {r : Made} → Ran R cap l w (s .count) (K (treeAt l (s .count) (s .at))) l₁ w₁ r → Onward R cap l w s K l₁ w₁ r
-  onward-runs ok Q = record { runs = λ _. Q; stays = λ off. absurd (off ok) }
+first-of : (l : List ℤ) (m k : ℕ) → k < m → getD (take m l) k (pos 0) ≡ getD l k (pos 0)
+first-of l zero k h = absurd (omega arith)
+first-of [] (suc m) k h = refl
+first-of (z ∷ l) (suc m) zero h = refl
+first-of (z ∷ l) (suc m) (suc k) h = first-of l m k (omega arith)
+
+module _ {cap : ℕ} {l : List ℤ} {w : List ℕ} {n : ℕ} (A : Table ruleOf cap l w n) (i : ℕ) (hi : i < n) where
+  coefficient : (k : ℕ) → k < levels-most → getD (nodeAt l i .n) k (pos 0) ≡ getD (coeffs l i) k (pos 0)
+  unfolding linOf
+  coefficient k h = sym (first-of (nodeAt l i .n) levels-most k h)
+
+  coefficients-long : length (coeffs l i) ≡ levels-most
+  unfolding linOf
+  coefficients-long = length-take levels-most (nodeAt l i .n) ∙ ap (min levels-most) (A .bare .good .valid i hi .nums .long)
 
 -- ---- one level
 
-module _ {cap : ℕ} {l : List ℤ} {w : List ℕ} (s : Made) (A : Table ruleOf cap l w (s .count)) (c : ℤ) (d k m : ℕ) (ok : s .stop ≡ 0) where
-  abbrev D : Tree
-  D = treeAt l (s .count) d
+module _ {cap : ℕ} {l : List ℤ} {w : List ℕ} {n : ℕ} {f : ℕ} (d : ℕ) (hf : f < n) {c b : ℤ} (e : b ≡ c) {l₁ : List ℤ} {w₁ : List ℕ} {t : Made} (Q′ : Ran ruleOf cap l w n (scale b (treeAt l n d)) l₁ w₁ t) where
+  Q : Ran ruleOf cap l w n (scale c (treeAt l n d)) l₁ w₁ t
+  Q = ran-as (ap (λ (b : ℤ). scale b (treeAt l n d)) e) Q′
 
   abbrev Added : List ℤ → List ℕ → Made → Type 0
-  Added = Onward ruleOf cap l w s (addOn c D k m)
+  Added = Ran ruleOf cap l w n (addOn c (treeAt l n d) (treeAt l n f))
 
-  off-is : (F : Tree) → m < k → addOn c D k m F ≡ ret F
+  pub level-stops : (t .stop ≡ 0 → ⊥) → Added l₁ w₁ t
   unfolding addOn
-  off-is F h = ap (λ (b : Bool). if b (ret F) (bind (scale c D) (λ G. sum F G))) (lt-ltb m k h)
+  level-stops off = stop _ Q off
 
-  on-is : (F : Tree) → k ≤ m → addOn c D k m F ≡ bind (scale c D) (λ G. sum F G)
-  unfolding addOn
-  on-is F h = ap (λ (b : Bool). if b (ret F) (bind (scale c D) (λ G. sum F G))) (le-ltb m k h)
+  module _ (ok : t .stop ≡ 0) where
+    pub level-asks : Table ruleOf cap l₁ w₁ (t .count) × (0 ≤ 2) × (f < t .count) × (t .at < t .count)
+    level-asks = (Q .table, omega arith, lt-of-lt-of-le hf (Q .more), Q .within ok)
 
-  module _ (hs : s .at < s .count) where
-    pub level-beyond : m < k → Added l w s
-    level-beyond h = onward-runs (addOn c D k m) ok (subst (λ (r : Made). Ran ruleOf cap l w (s .count) (addOn c D k m (treeAt l (s .count) (s .at))) l w r) (λ i. record { stop = sym ok i; at = s .at; count = s .count }) (ran-as (sym (off-is (treeAt l (s .count) (s .at)) h)) (ran-ret A (s .at) hs)))
+    pub level-added : {l₂ : List ℤ} {w₂ : List ℕ} {r : Made} → Ran ruleOf cap l₁ w₁ (t .count) (ruleOf l₁ (t .count) 0 f (t .at) 0 0) l₂ w₂ r → Added l₂ w₂ r
+    unfolding addOn
+    level-added P = seq _ Q ok (ran-as (rule-sum l₁ (t .count) f (t .at) 0 0 ∙ ap (λ (F : Tree). sum F (treeAt l₁ (t .count) (t .at))) (trees-kept (grown Q) f hf)) P)
 
-    -- the coefficient is c, as it is read
-    module _ (h : k ≤ m) {b : ℤ} (eb : b ≡ c) {l₁ : List ℤ} {w₁ : List ℕ} {t : Made} (Q′ : Ran ruleOf cap l w (s .count) (scale b D) l₁ w₁ t) where
-      Q : Ran ruleOf cap l w (s .count) (scale c D) l₁ w₁ t
-      Q = ran-as (ap (λ (b : ℤ). scale b D) eb) Q′
+-- ---- the levels behind the first
 
-      pub level-stops : (t .stop ≡ 0 → ⊥) → Added l₁ w₁ t
-      level-stops off = onward-runs (addOn c D k m) ok (ran-as (sym (on-is (treeAt l (s .count) (s .at)) h)) (stop _ Q off))
+-- what ran so far leaves the levels from k on to the sum of all with the diagram at f
+pub record Adding (cap : ℕ) (l : List ℤ) (w : List ℕ) (n i : ℕ) (L : List ℕ) (f k : ℕ) (l₁ : List ℤ) (w₁ : List ℕ) (s : Made) : Type 0 where
+  pub goes : s .stop ≡ 0
+  pub so-far : Comp Tree
+  pub ran : Ran ruleOf cap l w n so-far l₁ w₁ s
+  pub left : bind so-far (Left (coeffs l i) (levelsAt l n L) k) ≡ Left (coeffs l i) (levelsAt l n L) 1 (treeAt l n f)
+  pub nodes-length : length l₁ ≡ length l
+  pub work-length : length w₁ ≡ length w
 
-      module _ (ok′ : t .stop ≡ 0) where
-        pub level-asks : Table ruleOf cap l₁ w₁ (t .count) × (0 ≤ 2) × (s .at < t .count) × (t .at < t .count)
-        level-asks = (Q .table, omega arith, lt-of-lt-of-le hs (Q .more), Q .within ok′)
+module _ {cap : ℕ} {l : List ℤ} {w : List ℕ} {n : ℕ} (A : Table ruleOf cap l w n) (i : ℕ) (hi : i < n) {L : List ℕ} (B : Levels n L) where
+  abbrev Ds : List Tree
+  Ds = levelsAt l n L
 
-        pub level-added : {l₂ : List ℤ} {w₂ : List ℕ} {r : Made} → Ran ruleOf cap l₁ w₁ (t .count) (ruleOf l₁ (t .count) 0 (s .at) (t .at) 0 0) l₂ w₂ r → Added l₂ w₂ r
-        level-added P = onward-runs (addOn c D k m) ok
-            (ran-as (sym (on-is (treeAt l (s .count) (s .at)) h))
-            (seq _ Q ok′ (ran-as (rule-sum l₁ (t .count) (s .at) (t .at) 0 0 ∙ ap (λ (F : Tree). sum F (treeAt l₁ (t .count) (t .at))) (trees-kept (grown Q) (s .at) hs)) P)))
+  pub adding-none : (f : ℕ) → f < n → Adding cap l w n i L f 1 l w (record { stop = 0; at = f; count = n })
+  unfolding bind
+  adding-none f h = record { goes = refl; so-far = ret (treeAt l n f); ran = ran-ret A f h; left = refl; nodes-length = refl; work-length = refl }
 
--- ---- all levels
+  long : length Ds ≡ length L
+  long = length-map L (treeAt l n)
 
-pub levels-kept : {l l′ : List ℤ} {n n′ d1 d2 d3 d4 m : ℕ} → Levels n d1 d2 d3 d4 m → Grown l n l′ n′ → levelsAt l′ n′ d1 d2 d3 d4 m ≡ levelsAt l n d1 d2 d3 d4 m
-unfolding levelsAt
-levels-kept {d1 = d1} {d2} {d3} {d4} {m} B G = λ i. take m (trees-kept G d1 (B .first) i ∷ trees-kept G d2 (B .second) i ∷ trees-kept G d3 (B .third) i ∷ trees-kept G d4 (B .fourth) i ∷ [])
+  short : (k : ℕ) → k < length L → k < levels-most
+  short k h = lt-of-lt-of-le h (B .most)
 
-pub levels-more : {n n′ d1 d2 d3 d4 m : ℕ} → Levels n d1 d2 d3 d4 m → n ≤ n′ → Levels n′ d1 d2 d3 d4 m
-levels-more B h = record { first = lt-of-lt-of-le (B .first) h; second = lt-of-lt-of-le (B .second) h; third = lt-of-lt-of-le (B .third) h; fourth = lt-of-lt-of-le (B .fourth) h; some = B .some; most = B .most }
+  module _ {f k : ℕ} {l₁ : List ℤ} {w₁ : List ℕ} {s : Made} (S : Adding cap l w n i L f k l₁ w₁ s) where
+    pub added-all : length L ≤ k → Ran ruleOf cap l w n (Left (coeffs l i) Ds 1 (treeAt l n f)) l₁ w₁ s
+    added-all h = ran-as (sym (bind-ret (S .so-far)) ∙ (sym (bind-as (S .so-far) (ends (coeffs l i) Ds k (omega (arith, long)))) ∙ S .left)) (S .ran)
 
--- the coefficients, as they are read
-coefficients : (x : Node) → Nums x → _≡_ {A = List ℤ} (R (x .c1) ∷ R (x .c2) ∷ R (x .c3) ∷ R (x .c4) ∷ []) (linOf x .coeffs)
-unfolding linOf
-coefficients x v = λ i. small-back (x .c1) (v .c1) i ∷ small-back (x .c2) (v .c2) i ∷ small-back (x .c3) (v .c3) i ∷ small-back (x .c4) (v .c4) i ∷ []
+    module _ (h : k < length L) where
+      pub adding-number : (i < s .count) × (k < numbers)
+      adding-number = (lt-of-lt-of-le hi (S .ran .more), (let q = short k h in omega arith))
 
--- what the next level asks of the sum s so far
-abbrev pub Asks : ℕ → List ℤ → List ℕ → Made → ℕ → Type 0
-Asks cap l w s d = Table ruleOf cap l w (s .count) × (s .stop ≡ 0 → s .at < s .count) × (d < s .count)
+      pub adding-asks : Table ruleOf cap l₁ w₁ (s .count) × (s .at < s .count) × (getD L k 0 < s .count)
+      adding-asks = (S .ran .table, S .ran .within (S .goes), lt-of-lt-of-le (B .below k) (S .ran .more))
 
-asks : {cap : ℕ} {l l₁ : List ℤ} {w w₁ : List ℕ} {n : ℕ} {m : Comp Tree} {s : Made} → Ran ruleOf cap l w n m l₁ w₁ s → (d : ℕ) → d < n → Asks cap l₁ w₁ s d
-asks Q d h = (Q .table, Q .within, lt-of-lt-of-le h (Q .more))
+      module _ {b : ℤ} (e : b ≡ getD (nodeAt l₁ i .n) k (pos 0)) {l₂ : List ℤ} {w₂ : List ℕ} {r : Made} (P : Ran ruleOf cap l₁ w₁ (s .count) (addOn b (treeAt l₁ (s .count) (getD L k 0)) (treeAt l₁ (s .count) (s .at))) l₂ w₂ r) where
+        abbrev c : ℤ
+        c = getD (coeffs l i) k (pos 0)
 
--- one level more on what ran
-more : {cap : ℕ} {l l₁ l₂ : List ℤ} {w w₁ w₂ : List ℕ} {n : ℕ} {m : Comp Tree} {s r : Made} → Ran ruleOf cap l w n m l₁ w₁ s → (c : ℤ) (d k j : ℕ) → d < n → Onward ruleOf cap l₁ w₁ s (addOn c (treeAt l₁ (s .count) d) k j) l₂ w₂ r → Ran ruleOf cap l w n (bind m (addOn c (treeAt l n d) k j)) l₂ w₂ r
-more Q c d k j h O = onward Q (onward-as (λ F. ap (λ (D : Tree). addOn c D k j F) (trees-kept (grown Q) d h)) O)
+        abbrev D : Tree
+        D = getD Ds k (treeAt l n 0)
 
-module _ {cap : ℕ} {l : List ℤ} {w : List ℕ} {n : ℕ} (A : Table ruleOf cap l w n) (i : ℕ) (hi : i < n) {d1 d2 d3 d4 m : ℕ} (B : Levels n d1 d2 d3 d4 m) {x : Node} (ex : x ≡ nodeAt l i) {l₁ : List ℤ} {w₁ : List ℕ} {s1 : Made} (Q1 : Ran ruleOf cap l w n (scale (R (x .c1)) (treeAt l n d1)) l₁ w₁ s1) where
-  pub second-asks : Asks cap l₁ w₁ s1 d2
-  second-asks = asks Q1 d2 (B .second)
+        b-is : b ≡ c
+        b-is = e ∙ (ap (λ (x : Node). getD (x .n) k (pos 0)) (S .ran .kept i hi) ∙ coefficient A i hi k (short k h))
 
-  module _ {l₂ : List ℤ} {w₂ : List ℕ} {s2 : Made} (O2 : Onward ruleOf cap l₁ w₁ s1 (addOn (R (x .c2)) (treeAt l₁ (s1 .count) d2) 2 m) l₂ w₂ s2) where
-    Q2 : Ran ruleOf cap l w n (bind (scale (R (x .c1)) (treeAt l n d1)) (addOn (R (x .c2)) (treeAt l n d2) 2 m)) l₂ w₂ s2
-    Q2 = more Q1 (R (x .c2)) d2 2 m (B .second) O2
+        d-is : treeAt l₁ (s .count) (getD L k 0) ≡ D
+        d-is = trees-kept (grown (S .ran)) (getD L k 0) (B .below k) ∙ sym (List·getD-map (treeAt l n) L k 0)
 
-    pub third-asks : Asks cap l₂ w₂ s2 d3
-    third-asks = asks Q2 d3 (B .third)
+        next : Ran ruleOf cap l w n (bind (S .so-far) (addOn c D)) l₂ w₂ r
+        next = seq (addOn c D) (S .ran) (S .goes) (ran-as (ap₂ (λ (z : ℤ) (X : Tree). addOn z X (treeAt l₁ (s .count) (s .at))) b-is d-is) P)
 
-    module _ {l₃ : List ℤ} {w₃ : List ℕ} {s3 : Made} (O3 : Onward ruleOf cap l₂ w₂ s2 (addOn (R (x .c3)) (treeAt l₂ (s2 .count) d3) 3 m) l₃ w₃ s3) where
-      Q3 : Ran ruleOf cap l w n (bind (bind (scale (R (x .c1)) (treeAt l n d1)) (addOn (R (x .c2)) (treeAt l n d2) 2 m)) (addOn (R (x .c3)) (treeAt l n d3) 3 m)) l₃ w₃ s3
-      Q3 = more Q2 (R (x .c3)) d3 3 m (B .third) O3
+        next-left : bind (bind (S .so-far) (addOn c D)) (Left (coeffs l i) Ds (k + 1)) ≡ Left (coeffs l i) Ds 1 (treeAt l n f)
+        next-left = bind-bind (S .so-far) (addOn c D) (Left (coeffs l i) Ds (k + 1))
+            ∙ (sym (bind-as (S .so-far) (steps (coeffs l i) Ds k (treeAt l n 0) (let q = short k h in omega (arith, coefficients-long A i hi)) (omega (arith, long)))) ∙ S .left)
 
-      pub fourth-asks : Asks cap l₃ w₃ s3 d4
-      fourth-asks = asks Q3 d4 (B .fourth)
+        pub adding-stops : (r .stop ≡ 0 → ⊥) → Ran ruleOf cap l w n (Left (coeffs l i) Ds 1 (treeAt l n f)) l₂ w₂ r
+        adding-stops off = ran-as next-left (stop _ next off)
 
-      pub levels-made : {l₄ : List ℤ} {w₄ : List ℕ} {s4 : Made} → Onward ruleOf cap l₃ w₃ s3 (addOn (R (x .c4)) (treeAt l₃ (s3 .count) d4) 4 m) l₄ w₄ s4 → Ran ruleOf cap l w n (levels-sum (linOf (nodeAt l i) .coeffs) (levelsAt l n d1 d2 d3 d4 m)) l₄ w₄ s4
-      unfolding levelsAt
-      levels-made O4 = ran-as
-          (sym (total (R (x .c1)) (R (x .c2)) (R (x .c3)) (R (x .c4)) (treeAt l n d1) (treeAt l n d2) (treeAt l n d3) (treeAt l n d4) m (B .some) (B .most))
-          ∙ ap (λ (cs : List ℤ). levels-sum cs (take m (treeAt l n d1 ∷ treeAt l n d2 ∷ treeAt l n d3 ∷ treeAt l n d4 ∷ []))) (coefficients x (nums-at (A .bare) i hi ex) ∙ ap (λ (x : Node). linOf x .coeffs) ex))
-          (more Q3 (R (x .c4)) d4 4 m (B .fourth) O4)
+        pub adding-one : r .stop ≡ 0 → length l₂ ≡ length l₁ → length w₂ ≡ length w₁ → Adding cap l w n i L f (k + 1) l₂ w₂ r
+        adding-one ok a d = record { goes = ok; so-far = bind (S .so-far) (addOn c D); ran = next; left = next-left; nodes-length = a ∙ S .nodes-length; work-length = d ∙ S .work-length }
+
+  -- ---- all levels
+
+  module _ {b : ℤ} (e : b ≡ getD (nodeAt l i .n) 0 (pos 0)) {l₁ : List ℤ} {w₁ : List ℕ} {s : Made} (P : Ran ruleOf cap l w n (scale b (treeAt l n (getD L 0 0))) l₁ w₁ s) where
+    first : Ran ruleOf cap l w n (scale (getD (coeffs l i) 0 (pos 0)) (getD Ds 0 (treeAt l n 0))) l₁ w₁ s
+    first = ran-as (ap₂ scale (e ∙ coefficient A i hi 0 (omega arith)) (sym (List·getD-map (treeAt l n) L 0 0))) P
+
+    total : bind (scale (getD (coeffs l i) 0 (pos 0)) (getD Ds 0 (treeAt l n 0))) (Left (coeffs l i) Ds 1) ≡ levels-sum (coeffs l i) Ds
+    total = begins (coeffs l i) Ds (treeAt l n 0) (omega (arith, coefficients-long A i hi)) (let q = B .some in omega (arith, long))
+
+    pub levels-stop : (s .stop ≡ 0 → ⊥) → Ran ruleOf cap l w n (levels-sum (coeffs l i) Ds) l₁ w₁ s
+    levels-stop off = ran-as total (stop _ first off)
+
+    module _ (ok : s .stop ≡ 0) where
+      pub levels-ask : Table ruleOf cap l₁ w₁ (s .count) × (i < s .count) × (s .at < s .count) × Levels (s .count) L
+      levels-ask = (P .table, lt-of-lt-of-le hi (P .more), P .within ok, levels-more B (P .more))
+
+      pub levels-made : {l₂ : List ℤ} {w₂ : List ℕ} {r : Made} → Ran ruleOf cap l₁ w₁ (s .count) (sum-on (treeAt l₁ (s .count) (s .at)) (drop 1 (linOf (nodeAt l₁ i) .coeffs)) (drop 1 (levelsAt l₁ (s .count) L))) l₂ w₂ r → Ran ruleOf cap l w n (levels-sum (coeffs l i) Ds) l₂ w₂ r
+      levels-made U = ran-as total (seq (Left (coeffs l i) Ds 1) first ok
+          (ran-as (ap₂ (λ (x : Node) (X : List Tree). sum-on (treeAt l₁ (s .count) (s .at)) (drop 1 (linOf x .coeffs)) (drop 1 X)) (P .kept i hi) (levels-kept B (grown P))) U))
 
 -- ---- the constant last
 
@@ -202,13 +203,10 @@ module _ {cap : ℕ} {l l₁ : List ℤ} {w w₁ : List ℕ} {n : ℕ} (i : ℕ)
   unfolding linear-diagram
   linear-stops off = stop _ Q off
 
-  module _ (ok : s .stop ≡ 0) {x : Node} (ex : x ≡ nodeAt l₁ i) where
-    constant-small : Small (x .constant)
-    constant-small = nums-at (Q .table .bare) i (lt-of-lt-of-le hi (Q .more)) ex .constant
+  module _ (ok : s .stop ≡ 0) {b : ℤ} (e : b ≡ constantOf (nodeAt l₁ i)) where
+    pub shift-asks : Table ruleOf cap l₁ w₁ (s .count) × (s .at < s .count) × Small b
+    shift-asks = (Q .table, Q .within ok, subst Small (sym e) (Q .table .bare .good .valid i (lt-of-lt-of-le hi (Q .more)) .nums .each levels-most))
 
-    pub shift-asks : Table ruleOf cap l₁ w₁ (s .count) × (s .at < s .count) × Small (R (x .constant))
-    shift-asks = (Q .table, Q .within ok, subst Small (sym (small-back (x .constant) constant-small)) constant-small)
-
-    pub linear-made : {l₂ : List ℤ} {w₂ : List ℕ} {r : Made} → Ran ruleOf cap l₁ w₁ (s .count) (shift (R (x .constant)) (treeAt l₁ (s .count) (s .at))) l₂ w₂ r → Linear-diagram l₂ w₂ r
+    pub linear-made : {l₂ : List ℤ} {w₂ : List ℕ} {r : Made} → Ran ruleOf cap l₁ w₁ (s .count) (shift b (treeAt l₁ (s .count) (s .at))) l₂ w₂ r → Linear-diagram l₂ w₂ r
     unfolding linear-diagram linOf
-    linear-made P = seq _ Q ok (ran-as (ap (λ (z : ℤ). shift z (treeAt l₁ (s .count) (s .at))) (small-back (x .constant) constant-small ∙ ap (λ (x : Node). x .constant) (ex ∙ Q .kept i hi))) P)
+    linear-made P = seq _ Q ok (ran-as (ap (λ (z : ℤ). shift z (treeAt l₁ (s .count) (s .at))) (e ∙ ap constantOf (Q .kept i hi))) P)

@@ -1,42 +1,82 @@
 // A linear combination of diagrams: a linear with diagrams in the place of levels.
 ghost use mathlib.Core.Path.{_≡_};
 ghost use Prim.Native.Nat.{_<_};
+ghost use lib.IntN.{pos};
+ghost use lib.ListN.{getD, drop};
+ghost use Rattle.whole.specs.Linears.{numbers};
 ghost use Rattle.table.specs.Table.{nodeAt};
-ghost use Rattle.diagrams.specs.Nodes.{linOf, treeAt};
+ghost use Rattle.diagrams.specs.Nodes.{linOf, treeAt, At};
 ghost use Rattle.diagrams.specs.Table.{Table, Ran};
 ghost use Rattle.diagrams.specs.Meaning.{ruleOf};
-ghost use Rattle.linear_combination.specs.Levels.{Levels, levelsAt, addOn, Onward};
+ghost use Rattle.linear_combination.specs.Levels.{Levels, levelsAt, addOn};
 ghost use Rattle.theory.specs.Rules as T;
+use diagrams::codes::SUM;
 use merge::merge;
 use table::Made;
 use unary::rules::scale;
 use unary::rules::shift;
+use whole::COEFFICIENTS;
 
-// The running sum s with c times the diagram at d, which is level k of m; s itself where it stopped or there is no such level.
+// Number k of node i.
+fn number(nodes: &[i64], i: usize, k: usize) -> i64
+    requires { ⌜ At (now nodes) i × (k < numbers) ⌝ }
+    ensures { λ r. ⌜ r ≡ getD (nodeAt (now (nodes .entry)) i .n) k (pos 0) ⌝ }
+{
+    let x = table::get(nodes, i);
+    let n = x.n;
+    let z = n[k];
+    z
+}
+
+// The running sum at f with c times the diagram at d.
 fn add_level(
     nodes: &mut [i64],
     work: &mut [u32],
     cap: usize,
-    s: Made,
+    count: usize,
+    f: usize,
     c: i64,
     d: usize,
-    k: usize,
-    m: usize,
 ) -> Made
-    requires { ⌜ Table ruleOf cap (now nodes) (now work) (s .count) × (s .stop ≡ 0 → s .at < s .count) × (d < s .count) ⌝ }
-    ensures { λ r. ⌜ Onward ruleOf cap (now (nodes .entry)) (now (work .entry)) s (addOn c (treeAt (now (nodes .entry)) (s .count) d) k m) (now (nodes .exit)) (now (work .exit)) r ⌝ }
+    requires { ⌜ Table ruleOf cap (now nodes) (now work) count × (f < count) × (d < count) ⌝ }
+    ensures { λ r. ⌜ Ran ruleOf cap (now (nodes .entry)) (now (work .entry)) count (addOn c (treeAt (now (nodes .entry)) count d) (treeAt (now (nodes .entry)) count f)) (now (nodes .exit)) (now (work .exit)) r ⌝ }
 {
-    if s.stop != 0 {
-        return s;
-    }
-    if m < k {
-        return s;
-    }
-    let t = scale(nodes, work, cap, s.count, d, c);
+    let t = scale(nodes, work, cap, count, d, c);
     if t.stop != 0 {
         return t;
     }
-    merge(nodes, work, cap, t.count, 0, s.at, t.at)
+    merge(nodes, work, cap, t.count, SUM, f, t.at)
+}
+
+// The running sum at f with the levels behind the first, each by its coefficient in the linear of node i, in order.
+fn add_levels(
+    nodes: &mut [i64],
+    work: &mut [u32],
+    cap: usize,
+    count: usize,
+    i: usize,
+    f: usize,
+    levels: &[u32],
+) -> Made
+    requires { ⌜ Table ruleOf cap (now nodes) (now work) count × (i < count) × (f < count) × Levels count (now levels) ⌝ }
+    ensures { λ r. ⌜ Ran ruleOf cap (now (nodes .entry)) (now (work .entry)) count (T.sum-on (treeAt (now (nodes .entry)) count f) (drop 1 (linOf (nodeAt (now (nodes .entry)) i) .coeffs)) (drop 1 (levelsAt (now (nodes .entry)) count (now (levels .entry))))) (now (nodes .exit)) (now (work .exit)) r ⌝ }
+{
+    let mut s = Made {
+        stop: 0,
+        at: f,
+        count,
+    };
+    let mut k: usize = 1;
+    while k < levels.len() {
+        let c = number(nodes, i, k);
+        let d = levels[k] as usize;
+        s = add_level(nodes, work, cap, s.count, s.at, c, d);
+        if s.stop != 0 {
+            return s;
+        }
+        k += 1;
+    }
+    s
 }
 
 // The sum of the levels' diagrams, each by its coefficient in the linear of node i, in order.
@@ -46,20 +86,18 @@ fn level_sum(
     cap: usize,
     count: usize,
     i: usize,
-    d1: usize,
-    d2: usize,
-    d3: usize,
-    d4: usize,
-    m: usize,
+    levels: &[u32],
 ) -> Made
-    requires { ⌜ Table ruleOf cap (now nodes) (now work) count × (i < count) × Levels count d1 d2 d3 d4 m ⌝ }
-    ensures { λ r. ⌜ Ran ruleOf cap (now (nodes .entry)) (now (work .entry)) count (T.levels-sum (linOf (nodeAt (now (nodes .entry)) i) .coeffs) (levelsAt (now (nodes .entry)) count d1 d2 d3 d4 m)) (now (nodes .exit)) (now (work .exit)) r ⌝ }
+    requires { ⌜ Table ruleOf cap (now nodes) (now work) count × (i < count) × Levels count (now levels) ⌝ }
+    ensures { λ r. ⌜ Ran ruleOf cap (now (nodes .entry)) (now (work .entry)) count (T.levels-sum (linOf (nodeAt (now (nodes .entry)) i) .coeffs) (levelsAt (now (nodes .entry)) count (now (levels .entry)))) (now (nodes .exit)) (now (work .exit)) r ⌝ }
 {
-    let x = table::get(nodes, i);
-    let a = scale(nodes, work, cap, count, d1, x.c1);
-    let b = add_level(nodes, work, cap, a, x.c2, d2, 2, m);
-    let c = add_level(nodes, work, cap, b, x.c3, d3, 3, m);
-    add_level(nodes, work, cap, c, x.c4, d4, 4, m)
+    let c = number(nodes, i, 0);
+    let d = levels[0] as usize;
+    let s = scale(nodes, work, cap, count, d, c);
+    if s.stop != 0 {
+        return s;
+    }
+    add_levels(nodes, work, cap, s.count, i, s.at, levels)
 }
 
 // The linear of node i over the levels' diagrams, its constant last.
@@ -69,19 +107,15 @@ pub fn linear_diagram(
     cap: usize,
     count: usize,
     i: usize,
-    d1: usize,
-    d2: usize,
-    d3: usize,
-    d4: usize,
-    m: usize,
+    levels: &[u32],
 ) -> Made
-    requires { ⌜ Table ruleOf cap (now nodes) (now work) count × (i < count) × Levels count d1 d2 d3 d4 m ⌝ }
-    ensures { λ r. ⌜ Ran ruleOf cap (now (nodes .entry)) (now (work .entry)) count (T.linear-diagram (levelsAt (now (nodes .entry)) count d1 d2 d3 d4 m) (linOf (nodeAt (now (nodes .entry)) i))) (now (nodes .exit)) (now (work .exit)) r ⌝ }
+    requires { ⌜ Table ruleOf cap (now nodes) (now work) count × (i < count) × Levels count (now levels) ⌝ }
+    ensures { λ r. ⌜ Ran ruleOf cap (now (nodes .entry)) (now (work .entry)) count (T.linear-diagram (levelsAt (now (nodes .entry)) count (now (levels .entry))) (linOf (nodeAt (now (nodes .entry)) i))) (now (nodes .exit)) (now (work .exit)) r ⌝ }
 {
-    let s = level_sum(nodes, work, cap, count, i, d1, d2, d3, d4, m);
+    let s = level_sum(nodes, work, cap, count, i, levels);
     if s.stop != 0 {
         return s;
     }
-    let x = table::get(nodes, i);
-    shift(nodes, work, cap, s.count, s.at, x.constant)
+    let c = number(nodes, i, COEFFICIENTS);
+    shift(nodes, work, cap, s.count, s.at, c)
 }

@@ -15,7 +15,7 @@ use Rattle.table.specs.Table.{nodeAt, eqZ}
 use Rattle.table.specs.declared.Node.{Node}
 use Rattle.theory.specs.Diagram.{Test, Leaf, Tree, leaf, branch, same}
 use Rattle.theory.specs.laws.Comps.{same-eq, same-refl}
-use Rattle.diagrams.specs.Nodes.{testOf, none, trees, Good}
+use Rattle.diagrams.specs.Nodes.{testOf, blank, trees, Good}
 use Rattle.clear.specs.Wipe.{wiped}
 use Rattle.clear.proofs.Parts.{same-length, within, after}
 use Rattle.mark.specs.Mark.{sub, needed, rootsOf, flag, Below, markOf, markStep, markDown, Marked}
@@ -87,18 +87,18 @@ sub-cases t s {x} {h} {l} e f = ⊎-elim
 
 module _ (X : List Tree) where
   -- a root is needed
-  pub needed-root : (R : List ℕ) (j : ℕ) → j < length R → needed (rootsOf X R) (getD X (getD R j 0) none) ≡ true
+  pub needed-root : (R : List ℕ) (j : ℕ) → j < length R → needed (rootsOf X R) (getD X (getD R j 0) blank) ≡ true
   unfolding needed rootsOf
   needed-root [] j h = absurd (omega arith)
-  needed-root (r ∷ R) zero h = left (sub (getD X r none) (getD X r none)) _ (sub-refl (getD X r none))
-  needed-root (r ∷ R) (suc j) h = right (sub (getD X (getD R j 0) none) (getD X r none)) _ (needed-root R j (omega arith))
+  needed-root (r ∷ R) zero h = left (sub (getD X r blank) (getD X r blank)) _ (sub-refl (getD X r blank))
+  needed-root (r ∷ R) (suc j) h = right (sub (getD X (getD R j 0) blank) (getD X r blank)) _ (needed-root R j (omega arith))
 
   -- what is needed stands below a root
-  pub root-of : (R : List ℕ) (t : Tree) → needed (rootsOf X R) t ≡ true → (j : ℕ) × (j < length R) × (sub t (getD X (getD R j 0) none) ≡ true)
+  pub root-of : (R : List ℕ) (t : Tree) → needed (rootsOf X R) t ≡ true → (j : ℕ) × (j < length R) × (sub t (getD X (getD R j 0) blank) ≡ true)
   unfolding needed rootsOf
   root-of [] t e = absurd (let z : _≡_ {A = ℕ} 0 1 = cc in omega arith)
   root-of (r ∷ R) t e = ⊎-elim
-      (λ (q : sub t (getD X r none) ≡ true). (0, (omega arith), q))
+      (λ (q : sub t (getD X r blank) ≡ true). (0, (omega arith), q))
       (λ (q : needed (rootsOf X R) t ≡ true). let p = root-of R t q in (suc (p .0), (let u = p .1 in omega arith), p .2))
       (either _ _ e)
 
@@ -132,7 +132,7 @@ pub record Pass (cap : ℕ) (l : List ℤ) (w w′ : List ℕ) (R : List ℕ) (n
   pub beyond : (k : ℕ) → n ≤ k → k < cap → getD w′ k 0 ≡ 0
   pub rest : (k : ℕ) → cap ≤ k → getD w′ k 0 ≡ getD w k 0
   pub bit : (k : ℕ) → k < n → getD w′ k 0 ≡ flag (markOf w′ k)
-  pub sound : (k : ℕ) → k < n → markOf w′ k ≡ true → needed (rootsOf (trees l n) R) (getD (trees l n) k none) ≡ true
+  pub sound : (k : ℕ) → k < n → markOf w′ k ≡ true → needed (rootsOf (trees l n) R) (getD (trees l n) k blank) ≡ true
   pub roots : (j : ℕ) → j < m → markOf w′ (getD R j 0) ≡ true
   pub high : (k : ℕ) → i ≤ k → k < n → markOf w′ k ≡ true → eqZ (nodeAt l k .kind) (pos 0) ≡ false → markOf w′ (natAbs (nodeAt l k .high)) ≡ true
   pub low : (k : ℕ) → i ≤ k → k < n → markOf w′ k ≡ true → eqZ (nodeAt l k .kind) (pos 0) ≡ false → markOf w′ (natAbs (nodeAt l k .low)) ≡ true
@@ -175,7 +175,7 @@ module _ {cap : ℕ} {l : List ℤ} {R : List ℕ} {n : ℕ} (room : n ≤ cap) 
     fits k p = let a = P .len in let b = P .big in omega arith
 
     -- one mark more, below i
-    adds : (h : ℕ) → h < i → needed S (getD X h none) ≡ true → Pass cap l w (set w′ h 1) R n m i
+    adds : (h : ℕ) → h < i → needed S (getD X h blank) ≡ true → Pass cap l w (set w′ h 1) R n m i
     unfolding flag
     adds h p d = record {
       big = P .big;
@@ -201,11 +201,11 @@ module _ {cap : ℕ} {l : List ℤ} {R : List ℕ} {n : ℕ} (room : n ≤ cap) 
             go true e = let q = eqb-true k h e in ap (λ (z : ℕ). getD (set w′ h 1) z 0) q ∙ (getD-set-same w′ h 1 0 fit ∙ sym (ap (λ (z : ℕ). flag (markOf (set w′ h 1) z)) q ∙ ap flag (mark-one w′ h fit)))
             go false e = let q = eqb-false k h e in getD-set-other w′ h k 1 0 q ∙ (P .bit k a ∙ sym (ap flag (mark-other w′ h k q)))
 
-        sound-new : (k : ℕ) → k < n → markOf (set w′ h 1) k ≡ true → needed S (getD X k none) ≡ true
+        sound-new : (k : ℕ) → k < n → markOf (set w′ h 1) k ≡ true → needed S (getD X k blank) ≡ true
         sound-new k a c = go (eqb k h) refl
           where
-            go : (b : Bool) → eqb k h ≡ b → needed S (getD X k none) ≡ true
-            go true e = ap (λ (z : ℕ). needed S (getD X z none)) (eqb-true k h e) ∙ d
+            go : (b : Bool) → eqb k h ≡ b → needed S (getD X k blank) ≡ true
+            go true e = ap (λ (z : ℕ). needed S (getD X z blank)) (eqb-true k h e) ∙ d
             go false e = P .sound k a (sym (mark-other w′ h k (eqb-false k h e)) ∙ c)
 
   -- one root more
@@ -266,8 +266,8 @@ module _ {cap : ℕ} {l : List ℤ} {R : List ℕ} {n : ℕ} (room : n ≤ cap) 
             ap (λ (z : ℕ). markOf w″ (natAbs (nodeAt l z .low))) q ∙ f (ap (markOf w″) (sym q) ∙ c) (ap (λ (z : ℕ). eqZ (nodeAt l z .kind) (pos 0)) (sym q) ∙ d) .1
         go-low k a b c d false e = Q .low k (let q = eqb-false k i e in omega arith) b c d
 
-    branches : markOf w′ i ≡ true → eqZ (x .kind) (pos 0) ≡ false → (needed S (getD X (natAbs (x .high)) none) ≡ true) × (needed S (getD X (natAbs (x .low)) none) ≡ true)
-    branches a d = needed-branch (testOf x) (getD X (natAbs (x .high)) none) (getD X (natAbs (x .low)) none) S (ap (needed S) (sym (at-branch G i here d)) ∙ P .sound i here a)
+    branches : markOf w′ i ≡ true → eqZ (x .kind) (pos 0) ≡ false → (needed S (getD X (natAbs (x .high)) blank) ≡ true) × (needed S (getD X (natAbs (x .low)) blank) ≡ true)
+    branches a d = needed-branch (testOf x) (getD X (natAbs (x .high)) blank) (getD X (natAbs (x .low)) blank) S (ap (needed S) (sym (at-branch G i here d)) ∙ P .sound i here a)
 
     both : markOf w′ i ≡ true → eqZ (x .kind) (pos 0) ≡ false → Pass cap l w (set (set w′ (natAbs (x .high)) 1) (natAbs (x .low)) 1) R n m i
     both a d =
@@ -294,38 +294,38 @@ module _ {cap : ℕ} {l : List ℤ} {R : List ℕ} {n : ℕ} (room : n ≤ cap) 
   -- ---- the end
   module _ {w w′ : List ℕ} {m : ℕ} (P : Pass cap l w w′ R n m 0) (all : length R ≤ m) where
     -- all that stands below a marked node is marked
-    under : (d k : ℕ) → k < d → k < n → markOf w′ k ≡ true → (j : ℕ) → j < n → sub (getD X j none) (getD X k none) ≡ true → markOf w′ j ≡ true
+    under : (d k : ℕ) → k < d → k < n → markOf w′ k ≡ true → (j : ℕ) → j < n → sub (getD X j blank) (getD X k blank) ≡ true → markOf w′ j ≡ true
     under zero k a b c j q e = absurd (omega arith)
     under (suc d) k a b c j q e = under-step k b c j q e (λ h p r s. under d h (omega arith) (omega arith) r j q s)
       where
-        under-step : (k : ℕ) (b : k < n) → markOf w′ k ≡ true → (j : ℕ) → j < n → sub (getD X j none) (getD X k none) ≡ true → ((h : ℕ) → h < k → markOf w′ h ≡ true → sub (getD X j none) (getD X h none) ≡ true → markOf w′ j ≡ true) → markOf w′ j ≡ true
+        under-step : (k : ℕ) (b : k < n) → markOf w′ k ≡ true → (j : ℕ) → j < n → sub (getD X j blank) (getD X k blank) ≡ true → ((h : ℕ) → h < k → markOf w′ h ≡ true → sub (getD X j blank) (getD X h blank) ≡ true → markOf w′ j ≡ true) → markOf w′ j ≡ true
         under-step k b c j q e rec = go (eqZ (nodeAt l k .kind) (pos 0)) refl
           where
-            itself : same (getD X j none) (getD X k none) ≡ true → markOf w′ j ≡ true
-            itself f = ap (markOf w′) (G .distinct j k q b (same-true (getD X j none) (getD X k none) f)) ∙ c
+            itself : same (getD X j blank) (getD X k blank) ≡ true → markOf w′ j ≡ true
+            itself f = ap (markOf w′) (G .distinct j k q b (same-true (getD X j blank) (getD X k blank) f)) ∙ c
 
             go : (t : Bool) → eqZ (nodeAt l k .kind) (pos 0) ≡ t → markOf w′ j ≡ true
-            go true f = itself (sub-leaf (getD X j none) (getD X k none) (at-leaf G k b f) e)
+            go true f = itself (sub-leaf (getD X j blank) (getD X k blank) (at-leaf G k b f) e)
             go false f =
                 let v = G .valid k b in
                 let hb = v .high-below f in
                 let lb = v .low-below f in
                 ⊎-elim
-                (λ (r : same (getD X j none) (getD X k none) ≡ true). itself r)
+                (λ (r : same (getD X j blank) (getD X k blank) ≡ true). itself r)
                 (λ r. ⊎-elim
                 (λ s. rec (natAbs (nodeAt l k .high)) hb (P .high k (omega arith) b c f) s)
                 (λ s. rec (natAbs (nodeAt l k .low)) lb (P .low k (omega arith) b c f) s)
                 r)
-                (sub-cases (getD X j none) (getD X k none) (at-branch G k b f) e)
+                (sub-cases (getD X j blank) (getD X k blank) (at-branch G k b f) e)
 
-    exact : (k : ℕ) → k < n → markOf w′ k ≡ needed S (getD X k none)
-    exact k a = go (markOf w′ k) refl (needed S (getD X k none)) refl
+    exact : (k : ℕ) → k < n → markOf w′ k ≡ needed S (getD X k blank)
+    exact k a = go (markOf w′ k) refl (needed S (getD X k blank)) refl
       where
-        go : (b : Bool) → markOf w′ k ≡ b → (d : Bool) → needed S (getD X k none) ≡ d → markOf w′ k ≡ needed S (getD X k none)
+        go : (b : Bool) → markOf w′ k ≡ b → (d : Bool) → needed S (getD X k blank) ≡ d → markOf w′ k ≡ needed S (getD X k blank)
         go true e d f = e ∙ sym (P .sound k a e)
         go false e false f = e ∙ sym f
         go false e true f =
-            let p = root-of X R (getD X k none) f in
+            let p = root-of X R (getD X k blank) f in
             clash (under (suc (getD R (p .0) 0)) (getD R (p .0) 0) (omega arith) (B .at (p .0) (p .1)) (P .roots (p .0) (let u = p .1 in omega arith)) k a (p .2)) e
 
     ends : {w₀ : List ℕ} → length w ≡ length w₀ → ((k : ℕ) → cap ≤ k → getD w k 0 ≡ getD w₀ k 0) → Marked cap l w₀ w′ R n

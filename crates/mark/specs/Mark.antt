@@ -6,9 +6,11 @@ use Prim.Native.Nat.{ℕ, zero, suc, _*_, _≤_, _<_}
 use lib.Dec.{eqb}
 use lib.IntN.{ℤ, pos, natAbs}
 use lib.ListN.{length, getD, set}
+use Rattle.table.specs.Table.{node-words}
+use Rattle.unique.specs.Unique.{work-words}
 use Rattle.table.specs.Table.{nodeAt, eqZ}
 use Rattle.theory.specs.Diagram.{Tree, leaf, branch, same}
-use Rattle.diagrams.specs.Nodes.{none, trees}
+use Rattle.diagrams.specs.Nodes.{blank, trees}
 
 -- whether t is s or stands below it
 unfoldable pub sub : Tree → Tree → Bool
@@ -23,7 +25,7 @@ needed (s ∷ S) t = sub t s || needed S t
 -- the trees of the roots
 unfoldable pub rootsOf : List Tree → List ℕ → List Tree
 rootsOf X [] = []
-rootsOf X (r ∷ R) = getD X r none ∷ rootsOf X R
+rootsOf X (r ∷ R) = getD X r blank ∷ rootsOf X R
 
 -- each root is a node
 pub record Below (R : List ℕ) (n : ℕ) : Type 0 where
@@ -34,8 +36,8 @@ pub record Space (cap : ℕ) (l : List ℤ) (w : List ℕ) (n : ℕ) : Type 0 wh
   pub some : 0 < cap
   pub few : cap ≤ 65535
   pub room : n ≤ cap
-  pub words : cap * 8 ≤ length l
-  pub works : cap * 8 ≤ length w
+  pub words : cap * node-words ≤ length l
+  pub works : cap * work-words ≤ length w
 
 -- ---- marks
 
@@ -58,7 +60,7 @@ markDown l w (suc i) = markDown l (markStep l w i) i
 
 -- what a mark pass leaves: a word of 1 for each node that the roots need, 0 for the others
 pub record Marked (cap : ℕ) (l : List ℤ) (w w′ : List ℕ) (R : List ℕ) (n : ℕ) : Type 0 where
-  pub marks : (i : ℕ) → i < n → getD w′ i 0 ≡ flag (needed (rootsOf (trees l n) R) (getD (trees l n) i none))
+  pub marks : (i : ℕ) → i < n → getD w′ i 0 ≡ flag (needed (rootsOf (trees l n) R) (getD (trees l n) i blank))
   pub beyond : (i : ℕ) → n ≤ i → i < cap → getD w′ i 0 ≡ 0
   pub rest : (i : ℕ) → cap ≤ i → getD w′ i 0 ≡ getD w i 0
   pub len : length w′ ≡ length w

@@ -9,6 +9,8 @@ use choice::choose;
 use choice::roots::sides_at;
 use computed_cache::keep;
 use computed_cache::look;
+use diagrams::codes::BEST;
+use diagrams::codes::CHOOSE_NAMED;
 use diagrams::making::join;
 use merge_leaves::combine;
 use table::Made;
@@ -27,8 +29,8 @@ fn over_root(
     requires { ⌜ Table ruleOf cap (now nodes) (now work) count × Root (now nodes) count t × (h < count) × (l < count) ⌝ }
     ensures { λ r. ⌜ Ran ruleOf cap (now (nodes .entry)) (now (work .entry)) count (makerOf op (testOf (nodeAt (now (nodes .entry)) t)) (treeAt (now (nodes .entry)) count h) (treeAt (now (nodes .entry)) count l)) (now (nodes .exit)) (now (work .exit)) r ⌝ }
 {
-    if op == 2 {
-        return choose(nodes, work, cap, count, 11, t, h, l);
+    if op == BEST {
+        return choose(nodes, work, cap, count, CHOOSE_NAMED, t, h, l);
     }
     join(nodes, work, cap, count, t, h, l)
 }

@@ -5,10 +5,13 @@ ghost use Rattle.diagrams.specs.Nodes.{leafOf};
 ghost use Rattle.diagrams.specs.Table.{Bare, Grew};
 ghost use Rattle.leaves.specs.Leaves.{AtLeaf};
 ghost use Rattle.merge_leaves.specs.Combined.{leafRule};
+use diagrams::codes::PRODUCT;
+use diagrams::codes::SUM;
 use diagrams::making::join_test;
 use diagrams::making::make_leaf;
 use diagrams::making::within;
 use diagrams::tests::named;
+use leaves::numbers::constant;
 use leaves::numbers::decided;
 use leaves::numbers::is_constant;
 use leaves::numbers::less;
@@ -44,8 +47,8 @@ fn product_leaves(
     requires { ⌜ Bare cap (now nodes) (now work) count × AtLeaf (now nodes) count f × AtLeaf (now nodes) count g ⌝ }
     ensures { λ r. ⌜ Grew cap (now (nodes .entry)) (now (work .entry)) count (leaf-product (leafOf (nodeAt (now (nodes .entry)) f)) (leafOf (nodeAt (now (nodes .entry)) g))) (now (nodes .exit)) (now (work .exit)) r ⌝ }
 {
-    let x = table::get(nodes, f);
-    let s = product(x.constant, table::get(nodes, g));
+    let k = constant(table::get(nodes, f));
+    let s = product(k, table::get(nodes, g));
     make_leaf(nodes, work, cap, count, s)
 }
 
@@ -64,9 +67,10 @@ fn best_leaves(
     let d = less(table::get(nodes, g), table::get(nodes, f));
     if within(d) {
         if is_constant(d) {
+            let k = constant(d);
             return Made {
                 stop: 0,
-                at: decided(d.constant, f, g),
+                at: decided(k, f, g),
                 count,
             };
         }
@@ -92,10 +96,10 @@ pub fn combine(
     requires { ⌜ Bare cap (now nodes) (now work) count × AtLeaf (now nodes) count f × AtLeaf (now nodes) count g ⌝ }
     ensures { λ r. ⌜ Grew cap (now (nodes .entry)) (now (work .entry)) count (leafRule op (leafOf (nodeAt (now (nodes .entry)) f)) (leafOf (nodeAt (now (nodes .entry)) g))) (now (nodes .exit)) (now (work .exit)) r ⌝ }
 {
-    if op == 0 {
+    if op == SUM {
         return sum_leaves(nodes, work, cap, count, f, g);
     }
-    if op == 1 {
+    if op == PRODUCT {
         return product_leaves(nodes, work, cap, count, f, g);
     }
     best_leaves(nodes, work, cap, count, f, g)

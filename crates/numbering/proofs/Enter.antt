@@ -20,7 +20,7 @@ use Rattle.theory.specs.Solve.{number-of}
 use Rattle.theory.specs.laws.Comps.{same-not, member-in, member-cases}
 use Rattle.theory.specs.laws.Counting.{distinct-fit}
 use Rattle.theory.specs.laws.Table.{number-last, distinct-add}
-use Rattle.diagrams.specs.Nodes.{testOf, none, trees, treeAt}
+use Rattle.diagrams.specs.Nodes.{testOf, blank, trees, treeAt}
 use Rattle.numbering.specs.Number.{Held, listOf, Numbered, assigned, Entered}
 use Rattle.diagrams.proofs.Trees.{trees-length, at-leaf, at-branch}
 use Rattle.numbering.proofs.Numbers.{number-none, number-out, number-in, number-other, enter-there, enter-leaf, enter-branch, still-out}
@@ -35,7 +35,7 @@ list-length X w (suc c) = length-append (listOf X w c) _ ∙ (ap (λ (k : ℕ). 
 list-same : (X : List Tree) (w w′ : List ℕ) (c : ℕ) → ((k : ℕ) → k < c → getD w′ k 0 ≡ getD w k 0) → listOf X w′ c ≡ listOf X w c
 unfolding listOf
 list-same X w w′ zero h = refl
-list-same X w w′ (suc c) h = ap₂ (λ (t : List Tree) (z : ℕ). t ++ (getD X z none ∷ [])) (list-same X w w′ c (λ k q. h k (omega arith))) (h c (omega arith))
+list-same X w w′ (suc c) h = ap₂ (λ (t : List Tree) (z : ℕ). t ++ (getD X z blank ∷ [])) (list-same X w w′ c (λ k q. h k (omega arith))) (h c (omega arith))
 
 -- what is listed is of the table
 list-in : (X : List Tree) (w : List ℕ) (c : ℕ) → ((k : ℕ) → k < c → getD w k 0 < length X) → (u : Tree) → member u (listOf X w c) ≡ true → member u X ≡ true
@@ -43,8 +43,8 @@ unfolding listOf member
 list-in X w zero h u m = absurd (let z : _≡_ {A = ℕ} 0 1 = cc in omega arith)
 list-in X w (suc c) h u m = ⊎-elim
     (λ p. list-in X w c (λ k q. h k (omega arith)) u p)
-    (λ p. member-in none u X (getD w c 0) (h c (omega arith)) p)
-    (member-cases u (getD X (getD w c 0) none) (listOf X w c) m)
+    (λ p. member-in blank u X (getD w c 0) (h c (omega arith)) p)
+    (member-cases u (getD X (getD w c 0) blank) (listOf X w c) m)
 
 -- so that there are no more than its nodes
 list-fits : (l : List ℤ) (n : ℕ) (w : List ℕ) (c : ℕ) → ((k : ℕ) → k < c → getD w k 0 < n) → Distinct (listOf (trees l n) w c) → c ≤ n
@@ -75,7 +75,7 @@ module _ {cap : ℕ} {l : List ℤ} {n : ℕ} (G : Held cap l n) where
         let s = list-length X w c in
         let a = length-append (listOf X w c) (treeAt l n i ∷ []) in
         let q = distinct-fit (listOf X w c ++ (treeAt l n i ∷ [])) X (distinct-add (treeAt l n i) (listOf X w c) (absent N i h z) (N .distinct))
-        (λ u m. ⊎-elim (λ p. list-in X w c (λ k r. let y = N .within k r in omega arith) u p) (λ p. member-in none u X i (omega arith) p) (member-cases u (treeAt l n i) (listOf X w c) m)) in
+        (λ u m. ⊎-elim (λ p. list-in X w c (λ k r. let y = N .within k r in omega arith) u p) (λ p. member-in blank u X i (omega arith) p) (member-cases u (treeAt l n i) (listOf X w c) m)) in
         omega arith
 
     abbrev w′ : List ℕ
@@ -98,7 +98,7 @@ module _ {cap : ℕ} {l : List ℤ} {n : ℕ} (G : Held cap l n) where
 
     listed-new : listOf X w′ (c + 1) ≡ listOf X w c ++ (treeAt l n i ∷ [])
     unfolding listOf
-    listed-new = ap (listOf X w′) (add-one c) ∙ ap₂ (λ (t : List Tree) (k : ℕ). t ++ (getD X k none ∷ [])) (list-same X w w′ c low-same) at-c
+    listed-new = ap (listOf X w′) (add-one c) ∙ ap₂ (λ (t : List Tree) (k : ℕ). t ++ (getD X k blank ∷ [])) (list-same X w w′ c low-same) at-c
 
     numbers-new : (j : ℕ) → j < n → getD w′ (cap + j) 0 ≡ number-of (treeAt l n j) (listOf X w′ (c + 1))
     numbers-new j q = go (eqb j i) refl ∙ sym (ap (number-of (treeAt l n j)) listed-new)

@@ -9,7 +9,7 @@ use Rattle.theory.specs.Diagram.{Tree}
 use Rattle.theory.specs.Computation.{enter, enter-all}
 use Rattle.theory.specs.Events.{Distinct}
 use Rattle.theory.specs.Solve.{number-of}
-use Rattle.diagrams.specs.Nodes.{none, trees, treeAt, Good}
+use Rattle.diagrams.specs.Nodes.{blank, trees, treeAt, Good}
 
 -- a table of n nodes in words that have room for cap
 pub record Held (cap : ℕ) (l : List ℤ) (n : ℕ) : Type 0 where
@@ -35,7 +35,7 @@ Blank cap n w = (i : ℕ) → i < n → getD w (cap + i) 0 ≡ 0
 -- the trees numbered so far, X being those of the table
 unfoldable pub listOf : List Tree → List ℕ → ℕ → List Tree
 listOf X w zero = []
-listOf X w (suc k) = listOf X w k ++ (getD X (getD w k 0) none ∷ [])
+listOf X w (suc k) = listOf X w k ++ (getD X (getD w k 0) blank ∷ [])
 
 -- c nodes have numbers
 pub record Numbered (cap : ℕ) (l : List ℤ) (n : ℕ) (w : List ℕ) (c : ℕ) : Type 0 where

@@ -5,28 +5,29 @@ ghost use lib.Dec.{T};
 ghost use lib.IntN.{pos, natAbs};
 ghost use lib.ListN.{length, getD};
 ghost use lib.Signed.{nonNeg};
-ghost use Rattle.table.specs.Table.{nodeAt, eqZ};
+ghost use Rattle.table.specs.Table.{node-words, nodeAt, eqZ};
 use diagrams::tests::index;
+use table::NODE_WORDS;
 
 // The words of a node that hold its branches.
-pub const HIGH: usize = 6;
+pub const HIGH: usize = table::HIGH;
 
-pub const LOW: usize = 7;
+pub const LOW: usize = table::LOW;
 
 // Whether node i is a leaf.
 pub fn is_leaf(nodes: &[i64], i: usize) -> bool
-    requires { ⌜ i * 8 + 8 ≤ length (now nodes) ⌝ }
+    requires { ⌜ i * node-words + node-words ≤ length (now nodes) ⌝ }
     ensures { λ r. ⌜ r ≡ eqZ (nodeAt (now (nodes .entry)) i .kind) (pos 0) ⌝ }
 {
-    let k = nodes[i * 8];
+    let k = nodes[i * NODE_WORDS];
     if k == 0 { true } else { false }
 }
 
 // The index in one of node i's words.
 pub fn branch(nodes: &[i64], i: usize, word: usize) -> usize
-    requires { ⌜ (i * 8 + 8 ≤ length (now nodes)) × (word < 8) × T (nonNeg (getD (now nodes) (i * 8 + word) (pos 0))) ⌝ }
-    ensures { λ r. ⌜ r ≡ natAbs (getD (now (nodes .entry)) (i * 8 + word) (pos 0)) ⌝ }
+    requires { ⌜ (i * node-words + node-words ≤ length (now nodes)) × (word < node-words) × T (nonNeg (getD (now nodes) (i * node-words + word) (pos 0))) ⌝ }
+    ensures { λ r. ⌜ r ≡ natAbs (getD (now (nodes .entry)) (i * node-words + word) (pos 0)) ⌝ }
 {
-    let z = nodes[i * 8 + word];
+    let z = nodes[i * NODE_WORDS + word];
     index(z)
 }

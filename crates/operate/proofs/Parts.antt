@@ -16,7 +16,7 @@ use Rattle.table.specs.declared.Made.{Made}
 use Rattle.table.specs.declared.Node.{Node}
 use Rattle.theory.specs.Diagram.{Tree}
 use Rattle.theory.specs.Computation.{Comp, ret, named, made, Out, done, stopped, member, run}
-use Rattle.diagrams.specs.Nodes.{none, treeOf, trees, Valid, Good}
+use Rattle.diagrams.specs.Nodes.{blank, treeOf, trees, Valid, Good}
 use Rattle.diagrams.specs.Table.{Table, Ran, outOf}
 use Rattle.diagrams.specs.Table.{Rule as Entries}
 use Rattle.diagrams.specs.Meaning.{ruleOf}
@@ -57,7 +57,7 @@ stop-of (stopped k) = k
 
 stop-is : (r : Made) (X : List Tree) → stop-of (outOf r X) ≡ r .stop
 unfolding stop-of outOf
-stop-is r X = by-eq (eqb (r .stop) 0) (λ b. stop-of (if b (done (getD X (r .at) none) X) (stopped (r .stop))) ≡ r .stop) (λ e. sym (eqb-true (r .stop) 0 e)) (λ e. refl)
+stop-is r X = by-eq (eqb (r .stop) 0) (λ b. stop-of (if b (done (getD X (r .at) blank) X) (stopped (r .stop))) ≡ r .stop) (λ e. sym (eqb-true (r .stop) 0 e)) (λ e. refl)
 
 stop-twelve : stop-of {A = Tree} (stopped 12) ≡ 12
 unfolding stop-of
@@ -111,7 +111,7 @@ module _ {cap n part : ℕ} {l₀ l : List ℤ} {w₀ w : List ℕ} (Y : Trying 
   trying-good : Good l n
   trying-good = record {
     valid = λ i h. subst (λ (x : Node). Valid x i) (sym (Y .kept i h)) (Y .good .valid i h);
-    distinct = λ i j p q. subst (λ (X : List Tree). _≡_ {A = Tree} (getD X i none) (getD X j none) → i ≡ j) (sym (trees-same l₀ l n (Y .kept))) (Y .good .distinct i j p q);
+    distinct = λ i j p q. subst (λ (X : List Tree). _≡_ {A = Tree} (getD X i blank) (getD X j blank) → i ≡ j) (sym (trees-same l₀ l n (Y .kept))) (Y .good .distinct i j p q);
   }
 
   -- what a run in a part asks

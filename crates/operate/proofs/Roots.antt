@@ -1,19 +1,19 @@
 -- The first roots of a table: lent to a collection, and read as levels.
-use mathlib.Core.Path.{_≡_, sym, ap, ap₂, _∙_, subst}
-use mathlib.Core.Bool.{Bool, false}
+use mathlib.Core.Path.{_≡_, refl, sym, ap, ap₂, _∙_, subst}
 use mathlib.Core.List.{List, [], _∷_, _++_}
-use Prim.Native.Nat.{ℕ, zero, suc, _+_, _≤_, _<_}
+use Prim.Native.Nat.{ℕ, _+_, _-_, _≤_, _<_}
 use native.Mathlib.Omega.{arith}
-use borrow.Author.Tests.{lt-ltb, ltb-true}
+use borrow.Author.Tests.{ltb-true, ltb-false}
 use lib.Dec.{ltb}
 use lib.IntN.{ℤ}
-use lib.ListN.{length, getD, take, drop, length-append, length-drop, take-append-drop}
+use lib.ListN.{length, getD, take, drop, length-append, length-drop, take-append-drop, List·getD-eq-default}
 use lib.Seq.{take-at, drop-at, length-take-le, getD-take, getD-drop, ext-getD}
-use Rattle.whole.specs.Cases.{if, by-eq}
+use Rattle.whole.specs.Cases.{by-eq}
 use Rattle.table.specs.declared.Made.{Made}
+use Rattle.theory.specs.Widths.{levels-most}
 use Rattle.theory.specs.Diagram.{Tree}
 use Rattle.theory.specs.Rules.{substitute}
-use Rattle.diagrams.specs.Nodes.{none, trees, treeAt}
+use Rattle.diagrams.specs.Nodes.{blank, trees, treeAt}
 use Rattle.diagrams.specs.Table.{Ran}
 use Rattle.diagrams.specs.Meaning.{ruleOf}
 use Rattle.diagrams.proofs.Outcomes.{ran-as}
@@ -22,7 +22,7 @@ use Rattle.collect.specs.Collect.{Collected}
 use Rattle.linear_combination.specs.Levels.{Levels, levelsAt}
 use Rattle.solving.specs.Operated.{roots-at}
 use Rattle.solving.specs.Roots.{roots-length}
-use Rattle.operate.specs.Operation.{levelAt, substitutes, FitsLevels, Kept}
+use Rattle.operate.specs.Operation.{substitutes, Kept}
 
 -- ---- the first roots moved
 
@@ -46,56 +46,49 @@ kept-length {held = held} {R = R} {R′ = R′} K =
 
 -- ---- levels
 
-pub level-in : (R : List ℕ) (at m i : ℕ) → i < m → levelAt R at m i ≡ getD R (at + i) 0
-unfolding levelAt
-level-in R at m i h = ap (λ (b : Bool). if b (getD R (at + i) 0) (getD R at 0)) (lt-ltb i m h)
+-- diagrams by their indexes
+levels-roots : (l : List ℤ) (n : ℕ) (L : List ℕ) → levelsAt l n L ≡ rootsOf (trees l n) L
+unfolding rootsOf
+levels-roots l n [] = refl
+levels-roots l n (d ∷ L) = ap (λ (X : List Tree). treeAt l n d ∷ X) (levels-roots l n L)
 
-pub level-beyond : (R : List ℕ) (at m i : ℕ) → ltb i m ≡ false → levelAt R at m i ≡ getD R at 0
-unfolding levelAt
-level-beyond R at m i e = ap (λ (b : Bool). if b (getD R (at + i) 0) (getD R at 0)) e
+module _ (R : List ℕ) (at m : ℕ) (h : at + m ≤ length R) where
+  -- the m indexes from a place on
+  abbrev L : List ℕ
+  L = take (at + m - at) (drop at R)
 
-level-below : {R : List ℕ} {n d : ℕ} (at m i : ℕ) → Below R n → at + m ≤ length R → 0 < m → d ≡ levelAt R at m i → d < n
-unfolding levelAt
-level-below {R} {n} {d} at m i B h k e = subst (λ (x : ℕ). x < n) (sym e) (by-eq (ltb i m) (λ b. if b (getD R (at + i) 0) (getD R at 0) < n) (λ t. B .at (at + i) (omega (arith, ltb-true i m t))) (λ f. B .at at (omega arith)))
+  part-length : length L ≡ m
+  part-length = length-take-le (at + m - at) (drop at R) (let z = length-drop at R in omega arith) ∙ (let e : at + m - at ≡ m = omega arith in e)
 
-four-at : (X : List Tree) (a b c d : ℕ) (f : ℕ → ℕ) → a ≡ f 0 → b ≡ f 1 → c ≡ f 2 → d ≡ f 3 → (i : ℕ) → i < 4 → getD (getD X a none ∷ getD X b none ∷ getD X c none ∷ getD X d none ∷ []) i none ≡ getD X (f i) none
-four-at X a b c d f p q r s zero h = ap (λ (j : ℕ). getD X j none) p
-four-at X a b c d f p q r s (suc zero) h = ap (λ (j : ℕ). getD X j none) q
-four-at X a b c d f p q r s (suc (suc zero)) h = ap (λ (j : ℕ). getD X j none) r
-four-at X a b c d f p q r s (suc (suc (suc zero))) h = ap (λ (j : ℕ). getD X j none) s
-four-at X a b c d f p q r s (suc (suc (suc (suc i)))) h = absurd (omega arith)
+  part-at : (i : ℕ) → i < m → getD L i 0 ≡ getD R (at + i) 0
+  part-at i j = getD-take (at + m - at) (drop at R) i 0 (omega arith) ∙ getD-drop at R i 0
 
-module _ (R : List ℕ) (at m : ℕ) {d1 d2 d3 d4 : ℕ} (e1 : d1 ≡ levelAt R at m 0) (e2 : d2 ≡ levelAt R at m 1) (e3 : d3 ≡ levelAt R at m 2) (e4 : d4 ≡ levelAt R at m 3) where
   -- what a substitution asks of them
-  pub levels-ask : {n f : ℕ} → Below R n → FitsLevels (length R) at m f → Levels n d1 d2 d3 d4 m
-  levels-ask B F = record {
-    first = level-below at m 0 B (F .0) (F .1) e1;
-    second = level-below at m 1 B (F .0) (F .1) e2;
-    third = level-below at m 2 B (F .0) (F .1) e3;
-    fourth = level-below at m 3 B (F .0) (F .1) e4;
-    some = F .1;
-    most = F .2;
+  pub levels-ask : {n : ℕ} → Below R n → 0 < m → m ≤ levels-most → Levels n L
+  levels-ask {n} B some most = record {
+    below = λ k. by-eq (ltb k m) (λ _. getD L k 0 < n)
+        (λ t. let j = ltb-true k m t in subst (λ (d : ℕ). d < n) (sym (part-at k j)) (B .at (at + k) (omega arith)))
+        (λ f. let j = ltb-false k m f in let z = B .at at (omega arith) in subst (λ (d : ℕ). d < n) (sym (List·getD-eq-default L 0 (omega (arith, part-length)))) (omega arith));
+    some = omega (arith, part-length);
+    most = omega (arith, part-length);
   }
 
   -- their diagrams are the m from a place on
-  levels-are : (l : List ℤ) (n : ℕ) → at + m ≤ length R → m ≤ 4 → levelsAt l n d1 d2 d3 d4 m ≡ take m (drop at (rootsOf (trees l n) R))
-  unfolding levelsAt
-  levels-are l n h k =
+  levels-are : (l : List ℤ) (n : ℕ) → levelsAt l n L ≡ take m (drop at (rootsOf (trees l n) R))
+  levels-are l n =
       let X = trees l n in
       let Q = rootsOf X R in
-      let L = treeAt l n d1 ∷ treeAt l n d2 ∷ treeAt l n d3 ∷ treeAt l n d4 ∷ [] in
       let q : length Q ≡ length R = roots-length X R in
-      let a : length (take m L) ≡ m = length-take-le m L k in
+      let a : length (rootsOf X L) ≡ m = roots-length X L ∙ part-length in
       let b : length (take m (drop at Q)) ≡ m = length-take-le m (drop at Q) (let z = length-drop at Q in omega arith) in
-      ext-getD none (take m L) (take m (drop at Q)) (a ∙ sym b)
+      levels-roots l n L ∙ ext-getD blank (rootsOf X L) (take m (drop at Q)) (a ∙ sym b)
       (λ i z. let j : i < m = omega arith in
-      getD-take m L i none j
-      ∙ (four-at X d1 d2 d3 d4 (levelAt R at m) e1 e2 e3 e4 i (omega arith)
-      ∙ (ap (λ (x : ℕ). getD X x none) (level-in R at m i j)
+      roots-at X L i (omega (arith, part-length))
+      ∙ (ap (λ (x : ℕ). getD X x blank) (part-at i j)
       ∙ (sym (roots-at X R (at + i) (omega arith))
-      ∙ (sym (getD-drop at Q i none)
-      ∙ sym (getD-take m (drop at Q) i none j))))))
+      ∙ (sym (getD-drop at Q i blank)
+      ∙ sym (getD-take m (drop at Q) i blank j)))))
 
   -- a substitution by them
-  pub levels-ran : {cap n f : ℕ} {l l′ : List ℤ} {w w′ : List ℕ} {r : Made} → FitsLevels (length R) at m f → Ran ruleOf cap l w n (substitute (levelsAt l n d1 d2 d3 d4 m) (treeAt l n (getD R f 0))) l′ w′ r → Ran ruleOf cap l w n (substitutes (rootsOf (trees l n) R) at m f) l′ w′ r
-  levels-ran {n = n} {f = f} {l = l} F S = ran-as (ap₂ substitute (levels-are l n (F .0) (F .2)) (sym (roots-at (trees l n) R f (F .3)))) S
+  pub levels-ran : {cap n f : ℕ} {l l′ : List ℤ} {w w′ : List ℕ} {r : Made} → f < length R → Ran ruleOf cap l w n (substitute (levelsAt l n L) (treeAt l n (getD R f 0))) l′ w′ r → Ran ruleOf cap l w n (substitutes (rootsOf (trees l n) R) at m f) l′ w′ r
+  levels-ran {n = n} {f = f} {l = l} j S = ran-as (ap₂ substitute (levels-are l n) (sym (roots-at (trees l n) R f j))) S

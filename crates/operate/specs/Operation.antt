@@ -2,16 +2,15 @@
 use mathlib.Core.Path.{_≡_}
 use mathlib.Core.List.{List, [], _∷_, _++_}
 use Prim.Native.Nat.{ℕ, suc, _+_, _^_, max, _≤_, _<_}
-use lib.Dec.{ltb}
 use lib.IntN.{ℤ, pos}
-use lib.ListN.{length, getD, take, drop}
-use Rattle.whole.specs.Cases.{if}
+use lib.ListN.{length, getD, take, drop, replicate}
+use Rattle.whole.specs.Linears.{numbers}
 use Rattle.table.specs.declared.Node.{Node}
 use Rattle.theory.specs.Widths.{levels-most, conditions-most, actions-most, weights-most}
 use Rattle.theory.specs.Diagram.{Tree}
 use Rattle.theory.specs.Computation.{Comp, make}
 use Rattle.theory.specs.Rules.{best, zero-leaf, substitute, expectation, add-reward}
-use Rattle.diagrams.specs.Nodes.{none, trees, treeAt, Good}
+use Rattle.diagrams.specs.Nodes.{blank, trees, treeAt, Good}
 use Rattle.mark.specs.Mark.{rootsOf, Below, Space}
 use Rattle.collect.specs.Collect.{Collected}
 use Rattle.solving.specs.Alike.{Alike}
@@ -23,23 +22,19 @@ use Rattle.operate.specs.declared.Run.{Run}
 
 -- ---- rules, of the diagrams Q
 
--- the index of level i of m from a place on
-unfoldable pub levelAt : List ℕ → ℕ → ℕ → ℕ → ℕ
-levelAt R at m i = if (ltb i m) (getD R (at + i) 0) (getD R at 0)
-
 abbrev pub substitutes : List Tree → ℕ → ℕ → ℕ → Comp Tree
-substitutes Q at m f = substitute (take m (drop at Q)) (getD Q f none)
+substitutes Q at m f = substitute (take m (drop at Q)) (getD Q f blank)
 
 unfoldable pub compOf : List Tree → Rule → Comp Tree
 compOf Q Zero = make zero-leaf
 compOf Q (Levels at m f) = substitutes Q at m f
-compOf Q (Expect w k f weights) = expectation weights (getD Q w none) k (getD Q f none)
-compOf Q (Reward reward f weights exponent action) = add-reward (weights ^ exponent) (getD Q reward none) action (getD Q f none)
-compOf Q (Best f g) = best (getD Q f none) (getD Q g none)
+compOf Q (Expect w k f weights) = expectation weights (getD Q w blank) k (getD Q f blank)
+compOf Q (Reward reward f weights exponent action) = add-reward (weights ^ exponent) (getD Q reward blank) action (getD Q f blank)
+compOf Q (Best f g) = best (getD Q f blank) (getD Q g blank)
 
 -- the leaf 0, in words
 unfoldable pub zeroNode : Node
-zeroNode = record { kind = pos 0; c1 = pos 0; c2 = pos 0; c3 = pos 0; c4 = pos 0; constant = pos 0; high = pos 0; low = pos 0 }
+zeroNode = record { kind = pos 0; n = replicate numbers (pos 0); high = pos 0; low = pos 0 }
 
 -- places among n roots
 abbrev pub FitsLevels : ℕ → ℕ → ℕ → ℕ → Type 0

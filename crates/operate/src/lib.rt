@@ -8,9 +8,11 @@ ghost use Rattle.diagrams.specs.Table.{Table, Ran};
 ghost use Rattle.diagrams.specs.Meaning.{ruleOf};
 ghost use Rattle.mark.specs.Mark.{rootsOf, Below, Space};
 ghost use Rattle.solving.specs.Operated.{Came};
-ghost use Rattle.operate.specs.Operation.{levelAt, substitutes, compOf, zeroNode, FitsLevels, Fits, Standing, Kept, Operated};
+ghost use Rattle.operate.specs.Operation.{substitutes, compOf, zeroNode, FitsLevels, Fits, Standing, Kept, Operated};
+use diagrams::codes::BEST;
 use table::Made;
 use table::Node;
+use whole::NUMBERS;
 
 // What an operation computes, of roots by their places: w, f and g are places, as `at` is the first of m next levels.
 pub enum Rule {
@@ -55,18 +57,6 @@ fn keep_roots(
     collect::collect(nodes, work, larger(1, count), count, &mut roots[..held])
 }
 
-// The index of one of m next levels from a place on; the first again beyond them.
-fn level(roots: &[u32], at: usize, m: usize, i: usize) -> usize
-    requires { ⌜ (at + m ≤ length (now roots)) × (0 < m) ⌝ }
-    ensures { λ r. ⌜ r ≡ levelAt (now (roots .entry)) at m i ⌝ }
-{
-    if i < m {
-        roots[at + i] as usize
-    } else {
-        roots[at] as usize
-    }
-}
-
 // The m diagrams from a place on in the place of the levels of the one at f.
 fn replace_levels(
     nodes: &mut [i64],
@@ -81,12 +71,9 @@ fn replace_levels(
     requires { ⌜ Table ruleOf cap (now nodes) (now work) count × Below (now roots) count × FitsLevels (length (now roots)) at m f ⌝ }
     ensures { λ r. ⌜ Ran ruleOf cap (now (nodes .entry)) (now (work .entry)) count (substitutes (rootsOf (trees (now (nodes .entry)) count) (now (roots .entry))) at m f) (now (nodes .exit)) (now (work .exit)) r ⌝ }
 {
-    let d1 = level(roots, at, m, 0);
-    let d2 = level(roots, at, m, 1);
-    let d3 = level(roots, at, m, 2);
-    let d4 = level(roots, at, m, 3);
-    let f1 = roots[f] as usize;
-    substitute::substitute(nodes, work, cap, count, f1, d1, d2, d3, d4, m)
+    let g = roots[f] as usize;
+    let end = at + m;
+    substitute::substitute(nodes, work, cap, count, g, &roots[at..end])
 }
 
 fn zero() -> Node
@@ -94,11 +81,7 @@ fn zero() -> Node
 {
     Node {
         kind: 0,
-        c1: 0,
-        c2: 0,
-        c3: 0,
-        c4: 0,
-        constant: 0,
+        n: [0; NUMBERS],
         high: 0,
         low: 0,
     }
@@ -150,7 +133,7 @@ fn compute(
                 work,
                 cap,
                 count,
-                2,
+                BEST,
                 roots[f] as usize,
                 roots[g] as usize,
             )

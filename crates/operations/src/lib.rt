@@ -7,6 +7,10 @@ ghost use Rattle.diagrams.specs.Nodes.{treeAt};
 ghost use Rattle.diagrams.specs.Table.{Table, Ran};
 ghost use Rattle.diagrams.specs.Meaning.{ruleOf};
 ghost use Rattle.unary.specs.Picks.{Picks};
+use diagrams::codes::NO_SIDE;
+use diagrams::codes::PRODUCT;
+use diagrams::codes::SUM;
+use diagrams::codes::YES_SIDE;
 use merge::merge;
 use table::Made;
 use unary::rules::complement;
@@ -34,7 +38,7 @@ fn weighted(
     if y.stop != 0 {
         return y;
     }
-    merge(nodes, work, cap, y.count, 1, w, y.at)
+    merge(nodes, work, cap, y.count, PRODUCT, w, y.at)
 }
 
 // The next step's condition k summed out of f: w times the yes side, and weights less w times the no side.
@@ -51,7 +55,7 @@ pub fn expectation(
     requires { ⌜ Table ruleOf cap (now nodes) (now work) count × (w < count) × (f < count) × (0 < k) × (k ≤ conditions-most) × (weights ≤ weights-most) ⌝ }
     ensures { λ r. ⌜ Ran ruleOf cap (now (nodes .entry)) (now (work .entry)) count (T.expectation weights (treeAt (now (nodes .entry)) count w) k (treeAt (now (nodes .entry)) count f)) (now (nodes .exit)) (now (work .exit)) r ⌝ }
 {
-    let p = weighted(nodes, work, cap, count, 7, w, k, f);
+    let p = weighted(nodes, work, cap, count, YES_SIDE, w, k, f);
     if p.stop != 0 {
         return p;
     }
@@ -59,11 +63,11 @@ pub fn expectation(
     if v.stop != 0 {
         return v;
     }
-    let q = weighted(nodes, work, cap, v.count, 8, v.at, k, f);
+    let q = weighted(nodes, work, cap, v.count, NO_SIDE, v.at, k, f);
     if q.stop != 0 {
         return q;
     }
-    merge(nodes, work, cap, q.count, 0, p.at, q.at)
+    merge(nodes, work, cap, q.count, SUM, p.at, q.at)
 }
 
 // weights to the power of exponent, judged first, times the reward, added to f; the leaves numbered with the action.
@@ -92,7 +96,7 @@ pub fn add_reward(
     if a.stop != 0 {
         return a;
     }
-    let b = merge(nodes, work, cap, a.count, 0, f, a.at);
+    let b = merge(nodes, work, cap, a.count, SUM, f, a.at);
     if b.stop != 0 {
         return b;
     }

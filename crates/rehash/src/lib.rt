@@ -8,7 +8,7 @@ pub fn rehash(nodes: &[i64], work: &mut [u32], cap: usize, count: usize)
     ensures { λ _. ⌜ Rehashed cap (now (nodes .entry)) (now (work .entry)) (now (work .exit)) count ⌝ }
 {
     clear::work(work, 0, cap);
-    clear::work(work, cap * 2, cap * 8);
+    clear::work(work, cap * 2, cap * unique::WORK_WORDS);
     let mut i: usize = 0;
     while i < count {
         let b = unique::hash(table::get(nodes, i), cap);

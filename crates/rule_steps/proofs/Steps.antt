@@ -1,11 +1,11 @@
 -- A step leaves the table right; the table begins empty.
 use mathlib.Core.Path.{_≡_, refl, sym, subst}
 use mathlib.Core.Bool.{Bool, true, false}
-use mathlib.Core.List.{List}
-use Prim.Native.Nat.{ℕ, _*_, _≤_, _<_}
+use mathlib.Core.List.{List, _∷_}
+use Prim.Native.Nat.{ℕ, zero, suc, _*_, _≤_, _<_}
 use native.Mathlib.Omega.{arith}
 use lib.IntN.{ℤ, pos}
-use lib.ListN.{length, getD}
+use lib.ListN.{length, getD, replicate}
 use mir.Syntax.{w64}
 use mir.Val.{toZ, SFits}
 use Rattle.whole.specs.Within.{Small}
@@ -13,6 +13,7 @@ use Rattle.whole.proofs.Signed.{plain, R, back}
 use Rattle.table.specs.declared.Made.{Made}
 use Rattle.theory.specs.Computation.{Comp}
 use Rattle.theory.specs.Diagram.{Tree}
+use Rattle.theory.specs.Widths.{levels-most}
 use Rattle.unique.specs.Unique.{lastOf}
 use Rattle.diagrams.specs.Nodes.{Proper}
 use Rattle.table.specs.Table.{eqZ}
@@ -20,6 +21,7 @@ use Rattle.diagrams.specs.Table.{Table, Grew}
 use Rattle.diagrams.specs.Meaning.{ruleOf}
 use Rattle.unary_node.specs.Acts.{Acts}
 use Rattle.diagrams.proofs.Outcomes.{lifted, fresh}
+use Rattle.diagrams.proofs.Meanings.{zeros-behind}
 
 pub grew : {cap n : ℕ} {l l₁ : List ℤ} {w w₁ : List ℕ} {m : Comp Tree} {r : Made} → Table ruleOf cap l w n → Grew cap l w n m l₁ w₁ r → Table ruleOf cap l₁ w₁ (r .count)
 grew A Q = lifted A Q .table
@@ -47,16 +49,20 @@ empty cap l w some few hl hw z = fresh
     (λ j h k. z j (omega arith))
 
 -- the test of a condition
-proper-pos : (k : ℕ) → 0 < k → k ≤ 8 → Proper (record { kind = pos 1; c1 = pos k; c2 = pos 0; c3 = pos 0; c4 = pos 0; constant = pos 0; high = pos 0; low = pos 0 })
+small-number : (n : ℕ) → n ≤ 8 → (k : ℕ) → Small (getD (pos n ∷ replicate levels-most (pos 0)) k (pos 0))
+small-number n h zero = record { small = omega arith }
+small-number n h (suc k) = subst Small (sym (zeros-behind (pos n) (suc k) (omega arith))) (record { small = omega arith })
+
+proper-pos : (k : ℕ) → 0 < k → k ≤ 8 → Proper (record { kind = pos 1; n = pos k ∷ replicate levels-most (pos 0); high = pos 0; low = pos 0 })
 unfolding eqZ
 proper-pos k a b = record {
   branches = refl;
-  nums = record { c1 = record { small = omega arith }; c2 = record { small = omega arith }; c3 = record { small = omega arith }; c4 = record { small = omega arith }; constant = record { small = omega arith } };
-  tested = record { kind = λ e. absurd (let z : _≡_ {A = ℕ} 0 1 = cc in omega arith); number = λ _. tt; bounds = λ _. (omega arith, omega arith); rest = λ _. (refl, refl, refl, refl) };
+  nums = record { long = refl; each = small-number k b };
+  tested = record { kind = λ e. absurd (let z : _≡_ {A = ℕ} 0 1 = cc in omega arith); long = refl; number = λ _. tt; bounds = λ _. (omega arith, omega arith); rest = λ _. zeros-behind (pos k) };
 }
 
-pub proper-condition : (k : ℕ) → 0 < k → k ≤ 8 → Proper (record { kind = pos 1; c1 = toZ w64 k; c2 = pos 0; c3 = pos 0; c4 = pos 0; constant = pos 0; high = pos 0; low = pos 0 })
-proper-condition k a b = subst (λ z. Proper (record { kind = pos 1; c1 = z; c2 = pos 0; c3 = pos 0; c4 = pos 0; constant = pos 0; high = pos 0; low = pos 0 })) (sym (plain k (omega arith))) (proper-pos k a b)
+pub proper-condition : (k : ℕ) → 0 < k → k ≤ 8 → Proper (record { kind = pos 1; n = toZ w64 k ∷ replicate levels-most (pos 0); high = pos 0; low = pos 0 })
+proper-condition k a b = subst (λ z. Proper (record { kind = pos 1; n = z ∷ replicate levels-most (pos 0); high = pos 0; low = pos 0 })) (sym (plain k (omega arith))) (proper-pos k a b)
 
 -- ---- the numbers of a rule of one diagram
 

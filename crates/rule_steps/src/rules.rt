@@ -16,6 +16,8 @@ use table::Node;
 use unary::rules::over;
 use unary_node::halves::high_half;
 use unary_node::halves::low_half;
+use whole::COEFFICIENTS;
+use whole::NUMBERS;
 use whole::limits::LIMIT;
 use whole::limits::mag;
 
@@ -46,13 +48,12 @@ fn leaf(nodes: &mut [i64], work: &mut [u32], cap: usize, count: usize, b: i64, c
     requires { ⌜ Table ruleOf cap (now nodes) (now work) count ⌝ }
     ensures { λ r. ⌜ Table ruleOf cap (now (nodes .exit)) (now (work .exit)) (r .count) ⌝ }
 {
+    let mut n = [0i64; NUMBERS];
+    n[0] = b;
+    n[COEFFICIENTS] = c;
     let s = Node {
         kind: 0,
-        c1: b,
-        c2: 0,
-        c3: 0,
-        c4: 0,
-        constant: c,
+        n,
         high: 0,
         low: 0,
     };
@@ -160,13 +161,11 @@ fn condition(nodes: &mut [i64], work: &mut [u32], cap: usize, count: usize, s: S
     if k > 8 {
         return unknown(count);
     }
+    let mut n = [0i64; NUMBERS];
+    n[0] = k as i64;
     let t = Node {
         kind: 1,
-        c1: k as i64,
-        c2: 0,
-        c3: 0,
-        c4: 0,
-        constant: 0,
+        n,
         high: 0,
         low: 0,
     };

@@ -69,10 +69,10 @@ pub fn ready(nodes: &[i64], work: &[u32], cap: usize) -> bool
     if cap > 65535 {
         return false;
     }
-    if nodes.len() < cap * 8 {
+    if nodes.len() < cap * table::NODE_WORDS {
         return false;
     }
-    if work.len() < cap * 8 {
+    if work.len() < cap * unique::WORK_WORDS {
         return false;
     }
     all_zero(work)

@@ -1,10 +1,11 @@
 -- Each step leaves the table right.
-use mathlib.Core.Path.{_≡_, sym, subst}
-use mathlib.Core.List.{List}
-use Prim.Native.Nat.{ℕ, _≤_}
+use mathlib.Core.Path.{_≡_, refl, sym, subst}
+use mathlib.Core.List.{List, [], _∷_}
+use Prim.Native.Nat.{ℕ, zero, suc, _≤_}
 use native.Mathlib.Nat.{le-trans}
 use native.Mathlib.Omega.{arith}
 use lib.IntN.{ℤ, pos}
+use lib.ListN.{getD}
 use mir.Syntax.{w64}
 use mir.Val.{toZ}
 use Rattle.whole.specs.Within.{Small}
@@ -15,9 +16,9 @@ use Rattle.theory.specs.Diagram.{Tree}
 use Rattle.diagrams.specs.Nodes.{Proper}
 use Rattle.diagrams.specs.Table.{Table, Ran, Grew}
 use Rattle.diagrams.specs.Meaning.{ruleOf}
-use Rattle.diagrams.specs.Roots.{fiveNode}
+use Rattle.diagrams.specs.Roots.{linearNode}
 use Rattle.diagrams.proofs.Outcomes.{lifted}
-use Rattle.diagrams.proofs.Meanings.{proper-five}
+use Rattle.diagrams.proofs.Meanings.{proper-linear}
 use Rattle.rules_main.specs.Held.{Held}
 
 pub held : {l l₁ : List ℤ} {w w₁ : List ℕ} {n : ℕ} {m : Comp Tree} {r : Made} → Ran ruleOf 65535 l w n m l₁ w₁ r → Held n l₁ w₁ r
@@ -34,8 +35,14 @@ plain-small : (a : ℕ) → a ≤ 1000000 → Small (toZ w64 a)
 plain-small a h = subst Small (sym (plain a (omega arith))) (record { small = omega arith })
 
 -- the test of a step
-pub proper-at : (a : ℕ) → a ≤ 1000000 → Proper (record { kind = pos 2; c1 = pos 1; c2 = pos 0; c3 = pos 0; c4 = pos 0; constant = toZ w64 a; high = pos 0; low = pos 0 })
-unfolding fiveNode
-proper-at a h = proper-five
-    (record { a = toZ w64 a; b = pos 1; c = pos 0; d = pos 0; e = pos 0 })
-    (record { a = plain-small a h; b = record { small = omega arith }; c = record { small = omega arith }; d = record { small = omega arith }; e = record { small = omega arith } })
+pub proper-at : (a : ℕ) → a ≤ 1000000 → Proper (record { kind = pos 2; n = pos 1 ∷ pos 0 ∷ pos 0 ∷ pos 0 ∷ toZ w64 a ∷ []; high = pos 0; low = pos 0 })
+unfolding linearNode
+proper-at a h = proper-linear (pos 1 ∷ pos 0 ∷ pos 0 ∷ pos 0 ∷ toZ w64 a ∷ []) (record { long = refl; each = each })
+  where
+    each : (k : ℕ) → Small (getD (pos 1 ∷ pos 0 ∷ pos 0 ∷ pos 0 ∷ toZ w64 a ∷ []) k (pos 0))
+    each zero = record { small = omega arith }
+    each (suc zero) = record { small = omega arith }
+    each (suc (suc zero)) = record { small = omega arith }
+    each (suc (suc (suc zero))) = record { small = omega arith }
+    each (suc (suc (suc (suc zero)))) = plain-small a h
+    each (suc (suc (suc (suc (suc k))))) = record { small = omega arith }

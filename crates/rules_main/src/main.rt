@@ -8,6 +8,8 @@ use diagrams::making::make_leaf;
 use merge::merge;
 use table::Made;
 use table::Node;
+use whole::COEFFICIENTS;
+use whole::NUMBERS;
 
 const CAP: usize = 65535;
 
@@ -18,13 +20,11 @@ fn leaf(nodes: &mut [i64], work: &mut [u32], count: usize, value: usize) -> Made
     requires { ⌜ Table ruleOf 65535 (now nodes) (now work) count × (value ≤ 1000000) ⌝ }
     ensures { λ r. ⌜ Held count (now (nodes .exit)) (now (work .exit)) r ⌝ }
 {
+    let mut n = [0i64; NUMBERS];
+    n[COEFFICIENTS] = value as i64;
     let s = Node {
         kind: 0,
-        c1: 0,
-        c2: 0,
-        c3: 0,
-        c4: 0,
-        constant: value as i64,
+        n,
         high: 0,
         low: 0,
     };
@@ -47,13 +47,12 @@ fn stair(
     if h.stop != 0 {
         return h;
     }
+    let mut n = [0i64; NUMBERS];
+    n[0] = 1;
+    n[COEFFICIENTS] = at as i64;
     let t = Node {
         kind: 2,
-        c1: 1,
-        c2: 0,
-        c3: 0,
-        c4: 0,
-        constant: at as i64,
+        n,
         high: 0,
         low: 0,
     };

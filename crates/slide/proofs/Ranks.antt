@@ -10,7 +10,7 @@ use lib.ListN.{length, getD, length-append, List·getD-append}
 use lib.Seq.{getD-at}
 use Rattle.table.proofs.Look.{split}
 use Rattle.theory.specs.Diagram.{Tree}
-use Rattle.diagrams.specs.Nodes.{none}
+use Rattle.diagrams.specs.Nodes.{blank}
 use Rattle.slide.specs.Slide.{rank, keepOf}
 
 module _ (m : ℕ → Bool) where
@@ -32,37 +32,37 @@ module _ (m : ℕ → Bool) where
   rank-no i e = ap (rank m) (add-one i) ∙ ap (λ (b : Bool). cond b (rank m i + 1) (rank m i)) e
 
   module _ (X : List Tree) where
-    pub keep-yes : (i : ℕ) → m i ≡ true → keepOf m X (i + 1) ≡ keepOf m X i ++ (getD X i none ∷ [])
+    pub keep-yes : (i : ℕ) → m i ≡ true → keepOf m X (i + 1) ≡ keepOf m X i ++ (getD X i blank ∷ [])
     unfolding keepOf
-    keep-yes i e = ap (keepOf m X) (add-one i) ∙ ap (λ (b : Bool). cond b (keepOf m X i ++ (getD X i none ∷ [])) (keepOf m X i)) e
+    keep-yes i e = ap (keepOf m X) (add-one i) ∙ ap (λ (b : Bool). cond b (keepOf m X i ++ (getD X i blank ∷ [])) (keepOf m X i)) e
 
     pub keep-no : (i : ℕ) → m i ≡ false → keepOf m X (i + 1) ≡ keepOf m X i
     unfolding keepOf
-    keep-no i e = ap (keepOf m X) (add-one i) ∙ ap (λ (b : Bool). cond b (keepOf m X i ++ (getD X i none ∷ [])) (keepOf m X i)) e
+    keep-no i e = ap (keepOf m X) (add-one i) ∙ ap (λ (b : Bool). cond b (keepOf m X i ++ (getD X i blank ∷ [])) (keepOf m X i)) e
 
     keep-length : (i : ℕ) → length (keepOf m X i) ≡ rank m i
     unfolding keepOf rank
     keep-length zero = refl
     keep-length (suc i) = go (m i) (keep-length i)
       where
-        go : (b : Bool) → length (keepOf m X i) ≡ rank m i → length (cond b (keepOf m X i ++ (getD X i none ∷ [])) (keepOf m X i)) ≡ cond b (rank m i + 1) (rank m i)
+        go : (b : Bool) → length (keepOf m X i) ≡ rank m i → length (cond b (keepOf m X i ++ (getD X i blank ∷ [])) (keepOf m X i)) ≡ cond b (rank m i + 1) (rank m i)
         go true h = length-append (keepOf m X i) _ ∙ ap (λ (k : ℕ). k + 1) h
         go false h = h
 
     -- a kept tree stands at its rank
-    pub keep-at : (i k : ℕ) → k < i → m k ≡ true → (rank m k < rank m i) × (getD (keepOf m X i) (rank m k) none ≡ getD X k none)
+    pub keep-at : (i k : ℕ) → k < i → m k ≡ true → (rank m k < rank m i) × (getD (keepOf m X i) (rank m k) blank ≡ getD X k blank)
     unfolding keepOf rank
     keep-at zero k h e = absurd (omega arith)
     keep-at (suc i) k h e = ⊎-elim (λ (q : k < i). old (keep-at i k q e) (m i)) (λ (q : k ≡ i). new q (m i) refl) (split i k h)
       where
-        old : (rank m k < rank m i) × (getD (keepOf m X i) (rank m k) none ≡ getD X k none) → (b : Bool) → (rank m k < cond b (rank m i + 1) (rank m i)) × (getD (cond b (keepOf m X i ++ (getD X i none ∷ [])) (keepOf m X i)) (rank m k) none ≡ getD X k none)
-        old p true = (omega arith, List·getD-append (keepOf m X i) _ none (rank m k) (let q = keep-length i in omega arith) ∙ p .1)
+        old : (rank m k < rank m i) × (getD (keepOf m X i) (rank m k) blank ≡ getD X k blank) → (b : Bool) → (rank m k < cond b (rank m i + 1) (rank m i)) × (getD (cond b (keepOf m X i ++ (getD X i blank ∷ [])) (keepOf m X i)) (rank m k) blank ≡ getD X k blank)
+        old p true = (omega arith, List·getD-append (keepOf m X i) _ blank (rank m k) (let q = keep-length i in omega arith) ∙ p .1)
         old p false = p
 
-        new : k ≡ i → (b : Bool) → m i ≡ b → (rank m k < cond b (rank m i + 1) (rank m i)) × (getD (cond b (keepOf m X i ++ (getD X i none ∷ [])) (keepOf m X i)) (rank m k) none ≡ getD X k none)
+        new : k ≡ i → (b : Bool) → m i ≡ b → (rank m k < cond b (rank m i + 1) (rank m i)) × (getD (cond b (keepOf m X i ++ (getD X i blank ∷ [])) (keepOf m X i)) (rank m k) blank ≡ getD X k blank)
         new q true d =
             let r : rank m k ≡ rank m i = ap (rank m) q in
-            (omega arith, getD-at (keepOf m X i) (getD X i none) [] none (rank m k) (keep-length i ∙ sym r) ∙ ap (λ (z : ℕ). getD X z none) (sym q))
+            (omega arith, getD-at (keepOf m X i) (getD X i blank) [] blank (rank m k) (keep-length i ∙ sym r) ∙ ap (λ (z : ℕ). getD X z blank) (sym q))
         new q false d = absurd (let w : m i ≡ true = ap m (sym q) ∙ e in let z : _≡_ {A = ℕ} 0 1 = cc in omega arith)
 
   -- each rank is some marked index's

@@ -11,16 +11,15 @@ use lib.IntN.{ℤ, pos, natAbs}
 use lib.ListN.{length, getD, set, length-set}
 use lib.Seq.{getD-set-same, getD-set-other}
 use Rattle.table.proofs.Look.{split}
-use Rattle.table.proofs.Store.{put-length, put-other, put-same}
+use Rattle.table.proofs.Store.{put-length, put-other, put-above, put-same}
 use Rattle.table.specs.Table.{nodeAt, putAt, eqZ}
 use Rattle.table.specs.declared.Node.{Node}
 use Rattle.theory.specs.Diagram.{Tree, branch}
-use Rattle.diagrams.specs.Nodes.{linOf, testOf, treeOf, none, trees, Nums, Tested, Valid, Good}
+use Rattle.diagrams.specs.Nodes.{linOf, testOf, treeOf, blank, trees, Nums, Tested, Valid, Good}
 use Rattle.mark.specs.Mark.{Space, markOf}
 use Rattle.diagrams.proofs.Trees.{tree-at, tree-leaf, tree-branch, trees-same, weaken}
 use Rattle.slide.specs.Slide.{rank, keepOf, renumber, SlidOne, Closed, Slid}
 use Rattle.slide.proofs.Ranks.{rank-le, rank-yes, rank-no, keep-yes, keep-no, keep-at, unrank}
-use Rattle.slide.proofs.Moves.{put-above}
 
 -- ---- the state of the loop
 
@@ -81,40 +80,40 @@ module _ {cap : ℕ} {l : List ℤ} {w : List ℕ} {n : ℕ} (Z : Space cap l w 
       renumber-leaf d = rw d
 
       abbrev z : Node
-      z = record { kind = x .kind; c1 = x .c1; c2 = x .c2; c3 = x .c3; c4 = x .c4; constant = x .constant; high = pos (rank mk (natAbs (x .high))); low = pos (rank mk (natAbs (x .low))) }
+      z = record { kind = x .kind; n = x .n; high = pos (rank mk (natAbs (x .high))); low = pos (rank mk (natAbs (x .low))) }
 
       renumber-node : eqZ (x .kind) (pos 0) ≡ false → y ≡ z
       unfolding renumber
       renumber-node d =
           let p = S .moved (natAbs (x .high)) (G .valid i h .high-below d) (C .high i h e d) in
           let q = S .moved (natAbs (x .low)) (G .valid i h .low-below d) (C .low i h e d) in
-          rw d (λ t. record { kind = x .kind; c1 = x .c1; c2 = x .c2; c3 = x .c3; c4 = x .c4; constant = x .constant; high = pos (p t); low = pos (q t) })
+          rw d (λ t. record { kind = x .kind; n = x .n; high = pos (p t); low = pos (q t) })
 
-      at-high : eqZ (x .kind) (pos 0) ≡ false → (rank mk (natAbs (x .high)) < rank mk i) × (getD (keepOf mk (trees l n) i) (rank mk (natAbs (x .high))) none ≡ getD (trees l n) (natAbs (x .high)) none)
+      at-high : eqZ (x .kind) (pos 0) ≡ false → (rank mk (natAbs (x .high)) < rank mk i) × (getD (keepOf mk (trees l n) i) (rank mk (natAbs (x .high))) blank ≡ getD (trees l n) (natAbs (x .high)) blank)
       at-high d = keep-at mk (trees l n) i (natAbs (x .high)) (G .valid i h .high-below d) (C .high i h e d)
 
-      at-low : eqZ (x .kind) (pos 0) ≡ false → (rank mk (natAbs (x .low)) < rank mk i) × (getD (keepOf mk (trees l n) i) (rank mk (natAbs (x .low))) none ≡ getD (trees l n) (natAbs (x .low)) none)
+      at-low : eqZ (x .kind) (pos 0) ≡ false → (rank mk (natAbs (x .low)) < rank mk i) × (getD (keepOf mk (trees l n) i) (rank mk (natAbs (x .low))) blank ≡ getD (trees l n) (natAbs (x .low)) blank)
       at-low d = keep-at mk (trees l n) i (natAbs (x .low)) (G .valid i h .low-below d) (C .low i h e d)
 
       -- the moved node stands for the same tree
-      new-tree : treeOf y (keepOf mk (trees l n) i) ≡ getD (trees l n) i none
+      new-tree : treeOf y (keepOf mk (trees l n) i) ≡ getD (trees l n) i blank
       unfolding testOf linOf
       new-tree = go (eqZ (x .kind) (pos 0)) refl
         where
-          go : (b : Bool) → eqZ (x .kind) (pos 0) ≡ b → treeOf y (keepOf mk (trees l n) i) ≡ getD (trees l n) i none
+          go : (b : Bool) → eqZ (x .kind) (pos 0) ≡ b → treeOf y (keepOf mk (trees l n) i) ≡ getD (trees l n) i blank
           go true d = ap (λ (v : Node). treeOf v (keepOf mk (trees l n) i)) (renumber-leaf d) ∙ (tree-leaf x (keepOf mk (trees l n) i) d ∙ sym (tree-at G i h ∙ tree-leaf x (trees l n) d))
           go false d =
               ap (λ (v : Node). treeOf v (keepOf mk (trees l n) i)) (renumber-node d) ∙ (tree-z d ∙ sym (tree-at G i h ∙ tree-branch x (trees l n) d))
             where
-              tree-z : eqZ (x .kind) (pos 0) ≡ false → treeOf z (keepOf mk (trees l n) i) ≡ branch (testOf x) (getD (trees l n) (natAbs (x .high)) none) (getD (trees l n) (natAbs (x .low)) none)
+              tree-z : eqZ (x .kind) (pos 0) ≡ false → treeOf z (keepOf mk (trees l n) i) ≡ branch (testOf x) (getD (trees l n) (natAbs (x .high)) blank) (getD (trees l n) (natAbs (x .low)) blank)
               tree-z d = tree-branch z (keepOf mk (trees l n) i) d ∙ ap₂ (branch (testOf z)) (at-high d .1) (at-low d .1)
 
       -- a node with other branches has the same numbers and test
       nums-z : Nums x → Nums z
-      nums-z v = record { c1 = v .c1; c2 = v .c2; c3 = v .c3; c4 = v .c4; constant = v .constant }
+      nums-z v = v
 
       tested-z : Tested x → Tested z
-      tested-z v = record { kind = v .kind; number = v .number; bounds = v .bounds; rest = v .rest }
+      tested-z v = record { kind = v .kind; long = v .long; number = v .number; bounds = v .bounds; rest = v .rest }
 
       new-valid : Valid y j
       new-valid = go (eqZ (x .kind) (pos 0)) refl
@@ -162,7 +161,7 @@ module _ {cap : ℕ} {l : List ℤ} {w : List ℕ} {n : ℕ} (Z : Space cap l w 
       unfolding trees
       new-kept =
           ap (trees l″) (add-one j)
-          ∙ (ap₂ (λ (X : List Tree) (v : Node). X ++ (treeOf v X ∷ [])) (trees-same l′ l″ j (put-other l′ j y) ∙ S .kept) (put-same l′ j y room)
+          ∙ (ap₂ (λ (X : List Tree) (v : Node). X ++ (treeOf v X ∷ [])) (trees-same l′ l″ j (put-other l′ j y) ∙ S .kept) (put-same l′ j y room (new-valid .nums .long))
           ∙ (ap (λ (t : Tree). keepOf mk (trees l n) i ++ (t ∷ [])) new-tree ∙ sym (keep-yes mk (trees l n) i e)))
 
       stepped : State cap l l″ w w″ n (i + 1) (j + 1)
@@ -171,7 +170,7 @@ module _ {cap : ℕ} {l : List ℤ} {w : List ℕ} {n : ℕ} (Z : Space cap l w 
         upto = omega arith;
         len = put-length l′ j y ∙ S .len;
         lenw = length-set w′ (cap + i) j ∙ S .lenw;
-        later = λ k q. put-above l′ j y k (let a = j-le in omega arith) ∙ S .later k (omega arith);
+        later = λ k q. put-above l′ j y (new-valid .nums .long) k (let a = j-le in omega arith) ∙ S .later k (omega arith);
         marks = λ k q. getD-set-other w′ (cap + i) k j 0 (omega arith) ∙ S .marks k q;
         beyond = λ k q. getD-set-other w′ (cap + i) k j 0 (let b = Z .room in omega arith) ∙ S .beyond k q;
         moved = λ k q d. ⊎-elim
@@ -181,7 +180,7 @@ module _ {cap : ℕ} {l : List ℤ} {w : List ℕ} {n : ℕ} (Z : Space cap l w 
         kept = new-kept;
         valid = λ k q. ⊎-elim
             (λ (r : k < j). subst (λ (v : Node). Valid v k) (sym (put-other l′ j y k r)) (S .valid k r))
-            (λ (r : k ≡ j). subst (λ (t : ℕ). Valid (nodeAt l″ t) t) (sym r) (subst (λ (v : Node). Valid v j) (sym (put-same l′ j y room)) new-valid))
+            (λ (r : k ≡ j). subst (λ (t : ℕ). Valid (nodeAt l″ t) t) (sym r) (subst (λ (v : Node). Valid v j) (sym (put-same l′ j y room (new-valid .nums .long))) new-valid))
             (split j k (omega arith));
       }
 
@@ -216,12 +215,12 @@ module _ {cap : ℕ} {l : List ℤ} {w : List ℕ} {n : ℕ} (Z : Space cap l w 
       good : Good l′ j
       good = record { valid = S .valid; distinct = λ a b p r e. apart a b p r e }
         where
-          tree-of : (a : ℕ) (p : a < j) → (k : ℕ) × (k < n) × (rank (markOf w) k ≡ a) × (getD (trees l′ j) a none ≡ getD (trees l n) k none)
+          tree-of : (a : ℕ) (p : a < j) → (k : ℕ) × (k < n) × (rank (markOf w) k ≡ a) × (getD (trees l′ j) a blank ≡ getD (trees l n) k blank)
           tree-of a p =
               let u = unrank (markOf w) n a (let d = j-is in omega arith) in
-              (u .0, u .1, u .3, ap (λ (X : List Tree). getD X a none) kept ∙ (ap (λ (t : ℕ). getD (keepOf (markOf w) (trees l n) n) t none) (sym (u .3)) ∙ keep-at (markOf w) (trees l n) n (u .0) (u .1) (u .2) .1))
+              (u .0, u .1, u .3, ap (λ (X : List Tree). getD X a blank) kept ∙ (ap (λ (t : ℕ). getD (keepOf (markOf w) (trees l n) n) t blank) (sym (u .3)) ∙ keep-at (markOf w) (trees l n) n (u .0) (u .1) (u .2) .1))
 
-          apart : (a b : ℕ) → a < j → b < j → getD (trees l′ j) a none ≡ getD (trees l′ j) b none → a ≡ b
+          apart : (a b : ℕ) → a < j → b < j → getD (trees l′ j) a blank ≡ getD (trees l′ j) b blank → a ≡ b
           apart a b p r e =
               let s = tree-of a p in
               let t = tree-of b r in

@@ -8,7 +8,7 @@ use lib.ListN.{length, getD, set}
 use Rattle.table.specs.Table.{nodeAt, putAt, eqZ}
 use Rattle.table.specs.declared.Node.{Node}
 use Rattle.theory.specs.Diagram.{Tree}
-use Rattle.diagrams.specs.Nodes.{none, trees, Good}
+use Rattle.diagrams.specs.Nodes.{blank, trees, Good}
 use Rattle.mark.specs.Mark.{markOf}
 
 -- how many are marked below i
@@ -19,13 +19,13 @@ rank m (suc i) = cond (m i) (rank m i + 1) (rank m i)
 -- the marked ones of the first n
 unfoldable pub keepOf : (ℕ → Bool) → List Tree → ℕ → List Tree
 keepOf m X zero = []
-keepOf m X (suc n) = cond (m n) (keepOf m X n ++ (getD X n none ∷ [])) (keepOf m X n)
+keepOf m X (suc n) = cond (m n) (keepOf m X n ++ (getD X n blank ∷ [])) (keepOf m X n)
 
 -- a node with its branches' new indexes
 unfoldable pub renumber : List ℕ → ℕ → Node → Node
 renumber w cap x =
     cond (eqZ (x .kind) (pos 0)) x
-    (record { kind = x .kind; c1 = x .c1; c2 = x .c2; c3 = x .c3; c4 = x .c4; constant = x .constant; high = pos (getD w (cap + natAbs (x .high)) 0); low = pos (getD w (cap + natAbs (x .low)) 0) })
+    (record { kind = x .kind; n = x .n; high = pos (getD w (cap + natAbs (x .high)) 0); low = pos (getD w (cap + natAbs (x .low)) 0) })
 
 -- node i goes to index j where it is marked, and its new index into the work words
 pub record SlidOne (l : List ℤ) (w : List ℕ) (cap i j : ℕ) (l′ : List ℤ) (w′ : List ℕ) (r : ℕ) : Type 0 where

@@ -4,7 +4,7 @@ use table::Node;
 ghost use mathlib.Core.Path.{_≡_};
 ghost use Prim.Native.Nat.{_*_, _≤_, _<_};
 ghost use lib.ListN.{length};
-ghost use Rattle.table.specs.Table.{nodeAt};
+ghost use Rattle.table.specs.Table.{node-words, nodeAt};
 ghost use Rattle.diagrams.specs.Nodes.{Valid, Good};
 ghost use Rattle.mark.specs.Mark.{Space};
 ghost use Rattle.slide.specs.Slide.{renumber, SlidOne, Closed, Slid};
@@ -21,21 +21,15 @@ fn moved(work: &[u32], cap: usize, x: Node) -> Node
     let l = cap + peek::low(x);
     let high = work[h] as i64;
     let low = work[l] as i64;
-    Node {
-        kind: x.kind,
-        c1: x.c1,
-        c2: x.c2,
-        c3: x.c3,
-        c4: x.c4,
-        constant: x.constant,
-        high,
-        low,
-    }
+    let mut y = x;
+    y.high = high;
+    y.low = low;
+    y
 }
 
 // One node: where it is marked it goes to index j. Answers the next such index.
 fn slide_one(nodes: &mut [i64], work: &mut [u32], cap: usize, i: usize, j: usize) -> usize
-    requires { ⌜ (cap * 8 ≤ length (now nodes)) × (cap * 2 ≤ length (now work)) × (cap ≤ 65535) × (i < cap) × (j ≤ i) × Valid (nodeAt (now nodes) i) cap ⌝ }
+    requires { ⌜ (cap * node-words ≤ length (now nodes)) × (cap * 2 ≤ length (now work)) × (cap ≤ 65535) × (i < cap) × (j ≤ i) × Valid (nodeAt (now nodes) i) cap ⌝ }
     ensures { λ r. ⌜ SlidOne (now (nodes .entry)) (now (work .entry)) cap i j (now (nodes .exit)) (now (work .exit)) r ⌝ }
 {
     if work[i] == 0 {

@@ -6,7 +6,7 @@ use native.Mathlib.Omega.{arith}
 use lib.IntN.{ℤ}
 use lib.ListN.{length, getD, take, drop, replicate, length-drop}
 use lib.Seq.{length-take-le, getD-take, getD-drop}
-use Rattle.theory.specs.Widths.{steps-most, nodes-most}
+use Rattle.theory.specs.Widths.{steps-most, nodes-most, node-words, work-words}
 use Rattle.theory.specs.Verdict.{verdict}
 use Rattle.theory.specs.Computation.{refused}
 use Rattle.theory.specs.Solve.{room, solve-in, solved-nodes, solved-stages, solve}
@@ -90,6 +90,6 @@ no-room B H l s w v e = record {
 }
 
 -- there is some
-pub some-room : (cap : ℕ) {l : List ℤ} {w : List ℕ} → (cap ≡ 0 → ⊥) → cap ≤ nodes-most → cap * 8 ≤ length l → cap * 8 ≤ length w → Room cap l w
+pub some-room : (cap : ℕ) {l : List ℤ} {w : List ℕ} → (cap ≡ 0 → ⊥) → cap ≤ nodes-most → cap * node-words ≤ length l → cap * work-words ≤ length w → Room cap l w
 some-room zero off f a b = absurd (off refl)
 some-room (suc n) off f a b = record { some = omega arith; few = f; words = a; works = b }

@@ -2,7 +2,7 @@
 ghost use mathlib.Core.Path.{_≡_};
 ghost use Prim.Native.Nat.{_*_, _≤_};
 ghost use lib.ListN.{length};
-ghost use Rattle.theory.specs.Widths.{bytes-most, steps-most, nodes-most, roots-most};
+ghost use Rattle.theory.specs.Widths.{bytes-most, steps-most, nodes-most, node-words, work-words, roots-most};
 ghost use Rattle.theory.specs.Verdict.{verdict};
 ghost use Rattle.value_iteration.specs.Iteration.{Room};
 ghost use Rattle.solve_in.specs.Solves.{Solves};
@@ -48,7 +48,7 @@ pub fn solve_in(
     work: &mut [u32],
     cap: usize,
 ) -> Planned
-    requires { ⌜ (verdict (now model) .number ≡ 0) × (length (now model) ≤ bytes-most) × (horizon ≤ steps-most) × (1 ≤ horizon) × (cap ≤ nodes-most) × (cap * 8 ≤ length (now nodes)) × (cap * 8 ≤ length (now work)) × (length (now stages) ≡ steps-most) ⌝ }
+    requires { ⌜ (verdict (now model) .number ≡ 0) × (length (now model) ≤ bytes-most) × (horizon ≤ steps-most) × (1 ≤ horizon) × (cap ≤ nodes-most) × (cap * node-words ≤ length (now nodes)) × (cap * work-words ≤ length (now work)) × (length (now stages) ≡ steps-most) ⌝ }
     ensures { λ r. ⌜ Solves (now (model .entry)) horizon cap (now (nodes .entry)) (now (nodes .exit)) (now (stages .exit)) (now (work .entry)) (now (work .exit)) r ⌝ }
 {
     if cap == 0 {

@@ -7,7 +7,7 @@ use native.Mathlib.Nat.{min-le-left, min-le-right, div-mul-le-self}
 use native.Mathlib.Omega.{arith}
 use lib.IntN.{ℤ, pos}
 use lib.ListN.{length, replicate}
-use Rattle.theory.specs.Widths.{nodes-most}
+use Rattle.theory.specs.Widths.{nodes-most, node-words, work-words}
 use Rattle.theory.specs.Verdict.{Verdict, verdict}
 use Rattle.theory.specs.Computation.{refused}
 use Rattle.theory.specs.Solve.{room, solve-in, early, solve}
@@ -33,18 +33,18 @@ passed B H size = by-early B H size (λ u _. u .number ≡ 0 → Passed B H size
 
 pub record Fitting (cap nodes work : ℕ) : Type 0 where
   pub few : cap ≤ nodes-most
-  pub words : cap * 8 ≤ nodes
-  pub works : cap * 8 ≤ work
+  pub words : cap * node-words ≤ nodes
+  pub works : cap * work-words ≤ work
 
 pub fitting : {cap : ℕ} (nodes work : ℕ) → cap ≡ room nodes work → Fitting cap nodes work
 unfolding room
 fitting nodes work e =
-    let a = min-le-left (nodes / 8) (min (work / 8) 65535) in
-    let b = min-le-right (nodes / 8) (min (work / 8) 65535) in
-    let c = min-le-left (work / 8) 65535 in
-    let d = min-le-right (work / 8) 65535 in
-    let m = div-mul-le-self nodes 8 in
-    let n = div-mul-le-self work 8 in
+    let a = min-le-left (nodes / node-words) (min (work / work-words) nodes-most) in
+    let b = min-le-right (nodes / node-words) (min (work / work-words) nodes-most) in
+    let c = min-le-left (work / work-words) nodes-most in
+    let d = min-le-right (work / work-words) nodes-most in
+    let m = div-mul-le-self nodes node-words in
+    let n = div-mul-le-self work work-words in
     record { few = omega arith; words = omega arith; works = omega arith }
 
 -- ---- the outcome

@@ -5,6 +5,8 @@ ghost use Rattle.theory.specs.Solve.{room as room-of};
 ghost use Rattle.theory.specs.Solve.{solve as solve-of};
 ghost use Rattle.solver.specs.Solving.{outcome};
 use solve_in::solve_in;
+use table::NODE_WORDS;
+use unique::WORK_WORDS;
 
 // A refusal's number and place, both 0 where there is none; then the peak.
 pub struct Solved {
@@ -23,7 +25,7 @@ fn least(a: usize, b: usize) -> usize
 fn room(nodes: usize, work: usize) -> usize
     ensures { λ r. ⌜ r ≡ room-of nodes work ⌝ }
 {
-    least(nodes / 8, least(work / 8, 65535))
+    least(nodes / NODE_WORDS, least(work / WORK_WORDS, 65535))
 }
 
 // A site model, a horizon and lent tables: the peak and the tables, or a refusal.

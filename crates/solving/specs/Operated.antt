@@ -13,7 +13,7 @@ use Rattle.table.specs.declared.Made.{Made}
 use Rattle.table.specs.Table.{nodeAt}
 use Rattle.theory.specs.Diagram.{Tree}
 use Rattle.theory.specs.Computation.{Comp, Out, done, stopped, run, enter-all, Ops, operation, refused, run-all}
-use Rattle.diagrams.specs.Nodes.{none, trees, treeAt, Good, Grown}
+use Rattle.diagrams.specs.Nodes.{blank, trees, treeAt, Good, Grown}
 use Rattle.diagrams.specs.Table.{outOf}
 use Rattle.diagrams.proofs.Trees.{trees-length, trees-kept}
 use Rattle.diagrams.proofs.Outcomes.{out-ok, out-no}
@@ -26,7 +26,7 @@ use Rattle.solving.specs.Onward.{Works, Stops, works-run, stops-run, onw
 
 -- ---- roots of a table
 
-pub roots-at : (X : List Tree) (ρ : List ℕ) (j : ℕ) → j < length ρ → getD (rootsOf X ρ) j none ≡ getD X (getD ρ j 0) none
+pub roots-at : (X : List Tree) (ρ : List ℕ) (j : ℕ) → j < length ρ → getD (rootsOf X ρ) j blank ≡ getD X (getD ρ j 0) blank
 unfolding rootsOf
 roots-at X [] j h = absurd (omega arith)
 roots-at X (r ∷ ρ) zero h = refl
@@ -94,7 +94,7 @@ module _ {cap n n₁ : ℕ} {l l₁ : List ℤ} {w w₁ : List ℕ} {ρ ρ₁ : 
 
   -- each root's tree is the one that it was
   pub collected-at : (j : ℕ) → j < length ρ → treeAt l₁ n₁ (getD ρ₁ j 0) ≡ treeAt l n (getD ρ j 0)
-  collected-at j h = sym (roots-at (trees l₁ n₁) ρ₁ j (let z = C .roots-length in omega arith)) ∙ (ap (λ (X : List Tree). getD X j none) (C .roots) ∙ roots-at (trees l n) ρ j h)
+  collected-at j h = sym (roots-at (trees l₁ n₁) ρ₁ j (let z = C .roots-length in omega arith)) ∙ (ap (λ (X : List Tree). getD X j blank) (C .roots) ∙ roots-at (trees l n) ρ j h)
 
   -- its nodes are those that the diagrams need, each once
   pub collected-run : {A : Type 0} (N : ℕ) (c : Comp A) → SameOut (run N c (trees l₁ n₁)) (run N c (enter-all R []))
@@ -110,7 +110,7 @@ module _ {cap n n₁ : ℕ} {l l₁ : List ℤ} {w w₁ : List ℕ} {ρ ρ₁ : 
     pub worked : r .stop ≡ 0 → Works cap R c (treeAt l₂ (r .count) (r .at)) (r .count)
     worked ok =
         let X = trees l₂ (r .count) in
-        let o : run cap c (trees l₁ n₁) ≡ done (getD X (r .at) none) X = sym (S .ran) ∙ out-ok r X ok in
+        let o : run cap c (trees l₁ n₁) ≡ done (getD X (r .at) blank) X = sym (S .ran) ∙ out-ok r X ok in
         let d = done-as (subst (λ (q : Out Tree). SameOut q (run cap c (enter-all R []))) o (collected-run cap c)) in
         record { nodes = d .0; comes = d .1; count = sym (d .2 .count) ∙ trees-length l₂ (r .count) }
 

@@ -12,7 +12,7 @@ use Rattle.theory.specs.Computation.{Comp, member}
 use Rattle.theory.specs.Meaning.{Action}
 use Rattle.theory.specs.Stage.{action-diagrams, all-diagrams}
 use Rattle.theory.specs.laws.Inside.{Sub, sub-trans}
-use Rattle.diagrams.specs.Nodes.{none, trees, treeAt, Good}
+use Rattle.diagrams.specs.Nodes.{blank, trees, treeAt, Good}
 use Rattle.mark.specs.Mark.{rootsOf, Below, Space}
 use Rattle.collect.specs.Collect.{Collected}
 use Rattle.solving.specs.Alike.{Alike, alike-trans, alike-eq, member-left, member-right, member-parts}
@@ -28,7 +28,7 @@ roots-length X (r ∷ ρ) = ap suc (roots-length X ρ)
 pub roots-append : (X : List Tree) (ρ σ : List ℕ) → rootsOf X (ρ ++ σ) ≡ rootsOf X ρ ++ rootsOf X σ
 unfolding rootsOf
 roots-append X [] σ = refl
-roots-append X (r ∷ ρ) σ = ap (λ (Q : List Tree). getD X r none ∷ Q) (roots-append X ρ σ)
+roots-append X (r ∷ ρ) σ = ap (λ (Q : List Tree). getD X r blank ∷ Q) (roots-append X ρ σ)
 
 pub below-append : {ρ : List ℕ} {σ : List ℕ} {n : ℕ} → Below ρ n → Below σ n → Below (ρ ++ σ) n
 below-append {ρ} {σ} {n} B C = record { at = go ρ (B .at) }
@@ -68,8 +68,8 @@ rooted-held H a = record { good = H .good; space = H .space; below = H .below; r
 
 module _ {cap : ℕ} {l : List ℤ} {w : List ℕ} {n : ℕ} {ρ : List ℕ} {Q : List Tree} (H : Rooted cap l w n ρ Q) where
   -- the tree at a root
-  pub rooted-at : (j : ℕ) → j < length ρ → treeAt l n (getD ρ j 0) ≡ getD Q j none
-  rooted-at j h = sym (roots-at (trees l n) ρ j h) ∙ ap (λ (X : List Tree). getD X j none) (H .roots)
+  pub rooted-at : (j : ℕ) → j < length ρ → treeAt l n (getD ρ j 0) ≡ getD Q j blank
+  rooted-at j h = sym (roots-at (trees l n) ρ j h) ∙ ap (λ (X : List Tree). getD X j blank) (H .roots)
 
   pub rooted-length : length ρ ≡ length Q
   rooted-length = sym (roots-length (trees l n) ρ) ∙ ap length (H .roots)

@@ -28,7 +28,7 @@ use Rattle.command.specs.declared.Command.{Command as CodeCommand}
 use Rattle.command.specs.declared.Command.the-variants.{Site, Leaf, Condition, Test as TestBy, Give, Name, End}
 use Rattle.command.specs.Held.{held, pushed}
 use Rattle.command.specs.Reading.{linear-of, command-of}
-use Rattle.diagrams.specs.Nodes.{none, linOf, leafOf, treeOf, trees, treeAt, Nums, Valid, Grown}
+use Rattle.diagrams.specs.Nodes.{blank, linOf, leafOf, treeOf, trees, treeAt, Nums, Valid, Grown}
 use Rattle.diagrams.specs.Table.{Rule, Bare, Table, Ran, Grew}
 use Rattle.diagrams.proofs.Trees.{trees-kept, grown-not}
 use Rattle.diagrams.proofs.Outcomes.{out-ok, out-no, grown, ran-as, grew-as, lifted}

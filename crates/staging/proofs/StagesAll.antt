@@ -11,7 +11,7 @@ use Rattle.theory.specs.Diagram.{Tree}
 use Rattle.theory.specs.Computation.{solved, run-all}
 use Rattle.theory.specs.Load.{model}
 use Rattle.theory.specs.Stage.{model-diagrams, stage-over, stages-on}
-use Rattle.diagrams.specs.Nodes.{none, trees}
+use Rattle.diagrams.specs.Nodes.{blank, trees}
 use Rattle.mark.specs.Mark.{rootsOf}
 use Rattle.solving.specs.Alike.{Alike, alike-trans, alike-eq, alike-turn}
 use Rattle.solving.specs.Onward.{answered, answered-ok, answered-no}
@@ -44,7 +44,7 @@ pub record Staging (B : List ℕ) (cap H : ℕ) (l₀ : List ℤ) (R₀ : List �
   pub ready : Ready B cap l w (r .count) R (held + h)
   pub roots : heldTrees l (r .count) R (held + h) ≡ model-diagrams (model B) ++ (rootAt l₀ (r₀ .count) R₀ (modelSize B) ∷ stages)
   pub alike : Alike (model-diagrams (model B) ++ (rootAt l₀ (r₀ .count) R₀ (modelSize B) ∷ stages)) (finished ++ model-diagrams (model B))
-  pub last : getD (heldTrees l (r .count) R (held + h)) (held + h - 1) none ≡ before
+  pub last : getD (heldTrees l (r .count) R (held + h)) (held + h - 1) blank ≡ before
   pub left : run-all cap (r₀ .peak) (stages-on (model B) H 1 (rootAt l₀ (r₀ .count) R₀ (modelSize B) ∷ []) (rootAt l₀ (r₀ .count) R₀ (modelSize B)))
       ≡ behind stages (run-all cap (r .peak) (stages-on (model B) (H - h) (suc h) finished before))
 
@@ -78,7 +78,7 @@ module _ {B : List ℕ} {cap : ℕ} (H : ℕ) {l : List ℤ} {w R : List ℕ} {h
         ready = subst (Ready B cap l w (r .count) R) (let z : held ≡ held + 0 = omega arith in z) D;
         roots = zeroth;
         alike = alike-turn (model-diagrams (model B)) (Z ∷ []);
-        last = ap (λ (X : List Tree). getD X (held + 0 - 1) none) zeroth ∙ getD-at (model-diagrams (model B)) Z [] none (held + 0 - 1) (model-length D ∙ (let z : modelSize B ≡ held + 0 - 1 = omega arith in z));
+        last = ap (λ (X : List Tree). getD X (held + 0 - 1) blank) zeroth ∙ getD-at (model-diagrams (model B)) Z [] blank (held + 0 - 1) (model-length D ∙ (let z : modelSize B ≡ held + 0 - 1 = omega arith in z));
         left = sym (behind-none (run-all cap (r .peak) (stages-on (model B) H 1 (Z ∷ []) Z)))
             ∙ ap (λ (k : ℕ). behind [] (run-all cap (r .peak) (stages-on (model B) k 1 (Z ∷ []) Z))) (let z : H ≡ H - 0 = omega arith in z);
       }
@@ -86,7 +86,7 @@ module _ {B : List ℕ} {cap : ℕ} (H : ℕ) {l : List ℤ} {w R : List ℕ} {h
 module _ {B : List ℕ} {cap H : ℕ} {l₀ : List ℤ} {R₀ : List ℕ} {held : ℕ} {r₀ : Run} {l : List ℤ} {w R : List ℕ} {r : Run} {h : ℕ} (Y : Staging B cap H l₀ R₀ held r₀ l w R r h) where
   -- the next stage
   module _ (q : h < H) {l′ : List ℤ} {w′ R′ : List ℕ} {r′ : Run}
-      (T : Ran cap (r .peak) l (r .count) R (held + h) (h + 1) (λ K. stage-over (model B) (h + 1) K (getD (heldTrees l (r .count) R (held + h)) (held + h - 1) none)) l′ w′ R′ r′) where
+      (T : Ran cap (r .peak) l (r .count) R (held + h) (h + 1) (λ K. stage-over (model B) (h + 1) K (getD (heldTrees l (r .count) R (held + h)) (held + h - 1) blank)) l′ w′ R′ r′) where
     step : run-all cap (r .peak) (stage-over (model B) (suc h) (Y .finished ++ model-diagrams (model B)) (Y .before)) ≡ answered (r′ .stop) (h + 1) (rootAt l′ (r′ .count) R′ (held + h)) (r′ .peak)
     step =
         ap₂ (λ (i : ℕ) (P : Tree). run-all cap (r .peak) (stage-over (model B) i (Y .finished ++ model-diagrams (model B)) P)) (sym (add-one h)) (sym (Y .last))
@@ -126,7 +126,7 @@ module _ {B : List ℕ} {cap H : ℕ} {l₀ : List ℤ} {R₀ : List ℕ} {held 
             ready = subst (Ready B cap l′ w′ (r′ .count) R′) (let z : held + h + 1 ≡ held + (h + 1) = omega arith in z) (ready-next Q S D (D .models) (D .first) long (T .rooted ok) few);
             roots = grown ∙ (ap (λ (X : List Tree). X ++ (S ∷ [])) (Y .roots) ∙ assoc);
             alike = alike-trans (alike-eq (sym assoc)) (alike-front S (Y .alike));
-            last = ap (λ (X : List Tree). getD X (held + (h + 1) - 1) none) grown ∙ getD-at Q S [] none (held + (h + 1) - 1) (long ∙ (let z : held + h ≡ held + (h + 1) - 1 = omega arith in z));
+            last = ap (λ (X : List Tree). getD X (held + (h + 1) - 1) blank) grown ∙ getD-at Q S [] blank (held + (h + 1) - 1) (long ∙ (let z : held + h ≡ held + (h + 1) - 1 = omega arith in z));
             left = more
                 ∙ (stage-done (model B) cap (r .peak) (suc h) (Y .finished) (Y .before) (Y .stages) (H - (h + 1)) (step ∙ answered-ok (r′ .stop) (h + 1) S (r′ .peak) ok)
                 ∙ ap (λ (i : ℕ). behind (Y .stages ++ (S ∷ [])) (run-all cap (r′ .peak) (stages-on (model B) (H - (h + 1)) (suc i) (S ∷ Y .finished) S))) (sym (add-one h)));

@@ -11,7 +11,7 @@ use Rattle.theory.specs.Computation.{Comp, end, operation, solved, run-all}
 use Rattle.theory.specs.Rules.{best}
 use Rattle.theory.specs.Load.{model}
 use Rattle.theory.specs.Stage.{action-total}
-use Rattle.diagrams.specs.Nodes.{none}
+use Rattle.diagrams.specs.Nodes.{blank}
 use Rattle.solving.specs.Alike.{Alike, alike-refl, alike-trans, alike-eq, alike-append, alike-turn}
 use Rattle.solving.specs.Onward.{onward, run-all-end, run-all-then, Works, Stops, works-run, stops-run, answered, answered-no, onward-ok, onward-no}
 use Rattle.solving.specs.Roots.{Rooted}
@@ -38,14 +38,14 @@ two-last : (Q : List Tree) (F G : Tree) (k : ℕ) → length Q ≡ k → compOf 
 unfolding compOf
 two-last Q F G k e =
     ap₂ best
-    (List·getD-append (Q ++ (F ∷ [])) (G ∷ []) none k (omega (arith, length-append Q (F ∷ []))) ∙ getD-at Q F [] none k e)
-    (getD-at (Q ++ (F ∷ [])) G [] none (k + 1) (length-append Q (F ∷ []) ∙ ap (λ (n : ℕ). n + 1) e))
+    (List·getD-append (Q ++ (F ∷ [])) (G ∷ []) blank k (omega (arith, length-append Q (F ∷ []))) ∙ getD-at Q F [] blank k e)
+    (getD-at (Q ++ (F ∷ [])) G [] blank (k + 1) (length-append Q (F ∷ []) ∙ ap (λ (n : ℕ). n + 1) e))
 
 module _ {B : List ℕ} {cap p : ℕ} {l : List ℤ} {w : List ℕ} {n : ℕ} {R : List ℕ} {held before h : ℕ} (a : ℕ) {l′ : List ℤ} {w′ R′ : List ℕ} {t : Run}
     (D : Ready B cap l w n R (held + 1)) (i : before < held)
-    (T : Ran cap p l n R (held + 1) h (λ K. action-total (model B) h K (getD (heldTrees l n R (held + 1)) before none) a (actionOf B a)) l′ w′ R′ t) where
+    (T : Ran cap p l n R (held + 1) h (λ K. action-total (model B) h K (getD (heldTrees l n R (held + 1)) before blank) a (actionOf B a)) l′ w′ R′ t) where
   totalled : (K : List Tree) → Alike (heldTrees l n R held) K
-      → run-all cap p (action-total (model B) h (rootAt l n R held ∷ K) (getD (heldTrees l n R held) before none) a (actionOf B a)) ≡ answered (t .stop) h (rootAt l′ (t .count) R′ (held + 1)) (t .peak)
+      → run-all cap p (action-total (model B) h (rootAt l n R held ∷ K) (getD (heldTrees l n R held) before blank) a (actionOf B a)) ≡ answered (t .stop) h (rootAt l′ (t .count) R′ (held + 1)) (t .peak)
   totalled K al =
       let few : held < length R = let z = D .standing .few in omega arith in
       let F = rootAt l n R held in
@@ -53,7 +53,7 @@ module _ {B : List ℕ} {cap p : ℕ} {l : List ℤ} {w : List ℕ} {n : ℕ} {R
       ∙ T .outcome (F ∷ K) (alike-trans (alike-eq (held-more l n R held few)) (alike-front F al))
 
   -- the total stopped
-  pub better-stopped : (t .stop ≡ 0 → ⊥) → Ran cap p l n R held h (bettered B h (getD (heldTrees l n R held) before none) a (rootAt l n R held)) l′ w′ R′ t
+  pub better-stopped : (t .stop ≡ 0 → ⊥) → Ran cap p l n R held h (bettered B h (getD (heldTrees l n R held) before blank) a (rootAt l n R held)) l′ w′ R′ t
   better-stopped off = record {
     outcome = λ K al. bettered-run B cap p h _ a (rootAt l n R held) K ∙ (onward-no (t .stop) h _ (t .peak) (totalled K al) _ off ∙ sym (answered-no (t .stop) h _ (t .peak) off));
     rooted = λ ok. absurd (off ok);
@@ -99,7 +99,7 @@ module _ {B : List ℕ} {cap p : ℕ} {l : List ℤ} {w : List ℕ} {n : ℕ} {R
           ∙ (take-append-le held (heldTrees l n R held ++ (rootAt l n R held ∷ [])) _ (omega (arith, length-append (heldTrees l n R held) (rootAt l n R held ∷ [])))
           ∙ take-at (heldTrees l n R held) (rootAt l n R held ∷ []) held e)
 
-      pub better-done : Ran cap p l n R held h (bettered B h (getD (heldTrees l n R held) before none) a (rootAt l n R held)) l″ w″ R″ r
+      pub better-done : Ran cap p l n R held h (bettered B h (getD (heldTrees l n R held) before blank) a (rootAt l n R held)) l″ w″ R″ r
       better-done = record {
         outcome = λ K al. bettered-run B cap p h _ a (rootAt l n R held) K ∙ (onward-ok (t .stop) h _ (t .peak) (totalled K al) _ ok ∙ bests K al);
         rooted = λ z. subst (λ (X : List Tree). Rooted cap l″ w″ (r .count) (take (suc held) R″) (X ++ (rootAt l″ (r .count) R″ held ∷ []))) kept (S .rooted z);

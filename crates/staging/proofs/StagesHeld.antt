@@ -15,7 +15,7 @@ use Rattle.theory.specs.Diagram.{Tree}
 use Rattle.theory.specs.Computation.{Solved, solved, refused}
 use Rattle.theory.specs.Load.{model}
 use Rattle.theory.specs.Stage.{model-diagrams}
-use Rattle.diagrams.specs.Nodes.{none, trees}
+use Rattle.diagrams.specs.Nodes.{blank, trees}
 use Rattle.mark.specs.Mark.{rootsOf}
 use Rattle.solving.specs.Onward.{answered}
 use Rattle.solving.specs.Roots.{Rooted, roots-length, roots-append}
@@ -33,9 +33,9 @@ module _ (l : List ℤ) (n : ℕ) (R : List ℕ) (held : ℕ) where
   held-more h = ap (λ (k : ℕ). heldTrees l n R k) (add-one held) ∙ held-suc l n R held h
 
   -- a place before the last
-  pub held-before : (i : ℕ) → held < length R → i < held → getD (heldTrees l n R (held + 1)) i none ≡ getD (heldTrees l n R held) i none
-  held-before i h q = ap (λ (X : List Tree). getD X i none) (held-more h)
-      ∙ List·getD-append (heldTrees l n R held) (rootAt l n R held ∷ []) none i (let z = held-length l n R held (omega arith) in omega arith)
+  pub held-before : (i : ℕ) → held < length R → i < held → getD (heldTrees l n R (held + 1)) i blank ≡ getD (heldTrees l n R held) i blank
+  held-before i h q = ap (λ (X : List Tree). getD X i blank) (held-more h)
+      ∙ List·getD-append (heldTrees l n R held) (rootAt l n R held ∷ []) blank i (let z = held-length l n R held (omega arith) in omega arith)
 
   -- the first of the diagrams, the last left away
   pub held-take : (m : ℕ) → held < length R → m ≤ held → take m (heldTrees l n R (held + 1)) ≡ take m (heldTrees l n R held)

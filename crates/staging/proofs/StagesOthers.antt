@@ -15,7 +15,7 @@ use Rattle.theory.specs.Verdict.{verdict}
 use Rattle.theory.specs.Load.{site-at, model}
 use Rattle.theory.specs.Stage.{action-total, best-on, stage-over}
 use Rattle.theory.specs.laws.Loading.{accepted-site}
-use Rattle.diagrams.specs.Nodes.{none}
+use Rattle.diagrams.specs.Nodes.{blank}
 use Rattle.solving.specs.Alike.{Alike, alike-trans, alike-eq}
 use Rattle.solving.specs.Onward.{onward, onward-onward, onward-same, onward-ok, onward-no, run-all-then, answered, answered-ok, answered-no}
 use Rattle.solving.specs.Roots.{Rooted}
@@ -73,8 +73,8 @@ pub record Trying (B : List ℕ) (cap : ℕ) (l₀ : List ℤ) (R₀ : List ℕ)
   pub first : modelSize B ≤ held
   pub same : heldTrees l (r .count) R held ≡ heldTrees l₀ (r₀ .count) R₀ held
   pub left : (K : List Tree) → Alike (heldTrees l₀ (r₀ .count) R₀ held) K
-      → run-all cap (r₀ .peak) (best-on (model B) h K (getD (heldTrees l₀ (r₀ .count) R₀ held) before none) 2 (model B .others) (rootAt l₀ (r₀ .count) R₀ held))
-      ≡ run-all cap (r .peak) (best-on (model B) h K (getD (heldTrees l₀ (r₀ .count) R₀ held) before none) a (drop (a - 2) (model B .others)) (rootAt l (r .count) R held))
+      → run-all cap (r₀ .peak) (best-on (model B) h K (getD (heldTrees l₀ (r₀ .count) R₀ held) before blank) 2 (model B .others) (rootAt l₀ (r₀ .count) R₀ held))
+      ≡ run-all cap (r .peak) (best-on (model B) h K (getD (heldTrees l₀ (r₀ .count) R₀ held) before blank) a (drop (a - 2) (model B .others)) (rootAt l (r .count) R held))
 
 pub trying-starts : {B : List ℕ} {cap : ℕ} {l : List ℤ} {w R : List ℕ} {held before h actions : ℕ} {r : Run} → Ready B cap l w (r .count) R (held + 1) → r .stop ≡ 0 → modelSize B ≤ held → actions ≡ byte-at B 3
     → Trying B cap l R held before h actions r l w R r 2
@@ -86,23 +86,23 @@ module _ {B : List ℕ} {cap : ℕ} {l₀ : List ℤ} {R₀ : List ℕ} {held be
 
   -- the next action
   module _ (q : a ≤ actions) {l′ : List ℤ} {w′ R′ : List ℕ} {r′ : Run}
-      (T : Ran cap (r .peak) l (r .count) R held h (bettered B h (getD (heldTrees l (r .count) R held) before none) a (rootAt l (r .count) R held)) l′ w′ R′ r′) where
+      (T : Ran cap (r .peak) l (r .count) R held h (bettered B h (getD (heldTrees l (r .count) R held) before blank) a (rootAt l (r .count) R held)) l′ w′ R′ r′) where
     step : (K : List Tree) → Alike (heldTrees l₀ (r₀ .count) R₀ held) K
-        → run-all cap (r .peak) (bettered B h (getD (heldTrees l₀ (r₀ .count) R₀ held) before none) a (rootAt l (r .count) R held) K) ≡ answered (r′ .stop) h (rootAt l′ (r′ .count) R′ held) (r′ .peak)
-    step K al = ap (λ (X : List Tree). run-all cap (r .peak) (bettered B h (getD X before none) a (rootAt l (r .count) R held) K)) (sym (Y .same)) ∙ T .outcome K (alike-trans (alike-eq (Y .same)) al)
+        → run-all cap (r .peak) (bettered B h (getD (heldTrees l₀ (r₀ .count) R₀ held) before blank) a (rootAt l (r .count) R held) K) ≡ answered (r′ .stop) h (rootAt l′ (r′ .count) R′ held) (r′ .peak)
+    step K al = ap (λ (X : List Tree). run-all cap (r .peak) (bettered B h (getD X before blank) a (rootAt l (r .count) R held) K)) (sym (Y .same)) ∙ T .outcome K (alike-trans (alike-eq (Y .same)) al)
 
-    run : (K : List Tree) → run-all cap (r .peak) (best-on (model B) h K (getD (heldTrees l₀ (r₀ .count) R₀ held) before none) a (drop (a - 2) (model B .others)) (rootAt l (r .count) R held))
-        ≡ onward (run-all cap (r .peak) (bettered B h (getD (heldTrees l₀ (r₀ .count) R₀ held) before none) a (rootAt l (r .count) R held) K))
-        (λ t s. run-all cap s (best-on (model B) h K (getD (heldTrees l₀ (r₀ .count) R₀ held) before none) (suc a) (drop (suc (a - 2)) (model B .others)) t))
+    run : (K : List Tree) → run-all cap (r .peak) (best-on (model B) h K (getD (heldTrees l₀ (r₀ .count) R₀ held) before blank) a (drop (a - 2) (model B .others)) (rootAt l (r .count) R held))
+        ≡ onward (run-all cap (r .peak) (bettered B h (getD (heldTrees l₀ (r₀ .count) R₀ held) before blank) a (rootAt l (r .count) R held) K))
+        (λ t s. run-all cap s (best-on (model B) h K (getD (heldTrees l₀ (r₀ .count) R₀ held) before blank) (suc a) (drop (suc (a - 2)) (model B .others)) t))
     run K =
         let n = others-count B (Y .ready .accepted) in
         let low = Y .low in
         let count = Y .count in
-        best-on-bettered B cap (r .peak) h K (getD (heldTrees l₀ (r₀ .count) R₀ held) before none) a (a - 2) (rootAt l (r .count) R held) (omega arith) (omega arith)
+        best-on-bettered B cap (r .peak) h K (getD (heldTrees l₀ (r₀ .count) R₀ held) before blank) a (a - 2) (rootAt l (r .count) R held) (omega arith) (omega arith)
 
-    pub trying-stops : (r′ .stop ≡ 0 → ⊥) → Ran cap (r₀ .peak) l₀ (r₀ .count) R₀ held h (λ K. best-on (model B) h K (getD (heldTrees l₀ (r₀ .count) R₀ held) before none) 2 (model B .others) (rootAt l₀ (r₀ .count) R₀ held)) l′ w′ R′ r′
+    pub trying-stops : (r′ .stop ≡ 0 → ⊥) → Ran cap (r₀ .peak) l₀ (r₀ .count) R₀ held h (λ K. best-on (model B) h K (getD (heldTrees l₀ (r₀ .count) R₀ held) before blank) 2 (model B .others) (rootAt l₀ (r₀ .count) R₀ held)) l′ w′ R′ r′
     trying-stops off = record {
-      outcome = λ K al. Y .left K al ∙ (run K ∙ (onward-no (r′ .stop) h (rootAt l′ (r′ .count) R′ held) (r′ .peak) (step K al) (λ t s. run-all cap s (best-on (model B) h K (getD (heldTrees l₀ (r₀ .count) R₀ held) before none) (suc a) (drop (suc (a - 2)) (model B .others)) t)) off
+      outcome = λ K al. Y .left K al ∙ (run K ∙ (onward-no (r′ .stop) h (rootAt l′ (r′ .count) R′ held) (r′ .peak) (step K al) (λ t s. run-all cap s (best-on (model B) h K (getD (heldTrees l₀ (r₀ .count) R₀ held) before blank) (suc a) (drop (suc (a - 2)) (model B .others)) t)) off
           ∙ sym (answered-no (r′ .stop) h (rootAt l′ (r′ .count) R′ held) (r′ .peak) off)));
       rooted = λ ok. absurd (off ok);
     }
@@ -115,8 +115,8 @@ module _ {B : List ℕ} {cap : ℕ} {l₀ : List ℤ} {R₀ : List ℕ} {held be
       ready = ready-next (heldTrees l (r .count) R held) (rootAt l′ (r′ .count) R′ held) (Y .ready) (sym (held-take l (r .count) R held (modelSize B) here (Y .first)) ∙ Y .ready .models) (Y .first) long (T .rooted ok) few;
       first = Y .first;
       same = held-is l′ (r′ .count) R′ held (heldTrees l (r .count) R held) (rootAt l′ (r′ .count) R′ held) (T .rooted ok) long few ∙ Y .same;
-      left = λ K al. Y .left K al ∙ (run K ∙ (onward-ok (r′ .stop) h (rootAt l′ (r′ .count) R′ held) (r′ .peak) (step K al) (λ t s. run-all cap s (best-on (model B) h K (getD (heldTrees l₀ (r₀ .count) R₀ held) before none) (suc a) (drop (suc (a - 2)) (model B .others)) t)) ok
-          ∙ ap₂ (λ (i k : ℕ). run-all cap (r′ .peak) (best-on (model B) h K (getD (heldTrees l₀ (r₀ .count) R₀ held) before none) i (drop k (model B .others)) (rootAt l′ (r′ .count) R′ held))) (sym (add-one a)) shift));
+      left = λ K al. Y .left K al ∙ (run K ∙ (onward-ok (r′ .stop) h (rootAt l′ (r′ .count) R′ held) (r′ .peak) (step K al) (λ t s. run-all cap s (best-on (model B) h K (getD (heldTrees l₀ (r₀ .count) R₀ held) before blank) (suc a) (drop (suc (a - 2)) (model B .others)) t)) ok
+          ∙ ap₂ (λ (i k : ℕ). run-all cap (r′ .peak) (best-on (model B) h K (getD (heldTrees l₀ (r₀ .count) R₀ held) before blank) i (drop k (model B .others)) (rootAt l′ (r′ .count) R′ held))) (sym (add-one a)) shift));
     }
       where
         here : held < length R
@@ -129,9 +129,9 @@ module _ {B : List ℕ} {cap : ℕ} {l₀ : List ℤ} {R₀ : List ℕ} {held be
         shift = let low = Y .low in omega arith
 
   -- none is left
-  pub trying-ends : actions < a → Ran cap (r₀ .peak) l₀ (r₀ .count) R₀ held h (λ K. best-on (model B) h K (getD (heldTrees l₀ (r₀ .count) R₀ held) before none) 2 (model B .others) (rootAt l₀ (r₀ .count) R₀ held)) l w R r
+  pub trying-ends : actions < a → Ran cap (r₀ .peak) l₀ (r₀ .count) R₀ held h (λ K. best-on (model B) h K (getD (heldTrees l₀ (r₀ .count) R₀ held) before blank) 2 (model B .others) (rootAt l₀ (r₀ .count) R₀ held)) l w R r
   trying-ends q = record {
-    outcome = λ K al. Y .left K al ∙ (best-on-done (model B) h K (getD (heldTrees l₀ (r₀ .count) R₀ held) before none) cap (r .peak) a (a - 2) (model B .others) (rootAt l (r .count) R held) all
+    outcome = λ K al. Y .left K al ∙ (best-on-done (model B) h K (getD (heldTrees l₀ (r₀ .count) R₀ held) before blank) cap (r .peak) a (a - 2) (model B .others) (rootAt l (r .count) R held) all
         ∙ sym (answered-ok (r .stop) h (rootAt l (r .count) R held) (r .peak) (Y .ok)));
     rooted = λ ok. record {
       good = S .good;
@@ -153,10 +153,10 @@ pub stage-first : {B : List ℕ} {cap : ℕ} {l : List ℤ} {w : List ℕ} {n : 
 stage-first {B} D = omega (arith, others-count B (D .accepted))
 
 module _ {B : List ℕ} {cap p : ℕ} {l : List ℤ} {w : List ℕ} {n : ℕ} {R : List ℕ} {held : ℕ} (before : ℕ) {h : ℕ} {l′ : List ℤ} {w′ R′ : List ℕ} {t : Run} (D : Ready B cap l w n R held)
-    (T : Ran cap p l n R held h (λ K. action-total (model B) h K (getD (heldTrees l n R held) before none) 1 (actionOf B 1)) l′ w′ R′ t) where
-  pub first-stops : (t .stop ≡ 0 → ⊥) → Ran cap p l n R held h (λ K. stage-over (model B) h K (getD (heldTrees l n R held) before none)) l′ w′ R′ t
+    (T : Ran cap p l n R held h (λ K. action-total (model B) h K (getD (heldTrees l n R held) before blank) 1 (actionOf B 1)) l′ w′ R′ t) where
+  pub first-stops : (t .stop ≡ 0 → ⊥) → Ran cap p l n R held h (λ K. stage-over (model B) h K (getD (heldTrees l n R held) before blank)) l′ w′ R′ t
   first-stops off = record {
-    outcome = λ K al. first-refused (model B) cap p h K (getD (heldTrees l n R held) before none) (T .outcome K al ∙ answered-no (t .stop) h (rootAt l′ (t .count) R′ held) (t .peak) off)
+    outcome = λ K al. first-refused (model B) cap p h K (getD (heldTrees l n R held) before blank) (T .outcome K al ∙ answered-no (t .stop) h (rootAt l′ (t .count) R′ held) (t .peak) off)
         ∙ sym (answered-no (t .stop) h (rootAt l′ (t .count) R′ held) (t .peak) off);
     rooted = λ ok. absurd (off ok);
   }
@@ -169,11 +169,11 @@ module _ {B : List ℕ} {cap p : ℕ} {l : List ℤ} {w : List ℕ} {n : ℕ} {R
     same = held-is l′ (t .count) R′ held (heldTrees l n R held) (rootAt l′ (t .count) R′ held) (T .rooted ok) (held-length l n R held (D .standing .few)) few
 
     pub stage-ends : {l″ : List ℤ} {w″ R″ : List ℕ} {r : Run}
-        → Ran cap (t .peak) l′ (t .count) R′ held h (λ K. best-on (model B) h K (getD (heldTrees l′ (t .count) R′ held) before none) 2 (model B .others) (rootAt l′ (t .count) R′ held)) l″ w″ R″ r
-        → Ran cap p l n R held h (λ K. stage-over (model B) h K (getD (heldTrees l n R held) before none)) l″ w″ R″ r
+        → Ran cap (t .peak) l′ (t .count) R′ held h (λ K. best-on (model B) h K (getD (heldTrees l′ (t .count) R′ held) before blank) 2 (model B .others) (rootAt l′ (t .count) R′ held)) l″ w″ R″ r
+        → Ran cap p l n R held h (λ K. stage-over (model B) h K (getD (heldTrees l n R held) before blank)) l″ w″ R″ r
     stage-ends {l″} {w″} {R″} {r} O = record {
-      outcome = λ K al. first-done (model B) cap p h K (getD (heldTrees l n R held) before none) (T .outcome K al ∙ answered-ok (t .stop) h (rootAt l′ (t .count) R′ held) (t .peak) ok)
-          ∙ (ap (λ (X : List Tree). run-all cap (t .peak) (best-on (model B) h K (getD X before none) 2 (model B .others) (rootAt l′ (t .count) R′ held))) (sym same)
+      outcome = λ K al. first-done (model B) cap p h K (getD (heldTrees l n R held) before blank) (T .outcome K al ∙ answered-ok (t .stop) h (rootAt l′ (t .count) R′ held) (t .peak) ok)
+          ∙ (ap (λ (X : List Tree). run-all cap (t .peak) (best-on (model B) h K (getD X before blank) 2 (model B .others) (rootAt l′ (t .count) R′ held))) (sym same)
           ∙ O .outcome K (alike-trans (alike-eq same) al));
       rooted = λ z. subst (λ (X : List Tree). Rooted cap l″ w″ (r .count) (take (suc held) R″) (X ++ (rootAt l″ (r .count) R″ held ∷ []))) same (O .rooted z);
     }

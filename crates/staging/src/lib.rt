@@ -6,7 +6,7 @@ ghost use Rattle.theory.specs.Widths.{steps-most};
 ghost use Rattle.theory.specs.Load.{site-at};
 ghost use Rattle.theory.specs.Load.{model as model-of};
 ghost use Rattle.theory.specs.Stage.{best-on, stage-over};
-ghost use Rattle.diagrams.specs.Nodes.{none};
+ghost use Rattle.diagrams.specs.Nodes.{blank};
 ghost use Rattle.operate.specs.Operation.{heldTrees};
 ghost use Rattle.totals.specs.Planning.{modelSize, Ready, rootAt, Ran};
 ghost use Rattle.staging.specs.Stages.{bettered, Staged};
@@ -38,7 +38,7 @@ fn better(
 ) -> Run
     requires { ⌜ Ready (now model) cap (now nodes) (now work) (run .count) (now roots) (held + 1) × (run .stop ≡ 0) × (held + 2 ≤ length (now roots)) × (before < held) × (stage ≤ steps-most) × (1 ≤ action) × (action ≤ site-at (now model) .actions) ⌝ }
     ensures { λ r. ⌜ Ran cap (run .peak) (now (nodes .entry)) (run .count) (now (roots .entry)) held stage
-        (bettered (now (model .entry)) stage (getD (heldTrees (now (nodes .entry)) (run .count) (now (roots .entry)) held) before none) action (rootAt (now (nodes .entry)) (run .count) (now (roots .entry)) held))
+        (bettered (now (model .entry)) stage (getD (heldTrees (now (nodes .entry)) (run .count) (now (roots .entry)) held) before blank) action (rootAt (now (nodes .entry)) (run .count) (now (roots .entry)) held))
         (now (nodes .exit)) (now (work .exit)) (now (roots .exit)) r ⌝ }
 {
     let t = total(
@@ -82,7 +82,7 @@ fn others(
 ) -> Run
     requires { ⌜ Ready (now model) cap (now nodes) (now work) (run .count) (now roots) (held + 1) × (run .stop ≡ 0) × (held + 2 ≤ length (now roots)) × (modelSize (now model) ≤ held) × (before < held) × (stage ≤ steps-most) ⌝ }
     ensures { λ r. ⌜ Ran cap (run .peak) (now (nodes .entry)) (run .count) (now (roots .entry)) held stage
-        (λ K. best-on (model-of (now (model .entry))) stage K (getD (heldTrees (now (nodes .entry)) (run .count) (now (roots .entry)) held) before none) 2 (model-of (now (model .entry)) .others) (rootAt (now (nodes .entry)) (run .count) (now (roots .entry)) held))
+        (λ K. best-on (model-of (now (model .entry))) stage K (getD (heldTrees (now (nodes .entry)) (run .count) (now (roots .entry)) held) before blank) 2 (model-of (now (model .entry)) .others) (rootAt (now (nodes .entry)) (run .count) (now (roots .entry)) held))
         (now (nodes .exit)) (now (work .exit)) (now (roots .exit)) r ⌝ }
 {
     let actions = command::byte_at(model, 3) as usize;
@@ -111,7 +111,7 @@ fn stage(
 ) -> Run
     requires { ⌜ Ready (now model) cap (now nodes) (now work) (run .count) (now roots) held × (run .stop ≡ 0) × (held + 2 ≤ length (now roots)) × (modelSize (now model) < held) × (stage ≤ steps-most) ⌝ }
     ensures { λ r. ⌜ Ran cap (run .peak) (now (nodes .entry)) (run .count) (now (roots .entry)) held stage
-        (λ K. stage-over (model-of (now (model .entry))) stage K (getD (heldTrees (now (nodes .entry)) (run .count) (now (roots .entry)) held) (held - 1) none))
+        (λ K. stage-over (model-of (now (model .entry))) stage K (getD (heldTrees (now (nodes .entry)) (run .count) (now (roots .entry)) held) (held - 1) blank))
         (now (nodes .exit)) (now (work .exit)) (now (roots .exit)) r ⌝ }
 {
     let before = held - 1;

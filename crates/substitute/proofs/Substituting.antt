@@ -1,8 +1,8 @@
 -- A substitution on the table.
-use mathlib.Core.Path.{_≡_, refl, sym, ap, ap₂, _∙_}
+use mathlib.Core.Path.{_≡_, refl, sym, ap, ap₂, _∙_, subst}
 use mathlib.Core.Bool.{Bool, true, false}
 use mathlib.Core.Logic.{inl}
-use mathlib.Core.List.{List, [], _∷_}
+use mathlib.Core.List.{List, [], _∷_, map}
 use Prim.Native.Nat.{ℕ, _-_, _/_, _%_, _^_, _≤_, _<_}
 use native.Mathlib.Nat.{lt-of-lt-of-le}
 use native.Mathlib.Omega.{arith}
@@ -10,7 +10,7 @@ use borrow.Author.Tests.{eq-eqb, ne-eqb, lt-ltb, le-ltb, ltb-true, ltb-false}
 use lib.Dec.{ltb}
 use lib.IntN.{ℤ, pos, natAbs}
 use lib.Signed.{mag}
-use lib.ListN.{take}
+use lib.ListN.{length, getD, take}
 use mir.Syntax.{w64}
 use mir.Val.{ofZ}
 use Rattle.whole.specs.Cases.{if}
@@ -22,19 +22,19 @@ use Rattle.theory.specs.Diagram.{Linear, Test, now, later, linear, Tree, branch
 use Rattle.theory.specs.Computation.{Comp, ret, bind, both}
 use Rattle.theory.specs.Rules.{over, choose, decide, linear-diagram, substitute}
 use Rattle.diagrams.specs.declared.Down.{Down}
-use Rattle.diagrams.specs.Nodes.{linOf, leafOf, conditionOf, testOf, treeAt, Tested, Grown}
+use Rattle.diagrams.specs.Nodes.{firstOf, linOf, leafOf, conditionOf, testOf, treeAt, Tested, Grown}
 use Rattle.diagrams.specs.Table.{Rule, Table, Ran}
-use Rattle.computed_cache.specs.Cache.{slotOf, Key, Entry, storeOf}
+use Rattle.computed_cache.specs.Cache.{Room, Key, Entry, slotOf, storeOf}
 use Rattle.diagrams.specs.Meaning.{testBy, Names, packed, ruleOf}
 use Rattle.diagrams.specs.Roots.{downOf}
 use Rattle.diagrams.proofs.Trees.{trees-kept, grown-on, at-leaf, at-branch}
 use Rattle.diagrams.proofs.Outcomes.{grown, stop, seq, ran-as, both-high-stops, both-low-stops, both-made}
-use Rattle.diagrams.proofs.Caching.{answered, kept-run}
+use Rattle.diagrams.proofs.Caching.{room-in, answered, kept-run}
 use Rattle.diagrams.proofs.Meanings.{rule-substitute, rule-walk, lasts-substitute}
 use Rattle.diagrams.proofs.Going.{index-small}
 use Rattle.linear_combination.specs.Levels.{Levels, levelsAt}
 use Rattle.linear_combination.proofs.Adding.{levels-kept, levels-more}
-use Rattle.substitute.specs.Substitution.{pair, conditionIn, headOf, overTest}
+use Rattle.substitute.specs.Substitution.{pair, first-word, middle-word, last-word, Held, withResult, conditionIn, headOf, overTest}
 
 -- ---- two indexes in a word
 
@@ -51,11 +51,49 @@ module _ (a b : ℕ) (ha : a < 65536) where
   unfolding pair
   pair-small hb = omega arith
 
+-- the words of an entry fit
+pub levels-key : (f : ℕ) (L : List ℕ) → f < 65536 → Levels 65536 L → Key 12 f (first-word L) (middle-word L) (last-word L)
+levels-key f L h B =
+    let a = B .below 0 in
+    let b = pair-small (getD L 1 0) (getD L 2 0) (B .below 1) (B .below 2) in
+    let c = pair-small (getD L 3 0) (length L) (B .below 3) (let q = B .most in omega arith) in
+    record { op-fits = omega arith; f-fits = omega arith; g-fits = omega arith; p-fits = omega arith; q-fits = omega arith }
+
+-- as the code finds them
+module _ (L : List ℕ) {a b c d u v : ℕ} (ea : a ≡ getD L 0 0) (eb : b ≡ getD L 1 0) (ec : c ≡ getD L 2 0) (ed : d ≡ getD L 3 0) (eu : u ≡ pair b c) (ev : v ≡ pair d (length L)) where
+  middle-is : u ≡ middle-word L
+  middle-is = eu ∙ ap₂ pair eb ec
+
+  last-is : v ≡ last-word L
+  last-is = ev ∙ ap (λ (k : ℕ). pair k (length L)) ed
+
+  pub key-as : (f : ℕ) → f < 65536 → Levels 65536 L → Key 12 f a u v
+  key-as f h B =
+      let K = levels-key f L h B in
+      record { op-fits = K .op-fits; f-fits = K .f-fits; g-fits = omega (arith, ea, K .g-fits); p-fits = omega (arith, middle-is, K .p-fits); q-fits = omega (arith, last-is, K .q-fits) }
+
+  pub held-as : (cap f r : ℕ) (w : List ℕ) → Entry w (slotOf cap 12 f a u v) 12 f a u v r → Held cap w f L r
+  held-as cap f r w E =
+      subst (λ (q : ℕ). Entry w (slotOf cap 12 f (first-word L) (middle-word L) q) 12 f (first-word L) (middle-word L) q r) last-is
+      (subst (λ (p : ℕ). Entry w (slotOf cap 12 f (first-word L) p v) 12 f (first-word L) p v r) middle-is
+      (subst (λ (g : ℕ). Entry w (slotOf cap 12 f g u v) 12 f g u v r) ea E))
+
+  pub stored-as : (cap f r : ℕ) (w : List ℕ) {w′ : List ℕ} → w′ ≡ storeOf w (slotOf cap 12 f a u v) 12 f a u v r → w′ ≡ withResult cap w f L r
+  stored-as cap f r w e = e ∙ (λ i. storeOf w (slotOf cap 12 f (ea i) (middle-is i) (last-is i)) 12 f (ea i) (middle-is i) (last-is i) r)
+
+taken : (D : ℕ → Tree) (L : List ℕ) → length L ≤ 4 → take (length L) (D (getD L 0 0) ∷ D (getD L 1 0) ∷ D (getD L 2 0) ∷ D (getD L 3 0) ∷ []) ≡ map D L
+taken D [] h = refl
+taken D (a ∷ []) h = refl
+taken D (a ∷ b ∷ []) h = refl
+taken D (a ∷ b ∷ c ∷ []) h = refl
+taken D (a ∷ b ∷ c ∷ d ∷ []) h = refl
+taken D (a ∷ b ∷ c ∷ d ∷ e ∷ L) h = absurd (omega arith)
+
 -- ---- the condition of a node
 
 module _ (x : Node) where
   abbrev j : ℕ
-  j = natAbs (x .c1)
+  j = natAbs (firstOf x)
 
   abbrev numbered : Bool → Bool → ℕ
   numbered a b = if a (if b (j - conditions-most) j) 0
@@ -73,7 +111,7 @@ module _ (x : Node) where
   condition-none e = ap (λ (a : Bool). numbered a (ltb conditions-most j)) e
 
   -- as the code finds it
-  module _ {k : ℕ} (ek : k ≡ natAbs (x .c1)) (e : eqZ (x .kind) (pos 1) ≡ true) where
+  module _ {k : ℕ} (ek : k ≡ natAbs (firstOf x)) (e : eqZ (x .kind) (pos 1) ≡ true) where
     pub found-later : 4 < k → k - 4 ≡ conditionIn x
     found-later h = ap (λ (k : ℕ). k - 4) ek ∙ sym (condition-later e (omega arith))
 
@@ -127,19 +165,19 @@ module _ (Ds : List Tree) (p : Linear) (F H L : Tree) where
   parts-linear = refl
 
 sub-branch : (Ds : List Tree) (x : Node) (F H L : Tree) → Tested x → substitute Ds (branch (testOf x) H L) ≡ Parts Ds (linOf x) F H L (conditionIn x)
-sub-branch Ds x F H L t = go (eqZ (x .kind) (pos 1)) refl (ltb conditions-most (natAbs (x .c1))) refl
+sub-branch Ds x F H L t = go (eqZ (x .kind) (pos 1)) refl (ltb conditions-most (natAbs (firstOf x))) refl
   where
     put : {u : Test} {k : ℕ} → testOf x ≡ u → k ≡ conditionIn x → substitute Ds (branch u H L) ≡ Parts Ds (linOf x) F H L k → substitute Ds (branch (testOf x) H L) ≡ Parts Ds (linOf x) F H L (conditionIn x)
     put eu ek e = ap (λ (u : Test). substitute Ds (branch u H L)) eu ∙ (e ∙ ap (Parts Ds (linOf x) F H L) ek)
 
-    go : (a : Bool) → eqZ (x .kind) (pos 1) ≡ a → (b : Bool) → ltb conditions-most (natAbs (x .c1)) ≡ b → substitute Ds (branch (testOf x) H L) ≡ Parts Ds (linOf x) F H L (conditionIn x)
+    go : (a : Bool) → eqZ (x .kind) (pos 1) ≡ a → (b : Bool) → ltb conditions-most (natAbs (firstOf x)) ≡ b → substitute Ds (branch (testOf x) H L) ≡ Parts Ds (linOf x) F H L (conditionIn x)
     go true e true h =
-        let q = ltb-true conditions-most (natAbs (x .c1)) h in
-        put (test-cond x e ∙ cond-later x q) (sym (condition-later x e q)) (parts-later Ds (linOf x) F H L (natAbs (x .c1) - conditions-most) (λ z. absurd (omega arith)))
+        let q = ltb-true conditions-most (natAbs (firstOf x)) h in
+        put (test-cond x e ∙ cond-later x q) (sym (condition-later x e q)) (parts-later Ds (linOf x) F H L (natAbs (firstOf x) - conditions-most) (λ z. absurd (omega arith)))
     go true e false h =
-        let q = ltb-false conditions-most (natAbs (x .c1)) h in
+        let q = ltb-false conditions-most (natAbs (firstOf x)) h in
         let r = t .bounds e .0 in
-        put (test-cond x e ∙ cond-now x q) (sym (condition-now x e q)) (parts-now Ds (linOf x) F H L (natAbs (x .c1)) (λ z. absurd (omega arith)))
+        put (test-cond x e ∙ cond-now x q) (sym (condition-now x e q)) (parts-now Ds (linOf x) F H L (natAbs (firstOf x)) (λ z. absurd (omega arith)))
     go false e b h = put (test-lin x e) (sym (condition-none x e)) (parts-linear Ds (linOf x) F H L)
 
 -- ---- one after another
@@ -165,59 +203,39 @@ module _ {R : Rule} {cap : ℕ} {l l₁ : List ℤ} {w w₁ : List ℕ} {n : ℕ
 -- ---- on the table
 
 -- the substitution at f
-abbrev pub Sub : List ℤ → ℕ → ℕ → ℕ → ℕ → ℕ → ℕ → ℕ → Comp Tree
-Sub l n f d1 d2 d3 d4 m = substitute (levelsAt l n d1 d2 d3 d4 m) (treeAt l n f)
+abbrev pub Sub : List ℤ → ℕ → ℕ → List ℕ → Comp Tree
+Sub l n f L = substitute (levelsAt l n L) (treeAt l n f)
 
-sub-kept : {l l′ : List ℤ} {n n′ d1 d2 d3 d4 m : ℕ} → Levels n d1 d2 d3 d4 m → Grown l n l′ n′ → (f : ℕ) → f < n → Sub l′ n′ f d1 d2 d3 d4 m ≡ Sub l n f d1 d2 d3 d4 m
+sub-kept : {l l′ : List ℤ} {n n′ : ℕ} {L : List ℕ} → Levels n L → Grown l n l′ n′ → (f : ℕ) → f < n → Sub l′ n′ f L ≡ Sub l n f L
 sub-kept B G f h = ap₂ substitute (levels-kept B G) (trees-kept G f h)
 
-module _ {cap : ℕ} {l : List ℤ} {w : List ℕ} {n : ℕ} (A : Table ruleOf cap l w n) (f : ℕ) (hf : f < n) {d1 d2 d3 d4 m : ℕ} (B : Levels n d1 d2 d3 d4 m) where
-  abbrev g : ℕ
-  g = pair d2 d3
+module _ {cap : ℕ} {l : List ℤ} {w : List ℕ} {n : ℕ} (A : Table ruleOf cap l w n) (f : ℕ) (hf : f < n) {L : List ℕ} (B : Levels n L) where
+  -- the words of the cache's entry fit
+  pub sub-asks : Room cap w × (f < 65536) × Levels 65536 L
+  sub-asks = (room-in A, index-small f (A .bare) hf, record { below = λ k. index-small (getD L k 0) (A .bare) (B .below k); some = B .some; most = B .most })
 
-  abbrev q : ℕ
-  q = pair d4 m
+  small : (k : ℕ) → getD L k 0 < 65536
+  small k = sub-asks .2 .below k
 
-  small2 : d2 < 65536
-  small2 = index-small d2 (A .bare) (B .second)
+  unpacked : packed l n (first-word L) (middle-word L) (last-word L) ≡ levelsAt l n L
+  unfolding packed
+  unpacked = (λ i. take (pair-high (getD L 3 0) (length L) (small 3) i) (treeAt l n (getD L 0 0) ∷ treeAt l n (pair-low (getD L 1 0) (getD L 2 0) (small 1) i) ∷ treeAt l n (pair-high (getD L 1 0) (getD L 2 0) (small 1) i) ∷ treeAt l n (pair-low (getD L 3 0) (length L) (small 3) i) ∷ []))
+      ∙ taken (treeAt l n) L (B .most)
 
-  small4 : d4 < 65536
-  small4 = index-small d4 (A .bare) (B .fourth)
+  rule-is : ruleOf l n 12 f (first-word L) (middle-word L) (last-word L) ≡ Sub l n f L
+  rule-is = rule-substitute l n f (first-word L) (middle-word L) (last-word L) ∙ ap (λ (Ds : List Tree). substitute Ds (treeAt l n f)) unpacked
 
-  unpacked : packed l n d1 g q ≡ levelsAt l n d1 d2 d3 d4 m
-  unfolding packed levelsAt
-  unpacked = λ i. take (pair-high d4 m small4 i) (treeAt l n d1 ∷ treeAt l n (pair-low d2 d3 small2 i) ∷ treeAt l n (pair-high d2 d3 small2 i) ∷ treeAt l n (pair-low d4 m small4 i) ∷ [])
+  -- an entry answers
+  pub sub-answered : (k : ℕ) → Held cap w f L k → Ran ruleOf cap l w n (Sub l n f L) l w (record { stop = 0; at = k; count = n })
+  sub-answered k E = ran-as rule-is (answered A 12 f (first-word L) (middle-word L) (last-word L) k E)
 
-  rule-is : ruleOf l n 12 f d1 g q ≡ Sub l n f d1 d2 d3 d4 m
-  rule-is = rule-substitute l n f d1 g q ∙ ap (λ (Ds : List Tree). substitute Ds (treeAt l n f)) unpacked
+  -- a result is kept
+  module _ {l′ : List ℤ} {w′ : List ℕ} {r : Made} (Q : Ran ruleOf cap l w n (Sub l n f L) l′ w′ r) (ok : r .stop ≡ 0) where
+    pub retain-asks : Room cap w′ × (f < 65536) × Levels 65536 L × (r .at < 65536)
+    retain-asks = (room-in (Q .table), sub-asks .1, sub-asks .2, index-small (r .at) (Q .table .bare) (Q .within ok))
 
-  -- the two words
-  pub pair-asks : (d2 < 65536) × (d3 < 65536)
-  pair-asks = (small2, index-small d3 (A .bare) (B .third))
-
-  pub pair-asks-2 : (d4 < 65536) × (m < 65536)
-  pair-asks-2 = (small4, (let h = B .most in omega arith))
-
-  module _ {u v : ℕ} (eu : u ≡ g) (ev : v ≡ q) where
-    -- the words fit an entry
-    pub sub-key : Key 12 f d1 u v
-    sub-key =
-        let a = index-small f (A .bare) hf in
-        let b = index-small d1 (A .bare) (B .first) in
-        let c = pair-small d2 d3 small2 (pair-asks .1) in
-        let d = pair-small d4 m small4 (pair-asks-2 .1) in
-        record { op-fits = omega arith; f-fits = omega arith; g-fits = omega arith; p-fits = omega arith; q-fits = omega arith }
-
-    as-rule : ruleOf l n 12 f d1 u v ≡ Sub l n f d1 d2 d3 d4 m
-    as-rule = ap₂ (ruleOf l n 12 f d1) eu ev ∙ rule-is
-
-    -- an entry answers
-    pub sub-answered : (k : ℕ) → Entry w (slotOf cap 12 f d1 u v) 12 f d1 u v k → Ran ruleOf cap l w n (Sub l n f d1 d2 d3 d4 m) l w (record { stop = 0; at = k; count = n })
-    sub-answered k E = ran-as as-rule (answered A 12 f d1 u v k E)
-
-    -- a result is kept
-    pub sub-stored : {l′ : List ℤ} {w′ w″ : List ℕ} {r : Made} → Ran ruleOf cap l w n (Sub l n f d1 d2 d3 d4 m) l′ w′ r → r .stop ≡ 0 → w″ ≡ storeOf w′ (slotOf cap 12 f d1 u v) 12 f d1 u v (r .at) → Ran ruleOf cap l w n (Sub l n f d1 d2 d3 d4 m) l′ w″ r
-    sub-stored Q ok e = ran-as as-rule (kept-run (lasts-substitute l n f hf d1 (B .first) u v (low (ap (λ (k : ℕ). k % 65536) eu ∙ pair-low d2 d3 small2) (B .second)) (low (ap (λ (k : ℕ). k / 65536) eu ∙ pair-high d2 d3 small2) (B .third)) (low (ap (λ (k : ℕ). k % 65536) ev ∙ pair-low d4 m small4) (B .fourth))) (ran-as (sym as-rule) Q) ok e)
+    pub sub-stored : {w″ : List ℕ} → w″ ≡ withResult cap w′ f L (r .at) → Ran ruleOf cap l w n (Sub l n f L) l′ w″ r
+    sub-stored e = ran-as rule-is (kept-run (lasts-substitute l n f hf (first-word L) (B .below 0) (middle-word L) (last-word L) (low (pair-low (getD L 1 0) (getD L 2 0) (small 1)) (B .below 1)) (low (pair-high (getD L 1 0) (getD L 2 0) (small 1)) (B .below 2)) (low (pair-low (getD L 3 0) (length L) (small 3)) (B .below 3))) (ran-as (sym rule-is) Q) ok e)
       where
         low : {a b : ℕ} → a ≡ b → b < n → a < n
         low e h = omega arith
@@ -241,9 +259,9 @@ module _ {cap : ℕ} {l : List ℤ} {w : List ℕ} {n : ℕ} (A : Table ruleOf c
     low-of = ap (λ (s : Down). s .low) es
 
     -- a leaf
-    pub sub-leaf : s .ends ≡ true → {l₁ : List ℤ} {w₁ : List ℕ} {r : Made} → Ran ruleOf cap l w n (linear-diagram (levelsAt l n d1 d2 d3 d4 m) (linOf x)) l₁ w₁ r → Ran ruleOf cap l w n (Sub l n f d1 d2 d3 d4 m) l₁ w₁ r
+    pub sub-leaf : s .ends ≡ true → {l₁ : List ℤ} {w₁ : List ℕ} {r : Made} → Ran ruleOf cap l w n (linear-diagram (levelsAt l n L) (linOf x)) l₁ w₁ r → Ran ruleOf cap l w n (Sub l n f L) l₁ w₁ r
     unfolding substitute leafOf
-    sub-leaf e Q = ran-as (ap (substitute (levelsAt l n d1 d2 d3 d4 m)) (sym (at-leaf (A .bare .good) f hf (kind-of ∙ e)))) Q
+    sub-leaf e Q = ran-as (ap (substitute (levelsAt l n L)) (sym (at-leaf (A .bare .good) f hf (kind-of ∙ e)))) Q
 
     -- a branch
     module _ (e : s .ends ≡ false) where
@@ -260,34 +278,34 @@ module _ {cap : ℕ} {l : List ℤ} {w : List ℕ} {n : ℕ} (A : Table ruleOf c
         pub sub-most : k ≤ conditions-most
         sub-most = let a = condition-most x sub-tested in omega arith
 
-        sub-is : bind (headOf k (levelsAt l n d1 d2 d3 d4 m) (linOf x) (treeAt l n f)) (λ P. both (overTest k P) (Sub l n (s .high) d1 d2 d3 d4 m) (Sub l n (s .low) d1 d2 d3 d4 m)) ≡ Sub l n f d1 d2 d3 d4 m
+        sub-is : bind (headOf k (levelsAt l n L) (linOf x) (treeAt l n f)) (λ P. both (overTest k P) (Sub l n (s .high) L) (Sub l n (s .low) L)) ≡ Sub l n f L
         sub-is =
-            (λ i. Parts (levelsAt l n d1 d2 d3 d4 m) (linOf x) (treeAt l n f) (treeAt l n (high-of i)) (treeAt l n (low-of i)) (ek i))
-            ∙ (sym (sub-branch (levelsAt l n d1 d2 d3 d4 m) x (treeAt l n f) (treeAt l n (natAbs (x .high))) (treeAt l n (natAbs (x .low))) sub-tested)
-            ∙ ap (substitute (levelsAt l n d1 d2 d3 d4 m)) (sym (at-branch (A .bare .good) f hf (kind-of ∙ e))))
+            (λ i. Parts (levelsAt l n L) (linOf x) (treeAt l n f) (treeAt l n (high-of i)) (treeAt l n (low-of i)) (ek i))
+            ∙ (sym (sub-branch (levelsAt l n L) x (treeAt l n f) (treeAt l n (natAbs (x .high))) (treeAt l n (natAbs (x .low))) sub-tested)
+            ∙ ap (substitute (levelsAt l n L)) (sym (at-branch (A .bare .good) f hf (kind-of ∙ e))))
 
         abbrev Done : List ℤ → List ℕ → Made → Type 0
-        Done = Ran ruleOf cap l w n (Sub l n f d1 d2 d3 d4 m)
+        Done = Ran ruleOf cap l w n (Sub l n f L)
 
-        module _ {l₁ : List ℤ} {w₁ : List ℕ} {p : Made} (Q : Ran ruleOf cap l w n (headOf k (levelsAt l n d1 d2 d3 d4 m) (linOf x) (treeAt l n f)) l₁ w₁ p) where
+        module _ {l₁ : List ℤ} {w₁ : List ℕ} {p : Made} (Q : Ran ruleOf cap l w n (headOf k (levelsAt l n L) (linOf x) (treeAt l n f)) l₁ w₁ p) where
           pub sub-head-stops : (p .stop ≡ 0 → ⊥) → Done l₁ w₁ p
           sub-head-stops off = ran-as sub-is (head-stops _ _ (overTest k) Q off)
 
-          pub high-asks : Table ruleOf cap l₁ w₁ (p .count) × (s .high < p .count) × Levels (p .count) d1 d2 d3 d4 m
+          pub high-asks : Table ruleOf cap l₁ w₁ (p .count) × (s .high < p .count) × Levels (p .count) L
           high-asks = (Q .table, (let a = sub-high in let b = Q .more in omega arith), levels-more B (Q .more))
 
-          module _ (ok : p .stop ≡ 0) {l₂ : List ℤ} {w₂ : List ℕ} {h : Made} (S′ : Ran ruleOf cap l₁ w₁ (p .count) (Sub l₁ (p .count) (s .high) d1 d2 d3 d4 m) l₂ w₂ h) where
-            S : Ran ruleOf cap l₁ w₁ (p .count) (Sub l n (s .high) d1 d2 d3 d4 m) l₂ w₂ h
+          module _ (ok : p .stop ≡ 0) {l₂ : List ℤ} {w₂ : List ℕ} {h : Made} (S′ : Ran ruleOf cap l₁ w₁ (p .count) (Sub l₁ (p .count) (s .high) L) l₂ w₂ h) where
+            S : Ran ruleOf cap l₁ w₁ (p .count) (Sub l n (s .high) L) l₂ w₂ h
             S = ran-as (sub-kept B (grown Q) (s .high) (let a = sub-high in omega arith)) S′
 
             pub sub-high-stops : (h .stop ≡ 0 → ⊥) → Done l₂ w₂ h
             sub-high-stops off = ran-as sub-is (high-stops _ _ (overTest k) Q ok S off)
 
-            pub low-asks : Table ruleOf cap l₂ w₂ (h .count) × (s .low < h .count) × Levels (h .count) d1 d2 d3 d4 m
+            pub low-asks : Table ruleOf cap l₂ w₂ (h .count) × (s .low < h .count) × Levels (h .count) L
             low-asks = (S .table, (let a = sub-low in let b = Q .more in let c = S .more in omega arith), levels-more B (let b = Q .more in let c = S .more in omega arith))
 
-            module _ (ok₁ : h .stop ≡ 0) {l₃ : List ℤ} {w₃ : List ℕ} {t : Made} (U′ : Ran ruleOf cap l₂ w₂ (h .count) (Sub l₂ (h .count) (s .low) d1 d2 d3 d4 m) l₃ w₃ t) where
-              U : Ran ruleOf cap l₂ w₂ (h .count) (Sub l n (s .low) d1 d2 d3 d4 m) l₃ w₃ t
+            module _ (ok₁ : h .stop ≡ 0) {l₃ : List ℤ} {w₃ : List ℕ} {t : Made} (U′ : Ran ruleOf cap l₂ w₂ (h .count) (Sub l₂ (h .count) (s .low) L) l₃ w₃ t) where
+              U : Ran ruleOf cap l₂ w₂ (h .count) (Sub l n (s .low) L) l₃ w₃ t
               U = ran-as (sub-kept B (grown-on (grown Q) (grown S)) (s .low) (let a = sub-low in omega arith)) U′
 
               pub sub-low-stops : (t .stop ≡ 0 → ⊥) → Done l₃ w₃ t

@@ -1,21 +1,25 @@
 // Substitution: levels by their next values' diagrams, conditions by the next step's.
 ghost use mathlib.Core.Path.{_≡_};
 ghost use mathlib.Core.Bool.{true};
-ghost use Prim.Native.Nat.{_<_, _≤_};
+ghost use Prim.Native.Nat.{_-_, _<_, _≤_};
 ghost use lib.Dec.{T};
 ghost use lib.IntN.{pos};
+ghost use lib.ListN.{getD};
 ghost use lib.Signed.{nonNeg};
 ghost use Rattle.table.specs.Table.{nodeAt, eqZ};
 ghost use Rattle.theory.specs.Widths.{conditions-most};
 ghost use Rattle.theory.specs.Rules as R;
-ghost use Rattle.diagrams.specs.Nodes.{linOf, treeAt, At};
+ghost use Rattle.diagrams.specs.Nodes.{firstOf, linOf, treeAt, At};
+ghost use Rattle.computed_cache.specs.Cache.{Room};
 ghost use Rattle.diagrams.specs.Table.{Table, Ran};
 ghost use Rattle.diagrams.specs.Meaning.{ruleOf};
 ghost use Rattle.linear_combination.specs.Levels.{Levels, levelsAt};
-ghost use Rattle.substitute.specs.Substitution.{pair, conditionIn, headOf, overTest};
+ghost use Rattle.substitute.specs.Substitution.{pair, Held, withResult, conditionIn, headOf, overTest};
 use choice::choose;
 use computed_cache::keep;
 use computed_cache::look;
+use diagrams::codes::CHOOSE_LATER;
+use diagrams::codes::SUBSTITUTE;
 use diagrams::tests::index;
 use linear_combination::linear_diagram;
 use table::Made;
@@ -31,13 +35,52 @@ fn pair_of(a: usize, b: usize) -> usize
     b * 65536 + a
 }
 
+// The index of level k, from 0 on; 0 beyond them.
+fn level(levels: &[u32], k: usize) -> usize
+    ensures { λ r. ⌜ r ≡ getD (now (levels .entry)) k 0 ⌝ }
+{
+    if k < levels.len() {
+        return levels[k] as usize;
+    }
+    0
+}
+
+// What the cache has of the diagram at f with these levels, one more than its index, or 0.
+fn recall(work: &[u32], cap: usize, f: usize, levels: &[u32]) -> usize
+    requires { ⌜ Room cap (now work) × (f < 65536) × Levels 65536 (now levels) ⌝ }
+    ensures { λ r. ⌜ ((r ≡ 0 → ⊥) → Held cap (now (work .entry)) f (now (levels .entry)) (r - 1)) ⌝ }
+{
+    let a = level(levels, 0);
+    let b = level(levels, 1);
+    let c = level(levels, 2);
+    let d = level(levels, 3);
+    let u = pair_of(b, c);
+    let v = pair_of(d, levels.len());
+    look(work, cap, SUBSTITUTE, f, a, u, v)
+}
+
+// Keeps the result r.
+fn retain(work: &mut [u32], cap: usize, f: usize, levels: &[u32], r: usize)
+    requires { ⌜ Room cap (now work) × (f < 65536) × Levels 65536 (now levels) × (r < 65536) ⌝ }
+    ensures { λ _. ⌜ now (work .exit) ≡ withResult cap (now (work .entry)) f (now (levels .entry)) r ⌝ }
+{
+    let a = level(levels, 0);
+    let b = level(levels, 1);
+    let c = level(levels, 2);
+    let d = level(levels, 3);
+    let u = pair_of(b, c);
+    let v = pair_of(d, levels.len());
+    keep(work, cap, SUBSTITUTE, f, a, u, v, r);
+}
+
 // The number of a node's condition, now or next; 0 for a linear test.
 fn condition_of(x: Node) -> usize
-    requires { ⌜ (eqZ (x .kind) (pos 1) ≡ true → T (nonNeg (x .c1))) ⌝ }
+    requires { ⌜ (eqZ (x .kind) (pos 1) ≡ true → T (nonNeg (firstOf x))) ⌝ }
     ensures { λ r. ⌜ r ≡ conditionIn x ⌝ }
 {
     if x.kind == 1 {
-        let z = x.c1;
+        let n = x.n;
+        let z = n[0];
         let k = index(z);
         if k > 4 {
             return k - 4;
@@ -49,7 +92,7 @@ fn condition_of(x: Node) -> usize
 
 // That of the node at f.
 fn condition_at(nodes: &[i64], f: usize) -> usize
-    requires { ⌜ At (now nodes) f × (eqZ (nodeAt (now nodes) f .kind) (pos 1) ≡ true → T (nonNeg (nodeAt (now nodes) f .c1))) ⌝ }
+    requires { ⌜ At (now nodes) f × (eqZ (nodeAt (now nodes) f .kind) (pos 1) ≡ true → T (nonNeg (firstOf (nodeAt (now nodes) f)))) ⌝ }
     ensures { λ r. ⌜ r ≡ conditionIn (nodeAt (now (nodes .entry)) f) ⌝ }
 {
     condition_of(table::get(nodes, f))
@@ -63,17 +106,13 @@ fn head(
     count: usize,
     f: usize,
     k: usize,
-    d1: usize,
-    d2: usize,
-    d3: usize,
-    d4: usize,
-    m: usize,
+    levels: &[u32],
 ) -> Made
-    requires { ⌜ Table ruleOf cap (now nodes) (now work) count × (f < count) × Levels count d1 d2 d3 d4 m ⌝ }
-    ensures { λ r. ⌜ Ran ruleOf cap (now (nodes .entry)) (now (work .entry)) count (headOf k (levelsAt (now (nodes .entry)) count d1 d2 d3 d4 m) (linOf (nodeAt (now (nodes .entry)) f)) (treeAt (now (nodes .entry)) count f)) (now (nodes .exit)) (now (work .exit)) r ⌝ }
+    requires { ⌜ Table ruleOf cap (now nodes) (now work) count × (f < count) × Levels count (now levels) ⌝ }
+    ensures { λ r. ⌜ Ran ruleOf cap (now (nodes .entry)) (now (work .entry)) count (headOf k (levelsAt (now (nodes .entry)) count (now (levels .entry))) (linOf (nodeAt (now (nodes .entry)) f)) (treeAt (now (nodes .entry)) count f)) (now (nodes .exit)) (now (work .exit)) r ⌝ }
 {
     if k == 0 {
-        return linear_diagram(nodes, work, cap, count, f, d1, d2, d3, d4, m);
+        return linear_diagram(nodes, work, cap, count, f, levels);
     }
     Made {
         stop: 0,
@@ -99,28 +138,22 @@ fn over_test(
     if k == 0 {
         return walk(nodes, work, cap, count, p, h, l);
     }
-    choose(nodes, work, cap, count, 10, k, h, l)
+    choose(nodes, work, cap, count, CHOOSE_LATER, k, h, l)
 }
 
-// Rule 12: the diagram at f with the m diagrams d1 to d4 in the place of levels. Only indexes live over the calls.
+// Rule 12: the diagram at f with those of the levels in the place of levels. Only indexes live over the calls.
 pub fn substitute(
     nodes: &mut [i64],
     work: &mut [u32],
     cap: usize,
     count: usize,
     f: usize,
-    d1: usize,
-    d2: usize,
-    d3: usize,
-    d4: usize,
-    m: usize,
+    levels: &[u32],
 ) -> Made
-    requires { ⌜ Table ruleOf cap (now nodes) (now work) count × (f < count) × Levels count d1 d2 d3 d4 m ⌝ }
-    ensures { λ r. ⌜ Ran ruleOf cap (now (nodes .entry)) (now (work .entry)) count (R.substitute (levelsAt (now (nodes .entry)) count d1 d2 d3 d4 m) (treeAt (now (nodes .entry)) count f)) (now (nodes .exit)) (now (work .exit)) r ⌝ }
+    requires { ⌜ Table ruleOf cap (now nodes) (now work) count × (f < count) × Levels count (now levels) ⌝ }
+    ensures { λ r. ⌜ Ran ruleOf cap (now (nodes .entry)) (now (work .entry)) count (R.substitute (levelsAt (now (nodes .entry)) count (now (levels .entry))) (treeAt (now (nodes .entry)) count f)) (now (nodes .exit)) (now (work .exit)) r ⌝ }
 {
-    let u = pair_of(d2, d3);
-    let v = pair_of(d4, m);
-    let c = look(work, cap, 12, f, d1, u, v);
+    let c = recall(work, cap, f, levels);
     if c != 0 {
         return Made {
             stop: 0,
@@ -130,18 +163,18 @@ pub fn substitute(
     }
     let s = down_at(nodes, f);
     if s.ends {
-        return linear_diagram(nodes, work, cap, count, f, d1, d2, d3, d4, m);
+        return linear_diagram(nodes, work, cap, count, f, levels);
     }
     let k = condition_at(nodes, f);
-    let p = head(nodes, work, cap, count, f, k, d1, d2, d3, d4, m);
+    let p = head(nodes, work, cap, count, f, k, levels);
     if p.stop != 0 {
         return p;
     }
-    let h = substitute(nodes, work, cap, p.count, s.high, d1, d2, d3, d4, m);
+    let h = substitute(nodes, work, cap, p.count, s.high, levels);
     if h.stop != 0 {
         return h;
     }
-    let l = substitute(nodes, work, cap, h.count, s.low, d1, d2, d3, d4, m);
+    let l = substitute(nodes, work, cap, h.count, s.low, levels);
     if l.stop != 0 {
         return l;
     }
@@ -149,6 +182,6 @@ pub fn substitute(
     if r.stop != 0 {
         return r;
     }
-    keep(work, cap, 12, f, d1, u, v, r.at);
+    retain(work, cap, f, levels, r.at);
     r
 }

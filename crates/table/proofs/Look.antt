@@ -4,9 +4,12 @@ use mathlib.Core.Bool.{Bool, true, false, cond, _&&_}
 use mathlib.Core.Logic.{_⊎_, inl, inr, ⊎-elim}
 use Prim.Native.Nat.{ℕ, zero, suc, _+_, _≤_, _<_}
 use native.Mathlib.Omega.{arith}
-use borrow.Author.Tests.{eqb-true, eq-eqb, lt-ltb, le-ltb, ltb-true, ltb-false}
-use lib.Dec.{ltb, eqb}
-use lib.IntN.{ℤ, pos, negsuc}
+use borrow.Author.Tests.{lt-ltb, le-ltb, ltb-true, ltb-false}
+use lib.Dec.{ltb}
+use lib.IntN.{ℤ, pos}
+use Rattle.whole.specs.Linears.{eqL}
+use Rattle.whole.specs.LinearsLaws.{eqL-true, eqL-refl}
+pub use Rattle.whole.specs.LinearsLaws.{eqZ-true, eqZ-refl}
 use Rattle.table.specs.declared.Node.{Node}
 use mathlib.Core.List.{List}
 use Rattle.table.specs.declared.Made.{Made}
@@ -14,18 +17,6 @@ use Rattle.table.specs.Table.{nodeAt, putAt, firstNode, internR, internW
 
 clash : {X : Type 0} → false ≡ true → X
 clash e = absurd (let z : _≡_ {A = ℕ} 0 1 = cc in omega arith)
-
-pub eqZ-true : (x y : ℤ) → eqZ x y ≡ true → x ≡ y
-unfolding eqZ
-eqZ-true (pos a) (pos b) e = ap pos (eqb-true a b e)
-eqZ-true (pos a) (negsuc b) e = clash e
-eqZ-true (negsuc a) (pos b) e = clash e
-eqZ-true (negsuc a) (negsuc b) e = ap negsuc (eqb-true a b e)
-
-pub eqZ-refl : (x : ℤ) → eqZ x x ≡ true
-unfolding eqZ
-eqZ-refl (pos a) = eq-eqb a a refl
-eqZ-refl (negsuc a) = eq-eqb a a refl
 
 both : (a b : Bool) → (a && b) ≡ true → (a ≡ true) × (b ≡ true)
 both true b e = (refl, e)
@@ -35,26 +26,18 @@ pub eqN-true : (x y : Node) → eqN x y ≡ true → x ≡ y
 unfolding eqN
 eqN-true x y e =
     let b₁ = both (eqZ (x .kind) (y .kind)) _ e in
-    let b₂ = both (eqZ (x .c1) (y .c1)) _ (b₁ .1) in
-    let b₃ = both (eqZ (x .c2) (y .c2)) _ (b₂ .1) in
-    let b₄ = both (eqZ (x .c3) (y .c3)) _ (b₃ .1) in
-    let b₅ = both (eqZ (x .c4) (y .c4)) _ (b₄ .1) in
-    let b₆ = both (eqZ (x .constant) (y .constant)) _ (b₅ .1) in
-    let b₇ = both (eqZ (x .high) (y .high)) _ (b₆ .1) in
+    let b₂ = both (eqZ (x .high) (y .high)) _ (b₁ .1) in
+    let b₃ = both (eqZ (x .low) (y .low)) _ (b₂ .1) in
     λ i. record {
       kind = eqZ-true (x .kind) (y .kind) (b₁ .0) i;
-      c1 = eqZ-true (x .c1) (y .c1) (b₂ .0) i;
-      c2 = eqZ-true (x .c2) (y .c2) (b₃ .0) i;
-      c3 = eqZ-true (x .c3) (y .c3) (b₄ .0) i;
-      c4 = eqZ-true (x .c4) (y .c4) (b₅ .0) i;
-      constant = eqZ-true (x .constant) (y .constant) (b₆ .0) i;
-      high = eqZ-true (x .high) (y .high) (b₇ .0) i;
-      low = eqZ-true (x .low) (y .low) (b₇ .1) i;
+      n = eqL-true (x .n) (y .n) (b₃ .1) i;
+      high = eqZ-true (x .high) (y .high) (b₂ .0) i;
+      low = eqZ-true (x .low) (y .low) (b₃ .0) i;
     }
 
 pub eqN-refl : (x : Node) → eqN x x ≡ true
 unfolding eqN
-eqN-refl x = simp (eqZ-refl)
+eqN-refl x = simp (eqZ-refl, eqL-refl)
 
 pub eqN-false : (x y : Node) → (x ≡ y → ⊥) → eqN x y ≡ false
 eqN-false x y n = go (eqN x y) refl

@@ -1,45 +1,51 @@
--- A table of nodes in a list of words, eight words to a node.
+-- A table of nodes in a list of words.
 use mathlib.Core.Path.{_≡_}
 use mathlib.Core.Bool.{Bool, true, false, cond, _&&_}
 use mathlib.Core.List.{List, [], _∷_, _++_}
 use Prim.Native.Nat.{ℕ, zero, suc, _+_, _*_}
-use lib.Dec.{ltb, eqb}
-use lib.IntN.{ℤ, pos, negsuc}
-use lib.ListN.{getD, set}
+use lib.Dec.{ltb}
+use lib.IntN.{ℤ, pos}
+use lib.ListN.{getD, set, take, drop}
+use Rattle.whole.specs.Linears.{numbers, eqL}
+unfoldable pub use Rattle.whole.specs.Linears.{eqZ}
 use Rattle.table.specs.declared.Node.{Node}
 use Rattle.table.specs.declared.Made.{Made}
+
+-- a node's words: its kind, its numbers, and high and low behind them
+abbrev pub node-words : ℕ
+node-words = 8
+
+abbrev pub high-word : ℕ
+high-word = 6
+
+abbrev pub low-word : ℕ
+low-word = 7
 
 -- the node at index i
 unfoldable pub nodeAt : List ℤ → ℕ → Node
 nodeAt l i = record {
-  kind = getD l (i * 8) (pos 0);
-  c1 = getD l (i * 8 + 1) (pos 0);
-  c2 = getD l (i * 8 + 2) (pos 0);
-  c3 = getD l (i * 8 + 3) (pos 0);
-  c4 = getD l (i * 8 + 4) (pos 0);
-  constant = getD l (i * 8 + 5) (pos 0);
-  high = getD l (i * 8 + 6) (pos 0);
-  low = getD l (i * 8 + 7) (pos 0);
+  kind = getD l (i * node-words) (pos 0);
+  n = take numbers (drop (i * node-words + 1) l);
+  high = getD l (i * node-words + high-word) (pos 0);
+  low = getD l (i * node-words + low-word) (pos 0);
 }
+
+-- the words with s stored from index `at` on
+unfoldable pub storeL : List ℤ → ℕ → List ℤ → List ℤ
+storeL l at [] = l
+storeL l at (z ∷ s) = storeL (set l at z) (suc at) s
 
 -- the words with a node stored at index i
 unfoldable pub putAt : List ℤ → ℕ → Node → List ℤ
-putAt l i n =
-    set (set (set (set (set (set (set (set l (i * 8) (n .kind)) (i * 8 + 1) (n .c1)) (i * 8 + 2) (n .c2)) (i * 8 + 3) (n .c3)) (i * 8 + 4) (n .c4)) (i * 8 + 5) (n .constant)) (i * 8 + 6) (n .high)) (i * 8 + 7) (n .low)
+putAt l i x = set (set (storeL (set l (i * node-words) (x .kind)) (i * node-words + 1) (x .n)) (i * node-words + high-word) (x .high)) (i * node-words + low-word) (x .low)
 
 -- the answer says whether two nodes are equal
 pub data SameNode (x y : Node) : Bool → Type 0 where
   same : x ≡ y → SameNode x y true
   other : (x ≡ y → ⊥) → SameNode x y false
 
-unfoldable pub eqZ : ℤ → ℤ → Bool
-eqZ (pos a) (pos b) = eqb a b
-eqZ (pos a) (negsuc b) = false
-eqZ (negsuc a) (pos b) = false
-eqZ (negsuc a) (negsuc b) = eqb a b
-
 unfoldable pub eqN : Node → Node → Bool
-eqN x y = eqZ (x .kind) (y .kind) && (eqZ (x .c1) (y .c1) && (eqZ (x .c2) (y .c2) && (eqZ (x .c3) (y .c3) && (eqZ (x .c4) (y .c4) && (eqZ (x .constant) (y .constant) && (eqZ (x .high) (y .high) && eqZ (x .low) (y .low)))))))
+eqN x y = eqZ (x .kind) (y .kind) && (eqZ (x .high) (y .high) && (eqZ (x .low) (y .low) && eqL (x .n) (y .n)))
 
 -- the first index below n at which p holds, or n
 unfoldable pub firstAt : (ℕ → Bool) → ℕ → ℕ

@@ -1,11 +1,14 @@
 -- "Diagrams", first part: linears, tests and their order, diagrams as trees.
 use mathlib.Core.Bool.{Bool, true, false, _&&_}
 use mathlib.Core.List.{List, [], _∷_}
-use Prim.Native.Nat.{ℕ, _*_, compare, Ordering, Ordering·lt, Ordering·eq, Ordering·gt}
+use Prim.Native.Nat.{ℕ, compare, Ordering, Ordering·lt, Ordering·gt}
 use lib.Dec.{isEq, eqb}
 use lib.IntN.{ℤ, pos, negsuc, natAbs, _+ℤ_, _*ℤ_}
 use lib.Signed.{quotZ}
 use Rattle.whole.specs.Divisor.{gcdOf, gcd-all, at-least-one}
+-- number by number: the order, "smaller first", sums, products and quotients
+unfoldable pub use Rattle.whole.specs.Linears.{cmpList, addL, scaleL, quotL}
+pub use Rattle.whole.specs.Linears.{then, cmpZ}
 
 -- a linear: "five signed 32-bit numbers: coefficients of levels L1 to L4, then a constant"
 pub record Linear : Type 0 where
@@ -33,26 +36,6 @@ abbrev pub plain : Linear → Leaf
 plain p = record { lin = p; act = 0 }
 
 -- ---- "Order of tests: conditions 1 to 8, then linear tests by the coefficients of L1 to L4 and the constant, smaller first."
-
--- by the first order, where it is equal by the second
-abbrev pub then : Ordering → Ordering → Ordering
-then Ordering·lt o = Ordering·lt
-then Ordering·eq o = o
-then Ordering·gt o = Ordering·gt
-
--- signed numbers, "smaller first"
-abbrev pub cmpZ : ℤ → ℤ → Ordering
-cmpZ (pos a) (pos b) = compare a b
-cmpZ (pos a) (negsuc b) = Ordering·gt
-cmpZ (negsuc a) (pos b) = Ordering·lt
-cmpZ (negsuc a) (negsuc b) = compare b a
-
--- coefficient by coefficient
-unfoldable pub cmpList : List ℤ → List ℤ → Ordering
-cmpList [] [] = Ordering·eq
-cmpList [] (b ∷ bs) = Ordering·lt
-cmpList (a ∷ r) [] = Ordering·gt
-cmpList (a ∷ r) (b ∷ bs) = then (cmpZ a b) (cmpList r bs)
 
 -- "by the coefficients of L1 to L4 and the constant"
 unfoldable pub cmpLinear : Linear → Linear → Ordering
@@ -85,17 +68,6 @@ same (branch t h l) (branch u h′ l′) = isEq (cmp t u) && same h h′ && same
 
 -- ---- linears: each number of a result is one that a rule names
 
--- coefficients added
-unfoldable pub addL : List ℤ → List ℤ → List ℤ
-addL [] bs = bs
-addL (a ∷ r) [] = a ∷ r
-addL (a ∷ r) (b ∷ bs) = (a +ℤ b) ∷ addL r bs
-
--- coefficients times a number
-unfoldable pub scaleL : ℤ → List ℤ → List ℤ
-scaleL k [] = []
-scaleL k (a ∷ r) = (k *ℤ a) ∷ scaleL k r
-
 infixl 60 _⊞_ _⊟_
 infixl 61 _⊠_
 -- p + q
@@ -120,11 +92,6 @@ zeros [] = true
 zeros (a ∷ r) = isEq (cmpZ a (pos 0)) && zeros r
 
 -- ---- "A test is divided by the greatest common divisor of its five numbers."
-
--- coefficients divided
-unfoldable pub quotL : ℕ → List ℤ → List ℤ
-quotL g [] = []
-quotL g (a ∷ r) = quotZ a (pos g) ∷ quotL g r
 
 -- all numbers of a linear divided
 unfoldable pub quotient : ℕ → Linear → Linear

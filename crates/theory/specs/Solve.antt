@@ -6,7 +6,7 @@ use lib.Dec.{eqb, ltb}
 use lib.IntN.{ℤ, pos}
 use lib.ListN.{length, replicate}
 use Rattle.whole.specs.Cases.{if}
-use Rattle.theory.specs.Widths.{bytes-most, steps-most, nodes-most, node-words, conditions-most, levels-most}
+use Rattle.theory.specs.Widths.{bytes-most, steps-most, nodes-most, node-words, work-words, conditions-most, levels-most}
 use Rattle.theory.specs.Diagram.{Linear, Test, now, later, linear, Tree, leaf, branch, same}
 use Rattle.theory.specs.Computation.{done, stopped, run, enter-all, Solved, solved, refused, run-all}
 use Rattle.theory.specs.Stage.{all-stages}
@@ -16,7 +16,7 @@ use Rattle.theory.specs.Load.{load}
 
 -- "What the tables hold, N, is the least of node words ÷ 8, work words ÷ 8 and 65,535, rounded down."
 unfoldable pub room : ℕ → ℕ → ℕ
-room nodes work = min (nodes / node-words) (min (work / node-words) nodes-most)
+room nodes work = min (nodes / node-words) (min (work / work-words) nodes-most)
 
 -- loading is one operation, its place 0; then the stages
 unfoldable pub solve-in : ℕ → List ℕ → ℕ → Solved (List Tree)

@@ -49,6 +49,10 @@ nodes-most = 65535
 abbrev pub node-words : ℕ
 node-words = 8
 
+-- "work words ÷ 8"
+abbrev pub work-words : ℕ
+work-words = 8
+
 -- "30 name: action, 16 bytes"
 abbrev pub name-bytes : ℕ
 name-bytes = 16

@@ -15,7 +15,7 @@ use Rattle.theory.specs.Load.{Entry, action-of, model, model-of, site-at}
 use Rattle.theory.specs.Stage.{action-diagrams, all-diagrams, model-diagrams}
 use Rattle.theory.specs.laws.Valid.{among-out}
 use Rattle.theory.specs.laws.Loading.{Of-site, accepted-site, loaded-entries, model-loaded}
-use Rattle.diagrams.specs.Nodes.{none}
+use Rattle.diagrams.specs.Nodes.{blank}
 use Rattle.totals.specs.Planning.{actionSize, modelSize, actionOf}
 
 -- ---- the site
@@ -99,8 +99,8 @@ module _ (n m : ℕ) where
 -- ---- the parts of a row, anywhere in a list
 
 module _ (Q : List Tree) (row n m : ℕ) (x : Action) (Z : List Tree) (s : Sized n m x) (e : drop row Q ≡ action-diagrams x ++ Z) where
-  part-reward : getD Q row none ≡ x .reward
-  part-reward = ap (λ (k : ℕ). getD Q k none) (let z : row ≡ row + 0 = omega arith in z) ∙ (sym (getD-drop row Q 0 none) ∙ ap (λ (l : List Tree). getD l 0 none) e)
+  part-reward : getD Q row blank ≡ x .reward
+  part-reward = ap (λ (k : ℕ). getD Q k blank) (let z : row ≡ row + 0 = omega arith in z) ∙ (sym (getD-drop row Q 0 blank) ∙ ap (λ (l : List Tree). getD l 0 blank) e)
 
   part-drop : drop (row + 1) Q ≡ x .chances ++ (x .levels ++ Z)
   part-drop = sym (drop-drop 1 row Q) ∙ (ap (drop 1) e ∙ append-assoc (x .chances) (x .levels) Z)
@@ -131,7 +131,7 @@ model-even S E = even-map (S .conditions) (S .levels) (action-of S E) (action-si
 
 -- what stands at an action's row of roots that begin with the model's diagrams
 pub record Row (B : List ℕ) (Q : List Tree) (a : ℕ) : Type 0 where
-  pub reward : getD Q ((a - 1) * actionSize B) none ≡ actionOf B a .reward
+  pub reward : getD Q ((a - 1) * actionSize B) blank ≡ actionOf B a .reward
   pub chances : take (site-at B .conditions) (drop ((a - 1) * actionSize B + 1) Q) ≡ actionOf B a .chances
   pub levels : take (site-at B .levels) (drop ((a - 1) * actionSize B + 1 + site-at B .conditions) Q) ≡ actionOf B a .levels
   pub within : (a - 1) * actionSize B + actionSize B ≤ modelSize B

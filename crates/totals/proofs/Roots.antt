@@ -7,7 +7,7 @@ use lib.IntN.{ℤ}
 use lib.ListN.{length, getD, take, List·getD-append}
 use lib.Seq.{length-take-le, take-suc, take-at, getD-at}
 use Rattle.theory.specs.Diagram.{Tree}
-use Rattle.diagrams.specs.Nodes.{none, trees}
+use Rattle.diagrams.specs.Nodes.{blank, trees}
 use Rattle.mark.specs.Mark.{rootsOf, Below}
 use Rattle.solving.specs.Alike.{Alike, alike-sym, alike-trans, alike-eq, alike-cons, alike-last}
 use Rattle.solving.specs.Roots.{Rooted, rooted-front, roots-append, roots-length}
@@ -73,11 +73,11 @@ module _ {cap : ℕ} {l : List ℤ} {w : List ℕ} {n : ℕ} {R : List ℕ} {hel
   on-held : X ≡ Q ++ (F ∷ [])
   on-held = ap (heldTrees l n R) (one-more held) ∙ H .rooted .roots
 
-  pub on-one : (i : ℕ) → i < held → getD X i none ≡ getD Q i none
-  on-one i h = ap (λ (q : List Tree). getD q i none) on-held ∙ List·getD-append Q (F ∷ []) none i (let z = H .size in omega (arith, z, h))
+  pub on-one : (i : ℕ) → i < held → getD X i blank ≡ getD Q i blank
+  on-one i h = ap (λ (q : List Tree). getD q i blank) on-held ∙ List·getD-append Q (F ∷ []) blank i (let z = H .size in omega (arith, z, h))
 
-  pub on-last : getD X held none ≡ F
-  on-last = ap (λ (q : List Tree). getD q held none) on-held ∙ getD-at Q F [] none held (H .size)
+  pub on-last : getD X held blank ≡ F
+  on-last = ap (λ (q : List Tree). getD q held blank) on-held ∙ getD-at Q F [] blank held (H .size)
 
   pub on-front-of : take held X ≡ Q
   on-front-of = ap (take held) on-held ∙ take-at Q (F ∷ []) held (H .size)

@@ -11,7 +11,7 @@ use Rattle.theory.specs.Diagram.{Tree}
 use Rattle.theory.specs.Computation.{Comp, run-all}
 use Rattle.theory.specs.Rules.{expectation}
 use Rattle.theory.specs.Stage.{sum-out}
-use Rattle.diagrams.specs.Nodes.{none}
+use Rattle.diagrams.specs.Nodes.{blank}
 use Rattle.solving.specs.Alike.{Alike}
 use Rattle.solving.specs.Onward.{Works, Stops, answered-ok, answered-no}
 use Rattle.solving.specs.Steps.{sum-out-done}
@@ -79,15 +79,15 @@ module _ {cap : ℕ} {l₀ : List ℤ} {w₀ R₀ : List ℕ} {held first condit
     k-in : k < length ws
     k-in = let z = ws-length in omega (arith, z, h)
 
-    comp-is : compOf (heldTrees l (r .count) R (held + 1)) (Expect (first + k) (k + 1) held weights) ≡ expectation weights (getD ws k none) (suc k) F
+    comp-is : compOf (heldTrees l (r .count) R (held + 1)) (Expect (first + k) (k + 1) held weights) ≡ expectation weights (getD ws k blank) (suc k) F
     unfolding compOf
     comp-is =
         let X = heldTrees l (r .count) R (held + 1) in
         let z = I .from .ends in
-        let a : getD X (first + k) none ≡ getD ws k none = on-one (I .on) (first + k) (omega (arith, z, h)) ∙ (sym (getD-drop first Q k none) ∙ sym (getD-take conditions (drop first Q) k none h)) in
-        ap (λ (t : Tree). expectation weights t (k + 1) (getD X held none)) a
-        ∙ (ap (λ (j : ℕ). expectation weights (getD ws k none) j (getD X held none)) (let y : k + 1 ≡ suc k = omega arith in y)
-        ∙ ap (λ (t : Tree). expectation weights (getD ws k none) (suc k) t) (on-last (I .on)))
+        let a : getD X (first + k) blank ≡ getD ws k blank = on-one (I .on) (first + k) (omega (arith, z, h)) ∙ (sym (getD-drop first Q k blank) ∙ sym (getD-take conditions (drop first Q) k blank h)) in
+        ap (λ (t : Tree). expectation weights t (k + 1) (getD X held blank)) a
+        ∙ (ap (λ (j : ℕ). expectation weights (getD ws k blank) j (getD X held blank)) (let y : k + 1 ≡ suc k = omega arith in y)
+        ∙ ap (λ (t : Tree). expectation weights (getD ws k blank) (suc k) t) (on-last (I .on)))
 
     module _ {l′ : List ℤ} {w′ R′ : List ℕ} {r′ : Run} (O : Operated cap (r .peak) l (r .count) R (held + 1) held (Expect (first + k) (k + 1) held weights) l′ w′ R′ r′) where
       abbrev G : Tree
@@ -105,7 +105,7 @@ module _ {cap : ℕ} {l₀ : List ℤ} {w₀ R₀ : List ℕ} {held first condit
         };
         left = λ s K a.
             I .left s K a
-            ∙ (condition-done cap (r .peak) weights s K ws none (suc k) k F k-in (subst (λ (c : Comp Tree). Works cap (F ∷ K) c G (r′ .count)) comp-is (O .works ok (F ∷ K) (on-alike (I .on) a)))
+            ∙ (condition-done cap (r .peak) weights s K ws blank (suc k) k F k-in (subst (λ (c : Comp Tree). Works cap (F ∷ K) c G (r′ .count)) comp-is (O .works ok (F ∷ K) (on-alike (I .on) a)))
             ∙ (ap (λ (p : ℕ). run-all cap p (sum-out weights s K (suc (suc k)) (drop (suc k) ws) G)) (sym (O .peak))
             ∙ ap (λ (j : ℕ). run-all cap (r′ .peak) (sum-out weights s K (suc j) (drop j ws) G)) (let z : suc k ≡ k + 1 = omega arith in z)));
       }
@@ -114,7 +114,7 @@ module _ {cap : ℕ} {l₀ : List ℤ} {w₀ R₀ : List ℕ} {held first condit
       summing-stops off s = record {
         outcome = λ K a.
             I .left s K a
-            ∙ (condition-refused cap (r .peak) weights s K ws none (suc k) k F k-in (subst (λ (c : Comp Tree). Stops cap (F ∷ K) c (r′ .stop)) comp-is (O .stops off (F ∷ K) (on-alike (I .on) a)))
+            ∙ (condition-refused cap (r .peak) weights s K ws blank (suc k) k F k-in (subst (λ (c : Comp Tree). Stops cap (F ∷ K) c (r′ .stop)) comp-is (O .stops off (F ∷ K) (on-alike (I .on) a)))
             ∙ sym (answered-no (r′ .stop) s G (r′ .peak) off));
         rooted = λ e. absurd (off e);
       }

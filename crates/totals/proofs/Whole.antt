@@ -17,7 +17,7 @@ use Rattle.theory.specs.Meaning.{Action, power}
 use Rattle.theory.specs.Command.{byte-at}
 use Rattle.theory.specs.Load.{model, site-at}
 use Rattle.theory.specs.Stage.{sum-out, action-total}
-use Rattle.diagrams.specs.Nodes.{none}
+use Rattle.diagrams.specs.Nodes.{blank}
 use Rattle.loading.proofs.Places.{row-few}
 use Rattle.solving.specs.Alike.{Alike}
 use Rattle.solving.specs.Onward.{Works, Stops, works-run, stops-run, run-all-end, answered, answered-ok, answered-no, onward-ok, onward-no}
@@ -77,7 +77,7 @@ module _ {B : List ℕ} {cap : ℕ} {l : List ℤ} {w R : List ℕ} {r : Run} {h
   Q = heldTrees l (r .count) R held
 
   abbrev P : Tree
-  P = getD Q before none
+  P = getD Q before blank
 
   abbrev x : Action
   x = actionOf B action
@@ -124,20 +124,20 @@ module _ {B : List ℕ} {cap : ℕ} {l : List ℤ} {w R : List ℕ} {r : Run} {h
 pub record Replaced (B : List ℕ) (cap : ℕ) (l : List ℤ) (R : List ℕ) (r : Run) (held before stage action : ℕ) (l₁ : List ℤ) (w₁ R₁ : List ℕ) (s : Run) : Type 0 where
   pub on : On cap l₁ w₁ (s .count) R₁ held (heldTrees l (r .count) R held)
   pub left : (K : List Tree) → Alike (heldTrees l (r .count) R held) K
-      → run-all cap (r .peak) (action-total (model B) stage K (getD (heldTrees l (r .count) R held) before none) action (actionOf B action))
+      → run-all cap (r .peak) (action-total (model B) stage K (getD (heldTrees l (r .count) R held) before blank) action (actionOf B action))
       ≡ run-all cap (s .peak) (after-levels (model B) stage K action (actionOf B action) (rootAt l₁ (s .count) R₁ held))
 
 -- the conditions are summed out
 pub record Summed (B : List ℕ) (cap : ℕ) (l : List ℤ) (R : List ℕ) (r : Run) (held before stage action : ℕ) (l₂ : List ℤ) (w₂ R₂ : List ℕ) (e : Run) : Type 0 where
   pub on : On cap l₂ w₂ (e .count) R₂ held (heldTrees l (r .count) R held)
   pub left : (K : List Tree) → Alike (heldTrees l (r .count) R held) K
-      → run-all cap (r .peak) (action-total (model B) stage K (getD (heldTrees l (r .count) R held) before none) action (actionOf B action))
+      → run-all cap (r .peak) (action-total (model B) stage K (getD (heldTrees l (r .count) R held) before blank) action (actionOf B action))
       ≡ run-all cap (e .peak) (operation stage (rootAt l₂ (e .count) R₂ held ∷ K) (add-reward (power (model B) stage) (actionOf B action .reward) action (rootAt l₂ (e .count) R₂ held)) end)
 
 -- the total's outcome
 abbrev pub Total : List ℕ → ℕ → List ℤ → List ℕ → Run → ℕ → ℕ → ℕ → ℕ → List ℤ → List ℕ → List ℕ → Run → Type 0
 Total B cap l R r held before stage action l′ w′ R′ r′ = Ran cap (r .peak) l (r .count) R held stage
-    (λ K. action-total (model B) stage K (getD (heldTrees l (r .count) R held) before none) action (actionOf B action)) l′ w′ R′ r′
+    (λ K. action-total (model B) stage K (getD (heldTrees l (r .count) R held) before blank) action (actionOf B action)) l′ w′ R′ r′
 
 module _ {B : List ℕ} {cap : ℕ} {l : List ℤ} {w R : List ℕ} {r : Run} {held before stage action m n weights : ℕ} (t : Totals B cap l w R r held before stage action m n weights) where
   module _ {l₁ : List ℤ} {w₁ R₁ : List ℕ} {s : Run} (O : Operated cap (r .peak) l (r .count) R held held (Levels (row-at action n m + 1 + n) m before) l₁ w₁ R₁ s) where
@@ -224,9 +224,9 @@ module _ {B : List ℕ} {cap : ℕ} {l : List ℤ} {w R : List ℕ} {r : Run} {h
         let X = heldTrees l₂ (e .count) R₂ (held + 1) in
         let f = total-few t .row in
         let o = site t .same in
-        let d : getD X (row-at action n m) none ≡ x t .reward = on-one (D .on) (row-at action n m) (omega (arith, f)) ∙ (ap₂ (λ (j k : ℕ). getD (Q t) (row-at action j k) none) (t .conditions) (t .levels) ∙ row t .reward) in
+        let d : getD X (row-at action n m) blank ≡ x t .reward = on-one (D .on) (row-at action n m) (omega (arith, f)) ∙ (ap₂ (λ (j k : ℕ). getD (Q t) (row-at action j k) blank) (t .conditions) (t .levels) ∙ row t .reward) in
         let p : weights ^ (n * stage) ≡ power (model B) stage = ap₂ (λ (W k : ℕ). W ^ (k * stage)) (t .weigh ∙ sym (o .same-weights)) (t .conditions ∙ sym (o .same-conditions)) in
-        ap (λ (i : ℕ). add-reward i (getD X (row-at action n m) none) action (getD X held none)) p
+        ap (λ (i : ℕ). add-reward i (getD X (row-at action n m) blank) action (getD X held blank)) p
         ∙ ap₂ (λ (u v : Tree). add-reward (power (model B) stage) u action v) d (on-last (D .on))
 
     module _ {l₃ : List ℤ} {w₃ R₃ : List ℕ} {v : Run} (O : Operated cap (e .peak) l₂ (e .count) R₂ (held + 1) held (Reward (row-at action n m) held weights (n * stage) action) l₃ w₃ R₃ v) where

@@ -7,7 +7,7 @@ ghost use Rattle.theory.specs.Load.{site-at};
 ghost use Rattle.theory.specs.Load.{model as model-of};
 ghost use Rattle.theory.specs.Stage.{action-total};
 ghost use Rattle.theory.specs.Stage.{sum-out as summed};
-ghost use Rattle.diagrams.specs.Nodes.{none};
+ghost use Rattle.diagrams.specs.Nodes.{blank};
 ghost use lib.ListN.{getD};
 ghost use Rattle.operate.specs.Operation.{heldTrees, Standing};
 ghost use Rattle.totals.specs.Planning.{Ready, actionOf, rootAt, Ran};
@@ -74,7 +74,7 @@ pub fn total(
 ) -> Run
     requires { ⌜ Ready (now model) cap (now nodes) (now work) (run .count) (now roots) held × (run .stop ≡ 0) × (held + 1 ≤ length (now roots)) × (before < held) × (stage ≤ steps-most) × (1 ≤ action) × (action ≤ site-at (now model) .actions) ⌝ }
     ensures { λ r. ⌜ Ran cap (run .peak) (now (nodes .entry)) (run .count) (now (roots .entry)) held stage
-        (λ K. action-total (model-of (now (model .entry))) stage K (getD (heldTrees (now (nodes .entry)) (run .count) (now (roots .entry)) held) before none) action (actionOf (now (model .entry)) action))
+        (λ K. action-total (model-of (now (model .entry))) stage K (getD (heldTrees (now (nodes .entry)) (run .count) (now (roots .entry)) held) before blank) action (actionOf (now (model .entry)) action))
         (now (nodes .exit)) (now (work .exit)) (now (roots .exit)) r ⌝ }
 {
     let m = wide(command::byte_at(model, 1));

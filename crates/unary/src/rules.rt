@@ -10,6 +10,10 @@ ghost use Rattle.unary_node.specs.Acts.{Acts};
 ghost use Rattle.unary.specs.Picks.{Picks};
 use computed_cache::keep;
 use computed_cache::look;
+use diagrams::codes::COMPLEMENT;
+use diagrams::codes::NUMBER;
+use diagrams::codes::SCALE;
+use diagrams::codes::SHIFT;
 use diagrams::making::join;
 use table::Made;
 use unary_node::halves::high_half;
@@ -90,7 +94,7 @@ pub fn scale(
     requires { ⌜ Table ruleOf cap (now nodes) (now work) count × (f < count) ⌝ }
     ensures { λ r. ⌜ Ran ruleOf cap (now (nodes .entry)) (now (work .entry)) count (T.scale c (treeAt (now (nodes .entry)) count f)) (now (nodes .exit)) (now (work .exit)) r ⌝ }
 {
-    over(nodes, work, cap, count, 3, f, low_half(c), high_half(c))
+    over(nodes, work, cap, count, SCALE, f, low_half(c), high_half(c))
 }
 
 // The diagram f plus c.
@@ -105,7 +109,7 @@ pub fn shift(
     requires { ⌜ Table ruleOf cap (now nodes) (now work) count × (f < count) × Small c ⌝ }
     ensures { λ r. ⌜ Ran ruleOf cap (now (nodes .entry)) (now (work .entry)) count (T.shift c (treeAt (now (nodes .entry)) count f)) (now (nodes .exit)) (now (work .exit)) r ⌝ }
 {
-    over(nodes, work, cap, count, 4, f, low_half(c), high_half(c))
+    over(nodes, work, cap, count, SHIFT, f, low_half(c), high_half(c))
 }
 
 // weights − the weight diagram f.
@@ -120,7 +124,7 @@ pub fn complement(
     requires { ⌜ Table ruleOf cap (now nodes) (now work) count × (f < count) × (weights ≤ weights-most) ⌝ }
     ensures { λ r. ⌜ Ran ruleOf cap (now (nodes .entry)) (now (work .entry)) count (T.complement weights (treeAt (now (nodes .entry)) count f)) (now (nodes .exit)) (now (work .exit)) r ⌝ }
 {
-    over(nodes, work, cap, count, 5, f, weights, 0)
+    over(nodes, work, cap, count, COMPLEMENT, f, weights, 0)
 }
 
 // The diagram f, its leaves numbered with an action.
@@ -135,5 +139,5 @@ pub fn number(
     requires { ⌜ Table ruleOf cap (now nodes) (now work) count × (f < count) × (action ≤ actions-most) ⌝ }
     ensures { λ r. ⌜ Ran ruleOf cap (now (nodes .entry)) (now (work .entry)) count (T.number action (treeAt (now (nodes .entry)) count f)) (now (nodes .exit)) (now (work .exit)) r ⌝ }
 {
-    over(nodes, work, cap, count, 6, f, action, 0)
+    over(nodes, work, cap, count, NUMBER, f, action, 0)
 }

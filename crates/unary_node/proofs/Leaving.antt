@@ -4,16 +4,16 @@ use mathlib.Core.Bool.{true, false}
 use mathlib.Core.List.{List}
 use Prim.Native.Nat.{ℕ, _^_, _≤_, _<_}
 use native.Mathlib.Omega.{arith}
-use lib.IntN.{ℤ, pos}
+use lib.IntN.{ℤ, pos, _+ℤ_, _-ℤ_}
 use lib.Signed.{mag}
 use Rattle.whole.proofs.Signed.{R, back}
 use Rattle.table.specs.Table.{nodeAt, eqZ}
 use Rattle.table.specs.declared.Node.{Node}
 use Rattle.table.specs.declared.Made.{Made}
-use Rattle.theory.specs.Diagram.{Tree, leaf, plus-constant}
+use Rattle.theory.specs.Diagram.{Linear, Tree, leaf, plus-constant}
 use Rattle.theory.specs.Computation.{Comp, ret, make, run}
 use Rattle.theory.specs.Rules.{make-leaf, over, scale, shift, complement, number, leaf-scale, leaf-shift, leaf-complement, leaf-number}
-use Rattle.diagrams.specs.Nodes.{linOf, leafOf, treeOf, trees, treeAt, Nums, Valid, Plain}
+use Rattle.diagrams.specs.Nodes.{linOf, constantOf, leafOf, treeOf, trees, treeAt, Nums, Valid, Plain}
 use Rattle.diagrams.specs.Table.{Bare, Grew}
 use Rattle.diagrams.specs.Meaning.{cOf}
 use Rattle.diagrams.proofs.Trees.{tree-leaf, at-leaf}
@@ -21,6 +21,9 @@ use Rattle.diagrams.proofs.Outcomes.{grew-as, grew-like, grew-ret}
 use Rattle.diagrams.proofs.Judging.{nums-at}
 use Rattle.leaves.specs.Leaves.{AtLeaf, productNode, shiftNode, complementNode, numberNode}
 use Rattle.leaves.proofs.Sums.{product-run}
+use Rattle.leaves.proofs.Figures.{with-lin}
+use Rattle.whole.specs.Linears.{numbers}
+use lib.ListN.{length}
 use Rattle.unary_node.specs.Acts.{actOf, Acts, actedNode}
 use Rattle.unary_node.proofs.Acting.{by-op, side-leaf}
 
@@ -78,18 +81,18 @@ module _ (p q : ℕ) (x : Node) where
       (λ _. subst Plain (sym (acted-complement p q x refl)) plain-5)
       (λ h. absurd (omega arith)) (λ h. absurd (omega arith)) (λ h. absurd (omega arith))
 
-  module _ (N : ℕ) (X : List Tree) where
+  module _ (long : length (x .n) ≡ numbers) (N : ℕ) (X : List Tree) where
     run-3 : run N (make-leaf (linOf (productNode (cOf p q) x))) X ≡ run N (actOf 3 p q (leaf (leafOf x))) X
     unfolding leafOf actOf scale over leaf-scale
-    run-3 = product-run N (cOf p q) x X
+    run-3 = product-run N (cOf p q) x long X
 
     run-4 : run N (make-leaf (linOf (shiftNode (cOf p q) x))) X ≡ run N (actOf 4 p q (leaf (leafOf x))) X
     unfolding shiftNode linOf leafOf actOf shift over leaf-shift plus-constant
-    run-4 = refl
+    run-4 = ap (λ (p : Linear). run N (make-leaf p) X) (with-lin x (constantOf x +ℤ cOf p q) long)
 
     run-5 : run N (make-leaf (linOf (complementNode p x))) X ≡ run N (actOf 5 p q (leaf (leafOf x))) X
     unfolding complementNode linOf leafOf actOf complement over leaf-complement
-    run-5 = refl
+    run-5 = ap (λ (p : Linear). run N (make-leaf p) X) (with-lin x (pos p -ℤ constantOf x) long)
 
     acted-run : {op : ℕ} → 3 ≤ op → op ≤ 8 → op ≤ 5 → run N (make-leaf (linOf (actedNode op p q x))) X ≡ run N (actOf op p q (leaf (leafOf x))) X
     acted-run = by-op (λ (op : ℕ). op ≤ 5 → run N (make-leaf (linOf (actedNode op p q x))) X ≡ run N (actOf op p q (leaf (leafOf x))) X)
@@ -101,7 +104,7 @@ module _ (p q : ℕ) (x : Node) where
   number-valid : (n : ℕ) → Nums x → Valid (numberNode p x) n
   unfolding numberNode eqZ
   number-valid n s = record {
-    nums = record { c1 = s .c1; c2 = s .c2; c3 = s .c3; c4 = s .c4; constant = s .constant };
+    nums = s;
     high-nat = tt;
     low-nat = tt;
     leaf-low = λ _. refl;
@@ -140,7 +143,7 @@ module _ {cap : ℕ} {l : List ℤ} {w : List ℕ} {n : ℕ} (B : Bare cap l w n
 
     pub leaf-judged : op ≤ 5 → {l₁ : List ℤ} {w₁ : List ℕ} {r : Made} → Grew cap l w n (make-leaf (linOf y)) l₁ w₁ r → Grew cap l w n (actOf op p q (treeAt l n f)) l₁ w₁ r
     leaf-judged h S =
-        grew-as (as-act refl) (grew-like (acted-run p q x cap (trees l n) (A .from) (A .to) h) (grew-as (ap (λ (z : Node). make-leaf (linOf z)) ey) S))
+        grew-as (as-act refl) (grew-like (acted-run p q x (leaf-nums ex .long) cap (trees l n) (A .from) (A .to) h) (grew-as (ap (λ (z : Node). make-leaf (linOf z)) ey) S))
 
     six : op ≤ 6 → 5 < op → op ≡ 6
     six a b = omega arith

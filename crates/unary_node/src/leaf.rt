@@ -5,6 +5,10 @@ ghost use Rattle.diagrams.specs.Table.{Bare, Grew};
 ghost use Rattle.leaves.specs.Leaves.{AtLeaf};
 ghost use Rattle.unary_node.specs.Acts.{actedNode, actOf, Acts};
 use super::halves::number_of;
+use diagrams::codes::COMPLEMENT;
+use diagrams::codes::NUMBER;
+use diagrams::codes::SCALE;
+use diagrams::codes::SHIFT;
 use diagrams::making::intern;
 use diagrams::making::make_leaf;
 use leaves::changes::complemented;
@@ -19,16 +23,16 @@ fn acted(x: Node, op: usize, p: usize, q: usize) -> Node
     requires { ⌜ Nums x × Acts op p q ⌝ }
     ensures { λ r. ⌜ r ≡ actedNode op p q x ⌝ }
 {
-    if op == 3 {
+    if op == SCALE {
         return product(number_of(p, q), x);
     }
-    if op == 4 {
+    if op == SHIFT {
         return shifted(x, number_of(p, q));
     }
-    if op == 5 {
+    if op == COMPLEMENT {
         return complemented(x, p);
     }
-    if op == 6 {
+    if op == NUMBER {
         return numbered(x, p);
     }
     x
@@ -48,7 +52,7 @@ pub fn at_leaf(
     requires { ⌜ Bare cap (now nodes) (now work) count × Acts op p q × AtLeaf (now nodes) count f ⌝ }
     ensures { λ r. ⌜ Grew cap (now (nodes .entry)) (now (work .entry)) count (actOf op p q (treeAt (now (nodes .entry)) count f)) (now (nodes .exit)) (now (work .exit)) r ⌝ }
 {
-    if op > 6 {
+    if op > NUMBER {
         return Made {
             stop: 0,
             at: f,
@@ -56,7 +60,7 @@ pub fn at_leaf(
         };
     }
     let y = acted(table::get(nodes, f), op, p, q);
-    if op > 5 {
+    if op > COMPLEMENT {
         return intern(nodes, work, cap, count, y);
     }
     make_leaf(nodes, work, cap, count, y)

@@ -7,6 +7,7 @@ ghost use Rattle.diagrams.specs.Nodes.{At};
 ghost use Rattle.unary_node.specs.Acts.{wayBy, wayOf};
 use super::Way;
 use diagrams::Down;
+use diagrams::codes::YES_SIDE;
 use diagrams::tests::below;
 use diagrams::tests::later;
 use diagrams::tests::order;
@@ -16,7 +17,7 @@ pub fn way(d: Down, op: usize, o: usize) -> Way
     ensures { λ r. ⌜ r ≡ wayBy d op o ⌝ }
 {
     if o == 1 {
-        if op == 7 {
+        if op == YES_SIDE {
             return Way {
                 ends: d.ends,
                 picks: true,
@@ -46,7 +47,7 @@ pub fn way_at(nodes: &[i64], op: usize, f: usize, p: usize) -> Way
 {
     let x = table::get(nodes, f);
     let d = below(x);
-    if op < 7 {
+    if op < YES_SIDE {
         return way(d, op, 0);
     }
     let o = order(x, later(p));

@@ -15,6 +15,7 @@ use Rattle.table.proofs.Look.{split, eqN-true, eqN-refl, first-found, first-non
 use Rattle.table.proofs.Store.{put-length, put-other, put-same}
 use Rattle.table.specs.Table.{nodeAt, putAt, eqN, firstNode}
 use Rattle.table.specs.declared.Node.{Node}
+use Rattle.whole.specs.Linears.{numbers}
 use Rattle.unique.specs.Unique.{hashOf, lastOf, Hashed, Chained, Apart}
 
 -- ---- the last index in a bucket
@@ -129,7 +130,7 @@ module _ {cap : ℕ} {l : List ℤ} {w : List ℕ} {n : ℕ} (C : Chained cap l 
       go k q false d = d
 
   -- ---- the chains with x at n
-  module _ (r : ℕ) (er : r ≡ firstNode l x n) (nr : n ≤ r) (nc : n < cap) (b : ℕ) (eb : b ≡ hashOf cap x) (bc : b < cap) where
+  module _ (xn : length (x .n) ≡ numbers) (r : ℕ) (er : r ≡ firstNode l x n) (nr : n ≤ r) (nc : n < cap) (b : ℕ) (eb : b ≡ hashOf cap x) (bc : b < cap) where
     abbrev l′ : List ℤ
     l′ = putAt l n x
 
@@ -137,7 +138,7 @@ module _ {cap : ℕ} {l : List ℤ} {w : List ℕ} {n : ℕ} (C : Chained cap l 
     w′ = set (set w (cap + n) (getD w b 0)) b (n + 1)
 
     at-n : nodeAt l′ n ≡ x
-    at-n = put-same l n x (let q = C .words in omega arith)
+    at-n = put-same l n x (let q = C .words in omega arith) xn
 
     same-hash : (i : ℕ) → i < n → H cap l′ i ≡ H cap l i
     same-hash i q = ap (hashOf cap) (put-other l n x i q)

@@ -1,12 +1,12 @@
 -- Hash chains over a table's nodes. No outcome depends on them: they say where to look.
 use mathlib.Core.Path.{_≡_}
 use mathlib.Core.Bool.{Bool, true, false, cond}
-use mathlib.Core.List.{List}
+use mathlib.Core.List.{List, [], _∷_}
 use Prim.Native.Nat.{ℕ, zero, suc, _+_, _*_, _/_, _%_, _≤_, _<_}
 use lib.Dec.{eqb}
 use lib.IntN.{ℤ, natAbs}
 use lib.ListN.{length, getD}
-use Rattle.table.specs.Table.{nodeAt, internR, internW}
+use Rattle.table.specs.Table.{node-words, nodeAt, internR, internW}
 use Rattle.table.specs.declared.Made.{Made}
 use Rattle.table.specs.declared.Node.{Node}
 
@@ -14,11 +14,20 @@ use Rattle.table.specs.declared.Node.{Node}
 unfoldable pub shareOf : ℤ → ℕ → ℕ
 shareOf z k = (natAbs z % 4294967296 + natAbs z / 4294967296) * k % 4294967296
 
+-- the shares of the numbers, the first by the factor k, over the sum h
+unfoldable pub hashL : ℕ → ℕ → List ℤ → ℕ
+hashL h k [] = h
+hashL h k (z ∷ l) = hashL (h + shareOf z k) (k * 69069 % 2147483648) l
+
 unfoldable pub bucketOf : ℕ → ℕ → ℕ
 bucketOf s cap = s % 4294967296 * cap / 4294967296
 
 unfoldable pub hashOf : ℕ → Node → ℕ
-hashOf cap x = bucketOf (shareOf (x .kind) 1640531527 + shareOf (x .c1) 1367130551 + shareOf (x .c2) 2073287029 + shareOf (x .c3) 1181783497 + shareOf (x .c4) 1540483477 + shareOf (x .constant) 1013904223 + shareOf (x .high) 2024237689 + shareOf (x .low) 1812433253) cap
+hashOf cap x = bucketOf (hashL (shareOf (x .kind) 1640531527) 1367130551 (x .n) + shareOf (x .high) 2024237689 + shareOf (x .low) 1812433253) cap
+
+-- a node's work words: two for the chains, and six for the cache
+abbrev pub work-words : ℕ
+work-words = 8
 
 -- one more than the last index below n whose bucket is b, or 0
 unfoldable pub lastOf : (ℕ → ℕ) → ℕ → ℕ → ℕ
@@ -39,8 +48,8 @@ pub record Chained (cap : ℕ) (l : List ℤ) (w : List ℕ) (n : ℕ) : Type 0 
   pub some : 0 < cap
   pub few : cap ≤ 65535
   pub room : n ≤ cap
-  pub words : cap * 8 ≤ length l
-  pub works : cap * 8 ≤ length w
+  pub words : cap * node-words ≤ length l
+  pub works : cap * work-words ≤ length w
   pub hashed : Hashed cap l w n
   pub apart : Apart l n
 

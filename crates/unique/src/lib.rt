@@ -2,11 +2,15 @@
 // and the links at cap to 2 cap, each one more than an index, or 0.
 use table::Made;
 use table::Node;
+use whole::NUMBERS;
 use whole::limits::mag;
 ghost use mathlib.Core.Path.{_≡_};
 ghost use Prim.Native.Nat.{_≤_, _<_};
 ghost use Rattle.table.specs.Table.{firstNode};
 ghost use Rattle.unique.specs.Unique.{shareOf, bucketOf, hashOf, Chained, Entered};
+
+// A node's work words: two for the chains, and six for the cache.
+pub const WORK_WORDS: usize = 8;
 
 // One word's share in a hash: both halves of its magnitude, spread over 32 bits.
 fn share(z: i64, k: u64) -> u64
@@ -31,15 +35,19 @@ pub fn hash(x: Node, cap: usize) -> usize
     requires { ⌜ (0 < cap) × (cap ≤ 65535) ⌝ }
     ensures { λ r. ⌜ (r ≡ hashOf cap x) × (r < cap) ⌝ }
 {
-    let a = share(x.kind, 1640531527);
-    let b = share(x.c1, 1367130551);
-    let c = share(x.c2, 2073287029);
-    let d = share(x.c3, 1181783497);
-    let e = share(x.c4, 1540483477);
-    let f = share(x.constant, 1013904223);
-    let g = share(x.high, 2024237689);
-    let h = share(x.low, 1812433253);
-    bucket(a + b + c + d + e + f + g + h, cap)
+    let n = x.n;
+    let mut h = share(x.kind, 1640531527);
+    let mut k: u64 = 1367130551;
+    let mut i: usize = 0;
+    while i < NUMBERS {
+        let z = n[i];
+        h += share(z, k);
+        k = k * 69069 % 2147483648;
+        i += 1;
+    }
+    let a = share(x.high, 2024237689);
+    let b = share(x.low, 1812433253);
+    bucket(h + a + b, cap)
 }
 
 // The node that equals x, or count where there is none: along its bucket's chain.

@@ -4,7 +4,7 @@ use mathlib.Core.List.{List, []}
 use Prim.Native.Nat.{ℕ, suc, _+_, _*_, _≤_, _<_}
 use lib.IntN.{ℤ}
 use lib.ListN.{length, take, drop}
-use Rattle.theory.specs.Widths.{nodes-most, node-words}
+use Rattle.theory.specs.Widths.{nodes-most, node-words, work-words}
 use Rattle.theory.specs.Diagram.{Tree}
 use Rattle.theory.specs.Computation.{done, stopped, run}
 use Rattle.theory.specs.Load.{site-at, load, model}
@@ -25,7 +25,7 @@ pub record Room (cap : ℕ) (l : List ℤ) (w : List ℕ) : Type 0 where
   pub some : 0 < cap
   pub few : cap ≤ nodes-most
   pub words : cap * node-words ≤ length l
-  pub works : cap * node-words ≤ length w
+  pub works : cap * work-words ≤ length w
 
 -- what loading leaves, in whatever part of the room: nodes and the roots of the model's diagrams; or it stopped
 pub record Brought (B : List ℕ) (cap : ℕ) (l : List ℤ) (w R : List ℕ) (r : Done) : Type 0 where

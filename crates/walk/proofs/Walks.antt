@@ -13,12 +13,13 @@ use Rattle.whole.proofs.Signed.{R, small-back}
 use Rattle.table.specs.Table.{nodeAt, eqZ}
 use Rattle.table.specs.declared.Node.{Node}
 use Rattle.table.specs.declared.Made.{Made}
+use Rattle.theory.specs.Widths.{levels-most}
 use Rattle.theory.specs.Diagram.{Test, Tree, leaf, zeros, test-of}
 use Rattle.theory.specs.Computation.{Comp, ret}
 use Rattle.theory.specs.Rules.{over, choose, decide}
 use Rattle.diagrams.specs.declared.Down.{Down}
 use Rattle.diagrams.specs.declared.Sides.{Sides}
-use Rattle.diagrams.specs.Nodes.{linOf, leafOf, treeAt, Root}
+use Rattle.diagrams.specs.Nodes.{linOf, constantOf, leafOf, treeAt, Root}
 use Rattle.diagrams.specs.Table.{Table, Ran}
 use Rattle.computed_cache.specs.Cache.{Key}
 use Rattle.diagrams.specs.Meaning.{testIn, testBy, Names, ruleOf}
@@ -45,11 +46,11 @@ module _ {cap : ℕ} {l : List ℤ} {w : List ℕ} {n : ℕ} (A : Table ruleOf c
   abbrev y : Node
   y = nodeAt l f
 
-  pub decided-constant : c ≡ true → {k : ℕ} → k ≡ if (leZ (R (x .constant)) (pos 0)) g p → Decided l w (record { stop = 0; at = k; count = n })
+  pub decided-constant : c ≡ true → {k : ℕ} {v : ℤ} → v ≡ constantOf x → k ≡ if (leZ (R v) (pos 0)) g p → Decided l w (record { stop = 0; at = k; count = n })
   unfolding linOf
-  decided-constant q {k} e =
+  decided-constant q {k} {v} ev e =
       ran-as (sym (decide-constant (linOf y) (treeAt l n g) (treeAt l n p) (ap (λ (x : Node). zeros (linOf x .coeffs)) (sym ex) ∙ (sym ec ∙ q))))
-      (go (leZ (y .constant) (pos 0)) (e ∙ (ap (λ (x : Node). if (leZ (R (x .constant)) (pos 0)) g p) ex ∙ ap (λ (z : ℤ). if (leZ z (pos 0)) g p) (small-back (y .constant) (A .bare .good .valid f (F .below) .nums .constant)))))
+      (go (leZ (constantOf y) (pos 0)) (e ∙ ap (λ (z : ℤ). if (leZ z (pos 0)) g p) (ap R (ev ∙ ap constantOf ex) ∙ small-back (constantOf y) (A .bare .good .valid f (F .below) .nums .each levels-most))))
     where
       go : (b : Bool) → k ≡ if b g p → Ran ruleOf cap l w n (if b (ret (treeAt l n g)) (ret (treeAt l n p))) l w (record { stop = 0; at = k; count = n })
       go true e = subst (λ (j : ℕ). Ran ruleOf cap l w n (ret (treeAt l n g)) l w (record { stop = 0; at = j; count = n })) (sym e) (ran-ret A g hg)

@@ -12,7 +12,10 @@ use choice::choose;
 use computed_cache::keep;
 use computed_cache::look;
 use diagrams::Down;
+use diagrams::codes::CHOOSE_NAMED;
+use diagrams::codes::WALK;
 use diagrams::tests::below;
+use leaves::numbers::constant;
 use leaves::numbers::decided;
 use leaves::numbers::is_constant;
 use table::Made;
@@ -40,13 +43,14 @@ fn decide_at(
 {
     let x = table::get(nodes, f);
     if is_constant(x) {
+        let k = constant(x);
         return Made {
             stop: 0,
-            at: decided(x.constant, g, p),
+            at: decided(k, g, p),
             count,
         };
     }
-    choose(nodes, work, cap, count, 11, f, g, p)
+    choose(nodes, work, cap, count, CHOOSE_NAMED, f, g, p)
 }
 
 // Rule 9: the diagram at f walked, with g on the high side of its leaves and p on the low one. Only indexes live over the calls.
@@ -62,7 +66,7 @@ pub fn walk(
     requires { ⌜ Table ruleOf cap (now nodes) (now work) count × (f < count) × (g < count) × (p < count) ⌝ }
     ensures { λ r. ⌜ Ran ruleOf cap (now (nodes .entry)) (now (work .entry)) count (ruleOf (now (nodes .entry)) count 9 f g p 0) (now (nodes .exit)) (now (work .exit)) r ⌝ }
 {
-    let c = look(work, cap, 9, f, g, p, 0);
+    let c = look(work, cap, WALK, f, g, p, 0);
     if c != 0 {
         return Made {
             stop: 0,
@@ -82,10 +86,10 @@ pub fn walk(
     if l.stop != 0 {
         return l;
     }
-    let r = choose(nodes, work, cap, l.count, 11, f, h.at, l.at);
+    let r = choose(nodes, work, cap, l.count, CHOOSE_NAMED, f, h.at, l.at);
     if r.stop != 0 {
         return r;
     }
-    keep(work, cap, 9, f, g, p, 0, r.at);
+    keep(work, cap, WALK, f, g, p, 0, r.at);
     r
 }

@@ -13,7 +13,7 @@ use Rattle.whole.specs.Within.{limit, Small}
 use Rattle.whole.proofs.Euclid.{gcd-small}
 use Rattle.whole.proofs.Signed.{R, small-back}
 
-least-small : (g : ℕ) → g ≤ limit → at-least-one g ≤ limit
+pub least-small : (g : ℕ) → g ≤ limit → at-least-one g ≤ limit
 unfolding at-least-one
 least-small zero h = omega arith
 least-small (suc g) h = h
@@ -35,7 +35,7 @@ module _ (x : Five) (s : SmallFive x) where
   divisor-fits-as g e = rw e divisor-fits
 
 -- a quotient as it is read back
-part : (z : ℤ) → Small z → (g h : ℕ) → g ≡ h → (q : ℤ) → q ≡ quotZ (R z) (pos g) → R q ≡ quotZ z (pos h)
+pub part : (z : ℤ) → Small z → (g h : ℕ) → g ≡ h → (q : ℤ) → q ≡ quotZ (R z) (pos g) → R q ≡ quotZ z (pos h)
 part z s g h m q e =
     let k : q ≡ quotZ z (pos h) = e ∙ ap₂ (λ (y : ℤ) (n : ℕ). quotZ y (pos n)) (small-back z s) m in
     ap R k ∙ small-back (quotZ z (pos h)) (record { small = omega (arith, s .small, abs-quot z h) })

@@ -4,3 +4,7 @@ pub mod Laws
 pub mod Euclid
 pub mod Divided
 pub mod TwoWords
+pub mod Filled
+pub mod Clipped
+pub mod Comparing
+pub mod Loops

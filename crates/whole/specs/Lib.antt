@@ -3,9 +3,11 @@ pub mod Cases
 pub mod Int
 pub mod Divisor
 pub mod Within
+pub mod Linears
 pub mod Numerator
 pub mod Five
 pub mod Magnitude
 pub mod WithinLaws
 pub mod NumeratorLaws
 pub mod FiveLaws
+pub mod LinearsLaws

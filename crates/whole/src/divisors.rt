@@ -36,14 +36,14 @@ pub fn gcd_of_five(a: i64, b: i64, c: i64, d: i64, e: i64) -> u64
 }
 
 // What a test is divided by: 1 where all its numbers are 0.
-fn at_least_one(g: u64) -> u64
+pub fn at_least_one(g: u64) -> u64
     ensures { λ r. ⌜ r ≡ at-least-one g ⌝ }
 {
     if g == 0 { 1 } else { g }
 }
 
 // a divided by g, toward zero.
-fn quot(a: i64, g: u64) -> i64
+pub(crate) fn quot(a: i64, g: u64) -> i64
     requires { ⌜ (0 < g) × (g ≤ limit) ⌝ }
     ensures { λ r. ⌜ r ≡ quotZ a (pos g) ⌝ }
 {

@@ -1,7 +1,13 @@
 // Whole numbers within ±(2⁶² − 1), divisors, powers, and numerators in two words.
 pub mod limits; // limits.rt: sums, differences, products and powers, judged
 pub mod divisors; // divisors.rt: the greatest common divisor, and division by it
+pub mod linears; // linears.rt: lists of numbers, as a linear's are
 pub mod two_words; // two_words.rt: numerators in two words
+
+// The coefficients of a linear, and its numbers: the constant is the last.
+pub const COEFFICIENTS: usize = 4;
+
+pub const NUMBERS: usize = 5;
 
 pub enum Within {
     Is(i64),

@@ -2,6 +2,7 @@ use Prim.Native.Nat.{_+_}
 use native.Mathlib.Omega.{arith}
 use Rattle.table.proofs.Tests.{kind-yes, kind-no, nat-back, abs-of}
 use Rattle.arrange.proofs.Renumber.{leaf-stays, branch-moves}
+use borrow.Author.Needs.{needs}
 use Rattle.arrange.proofs.renumbered.Statement.{statement}
 use Rattle.arrange.proofs.renumbered.Tie as tie
 
@@ -11,27 +12,27 @@ returns c =
 
 index-requires : tie.Need-index-requires
 index-requires c κs =
-    nat-back ((c .before .before .before .before .before .before) .args .x .high) (c .before .before .before .before .struct-told .given .1 .1 .1 .1 .1 .1 .0 .1) ((c .before .before .before .before .before .before) .pre .2 .high-nat)
+    nat-back ((c .before .before .before .before .before .before) .args .x .high) (c .before .before .before .before .struct-told .given .1 .1 .0 .1) ((c .before .before .before .before .before .before) .pre .2 .high-nat)
 
 add-hi : tie.Need-add-hi
 add-hi c =
-    let e = abs-of ((c .before .before .before .before .before .before .before) .args .x .high) (c .before .before .before .before .before .struct-told .given .1 .1 .1 .1 .1 .1 .0 .1) (c .index .ensures) in let b = (c .before .before .before .before .before .before .before) .pre .2 .high-below (kind-no 0 ((c .before .before .before .before .before .before .before) .args .x .kind) (c .before .if1 .left)) in let f = (c .before .before .before .before .before .before .before) .pre .1 in omega arith
+    let e = abs-of ((c .before .before .before .before .before .before .before) .args .x .high) (c .before .before .before .before .before .struct-told .given .1 .1 .0 .1) (c .index .ensures) in let b = (c .before .before .before .before .before .before .before) .pre .2 .high-below (kind-no 0 ((c .before .before .before .before .before .before .before) .args .x .kind) (c .before .if1 .left)) in let f = (c .before .before .before .before .before .before .before) .pre .1 in omega arith
 
 index-requires-2 : tie.Need-index-requires-2
 index-requires-2 c κs =
-    nat-back ((c .before .before .before .before .before .before .before) .args .x .low) (c .before .before .before .before .before .struct-told .given .1 .1 .1 .1 .1 .1 .1 .0 .1) ((c .before .before .before .before .before .before .before) .pre .2 .low-nat)
+    nat-back ((c .before .before .before .before .before .before .before) .args .x .low) (c .before .before .before .before .before .struct-told .given .1 .1 .1 .0 .1) ((c .before .before .before .before .before .before .before) .pre .2 .low-nat)
 
 add-lo : tie.Need-add-lo
 add-lo c =
-    let e = abs-of ((c .before .before .before .before .before .before .before .before) .args .x .low) (c .before .before .before .before .before .before .struct-told .given .1 .1 .1 .1 .1 .1 .1 .0 .1) (c .index2 .ensures) in let b = (c .before .before .before .before .before .before .before .before) .pre .2 .low-below (kind-no 0 ((c .before .before .before .before .before .before .before .before) .args .x .kind) (c .before .before .if1 .left)) in let f = (c .before .before .before .before .before .before .before .before) .pre .1 in omega arith
+    let e = abs-of ((c .before .before .before .before .before .before .before .before) .args .x .low) (c .before .before .before .before .before .before .struct-told .given .1 .1 .1 .0 .1) (c .index2 .ensures) in let b = (c .before .before .before .before .before .before .before .before) .pre .2 .low-below (kind-no 0 ((c .before .before .before .before .before .before .before .before) .args .x .kind) (c .before .before .if1 .left)) in let f = (c .before .before .before .before .before .before .before .before) .pre .1 in omega arith
 
 mul-p : tie.Need-mul-p
 mul-p c =
-    let e = abs-of ((c .before .before .before .before .before .before .before .before) .args .x .high) (c .before .before .before .before .before .before .struct-told .given .1 .1 .1 .1 .1 .1 .0 .1) (c .before .index .ensures) in let b = (c .before .before .before .before .before .before .before .before) .pre .2 .high-below (kind-no 0 ((c .before .before .before .before .before .before .before .before) .args .x .kind) (c .before .before .if1 .left)) in let f = (c .before .before .before .before .before .before .before .before) .pre .1 in omega arith
+    let e = abs-of ((c .before .before .before .before .before .before .before .before) .args .x .high) (c .before .before .before .before .before .before .struct-told .given .1 .1 .0 .1) (c .before .index .ensures) in let b = (c .before .before .before .before .before .before .before .before) .pre .2 .high-below (kind-no 0 ((c .before .before .before .before .before .before .before .before) .args .x .kind) (c .before .before .if1 .left)) in let f = (c .before .before .before .before .before .before .before .before) .pre .1 in omega arith
 
 shared-slice-read-p : tie.Need-shared-slice-read-p
 shared-slice-read-p c =
-    let e = abs-of ((c .before .before .before .before .before .before .before .before .before) .args .x .high) (c .before .before .before .before .before .before .before .struct-told .given .1 .1 .1 .1 .1 .1 .0 .1) (c .before .before .index .ensures) in let b = (c .before .before .before .before .before .before .before .before .before) .pre .2 .high-below (kind-no 0 ((c .before .before .before .before .before .before .before .before .before) .args .x .kind) (c .before .before .before .if1 .left)) in let f = (c .before .before .before .before .before .before .before .before .before) .pre .0 in omega arith
+    let e = abs-of ((c .before .before .before .before .before .before .before .before .before) .args .x .high) (c .before .before .before .before .before .before .before .struct-told .given .1 .1 .0 .1) (c .before .before .index .ensures) in let b = (c .before .before .before .before .before .before .before .before .before) .pre .2 .high-below (kind-no 0 ((c .before .before .before .before .before .before .before .before .before) .args .x .kind) (c .before .before .before .if1 .left)) in let f = (c .before .before .before .before .before .before .before .before .before) .pre .0 in omega arith
 
 cast-p : tie.Need-cast-p
 cast-p c =
@@ -39,11 +40,11 @@ cast-p c =
 
 mul-q : tie.Need-mul-q
 mul-q c =
-    let e = abs-of ((c .before .before .before .before .before .before .before .before .before) .args .x .low) (c .before .before .before .before .before .before .before .struct-told .given .1 .1 .1 .1 .1 .1 .1 .0 .1) (c .before .index2 .ensures) in let b = (c .before .before .before .before .before .before .before .before .before) .pre .2 .low-below (kind-no 0 ((c .before .before .before .before .before .before .before .before .before) .args .x .kind) (c .before .before .before .if1 .left)) in let f = (c .before .before .before .before .before .before .before .before .before) .pre .1 in omega arith
+    let e = abs-of ((c .before .before .before .before .before .before .before .before .before) .args .x .low) (c .before .before .before .before .before .before .before .struct-told .given .1 .1 .1 .0 .1) (c .before .index2 .ensures) in let b = (c .before .before .before .before .before .before .before .before .before) .pre .2 .low-below (kind-no 0 ((c .before .before .before .before .before .before .before .before .before) .args .x .kind) (c .before .before .before .if1 .left)) in let f = (c .before .before .before .before .before .before .before .before .before) .pre .1 in omega arith
 
 shared-slice-read-q : tie.Need-shared-slice-read-q
 shared-slice-read-q c =
-    let e = abs-of ((c .before .before .before .before .before .before .before .before .before .before) .args .x .low) (c .before .before .before .before .before .before .before .before .struct-told .given .1 .1 .1 .1 .1 .1 .1 .0 .1) (c .before .before .index2 .ensures) in let b = (c .before .before .before .before .before .before .before .before .before .before) .pre .2 .low-below (kind-no 0 ((c .before .before .before .before .before .before .before .before .before .before) .args .x .kind) (c .before .before .before .before .if1 .left)) in let f = (c .before .before .before .before .before .before .before .before .before .before) .pre .0 in omega arith
+    let e = abs-of ((c .before .before .before .before .before .before .before .before .before .before) .args .x .low) (c .before .before .before .before .before .before .before .before .struct-told .given .1 .1 .1 .0 .1) (c .before .before .index2 .ensures) in let b = (c .before .before .before .before .before .before .before .before .before .before) .pre .2 .low-below (kind-no 0 ((c .before .before .before .before .before .before .before .before .before .before) .args .x .kind) (c .before .before .before .before .if1 .left)) in let f = (c .before .before .before .before .before .before .before .before .before .before) .pre .0 in omega arith
 
 cast-q : tie.Need-cast-q
 cast-q c =
@@ -51,10 +52,9 @@ cast-q c =
 
 returns-2 : tie.Need-returns-2
 returns-2 c =
-    branch-moves ((c .before .before .before .before .before .before .before .before .before .before .before) .args .work .now) ((c .before .before .before .before .before .before .before .before .before .before .before) .args .cap) ((c .before .before .before .before .before .before .before .before .before .before .before) .args .x) (kind-no 0 ((c .before .before .before .before .before .before .before .before .before .before .before) .args .x .kind) (c .before .before .before .before .before .if1 .left))
-    (record { kind = c .struct-told4 .given .0 .1; c1 = c .struct-told4 .given .1 .0 .1; c2 = c .struct-told4 .given .1 .1 .0 .1; c3 = c .struct-told4 .given .1 .1 .1 .0 .1; c4 = c .struct-told4 .given .1 .1 .1 .1 .0 .1; constant = c .struct-told4 .given .1 .1 .1 .1 .1 .0 .1; high = c .struct-told4 .given .1 .1 .1 .1 .1 .1 .0 .1; low = c .struct-told4 .given .1 .1 .1 .1 .1 .1 .1 .0 .1 })
-    (abs-of ((c .before .before .before .before .before .before .before .before .before .before .before) .args .x .high) (c .before .before .before .before .before .before .before .before .before .struct-told .given .1 .1 .1 .1 .1 .1 .0 .1) (c .before .before .before .before .index .ensures)) (abs-of ((c .before .before .before .before .before .before .before .before .before .before .before) .args .x .low) (c .before .before .before .before .before .before .before .before .before .struct-told .given .1 .1 .1 .1 .1 .1 .1 .0 .1) (c .before .before .before .index2 .ensures))
-    (c .before .before .shared-slice-known2 .given ((c .before .before .before .before .before .before .before .before .before .before .before) .args .cap + c .before .before .before .before .index .result) .fits) (c .before .shared-slice-known3 .given ((c .before .before .before .before .before .before .before .before .before .before .before) .args .cap + c .before .before .before .index2 .result) .fits)
+    branch-moves ((c .before .before .before .before .before .before .before .before .before .before) .args .work .now) ((c .before .before .before .before .before .before .before .before .before .before) .args .cap) ((c .before .before .before .before .before .before .before .before .before .before) .args .x) (kind-no 0 ((c .before .before .before .before .before .before .before .before .before .before) .args .x .kind) (c .before .before .before .before .if1 .left))
+    (abs-of ((c .before .before .before .before .before .before .before .before .before .before) .args .x .high) (c .before .before .before .before .before .before .before .before .struct-told .given .1 .1 .0 .1) (c .before .before .before .index .ensures)) (abs-of ((c .before .before .before .before .before .before .before .before .before .before) .args .x .low) (c .before .before .before .before .before .before .before .before .struct-told .given .1 .1 .1 .0 .1) (c .before .before .index2 .ensures))
+    (c .before .shared-slice-known2 .given ((c .before .before .before .before .before .before .before .before .before .before) .args .cap + c .before .before .before .index .result) .fits) (c .shared-slice-known3 .given ((c .before .before .before .before .before .before .before .before .before .before) .args .cap + c .before .before .index2 .result) .fits)
 
 pub renumbered-spec : {M : Type 1} → statement M
 renumbered-spec =

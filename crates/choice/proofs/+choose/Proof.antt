@@ -11,8 +11,6 @@ use Prim.Native.Nat.{ℕ, _+_, _<_}
 use borrow.Fn.Kinds.{In}
 use borrow.Fn.PlainCycle.{Measures, is, falls, and}
 use Prim.Native.Nat.{ℕ, _<_}
-use borrow.Fn.Kinds.{In}
-use borrow.Fn.PlainCycle.{Measures, is, falls, and}
 use Rattle.choice.proofs.choose.Reads as choose
 use Rattle.choice.proofs.choose.Kinds as choose-kinds
 use Rattle.choice.proofs.+choose.Lts-choose as choose-lts

@@ -9,8 +9,6 @@ use Prim.Native.Nat.{ℕ, _<_, _+_}
 use borrow.Fn.Kinds.{In}
 use borrow.Fn.PlainCycle.{Measures, is, falls, and}
 use Prim.Native.Nat.{ℕ, _<_}
-use borrow.Fn.Kinds.{In}
-use borrow.Fn.PlainCycle.{Measures, is, falls, and}
 use Rattle.commands_choice.proofs.choose_command.Reads as choose-command
 use Rattle.commands_choice.proofs.choose_command.Kinds as choose-command-kinds
 use Rattle.commands_choice.proofs.+choose_command.Lts-choose_command as choose-command-lts

@@ -4,12 +4,15 @@ use borrow.Author.Needs.{needs}
 use Rattle.commands_choice.proofs.condition.Statement.{statement}
 use Rattle.commands_choice.proofs.condition.Tie as tie
 
-cast-t2 : tie.Need-cast-t2
-cast-t2 c = search needs
+cast-number : tie.Need-cast-number
+cast-number c = search needs
+
+array-set-from-n : tie.Need-array-set-from-n
+array-set-from-n c = search needs
 
 returns : tie.Need-returns
 returns c =
     condition-stood (c .args .k) (c .pre .0) (c .pre .1)
 
 pub condition-spec : {M : Type 1} → statement M
-condition-spec = tie.close (tie.spec cast-t2 returns)
+condition-spec = tie.close (tie.spec cast-number array-set-from-n returns)

@@ -1,11 +1,35 @@
 -- `commands_choice::words` meets its contract.
-use Rattle.commands_choice.proofs.Tests.{words-of}
+use borrow.Author.Needs.{needs}
+use Rattle.commands_choice.specs.Testing.{wordsOf}
 use Rattle.commands_choice.proofs.words.Statement.{statement}
 use Rattle.commands_choice.proofs.words.Tie as tie
 
+array-set-from-n : tie.Need-array-set-from-n
+array-set-from-n c = search needs
+
+array-set-from-n-2 : tie.Need-array-set-from-n-2
+array-set-from-n-2 c = search needs
+
+array-set-from-n-3 : tie.Need-array-set-from-n-3
+array-set-from-n-3 c = search needs
+
+array-set-from-n-4 : tie.Need-array-set-from-n-4
+array-set-from-n-4 c = search needs
+
+array-set-from-n-5 : tie.Need-array-set-from-n-5
+array-set-from-n-5 c = search needs
+
 returns : tie.Need-returns
-returns c =
-    words-of ((c .before) .args .p) (c .struct-told .given .0 .1) (c .struct-told .given .1 .0 .1) (c .struct-told .given .1 .1 .0 .1) (c .struct-told .given .1 .1 .1 .0 .1) (c .struct-told .given .1 .1 .1 .1 .0 .1)
+unfolding wordsOf
+returns c = search needs
 
 pub words-spec : {M : Type 1} → statement M
-words-spec = tie.close (tie.spec returns)
+words-spec =
+    tie.close
+    (tie.spec
+    array-set-from-n
+    array-set-from-n-2
+    array-set-from-n-3
+    array-set-from-n-4
+    array-set-from-n-5
+    returns)

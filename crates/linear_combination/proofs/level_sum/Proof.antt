@@ -1,51 +1,68 @@
-use Rattle.linear_combination.proofs.Adding.{second-asks, third-asks, fourth-asks, levels-made}
+use mathlib.Core.Path.{_∙_}
+use native.Mathlib.Omega.{arith}
 use borrow.Author.Needs.{needs}
+use Rattle.table.proofs.Words.{back}
+use Rattle.diagrams.proofs.Going.{at-in}
+use Rattle.linear_combination.proofs.Adding.{levels-stop, levels-ask, levels-made}
 use Rattle.linear_combination.proofs.level_sum.Statement.{statement}
 use Rattle.linear_combination.proofs.level_sum.Tie as tie
 
-get-requires : tie.Need-get-requires
-get-requires c κs = search needs
+number-requires : tie.Need-number-requires
+number-requires c κs =
+    (at-in ((c .before .before .before) .args .i) ((c .before .before .before) .pre .0 .bare) ((c .before .before .before) .pre .1), omega arith)
+
+shared-slice-read-d : tie.Need-shared-slice-read-d
+shared-slice-read-d c =
+    (c .before .before .before .before .before) .pre .2 .some
+
+cast-d : tie.Need-cast-d
+cast-d c =
+    omega (arith, c .shared-slice-known2 .given 0)
 
 scale-requires : tie.Need-scale-requires
-scale-requires c κs = search needs
-
-add-level-requires : tie.Need-add-level-requires
-add-level-requires c κs =
-    let s = (c .before .before .before .before .before .before .before .before .before .before .before .before .before) in
-    second-asks (s .pre .0) (s .args .i) (s .pre .1) (s .pre .2) (c .before .before .before .before .before .before .before .before .before .before .get .ensures) (c .before .before .before .before .before .before .scale .ensures)
-
-add-level-requires-2 : tie.Need-add-level-requires-2
-add-level-requires-2 c κs =
-    let s = (c .before .before .before .before .before .before .before .before .before .before .before .before .before .before .before .before .before .before .before .before) in
-    third-asks (s .pre .0) (s .args .i) (s .pre .1) (s .pre .2) (c .before .before .before .before .before .before .before .before .before .before .before .before .before .before .before .before .before .get .ensures) (c .before .before .before .before .before .before .before .before .before .before .before .before .before .scale .ensures) (c .before .before .before .before .before .before .add-level .ensures)
-
-add-level-requires-3 : tie.Need-add-level-requires-3
-add-level-requires-3 c κs =
-    let s = (c .before .before .before .before .before .before .before .before .before .before .before .before .before .before .before .before .before .before .before .before .before .before .before .before .before .before .before) in
-    fourth-asks (s .pre .0) (s .args .i) (s .pre .1) (s .pre .2) (c .before .before .before .before .before .before .before .before .before .before .before .before .before .before .before .before .before .before .before .before .before .before .before .before .get .ensures) (c .before .before .before .before .before .before .before .before .before .before .before .before .before .before .before .before .before .before .before .before .scale .ensures) (c .before .before .before .before .before .before .before .before .before .before .before .before .before .add-level .ensures) (c .before .before .before .before .before .before .add-level2 .ensures)
+scale-requires c κs =
+    ((c .before .before .before .before .before .before .before) .pre .0, (c .before .before .before .before .before .before .before) .pre .2 .below 0)
 
 same-length : tie.Need-same-length
 same-length c =
-    search (needs, c .before .before .before .before .before .before .before .before .before .before .before .before .before .before .before .before .before .before .before .before .before .before .before .before .scale .kept, c .before .before .before .before .before .before .before .before .before .before .before .before .before .before .before .before .before .add-level .kept, c .before .before .before .before .before .before .before .before .before .before .add-level2 .kept, c .before .before .before .add-level3 .kept)
+    search needs
 
 same-length-2 : tie.Need-same-length-2
 same-length-2 c =
-    search (needs, c .before .before .before .before .before .before .before .before .before .before .before .before .before .before .before .before .before .before .before .before .before .before .before .before .scale .kept, c .before .before .before .before .before .before .before .before .before .before .before .before .before .before .before .before .before .add-level .kept, c .before .before .before .before .before .before .before .before .before .before .add-level2 .kept, c .before .before .before .add-level3 .kept)
+    search needs
 
 returns : tie.Need-returns
 returns c =
-    let s = (c .before .before .before .before .before .before .before .before .before .before .before .before .before .before .before .before .before .before .before .before .before .before .before .before .before .before .before .before .before .before .before) in
-    levels-made (s .pre .0) (s .args .i) (s .pre .1) (s .pre .2) (c .before .before .before .before .before .before .before .before .before .before .before .before .before .before .before .before .before .before .before .before .before .before .before .before .before .before .before .before .get .ensures) (c .before .before .before .before .before .before .before .before .before .before .before .before .before .before .before .before .before .before .before .before .before .before .before .before .scale .ensures) (c .before .before .before .before .before .before .before .before .before .before .before .before .before .before .before .before .before .add-level .ensures) (c .before .before .before .before .before .before .before .before .before .before .add-level2 .ensures) (c .before .before .before .add-level3 .ensures)
+    levels-stop ((c .before .before .before .before .before .before .before .before .before .before .before .before .before) .pre .0) ((c .before .before .before .before .before .before .before .before .before .before .before .before .before) .args .i) ((c .before .before .before .before .before .before .before .before .before .before .before .before .before) .pre .1) ((c .before .before .before .before .before .before .before .before .before .before .before .before .before) .pre .2) (back (c .before .before .before .before .before .before .before .before .before .number .result) (c .before .before .before .before .before .before .before .before .before .number .ok) ∙ c .before .before .before .before .before .before .before .before .before .number .ensures) (c .before .before .before .before .before .scale .ensures) (c .if1 .taken)
+
+add-levels-requires : tie.Need-add-levels-requires
+add-levels-requires c κs =
+    levels-ask ((c .before .before .before .before .before .before .before .before .before .before .before .before .before .before .before) .pre .0) ((c .before .before .before .before .before .before .before .before .before .before .before .before .before .before .before) .args .i) ((c .before .before .before .before .before .before .before .before .before .before .before .before .before .before .before) .pre .1) ((c .before .before .before .before .before .before .before .before .before .before .before .before .before .before .before) .pre .2) (back (c .before .before .before .before .before .before .before .before .before .before .before .number .result) (c .before .before .before .before .before .before .before .before .before .before .before .number .ok) ∙ c .before .before .before .before .before .before .before .before .before .before .before .number .ensures) (c .before .before .before .before .before .before .before .scale .ensures) (c .before .before .if1 .left)
+
+same-length-3 : tie.Need-same-length-3
+same-length-3 c =
+    search needs
+
+same-length-4 : tie.Need-same-length-4
+same-length-4 c =
+    search needs
+
+returns-2 : tie.Need-returns-2
+returns-2 c =
+    levels-made ((c .before .before .before .before .before .before .before .before .before .before .before .before .before .before .before .before .before .before .before) .pre .0) ((c .before .before .before .before .before .before .before .before .before .before .before .before .before .before .before .before .before .before .before) .args .i) ((c .before .before .before .before .before .before .before .before .before .before .before .before .before .before .before .before .before .before .before) .pre .1) ((c .before .before .before .before .before .before .before .before .before .before .before .before .before .before .before .before .before .before .before) .pre .2) (back (c .before .before .before .before .before .before .before .before .before .before .before .before .before .before .before .number .result) (c .before .before .before .before .before .before .before .before .before .before .before .before .before .before .before .number .ok) ∙ c .before .before .before .before .before .before .before .before .before .before .before .before .before .before .before .number .ensures) (c .before .before .before .before .before .before .before .before .before .before .before .scale .ensures) (c .before .before .before .before .before .before .if1 .left) (c .before .before .before .add-levels .ensures)
 
 pub level-sum-spec : {M : Type 1} → statement M
 level-sum-spec =
     tie.close
     (tie.spec
-    get-requires
+    number-requires
+    shared-slice-read-d
+    cast-d
     scale-requires
-    add-level-requires
-    add-level-requires-2
-    add-level-requires-3
     same-length
     same-length-2
-    returns)
+    returns
+    add-levels-requires
+    same-length-3
+    same-length-4
+    returns-2)

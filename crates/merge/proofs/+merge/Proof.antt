@@ -7,8 +7,6 @@ use Prim.Native.Nat.{ℕ, _<_, _+_}
 use borrow.Fn.Kinds.{In}
 use borrow.Fn.PlainCycle.{Measures, is, falls, and}
 use Prim.Native.Nat.{ℕ, _<_}
-use borrow.Fn.Kinds.{In}
-use borrow.Fn.PlainCycle.{Measures, is, falls, and}
 use Rattle.merge.proofs.merge.Reads as merge
 use Rattle.merge.proofs.merge.Kinds as merge-kinds
 use Rattle.merge.proofs.+merge.Lts-merge as merge-lts

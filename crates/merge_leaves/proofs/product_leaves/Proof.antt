@@ -1,4 +1,3 @@
-use Rattle.diagrams.proofs.Joining.{word-at}
 use Rattle.diagrams.proofs.Judging.{nums-at}
 use Rattle.merge_leaves.proofs.Combining.{plain-product, product-made}
 use borrow.Author.Needs.{needs}
@@ -6,14 +5,13 @@ use Rattle.merge_leaves.proofs.product_leaves.Statement.{statement}
 use Rattle.merge_leaves.proofs.product_leaves.Tie as tie
 
 get-requires : tie.Need-get-requires
-get-requires c κs =
-    let s = (c .before .before) in
-    word-at (s .args .f) (s .pre .0) (s .pre .1 .below)
+get-requires c κs = search needs
+
+constant-requires : tie.Need-constant-requires
+constant-requires c κs = search needs
 
 get-requires-2 : tie.Need-get-requires-2
-get-requires-2 c κs =
-    let s = (c .before .before .before .before) in
-    word-at (s .args .g) (s .pre .0) (s .pre .2 .below)
+get-requires-2 c κs = search needs
 
 product-requires : tie.Need-product-requires
 product-requires c κs = search needs
@@ -30,14 +28,14 @@ same-length-2 c = search needs
 
 returns : tie.Need-returns
 returns c =
-    let s = (c .before .before .before .before .before .before .before .before .before .before .before .before .before) in
-    product-made (s .args .f) (s .args .g) (c .before .before .before .before .before .before .product .result) (c .before .before .before .before .before .before .before .before .before .before .get .ensures) (c .before .before .before .before .before .before .before .before .get2 .ensures) (c .before .before .before .make-leaf .ensures) (nums-at (s .pre .0) (s .args .f) (s .pre .1 .below) (c .before .before .before .before .before .before .before .before .before .before .get .ensures)) (c .before .before .before .before .before .before .product .ensures)
+    let s = (c .before .before .before .before .before .before .before .before .before .before .before .before .before) in product-made (s .args .f) (s .args .g) (c .before .before .before .before .before .before .product .result) (c .before .before .before .before .before .before .before .before .before .before .get .ensures) (c .before .before .before .before .before .before .before .get2 .ensures) (nums-at (s .pre .0) (s .args .f) (s .pre .1 .below) (c .before .before .before .before .before .before .before .before .before .before .get .ensures)) (nums-at (s .pre .0) (s .args .g) (s .pre .2 .below) (c .before .before .before .before .before .before .before .get2 .ensures)) (c .before .before .before .make-leaf .ensures) (c .before .before .before .before .before .before .before .before .before .constant .ensures) (c .before .before .before .before .before .before .product .ensures)
 
 pub product-leaves-spec : {M : Type 1} → statement M
 product-leaves-spec =
     tie.close
     (tie.spec
     get-requires
+    constant-requires
     get-requires-2
     product-requires
     make-leaf-requires

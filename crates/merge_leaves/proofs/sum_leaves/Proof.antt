@@ -1,4 +1,3 @@
-use Rattle.diagrams.proofs.Joining.{word-at}
 use Rattle.diagrams.proofs.Judging.{nums-at}
 use Rattle.merge_leaves.proofs.Combining.{plain-sum, sum-made}
 use borrow.Author.Needs.{needs}
@@ -6,19 +5,14 @@ use Rattle.merge_leaves.proofs.sum_leaves.Statement.{statement}
 use Rattle.merge_leaves.proofs.sum_leaves.Tie as tie
 
 get-requires : tie.Need-get-requires
-get-requires c κs =
-    let s = (c .before .before) in
-    word-at (s .args .f) (s .pre .0) (s .pre .1 .below)
+get-requires c κs = search needs
 
 get-requires-2 : tie.Need-get-requires-2
-get-requires-2 c κs =
-    let s = (c .before .before .before .before) in
-    word-at (s .args .g) (s .pre .0) (s .pre .2 .below)
+get-requires-2 c κs = search needs
 
 plus-requires : tie.Need-plus-requires
 plus-requires c κs =
-    let s = (c .before .before .before .before .before) in
-    (nums-at (s .pre .0) (s .args .f) (s .pre .1 .below) (c .before .before .get .ensures), nums-at (s .pre .0) (s .args .g) (s .pre .2 .below) (c .get2 .ensures))
+    let s = (c .before .before .before .before .before) in (nums-at (s .pre .0) (s .args .f) (s .pre .1 .below) (c .before .before .get .ensures), nums-at (s .pre .0) (s .args .g) (s .pre .2 .below) (c .get2 .ensures))
 
 make-leaf-requires : tie.Need-make-leaf-requires
 make-leaf-requires c κs =
@@ -32,8 +26,7 @@ same-length-2 c = search needs
 
 returns : tie.Need-returns
 returns c =
-    let s = (c .before .before .before .before .before .before .before .before .before .before .before .before) in
-    sum-made (s .args .f) (s .args .g) (c .before .before .before .before .before .before .plus .result) (c .before .before .before .before .before .before .before .before .before .get .ensures) (c .before .before .before .before .before .before .before .get2 .ensures) (c .before .before .before .make-leaf .ensures) (c .before .before .before .before .before .before .plus .ensures)
+    let s = (c .before .before .before .before .before .before .before .before .before .before .before .before) in sum-made (s .args .f) (s .args .g) (c .before .before .before .before .before .before .plus .result) (c .before .before .before .before .before .before .before .before .before .get .ensures) (c .before .before .before .before .before .before .before .get2 .ensures) (nums-at (s .pre .0) (s .args .f) (s .pre .1 .below) (c .before .before .before .before .before .before .before .before .before .get .ensures)) (nums-at (s .pre .0) (s .args .g) (s .pre .2 .below) (c .before .before .before .before .before .before .before .get2 .ensures)) (c .before .before .before .make-leaf .ensures) (c .before .before .before .before .before .before .plus .ensures)
 
 pub sum-leaves-spec : {M : Type 1} → statement M
 sum-leaves-spec =

@@ -1,72 +1,73 @@
 use native.Mathlib.Omega.{arith}
-use Rattle.operate.proofs.Roots.{levels-ask, levels-ran}
 use borrow.Author.Needs.{needs}
+use Rattle.operate.proofs.Roots.{levels-ask, levels-ran}
 use Rattle.operate.proofs.replace_levels.Statement.{statement}
 use Rattle.operate.proofs.replace_levels.Tie as tie
 
-level-requires : tie.Need-level-requires
-level-requires c κs =
-    let s = (c .before .before) in
-    (s .pre .2 .0, s .pre .2 .1)
+mul-g : tie.Need-mul-g
+mul-g c =
+    let h = (c .before .before) .pre .2 .3 in omega arith
 
-level-requires-2 : tie.Need-level-requires-2
-level-requires-2 c κs =
-    let s = (c .before .before .before) in
-    (s .pre .2 .0, s .pre .2 .1)
+shared-slice-read-g : tie.Need-shared-slice-read-g
+shared-slice-read-g c =
+    (c .before .before .before) .pre .2 .3
 
-level-requires-3 : tie.Need-level-requires-3
-level-requires-3 c κs =
-    let s = (c .before .before .before .before) in
-    (s .pre .2 .0, s .pre .2 .1)
+cast-g : tie.Need-cast-g
+cast-g c =
+    omega (arith, c .shared-slice-known2 .given ((c .before .before .before) .args .f))
 
-level-requires-4 : tie.Need-level-requires-4
-level-requires-4 c κs =
-    let s = (c .before .before .before .before .before) in
-    (s .pre .2 .0, s .pre .2 .1)
+add-end : tie.Need-add-end
+add-end c =
+    let h = (c .before .before .before) .pre .2 .0 in omega arith
 
-mul-f1 : tie.Need-mul-f1
-mul-f1 c =
-    let s = (c .before .before .before .before .before .before) in
-    let h = s .pre .2 .3 in
-    omega arith
+mul-substitute : tie.Need-mul-substitute
+mul-substitute c =
+    let h = (c .before .before .before .before .before) .pre .2 .0 in omega arith
 
-shared-slice-read-f1 : tie.Need-shared-slice-read-f1
-shared-slice-read-f1 c =
-    let s = (c .before .before .before .before .before .before .before) in
-    s .pre .2 .3
+sub-substitute : tie.Need-sub-substitute
+sub-substitute c =
+    let h = (c .before .before .before .before .before) .pre .2 .0 in omega arith
 
-cast-f1 : tie.Need-cast-f1
-cast-f1 c = omega (arith, c .shared-slice-known2 .given (c .before .before .before .before .before .before .before .args .f))
+part-substitute-start : tie.Need-part-substitute-start
+part-substitute-start c =
+    let h = (c .before .before .before .before .before) .pre .2 .0 in omega arith
+
+part-substitute-end : tie.Need-part-substitute-end
+part-substitute-end c =
+    (c .before .before .before .before .before) .pre .2 .0
 
 substitute-requires : tie.Need-substitute-requires
 substitute-requires c κs =
-    let s = (c .before .before .before .before .before .before .before .before .before) in
+    let s = (c .before .before .before .before .before .before) in
     let a = s .args in
-    (s .pre .0, s .pre .1 .at (a .f) (s .pre .2 .3), levels-ask (a .roots .now) (a .at) (a .m) (c .before .before .before .before .before .before .level .ensures) (c .before .before .before .before .before .level2 .ensures) (c .before .before .before .before .level3 .ensures) (c .before .before .before .level4 .ensures) (s .pre .1) (s .pre .2))
+    (s .pre .0, s .pre .1 .at (a .f) (s .pre .2 .3), levels-ask (a .roots .now) (a .at) (a .m) (s .pre .2 .0) (s .pre .1) (s .pre .2 .1) (s .pre .2 .2))
 
 same-length : tie.Need-same-length
-same-length c = search needs
+same-length c =
+    search needs
 
 same-length-2 : tie.Need-same-length-2
-same-length-2 c = search needs
+same-length-2 c =
+    search needs
 
 returns : tie.Need-returns
 returns c =
-    let s = (c .before .before .before .before .before .before .before .before .before .before .before .before .before) in
+    let s = (c .before .before .before .before .before .before .before .before .before .before) in
     let a = s .args in
-    levels-ran (a .roots .now) (a .at) (a .m) (c .before .before .before .before .before .before .before .before .before .before .level .ensures) (c .before .before .before .before .before .before .before .before .before .level2 .ensures) (c .before .before .before .before .before .before .before .before .level3 .ensures) (c .before .before .before .before .before .before .before .level4 .ensures) (s .pre .2) (c .before .before .before .substitute .ensures)
+    levels-ran (a .roots .now) (a .at) (a .m) (s .pre .2 .0) (s .pre .2 .3) (c .before .before .before .substitute .ensures)
 
 pub replace-levels-spec : {M : Type 1} → statement M
 replace-levels-spec =
     tie.close
     (tie.spec
-    level-requires
-    level-requires-2
-    level-requires-3
-    level-requires-4
-    mul-f1
-    shared-slice-read-f1
-    cast-f1
+    mul-g
+    shared-slice-read-g
+    cast-g
+    add-end
+    mul-substitute
+    sub-substitute
+    part-substitute-start
+    part-substitute-end
     substitute-requires
     same-length
     same-length-2

@@ -7,7 +7,7 @@ mag-requires : tie.Need-mag-requires
 mag-requires c κs = search needs
 
 returns : tie.Need-returns
-returns c = abs-back (c .before .before .args .x .high) (record { sfits = c .before .struct-told .given .1 .1 .1 .1 .1 .1 .0 .1 }) (c .mag .ensures)
+returns c = abs-back (c .before .before .args .x .high) (record { sfits = c .before .struct-told .given .1 .1 .0 .1 }) (c .mag .ensures)
 
 pub high-spec : {M : Type 1} → statement M
 high-spec = tie.close (tie.spec mag-requires returns)

@@ -3,8 +3,11 @@ use borrow.Author.Needs.{needs}
 use Rattle.rules_main.proofs.leaf.Statement.{statement}
 use Rattle.rules_main.proofs.leaf.Tie as tie
 
-cast-t6 : tie.Need-cast-t6
-cast-t6 c = search needs
+cast-n : tie.Need-cast-n
+cast-n c = search needs
+
+array-set-from-n : tie.Need-array-set-from-n
+array-set-from-n c = search needs
 
 make-leaf-requires : tie.Need-make-leaf-requires
 make-leaf-requires c κs = search needs
@@ -20,4 +23,4 @@ returns c =
     held-grew ((c .before .before .before .before .before .before .before) .pre .0) (c .before .before .before .make-leaf .ensures)
 
 pub leaf-spec : {M : Type 1} → statement M
-leaf-spec = tie.close (tie.spec cast-t6 make-leaf-requires same-length same-length-2 returns)
+leaf-spec = tie.close (tie.spec cast-n array-set-from-n make-leaf-requires same-length same-length-2 returns)

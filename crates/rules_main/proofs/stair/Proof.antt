@@ -16,8 +16,14 @@ same-length-2 c = search needs
 returns : tie.Need-returns
 returns c = search needs
 
-cast-t14 : tie.Need-cast-t14
-cast-t14 c = search needs
+array-set-of-n : tie.Need-array-set-of-n
+array-set-of-n c = search needs
+
+cast-n : tie.Need-cast-n
+cast-n c = search needs
+
+array-set-from-n : tie.Need-array-set-from-n
+array-set-from-n c = search needs
 
 join-test-requires : tie.Need-join-test-requires
 join-test-requires c κs =
@@ -44,7 +50,9 @@ stair-spec =
     same-length
     same-length-2
     returns
-    cast-t14
+    array-set-of-n
+    cast-n
+    array-set-from-n
     join-test-requires
     same-length-3
     same-length-4

@@ -52,11 +52,10 @@ cast-low c =
 
 returns-2 : tie.Need-returns-2
 returns-2 c =
-    let s = (c .before .before .before .before .before .before .before .before) in let g = c .struct-told .given in
-    moved-branch (s .args .work .now) (s .args .cap) (s .args .x) (c .before .before .before .before .before .before .is-leaf .ensures) (c .before .before .before .before .before .if1 .left) (s .pre .2)
-    (record { kind = g .0 .1; c1 = g .1 .0 .1; c2 = g .1 .1 .0 .1; c3 = g .1 .1 .1 .0 .1; c4 = g .1 .1 .1 .1 .0 .1; constant = g .1 .1 .1 .1 .1 .0 .1; high = g .1 .1 .1 .1 .1 .1 .0 .1; low = g .1 .1 .1 .1 .1 .1 .1 .0 .1 })
-    (c .before .before .before .before .high .ensures) (c .before .before .before .low .ensures)
-    (c .before .before .shared-slice-known2 .given (s .args .cap + c .before .before .before .before .high .result) .fits) (c .before .shared-slice-known3 .given (s .args .cap + c .before .before .before .low .result) .fits)
+    let s = (c .before .before .before .before .before .before .before) in
+    moved-branch (s .args .work .now) (s .args .cap) (s .args .x) (c .before .before .before .before .before .is-leaf .ensures) (c .before .before .before .before .if1 .left) (s .pre .2)
+    (c .before .before .before .high .ensures) (c .before .before .low .ensures)
+    (c .before .shared-slice-known2 .given (s .args .cap + c .before .before .before .high .result) .fits) (c .shared-slice-known3 .given (s .args .cap + c .before .before .low .result) .fits)
 
 pub moved-spec : {M : Type 1} → statement M
 moved-spec =

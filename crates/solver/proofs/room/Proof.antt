@@ -1,6 +1,7 @@
 use mathlib.Core.Path.{ap, _∙_}
 use Prim.Native.Nat.{ℕ, _/_, min}
 use Rattle.theory.specs.Solve.{room}
+use Rattle.theory.specs.Widths.{node-words}
 use Rattle.solver.proofs.room.Statement.{statement}
 use Rattle.solver.proofs.room.Tie as tie
 
@@ -12,7 +13,7 @@ least-requires-2 c κs = tt
 
 returns : tie.Need-returns
 unfolding room
-returns c = c .least2 .ensures ∙ ap (λ (k : ℕ). min (c .before .before .args .nodes / 8) k) (c .before .least .ensures)
+returns c = c .least2 .ensures ∙ ap (λ (k : ℕ). min (c .before .before .args .nodes / node-words) k) (c .before .least .ensures)
 
 pub room-spec : {M : Type 1} → statement M
 room-spec = tie.close (tie.spec least-requires least-requires-2 returns)

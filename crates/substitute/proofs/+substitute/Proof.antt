@@ -1,43 +1,39 @@
 use native.Mathlib.Omega.{arith}
 use borrow.Author.Needs.{needs}
-use Rattle.diagrams.proofs.Caching.{room-in, keepable}
 use Rattle.diagrams.proofs.Going.{at-in}
-use Rattle.substitute.proofs.Substituting.{pair-asks, pair-asks-2, sub-key, sub-answered, sub-stored, sub-leaf, sub-tested, sub-high, sub-low, sub-head-stops, high-asks, sub-high-stops, low-asks, sub-low-stops, over-asks, sub-made}
+use Rattle.substitute.proofs.Substituting.{sub-asks, sub-answered, retain-asks, sub-stored, sub-leaf, sub-tested, sub-high, sub-low, sub-head-stops, high-asks, sub-high-stops, low-asks, sub-low-stops, over-asks, sub-made}
 use Prim.Native.Nat.{ℕ, _<_}
 use borrow.Fn.Kinds.{In}
 use borrow.Fn.PlainCycle.{Measures, is, falls, and}
 use Rattle.substitute.proofs.substitute.Reads as substitute
 use Rattle.substitute.proofs.substitute.Kinds as substitute-kinds
 use Rattle.substitute.proofs.+substitute.Lts-substitute as substitute-lts
-use Rattle.computed_cache.proofs.keep.Reads as keep-reads
-use Rattle.computed_cache.proofs.look.Reads as look-reads
+use Rattle.substitute.proofs.recall.Reads as recall-reads
+use Rattle.substitute.proofs.retain.Reads as retain-reads
 use Rattle.substitute.proofs.condition_at.Reads as condition-at-reads
 use Rattle.substitute.proofs.head.Reads as head-reads
 use Rattle.substitute.proofs.over_test.Reads as over-test-reads
-use Rattle.substitute.proofs.pair_of.Reads as pair-of-reads
 use Rattle.linear_combination.proofs.linear_diagram.Reads as linear-diagram-reads
 use Rattle.walk.proofs.down_at.Reads as down-at-reads
 use Rattle.substitute.proofs.+substitute.{statement}
 use Rattle.substitute.proofs.+substitute.Tie.{close}
 
-abbrev μ-substitute : Measures 2 substitute-kinds.ps ℕ
+abbrev μ-substitute : Measures 3 substitute-kinds.ps ℕ
 μ-substitute κs a = a .1 .1 .1 .1 .0
 
-abbrev substitute-at : ℕ → In 2 substitute-kinds.ps
+abbrev substitute-at : ℕ → In 3 substitute-kinds.ps
 substitute-at t =
-    and 2 substitute-kinds.ps (is 2 substitute-kinds.ps μ-substitute t) substitute.Pre
+    and 3 substitute-kinds.ps (is 3 substitute-kinds.ps μ-substitute t) substitute.Pre
 
-abbrev substitute-below : ℕ → In 2 substitute-kinds.ps
+abbrev substitute-below : ℕ → In 3 substitute-kinds.ps
 substitute-below t =
-    and 2 substitute-kinds.ps (falls 2 substitute-kinds.ps _<_ μ-substitute t) substitute.Pre
+    and 3 substitute-kinds.ps (falls 3 substitute-kinds.ps _<_ μ-substitute t) substitute.Pre
 
 -- the contracts that `substitute` calls by, itself at a smaller measure
 abbrev substitute-claims : ℕ → substitute-lts.Claims
 substitute-claims t = (
-  pair-of-reads.Asked,
-  pair-of-reads.Learnt,
-  look-reads.Asked,
-  look-reads.Learnt,
+  recall-reads.Asked,
+  recall-reads.Learnt,
   down-at-reads.Asked,
   down-at-reads.Learnt,
   linear-diagram-reads.Asked,
@@ -50,27 +46,17 @@ substitute-claims t = (
   substitute.Post,
   over-test-reads.Asked,
   over-test-reads.Learnt,
-  keep-reads.Asked,
-  keep-reads.Learnt,
+  retain-reads.Asked,
+  retain-reads.Learnt,
 )
 
-substitute-pair-of-requires : (t : ℕ) → substitute-lts.Need-pair-of-requires (substitute-claims t) (substitute-at t) substitute.Post
-substitute-pair-of-requires t c κs =
-    let s = (c .before) in
-    pair-asks (s .pre .1 .0) (s .args .f) (s .pre .1 .1) (s .pre .1 .2)
+substitute-recall-requires : (t : ℕ) → substitute-lts.Need-recall-requires (substitute-claims t) (substitute-at t) substitute.Post
+substitute-recall-requires t c κs =
+    let s = (c .before .before .before) in
+    sub-asks (s .pre .1 .0) (s .args .f) (s .pre .1 .1) (s .pre .1 .2)
 
-substitute-pair-of-requires-2 : (t : ℕ) → substitute-lts.Need-pair-of-requires-2 (substitute-claims t) (substitute-at t) substitute.Post
-substitute-pair-of-requires-2 t c κs =
-    let s = (c .before .before) in
-    pair-asks-2 (s .pre .1 .0) (s .args .f) (s .pre .1 .1) (s .pre .1 .2)
-
-substitute-look-requires : (t : ℕ) → substitute-lts.Need-look-requires (substitute-claims t) (substitute-at t) substitute.Post
-substitute-look-requires t c κs =
-    let s = (c .before .before .before .before) in
-    (room-in (s .pre .1 .0), sub-key (s .pre .1 .0) (s .args .f) (s .pre .1 .1) (s .pre .1 .2) (c .before .before .pair-of .ensures) (c .before .pair-of2 .ensures))
-
-substitute-sub-t23 : (t : ℕ) → substitute-lts.Need-sub-t23 (substitute-claims t) (substitute-at t) substitute.Post
-substitute-sub-t23 t c =
+substitute-sub-t17 : (t : ℕ) → substitute-lts.Need-sub-t17 (substitute-claims t) (substitute-at t) substitute.Post
+substitute-sub-t17 t c =
     omega arith
 
 substitute-same-length : (t : ℕ) → substitute-lts.Need-same-length (substitute-claims t) (substitute-at t) substitute.Post
@@ -79,17 +65,17 @@ substitute-same-length t c =
 
 substitute-returns : (t : ℕ) → substitute-lts.Need-returns (substitute-claims t) (substitute-at t) substitute.Post
 substitute-returns t c =
-    let s = (c .before .before .before .before .before .before) in
-    sub-answered (s .pre .1 .0) (s .args .f) (s .pre .1 .1) (s .pre .1 .2) (c .before .before .before .before .pair-of .ensures) (c .before .before .before .pair-of2 .ensures) _ (c .before .look .ensures (c .if1 .taken))
+    let s = (c .before .before .before .before .before) in
+    sub-answered (s .pre .1 .0) (s .args .f) (s .pre .1 .1) (s .pre .1 .2) _ (c .before .recall .ensures (c .if1 .taken))
 
 substitute-down-at-requires : (t : ℕ) → substitute-lts.Need-down-at-requires (substitute-claims t) (substitute-at t) substitute.Post
 substitute-down-at-requires t c κs =
-    let s = (c .before .before .before .before .before .before .before) in
+    let s = (c .before .before .before .before .before .before) in
     at-in (s .args .f) (s .pre .1 .0 .bare) (s .pre .1 .1)
 
 substitute-linear-diagram-requires : (t : ℕ) → substitute-lts.Need-linear-diagram-requires (substitute-claims t) (substitute-at t) substitute.Post
 substitute-linear-diagram-requires t c κs =
-    let s = (c .before .before .before .before .before .before .before .before .before .before .before) in
+    let s = (c .before .before .before .before .before .before .before .before .before .before) in
     (s .pre .1 .0, s .pre .1 .1, s .pre .1 .2)
 
 substitute-same-length-2 : (t : ℕ) → substitute-lts.Need-same-length-2 (substitute-claims t) (substitute-at t) substitute.Post
@@ -102,17 +88,17 @@ substitute-same-length-3 t c =
 
 substitute-returns-2 : (t : ℕ) → substitute-lts.Need-returns-2 (substitute-claims t) (substitute-at t) substitute.Post
 substitute-returns-2 t c =
-    let s = (c .before .before .before .before .before .before .before .before .before .before .before .before .before .before .before) in
+    let s = (c .before .before .before .before .before .before .before .before .before .before .before .before .before .before) in
     sub-leaf (s .pre .1 .0) (s .args .f) (s .pre .1 .1) (s .pre .1 .2) (c .before .before .before .before .before .before .before .down-at .ensures) (c .before .before .before .before .before .before .if2 .taken) (c .before .before .before .linear-diagram .ensures)
 
 substitute-condition-at-requires : (t : ℕ) → substitute-lts.Need-condition-at-requires (substitute-claims t) (substitute-at t) substitute.Post
 substitute-condition-at-requires t c κs =
-    let s = (c .before .before .before .before .before .before .before .before .before .before) in
+    let s = (c .before .before .before .before .before .before .before .before .before) in
     (at-in (s .args .f) (s .pre .1 .0 .bare) (s .pre .1 .1), λ e. sub-tested (s .pre .1 .0) (s .args .f) (s .pre .1 .1) (s .pre .1 .2) (c .before .before .down-at .ensures) (c .before .if2 .left) .number e)
 
 substitute-head-requires : (t : ℕ) → substitute-lts.Need-head-requires (substitute-claims t) (substitute-at t) substitute.Post
 substitute-head-requires t c κs =
-    let s = (c .before .before .before .before .before .before .before .before .before .before .before .before .before) in
+    let s = (c .before .before .before .before .before .before .before .before .before .before .before .before) in
     (s .pre .1 .0, s .pre .1 .1, s .pre .1 .2)
 
 substitute-same-length-4 : (t : ℕ) → substitute-lts.Need-same-length-4 (substitute-claims t) (substitute-at t) substitute.Post
@@ -125,12 +111,12 @@ substitute-same-length-5 t c =
 
 substitute-returns-3 : (t : ℕ) → substitute-lts.Need-returns-3 (substitute-claims t) (substitute-at t) substitute.Post
 substitute-returns-3 t c =
-    let s = (c .before .before .before .before .before .before .before .before .before .before .before .before .before .before .before .before .before .before .before) in
+    let s = (c .before .before .before .before .before .before .before .before .before .before .before .before .before .before .before .before .before .before) in
     sub-head-stops (s .pre .1 .0) (s .args .f) (s .pre .1 .1) (s .pre .1 .2) (c .before .before .before .before .before .before .before .before .before .before .before .down-at .ensures) (c .before .before .before .before .before .before .before .before .before .before .if2 .left) (c .before .before .before .before .before .before .before .before .condition-at .ensures) (c .before .before .before .before .before .head .ensures) (c .if3 .taken)
 
 substitute-substitute-requires : (t : ℕ) → substitute-lts.Need-substitute-requires (substitute-claims t) (substitute-at t) substitute.Post
 substitute-substitute-requires t c κs =
-    let s = (c .before .before .before .before .before .before .before .before .before .before .before .before .before .before .before .before .before .before .before .before .before) in
+    let s = (c .before .before .before .before .before .before .before .before .before .before .before .before .before .before .before .before .before .before .before .before) in
     (omega (arith, sub-high (s .pre .1 .0) (s .args .f) (s .pre .1 .1) (s .pre .1 .2) (c .before .before .before .before .before .before .before .before .before .before .before .before .before .down-at .ensures) (c .before .before .before .before .before .before .before .before .before .before .before .before .if2 .left), s .pre .0), high-asks (s .pre .1 .0) (s .args .f) (s .pre .1 .1) (s .pre .1 .2) (c .before .before .before .before .before .before .before .before .before .before .before .before .before .down-at .ensures) (c .before .before .before .before .before .before .before .before .before .before .before .before .if2 .left) (c .before .before .before .before .before .before .before .before .before .before .condition-at .ensures) (c .before .before .before .before .before .before .before .head .ensures))
 
 substitute-same-length-6 : (t : ℕ) → substitute-lts.Need-same-length-6 (substitute-claims t) (substitute-at t) substitute.Post
@@ -143,12 +129,12 @@ substitute-same-length-7 t c =
 
 substitute-returns-4 : (t : ℕ) → substitute-lts.Need-returns-4 (substitute-claims t) (substitute-at t) substitute.Post
 substitute-returns-4 t c =
-    let s = (c .before .before .before .before .before .before .before .before .before .before .before .before .before .before .before .before .before .before .before .before .before .before .before .before .before .before .before) in
+    let s = (c .before .before .before .before .before .before .before .before .before .before .before .before .before .before .before .before .before .before .before .before .before .before .before .before .before .before) in
     sub-high-stops (s .pre .1 .0) (s .args .f) (s .pre .1 .1) (s .pre .1 .2) (c .before .before .before .before .before .before .before .before .before .before .before .before .before .before .before .before .before .before .before .down-at .ensures) (c .before .before .before .before .before .before .before .before .before .before .before .before .before .before .before .before .before .before .if2 .left) (c .before .before .before .before .before .before .before .before .before .before .before .before .before .before .before .before .condition-at .ensures) (c .before .before .before .before .before .before .before .before .before .before .before .before .before .head .ensures) (c .before .before .before .before .before .before .before .before .if3 .left) (c .before .before .before .before .before .substitute .ensures) (c .if4 .taken)
 
 substitute-substitute-requires-2 : (t : ℕ) → substitute-lts.Need-substitute-requires-2 (substitute-claims t) (substitute-at t) substitute.Post
 substitute-substitute-requires-2 t c κs =
-    let s = (c .before .before .before .before .before .before .before .before .before .before .before .before .before .before .before .before .before .before .before .before .before .before .before .before .before .before .before .before .before) in
+    let s = (c .before .before .before .before .before .before .before .before .before .before .before .before .before .before .before .before .before .before .before .before .before .before .before .before .before .before .before .before) in
     (omega (arith, sub-low (s .pre .1 .0) (s .args .f) (s .pre .1 .1) (s .pre .1 .2) (c .before .before .before .before .before .before .before .before .before .before .before .before .before .before .before .before .before .before .before .before .before .down-at .ensures) (c .before .before .before .before .before .before .before .before .before .before .before .before .before .before .before .before .before .before .before .before .if2 .left), s .pre .0), low-asks (s .pre .1 .0) (s .args .f) (s .pre .1 .1) (s .pre .1 .2) (c .before .before .before .before .before .before .before .before .before .before .before .before .before .before .before .before .before .before .before .before .before .down-at .ensures) (c .before .before .before .before .before .before .before .before .before .before .before .before .before .before .before .before .before .before .before .before .if2 .left) (c .before .before .before .before .before .before .before .before .before .before .before .before .before .before .before .before .before .before .condition-at .ensures) (c .before .before .before .before .before .before .before .before .before .before .before .before .before .before .before .head .ensures) (c .before .before .before .before .before .before .before .before .before .before .if3 .left) (c .before .before .before .before .before .before .before .substitute .ensures))
 
 substitute-same-length-8 : (t : ℕ) → substitute-lts.Need-same-length-8 (substitute-claims t) (substitute-at t) substitute.Post
@@ -161,12 +147,12 @@ substitute-same-length-9 t c =
 
 substitute-returns-5 : (t : ℕ) → substitute-lts.Need-returns-5 (substitute-claims t) (substitute-at t) substitute.Post
 substitute-returns-5 t c =
-    let s = (c .before .before .before .before .before .before .before .before .before .before .before .before .before .before .before .before .before .before .before .before .before .before .before .before .before .before .before .before .before .before .before .before .before .before .before) in
+    let s = (c .before .before .before .before .before .before .before .before .before .before .before .before .before .before .before .before .before .before .before .before .before .before .before .before .before .before .before .before .before .before .before .before .before .before) in
     sub-low-stops (s .pre .1 .0) (s .args .f) (s .pre .1 .1) (s .pre .1 .2) (c .before .before .before .before .before .before .before .before .before .before .before .before .before .before .before .before .before .before .before .before .before .before .before .before .before .before .before .down-at .ensures) (c .before .before .before .before .before .before .before .before .before .before .before .before .before .before .before .before .before .before .before .before .before .before .before .before .before .before .if2 .left) (c .before .before .before .before .before .before .before .before .before .before .before .before .before .before .before .before .before .before .before .before .before .before .before .before .condition-at .ensures) (c .before .before .before .before .before .before .before .before .before .before .before .before .before .before .before .before .before .before .before .before .before .head .ensures) (c .before .before .before .before .before .before .before .before .before .before .before .before .before .before .before .before .if3 .left) (c .before .before .before .before .before .before .before .before .before .before .before .before .before .substitute .ensures) (c .before .before .before .before .before .before .before .before .if4 .left) (c .before .before .before .before .before .substitute2 .ensures) (c .if5 .taken)
 
 substitute-over-test-requires : (t : ℕ) → substitute-lts.Need-over-test-requires (substitute-claims t) (substitute-at t) substitute.Post
 substitute-over-test-requires t c κs =
-    let s = (c .before .before .before .before .before .before .before .before .before .before .before .before .before .before .before .before .before .before .before .before .before .before .before .before .before .before .before .before .before .before .before .before .before .before .before .before .before) in
+    let s = (c .before .before .before .before .before .before .before .before .before .before .before .before .before .before .before .before .before .before .before .before .before .before .before .before .before .before .before .before .before .before .before .before .before .before .before .before) in
     over-asks (s .pre .1 .0) (s .args .f) (s .pre .1 .1) (s .pre .1 .2) (c .before .before .before .before .before .before .before .before .before .before .before .before .before .before .before .before .before .before .before .before .before .before .before .before .before .before .before .before .before .down-at .ensures) (c .before .before .before .before .before .before .before .before .before .before .before .before .before .before .before .before .before .before .before .before .before .before .before .before .before .before .before .before .if2 .left) (c .before .before .before .before .before .before .before .before .before .before .before .before .before .before .before .before .before .before .before .before .before .before .before .before .before .before .condition-at .ensures) (c .before .before .before .before .before .before .before .before .before .before .before .before .before .before .before .before .before .before .before .before .before .before .before .head .ensures) (c .before .before .before .before .before .before .before .before .before .before .before .before .before .before .before .before .before .before .if3 .left) (c .before .before .before .before .before .before .before .before .before .before .before .before .before .before .before .substitute .ensures) (c .before .before .before .before .before .before .before .before .before .before .if4 .left) (c .before .before .before .before .before .before .before .substitute2 .ensures) (c .before .before .if5 .left)
 
 substitute-same-length-10 : (t : ℕ) → substitute-lts.Need-same-length-10 (substitute-claims t) (substitute-at t) substitute.Post
@@ -179,37 +165,35 @@ substitute-same-length-11 t c =
 
 substitute-returns-6 : (t : ℕ) → substitute-lts.Need-returns-6 (substitute-claims t) (substitute-at t) substitute.Post
 substitute-returns-6 t c =
-    let s = (c .before .before .before .before .before .before .before .before .before .before .before .before .before .before .before .before .before .before .before .before .before .before .before .before .before .before .before .before .before .before .before .before .before .before .before .before .before .before .before .before .before .before .before) in
+    let s = (c .before .before .before .before .before .before .before .before .before .before .before .before .before .before .before .before .before .before .before .before .before .before .before .before .before .before .before .before .before .before .before .before .before .before .before .before .before .before .before .before .before .before) in
     sub-made (s .pre .1 .0) (s .args .f) (s .pre .1 .1) (s .pre .1 .2) (c .before .before .before .before .before .before .before .before .before .before .before .before .before .before .before .before .before .before .before .before .before .before .before .before .before .before .before .before .before .before .before .before .before .before .before .down-at .ensures) (c .before .before .before .before .before .before .before .before .before .before .before .before .before .before .before .before .before .before .before .before .before .before .before .before .before .before .before .before .before .before .before .before .before .before .if2 .left) (c .before .before .before .before .before .before .before .before .before .before .before .before .before .before .before .before .before .before .before .before .before .before .before .before .before .before .before .before .before .before .before .before .condition-at .ensures) (c .before .before .before .before .before .before .before .before .before .before .before .before .before .before .before .before .before .before .before .before .before .before .before .before .before .before .before .before .before .head .ensures) (c .before .before .before .before .before .before .before .before .before .before .before .before .before .before .before .before .before .before .before .before .before .before .before .before .if3 .left) (c .before .before .before .before .before .before .before .before .before .before .before .before .before .before .before .before .before .before .before .before .before .substitute .ensures) (c .before .before .before .before .before .before .before .before .before .before .before .before .before .before .before .before .if4 .left) (c .before .before .before .before .before .before .before .before .before .before .before .before .before .substitute2 .ensures) (c .before .before .before .before .before .before .before .before .if5 .left) (c .before .before .before .before .before .over-test .ensures)
 
-substitute-keep-requires : (t : ℕ) → substitute-lts.Need-keep-requires (substitute-claims t) (substitute-at t) substitute.Post
-substitute-keep-requires t c κs =
-    let s = (c .before .before .before .before .before .before .before .before .before .before .before .before .before .before .before .before .before .before .before .before .before .before .before .before .before .before .before .before .before .before .before .before .before .before .before .before .before .before .before .before .before .before .before .before) in
+substitute-retain-requires : (t : ℕ) → substitute-lts.Need-retain-requires (substitute-claims t) (substitute-at t) substitute.Post
+substitute-retain-requires t c κs =
+    let s = (c .before .before .before .before .before .before .before .before .before .before .before .before .before .before .before .before .before .before .before .before .before .before .before .before .before .before .before .before .before .before .before .before .before .before .before .before .before .before .before .before .before .before .before) in
     let J = sub-made (s .pre .1 .0) (s .args .f) (s .pre .1 .1) (s .pre .1 .2) (c .before .before .before .before .before .before .before .before .before .before .before .before .before .before .before .before .before .before .before .before .before .before .before .before .before .before .before .before .before .before .before .before .before .before .before .before .down-at .ensures) (c .before .before .before .before .before .before .before .before .before .before .before .before .before .before .before .before .before .before .before .before .before .before .before .before .before .before .before .before .before .before .before .before .before .before .before .if2 .left) (c .before .before .before .before .before .before .before .before .before .before .before .before .before .before .before .before .before .before .before .before .before .before .before .before .before .before .before .before .before .before .before .before .before .condition-at .ensures) (c .before .before .before .before .before .before .before .before .before .before .before .before .before .before .before .before .before .before .before .before .before .before .before .before .before .before .before .before .before .before .head .ensures) (c .before .before .before .before .before .before .before .before .before .before .before .before .before .before .before .before .before .before .before .before .before .before .before .before .before .if3 .left) (c .before .before .before .before .before .before .before .before .before .before .before .before .before .before .before .before .before .before .before .before .before .before .substitute .ensures) (c .before .before .before .before .before .before .before .before .before .before .before .before .before .before .before .before .before .if4 .left) (c .before .before .before .before .before .before .before .before .before .before .before .before .before .before .substitute2 .ensures) (c .before .before .before .before .before .before .before .before .before .if5 .left) (c .before .before .before .before .before .before .over-test .ensures) in
-    keepable J (c .before .if6 .left) (sub-key (s .pre .1 .0) (s .args .f) (s .pre .1 .1) (s .pre .1 .2) (c .before .before .before .before .before .before .before .before .before .before .before .before .before .before .before .before .before .before .before .before .before .before .before .before .before .before .before .before .before .before .before .before .before .before .before .before .before .before .before .before .before .before .pair-of .ensures) (c .before .before .before .before .before .before .before .before .before .before .before .before .before .before .before .before .before .before .before .before .before .before .before .before .before .before .before .before .before .before .before .before .before .before .before .before .before .before .before .before .before .pair-of2 .ensures))
+    retain-asks (s .pre .1 .0) (s .args .f) (s .pre .1 .1) (s .pre .1 .2) J (c .before .if6 .left)
 
 substitute-same-length-12 : (t : ℕ) → substitute-lts.Need-same-length-12 (substitute-claims t) (substitute-at t) substitute.Post
 substitute-same-length-12 t c =
-    search (needs, c .before .before .before .before .before .before .before .before .before .before .before .before .before .before .before .before .before .before .before .before .before .before .before .before .before .before .before .before .before .before .before .before .before .head .kept, c .before .before .before .before .before .before .before .before .before .before .before .before .before .before .before .before .before .before .before .before .before .before .before .before .before .substitute .kept, c .before .before .before .before .before .before .before .before .before .before .before .before .before .before .before .before .before .substitute2 .kept, c .before .before .before .before .before .before .before .before .before .over-test .kept, c .before .before .keep .kept)
+    search (needs, c .before .before .before .before .before .before .before .before .before .before .before .before .before .before .before .before .before .before .before .before .before .before .before .before .before .before .before .before .before .before .before .before .before .head .kept, c .before .before .before .before .before .before .before .before .before .before .before .before .before .before .before .before .before .before .before .before .before .before .before .before .before .substitute .kept, c .before .before .before .before .before .before .before .before .before .before .before .before .before .before .before .before .before .substitute2 .kept, c .before .before .before .before .before .before .before .before .before .over-test .kept, c .before .before .retain .kept)
 
 substitute-same-length-13 : (t : ℕ) → substitute-lts.Need-same-length-13 (substitute-claims t) (substitute-at t) substitute.Post
 substitute-same-length-13 t c =
-    search (needs, c .before .before .before .before .before .before .before .before .before .before .before .before .before .before .before .before .before .before .before .before .before .before .before .before .before .before .before .before .before .before .before .before .before .head .kept, c .before .before .before .before .before .before .before .before .before .before .before .before .before .before .before .before .before .before .before .before .before .before .before .before .before .substitute .kept, c .before .before .before .before .before .before .before .before .before .before .before .before .before .before .before .before .before .substitute2 .kept, c .before .before .before .before .before .before .before .before .before .over-test .kept, c .before .before .keep .kept)
+    search (needs, c .before .before .before .before .before .before .before .before .before .before .before .before .before .before .before .before .before .before .before .before .before .before .before .before .before .before .before .before .before .before .before .before .before .head .kept, c .before .before .before .before .before .before .before .before .before .before .before .before .before .before .before .before .before .before .before .before .before .before .before .before .before .substitute .kept, c .before .before .before .before .before .before .before .before .before .before .before .before .before .before .before .before .before .substitute2 .kept, c .before .before .before .before .before .before .before .before .before .over-test .kept, c .before .before .retain .kept)
 
 substitute-returns-7 : (t : ℕ) → substitute-lts.Need-returns-7 (substitute-claims t) (substitute-at t) substitute.Post
 substitute-returns-7 t c =
-    let s = (c .before .before .before .before .before .before .before .before .before .before .before .before .before .before .before .before .before .before .before .before .before .before .before .before .before .before .before .before .before .before .before .before .before .before .before .before .before .before .before .before .before .before .before .before .before .before .before) in
+    let s = (c .before .before .before .before .before .before .before .before .before .before .before .before .before .before .before .before .before .before .before .before .before .before .before .before .before .before .before .before .before .before .before .before .before .before .before .before .before .before .before .before .before .before .before .before .before .before) in
     let J = sub-made (s .pre .1 .0) (s .args .f) (s .pre .1 .1) (s .pre .1 .2) (c .before .before .before .before .before .before .before .before .before .before .before .before .before .before .before .before .before .before .before .before .before .before .before .before .before .before .before .before .before .before .before .before .before .before .before .before .before .before .before .down-at .ensures) (c .before .before .before .before .before .before .before .before .before .before .before .before .before .before .before .before .before .before .before .before .before .before .before .before .before .before .before .before .before .before .before .before .before .before .before .before .before .before .if2 .left) (c .before .before .before .before .before .before .before .before .before .before .before .before .before .before .before .before .before .before .before .before .before .before .before .before .before .before .before .before .before .before .before .before .before .before .before .before .condition-at .ensures) (c .before .before .before .before .before .before .before .before .before .before .before .before .before .before .before .before .before .before .before .before .before .before .before .before .before .before .before .before .before .before .before .before .before .head .ensures) (c .before .before .before .before .before .before .before .before .before .before .before .before .before .before .before .before .before .before .before .before .before .before .before .before .before .before .before .before .if3 .left) (c .before .before .before .before .before .before .before .before .before .before .before .before .before .before .before .before .before .before .before .before .before .before .before .before .before .substitute .ensures) (c .before .before .before .before .before .before .before .before .before .before .before .before .before .before .before .before .before .before .before .before .if4 .left) (c .before .before .before .before .before .before .before .before .before .before .before .before .before .before .before .before .before .substitute2 .ensures) (c .before .before .before .before .before .before .before .before .before .before .before .before .if5 .left) (c .before .before .before .before .before .before .before .before .before .over-test .ensures) in
-    sub-stored (s .pre .1 .0) (s .args .f) (s .pre .1 .1) (s .pre .1 .2) (c .before .before .before .before .before .before .before .before .before .before .before .before .before .before .before .before .before .before .before .before .before .before .before .before .before .before .before .before .before .before .before .before .before .before .before .before .before .before .before .before .before .before .before .before .before .pair-of .ensures) (c .before .before .before .before .before .before .before .before .before .before .before .before .before .before .before .before .before .before .before .before .before .before .before .before .before .before .before .before .before .before .before .before .before .before .before .before .before .before .before .before .before .before .before .before .pair-of2 .ensures) J (c .before .before .before .before .if6 .left) (c .before .before .keep .ensures)
+    sub-stored (s .pre .1 .0) (s .args .f) (s .pre .1 .1) (s .pre .1 .2) J (c .before .before .before .before .if6 .left) (c .before .before .retain .ensures)
 
 pub +substitute-spec : {M : Type 1} → statement M
 +substitute-spec = close μ-substitute λ t. substitute-lts.spec (substitute-claims t)
     (substitute-at t)
     substitute.Post
-    (substitute-pair-of-requires t)
-    (substitute-pair-of-requires-2 t)
-    (substitute-look-requires t)
-    (substitute-sub-t23 t)
+    (substitute-recall-requires t)
+    (substitute-sub-t17 t)
     (substitute-same-length t)
     (substitute-returns t)
     (substitute-down-at-requires t)
@@ -234,7 +218,7 @@ pub +substitute-spec : {M : Type 1} → statement M
     (substitute-same-length-10 t)
     (substitute-same-length-11 t)
     (substitute-returns-6 t)
-    (substitute-keep-requires t)
+    (substitute-retain-requires t)
     (substitute-same-length-12 t)
     (substitute-same-length-13 t)
     (substitute-returns-7 t)

@@ -3,6 +3,7 @@ use mathlib.Core.Bool.{true}
 use lib.Dec.{T}
 use lib.IntN.{pos}
 use lib.Signed.{nonNeg}
+use Rattle.diagrams.specs.Nodes.{firstOf}
 use Rattle.table.specs.Table.{eqZ}
 use Rattle.table.specs.declared.Node.{Node}
 use Rattle.substitute.specs.Substitution.{conditionIn}
@@ -16,7 +17,7 @@ get-requires c κs = search needs
 condition-of-requires : tie.Need-condition-of-requires
 condition-of-requires c κs =
     let s = (c .before) in
-    subst (λ (x : Node). eqZ (x .kind) (pos 1) ≡ true → T (nonNeg (x .c1))) (sym (c .get .ensures)) (s .pre .1)
+    subst (λ (x : Node). eqZ (x .kind) (pos 1) ≡ true → T (nonNeg (firstOf x))) (sym (c .get .ensures)) (s .pre .1)
 
 returns : tie.Need-returns
 returns c =

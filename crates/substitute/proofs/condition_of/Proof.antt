@@ -1,6 +1,7 @@
 use mathlib.Core.Path.{sym, subst}
 use native.Mathlib.Omega.{arith}
 use lib.Dec.{T}
+use Rattle.diagrams.specs.Nodes.{firstOf}
 use lib.IntN.{ℤ}
 use lib.Signed.{nonNeg}
 use Rattle.table.proofs.Words.{back}
@@ -10,23 +11,26 @@ use borrow.Author.Needs.{needs}
 use Rattle.substitute.proofs.condition_of.Statement.{statement}
 use Rattle.substitute.proofs.condition_of.Tie as tie
 
+array-copy-out-z : tie.Need-array-copy-out-z
+array-copy-out-z c = search needs
+
 index-requires : tie.Need-index-requires
 index-requires c κs =
-    let s = (c .before .before .before .before) in
-    subst (λ (z : ℤ). T (nonNeg z)) (sym (back (s .args .x .c1) (c .before .before .struct-told .given .1 .0 .1))) (s .pre (kind-yes 1 (omega arith) (s .args .x .kind) (c .before .before .struct-told .given .0 .1) (c .before .if1 .taken)))
+    let s = (c .before .before .before .before .before) in
+    subst (λ (z : ℤ). T (nonNeg z)) (sym (back (firstOf (s .args .x)) (c .z .given))) (s .pre (kind-yes 1 (omega arith) (s .args .x .kind) (c .before .before .before .struct-told .given .0 .1) (c .before .before .if1 .taken)))
 
 sub-result : tie.Need-sub-result
 sub-result c = search needs
 
 returns : tie.Need-returns
 returns c =
-    let s = (c .before .before .before .before .before .before) in
-    found-later (s .args .x) (abs-of (s .args .x .c1) (c .before .before .before .before .struct-told .given .1 .0 .1) (c .before .index .ensures)) (kind-yes 1 (omega arith) (s .args .x .kind) (c .before .before .before .before .struct-told .given .0 .1) (c .before .before .before .if1 .taken)) (c .if2 .taken)
+    let s = (c .before .before .before .before .before .before .before) in
+    found-later (s .args .x) (abs-of (firstOf (s .args .x)) (c .before .before .z .given) (c .before .index .ensures)) (kind-yes 1 (omega arith) (s .args .x .kind) (c .before .before .before .before .before .struct-told .given .0 .1) (c .before .before .before .before .if1 .taken)) (c .if2 .taken)
 
 returns-2 : tie.Need-returns-2
 returns-2 c =
-    let s = (c .before .before .before .before .before .before) in
-    found-now (s .args .x) (abs-of (s .args .x .c1) (c .before .before .before .before .struct-told .given .1 .0 .1) (c .before .index .ensures)) (kind-yes 1 (omega arith) (s .args .x .kind) (c .before .before .before .before .struct-told .given .0 .1) (c .before .before .before .if1 .taken)) (c .if2 .left)
+    let s = (c .before .before .before .before .before .before .before) in
+    found-now (s .args .x) (abs-of (firstOf (s .args .x)) (c .before .before .z .given) (c .before .index .ensures)) (kind-yes 1 (omega arith) (s .args .x .kind) (c .before .before .before .before .before .struct-told .given .0 .1) (c .before .before .before .before .if1 .taken)) (c .if2 .left)
 
 returns-3 : tie.Need-returns-3
 returns-3 c =
@@ -34,4 +38,5 @@ returns-3 c =
     sym (condition-none (s .args .x) (kind-no 1 (s .args .x .kind) (c .if1 .left)))
 
 pub condition-of-spec : {M : Type 1} → statement M
-condition-of-spec = tie.close (tie.spec index-requires sub-result returns returns-2 returns-3)
+condition-of-spec =
+    tie.close (tie.spec array-copy-out-z index-requires sub-result returns returns-2 returns-3)

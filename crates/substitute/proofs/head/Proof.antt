@@ -15,12 +15,12 @@ same-length-2 c = search needs
 
 returns : tie.Need-returns
 returns c =
-    let s = (c .before .before .before .before .before .before .before .before) in
+    let s = (c .before .before .before .before .before .before .before .before .before) in
     ran-as (head-linear (s .args .k) _ _ _ (c .before .before .before .before .before .before .if1 .taken)) (c .before .before .before .linear-diagram .ensures)
 
 returns-2 : tie.Need-returns-2
 returns-2 c =
-    let s = (c .before .before) in
+    let s = (c .before .before .before) in
     ran-as (head-none (s .args .k) _ _ _ (c .if1 .left)) (ran-ret (s .pre .0) (s .args .f) (s .pre .1))
 
 pub head-spec : {M : Type 1} → statement M

@@ -1,113 +1,126 @@
-use Rattle.table.specs.Table.{nodeAt}
-use Rattle.table.proofs.Words.{node-back}
+use Prim.Native.Nat.{ℕ, _+_, _-_, _*_, _≤_}
+use native.Mathlib.Omega.{arith}
 use borrow.Author.Needs.{needs}
+use mathlib.Core.Path.{refl}
+use lib.IntN.{pos}
+use lib.ListN.{getD}
+use Rattle.whole.specs.Linears.{numbers}
+use Rattle.whole.proofs.Filled.{Filled, none-filled, one-filled}
+use Rattle.table.specs.Table.{node-words}
+use Rattle.table.proofs.Words.{back}
+use Rattle.table.proofs.Store.{get-as}
 use Rattle.table.proofs.get.Statement.{statement}
 use Rattle.table.proofs.get.Tie as tie
 
-mul-at : tie.Need-mul-at
-mul-at c = search needs
+abbrev Inv-loop : tie.InvT-loop
+Inv-loop nodes i at n₀ k₀ n k = Filled numbers (λ j. getD nodes (i * node-words + 1 + j) (pos 0)) k n
 
-mul-t4 : tie.Need-mul-t4
-mul-t4 c = search needs
+abbrev μ-loop : tie.MeasureT-loop
+μ-loop nodes i at n₀ k₀ n k = numbers - k
 
-shared-slice-copy-out-t6 : tie.Need-shared-slice-copy-out-t6
-shared-slice-copy-out-t6 c = search needs
+mul-at : tie.Need-mul-at Inv-loop μ-loop
+mul-at c =
+    let g = c .good .0 in let p = c .pre in omega arith
 
-add-t7 : tie.Need-add-t7
-add-t7 c = search needs
+loop-holds : tie.Need-loop-holds Inv-loop μ-loop
+loop-holds c =
+    none-filled refl
 
-mul-t8 : tie.Need-mul-t8
-mul-t8 c = search needs
+add-z : tie.Need-add-z Inv-loop μ-loop
+add-z c =
+    let g = (c .before .before) .good .0 in let p = (c .before .before) .pre in omega arith
 
-shared-slice-copy-out-t10 : tie.Need-shared-slice-copy-out-t10
-shared-slice-copy-out-t10 c = search needs
+add-z-2 : tie.Need-add-z-2 Inv-loop μ-loop
+add-z-2 c =
+    let g = (c .before .before) .good .0 in let p = (c .before .before) .pre in omega arith
 
-add-t11 : tie.Need-add-t11
-add-t11 c = search needs
+mul-z : tie.Need-mul-z Inv-loop μ-loop
+mul-z c =
+    let g = (c .before .before) .good .0 in let p = (c .before .before) .pre in omega arith
 
-mul-t12 : tie.Need-mul-t12
-mul-t12 c = search needs
+shared-slice-copy-out-z : tie.Need-shared-slice-copy-out-z Inv-loop μ-loop
+shared-slice-copy-out-z c =
+    let g = (c .before .before) .good .0 in let p = (c .before .before) .pre in omega arith
 
-shared-slice-copy-out-t14 : tie.Need-shared-slice-copy-out-t14
-shared-slice-copy-out-t14 c = search needs
+mul-n : tie.Need-mul-n Inv-loop μ-loop
+mul-n c =
+    let g = (c .before .before .before) .good .0 in let p = (c .before .before .before) .pre in omega arith
 
-add-t15 : tie.Need-add-t15
-add-t15 c = search needs
+array-set-from-n : tie.Need-array-set-from-n Inv-loop μ-loop
+array-set-from-n c =
+    let g = (c .before .before .before) .good .0 in let p = (c .before .before .before) .pre in omega arith
 
-mul-t16 : tie.Need-mul-t16
-mul-t16 c = search needs
+add-k : tie.Need-add-k Inv-loop μ-loop
+add-k c =
+    let g = (c .before .before .before) .good .0 in let p = (c .before .before .before) .pre in omega arith
 
-shared-slice-copy-out-t18 : tie.Need-shared-slice-copy-out-t18
-shared-slice-copy-out-t18 c = search needs
+loop-less : tie.Need-loop-less Inv-loop μ-loop
+loop-less c =
+    let g = (c .before .before .before) .good .0 in let p = (c .before .before .before) .pre in omega arith
 
-add-t19 : tie.Need-add-t19
-add-t19 c = search needs
+loop-again : tie.Need-loop-again Inv-loop μ-loop
+loop-again c =
+    one-filled (c .before .before .loop .inv) (c .before .loop-test .taken) (back _ (c .z .given))
 
-mul-t20 : tie.Need-mul-t20
-mul-t20 c = search needs
+mul-kind : tie.Need-mul-kind Inv-loop μ-loop
+mul-kind c =
+    let g = (c .before .before) .good .0 in let p = (c .before .before) .pre in omega arith
 
-shared-slice-copy-out-t22 : tie.Need-shared-slice-copy-out-t22
-shared-slice-copy-out-t22 c = search needs
+shared-slice-copy-out-kind : tie.Need-shared-slice-copy-out-kind Inv-loop μ-loop
+shared-slice-copy-out-kind c =
+    let g = (c .before .before) .good .0 in let p = (c .before .before) .pre in omega arith
 
-add-t23 : tie.Need-add-t23
-add-t23 c = search needs
+add-high : tie.Need-add-high Inv-loop μ-loop
+add-high c =
+    let g = (c .before .before .before) .good .0 in let p = (c .before .before .before) .pre in omega arith
 
-mul-t24 : tie.Need-mul-t24
-mul-t24 c = search needs
+mul-high : tie.Need-mul-high Inv-loop μ-loop
+mul-high c =
+    let g = (c .before .before .before) .good .0 in let p = (c .before .before .before) .pre in omega arith
 
-shared-slice-copy-out-t26 : tie.Need-shared-slice-copy-out-t26
-shared-slice-copy-out-t26 c = search needs
+shared-slice-copy-out-high : tie.Need-shared-slice-copy-out-high Inv-loop μ-loop
+shared-slice-copy-out-high c =
+    let g = (c .before .before .before) .good .0 in let p = (c .before .before .before) .pre in omega arith
 
-add-t27 : tie.Need-add-t27
-add-t27 c = search needs
+add-low : tie.Need-add-low Inv-loop μ-loop
+add-low c =
+    let g = (c .before .before .before .before) .good .0 in let p = (c .before .before .before .before) .pre in omega arith
 
-mul-t28 : tie.Need-mul-t28
-mul-t28 c = search needs
+mul-low : tie.Need-mul-low Inv-loop μ-loop
+mul-low c =
+    let g = (c .before .before .before .before) .good .0 in let p = (c .before .before .before .before) .pre in omega arith
 
-shared-slice-copy-out-t30 : tie.Need-shared-slice-copy-out-t30
-shared-slice-copy-out-t30 c = search needs
+shared-slice-copy-out-low : tie.Need-shared-slice-copy-out-low Inv-loop μ-loop
+shared-slice-copy-out-low c =
+    let g = (c .before .before .before .before) .good .0 in let p = (c .before .before .before .before) .pre in omega arith
 
-add-t31 : tie.Need-add-t31
-add-t31 c = search needs
-
-mul-t32 : tie.Need-mul-t32
-mul-t32 c = search needs
-
-shared-slice-copy-out-t34 : tie.Need-shared-slice-copy-out-t34
-shared-slice-copy-out-t34 c = search needs
-
-returns : tie.Need-returns
-unfolding nodeAt
+returns : tie.Need-returns Inv-loop μ-loop
 returns c =
-    let s = c .before .before .before .before .before .before .before .before in
-    node-back (nodeAt (s .args .nodes .now) (s .args .i)) (record { kind = c .before .before .before .before .before .before .before .t6 .given; c1 = c .before .before .before .before .before .before .t10 .given; c2 = c .before .before .before .before .before .t14 .given; c3 = c .before .before .before .before .t18 .given; c4 = c .before .before .before .t22 .given; constant = c .before .before .t26 .given; high = c .before .t30 .given; low = c .t34 .given })
+    get-as _ ((c .before .before .before .before .before) .args .i) ((c .before .before .before .before .before) .pre) (back _ (c .before .before .kind .given)) (back _ (c .before .high .given)) (back _ (c .low .given)) (c .before .before .before .before .loop .inv) (c .before .before .before .loop-test .left)
 
 pub get-spec : {M : Type 1} → statement M
 get-spec =
     tie.close
     (tie.spec
+    Inv-loop
+    μ-loop
     mul-at
-    mul-t4
-    shared-slice-copy-out-t6
-    add-t7
-    mul-t8
-    shared-slice-copy-out-t10
-    add-t11
-    mul-t12
-    shared-slice-copy-out-t14
-    add-t15
-    mul-t16
-    shared-slice-copy-out-t18
-    add-t19
-    mul-t20
-    shared-slice-copy-out-t22
-    add-t23
-    mul-t24
-    shared-slice-copy-out-t26
-    add-t27
-    mul-t28
-    shared-slice-copy-out-t30
-    add-t31
-    mul-t32
-    shared-slice-copy-out-t34
+    loop-holds
+    add-z
+    add-z-2
+    mul-z
+    shared-slice-copy-out-z
+    mul-n
+    array-set-from-n
+    add-k
+    loop-less
+    loop-again
+    mul-kind
+    shared-slice-copy-out-kind
+    add-high
+    mul-high
+    shared-slice-copy-out-high
+    add-low
+    mul-low
+    shared-slice-copy-out-low
     returns)

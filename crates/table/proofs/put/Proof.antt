@@ -1,114 +1,127 @@
-use lib.ListN.{length-set}
+use Prim.Native.Nat.{ℕ, _+_, _-_, _*_, _≤_}
 use native.Mathlib.Omega.{arith}
-use Rattle.table.specs.Table.{putAt}
-use Rattle.table.proofs.Words.{put-back}
 use borrow.Author.Needs.{needs}
+use mathlib.Core.Path.{refl, sym, _∙_}
+use lib.IntN.{ℤ, pos}
+use lib.ListN.{getD, length, length-set}
+use Rattle.whole.specs.Linears.{numbers}
+use Rattle.table.specs.Table.{node-words}
+use Rattle.table.proofs.Words.{back, as-long}
+use Rattle.table.proofs.Store.{Storing, none-stored, one-stored, put-as, storing-length, two-more}
+use mir.Syntax.{w64}
+use mir.Val.{toZ, ofZ}
 use Rattle.table.proofs.put.Statement.{statement}
 use Rattle.table.proofs.put.Tie as tie
 
-mul-at : tie.Need-mul-at
-mul-at c = search needs
+abbrev Inv-loop : tie.InvT-loop
+Inv-loop nodes₀ i at kind n high low k₀ nodes k = Storing nodes₀ (i * node-words + 1) n k nodes
 
-mul-kind : tie.Need-mul-kind
-mul-kind c = search needs
+abbrev μ-loop : tie.MeasureT-loop
+μ-loop nodes₀ i at kind n high low k₀ nodes k = numbers - k
 
-slice-set-from-kind : tie.Need-slice-set-from-kind
-slice-set-from-kind c = search needs
+mul-at : tie.Need-mul-at Inv-loop μ-loop
+mul-at c =
+    let g = c .good .0 in let p = c .pre in omega arith
 
-add-c1 : tie.Need-add-c1
-add-c1 c = search needs
+mul-kind : tie.Need-mul-kind Inv-loop μ-loop
+mul-kind c =
+    let g = (c .before .before .before .before) .good .0 in let p = (c .before .before .before .before) .pre in omega arith
 
-mul-c1 : tie.Need-mul-c1
-mul-c1 c = search needs
+slice-set-from-kind : tie.Need-slice-set-from-kind Inv-loop μ-loop
+slice-set-from-kind c =
+    let g = (c .before .before .before .before) .good .0 in let p = (c .before .before .before .before) .pre in omega arith
 
-slice-set-from-c1 : tie.Need-slice-set-from-c1
-slice-set-from-c1 c = simp length-set (omega (arith, c .before .before .before .before .before .before .before .before .pre))
+loop-holds : tie.Need-loop-holds Inv-loop μ-loop
+loop-holds c =
+    none-stored _ _ ((c .before .before .before .before) .args .x .n) (as-long ((c .before .before .before .before) .args .x .n) (c .before .before .before .struct-told .given .1 .0 .1 .0 .1))
 
-add-c2 : tie.Need-add-c2
-add-c2 c = search needs
+mul-z : tie.Need-mul-z Inv-loop μ-loop
+mul-z c =
+    let g = (c .before .before .before .before .before .before) .good .0 in let p = (c .before .before .before .before .before .before) .pre in let q = storing-length ((c .before .before .before .before .before .before) .args .nodes .now) ((c .before .before .before .before .before .before) .args .i * 8) (toZ w64 (ofZ w64 ((c .before .before .before .before .before .before) .args .x .kind))) (c .before .loop .inv) in omega arith
 
-mul-c2 : tie.Need-mul-c2
-mul-c2 c = search needs
+array-copy-out-z : tie.Need-array-copy-out-z Inv-loop μ-loop
+array-copy-out-z c =
+    let g = (c .before .before .before .before .before .before) .good .0 in let p = (c .before .before .before .before .before .before) .pre in let q = storing-length ((c .before .before .before .before .before .before) .args .nodes .now) ((c .before .before .before .before .before .before) .args .i * 8) (toZ w64 (ofZ w64 ((c .before .before .before .before .before .before) .args .x .kind))) (c .before .loop .inv) in omega arith
 
-slice-set-from-c2 : tie.Need-slice-set-from-c2
-slice-set-from-c2 c = simp length-set (omega (arith, c .before .before .before .before .before .before .before .before .pre))
+add-z : tie.Need-add-z Inv-loop μ-loop
+add-z c =
+    let g = (c .before .before .before .before .before .before .before) .good .0 in let p = (c .before .before .before .before .before .before .before) .pre in let q = storing-length ((c .before .before .before .before .before .before .before) .args .nodes .now) ((c .before .before .before .before .before .before .before) .args .i * 8) (toZ w64 (ofZ w64 ((c .before .before .before .before .before .before .before) .args .x .kind))) (c .before .before .loop .inv) in omega arith
 
-add-c3 : tie.Need-add-c3
-add-c3 c = search needs
+add-z-2 : tie.Need-add-z-2 Inv-loop μ-loop
+add-z-2 c =
+    let g = (c .before .before .before .before .before .before .before) .good .0 in let p = (c .before .before .before .before .before .before .before) .pre in let q = storing-length ((c .before .before .before .before .before .before .before) .args .nodes .now) ((c .before .before .before .before .before .before .before) .args .i * 8) (toZ w64 (ofZ w64 ((c .before .before .before .before .before .before .before) .args .x .kind))) (c .before .before .loop .inv) in omega arith
 
-mul-c3 : tie.Need-mul-c3
-mul-c3 c = search needs
+mul-z-2 : tie.Need-mul-z-2 Inv-loop μ-loop
+mul-z-2 c =
+    let g = (c .before .before .before .before .before .before .before) .good .0 in let p = (c .before .before .before .before .before .before .before) .pre in let q = storing-length ((c .before .before .before .before .before .before .before) .args .nodes .now) ((c .before .before .before .before .before .before .before) .args .i * 8) (toZ w64 (ofZ w64 ((c .before .before .before .before .before .before .before) .args .x .kind))) (c .before .before .loop .inv) in omega arith
 
-slice-set-from-c3 : tie.Need-slice-set-from-c3
-slice-set-from-c3 c = simp length-set (omega (arith, c .before .before .before .before .before .before .before .before .pre))
+slice-set-from-z : tie.Need-slice-set-from-z Inv-loop μ-loop
+slice-set-from-z c =
+    let g = (c .before .before .before .before .before .before .before) .good .0 in let p = (c .before .before .before .before .before .before .before) .pre in let q = storing-length ((c .before .before .before .before .before .before .before) .args .nodes .now) ((c .before .before .before .before .before .before .before) .args .i * 8) (toZ w64 (ofZ w64 ((c .before .before .before .before .before .before .before) .args .x .kind))) (c .before .before .loop .inv) in omega arith
 
-add-c4 : tie.Need-add-c4
-add-c4 c = search needs
+add-k : tie.Need-add-k Inv-loop μ-loop
+add-k c =
+    let g = (c .before .before .before .before .before .before .before) .good .0 in let p = (c .before .before .before .before .before .before .before) .pre in let q = storing-length ((c .before .before .before .before .before .before .before) .args .nodes .now) ((c .before .before .before .before .before .before .before) .args .i * 8) (toZ w64 (ofZ w64 ((c .before .before .before .before .before .before .before) .args .x .kind))) (c .before .before .loop .inv) in omega arith
 
-mul-c4 : tie.Need-mul-c4
-mul-c4 c = search needs
+loop-less : tie.Need-loop-less Inv-loop μ-loop
+loop-less c =
+    let g = (c .before .before .before .before .before .before .before) .good .0 in let p = (c .before .before .before .before .before .before .before) .pre in let q = storing-length ((c .before .before .before .before .before .before .before) .args .nodes .now) ((c .before .before .before .before .before .before .before) .args .i * 8) (toZ w64 (ofZ w64 ((c .before .before .before .before .before .before .before) .args .x .kind))) (c .before .before .loop .inv) in omega arith
 
-slice-set-from-c4 : tie.Need-slice-set-from-c4
-slice-set-from-c4 c = simp length-set (omega (arith, c .before .before .before .before .before .before .before .before .pre))
+loop-again : tie.Need-loop-again Inv-loop μ-loop
+loop-again c =
+    one-stored (c .before .before .loop .inv) (c .before .loop-test .taken) (back _ (c .z .given))
 
-add-constant : tie.Need-add-constant
-add-constant c = search needs
+add-high : tie.Need-add-high Inv-loop μ-loop
+add-high c =
+    let g = (c .before .before .before .before .before .before) .good .0 in let p = (c .before .before .before .before .before .before) .pre in let q = storing-length ((c .before .before .before .before .before .before) .args .nodes .now) ((c .before .before .before .before .before .before) .args .i * 8) (toZ w64 (ofZ w64 ((c .before .before .before .before .before .before) .args .x .kind))) (c .before .loop .inv) in omega arith
 
-mul-constant : tie.Need-mul-constant
-mul-constant c = search needs
+mul-high : tie.Need-mul-high Inv-loop μ-loop
+mul-high c =
+    let g = (c .before .before .before .before .before .before) .good .0 in let p = (c .before .before .before .before .before .before) .pre in let q = storing-length ((c .before .before .before .before .before .before) .args .nodes .now) ((c .before .before .before .before .before .before) .args .i * 8) (toZ w64 (ofZ w64 ((c .before .before .before .before .before .before) .args .x .kind))) (c .before .loop .inv) in omega arith
 
-slice-set-from-constant : tie.Need-slice-set-from-constant
-slice-set-from-constant c = simp length-set (omega (arith, c .before .before .before .before .before .before .before .before .pre))
+slice-set-from-high : tie.Need-slice-set-from-high Inv-loop μ-loop
+slice-set-from-high c =
+    let g = (c .before .before .before .before .before .before) .good .0 in let p = (c .before .before .before .before .before .before) .pre in let q = storing-length ((c .before .before .before .before .before .before) .args .nodes .now) ((c .before .before .before .before .before .before) .args .i * 8) (toZ w64 (ofZ w64 ((c .before .before .before .before .before .before) .args .x .kind))) (c .before .loop .inv) in omega arith
 
-add-high : tie.Need-add-high
-add-high c = search needs
+add-low : tie.Need-add-low Inv-loop μ-loop
+add-low c =
+    let g = (c .before .before .before .before .before .before) .good .0 in let p = (c .before .before .before .before .before .before) .pre in let q = storing-length ((c .before .before .before .before .before .before) .args .nodes .now) ((c .before .before .before .before .before .before) .args .i * 8) (toZ w64 (ofZ w64 ((c .before .before .before .before .before .before) .args .x .kind))) (c .before .loop .inv) in omega arith
 
-mul-high : tie.Need-mul-high
-mul-high c = search needs
+mul-low : tie.Need-mul-low Inv-loop μ-loop
+mul-low c =
+    let g = (c .before .before .before .before .before .before) .good .0 in let p = (c .before .before .before .before .before .before) .pre in let q = storing-length ((c .before .before .before .before .before .before) .args .nodes .now) ((c .before .before .before .before .before .before) .args .i * 8) (toZ w64 (ofZ w64 ((c .before .before .before .before .before .before) .args .x .kind))) (c .before .loop .inv) in omega arith
 
-slice-set-from-high : tie.Need-slice-set-from-high
-slice-set-from-high c = simp length-set (omega (arith, c .before .before .before .before .before .before .before .before .pre))
+slice-set-from-low : tie.Need-slice-set-from-low Inv-loop μ-loop
+slice-set-from-low c =
+    let g = (c .before .before .before .before .before .before) .good .0 in let p = (c .before .before .before .before .before .before) .pre in let q = storing-length ((c .before .before .before .before .before .before) .args .nodes .now) ((c .before .before .before .before .before .before) .args .i * 8) (toZ w64 (ofZ w64 ((c .before .before .before .before .before .before) .args .x .kind))) (c .before .loop .inv) in simp length-set (omega arith)
 
-add-low : tie.Need-add-low
-add-low c = search needs
+same-length : tie.Need-same-length Inv-loop μ-loop
+same-length c =
+    two-more ((c .before .before .before .before .before .before) .args .nodes .now) (c .before .loop .nodes) _ _ _ _ (storing-length ((c .before .before .before .before .before .before) .args .nodes .now) ((c .before .before .before .before .before .before) .args .i * 8) (toZ w64 (ofZ w64 ((c .before .before .before .before .before .before) .args .x .kind))) (c .before .loop .inv))
 
-mul-low : tie.Need-mul-low
-mul-low c = search needs
-
-slice-set-from-low : tie.Need-slice-set-from-low
-slice-set-from-low c = simp length-set (omega (arith, c .before .before .before .before .before .before .before .before .pre))
-
-same-length : tie.Need-same-length
-same-length c = simp length-set
-
-returns : tie.Need-returns
-unfolding putAt
+returns : tie.Need-returns Inv-loop μ-loop
 returns c =
-    let s = c .before .before .before .before .before .before .before .before in
-    put-back (s .args .nodes .now) (s .args .i) (s .args .n) (record { kind = c .struct-told8 .given .0 .1; c1 = c .struct-told8 .given .1 .0 .1; c2 = c .struct-told8 .given .1 .1 .0 .1; c3 = c .struct-told8 .given .1 .1 .1 .0 .1; c4 = c .struct-told8 .given .1 .1 .1 .1 .0 .1; constant = c .struct-told8 .given .1 .1 .1 .1 .1 .0 .1; high = c .struct-told8 .given .1 .1 .1 .1 .1 .1 .0 .1; low = c .struct-told8 .given .1 .1 .1 .1 .1 .1 .1 .0 .1 })
+    put-as _ ((c .before .before .before .before .before .before) .args .i) ((c .before .before .before .before .before .before) .args .x) (back _ (c .before .before .before .before .before .struct-told .given .0 .1)) (back _ (c .before .before .before .before .before .struct-told .given .1 .1 .0 .1)) (back _ (c .before .before .before .before .before .struct-told .given .1 .1 .1 .0 .1)) (c .before .loop .inv) (c .loop-test .left)
 
 pub put-spec : {M : Type 1} → statement M
 put-spec =
     tie.close
     (tie.spec
+    Inv-loop
+    μ-loop
     mul-at
     mul-kind
     slice-set-from-kind
-    add-c1
-    mul-c1
-    slice-set-from-c1
-    add-c2
-    mul-c2
-    slice-set-from-c2
-    add-c3
-    mul-c3
-    slice-set-from-c3
-    add-c4
-    mul-c4
-    slice-set-from-c4
-    add-constant
-    mul-constant
-    slice-set-from-constant
+    loop-holds
+    mul-z
+    array-copy-out-z
+    add-z
+    add-z-2
+    mul-z-2
+    slice-set-from-z
+    add-k
+    loop-less
+    loop-again
     add-high
     mul-high
     slice-set-from-high

@@ -14,7 +14,7 @@ use lib.Seq.{length-take-le, take-at, drop-at, drop-drop, take-append-seam, drop
 use lib.Signed.{leZ}
 use Rattle.whole.specs.Cases.{if, by-test, both, and-in, not-not}
 use Rattle.whole.specs.Numerator.{words}
-use Rattle.theory.specs.Widths.{levels-most, steps-most, bytes-most, node-words, nodes-most}
+use Rattle.theory.specs.Widths.{levels-most, steps-most, bytes-most, node-words, work-words, nodes-most}
 use Rattle.theory.specs.Diagram.{Tree, zeros}
 use Rattle.theory.specs.Computation.{Out, done, stopped, result, run, Solved, solved, refused, run-all}
 use Rattle.theory.specs.Process.{lowest-best}
@@ -334,20 +334,20 @@ admitted-is {B} {steps} {size} d = past-nine B steps size (d .eight) (d .bytes) 
 
 room-nodes : (nodes work : ℕ) → room nodes work * node-words ≤ nodes
 unfolding room
-room-nodes nodes work = omega (arith, min-le-left (nodes / node-words) (min (work / node-words) nodes-most), div-mul-le-self nodes node-words)
+room-nodes nodes work = omega (arith, min-le-left (nodes / node-words) (min (work / work-words) nodes-most), div-mul-le-self nodes node-words)
 
 room-holds : (nodes work : ℕ) → Room nodes work (room nodes work)
 unfolding room
 room-holds nodes work =
-    let W = min (work / node-words) nodes-most in
+    let W = min (work / work-words) nodes-most in
     let a = min-le-right (nodes / node-words) W in
-    let b = min-le-left (work / node-words) nodes-most in
-    let c = min-le-right (work / node-words) nodes-most in
+    let b = min-le-left (work / work-words) nodes-most in
+    let c = min-le-right (work / work-words) nodes-most in
     record {
       in-nodes = room-nodes nodes work;
-      in-work = omega (arith, a, b, div-mul-le-self work node-words);
+      in-work = omega (arith, a, b, div-mul-le-self work work-words);
       most = omega (arith, a, c);
-      no-more = λ k l m n. le-min (le-div-iff-mul-le {k = node-words} {x = k} {y = nodes} (omega arith) .1 l) (le-min (le-div-iff-mul-le {k = node-words} {x = k} {y = work} (omega arith) .1 m) n);
+      no-more = λ k l m n. le-min (le-div-iff-mul-le {k = node-words} {x = k} {y = nodes} (omega arith) .1 l) (le-min (le-div-iff-mul-le {k = work-words} {x = k} {y = work} (omega arith) .1 m) n);
     }
 
 room-is : {nodes work N : ℕ} → Room nodes work N → room nodes work ≡ N

@@ -2,6 +2,7 @@ use mathlib.Core.Path.{_∙_, ap, refl}
 use native.Mathlib.Omega.{arith}
 use lib.ListN.{length, length-set}
 use Rattle.table.proofs.Store.{put-length}
+use Rattle.table.proofs.Words.{as-long}
 use Rattle.table.proofs.Look.{intern-old, intern-new, intern-full}
 use Rattle.unique.specs.Unique.{Chained}
 use Rattle.unique.proofs.Chain.{chained-new, chained-as, frame}
@@ -70,7 +71,7 @@ returns-2 : tie.Need-returns-2
 returns-2 c =
     let s = c .before .before .before .before .before .before .before .before .before .before .before in
     let w = intern-new (s .args .cap) (s .args .nodes .now) (s .args .count) (s .args .x) _ (c .before .before .before .before .before .before .before .find .ensures) (c .before .before .before .before .before .before .if1 .left) (c .before .before .before .before .before .if2 .taken) in
-    let n = chained-new (s .pre) (s .args .x) _ (c .before .before .before .before .before .before .before .find .ensures) (c .before .before .before .before .before .before .if1 .left) (c .before .before .before .before .before .if2 .taken) _ (c .before .hash .ensures .0) (c .before .hash .ensures .1) in
+    let n = chained-new (s .pre) (s .args .x) (as-long (s .args .x .n) (s .good .1 .1 .1 .1 .0 .1 .1 .1 .0 .1 .0 .1)) _ (c .before .before .before .before .before .before .before .find .ensures) (c .before .before .before .before .before .before .if1 .left) (c .before .before .before .before .before .if2 .taken) _ (c .before .hash .ensures .0) (c .before .hash .ensures .1) in
     record {
       answer = w .0;
       nodes = c .before .before .before .put .ensures ∙ w .1;

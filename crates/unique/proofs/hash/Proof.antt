@@ -1,86 +1,103 @@
-use mathlib.Core.Path.{ap, _∙_}
-use Prim.Native.Nat.{ℕ}
+use mathlib.Core.Path.{_≡_, refl}
+use Prim.Native.Nat.{ℕ, _+_, _-_, _*_, _≤_, _<_}
 use native.Mathlib.Omega.{arith}
-use Rattle.table.proofs.Words.{back}
-use Rattle.unique.specs.Unique.{bucketOf, hashOf}
-use borrow.Author.Needs.{needs}
+use lib.ListN.{drop}
+use Rattle.whole.specs.Linears.{numbers}
+use Rattle.table.proofs.Words.{as-long}
+use Rattle.unique.specs.Unique.{hashL}
+use Rattle.unique.proofs.Hashing.{hash-goes, hash-ends, hash-as}
 use Rattle.unique.proofs.hash.Statement.{statement}
 use Rattle.unique.proofs.hash.Tie as tie
 
-share-requires : tie.Need-share-requires
-share-requires c κs = search needs
+abbrev Inv-loop : tie.InvT-loop
+Inv-loop x cap n h₀ k₀ i₀ h k i = (i ≤ numbers) × (h < (i + 1) * 4294967296) × (k < 2147483648) × (hashL h k (drop i n) ≡ hashL h₀ k₀ n)
 
-share-requires-2 : tie.Need-share-requires-2
-share-requires-2 c κs = search needs
+abbrev μ-loop : tie.MeasureT-loop
+μ-loop x cap n h₀ k₀ i₀ h k i = numbers - i
 
-share-requires-3 : tie.Need-share-requires-3
-share-requires-3 c κs = search needs
+share-requires : tie.Need-share-requires Inv-loop μ-loop
+share-requires c κs =
+    omega arith
 
-share-requires-4 : tie.Need-share-requires-4
-share-requires-4 c κs = search needs
+loop-holds : tie.Need-loop-holds Inv-loop μ-loop
+loop-holds c =
+    (omega arith, omega (arith, c .share .ensures .1), omega arith, refl)
 
-share-requires-5 : tie.Need-share-requires-5
-share-requires-5 c κs = search needs
+mul-z : tie.Need-mul-z Inv-loop μ-loop
+mul-z c =
+    omega arith
 
-share-requires-6 : tie.Need-share-requires-6
-share-requires-6 c κs = search needs
+array-copy-out-z : tie.Need-array-copy-out-z Inv-loop μ-loop
+array-copy-out-z c =
+    omega arith
 
-share-requires-7 : tie.Need-share-requires-7
-share-requires-7 c κs = search needs
+share-requires-2 : tie.Need-share-requires-2 Inv-loop μ-loop
+share-requires-2 c κs =
+    c .before .before .loop .inv .2
 
-share-requires-8 : tie.Need-share-requires-8
-share-requires-8 c κs = search needs
+add-h : tie.Need-add-h Inv-loop μ-loop
+add-h c =
+    omega (arith, c .share2 .ensures .1, c .before .before .before .loop .inv .1)
 
-add-bucket : tie.Need-add-bucket
-add-bucket c = omega (arith, c .before .before .before .before .before .before .before .before .before .before .before .before .before .before .share .ensures .1, c .before .before .before .before .before .before .before .before .before .before .before .before .share2 .ensures .1)
+mul-k : tie.Need-mul-k Inv-loop μ-loop
+mul-k c =
+    omega (arith, c .before .before .before .loop .inv .2)
 
-add-bucket-2 : tie.Need-add-bucket-2
-add-bucket-2 c = omega (arith, c .before .before .before .before .before .before .before .before .before .before .before .before .before .before .share .ensures .1, c .before .before .before .before .before .before .before .before .before .before .before .before .share2 .ensures .1, c .before .before .before .before .before .before .before .before .before .before .share3 .ensures .1)
+add-i : tie.Need-add-i Inv-loop μ-loop
+add-i c =
+    omega arith
 
-add-bucket-3 : tie.Need-add-bucket-3
-add-bucket-3 c = omega (arith, c .before .before .before .before .before .before .before .before .before .before .before .before .before .before .share .ensures .1, c .before .before .before .before .before .before .before .before .before .before .before .before .share2 .ensures .1, c .before .before .before .before .before .before .before .before .before .before .share3 .ensures .1, c .before .before .before .before .before .before .before .before .share4 .ensures .1)
+loop-less : tie.Need-loop-less Inv-loop μ-loop
+loop-less c =
+    omega arith
 
-add-bucket-4 : tie.Need-add-bucket-4
-add-bucket-4 c = omega (arith, c .before .before .before .before .before .before .before .before .before .before .before .before .before .before .share .ensures .1, c .before .before .before .before .before .before .before .before .before .before .before .before .share2 .ensures .1, c .before .before .before .before .before .before .before .before .before .before .share3 .ensures .1, c .before .before .before .before .before .before .before .before .share4 .ensures .1, c .before .before .before .before .before .before .share5 .ensures .1)
+loop-again : tie.Need-loop-again Inv-loop μ-loop
+loop-again c =
+    (omega arith, omega (arith, c .share2 .ensures .1, c .before .before .before .loop .inv .1), omega arith, hash-goes ((c .before .before .before .before .before .before .before) .args .x .n) (as-long ((c .before .before .before .before .before .before .before) .args .x .n) (c .before .before .before .before .before .struct-told .given .1 .0 .1 .0 .1)) _ _ (c .before .before .before .loop .h) (c .before .before .before .loop .k) (c .before .before .before .loop .i) (c .before .before .before .loop .inv .3) (c .before .before .loop-test .taken) (c .before .z .given) (c .share2 .ensures .0))
 
-add-bucket-5 : tie.Need-add-bucket-5
-add-bucket-5 c = omega (arith, c .before .before .before .before .before .before .before .before .before .before .before .before .before .before .share .ensures .1, c .before .before .before .before .before .before .before .before .before .before .before .before .share2 .ensures .1, c .before .before .before .before .before .before .before .before .before .before .share3 .ensures .1, c .before .before .before .before .before .before .before .before .share4 .ensures .1, c .before .before .before .before .before .before .share5 .ensures .1, c .before .before .before .before .share6 .ensures .1)
+share-requires-3 : tie.Need-share-requires-3 Inv-loop μ-loop
+share-requires-3 c κs =
+    omega arith
 
-add-bucket-6 : tie.Need-add-bucket-6
-add-bucket-6 c = omega (arith, c .before .before .before .before .before .before .before .before .before .before .before .before .before .before .share .ensures .1, c .before .before .before .before .before .before .before .before .before .before .before .before .share2 .ensures .1, c .before .before .before .before .before .before .before .before .before .before .share3 .ensures .1, c .before .before .before .before .before .before .before .before .share4 .ensures .1, c .before .before .before .before .before .before .share5 .ensures .1, c .before .before .before .before .share6 .ensures .1, c .before .before .share7 .ensures .1)
+share-requires-4 : tie.Need-share-requires-4 Inv-loop μ-loop
+share-requires-4 c κs =
+    omega arith
 
-add-bucket-7 : tie.Need-add-bucket-7
-add-bucket-7 c = omega (arith, c .before .before .before .before .before .before .before .before .before .before .before .before .before .before .share .ensures .1, c .before .before .before .before .before .before .before .before .before .before .before .before .share2 .ensures .1, c .before .before .before .before .before .before .before .before .before .before .share3 .ensures .1, c .before .before .before .before .before .before .before .before .share4 .ensures .1, c .before .before .before .before .before .before .share5 .ensures .1, c .before .before .before .before .share6 .ensures .1, c .before .before .share7 .ensures .1, c .share8 .ensures .1)
+add-bucket : tie.Need-add-bucket Inv-loop μ-loop
+add-bucket c =
+    omega (arith, c .before .before .share3 .ensures .1, c .before .before .before .before .before .loop .inv .1)
 
-bucket-requires : tie.Need-bucket-requires
-bucket-requires c κs = c .before .before .before .before .before .before .before .before .before .before .before .before .before .before .before .before .pre
+add-bucket-2 : tie.Need-add-bucket-2 Inv-loop μ-loop
+add-bucket-2 c =
+    omega (arith, c .before .before .share3 .ensures .1, c .share4 .ensures .1, c .before .before .before .before .before .loop .inv .1)
 
-returns : tie.Need-returns
-unfolding hashOf
+bucket-requires : tie.Need-bucket-requires Inv-loop μ-loop
+bucket-requires c κs =
+    (c .before .before .before .before .before .before .before .before .before) .pre
+
+returns : tie.Need-returns Inv-loop μ-loop
 returns c =
-    let s = c .before .before .before .before .before .before .before .before .before .before .before .before .before .before .before .before .before in (
-      c .bucket .ensures .0 ∙ ap (λ (m : ℕ). bucketOf m (s .args .cap)) (let e₁ = c .before .before .before .before .before .before .before .before .before .before .before .before .before .before .before .share .ensures .0 in let e₂ = c .before .before .before .before .before .before .before .before .before .before .before .before .before .share2 .ensures .0 in let e₃ = c .before .before .before .before .before .before .before .before .before .before .before .share3 .ensures .0 in let e₄ = c .before .before .before .before .before .before .before .before .before .share4 .ensures .0 in let e₅ = c .before .before .before .before .before .before .before .share5 .ensures .0 in let e₆ = c .before .before .before .before .before .share6 .ensures .0 in let e₇ = c .before .before .before .share7 .ensures .0 in let e₈ = c .before .share8 .ensures .0 in cc (back (s .args .x .kind) (c .before .before .struct-told8 .given .0 .1), back (s .args .x .c1) (c .before .before .struct-told8 .given .1 .0 .1), back (s .args .x .c2) (c .before .before .struct-told8 .given .1 .1 .0 .1), back (s .args .x .c3) (c .before .before .struct-told8 .given .1 .1 .1 .0 .1), back (s .args .x .c4) (c .before .before .struct-told8 .given .1 .1 .1 .1 .0 .1), back (s .args .x .constant) (c .before .before .struct-told8 .given .1 .1 .1 .1 .1 .0 .1), back (s .args .x .high) (c .before .before .struct-told8 .given .1 .1 .1 .1 .1 .1 .0 .1), back (s .args .x .low) (c .before .before .struct-told8 .given .1 .1 .1 .1 .1 .1 .1 .0 .1))),
-      c .bucket .ensures .1,
-    )
+    (hash-as ((c .before .before .before .before .before .before .before .before .before .before) .args .cap) ((c .before .before .before .before .before .before .before .before .before .before) .args .x) (c .before .before .before .before .before .before .before .before .struct-told .given .0 .1) (c .before .before .before .before .struct-told2 .given .1 .1 .0 .1) (c .before .before .struct-told3 .given .1 .1 .1 .0 .1) (c .before .before .before .before .before .before .before .share .ensures .0) (hash-ends ((c .before .before .before .before .before .before .before .before .before .before) .args .x .n) (as-long ((c .before .before .before .before .before .before .before .before .before .before) .args .x .n) (c .before .before .before .before .before .before .before .before .struct-told .given .1 .0 .1 .0 .1)) _ _ (c .before .before .before .before .before .before .loop .h) (c .before .before .before .before .before .before .loop .k) (c .before .before .before .before .before .before .loop .i) (c .before .before .before .before .before .before .loop .inv .3) (c .before .before .before .before .before .loop-test .left)) (c .before .before .before .share3 .ensures .0) (c .before .share4 .ensures .0) (c .bucket .ensures .0), c .bucket .ensures .1)
 
 pub hash-spec : {M : Type 1} → statement M
 hash-spec =
     tie.close
     (tie.spec
+    Inv-loop
+    μ-loop
     share-requires
+    loop-holds
+    mul-z
+    array-copy-out-z
     share-requires-2
+    add-h
+    mul-k
+    add-i
+    loop-less
+    loop-again
     share-requires-3
     share-requires-4
-    share-requires-5
-    share-requires-6
-    share-requires-7
-    share-requires-8
     add-bucket
     add-bucket-2
-    add-bucket-3
-    add-bucket-4
-    add-bucket-5
-    add-bucket-6
-    add-bucket-7
     bucket-requires
     returns)

@@ -1,4 +1,4 @@
--- `diagrams::making::make_leaf` meets its contract.
+use Rattle.table.proofs.Words.{as-long}
 use Rattle.diagrams.proofs.Judging.{leaf-over, leaf-valid, leaf-made}
 use borrow.Author.Needs.{needs}
 use Rattle.diagrams.proofs.making.make_leaf.Statement.{statement}
@@ -9,7 +9,7 @@ within-requires c κs = search needs
 
 intern-requires : tie.Need-intern-requires
 intern-requires c κs =
-    ((c .before .before .before .before .before) .pre .0, leaf-valid ((c .before .before .before .before .before) .pre .0) ((c .before .before .before .before .before) .args .s) ((c .before .before .before .before .before) .pre .1) (c .before .before .before .within .ensures) (c .before .before .if1 .taken))
+    let s = (c .before .before .before .before .before) in (s .pre .0, leaf-valid (s .pre .0) (s .args .s) (as-long (s .args .s .n) (s .good .1 .1 .1 .1 .0 .1 .1 .1 .0 .1 .0 .1)) (s .pre .1) (c .before .before .before .within .ensures) (c .before .before .if1 .taken))
 
 same-length : tie.Need-same-length
 same-length c = search needs
@@ -19,11 +19,11 @@ same-length-2 c = search needs
 
 returns : tie.Need-returns
 returns c =
-    leaf-made ((c .before .before .before .before .before .before .before .before .before) .pre .0) ((c .before .before .before .before .before .before .before .before .before) .args .s) ((c .before .before .before .before .before .before .before .before .before) .pre .1) (c .before .before .before .before .before .before .before .within .ensures) (c .before .before .before .before .before .before .if1 .taken) (c .before .before .before .intern .ensures)
+    let s = (c .before .before .before .before .before .before .before .before .before) in leaf-made (s .pre .0) (s .args .s) (as-long (s .args .s .n) (s .good .1 .1 .1 .1 .0 .1 .1 .1 .0 .1 .0 .1)) (s .pre .1) (c .before .before .before .before .before .before .before .within .ensures) (c .before .before .before .before .before .before .if1 .taken) (c .before .before .before .intern .ensures)
 
 returns-2 : tie.Need-returns-2
 returns-2 c =
-    leaf-over ((c .before .before .before) .pre .0) ((c .before .before .before) .args .s) ((c .before .before .before) .pre .1) (c .before .within .ensures) (c .if1 .left)
+    let s = (c .before .before .before) in leaf-over (s .pre .0) (s .args .s) (as-long (s .args .s .n) (s .good .1 .1 .1 .1 .0 .1 .1 .1 .0 .1 .0 .1)) (s .pre .1) (c .before .within .ensures) (c .if1 .left)
 
 pub make-leaf-spec : {M : Type 1} → statement M
 make-leaf-spec =

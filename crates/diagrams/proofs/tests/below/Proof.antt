@@ -15,11 +15,11 @@ index-requires-2 c κs = search needs
 
 returns : tie.Need-returns
 returns c =
-    down-as ((c .before .before .before .before .before .before .before) .args .x) true (kind-yes 0 (omega arith) ((c .before .before .before .before .before .before .before) .args .x .kind) (c .before .struct-told3 .given .0 .1) (c .if1 .taken)) (abs-of ((c .before .before .before .before .before .before .before) .args .x .high) (c .before .before .before .before .before .before .struct-told .given .1 .1 .1 .1 .1 .1 .0 .1) (c .before .before .before .before .index .ensures)) (abs-of ((c .before .before .before .before .before .before .before) .args .x .low) (c .before .before .before .before .before .before .struct-told .given .1 .1 .1 .1 .1 .1 .1 .0 .1) (c .before .before .before .index2 .ensures))
+    down-as ((c .before .before .before .before .before .before .before) .args .x) true (kind-yes 0 (omega arith) ((c .before .before .before .before .before .before .before) .args .x .kind) (c .before .struct-told3 .given .0 .1) (c .if1 .taken)) (abs-of ((c .before .before .before .before .before .before .before) .args .x .high) (c .before .before .before .before .before .before .struct-told .given .1 .1 .0 .1) (c .before .before .before .before .index .ensures)) (abs-of ((c .before .before .before .before .before .before .before) .args .x .low) (c .before .before .before .before .before .before .struct-told .given .1 .1 .1 .0 .1) (c .before .before .before .index2 .ensures))
 
 returns-2 : tie.Need-returns-2
 returns-2 c =
-    down-as ((c .before .before .before .before .before .before .before) .args .x) false (kind-no 0 ((c .before .before .before .before .before .before .before) .args .x .kind) (c .if1 .left)) (abs-of ((c .before .before .before .before .before .before .before) .args .x .high) (c .before .before .before .before .before .before .struct-told .given .1 .1 .1 .1 .1 .1 .0 .1) (c .before .before .before .before .index .ensures)) (abs-of ((c .before .before .before .before .before .before .before) .args .x .low) (c .before .before .before .before .before .before .struct-told .given .1 .1 .1 .1 .1 .1 .1 .0 .1) (c .before .before .before .index2 .ensures))
+    down-as ((c .before .before .before .before .before .before .before) .args .x) false (kind-no 0 ((c .before .before .before .before .before .before .before) .args .x .kind) (c .if1 .left)) (abs-of ((c .before .before .before .before .before .before .before) .args .x .high) (c .before .before .before .before .before .before .struct-told .given .1 .1 .0 .1) (c .before .before .before .before .index .ensures)) (abs-of ((c .before .before .before .before .before .before .before) .args .x .low) (c .before .before .before .before .before .before .struct-told .given .1 .1 .1 .0 .1) (c .before .before .before .index2 .ensures))
 
 pub below-spec : {M : Type 1} → statement M
 below-spec = tie.close (tie.spec index-requires index-requires-2 returns returns-2)

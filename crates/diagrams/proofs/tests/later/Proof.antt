@@ -1,18 +1,20 @@
--- `diagrams::tests::later` meets its contract.
 use Rattle.diagrams.proofs.Meanings.{later-node}
 use borrow.Author.Needs.{needs}
 use Rattle.diagrams.proofs.tests.later.Statement.{statement}
 use Rattle.diagrams.proofs.tests.later.Tie as tie
 
-add-t2 : tie.Need-add-t2
-add-t2 c = search needs
+add-number : tie.Need-add-number
+add-number c = search needs
 
-cast-t3 : tie.Need-cast-t3
-cast-t3 c = search needs
+cast-number : tie.Need-cast-number
+cast-number c = search needs
+
+array-set-from-n : tie.Need-array-set-from-n
+array-set-from-n c = search needs
 
 returns : tie.Need-returns
 returns c =
     later-node (c .args .k) (c .pre)
 
 pub later-spec : {M : Type 1} → statement M
-later-spec = tie.close (tie.spec add-t2 cast-t3 returns)
+later-spec = tie.close (tie.spec add-number cast-number array-set-from-n returns)

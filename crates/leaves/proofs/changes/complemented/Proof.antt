@@ -1,18 +1,26 @@
+use Rattle.theory.specs.Widths.{levels-most}
+use Rattle.diagrams.specs.Nodes.{constantOf}
 use Rattle.leaves.proofs.Figures.{complement-fits, complement-node}
 use borrow.Author.Needs.{needs}
 use Rattle.leaves.proofs.changes.complemented.Statement.{statement}
 use Rattle.leaves.proofs.changes.complemented.Tie as tie
 
-cast-t3 : tie.Need-cast-t3
-cast-t3 c = search needs
+cast-z : tie.Need-cast-z
+cast-z c = search needs
 
-sub-t4 : tie.Need-sub-t4
-sub-t4 c =
-    complement-fits ((c .before .before) .args .x .constant) ((c .before .before) .args .weights) (c .struct-told .given .1 .1 .1 .1 .1 .0 .1) ((c .before .before) .pre .0 .constant) ((c .before .before) .pre .1)
+array-copy-out-z : tie.Need-array-copy-out-z
+array-copy-out-z c = search needs
+
+sub-z : tie.Need-sub-z
+sub-z c =
+    let s = (c .before .before) in complement-fits (constantOf (s .args .x)) (s .args .weights) (c .z .given) (s .pre .0 .each levels-most) (s .pre .1)
+
+array-set-from-n : tie.Need-array-set-from-n
+array-set-from-n c = search needs
 
 returns : tie.Need-returns
 returns c =
-    complement-node ((c .before .before .before) .args .x) (c .before .struct-told .given .1 .0 .1) (c .before .struct-told .given .1 .1 .0 .1) (c .before .struct-told .given .1 .1 .1 .0 .1) (c .before .struct-told .given .1 .1 .1 .1 .0 .1) (c .before .struct-told .given .1 .1 .1 .1 .1 .0 .1) ((c .before .before .before) .args .weights) ((c .before .before .before) .pre)
+    let s = (c .before .before) in complement-node (s .args .x) (s .args .weights) (s .pre)
 
 pub complemented-spec : {M : Type 1} → statement M
-complemented-spec = tie.close (tie.spec cast-t3 sub-t4 returns)
+complemented-spec = tie.close (tie.spec cast-z array-copy-out-z sub-z array-set-from-n returns)

@@ -1,14 +1,23 @@
-use Rattle.leaves.proofs.Figures.{shift-fits, shift-node}
+use Rattle.whole.proofs.Loops.{add-fits}
+use Rattle.theory.specs.Widths.{levels-most}
+use Rattle.leaves.proofs.Figures.{shift-node}
+use borrow.Author.Needs.{needs}
 use Rattle.leaves.proofs.changes.shifted.Statement.{statement}
 use Rattle.leaves.proofs.changes.shifted.Tie as tie
 
-add-t3 : tie.Need-add-t3
-add-t3 c =
-    shift-fits ((c .before .before) .args .x .constant) ((c .before .before) .args .c) (c .struct-told .given .1 .1 .1 .1 .1 .0 .1) ((c .before .before) .fits .c) ((c .before .before) .pre .0 .constant) ((c .before .before) .pre .1)
+array-copy-out-z : tie.Need-array-copy-out-z
+array-copy-out-z c = search needs
+
+add-z : tie.Need-add-z
+add-z c =
+    let s = (c .before .before) in add-fits _ _ (s .pre .0 .each levels-most) (s .pre .1)
+
+array-set-from-n : tie.Need-array-set-from-n
+array-set-from-n c = search needs
 
 returns : tie.Need-returns
 returns c =
-    shift-node ((c .before .before .before) .args .x) (c .before .struct-told .given .1 .0 .1) (c .before .struct-told .given .1 .1 .0 .1) (c .before .struct-told .given .1 .1 .1 .0 .1) (c .before .struct-told .given .1 .1 .1 .1 .0 .1) (c .before .struct-told .given .1 .1 .1 .1 .1 .0 .1) ((c .before .before .before) .args .c) ((c .before .before .before) .fits .c) ((c .before .before .before) .pre)
+    let s = (c .before .before) in shift-node (s .args .x) (s .args .c) (s .fits .c) (s .pre)
 
 pub shifted-spec : {M : Type 1} → statement M
-shifted-spec = tie.close (tie.spec add-t3 returns)
+shifted-spec = tie.close (tie.spec array-copy-out-z add-z array-set-from-n returns)

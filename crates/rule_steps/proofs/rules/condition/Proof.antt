@@ -18,8 +18,11 @@ unknown-requires-2 c κs = search needs
 returns-2 : tie.Need-returns-2
 returns-2 c = same (c .unknown2 .ensures) (c .before .before .before .before .before .before .pre .0)
 
-cast-t9 : tie.Need-cast-t9
-cast-t9 c = search needs
+cast-n : tie.Need-cast-n
+cast-n c = search needs
+
+array-set-from-n : tie.Need-array-set-from-n
+array-set-from-n c = search needs
 
 join-test-requires : tie.Need-join-test-requires
 join-test-requires c κs =
@@ -44,7 +47,8 @@ condition-spec =
     returns
     unknown-requires-2
     returns-2
-    cast-t9
+    cast-n
+    array-set-from-n
     join-test-requires
     same-length
     same-length-2

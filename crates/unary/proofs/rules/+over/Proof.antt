@@ -7,9 +7,6 @@ use Rattle.unary.proofs.Walking.{walk-ends, walk-ended, pick-falls, pic
 use Prim.Native.Nat.{ℕ, _<_}
 use borrow.Fn.Kinds.{In}
 use borrow.Fn.PlainCycle.{Measures, is, falls, and}
-use Prim.Native.Nat.{ℕ, _<_}
-use borrow.Fn.Kinds.{In}
-use borrow.Fn.PlainCycle.{Measures, is, falls, and}
 use Rattle.unary.proofs.rules.over.Reads as over
 use Rattle.unary.proofs.rules.over.Kinds as over-kinds
 use Rattle.unary.proofs.rules.+over.Lts-over as over-lts
