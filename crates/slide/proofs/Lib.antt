@@ -1,3 +1,4 @@
 pub mod Ranks
 pub mod Moves
+pub mod Stays
 pub mod Slides

@@ -1,16 +1,18 @@
 -- Ranks: where the marked ones of a list stand once the others are gone.
-use mathlib.Core.Path.{_≡_, refl, sym, ap, _∙_}
+use mathlib.Core.Path.{_≡_, refl, sym, ap, ap₂, _∙_}
 use mathlib.Core.Bool.{Bool, true, false, cond}
 use mathlib.Core.Logic.{⊎-elim}
 use mathlib.Core.List.{List, [], _∷_, _++_}
 use Prim.Native.Nat.{ℕ, zero, suc, _+_, _≤_, _<_}
 use native.Mathlib.Numerals.{add-one}
 use native.Mathlib.Omega.{arith}
+use lib.IntN.{ℤ}
 use lib.ListN.{length, getD, length-append, List·getD-append}
 use lib.Seq.{getD-at}
 use Rattle.table.proofs.Look.{split}
 use Rattle.theory.specs.Diagram.{Tree}
-use Rattle.diagrams.specs.Nodes.{blank}
+use Rattle.diagrams.specs.Nodes.{blank, trees}
+use Rattle.diagrams.proofs.Trees.{trees-at}
 use Rattle.slide.specs.Slide.{rank, keepOf}
 
 module _ (m : ℕ → Bool) where
@@ -64,6 +66,32 @@ module _ (m : ℕ → Bool) where
             let r : rank m k ≡ rank m i = ap (rank m) q in
             (omega arith, getD-at (keepOf m X i) (getD X i blank) [] blank (rank m k) (keep-length i ∙ sym r) ∙ ap (λ (z : ℕ). getD X z blank) (sym q))
         new q false d = absurd (let w : m i ≡ true = ap m (sym q) ∙ e in let z : _≡_ {A = ℕ} 0 1 = cc in omega arith)
+
+  -- where all are marked, each is its own rank, and all are kept
+  pub rank-all : (i : ℕ) → ((k : ℕ) → k < i → m k ≡ true) → rank m i ≡ i
+  unfolding rank
+  rank-all zero h = refl
+  rank-all (suc i) h =
+      ap (λ (b : Bool). cond b (rank m i + 1) (rank m i)) (h i (omega arith)) ∙ ap (λ (k : ℕ). k + 1) (rank-all i (λ k q. h k (omega arith))) ∙ add-one i
+
+  pub keep-all : (l : List ℤ) (n i : ℕ) → i ≤ n → ((k : ℕ) → k < i → m k ≡ true) → keepOf m (trees l n) i ≡ trees l i
+  unfolding keepOf trees
+  keep-all l n zero q h = refl
+  keep-all l n (suc i) q h =
+      ap (λ (b : Bool). cond b (keepOf m (trees l n) i ++ (getD (trees l n) i blank ∷ [])) (keepOf m (trees l n) i)) (h i (omega arith))
+      ∙ ap₂ (λ (X : List Tree) (t : Tree). X ++ (t ∷ [])) (keep-all l n i (omega arith) (λ k r. h k (omega arith))) (trees-at l n i (omega arith))
+
+  -- marks that agree below n have the same ranks, and keep the same
+  module _ (m′ : ℕ → Bool) where
+    pub rank-same : (n : ℕ) → ((k : ℕ) → k < n → m′ k ≡ m k) → rank m′ n ≡ rank m n
+    unfolding rank
+    rank-same zero h = refl
+    rank-same (suc n) h = ap₂ (λ (b : Bool) (r : ℕ). cond b (r + 1) r) (h n (omega arith)) (rank-same n (λ k q. h k (omega arith)))
+
+    pub keep-same : (X : List Tree) (n : ℕ) → ((k : ℕ) → k < n → m′ k ≡ m k) → keepOf m′ X n ≡ keepOf m X n
+    unfolding keepOf
+    keep-same X zero h = refl
+    keep-same X (suc n) h = ap₂ (λ (b : Bool) (Y : List Tree). cond b (Y ++ (getD X n blank ∷ [])) Y) (h n (omega arith)) (keep-same X n (λ k q. h k (omega arith)))
 
   -- each rank is some marked index's
   pub unrank : (i a : ℕ) → a < rank m i → (k : ℕ) × (k < i) × (m k ≡ true) × (rank m k ≡ a)

@@ -18,8 +18,8 @@ use Rattle.theory.specs.Diagram.{Tree, branch}
 use Rattle.diagrams.specs.Nodes.{linOf, testOf, treeOf, blank, trees, Nums, Tested, Valid, Good}
 use Rattle.mark.specs.Mark.{Space, markOf}
 use Rattle.diagrams.proofs.Trees.{tree-at, tree-leaf, tree-branch, trees-same, weaken}
-use Rattle.slide.specs.Slide.{rank, keepOf, renumber, SlidOne, Closed, Slid}
-use Rattle.slide.proofs.Ranks.{rank-le, rank-yes, rank-no, keep-yes, keep-no, keep-at, unrank}
+use Rattle.slide.specs.Slide.{rank, keepOf, renumber, SlidOne, Stayed, Closed, Slid}
+use Rattle.slide.proofs.Ranks.{rank-le, rank-yes, rank-no, rank-all, rank-same, keep-yes, keep-no, keep-at, keep-all, keep-same, unrank}
 
 -- ---- the state of the loop
 
@@ -35,11 +35,67 @@ pub record State (cap : ℕ) (l l′ : List ℤ) (w w′ : List ℕ) (n i j : �
   pub kept : trees l′ j ≡ keepOf (markOf w) (trees l n) i
   pub valid : (k : ℕ) → k < j → Valid (nodeAt l′ k) k
 
-module _ {cap : ℕ} {l : List ℤ} {w : List ℕ} {n : ℕ} (Z : Space cap l w n) (G : Good l n) (C : Closed l w n) where
-  pub begins : State cap l l w w n 0 0
-  unfolding rank keepOf trees
-  begins = record { at = refl; upto = omega arith; len = refl; lenw = refl; later = λ k h. refl; marks = λ k h. refl; beyond = λ k h. refl; moved = λ k h. absurd (omega arith); kept = refl; valid = λ k h. absurd (omega arith) }
+-- ---- the nodes that stay
 
+-- what the marks say is the same after nodes have stayed
+module _ {cap : ℕ} {w w′ : List ℕ} {n r : ℕ} (T : Stayed cap w w′ n r) where
+  same-marks : (k : ℕ) → k < cap → markOf w′ k ≡ markOf w k
+  unfolding markOf
+  same-marks k q = ap (λ (v : ℕ). not (eqb v 0)) (T .marks k q)
+
+  module _ {l : List ℤ} (Z : Space cap l w n) where
+    pub space-after : Space cap l w′ n
+    space-after = record { some = Z .some; few = Z .few; room = Z .room; words = Z .words; works = let a = Z .works in let b = T .len in omega arith }
+
+    pub closed-after : Good l n → Closed l w n → Closed l w′ n
+    closed-after G C = record {
+      high = λ i h e d. up (let q = G .valid i h .high-below d in let a = Z .room in omega arith) (C .high i h (down i h e) d);
+      low = λ i h e d. up (let q = G .valid i h .low-below d in let a = Z .room in omega arith) (C .low i h (down i h e) d);
+    }
+      where
+        down : (k : ℕ) → k < n → markOf w′ k ≡ true → markOf w k ≡ true
+        down k q e = sym (same-marks k (let a = Z .room in omega arith)) ∙ e
+
+        up : {k : ℕ} → k < cap → markOf w k ≡ true → markOf w′ k ≡ true
+        up {k} q e = same-marks k q ∙ e
+
+    -- what has slid then has slid from the start
+    pub slid-before : {l′ : List ℤ} {w″ : List ℕ} {j : ℕ} → Slid cap l l′ w′ w″ n j → Slid cap l l′ w w″ n j
+    slid-before s = record {
+      count = s .count ∙ ranks n (omega arith);
+      fewer = s .fewer;
+      good = s .good;
+      kept = s .kept ∙ keep-same (markOf w) (markOf w′) (trees l n) n (λ k q. same-marks k (let a = Z .room in omega arith));
+      moved = λ k q e. s .moved k q (same-marks k (let a = Z .room in omega arith) ∙ e) ∙ ranks k (omega arith);
+      beyond = λ k q. s .beyond k q ∙ T .beyond k q;
+      nodes-length = s .nodes-length;
+      work-length = s .work-length ∙ T .len;
+    }
+      where
+        ranks : (k : ℕ) → k ≤ n → rank (markOf w′) k ≡ rank (markOf w) k
+        ranks k q = rank-same (markOf w) (markOf w′) k (λ i h. same-marks i (let a = Z .room in omega arith))
+
+    -- the slide goes on where they end
+    pub begins : Good l n → State cap l l w′ w′ n r r
+    begins G = record {
+      at = sym (rank-all (markOf w′) r all);
+      upto = T .upto;
+      len = refl;
+      lenw = refl;
+      later = λ k h. refl;
+      marks = λ k h. refl;
+      beyond = λ k h. refl;
+      moved = λ k h e. T .own k h ∙ sym (rank-all (markOf w′) k (λ i q. all i (omega arith)));
+      kept = sym (keep-all (markOf w′) l n r (T .upto) all);
+      valid = λ k h. G .valid k (let a = T .upto in omega arith);
+    }
+      where
+        all : (k : ℕ) → k < r → markOf w′ k ≡ true
+        all k h = same-marks k (let a = Z .room in let b = T .upto in omega arith) ∙ T .marked k h
+
+-- ---- the slide
+
+module _ {cap : ℕ} {l : List ℤ} {w : List ℕ} {n : ℕ} (Z : Space cap l w n) (G : Good l n) (C : Closed l w n) where
   module _ {l′ : List ℤ} {w′ : List ℕ} {i j : ℕ} (S : State cap l l′ w w′ n i j) (h : i < n) where
     abbrev mk : ℕ → Bool
     mk = markOf w

@@ -33,6 +33,15 @@ pub record SlidOne (l : List ℤ) (w : List ℕ) (cap i j : ℕ) (l′ : List �
   pub nodes : l′ ≡ cond (markOf w i) (putAt l j (renumber w cap (nodeAt l i))) l
   pub work : w′ ≡ cond (markOf w i) (set w (cap + i) j) w
 
+-- the first r nodes are marked, and forwarded to where they are; the marks of all nodes stay as they are
+pub record Stayed (cap : ℕ) (w w′ : List ℕ) (n r : ℕ) : Type 0 where
+  pub upto : r ≤ n
+  pub marked : (k : ℕ) → k < r → markOf w k ≡ true
+  pub own : (k : ℕ) → k < r → getD w′ (cap + k) 0 ≡ k
+  pub marks : (k : ℕ) → k < cap → getD w′ k 0 ≡ getD w k 0
+  pub beyond : (k : ℕ) → cap * 2 ≤ k → getD w′ k 0 ≡ getD w k 0
+  pub len : length w′ ≡ length w
+
 -- a marked node's branches are marked
 pub record Closed (l : List ℤ) (w : List ℕ) (n : ℕ) : Type 0 where
   pub high : (i : ℕ) → i < n → markOf w i ≡ true → eqZ (nodeAt l i .kind) (pos 0) ≡ false → markOf w (natAbs (nodeAt l i .high)) ≡ true

@@ -7,7 +7,7 @@ ghost use lib.ListN.{length};
 ghost use Rattle.table.specs.Table.{node-words, nodeAt};
 ghost use Rattle.diagrams.specs.Nodes.{Valid, Good};
 ghost use Rattle.mark.specs.Mark.{Space};
-ghost use Rattle.slide.specs.Slide.{renumber, SlidOne, Closed, Slid};
+ghost use Rattle.slide.specs.Slide.{renumber, SlidOne, Stayed, Closed, Slid};
 
 // A node with its branches' new indexes.
 fn moved(work: &[u32], cap: usize, x: Node) -> Node
@@ -41,13 +41,29 @@ fn slide_one(nodes: &mut [i64], work: &mut [u32], cap: usize, i: usize, j: usize
     j + 1
 }
 
+// The nodes up to the first that is not marked stay in place: each is forwarded to itself. Answers how many.
+fn stay(work: &mut [u32], cap: usize, count: usize) -> usize
+    requires { ⌜ (cap * 2 ≤ length (now work)) × (cap ≤ 65535) × (count ≤ cap) ⌝ }
+    ensures { λ r. ⌜ Stayed cap (now (work .entry)) (now (work .exit)) count r ⌝ }
+{
+    let mut i: usize = 0;
+    while i < count {
+        if work[i] == 0 {
+            return i;
+        }
+        work[cap + i] = i as u32;
+        i += 1;
+    }
+    i
+}
+
 // All nodes, from the first on. Answers how many are left.
 pub fn slide(nodes: &mut [i64], work: &mut [u32], cap: usize, count: usize) -> usize
     requires { ⌜ Space cap (now nodes) (now work) count × Good (now nodes) count × Closed (now nodes) (now work) count ⌝ }
     ensures { λ r. ⌜ Slid cap (now (nodes .entry)) (now (nodes .exit)) (now (work .entry)) (now (work .exit)) count r ⌝ }
 {
-    let mut i: usize = 0;
-    let mut j: usize = 0;
+    let mut i = stay(work, cap, count);
+    let mut j = i;
     while i < count {
         j = slide_one(nodes, work, cap, i, j);
         i += 1;
