@@ -153,6 +153,10 @@ pub fn substitute(
     requires { ⌜ Table ruleOf cap (now nodes) (now work) count × (f < count) × Levels count (now levels) ⌝ }
     ensures { λ r. ⌜ Ran ruleOf cap (now (nodes .entry)) (now (work .entry)) count (R.substitute (levelsAt (now (nodes .entry)) count (now (levels .entry))) (treeAt (now (nodes .entry)) count f)) (now (nodes .exit)) (now (work .exit)) r ⌝ }
 {
+    let s = down_at(nodes, f);
+    if s.ends {
+        return linear_diagram(nodes, work, cap, count, f, levels);
+    }
     let c = recall(work, cap, f, levels);
     if c != 0 {
         return Made {
@@ -160,10 +164,6 @@ pub fn substitute(
             at: c - 1,
             count,
         };
-    }
-    let s = down_at(nodes, f);
-    if s.ends {
-        return linear_diagram(nodes, work, cap, count, f, levels);
     }
     let k = condition_at(nodes, f);
     let p = head(nodes, work, cap, count, f, k, levels);

@@ -66,6 +66,10 @@ pub fn walk(
     requires { ⌜ Table ruleOf cap (now nodes) (now work) count × (f < count) × (g < count) × (p < count) ⌝ }
     ensures { λ r. ⌜ Ran ruleOf cap (now (nodes .entry)) (now (work .entry)) count (ruleOf (now (nodes .entry)) count 9 f g p 0) (now (nodes .exit)) (now (work .exit)) r ⌝ }
 {
+    let s = down_at(nodes, f);
+    if s.ends {
+        return decide_at(nodes, work, cap, count, f, g, p);
+    }
     let c = look(work, cap, WALK, f, g, p, 0);
     if c != 0 {
         return Made {
@@ -73,10 +77,6 @@ pub fn walk(
             at: c - 1,
             count,
         };
-    }
-    let s = down_at(nodes, f);
-    if s.ends {
-        return decide_at(nodes, work, cap, count, f, g, p);
     }
     let h = walk(nodes, work, cap, count, s.high, g, p);
     if h.stop != 0 {
