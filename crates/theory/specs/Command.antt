@@ -9,7 +9,7 @@ use Rattle.whole.specs.Cases.{if}
 use Rattle.theory.specs.Widths.{levels-most, name-bytes}
 use Rattle.theory.specs.Diagram.{Linear}
 
--- what is given to an action: the command's byte, the action, the condition or level (0 where there is none)
+-- what a diagram is given as: the command's byte, the action, the condition or level (0 where there is none)
 pub record Slot : Type 0 where
   pub command : ℕ
   pub action : ℕ
@@ -41,8 +41,9 @@ width op =
     (if (eqb op 0x20) 2
     (if (eqb op 0x21) 3
     (if (eqb op 0x22) 3
+    (if (eqb op 0x23) 1
     (if (eqb op 0x30) 18
-    (if (eqb op 0xff) 1 0))))))))
+    (if (eqb op 0xff) 1 0)))))))))
 
 -- a byte of the model, 0 past its end
 abbrev pub byte-at : List ℕ → ℕ → ℕ
@@ -78,8 +79,9 @@ command-at B at =
     (if (eqb op 0x20) (give (record { command = 0x20; action = x; index = 0 }))
     (if (eqb op 0x21) (give (record { command = 0x21; action = x; index = y }))
     (if (eqb op 0x22) (give (record { command = 0x22; action = x; index = y }))
+    (if (eqb op 0x23) (give (record { command = 0x23; action = 0; index = 0 }))
     (if (eqb op 0x30) (name-action x (take name-bytes (drop (at + 2) B)))
-    end-model)))))))
+    end-model))))))))
 
 -- "within a command 3, 2"
 unfoldable pub read-at : List ℕ → ℕ → Read

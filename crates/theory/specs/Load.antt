@@ -9,7 +9,7 @@ use Rattle.theory.specs.Computation.{Comp, ret, bind, make, result}
 use Rattle.theory.specs.Rules.{choose, zero-leaf}
 use Rattle.theory.specs.Meaning.{Action, Model}
 use Rattle.theory.specs.Command.{Command, site, push-leaf, push-condition, push-test, give, name-action, end-model, whole, unknown, short, Placed, byte-at, readings, Slot}
-use Rattle.theory.specs.Verdict.{Site, site-of, same-slot, reward-slot, chance-slot, level-slot, from-to}
+use Rattle.theory.specs.Verdict.{Site, site-of, same-slot, reward-slot, chance-slot, level-slot, end-slot, from-to}
 
 -- a diagram and what it was given as
 pub record Entry : Type 0 where
@@ -78,6 +78,11 @@ unfoldable pub find-slot : Slot → List Entry → Tree
 find-slot g [] = zero-leaf
 find-slot g (e ∷ E) = if (same-slot g (e .slot)) (e .tree) (find-slot g E)
 
+-- the same where it need not have been: none or one
+unfoldable pub found : Slot → List Entry → List Tree
+found g [] = []
+found g (e ∷ E) = if (same-slot g (e .slot)) (e .tree ∷ []) (found g E)
+
 -- the diagrams of action a
 unfoldable pub action-of : Site → List Entry → ℕ → Action
 action-of S E a = record {
@@ -94,6 +99,7 @@ model-of S E = record {
   weights = S .weights;
   first = action-of S E 1;
   others = map (action-of S E) (from-to 2 (S .actions - 1));
+  end = found end-slot E;
 }
 
 -- the operands of the first command

@@ -17,13 +17,14 @@ pub record Action : Type 0 where
   pub chances : List Tree
   pub levels : List Tree
 
--- m, n and W of the site, and its actions
+-- m, n and W of the site, its actions, and the end worth where one is given
 pub record Model : Type 0 where
   pub levels : ℕ
   pub conditions : ℕ
   pub weights : ℕ
   pub first : Action
   pub others : List Action
+  pub end : List Tree
 
 -- the action k places after x
 unfoldable pub nth-action : Action → List Action → ℕ → Action
@@ -94,6 +95,11 @@ at e (branch t h l) = elim (holds e t) [ true ↦ at e h | false ↦ at e l ]
 unfoldable pub worth-at : Env → Tree → ℤ
 worth-at e F = value e (at e F .lin)
 
+-- "V₀ is that diagram; without the command it is 0": times D
+unfoldable pub end-at : Env → List Tree → ℤ
+end-at e [] = pos 0
+end-at e (F ∷ l) = worth-at e F
+
 -- ---- the process
 
 -- each setting with one more condition before it, no before yes
@@ -124,7 +130,7 @@ moved s Ds r = record { conditions = r; nums = map (worth-at (env s r)) Ds; den 
 abbrev pub power : Model → ℕ → ℕ
 power M h = (M .weights) ^ ((M .conditions) * h)
 
--- totals with h steps left are compared times D × W^(n×h); V₀ is 0
+-- totals with h steps left are compared times D × W^(n×h); V₀ is the end worth
 unfoldable pub process : Model → Process State ℕ (List Bool)
 process M = record {
   first = 1;
@@ -133,5 +139,5 @@ process M = record {
   reward = λ h a s. pos (power M (suc h)) *ℤ worth-at (env s []) (action-at M a .reward);
   weight = λ a s r. weight (M .weights) (map (chance-at (env s [])) (action-at M a .chances)) r;
   next = λ a s r. moved s (action-at M a .levels) r;
-  end = λ s. pos 0;
+  end = λ s. end-at (env s []) (M .end);
 }

@@ -9,7 +9,7 @@ use Rattle.whole.specs.Cases.{if}
 use Rattle.whole.specs.Within.{small}
 use Rattle.whole.specs.Numerator.{words}
 use Rattle.theory.specs.Widths.{steps-most}
-use Rattle.theory.specs.Meaning.{Action, Model, State, env, worth-at, chance-at, weight, settings, moved, power}
+use Rattle.theory.specs.Meaning.{Action, Model, State, env, worth-at, end-at, chance-at, weight, settings, moved, power}
 use Rattle.theory.specs.Valid.{all}
 use Rattle.theory.specs.Load.{site-at, model}
 use Rattle.theory.specs.Solve.{early}
@@ -62,9 +62,9 @@ unfoldable pub numbered : Worth → Worth
 numbered (is v _) = is v 1
 numbered over = over
 
--- "the worth of a state tries each action": D × W^(n×h) × V_h
+-- "the worth of a state tries each action": D × W^(n×h) × V_h; with no step left "an end worth times D beyond ±(2⁶² − 1) is 11"
 unfoldable pub state-worth : Model → ℕ → State → Worth
-state-worth M zero s = is (pos 0) 0
+state-worth M zero s = judged (end-at (env s []) (M .end)) (is (end-at (env s []) (M .end)) 0)
 state-worth M (suc h) s =
     try-actions (λ x. action-worth M (suc h) (state-worth M h) x s) 2 (M .others) (numbered (action-worth M (suc h) (state-worth M h) (M .first) s))
 

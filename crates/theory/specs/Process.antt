@@ -42,7 +42,7 @@ module _ {S A E : Type 0} (P : Process S A E) where
   unfoldable pub total : (S → ℤ) → ℕ → A → S → ℤ
   total after h a s = (P .reward) h a s +ℤ mean ((P .weight) a s) (λ e. after ((P .next) a s e)) (P .settings)
 
-  -- "V₀ is 0. V_h(s) is the largest over the actions of" their totals
+  -- "V₀ is that diagram", `end`; "V_h(s) is the largest over the actions of" their totals
   unfoldable pub optimum : ℕ → S → ℤ
   optimum zero s = (P .end) s
   optimum (suc h) s = greatest-from (λ a. total (optimum h) h a s) (total (optimum h) h (P .first) s) (P .others)

@@ -13,7 +13,7 @@ use Rattle.whole.specs.Numerator.{words}
 use Rattle.theory.specs.Diagram.{Tree, zeros}
 use Rattle.theory.specs.Computation.{solved, refused}
 use Rattle.theory.specs.Command.{Command, site, push-leaf, push-condition, push-test, name-action, end-model, whole, readings, byte-at, width, command-at, give, Slot}
-use Rattle.theory.specs.Verdict.{Verdict, refusal, Site, Facts, Progress, at-start, after, top, reward-slot, chance-slot, level-slot, name-slot}
+use Rattle.theory.specs.Verdict.{Verdict, refusal, Site, Facts, Progress, at-start, after, top, reward-slot, chance-slot, level-slot, end-slot, name-slot}
 use Rattle.theory.specs.Load.{site-at, model}
 use Rattle.theory.specs.Solve.{solve-in, SolveOut, solved-nodes, solved-stages}
 use Rattle.theory.specs.Value.{Asked, accepted, state-of, node-word, node-linear, high-of, low-of, numerator-of, taken, ValueOut, refused-value}
@@ -49,11 +49,12 @@ abbrev pub AllGiven : Site → List Slot → Type 0
 AllGiven S G = (a : ℕ) → Range 1 (S .actions) a → List·Memᴰ (reward-slot a) G
     × (((k : ℕ) → Range 1 (S .conditions) k → List·Memᴰ (chance-slot a k) G) × ((i : ℕ) → Range 1 (S .levels) i → List·Memᴰ (level-slot a i) G))
 
--- "20 reward: action", "21 chance: action, condition", "22 next level: action, level": each is one of the site's
+-- "20 reward: action", "21 chance: action, condition", "22 next level: action, level": each is one of the site's; the end worth has none
 abbrev pub OfSite : Site → Slot → Type 0
 OfSite S g =
-    Range 1 (S .actions) (g .action)
-    × (((g .command ≡ 0x20) × (g .index ≡ 0)) ⊎ (((g .command ≡ 0x21) × Range 1 (S .conditions) (g .index)) ⊎ ((g .command ≡ 0x22) × Range 1 (S .levels) (g .index))))
+    (g ≡ end-slot)
+    ⊎ (Range 1 (S .actions) (g .action)
+    × (((g .command ≡ 0x20) × (g .index ≡ 0)) ⊎ (((g .command ≡ 0x21) × Range 1 (S .conditions) (g .index)) ⊎ ((g .command ≡ 0x22) × Range 1 (S .levels) (g .index)))))
 
 -- "Next-step conditions stand only in next levels"; "The leaves of a chance are constants 0 to W"
 abbrev pub MayBe : Slot → Facts → Type 0

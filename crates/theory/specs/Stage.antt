@@ -50,6 +50,11 @@ stages-on M (suc k) h finished P =
     and-then (stage-over M h (finished ++ model-diagrams M) P)
     (λ S. and-then (stages-on M k (suc h) (S ∷ finished) S) (λ l. end (S ∷ l)))
 
--- "Stage 0 is a leaf 0, finished as stage 1 begins": stages 1 to H, the first first
+-- over stage 0: the end worth, which is there since loading, or "a leaf 0, finished as stage 1 begins"
+unfoldable pub stages-over-end : Model → ℕ → List Tree → Ops (List Tree)
+stages-over-end M H [] = operation 1 (model-diagrams M) (make zero-leaf) (λ Z. stages-on M H 1 (Z ∷ []) Z)
+stages-over-end M H (E ∷ l) = stages-on M H 1 (E ∷ []) E
+
+-- stages 1 to H, the first first
 unfoldable pub all-stages : Model → ℕ → Ops (List Tree)
-all-stages M H = operation 1 (model-diagrams M) (make zero-leaf) (λ Z. stages-on M H 1 (Z ∷ []) Z)
+all-stages M H = stages-over-end M H (M .end)

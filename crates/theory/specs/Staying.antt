@@ -5,7 +5,7 @@ use Prim.Native.Nat.{ℕ, zero, suc, _^_, _≤_, _<_}
 use lib.IntN.{ℤ, pos, negℤ, natAbs, _+ℤ_, _*ℤ_}
 use lib.Signed.{_≤ℤ_, _<ℤ_}
 use Rattle.theory.specs.Process.{optimum}
-use Rattle.theory.specs.Meaning.{Action, Model, State, env, worth-at, chance-at, weight, settings, moved, power, process}
+use Rattle.theory.specs.Meaning.{Action, Model, State, env, worth-at, end-at, chance-at, weight, settings, moved, power, process}
 
 -- a signed number of 32 bits
 abbrev pub In32 : ℤ → Type 0
@@ -29,7 +29,7 @@ module _ (M : Model) where
       In62 (pos (power M h)) × (In62 (worth-at (env s []) (x .reward)) × (In62 (pos (power M h) *ℤ worth-at (env s []) (x .reward))
       × SumStays ok worth (weight (M .weights) (map (chance-at (env s [])) (x .chances))) (moved s (x .levels)) (settings (M .conditions)) (pos (power M h) *ℤ worth-at (env s []) (x .reward))))
 
-  -- a state: each action; the worth of a next state is its best expected total
+  -- a state: each action; the worth of a next state is its best expected total; "an end worth times D beyond ±(2⁶² − 1) is 11"
   abbrev pub Stays : ℕ → State → Type 0
-  Stays zero s = Unit {0}
+  Stays zero s = In62 (end-at (env s []) (M .end))
   Stays (suc h) s = (x : Action) → List·Memᴰ x (M .first ∷ M .others) → ActionStays (Stays h) (optimum (process M) h) (suc h) s x

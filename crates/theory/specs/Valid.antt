@@ -58,8 +58,9 @@ valid-action m n W x =
     && (eqb (length (x .chances)) n && (all (all-nodes (good-test n false) (weight-leaf W)) (x .chances)
     && (eqb (length (x .levels)) m && all (all-nodes (good-test n true) good-leaf) (x .levels))))
 
--- a model: numbers of the site in range, and each action valid
+-- a model: numbers of the site in range, each action valid, and an end worth "under the rules for a reward"
 unfoldable pub valid : Model → Bool
 valid M =
     among levels-most (M .levels) && (leb (M .conditions) conditions-most && (among weights-most (M .weights)
-    && (leb (length (M .others)) (actions-most - 1) && all (valid-action (M .levels) (M .conditions) (M .weights)) (M .first ∷ M .others))))
+    && (leb (length (M .others)) (actions-most - 1) && (all (valid-action (M .levels) (M .conditions) (M .weights)) (M .first ∷ M .others)
+    && all (all-nodes (good-test (M .conditions) false) good-leaf) (M .end)))))

@@ -47,6 +47,10 @@ chance-slot a k = record { command = 0x21; action = a; index = k }
 abbrev pub level-slot : ℕ → ℕ → Slot
 level-slot a i = record { command = 0x22; action = a; index = i }
 
+-- "23 takes one diagram off the stack as the end worth, with no operand"
+abbrev pub end-slot : Slot
+end-slot = record { command = 0x23; action = 0; index = 0 }
+
 -- "30 name: action"
 abbrev pub name-slot : ℕ → Slot
 name-slot a = record { command = 0x30; action = a; index = 0 }
@@ -94,11 +98,11 @@ printable b = leb 0x20 b && leb b 0x7e
 unfoldable pub is-weight : ℕ → Linear → Bool
 is-weight W p = zeros (p .coeffs) && (leZ (pos 0) (p .const) && leZ (p .const) (pos W))
 
--- "20 reward: action", "21 chance: action, condition", "22 next level: action, level": each is one of the site's
+-- "20 reward: action", "21 chance: action, condition", "22 next level: action, level": each is one of the site's; the end worth has none
 unfoldable pub of-site : Site → Slot → Bool
-of-site S g =
-    among (S .actions) (g .action)
-    && (if (eqb (g .command) 0x20) (eqb (g .index) 0) (if (eqb (g .command) 0x21) (among (S .conditions) (g .index)) (eqb (g .command) 0x22 && among (S .levels) (g .index))))
+of-site S g = or (same-slot g end-slot)
+    (among (S .actions) (g .action)
+    && (if (eqb (g .command) 0x20) (eqb (g .index) 0) (if (eqb (g .command) 0x21) (among (S .conditions) (g .index)) (eqb (g .command) 0x22 && among (S .levels) (g .index)))))
 
 -- ---- the stack
 

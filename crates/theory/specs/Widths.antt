@@ -13,7 +13,7 @@ conditions-most = 4
 abbrev pub actions-most : ℕ
 actions-most = 8
 
--- a flag for each thing that an action is given, and for its name: a row of the actions, from 1 on, for the reward, each chance, each next level and the name
+-- a flag for each thing that an action is given, and for its name: a row of the actions, from 1 on, for the reward, each chance, each next level and the name; flag 0 is the end worth's
 abbrev pub flags-most : ℕ
 flags-most = (2 + conditions-most + levels-most) * actions-most + 1
 

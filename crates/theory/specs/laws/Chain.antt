@@ -10,7 +10,7 @@ use Rattle.theory.specs.Diagram.{Test, Tree, leaf, plain, test-of}
 use Rattle.theory.specs.Computation.{Comp, ret, bind, result, make, Out, done, stopped, run, enter-all, Ops, end, operation, and-then, final, solved, refused, run-all}
 use Rattle.theory.specs.Rules.{choose, zero-leaf, expectation}
 use Rattle.theory.specs.Meaning.{Action, Model, power}
-use Rattle.theory.specs.Stage.{action-diagrams, all-diagrams, model-diagrams, sum-out, action-total, best-on, stage-over, stages-on, all-stages}
+use Rattle.theory.specs.Stage.{action-diagrams, all-diagrams, model-diagrams, sum-out, action-total, best-on, stage-over, stages-on, stages-over-end, all-stages}
 use Rattle.theory.specs.Command.{Command, site, push-leaf, push-condition, push-test, name-action, end-model, Read, whole, unknown, short, Placed, readings, give, Slot}
 use Rattle.theory.specs.Verdict.{verdict}
 use Rattle.theory.specs.Load.{Entry, Loaded, condition-test, load-choice, load-choice-with, load-entry, load-one, load-one-with, load-on, load-on-with, model-of, site-at, load, load-with, model}
@@ -20,7 +20,7 @@ use Rattle.theory.specs.laws.Comps.{run-all-final}
 use Rattle.theory.specs.laws.Events.{run-done}
 use Rattle.theory.specs.laws.Counting.{roots-fit}
 use Rattle.theory.specs.laws.Refusals.{loaded, solve-passes, run-all-peak}
-use Rattle.theory.specs.laws.Loading.{entry-trees, loaded-entries, diagrams-loaded}
+use Rattle.theory.specs.laws.Loading.{entry-trees, loaded-entries, diagrams-loaded, end-loaded}
 use Rattle.theory.specs.laws.Inside.{sub-needed, all-none, all-parts, all-cons, all-more, all-left, all-right, roots-inside, bind-gives, Built, builds, leaf-built, zero-built, choose-built, best-built, substitute-built, expectation-built, reward-built}
 
 -- ---- operations
@@ -126,12 +126,19 @@ stages-on-leads M (suc k) h finished P X i =
     (stages-on-leads M k (suc h) (_ ∷ finished) _ Y j)
     (λ Z q. let d = all-parts _ finished Z (q .1) in end-leads (Stages finished) Z _ (all-cons _ _ Z (d .0) (q .0), d .1)))
 
--- where the model's diagrams are there, all its stages are chained, and are there at the end
-pub all-stages-lead : (M : Model) (H : ℕ) (X : List Tree) → T (all-inside (model-diagrams M) X) → Leads (λ l Y. T (all-inside l Y)) X (all-stages M H)
-unfolding all-stages result make
-all-stages-lead M H X i =
+over-end-leads : (M : Model) (H : ℕ) (E X : List Tree) → T (all-inside E X) → T (all-inside (model-diagrams M) X) → Leads (λ l Y. T (all-inside l Y)) X (stages-over-end M H E)
+unfolding stages-over-end result make
+over-end-leads M H [] X e i =
     operation-leads _ X 1 (model-diagrams M) (make zero-leaf) (λ Z. stages-on M H 1 (Z ∷ []) Z) i (λ Y _. zero-built Y)
     (λ Y j. let l = stages-on-leads M H 1 (zero-leaf ∷ []) zero-leaf Y j in record { chain = l .chain; last = l .last .0 })
+over-end-leads M H (E ∷ F) X e i =
+    let l = stages-on-leads M H 1 (E ∷ []) E X (all-cons E (model-diagrams M) X (all-parts E F X e .0) i) in
+    record { chain = l .chain; last = l .last .0 }
+
+-- where the model's diagrams are there, and its end worth, all its stages are chained, and are there at the end
+pub all-stages-lead : (M : Model) (H : ℕ) (X : List Tree) → T (all-inside (M .end) X) → T (all-inside (model-diagrams M) X) → Leads (λ l Y. T (all-inside l Y)) X (all-stages M H)
+unfolding all-stages
+all-stages-lead M H X e i = over-end-leads M H (M .end) X e i
 
 -- ---- loading
 
@@ -209,9 +216,13 @@ all-at t (x ∷ l) X m a =
 pub model-inside : (B : List ℕ) → verdict B .number ≡ 0 → T (all-inside (model-diagrams (model B)) (needed [] (events (load B))))
 model-inside B v = all-each (model-diagrams (model B)) _ (λ t m. all-at t (entry-trees (loaded-entries B)) _ (diagrams-loaded B v t m) (entries-inside B))
 
+-- and so is its end worth
+pub end-inside : (B : List ℕ) → T (all-inside (model B .end) (needed [] (events (load B))))
+end-inside B = all-each (model B .end) _ (λ t m. all-at t (entry-trees (loaded-entries B)) _ (end-loaded B t m) (entries-inside B))
+
 -- each operation begins with nodes that were there when the one before it ended, the first with those of loading
 pub all-chained : (B : List ℕ) (H : ℕ) → verdict B .number ≡ 0 → Chained (needed [] (events (load B))) (all-stages (model B) H)
-all-chained B H v = all-stages-lead (model B) H (needed [] (events (load B))) (model-inside B v) .chain
+all-chained B H v = all-stages-lead (model B) H (needed [] (events (load B))) (end-inside B) (model-inside B v) .chain
 
 -- the peak of a solve is no more than there is room for
 pub peak-fits : (N : ℕ) (B : List ℕ) (H : ℕ) (S : List Tree) (peak : ℕ) → verdict B .number ≡ 0 → solve-in N B H ≡ solved S peak → peak ≤ N
@@ -243,7 +254,8 @@ table-fits N B H v S peak = go (run N (load B) []) refl
     go (done M X) r e =
         let d = run-done N (load B) [] X M r in
         let j : T (all-inside (model-diagrams M) X) = rw (d .1, d .0) (model-inside B v) in
+        let k : T (all-inside (M .end) X) = rw (d .1, d .0) (end-inside B) in
         let E = ends X (all-stages M H) in
-        let s : T (all-inside S E) = subst (λ l. T (all-inside l E)) (sym (run-all-final N (length X) (all-stages M H) S peak e)) (all-stages-lead M H X j .last) in
+        let s : T (all-inside S E) = subst (λ l. T (all-inside l E)) (sym (run-all-final N (length X) (all-stages M H) S peak e)) (all-stages-lead M H X k j .last) in
         omega (arith, roots-fit S E s, ends-fit N (length X) (all-stages M H) S peak X e (omega arith))
     go (stopped r) q e = absurd (let z : _≡_ {A = ℕ} 0 1 = cc in omega arith)

@@ -11,11 +11,11 @@ use Rattle.theory.specs.Diagram.{Test, now, later, Leaf, Tree, divisor, 
 use Rattle.theory.specs.Computation.{make, end, solved, run-all}
 use Rattle.theory.specs.Rules.{best, zero-leaf, substitute, expectation}
 use Rattle.theory.specs.Meaning.{Action, Model, power}
-use Rattle.theory.specs.Stage.{model-diagrams, sum-out, action-total, best-on, stage-over, stages-on, all-stages}
+use Rattle.theory.specs.Stage.{model-diagrams, sum-out, action-total, best-on, stage-over, stages-on, stages-over-end, all-stages}
 use Rattle.theory.specs.Valid.{all, all-nodes, among, wide, good-test, good-leaf, stage-leaf, weight-leaf, valid-action, valid}
 use Rattle.theory.specs.laws.Safe.{SafeOps, safe-make, safe-end, safe-operation, safe-then, run-all-safe}
 use Rattle.theory.specs.laws.Nodes.{Good, widen, all-widen, expectation-safe, zero-good, best-safe, substitute-safe, reward-safe}
-use Rattle.theory.specs.laws.Valid.{among-in, wide-long, leaf-wide, weight-good, stage-wide, wide-leaf, quotient-wide, good-closed, open-test, open-all, open-now, open-next, open-none, accepted, valid-actions}
+use Rattle.theory.specs.laws.Valid.{among-in, wide-long, leaf-wide, weight-good, stage-wide, wide-leaf, quotient-wide, good-closed, open-test, open-all, open-now, open-next, open-none, accepted, valid-actions, valid-end}
 
 -- ---- stages
 
@@ -130,12 +130,16 @@ module _ (M : Model) where
       (λ l r. safe-end _ (S ∷ l) (and-in (all-nodes now? stage? S) _ s (r .0), ap suc (r .1))))
 
   pub all-stages-safe : T (valid M) → (H : ℕ) → SafeOps (StagesGood H) (all-stages M H)
-  unfolding all-stages
-  all-stages-safe v H = safe-operation _ 1 (model-diagrams M) (make zero-leaf) _ (safe-make zero-leaf zero-stage)
-      (λ Z z. stages-safe (valid-actions M v) H 1 (Z ∷ []) Z z)
+  unfolding all-stages stages-over-end all
+  all-stages-safe v H = over-end (M .end) (valid-end M v)
     where
-      zero-stage : WideGood zero-leaf
-      zero-stage = widen now? now? good-leaf wide-leaf (λ _ t. t) leaf-wide zero-leaf (zero-good good-closed now?)
+      as-wide : (F : Tree) → Good now? good-leaf F → WideGood F
+      as-wide = widen now? now? good-leaf wide-leaf (λ _ t. t) leaf-wide
+
+      over-end : (l : List Tree) → T (all (all-nodes now? good-leaf) l) → SafeOps (StagesGood H) (stages-over-end M H l)
+      over-end [] t = safe-operation _ 1 (model-diagrams M) (make zero-leaf) _ (safe-make zero-leaf (as-wide zero-leaf (zero-good good-closed now?)))
+          (λ Z z. stages-safe (valid-actions M v) H 1 (Z ∷ []) Z z)
+      over-end (E ∷ l) t = stages-safe (valid-actions M v) H 1 (E ∷ []) E (as-wide E (both (all-nodes now? good-leaf E) _ t .0))
 
 -- the stages of a solved model: as many as steps, each node good, each leaf with an action of the model
 pub stages-good : (M : Model) → T (valid M) → (N p H : ℕ) (S : List Tree) (q : ℕ) → run-all N p (all-stages M H) ≡ solved S q

@@ -18,8 +18,8 @@ use Rattle.theory.specs.Meaning.{Model}
 use Rattle.theory.specs.Stage.{action-diagrams, all-diagrams, model-diagrams}
 use Rattle.theory.specs.Valid.{all, all-nodes, among, wide, good-test, good-leaf, weight-leaf, valid-action, valid, small-linear}
 use Rattle.theory.specs.Command.{Command, site, push-leaf, push-condition, push-test, name-action, end-model, Read, whole, unknown, short, Placed, byte-at, word-at, signed, signed-from, linear-at, width, command-at, read-at, goes-on, readings-from, readings, give, Slot}
-use Rattle.theory.specs.Verdict.{Site, Facts, Progress, reward-slot, chance-slot, level-slot, name-slot, same-slot, has-slot, or, Rule, rule, first-broken, next-condition, is-weight, top, joined, from-to, wanted-by, wanted, site-rules, site-of, first-rules, later-rules, rules-of, after, Verdict, refusal, ended, judged, at-start, verdict, may-be}
-use Rattle.theory.specs.Load.{Entry, Loaded, condition-test, load-choice, load-choice-with, load-entry, load-one, load-one-with, load-on, load-on-with, find-slot, action-of, model-of, site-at, load-with, model}
+use Rattle.theory.specs.Verdict.{Site, Facts, Progress, reward-slot, chance-slot, level-slot, end-slot, name-slot, same-slot, has-slot, or, Rule, rule, first-broken, next-condition, is-weight, top, joined, from-to, wanted-by, wanted, site-rules, site-of, first-rules, later-rules, rules-of, after, Verdict, refusal, ended, judged, at-start, verdict, may-be}
+use Rattle.theory.specs.Load.{Entry, Loaded, condition-test, load-choice, load-choice-with, load-entry, load-one, load-one-with, load-on, load-on-with, find-slot, found, action-of, model-of, site-at, load-with, model}
 use Rattle.theory.specs.laws.Comps.{result-bind}
 use Rattle.theory.specs.laws.Safe.{any, sure}
 use Rattle.theory.specs.laws.Nodes.{widen, choose-safe}
@@ -111,31 +111,41 @@ pub record Held (S : Site) (E : List Entry) (c : ℕ) (t : Tree) : Type 0 where
 abbrev pub Found : Site → List Entry → Slot → Type 0
 Found S E g = Held S E (g .command) (find-slot g E)
 
+-- each entry is what it may be
+abbrev Fitting : Site → List Entry → Type 0
+Fitting S E = T (all (λ e. fits S (e .slot .command) (e .tree)) E)
+
 -- each slot given that is no name has its entry
 Given : Site → List Slot → List Entry → Type 0
-Given S G E = (g : Slot) → T (has-slot g G) → T (not (eqb (g .command) 0x30)) → Found S E g
+Given S G E = ((g : Slot) → T (has-slot g G) → T (not (eqb (g .command) 0x30)) → Found S E g) × Fitting S E
 
 same-command : (g h : Slot) → T (same-slot g h) → T (eqb (g .command) (h .command))
 unfolding same-slot
 same-command g h t = both (eqb (g .command) (h .command)) _ t .0
 
 given-entry : (S : Site) (G : List Slot) (E : List Entry) (g : Slot) (t : Tree) → T (fits S (g .command) t) → Given S G E → Given S (g ∷ G) (record { slot = g; tree = t } ∷ E)
-unfolding Given has-slot find-slot
-given-entry S G E g t w u h r n =
-    let E′ : List Entry = record { slot = g; tree = t } ∷ E in
-    by-test (same-slot h g) (λ b. T (or b (has-slot h G)) → Held S E′ (h .command) (if b t (find-slot h E)))
-    (λ s _. record { good = subst (λ c. T (fits S c t)) (sym (eqb→eq (h .command) (g .command) (same-command h g s))) w; loaded = List·Memᴰ·head refl })
-    (λ _ r. let d = u h r n in record { good = d .good; loaded = List·Memᴰ·tail (d .loaded) })
-    r
+unfolding Given has-slot find-slot all
+given-entry S G E g t w u = (
+  λ h r n.
+      let E′ : List Entry = record { slot = g; tree = t } ∷ E in
+      by-test (same-slot h g) (λ b. T (or b (has-slot h G)) → Held S E′ (h .command) (if b t (find-slot h E)))
+      (λ s _. record { good = subst (λ c. T (fits S c t)) (sym (eqb→eq (h .command) (g .command) (same-command h g s))) w; loaded = List·Memᴰ·head refl })
+      (λ _ r. let d = u .0 h r n in record { good = d .good; loaded = List·Memᴰ·tail (d .loaded) })
+      r,
+  and-in (fits S (g .command) t) _ w (u .1),
+)
 
 given-name : (S : Site) (G : List Slot) (E : List Entry) (a : ℕ) → Given S G E → Given S (name-slot a ∷ G) E
 unfolding Given has-slot
-given-name S G E a u h r n = by-test (same-slot h (name-slot a)) (λ b. T (or b (has-slot h G)) → Found S E h)
-    (λ s _. absurd (T-not (eqb (h .command) 0x30) n (same-command h (name-slot a) s))) (λ _ r. u h r n) r
+given-name S G E a u = (
+  λ h r n. by-test (same-slot h (name-slot a)) (λ b. T (or b (has-slot h G)) → Found S E h)
+      (λ s _. absurd (T-not (eqb (h .command) 0x30) n (same-command h (name-slot a) s))) (λ _ r. u .0 h r n) r,
+  u .1,
+)
 
 given-none : (S : Site) → Given S [] []
-unfolding Given has-slot
-given-none S h r n = absurd r
+unfolding Given has-slot all
+given-none S = (λ h r n. absurd r, tt)
 
 -- ---- diagrams on the stack are what the checker says of them
 
@@ -234,7 +244,7 @@ unfolding command-at Fit
 fit B at =
     fit-if B at (eqb (byte-at B at) 0x01) _ _ refl (fit-if B at (eqb (byte-at B at) 0x10) _ _ (linear-wide B (at + 1)) (fit-if B at (eqb (byte-at B at) 0x11) _ _ tt
     (fit-if B at (eqb (byte-at B at) 0x12) _ _ (linear-wide B (at + 1)) (fit-if B at (eqb (byte-at B at) 0x20) _ _ tt (fit-if B at (eqb (byte-at B at) 0x21) _ _ tt
-    (fit-if B at (eqb (byte-at B at) 0x22) _ _ tt (fit-if B at (eqb (byte-at B at) 0x30) _ _ tt tt)))))))
+    (fit-if B at (eqb (byte-at B at) 0x22) _ _ tt (fit-if B at (eqb (byte-at B at) 0x23) _ _ tt (fit-if B at (eqb (byte-at B at) 0x30) _ _ tt tt))))))))
 
 condition-good : (n k : ℕ) → n ≤ conditions-most → T (or (among n k) (next-condition n k)) → (next : Bool) → T (good-test n (or (ltb conditions-most k) next) (condition-test k))
 unfolding good-test condition-test next-condition
@@ -317,20 +327,32 @@ module _ (B : List ℕ) (at : ℕ) (S : Site) (ok : In-range S) (K : List Facts)
 
 -- ---- all commands, by offset
 
--- every reward, chance and next level is loaded, and is what it may be
+-- every reward, chance and next level is loaded, and is what it may be; so is an end worth where one is given
 pub record Complete (S : Site) (E : List Entry) : Type 0 where
   pub rewards : (a : ℕ) → 1 ≤ a → a ≤ S .actions → Found S E (reward-slot a)
   pub chances : (a k : ℕ) → 1 ≤ a → a ≤ S .actions → 1 ≤ k → k ≤ S .conditions → Found S E (chance-slot a k)
   pub nexts : (a i : ℕ) → 1 ≤ a → a ≤ S .actions → 1 ≤ i → i ≤ S .levels → Found S E (level-slot a i)
+  pub ends : T (all (fits S 0x23) (found end-slot E))
+
+-- what is found where it need not be is what it may be
+found-fits : (S : Site) (g : Slot) (E : List Entry) → Fitting S E → T (all (fits S (g .command)) (found g E))
+unfolding found all
+found-fits S g [] t = tt
+found-fits S g (e ∷ E) t =
+    let d = both (fits S (e .slot .command) (e .tree)) _ t in
+    by-test (same-slot g (e .slot)) (λ b. T (all (fits S (g .command)) (if b (e .tree ∷ []) (found g E))))
+    (λ s. and-in (fits S (g .command) (e .tree)) true (subst (λ c. T (fits S c (e .tree))) (sym (eqb→eq (g .command) (e .slot .command) (same-command g (e .slot) s))) (d .0)) tt)
+    (λ _. found-fits S g E (d .1))
 
 complete : (S : Site) (G : List Slot) (E : List Entry) → Given S G E → T (all (λ s. has-slot s G) (wanted S)) → Complete S E
 unfolding Given wanted
 complete S G E u t =
     let w = wanted-each (λ s. has-slot s G) S 1 (S .actions) t in
     record {
-      rewards = λ a h l. u (reward-slot a) (w a h (omega arith) .0) tt;
-      chances = λ a k h l m o. u (chance-slot a k) (from-all (λ s. has-slot s G) (chance-slot a) 1 (S .conditions) (w a h (omega arith) .1 .0) k m (omega arith)) tt;
-      nexts = λ a i h l m o. u (level-slot a i) (from-all (λ s. has-slot s G) (level-slot a) 1 (S .levels) (w a h (omega arith) .1 .1) i m (omega arith)) tt;
+      rewards = λ a h l. u .0 (reward-slot a) (w a h (omega arith) .0) tt;
+      chances = λ a k h l m o. u .0 (chance-slot a k) (from-all (λ s. has-slot s G) (chance-slot a) 1 (S .conditions) (w a h (omega arith) .1 .0) k m (omega arith)) tt;
+      nexts = λ a i h l m o. u .0 (level-slot a i) (from-all (λ s. has-slot s G) (level-slot a) 1 (S .levels) (w a h (omega arith) .1 .1) i m (omega arith)) tt;
+      ends = found-fits S end-slot E (u .1);
     }
 
 pub positive : (w : ℕ) → T (not (eqb w 0)) → 1 ≤ w
@@ -468,6 +490,12 @@ fits-as-level : (S : Site) (t : Tree) → T (fits S 0x22 t) → T (all-nodes (go
 unfolding fits leaf-as
 fits-as-level S t h = h
 
+-- an end worth is under the rules for a reward
+fits-as-end : (S : Site) (l : List Tree) → T (all (fits S 0x23) l) → T (all (all-nodes (good-test (S .conditions) false) good-leaf) l)
+unfolding fits leaf-as all
+fits-as-end S [] h = tt
+fits-as-end S (t ∷ l) h = let d = both (fits S 0x23 t) _ h in and-in (all-nodes (good-test (S .conditions) false) good-leaf t) _ (d .0) (fits-as-end S l (d .1))
+
 length-is : (f : ℕ → Tree) (b k : ℕ) → T (eqb (length (map f (from-to b k))) k)
 length-is f b k = rw (from-length f b k) (eqb-refl k)
 
@@ -490,8 +518,10 @@ module _ (S : Site) (E : List Entry) (c : Complete S E) where
       (and-in (leb (S .conditions) conditions-most) _ (ok .conditions-in)
       (and-in (among weights-most (S .weights)) _ (ok .weights-in)
       (and-in (leb (length (model-of S E .others)) (actions-most - 1)) _ (rw (from-length (action-of S E) 2 (S .actions - 1)) (le→leb (S .actions - 1) (actions-most - 1) (omega arith)))
+      (and-in (all (valid-action (S .levels) (S .conditions) (S .weights)) (action-of S E 1 ∷ map (action-of S E) (from-to 2 (S .actions - 1)))) _
       (and-in (valid-action (S .levels) (S .conditions) (S .weights) (action-of S E 1)) _ (action-valid 1 (omega arith) (r .0))
-      (all-from _ (action-of S E) 2 (S .actions - 1) (λ a m o. action-valid a (omega arith) (omega arith)))))))
+      (all-from _ (action-of S E) 2 (S .actions - 1) (λ a m o. action-valid a (omega arith) (omega arith))))
+      (fits-as-end S (found end-slot E) (c .ends))))))
 
 -- an accepted model is valid
 pub accepted-valid : (B : List ℕ) → verdict B .number ≡ 0 → T (valid (model B))
@@ -554,6 +584,23 @@ module _ (S : Site) (E : List Entry) (c : Complete S E) where
   model-among ok =
       let r = among-out actions-most (S .actions) (ok .actions-in) in
       append-among (entry-trees E) (action-diagrams (action-of S E 1)) _ (action-among 1 (omega arith) (r .0)) (actions-among 2 (S .actions - 1) (omega arith) (omega arith))
+
+-- what is found is loaded
+found-among : (g : Slot) (E : List Entry) → Among (entry-trees E) (found g E)
+unfolding found
+found-among g [] = none-among []
+found-among g (e ∷ E) = by-test (same-slot g (e .slot)) (λ b. Among (entry-trees (e ∷ E)) (if b (e .tree ∷ []) (found g E)))
+    (λ _. one-among (entry-trees (e ∷ E)) (e .tree) [] (List·Memᴰ·head refl) (none-among (entry-trees (e ∷ E))))
+    (λ _ t m. List·Memᴰ·tail (found-among g E t m))
+
+-- the end worth of a model, of what is loaded
+pub end-found : (B : List ℕ) → model B .end ≡ found end-slot (loaded-entries B)
+unfolding model-of
+end-found B = ap (λ (M : Model). M .end) (model-loaded B)
+
+-- it is the tree of one of the entries
+pub end-loaded : (B : List ℕ) (t : Tree) → List·Memᴰ t (model B .end) → List·Memᴰ t (entry-trees (loaded-entries B))
+end-loaded B = rw (end-found B) (found-among end-slot (loaded-entries B))
 
 -- every diagram of an accepted model is the tree of one of its entries
 pub diagrams-loaded : (B : List ℕ) → verdict B .number ≡ 0 → (t : Tree) → List·Memᴰ t (model-diagrams (model B)) → List·Memᴰ t (entry-trees (loaded-entries B))

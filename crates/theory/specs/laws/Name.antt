@@ -106,7 +106,7 @@ unfolding command-at
 spelt B at =
     spelt-if B at (eqb (byte-at B at) 0x01) _ _ tt (spelt-if B at (eqb (byte-at B at) 0x10) _ _ tt (spelt-if B at (eqb (byte-at B at) 0x11) _ _ tt
     (spelt-if B at (eqb (byte-at B at) 0x12) _ _ tt (spelt-if B at (eqb (byte-at B at) 0x20) _ _ tt (spelt-if B at (eqb (byte-at B at) 0x21) _ _ tt
-    (spelt-if B at (eqb (byte-at B at) 0x22) _ _ tt (spelt-name B at _)))))))
+    (spelt-if B at (eqb (byte-at B at) 0x22) _ _ tt (spelt-if B at (eqb (byte-at B at) 0x23) _ _ tt (spelt-name B at _))))))))
 
 -- a name command that is read: its bytes stand from two behind its offset on, inside the model
 pub name-bytes-at : (B : List ℕ) (at a : ℕ) (t : List ℕ) → read-at B at ≡ whole (name-action a t) → (t ≡ take 16 (drop (at + 2) B)) × (at + 18 ≤ length B)

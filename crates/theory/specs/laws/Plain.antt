@@ -145,7 +145,7 @@ module _ (M : Model) where
 
   states-exact : (h : ℕ) (s : State) (v : ℤ) (a : ℕ) → state-worth M h s ≡ is v a → (v ≡ optimum P h s) × ((g : ℕ) → h ≡ suc g → a ≡ lowest-best P h s)
   unfolding state-worth optimum lowest-best process total numbered action-total
-  states-exact zero s v a e = (cc, λ g q. absurd (omega arith))
+  states-exact zero s v a e = (let q = judged-answer _ _ v a e in (cc), λ g q. absurd (omega arith))
   states-exact (suc h) s v a e = go (F (M .first)) refl e (λ t u b q. states-exact h t u b q .0)
     where
       F : Action → Worth

@@ -10,7 +10,7 @@ use Rattle.whole.specs.Cases.{by-test}
 use Rattle.theory.specs.Diagram.{Tree}
 use Rattle.theory.specs.Computation.{Comp, result, Out, done, stopped, run, enter-all, Ops, end, operation, and-then, final, Solved, solved, refused, run-all}
 use Rattle.theory.specs.Meaning.{Action, Model}
-use Rattle.theory.specs.Stage.{sum-out, action-total, best-on, stage-over, stages-on, all-stages, model-diagrams}
+use Rattle.theory.specs.Stage.{sum-out, action-total, best-on, stage-over, stages-on, stages-over-end, all-stages, model-diagrams}
 use Rattle.theory.specs.Load.{load, model}
 use Rattle.theory.specs.Solve.{solve-in}
 use Rattle.theory.specs.Events.{events, needed, Refused, Passes, RefusedAt, here, later, PassesAll, peak-of, Chained}
@@ -223,8 +223,12 @@ stages-places H M (suc k) h finished P l = places-then H _ _ (stage-places H h (
     (λ S. places-then H _ _ (stages-places H M k (suc h) (S ∷ finished) S (omega arith)) (λ a. tt))
 
 pub all-places : (M : Model) (H : ℕ) → 1 ≤ H → Places H (all-stages M H)
-unfolding all-stages Places
-all-places M H l = (l, λ Z. stages-places H M H 1 (Z ∷ []) Z (omega arith))
+unfolding all-stages stages-over-end Places
+all-places M H l = over-end (M .end)
+  where
+    over-end : (E : List Tree) → Places H (stages-over-end M H E)
+    over-end [] = (l, λ Z. stages-places H M H 1 (Z ∷ []) Z (omega arith))
+    over-end (E ∷ F) = stages-places H M H 1 (E ∷ []) E (omega arith)
 
 -- the place of a refusal is a stage, or 0 for loading
 pub refused-place : (N : ℕ) (B : List ℕ) (H r p : ℕ) → 1 ≤ H → solve-in N B H ≡ refused r p → p ≤ H

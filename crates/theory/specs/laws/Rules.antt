@@ -11,7 +11,7 @@ use Rattle.whole.specs.Cases.{if, by-test, both, and-in, not-not}
 use Rattle.theory.specs.Diagram.{Linear, zeros}
 use Rattle.theory.specs.Valid.{all, among}
 use Rattle.theory.specs.Command.{Command, site, push-leaf, push-condition, push-test, give, name-action, end-model, Slot}
-use Rattle.theory.specs.Verdict.{Site, Facts, Progress, Rule, rule, first-broken, same-slot, has-slot, reward-slot, chance-slot, level-slot, from-to, wanted-by, or, beyond, next-condition, printable, of-site, may-be, top, wanted, site-rules, first-rules, later-rules, rules-of}
+use Rattle.theory.specs.Verdict.{Site, Facts, Progress, Rule, rule, first-broken, same-slot, has-slot, reward-slot, chance-slot, level-slot, end-slot, from-to, wanted-by, or, beyond, next-condition, printable, of-site, may-be, top, wanted, site-rules, first-rules, later-rules, rules-of}
 use Rattle.theory.specs.Rows.{Rules, AllGiven, OfSite, MayBe, none, asks, Keeps, Breaks, Range, first-asks, later-asks, asks-of}
 use Rattle.theory.specs.laws.Loading.{from-all, wanted-each}
 use Rattle.theory.specs.laws.Valid.{among-in, among-out}
@@ -220,12 +220,24 @@ either-at c k a b P Q s t f = by-test (eqb c k) (λ z. Says (not (if z a b)) (((
 says-is : (a b : ℕ) → Says (not (eqb a b)) (a ≡ b)
 says-is a b = record { broken = λ t e. T-not (eqb a b) t (rw e (eqb-refl b)); kept = λ t. eqb→eq a b (not-not (eqb a b) t) }
 
+-- one of two tests
+either : (a b : Bool) (P Q : Type 0) → Says (not a) P → Says (not b) Q → Says (not (or a b)) (P ⊎ Q)
+either true b P Q s t = record { broken = λ u f. absurd u; kept = λ u. inl (s .kept tt) }
+either false b P Q s t = record { broken = λ u. ⊎-elim (s .broken tt) (t .broken u); kept = λ u. inr (t .kept u) }
+
+says-slot : (g h : Slot) → Says (not (same-slot g h)) (g ≡ h)
+says-slot g h = record {
+  broken = λ t e. T-not (same-slot g h) t (subst (λ (k : Slot). T (same-slot g k)) e (same-self g));
+  kept = λ t. slot-same g h (not-not (same-slot g h) t);
+}
+
 pub says-of-site : (S : Site) (g : Slot) → Says (not (of-site S g)) (OfSite S g)
 unfolding of-site
-says-of-site S g = pair (among (S .actions) (g .action)) _ _ _ (says-among (S .actions) (g .action))
+says-of-site S g = either (same-slot g end-slot) _ _ _ (says-slot g end-slot)
+    (pair (among (S .actions) (g .action)) _ _ _ (says-among (S .actions) (g .action))
     (either-at (g .command) 0x20 _ _ _ _ (says-is (g .index) 0)
     (either-at (g .command) 0x21 _ _ _ _ (says-among (S .conditions) (g .index)) (pair (eqb (g .command) 0x22) _ _ _ (says-is (g .command) 0x22) (says-among (S .levels) (g .index))) (λ d e. omega (arith, d .0)))
-    (⊎-elim (λ d e. omega (arith, d .0)) (λ d e. omega (arith, d .0))))
+    (⊎-elim (λ d e. omega (arith, d .0)) (λ d e. omega (arith, d .0)))))
 
 -- what is given by the rules is the site's
 pub of-site-out : (S : Site) (g : Slot) → T (of-site S g) → OfSite S g

@@ -16,15 +16,15 @@ use Rattle.theory.specs.Computation.{make, result, operation, final}
 use Rattle.theory.specs.Rules.{sum, scale, number, best, zero-leaf, substitute, add-reward}
 use Rattle.theory.specs.Process.{mean, first-best, total, optimum, lowest-best}
 use Rattle.theory.specs.Process as P
-use Rattle.theory.specs.Meaning.{Action, Model, nth-action, action-at, numbers-from, State, Env, env, value, at, worth-at, settings, chance-at, weight, moved, power, process}
-use Rattle.theory.specs.Stage.{model-diagrams, sum-out, action-total, best-on, stage-over, stages-on, all-stages}
+use Rattle.theory.specs.Meaning.{Action, Model, nth-action, action-at, numbers-from, State, Env, env, value, at, worth-at, end-at, settings, chance-at, weight, moved, power, process}
+use Rattle.theory.specs.Stage.{model-diagrams, sum-out, action-total, best-on, stage-over, stages-on, stages-over-end, all-stages}
 use Rattle.theory.specs.Valid.{all, all-nodes, among, good-test, good-leaf, valid-action, valid}
 use Rattle.theory.specs.laws.Process.{lowest-best-action, lowest-best-total, lowest-best-lowest}
 use Rattle.theory.specs.laws.Comps.{result-bind, final-and-then}
 use Rattle.theory.specs.laws.Values.{sum-at, scale-at, number-at, best-at, if-ap}
 use Rattle.theory.specs.laws.Safe.{any, sure}
 use Rattle.theory.specs.laws.Nodes.{Tests, widen, all-widen, any-closed, best-safe, reward-safe, substitute-safe}
-use Rattle.theory.specs.laws.Valid.{other-above, open-test, open-all, Accepted, accepted, valid-actions}
+use Rattle.theory.specs.laws.Valid.{other-above, open-test, open-all, Accepted, accepted, valid-actions, valid-end}
 use Rattle.theory.specs.laws.Expectation.{zero-at, now-test, substitute-at, good-now, sum-out-at, sum-out-tests, env-given}
 
 -- ---- an action's total
@@ -181,15 +181,25 @@ module _ (M : Model) where
       let S = final (stage-over M h (finished ++ model-diagrams M) P) in
       stages-final k h finished P ∙ ap (λ (l : List Tree). S ∷ l) (stages-take k K (suc h) (S ∷ finished) S (omega arith)) ∙ sym (ap (take (suc k)) (stages-final K h finished P))
 
+  over-end-length : (H : ℕ) (l : List Tree) → length (final (stages-over-end M H l)) ≡ H
+  unfolding stages-over-end final make result
+  over-end-length H [] = stages-length H 1 _ _
+  over-end-length H (E ∷ l) = stages-length H 1 _ _
+
   -- the stages up to a horizon, as many as its steps
   pub all-stages-length : (H : ℕ) → length (final (all-stages M H)) ≡ H
-  unfolding all-stages final make result
-  all-stages-length H = stages-length H 1 _ _
+  unfolding all-stages
+  all-stages-length H = over-end-length H (M .end)
+
+  over-end-take : (H K : ℕ) → H ≤ K → (l : List Tree) → final (stages-over-end M H l) ≡ take H (final (stages-over-end M K l))
+  unfolding stages-over-end final make result
+  over-end-take H K q [] = stages-take H K 1 _ _ q
+  over-end-take H K q (E ∷ l) = stages-take H K 1 _ _ q
 
   -- a smaller horizon's are the first of them
   pub all-stages-take : (H K : ℕ) → H ≤ K → final (all-stages M H) ≡ take H (final (all-stages M K))
-  unfolding all-stages final make result
-  all-stages-take H K q = stages-take H K 1 _ _ q
+  unfolding all-stages
+  all-stages-take H K q = over-end-take H K q (M .end)
 
   -- stage h, of those up to horizon H
   unfoldable pub stage-of : ℕ → ℕ → Tree
@@ -206,17 +216,26 @@ module _ (M : Model) where
         rw (stages-final k (suc h) finished P) (subst (λ (j : ℕ). Stage M (suc j) (getD (final (stages-on M k (suc (suc h)) (S ∷ finished) S)) i zero-leaf)) (omega arith)
         (stages-on-at k (suc h) (S ∷ finished) S (record { tests = b .tests; worth = b .worth }) i (omega arith)))
 
-    zero-below : Below M 0 zero-leaf
-    unfolding optimum process zero-leaf all-nodes
-    zero-below = record { tests = tt; worth = λ s. zero-at (env s []) }
+    -- stage 0, where V₀ is F's worth
+    over : (F : Tree) → Below M 0 F → (H i : ℕ) → i < H → Stage M (suc i) (getD (final (stages-on M H 1 (F ∷ []) F)) i zero-leaf)
+    over F b H i q = subst (λ (j : ℕ). Stage M (suc j) (getD (final (stages-on M H 1 (F ∷ []) F)) i zero-leaf)) (omega arith) (stages-on-at H 0 (F ∷ []) F b i q)
+
+    over-end : (l : List Tree) → M .end ≡ l → T (all (all-nodes (good-test (M .conditions) false) good-leaf) l)
+        → (H i : ℕ) → i < H → Stage M (suc i) (getD (final (stages-over-end M H l)) i zero-leaf)
+    unfolding stages-over-end final make result optimum process end-at all zero-leaf all-nodes
+    over-end [] e t = over zero-leaf (record { tests = tt; worth = λ s. zero-at (env s []) ∙ sym (ap (end-at (env s [])) e) })
+    over-end (E ∷ l) e t = over E (record {
+      tests = widen (good-test (M .conditions) false) (now-test (M .conditions)) good-leaf any (good-now (M .conditions)) (λ _ _. tt) E (both (all-nodes (good-test (M .conditions) false) good-leaf E) _ t .0);
+      worth = λ s. sym (ap (end-at (env s [])) e);
+    })
 
     -- "V_h(s)" and the action of stage h
     pub stages-at : (H h : ℕ) → 1 ≤ h → h ≤ H → Stage M h (stage-of H h)
-    unfolding stage-of all-stages final make result
+    unfolding stage-of all-stages
     stages-at H zero p q = absurd (omega arith)
     stages-at H (suc i) p q =
-        let l = final (stages-on M H 1 (zero-leaf ∷ []) zero-leaf) in
-        subst (λ (j : ℕ). Stage M (suc j) (getD l (suc i - 1) zero-leaf)) (omega arith) (stages-on-at H 0 (zero-leaf ∷ []) zero-leaf zero-below (suc i - 1) (omega arith))
+        let l = final (stages-over-end M H (M .end)) in
+        subst (λ (j : ℕ). Stage M (suc j) (getD l (suc i - 1) zero-leaf)) (omega arith) (over-end (M .end) refl (valid-end M ok) H (suc i - 1) (omega arith))
 
 -- ---- actions by their numbers
 

@@ -157,7 +157,7 @@ module _ (M : Model) where
 
   pub answers-stay : (h : ℕ) (s : State) (v : ℤ) (a : ℕ) → state-worth M h s ≡ is v a → Stays M h s
   unfolding state-worth action-worth numbered
-  answers-stay zero s v a e = tt
+  answers-stay zero s v a e = judged-out _ _ v a e .0
   answers-stay (suc h) s v a e = λ x m.
       let t = tried-some (Act h s) (M .others) 2 (numbered (Act h s (M .first))) v a e in
       let o : Some (Act h s x) = ⊎-elim (λ i. subst (λ (y : Action). Some (Act h s y)) (sym i) (first (Act h s (M .first)) (t .0))) (λ i. t .1 x i) (List·Memᴰ·cases-cons m) in
@@ -173,7 +173,7 @@ module _ (M : Model) where
   -- where it stays within its limits it answers
   stays-answers : (h : ℕ) (s : State) → Stays M h s → Some (state-worth M h s)
   unfolding state-worth action-worth numbered
-  stays-answers zero s d = (pos 0, (0, refl))
+  stays-answers zero s d = (_, (0, judged-in _ _ d))
   stays-answers (suc h) s d = go (λ s d. let i = stays-answers h s d in (i .1 .0, i .1 .1 ∙ ap (λ (u : ℤ). is u (i .1 .0)) (plain-exact M h s (i .0) (i .1 .0) (i .1 .1))))
     where
       act : ((s : State) → Stays M h s → (b : ℕ) × (state-worth M h s ≡ is (optimum (process M) h s) b)) → (x : Action) → ActionStays M (Stays M h) (optimum (process M) h) (suc h) s x → Some (Act h s x)

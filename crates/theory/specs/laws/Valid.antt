@@ -205,4 +205,13 @@ valid-actions M t =
     let a = both (among levels-most (M .levels)) _ t in
     let b = both (leb (M .conditions) conditions-most) _ (a .1) in
     let c = both (among weights-most (M .weights)) _ (b .1) in
-    both (leb (length (M .others)) (actions-most - 1)) (all (valid-action (M .levels) (M .conditions) (M .weights)) (M .first ∷ M .others)) (c .1) .1
+    both (all (valid-action (M .levels) (M .conditions) (M .weights)) (M .first ∷ M .others)) _ (both (leb (length (M .others)) (actions-most - 1)) _ (c .1) .1) .0
+
+-- and so is an end worth
+pub valid-end : (M : Model) → T (valid M) → T (all (all-nodes (good-test (M .conditions) false) good-leaf) (M .end))
+unfolding valid
+valid-end M t =
+    let a = both (among levels-most (M .levels)) _ t in
+    let b = both (leb (M .conditions) conditions-most) _ (a .1) in
+    let c = both (among weights-most (M .weights)) _ (b .1) in
+    both (all (valid-action (M .levels) (M .conditions) (M .weights)) (M .first ∷ M .others)) _ (both (leb (length (M .others)) (actions-most - 1)) _ (c .1) .1) .1
