@@ -15,7 +15,7 @@ use Rattle.theory.specs.Diagram.{Linear, linear, Tree, scaleL, _⊠_, zeros, te
 use Rattle.theory.specs.Computation.{solved, refused, enter-all, result}
 use Rattle.theory.specs.Rules.{side}
 use Rattle.theory.specs.Process.{Process, Policy, Action, mean, optimum, lowest-best, expected, Sound}
-use Rattle.theory.specs.Meaning.{Model, State, action-at, env, worth-at, chance-at, weight, settings, moved, power, process}
+use Rattle.theory.specs.Meaning.{Model, State, action-at, env, worth-at, end-at, chance-at, weight, settings, moved, power, process}
 use Rattle.theory.specs.Stage.{all-stages}
 use Rattle.theory.specs.Verdict.{Progress, Verdict, verdict}
 use Rattle.theory.specs.Load.{Loaded, load, model, spelled, site-at}
@@ -132,9 +132,13 @@ module _ (M : Model) (W>0 : 1 ≤ M .weights) where
       ((M .weights) ^ (M .conditions))
       (one-le-pow (M .conditions) (M .weights) W>0))
 
--- "V₀ is 0. V_h(s) is the largest over the actions of" it: none is larger, and one is equal
+-- "V₀ is that diagram; without the command it is 0"
+abbrev pub end-worth : Model → State → Fraction
+end-worth M s = record { num = end-at (env s []) (M .end); den = s .den; den>0 = s .D>0 }
+
+-- "V₀ is that diagram"; "V_h(s) is the largest over the actions of" the formula: none is larger, and one is equal
 abbrev pub Formula : Type 0
-Formula = (M : Model) (w : 1 ≤ M .weights) (s : State) → (meant M w 0 s .num ≡ pos 0) × ((h : ℕ)
+Formula = (M : Model) (w : 1 ≤ M .weights) (s : State) → Equal (meant M w 0 s) (end-worth M s) × ((h : ℕ)
     → ((a : ℕ) → Action (process M) a → AtMost (formula M w h s a) (meant M w (suc h) s))
     × ((a : ℕ) × (Action (process M) a × Equal (formula M w h s a) (meant M w (suc h) s))))
 

@@ -35,7 +35,7 @@ abbrev pub AllOrdered : List Tree → Type 0
 AllOrdered [] = Unit {0}
 AllOrdered (F ∷ l) = Ordered F × AllOrdered l
 
--- .. of an action's diagrams, of some actions', and of a model's
+-- .. of an action's diagrams, of some actions', and of a model's, its end worth too
 abbrev pub ActionOrdered : Action → Type 0
 ActionOrdered x = Ordered (x .reward) × (AllOrdered (x .chances) × AllOrdered (x .levels))
 
@@ -44,7 +44,7 @@ ActionsOrdered [] = Unit {0}
 ActionsOrdered (x ∷ l) = ActionOrdered x × ActionsOrdered l
 
 abbrev pub ModelOrdered : Model → Type 0
-ModelOrdered M = ActionOrdered (M .first) × ActionsOrdered (M .others)
+ModelOrdered M = ActionOrdered (M .first) × (ActionsOrdered (M .others) × AllOrdered (M .end))
 
 -- "a side has each node of that next-step condition replaced by its high (yes) or low branch", as it stands
 unfoldable pub replaced : Bool → ℕ → Tree → Comp Tree

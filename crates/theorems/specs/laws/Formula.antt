@@ -2,13 +2,14 @@
 use mathlib.Core.Path.{_≡_, refl, sym, ap, _∙_, subst}
 use mathlib.Core.List.{List, [], _∷_, map}
 use Prim.Native.Nat.{ℕ, suc, _*_, _^_, _≤_, _<_}
+use native.Mathlib.Nat.{mul-zero, pow-zero}
 use native.Mathlib.Omega.{arith}
 use lib.IntN.{ℤ, pos, _+ℤ_, _*ℤ_, *ℤ-comm}
 use Rattle.whole.specs.Int.{ring, ≤-trans, ≤-of-eq, mul-mono}
 use Rattle.theory.specs.Process.{mean, Action, total, optimum, lowest-best}
-use Rattle.theory.specs.Meaning.{Model, State, action-at, env, worth-at, chance-at, weight, settings, moved, power, process}
+use Rattle.theory.specs.Meaning.{Model, State, action-at, env, worth-at, end-at, chance-at, weight, settings, moved, power, process}
 use Rattle.theorems.specs.Fraction.{Fraction, Equal, AtMost, plus, times, divided, weighed}
-use Rattle.theorems.specs.Demands.{meant, formula, Formula}
+use Rattle.theorems.specs.Demands.{meant, formula, end-worth, Formula}
 use Rattle.theory.specs.laws.Process.{total-below, lowest-best-action, lowest-best-total}
 use Rattle.theorems.specs.laws.Weights.{power-step}
 
@@ -64,6 +65,13 @@ module _ (M : Model) (w : 1 ≤ M .weights) (h : ℕ) (s : State) where
       let a = lowest-best (process M) (suc h) s in
       total-formula a ∙ ap (λ (z : ℤ). z *ℤ pos (formula M w h s a .den)) (sym (lowest-best-total (process M) h s))
 
-pub formula-holds : Formula
+-- W^(n×0) is 1
+end-formula : (M : Model) (w : 1 ≤ M .weights) (s : State) → Equal (meant M w 0 s) (end-worth M s)
 unfolding optimum process
-formula-holds M w s = (refl, λ h. (each-below M w h s, (lowest-best (process M) (suc h) s, (lowest-best-action (process M) (suc h) s, one-equal M w h s))))
+end-formula M w s = ap (λ (d : ℕ). end-at (env s []) (M .end) *ℤ pos d) (once (s .den) (M .weights) (M .conditions))
+  where
+    once : (d W n : ℕ) → d ≡ d * W ^ (n * 0)
+    once d W n = let e : W ^ (n * 0) ≡ 1 = ap (λ (k : ℕ). W ^ k) (mul-zero n) ∙ pow-zero W in rw e (omega arith)
+
+pub formula-holds : Formula
+formula-holds M w s = (end-formula M w s, λ h. (each-below M w h s, (lowest-best (process M) (suc h) s, (lowest-best-action (process M) (suc h) s, one-equal M w h s))))

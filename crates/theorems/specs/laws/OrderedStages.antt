@@ -8,10 +8,10 @@ use Rattle.theory.specs.Diagram.{Test, Tree, leaf, plain, test-of}
 use Rattle.theory.specs.Computation.{Comp, ret, bind, make, end, solved}
 use Rattle.theory.specs.Rules.{choose, best, zero-leaf, substitute, expectation, add-reward}
 use Rattle.theory.specs.Meaning.{Action, Model, power}
-use Rattle.theory.specs.Stage.{model-diagrams, sum-out, action-total, best-on, stage-over, stages-on, all-stages}
+use Rattle.theory.specs.Stage.{model-diagrams, sum-out, action-total, best-on, stage-over, stages-on, stages-over-end, all-stages}
 use Rattle.theory.specs.Command.{Command, site, push-leaf, push-condition, push-test, name-action, end-model, Read, whole, unknown, short, Placed, readings, give, Slot}
-use Rattle.theory.specs.Verdict.{Site, same-slot, reward-slot, chance-slot, level-slot, from-to}
-use Rattle.theory.specs.Load.{Entry, Loaded, condition-test, load-choice, load-choice-with, load-entry, load-one, load-one-with, load-on, load-on-with, find-slot, action-of, model-of, site-at, model}
+use Rattle.theory.specs.Verdict.{Site, same-slot, reward-slot, chance-slot, level-slot, end-slot, from-to}
+use Rattle.theory.specs.Load.{Entry, Loaded, condition-test, load-choice, load-choice-with, load-entry, load-one, load-one-with, load-on, load-on-with, find-slot, found, action-of, model-of, site-at, model}
 use Rattle.theory.specs.Solve.{solve-in}
 use Rattle.theorems.specs.Ordered.{Ordered, AllOrdered, ActionOrdered, ActionsOrdered, ModelOrdered}
 use Rattle.theory.specs.laws.Safe.{Safe, safe-ret, safe-make, safe-bind, any, sure, SafeOps, safe-end, safe-operation, safe-then, run-all-safe}
@@ -67,6 +67,11 @@ unfolding find-slot
 found-ordered g [] e = zero-ordered any
 found-ordered g (x ∷ E) e = by-test (same-slot g (x .slot)) (λ b. Ordered (if b (x .tree) (find-slot g E))) (λ _. e .0) (λ _. found-ordered g E (e .1))
 
+end-ordered : (g : Slot) (E : List Entry) → EntriesOrdered E → AllOrdered (found g E)
+unfolding found
+end-ordered g [] e = tt
+end-ordered g (x ∷ E) e = by-test (same-slot g (x .slot)) (λ b. AllOrdered (if b (x .tree ∷ []) (found g E))) (λ _. (e .0, tt)) (λ _. end-ordered g E (e .1))
+
 each-ordered : (f : ℕ → Tree) → ((k : ℕ) → Ordered (f k)) → (l : List ℕ) → AllOrdered (map f l)
 each-ordered f o [] = tt
 each-ordered f o (k ∷ l) = (o k, each-ordered f o l)
@@ -90,8 +95,13 @@ pub loaded-ordered : (B : List ℕ) → ModelOrdered (model B)
 unfolding model-of
 loaded-ordered B =
     let e : EntriesOrdered (loaded-entries B) = sure (load-on (readings B) (record { stack = []; entries = [] })) (on-ordered (readings B) (record { stack = []; entries = [] }) (tt, tt)) .1 in
-    subst ModelOrdered (sym (model-loaded B))
-    (action-ordered (site-at B) (loaded-entries B) e 1, actions-ordered (action-of (site-at B) (loaded-entries B)) (action-ordered (site-at B) (loaded-entries B) e) (from-to 2 (site-at B .actions - 1)))
+    subst ModelOrdered (sym (model-loaded B)) (
+      action-ordered (site-at B) (loaded-entries B) e 1,
+      (
+        actions-ordered (action-of (site-at B) (loaded-entries B)) (action-ordered (site-at B) (loaded-entries B) e) (from-to 2 (site-at B .actions - 1)),
+        end-ordered end-slot (loaded-entries B) e,
+      ),
+    )
 
 -- ---- stages
 
@@ -116,7 +126,7 @@ module _ (M : Model) (h : ℕ) (P : Tree) where
 
   stage-ordered : (kept : List Tree) → ModelOrdered M → SafeOps Ordered (stage-over M h kept P)
   unfolding stage-over
-  stage-ordered kept o = safe-then Ordered (action-total M h kept P 1 (M .first)) _ (total-ordered kept 1 (M .first) (o .0)) (λ F f. best-on-ordered kept 2 (M .others) F (o .1) f)
+  stage-ordered kept o = safe-then Ordered (action-total M h kept P 1 (M .first)) _ (total-ordered kept 1 (M .first) (o .0)) (λ F f. best-on-ordered kept 2 (M .others) F (o .1 .0) f)
 
 module _ (M : Model) (o : ModelOrdered M) where
   stages-on-ordered : (k h : ℕ) (finished : List Tree) (P : Tree) → SafeOps AllOrdered (stages-on M k h finished P)
@@ -125,9 +135,14 @@ module _ (M : Model) (o : ModelOrdered M) where
   stages-on-ordered (suc k) h finished P = safe-then AllOrdered (stage-over M h (finished ++ model-diagrams M) P) _ (stage-ordered M h P (finished ++ model-diagrams M) o)
       (λ S s. safe-then AllOrdered (stages-on M k (suc h) (S ∷ finished) S) _ (stages-on-ordered k (suc h) (S ∷ finished) S) (λ l r. safe-end AllOrdered (S ∷ l) (s, r)))
 
+  over-end-ordered : (H : ℕ) (l : List Tree) → SafeOps AllOrdered (stages-over-end M H l)
+  unfolding stages-over-end
+  over-end-ordered H [] = safe-operation AllOrdered 1 (model-diagrams M) (make zero-leaf) _ (safe-make {R = Ordered} zero-leaf (zero-ordered small)) (λ Z z. stages-on-ordered H 1 (Z ∷ []) Z)
+  over-end-ordered H (E ∷ l) = stages-on-ordered H 1 (E ∷ []) E
+
   all-stages-ordered : (H : ℕ) → SafeOps AllOrdered (all-stages M H)
   unfolding all-stages
-  all-stages-ordered H = safe-operation AllOrdered 1 (model-diagrams M) (make zero-leaf) _ (safe-make {R = Ordered} zero-leaf (zero-ordered small)) (λ Z z. stages-on-ordered H 1 (Z ∷ []) Z)
+  all-stages-ordered H = over-end-ordered H (M .end)
 
 -- the stages of a solve are ordered
 pub solved-ordered : (N : ℕ) (B : List ℕ) (H : ℕ) (S : List Tree) (peak : ℕ) → solve-in N B H ≡ solved S peak → AllOrdered S

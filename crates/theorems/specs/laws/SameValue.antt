@@ -15,7 +15,7 @@ use Rattle.whole.specs.Int.{atom, up, diff, ring, mul-mono, distrib, mul-left-c
 use Rattle.whole.specs.Numerator.{number, words}
 use Rattle.theory.specs.Diagram.{Linear, Test, now, later, linear, Leaf, Tree, leaf, branch, scaleL, zeros}
 use Rattle.theory.specs.Process.{Process, mean, maxZ, greatest-from, first-best, total, optimum, lowest-best}
-use Rattle.theory.specs.Meaning.{Model, State, env, dot, value, holds, at, worth-at, action-at, chance-at, weight, settings, moved, power, process}
+use Rattle.theory.specs.Meaning.{Model, State, env, dot, value, holds, at, worth-at, end-at, action-at, chance-at, weight, settings, moved, power, process}
 use Rattle.theory.specs.Load.{model, site-at}
 use Rattle.theory.specs.Value.{Asked, accepted, bits, state-of, ValueOut}
 use Rattle.theorems.specs.Demands.{Exact, SameValue}
@@ -150,6 +150,11 @@ module _ (k : ℕ) (k>0 : 0 < k) (s : State) where
   chances-scaled [] = refl
   chances-scaled (C ∷ Cs) = ap₂ _∷_ (ap (λ (f : Leaf). up (f .lin .const)) (at-scaled [] C)) (chances-scaled Cs)
 
+ends-scaled : (k : ℕ) (h : 0 < k) (s : State) (l : List Tree) → end-at (env (scaled k h s) []) l ≡ pos k *ℤ end-at (env s []) l
+unfolding end-at
+ends-scaled k h s [] = sym (*ℤ-zero (pos k))
+ends-scaled k h s (F ∷ l) = worth-scaled k h s [] F
+
 module _ (M : Model) (k : ℕ) (k>0 : 0 < k) where
   scales : Scales (process M) k (scaled k k>0)
   unfolding process
@@ -159,7 +164,7 @@ module _ (M : Model) (k : ℕ) (k>0 : 0 < k) where
         ∙ mul-left-comm (pos (power M (suc h))) (pos k) (worth-at (env s []) (action-at M a .reward));
     weights = λ a s r. ap (λ ws. weight (M .weights) ws r) (chances-scaled k k>0 s (action-at M a .chances));
     steps = λ a s r. moved-scaled k k>0 s r (action-at M a .levels);
-    ends = λ s. sym (*ℤ-zero (pos k));
+    ends = λ s. ends-scaled k k>0 s (M .end);
   }
 
   pub optimum-scaled : (h : ℕ) (s : State) → optimum (process M) h (scaled k k>0 s) ≡ pos k *ℤ optimum (process M) h s

@@ -8,10 +8,10 @@ use Rattle.whole.specs.Int.{up}
 use Rattle.theory.specs.Diagram.{Test, Leaf, Tree, branch, test-of}
 use Rattle.theory.specs.Computation.{Comp, ret, bind, make, result}
 use Rattle.theory.specs.Rules.{choose}
-use Rattle.theory.specs.Meaning.{Action, nth-action, action-at, numbers-from, Env, env, value, holds, at, worth-at, chance-at, weight, moved, settings, power, process}
+use Rattle.theory.specs.Meaning.{Action, nth-action, action-at, numbers-from, Env, env, value, holds, at, worth-at, end-at, chance-at, weight, moved, settings, power, process}
 use Rattle.theory.specs.Command.{Command, site, push-leaf, push-condition, push-test, give, name-action, end-model, Read, whole, unknown, short, Placed, readings, Slot}
-use Rattle.theory.specs.Verdict.{Site, same-slot, reward-slot, chance-slot, level-slot, from-to}
-use Rattle.theory.specs.Load.{Entry, Loaded, condition-test, load-entry, load-choice-with, load-one-with, load-on-with, find-slot, action-of, model-of, site-at, load-with, model, spelled}
+use Rattle.theory.specs.Verdict.{Site, same-slot, reward-slot, chance-slot, level-slot, end-slot, from-to}
+use Rattle.theory.specs.Load.{Entry, Loaded, condition-test, load-entry, load-choice-with, load-one-with, load-on-with, find-slot, found, action-of, model-of, site-at, load-with, model, spelled}
 use Rattle.theory.specs.laws.Comps.{result-bind}
 use Rattle.theory.specs.laws.Values.{Makes, choose-at}
 use Rattle.theorems.specs.Demands.{SpelledSame}
@@ -100,6 +100,15 @@ found-like g (x ∷ E) (y ∷ D) k e =
     ap (λ (h : Slot). at e (if (same-slot g h) (x .tree) (find-slot g E))) (k .0)
     ∙ by-test (same-slot g (y .slot)) (λ b. at e (if b (x .tree) (find-slot g E)) ≡ at e (if b (y .tree) (find-slot g D))) (λ _. k .1 .0 e) (λ _. found-like g E D (k .1 .1) e)
 
+-- .. and where it need not have been given
+end-like : (g : Slot) (E D : List Entry) → LikeGiven E D → LikeAll (found g E) (found g D)
+unfolding found
+end-like g [] [] k = tt
+end-like g [] (y ∷ D) k = absurd k
+end-like g (x ∷ E) [] k = absurd k
+end-like g (x ∷ E) (y ∷ D) k = subst (λ (h : Slot). LikeAll (if (same-slot g h) (x .tree ∷ []) (found g E)) (if (same-slot g (y .slot)) (y .tree ∷ []) (found g D))) (sym (k .0))
+    (by-test (same-slot g (y .slot)) (λ b. LikeAll (if b (x .tree ∷ []) (found g E)) (if b (y .tree ∷ []) (found g D))) (λ _. (k .1 .0, tt)) (λ _. end-like g E D (k .1 .1)))
+
 abbrev LikeAction : Action → Action → Type 0
 LikeAction x y = Like (x .reward) (y .reward) × (LikeAll (x .chances) (y .chances) × LikeAll (x .levels) (y .levels))
 
@@ -125,6 +134,13 @@ map-like h e [] (G ∷ L) d = absurd d
 map-like h e (F ∷ K) [] d = absurd d
 map-like h e (F ∷ K) (G ∷ L) d = ap₂ _∷_ (ap h (d .0 e)) (map-like h e K L (d .1))
 
+end-at-like : (e : Env) (K L : List Tree) → LikeAll K L → end-at e K ≡ end-at e L
+unfolding end-at worth-at
+end-at-like e [] [] d = refl
+end-at-like e [] (G ∷ L) d = absurd d
+end-at-like e (F ∷ K) [] d = absurd d
+end-at-like e (F ∷ K) (G ∷ L) d = ap (λ (f : Leaf). value e (f .lin)) (d .0 e)
+
 module _ (S : Site) (E D : List Entry) (d : LikeGiven E D) where
   action-like : (a : ℕ) → LikeAction (action-of S E a) (action-of S D a)
   unfolding action-of
@@ -149,7 +165,7 @@ module _ (S : Site) (E D : List Entry) (d : LikeGiven E D) where
     reward = λ h a s. pos (power (model-of S E) (suc h)) *ℤ value (env s []) (at-like a .0 (env s []) i .lin);
     weight = λ a s r. weight (S .weights) (map-like (λ (f : Leaf). up (f .lin .const)) (env s []) (action-at (model-of S E) a .chances) (action-at (model-of S D) a .chances) (at-like a .1 .0) i) r;
     next = λ a s r. record { conditions = r; nums = map-like (λ (f : Leaf). value (env s r) (f .lin)) (env s r) (action-at (model-of S E) a .levels) (action-at (model-of S D) a .levels) (at-like a .1 .1) i; den = s .den; D>0 = s .D>0 };
-    end = λ s. pos 0;
+    end = λ s. end-at-like (env s []) (found end-slot E) (found end-slot D) (end-like end-slot E D d) i;
   }
 
 -- a model that is loaded by such a rule

@@ -126,14 +126,16 @@ stages-on-leads M (suc k) h finished P X i =
     (stages-on-leads M k (suc h) (_ ∷ finished) _ Y j)
     (λ Z q. let d = all-parts _ finished Z (q .1) in end-leads (Stages finished) Z _ (all-cons _ _ Z (d .0) (q .0), d .1)))
 
+and-only : (finished X : List Tree) (m : Ops (List Tree)) → Leads (Stages finished) X m → Leads (λ l Y. T (all-inside l Y)) X m
+and-only finished X m l = record { chain = l .chain; last = l .last .0 }
+
 over-end-leads : (M : Model) (H : ℕ) (E X : List Tree) → T (all-inside E X) → T (all-inside (model-diagrams M) X) → Leads (λ l Y. T (all-inside l Y)) X (stages-over-end M H E)
 unfolding stages-over-end result make
 over-end-leads M H [] X e i =
     operation-leads _ X 1 (model-diagrams M) (make zero-leaf) (λ Z. stages-on M H 1 (Z ∷ []) Z) i (λ Y _. zero-built Y)
-    (λ Y j. let l = stages-on-leads M H 1 (zero-leaf ∷ []) zero-leaf Y j in record { chain = l .chain; last = l .last .0 })
+    (λ Y j. and-only _ _ _ (stages-on-leads M H 1 (zero-leaf ∷ []) zero-leaf Y j))
 over-end-leads M H (E ∷ F) X e i =
-    let l = stages-on-leads M H 1 (E ∷ []) E X (all-cons E (model-diagrams M) X (all-parts E F X e .0) i) in
-    record { chain = l .chain; last = l .last .0 }
+    and-only _ _ _ (stages-on-leads M H 1 _ E X (all-cons E (model-diagrams M) X (all-parts E F X e .0) i))
 
 -- where the model's diagrams are there, and its end worth, all its stages are chained, and are there at the end
 pub all-stages-lead : (M : Model) (H : ℕ) (X : List Tree) → T (all-inside (M .end) X) → T (all-inside (model-diagrams M) X) → Leads (λ l Y. T (all-inside l Y)) X (all-stages M H)

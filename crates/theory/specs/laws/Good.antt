@@ -139,7 +139,7 @@ module _ (M : Model) where
       over-end : (l : List Tree) → T (all (all-nodes now? good-leaf) l) → SafeOps (StagesGood H) (stages-over-end M H l)
       over-end [] t = safe-operation _ 1 (model-diagrams M) (make zero-leaf) _ (safe-make zero-leaf (as-wide zero-leaf (zero-good good-closed now?)))
           (λ Z z. stages-safe (valid-actions M v) H 1 (Z ∷ []) Z z)
-      over-end (E ∷ l) t = stages-safe (valid-actions M v) H 1 (E ∷ []) E (as-wide E (both (all-nodes now? good-leaf E) _ t .0))
+      over-end (E ∷ l) t = stages-safe (valid-actions M v) H 1 _ E (as-wide E (both (all-nodes now? good-leaf E) _ t .0))
 
 -- the stages of a solved model: as many as steps, each node good, each leaf with an action of the model
 pub stages-good : (M : Model) → T (valid M) → (N p H : ℕ) (S : List Tree) (q : ℕ) → run-all N p (all-stages M H) ≡ solved S q

@@ -228,7 +228,7 @@ all-places M H l = over-end (M .end)
   where
     over-end : (E : List Tree) → Places H (stages-over-end M H E)
     over-end [] = (l, λ Z. stages-places H M H 1 (Z ∷ []) Z (omega arith))
-    over-end (E ∷ F) = stages-places H M H 1 (E ∷ []) E (omega arith)
+    over-end (E ∷ F) = stages-places H M H 1 _ E (omega arith)
 
 -- the place of a refusal is a stage, or 0 for loading
 pub refused-place : (N : ℕ) (B : List ℕ) (H r p : ℕ) → 1 ≤ H → solve-in N B H ≡ refused r p → p ≤ H

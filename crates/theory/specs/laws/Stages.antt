@@ -217,14 +217,14 @@ module _ (M : Model) where
         (stages-on-at k (suc h) (S ∷ finished) S (record { tests = b .tests; worth = b .worth }) i (omega arith)))
 
     -- stage 0, where V₀ is F's worth
-    over : (F : Tree) → Below M 0 F → (H i : ℕ) → i < H → Stage M (suc i) (getD (final (stages-on M H 1 (F ∷ []) F)) i zero-leaf)
-    over F b H i q = subst (λ (j : ℕ). Stage M (suc j) (getD (final (stages-on M H 1 (F ∷ []) F)) i zero-leaf)) (omega arith) (stages-on-at H 0 (F ∷ []) F b i q)
+    over : (finished : List Tree) (F : Tree) → Below M 0 F → (H i : ℕ) → i < H → Stage M (suc i) (getD (final (stages-on M H 1 finished F)) i zero-leaf)
+    over finished F b H i q = subst (λ (j : ℕ). Stage M (suc j) (getD (final (stages-on M H 1 finished F)) i zero-leaf)) (omega arith) (stages-on-at H 0 finished F b i q)
 
     over-end : (l : List Tree) → M .end ≡ l → T (all (all-nodes (good-test (M .conditions) false) good-leaf) l)
         → (H i : ℕ) → i < H → Stage M (suc i) (getD (final (stages-over-end M H l)) i zero-leaf)
     unfolding stages-over-end final make result optimum process end-at all zero-leaf all-nodes
-    over-end [] e t = over zero-leaf (record { tests = tt; worth = λ s. zero-at (env s []) ∙ sym (ap (end-at (env s [])) e) })
-    over-end (E ∷ l) e t = over E (record {
+    over-end [] e t = over _ zero-leaf (record { tests = tt; worth = λ s. zero-at (env s []) ∙ sym (ap (end-at (env s [])) e) })
+    over-end (E ∷ l) e t = over _ E (record {
       tests = widen (good-test (M .conditions) false) (now-test (M .conditions)) good-leaf any (good-now (M .conditions)) (λ _ _. tt) E (both (all-nodes (good-test (M .conditions) false) good-leaf E) _ t .0);
       worth = λ s. sym (ap (end-at (env s [])) e);
     })
