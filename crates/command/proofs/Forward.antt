@@ -58,8 +58,9 @@ module _ (B : List ℕ) (at : ℕ) where
       (skip (eqb (byte-at B at) 0x20) 2 _ _ _ tt
       (skip (eqb (byte-at B at) 0x21) 3 _ _ _ tt
       (skip (eqb (byte-at B at) 0x22) 3 _ _ _ tt
+      (skip (eqb (byte-at B at) 0x23) 1 _ _ _ tt
       (skip (eqb (byte-at B at) 0x30) 18 _ _ _ tt
-      (λ u. absurd u)))))))) t
+      (λ u. absurd u))))))))) t
 
   -- where a linear is written, its twenty bytes are there
   pub linear-room : (c : Command) → T (has-linear c) → whole c ≡ read-at B at → at + 21 ≤ length B

@@ -105,6 +105,7 @@ pub fn width(op: u8) -> usize
         0x20 => 2,
         0x21 => 3,
         0x22 => 3,
+        0x23 => 1,
         0x30 => 18,
         0xff => 1,
         _ => 0,
@@ -129,6 +130,7 @@ fn whole_at(model: &[u8], at: usize, op: u8) -> Command
         0x20 => Command::Give(0x20, byte_at(model, at + 1), 0),
         0x21 => Command::Give(0x21, byte_at(model, at + 1), byte_at(model, at + 2)),
         0x22 => Command::Give(0x22, byte_at(model, at + 1), byte_at(model, at + 2)),
+        0x23 => Command::Give(0x23, 0, 0),
         0x30 => Command::Name(byte_at(model, at + 1)),
         _ => Command::End,
     }

@@ -111,13 +111,18 @@ returns-7 c =
 returns-8 : tie.Need-returns-8
 unfolding command-of command-at
 returns-8 c =
-    simp (← (c .before .before .before) .pre .0, c .before .match .keys8, c .byte-at11 .ensures)
+    simp (← (c .before .before) .pre .0, c .match .keys8)
 
 returns-9 : tie.Need-returns-9
 unfolding command-of command-at
 returns-9 c =
+    simp (← (c .before .before .before) .pre .0, c .before .match .keys9, c .byte-at11 .ensures)
+
+returns-10 : tie.Need-returns-10
+unfolding command-of command-at
+returns-10 c =
     let r = c .match .rest in
-    simp (← (c .before .before) .pre .0, ne-eqb _ _ (r .0 .0 .0 .0 .0 .0 .0 .1), ne-eqb _ _ (r .0 .0 .0 .0 .0 .0 .1), ne-eqb _ _ (r .0 .0 .0 .0 .0 .1), ne-eqb _ _ (r .0 .0 .0 .0 .1), ne-eqb _ _ (r .0 .0 .0 .1), ne-eqb _ _ (r .0 .0 .1), ne-eqb _ _ (r .0 .1), ne-eqb _ _ (r .1))
+    simp (← (c .before .before) .pre .0, ne-eqb _ _ (r .0 .0 .0 .0 .0 .0 .0 .0 .1), ne-eqb _ _ (r .0 .0 .0 .0 .0 .0 .0 .1), ne-eqb _ _ (r .0 .0 .0 .0 .0 .0 .1), ne-eqb _ _ (r .0 .0 .0 .0 .0 .1), ne-eqb _ _ (r .0 .0 .0 .0 .1), ne-eqb _ _ (r .0 .0 .0 .1), ne-eqb _ _ (r .0 .0 .1), ne-eqb _ _ (r .0 .1), ne-eqb _ _ (r .1))
 
 pub whole-at-spec : {M : Type 1} → statement M
 whole-at-spec =
@@ -153,4 +158,5 @@ whole-at-spec =
     returns-6
     returns-7
     returns-8
-    returns-9)
+    returns-9
+    returns-10)
