@@ -74,10 +74,10 @@ module _ (M : Model) (N p h : ℕ) (finished : List Tree) (P : Tree) (L : List T
   pub stage-refused : {r b : ℕ} → run-all N p (stage-over M h (finished ++ model-diagrams M) P) ≡ refused r b → behind L (run-all N p (stages-on M (suc k) h finished P)) ≡ refused r b
   stage-refused g = stages-step M N p h finished P L k ∙ onward-refused _ g
 
--- stage 0
-module _ (M : Model) (N p H : ℕ) where
+-- stage 0 where there is no end worth
+module _ (M : Model) (N p H : ℕ) (none : M .end ≡ []) where
   pub zero-done : {Z : Tree} {n : ℕ} → Works N (model-diagrams M) (make zero-leaf) Z n → run-all N p (all-stages M H) ≡ behind [] (run-all N (max p n) (stages-on M H 1 (Z ∷ []) Z))
-  zero-done {Z} {n} e = ap (run-all N p) (all-stages-is M H) ∙ (works-run p 1 (λ Z. stages-on M H 1 (Z ∷ []) Z) e ∙ sym (behind-none (run-all N (max p n) (stages-on M H 1 (Z ∷ []) Z))))
+  zero-done {Z} {n} e = ap (run-all N p) (all-stages-is M H none) ∙ (works-run p 1 (λ Z. stages-on M H 1 (Z ∷ []) Z) e ∙ sym (behind-none (run-all N (max p n) (stages-on M H 1 (Z ∷ []) Z))))
 
   pub zero-refused : {r : ℕ} → Stops N (model-diagrams M) (make zero-leaf) r → run-all N p (all-stages M H) ≡ refused r 1
-  zero-refused e = ap (run-all N p) (all-stages-is M H) ∙ stops-run p 1 (λ Z. stages-on M H 1 (Z ∷ []) Z) e
+  zero-refused e = ap (run-all N p) (all-stages-is M H none) ∙ stops-run p 1 (λ Z. stages-on M H 1 (Z ∷ []) Z) e

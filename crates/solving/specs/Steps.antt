@@ -8,7 +8,7 @@ use Rattle.theory.specs.Diagram.{Tree}
 use Rattle.theory.specs.Computation.{make, Ops, end, operation, and-then, Solved, solved, refused, run-all}
 use Rattle.theory.specs.Rules.{best, zero-leaf, substitute, expectation, add-reward}
 use Rattle.theory.specs.Meaning.{Action, Model, power}
-use Rattle.theory.specs.Stage.{model-diagrams, sum-out, action-total, best-on, stage-over, stages-on, all-stages}
+use Rattle.theory.specs.Stage.{model-diagrams, sum-out, action-total, best-on, stage-over, stages-on, stages-over-end, all-stages}
 use Rattle.solving.specs.Onward.{onward, onward-refused, onward-onward, onward-same, onward-end, run-all-then}
 
 -- ---- conditions
@@ -103,7 +103,12 @@ module _ (M : Model) (N p h : ℕ) (finished : List Tree) (P : Tree) (L : List T
   unfolding stages-on run-all behind onward
   stages-done = ap (λ (z : List Tree). solved z p) (append-nil L)
 
--- stage 0, then stages 1 to H
-pub all-stages-is : (M : Model) (H : ℕ) → all-stages M H ≡ operation 1 (model-diagrams M) (make zero-leaf) (λ Z. stages-on M H 1 (Z ∷ []) Z)
-unfolding all-stages
-all-stages-is M H = refl
+-- without an end worth: stage 0, then stages 1 to H
+pub all-stages-is : (M : Model) (H : ℕ) → M .end ≡ [] → all-stages M H ≡ operation 1 (model-diagrams M) (make zero-leaf) (λ Z. stages-on M H 1 (Z ∷ []) Z)
+unfolding all-stages stages-over-end
+all-stages-is M H e = ap (stages-over-end M H) e
+
+-- with one: stages 1 to H over it
+pub all-stages-ended : (M : Model) (H : ℕ) {E : Tree} → M .end ≡ E ∷ [] → all-stages M H ≡ stages-on M H 1 (E ∷ []) E
+unfolding all-stages stages-over-end
+all-stages-ended M H e = ap (stages-over-end M H) e
