@@ -112,7 +112,8 @@ operands B at m n a w e =
     (neither-site (eqb (byte-at B at) 0x20) _ _ refl
     (neither-site (eqb (byte-at B at) 0x21) _ _ refl
     (neither-site (eqb (byte-at B at) 0x22) _ _ refl
-    (neither-site (eqb (byte-at B at) 0x30) _ _ refl refl))))))) e
+    (neither-site (eqb (byte-at B at) 0x23) _ _ refl
+    (neither-site (eqb (byte-at B at) 0x30) _ _ refl refl)))))))) e
 
 -- a first command that breaks no rule is a site
 no-site : first-broken (rule 1 true ∷ []) ≡ 0 → ⊥

@@ -5,13 +5,14 @@ use mathlib.Core.List.{List, [], _∷_}
 use Prim.Native.Nat.{ℕ, zero, suc, _≤_, _<_}
 use native.Mathlib.Omega.{arith}
 use borrow.Author.Tests.{ne-eqb, eq-eqb, eqb-true, eqb-false}
-use mathlib.Core.Logic.{⊎-elim}
+use mathlib.Core.Logic.{_⊎_, ⊎-elim}
 use lib.Dec.{T, eqb, eqb→eq, eqb-refl}
 use lib.ListN.{length, getD, set, replicate}
 use lib.Seq.{getD-set-same, getD-set-other}
 use Rattle.whole.specs.Cases.{both, same-bool}
 use Rattle.theory.specs.Command.{Slot}
-use Rattle.theory.specs.Verdict.{or, Site, same-slot, has-slot, reward-slot, chance-slot, level-slot, of-site}
+use Rattle.theory.specs.Verdict.{or, Site, same-slot, has-slot, reward-slot, chance-slot, level-slot, end-slot, of-site}
+use Rattle.theory.specs.Rows.{Range}
 use Rattle.theory.specs.laws.Rules.{of-site-out}
 use Rattle.theory.specs.Widths.{levels-most, conditions-most, actions-most, flags-most}
 use Rattle.theory.specs.Valid.{among}
@@ -20,7 +21,7 @@ use denote.Enum.Declared.{tagOf}
 use Rattle.command.proofs.Command.{the-type}
 use Rattle.command.specs.declared.Command.{Command as CodeCommand}
 use Rattle.command.specs.declared.Command.the-variants.{Site as SiteBy, Leaf, Condition, Test, Give, Name, End}
-use Rattle.progress.specs.Standing.{noted, place, base-of, flag-of, Slotted, for-reward, for-chance, for-level, for-name}
+use Rattle.progress.specs.Standing.{noted, place, base-of, flag-of, Slotted, for-reward, for-chance, for-level, for-name, for-end}
 use Rattle.progress.proofs.Numbers.{bounds, is-among}
 
 -- a store past the end changes nothing
@@ -39,6 +40,7 @@ slotted-below (for-reward {a = a} t) = let h = bounds 8 a t in omega arith
 slotted-below (for-chance {a = a} {k = k} t u) = let h = bounds 8 a t in let m = bounds 4 k u in omega arith
 slotted-below (for-level {a = a} {i = k} t u) = let h = bounds 8 a t in let m = bounds 4 k u in omega arith
 slotted-below (for-name {a = a} t) = let h = bounds 8 a t in omega arith
+slotted-below for-end = omega arith
 
 apart : (i j : ℕ) → (i ≡ j → ⊥) → false ≡ eqb i j
 apart i j h = sym (ne-eqb i j h)
@@ -76,20 +78,34 @@ same-place (for-name {a = a} t) (for-reward {a = b} u) = apart (place 9 0 a) (pl
 same-place (for-name {a = a} t) (for-chance {a = b} {k = l} u v) = apart (place 9 0 a) (place 0 l b) (let x = bounds 8 a t in let y = bounds 8 b u in let z = bounds 4 l v in λ e. omega arith)
 same-place (for-name {a = a} t) (for-level {a = b} {i = l} u v) = apart (place 9 0 a) (place 4 l b) (let x = bounds 8 a t in let y = bounds 8 b u in let z = bounds 4 l v in λ e. omega arith)
 same-place (for-name {a = a} t) (for-name {a = b} u) = one a b (place 9 0 a) (place 9 0 b) (λ e. omega arith) (λ e. omega arith)
+same-place (for-reward {a = a} t) for-end = apart (place 0 0 a) 0 (let x = bounds 8 a t in λ e. omega arith)
+same-place (for-chance {a = a} {k = k} t r) for-end = apart (place 0 k a) 0 (let x = bounds 8 a t in λ e. omega arith)
+same-place (for-level {a = a} {i = k} t r) for-end = apart (place 4 k a) 0 (let x = bounds 8 a t in λ e. omega arith)
+same-place (for-name {a = a} t) for-end = apart (place 9 0 a) 0 (let x = bounds 8 a t in λ e. omega arith)
+same-place for-end (for-reward {a = b} u) = apart 0 (place 0 0 b) (let y = bounds 8 b u in λ e. omega arith)
+same-place for-end (for-chance {a = b} {k = l} u v) = apart 0 (place 0 l b) (let y = bounds 8 b u in λ e. omega arith)
+same-place for-end (for-level {a = b} {i = l} u v) = apart 0 (place 4 l b) (let y = bounds 8 b u in λ e. omega arith)
+same-place for-end (for-name {a = b} u) = apart 0 (place 9 0 b) (let y = bounds 8 b u in λ e. omega arith)
+same-place for-end for-end = refl
 
 -- what the rules let be given
 pub slotted-given : (S : Site) (g : Slot) → S .levels ≤ levels-most → S .conditions ≤ conditions-most → S .actions ≤ actions-most → T (of-site S g) → Slotted g (flag-of g)
 unfolding base-of
-slotted-given S g m n a t =
-    let d = of-site-out S g t in
-    let act : T (among actions-most (g .action)) = is-among actions-most (g .action) (d .0 .0) (let h = d .0 .1 in omega arith) in
-    let from : (h : Slot) → g ≡ h → Slotted h (flag-of h) → Slotted g (flag-of g) = λ h e s. subst (λ (k : Slot). Slotted k (flag-of k)) (sym e) s in
-    ⊎-elim
-    (λ e. from (reward-slot (g .action)) (λ i. record { command = e .0 i; action = g .action; index = e .1 i }) (for-reward act))
-    (⊎-elim
-    (λ e. from (chance-slot (g .action) (g .index)) (λ i. record { command = e .0 i; action = g .action; index = g .index }) (for-chance act (is-among conditions-most (g .index) (e .1 .0) (let h = e .1 .1 in omega arith))))
-    (λ e. from (level-slot (g .action) (g .index)) (λ i. record { command = e .0 i; action = g .action; index = g .index }) (for-level act (is-among levels-most (g .index) (e .1 .0) (let h = e .1 .1 in omega arith)))))
-    (d .1)
+slotted-given S g m n a t = ⊎-elim (λ e. from end-slot e for-end) acted (of-site-out S g t)
+  where
+    from : (h : Slot) → g ≡ h → Slotted h (flag-of h) → Slotted g (flag-of g)
+    from h e s = subst (λ (k : Slot). Slotted k (flag-of k)) (sym e) s
+
+    acted : Range 1 (S .actions) (g .action)
+        × (((g .command ≡ 0x20) × (g .index ≡ 0)) ⊎ (((g .command ≡ 0x21) × Range 1 (S .conditions) (g .index)) ⊎ ((g .command ≡ 0x22) × Range 1 (S .levels) (g .index)))) → Slotted g (flag-of g)
+    acted d =
+        let act : T (among actions-most (g .action)) = is-among actions-most (g .action) (d .0 .0) (let h = d .0 .1 in omega arith) in
+        ⊎-elim
+        (λ e. from (reward-slot (g .action)) (λ i. record { command = e .0 i; action = g .action; index = e .1 i }) (for-reward act))
+        (⊎-elim
+        (λ e. from (chance-slot (g .action) (g .index)) (λ i. record { command = e .0 i; action = g .action; index = g .index }) (for-chance act (is-among conditions-most (g .index) (e .1 .0) (let h = e .1 .1 in omega arith))))
+        (λ e. from (level-slot (g .action) (g .index)) (λ i. record { command = e .0 i; action = g .action; index = g .index }) (for-level act (is-among levels-most (g .index) (e .1 .0) (let h = e .1 .1 in omega arith)))))
+        (d .1)
 
 -- a flag set is one thing more that is given
 pub flag-more : (G : List Slot) (F : List Bool) {g h : Slot} {i j : ℕ} → length F ≡ flags-most → Slotted g i → Slotted h j → has-slot h G ≡ getD F j false

@@ -9,7 +9,7 @@ use Rattle.whole.specs.Cases.{if}
 use Rattle.theory.specs.Widths.{levels-most, conditions-most, actions-most, stack-most, flags-most}
 use Rattle.theory.specs.Valid.{all, among}
 use Rattle.theory.specs.Command.{Command, Slot}
-use Rattle.theory.specs.Verdict.{Site, site-of, Facts, reward-slot, chance-slot, level-slot, name-slot, has-slot, Progress, rule, Rule, first-broken, rules-of, later-rules, after, from-to}
+use Rattle.theory.specs.Verdict.{Site, site-of, Facts, reward-slot, chance-slot, level-slot, end-slot, name-slot, has-slot, Progress, rule, Rule, first-broken, rules-of, later-rules, after, from-to}
 use Rattle.command.specs.declared.Command.{Command as CodeCommand}
 use Rattle.command.specs.declared.Command.the-variants.{Site as SiteBy, Leaf, Condition, Test, Give, Name, End}
 use Rattle.command.specs.Reading.{command-of}
@@ -28,7 +28,7 @@ seen-in later weights (suc n) = record { next-step = eqb (later % 2) 1; weights 
 abbrev pub seen : Seen → List Facts
 seen t = seen-in (t .later) (t .weights) (t .len)
 
--- the place of a flag: ten rows of the eight actions, rewards in row 0, chances in 1 to 4, next levels in 5 to 8, names in 9
+-- the place of a flag: the end worth's, then ten rows of the eight actions, rewards in row 0, chances in 1 to 4, next levels in 5 to 8, names in 9
 abbrev pub place : ℕ → ℕ → ℕ → ℕ
 place base i a = (base + i) * 8 + a
 
@@ -46,6 +46,7 @@ pub data Slotted : Slot → ℕ → Type 0 where
   for-chance : {a k : ℕ} → T (among actions-most a) → T (among conditions-most k) → Slotted (chance-slot a k) (place 0 k a)
   for-level : {a i : ℕ} → T (among actions-most a) → T (among levels-most i) → Slotted (level-slot a i) (place 4 i a)
   for-name : {a : ℕ} → T (among actions-most a) → Slotted (name-slot a) (place 9 0 a)
+  for-end : Slotted end-slot (place 0 0 0)
 
 -- whether all that a site asks for is flagged
 unfoldable pub row-given : List Bool → ℕ → ℕ → ℕ → Bool

@@ -1,4 +1,4 @@
-// "Every reward, chance and next level is given exactly once": a flag for each, and for each name.
+// "Every reward, chance and next level is given exactly once", the end worth at most once: a flag for each, and for each name.
 ghost use mathlib.Core.Path.{_≡_};
 ghost use mathlib.Core.Bool.{true, false};
 ghost use Prim.Native.Nat.{_≤_, _<_};
@@ -8,7 +8,7 @@ ghost use Rattle.progress.specs.Standing.{place as place-of};
 use super::Site;
 use command::Command;
 
-// Flags in all: rows of the eight actions from 1 on, for the reward, each chance, each next level and the name.
+// Flags in all: the end worth's, then rows of the eight actions from 1 on, for the reward, each chance, each next level and the name.
 pub const FLAGS: usize = 81;
 
 // The row before the first next level's.
@@ -23,7 +23,7 @@ fn wide(x: u8) -> usize
     x as usize
 }
 
-// The place of a flag: rewards have base 0 and i 0, chances base 0, next levels base 4, names base 9 and i 0.
+// The place of a flag: rewards have base 0 and i 0, chances base 0, next levels base 4, names base 9 and i 0; the end worth, of action 0, has all 0.
 pub(crate) fn place(base: usize, i: u8, a: u8) -> usize
     requires { ⌜ base < 256 ⌝ }
     ensures { λ r. ⌜ r ≡ place-of base i a ⌝ }

@@ -11,7 +11,7 @@ ghost use Rattle.theory.specs.Widths.{conditions-most};
 ghost use Rattle.theory.specs.Diagram.{zeros as zeros-in};
 ghost use Rattle.theory.specs.Valid.{all};
 ghost use Rattle.theory.specs.Valid.{among as is-among};
-ghost use Rattle.theory.specs.Verdict.{or, next-condition, first-broken, site-rules, site-of, is-weight, of-site};
+ghost use Rattle.theory.specs.Verdict.{or, next-condition, first-broken, site-rules, site-of, is-weight, of-site, same-slot, end-slot};
 ghost use Rattle.progress.specs.Standing.{site-as};
 ghost use Rattle.whole.specs.Cases.{if};
 ghost use Rattle.theory.specs.Verdict.{beyond as some-beyond};
@@ -109,11 +109,21 @@ fn index(site: Site, command: u8, i: u8) -> bool
     }
 }
 
+// "23 takes one diagram off the stack as the end worth, with no operand"
+fn end_worth(command: u8, a: u8, i: u8) -> bool
+    ensures { λ r. ⌜ r ≡ same-slot (record { command = command; action = a; index = i }) end-slot ⌝ }
+{
+    both(command == 0x23, both(a == 0, i == 0))
+}
+
 // "20 reward: action", "21 chance: action, condition", "22 next level: action, level": each is one of the site's.
 pub fn slot(site: Site, command: u8, a: u8, i: u8) -> bool
     ensures { λ r. ⌜ r ≡ of-site (site-as site) (record { command = command; action = a; index = i }) ⌝ }
 {
-    both(among(site.actions, a), index(site, command, i))
+    either(
+        end_worth(command, a, i),
+        both(among(site.actions, a), index(site, command, i)),
+    )
 }
 
 fn printable(b: u8) -> bool

@@ -1,10 +1,13 @@
 -- `progress::operands::slot` meets its contract.
 use mathlib.Core.Path.{_∙_}
 use mathlib.Core.Bool.{_&&_}
-use Rattle.theory.specs.Verdict.{of-site}
+use Rattle.theory.specs.Verdict.{or, of-site}
 use borrow.Author.Needs.{needs}
 use Rattle.progress.proofs.operands.slot.Statement.{statement}
 use Rattle.progress.proofs.operands.slot.Tie as tie
+
+end-worth-requires : tie.Need-end-worth-requires
+end-worth-requires c κs = search needs
 
 among-requires : tie.Need-among-requires
 among-requires c κs = search needs
@@ -15,10 +18,16 @@ index-requires c κs = search needs
 both-requires : tie.Need-both-requires
 both-requires c κs = search needs
 
+either-requires : tie.Need-either-requires
+either-requires c κs = search needs
+
 returns : tie.Need-returns
 unfolding of-site
 returns c =
-    c .both .ensures ∙ (λ j. c .before .before .among .ensures j && c .before .index .ensures j)
+    let acted = c .before .both .ensures ∙ (λ j. c .before .before .before .among .ensures j && c .before .before .index .ensures j) in
+    c .either .ensures ∙ (λ j. or (c .before .before .before .before .end-worth .ensures j) (acted j))
 
 pub slot-spec : {M : Type 1} → statement M
-slot-spec = tie.close (tie.spec among-requires index-requires both-requires returns)
+slot-spec =
+    tie.close
+    (tie.spec end-worth-requires among-requires index-requires both-requires either-requires returns)
