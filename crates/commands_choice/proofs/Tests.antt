@@ -97,7 +97,7 @@ unfolding command-at wide-command
 command-wide B at =
     one-of (eqb (byte-at B at) 0x01) _ _ tt (one-of (eqb (byte-at B at) 0x10) _ _ (linear-wide B (at + 1)) (one-of (eqb (byte-at B at) 0x11) _ _ tt
     (one-of (eqb (byte-at B at) 0x12) _ _ (linear-wide B (at + 1)) (one-of (eqb (byte-at B at) 0x20) _ _ tt (one-of (eqb (byte-at B at) 0x21) _ _ tt
-    (one-of (eqb (byte-at B at) 0x22) _ _ tt (one-of (eqb (byte-at B at) 0x30) _ _ tt tt)))))))
+    (one-of (eqb (byte-at B at) 0x22) _ _ tt (one-of (eqb (byte-at B at) 0x23) _ _ tt (one-of (eqb (byte-at B at) 0x30) _ _ tt tt))))))))
 
 read-wide : (B : List ℕ) (at : ℕ) → T (wide-read (read-at B at))
 unfolding wide-read

@@ -9,15 +9,15 @@ use native.Mathlib.Omega.{arith}
 use lib.Dec.{T, eqb}
 use lib.IntN.{ℤ}
 use lib.ListN.{length, getD}
-use Rattle.whole.specs.Cases.{if, both}
-use Rattle.theory.specs.Widths.{bytes-most, model-roots-most}
+use Rattle.whole.specs.Cases.{if, both, from-true}
+use Rattle.theory.specs.Widths.{bytes-most, loaded-roots-most}
 use Rattle.theory.specs.Diagram.{Tree}
 use Rattle.theory.specs.Valid.{all}
 use Rattle.theory.specs.Meaning.{Model}
 use Rattle.theory.specs.Computation.{Comp, ret, bind, Out, done, stopped, run}
 use Rattle.theory.specs.Command.{Command, site, push-leaf, push-condition, push-test, name-action, end-model, Read, whole, Placed, byte-at, width, command-at, goes-on, readings-from, readings, give, Slot}
-use Rattle.theory.specs.Verdict.{Site, site-of, Progress, reward-slot, chance-slot, level-slot, has-slot, first-broken, from-to, wanted-by, wanted, site-rules, first-rules, rules-of, after, ended, judged, at-start, verdict}
-use Rattle.theory.specs.Load.{Entry, Loaded as Loading, load-one-with, load-on, load-on-with, find-slot, action-of, model-of, site-at, load, load-with, model}
+use Rattle.theory.specs.Verdict.{Site, site-of, Progress, reward-slot, chance-slot, level-slot, end-slot, has-slot, first-broken, from-to, wanted-by, wanted, site-rules, first-rules, rules-of, after, ended, judged, at-start, verdict}
+use Rattle.theory.specs.Load.{Entry, Loaded as Loading, load-one-with, load-on, load-on-with, find-slot, found, action-of, model-of, site-at, load, load-with, model}
 use Rattle.theory.specs.Stage.{all-diagrams, model-diagrams}
 use Rattle.theory.specs.laws.Comps.{run-bind, run-result}
 use Rattle.theory.specs.laws.Comps.{after as after-out}
@@ -30,7 +30,7 @@ use Rattle.diagrams.specs.Table.{Table}
 use Rattle.commands_choice.specs.Testing.{loadRule}
 use Rattle.stacking.specs.Stepping.{standing, Below, loading}
 use Rattle.stacking.specs.declared.Loaded.{Loaded}
-use Rattle.loading.specs.Rooting.{Starts, Loads}
+use Rattle.loading.specs.Rooting.{endOf, Starts, Loads}
 use Rattle.loading.proofs.Places.{width-of, Placed-at, Rooted, rooted-none}
 use Rattle.loading.proofs.Turns.{Walk, few-in, judged-whole}
 
@@ -58,7 +58,7 @@ unfolding command-at site-fits site-at
 first-fits B =
     one-of B (eqb (byte-at B 0) 0x01) _ _ refl (one-of B (eqb (byte-at B 0) 0x10) _ _ tt (one-of B (eqb (byte-at B 0) 0x11) _ _ tt
     (one-of B (eqb (byte-at B 0) 0x12) _ _ tt (one-of B (eqb (byte-at B 0) 0x20) _ _ tt (one-of B (eqb (byte-at B 0) 0x21) _ _ tt
-    (one-of B (eqb (byte-at B 0) 0x22) _ _ tt (one-of B (eqb (byte-at B 0) 0x30) _ _ tt tt)))))))
+    (one-of B (eqb (byte-at B 0) 0x22) _ _ tt (one-of B (eqb (byte-at B 0) 0x23) _ _ tt (one-of B (eqb (byte-at B 0) 0x30) _ _ tt tt))))))))
 
 abbrev begun : Site → Progress
 begun S = record { begun = true; site = S; stack = []; given = [] }
@@ -100,8 +100,8 @@ empty-run B cap l s st L eL e =
     ∙ (ap (run cap (load-on L (loading [] []))) (ap (trees l) (st .count) ∙ trees-none l)
     ∙ (ap (λ (M : List Placed). run cap (load-on M (loading [] [])) []) eL ∙ ap (λ (m : Comp Loading). run cap m []) (sym e)))
 
-pub walk-starts : {B : List ℕ} {cap : ℕ} {l : List ℤ} {w : List ℕ} {R : List ℕ} {at : ℕ} {s : Loaded} → verdict B .number ≡ 0 → length B ≤ bytes-most → Table (loadRule B) cap l w 0 → model-roots-most ≤ length R → at ≡ next-at B 0 → Starts s → Walk B cap l w R at s
-unfolding Below
+pub walk-starts : {B : List ℕ} {cap : ℕ} {l : List ℤ} {w : List ℕ} {R : List ℕ} {at : ℕ} {s : Loaded} → verdict B .number ≡ 0 → length B ≤ bytes-most → Table (loadRule B) cap l w 0 → loaded-roots-most ≤ length R → at ≡ next-at B 0 → Starts s → Walk B cap l w R at s false
+unfolding Below has-slot
 walk-starts {B} {cap} {l} {w} {R} {at} {s} ok small A room ea st =
     let b = begins B ok in
     let e : at ≡ 0 + width (byte-at B 0) = ea ∙ next-whole B 0 (b .bytes) in
@@ -123,6 +123,7 @@ walk-starts {B} {cap} {l} {w} {R} {at} {s} ok small A room ea st =
       judges = subst (λ (i : ℕ). judged (length B) (begun (site-at B)) (readings-from B (length B) i) .number ≡ 0) (sym e) (b .judges);
       runs = empty-run B cap l s st (readings-from B (length B) at) (ap (readings-from B (length B)) e) (b .runs);
       rooted = rooted-none (site-at B) l (s .count) R;
+      ended = refl;
       room = room;
     }
 
@@ -193,12 +194,22 @@ module _ {S : Site} {l : List ℤ} {n : ℕ} {R : List ℕ} {G : List Slot} {E :
   roots-below : (b : ℕ) (W : List Slot) → At-places S b W → T (all (λ g. has-slot g G) W) → Below n (map (λ i. getD R i 0) (from-to b (length W)))
   unfolding At-places all from-to Below
   roots-below b [] p t = tt
-  roots-below b (g ∷ W) p t = let d = both (has-slot g G) _ t in (r .root g b (p .0) (d .0) .below, roots-below (suc b) W (p .1) (d .1))
+  roots-below b (g ∷ W) p t = let d = both (has-slot g G) _ t in (r .root g b (inl (p .0)) (d .0) .below, roots-below (suc b) W (p .1) (d .1))
 
   roots-trees : (b : ℕ) (W : List Slot) → At-places S b W → T (all (λ g. has-slot g G) W) → standing l n (map (λ i. getD R i 0) (from-to b (length W))) ≡ map (λ g. find-slot g E) W
   unfolding At-places all from-to
   roots-trees b [] p t = refl
-  roots-trees b (g ∷ W) p t = let d = both (has-slot g G) _ t in ap₂ _∷_ (r .root g b (p .0) (d .0) .tree) (roots-trees (suc b) W (p .1) (d .1))
+  roots-trees b (g ∷ W) p t = let d = both (has-slot g G) _ t in ap₂ _∷_ (r .root g b (inl (p .0)) (d .0) .tree) (roots-trees (suc b) W (p .1) (d .1))
+
+  -- the end worth's root
+  end-below : (b : Bool) → b ≡ has-slot end-slot G → Below n (endOf S R b)
+  unfolding Below
+  end-below true e = (r .root end-slot (S .actions * width-of S) (inr (record { is = refl; place = refl })) (from-true (sym e)) .below, tt)
+  end-below false e = tt
+
+  end-tree : (b : Bool) → b ≡ has-slot end-slot G → standing l n (endOf S R b) ≡ found end-slot E
+  end-tree true e = ap (λ (t : Tree). t ∷ []) (r .root end-slot (S .actions * width-of S) (inr (record { is = refl; place = refl })) (from-true (sym e)) .tree) ∙ sym (r .end ∙ ap (λ (b : Bool). if b (find-slot end-slot E ∷ []) []) (sym e))
+  end-tree false e = sym (r .end ∙ ap (λ (b : Bool). if b (find-slot end-slot E ∷ []) []) (sym e))
 
 -- ---- the model's diagrams are what is wanted
 
@@ -256,10 +267,10 @@ is-model : (B : List ℕ) (cap : ℕ) {M : Model} {Y : List Tree} → run cap (l
 unfolding model
 is-model B cap {M} {Y} e = run-result cap (load B) [] Y M e
 
-pub ends-loaded : {B : List ℕ} {cap : ℕ} {l : List ℤ} {w : List ℕ} {R : List ℕ} {at : ℕ} {s : Loaded} (k : Walk B cap l w R at s) → run cap (load-on (readings B) (loading [] [])) [] ≡ done (loading (standing l (s .count) (held (s .stack))) (k .entries)) (trees l (s .count))
-    → T (all (λ g. has-slot g (k .given)) (wanted (site-at B))) → Loads B cap l w R (record { stop = 0; count = s .count })
-unfolding wanted
-ends-loaded {B} {cap} {l} {w} {R} {at} {s} k e t =
+pub ends-loaded : {B : List ℕ} {cap : ℕ} {l : List ℤ} {w : List ℕ} {R : List ℕ} {at : ℕ} {s : Loaded} {flag : Bool} (k : Walk B cap l w R at s flag) → run cap (load-on (readings B) (loading [] [])) [] ≡ done (loading (standing l (s .count) (held (s .stack))) (k .entries)) (trees l (s .count))
+    → T (all (λ g. has-slot g (k .given)) (wanted (site-at B))) → Loads B cap l w R (record { stop = 0; count = s .count; ended = flag })
+unfolding wanted model-of
+ends-loaded {B} {cap} {l} {w} {R} {at} {s} {flag} k e t =
     let S = site-at B in
     let d = load-done B cap e in
     let m = is-model B cap d in
@@ -271,8 +282,10 @@ ends-loaded {B} {cap} {l} {w} {R} {at} {s} k e t =
       below = λ _. subst (λ (j : ℕ). Below (s .count) (map (λ i. getD R i 0) (from-to 0 j))) n (roots-below (k .rooted) 0 (wanted-by S (from-to 1 (S .actions))) p t);
       roots = λ _. subst (λ (j : ℕ). standing l (s .count) (map (λ i. getD R i 0) (from-to 0 j)) ≡ model-diagrams (model B)) n
           (roots-trees (k .rooted) 0 (wanted-by S (from-to 1 (S .actions))) p t ∙ (model-wanted S (k .entries) (k .few .some) ∙ ap model-diagrams m));
+      end-below = λ _. end-below (k .rooted) flag (k .ended);
+      end-root = λ _. end-tree (k .rooted) flag (k .ended) ∙ ap (λ (M : Model). M .end) m;
       stops = λ z. absurd (z refl);
     }
 
-pub stops-loaded : {B : List ℕ} {cap : ℕ} {l : List ℤ} {w : List ℕ} (R : List ℕ) {j n : ℕ} → Table (loadRule B) cap l w n → run cap (load-on (readings B) (loading [] [])) [] ≡ stopped j → (j ≡ 0 → ⊥) → Loads B cap l w R (record { stop = j; count = n })
-stops-loaded {B} {cap} R A e off = record { table = A; ran = λ z. absurd (off z); below = λ z. absurd (off z); roots = λ z. absurd (off z); stops = λ _. load-stops B cap e }
+pub stops-loaded : {B : List ℕ} {cap : ℕ} {l : List ℤ} {w : List ℕ} (R : List ℕ) {j n : ℕ} {flag : Bool} → Table (loadRule B) cap l w n → run cap (load-on (readings B) (loading [] [])) [] ≡ stopped j → (j ≡ 0 → ⊥) → Loads B cap l w R (record { stop = j; count = n; ended = flag })
+stops-loaded {B} {cap} R A e off = record { table = A; ran = λ z. absurd (off z); below = λ z. absurd (off z); roots = λ z. absurd (off z); end-below = λ z. absurd (off z); end-root = λ z. absurd (off z); stops = λ _. load-stops B cap e }

@@ -10,12 +10,12 @@ use lib.ListN.{length, getD, drop}
 use types.Run.{OneOf, miss}
 use denote.Enum.Declared.{tagOf}
 use Rattle.whole.specs.Cases.{if, by-test, both, not-not}
-use Rattle.theory.specs.Widths.{levels-most, conditions-most, actions-most, stack-most, bytes-most, model-roots-most}
+use Rattle.theory.specs.Widths.{levels-most, conditions-most, actions-most, stack-most, bytes-most, loaded-roots-most}
 use Rattle.theory.specs.Diagram.{Tree}
 use Rattle.theory.specs.Valid.{all, among}
 use Rattle.theory.specs.Computation.{Comp, bind, Out, done, stopped, run}
 use Rattle.theory.specs.Command.{Command, site, push-leaf, push-condition, push-test, name-action, end-model, Read, whole, unknown, short, Placed, byte-at, width, read-at, goes-on, readings-from, readings, give, Slot}
-use Rattle.theory.specs.Verdict.{Site, Facts, Progress, name-slot, has-slot, or, Rule, rule, first-broken, next-condition, joined, wanted, later-rules, rules-of, after, Verdict, refusal, ended, judged}
+use Rattle.theory.specs.Verdict.{Site, Facts, Progress, end-slot, name-slot, has-slot, same-slot, or, Rule, rule, first-broken, next-condition, joined, wanted, later-rules, rules-of, after, Verdict, refusal, ended, judged}
 use Rattle.theory.specs.Load.{Entry, Loaded as Loading, load-one, load-one-with, load-on, load-on-with, site-at}
 use Rattle.theory.specs.laws.Comps.{run-bind}
 use Rattle.theory.specs.laws.Comps.{after as after-out}
@@ -37,8 +37,8 @@ use Rattle.commands_choice.specs.Testing.{loadRule}
 use Rattle.stacking.specs.Stepping.{standing, Below, Able, height, given-to, entered, Ready, loading, Stepped}
 use Rattle.stacking.proofs.Steps.{top-below}
 use Rattle.stacking.specs.declared.Loaded.{Loaded}
-use Rattle.loading.specs.Rooting.{place-of, storedIn}
-use Rattle.loading.proofs.Places.{Placed-at, placed-given, Rooted, rooted-grown, rooted-name, rooted-entry, stored-none, stored-length}
+use Rattle.loading.specs.Rooting.{place-of, ended-by, storedIn}
+use Rattle.loading.proofs.Places.{Stands-at, placed-given, ends-given, Rooted, rooted-grown, rooted-name, rooted-entry, stored-none, stored-length}
 
 -- ---- a command that breaks no rule
 
@@ -103,11 +103,11 @@ unfolding given-to
 given-first l n [] g E h P p = absurd (omega arith)
 given-first l n (x ∷ H) g E h P p = p
 
-module _ (S : Site) (A : S .actions ≤ 8) (N : S .conditions ≤ 4) (M : S .levels ≤ 4) (K : List Facts) (G : List Slot) {l : List ℤ} {n : ℕ} (H : List ℕ) (b : Below n H) (tall : length H ≡ length K) {R : List ℕ} (room : model-roots-most ≤ length R) {E : List Entry} (r : Rooted S l n R G E) where
-  took : (g : Slot) (i : ℕ) → Placed-at S g i → 1 ≤ length K → Rooted S l n (storedIn R i (getD H 0 0)) (g ∷ G) (given-to g (standing l n H) E)
+module _ (S : Site) (A : S .actions ≤ 8) (N : S .conditions ≤ 4) (M : S .levels ≤ 4) (K : List Facts) (G : List Slot) {l : List ℤ} {n : ℕ} (H : List ℕ) (b : Below n H) (tall : length H ≡ length K) {R : List ℕ} (room : loaded-roots-most ≤ length R) {E : List Entry} (r : Rooted S l n R G E) where
+  took : (g : Slot) (i : ℕ) → Stands-at S g i → 1 ≤ length K → Rooted S l n (storedIn R i (getD H 0 0)) (g ∷ G) (given-to g (standing l n H) E)
   took g i p h = given-first l n H g E (omega arith) (λ F. Rooted S l n (storedIn R i (getD H 0 0)) (g ∷ G) F) (rooted-entry A N M room p (record { below = top-below n H (omega arith) b; tree = refl }) r)
 
-  pub given-roots : (c : Command) → first-broken (later-rules S K G c) ≡ 0 → Rooted S l n (storedIn R (place-of (S .levels) (S .conditions) c) (getD H 0 0)) (after (state S K G) c .given) (entered c (standing l n H) E)
+  pub given-roots : (c : Command) → first-broken (later-rules S K G c) ≡ 0 → Rooted S l n (storedIn R (place-of (S .levels) (S .conditions) (S .actions) c) (getD H 0 0)) (after (state S K G) c .given) (entered c (standing l n H) E)
   unfolding later-rules after place-of entered
   given-roots (site m n a w) e = absurd (unbroken 0 true _ e .0)
   given-roots (push-leaf p) e = subst (λ (R : List ℕ). Rooted S l n R G E) (sym (stored-none R (getD H 0 0))) r
@@ -118,6 +118,17 @@ module _ (S : Site) (A : S .actions ≤ 8) (N : S .conditions ≤ 4) (M : S .lev
       took g _ (placed-given S g (says-of-site S g .kept (u .0))) (nltb→le (length K) 1 (unbroken 4 _ _ (u .1) .0))
   given-roots (name-action a b) e = subst (λ (R : List ℕ). Rooted S l n R (name-slot a ∷ G) E) (sym (stored-none R (getD H 0 0))) (rooted-name a r)
   given-roots end-model e = subst (λ (R : List ℕ). Rooted S l n R G E) (sym (stored-none R (getD H 0 0))) r
+
+-- whether an end worth is among what has been given
+given-ends : (S : Site) (K : List Facts) (G : List Slot) {b : Bool} → b ≡ has-slot end-slot G → (c : Command) → first-broken (later-rules S K G c) ≡ 0 → ended-by b c ≡ has-slot end-slot (after (state S K G) c .given)
+unfolding later-rules after ended-by has-slot same-slot
+given-ends S K G e (site m n a w) f = absurd (unbroken 0 true _ f .0)
+given-ends S K G e (push-leaf p) f = e
+given-ends S K G e (push-condition k) f = e
+given-ends S K G e (push-test p) f = e
+given-ends S K G e (give g) f = ends-given S G (says-of-site S g .kept (unbroken 3 _ _ f .0)) e
+given-ends S K G e (name-action a b) f = e
+given-ends S K G e end-model f = e
 
 -- ---- the walk
 
@@ -134,7 +145,7 @@ few-in B r =
     record { actions = a .1; conditions = leb→le (site-at B .conditions) conditions-most (r .conditions-in); levels = m .1; some = a .0 }
 
 -- what is left of the readings gives what the whole model gives
-pub record Walk (B : List ℕ) (cap : ℕ) (l : List ℤ) (w : List ℕ) (R : List ℕ) (at : ℕ) (s : Loaded) : Type 0 where
+pub record Walk (B : List ℕ) (cap : ℕ) (l : List ℤ) (w : List ℕ) (R : List ℕ) (at : ℕ) (s : Loaded) (flag : Bool) : Type 0 where
   pub few : Fewest B
   pub small : length B ≤ bytes-most
   pub none : s .stop ≡ 0
@@ -150,7 +161,8 @@ pub record Walk (B : List ℕ) (cap : ℕ) (l : List ℤ) (w : List ℕ) (R : Li
   pub judges : judged (length B) (state (site-at B) facts given) (readings-from B fuel at) .number ≡ 0
   pub runs : run cap (load-on (readings-from B fuel at) (loading (standing l (s .count) (held (s .stack))) entries)) (trees l (s .count)) ≡ run cap (load-on (readings B) (loading [] [])) []
   pub rooted : Rooted (site-at B) l (s .count) R given entries
-  pub room : model-roots-most ≤ length R
+  pub ended : flag ≡ has-slot end-slot given
+  pub room : loaded-roots-most ≤ length R
 
 opened : (P : List Placed → Type 0) (B : List ℕ) (at k : ℕ) → length B - at < k → P (readings-from B k at) → (r : Read) → r ≡ read-at B at → (n : ℕ) × (length B - at < suc n) × P (from-first B at n r)
 unfolding readings-from
@@ -203,7 +215,7 @@ ends-all : (S : Site) (K : List Facts) (G : List Slot) → first-broken (later-r
 unfolding later-rules
 ends-all S K G e = not-not (all (λ g. has-slot g G) (wanted S)) (unbroken 6 _ _ e .0)
 
-module _ {B : List ℕ} {cap : ℕ} {l : List ℤ} {w : List ℕ} {R : List ℕ} {at : ℕ} {s : Loaded} (k : Walk B cap l w R at s) where
+module _ {B : List ℕ} {cap : ℕ} {l : List ℤ} {w : List ℕ} {R : List ℕ} {at : ℕ} {s : Loaded} {flag : Bool} (k : Walk B cap l w R at s flag) where
   abbrev Here : List Placed → Type 0
   Here = Both B cap (k .facts) (k .given) (standing l (s .count) (held (s .stack))) (k .entries) (trees l (s .count))
 
@@ -248,15 +260,16 @@ module _ {B : List ℕ} {cap : ℕ} {l : List ℤ} {w : List ℕ} {R : List ℕ}
       on go = sym (loads ∙ ap (λ (o : Out Loading). after-out o (λ t Y. run cap (load-on (if (goes-on (whole (command-of B at c))) (readings-from B (first (whole (command-of B at c)) e .0) (at + width (byte-at B at))) []) t) Y)) (T .went go (k .entries)))
 
       -- it goes on
-      pub turn-on : {R′ : List ℕ} (next x : ℕ) → is-end c ≡ false → next ≡ next-at B at → r .stop ≡ 0 → x ≡ getD (held (s .stack)) 0 0 → R′ ≡ storedIn R (place-of (site-at B .levels) (site-at B .conditions) (command-of B at c)) x → Walk B cap l′ w′ R′ next r
-      turn-on {R′} next x i g go ex eR =
+      pub turn-on : {R′ : List ℕ} {flag′ : Bool} (next x : ℕ) → is-end c ≡ false → next ≡ next-at B at → r .stop ≡ 0 → x ≡ getD (held (s .stack)) 0 0 → R′ ≡ storedIn R (place-of (site-at B .levels) (site-at B .conditions) (site-at B .actions) (command-of B at c)) x
+          → flag′ ≡ ended-by flag (command-of B at c) → Walk B cap l′ w′ R′ next r flag′
+      turn-on {R′} next x i g go ex eR ef =
           let o = first (whole (command-of B at c)) e in
           let h = forward B at (command-of B at c) next e g in
           let y = going B at c i in
           let j = judge-one B (site-at B) (k .facts) (k .given) at (command-of B at c) _ (o .2 .0) .1 in
           let j′ = sym (ap (λ (v : Verdict). v .number) (y .1 (length B) _)) ∙ j in
           let L : if (goes-on (whole (command-of B at c))) (readings-from B (o .0) (at + width (byte-at B at))) [] ≡ readings-from B (o .0) next = ap (λ (b : Bool). if b (readings-from B (o .0) (at + width (byte-at B at))) []) (y .0) ∙ ap (readings-from B (o .0)) (sym (h .0)) in
-          let eR′ : R′ ≡ storedIn R (place-of (site-at B .levels) (site-at B .conditions) (command-of B at c)) (getD (held (s .stack)) 0 0) = eR ∙ ap (storedIn R (place-of (site-at B .levels) (site-at B .conditions) (command-of B at c))) ex in
+          let eR′ : R′ ≡ storedIn R (place-of (site-at B .levels) (site-at B .conditions) (site-at B .actions) (command-of B at c)) (getD (held (s .stack)) 0 0) = eR ∙ ap (storedIn R (place-of (site-at B .levels) (site-at B .conditions) (site-at B .actions) (command-of B at c))) ex in
           record {
             few = k .few;
             small = k .small;
@@ -275,6 +288,7 @@ module _ {B : List ℕ} {cap : ℕ} {l : List ℤ} {w : List ℕ} {R : List ℕ}
             runs = subst (λ (M : List Placed). run cap (load-on M (loading (standing l′ (r .count) (held (r .stack))) (entered (command-of B at c) (standing l (s .count) (held (s .stack))) (k .entries)))) (trees l′ (r .count)) ≡ run cap (load-on (readings B) (loading [] [])) []) L (on go);
             rooted = rooted-grown (T .grown) (subst (λ (Z : List ℕ). Rooted (site-at B) l (s .count) Z (after (state (site-at B) (k .facts) (k .given)) (command-of B at c) .given) (entered (command-of B at c) (standing l (s .count) (held (s .stack))) (k .entries))) (sym eR′)
                 (given-roots (site-at B) (k .few .actions) (k .few .conditions) (k .few .levels) (k .facts) (k .given) (held (s .stack)) (k .below) (k .tall) (k .room) (k .rooted) (command-of B at c) fine));
+            ended = ef ∙ given-ends (site-at B) (k .facts) (k .given) (k .ended) (command-of B at c) fine;
             room = (let z = ap length eR ∙ stored-length R _ x in let q = k .room in omega arith);
           }
 
@@ -285,7 +299,8 @@ module _ {B : List ℕ} {cap : ℕ} {l : List ℤ} {w : List ℕ} {R : List ℕ}
         let z = at-end B at c i in
         (ends-run B cap at (o .0) z (o .2 .1), ends-all (site-at B) (k .facts) (k .given) (subst (λ (d : Command). first-broken (later-rules (site-at B) (k .facts) (k .given) d) ≡ 0) z fine))
 
--- with the levels and conditions that the code reads
-pub placed : (B : List ℕ) {m n p : ℕ} (c : Command) (R : List ℕ) {R′ : List ℕ} (x : ℕ) → m ≡ byte-at B 1 → n ≡ byte-at B 2 → p ≡ place-of m n c → R′ ≡ storedIn R p x → R′ ≡ storedIn R (place-of (site-at B .levels) (site-at B .conditions) c) x
+-- with the levels, conditions and actions that the code reads
+pub placed : (B : List ℕ) {m n A p : ℕ} (c : Command) (R : List ℕ) {R′ : List ℕ} (x : ℕ) → m ≡ byte-at B 1 → n ≡ byte-at B 2 → A ≡ byte-at B 3 → p ≡ place-of m n A c → R′ ≡ storedIn R p x
+    → R′ ≡ storedIn R (place-of (site-at B .levels) (site-at B .conditions) (site-at B .actions) c) x
 unfolding site-at
-placed B c R x em en ep e = e ∙ ap (λ (i : ℕ). storedIn R i x) (ep ∙ ap₂ (λ (m n : ℕ). place-of m n c) em en)
+placed B {A = A} c R x em en ea ep e = e ∙ ap (λ (i : ℕ). storedIn R i x) (ep ∙ (ap₂ (λ (m n : ℕ). place-of m n A c) em en ∙ ap (λ (A : ℕ). place-of (byte-at B 1) (byte-at B 2) A c) ea))

@@ -1,14 +1,14 @@
 // "loading the model": one pass over the commands of an accepted model, its diagrams made as they come.
 ghost use mathlib.Core.Path.{_≡_};
 ghost use mathlib.Core.List.{List};
-ghost use Prim.Native.Nat.{ℕ, _+_, _-_, _*_, _≤_, _<_};
+ghost use Prim.Native.Nat.{ℕ, _+_, _*_, _≤_, _<_};
 ghost use lib.ListN.{length};
-ghost use Rattle.theory.specs.Widths.{bytes-most, model-roots-most};
+ghost use Rattle.theory.specs.Widths.{bytes-most, loaded-roots-most};
 ghost use Rattle.theory.specs.Verdict.{verdict};
 ghost use Rattle.command.specs.Reading.{command-of};
 ghost use Rattle.diagrams.specs.Table.{Table};
 ghost use Rattle.commands_choice.specs.Testing.{loadRule};
-ghost use Rattle.loading.specs.Rooting.{offset-of, place-of, storedIn, Starts, Loads};
+ghost use Rattle.loading.specs.Rooting.{rows-above, offset-of, place-of, ended-by, storedIn, Starts, Loads};
 use command::Command;
 use command::Read;
 use command::stack::Stack;
@@ -16,13 +16,17 @@ use model::is_end;
 use stacking::Loaded;
 use stacking::step;
 
-// The most roots that a model has.
-pub const MODEL_ROOTS: usize = 72;
+// The most roots that a model has, with the end worth's.
+pub const LOADED_ROOTS: usize = 73;
 
-// The number that stops the load, or 0, and how many nodes there are.
+// The byte of the command that gives the end worth.
+const END_WORTH: u8 = 0x23;
+
+// The number that stops the load, or 0, how many nodes there are, and whether an end worth is given.
 pub struct Done {
     pub stop: usize,
     pub count: usize,
+    pub ended: bool,
 }
 
 fn wide(x: u8) -> usize
@@ -31,16 +35,27 @@ fn wide(x: u8) -> usize
     x as usize
 }
 
-// Where the roots of an action begin.
-fn row(levels: u8, conditions: u8, action: u8) -> usize
-    ensures { λ r. ⌜ (r ≡ (action - 1) * (1 + conditions + levels)) × (r < 131072) ⌝ }
+// How many actions' roots stand before what is given: those of the actions with lower numbers, or all before the end worth's.
+fn above(actions: u8, command: u8, action: u8) -> usize
+    ensures { λ r. ⌜ ((i : ℕ) → r ≡ rows-above actions (record { command = command; action = action; index = i })) × (r < 256) ⌝ }
 {
-    let n = 1 + wide(conditions) + wide(levels);
+    if command == END_WORTH {
+        return wide(actions);
+    }
     let a = wide(action);
     if a == 0 {
         return 0;
     }
-    (a - 1) * n
+    a - 1
+}
+
+// Where the roots behind those of some actions begin.
+fn row(levels: u8, conditions: u8, above: usize) -> usize
+    requires { ⌜ above < 256 ⌝ }
+    ensures { λ r. ⌜ (r ≡ above * (1 + conditions + levels)) × (r < 131072) ⌝ }
+{
+    let n = 1 + wide(conditions) + wide(levels);
+    above * n
 }
 
 // Within an action's roots: its reward, its chances, its next levels.
@@ -55,21 +70,32 @@ fn offset(conditions: u8, command: u8, index: u8) -> usize
 }
 
 // Where the root goes that a command gives; past all roots where it gives none.
-fn place(levels: u8, conditions: u8, c: Command) -> usize
-    ensures { λ r. ⌜ ((B : List ℕ) (at : ℕ) → r ≡ place-of levels conditions (command-of B at c)) ⌝ }
+fn place(levels: u8, conditions: u8, actions: u8, c: Command) -> usize
+    ensures { λ r. ⌜ ((B : List ℕ) (at : ℕ) → r ≡ place-of levels conditions actions (command-of B at c)) ⌝ }
 {
     match c {
-        Command::Give(c, a, i) => row(levels, conditions, a) + offset(conditions, c, i),
-        _ => MODEL_ROOTS,
+        Command::Give(c, a, i) => row(levels, conditions, above(actions, c, a))
+            + offset(conditions, c, i),
+        _ => LOADED_ROOTS,
+    }
+}
+
+// Whether an end worth has been given, with one command more.
+fn ended_by(ended: bool, c: Command) -> bool
+    ensures { λ r. ⌜ ((B : List ℕ) (at : ℕ) → r ≡ ended-by ended (command-of B at c)) ⌝ }
+{
+    match c {
+        Command::Give(c, _, _) => { if c == END_WORTH { true } else { ended } }
+        _ => ended,
     }
 }
 
 // Keeps a root.
 fn store(roots: &mut [u32], at: usize, x: u32)
-    requires { ⌜ model-roots-most ≤ length (now roots) ⌝ }
+    requires { ⌜ loaded-roots-most ≤ length (now roots) ⌝ }
     ensures { λ _. ⌜ now (roots .exit) ≡ storedIn (now (roots .entry)) at x ⌝ }
 {
-    if at < MODEL_ROOTS {
+    if at < LOADED_ROOTS {
         roots[at] = x;
     }
 }
@@ -92,32 +118,41 @@ pub fn load(
     cap: usize,
     roots: &mut [u32],
 ) -> Done
-    requires { ⌜ (verdict (now model) .number ≡ 0) × (length (now model) ≤ bytes-most) × Table (loadRule (now model)) cap (now nodes) (now work) 0 × (model-roots-most ≤ length (now roots)) ⌝ }
+    requires { ⌜ (verdict (now model) .number ≡ 0) × (length (now model) ≤ bytes-most) × Table (loadRule (now model)) cap (now nodes) (now work) 0 × (loaded-roots-most ≤ length (now roots)) ⌝ }
     ensures { λ r. ⌜ Loads (now (model .entry)) cap (now (nodes .exit)) (now (work .exit)) (now (roots .exit)) r ⌝ }
 {
     let levels = command::byte_at(model, 1);
     let conditions = command::byte_at(model, 2);
+    let actions = command::byte_at(model, 3);
     let mut at = command::next_after(model, 0);
     let mut s = start();
+    let mut ended = false;
     loop {
         let read = command::command_at(model, at);
         let Read::Whole(c) = read else {
-            return Done { stop: 0, count: 0 };
+            return Done {
+                stop: 0,
+                count: 0,
+                ended: false,
+            };
         };
         if is_end(c) {
             return Done {
                 stop: 0,
                 count: s.count,
+                ended,
             };
         }
         let stack = s.stack;
         let x = stack.top();
-        store(roots, place(levels, conditions, c), x);
+        store(roots, place(levels, conditions, actions, c), x);
+        ended = ended_by(ended, c);
         s = step(model, nodes, work, cap, at, c, s);
         if s.stop != 0 {
             return Done {
                 stop: s.stop,
                 count: s.count,
+                ended,
             };
         }
         at = command::next_after(model, at);

@@ -37,9 +37,13 @@ steps-most = 8
 abbrev pub model-roots-most : ℕ
 model-roots-most = (1 + conditions-most + levels-most) * actions-most
 
+-- with stage 0, which an end worth is
+abbrev pub loaded-roots-most : ℕ
+loaded-roots-most = model-roots-most + 1
+
 -- "the model, finished stages, best so far and last result", with stage 0
 abbrev pub roots-most : ℕ
-roots-most = model-roots-most + 1 + steps-most + 2
+roots-most = loaded-roots-most + steps-most + 2
 
 -- "What the tables hold, N, is the least of node words ÷ 8, work words ÷ 8 and 65,535"
 abbrev pub nodes-most : ℕ
