@@ -15,26 +15,29 @@ use Rattle.theory.specs.Command.{Command, site, push-leaf, push-condition, push
 use Rattle.theory.specs.Verdict.{same-slot, verdict, judged, at-start, rule, first-broken, first-rules, rules-of}
 use Rattle.theory.specs.laws.Loading.{by-reading, behind}
 use Rattle.command.proofs.Command.{the-type as command-type}
+use Rattle.command.proofs.Read.{the-type as read-type}
 use Rattle.command.specs.declared.Command.{Command as CodeCommand}
 use Rattle.command.specs.declared.Command.the-variants.{Site, Leaf, Condition, Test, Give, Name, End}
 use Rattle.command.specs.Held.{pushed}
-use Rattle.command.specs.Reading.{command-of, next-at}
+use Rattle.command.specs.declared.Read.{Read as CodeRead}
+use Rattle.command.specs.Reading.{command-of, read-of, next-at}
+use Rattle.model.specs.Answers.{is-end}
 use Rattle.model.proofs.Walk.{forward}
 use Rattle.evaluate.specs.declared.Point.{Point}
-use Rattle.evaluate.specs.Pass.{chosen, stepped, takes}
+use Rattle.evaluate.specs.Pass.{chosen, stepped, takes, pass}
 use Rattle.evaluate.specs.Parts.{Seek, slots-most, place, put, noted, depth-after, Parts}
 use Rattle.evaluate.proofs.Reach.{same-is, broken, judged-whole, drop-one, placed}
-use Rattle.evaluate.proofs.Turns.{seek-starts, seek-next}
+use Rattle.evaluate.proofs.Turns.{seek-starts, seek-stops, seek-ends, seek-next}
 use Rattle.evaluate.proofs.Places.{put-long, put-open, put-is}
 
 -- ---- the first command is the site
 
-record First (B : List ℕ) : Type 0 where
-  m : ℕ
-  n : ℕ
-  a : ℕ
-  w : ℕ
-  reads : whole (site m n a w) ≡ read-at B 0
+pub record First (B : List ℕ) : Type 0 where
+  pub m : ℕ
+  pub n : ℕ
+  pub a : ℕ
+  pub w : ℕ
+  pub reads : whole (site m n a w) ≡ read-at B 0
 
 first-is : (B : List ℕ) (c : Command) (ys : List Placed) → read-at B 0 ≡ whole c → judged (length B) at-start (placed 0 (whole c) ∷ ys) .number ≡ 0 → First B
 unfolding judged rules-of first-rules
@@ -46,7 +49,7 @@ first-is B (give g) ys o j = broken 0 _ (judged-whole (first-broken (rule 1 true
 first-is B (name-action a b) ys o j = broken 0 _ (judged-whole (first-broken (rule 1 true ∷ [])) 0 _ j .0)
 first-is B end-model ys o j = broken 0 _ (judged-whole (first-broken (rule 1 true ∷ [])) 0 _ j .0)
 
-first : (B : List ℕ) → verdict B .number ≡ 0 → First B
+pub first : (B : List ℕ) → verdict B .number ≡ 0 → First B
 unfolding verdict readings readings-from judged
 first B = by-reading B 0 (λ r. read-at B 0 ≡ r → judged (length B) at-start (placed 0 r ∷ behind B (length B) 0 (goes-on r)) .number ≡ 0 → First B)
     (λ _ j. absurd (let z : _≡_ {A = ℕ} 2 0 = j in omega arith)) (λ _ _ j. absurd (let z : _≡_ {A = ℕ} 3 0 = j in omega arith)) (λ w h o j. first-is B (command-at B 0) (behind B (length B) 0 (goes-on (whole (command-at B 0)))) o j) refl
@@ -109,7 +112,7 @@ pub record Finds (B : List ℕ) (i b n : ℕ) (t : List ℕ) : Type 0 where
   pub past : 1 ≤ i
   pub some : 1 ≤ b
   pub long : length t ≡ slots-most
-  pub parts : Parts B t
+  pub begins : (g : Slot) (x : Point) → Seek B x g (getD t (place g) 0) []
   pub ahead : (g : Slot) → place g < slots-most → getD t (place g) 0 ≡ 0 → (x : Point) → Ahead B x g i b n
 
 zero-at : (n j : ℕ) → _≡_ {A = ℕ} (getD (replicate n 0) j 0) 0
@@ -127,11 +130,22 @@ finds-starts B t i v e n =
         past = h .1;
         some = h .1;
         long = ap length e ∙ length-replicate {A = ℕ} slots-most 0;
-        parts = record { begins = λ g x. rw (e, zero-at slots-most (place g)) (seek-starts B x g [] refl) };
+        begins = λ g x. rw (e, zero-at slots-most (place g)) (seek-starts B x g [] refl);
         ahead = λ g u z x. record { stack = []; deep = refl; here = on x g; last = on x g };
       },
       h .2,
     )
+
+-- where the commands end, what has no word is not given
+module _ {B : List ℕ} {i b n : ℕ} {t : List ℕ} (f : Finds B i b n t) where
+  finds-all : ((x : Point) (g : Slot) (l : List ℕ) → Seek B x g i l → 0 ≡ pass x g (readings B) []) → Parts B t
+  finds-all stops = record { begins = f .begins; absent = λ g x u z. let o = f .ahead g u z x in stops x g (o .stack) (o .here) }
+
+  pub finds-stop : (r : CodeRead) → OneOf (1 ∷ 2 ∷ []) (tagOf read-type r) → read-of B i r ≡ read-at B i → Parts B t
+  finds-stop r k e = finds-all (λ x g l w. seek-stops w r k e)
+
+  pub finds-end : (c : CodeCommand) → whole (command-of B i c) ≡ read-at B i → is-end c ≡ true → Parts B t
+  finds-end c e q = finds-all (λ x g l w. seek-ends w c e q)
 
 module _ {B : List ℕ} {i b n : ℕ} {t : List ℕ} (f : Finds B i b n t) (c : Command) (e : whole c ≡ read-at B i) (q : goes-on (whole c) ≡ true) {next : ℕ} (en : next ≡ next-at B i)
     {b′ : ℕ} (eb : b′ ≡ if (eqb n 0) i b) where
@@ -162,14 +176,14 @@ module _ {B : List ℕ} {i b n : ℕ} {t : List ℕ} (f : Finds B i b n t) (c : 
         past = omega (arith, ahead .1);
         some = some-on;
         long = f .long;
-        parts = f .parts;
+        begins = f .begins;
         ahead = λ g u z. ahead-on g u z (none g) k;
       }))
       (λ h gives y. subst (Finds B next b′ n′) (sym y) (record {
         past = omega (arith, ahead .1);
         some = some-on;
         long = put-long h b′ t ∙ f .long;
-        parts = record { begins = λ g x. put-is (λ g j. Seek B x g j []) h b′ t (f .long) (λ g. f .parts .begins g x) (λ u z. begun h u z x) g };
+        begins = λ g x. put-is (λ g j. Seek B x g j []) h b′ t (f .long) (λ g. f .begins g x) (λ u z. begun h u z x) g;
         ahead = λ g u z. let d = put-open h g b′ t some-on (omega (arith, f .long)) z in ahead-on g u (d .0) (gives g ∙ other-slot g h (d .1)) k;
       })))
     where

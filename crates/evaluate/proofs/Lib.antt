@@ -2,8 +2,8 @@
 pub mod Points
 pub mod Reach
 pub mod Turns
-pub mod Wants
 pub mod Actions
 pub mod Holding
 pub mod Places
 pub mod Finds
+pub mod Ends

@@ -11,7 +11,7 @@ use lib.Seq.{set-out, getD-set-same, getD-set-other}
 use Rattle.whole.specs.Cases.{if, by-eq}
 use Rattle.theory.specs.Widths.{conditions-most}
 use Rattle.theory.specs.Command.{Slot}
-use Rattle.evaluate.specs.Parts.{slots-each, slots-most, row, place, put}
+use Rattle.evaluate.specs.Parts.{end-row, slots-each, slots-most, row, place, put}
 
 -- ---- rows
 
@@ -19,42 +19,55 @@ use Rattle.evaluate.specs.Parts.{slots-each, slots-most, row, place, put
 record Back (c i r : ℕ) : Type 0 where
   reward : r ≡ 0 → (c ≡ 0x20) × (i ≡ 0)
   chance : 1 ≤ r → r ≤ conditions-most → (c ≡ 0x21) × (i ≡ r)
-  level : conditions-most < r → (c ≡ 0x22) × (i ≡ r - conditions-most)
+  level : conditions-most < r → r < end-row → (c ≡ 0x22) × (i ≡ r - conditions-most)
+  ending : r ≡ end-row → (c ≡ 0x23) × (i ≡ 0)
 
 row-back : (c i : ℕ) → row c i < slots-each → Back c i (row c i)
 unfolding row
-row-back c i = by-eq (eqb c 0x20) (λ b. (if b (if (eqb i 0) 0 slots-each) (rest (eqb i 0) (ltb conditions-most i) (eqb c 0x21) (eqb c 0x22))) < slots-each → Back c i (if b (if (eqb i 0) 0 slots-each) (rest (eqb i 0) (ltb conditions-most i) (eqb c 0x21) (eqb c 0x22))))
-    (λ e. by-eq (eqb i 0) (λ b. if b 0 slots-each < slots-each → Back c i (if b 0 slots-each))
-    (λ f _. record { reward = λ _. (eqb-true c 0x20 e, eqb-true i 0 f); chance = λ u _. absurd (omega arith); level = λ u. absurd (omega arith) })
-    (λ _ h. absurd (omega arith)))
-    (λ _. others (eqb i 0) (ltb conditions-most i) (eqb c 0x21) (eqb c 0x22) refl refl refl refl)
+row-back c i = by-eq (eqb i 0) (λ b. alone-or b < slots-each → Back c i (alone-or b))
+    (λ z. alone z (eqb c 0x20) (eqb c 0x23) refl refl) (λ z. numbered z (ltb conditions-most i) (eqb c 0x21) (eqb c 0x22) refl refl refl)
   where
-    rest : Bool → Bool → Bool → Bool → ℕ
-    rest z m d l = if z slots-each (if m slots-each (if d i (if l (conditions-most + i) slots-each)))
+    alone-row : Bool → Bool → ℕ
+    alone-row a b = if a 0 (if b end-row slots-each)
 
-    others : (z m d l : Bool) → eqb i 0 ≡ z → ltb conditions-most i ≡ m → eqb c 0x21 ≡ d → eqb c 0x22 ≡ l → rest z m d l < slots-each → Back c i (rest z m d l)
-    others true m d l e₁ e₂ e₃ e₄ h = absurd (omega arith)
-    others false true d l e₁ e₂ e₃ e₄ h = absurd (omega arith)
-    others false false true l e₁ e₂ e₃ e₄ h =
-        let z = eqb-false i 0 e₁ in
-        let m = ltb-false conditions-most i e₂ in
-        record { reward = λ u. absurd (z u); chance = λ _ _. (eqb-true c 0x21 e₃, refl); level = λ u. absurd (omega arith) }
-    others false false false true e₁ e₂ e₃ e₄ h =
-        let z = eqb-false i 0 e₁ in
-        record { reward = λ u. absurd (omega arith); chance = λ u v. absurd (z (omega arith)); level = λ u. (eqb-true c 0x22 e₄, omega arith) }
-    others false false false false e₁ e₂ e₃ e₄ h = absurd (omega arith)
+    numbered-row : Bool → Bool → Bool → ℕ
+    numbered-row m d l = if m slots-each (if d i (if l (conditions-most + i) slots-each))
 
-one-slot : (c i d j r : ℕ) → Back c i r → Back d j r → (c ≡ d) × (i ≡ j)
-one-slot c i d j r a b = go (eqb r 0) (leb r conditions-most) refl refl
+    alone-or : Bool → ℕ
+    alone-or b = if b (alone-row (eqb c 0x20) (eqb c 0x23)) (numbered-row (ltb conditions-most i) (eqb c 0x21) (eqb c 0x22))
+
+    alone : eqb i 0 ≡ true → (a b : Bool) → eqb c 0x20 ≡ a → eqb c 0x23 ≡ b → alone-row a b < slots-each → Back c i (alone-row a b)
+    alone z true b e₁ e₂ h = record { reward = λ _. (eqb-true c 0x20 e₁, eqb-true i 0 z); chance = λ u _. absurd (omega arith); level = λ u _. absurd (omega arith); ending = λ u. absurd (omega arith) }
+    alone z false true e₁ e₂ h = record { reward = λ u. absurd (omega arith); chance = λ _ u. absurd (omega arith); level = λ _ u. absurd (omega arith); ending = λ _. (eqb-true c 0x23 e₂, eqb-true i 0 z) }
+    alone z false false e₁ e₂ h = absurd (omega arith)
+
+    numbered : eqb i 0 ≡ false → (m d l : Bool) → ltb conditions-most i ≡ m → eqb c 0x21 ≡ d → eqb c 0x22 ≡ l → numbered-row m d l < slots-each → Back c i (numbered-row m d l)
+    numbered z true d l e₁ e₂ e₃ h = absurd (omega arith)
+    numbered z false true l e₁ e₂ e₃ h =
+        let n = eqb-false i 0 z in
+        let m = ltb-false conditions-most i e₁ in
+        record { reward = λ u. absurd (n u); chance = λ _ _. (eqb-true c 0x21 e₂, refl); level = λ u _. absurd (omega arith); ending = λ u. absurd (omega arith) }
+    numbered z false false true e₁ e₂ e₃ h =
+        let n = eqb-false i 0 z in
+        let m = ltb-false conditions-most i e₁ in
+        record { reward = λ u. absurd (omega arith); chance = λ u v. absurd (n (omega arith)); level = λ u _. (eqb-true c 0x22 e₃, omega arith); ending = λ u. absurd (omega arith) }
+    numbered z false false false e₁ e₂ e₃ h = absurd (omega arith)
+
+one-slot : (c i d j r : ℕ) → r < slots-each → Back c i r → Back d j r → (c ≡ d) × (i ≡ j)
+one-slot c i d j r h a b = go (eqb r 0) (leb r conditions-most) (ltb r end-row) refl refl refl
   where
-    go : (z m : Bool) → eqb r 0 ≡ z → leb r conditions-most ≡ m → (c ≡ d) × (i ≡ j)
-    go true m e f = let u = eqb-true r 0 e in (a .reward u .0 ∙ sym (b .reward u .0), a .reward u .1 ∙ sym (b .reward u .1))
-    go false true e f =
+    meet : {k n : ℕ} → (c ≡ k) × (i ≡ n) → (d ≡ k) × (j ≡ n) → (c ≡ d) × (i ≡ j)
+    meet p q = (p .0 ∙ sym (q .0), p .1 ∙ sym (q .1))
+
+    go : (z m n : Bool) → eqb r 0 ≡ z → leb r conditions-most ≡ m → ltb r end-row ≡ n → (c ≡ d) × (i ≡ j)
+    go true m n e f k = let u = eqb-true r 0 e in meet (a .reward u) (b .reward u)
+    go false true n e f k =
         let z = eqb-false r 0 e in
         let u : 1 ≤ r = omega arith in
         let v = leb-true r conditions-most f in
-        (a .chance u v .0 ∙ sym (b .chance u v .0), a .chance u v .1 ∙ sym (b .chance u v .1))
-    go false false e f = let u = leb-false r conditions-most f in (a .level u .0 ∙ sym (b .level u .0), a .level u .1 ∙ sym (b .level u .1))
+        meet (a .chance u v) (b .chance u v)
+    go false false true e f k = let u = leb-false r conditions-most f in let v = ltb-true r end-row k in meet (a .level u v) (b .level u v)
+    go false false false e f k = let v = ltb-false r end-row k in let u : r ≡ end-row = omega arith in meet (a .ending u) (b .ending u)
 
 -- ---- places
 
@@ -80,7 +93,7 @@ one-place g h u e =
     let qi = q .is in
     let a : g .action ≡ h .action = omega arith in
     let r : row (g .command) (g .index) ≡ row (h .command) (h .index) = omega arith in
-    let s = one-slot (g .command) (g .index) (h .command) (h .index) (row (g .command) (g .index)) (row-back (g .command) (g .index) pb) (rw r (row-back (h .command) (h .index) qb)) in
+    let s = one-slot (g .command) (g .index) (h .command) (h .index) (row (g .command) (g .index)) pb (row-back (g .command) (g .index) pb) (rw r (row-back (h .command) (h .index) qb)) in
     λ i. record { command = s .0 i; action = a i; index = s .1 i }
 
 -- ---- what is put

@@ -1,30 +1,30 @@
 -- The pass over an accepted model comes to the leaf that the slot's loaded diagram comes to.
 use mathlib.Core.Path.{_≡_, refl, sym, ap, _∙_, subst}
 use mathlib.Core.Bool.{Bool, true, false, not, _&&_}
-use mathlib.Core.List.{List, [], _∷_, _++_, map}
+use mathlib.Core.List.{List, [], _∷_}
 use Prim.Native.Nat.{ℕ, zero, suc, _+_, _-_, _≤_, _<_}
 use native.Mathlib.Omega.{arith}
 use borrow.Author.Tests.{lt-ltb}
-use lib.Dec.{T, eqb, eqb→eq, leb→le, nleb→lt, nltb→le, T-not}
-use lib.IntN.{pos}
+use lib.Dec.{T, isEq, eqb, eqb→eq, leb→le, nleb→lt, nltb→le, T-not}
+use lib.IntN.{ℤ, pos}
 use lib.ListN.{length, getD, drop}
 use lib.Signed.{leZ}
-use Rattle.whole.specs.Cases.{if, by-test, by-eq, both, and-in, not-not, is-true, from-true, clash}
+use Rattle.whole.specs.Cases.{if, by-test, by-eq, both, not-not, is-true, from-true, clash}
 use Rattle.theory.specs.Widths.{stack-most, conditions-most}
-use Rattle.theory.specs.Diagram.{Test, Leaf, Tree, leaf, plain, zeros, test-of}
+use Rattle.theory.specs.Diagram.{Test, Leaf, Tree, leaf, plain, cmpZ, zeros, test-of}
 use Rattle.theory.specs.Computation.{ret, bind, make, result}
-use Rattle.theory.specs.Rules.{choose}
+use Rattle.theory.specs.Rules.{choose, no-coeffs, zero-leaf}
 use Rattle.theory.specs.Meaning.{State, Env, env, at}
-use Rattle.theory.specs.Valid.{all, among, wide}
+use Rattle.theory.specs.Valid.{among, wide}
 use Rattle.theory.specs.Command.{Command, site, push-leaf, push-condition, push-test, name-action, end-model, Read, whole, Placed, byte-at, width, command-at, read-at, goes-on, readings-from, readings, give, Slot}
-use Rattle.theory.specs.Verdict.{Site, site-of, Facts, Progress, chance-slot, level-slot, name-slot, same-slot, has-slot, or, Rule, rule, first-broken, next-condition, joined, wanted-by, wanted, from-to, site-rules, first-rules, later-rules, rules-of, after, Verdict, refusal, ended, judged, at-start, verdict}
+use Rattle.theory.specs.Verdict.{Site, site-of, Facts, Progress, name-slot, same-slot, has-slot, or, Rule, rule, first-broken, beyond, next-condition, joined, site-rules, first-rules, later-rules, rules-of, after, Verdict, refusal, ended, judged, at-start, verdict}
 use Rattle.theory.specs.Load.{Entry, Loaded, condition-test, load-choice, load-choice-with, load-entry, load-one, load-one-with, load-on, load-on-with, find-slot, site-at}
 use Rattle.theory.specs.laws.Comps.{result-bind}
 use Rattle.theory.specs.laws.Loading.{by-reading, behind, loaded-entries, accepted, linear-wide}
 use Rattle.command.specs.Held.{pushed}
 use Rattle.evaluate.specs.declared.Point.{Point}
-use Rattle.evaluate.specs.Pass.{numerator, condition-holds, chosen, stepped, takes, pass, Stands, Leaf-at, Comes}
-use Rattle.evaluate.proofs.Points.{or-out, Sides, condition-sides, test-sides}
+use Rattle.evaluate.specs.Pass.{no-name, no-linear, leaf-of, numerator, condition-holds, chosen, stepped, takes, pass, Stands, Leaf-at, Comes}
+use Rattle.evaluate.proofs.Points.{Sides, condition-sides, test-sides}
 
 -- ---- what a command of the bytes has for operands
 
@@ -46,7 +46,7 @@ unfolding command-at Fit
 fit B i =
     fit-if B i (eqb (byte-at B i) 0x01) _ _ refl (fit-if B i (eqb (byte-at B i) 0x10) _ _ (linear-wide B (i + 1)) (fit-if B i (eqb (byte-at B i) 0x11) _ _ tt
     (fit-if B i (eqb (byte-at B i) 0x12) _ _ (linear-wide B (i + 1)) (fit-if B i (eqb (byte-at B i) 0x20) _ _ tt (fit-if B i (eqb (byte-at B i) 0x21) _ _ tt
-    (fit-if B i (eqb (byte-at B i) 0x22) _ _ tt (fit-if B i (eqb (byte-at B i) 0x30) _ _ tt tt)))))))
+    (fit-if B i (eqb (byte-at B i) 0x22) _ _ tt (fit-if B i (eqb (byte-at B i) 0x23) _ _ tt (fit-if B i (eqb (byte-at B i) 0x30) _ _ tt tt))))))))
 
 -- ---- slots
 
@@ -56,33 +56,6 @@ same-is g h t =
     let d = both (eqb (g .command) (h .command)) (eqb (g .action) (h .action) && eqb (g .index) (h .index)) t in
     let f = both (eqb (g .action) (h .action)) (eqb (g .index) (h .index)) (d .1) in
     λ i. record { command = eqb→eq (g .command) (h .command) (d .0) i; action = eqb→eq (g .action) (h .action) (f .0) i; index = eqb→eq (g .index) (h .index) (f .1) i }
-
--- what holds of all holds of one that is among them
-all-has : (p : Slot → Bool) (g : Slot) (l : List Slot) → T (all p l) → T (has-slot g l) → T (p g)
-unfolding all has-slot
-all-has p g [] t h = absurd h
-all-has p g (k ∷ l) t h =
-    let d = both (p k) (all p l) t in
-    or-out (same-slot g k) (has-slot g l) h (λ q. subst (λ (z : Slot). T (p z)) (sym (same-is g k q)) (d .0)) (all-has p g l (d .1))
-
-abbrev no-name : Slot → Bool
-no-name g = not (eqb (g .command) 0x30)
-
-all-map : (f : ℕ → Slot) (l : List ℕ) → ((k : ℕ) → T (no-name (f k))) → T (all no-name (map f l))
-unfolding all
-all-map f [] h = tt
-all-map f (k ∷ l) h = and-in (no-name (f k)) _ (h k) (all-map f l h)
-
-all-app : (l r : List Slot) → T (all no-name l) → T (all no-name r) → T (all no-name (l ++ r))
-unfolding all
-all-app [] r t u = u
-all-app (k ∷ l) r t u = let d = both (no-name k) (all no-name l) t in and-in (no-name k) _ (d .0) (all-app l r (d .1) u)
-
-wanted-names : (S : Site) (l : List ℕ) → T (all no-name (wanted-by S l))
-unfolding all wanted-by
-wanted-names S [] = tt
-wanted-names S (a ∷ l) = all-app (map (chance-slot a) (from-to 1 (S .conditions))) _ (all-map (chance-slot a) (from-to 1 (S .conditions)) (λ k. tt))
-    (all-app (map (level-slot a) (from-to 1 (S .levels))) _ (all-map (level-slot a) (from-to 1 (S .levels)) (λ k. tt)) (wanted-names S l))
 
 -- ---- rules that are not broken
 
@@ -129,16 +102,23 @@ choice-entries t [] E = refl
 choice-entries t (L ∷ []) E = refl
 choice-entries t (L ∷ H ∷ X) E = ap (λ (s : Loaded). s .entries) (result-bind (choose t H L) _)
 
-module _ (B : List ℕ) (S : Site) (x : Point) (g : Slot) (s : State) (r : List Bool) (st : Stands (S .levels) (S .conditions) x s r) (few : S .conditions ≤ 4) (wants : T (has-slot g (wanted S))) where
+drop-zeros : (m : ℕ) (l : List ℤ) → T (zeros l) → T (zeros (drop m l))
+unfolding zeros
+drop-zeros zero l t = t
+drop-zeros (suc m) [] t = tt
+drop-zeros (suc m) (z ∷ l) t = drop-zeros m l (both (isEq (cmpZ z (pos 0))) (zeros l) t .1)
+
+no-beyond : (m : ℕ) → T (not (beyond m no-linear))
+unfolding beyond zeros no-coeffs
+no-beyond m = let z = is-true (zeros (drop m (no-linear .coeffs))) (drop-zeros m (no-linear .coeffs) tt) in rw z tt
+
+module _ (B : List ℕ) (S : Site) (x : Point) (g : Slot) (s : State) (r : List Bool) (st : Stands (S .levels) (S .conditions) x s r) (few : S .conditions ≤ 4) (given : T (no-name g))
+    (first : leaf-of (read-at B 0) ≡ no-linear) where
   abbrev m : ℕ
   m = S .levels
 
   abbrev e : Env
   e = env s r
-
-  not-name : T (no-name g)
-  unfolding wanted
-  not-name = all-has no-name g (wanted S) (wanted-names S _) wants
 
   -- ---- a slot that is given keeps its diagram
 
@@ -211,69 +191,68 @@ module _ (B : List ℕ) (S : Site) (x : Point) (g : Slot) (s : State) (r : List 
       )
 
   abbrev Reach : List Placed → Type 0
-  Reach ys = (K : List Facts) (G : List Slot) (X : List Tree) (E : List Entry) (l : List ℕ) → Agree l X → length K ≡ length l → length K ≤ stack-most → has-slot g G ≡ false
+  Reach ys = (K : List Facts) (G : List Slot) (X : List Tree) (E : List Entry) (l : List ℕ) → Agree l X → length K ≡ length l → length K ≤ stack-most → has-slot g G ≡ false → find-slot g E ≡ zero-leaf
       → judged (length B) (state S K G) ys .number ≡ 0 → Leaf-at B m (pass x g ys l) (at e (find-slot g (result (load-on ys (loaded X E)) .entries)) .lin)
 
   module _ (i : ℕ) (ys : List Placed) (ih : Reach ys) (keeps : Stays ys) where
-    took : (h : Slot) (K : List Facts) (G : List Slot) (X : List Tree) (E : List Entry) (l : List ℕ) → Agree l X → length K ≡ length l → length K ≤ stack-most → 1 ≤ length K → has-slot g G ≡ false
+    took : (h : Slot) (K : List Facts) (G : List Slot) (X : List Tree) (E : List Entry) (l : List ℕ) → Agree l X → length K ≡ length l → length K ≤ stack-most → 1 ≤ length K → has-slot g G ≡ false → find-slot g E ≡ zero-leaf
         → judged (length B) (state S (drop 1 K) (h ∷ G)) ys .number ≡ 0
         → Leaf-at B m (if (same-slot g h) (getD l 0 0) (pass x g ys (drop 1 l))) (at e (find-slot g (result (load-on ys (result (load-entry h X E))) .entries)) .lin)
     unfolding Agree load-entry result has-slot find-slot
-    took h K G X E [] a q z n f j = absurd (omega arith)
-    took h K G [] E (o ∷ l) a q z n f j = absurd a
-    took h K G (t ∷ X) E (o ∷ l) a q z n f j = by-eq (same-slot g h)
+    took h K G X E [] a q z n f v j = absurd (omega arith)
+    took h K G [] E (o ∷ l) a q z n f v j = absurd a
+    took h K G (t ∷ X) E (o ∷ l) a q z n f v j = by-eq (same-slot g h)
         (λ b. Leaf-at B m (if b o (pass x g ys l)) (at e (find-slot g (result (load-on ys (loaded X (record { slot = h; tree = t } ∷ E))) .entries)) .lin))
         (λ y. subst (λ (F : Tree). Leaf-at B m o (at e F .lin))
         (sym (keeps (drop 1 K) (h ∷ G) X (record { slot = h; tree = t } ∷ E) (ap (λ (b : Bool). or b (has-slot g G)) y) j ∙ ap (λ (b : Bool). if b t (find-slot g E)) y)) (a .0))
-        (λ y. ih (drop 1 K) (h ∷ G) X (record { slot = h; tree = t } ∷ E) l (a .1) (omega (arith, drop-one K)) (omega (arith, drop-one K)) (ap (λ (b : Bool). or b (has-slot g G)) y ∙ f) j)
+        (λ y. ih (drop 1 K) (h ∷ G) X (record { slot = h; tree = t } ∷ E) l (a .1) (omega (arith, drop-one K)) (omega (arith, drop-one K)) (ap (λ (b : Bool). or b (has-slot g G)) y ∙ f) (ap (λ (b : Bool). if b t (find-slot g E)) y ∙ v) j)
 
     choose-on : (t : Test) (b : Bool) (K K′ : List Facts) (G : List Slot) (X : List Tree) (E : List Entry) (l : List ℕ) → Sides st t b → Agree l X → length K ≡ length l → length K ≤ stack-most → 2 ≤ length K
-        → suc (length K′) ≡ length K → has-slot g G ≡ false → judged (length B) (state S K′ G) ys .number ≡ 0
+        → suc (length K′) ≡ length K → has-slot g G ≡ false → find-slot g E ≡ zero-leaf → judged (length B) (state S K′ G) ys .number ≡ 0
         → Leaf-at B m (pass x g ys (chosen b l)) (at e (find-slot g (result (bind (load-choice t X E) (load-on ys)) .entries)) .lin)
-    choose-on t b K K′ G X E l y a q z n n′ f j =
+    choose-on t b K K′ G X E l y a q z n n′ f v j =
         let d = agree-chosen t b E y l X (omega arith) a in
-        let v = result (load-choice t X E) in
+        let c = result (load-choice t X E) in
         let k = d .1 in
-        rw (result-bind (load-choice t X E) (load-on ys)) (ih K′ G (v .stack) (v .entries) (chosen b l) (d .0) (omega arith) (omega arith) f j)
+        rw (result-bind (load-choice t X E) (load-on ys)) (ih K′ G (c .stack) (c .entries) (chosen b l) (d .0) (omega arith) (omega arith) f (ap (find-slot g) (choice-entries t X E) ∙ v) j)
 
     reach-step : (c : Command) → read-at B i ≡ whole c → goes-on (whole c) ≡ true → Reach (placed i (whole c) ∷ ys)
-    unfolding Agree judged load-on-with rules-of later-rules ended after goes-on load-one-with make bind result pass takes stepped at has-slot
-    reach-step (site m n a w) o w′ K G X E l y q z f j = broken 0 _ (judged-whole (first-broken (rule 1 true ∷ [])) i _ j .0)
-    reach-step (push-leaf p) o w K G X E l y q z f j =
+    unfolding Agree judged load-on-with rules-of later-rules ended after goes-on load-one-with make bind result pass takes stepped at has-slot leaf-of
+    reach-step (site m n a w) o w′ K G X E l y q z f e₀ j = broken 0 _ (judged-whole (first-broken (rule 1 true ∷ [])) i _ j .0)
+    reach-step (push-leaf p) o w K G X E l y q z f e₀ j =
         let d = judged-whole (first-broken (later-rules S K G (push-leaf p))) i _ j in
         let u = unbroken 3 _ _ (d .0) in
         let v = nleb→lt stack-most (length K) (unbroken 4 _ _ (u .1) .0) in
-        rw (pushed-room i l (omega arith)) (ih _ G (leaf (plain p) ∷ X) E (i ∷ l) (record { reads = o; within = u .0 }, y) (ap suc q) v f (d .1))
-    reach-step (push-condition k) o w K G X E l y q z f j =
+        rw (pushed-room i l (omega arith)) (ih _ G (leaf (plain p) ∷ X) E (i ∷ l) (record { reads = ap leaf-of o; within = u .0 }, y) (ap suc q) v f e₀ (d .1))
+    reach-step (push-condition k) o w K G X E l y q z f e₀ j =
         let d = judged-whole (first-broken (later-rules S K G (push-condition k))) i _ j in
         let u = unbroken 3 _ _ (d .0) in
         let n = nltb→le (length K) 2 (unbroken 4 _ _ (u .1) .0) in
         choose-on (condition-test k) (condition-holds x k) K _ G X E l (condition-sides st k few (not-not (or (among (S .conditions) k) (next-condition (S .conditions) k)) (u .0)))
-        y q z n (joined-length _ K n) f (d .1)
-    reach-step (push-test p) o w K G X E l y q z f j =
+        y q z n (joined-length _ K n) f e₀ (d .1)
+    reach-step (push-test p) o w K G X E l y q z f e₀ j =
         let d = judged-whole (first-broken (later-rules S K G (push-test p))) i _ j in
         let u = unbroken 3 _ _ (d .0) in
         let v = unbroken 3 _ _ (u .1) in
         let n = nltb→le (length K) 2 (unbroken 4 _ _ (v .1) .0) in
         choose-on (test-of p) (leZ (numerator x p) (pos 0)) K _ G X E l (test-sides st p (by-eq (zeros (p .coeffs)) (λ b. T (not b) → b ≡ false) (λ _ t. absurd t) (λ _ t. refl) (v .0)) (u .0))
-        y q z n (joined-length _ K n) f (d .1)
-    reach-step (give h) o w K G X E l y q z f j =
+        y q z n (joined-length _ K n) f e₀ (d .1)
+    reach-step (give h) o w K G X E l y q z f e₀ j =
         let d = judged-whole (first-broken (later-rules S K G (give h))) i _ j in
         let u = unbroken 3 _ _ (d .0) in
-        rw (result-bind (load-entry h X E) (load-on ys)) (took h K G X E l y q z (nltb→le (length K) 1 (unbroken 4 _ _ (u .1) .0)) f (d .1))
-    reach-step (name-action a b) o w K G X E l y q z f j =
-        ih K (name-slot a ∷ G) X E l y q z (other-name a G f) (judged-whole (first-broken (later-rules S K G (name-action a b))) i _ j .1)
+        rw (result-bind (load-entry h X E) (load-on ys)) (took h K G X E l y q z (nltb→le (length K) 1 (unbroken 4 _ _ (u .1) .0)) f e₀ (d .1))
+    reach-step (name-action a b) o w K G X E l y q z f e₀ j =
+        ih K (name-slot a ∷ G) X E l y q z (other-name a G f) e₀ (judged-whole (first-broken (later-rules S K G (name-action a b))) i _ j .1)
       where
         other-name : (a : ℕ) (G : List Slot) → has-slot g G ≡ false → or (same-slot g (name-slot a)) (has-slot g G) ≡ false
         other-name a G f = by-test (same-slot g (name-slot a)) (λ b. or b (has-slot g G) ≡ false)
-            (λ t. absurd (subst (λ (h : Slot). T (no-name h)) (same-is g (name-slot a) t) not-name)) (λ _. f)
-    reach-step end-model o w K G X E l y q z f j = clash (sym w)
+            (λ t. absurd (subst (λ (h : Slot). T (no-name h)) (same-is g (name-slot a) t) given)) (λ _. f)
+    reach-step end-model o w K G X E l y q z f e₀ j = clash (sym w)
 
+  -- a slot that is not given: the site, which stands first, is no leaf
   reach-end : (i : ℕ) → Reach (placed i (whole end-model) ∷ [])
-  unfolding judged rules-of later-rules
-  reach-end i K G X E l y q z f j =
-      let d = judged-whole (first-broken (later-rules S K G end-model)) i _ j in
-      clash (sym (is-true (has-slot g G) (all-has (λ h. has-slot h G) g (wanted S) (not-not (all (λ h. has-slot h G) (wanted S)) (unbroken 6 _ _ (d .0) .0)) wants)) ∙ f)
+  unfolding load-on-with load-one-with bind result pass takes at zero-leaf
+  reach-end i K G X E l y q z f e₀ j = subst (λ (F : Tree). Leaf-at B m 0 (at e F .lin)) (sym e₀) (record { reads = first; within = no-beyond m })
 
   -- ---- all commands, by offset
 
@@ -302,35 +281,35 @@ module _ (B : List ℕ) (S : Site) (x : Point) (g : Slot) (s : State) (r : List 
   unfolding readings-from judged
   both-from zero i h n = absurd (omega arith)
   both-from (suc k) i h n = by-reading B i (λ r. read-at B i ≡ r → Both (placed i r ∷ behind B k i (goes-on r)))
-      (λ _. (λ K G X E l y q z f j. cut 1 j, λ K G X E q j. cut 1 j)) (λ _ _. (λ K G X E l y q z f j. cut 2 j, λ K G X E q j. cut 2 j))
+      (λ _. (λ K G X E l y q z f v j. cut 1 j, λ K G X E q j. cut 1 j)) (λ _ _. (λ K G X E l y q z f v j. cut 2 j, λ K G X E q j. cut 2 j))
       (λ w u o. one-reading k i (command-at B i) o (both-from k (i + width (byte-at B i)) u (omega arith))) refl
 
 -- ---- an accepted model
 
-module _ (B : List ℕ) (x : Point) (g : Slot) (s : State) (r : List Bool) (st : Stands (site-at B .levels) (site-at B .conditions) x s r) (few : site-at B .conditions ≤ 4) (wants : T (has-slot g (wanted (site-at B)))) where
+module _ (B : List ℕ) (x : Point) (g : Slot) (s : State) (r : List Bool) (st : Stands (site-at B .levels) (site-at B .conditions) x s r) (few : site-at B .conditions ≤ 4) (given : T (no-name g)) where
   abbrev Begins : List Placed → Type 0
   Begins ys = judged (length B) at-start ys .number ≡ 0 → Leaf-at B (site-at B .levels) (pass x g ys []) (at (env s r) (find-slot g (result (load-on ys (loaded [] [])) .entries)) .lin)
 
-  first-command : 0 + width (byte-at B 0) ≤ length B → 1 ≤ width (byte-at B 0) → (c : Command) → Fit B 0 c → Begins (placed 0 (whole c) ∷ behind B (length B) 0 (goes-on (whole c)))
-  unfolding judged load-on-with goes-on rules-of first-rules ended load-one-with bind result after Fit Agree pass takes stepped has-slot site-at
-  first-command h n (site m k a w) f j =
+  first-command : 0 + width (byte-at B 0) ≤ length B → 1 ≤ width (byte-at B 0) → (c : Command) → read-at B 0 ≡ whole c → Fit B 0 c → Begins (placed 0 (whole c) ∷ behind B (length B) 0 (goes-on (whole c)))
+  unfolding judged load-on-with goes-on rules-of first-rules ended load-one-with bind result after Fit Agree pass takes stepped has-slot find-slot leaf-of site-at
+  first-command h n (site m k a w) o f j =
       let d = judged-whole (first-broken (site-rules (site-of m k a w))) 0 _ j in
-      both-from B (site-at B) x g s r st few wants (length B) (0 + width (byte-at B 0)) h (omega arith) .0 [] [] [] [] [] tt refl (omega arith) refl
+      both-from B (site-at B) x g s r st few given (ap leaf-of o) (length B) (0 + width (byte-at B 0)) h (omega arith) .0 [] [] [] [] [] tt refl (omega arith) refl refl
       (subst (λ (S : Site). judged (length B) (state S [] []) (behind B (length B) 0 true) .number ≡ 0) f (d .1))
-  first-command h n (push-leaf p) f j = broken 0 _ (judged-whole (first-broken (rule 1 true ∷ [])) 0 _ j .0)
-  first-command h n (push-condition k) f j = broken 0 _ (judged-whole (first-broken (rule 1 true ∷ [])) 0 _ j .0)
-  first-command h n (push-test p) f j = broken 0 _ (judged-whole (first-broken (rule 1 true ∷ [])) 0 _ j .0)
-  first-command h n (give c) f j = broken 0 _ (judged-whole (first-broken (rule 1 true ∷ [])) 0 _ j .0)
-  first-command h n (name-action a b) f j = broken 0 _ (judged-whole (first-broken (rule 1 true ∷ [])) 0 _ j .0)
-  first-command h n end-model f j = broken 0 _ (judged-whole (first-broken (rule 1 true ∷ [])) 0 _ j .0)
+  first-command h n (push-leaf p) o f j = broken 0 _ (judged-whole (first-broken (rule 1 true ∷ [])) 0 _ j .0)
+  first-command h n (push-condition k) o f j = broken 0 _ (judged-whole (first-broken (rule 1 true ∷ [])) 0 _ j .0)
+  first-command h n (push-test p) o f j = broken 0 _ (judged-whole (first-broken (rule 1 true ∷ [])) 0 _ j .0)
+  first-command h n (give c) o f j = broken 0 _ (judged-whole (first-broken (rule 1 true ∷ [])) 0 _ j .0)
+  first-command h n (name-action a b) o f j = broken 0 _ (judged-whole (first-broken (rule 1 true ∷ [])) 0 _ j .0)
+  first-command h n end-model o f j = broken 0 _ (judged-whole (first-broken (rule 1 true ∷ [])) 0 _ j .0)
 
   reached : verdict B .number ≡ 0 → Leaf-at B (site-at B .levels) (pass x g (readings B) []) (at (env s r) (find-slot g (loaded-entries B)) .lin)
   unfolding verdict readings readings-from judged
-  reached = by-reading B 0 (λ r. Begins (placed 0 r ∷ behind B (length B) 0 (goes-on r)))
-      (λ j. absurd (let z : _≡_ {A = ℕ} 2 0 = j in omega arith)) (λ _ j. absurd (let z : _≡_ {A = ℕ} 3 0 = j in omega arith)) (λ w h. first-command h w (command-at B 0) (fit B 0))
+  reached = by-reading B 0 (λ r. read-at B 0 ≡ r → Begins (placed 0 r ∷ behind B (length B) 0 (goes-on r)))
+      (λ _ j. absurd (let z : _≡_ {A = ℕ} 2 0 = j in omega arith)) (λ _ _ j. absurd (let z : _≡_ {A = ℕ} 3 0 = j in omega arith)) (λ w h o. first-command h w (command-at B 0) o (fit B 0)) refl
 
 -- the pass over an accepted model
-pub pass-comes : (B : List ℕ) (x : Point) (g : Slot) (i : ℕ) → verdict B .number ≡ 0 → T (has-slot g (wanted (site-at B))) → i ≡ pass x g (readings B) [] → Comes B g x i
+pub pass-comes : (B : List ℕ) (x : Point) (g : Slot) (i : ℕ) → verdict B .number ≡ 0 → T (no-name g) → i ≡ pass x g (readings B) [] → Comes B g x i
 pass-comes B x g i v w q = record {
   comes = λ s r st. subst (λ (o : ℕ). Leaf-at B (site-at B .levels) o (at (env s r) (find-slot g (loaded-entries B)) .lin)) (sym q)
       (reached B x g s r st (leb→le (site-at B .conditions) conditions-most (accepted B v .0 .conditions-in)) w v);

@@ -16,7 +16,7 @@ use Rattle.theory.specs.Diagram.{Linear, Tree}
 use Rattle.theory.specs.Meaning.{State, env, nth, dot, at, worth-at, chance-at}
 use Rattle.theory.specs.Valid.{all, wide, small-linear}
 use Rattle.theory.specs.Value.{bits}
-use Rattle.theory.specs.Command.{Command, push-leaf, end-model, Read, whole, unknown, short, byte-at, width, read-at, goes-on, readings-from, readings, Slot, linear-at}
+use Rattle.theory.specs.Command.{Command, end-model, Read, whole, unknown, short, byte-at, width, read-at, goes-on, readings-from, readings, Slot, linear-at}
 use Rattle.theory.specs.Load.{find-slot, site-at}
 use Rattle.theory.specs.laws.Loading.{loaded-entries, linear-wide}
 use Rattle.command.proofs.Command.{the-type as command-type}
@@ -31,7 +31,7 @@ use Rattle.command.proofs.Forward.{has-linear, linear-room}
 use Rattle.model.specs.Answers.{is-end}
 use Rattle.model.proofs.Walk.{opened, from-first, at-end, going, forward}
 use Rattle.evaluate.specs.declared.Point.{Point}
-use Rattle.evaluate.specs.Pass.{numerator, stepped, takes, pass, Stands, Comes, Small-linear}
+use Rattle.evaluate.specs.Pass.{no-linear, leaf-of, numerator, stepped, takes, pass, Stands, Comes, Small-linear}
 use Rattle.evaluate.specs.Parts.{Seek}
 use Rattle.evaluate.proofs.Points.{value-is}
 
@@ -136,36 +136,36 @@ module _ {B : List ℕ} {x : Point} {g : Slot} {i : ℕ} {l : List ℕ} (w : See
 
 -- ---- the leaf's linear
 
--- what is read at an offset where a leaf stands
-pub leaf-reads : (B : List ℕ) (i : ℕ) (c : CodeCommand) (q : CodeLinear) → whole (command-of B i c) ≡ read-at B i → c ≡ Leaf → linear-of q ≡ linear-at B (i + 1) → (p : Linear) → read-at B i ≡ whole (push-leaf p) → linear-of q ≡ p
-unfolding command-of
-leaf-reads B i c q e f r p h = let z : whole (push-leaf (linear-at B (i + 1))) ≡ whole (push-leaf p) = ap (λ (d : CodeCommand). whole (command-of B i d)) (sym f) ∙ e ∙ h in r ∙ cc
+-- what is read at an offset: a leaf, another command, none
+pub leaf-reads : (B : List ℕ) (i : ℕ) (c : CodeCommand) (q : CodeLinear) → whole (command-of B i c) ≡ read-at B i → c ≡ Leaf → linear-of q ≡ linear-at B (i + 1) → linear-of q ≡ leaf-of (read-at B i)
+unfolding command-of leaf-of
+leaf-reads B i c q e f r = r ∙ ap leaf-of (ap (λ (d : CodeCommand). whole (command-of B i d)) (sym f) ∙ e)
 
-pub no-leaf : (B : List ℕ) (i : ℕ) (c : CodeCommand) → whole (command-of B i c) ≡ read-at B i → OneOf (0 ∷ 2 ∷ 3 ∷ 4 ∷ 5 ∷ 6 ∷ []) (tagOf command-type c) → (p : Linear) → read-at B i ≡ whole (push-leaf p) → ⊥
-unfolding command-of
-no-leaf B i (Site m n a w) e k p h = let y = e ∙ h in let z : _≡_ {A = ℕ} 0 1 = cc in omega arith
-no-leaf B i Leaf e k p h = miss (0 ∷ 2 ∷ 3 ∷ 4 ∷ 5 ∷ 6 ∷ []) 1 tt k
-no-leaf B i (Condition j) e k p h = let y = e ∙ h in let z : _≡_ {A = ℕ} 0 1 = cc in omega arith
-no-leaf B i Test e k p h = let y = e ∙ h in let z : _≡_ {A = ℕ} 0 1 = cc in omega arith
-no-leaf B i (Give x a j) e k p h = let y = e ∙ h in let z : _≡_ {A = ℕ} 0 1 = cc in omega arith
-no-leaf B i (Name a) e k p h = let y = e ∙ h in let z : _≡_ {A = ℕ} 0 1 = cc in omega arith
-no-leaf B i End e k p h = let y = e ∙ h in let z : _≡_ {A = ℕ} 0 1 = cc in omega arith
+pub no-leaf : (B : List ℕ) (i : ℕ) (c : CodeCommand) → whole (command-of B i c) ≡ read-at B i → OneOf (0 ∷ 2 ∷ 3 ∷ 4 ∷ 5 ∷ 6 ∷ []) (tagOf command-type c) → no-linear ≡ leaf-of (read-at B i)
+unfolding command-of leaf-of
+no-leaf B i (Site m n a w) e k = ap leaf-of e
+no-leaf B i Leaf e k = absurd (miss (0 ∷ 2 ∷ 3 ∷ 4 ∷ 5 ∷ 6 ∷ []) 1 tt k)
+no-leaf B i (Condition j) e k = ap leaf-of e
+no-leaf B i Test e k = ap leaf-of e
+no-leaf B i (Give x a j) e k = ap leaf-of e
+no-leaf B i (Name a) e k = ap leaf-of e
+no-leaf B i End e k = ap leaf-of e
 
-pub no-command : (B : List ℕ) (i : ℕ) (r : CodeRead) → OneOf (1 ∷ 2 ∷ []) (tagOf read-type r) → read-of B i r ≡ read-at B i → (p : Linear) → read-at B i ≡ whole (push-leaf p) → ⊥
-unfolding read-of
-no-command B i (Whole c) k e p h = miss (1 ∷ 2 ∷ []) 0 tt k
-no-command B i Unknown k e p h = let y = e ∙ h in let z : _≡_ {A = ℕ} 0 1 = cc in omega arith
-no-command B i Short k e p h = let y = e ∙ h in let z : _≡_ {A = ℕ} 0 1 = cc in omega arith
+pub no-command : (B : List ℕ) (i : ℕ) (r : CodeRead) → OneOf (1 ∷ 2 ∷ []) (tagOf read-type r) → read-of B i r ≡ read-at B i → no-linear ≡ leaf-of (read-at B i)
+unfolding read-of leaf-of
+no-command B i (Whole c) k e = absurd (miss (1 ∷ 2 ∷ []) 0 tt k)
+no-command B i Unknown k e = ap leaf-of e
+no-command B i Short k e = ap leaf-of e
 
 -- ---- what the leaf comes to
 
-module _ (B : List ℕ) (g : Slot) (x : Point) (i : ℕ) (c : Comes B g x i) (q : Linear) (reads : (p : Linear) → read-at B i ≡ whole (push-leaf p) → q ≡ p)
+module _ (B : List ℕ) (g : Slot) (x : Point) (i : ℕ) (c : Comes B g x i) (q : Linear) (reads : q ≡ leaf-of (read-at B i))
     (s : State) (r : List Bool) (st : Stands (site-at B .levels) (site-at B .conditions) x s r) where
   abbrev F : Tree
   F = find-slot g (loaded-entries B)
 
   is : q ≡ at (env s r) F .lin
-  is = reads _ (c .comes s r st .reads)
+  is = reads ∙ c .comes s r st .reads
 
   pub worth-is : numerator x q ≡ worth-at (env s r) F
   unfolding worth-at

@@ -33,22 +33,24 @@ pub record Seek (B : List ℕ) (x : Point) (g : Slot) (i : ℕ) (l : List ℕ) :
 
 -- ---- a place for each slot
 
--- a reward, and a chance and a next level for each number
-abbrev pub slots-each : ℕ
-slots-each = 1 + conditions-most + levels-most
+-- the end worth's place among an action's slots, behind a reward, and a chance and a next level for each number
+abbrev pub end-row : ℕ
+end-row = 1 + conditions-most + levels-most
 
--- action 0 has its words too, and no slots
+abbrev pub slots-each : ℕ
+slots-each = 1 + end-row
+
+-- action 0 has its words too, for the end worth
 abbrev pub slots-most : ℕ
 slots-most = (1 + actions-most) * slots-each
 
 -- the place among an action's slots, slots-each where there is no such slot
 unfoldable pub row : ℕ → ℕ → ℕ
 row c i =
-    if (eqb c 0x20) (if (eqb i 0) 0 slots-each)
-    (if (eqb i 0) slots-each
+    if (eqb i 0) (if (eqb c 0x20) 0 (if (eqb c 0x23) end-row slots-each))
     (if (ltb conditions-most i) slots-each
     (if (eqb c 0x21) i
-    (if (eqb c 0x22) (conditions-most + i) slots-each))))
+    (if (eqb c 0x22) (conditions-most + i) slots-each)))
 
 unfoldable pub place : Slot → ℕ
 place g = if (ltb (row (g .command) (g .index)) slots-each) ((g .action) * slots-each + row (g .command) (g .index)) slots-most
@@ -78,6 +80,7 @@ depth-after (give g) n = n - 1
 depth-after (name-action a b) n = n
 depth-after end-model n = n
 
--- at each slot's place stands an offset from which the pass, with nothing on the stack, comes to what the whole pass comes to
+-- at each slot's place stands an offset from which the pass, with nothing on the stack, comes to what the whole pass comes to; 0 where it is not given
 pub record Parts (B t : List ℕ) : Type 0 where
   pub begins : (g : Slot) (x : Point) → Seek B x g (getD t (place g) 0) []
+  pub absent : (g : Slot) (x : Point) → place g < slots-most → getD t (place g) 0 ≡ 0 → 0 ≡ pass x g (readings B) []

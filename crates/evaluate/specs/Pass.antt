@@ -3,16 +3,17 @@ use mathlib.Core.Path.{_≡_}
 use mathlib.Core.Bool.{Bool, true, false, not}
 use mathlib.Core.List.{List, [], _∷_}
 use Prim.Native.Nat.{ℕ, _-_, _≤_}
-use lib.Dec.{T, leb}
+use lib.Dec.{T, eqb, leb}
 use lib.IntN.{ℤ, pos, _+ℤ_, _*ℤ_}
 use lib.ListN.{getD, take, drop}
 use lib.Signed.{leZ}
 use Rattle.whole.specs.Cases.{if}
-use Rattle.theory.specs.Widths.{conditions-most}
+use Rattle.theory.specs.Widths.{levels-most, conditions-most}
 use Rattle.theory.specs.Diagram.{Linear}
+use Rattle.theory.specs.Rules.{no-coeffs}
 use Rattle.theory.specs.Meaning.{State, env, nth, dot, at}
 use Rattle.theory.specs.Valid.{wide}
-use Rattle.theory.specs.Command.{Command, site, push-leaf, push-condition, push-test, give, name-action, end-model, whole, unknown, short, Placed, read-at, Slot}
+use Rattle.theory.specs.Command.{Command, site, push-leaf, push-condition, push-test, give, name-action, end-model, Read, whole, unknown, short, Placed, read-at, Slot}
 use Rattle.theory.specs.Verdict.{same-slot, beyond}
 use Rattle.theory.specs.Load.{find-slot, site-at}
 use Rattle.theory.specs.Value.{bits}
@@ -79,6 +80,14 @@ Small-linear p = T (wide p)
 
 -- ---- what it comes to
 
+-- a slot that is given a diagram
+abbrev pub no-name : Slot → Bool
+no-name g = not (eqb (g .command) 0x30)
+
+-- 0 as a linear
+abbrev pub no-linear : Linear
+no-linear = record { coeffs = no-coeffs levels-most; const = pos 0 }
+
 -- a state of m levels and n conditions, and a setting of the next ones, as a point has them; with no setting the point's is 0
 pub record Stands (m n : ℕ) (x : Point) (s : State) (r : List Bool) : Type 0 where
   pub now-is : (k : ℕ) → 1 ≤ k → k ≤ n → nth (s .conditions) k ≡ nth (bits 4 (x .mask)) k
@@ -86,12 +95,24 @@ pub record Stands (m n : ℕ) (x : Point) (s : State) (r : List Bool) : Type 0 w
   pub nums-are : s .nums ≡ take m (nums-of x)
   pub den-is : pos (s .den) ≡ x .d
 
--- the command at an offset is a leaf of that linear, whose coefficients beyond level m are zero
+-- the linear of a leaf, 0 of any other command
+unfoldable pub leaf-of : Read → Linear
+leaf-of (whole (site m n a w)) = no-linear
+leaf-of (whole (push-leaf p)) = p
+leaf-of (whole (push-condition k)) = no-linear
+leaf-of (whole (push-test p)) = no-linear
+leaf-of (whole (give g)) = no-linear
+leaf-of (whole (name-action a b)) = no-linear
+leaf-of (whole end-model) = no-linear
+leaf-of unknown = no-linear
+leaf-of short = no-linear
+
+-- the leaf at an offset has that linear, whose coefficients beyond level m are zero
 pub record Leaf-at (B : List ℕ) (m i : ℕ) (p : Linear) : Type 0 where
-  pub reads : read-at B i ≡ whole (push-leaf p)
+  pub reads : leaf-of (read-at B i) ≡ p
   pub within : T (not (beyond m p))
 
--- the leaf at an offset is what a slot's diagram comes to at each state that the point stands for
+-- the leaf at an offset is what a slot's diagram comes to at each state that the point stands for; 0 where none is given
 pub record Comes (B : List ℕ) (g : Slot) (x : Point) (i : ℕ) : Type 0 where
   pub comes : (s : State) (r : List Bool) → Stands (site-at B .levels) (site-at B .conditions) x s r
       → Leaf-at B (site-at B .levels) i (at (env s r) (find-slot g (loaded-entries B)) .lin)

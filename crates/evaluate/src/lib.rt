@@ -10,18 +10,18 @@ ghost use lib.IntN.{pos};
 ghost use lib.Signed.{leZ};
 ghost use Rattle.whole.specs.Int.{up};
 ghost use Rattle.whole.specs.Numerator.{words};
-ghost use Rattle.theory.specs.Command.{whole, push-leaf, read-at};
-ghost use Rattle.theory.specs.Diagram.{Linear as LinearOf};
+ghost use Rattle.theory.specs.Command.{whole, read-at};
 ghost use Rattle.theory.specs.Meaning.{State, env, nth};
 ghost use Rattle.theory.specs.Meaning.{worth-at as worth-of};
+ghost use Rattle.theory.specs.Meaning.{end-at as end-of};
 ghost use Rattle.theory.specs.Meaning.{chance-at as chance-of};
-ghost use Rattle.theory.specs.Load.{find-slot, site-at};
+ghost use Rattle.theory.specs.Load.{find-slot, found, site-at};
 ghost use Rattle.theory.specs.Value.{bits};
-ghost use Rattle.theory.specs.Verdict.{verdict, has-slot, wanted, same-slot};
+ghost use Rattle.theory.specs.Verdict.{verdict, end-slot, same-slot};
 ghost use Rattle.theory.specs.laws.Loading.{loaded-entries};
 ghost use Rattle.command.specs.Reading.{linear-of, command-of};
 ghost use Rattle.command.specs.Held.{last-first};
-ghost use Rattle.evaluate.specs.Pass.{slot-of, condition-holds, stepped, Small-linear, Stands, Comes};
+ghost use Rattle.evaluate.specs.Pass.{slot-of, no-name, condition-holds, stepped, Small-linear, leaf-of, Stands, Comes};
 ghost use Rattle.evaluate.specs.Pass.{takes as takes-slot};
 ghost use Rattle.evaluate.specs.Pass.{numerator as numerator-at};
 ghost use Rattle.evaluate.specs.Parts.{Room, Holds, Seek, Parts};
@@ -35,7 +35,7 @@ use whole::two_words;
 mod offsets; // offsets.rt: the stack of a pass
 pub mod parts; // parts.rt: where each slot's diagram begins
 
-// What is given to an action: the command's byte, the action, the condition or level (0 for a reward).
+// What a diagram is given as: the command's byte, the action, the condition or level (0 where there is none).
 pub struct Slot {
     pub command: u8,
     pub action: u8,
@@ -146,7 +146,7 @@ fn takes(c: Command, g: Slot) -> bool
 
 // From an offset on, with nothing on the stack there, to the command that gives the slot.
 fn pass_from(model: &[u8], begin: usize, g: Slot, x: Point, items: &mut [u32]) -> usize
-    requires { ⌜ (verdict (now model) .number ≡ 0) × (length (now model) < 4294967296) × T (has-slot (slot-of g) (wanted (site-at (now model)))) × Room (now items) 0 × Seek (now model) x (slot-of g) begin [] ⌝ }
+    requires { ⌜ (verdict (now model) .number ≡ 0) × (length (now model) < 4294967296) × T (no-name (slot-of g)) × Room (now items) 0 × Seek (now model) x (slot-of g) begin [] ⌝ }
     ensures { λ r. ⌜ Comes (now (model .entry)) (slot-of g) x r ⌝ }
 {
     let mut at = begin;
@@ -167,9 +167,9 @@ fn pass_from(model: &[u8], begin: usize, g: Slot, x: Point, items: &mut [u32]) -
     }
 }
 
-// The offset of the leaf that a slot's diagram comes to, in an accepted model whose site has that slot.
+// The offset of the leaf that a slot's diagram comes to, in an accepted model; 0 where none is given.
 fn leaf_at(model: &[u8], parts: &[u32], g: Slot, x: Point) -> usize
-    requires { ⌜ (verdict (now model) .number ≡ 0) × (length (now model) < 4294967296) × T (has-slot (slot-of g) (wanted (site-at (now model)))) × Parts (now model) (now parts) ⌝ }
+    requires { ⌜ (verdict (now model) .number ≡ 0) × (length (now model) < 4294967296) × T (no-name (slot-of g)) × Parts (now model) (now parts) ⌝ }
     ensures { λ r. ⌜ Comes (now (model .entry)) (slot-of g) x r ⌝ }
 {
     let begin = parts::begin(parts, g);
@@ -177,9 +177,9 @@ fn leaf_at(model: &[u8], parts: &[u32], g: Slot, x: Point) -> usize
     pass_from(model, begin, g, x, &mut items)
 }
 
-// The linear of the leaf command at an offset.
+// The linear of the leaf command at an offset, 0 of any other.
 fn leaf(model: &[u8], at: usize) -> Linear
-    ensures { λ r. ⌜ Small-linear (linear-of r) × ((p : LinearOf) → read-at (now (model .entry)) at ≡ whole (push-leaf p) → linear-of r ≡ p) ⌝ }
+    ensures { λ r. ⌜ Small-linear (linear-of r) × (linear-of r ≡ leaf-of (read-at (now (model .entry)) at)) ⌝ }
 {
     let none = Linear {
         c1: 0,
@@ -201,7 +201,7 @@ fn leaf(model: &[u8], at: usize) -> Linear
 
 // What a slot's diagram comes to, times d: a reward, or a next level.
 pub fn worth_at(model: &[u8], parts: &[u32], g: Slot, x: Point) -> Numerator
-    requires { ⌜ (verdict (now model) .number ≡ 0) × (length (now model) < 4294967296) × T (has-slot (slot-of g) (wanted (site-at (now model)))) × Parts (now model) (now parts) ⌝ }
+    requires { ⌜ (verdict (now model) .number ≡ 0) × (length (now model) < 4294967296) × T (no-name (slot-of g)) × Parts (now model) (now parts) ⌝ }
     ensures { λ r. ⌜ ((s : State) (z : List Bool) → Stands (site-at (now (model .entry)) .levels) (site-at (now (model .entry)) .conditions) x s z
         → r ≡ words (worth-of (env s z) (find-slot (slot-of g) (loaded-entries (now (model .entry)))))) ⌝ }
 {
@@ -209,9 +209,26 @@ pub fn worth_at(model: &[u8], parts: &[u32], g: Slot, x: Point) -> Numerator
     numerator(leaf(model, at), x)
 }
 
+// What the end worth comes to, times d; 0 where none is given.
+pub fn end_at(model: &[u8], parts: &[u32], x: Point) -> Numerator
+    requires { ⌜ (verdict (now model) .number ≡ 0) × (length (now model) < 4294967296) × Parts (now model) (now parts) ⌝ }
+    ensures { λ r. ⌜ ((s : State) (z : List Bool) → Stands (site-at (now (model .entry)) .levels) (site-at (now (model .entry)) .conditions) x s z
+        → r ≡ words (end-of (env s z) (found end-slot (loaded-entries (now (model .entry)))))) ⌝ }
+{
+    let g = Slot {
+        command: 0x23,
+        action: 0,
+        index: 0,
+    };
+    if parts::begin(parts, g) == 0 {
+        return Numerator { low: 0, high: 0 };
+    }
+    worth_at(model, parts, g, x)
+}
+
 // The weight, out of W, that a slot's diagram comes to.
 pub fn chance_at(model: &[u8], parts: &[u32], g: Slot, x: Point) -> u64
-    requires { ⌜ (verdict (now model) .number ≡ 0) × (length (now model) < 4294967296) × T (has-slot (slot-of g) (wanted (site-at (now model)))) × Parts (now model) (now parts) ⌝ }
+    requires { ⌜ (verdict (now model) .number ≡ 0) × (length (now model) < 4294967296) × T (no-name (slot-of g)) × Parts (now model) (now parts) ⌝ }
     ensures { λ r. ⌜ ((s : State) (z : List Bool) → Stands (site-at (now (model .entry)) .levels) (site-at (now (model .entry)) .conditions) x s z
         → r ≡ chance-of (env s z) (find-slot (slot-of g) (loaded-entries (now (model .entry))))) ⌝ }
 {

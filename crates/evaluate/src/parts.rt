@@ -17,23 +17,25 @@ use super::Slot;
 use command::Command;
 use command::Read;
 
-// A reward, and a chance and a next level for each number that a condition or a level can have.
-pub const SLOTS_EACH: usize = 9;
+// The end worth's place among an action's slots: behind a reward, and a chance and a next level for each number that a condition or a level can have.
+const END_ROW: usize = 9;
 
-// For each action; action 0 has its words too, and no slots.
-pub const SLOTS: usize = 81;
+pub const SLOTS_EACH: usize = 10;
+
+// For each action; action 0 has its words too, for the end worth.
+pub const SLOTS: usize = 90;
 
 // The place among an action's slots, SLOTS_EACH where there is no such slot.
 fn row(command: u8, index: u8) -> usize
     ensures { λ r. ⌜ r ≡ row-of command index ⌝ }
 {
-    if command == 0x20 {
-        if index == 0 {
+    if index == 0 {
+        if command == 0x20 {
             return 0;
         }
-        return SLOTS_EACH;
-    }
-    if index == 0 {
+        if command == 0x23 {
+            return END_ROW;
+        }
         return SLOTS_EACH;
     }
     if 4 < index {

@@ -162,7 +162,3 @@ module _ (B : List ℕ) (h : ℕ) (x : Point) (last : ℕ) (e : last ≡ site-at
       runs = λ s p. actions-on (tries B h s) (act B) a last (total-of best) (state-worth (model B) h s) (I .runs s p) g
           (total-of t) (Y .is s p ∙ ap (tries B h s) (action-is B a (omega (arith, I .low)) (omega arith))) (total-of best′) f;
     }
-
-pub none-left-worth : (B : List ℕ) (h : ℕ) (x : Point) → h ≡ 0 → State-worth B h x (total.Is (pos 0) 0)
-unfolding state-worth total-of
-none-left-worth B h x e = record { is = λ s p. ap (λ (k : ℕ). state-worth (model B) k s) (sym e) }

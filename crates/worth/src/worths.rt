@@ -31,13 +31,22 @@ fn earned(model: &[u8], parts: &[u32], steps: u32, a: u8, x: Point) -> Within
     judging::times(p, z)
 }
 
+// With no step left, "an end worth times D beyond ±(2⁶² − 1) is 11".
+fn ended(model: &[u8], parts: &[u32], x: Point) -> Total
+    requires { ⌜ Standing (now model) x × Parts (now model) (now parts) ⌝ }
+    ensures { λ r. ⌜ State-worth (now (model .entry)) 0 x r ⌝ }
+{
+    let z = judging::narrow(evaluate::end_at(model, parts, x));
+    judging::worth_of(z)
+}
+
 // "the worth of a state tries each action"
 fn state_worth(model: &[u8], parts: &[u32], steps: u32, x: Point) -> Total
     requires { ⌜ Standing (now model) x × (steps ≤ 8) × Parts (now model) (now parts) ⌝ }
     ensures { λ r. ⌜ State-worth (now (model .entry)) steps x r ⌝ }
 {
     if steps == 0 {
-        return Total::Is(0, 0);
+        return ended(model, parts, x);
     }
     let last = sites::actions(model);
     let mut best = judging::numbered(action_worth(model, parts, steps, 1, x));

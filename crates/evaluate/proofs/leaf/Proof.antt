@@ -2,6 +2,7 @@
 use native.Mathlib.Omega.{arith}
 use Rattle.theory.specs.Valid.{all, wide, small-linear}
 use Rattle.whole.specs.Within.{small}
+use Rattle.theory.specs.Rules.{no-coeffs}
 use Rattle.model.proofs.Walk.{whole-is}
 use Rattle.evaluate.proofs.Turns.{linear-small, leaf-there, leaf-reads, no-leaf, no-command}
 use borrow.Author.Needs.{needs}
@@ -15,9 +16,9 @@ enum-known-read : tie.Need-enum-known-read
 enum-known-read c = search needs
 
 returns : tie.Need-returns
-unfolding wide small-linear all small
+unfolding wide small-linear all small no-coeffs
 returns c =
-    (tt, λ p h. absurd (no-command (c .before .before .before .args .model .now) (c .before .before .before .args .at) (c .before .command-at .result) (c .match .keys2) (c .before .command-at .ensures) p h))
+    (tt, no-command (c .before .before .before .args .model .now) (c .before .before .before .args .at) (c .before .command-at .result) (c .match .keys2) (c .before .command-at .ensures))
 
 enum-told : tie.Need-enum-told
 enum-told c = search needs
@@ -35,9 +36,9 @@ returns-2 c =
     (linear-small (c .before .before .before .before .before .before .before .before .args .model .now) _ (c .linear-at .result) (c .linear-at .ensures), leaf-reads (c .before .before .before .before .before .before .before .before .args .model .now) (c .before .before .before .before .before .before .before .before .args .at) _ (c .linear-at .result) (whole-is (c .before .before .before .before .before .before .before .before .args .model .now) (c .before .before .before .before .before .before .before .before .args .at) (c .before .before .before .before .before .before .command-at .ensures) (c .before .before .before .before .read .given .1)) (c .before .enum-told .given .1) (c .linear-at .ensures))
 
 returns-3 : tie.Need-returns-3
-unfolding wide small-linear all small
+unfolding wide small-linear all small no-coeffs
 returns-3 c =
-    (tt, λ p h. absurd (no-leaf (c .before .before .before .before .before .before .args .model .now) (c .before .before .before .before .before .before .args .at) _ (whole-is (c .before .before .before .before .before .before .args .model .now) (c .before .before .before .before .before .before .args .at) (c .before .before .before .before .command-at .ensures) (c .before .before .read .given .1)) (c .match2 .keys2) p h))
+    (tt, no-leaf (c .before .before .before .before .before .before .args .model .now) (c .before .before .before .before .before .before .args .at) _ (whole-is (c .before .before .before .before .before .before .args .model .now) (c .before .before .before .before .before .before .args .at) (c .before .before .before .before .command-at .ensures) (c .before .before .read .given .1)) (c .match2 .keys2))
 
 pub leaf-spec : {M : Type 1} → statement M
 leaf-spec =

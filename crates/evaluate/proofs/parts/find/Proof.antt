@@ -6,7 +6,7 @@ use lib.ListN.{length}
 use Rattle.command.specs.Reading.{command-of}
 use Rattle.command.proofs.Forward.{whole-bytes}
 use Rattle.model.proofs.Walk.{whole-is, going, forward}
-use Rattle.evaluate.proofs.Finds.{Finds, finds-starts, finds-on}
+use Rattle.evaluate.proofs.Finds.{Finds, finds-starts, finds-stop, finds-end, finds-on}
 use borrow.Author.Needs.{needs}
 use Rattle.evaluate.proofs.parts.find.Statement.{statement}
 use Rattle.evaluate.proofs.parts.find.Tie as tie
@@ -43,7 +43,7 @@ same-length c =
 
 returns : tie.Need-returns Inv-loop μ-loop
 returns c =
-    c .before .before .loop .inv .parts
+    finds-stop (c .before .before .loop .inv) (c .before .command-at .result) (c .match .keys2) (c .before .command-at .ensures)
 
 is-end-requires : tie.Need-is-end-requires Inv-loop μ-loop
 is-end-requires c κs =
@@ -55,7 +55,7 @@ same-length-2 c =
 
 returns-2 : tie.Need-returns-2 Inv-loop μ-loop
 returns-2 c =
-    c .before .before .before .before .before .before .loop .inv .parts
+    finds-end (c .before .before .before .before .before .before .loop .inv) _ (whole-is (c .before .before .before .before .before .before .before .before .before .before .args .model .now) (c .before .before .before .before .before .before .loop .at) (c .before .before .before .before .before .command-at .ensures) (c .before .before .before .read .given .1)) (sym (c .before .is-end .ensures) ∙ c .if1 .taken)
 
 cast-last-empty : tie.Need-cast-last-empty Inv-loop μ-loop
 cast-last-empty c =

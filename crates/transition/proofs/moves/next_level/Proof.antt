@@ -1,7 +1,5 @@
 -- `transition::moves::next_level` meets its contract.
 use native.Mathlib.Omega.{arith}
-use Rattle.theory.specs.Load.{site-at}
-use Rattle.evaluate.proofs.Wants.{wants-level}
 use Rattle.transition.proofs.Leading.{level-beyond, level-found}
 use borrow.Author.Needs.{needs}
 use Rattle.transition.proofs.moves.next_level.Statement.{statement}
@@ -18,8 +16,7 @@ returns c =
 worth-at-requires : tie.Need-worth-at-requires
 worth-at-requires c κs =
     let s = (c .before .before .before .before) in
-    let e = c .before .levels .ensures in
-    (s .pre .0 .accepted, s .pre .0 .short, wants-level (site-at (s .args .model .now)) (s .args .a) (s .pre .1 .0) (s .pre .1 .1) (s .args .i) (s .pre .2) (omega (arith, c .if1 .left)), s .pre .3)
+    (s .pre .0 .accepted, s .pre .0 .short, tt, s .pre .3)
 
 narrow-requires : tie.Need-narrow-requires
 narrow-requires c κs = search needs

@@ -1,7 +1,5 @@
 -- `transition::weighing::chance` meets its contract.
 use native.Mathlib.Omega.{arith}
-use Rattle.theory.specs.Load.{site-at}
-use Rattle.evaluate.proofs.Wants.{wants-chance}
 use Rattle.transition.proofs.Weigh.{chance-beyond, chance-found}
 use borrow.Author.Needs.{needs}
 use Rattle.transition.proofs.weighing.chance.Statement.{statement}
@@ -18,8 +16,7 @@ returns c =
 chance-at-requires : tie.Need-chance-at-requires
 chance-at-requires c κs =
     let s = (c .before .before .before .before) in
-    let e = c .before .conditions .ensures in
-    (s .pre .0 .ready .accepted, s .pre .0 .ready .short, wants-chance (site-at (s .args .model .now)) (s .args .a) (s .pre .1 .0) (s .pre .1 .1) (s .args .k) (s .pre .2) (omega (arith, c .if1 .left)), s .pre .3)
+    (s .pre .0 .ready .accepted, s .pre .0 .ready .short, tt, s .pre .3)
 
 returns-2 : tie.Need-returns-2
 returns-2 c =

@@ -4,9 +4,9 @@ use borrow.Author.Needs.{needs}
 use Rattle.model.proofs.Accepted.{site-accepted}
 use Rattle.judging.specs.Totals.{total-of, is-over, none-left}
 use Rattle.worth.proofs.Runs.{goes-on, not-last}
-use Rattle.worth.proofs.Turns.{Sums, Tries, sums-start, sums-end, sums-skip, sums-over, sums-add, next-stands, tries-start, tries-end, tries-on, none-left-worth}
+use Rattle.worth.proofs.Turns.{Sums, Tries, sums-start, sums-end, sums-skip, sums-over, sums-add, next-stands, tries-start, tries-end, tries-on}
 use Prim.Native.Nat.{ℕ, _+_, _-_, _*_, _≤_, _<_}
-use mathlib.Core.Path.{_≡_}
+use mathlib.Core.Path.{_≡_, sym, subst}
 use borrow.Fn.Kinds.{In}
 use borrow.Fn.PlainCycle.{Measures, is, falls, and}
 use Rattle.worth.proofs.worths.action_worth.Reads as action-worth
@@ -27,6 +27,8 @@ use Rattle.transition.proofs.sites.settings.Reads as settings-reads
 use Rattle.transition.proofs.weighing.chances.Reads as chances-reads
 use Rattle.transition.proofs.weighing.weight.Reads as weight-reads
 use Rattle.worth.proofs.worths.earned.Reads as earned-reads
+use Rattle.worth.proofs.worths.ended.Reads as ended-reads
+use Rattle.worth.specs.Worths.{State-worth}
 use Rattle.worth.proofs.worths.+action_worth+state_worth.{statement}
 use Rattle.worth.proofs.worths.+action_worth+state_worth.Tie.{close}
 
@@ -95,6 +97,8 @@ action-worth-claims t = (
 -- the contracts that `state_worth` calls by, itself at a smaller measure
 abbrev state-worth-claims : ℕ → state-worth-lts.Claims
 state-worth-claims t = (
+  ended-reads.Asked,
+  ended-reads.Learnt,
   actions-reads.Asked,
   actions-reads.Learnt,
   action-worth-below t,
@@ -203,9 +207,15 @@ state-worth-Inv-loop model parts steps x last best₀ a₀ best a = Tries model 
 abbrev state-worth-μ-loop : state-worth-lts.MeasureT-loop
 state-worth-μ-loop model parts steps x last best₀ a₀ best a = last + 1 - a
 
+state-worth-ended-requires : (t : ℕ) → state-worth-lts.Need-ended-requires (state-worth-claims t) (state-worth-at t) state-worth.Post state-worth-Inv-loop state-worth-μ-loop
+state-worth-ended-requires t c κs =
+    let s = (c .before .before .before) in
+    (s .pre .1 .0, s .pre .1 .2)
+
 state-worth-returns : (t : ℕ) → state-worth-lts.Need-returns (state-worth-claims t) (state-worth-at t) state-worth.Post state-worth-Inv-loop state-worth-μ-loop
 state-worth-returns t c =
-    none-left-worth ((c .before .before .before) .args .model .now) ((c .before .before .before) .args .steps) ((c .before .before .before) .args .x) (c .if1 .taken)
+    let s = (c .before .before .before .before) in
+    subst (λ (h : ℕ). State-worth (s .args .model .now) h (s .args .x) (c .ended .result)) (sym (c .before .if1 .taken)) (c .ended .ensures)
 
 state-worth-actions-requires : (t : ℕ) → state-worth-lts.Need-actions-requires (state-worth-claims t) (state-worth-at t) state-worth.Post state-worth-Inv-loop state-worth-μ-loop
 state-worth-actions-requires t c κs =
@@ -286,6 +296,8 @@ pub +action-worth+state-worth-spec : {M : Type 1} → statement M
     (action-worth-loop-less-2 t)
     (action-worth-loop-again-2 t))
     λ t. state-worth-lts.spec (
+      ended-reads.Asked,
+      ended-reads.Learnt,
       actions-reads.Asked,
       actions-reads.Learnt,
       action-worth-below t,
@@ -301,6 +313,7 @@ pub +action-worth+state-worth-spec : {M : Type 1} → statement M
     state-worth.Post
     state-worth-Inv-loop
     state-worth-μ-loop
+    (state-worth-ended-requires t)
     (state-worth-returns t)
     (state-worth-actions-requires t)
     (state-worth-action-worth-requires t)

@@ -1,7 +1,5 @@
 -- `worth::worths::earned` meets its contract.
 use native.Mathlib.Omega.{arith}
-use Rattle.theory.specs.Load.{site-at}
-use Rattle.evaluate.proofs.Wants.{wants-reward}
 use Rattle.worth.proofs.Answers.{exponent-fits, earned-is}
 use borrow.Author.Needs.{needs}
 use Rattle.worth.proofs.worths.earned.Statement.{statement}
@@ -30,7 +28,7 @@ power-within-requires c κs = search needs
 worth-at-requires : tie.Need-worth-at-requires
 worth-at-requires c κs =
     let s = (c .before .before .before .before .before) in
-    (s .pre .0 .ready .accepted, s .pre .0 .ready .short, wants-reward (site-at (s .args .model .now)) (s .args .a) (s .pre .1 .0) (s .pre .1 .1), s .pre .3)
+    (s .pre .0 .ready .accepted, s .pre .0 .ready .short, tt, s .pre .3)
 
 narrow-requires : tie.Need-narrow-requires
 narrow-requires c κs = search needs
