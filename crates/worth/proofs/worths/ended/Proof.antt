@@ -6,7 +6,7 @@ use Rattle.worth.proofs.worths.ended.Tie as tie
 
 end-at-requires : tie.Need-end-at-requires
 end-at-requires c κs =
-    (@start .pre .0 .ready .accepted, @start .pre .0 .ready .short, @start .pre .1)
+    (c .before .before .pre .0 .ready .accepted, c .before .before .pre .0 .ready .short, c .before .before .pre .1)
 
 narrow-requires : tie.Need-narrow-requires
 narrow-requires c κs = search needs
@@ -16,7 +16,7 @@ worth-of-requires c κs = search needs
 
 returns : tie.Need-returns
 returns c =
-    ended-is (@start .args .model .now) (@start .args .x) (@start .pre .0) (@end-at .ensures) (@narrow .ensures) (@worth-of .ensures)
+    ended-is (c .before .before .before .before .before .args .model .now) (c .before .before .before .before .before .args .x) (c .before .before .before .before .before .pre .0) (c .before .before .end-at .ensures) (c .before .narrow .ensures) (c .worth-of .ensures)
 
 pub ended-spec : {M : Type 1} → statement M
 ended-spec = tie.close (tie.spec end-at-requires narrow-requires worth-of-requires returns)
