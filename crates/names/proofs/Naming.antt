@@ -100,7 +100,8 @@ name-wide B at e =
     (not-named (eqb (byte-at B at) 0x20) _ _ 2 _ refl
     (not-named (eqb (byte-at B at) 0x21) _ _ 3 _ refl
     (not-named (eqb (byte-at B at) 0x22) _ _ 3 _ refl
-    (named-last (eqb (byte-at B at) 0x30) _ _ _))))))) e
+    (not-named (eqb (byte-at B at) 0x23) _ _ 1 _ refl
+    (named-last (eqb (byte-at B at) 0x30) _ _ _)))))))) e
 
 -- the bytes of a name are there
 pub name-room : (a : ℕ) (B : List ℕ) (at : ℕ) (c : Command) → whole c ≡ read-at B at → names-action a (whole c) ≡ true → at + 2 + 16 ≤ length B
