@@ -47,6 +47,10 @@ impl Writer {
         self.command(&[0x22, action, level])
     }
 
+    pub fn end_worth(&mut self) -> &mut Self {
+        self.command(&[0x23])
+    }
+
     pub fn name(&mut self, action: u8, name: &str) -> &mut Self {
         self.command(&[0x30, action]).command(format!("{name:16}").as_bytes())
     }
@@ -71,12 +75,32 @@ impl Writer {
 }
 
 pub fn pond() -> Vec<u8> {
+    pond_commands().end()
+}
+
+/// The pond with an end worth, which `write` leaves on the stack.
+pub fn pond_ending(write: impl FnOnce(&mut Writer)) -> Vec<u8> {
+    let mut w = pond_commands();
+    write(&mut w);
+    w.end_worth();
+    w.end()
+}
+
+/// The pond's water is wanted afterwards: 6 for each unit that is left, up to 20 of them. At 20 the pond is kept, which
+/// without the end worth is emptied.
+pub fn pond_kept() -> Vec<u8> {
+    pond_ending(|w| {
+        w.leaf([0; 4], 120).leaf([6, 0, 0, 0], 0).test([-1, 0, 0, 0], 20);
+    })
+}
+
+fn pond_commands() -> Writer {
     let mut w = Writer::site(1, 0, 2, 1);
     w.leaf([0; 4], 0).reward(1).leaf([1, 0, 0, 0], 0).next(1, 1);
     w.leaf([0; 4], 50).leaf([0; 4], -1).test([-1, 0, 0, 0], 10).reward(2);
     w.leaf([1, 0, 0, 0], -10).leaf([1, 0, 0, 0], 0).test([-1, 0, 0, 0], 10).next(2, 1);
     w.name(1, "Hold").name(2, "Release");
-    w.end()
+    w
 }
 
 pub fn rain() -> Vec<u8> {

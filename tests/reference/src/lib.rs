@@ -1,5 +1,5 @@
-//! The second program: document 01 as settled by docs/DECISIONS.md, written for speed and for reading, not proved.
-//! The numbers in brackets are those of the decisions.
+//! The second program: document 01 and the requests after it, as settled by docs/DECISIONS.md, written for speed and for
+//! reading, not proved. The numbers in brackets are those of the decisions.
 //!
 //! `model` reads and judges the bytes, `diagram` has the rules on diagrams and `unique` their hash tables, `solve` the
 //! operations of a solve, `read` the readers of tables, and `plain` works a state out from the written model, without

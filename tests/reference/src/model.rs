@@ -21,6 +21,7 @@ const TEST: u8 = 0x12;
 const REWARD: u8 = 0x20;
 const CHANCE: u8 = 0x21;
 const NEXT: u8 = 0x22;
+const END_WORTH: u8 = 0x23;
 const NAME: u8 = 0x30;
 const END: u8 = 0xFF;
 
@@ -70,16 +71,22 @@ const NEXTS: usize = 5;
 const NAMES: usize = 9;
 const MISSING: u32 = u32::MAX;
 
-/// A model without fault. What actions are given are places of trees, and for a name the offset of its 16 bytes;
-/// actions count from 0.
+/// A model without fault. What is given are places of trees, and for a name the offset of its 16 bytes; actions count
+/// from 0.
 #[derive(Debug)]
 pub struct Model<T = Vec<Tree>> {
     pub site: Site,
     pub trees: T,
     given: [[u32; 10]; 8],
+    end_worth: u32,
 }
 
 impl<T> Model<T> {
+    /// Where one is given (K1.1).
+    pub fn end_worth(&self) -> Option<u32> {
+        (self.end_worth != MISSING).then_some(self.end_worth)
+    }
+
     pub fn reward(&self, action: usize) -> u32 {
         self.given[action][0]
     }
@@ -150,7 +157,7 @@ fn command(bytes: &[u8], offset: usize) -> Result<(u8, &[u8]), u32> {
         CONDITION | REWARD => 1,
         CHANCE | NEXT => 2,
         NAME => 17,
-        END => 0,
+        END_WORTH | END => 0,
         _ => return Err(3),
     };
     Ok((code, bytes.get(offset + 1..offset + 1 + width).ok_or(2u32)?))
@@ -175,7 +182,7 @@ struct Reader<T> {
 
 impl<T: Trees> Reader<T> {
     fn new(site: Site) -> Reader<T> {
-        let model = Model { site, trees: T::default(), given: [[MISSING; 10]; 8] };
+        let model = Model { site, trees: T::default(), given: [[MISSING; 10]; 8], end_worth: MISSING };
         Reader { model, stack: [Entry::default(); 32], height: 0 }
     }
 
@@ -189,6 +196,7 @@ impl<T: Trees> Reader<T> {
             CHANCE => self.give(code, operands[0], CHANCES + usize::from(operands[1]) - 1),
             NEXT if !within(operands[1], self.model.site.m) => Err(4),
             NEXT => self.give(code, operands[0], NEXTS + usize::from(operands[1]) - 1),
+            END_WORTH => self.end_worth(),
             NAME => self.name(operands, offset),
             _ => Err(1),
         }
@@ -242,13 +250,27 @@ impl<T: Trees> Reader<T> {
         if !within(action, self.model.site.a) {
             return Err(4);
         }
-        self.height = self.height.checked_sub(1).ok_or(5u32)?;
-        let entry = self.stack[self.height];
-        self.put(action, what, entry.tree)?;
+        let entry = self.pop()?;
+        put(&mut self.model.given[usize::from(action) - 1][what], entry.tree)?;
         if code != NEXT && entry.has_next || code == CHANCE && !entry.is_weight {
             return Err(4);
         }
         Ok(())
+    }
+
+    /// Under the rules for a reward: any leaf, and no next-step condition.
+    fn end_worth(&mut self) -> Result<(), u32> {
+        let entry = self.pop()?;
+        put(&mut self.model.end_worth, entry.tree)?;
+        if entry.has_next {
+            return Err(4);
+        }
+        Ok(())
+    }
+
+    fn pop(&mut self) -> Result<Entry, u32> {
+        self.height = self.height.checked_sub(1).ok_or(5u32)?;
+        Ok(self.stack[self.height])
     }
 
     fn name(&mut self, operands: &[u8], offset: usize) -> Result<(), u32> {
@@ -256,16 +278,7 @@ impl<T: Trees> Reader<T> {
         if !within(action, self.model.site.a) || !letters.iter().all(|b| (0x20..=0x7E).contains(b)) {
             return Err(4);
         }
-        self.put(action, NAMES, offset as u32 + 2)
-    }
-
-    fn put(&mut self, action: u8, what: usize, place: u32) -> Result<(), u32> {
-        let given = &mut self.model.given[usize::from(action) - 1][what];
-        if *given != MISSING {
-            return Err(6);
-        }
-        *given = place;
-        Ok(())
+        put(&mut self.model.given[usize::from(action) - 1][NAMES], offset as u32 + 2)
     }
 
     fn end(self) -> Result<Model<T>, u32> {
@@ -276,6 +289,15 @@ impl<T: Trees> Reader<T> {
             Err(7)
         }
     }
+}
+
+/// Gives what has not been given before.
+fn put(given: &mut u32, place: u32) -> Result<(), u32> {
+    if *given != MISSING {
+        return Err(6);
+    }
+    *given = place;
+    Ok(())
 }
 
 /// Reads a model, or gives the first refusal of 1 to 8.

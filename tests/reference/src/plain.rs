@@ -17,10 +17,11 @@ fn try_worth(bytes: &[u8], steps: u32, state: State) -> Result<Reading, Refusal>
     Ok(Reading::new(worth, action))
 }
 
-/// Nothing if a number leaves its limits. With no step left the worth is 0.
+/// Nothing if a number leaves its limits. With no step left it is the end worth, 0 where none is given (K1.5).
 fn worth_of_state(model: &Model, h: u32, state: &State) -> Option<(i128, u32)> {
     if h == 0 {
-        return Some((0, 0));
+        let worth = model.end_worth().map_or(0, |tree| evaluate(model, tree, state, 0));
+        return Some((judged(worth)?, 0));
     }
     let mut best = None;
     for action in 0..model.site.a {

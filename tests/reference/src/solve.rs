@@ -88,7 +88,8 @@ impl Solver<'_> {
         outcome
     }
 
-    /// Keeps the needed nodes only: model, finished stages, best so far, last result (47, 50).
+    /// Keeps the needed nodes only: model, finished stages, best so far, last result (47, 50). An end worth is stage 0,
+    /// finished as it is loaded (K1.2).
     fn begin(&mut self) {
         let model = self.actions.iter_mut().flat_map(Action::roots);
         self.store.keep(model.chain(&mut self.stages).chain(&mut self.best).chain(&mut self.last));
@@ -123,6 +124,7 @@ impl Solver<'_> {
             nexts: of(self.model.nexts(i)),
         };
         self.actions = (0..self.model.site.a).map(action).collect();
+        self.stages.extend(self.model.end_worth().map(|tree| made[tree as usize]));
         Ok(())
     }
 
@@ -130,9 +132,9 @@ impl Solver<'_> {
         self.load()?;
         for h in 1..=horizon {
             self.stage = h;
-            if h == 1 {
+            if self.stages.is_empty() {
                 self.begin();
-                let zero = self.store.leaf([0; 5], 0)?; // 49
+                let zero = self.store.leaf([0; 5], 0)?; // 49, without an end worth
                 self.stages.push(zero);
             }
             for action in 0..self.model.site.a {
