@@ -52,8 +52,59 @@ struct Shape {
     depth: usize,
 }
 
-/// A valid model, except that now and then a long chain of leaves outgrows the stack.
+/// What is wrong with an end worth.
+#[derive(Clone, Copy, PartialEq)]
+enum Fault {
+    Nothing,
+    NoDiagram,
+    NextStep,
+    Twice,
+}
+
+/// A valid model, except that now and then a long chain of leaves outgrows the stack and that one end worth in eight is
+/// at fault. A third of the models have an end worth. It comes from a source of its own: the rest of the model is what
+/// the seed gives without it.
 pub fn random(rng: &mut Rng) -> Vec<u8> {
+    let mut own = Rng(Rng(rng.0 ^ 0x23).word());
+    let (shape, model) = without_end_worth(rng);
+    if own.once_in(3) {
+        with_end_worth(&mut own, &shape, &model)
+    } else {
+        model
+    }
+}
+
+fn with_end_worth(rng: &mut Rng, shape: &Shape, model: &[u8]) -> Vec<u8> {
+    let fault =
+        if rng.once_in(8) { rng.pick(&[Fault::NoDiagram, Fault::NextStep, Fault::Twice]) } else { Fault::Nothing };
+    let mut writer = Writer(Vec::new());
+    if fault != Fault::NoDiagram {
+        let depth = rng.below(shape.depth + 2);
+        diagram(rng, &mut writer, shape, Kind::Reward, depth);
+    }
+    if fault == Fault::NextStep && shape.n > 0 {
+        writer.leaf([0; 4], 0).condition(4 + rng.between(1, shape.n.into()) as u8);
+    }
+    let once = put_in(rng, model, &writer.0);
+    if fault == Fault::Twice {
+        put_in(rng, &once, &writer.0)
+    } else {
+        once
+    }
+}
+
+/// An end worth before some command, or taken at the end from below all that the stack has held.
+fn put_in(rng: &mut Rng, model: &[u8], diagram: &[u8]) -> Vec<u8> {
+    let last = model.len() - 1;
+    if rng.once_in(4) {
+        return [&model[..5], diagram, &model[5..last], &[0x23], &model[last..]].concat();
+    }
+    let offsets = commands(model);
+    let at = offsets[1 + rng.below(offsets.len() - 2)];
+    [&model[..at], diagram, &[0x23], &model[at..]].concat()
+}
+
+fn without_end_worth(rng: &mut Rng) -> (Shape, Vec<u8>) {
     let m = rng.pick(&[1, 1, 1, 2, 2, 3, 4]);
     let n = rng.pick(&[0, 0, 1, 1, 1, 2, 2, 3, 4]);
     let a = rng.pick(&[1, 1, 2, 2, 2, 3, 3, 4, 8]);
@@ -103,7 +154,7 @@ pub fn random(rng: &mut Rng) -> Vec<u8> {
             writer.command(&name);
         }
     }
-    writer.end()
+    (shape, writer.end())
 }
 
 fn diagram(rng: &mut Rng, writer: &mut Writer, shape: &Shape, kind: Kind, depth: usize) {
@@ -187,12 +238,15 @@ pub fn commands(model: &[u8]) -> Vec<usize> {
             0x11 | 0x20 => 2,
             0x21 | 0x22 => 3,
             0x30 => 18,
-            _ => 1,
+            _ => 1, // 23 and FF, and unknown bytes
         };
         offsets.push(offset.min(model.len()));
     }
     offsets
 }
+
+/// The commands' bytes, and two that no command has.
+const CODES: [u8; 12] = [0x00, 0x01, 0x10, 0x11, 0x12, 0x20, 0x21, 0x22, 0x23, 0x24, 0x30, 0xFF];
 
 /// The model with a few faults, most of which give a refusal.
 pub fn damaged(rng: &mut Rng, model: &[u8]) -> Vec<u8> {
@@ -202,9 +256,9 @@ pub fn damaged(rng: &mut Rng, model: &[u8]) -> Vec<u8> {
         let some = rng.below(offsets.len().max(2) - 1);
         let (from, to) = (offsets[some], offsets.get(some + 1).copied().unwrap_or(bytes.len()));
         let at = rng.below(bytes.len() + 1);
-        let byte = rng.pick(&[0, 1, 2, 4, 5, 8, 9, 0x10, 0x11, 0x1F, 0x20, 0x7E, 0x7F, 0x80, 0xFE, 0xFF]);
+        let byte = rng.pick(&[0, 1, 2, 4, 5, 8, 9, 0x10, 0x11, 0x1F, 0x20, 0x23, 0x7E, 0x7F, 0x80, 0xFE, 0xFF]);
         match rng.below(10) {
-            0 if from < to => bytes[from] = rng.pick(&[0x00, 0x01, 0x10, 0x11, 0x12, 0x20, 0x21, 0x22, 0x30, 0xFF]),
+            0 if from < to => bytes[from] = rng.pick(&CODES),
             1..=3 if from + 1 < to => bytes[from + 1 + rng.below((to - from - 1).min(3))] = byte,
             4 => bytes.truncate(at),
             5 => drop(bytes.drain(from..to)),
