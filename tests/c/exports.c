@@ -101,6 +101,30 @@ static model pond(const char *name)
     return m;
 }
 
+/* The pond, with its level as the end worth. */
+static model pond_ending(void)
+{
+    model m = pond("Hold            ");
+    m.len--;
+    linear(&m, 0x10, 1, 0);
+    command(&m, "\x23\xff", 2);
+    return m;
+}
+
+/* One action that does nothing: the reward is 0, the level stays, and at the end it is worth l1 times the level. */
+static model still(int32_t l1)
+{
+    model m = {{0}, 0};
+    command(&m, "\x01\x01\x00\x01\x01", 5);
+    linear(&m, 0x10, 0, 0);
+    command(&m, "\x20\x01", 2);
+    linear(&m, 0x10, 1, 0);
+    command(&m, "\x22\x01\x01", 3);
+    linear(&m, 0x10, l1, 0);
+    command(&m, "\x23\xff", 2);
+    return m;
+}
+
 static const int64_t NODES[] = {
     0, 0,  0, 0, 0, 50, 2, 0, /* 1 */
     0, 0,  0, 0, 0, 0,  1, 0, /* 2 */
@@ -261,6 +285,53 @@ static void values_early_refused(void)
     value_refused(&c, 3, 0);
 }
 
+/* ---- plain working */
+
+static void worth_is(const model *m, uint32_t steps, int32_t level, int32_t d, uint32_t number, uint32_t place,
+                     uint32_t action, uint64_t low, int64_t high)
+{
+    model kept = *m;
+    lent out;
+    uint8_t answer[PLANNER_WORTH_BYTES];
+    put(answer, place, 4);
+    put(answer + 4, action, 4);
+    put(answer + 8, low, 8);
+    put(answer + 16, (uint64_t)high, 8);
+    for (size_t len = 0; len <= PLANNER_WORTH_BYTES + 3; len++) {
+        uint8_t *start = lend(&out, len);
+        int fits = len >= PLANNER_WORTH_BYTES, yields = number == 0 || number == 11;
+        uint32_t r = planner_worth(kept.len == 0 ? NULL : kept.bytes, kept.len, steps, 0, level, 0, 0, 0, d,
+                                   len == 0 ? NULL : start, len);
+        expect(r == (fits || !yields ? number : 17), "number of a worth");
+        expect(marked_beside(&out, 0, fits ? sizeof answer : 0), "no byte beside a worth's answer is written");
+        expect(!fits || holds_bytes(&out, 0, answer, sizeof answer), "a worth's answer");
+        expect(memcmp(&kept, m, sizeof kept) == 0, "a worth leaves the model as it is");
+    }
+}
+
+static void worths(void)
+{
+    model m = pond("Hold            ");
+    worth_is(&m, 2, 20, 1, 0, 0, 2, 100, 0);
+    worth_is(&m, 2, 39, 2, 0, 0, 1, 100, 0);
+    worth_is(&m, 0, 20, 0, 9, 0, 0, 0, 0);
+    worth_is(&m, 9, 20, 0, 9, 0, 0, 0, 0);
+    worth_is(&m, 2, 20, 0, 13, 0, 0, 0, 0);
+    /* What is left counts: 10 is let out for 50 more, 9 and 19/2 stay. */
+    m = pond_ending();
+    worth_is(&m, 1, 10, 1, 0, 0, 2, 50, 0);
+    worth_is(&m, 1, 9, 1, 0, 0, 1, 9, 0);
+    worth_is(&m, 1, 19, 2, 0, 0, 1, 19, 0);
+    worth_is(&m, 2, 25, 1, 0, 0, 2, 105, 0);
+    worth_is(&m, 2, -5, 1, 0, 0, 1, (uint64_t)-5, -1);
+    worth_is(&m, 0, 20, 1, 9, 0, 0, 0, 0);
+    /* 2^62 is the first end worth beyond the limits. */
+    m = still(INT32_MIN);
+    worth_is(&m, 1, INT32_MIN + 1, 1, 0, 0, 1, ((uint64_t)1 << 62) - ((uint64_t)1 << 31), 0);
+    worth_is(&m, 1, INT32_MIN, 1, 11, 0, 0, 0, 0);
+    worth_is(&m, 8, INT32_MIN, 1, 11, 0, 0, 0, 0);
+}
+
 /* ---- models at fault, by every export that takes one */
 
 static void name_is(const model *m, uint32_t action, uint32_t number, uint32_t place, const char *name);
@@ -274,6 +345,7 @@ static void model_refused(const model *m, uint32_t number, uint32_t place)
     planner_judged judged = planner_validate(m->len == 0 ? NULL : m->bytes, m->len);
     expect(judged.number == number && judged.place == place, "a model judged");
     value_refused(&c, number, place);
+    worth_is(m, 2, 20, 0, number, place, 0, 0, 0);
     name_is(m, 0, number, place, "");
     listing_is(&c, number, place);
 }
@@ -312,6 +384,34 @@ static void models_refused(void)
     m = pond("Hold            ");
     command(&m, "\xff", 1);
     model_refused(&m, 8, (uint32_t)end + 1);
+}
+
+static void end_worths_refused(void)
+{
+    model m = pond_ending();
+    planner_judged judged = planner_validate(m.bytes, m.len);
+    expect(judged.number == 0 && judged.place == 0, "an end worth");
+    uint32_t end = (uint32_t)m.len - 1;
+    m.bytes[0] = 0x23;
+    model_refused(&m, 1, 0);
+    m.bytes[0] = 1;
+    m.len = end;
+    model_refused(&m, 2, end);
+    command(&m, "\x23\xff", 2);
+    model_refused(&m, 5, end);
+    m.len = end;
+    linear(&m, 0x10, 0, 0);
+    command(&m, "\x23\xff", 2);
+    model_refused(&m, 6, end + 21);
+    /* A next-step condition in it. */
+    m.len = 0;
+    command(&m, "\x01\x01\x01\x01\x0a", 5);
+    linear(&m, 0x10, 1, 0);
+    linear(&m, 0x10, 0, 0);
+    command(&m, "\x11\x05\x23\xff", 4);
+    model_refused(&m, 4, 49);
+    m.bytes[48] = 1;
+    model_refused(&m, 7, 50);
 }
 
 /* A model of 65,536 bytes is refused before it is read; one byte less is judged. */
@@ -454,7 +554,9 @@ int main(void)
     values_of_states_refused();
     values_of_nodes_refused();
     values_early_refused();
+    worths();
     models_refused();
+    end_worths_refused();
     long_models_refused();
     names();
     listings_written();

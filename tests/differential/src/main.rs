@@ -10,7 +10,7 @@ mod planner;
 mod planner;
 mod speed;
 
-use models::{damaged, deep, near_limit, pond, rain, random, staircases, Rng};
+use models::{damaged, deep, near_limit, pond, pond_kept, rain, rain_tanks_kept, random, staircases, Rng};
 use reference::{solve, validate, with_deep_stack, Outcome, State};
 use std::fmt::Debug;
 use std::time::Instant;
@@ -304,9 +304,11 @@ fn endurance_round(calls: &mut Calls, rng: &mut Rng, lent: &mut Tables) {
 fn large(calls: &mut Calls) {
     let cases = [
         ("pond", pond(), 8),
+        ("pond_kept", pond_kept(), 8),
         ("rain", rain(), 8),
         ("staircases", staircases(), 1),
         ("near_limit", near_limit(), 6),
+        ("rain_tanks_kept", rain_tanks_kept(), 4),
         ("deep", deep(), 4),
     ];
     for (name, model, horizon) in cases {

@@ -24,6 +24,17 @@ pub fn staircases() -> Vec<u8> {
 /// Two tanks, each with its own rain: hold, or let 30 out of the first, of which 20 reach the second, whose level is
 /// the reward. For horizon 6: about 6,000 nodes in stage 6, and a peak of about 58,000.
 pub fn near_limit() -> Vec<u8> {
+    two_rain_tanks().end()
+}
+
+/// The same, where 40 or more in the first tank are worth 120 at the end. For horizon 4: a peak of about 20,000.
+pub fn rain_tanks_kept() -> Vec<u8> {
+    let mut w = two_rain_tanks();
+    w.leaf([0; 4], 120).leaf([0; 4], 0).test([-1, 0, 0, 0], 40).end_worth();
+    w.end()
+}
+
+fn two_rain_tanks() -> Writer {
     let mut w = Writer::site(2, 2, 2, 10);
     let first = |w: &mut Writer, change| {
         w.leaf([1, 0, 0, 0], 10 + change).leaf([1, 0, 0, 0], change).condition(5);
@@ -47,7 +58,7 @@ pub fn near_limit() -> Vec<u8> {
     second(&mut w, 0);
     w.test([-1, 0, 0, 0], 30).next(2, 2);
     w.name(1, "Hold").name(2, "Release");
-    w.end()
+    w
 }
 
 /// Long paths with few nodes, for horizon 4 and N = 65,535. A value is 1 where a test fails and 0 at the end of the

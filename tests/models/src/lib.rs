@@ -3,7 +3,7 @@
 mod large;
 mod random;
 
-pub use large::{deep, long_listing, near_limit, staircases};
+pub use large::{deep, long_listing, near_limit, rain_tanks_kept, staircases};
 pub use random::{commands, damaged, random, Rng};
 
 /// Writes a model, command by command.
@@ -86,11 +86,11 @@ pub fn pond_ending(write: impl FnOnce(&mut Writer)) -> Vec<u8> {
     w.end()
 }
 
-/// The pond's water is wanted afterwards: 6 for each unit that is left, up to 20 of them. At 20 the pond is kept, which
-/// without the end worth is emptied.
+/// The pond's water is wanted afterwards: 20 of it or more are worth 120. At 20 the pond is held, which without the end
+/// worth is emptied.
 pub fn pond_kept() -> Vec<u8> {
     pond_ending(|w| {
-        w.leaf([0; 4], 120).leaf([6, 0, 0, 0], 0).test([-1, 0, 0, 0], 20);
+        w.leaf([0; 4], 120).leaf([0; 4], 0).test([-1, 0, 0, 0], 20);
     })
 }
 

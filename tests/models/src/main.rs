@@ -1,6 +1,8 @@
 //! Writes the models to a folder, and some random ones: `models FOLDER [COUNT [SEED]]`.
 
-use models::{damaged, deep, long_listing, near_limit, pond, rain, random, staircases, Rng};
+use models::{
+    damaged, deep, long_listing, near_limit, pond, pond_kept, rain, rain_tanks_kept, random, staircases, Rng,
+};
 use std::path::Path;
 
 fn main() -> std::io::Result<()> {
@@ -13,9 +15,11 @@ fn main() -> std::io::Result<()> {
     std::fs::create_dir_all(folder)?;
     let fixed = [
         ("pond", pond()),
+        ("pond_kept", pond_kept()),
         ("rain", rain()),
         ("staircases", staircases()),
         ("near_limit", near_limit()),
+        ("rain_tanks_kept", rain_tanks_kept()),
         ("deep", deep()),
         // With horizon 8, 65,536 bytes of text and one more.
         ("text_fits", long_listing(259)),

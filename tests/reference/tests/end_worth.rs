@@ -60,7 +60,7 @@ fn water_is_kept() {
         (reading.low, reading.action)
     };
     assert_eq!((read(&pond(), 2, 20), read(&pond(), 1, 10)), ((100, 2), (50, 2)));
-    assert_eq!((read(&pond_kept(), 2, 20), read(&pond_kept(), 1, 10)), ((120, 1), (60, 1)));
+    assert_eq!((read(&pond_kept(), 2, 20), read(&pond_kept(), 1, 10)), ((120, 1), (50, 2)));
     // Above 20 there is water to spare.
     assert_eq!((read(&pond_kept(), 2, 40), read(&pond_kept(), 1, 30)), ((220, 2), (170, 2)));
 }
