@@ -10,7 +10,7 @@ mod planner;
 mod planner;
 mod speed;
 
-use models::{damaged, deep, near_limit, pond, pond_kept, rain, rain_tanks_kept, random, staircases, Rng};
+use models::{damaged, deep, near_limit, pond, pond_kept, rain, rain_tanks_kept, random, staircases, steep_end, Rng};
 use reference::{solve, validate, with_deep_stack, Outcome, State};
 use std::fmt::Debug;
 use std::time::Instant;
@@ -306,6 +306,7 @@ fn large(calls: &mut Calls) {
         ("pond", pond(), 8),
         ("pond_kept", pond_kept(), 8),
         ("rain", rain(), 8),
+        ("steep_end", steep_end(), 1),
         ("staircases", staircases(), 1),
         ("near_limit", near_limit(), 6),
         ("rain_tanks_kept", rain_tanks_kept(), 4),

@@ -94,6 +94,13 @@ pub fn pond_kept() -> Vec<u8> {
     })
 }
 
+/// One action, its next level and the end worth −2³¹ × L1 each: stage 1 names 2⁶², which is beyond the limits.
+pub fn steep_end() -> Vec<u8> {
+    let mut w = Writer::site(1, 0, 1, 1);
+    w.leaf([0; 4], 0).reward(1).leaf([i32::MIN, 0, 0, 0], 0).next(1, 1).leaf([i32::MIN, 0, 0, 0], 0).end_worth();
+    w.end()
+}
+
 fn pond_commands() -> Writer {
     let mut w = Writer::site(1, 0, 2, 1);
     w.leaf([0; 4], 0).reward(1).leaf([1, 0, 0, 0], 0).next(1, 1);

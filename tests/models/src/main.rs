@@ -1,7 +1,7 @@
 //! Writes the models to a folder, and some random ones: `models FOLDER [COUNT [SEED]]`.
 
 use models::{
-    damaged, deep, long_listing, near_limit, pond, pond_kept, rain, rain_tanks_kept, random, staircases, Rng,
+    damaged, deep, long_listing, near_limit, pond, pond_kept, rain, rain_tanks_kept, random, staircases, steep_end, Rng,
 };
 use std::path::Path;
 
@@ -17,6 +17,7 @@ fn main() -> std::io::Result<()> {
         ("pond", pond()),
         ("pond_kept", pond_kept()),
         ("rain", rain()),
+        ("steep_end", steep_end()),
         ("staircases", staircases()),
         ("near_limit", near_limit()),
         ("rain_tanks_kept", rain_tanks_kept()),
