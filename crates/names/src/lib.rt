@@ -28,7 +28,7 @@ fn wide(x: u8) -> u32
 }
 
 // How long n bytes from an offset on are without the spaces at their end.
-fn trimmed_len(model: &[u8], from: usize, n: usize) -> usize
+pub fn trimmed_len(model: &[u8], from: usize, n: usize) -> usize
     requires { ⌜ from + n ≤ length (now model) ⌝ }
     ensures { λ r. ⌜ (r ≤ n) × (r ≡ trimmed (drop from (now (model .entry))) n) ⌝ }
 {

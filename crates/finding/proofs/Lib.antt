@@ -1,0 +1,4 @@
+-- Laws that several proofs cite.
+pub mod Pass
+pub mod Meeting
+pub mod Call
