@@ -18,6 +18,8 @@
  * 15       a stage word is 0
  * 16       action not 1 to A
  * 17       `out` or `text` is too short, or `place` past its end
+ * 18       no action carries the name
+ * 19       several actions carry the name
  */
 #ifndef PLANNER_H
 #define PLANNER_H
@@ -45,6 +47,7 @@ extern "C" {
 #define PLANNER_WORTH_BYTES ((size_t)24)
 #define PLANNER_NAME_BYTES ((size_t)24)
 #define PLANNER_LISTING_BYTES ((size_t)8)
+#define PLANNER_FIND_BYTES ((size_t)8)
 
 /* The stack that a thread needs to solve with so many nodes. Recursion goes down by node numbers: merging and choosing each
  * at most 2 levels a node deep, a substitution one level a node and the same again for the test that it replaces. The
@@ -74,6 +77,11 @@ uint32_t planner_worth(const uint8_t *model, size_t model_len, uint32_t steps, u
 /* An action's name without its trailing spaces, empty where it has none.
  * Answer: place u32, length u32, the name's bytes, zeros up to 16. */
 uint32_t planner_name(const uint8_t *model, size_t model_len, uint32_t action, uint8_t *out, size_t out_len);
+
+/* The action that carries a name, which may be any bytes of any length. Trailing spaces of it do not matter; leading and inner
+ * ones and capitals do. Nobody carries the empty name. Answer: place u32, action u32. */
+uint32_t planner_find(const uint8_t *model, size_t model_len, const uint8_t *name, size_t name_len,
+                      uint8_t *out, size_t out_len);
 
 /* The plan as text, written to `text` from `place` on. Answer: place u32 of a refusal, length u32 of what was written.
  * The length is cut to 32 bits; a table that planner_solve filled has a text far below that.

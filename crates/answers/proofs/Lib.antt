@@ -8,3 +8,4 @@ pub mod Named
 pub mod Listed
 pub mod Solved
 pub mod ReadBack
+pub mod Looked

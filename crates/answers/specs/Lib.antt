@@ -3,3 +3,4 @@ pub mod Answers
 pub mod Solving
 pub mod Reading
 pub mod Texts
+pub mod Finding

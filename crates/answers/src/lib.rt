@@ -8,6 +8,7 @@ ghost use Rattle.answers.specs.Answers.{short as short-of};
 
 pub mod reading; // reading.rt: a value's answer
 pub mod texts; // texts.rt: a name's answer
+pub mod lookup; // lookup.rt: the answer of an action found by its name
 
 // "17: buffer too short" yields to every refusal but 11 and 12.
 pub fn short(number: u32) -> u32
