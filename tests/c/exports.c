@@ -336,6 +336,7 @@ static void worths(void)
 
 static void name_is(const model *m, uint32_t action, uint32_t number, uint32_t place, const char *name);
 static void listing_is(const call *given, uint32_t number, uint32_t place);
+static void find_is(const model *m, const char *name, uint32_t number, uint32_t place, uint32_t action);
 
 static void model_refused(const model *m, uint32_t number, uint32_t place)
 {
@@ -347,6 +348,7 @@ static void model_refused(const model *m, uint32_t number, uint32_t place)
     value_refused(&c, number, place);
     worth_is(m, 2, 20, 0, number, place, 0, 0, 0);
     name_is(m, 0, number, place, "");
+    find_is(m, "", number, place, 0);
     listing_is(&c, number, place);
 }
 
@@ -426,6 +428,7 @@ static void long_models_refused(void)
            "a long model's value");
     expect(planner_listing(bytes, 65536, 0, c.nodes, WORDS, c.stages, 8, NULL, 0, 1, out, sizeof out) == 10,
            "a long model's listing");
+    expect(planner_find(bytes, 65536, NULL, 0, out, sizeof out) == 10, "a name in a long model");
     planner_judged judged = planner_validate(bytes, 65536);
     expect(judged.number == 10 && judged.place == 0, "a long model judged");
     expect(planner_name(bytes, 65535, 1, out, sizeof out) == 3, "a model of the greatest length");
@@ -469,6 +472,58 @@ static void names(void)
     name_is(&m, 1, 0, 0, "");
     m = pond("  two words     ");
     name_is(&m, 1, 0, 0, "  two words");
+}
+
+/* ---- find */
+
+static void find_is(const model *m, const char *name, uint32_t number, uint32_t place, uint32_t action)
+{
+    model kept = *m;
+    size_t name_len = strlen(name);
+    uint8_t sent[64];
+    lent out;
+    uint8_t answer[PLANNER_FIND_BYTES];
+    put(answer, place, 4);
+    put(answer + 4, action, 4);
+    for (size_t len = 0; len <= PLANNER_FIND_BYTES + 3; len++) {
+        uint8_t *start = lend(&out, len);
+        int fits = len >= PLANNER_FIND_BYTES;
+        memcpy(sent, name, name_len);
+        uint32_t r = planner_find(kept.len == 0 ? NULL : kept.bytes, kept.len, name_len == 0 ? NULL : sent, name_len,
+                                  len == 0 ? NULL : start, len);
+        expect(r == (fits || number != 0 ? number : 17), "number of an action found");
+        expect(marked_beside(&out, 0, fits ? sizeof answer : 0), "no byte beside a found action's answer is written");
+        expect(!fits || holds_bytes(&out, 0, answer, sizeof answer), "a found action's answer");
+        expect(memcmp(&kept, m, sizeof kept) == 0, "finding leaves the model as it is");
+        expect(memcmp(sent, name, name_len) == 0, "finding leaves the name as it is");
+    }
+}
+
+static void finds(void)
+{
+    model m = pond("Hold            ");
+    find_is(&m, "Hold", 0, 0, 1);
+    find_is(&m, "Hold   ", 0, 0, 1);
+    find_is(&m, "Hold                    ", 0, 0, 1);
+    find_is(&m, " Hold", 18, 0, 0);
+    find_is(&m, "hold", 18, 0, 0);
+    find_is(&m, "Hol", 18, 0, 0);
+    find_is(&m, "Hold Hold Hold Hold", 18, 0, 0);
+    find_is(&m, "Hold\x7f", 18, 0, 0);
+    find_is(&m, "", 18, 0, 0);
+    find_is(&m, "                    ", 18, 0, 0);
+    m.len--;
+    command(&m, "\x30\x02" "  two words     \xff", 19);
+    find_is(&m, "  two words ", 0, 0, 2);
+    find_is(&m, "two words", 18, 0, 0);
+    m.len -= 19;
+    command(&m, "\x30\x02" "Hold            \xff", 19);
+    find_is(&m, "Hold ", 19, 0, 0);
+    m = pond("                ");
+    find_is(&m, "", 18, 0, 0);
+    m = pond("sixteen letters!");
+    find_is(&m, "sixteen letters!", 0, 0, 1);
+    find_is(&m, "sixteen letters!!", 18, 0, 0);
 }
 
 /* ---- listing */
@@ -559,6 +614,7 @@ int main(void)
     end_worths_refused();
     long_models_refused();
     names();
+    finds();
     listings_written();
     listings_refused();
     printf("exports: %u checks\n", checks);

@@ -1,6 +1,6 @@
 //! What each C function has to return and to leave, by the second program.
 
-use reference::{listing, name, solve, value, worth, Outcome, Reading, Refusal, State};
+use reference::{find, listing, name, solve, value, worth, Outcome, Reading, Refusal, State};
 
 /// The answer's bytes, or 17 for a short `out`, where an earlier refusal keeps its number (decision 97).
 fn answer(number: u32, bytes: Vec<u8>, out: &mut [u8]) -> u32 {
@@ -83,4 +83,9 @@ pub fn listed(
         }
         Err(Refusal { number, place }) => answer(number, words(&[place, 0]), out),
     }
+}
+
+pub fn found(model: &[u8], name: &[u8], out: &mut [u8]) -> u32 {
+    let (number, place, action) = find(model, name).map_or_else(|r| (r.number, r.place, 0), |action| (0, 0, action));
+    answer(number, words(&[place, action]), out)
 }

@@ -1,5 +1,5 @@
 //! Compares every outcome of libplanner.a with the second program: numbers, places, peaks, all lent words, values,
-//! names, listings, plain working. See tests/README.md for the link line.
+//! names and actions found by them, listings, plain working. See tests/README.md for the link line.
 
 mod expected;
 mod meter;
@@ -23,7 +23,7 @@ differential time MODEL HORIZON         the time of both to solve the model of a
 
 /// What a call was made with, kept for the report of a difference.
 struct Calls {
-    by_number: [u64; 18],
+    by_number: [u64; 20],
     model: Vec<u8>,
     round: u64,
 }
@@ -147,6 +147,51 @@ fn compare_name(calls: &mut Calls, rng: &mut Rng, action: u32) {
     calls.count(number);
 }
 
+/// A name to send: one of the model's, as it stands or changed, or any bytes; with spaces behind it.
+fn any_name(rng: &mut Rng, model: &[u8]) -> Vec<u8> {
+    let actions = model.get(3).map_or(8, |&actions| actions.clamp(1, 8));
+    let action = rng.between(1, actions.into()) as u32;
+    let mut name = reference::name(model, action).map_or(Vec::new(), |name| name.to_vec());
+    let place = rng.below(name.len() + 1);
+    match rng.below(12) {
+        0 => {
+            let length = rng.pick(&[1, 3, 16, 17, 300]);
+            name = bytes(rng, length);
+        }
+        1 => name.clear(),
+        2 => name.truncate(place),
+        3 => name.insert(place, rng.pick(&[0x00, 0x1F, 0x7F, 0xA0, 0xFF])),
+        4 => name.insert(place, b' '),
+        5 if place < name.len() => name[place] ^= 0x20,
+        6 => name.extend(name.clone()),
+        7 => name = rng.pick(&[&b"A"[..], b" A", b"A B", b"a"]).to_vec(),
+        _ => {}
+    }
+    name.resize(name.len() + rng.pick(&[0, 0, 0, 1, 9, 70_000]), b' ');
+    name
+}
+
+/// Asking for the name of the action that is found gives the name sent, without its trailing spaces.
+fn compare_find(calls: &mut Calls, rng: &mut Rng) {
+    let model = calls.model.clone();
+    let name = any_name(rng, &model);
+    let mut out = out(rng, 8);
+    let mut ours = out.clone();
+    let number = planner::find(&model, &name, &mut out);
+    let our_number = expected::found(&model, &name, &mut ours);
+    calls.check("find", "number", &number, &our_number, &name);
+    calls.check("find", "answer", &out, &ours, &name);
+    calls.count(number);
+    if number == 0 {
+        let action = u32::from_le_bytes(out[4..8].try_into().expect("four bytes"));
+        let mut named = [0; 24];
+        calls.check("find and name", "number", &planner::name(&model, action, &mut named), &0, &name);
+        let length = u32::from_le_bytes(named[4..8].try_into().expect("four bytes")) as usize;
+        let spaces = vec![b' '; name.len() - length.min(name.len())];
+        calls.check("find and name", "name", &[&named[8..8 + length], &spaces].concat(), &name, &action);
+    }
+}
+
 fn compare_listing(calls: &mut Calls, rng: &mut Rng, tables: &Tables, horizon: u32) {
     let model = calls.model.clone();
     let length =
@@ -252,6 +297,9 @@ fn one_round(calls: &mut Calls, rng: &mut Rng) {
     for _ in 0..2 {
         let action = if rng.once_in(9) { rng.pick(&[0, 9, u32::MAX]) } else { rng.between(1, 8) as u32 };
         compare_name(calls, rng, action);
+    }
+    for _ in 0..4 {
+        compare_find(calls, rng);
     }
     let is_solved = solved.is_some();
     let mut tables = solved.unwrap_or_else(|| Tables::full_of_anything(rng, 80, 8, 0));
@@ -363,7 +411,7 @@ fn rounds(calls: &mut Calls, count: u64, seed: u64, mut round: impl FnMut(&mut C
 }
 
 fn compare(mode: &str, count: u64, seed: u64) {
-    let mut calls = Calls { by_number: [0; 18], model: Vec::new(), round: 0 };
+    let mut calls = Calls { by_number: [0; 20], model: Vec::new(), round: 0 };
     let start = Instant::now();
     let mut lent = Tables::full_of_anything(&mut Rng(seed), 8 * 2_000 + 3, 8, 8 * 2_000 + 5);
     match mode {

@@ -1,5 +1,5 @@
 //! Stands in for the library, so that the comparison can be built and tried without it. A fault can be asked for with
-//! PLANNER_FAULT=function (solve, value, name, worth or listing); the comparison has to find it.
+//! PLANNER_FAULT=function (solve, value, name, worth, listing or find); the comparison has to find it.
 
 use crate::expected;
 use reference::State;
@@ -46,4 +46,8 @@ pub fn listing(
     out: &mut [u8],
 ) -> u32 {
     spoil("listing", expected::listed(model, horizon, nodes, stages, text, place, out), out)
+}
+
+pub fn find(model: &[u8], name: &[u8], out: &mut [u8]) -> u32 {
+    spoil("find", expected::found(model, name, out), out)
 }

@@ -43,6 +43,14 @@ extern "C" {
         out_len: usize,
     ) -> u32;
     fn planner_name(model: *const u8, model_len: usize, action: u32, out: *mut u8, out_len: usize) -> u32;
+    fn planner_find(
+        model: *const u8,
+        model_len: usize,
+        name: *const u8,
+        name_len: usize,
+        out: *mut u8,
+        out_len: usize,
+    ) -> u32;
     #[rustfmt::skip]
     fn planner_worth(
         model: *const u8,
@@ -127,4 +135,9 @@ pub fn listing(
             text.as_mut_ptr(), text.len(), place, out.as_mut_ptr(), out.len(),
         )
     }
+}
+
+pub fn find(model: &[u8], name: &[u8], out: &mut [u8]) -> u32 {
+    // SAFETY: as said above.
+    unsafe { planner_find(model.as_ptr(), model.len(), name.as_ptr(), name.len(), out.as_mut_ptr(), out.len()) }
 }

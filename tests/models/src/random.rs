@@ -148,13 +148,23 @@ fn without_end_worth(rng: &mut Rng) -> (Shape, Vec<u8>) {
     for action in 1..=a {
         if rng.once_in(2) {
             writer.command(&[0x30, action]);
-            let letters = rng.below(17);
-            let name: Vec<u8> =
-                (0..16).map(|i| if i < letters { rng.between(0x20, 0x7E) as u8 } else { 0x20 }).collect();
-            writer.command(&name);
+            writer.command(&name(rng));
         }
     }
     (shape, writer.end())
+}
+
+/// A name's bytes: any letters, or one of a few, so that several actions have the same or nearly the same.
+fn name(rng: &mut Rng) -> [u8; 16] {
+    let mut name = [b' '; 16];
+    if rng.once_in(2) {
+        let letters = rng.below(17);
+        name[..letters].fill_with(|| rng.between(0x20, 0x7E) as u8);
+    } else {
+        let few = rng.pick(&[&b"A"[..], b"A", b" A", b"A B", b"a", b""]);
+        name[..few.len()].copy_from_slice(few);
+    }
+    name
 }
 
 fn diagram(rng: &mut Rng, writer: &mut Writer, shape: &Shape, kind: Kind, depth: usize) {

@@ -2,16 +2,18 @@
 //! reading, not proved. The numbers in brackets are those of the decisions.
 //!
 //! `model` reads and judges the bytes, `diagram` has the rules on diagrams and `unique` their hash tables, `solve` the
-//! operations of a solve, `read` the readers of tables, and `plain` works a state out from the written model, without
+//! operations of a solve, `read` the readers of tables, `find` an action by its name, and `plain` works a state out from the written model, without
 //! diagrams.
 
 pub mod diagram;
+pub mod find;
 pub mod model;
 pub mod plain;
 pub mod read;
 pub mod solve;
 mod unique;
 
+pub use find::find;
 pub use model::{validate, Model, Refusal, Site};
 pub use plain::worth;
 pub use read::{listing, name, program, value, Reading};

@@ -1,6 +1,6 @@
 //! A small command line over the second program.
 
-use reference::{name, program, solve, validate, value, with_deep_stack, worth, Reading, State};
+use reference::{find, name, program, solve, validate, value, with_deep_stack, worth, Reading, State};
 use std::str::FromStr;
 use std::time::Instant;
 
@@ -11,8 +11,9 @@ reference print INPUT
 reference value MODEL HORIZON STEPS MASK L1 L2 L3 L4 D
 reference worth MODEL STEPS MASK L1 L2 L3 L4 D
 reference name MODEL ACTION
+reference find MODEL NAME
 MODEL is a file, INPUT one with what the listing program reads. Each prints number and place first, and after a success
-solve: peak; value and worth: action, low word, high word; name: the name.
+solve: peak; value and worth: action, low word, high word; name: the name; find: the action.
 list and print print what the listing program prints.";
 
 fn number<T: FromStr>(args: &[String], place: usize) -> T {
@@ -81,6 +82,10 @@ fn run(args: &[String]) {
         "name" => match name(&model, number(args, 2)) {
             Ok(name) => println!("0 0 {}", String::from_utf8_lossy(name)),
             Err(refusal) => println!("{} {}", refusal.number, refusal.place),
+        },
+        "find" if args.len() == 3 => match find(&model, args[2].as_bytes()) {
+            Ok(action) => println!("0 0 {action}"),
+            Err(refusal) => println!("{} {} 0", refusal.number, refusal.place),
         },
         _ => usage(),
     }

@@ -1,7 +1,7 @@
 //! The cases that 01 and the decisions state.
 
 use models::{pond, rain, Writer};
-use reference::{listing, name, program, solve, validate, value, worth, Reading, State};
+use reference::{find, listing, name, program, solve, validate, value, worth, Reading, State};
 
 const POND_LISTING: &str = "PLAN 1 0 2 1 2
 N 1 V 0 0 0 0 50 2
@@ -102,4 +102,28 @@ fn readers_refuse() {
     assert_eq!(list(length + 3, 3).as_deref(), Ok(POND_LISTING));
     assert_eq!(list(length + 3, 4), Err(17));
     assert_eq!(list(length, usize::MAX), Err(17));
+}
+
+/// Actions 1 and 4 are `A`, 2 has no name, 3 is ` A`, 5 sixteen spaces, 6 sixteen letters.
+#[test]
+fn names_lead_back() {
+    let mut writer = Writer::site(1, 0, 6, 1);
+    for action in 1..=6 {
+        writer.leaf([0; 4], 0).reward(action).leaf([0; 4], 0).next(action, 1);
+    }
+    for (action, name) in [(4, b"A               "), (1, b"A               "), (3, b" A              ")] {
+        writer.command(&[0x30, action]).command(name);
+    }
+    writer.command(&[0x30, 5]).command(&[b' '; 16]);
+    writer.command(&[0x30, 6]).command(b"sixteen letters!");
+    let model = writer.end();
+    let found = |sent: &[u8]| find(&model, sent).map_err(|refusal| (refusal.number, refusal.place));
+    assert_eq!(found(b"A"), Err((19, 0)));
+    assert_eq!(found(b"A  "), Err((19, 0)));
+    assert_eq!(found(b" A "), Ok(3));
+    assert_eq!([found(b""), found(b"   "), found(b"a"), found(b"A\0")], [Err((18, 0)); 4]);
+    assert_eq!(found(b"sixteen letters!"), Ok(6));
+    assert_eq!(found(b"sixteen letters!                    "), Ok(6));
+    assert_eq!(found(b"sixteen letters!!"), Err((18, 0)));
+    assert_eq!(find(&model[..9], b"A").unwrap_err().number, 2);
 }
