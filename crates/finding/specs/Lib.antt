@@ -2,6 +2,9 @@
 pub mod Find
 pub mod Statements
 pub mod Tally
+-- ---- examples
+
+pub mod Examples
 -- ---- laws
 
 pub mod laws
