@@ -1,18 +1,33 @@
 -- "Diagrams", second part: the rules, each defined once, as a computation.
-use mathlib.Core.Bool.{Bool, true, false}
+use mathlib.Core.Bool.{Bool, true, false, _&&_}
 use mathlib.Core.List.{List, [], _∷_}
 use Prim.Native.Nat.{ℕ, zero, suc, Ordering·lt, Ordering·eq, Ordering·gt}
-use lib.Dec.{eqb}
+use lib.Dec.{eqb, isEq}
 use lib.IntN.{ℤ, pos, _-ℤ_}
-use lib.Signed.{leZ}
+use lib.Signed.{leZ, ltZ}
 use Rattle.whole.specs.Cases.{if}
 use Rattle.theory.specs.Widths.{levels-most}
-use Rattle.theory.specs.Diagram.{Linear, Test, now, later, linear, Leaf, Tree, leaf, branch, plain, cmp, same, _⊞_, _⊠_, _⊟_, plus-constant, zeros, test-of}
+use Rattle.theory.specs.Diagram.{Linear, Test, now, later, linear, Leaf, Tree, leaf, branch, plain, cmpList, cmp, same, _⊞_, _⊠_, _⊟_, plus-constant, zeros, test-of}
 use Rattle.theory.specs.Computation.{Comp, ret, named, bind, make, judge, both}
 
--- "A node whose branches are equal is that branch."
+-- ---- making a node
+
+-- "a later test with the same coefficients and a larger constant": the second is parallel to the first
+unfoldable pub parallel : Test → Test → Bool
+parallel (now i) u = false
+parallel (later i) u = false
+parallel (linear p) (now j) = false
+parallel (linear p) (later j) = false
+parallel (linear p) (linear q) = isEq (cmpList (p .coeffs) (q .coeffs)) && ltZ (p .const) (q .const)
+
+-- "replaces a low branch that begins so by that branch's own low side, as often as it applies"
+unfoldable pub narrowed : Test → Tree → Tree
+narrowed t (leaf f) = leaf f
+narrowed t (branch u h l) = if (parallel t u) (narrowed t l) (branch u h l)
+
+-- "Making a node now first replaces a low branch": then "A node whose branches are equal is that branch."
 unfoldable pub node : Test → Tree → Tree → Comp Tree
-node t h l = if (same h l) (ret h) (make (branch t h l))
+node t h l = if (same h (narrowed t l)) (ret h) (make (branch t h (narrowed t l)))
 
 -- ---- by the first root
 

@@ -11,7 +11,7 @@ use Rattle.whole.specs.Cases.{if, by-test, by-order, both, and-in, is-true, fro
 use Rattle.theory.specs.Diagram.{Linear, Test, now, later, linear, Leaf, Tree, leaf, branch, plain, cmp, same, _⊟_, zeros, test-of}
 use Rattle.theory.specs.Computation.{Comp, ret, named, bind, result, make, names, judge, member, enter, enter-all}
 use Rattle.theory.specs.Computation as C
-use Rattle.theory.specs.Rules.{node, step, choose, over, merge, make-leaf, leaf-sum, leaf-product, leaf-scale, leaf-shift, leaf-complement, leaf-number, decide, leaf-best, sum, product, scale, shift, complement, number, best, zero-leaf, sum-on, levels-sum, linear-diagram, substitute, is-later, side, expectation, add-reward}
+use Rattle.theory.specs.Rules.{parallel, narrowed, node, step, choose, over, merge, make-leaf, leaf-sum, leaf-product, leaf-scale, leaf-shift, leaf-complement, leaf-number, decide, leaf-best, sum, product, scale, shift, complement, number, best, zero-leaf, sum-on, levels-sum, linear-diagram, substitute, is-later, side, expectation, add-reward}
 use Rattle.theory.specs.Events.{Event, makes, events, needed, inside, all-inside}
 use Rattle.theory.specs.Events as E
 use Rattle.theory.specs.laws.Comps.{result-bind, member-more, member-cases, member-last, with-made, with-made-more, with-made-in}
@@ -241,9 +241,17 @@ judge-built p b = names-built (p .coeffs) (named-built (p .const) b)
 
 -- ---- by the first root
 
+-- what a low branch is replaced by stands below it
+narrowed-inside : (t : Test) (l : Tree) (X : List Tree) → T (inside l X) → T (inside (narrowed t l) X)
+unfolding narrowed
+narrowed-inside t (leaf f) X i = i
+narrowed-inside t (branch u h l) X i = by-test (parallel t u) (λ b. T (inside (if b (narrowed t l) (branch u h l)) X)) (λ _. narrowed-inside t l X (inside-parts u h l X i .1 .1)) (λ _. i)
+
 pub node-built : (t : Test) → Keeps (node t)
 unfolding node
-node-built t X h l a b = by-test (same h l) (λ s. Built X (elim s [ true ↦ ret h | false ↦ make (branch t h l) ])) (λ _. ret-built X h a) (λ _. branch-built X t h l a b)
+node-built t X h l a b =
+    let k = narrowed t l in
+    by-test (same h k) (λ s. Built X (elim s [ true ↦ ret h | false ↦ make (branch t h k) ])) (λ _. ret-built X h a) (λ _. branch-built X t h k a (narrowed-inside t l X b))
 
 module _ (mk : Test → Tree → Tree → Comp Tree) (keeps : (t : Test) → Keeps (mk t)) where
   module _ (t : Test) (f g : Tree → Comp Tree) (X : List Tree) (fs : Sends X f) (gs : Sends X g) where

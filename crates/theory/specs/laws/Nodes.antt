@@ -10,7 +10,7 @@ use Rattle.theory.specs.Widths.{levels-most}
 use Rattle.theory.specs.Diagram.{Linear, Test, now, later, linear, Leaf, Tree, leaf, branch, plain, cmp, same, _⊞_, _⊠_, _⊟_, plus-constant, zeros, test-of}
 use Rattle.theory.specs.Computation.{Comp, ret, make}
 use Rattle.theory.specs.Computation as C
-use Rattle.theory.specs.Rules.{node, step, choose, over, merge, make-leaf, leaf-sum, leaf-product, leaf-scale, leaf-shift, leaf-complement, leaf-number, decide, leaf-best, sum, product, scale, shift, complement, number, best, no-coeffs, zero-leaf, sum-on, levels-sum, linear-diagram, substitute, is-later, side, expectation, add-reward}
+use Rattle.theory.specs.Rules.{parallel, narrowed, node, step, choose, over, merge, make-leaf, leaf-sum, leaf-product, leaf-scale, leaf-shift, leaf-complement, leaf-number, decide, leaf-best, sum, product, scale, shift, complement, number, best, no-coeffs, zero-leaf, sum-on, levels-sum, linear-diagram, substitute, is-later, side, expectation, add-reward}
 use Rattle.theory.specs.Valid.{all, all-nodes}
 use Rattle.theory.specs.laws.Safe.{Safe, safe-ret, safe-named, safe-make, safe-bind, safe-both, safe-judge, any}
 
@@ -64,10 +64,18 @@ module _ (s? : ℤ → Bool) (t? : Test → Bool) where
     abbrev Sends : (Leaf → Bool) → (Tree → Comp Tree) → Type 0
     Sends i? f = (G : Tree) → Good t? i? G → Safe s? (Good t? r?) (f G)
 
+    -- what a low branch is replaced by is a part of it
+    pub narrowed-good : (t : Test) (l : Tree) → Good t? r? l → Good t? r? (narrowed t l)
+    unfolding narrowed
+    narrowed-good t (leaf f) a = a
+    narrowed-good t (branch u h l) a = by-test (parallel t u) (λ b. Good t? r? (if b (narrowed t l) (branch u h l))) (λ _. narrowed-good t l (parts t? r? u h l a .1 .1)) (λ _. a)
+
     pub node-safe : Keeps node
     unfolding node
-    node-safe t h l a b c = by-test (same h l) (λ s. Safe s? (Good t? r?) (elim s [ true ↦ ret h | false ↦ make (branch t h l) ]))
-        (λ _. safe-ret b) (λ _. safe-make (branch t h l) (branch-good t? r? t h l a b c))
+    node-safe t h l a b c =
+        let k = narrowed t l in
+        by-test (same h k) (λ s. Safe s? (Good t? r?) (elim s [ true ↦ ret h | false ↦ make (branch t h k) ]))
+        (λ _. safe-ret b) (λ _. safe-make (branch t h k) (branch-good t? r? t h k a b (narrowed-good t l c)))
 
     both-safe : (mk : Test → Tree → Tree → Comp Tree) → Keeps mk → (t : Test) (m₁ m₂ : Comp Tree) → T (t? t) → Safe s? (Good t? r?) m₁ → Safe s? (Good t? r?) m₂
         → Safe s? (Good t? r?) (C.both (mk t) m₁ m₂)

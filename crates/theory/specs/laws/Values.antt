@@ -7,18 +7,18 @@ use native.Mathlib.Omega.{arith}
 use native.Mathlib.Nat.{mul-le-mul-right, le-of-mul-le-mul-right}
 use lib.Dec.{T, isEq}
 use lib.IntN.{ℤ, pos, negsuc, _+ℤ_, _-ℤ_, _*ℤ_, +ℤ-idl, *ℤ-comm, natAbs}
-use lib.Signed.{_≤ℤ_, leZ, leZ-yes}
-use Rattle.whole.specs.Cases.{if, by-test, by-order, both, same-bool}
-use Rattle.whole.specs.Int.{atom, up, down, diff, ring, le-in, minus-one}
+use lib.Signed.{_≤ℤ_, leZ, leZ-yes, ltZ, ltZ-yes, clashℤ}
+use Rattle.whole.specs.Cases.{if, by-test, by-eq, by-order, both, same-bool, is-true, clash}
+use Rattle.whole.specs.Int.{atom, up, down, diff, ring, le-in, minus-one, not-le}
 use Rattle.whole.specs.Divisor.{gcdOf, gcd-all, at-least-one, Divides, gcd-left, gcd-right, divides-trans, least-divides, least-positive, quot-exact}
-use Rattle.theory.specs.Diagram.{Linear, Test, Leaf, Tree, leaf, branch, plain, cmpZ, cmp, same, addL, scaleL, _⊞_, _⊠_, _⊟_, plus-constant, zeros, quotL, quotient, divisor, test-of}
+use Rattle.theory.specs.Diagram.{Linear, Test, now, later, linear, Leaf, Tree, leaf, branch, plain, cmpZ, cmpList, cmp, same, addL, scaleL, _⊞_, _⊠_, _⊟_, plus-constant, zeros, quotL, quotient, divisor, test-of}
 use Rattle.theory.specs.Computation.{Comp, ret, make, result}
 use Rattle.theory.specs.Computation as C
-use Rattle.theory.specs.Rules.{node, step, choose, over, merge, make-leaf, leaf-sum, leaf-product, leaf-scale, leaf-shift, leaf-complement, leaf-number, decide, leaf-best, sum}
+use Rattle.theory.specs.Rules.{parallel, narrowed, node, step, choose, over, merge, make-leaf, leaf-sum, leaf-product, leaf-scale, leaf-shift, leaf-complement, leaf-number, decide, leaf-best, sum}
 use Rattle.theory.specs.Rules.{product, scale, shift, complement, number, best}
 use Rattle.theory.specs.Meaning.{Env, dot, value, holds, at, worth-at}
 use Rattle.theory.specs.Process.{maxZ}
-use Rattle.theory.specs.laws.Comps.{cmpZ-eq, cmp-eq, same-eq, result-both, result-judge}
+use Rattle.theory.specs.laws.Comps.{cmpZ-eq, cmpList-eq, cmp-eq, same-eq, result-both, result-judge}
 
 -- ---- numbers
 
@@ -42,6 +42,17 @@ less-sub a b = same-bool _ _ (λ t. there (leZ-yes t) .le) (λ t. back (leZ-yes 
 
     back : a ≤ℤ b → (a -ℤ b) ≤ℤ pos 0
     back h = rw (← atom a, ← atom b) (simp diff (omega (arith, le-in)))
+
+less-le : (a b : ℤ) → T (ltZ a b) → a ≤ℤ b
+less-le a b t = leZ-yes (by-test (leZ a b) T (λ _. tt) (λ n. clashℤ (ltZ-yes t) (not-le a b n)))
+
+-- above zero with one constant, and so with a larger one
+above-zero : (x c d : ℤ) (n : ℕ) → leZ (x +ℤ c *ℤ pos n) (pos 0) ≡ false → c ≤ℤ d → leZ (x +ℤ d *ℤ pos n) (pos 0) ≡ false
+above-zero x c d n h k = by-test (leZ (x +ℤ d *ℤ pos n) (pos 0)) (λ b. b ≡ false)
+    (λ t. clash (sym (is-true _ (below (leZ-yes t) .le)) ∙ h)) (λ _. refl)
+  where
+    below : (x +ℤ d *ℤ pos n) ≤ℤ pos 0 → (x +ℤ c *ℤ pos n) ≤ℤ pos 0
+    below t = rw (← atom x, ← atom c) (simp diff (omega (arith, mul-le-mul-right n (le-in c d k), simp diff at (rw (← atom x, ← atom d) at t))))
 
 quotL-exact : (g : ℕ) → 0 < g → (l : List ℤ) → Divides g (gcd-all l) → scaleL (pos g) (quotL g l) ≡ l
 unfolding scaleL quotL gcd-all
@@ -75,12 +86,34 @@ module _ (e : Env) where
   abbrev pub Makes : (Test → Tree → Tree → Comp Tree) → Type 0
   Makes mk = (t : Test) (h l : Tree) → At (mk t h l) ≡ if (holds e t) (at e h) (at e l)
 
+  -- "On the low side of a test, a later test with the same coefficients and a larger constant is never true."
+  pub parallel-fails : (t u : Test) → T (parallel t u) → holds e t ≡ false → holds e u ≡ false
+  unfolding parallel holds value
+  parallel-fails (now i) u q f = absurd q
+  parallel-fails (later i) u q f = absurd q
+  parallel-fails (linear p) (now j) q f = absurd q
+  parallel-fails (linear p) (later j) q f = absurd q
+  parallel-fails (linear p) (linear r) q f =
+      let d = both (isEq (cmpList (p .coeffs) (r .coeffs))) (ltZ (p .const) (r .const)) q in
+      ap (λ (l : List ℤ). leZ (dot l (e .nums) +ℤ (r .const) *ℤ pos (e .den)) (pos 0)) (sym (cmpList-eq (p .coeffs) (r .coeffs) (d .0)))
+      ∙ above-zero (dot (p .coeffs) (e .nums)) (p .const) (r .const) (e .den) f (less-le (p .const) (r .const) (d .1))
+
+  -- where the test fails, the low branch and what it is replaced by agree
+  narrowed-at : (t : Test) (l : Tree) → holds e t ≡ false → at e (narrowed t l) ≡ at e l
+  unfolding narrowed at
+  narrowed-at t (leaf f) q = refl
+  narrowed-at t (branch u h l) q = by-test (parallel t u) (λ b. at e (if b (narrowed t l) (branch u h l)) ≡ if (holds e u) (at e h) (at e l))
+      (λ s. narrowed-at t l q ∙ ap (λ (b : Bool). if b (at e h) (at e l)) (sym (parallel-fails t u s q))) (λ _. refl)
+
   pub node-at : Makes node
   unfolding node at result make
-  node-at t h l = by-test (same h l)
-      (λ b. at e (result (elim b [ true ↦ ret h | false ↦ make (branch t h l) ])) ≡ if (holds e t) (at e h) (at e l))
-      (λ s. by-test (holds e t) (λ b. at e h ≡ if b (at e h) (at e l)) (λ _. refl) (λ _. ap (at e) (same-eq h l s)))
-      (λ _. refl)
+  node-at t h l =
+      let k = narrowed t l in
+      let m : Bool → Comp Tree = λ b. elim b [ true ↦ ret h | false ↦ make (branch t h k) ] in
+      by-eq (holds e t) (λ b. at e (result (m (same h k))) ≡ if b (at e h) (at e l))
+      (λ q. by-test (same h k) (λ b. at e (result (m b)) ≡ at e h) (λ _. refl) (λ _. ap (λ (b : Bool). if b (at e h) (at e k)) q))
+      (λ q. by-test (same h k) (λ b. at e (result (m b)) ≡ at e l) (λ s. ap (at e) (same-eq h k s) ∙ narrowed-at t l q)
+      (λ _. ap (λ (b : Bool). if b (at e h) (at e k)) q ∙ narrowed-at t l q))
 
   pub both-at : (mk : Test → Tree → Tree → Comp Tree) → Makes mk → (t : Test) (m₁ m₂ : Comp Tree) → At (C.both (mk t) m₁ m₂) ≡ if (holds e t) (At m₁) (At m₂)
   both-at mk m t m₁ m₂ = ap (at e) (result-both (mk t) m₁ m₂) ∙ m t (result m₁) (result m₂)
