@@ -6,6 +6,7 @@ pub mod Interning
 pub mod Joining
 pub mod Caching
 pub mod Ordered
+pub mod Parallels
 pub mod Stepping
 pub mod Going
 pub mod Judging

@@ -1,5 +1,5 @@
--- The order of tests, the test of a choice, and the sides of two nodes, as functions of their words.
-use mathlib.Core.Bool.{false}
+-- The order of tests, parallel tests, the test of a choice, and the sides of two nodes, as functions of their words.
+use mathlib.Core.Bool.{Bool, false, _&&_}
 use mathlib.Core.List.{List, _∷_}
 use Prim.Native.Nat.{ℕ, _+_, _*_, _≤_, Ordering}
 use mathlib.Core.Path.{_≡_}
@@ -12,8 +12,9 @@ unfoldable pub use Rattle.whole.specs.Linears.{ordNum}
 use Rattle.table.specs.Table.{node-words, nodeAt, eqZ}
 use Rattle.table.specs.declared.Node.{Node}
 use Rattle.theory.specs.Widths.{levels-most, conditions-most}
-use Rattle.theory.specs.Diagram.{then, cmpZ, cmpList}
-use Rattle.diagrams.specs.Nodes.{Nums}
+use Rattle.theory.specs.Diagram.{linear, then, cmpZ, cmpList}
+use Rattle.theory.specs.Rules.{parallel}
+use Rattle.diagrams.specs.Nodes.{linOf, Nums}
 use Rattle.diagrams.specs.declared.Sides.{Sides}
 use Rattle.diagrams.specs.declared.Down.{Down}
 
@@ -21,6 +22,10 @@ use Rattle.diagrams.specs.declared.Down.{Down}
 
 unfoldable pub orderOf : Node → Node → Ordering
 orderOf x y = then (cmpZ (x .kind) (y .kind)) (cmpList (x .n) (y .n))
+
+-- both are linear tests, and y is parallel to x
+unfoldable pub parallelOf : Node → Node → Bool
+parallelOf x y = eqZ (x .kind) (pos 2) && (eqZ (y .kind) (pos 2) && parallel (linear (linOf x)) (linear (linOf y)))
 
 -- ---- the test of a choice, as a node's words
 

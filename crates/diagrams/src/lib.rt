@@ -1,5 +1,6 @@
 // Diagrams in a node table: the unique table's nodes read as trees.
 pub mod tests; // tests.rt: numbers and tests compared, the test that a choice is given, what lies below a node
+pub mod narrowing; // narrowing.rt: what a low branch is replaced by
 pub mod making; // making.rt: nodes looked up or made
 pub mod codes; // codes.rt: the rules' numbers
 

@@ -7,6 +7,7 @@ ghost use Rattle.theory.specs.Rules.{node, make-leaf};
 ghost use Rattle.theory.specs.Valid.{small-linear};
 ghost use Rattle.diagrams.specs.Nodes.{linOf, testOf, treeOf, trees, treeAt, Valid, Proper, Root, Plain};
 ghost use Rattle.diagrams.specs.Table.{Bare, Grew};
+use super::narrowing::narrowed;
 use table::Made;
 use table::Node;
 
@@ -18,7 +19,7 @@ pub fn intern(nodes: &mut [i64], work: &mut [u32], cap: usize, count: usize, x: 
     unique::find_or_make(nodes, work, cap, count, x)
 }
 
-// A node of t's test over two branches, or the branch where they are one.
+// A node of t's test over two branches, the low one replaced first, or the branch where they are one.
 pub fn join_test(
     nodes: &mut [i64],
     work: &mut [u32],
@@ -31,7 +32,8 @@ pub fn join_test(
     requires { ⌜ Bare cap (now nodes) (now work) count × Proper t × (h < count) × (l < count) ⌝ }
     ensures { λ r. ⌜ Grew cap (now (nodes .entry)) (now (work .entry)) count (node (testOf t) (treeAt (now (nodes .entry)) count h) (treeAt (now (nodes .entry)) count l)) (now (nodes .exit)) (now (work .exit)) r ⌝ }
 {
-    if h == l {
+    let k = narrowed(nodes, count, t, l);
+    if h == k {
         return Made {
             stop: 0,
             at: h,
@@ -43,7 +45,7 @@ pub fn join_test(
         kind: t.kind,
         n,
         high: h as i64,
-        low: l as i64,
+        low: k as i64,
     };
     intern(nodes, work, cap, count, x)
 }
