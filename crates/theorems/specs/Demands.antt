@@ -167,7 +167,7 @@ abbrev pub TestsDivided : Type 0
 TestsDivided = (p : Linear) → (T (zeros (p .coeffs)) → ⊥)
     → (g : ℕ) × ((q : Linear) × ((test-of p ≡ linear q) × ((pos g ⊠ q ≡ p) × (DividesAll g p × ((k : ℕ) → DividesAll k p → Divides k g)))))
 
--- "Down a path the order rises strictly .. A node whose branches are equal is that branch": of each diagram that is loaded, and of each stage
+-- "Down a path the order rises strictly .. A node whose branches are equal is that branch", and no low branch is parallel to its node: of each diagram that is loaded, and of each stage
 abbrev pub LoadedOrdered : Type 0
 LoadedOrdered = (B : List ℕ) → ModelOrdered (model B)
 

@@ -27,7 +27,7 @@ use Rattle.theory.specs.Listing as Listing
 
 -- one name that unfolds all that the cases compute with
 unfoldable definitions : Unit {0}
-unfolding Divisor.gcdBy Divisor.gcdOf Divisor.gcd-all Divisor.at-least-one Within.small Numerator.number Numerator.words Diagram.cmpList Diagram.cmpLinear Diagram.cmp Diagram.same-leaf Diagram.same Diagram.addL Diagram.scaleL Diagram._⊞_ Diagram._⊠_ Diagram._⊟_ Diagram.plus-constant Diagram.zeros Diagram.quotL Diagram.quotient Diagram.divisor Diagram.test-of Computation.bind Computation.result Computation.make Computation.names Computation.judge Computation.both Computation.member Computation.run Computation.enter Computation.enter-all Computation.and-then Computation.final Computation.run-all Rules.node Rules.step Rules.choose Rules.over Rules.merge Rules.make-leaf Rules.leaf-sum Rules.leaf-product Rules.leaf-scale Rules.leaf-shift Rules.leaf-complement Rules.leaf-number Rules.decide Rules.leaf-best Rules.sum Rules.product Rules.scale Rules.shift Rules.complement Rules.number Rules.best Rules.no-coeffs Rules.zero-leaf Rules.sum-on Rules.levels-sum Rules.linear-diagram Rules.substitute Rules.is-later Rules.side Rules.expectation Rules.add-reward Process.mean Process.maxZ Process.greatest-from Process.first-best Process.total Process.optimum Process.lowest-best Meaning.nth-action Meaning.action-at Meaning.numbers-from Meaning.nth Meaning.env Meaning.dot Meaning.value Meaning.holds Meaning.at Meaning.worth-at Meaning.end-at Meaning.doubled Meaning.settings Meaning.chance-at Meaning.weight Meaning.moved Meaning.process Stage.all-diagrams Stage.model-diagrams Stage.sum-out Stage.action-total Stage.best-on Stage.stage-over Stage.stages-on Stage.stages-over-end Stage.all-stages Valid.all Valid.among Valid.small-linear Command.width Command.word-at Command.signed Command.signed-from Command.linear-at Command.command-at Command.read-at Command.goes-on Command.readings-from Command.readings Verdict.same-slot Verdict.has-slot Verdict.first-broken Verdict.beyond Verdict.next-condition Verdict.printable Verdict.is-weight Verdict.of-site Verdict.may-be Verdict.joined Verdict.from-to Verdict.wanted-by Verdict.wanted Verdict.site-rules Verdict.first-rules Verdict.later-rules Verdict.rules-of Verdict.after Verdict.ended Verdict.judged Verdict.verdict Load.condition-test Load.load-choice-with Load.load-entry Load.load-one-with Load.load-on-with Load.find-slot Load.found Load.action-of Load.model-of Load.site-at Load.load-with Load.model Solve.room Solve.solve-in Solve.number-of Solve.padded Solve.test-words Solve.row Solve.rows Solve.table-of Solve.solved-nodes Solve.solved-stages Solve.solve-left Solve.early Solve.solve Value.accepted Value.bits Value.state-of Value.node-linear Value.amongZ Value.good-branches Value.good-leaf-row Value.good-condition-row Value.good-test-row Value.good-row Value.numerator-of Value.taken Value.walk Value.value-at Value.value-of Plain.judged Plain.in-32-bits Plain.sum-settings Plain.action-worth Plain.better Plain.try-actions Plain.numbered Plain.state-worth Plain.worth-out Plain.if-true Plain.plain-of Name.names-action Name.trimmed Name.named-part Name.name-refusal Name.name-part Name.name Listing.digits Listing.spaced Listing.spaced-all Listing.first-line Listing.node-line Listing.stage-line Listing.lines Listing.greatest-root Listing.text Listing.refusal-line Listing.written Listing.listing-refusal Listing.listing
+unfolding Divisor.gcdBy Divisor.gcdOf Divisor.gcd-all Divisor.at-least-one Within.small Numerator.number Numerator.words Diagram.cmpList Diagram.cmpLinear Diagram.cmp Diagram.same-leaf Diagram.same Diagram.addL Diagram.scaleL Diagram._⊞_ Diagram._⊠_ Diagram._⊟_ Diagram.plus-constant Diagram.zeros Diagram.quotL Diagram.quotient Diagram.divisor Diagram.test-of Computation.bind Computation.result Computation.make Computation.names Computation.judge Computation.both Computation.member Computation.run Computation.enter Computation.enter-all Computation.and-then Computation.final Computation.run-all Rules.parallel Rules.narrowed Rules.node Rules.step Rules.choose Rules.over Rules.merge Rules.make-leaf Rules.leaf-sum Rules.leaf-product Rules.leaf-scale Rules.leaf-shift Rules.leaf-complement Rules.leaf-number Rules.decide Rules.leaf-best Rules.sum Rules.product Rules.scale Rules.shift Rules.complement Rules.number Rules.best Rules.no-coeffs Rules.zero-leaf Rules.sum-on Rules.levels-sum Rules.linear-diagram Rules.substitute Rules.is-later Rules.side Rules.expectation Rules.add-reward Process.mean Process.maxZ Process.greatest-from Process.first-best Process.total Process.optimum Process.lowest-best Meaning.nth-action Meaning.action-at Meaning.numbers-from Meaning.nth Meaning.env Meaning.dot Meaning.value Meaning.holds Meaning.at Meaning.worth-at Meaning.end-at Meaning.doubled Meaning.settings Meaning.chance-at Meaning.weight Meaning.moved Meaning.process Stage.all-diagrams Stage.model-diagrams Stage.sum-out Stage.action-total Stage.best-on Stage.stage-over Stage.stages-on Stage.stages-over-end Stage.all-stages Valid.all Valid.among Valid.small-linear Command.width Command.word-at Command.signed Command.signed-from Command.linear-at Command.command-at Command.read-at Command.goes-on Command.readings-from Command.readings Verdict.same-slot Verdict.has-slot Verdict.first-broken Verdict.beyond Verdict.next-condition Verdict.printable Verdict.is-weight Verdict.of-site Verdict.may-be Verdict.joined Verdict.from-to Verdict.wanted-by Verdict.wanted Verdict.site-rules Verdict.first-rules Verdict.later-rules Verdict.rules-of Verdict.after Verdict.ended Verdict.judged Verdict.verdict Load.condition-test Load.load-choice-with Load.load-entry Load.load-one-with Load.load-on-with Load.find-slot Load.found Load.action-of Load.model-of Load.site-at Load.load-with Load.model Solve.room Solve.solve-in Solve.number-of Solve.padded Solve.test-words Solve.row Solve.rows Solve.table-of Solve.solved-nodes Solve.solved-stages Solve.solve-left Solve.early Solve.solve Value.accepted Value.bits Value.state-of Value.node-linear Value.amongZ Value.good-branches Value.good-leaf-row Value.good-condition-row Value.good-test-row Value.good-row Value.numerator-of Value.taken Value.walk Value.value-at Value.value-of Plain.judged Plain.in-32-bits Plain.sum-settings Plain.action-worth Plain.better Plain.try-actions Plain.numbered Plain.state-worth Plain.worth-out Plain.if-true Plain.plain-of Name.names-action Name.trimmed Name.named-part Name.name-refusal Name.name-part Name.name Listing.digits Listing.spaced Listing.spaced-all Listing.first-line Listing.node-line Listing.stage-line Listing.lines Listing.greatest-root Listing.text Listing.refusal-line Listing.written Listing.listing-refusal Listing.listing
 definitions = tt
 
 -- ---- models as bytes
@@ -118,8 +118,8 @@ abbrev pub pond-end : List ℕ
 pond-end = take (length pond - 1) pond ++ ((0x10 ∷ linear₁ (pos 1) (pos 0)) ++ (0x23 ∷ 0xff ∷ []))
 
 -- its peak at horizon 2; at stage 1, L1 + 40 with action 2 from 10 on and L1 with action 1 below it; given twice it is refused with 6
-pub pond-ended : T (let o = solved pond-end 2 25 in
-    eqb (o .peak) 25 && (eqb (solved pond-end 2 24 .number) 12
+pub pond-ended : T (let o = solved pond-end 2 24 in
+    eqb (o .peak) 24 && (eqb (solved pond-end 2 23 .number) 12
     && (row pond-end o 1 (pos 10) 1 one 50 2 && (row pond-end o 1 (pos 9) 1 one 9 1 && (row pond-end o 1 (pos 39) 2 two 119 2 && (row pond-end o 2 (pos 20) 1 one 100 2
     && (isEq (Diagram.cmpZ (Process.optimum (Meaning.process (Load.model pond-end)) 0 (state 0 (pos 7) 1 one)) (pos 7))
     && eqb (Verdict.verdict (take (length pond-end - 1) pond-end ++ ((0x10 ∷ linear₁ (pos 1) (pos 0)) ++ (0x23 ∷ 0xff ∷ []))) .number) 6)))))))
@@ -163,3 +163,24 @@ pub pond-listed : T (let o = solved pond 2 21 in
     eqb (l .number) 0 && same-bytes (l .buffer) (replicate 3 7 ++ (pond-listing ++ replicate (397 - length pond-listing) 7)))
 unfolding definitions same-bytes
 pond-listed = tt
+
+-- K4: m 1, n 0, A 2, both next levels L1, rewards (L1 + 4 ≤ 0 ? 10 : 5) and (L1 + 3 ≤ 0 ? 1 : 0)
+abbrev pub idle : List ℕ
+idle =
+    (0x01 ∷ 1 ∷ 0 ∷ 2 ∷ 1 ∷ [])
+    ++ ((0x10 ∷ linear₁ (pos 0) (pos 10)) ++ ((0x10 ∷ linear₁ (pos 0) (pos 5)) ++ ((0x12 ∷ linear₁ (pos 1) (pos 4)) ++ ((0x20 ∷ 1 ∷ [])
+    ++ ((0x10 ∷ linear₁ (pos 1) (pos 0)) ++ ((0x22 ∷ 1 ∷ 1 ∷ [])
+    ++ ((0x10 ∷ linear₁ (pos 0) (pos 1)) ++ ((0x10 ∷ linear₁ (pos 0) (pos 0)) ++ ((0x12 ∷ linear₁ (pos 1) (pos 3)) ++ ((0x20 ∷ 2 ∷ [])
+    ++ ((0x10 ∷ linear₁ (pos 1) (pos 0)) ++ (0x22 ∷ 2 ∷ 1 ∷ 0xff ∷ []))))))))))))
+
+-- "Making a node now first replaces a low branch", before its branches are compared: the fourth node, L1 + 3 over node 3 and node 2, which stands under node 3
+pub replaced-first : T (let o = solved idle 1 14 in
+    eqb (o .number) 0 && (eqb (o .peak) 14 && (eqb (solved idle 1 13 .number) 12
+    && same-bytes (o .stages) (4 ∷ replicate 7 0)
+    && isEq (Diagram.cmpList (take 32 (o .nodes)) (
+    pos 0 ∷ pos 0 ∷ pos 0 ∷ pos 0 ∷ pos 0 ∷ pos 10 ∷ pos 1 ∷ pos 0
+    ∷ pos 0 ∷ pos 0 ∷ pos 0 ∷ pos 0 ∷ pos 0 ∷ pos 5 ∷ pos 1 ∷ pos 0
+    ∷ pos 2 ∷ pos 1 ∷ pos 0 ∷ pos 0 ∷ pos 0 ∷ pos 4 ∷ pos 1 ∷ pos 2
+    ∷ pos 2 ∷ pos 1 ∷ pos 0 ∷ pos 0 ∷ pos 0 ∷ pos 3 ∷ pos 3 ∷ pos 2 ∷ [])))))
+unfolding definitions same-bytes
+replaced-first = tt

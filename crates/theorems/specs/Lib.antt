@@ -11,6 +11,8 @@ pub mod Fraction
 pub mod Demands
 -- demands 2 and 3 of one call that solves and then reads
 pub mod Advice
+-- K4, parallel tests
+pub mod Parallel
 -- ---- examples
 
 -- the pond, rain, and what is marked ★

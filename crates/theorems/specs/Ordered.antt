@@ -1,4 +1,4 @@
--- "Down a path the order rises strictly .. A node whose branches are equal is that branch."
+-- "Down a path the order rises strictly .. A node whose branches are equal is that branch."; a low branch that begins with a parallel test is replaced by its own low side.
 use mathlib.Core.Path.{_≡_}
 use mathlib.Core.Bool.{Bool, true, false}
 use mathlib.Core.List.{List, [], _∷_}
@@ -7,7 +7,7 @@ use lib.Dec.{T}
 use Rattle.whole.specs.Cases.{if}
 use Rattle.theory.specs.Diagram.{Test, Tree, leaf, branch, cmp}
 use Rattle.theory.specs.Computation.{Comp, ret, both}
-use Rattle.theory.specs.Rules.{node, is-later}
+use Rattle.theory.specs.Rules.{parallel, node, is-later}
 use Rattle.theory.specs.Meaning.{Action, Model}
 use Rattle.theory.specs.Valid.{all-nodes}
 
@@ -25,10 +25,15 @@ before t u = is-lt (cmp t u)
 abbrev pub Above : Test → Tree → Type 0
 Above t F = T (all-nodes (before t) (λ _. true) F)
 
--- each test comes before those under it, and no node has equal branches
+-- a diagram does not begin with a test that has t's coefficients and a larger constant
+abbrev pub Apart : Test → Tree → Type 0
+Apart t (leaf f) = Unit {0}
+Apart t (branch u h l) = T (parallel t u) → ⊥
+
+-- each test comes before those under it, no node has equal branches, and no low branch is parallel to its node
 abbrev pub Ordered : Tree → Type 0
 Ordered (leaf f) = Unit {0}
-Ordered (branch t h l) = Above t h × (Above t l × ((h ≡ l → ⊥) × (Ordered h × Ordered l)))
+Ordered (branch t h l) = Above t h × (Above t l × (((h ≡ l → ⊥) × Apart t l) × (Ordered h × Ordered l)))
 
 -- .. of each
 abbrev pub AllOrdered : List Tree → Type 0

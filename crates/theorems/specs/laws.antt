@@ -12,6 +12,7 @@ pub mod Peak
 -- tests and the order down a path
 pub mod Divided
 pub mod Order
+pub mod Narrowed
 pub mod Ordered
 pub mod OrderedStages
 pub mod Reduced
@@ -20,3 +21,5 @@ pub mod SameValue
 -- the demands
 pub mod Demands
 pub mod Advice
+-- K4
+pub mod Parallel

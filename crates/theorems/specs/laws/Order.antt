@@ -1,12 +1,16 @@
 -- The order of tests is strict and total.
 use mathlib.Core.Path.{_≡_, refl, sym, ap, _∙_, subst}
-use mathlib.Core.Bool.{not}
+use mathlib.Core.Logic.{_⊎_, inl, inr, ⊎-elim}
+use mathlib.Core.Bool.{not, _&&_}
 use mathlib.Core.List.{List, [], _∷_}
 use Prim.Native.Nat.{ℕ, _<_, compare, Ordering, Ordering·lt, Ordering·eq, Ordering·gt}
 use native.Mathlib.Omega.{arith}
-use lib.Dec.{T, isEq, isLe, eqb→eq, eqb-refl, leb→le, nleb→lt}
+use lib.Dec.{T, isEq, isLe, eqb→eq, eqb-refl, leb→le, nleb→lt, lt→ltb}
 use lib.IntN.{ℤ, pos, negsuc}
+use lib.Signed.{_<ℤ_, ltZ}
+use Rattle.whole.specs.Cases.{both, and-in}
 use Rattle.theory.specs.Diagram.{Linear, Test, now, later, linear, then, cmpZ, cmpList, cmpLinear, cmp}
+use Rattle.theory.specs.Rules.{parallel}
 use Rattle.theorems.specs.Ordered.{is-lt, before}
 use Rattle.theory.specs.laws.Comps.{cmpZ-eq, cmpZ-refl, cmpList-eq, cmpList-refl}
 
@@ -188,7 +192,7 @@ trans-test (linear p) (linear q) (linear r) e f = trans-linear p q r e f
 
 -- ---- before
 
-lt-is : (o : Ordering) → T (is-lt o) → o ≡ lt
+pub lt-is : (o : Ordering) → T (is-lt o) → o ≡ lt
 lt-is Ordering·lt t = refl
 lt-is Ordering·eq t = absurd t
 lt-is Ordering·gt t = absurd t
@@ -208,3 +212,39 @@ before-trans t u v a b = before-lt t v (trans-test t u v (lt-is (cmp t u) a) (lt
 pub not-before : (t u : Test) → T (isEq (cmp t u)) → T (before t u) → ⊥
 unfolding before
 not-before t u e b = eq-lt (sym (eq-of (cmp t u) e) ∙ lt-is (cmp t u) b)
+
+-- ---- parallel tests
+
+pub below : (a b : ℤ) → cmpZ a b ≡ lt → a <ℤ b
+below (pos a) (pos b) e = record { lt = lt→ltb a b (lt-of a b e) }
+below (pos a) (negsuc b) e = absurd (gt-lt e)
+below (negsuc a) (pos b) e = record { lt = tt }
+below (negsuc a) (negsuc b) e = record { lt = lt→ltb b a (lt-of b a e) }
+
+-- by the coefficients, or by the constant where they are the same
+lex-lt : (o p : Ordering) → then o p ≡ lt → (o ≡ lt) ⊎ ((o ≡ eq) × (p ≡ lt))
+lex-lt Ordering·lt p e = inl refl
+lex-lt Ordering·eq p e = inr (refl, e)
+lex-lt Ordering·gt p e = absurd (gt-lt e)
+
+between-linear : (p q r : Linear) → cmpLinear p q ≡ lt → cmpLinear q r ≡ lt → p .coeffs ≡ r .coeffs → T (isEq (cmpList (p .coeffs) (q .coeffs)) && ltZ (p .const) (q .const))
+unfolding cmpLinear
+between-linear p q r e f s = ⊎-elim
+    (λ a. absurd (eq-lt (sym (lists .self (p .coeffs)) ∙ subst (λ (l : List ℤ). cmpList (p .coeffs) l ≡ lt) (sym s) (lower a (lex-lt _ _ f)))))
+    (λ a. and-in (isEq (cmpList (p .coeffs) (q .coeffs))) (ltZ (p .const) (q .const)) (is-eq (a .0)) (below (p .const) (q .const) (a .1) .lt))
+    (lex-lt _ _ e)
+  where
+    lower : cmpList (p .coeffs) (q .coeffs) ≡ lt → (cmpList (q .coeffs) (r .coeffs) ≡ lt) ⊎ ((cmpList (q .coeffs) (r .coeffs) ≡ eq) × (cmpZ (q .const) (r .const) ≡ lt)) → cmpList (p .coeffs) (r .coeffs) ≡ lt
+    lower a d = ⊎-elim (λ b. lists .trans (p .coeffs) (q .coeffs) (r .coeffs) a b) (λ b. subst (λ (l : List ℤ). cmpList (p .coeffs) l ≡ lt) (lists .same (q .coeffs) (r .coeffs) (b .0)) a) d
+
+-- what stands between a test and one parallel to it is parallel to it too
+pub between : (t u v : Test) → T (before t u) → T (before u v) → T (parallel t v) → T (parallel t u)
+unfolding parallel before cmp
+between (now i) u v a b q = absurd q
+between (later i) u v a b q = absurd q
+between (linear p) u (now j) a b q = absurd q
+between (linear p) u (later j) a b q = absurd q
+between (linear p) (now i) (linear r) a b q = absurd a
+between (linear p) (later i) (linear r) a b q = absurd a
+between (linear p) (linear s) (linear r) a b q =
+    between-linear p s r (lt-is _ a) (lt-is _ b) (cmpList-eq (p .coeffs) (r .coeffs) (both (isEq (cmpList (p .coeffs) (r .coeffs))) (ltZ (p .const) (r .const)) q .0))

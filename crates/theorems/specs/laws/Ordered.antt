@@ -1,21 +1,22 @@
--- The rules make diagrams in which the order rises strictly down each path and no node has equal branches; of those, a side takes the branch as it is.
+-- The rules make diagrams in which the order rises strictly down each path, no node has equal branches and no low branch is parallel to its node; of those, a side takes the branch as it is.
 use mathlib.Core.Path.{_≡_, refl, sym, ap, ap₂, _∙_, subst}
 use mathlib.Core.Bool.{Bool, true, false, not}
 use mathlib.Core.List.{List, [], _∷_}
 use Prim.Native.Nat.{ℕ, Ordering·lt, Ordering·eq, Ordering·gt}
-use lib.Dec.{T, T-not, eqb, eqb→eq}
+use lib.Dec.{T, T-not, eqb→eq}
 use lib.IntN.{ℤ, pos}
 use lib.Signed.{leZ}
 use Rattle.whole.specs.Cases.{if, by-test, both, from-true}
 use Rattle.theory.specs.Diagram.{Linear, Test, now, later, linear, Leaf, Tree, leaf, branch, plain, cmp, same, _⊟_, zeros, test-of}
 use Rattle.theory.specs.Computation.{Comp, ret, named, made, make, result}
 use Rattle.theory.specs.Computation as C
-use Rattle.theory.specs.Rules.{node, step, choose, over, merge, make-leaf, leaf-sum, leaf-product, leaf-scale, leaf-shift, leaf-complement, leaf-number, decide, leaf-best, sum, product, scale, shift, complement, number, best, zero-leaf, sum-on, levels-sum, linear-diagram, substitute, is-later, side, expectation, add-reward}
+use Rattle.theory.specs.Rules.{narrowed, node, step, choose, over, merge, make-leaf, leaf-sum, leaf-product, leaf-scale, leaf-shift, leaf-complement, leaf-number, decide, leaf-best, sum, product, scale, shift, complement, number, best, zero-leaf, sum-on, levels-sum, linear-diagram, substitute, is-later, side, expectation, add-reward}
 use Rattle.theorems.specs.Ordered.{before, Above, Ordered, AllOrdered, replaced}
-use Rattle.theory.specs.laws.Comps.{cmp-eq, cmp-refl, same-eq, same-refl, result-both}
+use Rattle.theory.specs.laws.Comps.{cmp-eq, cmp-refl, same-refl, result-both}
 use Rattle.theory.specs.laws.Safe.{Safe, safe-ret, safe-named, safe-made, safe-make, safe-bind, safe-both, safe-weaken, safe-judge, any}
-use Rattle.theory.specs.laws.Nodes.{Tests, parts, branch-good, leaf-good, widen, node-safe, step-safe, choose-safe, over-safe, merge-safe, side-safe}
+use Rattle.theory.specs.laws.Nodes.{Tests, parts, branch-good, leaf-good, widen, narrowed-good, node-safe, step-safe, choose-safe, over-safe, merge-safe, side-safe}
 use Rattle.theorems.specs.laws.Order.{eq, by-cases, is-eq, before-lt, before-gt, before-trans, not-before}
+use Rattle.theorems.specs.laws.Narrowed.{narrowed-apart, narrowed-ordered, made-node}
 
 -- what comes before a test comes before those behind it
 above-trans : (t u : Test) (F : Tree) → T (before t u) → Above u F → Above t F
@@ -52,9 +53,12 @@ module _ (s? : ℤ → Bool) where
 
   pub node-ordered : (t : Test) (h l : Tree) → Above t h → Above t l → Ordered h → Ordered l → Makes (node t h l)
   unfolding node
-  node-ordered t h l a b c d = by-test (same h l) (λ s. Makes (if s (ret h) (make (branch t h l))))
+  node-ordered t h l a b c d =
+      let k = narrowed t l in
+      by-test (same h k) (λ s. Makes (if s (ret h) (make (branch t h k))))
       (λ _. safe-ret c)
-      (λ n. safe-make (branch t h l) (a, (b, ((λ e. T-not (same h l) n (subst (λ (x : Tree). T (same h x)) e (from-true (same-refl h)))), (c, d)))))
+      (λ n. safe-make (branch t h k)
+      (a, (narrowed-good s? (before t) any t l b, ((λ e. T-not (same h k) n (subst (λ (x : Tree). T (same h x)) e (from-true (same-refl h))), narrowed-apart t l), (c, narrowed-ordered t l d)))))
 
   both-ordered : (t : Test) (m₁ m₂ : Comp Tree) → Safe s? (λ F. Ordered F × Above t F) m₁ → Safe s? (λ F. Ordered F × Above t F) m₂ → Makes (C.both (node t) m₁ m₂)
   both-ordered t m₁ m₂ a b = safe-both (node t) m₁ m₂ a b (λ h l p q. node-ordered t h l (p .1) (q .1) (p .0) (q .0))
@@ -289,11 +293,6 @@ not-later k t u a b = by-test (is-later k u) (λ x. T (not x))
 no-later : (k : ℕ) (t : Test) (F : Tree) → T (is-later k t) → Above t F → Tests (λ u. not (is-later k u)) F
 no-later k t F a b = widen (before t) (λ u. not (is-later k u)) any any (λ u c. not-later k t u a c) (λ _ _. tt) F b
 
--- a node over branches that differ
-made-node : (t : Test) (h l : Tree) → (h ≡ l → ⊥) → result (node t h l) ≡ branch t h l
-unfolding node make result
-made-node t h l f = by-test (same h l) (λ s. result (if s (ret h) (make (branch t h l))) ≡ branch t h l) (λ s. absurd (f (same-eq h l s))) (λ _. refl)
-
 -- a diagram without the condition is its own side
 side-none : (b : Bool) (k : ℕ) (F : Tree) → Tests (λ u. not (is-later k u)) F → Ordered F → result (side b k F) ≡ F
 unfolding side result
@@ -304,7 +303,7 @@ side-none b k (branch t h l) q p =
     let el = side-none b k l (d .1 .1) (p .1 .1 .1 .1) in
     by-test (is-later k t) (λ c. result (elim c [ true ↦ if b (side b k h) (side b k l) | false ↦ C.both (node t) (side b k h) (side b k l) ]) ≡ branch t h l)
     (λ c. absurd (T-not (is-later k t) (d .0) c))
-    (λ _. result-both (node t) (side b k h) (side b k l) ∙ ap₂ (λ (x y : Tree). result (node t x y)) eh el ∙ made-node t h l (p .1 .1 .0))
+    (λ _. result-both (node t) (side b k h) (side b k l) ∙ ap₂ (λ (x y : Tree). result (node t x y)) eh el ∙ made-node t h l (p .1 .1 .0 .0) (p .1 .1 .0 .1))
 
 -- "a side has each node of that next-step condition replaced by its high (yes) or low branch": the branch as it is
 pub side-literal : (b : Bool) (k : ℕ) (F : Tree) → Ordered F → result (side b k F) ≡ result (replaced b k F)

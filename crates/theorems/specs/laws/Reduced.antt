@@ -5,42 +5,31 @@ use mathlib.Core.Bool.{true, false}
 use mathlib.Core.List.{List, [], _∷_, _++_, List·Memᴰ, List·Memᴰ·head, List·Memᴰ·tail, List·Memᴰ·cases-cons, List·Memᴰ·not-nil}
 use Prim.Native.Nat.{ℕ, suc, _+_, _-_, _*_, _<_, Ordering, Ordering·lt, Ordering·eq, Ordering·gt}
 use native.Mathlib.Omega.{arith}
-use lib.Dec.{T, lt→ltb}
-use lib.IntN.{ℤ, pos, negsuc, natAbs}
+use lib.Dec.{T, isEq, lt→ltb}
+use lib.IntN.{ℤ, pos, natAbs}
 use lib.ListN.{length, getD, take, drop, replicate}
 use lib.Seq.{take-at, take-append-le, getD-take, getD-drop, ext-getD}
-use lib.Signed.{_<ℤ_}
-use Rattle.whole.specs.Cases.{if, by-test, clash}
+use lib.Signed.{_<ℤ_, ltZ}
+use Rattle.whole.specs.Cases.{if, by-test, clash, and-in}
 use Rattle.theory.specs.Widths.{levels-most, node-words}
 use Rattle.theory.specs.Diagram.{Linear, Test, now, later, linear, Leaf, Tree, leaf, branch, then, cmpZ, cmpList, cmpLinear, cmp}
 use Rattle.theory.specs.Computation.{member, enter, enter-all}
-use Rattle.theory.specs.Rules.{zero-leaf}
+use Rattle.theory.specs.Rules.{parallel, zero-leaf}
 use Rattle.theory.specs.Valid.{all, all-nodes, good-test, stage-leaf}
 use Rattle.theory.specs.Solve.{number-of, padded, test-words, row, rows, table-of, solved-nodes}
 use Rattle.theory.specs.Value.{node-word, node-linear, high-of, low-of}
 use Rattle.theory.specs.Rows.{Range}
-use Rattle.theory.specs.laws.Comps.{cmpZ-eq, member-cases, member-in}
+use Rattle.theory.specs.laws.Comps.{cmpZ-eq, cmpList-refl, member-cases, member-in}
 use Rattle.theory.specs.laws.Nodes.{parts, leaf-of}
 use Rattle.theory.specs.laws.Rules.{all-each}
 use Rattle.theory.specs.laws.Valid.{Long, wide-long, stage-wide}
 use Rattle.theory.specs.laws.Table.{number-below, number-above, number-entry, Table, table-of-table}
 use Rattle.theory.specs.laws.Words.{Stage-good, padded-full, test-length, row-length, Shows, laid, node-has, leaf-shows, condition-shows, test-shows}
-use Rattle.theorems.specs.Ordered.{is-lt, before, Above, Ordered, AllOrdered}
-use Rattle.theorems.specs.Reduced.{Smaller, test-part, Inner, Reduced}
-use Rattle.theorems.specs.laws.Order.{lt, gt-lt, lt-of}
+use Rattle.theorems.specs.Ordered.{before, Above, Apart, Ordered, AllOrdered}
+use Rattle.theorems.specs.Reduced.{Smaller, test-part, Inner, Parallel, Reduced}
+use Rattle.theorems.specs.laws.Order.{lt, gt-lt, lt-of, lt-is, below, is-eq}
 
 -- ---- the order of tests, by their words
-
-lt-is : (o : Ordering) → T (is-lt o) → o ≡ lt
-lt-is Ordering·lt t = refl
-lt-is Ordering·eq t = absurd t
-lt-is Ordering·gt t = absurd t
-
-below : (a b : ℤ) → cmpZ a b ≡ lt → a <ℤ b
-below (pos a) (pos b) e = record { lt = lt→ltb a b (lt-of a b e) }
-below (pos a) (negsuc b) e = absurd (gt-lt e)
-below (negsuc a) (pos b) e = record { lt = tt }
-below (negsuc a) (negsuc b) e = record { lt = lt→ltb b a (lt-of b a e) }
 
 numbers-rise : (a b : List ℤ) (x y : ℤ) → length a ≡ length b → then (cmpList a b) (cmpZ x y) ≡ lt → Smaller (a ++ (x ∷ [])) (b ++ (y ∷ []))
 unfolding cmpList
@@ -149,7 +138,38 @@ module _ (n A : ℕ) (X : List Tree) (tail : List ℤ) (x : Table X) (nice : (u 
   differ-at (branch t h l) m i e =
       let r = branch-row t h l m (test-good t h l m) in
       let c = (x .closed) t h l m in
-      (nice (branch t h l) m .0 .1 .1 .0) (number-one h l (c .high-in) (c .low-in) (pos-same (num h) (num l) (sym (r .high) ∙ e ∙ r .low)))
+      (nice (branch t h l) m .0 .1 .1 .0 .0) (number-one h l (c .high-in) (c .low-in) (pos-same (num h) (num l) (sym (r .high) ∙ e ∙ r .low)))
+
+  -- ---- no low branch is parallel to its node
+
+  other-kind : (i j : ℕ) (z : ℤ) → (i ≡ j → ⊥) → z ≡ pos i → z ≡ pos j → ⊥
+  other-kind i j z n e f = n (pos-same i j (sym e ∙ f))
+
+  parallel-in : (t u : Test) (h l p q : Tree) → member (branch t h l) X ≡ true → member (branch u p q) X ≡ true → T (good-test n false t) → T (good-test n false u)
+      → Parallel W (num (branch t h l)) (num (branch u p q)) → T (parallel t u)
+  unfolding good-test parallel
+  parallel-in (now i) u h l p q m k a b d = absurd (other-kind 1 2 _ (λ e. omega arith) (condition-shows X tail i h l m .kind) (d .tests .0))
+  parallel-in (later i) u h l p q m k a b d = absurd a
+  parallel-in (linear y) (now j) h l p q m k a b d = absurd (other-kind 1 2 _ (λ e. omega arith) (condition-shows X tail j p q k .kind) (d .tests .1))
+  parallel-in (linear y) (later j) h l p q m k a b d = absurd b
+  parallel-in (linear y) (linear z) h l p q m k a b d =
+      let e = test-shows X tail y h l m a .numbers in
+      let f = test-shows X tail z p q k b .numbers in
+      and-in (isEq (cmpList (y .coeffs) (z .coeffs))) (ltZ (y .const) (z .const))
+      (is-eq (ap (cmpList (y .coeffs)) (ap (λ (x : Linear). x .coeffs) (sym f) ∙ (sym (d .coefficients) ∙ ap (λ (x : Linear). x .coeffs) e)) ∙ cmpList-refl (y .coeffs)))
+      (subst (λ (x : Linear). T (ltZ (x .const) (z .const))) e (subst (λ (x : Linear). T (ltZ (node-linear W (num (branch (linear y) h l)) .const) (x .const))) f (d .larger .lt)))
+
+  low-at : (t : Test) (h l : Tree) → member (branch t h l) X ≡ true → (c : Tree) → member c X ≡ true → Apart t c → Parallel W (num (branch t h l)) (num c) → ⊥
+  low-at t h l m (leaf f) k a d = other-kind 0 2 _ (λ e. omega arith) (leaf-row f k .kind) (d .tests .1)
+  low-at t h l m (branch u p q) k a d = a (parallel-in t u h l p q m k (test-good t h l m) (test-good u p q k) d)
+
+  apart-at : (u : Tree) → member u X ≡ true → (b : ℕ) → low-of W (num u) ≡ pos b → Parallel W (num u) b → ⊥
+  apart-at (leaf f) m b e d = other-kind 0 2 _ (λ e. omega arith) (leaf-row f m .kind) (d .tests .0)
+  apart-at (branch t h l) m b e d =
+      let r = branch-row t h l m (test-good t h l m) in
+      let c = (x .closed) t h l m in
+      let j = pos-same (num l) b (sym (r .low) ∙ e) in
+      low-at t h l m l (c .low-in) (nice (branch t h l) m .0 .1 .1 .0 .1) (subst (Parallel W (num (branch t h l))) (sym j) d)
 
   -- ---- "Equal nodes are one node."
 
@@ -223,6 +243,7 @@ module _ (n A : ℕ) (X : List Tree) (tail : List ℤ) (x : Table X) (nice : (u 
         let b = node-at s j in
         sym (a .1 .1) ∙ (ap num (once-at (a .0) (b .0) (a .1 .0) (b .1 .0) (subst (λ (r : ℕ). Same r (num (b .0))) (sym (a .1 .1)) (subst (Same r) (sym (b .1 .1)) d))) ∙ b .1 .1);
     differ = λ r h i e. let a = node-at r h in subst (λ (r : ℕ). Inner W r → high-of W r ≡ low-of W r → ⊥) (a .1 .1) (differ-at (a .0) (a .1 .0)) i e;
+    apart = λ r b h e d. let a = node-at r h in subst (λ (r : ℕ). low-of W r ≡ pos b → Parallel W r b → ⊥) (a .1 .1) (apart-at (a .0) (a .1 .0) b) e d;
   }
 
 -- ---- the nodes of a table are nodes of the stages
