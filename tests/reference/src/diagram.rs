@@ -5,6 +5,7 @@
 
 use crate::unique::{hash, Computed, Places};
 use crate::LIMIT;
+use std::cell::Cell;
 
 /// A node's place in the store. Branches stand before their node.
 pub type Id = u32;
@@ -66,7 +67,21 @@ pub struct Store {
     label_places: Places,
     computed: Computed,
     most: usize,
+    replaces: bool,
     pub effort: Effort,
+}
+
+thread_local! {
+    static REPLACES: Cell<bool> = const { Cell::new(true) };
+}
+
+/// Runs a job whose stores leave parallel low branches as they are, as before K4: to count what the rule saves. No
+/// comparison uses it.
+pub fn without_replacing<T>(job: impl FnOnce() -> T) -> T {
+    REPLACES.set(false);
+    let result = job();
+    REPLACES.set(true);
+    result
 }
 
 impl Effort {
@@ -124,6 +139,12 @@ impl Label {
         let [a, b, c, d, k] = self.nums.map(|x| x as u64);
         hash([a, b, c, d, k, self.kind as u64])
     }
+
+    /// The same coefficients and a larger constant: never true on the low side of the other.
+    fn is_parallel_to(&self, other: &Label) -> bool {
+        let ([.., k], [.., l]) = (self.nums, other.nums);
+        (self.kind, other.kind) == (Kind::Test, Kind::Test) && k > l && self.nums[..4] == other.nums[..4]
+    }
 }
 
 impl Node {
@@ -145,6 +166,7 @@ impl Store {
             label_places: Places::new(),
             computed: Computed::new(),
             most,
+            replaces: REPLACES.get(),
             effort: Effort::default(),
         }
     }
@@ -258,7 +280,18 @@ impl Store {
         self.make(Node { label, high: action, low: NO_BRANCH })
     }
 
+    /// The low branch of a test, or its own low side while it begins with a parallel test.
+    fn replaced(&self, label: LabelId, mut low: Id) -> Id {
+        let test = &self.labels[label as usize];
+        while self.replaces && self.label(low).is_parallel_to(test) {
+            low = self.node(low).low;
+        }
+        low
+    }
+
+    /// A node: the low branch is replaced first, then the branches are compared (28).
     fn over(&mut self, label: LabelId, high: Id, low: Id) -> Result<Id, Fault> {
+        let low = self.replaced(label, low);
         if high == low {
             return Ok(high);
         }
@@ -308,7 +341,8 @@ impl Store {
     }
 
     fn choose_by(&mut self, test: LabelId, high: Id, low: Id) -> Result<Id, Fault> {
-        if high == low {
+        // Equal operands may come to another diagram where the test is linear (25).
+        if high == low && self.labels[test as usize].kind == Kind::Condition {
             return Ok(high);
         }
         self.once(Rule::Choose, [test, high, low], |s| {

@@ -1,6 +1,7 @@
 //! The cases that 01 and the decisions state.
 
 use models::{pond, rain, Writer};
+use reference::diagram::without_replacing;
 use reference::{find, listing, name, program, solve, validate, value, worth, Reading, State};
 
 const POND_LISTING: &str = "PLAN 1 0 2 1 2
@@ -48,6 +49,39 @@ fn starred_cases() {
     let expected = Reading::new(28_000, 1);
     assert_eq!(value(&rain(), &done.nodes, &done.stages, 2, level(200, 1)), expected);
     assert_eq!(worth(&rain(), 2, level(200, 1)), expected);
+}
+
+/// Two actions over one tank that keep its level.
+fn two_rewards(constants: [i32; 2], worths: [[i32; 2]; 2]) -> Vec<u8> {
+    let mut w = Writer::site(1, 0, 2, 1);
+    for (action, (constant, [high, low])) in (1..).zip(constants.into_iter().zip(worths)) {
+        w.leaf([0; 4], high).leaf([0; 4], low).test([1, 0, 0, 0], constant).reward(action);
+        w.leaf([1, 0, 0, 0], 0).next(action, 1);
+    }
+    w.end()
+}
+
+#[test]
+fn parallel_tests_are_replaced_first() {
+    // The branches of the last node are equal until the low one is replaced.
+    let model = two_rewards([4, 3], [[10, 5], [1, 0]]);
+    let done = solve(&model, 1, 8 * 14, 8, 8 * 14);
+    assert_eq!((done.number, done.peak, done.stages[0]), (0, 14, 4));
+    let tests = [[2, 1, 0, 0, 0, 4, 1, 2], [2, 1, 0, 0, 0, 3, 3, 2]];
+    assert_eq!(done.nodes[16..], tests.concat());
+    assert_eq!(solve(&model, 1, 8 * 13, 8, 8 * 13).number, 12);
+    let before = without_replacing(|| solve(&model, 1, 8 * 14, 8, 8 * 14));
+    assert_eq!((before.number, before.peak, before.stages[0]), (0, 13, 3));
+    // What is dropped while loading is made, and counts there: a chain of four tests, of which the first is left.
+    let mut w = Writer::site(1, 0, 1, 1);
+    (3..=6).for_each(|constant| _ = w.leaf([0; 4], constant));
+    w.leaf([0; 4], 9);
+    (3..=6).rev().for_each(|constant| _ = w.test([1, 0, 0, 0], constant));
+    w.reward(1).leaf([1, 0, 0, 0], 0).next(1, 1);
+    let model = w.end();
+    assert_eq!(solve(&model, 1, 8 * 99, 8, 8 * 99).peak, 10);
+    let refused = solve(&model, 1, 8 * 9, 8, 8 * 9);
+    assert_eq!((refused.number, refused.place), (12, 0));
 }
 
 #[test]
