@@ -10,7 +10,10 @@ mod planner;
 mod planner;
 mod speed;
 
-use models::{damaged, deep, near_limit, pond, pond_kept, rain, rain_tanks_kept, random, staircases, steep_end, Rng};
+use models::{
+    damaged, deep, near_limit, pond, pond_kept, rain, rain_tanks_kept, random, releases, reservoirs, staircases,
+    steep_end, Rng,
+};
 use reference::{solve, validate, with_deep_stack, Outcome, State};
 use std::fmt::Debug;
 use std::time::Instant;
@@ -358,6 +361,9 @@ fn large(calls: &mut Calls) {
         ("staircases", staircases(), 1),
         ("near_limit", near_limit(), 6),
         ("rain_tanks_kept", rain_tanks_kept(), 4),
+        ("near_limit", near_limit(), 7),
+        ("releases", releases(&[10, 15, 20, 25]), 8),
+        ("reservoirs", reservoirs(), 8),
         ("deep", deep(), 4),
     ];
     for (name, model, horizon) in cases {

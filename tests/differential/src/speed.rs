@@ -2,7 +2,7 @@
 
 use crate::meter::{by_callgrind, counted, keep_memory, least_time, Counter};
 use crate::{planner, Tables};
-use models::{commands, deep, near_limit, pond, rain, staircases};
+use models::{commands, deep, near_limit, pond, rain, releases, reservoirs, staircases};
 use reference::diagram::Store;
 use reference::{solve, validate, value, worth, State};
 use std::hint::black_box;
@@ -35,7 +35,14 @@ fn rows() -> Vec<Row> {
     vec![
         row("clear all lent words once; the second program's start", Vec::new(), Job::Floor),
         row("validate the pond", pond(), Job::Validate),
-        row("solve the near-limit model of two rain tanks, horizon 6", near_limit(), Job::Solve(6)),
+        row("solve two rain tanks, horizon 6", near_limit(), Job::Solve(6)),
+        row("solve two rain tanks, horizon 7, which only K4 solves", near_limit(), Job::Solve(7)),
+        row(
+            "solve the pond with four releases, horizon 8, which only K4 solves",
+            releases(&[10, 15, 20, 25]),
+            Job::Solve(8),
+        ),
+        row("solve two reservoirs, horizon 8", reservoirs(), Job::Solve(8)),
         row("solve two staircases of 750 tests each", staircases(), Job::Solve(1)),
         row("solve the deepest model known, horizon 4", deep(), Job::Solve(4)),
         row("solve the pond, horizon 8", pond(), Job::Solve(8)),

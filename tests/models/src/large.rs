@@ -11,7 +11,7 @@ fn staircase(w: &mut Writer, first: i32, step: i32, count: i32, lowest: i32) {
 }
 
 /// Two rewards with 750 tests each, at alternating levels. The first is higher everywhere, so that *best* meets every
-/// pair and makes nothing. For horizon 1: 6,006 needed nodes.
+/// pair and makes nothing but idle nodes. For horizon 1: 7,504 needed nodes.
 pub fn staircases() -> Vec<u8> {
     let mut w = Writer::site(1, 0, 2, 1);
     for action in 1..=2u8 {
@@ -22,7 +22,8 @@ pub fn staircases() -> Vec<u8> {
 }
 
 /// Two tanks, each with its own rain: hold, or let 30 out of the first, of which 20 reach the second, whose level is
-/// the reward. For horizon 6: about 6,000 nodes in stage 6, and a peak of about 58,000.
+/// the reward. For horizon 6: a peak of 1,283. Before parallel tests were replaced it was 58,154, near the limit, and
+/// horizon 7 had no room.
 pub fn near_limit() -> Vec<u8> {
     two_rain_tanks().end()
 }

@@ -1,8 +1,10 @@
 //! Models for the tests, as bytes.
 
+mod domains;
 mod large;
 mod random;
 
+pub use domains::{chain, inventory, releases, reservoirs, rover};
 pub use large::{deep, long_listing, near_limit, rain_tanks_kept, staircases};
 pub use random::{commands, damaged, random, Rng};
 
