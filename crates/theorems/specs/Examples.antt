@@ -184,3 +184,18 @@ pub replaced-first : T (let o = solved idle 1 14 in
     ∷ pos 2 ∷ pos 1 ∷ pos 0 ∷ pos 0 ∷ pos 0 ∷ pos 3 ∷ pos 3 ∷ pos 2 ∷ [])))))
 unfolding definitions same-bytes
 replaced-first = tt
+
+-- one tank that keeps its level, reward (L1 + 3 ≤ 0 ? 3 : L1 + 4 ≤ 0 ? 4 : L1 + 5 ≤ 0 ? 5 : L1 + 6 ≤ 0 ? 6 : 9)
+abbrev pub steps : List ℕ
+steps =
+    (0x01 ∷ 1 ∷ 0 ∷ 1 ∷ 1 ∷ [])
+    ++ ((0x10 ∷ linear₁ (pos 0) (pos 3)) ++ ((0x10 ∷ linear₁ (pos 0) (pos 4)) ++ ((0x10 ∷ linear₁ (pos 0) (pos 5)) ++ ((0x10 ∷ linear₁ (pos 0) (pos 6))
+    ++ ((0x10 ∷ linear₁ (pos 0) (pos 9)) ++ ((0x12 ∷ linear₁ (pos 1) (pos 6)) ++ ((0x12 ∷ linear₁ (pos 1) (pos 5)) ++ ((0x12 ∷ linear₁ (pos 1) (pos 4))
+    ++ ((0x12 ∷ linear₁ (pos 1) (pos 3)) ++ ((0x20 ∷ 1 ∷ []) ++ ((0x10 ∷ linear₁ (pos 1) (pos 0)) ++ (0x22 ∷ 1 ∷ 1 ∷ 0xff ∷ []))))))))))))
+
+-- "the needed nodes are counted with it": three of the four tests are dropped while the model is loaded, and count there
+pub dropped-counted : T (let o = solved steps 1 10 in
+    let r = solved steps 1 9 in
+    eqb (o .number) 0 && (eqb (o .peak) 10 && (same-bytes (o .stages) (3 ∷ replicate 7 0) && (eqb (r .number) 12 && eqb (r .place) 0))))
+unfolding definitions same-bytes
+dropped-counted = tt
