@@ -35,9 +35,9 @@ fn pond_with_the_level_as_end_worth() {
     let input: Vec<u8> = std::iter::once(1).chain(model.clone()).collect();
     let stage = "PLAN 1 0 2 1 1\nN 1 V 1 0 0 0 40 2\nN 2 V 1 0 0 0 0 1\nN 3 L -1 0 0 0 10 1 2\nS 1 3\n";
     assert_eq!(program(&input), stage);
-    assert_eq!(solved(&model, 2, 100), (0, 0, 25));
-    assert_eq!(solved(&model, 2, 25), (0, 0, 25));
-    assert_eq!(solved(&model, 2, 24), (12, 2, 0));
+    assert_eq!(solved(&model, 2, 100), (0, 0, 24));
+    assert_eq!(solved(&model, 2, 24), (0, 0, 24));
+    assert_eq!(solved(&model, 2, 23), (12, 2, 0));
     // 20 released twice leaves 0 and earns 100; 19/2 stays.
     let done = solve(&model, 2, 800, 8, 800);
     for (num, d, numerator, action) in [(20, 1, 100, 2), (19, 2, 19, 1), (10, 1, 50, 1), (-5, 1, -5, 1)] {
