@@ -29,7 +29,7 @@ pub struct Found {
 }
 
 // Who carries a name, of the commands so far.
-pub enum Bearers {
+enum Bearers {
     Nobody,
     One(u32),
     Several,
@@ -118,7 +118,8 @@ fn told(b: Bearers) -> Found
     }
 }
 
-// The action that a name, but for spaces at its end, is the name of. No steps are asked: both are given as good ones.
+// The action that carries a name, but for spaces at its end.
+// No steps are asked, and no stage words lent: both are given as good ones.
 pub fn find(model: &[u8], name: &[u8]) -> Found
     ensures { λ r. ⌜ found-as r ≡ find-of (now (model .entry)) (now (name .entry)) ⌝ }
 {
