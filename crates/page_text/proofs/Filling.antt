@@ -58,7 +58,7 @@ set-column at out tail d h e =
     ∙ set-at (replicate (at - 1) 32) 32 tail d (at - 1) (length-replicate {A = ℕ} (at - 1) 32)
 
 some-left : (k y : ℕ) {b : Bool} → b ≡ not (eqb y 0) → b ≡ true → y < 10 ^ k → 1 ≤ k
-some-left zero zero e t h = absurd (let z : _≡_ {A = ℕ} 0 1 = cc (eq-eqb 0 0 refl) in omega arith)
+some-left zero zero e t h = absurd (let z : _≡_ {A = ℕ} 0 1 = cc in omega arith)
 some-left zero (suc y) e t h = absurd (omega (arith, pow-zero 10))
 some-left (suc k) y e t h = omega arith
 
