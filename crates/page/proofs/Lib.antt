@@ -1,0 +1,4 @@
+-- Laws that several proofs cite.
+pub mod Early
+pub mod Read
+pub mod Outcome

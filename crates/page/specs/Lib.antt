@@ -1,0 +1,2 @@
+-- A page's stages, once the model has been judged.
+pub mod Stages
