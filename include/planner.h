@@ -48,6 +48,10 @@ extern "C" {
 #define PLANNER_NAME_BYTES ((size_t)24)
 #define PLANNER_LISTING_BYTES ((size_t)8)
 #define PLANNER_FIND_BYTES ((size_t)8)
+#define PLANNER_PAGE_BYTES ((size_t)8)
+
+/* The bytes of a page, for so many stages: 50 columns and a line end for each. */
+#define PLANNER_PAGE_TEXT_BYTES(horizon) ((size_t)51 * (horizon))
 
 /* The stack that a thread needs to solve with so many nodes. Recursion goes down by node numbers: merging and choosing each
  * at most 2 levels a node deep, a substitution one level a node and the same again for the test that it replaces. The
@@ -89,6 +93,14 @@ uint32_t planner_find(const uint8_t *model, size_t model_len, const uint8_t *nam
 uint32_t planner_listing(const uint8_t *model, size_t model_len, uint32_t horizon,
                          const int64_t *nodes, size_t node_words, const uint32_t *stages, size_t stage_words,
                          uint8_t *text, size_t text_len, size_t place, uint8_t *out, size_t out_len);
+
+/* The page of a state, written to `text` from `place` on: a line for each of 1 to horizon steps left, with the steps in 2
+ * columns, the value's whole part rounded downward in 30 and the action's name in 16. The state is planner_value's.
+ * Answer: place u32 of a refusal, length u32 of what was written. A refusal leaves `text` as it is; 15 of any stage comes
+ * before 14 of any. */
+uint32_t planner_page(const uint8_t *model, size_t model_len, uint32_t horizon, const int64_t *nodes, size_t node_words,
+                      const uint32_t *stages, size_t stage_words, uint32_t mask, int32_t l1, int32_t l2, int32_t l3,
+                      int32_t l4, int32_t d, uint8_t *text, size_t text_len, size_t place, uint8_t *out, size_t out_len);
 
 /* The number and the place of a model's refusal: 10 and 0 for a model above 65,535 bytes, else 1 to 8; 0 and 0 where it is
  * accepted. */

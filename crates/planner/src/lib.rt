@@ -3,3 +3,4 @@ pub mod solving; // solving.rt: judging and solving a model
 pub mod reading; // reading.rt: values at a state
 pub mod texts; // texts.rt: names and listings
 pub mod lookup; // lookup.rt: an action found by its name
+pub mod pages; // pages.rt: pages
