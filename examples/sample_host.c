@@ -1,8 +1,9 @@
 /* A host: solves a model file and says what to do in one state, and the whole plan.
  *
- *   sample_host MODEL HORIZON NODES MASK L1 L2 L3 L4 D
+ *   sample_host MODEL HORIZON NODES [--page] MASK L1 L2 L3 L4 D
  *
- * prints the value and the action with HORIZON steps left, then the listing; a refusal as `R number place`.
+ * prints the value and the action with HORIZON steps left, then the listing; with --page the state's page and nothing
+ * else; a refusal as `R number place`.
  */
 #define _POSIX_C_SOURCE 200809L
 
@@ -94,7 +95,6 @@ static void solve(plan *p)
     pthread_attr_destroy(&attributes);
     if (p->number != 0)
         refused(p->number, p->out);
-    printf("solved, peak %" PRIu64 "\n", number_at(p->out + 4, 4));
 }
 
 /* A number in two 64-bit words, the high one signed, in decimal. */
@@ -159,6 +159,18 @@ static void print_plan(const plan *p)
     free(text);
 }
 
+/* A line for each number of steps left. */
+static void print_page(const plan *p, uint32_t mask, const int32_t state[5])
+{
+    uint8_t out[PLANNER_PAGE_BYTES], text[PLANNER_PAGE_TEXT_BYTES(PLANNER_STAGE_WORDS)];
+    uint32_t number = planner_page(p->model, p->model_len, p->horizon, p->nodes, PLANNER_NODE_WORDS(p->capacity), p->stages,
+                                   PLANNER_STAGE_WORDS, mask, state[0], state[1], state[2], state[3], state[4], text,
+                                   sizeof text, 0, out, sizeof out);
+    if (number != 0)
+        refused(number, out);
+    fwrite(text, 1, (size_t)number_at(out + 4, 4), stdout);
+}
+
 static long long argument(const char *text, long long least, long long most)
 {
     char *end;
@@ -172,17 +184,24 @@ int main(int count, char **arguments)
 {
     plan p;
     int32_t state[5];
-    if (count != 10)
-        fail("usage: sample_host MODEL HORIZON NODES MASK L1 L2 L3 L4 D");
+    int page = count == 11 && strcmp(arguments[4], "--page") == 0;
+    if (count != 10 && !page)
+        fail("usage: sample_host MODEL HORIZON NODES [--page] MASK L1 L2 L3 L4 D");
     memset(&p, 0, sizeof p);
     load(&p, arguments[1]);
     p.horizon = (uint32_t)argument(arguments[2], 0, UINT32_MAX);
     p.capacity = (size_t)argument(arguments[3], 0, PLANNER_NODES_MOST);
+    uint32_t mask = (uint32_t)argument(arguments[4 + page], 0, UINT32_MAX);
     for (int i = 0; i < 5; i++)
-        state[i] = (int32_t)argument(arguments[5 + i], INT32_MIN, INT32_MAX);
+        state[i] = (int32_t)argument(arguments[5 + page + i], INT32_MIN, INT32_MAX);
     solve(&p);
-    print_value(&p, (uint32_t)argument(arguments[4], 0, UINT32_MAX), state);
-    print_plan(&p);
+    if (page) {
+        print_page(&p, mask, state);
+    } else {
+        printf("solved, peak %" PRIu64 "\n", number_at(p.out + 4, 4));
+        print_value(&p, mask, state);
+        print_plan(&p);
+    }
     free(p.model);
     free(p.nodes);
     free(p.work);

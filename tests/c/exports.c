@@ -337,6 +337,7 @@ static void worths(void)
 static void name_is(const model *m, uint32_t action, uint32_t number, uint32_t place, const char *name);
 static void listing_is(const call *given, uint32_t number, uint32_t place);
 static void find_is(const model *m, const char *name, uint32_t number, uint32_t place, uint32_t action);
+static void page_is(const call *given, uint32_t number, uint32_t place);
 
 static void model_refused(const model *m, uint32_t number, uint32_t place)
 {
@@ -350,6 +351,7 @@ static void model_refused(const model *m, uint32_t number, uint32_t place)
     name_is(m, 0, number, place, "");
     find_is(m, "", number, place, 0);
     listing_is(&c, number, place);
+    page_is(&c, number, place);
 }
 
 static void models_refused(void)
@@ -429,6 +431,8 @@ static void long_models_refused(void)
     expect(planner_listing(bytes, 65536, 0, c.nodes, WORDS, c.stages, 8, NULL, 0, 1, out, sizeof out) == 10,
            "a long model's listing");
     expect(planner_find(bytes, 65536, NULL, 0, out, sizeof out) == 10, "a name in a long model");
+    expect(planner_page(bytes, 65536, 0, c.nodes, WORDS, c.stages, 8, 0, 0, 0, 0, 0, 0, NULL, 0, 1, out, sizeof out) == 10,
+           "a long model's page");
     planner_judged judged = planner_validate(bytes, 65536);
     expect(judged.number == 10 && judged.place == 0, "a long model judged");
     expect(planner_name(bytes, 65535, 1, out, sizeof out) == 3, "a model of the greatest length");
@@ -603,6 +607,126 @@ static void listings_refused(void)
     listing_is(&c, 14, 0);
 }
 
+/* ---- page */
+
+static uint32_t page(const call *c, uint8_t *text, size_t text_len, size_t place, uint8_t *out, size_t out_len)
+{
+    return planner_page(c->m.len == 0 ? NULL : c->m.bytes, c->m.len, c->steps, c->node_words == 0 ? NULL : c->nodes,
+                        c->node_words, c->stage_words == 0 ? NULL : c->stages, c->stage_words, c->mask, c->levels[0],
+                        c->levels[1], c->levels[2], c->levels[3], c->d, text, text_len, place, out, out_len);
+}
+
+/* The page from `place` of a text of `text_len` bytes on, with every length of `out`. */
+static void page_at(const call *given, size_t text_len, size_t place, uint32_t number, uint32_t at, const char *lines)
+{
+    call c = *given;
+    lent out, text;
+    uint8_t answer[PLANNER_PAGE_BYTES];
+    size_t size = strlen(lines);
+    put(answer, at, 4);
+    put(answer + 4, size, 4);
+    for (size_t len = 0; len <= PLANNER_PAGE_BYTES + 3; len++) {
+        uint8_t *out_start = lend(&out, len), *text_start = lend(&text, text_len);
+        int fits = len >= PLANNER_PAGE_BYTES;
+        uint32_t r = page(&c, text_len == 0 ? NULL : text_start, text_len, place, len == 0 ? NULL : out_start, len);
+        expect(r == (fits || number != 0 ? number : 17), "number of a page");
+        expect(marked_beside(&out, 0, fits ? sizeof answer : 0), "no byte beside a page's answer is written");
+        expect(!fits || holds_bytes(&out, 0, answer, sizeof answer), "a page's answer");
+        expect(marked_beside(&text, number == 0 ? place : 0, fits ? size : 0), "no byte beside the page is written");
+        expect(!fits || number != 0 || holds_bytes(&text, place, lines, size), "the page");
+        expect(memcmp(&c, given, sizeof c) == 0, "a page leaves model and tables as they are");
+    }
+}
+
+static void page_is(const call *given, uint32_t number, uint32_t place)
+{
+    page_at(given, ROOM, 0, number, place, "");
+    page_at(given, 0, 1, number, place, "");
+}
+
+/* The lines of two stages. */
+static const char *two_lines(const char *first, const char *name, const char *second, const char *other)
+{
+    static char lines[PLANNER_PAGE_TEXT_BYTES(2) + 1];
+    snprintf(lines, sizeof lines, " 1 %30s %-16s\n 2 %30s %-16s\n", first, name, second, other);
+    return lines;
+}
+
+/* At 39/2: 50 by action 2, which has no name, then 50 by action 1. */
+static void pages_written(void)
+{
+    call c = usual();
+    size_t size = PLANNER_PAGE_TEXT_BYTES(2);
+    c.levels[0] = 39;
+    c.d = 2;
+    const char *lines = two_lines("50", "", "50", "Hold");
+    page_at(&c, ROOM, 0, 0, 0, lines);
+    page_at(&c, ROOM, 17, 0, 0, lines);
+    page_at(&c, size, 0, 0, 0, lines);
+    page_at(&c, size + 5, 5, 0, 0, lines);
+    page_at(&c, size - 1, 0, 17, 0, "");
+    page_at(&c, size + 5, 6, 17, 0, "");
+    page_at(&c, 0, 0, 17, 0, "");
+    page_at(&c, 0, 1, 17, 0, "");
+    page_at(&c, ROOM, ROOM, 17, 0, "");
+    page_at(&c, ROOM, ROOM + 1, 17, 0, "");
+    page_at(&c, ROOM, SIZE_MAX, 17, 0, "");
+    page_at(&c, ROOM, SIZE_MAX - 101, 17, 0, "");
+}
+
+/* Foreign tables: a half below zero, zero, and the largest numerator of all four levels. */
+static void pages_rounded(void)
+{
+    call c = usual();
+    c.nodes[0 * 8 + 5] = 0;
+    c.nodes[0 * 8 + 1] = 1;
+    c.stages[0] = 1;
+    c.stages[1] = 2;
+    c.levels[0] = -1;
+    c.d = 2;
+    page_at(&c, ROOM, 0, 0, 0, two_lines("-1", "", "0", "Hold"));
+    c.levels[0] = -4;
+    page_at(&c, ROOM, 3, 0, 0, two_lines("-2", "", "0", "Hold"));
+    c.m.bytes[1] = 4;
+    page_is(&c, 7, (uint32_t)c.m.len - 1);
+    c = usual();
+    c.stages[0] = c.stages[1] = 1;
+    c.nodes[1] = c.nodes[5] = -(((int64_t)1 << 62) - 1);
+    c.levels[0] = INT32_MAX;
+    c.d = 1;
+    page_at(&c, ROOM, 0, 0, 0, two_lines("-9903520314283042197045510144", "", "-9903520314283042197045510144", ""));
+}
+
+static void pages_refused(void)
+{
+    call c = usual();
+    c.stage_words = 0;
+    c.steps = 0;
+    page_is(&c, 10, 0);
+    c.stage_words = 8;
+    page_is(&c, 9, 0);
+    c.steps = 9;
+    page_is(&c, 9, 0);
+    c = usual();
+    c.steps = 3;
+    c.d = 0;
+    c.nodes[2 * 8] = 3;
+    page_is(&c, 13, 0);
+    /* Stage 1 meets a bad node, stage 3 has no root. */
+    c.d = 1;
+    page_is(&c, 15, 0);
+    c.steps = 2;
+    page_is(&c, 14, 0);
+    c.steps = 1;
+    page_is(&c, 14, 0);
+    /* A bad node off the walks is not looked at. */
+    c = usual();
+    c.nodes[1 * 8] = 3;
+    page_at(&c, ROOM, 0, 0, 0, two_lines("50", "", "100", ""));
+    c.stages[1] = UINT32_MAX;
+    page_is(&c, 14, 0);
+}
+
 int main(void)
 {
     values_read();
@@ -617,6 +741,9 @@ int main(void)
     finds();
     listings_written();
     listings_refused();
+    pages_written();
+    pages_rounded();
+    pages_refused();
     printf("exports: %u checks\n", checks);
     return 0;
 }

@@ -1,6 +1,6 @@
 //! What each C function has to return and to leave, by the second program.
 
-use reference::{find, listing, name, solve, value, worth, Outcome, Reading, Refusal, State};
+use reference::{find, listing, name, page, solve, value, worth, Outcome, Reading, Refusal, State};
 
 /// The answer's bytes, or 17 for a short `out`, where an earlier refusal keeps its number (decision 97).
 fn answer(number: u32, bytes: Vec<u8>, out: &mut [u8]) -> u32 {
@@ -88,4 +88,27 @@ pub fn listed(
 pub fn found(model: &[u8], name: &[u8], out: &mut [u8]) -> u32 {
     let (number, place, action) = find(model, name).map_or_else(|r| (r.number, r.place, 0), |action| (0, 0, action));
     answer(number, words(&[place, action]), out)
+}
+
+#[allow(clippy::too_many_arguments)]
+pub fn paged(
+    model: &[u8],
+    horizon: u32,
+    nodes: &[i64],
+    stages: &[u32],
+    state: State,
+    text: &mut [u8],
+    place: usize,
+    out: &mut [u8],
+) -> u32 {
+    match page(model, horizon, nodes, stages, state, text.len(), place) {
+        Ok(lines) => {
+            let number = answer(0, words(&[0, lines.len() as u32]), out);
+            if number == 0 {
+                text[place..place + lines.len()].copy_from_slice(&lines);
+            }
+            number
+        }
+        Err(Refusal { number, place }) => answer(number, words(&[place, 0]), out),
+    }
 }

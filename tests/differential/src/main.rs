@@ -1,5 +1,5 @@
 //! Compares every outcome of libplanner.a with the second program: numbers, places, peaks, all lent words, values,
-//! names and actions found by them, listings, plain working. See tests/README.md for the link line.
+//! names and actions found by them, listings, pages, plain working. See tests/README.md for the link line.
 
 mod expected;
 mod meter;
@@ -215,6 +215,60 @@ fn compare_listing(calls: &mut Calls, rng: &mut Rng, tables: &Tables, horizon: u
     calls.count(number);
 }
 
+/// A page of a state, in a text with room for it or not.
+fn compare_page_at(calls: &mut Calls, rng: &mut Rng, tables: &Tables, horizon: u32, state: State) {
+    let model = calls.model.clone();
+    let place = rng.pick(&[0, 0, 1, 100]);
+    let length = around(rng, 51 * (horizon.min(8) as usize) + place);
+    let mut text = bytes(rng, length);
+    let place =
+        if rng.once_in(20) { rng.pick(&[text.len(), text.len() + 1, usize::MAX - 50, usize::MAX]) } else { place };
+    let mut our_text = text.clone();
+    let mut out = out(rng, 8);
+    let mut ours = out.clone();
+    let arguments = (&tables.stages, tables.nodes.len(), horizon, state, text.len(), place, out.len());
+    let number = planner::page(&model, horizon, &tables.nodes, &tables.stages, state, &mut text, place, &mut out);
+    let our_number =
+        expected::paged(&model, horizon, &tables.nodes, &tables.stages, state, &mut our_text, place, &mut ours);
+    calls.check("page", "number", &number, &our_number, &arguments);
+    calls.check("page", "answer", &out, &ours, &arguments);
+    calls.check("page", "text", &text, &our_text, &arguments);
+    calls.count(number);
+}
+
+/// A length around what is needed: mostly enough, now and then a byte too few.
+fn around(rng: &mut Rng, needed: usize) -> usize {
+    if rng.once_in(12) {
+        needed.saturating_sub(rng.pick(&[1, 1, 30, 51]))
+    } else {
+        needed + rng.pick(&[0, 0, 1, 50])
+    }
+}
+
+fn compare_page(calls: &mut Calls, rng: &mut Rng, tables: &Tables, horizon: u32) {
+    let state = state(rng, &calls.model.clone());
+    compare_page_at(calls, rng, tables, horizon, state);
+}
+
+/// Tables that no solve left: a leaf with the largest numbers, and states with the largest numerators; values of -1/2,
+/// 0 and whole ones.
+fn compare_foreign_pages(calls: &mut Calls, rng: &mut Rng) {
+    let (m, n) = (calls.model.get(1).map_or(0, |&m| m.min(4).into()), calls.model.get(2).map_or(0, |&n| n.min(4)));
+    let limit: i64 = (1 << 62) - 1;
+    for _ in 0..4 {
+        let largest = rng.once_in(2);
+        let mut number =
+            || if largest { rng.pick(&[limit, -limit]) } else { rng.pick(&[0, 0, 1, -1, 2, limit, -limit]) };
+        let row = [0, number(), number(), number(), number(), number(), 1, 0];
+        let tables = Tables { nodes: row.to_vec(), stages: vec![1; 8], work: Vec::new() };
+        let mut numerator = || rng.pick(&[i32::MIN, i32::MAX, i32::MIN, i32::MAX, 0, 1, -1, 7]);
+        let nums = std::array::from_fn(|i| if i < m { numerator() } else { 0 });
+        let state = State { mask: rng.word() as u32 & ((1 << n) - 1), nums, d: rng.pick(&[1, 1, 2, 3, i32::MAX]) };
+        let horizon = rng.pick(&[1, 3, 8]);
+        compare_page_at(calls, rng, &tables, horizon, state);
+    }
+}
+
 fn state(rng: &mut Rng, model: &[u8]) -> State {
     let (m, n) = (model.get(1).map_or(4, |&m| m.into()), model.get(2).map_or(4, |&n| u32::from(n.min(8))));
     let (size, once) = (rng.pick(&[3, 30, 3_000, i32::MAX]), !rng.once_in(15));
@@ -312,16 +366,20 @@ fn one_round(calls: &mut Calls, rng: &mut Rng) {
     }
     let shorter = any_horizon(rng).min(horizon);
     compare_listing(calls, rng, &tables, shorter);
+    compare_page(calls, rng, &tables, shorter);
+    compare_foreign_pages(calls, rng);
     for _ in 0..3 {
         let mut bad = tables.clone();
         damage(rng, &mut bad);
         let steps = any_horizon(rng).min(horizon);
         compare_state(calls, rng, &bad, steps, false);
         compare_listing(calls, rng, &bad, horizon);
+        compare_page(calls, rng, &bad, horizon);
     }
     tables.stages.truncate(rng.pick(&[8, 7, 0]));
     compare_state(calls, rng, &tables, horizon, false);
     compare_listing(calls, rng, &tables, horizon);
+    compare_page(calls, rng, &tables, horizon);
 }
 
 /// The same tables, never cleared from outside, for one model after another: each time as with fresh ones.

@@ -1,5 +1,5 @@
 //! Stands in for the library, so that the comparison can be built and tried without it. A fault can be asked for with
-//! PLANNER_FAULT=function (solve, value, name, worth, listing or find); the comparison has to find it.
+//! PLANNER_FAULT=function (solve, value, name, worth, listing, find or page); the comparison has to find it.
 
 use crate::expected;
 use reference::State;
@@ -50,4 +50,18 @@ pub fn listing(
 
 pub fn find(model: &[u8], name: &[u8], out: &mut [u8]) -> u32 {
     spoil("find", expected::found(model, name, out), out)
+}
+
+#[allow(clippy::too_many_arguments)]
+pub fn page(
+    model: &[u8],
+    horizon: u32,
+    nodes: &[i64],
+    stages: &[u32],
+    state: State,
+    text: &mut [u8],
+    place: usize,
+    out: &mut [u8],
+) -> u32 {
+    spoil("page", expected::paged(model, horizon, nodes, stages, state, text, place, out), out)
 }

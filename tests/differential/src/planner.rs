@@ -82,6 +82,30 @@ extern "C" {
     ) -> u32;
 }
 
+extern "C" {
+    #[rustfmt::skip]
+    fn planner_page(
+        model: *const u8,
+        model_len: usize,
+        horizon: u32,
+        nodes: *const i64,
+        node_words: usize,
+        stages: *const u32,
+        stage_words: usize,
+        mask: u32,
+        l1: i32,
+        l2: i32,
+        l3: i32,
+        l4: i32,
+        d: i32,
+        text: *mut u8,
+        text_len: usize,
+        place: usize,
+        out: *mut u8,
+        out_len: usize,
+    ) -> u32;
+}
+
 // In every call a pointer comes with the length of its slice, and the slices do not overlap.
 
 pub fn validate(model: &[u8]) -> (u32, usize) {
@@ -140,4 +164,19 @@ pub fn listing(
 pub fn find(model: &[u8], name: &[u8], out: &mut [u8]) -> u32 {
     // SAFETY: as said above.
     unsafe { planner_find(model.as_ptr(), model.len(), name.as_ptr(), name.len(), out.as_mut_ptr(), out.len()) }
+}
+
+#[rustfmt::skip]
+#[allow(clippy::too_many_arguments)]
+pub fn page(
+    model: &[u8], horizon: u32, nodes: &[i64], stages: &[u32], state: State, text: &mut [u8], place: usize, out: &mut [u8],
+) -> u32 {
+    let State { mask, nums: [l1, l2, l3, l4], d } = state;
+    // SAFETY: as said above.
+    unsafe {
+        planner_page(
+            model.as_ptr(), model.len(), horizon, nodes.as_ptr(), nodes.len(), stages.as_ptr(), stages.len(),
+            mask, l1, l2, l3, l4, d, text.as_mut_ptr(), text.len(), place, out.as_mut_ptr(), out.len(),
+        )
+    }
 }

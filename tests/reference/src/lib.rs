@@ -2,12 +2,13 @@
 //! reading, not proved. The numbers in brackets are those of the decisions.
 //!
 //! `model` reads and judges the bytes, `diagram` has the rules on diagrams and `unique` their hash tables, `solve` the
-//! operations of a solve, `read` the readers of tables, `find` an action by its name, and `plain` works a state out from the written model, without
-//! diagrams.
+//! operations of a solve, `read` the readers of tables, `find` an action by its name, `page` the page of a state, and
+//! `plain` works a state out from the written model, without diagrams.
 
 pub mod diagram;
 pub mod find;
 pub mod model;
+pub mod page;
 pub mod plain;
 pub mod read;
 pub mod solve;
@@ -15,6 +16,7 @@ mod unique;
 
 pub use find::find;
 pub use model::{validate, Model, Refusal, Site};
+pub use page::page;
 pub use plain::worth;
 pub use read::{listing, name, program, value, Reading};
 pub use solve::{solve, Outcome};

@@ -2,7 +2,7 @@
 
 use models::{pond, rain, Writer};
 use reference::diagram::without_replacing;
-use reference::{find, listing, name, program, solve, validate, value, worth, Reading, State};
+use reference::{find, listing, name, page, program, solve, validate, value, worth, Reading, State};
 
 const POND_LISTING: &str = "PLAN 1 0 2 1 2
 N 1 V 0 0 0 0 50 2
@@ -160,4 +160,22 @@ fn names_lead_back() {
     assert_eq!(found(b"sixteen letters!                    "), Ok(6));
     assert_eq!(found(b"sixteen letters!!"), Err((18, 0)));
     assert_eq!(find(&model[..9], b"A").unwrap_err().number, 2);
+}
+
+/// The pond's page of document 02: 50 and Release, then 50 and Hold, at 39/2.
+#[test]
+fn pond_page() {
+    let done = solve(&pond(), 2, 800, 8, 800);
+    let lines = |words: &[(u32, &str, &str)]| -> String {
+        words.iter().map(|(steps, value, name)| format!("{steps:>2} {value:>30} {name:<16}\n")).collect()
+    };
+    let read = |num, d| page(&pond(), 2, &done.nodes, &done.stages, level(num, d), 102, 0).map(String::from_utf8);
+    assert_eq!(read(39, 2), Ok(Ok(lines(&[(1, "50", "Release"), (2, "50", "Hold")]))));
+    let short = page(&pond(), 2, &done.nodes, &done.stages, level(39, 2), 102, 1);
+    assert_eq!(short.map_err(|refusal| refusal.number), Err(17));
+    // -1/2 is rounded downward, 14 of stage 1 yields to 15 of stage 2.
+    let half = page(&pond(), 1, &[0, 1, 0, 0, 0, 0, 1, 0], &[1; 8], level(-1, 2), 51, 0).map(String::from_utf8);
+    assert_eq!(half, Ok(Ok(lines(&[(1, "-1", "Hold")]))));
+    let bad = page(&pond(), 2, &[3; 8], &[1, 0, 1, 1, 1, 1, 1, 1], level(1, 1), 102, 0);
+    assert_eq!(bad.map_err(|refusal| refusal.number), Err(15));
 }
