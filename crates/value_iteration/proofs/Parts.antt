@@ -33,6 +33,8 @@ brought L =
       ran = L .ran;
       below = L .below;
       roots = L .roots;
+      end-below = L .end-below;
+      end-root = L .end-root;
       stops = L .stops;
     }
 
@@ -66,6 +68,8 @@ module _ {cap part : ℕ} {l₀ l : List ℤ} {w₀ w R₀ R : List ℕ} (Y : Fi
       ran = λ z. ⊎-elim (λ e. absurd (let q : 0 ≡ 12 = ap stop-of (sym (Q .ran z) ∙ e) in omega arith)) (λ e. e ∙ Q .ran z) (more-room part cap (Y .within) (load B) []);
       below = Q .below;
       roots = Q .roots;
+      end-below = Q .end-below;
+      end-root = Q .end-root;
       stops = λ z. ⊎-elim (λ e. absurd (off (ap stop-of (sym (Q .stops z) ∙ e)))) (λ e. e ∙ Q .stops z) (more-room part cap (Y .within) (load B) []);
     }
 

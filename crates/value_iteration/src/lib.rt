@@ -2,10 +2,10 @@
 ghost use mathlib.Core.Path.{_≡_};
 ghost use Prim.Native.Nat.{_*_, _≤_, _<_};
 ghost use lib.ListN.{length};
-ghost use Rattle.theory.specs.Widths.{bytes-most, steps-most, model-roots-most, roots-most};
+ghost use Rattle.theory.specs.Widths.{bytes-most, steps-most, loaded-roots-most, roots-most};
 ghost use Rattle.theory.specs.Verdict.{verdict};
 ghost use Rattle.mark.specs.Mark.{Space};
-ghost use Rattle.value_iteration.specs.Iteration.{Brought, Plans};
+ghost use Rattle.value_iteration.specs.Iteration.{Brought, Grounded, Plans};
 ghost use Rattle.totals.specs.Planning.{modelSize};
 use loading::Done;
 use operate::Rule;
@@ -38,7 +38,7 @@ fn load_within(
     part: usize,
     roots: &mut [u32],
 ) -> Done
-    requires { ⌜ (verdict (now model) .number ≡ 0) × (length (now model) ≤ bytes-most) × Space part (now nodes) (now work) 0 × (model-roots-most ≤ length (now roots)) ⌝ }
+    requires { ⌜ (verdict (now model) .number ≡ 0) × (length (now model) ≤ bytes-most) × Space part (now nodes) (now work) 0 × (loaded-roots-most ≤ length (now roots)) ⌝ }
     ensures { λ r. ⌜ Brought (now (model .entry)) part (now (nodes .exit)) (now (work .exit)) (now (roots .exit)) r ⌝ }
 {
     rehash::rehash(nodes, work, part, 0);
@@ -61,7 +61,7 @@ fn load_in_parts(
     cap: usize,
     roots: &mut [u32],
 ) -> Done
-    requires { ⌜ (verdict (now model) .number ≡ 0) × (length (now model) ≤ bytes-most) × Space cap (now nodes) (now work) 0 × (model-roots-most ≤ length (now roots)) ⌝ }
+    requires { ⌜ (verdict (now model) .number ≡ 0) × (length (now model) ≤ bytes-most) × Space cap (now nodes) (now work) 0 × (loaded-roots-most ≤ length (now roots)) ⌝ }
     ensures { λ r. ⌜ Brought (now (model .entry)) cap (now (nodes .exit)) (now (work .exit)) (now (roots .exit)) r ⌝ }
 {
     let mut part = first_part(cap, model.len());
@@ -73,6 +73,30 @@ fn load_in_parts(
         part = wider_part(cap, part);
     }
     load_within(model, nodes, work, cap, roots)
+}
+
+// Stage 0 as the root behind the model's: the end worth, which stands there since loading, or the leaf 0.
+fn stage_zero(
+    model: &[u8],
+    nodes: &mut [i64],
+    work: &mut [u32],
+    cap: usize,
+    loaded: Done,
+    roots: &mut [u32],
+) -> Run
+    requires { ⌜ (verdict (now model) .number ≡ 0) × (length (now model) ≤ bytes-most) × Brought (now model) cap (now nodes) (now work) (now roots) loaded × (loaded .stop ≡ 0) × (length (now roots) ≡ roots-most) ⌝ }
+    ensures { λ r. ⌜ Grounded (now (model .entry)) cap (loaded .count) (now (nodes .exit)) (now (work .exit)) (now (roots .exit)) r ⌝ }
+{
+    let start = Run {
+        stop: 0,
+        count: loaded.count,
+        peak: loaded.count,
+    };
+    if loaded.ended {
+        return start;
+    }
+    let first = model_size(model);
+    operate(nodes, work, cap, start, roots, first, first, Rule::Zero)
 }
 
 // The model loaded and the stages run, in tables of any words: the stages' roots stand from one behind the model's on.
@@ -97,12 +121,7 @@ pub fn run_stages(
             peak: 0,
         };
     }
-    let start = Run {
-        stop: 0,
-        count: loaded.count,
-        peak: loaded.count,
-    };
-    let zero = operate(nodes, work, cap, start, roots, first, first, Rule::Zero);
+    let zero = stage_zero(model, nodes, work, cap, loaded, roots);
     if zero.stop != 0 {
         return Planned {
             stop: zero.stop,
