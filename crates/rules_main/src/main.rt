@@ -31,7 +31,7 @@ fn leaf(nodes: &mut [i64], work: &mut [u32], count: usize, value: usize) -> Made
     make_leaf(nodes, work, CAP, count, s)
 }
 
-// A test of the first level over a leaf and what lies below.
+// A test of the first level over the tests below and a leaf: these lie on its high side, where they may be true.
 fn stair(
     nodes: &mut [i64],
     work: &mut [u32],
@@ -43,9 +43,9 @@ fn stair(
     requires { ⌜ Table ruleOf 65535 (now nodes) (now work) count × (at ≤ 1000000) × (value ≤ 1000000) × (below < count) ⌝ }
     ensures { λ r. ⌜ Held count (now (nodes .exit)) (now (work .exit)) r ⌝ }
 {
-    let h = leaf(nodes, work, count, value);
-    if h.stop != 0 {
-        return h;
+    let l = leaf(nodes, work, count, value);
+    if l.stop != 0 {
+        return l;
     }
     let mut n = [0i64; NUMBERS];
     n[0] = 1;
@@ -56,7 +56,7 @@ fn stair(
         high: 0,
         low: 0,
     };
-    join_test(nodes, work, CAP, h.count, t, h.at, below)
+    join_test(nodes, work, CAP, l.count, t, below, l.at)
 }
 
 // A staircase, its last step first: the tests stand two apart from `from` on, the leaves take `values` values.

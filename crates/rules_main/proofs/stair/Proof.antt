@@ -29,7 +29,7 @@ join-test-requires : tie.Need-join-test-requires
 join-test-requires c κs =
     let s = (c .before .before .before .before .before .before .before .before .before .before .before) in
     let A = c .before .before .before .before .before .before .before .leaf .ensures in
-    (A .table .bare, proper-at (s .args .at) (s .pre .1), A .within (c .before .before .if1 .left), lt-of-lt-of-le (s .pre .3) (A .more))
+    (A .table .bare, proper-at (s .args .at) (s .pre .1), lt-of-lt-of-le (s .pre .3) (A .more), A .within (c .before .before .if1 .left))
 
 same-length-3 : tie.Need-same-length-3
 same-length-3 c = search needs
