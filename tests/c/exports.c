@@ -674,7 +674,7 @@ static void pages_written(void)
     page_at(&c, ROOM, SIZE_MAX - 101, 17, 0, "");
 }
 
-/* Foreign tables: a half below zero, zero, and the largest numerator of all four levels. */
+/* Foreign tables: a half below zero, zero, and the lowest value that one level comes to. */
 static void pages_rounded(void)
 {
     call c = usual();
@@ -687,8 +687,6 @@ static void pages_rounded(void)
     page_at(&c, ROOM, 0, 0, 0, two_lines("-1", "", "0", "Hold"));
     c.levels[0] = -4;
     page_at(&c, ROOM, 3, 0, 0, two_lines("-2", "", "0", "Hold"));
-    c.m.bytes[1] = 4;
-    page_is(&c, 7, (uint32_t)c.m.len - 1);
     c = usual();
     c.stages[0] = c.stages[1] = 1;
     c.nodes[1] = c.nodes[5] = -(((int64_t)1 << 62) - 1);
