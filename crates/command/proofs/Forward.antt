@@ -1,5 +1,5 @@
 -- Where a command is whole: its bytes are there, and the next offset lies behind it and within the model.
-use mathlib.Core.Path.{_≡_, refl, subst}
+use mathlib.Core.Path.{_≡_, refl, sym, ap, _∙_, subst}
 use mathlib.Core.Bool.{Bool, true, false, not}
 use mathlib.Core.List.{List}
 use Prim.Native.Nat.{ℕ, _+_, _-_, _≤_, _<_}
@@ -35,6 +35,25 @@ found : (b : Bool) (v : ℕ) (c d : Command) → (T (has-linear d) → v ≡ 21)
 found true v c d f t = refl
 found false v c d f t = f t
 
+-- how many bytes a command has
+unfoldable pub length-of : Command → ℕ
+length-of (site m n a w) = 5
+length-of (push-leaf p) = 21
+length-of (push-condition k) = 2
+length-of (push-test p) = 21
+length-of (give g) = width (g .command)
+length-of (name-action a b) = 18
+length-of end-model = 1
+
+sized : (b : Bool) (w v : ℕ) (c d : Command) → w ≡ length-of c → ((v ≡ 0 → ⊥) → v ≡ length-of d) → ((if b w v) ≡ 0 → ⊥) → if b w v ≡ length-of (if b c d)
+sized true w v c d e f k = e
+sized false w v c d e f k = f k
+
+last : (b : Bool) → (_≡_ {A = ℕ} (if b 1 0) 0 → ⊥) → _≡_ {A = ℕ} (if b 1 0) (length-of end-model)
+unfolding length-of
+last true k = refl
+last false k = absurd (k refl)
+
 module _ (B : List ℕ) (at : ℕ) where
   pub whole-bytes : (c : Command) → whole c ≡ read-at B at → Bytes B at × (c ≡ command-at B at)
   unfolding read-at
@@ -47,6 +66,20 @@ module _ (B : List ℕ) (at : ℕ) where
       go false false true e₁ e₂ e₃ e = absurd (let z : _≡_ {A = ℕ} 0 1 = cc in omega arith)
       go false false false e₁ e₂ e₃ e =
           (record { starts = leb-false _ _ e₁; known = eqb-false _ _ e₂; ends = ltb-false _ _ e₃ }, cc)
+
+  length-at : (width (byte-at B at) ≡ 0 → ⊥) → width (byte-at B at) ≡ length-of (command-at B at)
+  unfolding command-at width length-of
+  length-at k =
+      sized (eqb (byte-at B at) 0x01) _ _ _ _ refl
+      (sized (eqb (byte-at B at) 0x10) _ _ _ _ refl
+      (sized (eqb (byte-at B at) 0x11) _ _ _ _ refl
+      (sized (eqb (byte-at B at) 0x12) _ _ _ _ refl
+      (sized (eqb (byte-at B at) 0x20) _ _ _ _ refl
+      (sized (eqb (byte-at B at) 0x21) _ _ _ _ refl
+      (sized (eqb (byte-at B at) 0x22) _ _ _ _ refl
+      (sized (eqb (byte-at B at) 0x23) _ _ _ _ refl
+      (sized (eqb (byte-at B at) 0x30) _ _ _ _ refl
+      (last (eqb (byte-at B at) 0xff)))))))))) k
 
   linear-wide : T (has-linear (command-at B at)) → width (byte-at B at) ≡ 21
   unfolding command-at width has-linear
@@ -61,6 +94,12 @@ module _ (B : List ℕ) (at : ℕ) where
       (skip (eqb (byte-at B at) 0x23) 1 _ _ _ tt
       (skip (eqb (byte-at B at) 0x30) 18 _ _ _ tt
       (λ u. absurd u))))))))) t
+
+  -- the width of a command that is read
+  pub length-whole : (c : Command) → whole c ≡ read-at B at → width (byte-at B at) ≡ length-of c
+  length-whole c e =
+      let b = whole-bytes c e in
+      length-at (b .0 .known) ∙ ap length-of (sym (b .1))
 
   -- where a linear is written, its twenty bytes are there
   pub linear-room : (c : Command) → T (has-linear c) → whole c ≡ read-at B at → at + 21 ≤ length B

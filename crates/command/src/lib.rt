@@ -1,8 +1,9 @@
 // "The site model": a cursor over the lent bytes, one command at a time.
 ghost use mathlib.Core.Path.{_≡_};
-ghost use Prim.Native.Nat.{_+_, _≤_, _<_};
+ghost use mathlib.Core.List.{List};
+ghost use Prim.Native.Nat.{ℕ, _+_, _≤_, _<_};
 ghost use lib.ListN.{length};
-ghost use Rattle.theory.specs.Command.{read-at, command-at, linear-at, byte-at, word-at, signed};
+ghost use Rattle.theory.specs.Command.{whole, read-at, command-at, linear-at, byte-at, word-at, signed};
 ghost use Rattle.theory.specs.Command.{width as bytes-of};
 ghost use Rattle.command.specs.Reading.{linear-of, command-of, read-of, next-at};
 
@@ -152,6 +153,21 @@ pub fn command_at(model: &[u8], at: usize) -> Read
         return Read::Short;
     }
     Read::Whole(whole_at(model, at, op))
+}
+
+// How many bytes a command that was read has, without a second look at them.
+pub fn size(c: Command) -> usize
+    ensures { λ r. ⌜ ((B : List ℕ) (at : ℕ) → whole (command-of B at c) ≡ read-at B at → r ≡ bytes-of (byte-at B at)) ⌝ }
+{
+    match c {
+        Command::Site(_, _, _, _) => 5,
+        Command::Leaf => 21,
+        Command::Condition(_) => 2,
+        Command::Test => 21,
+        Command::Give(op, _, _) => width(op),
+        Command::Name(_) => 18,
+        Command::End => 1,
+    }
 }
 
 // The offset behind the command at an offset; it stays within the model.
