@@ -1,2 +1,3 @@
 -- How the code's answers are read in the terms of document 01.
 pub mod Answers
+pub mod Walk

@@ -13,9 +13,11 @@ ghost use Rattle.theory.specs.Load.{site-at};
 ghost use Rattle.theory.specs.Solve.{early as early-of};
 ghost use Rattle.progress.specs.Standing.{site-as};
 ghost use Rattle.model.specs.Answers.{shown};
+ghost use Rattle.model.specs.Walk.{Walk};
 ghost use Rattle.model.specs.Answers.{is-end as ends};
 use command::Command;
 use command::Read;
+use progress::Progress;
 use progress::Site;
 use progress::given::FLAGS;
 use progress::refusals::EXTRA;
@@ -68,17 +70,23 @@ fn ended(size: usize, at: usize) -> Verdict
     }
 }
 
-// "the model by offset": the first command at fault decides. `flags`: what has been given.
-fn judge(model: &[u8], flags: &mut [bool]) -> Verdict
-    requires { ⌜ now flags ≡ replicate flags-most false ⌝ }
+// "the model by offset": the first command at fault decides. From the second command on the site stays; `flags`: what has been given.
+fn rest(model: &[u8], flags: &mut [bool], from: usize, begun: Progress) -> Verdict
+    requires { ⌜ (begun .begun ≡ true) × Walk (now model) from begun (now flags) ⌝ }
     ensures { λ r. ⌜ shown r ≡ verdict (now (model .entry)) ⌝ }
 {
-    let mut at: usize = 0;
-    let mut s = progress::states::start();
+    let site = begun.site;
+    let mut seen = begun.seen;
+    let mut at = from;
     loop {
         let read = command::command_at(model, at);
         match read {
             Read::Whole(c) => {
+                let s = Progress {
+                    begun: true,
+                    site,
+                    seen,
+                };
                 let k = progress::rules::broken(model, at, c, flags, s);
                 if k != 0 {
                     return refusal(k, at);
@@ -87,12 +95,33 @@ fn judge(model: &[u8], flags: &mut [bool]) -> Verdict
                     return ended(model.len(), at);
                 }
                 progress::given::note(flags, c);
-                s = progress::states::after(model, at, c, s);
-                at = command::next_after(model, at);
+                let t = progress::states::after(model, at, c, s);
+                seen = t.seen;
+                at += command::size(c);
             }
             Read::Unknown => return refusal(UNKNOWN, at),
             Read::Short => return refusal(SHORT, at),
         }
+    }
+}
+
+// The first command by itself.
+fn judge(model: &[u8], flags: &mut [bool]) -> Verdict
+    requires { ⌜ now flags ≡ replicate flags-most false ⌝ }
+    ensures { λ r. ⌜ shown r ≡ verdict (now (model .entry)) ⌝ }
+{
+    let read = command::command_at(model, 0);
+    match read {
+        Read::Whole(c) => {
+            let k = progress::rules::first(c);
+            if k != 0 {
+                return refusal(k, 0);
+            }
+            let from = command::next_after(model, 0);
+            rest(model, flags, from, progress::states::first(c))
+        }
+        Read::Unknown => refusal(UNKNOWN, 0),
+        Read::Short => refusal(SHORT, 0),
     }
 }
 

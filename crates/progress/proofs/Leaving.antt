@@ -14,12 +14,15 @@ use Rattle.theory.specs.Valid.{among}
 use Rattle.theory.specs.Command.{Command, site, push-leaf, push-condition, push-test, give, name-action, end-model, Slot, whole, read-at}
 use Rattle.theory.specs.Verdict.{or, Facts, Site, site-of, has-slot, Progress, with-stack, with-slot, at-start, Rule, rule, first-broken, first-rules, later-rules, site-rules, rules-of, after, joined, is-weight, of-site}
 use Rattle.command.specs.declared.Command.{Command as CodeCommand}
-use Rattle.command.specs.declared.Command.the-variants.{Leaf, Test}
+use Rattle.command.proofs.Command.{the-type}
+use types.Run.{OneOf, miss}
+use denote.Enum.Declared.{tagOf}
+use Rattle.command.specs.declared.Command.the-variants.{Site as SiteBy, Leaf, Condition, Test, Give, Name, End}
 use Rattle.command.proofs.Forward.{has-linear, linear-room}
 use Rattle.progress.specs.declared.Seen.{Seen}
 use Rattle.command.specs.Reading.{command-of}
 use Rattle.progress.specs.declared.Progress.{Progress as CodeProgress}
-use Rattle.progress.specs.Standing.{site-as, seen, place, flag-of, noted, Slotted, for-name, Stands, Leaves, Later}
+use Rattle.progress.specs.Standing.{site-as, seen-in, seen, place, flag-of, noted, Slotted, for-name, Stands, Leaves, Later}
 use Rattle.progress.proofs.Numbers.{bounds, is-among, not-false-T}
 use Rattle.progress.proofs.Flags.{flag-more, no-flag, slotted-given}
 use Rattle.progress.proofs.Bits.{seen-length}
@@ -199,6 +202,31 @@ stands-start t e = record {
   actions = omega arith;
   sized = omega arith;
 }
+
+-- ---- the first command
+
+-- any but a site breaks the first rule
+pub not-first : (B : List ℕ) (at : ℕ) (c : CodeCommand) → OneOf (1 ∷ 2 ∷ 3 ∷ 4 ∷ 5 ∷ 6 ∷ []) (tagOf the-type c) → 1 ≡ first-broken (first-rules (command-of B at c))
+unfolding command-of first-rules first-broken
+not-first B at (SiteBy m n a w) k = absurd (miss (1 ∷ 2 ∷ 3 ∷ 4 ∷ 5 ∷ 6 ∷ []) 0 tt k)
+not-first B at Leaf k = refl
+not-first B at (Condition i) k = refl
+not-first B at Test k = refl
+not-first B at (Give x a j) k = refl
+not-first B at (Name a) k = refl
+not-first B at End k = refl
+
+module _ (B : List ℕ) (at : ℕ) (c : CodeCommand) (r : CodeProgress) where
+  abbrev First : Type 0
+  First = first-broken (first-rules (command-of B at c)) ≡ 0 → (r .begun ≡ true) × Stands r (replicate flags-most false) (after at-start (command-of B at c))
+
+  pub first-site : {m n a w : ℕ} → c ≡ SiteBy m n a w → r .begun ≡ true → site-as (r .site) ≡ site-of m n a w → seen (r .seen) ≡ [] → First
+  unfolding rules-of command-of seen-in
+  first-site {m} {n} {a} {w} e b i k = subst (λ (d : CodeCommand). first-broken (first-rules (command-of B at d)) ≡ 0 → (r .begun ≡ true) × Stands r (replicate flags-most false) (after at-start (command-of B at d))) (sym e)
+      (λ u. (b, after-site (stands-start (record { len = 0; later = 0; weights = 0 }) refl) m n a w r b i k u))
+
+  pub first-other : OneOf (1 ∷ 2 ∷ 3 ∷ 4 ∷ 5 ∷ 6 ∷ []) (tagOf the-type c) → First
+  first-other k u = absurd (let z : _≡_ {A = ℕ} 0 1 = sym (not-first B at c k ∙ u) in omega arith)
 
 -- ---- a command that is known by its case
 

@@ -112,7 +112,7 @@ fn end(flags: &[bool], s: Progress) -> u32
 }
 
 // "01 site .. is first and only there"
-fn first(c: Command) -> u32
+pub fn first(c: Command) -> u32
     ensures { λ r. ⌜ ((B : List ℕ) (at : ℕ) → r ≡ first-broken (first-rules (command-of B at c))) ⌝ }
 {
     if let Command::Site(m, n, a, w) = c {

@@ -5,7 +5,10 @@ ghost use mathlib.Core.Bool.{true, false};
 ghost use mathlib.Core.List.{[]};
 ghost use Rattle.theory.specs.Command.{whole, read-at};
 ghost use Rattle.theory.specs.Widths.{flags-most};
-ghost use Rattle.theory.specs.Verdict.{at-start, site-of};
+ghost use Prim.Native.Nat.{ℕ};
+ghost use mathlib.Core.List.{List};
+ghost use Rattle.theory.specs.Verdict.{at-start, site-of, first-broken, first-rules};
+ghost use Rattle.theory.specs.Verdict.{after as after-command};
 ghost use Rattle.command.specs.Reading.{command-of};
 ghost use Rattle.progress.specs.Standing.{Stands, Leaves, site-as};
 ghost use Rattle.progress.specs.Standing.{seen as seen-of};
@@ -43,6 +46,18 @@ fn begun(m: u8, n: u8, a: u8, w: u8) -> Progress
             weights: w,
         },
         seen: facts::none(),
+    }
+}
+
+// Behind the first command, which is a site where it breaks no rule.
+pub fn first(c: Command) -> Progress
+    ensures { λ r. ⌜ ((B : List ℕ) (at : ℕ) → first-broken (first-rules (command-of B at c)) ≡ 0
+        → (r .begun ≡ true) × Stands r (replicate flags-most false) (after-command at-start (command-of B at c))) ⌝ }
+{
+    if let Command::Site(m, n, a, w) = c {
+        begun(m, n, a, w)
+    } else {
+        start()
     }
 }
 

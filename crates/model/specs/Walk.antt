@@ -1,0 +1,18 @@
+-- What holds in a walk over the commands of a model.
+use mathlib.Core.Path.{_≡_}
+use mathlib.Core.Bool.{Bool}
+use mathlib.Core.List.{List}
+use Prim.Native.Nat.{ℕ, _-_, _<_}
+use lib.ListN.{length}
+use Rattle.theory.specs.Command.{readings-from}
+use Rattle.theory.specs.Verdict.{Progress, judged, verdict}
+use Rattle.progress.specs.declared.Progress.{Progress as CodeProgress}
+use Rattle.progress.specs.Standing.{Stands}
+
+-- with fuel enough, what is left of the readings gives the verdict
+pub record Walk (B : List ℕ) (at : ℕ) (s : CodeProgress) (F : List Bool) : Type 0 where
+  pub fuel : ℕ
+  pub enough : length B - at < fuel
+  pub so-far : Progress
+  pub stands : Stands s F so-far
+  pub judges : judged (length B) so-far (readings-from B fuel at) ≡ verdict B
