@@ -1,0 +1,45 @@
+//! The texts of --help.
+
+pub const PLAN: &str = "\
+usage: ./plan MODEL HORIZON [--nodes N]                   the plan of a site, as a listing
+       ./plan MODEL HORIZON --at STATE [--page]           value and action at a state, for each number of steps
+       ./plan MODEL HORIZON MASK L1 L2 L3 L4 D [--page]   the same, the state in numbers
+       ./plan check MODEL                                 accepted, or why not
+       ./plan show MODEL                                  the model in words
+       ./plan find MODEL NAME                             the action that carries a name
+       ./plan VERB --help                                 more about a verb
+
+HORIZON is the number of steps, 1 to 8.
+
+  --at \"L1=39/2 C1\"   the state: levels as 12, -3/4 or 19.5 (0 if not named), C1 for a condition that holds, !C1 for one
+                      that does not (as if not named)
+  MASK L1 .. D        the state: bit i-1 of MASK for condition i, each level's numerator, the common denominator
+  --page              the page for the pump house wall: steps, value rounded downward, action
+  --nodes N           tables of N nodes; if not given, sizes from 1,024 to 65,535 are tried in turn
+  --raw               a refusal as 'R number place' on standard output, as the listing program has it
+
+Exit status: 0 done; 1 refused, with the reason on standard error; 2 a fault in the call, as a file that is not there.
+A model whose file has a verb's name is given with a path, as ./show.
+";
+
+pub const CHECK: &str = "\
+usage: ./plan check MODEL [--raw]
+
+Says whether the planner accepts the model. If it does not: the refusal's number and place, the command there, the rule
+that it breaks, and advice. With --raw: 'R number place', 'R 0 0' for an accepted model.
+";
+
+pub const SHOW: &str = "\
+usage: ./plan show MODEL [--raw]
+
+Prints the model in words, one command to a line with its offset in the file. Below each reward, chance, next level and
+end worth stands its diagram: 'if' a test or condition, 'then' the branch for yes, 'else' the other. C1 is a condition now, N1
+one of the next step. A refused model is shown as far as it can be read, and then its refusal.
+";
+
+pub const FIND: &str = "\
+usage: ./plan find MODEL NAME [--raw]
+
+Prints the number of the action that carries the name. Trailing spaces do not count. Refused with 18 if no action carries
+it, with 19 if several do.
+";

@@ -1,0 +1,171 @@
+//! The calls of libplanner.a that the desk makes, as include/planner.h has them. The only unsafe code here.
+
+use crate::state::State;
+use crate::widths::{refusal, NAME_BYTES, PAIR_BYTES, STAGE_WORDS, VALUE_BYTES};
+
+/// A refusal: its number and its place.
+#[derive(Clone, Copy, Debug, PartialEq, Eq)]
+pub struct Refusal {
+    pub number: u32,
+    pub place: u64,
+}
+
+/// A value's numerator and the action there.
+pub struct Reading {
+    pub action: u32,
+    pub numerator: i128,
+}
+
+#[repr(C)]
+struct Judged {
+    number: u32,
+    place: usize,
+}
+
+type Bytes = *const u8;
+type Answer = *mut u8;
+
+#[rustfmt::skip]
+extern "C" {
+    fn planner_validate(model: Bytes, model_len: usize) -> Judged;
+    fn planner_solve(
+        model: Bytes, model_len: usize, horizon: u32, nodes: *mut i64, node_words: usize,
+        stages: *mut u32, stage_words: usize, work: *mut u32, work_words: usize, out: Answer, out_len: usize,
+    ) -> u32;
+    fn planner_value(
+        model: Bytes, model_len: usize, nodes: *const i64, node_words: usize, stages: *const u32, stage_words: usize,
+        steps: u32, mask: u32, l1: i32, l2: i32, l3: i32, l4: i32, d: i32, out: Answer, out_len: usize,
+    ) -> u32;
+    fn planner_name(model: Bytes, model_len: usize, action: u32, out: Answer, out_len: usize) -> u32;
+    fn planner_listing(
+        model: Bytes, model_len: usize, horizon: u32, nodes: *const i64, node_words: usize,
+        stages: *const u32, stage_words: usize, text: *mut u8, text_len: usize, place: usize,
+        out: Answer, out_len: usize,
+    ) -> u32;
+    #[cfg(planner_find)]
+    fn planner_find(model: Bytes, model_len: usize, name: Bytes, name_len: usize, out: Answer, out_len: usize) -> u32;
+    #[cfg(planner_page)]
+    fn planner_page(
+        model: Bytes, model_len: usize, horizon: u32, nodes: *const i64, node_words: usize,
+        stages: *const u32, stage_words: usize, mask: u32, l1: i32, l2: i32, l3: i32, l4: i32, d: i32,
+        text: *mut u8, text_len: usize, place: usize, out: Answer, out_len: usize,
+    ) -> u32;
+}
+
+// In every call a pointer comes with the length of its slice, and the slices do not overlap.
+
+/// A number of an answer, low byte first.
+fn number_at(out: &[u8], place: usize, bytes: usize) -> u64 {
+    out[place..place + bytes].iter().rev().fold(0, |number, &byte| number << 8 | u64::from(byte))
+}
+
+/// The answer, or the refusal whose place is its first number.
+fn judged<const N: usize>(number: u32, out: [u8; N]) -> Result<[u8; N], Refusal> {
+    if number == 0 {
+        return Ok(out);
+    }
+    Err(Refusal { number, place: number_at(&out, 0, 4) })
+}
+
+pub fn validate(model: &[u8]) -> Result<(), Refusal> {
+    // SAFETY: as said above.
+    let judged = unsafe { planner_validate(model.as_ptr(), model.len()) };
+    match judged.number {
+        0 => Ok(()),
+        number => Err(Refusal { number, place: judged.place as u64 }),
+    }
+}
+
+/// Fills the tables; gives the peak.
+#[rustfmt::skip]
+pub fn solve(
+    m: &[u8], horizon: u32, nodes: &mut [i64], stages: &mut [u32; STAGE_WORDS], work: &mut [u32],
+) -> Result<u32, Refusal> {
+    let mut out = [0; PAIR_BYTES];
+    // SAFETY: as said above.
+    let number = unsafe {
+        planner_solve(
+            m.as_ptr(), m.len(), horizon, nodes.as_mut_ptr(), nodes.len(), stages.as_mut_ptr(), stages.len(),
+            work.as_mut_ptr(), work.len(), out.as_mut_ptr(), out.len(),
+        )
+    };
+    judged(number, out).map(|out| number_at(&out, 4, 4) as u32)
+}
+
+#[rustfmt::skip]
+pub fn value(
+    m: &[u8], nodes: &[i64], stages: &[u32; STAGE_WORDS], steps: u32, state: &State,
+) -> Result<Reading, Refusal> {
+    let (mut out, [l1, l2, l3, l4]) = ([0; VALUE_BYTES], state.numerators);
+    // SAFETY: as said above.
+    let number = unsafe {
+        planner_value(
+            m.as_ptr(), m.len(), nodes.as_ptr(), nodes.len(), stages.as_ptr(), stages.len(), steps, state.mask,
+            l1, l2, l3, l4, state.denominator, out.as_mut_ptr(), out.len(),
+        )
+    };
+    let out = judged(number, out)?;
+    let (low, high) = (number_at(&out, 8, 8), number_at(&out, 16, 8) as i64);
+    Ok(Reading { action: number_at(&out, 4, 4) as u32, numerator: i128::from(high) << 64 | i128::from(low) })
+}
+
+/// An action's name, empty where it has none.
+pub fn name(model: &[u8], action: u32) -> Result<String, Refusal> {
+    let mut out = [0; NAME_BYTES];
+    // SAFETY: as said above.
+    let number = unsafe { planner_name(model.as_ptr(), model.len(), action, out.as_mut_ptr(), out.len()) };
+    let out = judged(number, out)?;
+    let letters = &out[PAIR_BYTES..][..number_at(&out, 4, 4) as usize];
+    Ok(letters.iter().map(|&letter| char::from(letter)).collect())
+}
+
+/// The listing, in a text of at most `room` bytes.
+#[rustfmt::skip]
+pub fn listing(
+    m: &[u8], horizon: u32, nodes: &[i64], stages: &[u32; STAGE_WORDS], room: usize,
+) -> Result<Vec<u8>, Refusal> {
+    let (mut out, mut text) = ([0; PAIR_BYTES], vec![0; room]);
+    // SAFETY: as said above.
+    let number = unsafe {
+        planner_listing(
+            m.as_ptr(), m.len(), horizon, nodes.as_ptr(), nodes.len(), stages.as_ptr(), stages.len(),
+            text.as_mut_ptr(), text.len(), 0, out.as_mut_ptr(), out.len(),
+        )
+    };
+    let out = judged(number, out)?;
+    text.truncate(number_at(&out, 4, 4) as usize);
+    Ok(text)
+}
+
+/// The action that carries a name.
+#[cfg(planner_find)]
+pub fn find(m: &[u8], name: &[u8]) -> Result<u32, Refusal> {
+    let mut out = [0; PAIR_BYTES];
+    // SAFETY: as said above.
+    let number = unsafe { planner_find(m.as_ptr(), m.len(), name.as_ptr(), name.len(), out.as_mut_ptr(), out.len()) };
+    judged(number, out).map(|out| number_at(&out, 4, 4) as u32)
+}
+
+/// The page of a state, in a text of at most `room` bytes.
+#[cfg(planner_page)]
+#[rustfmt::skip]
+pub fn page(
+    m: &[u8], horizon: u32, nodes: &[i64], stages: &[u32; STAGE_WORDS], state: &State, room: usize,
+) -> Result<Vec<u8>, Refusal> {
+    let (mut out, mut text, [l1, l2, l3, l4]) = ([0; PAIR_BYTES], vec![0; room], state.numerators);
+    // SAFETY: as said above.
+    let number = unsafe {
+        planner_page(
+            m.as_ptr(), m.len(), horizon, nodes.as_ptr(), nodes.len(), stages.as_ptr(), stages.len(), state.mask,
+            l1, l2, l3, l4, state.denominator, text.as_mut_ptr(), text.len(), 0, out.as_mut_ptr(), out.len(),
+        )
+    };
+    let out = judged(number, out)?;
+    text.truncate(number_at(&out, 4, 4) as usize);
+    Ok(text)
+}
+
+/// Whether a refusal says that larger tables may do.
+pub fn wants_room(refused: Refusal) -> bool {
+    refused.number == refusal::ROOM
+}

@@ -1,0 +1,215 @@
+//! The verbs: each reads its words, makes the library's calls and writes what it has to say.
+
+use crate::arguments::Arguments;
+use crate::library::{self, Refusal};
+use crate::model::Written;
+use crate::refusals::{explain, Subject};
+use crate::solved::{Solved, Unsolved};
+use crate::state::{Given, State};
+use crate::widths::{LEVELS, MODEL_BYTES_MOST, NODES_MOST};
+use crate::{help, show, words, Failure};
+use std::io::Read;
+
+type Done = Result<(), Failure>;
+
+pub fn run(given: &[String], out: &mut Vec<u8>) -> Done {
+    let Some(first) = given.first() else {
+        return Err(Failure::Usage("a model and a horizon are needed, or a verb".to_string()));
+    };
+    let rest = &given[1..];
+    match first.as_str() {
+        "check" => verb(rest, &["--raw"], help::CHECK, out, check),
+        "show" => verb(rest, &["--raw"], help::SHOW, out, show),
+        "find" => verb(rest, &["--raw"], help::FIND, out, find),
+        "help" => helped(rest, out),
+        _ => verb(given, &["--at", "--nodes", "--raw", "--page"], help::PLAN, out, plan),
+    }
+}
+
+/// `help VERB` is `VERB --help`.
+fn helped(rest: &[String], out: &mut Vec<u8>) -> Done {
+    let asked: Vec<String> = rest.iter().take(1).cloned().chain(["--help".to_string()]).collect();
+    match asked[0].as_str() {
+        "help" => run(&asked[1..], out),
+        _ => run(&asked, out),
+    }
+}
+
+fn verb(
+    given: &[String],
+    known: &[&str],
+    help: &str,
+    out: &mut Vec<u8>,
+    run: fn(&Arguments, &mut Vec<u8>) -> Done,
+) -> Done {
+    let arguments = Arguments::read(given, known).map_err(Failure::Usage)?;
+    if arguments.help {
+        out.extend(help.as_bytes());
+        return Ok(());
+    }
+    run(&arguments, out)
+}
+
+fn usage(words: &str) -> Failure {
+    Failure::Usage(words.to_string())
+}
+
+/// A model's file, and one byte more than a model may have at most, so that a longer one is refused and not cut.
+fn load(path: &str) -> Result<Vec<u8>, Failure> {
+    let mut model = Vec::new();
+    let file = std::fs::File::open(path);
+    let read = file.and_then(|file| file.take(MODEL_BYTES_MOST as u64 + 1).read_to_end(&mut model));
+    read.map(|_| model).map_err(|error| Failure::Around(format!("cannot read {path}: {error}")))
+}
+
+/// The refusal as the call wants it.
+fn refuse(arguments: &Arguments, refused: Refusal, subject: &Subject, out: &mut Vec<u8>) -> Failure {
+    if arguments.raw {
+        out.extend(format!("R {} {}\n", refused.number, refused.place).into_bytes());
+        return Failure::Raw;
+    }
+    Failure::Refused(explain(refused, subject))
+}
+
+fn subject<'a>(path: &'a str, model: &'a [u8]) -> Subject<'a> {
+    Subject { path, model, nodes: None, state: None }
+}
+
+fn one_model(arguments: &Arguments) -> Result<(&str, Vec<u8>), Failure> {
+    match arguments.words.as_slice() {
+        [path] => Ok((path, load(path)?)),
+        _ => Err(usage("one model is needed")),
+    }
+}
+
+fn check(arguments: &Arguments, out: &mut Vec<u8>) -> Done {
+    let (path, model) = one_model(arguments)?;
+    library::validate(&model).map_err(|refused| refuse(arguments, refused, &subject(path, &model), out))?;
+    if arguments.raw {
+        out.extend(b"R 0 0\n");
+        return Ok(());
+    }
+    let site = Written::read(&model).site().map(words::site).unwrap_or_default();
+    out.extend(format!("{path}: accepted\n  {site}, {}\n", words::count(model.len(), "byte")).bytes());
+    Ok(())
+}
+
+fn show(arguments: &Arguments, out: &mut Vec<u8>) -> Done {
+    let (path, model) = one_model(arguments)?;
+    out.extend(show::show(&model).bytes());
+    library::validate(&model).map_err(|refused| refuse(arguments, refused, &subject(path, &model), out))
+}
+
+#[cfg(planner_find)]
+fn find(arguments: &Arguments, out: &mut Vec<u8>) -> Done {
+    let [path, name] = arguments.words.as_slice() else { return Err(usage("a model and a name are needed")) };
+    let model = load(path)?;
+    let found = library::find(&model, name.as_bytes());
+    let action = found.map_err(|refused| refuse(arguments, refused, &subject(path, &model), out))?;
+    out.extend(format!("{action}\n").bytes());
+    Ok(())
+}
+
+#[cfg(not(planner_find))]
+fn find(_: &Arguments, _: &mut Vec<u8>) -> Done {
+    Err(Failure::Around("this library does not find actions by name".to_string()))
+}
+
+/// The words of a call that solves: model, horizon, and a state in numbers or with --at.
+pub struct Asked<'a> {
+    pub arguments: &'a Arguments,
+    pub path: &'a str,
+    pub model: Vec<u8>,
+    pub horizon: u32,
+}
+
+impl<'a> Asked<'a> {
+    pub fn read(arguments: &'a Arguments) -> Result<Asked<'a>, Failure> {
+        let [path, horizon, ..] = arguments.words.as_slice() else {
+            return Err(usage("a model and a horizon are needed"));
+        };
+        let horizon =
+            horizon.parse().map_err(|_| Failure::Usage(format!("the horizon '{horizon}' is no number of steps")))?;
+        Ok(Asked { arguments, path, model: load(path)?, horizon })
+    }
+
+    pub fn solve(&self, state: Option<&State>, out: &mut Vec<u8>) -> Result<Solved<'_>, Failure> {
+        Solved::solve(&self.model, self.horizon, self.arguments.nodes).map_err(|unsolved| match unsolved {
+            Unsolved::Refused(refused, size) => self.refuse(refused, Some((size, size < NODES_MOST)), state, out),
+            Unsolved::NoThread(error) => {
+                Failure::Around(format!("no thread with the stack that solving needs: {error}"))
+            }
+        })
+    }
+
+    pub fn refuse(
+        &self,
+        refused: Refusal,
+        nodes: Option<(usize, bool)>,
+        state: Option<&State>,
+        out: &mut Vec<u8>,
+    ) -> Failure {
+        let subject = Subject { path: self.path, model: &self.model, nodes, state };
+        refuse(self.arguments, refused, &subject, out)
+    }
+}
+
+/// The state of a call, if it has one.
+fn state(arguments: &Arguments) -> Result<Option<State>, Failure> {
+    let numbers = &arguments.words[2..];
+    match (&arguments.at, numbers.len()) {
+        (None, 0) => Ok(None),
+        (Some(at), 0) => Given::read(at).and_then(|given| given.state()).map(Some).map_err(Failure::Usage),
+        (None, count) if count == LEVELS + 2 => State::read(numbers).map(Some).map_err(Failure::Usage),
+        (Some(_), _) => Err(usage("the state is given twice, or there is a word too many")),
+        _ => Err(Failure::Usage(format!("a state has a mask, {LEVELS} numerators and a denominator"))),
+    }
+}
+
+fn plan(arguments: &Arguments, out: &mut Vec<u8>) -> Done {
+    let asked = Asked::read(arguments)?;
+    let state = state(arguments)?;
+    if arguments.page && state.is_none() {
+        return Err(usage("--page is for a state: --at STATE"));
+    }
+    let solved = asked.solve(state.as_ref(), out)?;
+    let read = match &state {
+        None => solved.listing(),
+        Some(state) if arguments.page => page(&solved, state)?,
+        Some(state) => values(&solved, state),
+    };
+    match read {
+        Ok(text) => out.extend(text),
+        Err(refused) => return Err(asked.refuse(refused, None, state.as_ref(), out)),
+    }
+    Ok(())
+}
+
+#[cfg(planner_page)]
+fn page(solved: &Solved, state: &State) -> Result<Result<Vec<u8>, Refusal>, Failure> {
+    Ok(solved.page(state))
+}
+
+#[cfg(not(planner_page))]
+fn page(_: &Solved, _: &State) -> Result<Result<Vec<u8>, Refusal>, Failure> {
+    Err(Failure::Around("this library does not write pages".to_string()))
+}
+
+/// Places of a decimal.
+const PLACES: usize = 6;
+
+/// For each number of steps the value, exactly and as a decimal, and the action.
+fn values(solved: &Solved, state: &State) -> Result<Vec<u8>, Refusal> {
+    let mut rows = vec![["steps", "value", "decimal", "action"].map(str::to_string)];
+    for steps in 1..=solved.horizon {
+        let (value, action) = solved.value(steps, state)?;
+        rows.push([steps.to_string(), value.to_string(), value.decimal(PLACES), solved.action(action)?]);
+    }
+    let width = |column: usize| rows.iter().map(|row| row[column].len()).max().unwrap_or(0);
+    let (value, decimal) = (width(1), width(2));
+    let mut text = format!("at {}\n", state.words(solved.site.levels, solved.site.conditions));
+    for row in &rows {
+        text += &format!("{:>5}  {:>value$}  {:>decimal$}  {}\n", row[0], row[1], row[2], row[3]);
+    }
+    Ok(text.into_bytes())
+}

@@ -1,0 +1,88 @@
+//! Widths of models, tables and states, each in this place alone. Those that the C header names are taken from it.
+
+mod header {
+    include!(concat!(env!("OUT_DIR"), "/header.rs"));
+}
+
+pub use header::{MODEL_BYTES_MOST, NODES_MOST, NODE_WORDS, STAGE_WORDS, VALUE_BYTES, WORK_WORDS};
+pub use header::{STACK_BYTES_A_NODE, STACK_BYTES_BESIDE};
+
+/// Levels, and so the coefficients of a linear and the numerators of a state.
+pub const LEVELS: usize = 4;
+/// Conditions that a site may have. Next-step ones are numbered behind them.
+pub const CONDITIONS: usize = 4;
+pub const ACTIONS: usize = 8;
+pub const WEIGHT_MOST: usize = 100;
+/// Diagrams that the stack of a model holds.
+pub const STACK_MOST: usize = 32;
+/// Letters of a name.
+pub const LETTERS: usize = header::NAME_LETTERS_MOST;
+
+/// Bytes of an action, as an operand and in the site.
+pub const ACTION_BYTES: usize = 1;
+/// Bytes of each number of a linear.
+pub const NUMBER_BYTES: usize = 4;
+pub const LINEAR_BYTES: usize = NUMBER_BYTES * (LEVELS + 1);
+
+/// Words of a node: kind, a coefficient for each level, constant, high, low. A condition has its number first, a leaf its
+/// action in place of high.
+pub const KIND: usize = 0;
+pub const COEFFICIENTS: usize = 1;
+pub const CONSTANT: usize = COEFFICIENTS + LEVELS;
+pub const HIGH: usize = CONSTANT + 1;
+pub const LOW: usize = HIGH + 1;
+const _: () = assert!(LOW + 1 == NODE_WORDS);
+
+/// Kinds of nodes; any other is a test.
+pub mod kind {
+    pub const LEAF: i64 = 0;
+    pub const CONDITION: i64 = 1;
+}
+
+/// Bytes of the answers: place and one number; the same with a name behind it.
+pub const PAIR_BYTES: usize = 8;
+pub const NAME_BYTES: usize = PAIR_BYTES + LETTERS;
+
+/// No line of the listing of a solved model is longer: words of up to 20 characters for the numbers of a linear, and less than
+/// 64 for all else.
+pub const LINE_BYTES_MOST: usize = 64 + 21 * (LEVELS + 1);
+
+/// Sizes of tables that are tried one after the other.
+pub const SIZES: [usize; 4] = [1024, 4096, 16384, NODES_MOST];
+
+/// The bytes that commands begin with.
+pub mod code {
+    pub const SITE: u8 = 0x01;
+    pub const LEAF: u8 = 0x10;
+    pub const CONDITION: u8 = 0x11;
+    pub const TEST: u8 = 0x12;
+    pub const REWARD: u8 = 0x20;
+    pub const CHANCE: u8 = 0x21;
+    pub const NEXT: u8 = 0x22;
+    pub const END_WORTH: u8 = 0x23;
+    pub const NAME: u8 = 0x30;
+    pub const END: u8 = 0xFF;
+}
+
+/// The numbers of refusals.
+pub mod refusal {
+    pub const FIRST: u32 = 1;
+    pub const SHORT: u32 = 2;
+    pub const UNKNOWN: u32 = 3;
+    pub const RULE: u32 = 4;
+    pub const STACK: u32 = 5;
+    pub const TWICE: u32 = 6;
+    pub const MISSING: u32 = 7;
+    pub const AFTER_END: u32 = 8;
+    pub const STEPS: u32 = 9;
+    pub const SIZE: u32 = 10;
+    pub const LIMITS: u32 = 11;
+    pub const ROOM: u32 = 12;
+    pub const STATE: u32 = 13;
+    pub const NODE: u32 = 14;
+    pub const STAGE: u32 = 15;
+    pub const ACTION: u32 = 16;
+    pub const BUFFER: u32 = 17;
+    pub const NAMELESS: u32 = 18;
+    pub const AMBIGUOUS: u32 = 19;
+}
