@@ -7,6 +7,8 @@ usage: ./plan MODEL HORIZON [--nodes N]                   the plan of a site, as
        ./plan check MODEL                                 accepted, or why not
        ./plan show MODEL                                  the model in words
        ./plan find MODEL NAME                             the action that carries a name
+       ./plan picture MODEL HORIZON --along LEVEL .. -o FILE
+                                                          values and actions drawn over one level or two
        ./plan VERB --help                                 more about a verb
 
 HORIZON is the number of steps, 1 to 8.
@@ -42,4 +44,20 @@ usage: ./plan find MODEL NAME [--raw]
 
 Prints the number of the action that carries the name. Trailing spaces do not count. Refused with 18 if no action carries
 it, with 19 if several do.
+";
+
+pub const PICTURE: &str = "\
+usage: ./plan picture MODEL HORIZON --along L1[=FROM..TO] [L2[=FROM..TO]] [--at STATE] -o FILE.svg
+       ./plan picture .. --html -o FILE.html       a page with all settings of the conditions side by side
+       ./plan picture .. --table                   the numbers that would be drawn, as text
+
+Over one level: for each number of steps the value, and the action, cut exactly where the plan's tests change. A full dot and a
+square bracket mark the side that a break point belongs to. Over two levels: a map of actions for each number of steps, cut
+exactly by the lines of the tests.
+
+  --along       the free level or levels, with a range; without one the range shows every break point
+  --at STATE    the other levels and the conditions, as for ./plan; 0 and 'no' where not named
+  --nodes N     as for ./plan
+
+Each number is read once more from the tables, as a value at a state, before anything is written.
 ";

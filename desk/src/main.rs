@@ -6,9 +6,12 @@ mod fraction;
 mod help;
 mod library;
 mod model;
+mod picture;
 mod refusals;
 mod show;
 mod solved;
+#[cfg(test)]
+mod spell;
 mod state;
 mod verbs;
 mod whole;

@@ -3,6 +3,7 @@
 use crate::arguments::Arguments;
 use crate::library::{self, Refusal};
 use crate::model::Written;
+use crate::picture::{Picture, Stopped};
 use crate::refusals::{explain, Subject};
 use crate::solved::{Solved, Unsolved};
 use crate::state::{Given, State};
@@ -21,10 +22,13 @@ pub fn run(given: &[String], out: &mut Vec<u8>) -> Done {
         "check" => verb(rest, &["--raw"], help::CHECK, out, check),
         "show" => verb(rest, &["--raw"], help::SHOW, out, show),
         "find" => verb(rest, &["--raw"], help::FIND, out, find),
+        "picture" => verb(rest, &PICTURE_OPTIONS, help::PICTURE, out, picture),
         "help" => helped(rest, out),
         _ => verb(given, &["--at", "--nodes", "--raw", "--page"], help::PLAN, out, plan),
     }
 }
+
+const PICTURE_OPTIONS: [&str; 7] = ["--along", "--at", "--nodes", "-o", "--html", "--table", "--raw"];
 
 /// `help VERB` is `VERB --help`.
 fn helped(rest: &[String], out: &mut Vec<u8>) -> Done {
@@ -212,4 +216,44 @@ fn values(solved: &Solved, state: &State) -> Result<Vec<u8>, Refusal> {
         text += &format!("{:>5}  {:>value$}  {:>decimal$}  {}\n", row[0], row[1], row[2], row[3]);
     }
     Ok(text.into_bytes())
+}
+
+fn picture(arguments: &Arguments, out: &mut Vec<u8>) -> Done {
+    let asked = Asked::read(arguments)?;
+    if arguments.words.len() > 2 || arguments.along.is_empty() {
+        return Err(usage("a picture needs a model, a horizon and --along LEVEL"));
+    }
+    if arguments.table == arguments.output.is_some() {
+        return Err(usage("a picture needs -o FILE, or --table for its numbers"));
+    }
+    let given = Given::read(arguments.at.as_deref().unwrap_or("")).map_err(Failure::Usage)?;
+    // The library says whether the state is one of the model's; the free levels are 0 in it.
+    let state = given.state().map_err(Failure::Usage)?;
+    let solved = asked.solve(Some(&state), out)?;
+    solved.value(1, &state).map_err(|refused| asked.refuse(refused, None, Some(&state), out))?;
+    let written =
+        Picture::new(&solved, asked.path, given, &arguments.along).and_then(|mut p| write(&mut p, arguments, out));
+    written.map_err(|stopped| match stopped {
+        Stopped::Usage(words) => Failure::Usage(words),
+        Stopped::Around(words) => Failure::Around(words),
+        Stopped::Refused(refused) => asked.refuse(refused, None, Some(&state), out),
+    })
+}
+
+/// The numbers as text, or the drawing to its file.
+fn write(picture: &mut Picture, arguments: &Arguments, out: &mut Vec<u8>) -> Result<(), Stopped> {
+    let Some(path) = &arguments.output else {
+        for mask in picture.settings(arguments.html) {
+            out.extend(picture.table(mask)?.bytes());
+        }
+        return Ok(());
+    };
+    let first = picture.settings(false)[0];
+    let text = if arguments.html { picture.html()? } else { picture.svg(first)? };
+    std::fs::write(path, text).map_err(|error| Stopped::Around(format!("cannot write {path}: {error}")))?;
+    let (compared, too_fine) = picture.compared;
+    let too_fine = if too_fine > 0 { format!(", {too_fine} too fine to be a state") } else { String::new() };
+    let points = words::count(compared, "point");
+    out.extend(format!("{path}: written; {points} read back from the tables{too_fine}\n").bytes());
+    Ok(())
 }

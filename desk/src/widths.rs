@@ -4,8 +4,7 @@ mod header {
     include!(concat!(env!("OUT_DIR"), "/header.rs"));
 }
 
-pub use header::{MODEL_BYTES_MOST, NODES_MOST, NODE_WORDS, STAGE_WORDS, VALUE_BYTES, WORK_WORDS};
-pub use header::{STACK_BYTES_A_NODE, STACK_BYTES_BESIDE};
+pub use header::*;
 
 /// Levels, and so the coefficients of a linear and the numerators of a state.
 pub const LEVELS: usize = 4;
@@ -16,7 +15,7 @@ pub const WEIGHT_MOST: usize = 100;
 /// Diagrams that the stack of a model holds.
 pub const STACK_MOST: usize = 32;
 /// Letters of a name.
-pub const LETTERS: usize = header::NAME_LETTERS_MOST;
+pub const LETTERS: usize = NAME_LETTERS_MOST;
 
 /// Bytes of an action, as an operand and in the site.
 pub const ACTION_BYTES: usize = 1;
