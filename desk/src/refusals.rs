@@ -34,6 +34,7 @@ pub fn explain(refused: Refusal, subject: &Subject) -> String {
         ..=refusal::AFTER_END => of_model(number, subject.model, offset),
         refusal::LIMITS | refusal::ROOM => of_solve(refused, subject),
         refusal::STATE => of_state(subject),
+        refusal::NAMELESS | refusal::AMBIGUOUS => of_name(number, subject.model),
         _ => of_call(number),
     };
     text += &format!("  rule:   {rule}\n  advice: {advice}\n");
@@ -109,34 +110,41 @@ fn rule_broken(model: &[u8], offset: usize) -> Told {
         return told("operands and diagrams keep to the rules", "see the rules for this command");
     };
     operand_broken(&command, site)
-        .or_else(|| diagram_broken(written.items.iter().find(|item| item.offset == offset)?, site))
+        .or_else(|| diagram_broken(written.items.iter().find(|item| item.offset == offset)?, model, site))
         .unwrap_or_else(|| told("operands and diagrams keep to the rules", "see the rules for this command"))
 }
 
-fn range(what: &str, least: usize, most: usize, number: usize) -> Option<Told> {
-    let advice =
-        if most < least { format!("the site has none; it is {number} here") } else { format!("it is {number} here") };
-    (number < least || number > most).then(|| told(format!("{what} is {least} to {most}"), advice))
+/// A number of the site that is out of its bounds.
+fn bounded(what: &str, least: usize, most: usize, number: usize) -> Option<Told> {
+    let advice = format!("it is {number} here: bring it within these bounds");
+    (number < least || number > most).then(|| told(format!("the {what} is {least} to {most}"), advice))
+}
+
+/// An operand that the site has not.
+fn of_site(what: &str, most: usize, number: usize) -> Option<Told> {
+    let rule = match most {
+        0 => format!("the site has no {what}s"),
+        1 => format!("the site has {what} 1 alone"),
+        most => format!("the site has {what}s 1 to {most}"),
+    };
+    let advice = format!("it is {number} here: name one that the site has, or give the site more");
+    (number < 1 || number > most).then(|| told(rule, advice))
 }
 
 /// The first rule on operands that a command breaks.
 fn operand_broken(command: &Command, site: Site) -> Option<Told> {
-    let action = |number: usize| range("an action of this site", 1, site.actions, number);
+    let action = |number: usize| of_site("action", site.actions, number);
     match command {
-        Command::Site(site) => range("the number of levels", 1, LEVELS, site.levels)
-            .or_else(|| range("the number of conditions", 0, CONDITIONS, site.conditions))
-            .or_else(|| range("the number of actions", 1, ACTIONS, site.actions))
-            .or_else(|| range("the weight total", 1, WEIGHT_MOST, site.weight)),
+        Command::Site(site) => bounded("number of levels", 1, LEVELS, site.levels)
+            .or_else(|| bounded("number of conditions", 0, CONDITIONS, site.conditions))
+            .or_else(|| bounded("number of actions", 1, ACTIONS, site.actions))
+            .or_else(|| bounded("weight total", 1, WEIGHT_MOST, site.weight)),
         Command::Leaf(linear) => beyond(linear, site),
         Command::Test(linear) => beyond(linear, site).or_else(|| idle(linear)),
         Command::Condition(number) => condition(*number, site),
         Command::Reward(number) => action(*number),
-        Command::Chance(number, chosen) => {
-            action(*number).or_else(|| range("the condition of a chance", 1, site.conditions, *chosen))
-        }
-        Command::Next(number, level) => {
-            action(*number).or_else(|| range("a level of this site", 1, site.levels, *level))
-        }
+        Command::Chance(number, chosen) => action(*number).or_else(|| of_site("condition", site.conditions, *chosen)),
+        Command::Next(number, level) => action(*number).or_else(|| of_site("level", site.levels, *level)),
         Command::Name(number, letters) => action(*number).or_else(|| {
             let bad = letters.iter().position(|letter| !(0x20..=0x7E).contains(letter))?;
             let rule = format!("a name has {LETTERS} bytes, each 20 to 7E");
@@ -150,7 +158,7 @@ fn beyond(linear: &Linear, site: Site) -> Option<Told> {
     let levels = linear.coefficients.iter().enumerate().skip(site.levels);
     let (place, number) = levels.into_iter().find(|(_, &number)| number != 0)?;
     let rule = format!("coefficients beyond the site's {} are zero", words::count(site.levels, "level"));
-    Some(told(rule, format!("that of L{} is {number} here", place + 1)))
+    Some(told(rule, format!("that of L{} is {number} here: make it 0, or give the site more levels", place + 1)))
 }
 
 fn idle(linear: &Linear) -> Option<Told> {
@@ -168,16 +176,17 @@ fn condition(number: usize, site: Site) -> Option<Told> {
         0 => "a site without conditions has no condition command".to_string(),
         n => format!("a condition is 1 to {n} for now, {first_next} to {} for the next step", CONDITIONS + n),
     };
-    (!good).then(|| told(rule, format!("it is {number} here")))
+    let advice = format!("it is {number} here: name one that the site has, or give the site more");
+    (!good).then(|| told(rule, advice))
 }
 
 /// The rule on diagrams that a reward, a chance or an end worth breaks.
-fn diagram_broken(item: &Item, site: Site) -> Option<Told> {
+fn diagram_broken(item: &Item, model: &[u8], site: Site) -> Option<Told> {
     let diagram = item.diagram.as_ref()?;
     let next_step = |command: &Command| matches!(command, Command::Condition(number) if *number > CONDITIONS);
     if let Some(place) = first(diagram, &next_step).filter(|_| !matches!(item.command, Command::Next(..))) {
         let rule = "next-step conditions stand in next levels only";
-        return Some(told(rule, format!("one is at byte {place}: ask the condition now instead (1 to {CONDITIONS})")));
+        return Some(told(rule, format!("one is at byte {place}: ask for the condition now instead")));
     }
     let weight = |command: &Command| match command {
         Command::Leaf(linear) => {
@@ -188,7 +197,8 @@ fn diagram_broken(item: &Item, site: Site) -> Option<Told> {
     };
     let place = first(diagram, &weight).filter(|_| matches!(item.command, Command::Chance(..)))?;
     let rule = format!("the leaves of a chance are constants 0 to W, here {}", site.weight);
-    Some(told(rule, format!("the leaf at byte {place} is another")))
+    let leaf = command_at(model, place).map(|(leaf, _)| words::command(&leaf, &Written::default())).unwrap_or_default();
+    Some(told(rule, format!("at byte {place} is the {leaf}: give the weight, out of W, that the condition is yes")))
 }
 
 /// The offset of the first command of a diagram that is as asked.
@@ -204,8 +214,8 @@ fn stack(model: &[u8], offset: usize) -> Told {
         return told(rule, "combine branches sooner: a test or condition right behind its high and low");
     }
     let needed = match model.get(offset) {
-        Some(&code::CONDITION | &code::TEST) => "two diagrams, high and then low",
-        _ => "one diagram",
+        Some(&code::CONDITION | &code::TEST) => "low and then high",
+        _ => "a diagram",
     };
     told(
         format!("this command takes {needed} off the stack"),
@@ -287,12 +297,30 @@ fn of_state(subject: &Subject) -> Told {
     if u64::from(state.mask) >> site.conditions != 0 {
         let rule = format!("a state names conditions of the site only; it has {}", site.conditions);
         let most = site.conditions;
-        let named = if most == 0 { "name none".to_string() } else { format!("name C1 to C{most} only") };
+        let named = match most {
+            0 => "name none".to_string(),
+            1 => "name C1 only".to_string(),
+            most => format!("name C1 to C{most} only"),
+        };
         return told(rule, format!("the mask is {} here: {named}", state.mask));
     }
     let level = (site.levels..LEVELS).find(|&level| state.numerators[level] != 0).map_or(0, |level| level + 1);
     let rule = format!("levels beyond the site's {} are zero", words::count(site.levels, "level"));
     told(rule, format!("L{level} is not zero here: leave it out"))
+}
+
+fn of_name(number: u32, model: &[u8]) -> Told {
+    let written = Written::read(model);
+    let actions = 1..=written.site().map_or(0, |site| site.actions);
+    let names: Vec<String> = actions.filter_map(|action| Some(format!("{action} {}", written.name(action)?))).collect();
+    let advice = match names.is_empty() {
+        true => "the model names no action".to_string(),
+        false => format!("the names are: {}", names.join(", ")),
+    };
+    match number {
+        refusal::NAMELESS => told("some action carries the name", advice),
+        _ => told("no more than one action carries the name", advice),
+    }
 }
 
 fn of_call(number: u32) -> Told {
@@ -309,8 +337,6 @@ fn of_call(number: u32) -> Told {
         refusal::STAGE => told("the tables have the stage that is asked for", "solve with a longer horizon"),
         refusal::ACTION => told("the action is one of the site's", "see './plan show MODEL' for its actions"),
         refusal::BUFFER => told("the text fits its buffer", "take smaller tables, with --nodes"),
-        refusal::NAMELESS => told("some action carries the name", "see './plan show MODEL' for the names"),
-        refusal::AMBIGUOUS => told("one action alone carries the name", "see './plan show MODEL' for the names"),
         _ => told("not known here", "see include/planner.h"),
     }
 }

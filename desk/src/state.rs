@@ -58,7 +58,7 @@ impl Given {
     pub fn state(&self) -> Result<State, String> {
         let mask = (0..CONDITIONS).filter(|&i| self.conditions[i] == Some(true)).map(|i| 1 << i).sum();
         let levels = std::array::from_fn(|i| self.levels[i].clone().unwrap_or(Fraction::from(0)));
-        State::at(mask, &levels).ok_or("the levels have no common denominator within 32 bits".to_string())
+        State::at(mask, &levels).ok_or("over a common denominator the levels do not fit 32 bits".to_string())
     }
 }
 

@@ -162,11 +162,12 @@ impl Walk<'_> {
 }
 
 impl Region {
-    /// A point within: the mean of the corners.
-    fn middle(&self) -> [Fraction; 2] {
+    /// Three points within, not on a line: halfway from the corners' mean to the first three.
+    fn points(&self) -> Vec<[Fraction; 2]> {
+        let (zero, two) = (Fraction::from(0), Fraction::from(2));
         let count = Fraction::from(self.corners.len() as i64);
-        let zero = Fraction::from(0);
-        [0, 1].map(|i| &self.corners.iter().fold(zero.clone(), |sum, corner| &sum + &corner[i]) / &count)
+        let mean = [0, 1].map(|i| &self.corners.iter().fold(zero.clone(), |sum, corner| &sum + &corner[i]) / &count);
+        self.corners.iter().take(3).map(|corner| [0, 1].map(|i| &(&mean[i] + &corner[i]) / &two)).collect()
     }
 
     fn value(&self, at: &[Fraction; 2]) -> Fraction {
@@ -191,26 +192,32 @@ impl Map {
         Map { levels, steps, regions: walk.regions }
     }
 
-    /// Holds the middle of each region to the value and the action that the library reads there. Gives how many were compared and
-    /// how many are too fine to be a state.
+    /// Holds three points of each region to the value and the action that the library reads there: three settle a formula.
+    /// Gives how many were compared and how many are too fine to be a state.
     pub fn read_back(&self, solved: &Solved, fixed: &Fixed) -> Result<(usize, usize), String> {
         let (mut compared, mut too_fine) = (0, 0);
         for region in &self.regions {
-            let at = region.middle();
-            let Some(state) = State::at(fixed.mask, &fixed.at(self.levels, [&at[0], &at[1]])) else {
-                too_fine += 1;
-                continue;
-            };
-            let read = solved.value(self.steps, &state);
-            let (value, action) = read.map_err(|refused| format!("a value is refused with {}", refused.number))?;
-            if value != region.value(&at) || action != region.action {
-                let drawn = format!("{} with action {}", region.value(&at), region.action);
-                let [x, y] = &at;
-                return Err(format!("at {x}, {y} the drawing has {drawn}, the tables {value} with action {action}"));
+            for at in region.points() {
+                let Some(state) = State::at(fixed.mask, &fixed.at(self.levels, [&at[0], &at[1]])) else {
+                    too_fine += 1;
+                    continue;
+                };
+                self.compare(region, solved, &state, &at)?;
+                compared += 1;
             }
-            compared += 1;
         }
         Ok((compared, too_fine))
+    }
+
+    fn compare(&self, region: &Region, solved: &Solved, state: &State, at: &[Fraction; 2]) -> Result<(), String> {
+        let read = solved.value(self.steps, state);
+        let (value, action) = read.map_err(|refused| format!("a value is refused with {}", refused.number))?;
+        let drawn = region.value(at);
+        if value == drawn && action == region.action {
+            return Ok(());
+        }
+        let drawn = format!("{drawn} with action {}", region.action);
+        Err(format!("at {}, {} the drawing has {drawn}, the tables {value} with action {action}", at[0], at[1]))
     }
 }
 

@@ -302,7 +302,7 @@ mod tests {
         let model = spell(SLOPES).expect("a spelled model");
         let (solved, fixed) = (solved(&model), nowhere());
         let map = || Map::cut(&solved, &fixed, [0, 1], 2, &[range(0, 20), range(0, 10)]);
-        assert_eq!(map().read_back(&solved, &fixed), Ok((4, 0)));
+        assert_eq!(map().read_back(&solved, &fixed), Ok((12, 0)));
         let mut spoiled = map();
         spoiled.regions[3].action = 1;
         assert!(spoiled.read_back(&solved, &fixed).is_err());
