@@ -33,10 +33,24 @@ pub enum Failure {
     Raw,
 }
 
+/// Walks go down diagrams node by node; a stack is only taken as far as it is used.
+const STACK_BYTES: usize = 8192 * widths::NODES_MOST;
+
+/// The verb, on a thread with that stack: what it printed, and how it ended.
+fn run(given: Vec<String>) -> (Vec<u8>, Result<(), Failure>) {
+    let job = move || {
+        let mut out = Vec::new();
+        let done = verbs::run(&given, &mut out);
+        (out, done)
+    };
+    match std::thread::Builder::new().stack_size(STACK_BYTES).spawn(job) {
+        Ok(thread) => thread.join().unwrap_or_else(|panic| std::panic::resume_unwind(panic)),
+        Err(error) => (Vec::new(), Err(Failure::Around(format!("no thread with the stack that walks need: {error}")))),
+    }
+}
+
 fn main() -> ExitCode {
-    let given: Vec<String> = std::env::args().skip(1).collect();
-    let mut out = Vec::new();
-    let done = verbs::run(&given, &mut out);
+    let (out, done) = run(std::env::args().skip(1).collect());
     // A reader that has seen enough, as `head`, is no fault.
     let _ = std::io::stdout().write_all(&out).and_then(|()| std::io::stdout().flush());
     let (words, status) = match done {

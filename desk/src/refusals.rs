@@ -312,7 +312,8 @@ fn of_state(subject: &Subject) -> Told {
 fn of_name(number: u32, model: &[u8]) -> Told {
     let written = Written::read(model);
     let actions = 1..=written.site().map_or(0, |site| site.actions);
-    let names: Vec<String> = actions.filter_map(|action| Some(format!("{action} {}", written.name(action)?))).collect();
+    let names: Vec<String> =
+        actions.filter_map(|action| Some(format!("{action} '{}'", written.name(action)?))).collect();
     let advice = match names.is_empty() {
         true => "the model names no action".to_string(),
         false => format!("the names are: {}", names.join(", ")),

@@ -63,16 +63,20 @@ fn draw_map(frame: &Frame, map: &Map, sheet: &Sheet) -> String {
     body + &axes(map, sheet)
 }
 
-/// Light edges show where the value's formula changes. A region that has room for it carries its action's number.
+/// Light edges show where the value's formula changes, and a region carries its action's number, where there is room.
 fn draw_region(frame: &Frame, map: &Map, region: &Region, sheet: &Sheet) -> String {
     let points: Vec<(f64, f64)> = region.corners.iter().map(|[x, y]| (sheet.x(x), sheet.y(y))).collect();
     let corners: Vec<String> = points.iter().map(|(x, y)| format!("{},{}", px(*x), px(*y))).collect();
     let (corners, fill) = (corners.join(" "), colour(region.action));
     let words = format!("action {}, value {}", frame.name(region.action), region.formula(map.levels));
-    let edges = "stroke=\"#FFFFFF\" stroke-width=\"0.8\" stroke-opacity=\"0.6\"";
+    let roomy = area(&points) >= LABELLED;
+    let edges = match roomy {
+        true => "stroke=\"#FFFFFF\" stroke-width=\"0.8\" stroke-opacity=\"0.6\"".to_string(),
+        false => format!("stroke=\"{fill}\" stroke-width=\"0.4\""),
+    };
     let title = escaped(&words);
     let body = format!("<polygon points=\"{corners}\" fill=\"{fill}\" {edges}><title>{title}</title></polygon>\n");
-    if area(&points) < LABELLED {
+    if !roomy {
         return body;
     }
     let mean = |part: fn(&(f64, f64)) -> f64| points.iter().map(part).sum::<f64>() / points.len() as f64;

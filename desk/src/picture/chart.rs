@@ -54,17 +54,21 @@ pub fn draw(frame: &Frame, lines: &[Line], range: &(Fraction, Fraction)) -> Stri
     let mut body = text(LEFT, 30.0, "start", "font-size=\"15\" font-weight=\"bold\"", &frame.heading());
     let (legend, high) = legend(&frame.actions, LEFT, 46.0, RIGHT);
     body += &legend;
-    let mut top = 46.0 + high + 12.0;
+    let (mut top, mut crowded) = (46.0 + high + 12.0, false);
     for line in lines {
         let (least, most) = values(line);
         let panel = Panel { range, least, most, top: top + 24.0 };
         body += &draw_panel(frame, line, &panel);
+        crowded |= marked(line, &panel).contains(&false);
         top += PANEL;
     }
     let level = lines.first().map_or(1, |line| line.level + 1);
     body += &axis(range, top, level);
-    let note = "A full dot and a square bracket: the break point belongs to this side.";
-    body += &text(LEFT, top + 58.0, "start", "font-size=\"11\" fill=\"#555555\"", note);
+    let mut note = "A full dot and a square bracket: the break point belongs to this side.".to_string();
+    if crowded {
+        note += " Closer ones are not marked; --table has them all.";
+    }
+    body += &text(LEFT, top + 58.0, "start", "font-size=\"11\" fill=\"#555555\"", &note);
     document(WIDE, top + 72.0, &frame.title, &body)
 }
 
@@ -86,10 +90,29 @@ fn draw_panel(frame: &Frame, line: &Line, panel: &Panel) -> String {
     for piece in &line.pieces {
         body += &draw_piece(frame, line.level, piece, panel);
     }
-    for pair in line.pieces.windows(2) {
-        body += &dots(&pair[0], &pair[1], panel);
+    for (pair, marked) in line.pieces.windows(2).zip(marked(line, panel)) {
+        if marked {
+            body += &dots(&pair[0], &pair[1], panel);
+        }
     }
     body + &labels(line, panel)
+}
+
+/// Break points that are closer to the last marked one have no room for marks of their own.
+const APART: f64 = 8.0;
+
+/// Which break points are marked. Both ends of a single point are.
+fn marked(line: &Line, panel: &Panel) -> Vec<bool> {
+    let mut last = f64::MIN;
+    let mut roomy = |at: &Fraction| {
+        let x = panel.x(at);
+        let marked = x == last || x - last >= APART;
+        if marked {
+            last = x;
+        }
+        marked
+    };
+    line.breaks().map(&mut roomy).collect()
 }
 
 /// Values at the left, light lines across.
@@ -156,7 +179,7 @@ fn dots(left: &Piece, right: &Piece, panel: &Panel) -> String {
 fn labels(line: &Line, panel: &Panel) -> String {
     let (mut body, mut free) = (String::new(), [f64::MIN; 2]);
     let top = panel.strip() + STRIP;
-    for at in line.breaks() {
+    for (at, _) in line.breaks().zip(marked(line, panel)).filter(|(_, marked)| *marked) {
         let exact = at.to_string();
         let words = if exact.len() > 11 { at.decimal(4) } else { exact };
         let (x, half) = (panel.x(at), width(&words, 10.5) / 2.0 + 3.0);

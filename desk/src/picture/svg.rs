@@ -106,7 +106,8 @@ pub fn tick_step(from: &Fraction, to: &Fraction) -> Fraction {
 /// The actions with their colours, in lines that fit the width; the height that they take.
 pub fn legend(actions: &[(u32, String)], left: f64, top: f64, right: f64) -> (String, f64) {
     let (mut body, mut x, mut y) = (String::new(), left, top);
-    for (action, words) in actions {
+    for (action, name) in actions {
+        let words = &if name.contains(' ') { name.clone() } else { format!("action {name}") };
         let wide = 18.0 + width(words, 12.0) + 18.0;
         if x + wide > right && x > left {
             (x, y) = (left, y + 20.0);
