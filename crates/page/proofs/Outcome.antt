@@ -138,7 +138,7 @@ module _ (B : List ℕ) (S : Site) (H : ℕ) (nodes : List ℤ) (stages : List �
       is-free = sym e ∙ z
 
       bytes : length whole ≡ 51 * H
-      bytes = page-bytes B nodes stages q s H (passed B (length stages) H (p .0) .few)
+      bytes = page-bytes B nodes stages q s H (passed B (length stages) H (p .0) .most)
 
       pub page-17 : (length buffer < at) ⊎ (length buffer - at < 51 * H) → refused-listing 17 0 buffer ≡ page B H nodes stages q buffer at
       page-17 h = rw (is-free, lt-ltb (length buffer) (at + length whole) (⊎-elim (λ a. omega (arith, bytes)) (λ a. omega (arith, bytes)) h)) at by-tests

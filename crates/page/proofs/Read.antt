@@ -33,7 +33,8 @@ use Rattle.page_text.specs.Page.{page-line, whole-part, line-at, page-text}
 use Rattle.page_text.specs.Columns.{Fitting}
 use Rattle.page_text.specs.Uncut.{Signed32, line-fits, line-bytes}
 use Rattle.page.specs.Stages.{read-after, spared, Shown}
-use Rattle.page.proofs.Early.{Passed, passed}
+use Rattle.theory.specs.laws.Rows.{Passed}
+use Rattle.page.proofs.Early.{passed, weights-some}
 
 -- ---- the state
 
@@ -129,11 +130,11 @@ module _ (B : List ℕ) (H : ℕ) (nodes : List ℤ) (stages : List ℕ) (q : As
 -- ---- a stage whose line can be written
 
 module _ {B : List ℕ} {S : Site} {nodes : List ℤ} {stages : List ℕ} {q : Asked} {h : ℕ} (w : Shown B S nodes stages q h) where
-  in-stages : Passed B (length stages) h
+  in-stages : Passed B h (length stages)
   in-stages = passed B (length stages) h (w .passed)
 
   pub shown-steps : (1 ≤ h) × (h ≤ length stages) × (h ≤ 8)
-  shown-steps = let p = in-stages in (p .some, omega (arith, p .few, p .stages), p .few)
+  shown-steps = let p = in-stages in (p .least, omega (arith, p .most, p .eight), p .most)
 
   shown-read : read-after S nodes stages q h ≡ value-of B nodes stages h q
   shown-read = read-is B S nodes stages q h (w .site) (w .passed)
@@ -141,7 +142,7 @@ module _ {B : List ℕ} {S : Site} {nodes : List ℤ} {stages : List ℕ} {q : A
   pub shown-divisor : (0 < S .weights) × (0 < up (q .den)) × (h ≤ 8)
   shown-divisor =
       let p = in-stages in
-      (omega (arith, p .weights, ap (λ (S : Site). S .weights) (w .site)), den-some S nodes stages q h (ap (λ (v : ValueOut). v .number) shown-read ∙ w .read), p .few)
+      (omega (arith, weights-some B (length stages) h (w .passed), ap (λ (S : Site). S .weights) (w .site)), den-some S nodes stages q h (ap (λ (v : ValueOut). v .number) shown-read ∙ w .read), p .most)
 
   module _ {v : ValueOut} (e : v ≡ read-after S nodes stages q h) where
     reads : v ≡ value-of B nodes stages h q

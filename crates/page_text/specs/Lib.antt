@@ -1,4 +1,6 @@
--- Document 02's page, and the widths of its columns.
+-- Document 02's page, the widths of its columns, and what it leaves of the buffer.
 pub mod Page
 pub mod Columns
 pub mod Uncut
+pub mod Touched
+pub mod PageRows

@@ -74,7 +74,7 @@ module _ (B : List ℕ) (H : ℕ) (nodes : List ℤ) (stages : List ℕ) (q : As
       let v = early B H (length stages) in
       let n = at + length (page-text B H nodes stages q) in
       alike v (eqb (v .number) 0) (meets B H nodes stages q 13) (meets B H nodes stages q 15) (meets B H nodes stages q 14) (ltb size n) (ltb 0 n)
-      (λ t. lt-ltb 0 n (omega (arith, text-some (passed B (length stages) H (eqb-true (v .number) 0 t) .some))))
+      (λ t. lt-ltb 0 n (omega (arith, text-some (passed B (length stages) H (eqb-true (v .number) 0 t) .least))))
 
   number-is : (buffer : List ℕ) → page B H nodes stages q buffer at .number ≡ page-refusal B H nodes stages q (length buffer) at .number
   unfolding page

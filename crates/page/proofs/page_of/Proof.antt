@@ -15,7 +15,7 @@ use Rattle.page.proofs.page_of.Statement.{statement}
 use Rattle.page.proofs.page_of.Tie as tie
 
 refusal-requires : tie.Need-refusal-requires
-refusal-requires c κs = let w = passed (c .before .before .before .args .model .now) (length (c .before .before .before .args .stages .now)) (c .before .before .before .args .horizon) (c .before .before .before .pre .0) in omega (arith, w .few, w .stages)
+refusal-requires c κs = let w = passed (c .before .before .before .args .model .now) (length (c .before .before .before .args .stages .now)) (c .before .before .before .args .horizon) (c .before .before .before .pre .0) in omega (arith, w .most, w .eight)
 
 refused-requires : tie.Need-refused-requires
 refused-requires c κs = search needs
