@@ -3,7 +3,7 @@
 pub const PLAN: &str = "\
 usage: ./plan MODEL HORIZON [--nodes N]                   the plan of a site, as a listing
        ./plan MODEL HORIZON --at STATE [--page]           value and action at a state, for each number of steps
-       ./plan MODEL HORIZON MASK L1 L2 L3 L4 D [--page]   the same, the state in numbers
+       ./plan MODEL HORIZON MASK L1 .. D [--page]         the same, the state in numbers
        ./plan check MODEL                                 accepted, or why not
        ./plan show MODEL                                  the model in words
        ./plan find MODEL NAME                             the action that carries a name

@@ -115,9 +115,9 @@ mod tests {
     #[test]
     fn words_of_a_state() {
         let state = Given::read("L1=39/2, !C2 C1 L2=-0.25").unwrap().state().unwrap();
-        assert_eq!(state, State { mask: 1, numerators: [78, -1, 0, 0], denominator: 4 });
+        assert_eq!((state.mask, &state.numerators[..2], state.denominator), (1, &[78, -1][..], 4));
         assert_eq!(state.words(2, 2), "L1 = 39/2, L2 = -1/4, C1 yes, C2 no");
-        for text in ["L1", "L5=1", "L01=1", "C5", "L1=x", "L1=1 L1=2", "C1 !C1", "L1=1/0", "x"] {
+        for text in ["L1", "L99=1", "L01=1", "C9", "L1=x", "L1=1 L1=2", "C1 !C1", "L1=1/0", "x"] {
             assert!(Given::read(text).is_err(), "{text}");
         }
         assert!(Given::read("L1=3000000000").unwrap().state().is_err());

@@ -8,55 +8,56 @@ pub fn count(number: usize, what: &str) -> String {
     format!("{number} {what}{}", if number == 1 { "" } else { "s" })
 }
 
-/// Numbers with a name behind each, as a sum: `2*L1 - 3*L2 + 40`; nothing where all are zero.
-fn sum(terms: &[(i128, String)]) -> String {
+/// A number that is not zero, with the level that it stands before, if any.
+pub struct Term {
+    pub negative: bool,
+    pub size: String,
+    pub level: Option<usize>,
+}
+
+/// Terms as one writes them: `2*L1 - 3*L2 + 40`, or 0 where there are none.
+pub fn sum(terms: &[Term]) -> String {
     let mut text = String::new();
-    for (number, name) in terms.iter().filter(|(number, _)| *number != 0) {
-        let sign = match (text.is_empty(), *number < 0) {
+    for term in terms {
+        text += match (text.is_empty(), term.negative) {
             (true, true) => "-",
             (true, false) => "",
             (false, true) => " - ",
             (false, false) => " + ",
         };
-        let size = number.unsigned_abs();
-        text += &match (name.as_str(), size) {
-            ("", size) => format!("{sign}{size}"),
-            (name, 1) => format!("{sign}{name}"),
-            (name, size) => format!("{sign}{size}*{name}"),
+        text += &match (term.level, term.size.as_str()) {
+            (None, size) => size.to_string(),
+            (Some(level), "1") => format!("L{}", level + 1),
+            (Some(level), size) => format!("{size}*L{}", level + 1),
         };
     }
-    text
-}
-
-fn terms(linear: &Linear) -> Vec<(i128, String)> {
-    let levels = linear.coefficients.iter().enumerate().map(|(i, &c)| (c.into(), format!("L{}", i + 1)));
-    levels.chain([(linear.constant.into(), String::new())]).collect()
-}
-
-fn or_zero(text: String) -> String {
     if text.is_empty() {
         return "0".to_string();
     }
     text
 }
 
+fn terms(linear: &Linear) -> Vec<Term> {
+    let levels = linear.coefficients.iter().enumerate().map(|(level, &number)| (number, Some(level)));
+    let numbers = levels.chain([(linear.constant, None)]).filter(|(number, _)| *number != 0);
+    let term =
+        |(number, level): (i64, _)| Term { negative: number < 0, size: number.unsigned_abs().to_string(), level };
+    numbers.map(term).collect()
+}
+
 pub fn linear(linear: &Linear) -> String {
-    or_zero(sum(&terms(linear)))
+    sum(&terms(linear))
 }
 
 /// The test p <= 0 with p's negative terms on the other side; read from the right where only that side has levels.
 pub fn test(linear: &Linear) -> String {
-    let (mut left, mut right) = (terms(linear), terms(linear));
-    left.retain(|(number, _)| *number > 0);
-    right.retain(|(number, _)| *number < 0);
-    right.iter_mut().for_each(|(number, _)| *number = -*number);
-    let has_levels = |side: &[(i128, String)]| side.iter().any(|(_, name)| !name.is_empty());
-    let flipped = !has_levels(&left) && has_levels(&right);
-    let (left, right) = (or_zero(sum(&left)), or_zero(sum(&right)));
-    if flipped {
-        return format!("{right} >= {left}");
+    let (mut right, left): (Vec<Term>, Vec<Term>) = terms(linear).into_iter().partition(|term| term.negative);
+    right.iter_mut().for_each(|term| term.negative = false);
+    let has_levels = |side: &[Term]| side.iter().any(|term| term.level.is_some());
+    if !has_levels(&left) && has_levels(&right) {
+        return format!("{} >= {}", sum(&right), sum(&left));
     }
-    format!("{left} <= {right}")
+    format!("{} <= {}", sum(&left), sum(&right))
 }
 
 /// C1 for a condition now, N1 for the next step's.
@@ -118,15 +119,18 @@ mod tests {
 
     #[test]
     fn sums_and_tests() {
-        let of = |coefficients, constant| Linear { coefficients, constant };
-        assert_eq!(linear(&of([2, -3, 0, 1], -40)), "2*L1 - 3*L2 + L4 - 40");
-        assert_eq!(linear(&of([0; 4], 0)), "0");
-        assert_eq!(linear(&of([-1, 0, 0, 0], 7)), "-L1 + 7");
-        assert_eq!(test(&of([-1, 0, 0, 0], 10)), "L1 >= 10");
-        assert_eq!(test(&of([1, 0, 0, 0], 10)), "L1 + 10 <= 0");
-        assert_eq!(test(&of([2, -3, 0, 0], -40)), "2*L1 <= 3*L2 + 40");
-        assert_eq!(test(&of([-1, -1, 0, 0], 0)), "L1 + L2 >= 0");
-        assert_eq!(test(&of([0; 4], 5)), "5 <= 0");
-        assert_eq!(test(&of([0; 4], i64::from(i32::MIN))), "0 <= 2147483648");
+        let of = |levels: &[i64], constant| {
+            let coefficients = std::array::from_fn(|i| levels.get(i).copied().unwrap_or(0));
+            Linear { coefficients, constant }
+        };
+        assert_eq!(linear(&of(&[2, -3, 0, 1], -40)), "2*L1 - 3*L2 + L4 - 40");
+        assert_eq!(linear(&of(&[], 0)), "0");
+        assert_eq!(linear(&of(&[-1], 7)), "-L1 + 7");
+        assert_eq!(test(&of(&[-1], 10)), "L1 >= 10");
+        assert_eq!(test(&of(&[1], 10)), "L1 + 10 <= 0");
+        assert_eq!(test(&of(&[2, -3], -40)), "2*L1 <= 3*L2 + 40");
+        assert_eq!(test(&of(&[-1, -1], 0)), "L1 + L2 >= 0");
+        assert_eq!(test(&of(&[], 5)), "5 <= 0");
+        assert_eq!(test(&of(&[], i64::from(i32::MIN))), "0 <= 2147483648");
     }
 }

@@ -2,7 +2,7 @@
 
 use super::map::{Map, Region};
 use super::svg::*;
-use super::Frame;
+use super::{steps_left, Frame};
 use crate::fraction::Fraction;
 
 const SIDE: f64 = 260.0;
@@ -53,7 +53,7 @@ pub fn draw(frame: &Frame, maps: &[Map], range: &[(Fraction, Fraction); 2]) -> S
 }
 
 fn draw_map(frame: &Frame, map: &Map, sheet: &Sheet) -> String {
-    let heading = if map.steps == 1 { "1 step left".to_string() } else { format!("{} steps left", map.steps) };
+    let heading = steps_left(map.steps);
     let mut body = text(sheet.left, sheet.top - 9.0, "start", "font-size=\"12\" font-weight=\"bold\"", &heading);
     for region in &map.regions {
         body += &draw_region(frame, map, region, sheet);

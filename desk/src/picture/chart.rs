@@ -2,7 +2,7 @@
 
 use super::line::{Line, Piece};
 use super::svg::*;
-use super::Frame;
+use super::{steps_left, Frame};
 use crate::fraction::Fraction;
 
 const WIDE: f64 = 760.0;
@@ -84,7 +84,7 @@ fn axis(range: &(Fraction, Fraction), top: f64, level: usize) -> String {
 }
 
 fn draw_panel(frame: &Frame, line: &Line, panel: &Panel) -> String {
-    let heading = if line.steps == 1 { "1 step left".to_string() } else { format!("{} steps left", line.steps) };
+    let heading = steps_left(line.steps);
     let mut body = text(LEFT, panel.top - 8.0, "start", "font-size=\"12\" font-weight=\"bold\"", &heading);
     body += &grid(panel);
     for piece in &line.pieces {

@@ -15,6 +15,7 @@ use crate::solved::Solved;
 use crate::state::Given;
 use crate::whole::Whole;
 use crate::widths::{CONDITIONS, LEVELS};
+use crate::words::count;
 use line::Line;
 use map::Map;
 use slice::Fixed;
@@ -179,8 +180,9 @@ impl<'a> Picture<'a> {
     }
 }
 
-fn heading(steps: usize) -> String {
-    format!("{steps} step{} left\n", if steps == 1 { "" } else { "s" })
+/// `2 steps left`.
+fn steps_left(steps: usize) -> String {
+    format!("{} left", count(steps, "step"))
 }
 
 fn line_table(line: &Line, frame: &Frame) -> String {
@@ -188,7 +190,7 @@ fn line_table(line: &Line, frame: &Frame) -> String {
     let rows: Vec<[String; 3]> = line.pieces.iter().map(row).collect();
     let width = |column: usize| rows.iter().map(|row| row[column].len()).max().unwrap_or(0);
     let (range, action) = (width(0), width(1));
-    let mut text = heading(line.steps);
+    let mut text = format!("{}\n", steps_left(line.steps));
     for [piece, name, value] in &rows {
         text += &format!("  {piece:range$}  action {name:action$}  value {value}\n");
     }
@@ -196,7 +198,7 @@ fn line_table(line: &Line, frame: &Frame) -> String {
 }
 
 fn map_table(map: &Map, frame: &Frame) -> String {
-    let mut text = heading(map.steps);
+    let mut text = format!("{}\n", steps_left(map.steps));
     for region in &map.regions {
         let corners: Vec<String> = region.corners.iter().map(|[x, y]| format!("({x}, {y})")).collect();
         let (name, value) = (frame.name(region.action), region.formula(map.levels));

@@ -5,6 +5,7 @@ use crate::fraction::Fraction;
 use crate::solved::Solved;
 use crate::whole::Whole;
 use crate::widths::*;
+use crate::words::{sum, Term};
 
 /// A setting of the conditions and all levels; those of the free levels are not looked at.
 #[derive(Clone)]
@@ -67,24 +68,12 @@ pub fn scale(solved: &Solved, steps: usize) -> Fraction {
 
 /// A value's formula: `1/2*L1 - 3`.
 pub fn formula(terms: &[(&Fraction, usize)], constant: &Fraction) -> String {
-    let mut text = String::new();
-    let named = terms.iter().map(|(coefficient, level)| (*coefficient, format!("L{}", level + 1)));
-    for (number, name) in named.chain([(constant, String::new())]).filter(|(number, _)| !number.is_zero()) {
-        let sign = match (text.is_empty(), number.is_negative()) {
-            (true, true) => "-",
-            (true, false) => "",
-            (false, true) => " - ",
-            (false, false) => " + ",
-        };
-        let size = if number.is_negative() { (-number).to_string() } else { number.to_string() };
-        text += &match (name.as_str(), size.as_str()) {
-            ("", size) => format!("{sign}{size}"),
-            (name, "1") => format!("{sign}{name}"),
-            (name, size) => format!("{sign}{size}*{name}"),
-        };
-    }
-    if text.is_empty() {
-        text.push('0');
-    }
-    text
+    let levels = terms.iter().map(|(number, level)| (*number, Some(*level)));
+    let numbers = levels.chain([(constant, None)]).filter(|(number, _)| !number.is_zero());
+    let term = |(number, level): (&Fraction, _)| Term { negative: number.is_negative(), size: size(number), level };
+    sum(&numbers.map(term).collect::<Vec<Term>>())
+}
+
+fn size(number: &Fraction) -> String {
+    if number.is_negative() { -number } else { number.clone() }.to_string()
 }
