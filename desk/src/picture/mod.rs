@@ -132,8 +132,8 @@ impl<'a> Picture<'a> {
         let fixed = if words.is_empty() { String::new() } else { format!("at {}", words.join(", ")) };
         let named = |action| self.solved.action(action).map(|name| (action, name));
         let actions: Result<Vec<_>, Refusal> = (1..=actions as u32).map(named).collect();
-        let file = self.path.rsplit('/').next().unwrap_or(self.path);
-        Ok(Frame { title: format!("Plan of {file}"), fixed, actions: actions.map_err(Stopped::Refused)? })
+        let title = format!("Plan of {}", self.file());
+        Ok(Frame { title, fixed, actions: actions.map_err(Stopped::Refused)? })
     }
 
     /// The drawing at one setting of the conditions.
@@ -147,21 +147,26 @@ impl<'a> Picture<'a> {
         }
     }
 
-    /// A page with the drawings of all settings side by side.
+    /// A page with the drawings of all settings side by side, two in a row.
     pub fn html(&mut self) -> Result<String, Stopped> {
-        let mut figures = String::new();
-        for mask in self.settings(true) {
+        let (settings, mut figures) = (self.settings(true), String::new());
+        for &mask in &settings {
             figures += &format!("<figure>\n{}</figure>\n", self.svg(mask)?);
         }
-        let title = svg::escaped(&format!("Plan of {}, {} steps", self.path, self.solved.horizon));
+        let title = svg::escaped(&format!("Plan of {}, {}", self.file(), count(self.solved.horizon, "step")));
+        let (columns, ink) = (settings.len().min(2), svg::INK);
         Ok(format!(
             "<!DOCTYPE html>\n<html lang=\"en\">\n<head>\n<meta charset=\"utf-8\">\n<title>{title}</title>\n<style>\n\
-             body {{ font-family: 'DejaVu Sans', Verdana, sans-serif; margin: 24px; color: {}; background: #F4F4F4; }}\n\
-             main {{ display: flex; flex-wrap: wrap; gap: 24px; align-items: flex-start; }}\n\
-             figure {{ margin: 0; background: #FFFFFF; border: 1px solid #CCCCCC; }}\n</style>\n</head>\n<body>\n\
-             <h1>{title}</h1>\n<main>\n{figures}</main>\n</body>\n</html>\n",
-            svg::INK
+             body {{ font-family: 'DejaVu Sans', Verdana, sans-serif; margin: 24px; color: {ink}; background: #F4F4F4; }}\n\
+             main {{ display: grid; grid-template-columns: repeat({columns}, minmax(440px, 1fr)); gap: 16px; }}\n\
+             figure {{ margin: 0; background: #FFFFFF; border: 1px solid #CCCCCC; max-width: 1100px; }}\n\
+             svg {{ display: block; width: 100%; height: auto; }}\n</style>\n</head>\n<body>\n\
+             <h1>{title}</h1>\n<main>\n{figures}</main>\n</body>\n</html>\n"
         ))
+    }
+
+    fn file(&self) -> &str {
+        self.path.rsplit('/').next().unwrap_or(self.path)
     }
 
     /// The numbers of the drawing at one setting of the conditions.
