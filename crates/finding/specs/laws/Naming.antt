@@ -126,7 +126,8 @@ unfolding command-at Begins rules-of first-rules after site-at
 begins B =
     begins-if B (eqb (byte-at B 0) 0x01) _ _ (λ _. (tt, refl)) (begins-if B (eqb (byte-at B 0) 0x10) _ _ (λ e. broken 0 _ e) (begins-if B (eqb (byte-at B 0) 0x11) _ _ (λ e. broken 0 _ e)
     (begins-if B (eqb (byte-at B 0) 0x12) _ _ (λ e. broken 0 _ e) (begins-if B (eqb (byte-at B 0) 0x20) _ _ (λ e. broken 0 _ e) (begins-if B (eqb (byte-at B 0) 0x21) _ _ (λ e. broken 0 _ e)
-    (begins-if B (eqb (byte-at B 0) 0x22) _ _ (λ e. broken 0 _ e) (begins-if B (eqb (byte-at B 0) 0x30) _ _ (λ e. broken 0 _ e) (λ e. broken 0 _ e))))))))
+    (begins-if B (eqb (byte-at B 0) 0x22) _ _ (λ e. broken 0 _ e) (begins-if B (eqb (byte-at B 0) 0x23) _ _ (λ e. broken 0 _ e)
+    (begins-if B (eqb (byte-at B 0) 0x30) _ _ (λ e. broken 0 _ e) (λ e. broken 0 _ e)))))))))
 
 -- a command that is read is the one that stands there
 whole-command : (B : List ℕ) (at : ℕ) (c : Command) → whole c ≡ read-at B at → c ≡ command-at B at
