@@ -1,5 +1,5 @@
 // Solving and reading: the pond and the rain at all horizons, tables exactly large enough and one node short, the
-// refusals of both calls, and the same tables lent again and again.
+// refusals of both calls, the pond with an end worth, and the same tables lent again and again.
 ghost use Prim.Native.Nat.{_≤_};
 ghost use lib.ListN.{length};
 use libc::STDOUT_FILENO;
@@ -12,12 +12,15 @@ use values::reading::value;
 // Room for 256 nodes.
 const WORDS: usize = 2048;
 
-// The models lie one after another: the pond's from 0, the rain's, and one with weights of 100.
+// The models lie one after another: the pond's from 0, the rain's, one with weights of 100, and the pond's with the end
+// worth L1.
 const RAIN: usize = 184;
 
 const WEIGHTS: usize = 284;
 
-const END: usize = 433;
+const ENDED: usize = 433;
+
+const END: usize = 639;
 
 // A part of the models' bytes.
 struct Part {
@@ -94,7 +97,7 @@ fn print_name(names: &[u8], k: usize) {
 // A line's begin: what is solved, in which room.
 fn print_case(c: Case) {
     print_name(
-        b"pond;rain;no step;nine steps;no model;65,536 bytes;seven stage words;weights of 100",
+        b"pond;rain;no step;nine steps;no model;65,536 bytes;seven stage words;weights of 100;pond with an end worth",
         c.name,
     );
     labelled(b", horizon ", c.horizon as u64);
@@ -143,9 +146,13 @@ fn part_of(model: usize) -> Part
         },
         2 => Part {
             from: WEIGHTS,
-            to: END,
+            to: ENDED,
         },
         3 => Part { from: 0, to: 0 },
+        5 => Part {
+            from: ENDED,
+            to: END,
+        },
         _ => Part { from: 0, to: 65536 },
     }
 }
@@ -242,7 +249,7 @@ fn listed(rows: &[u8], k: usize) -> Case {
 
 // Each solve after the last one's room and peak. The pond at all horizons, then at horizon 2 in each room up to its
 // peak of 21; the rain; 9, 10 and the model's own, which leave everything as it was; 10 before 9; and where W is 100
-// and there are four conditions, 100 to the power of 4 × 3, which leaves the limits.
+// and there are four conditions, 100 to the power of 4 × 3, which leaves the limits. Last the pond with an end worth.
 fn case_at(i: u32, room: usize, peak: usize) -> Case {
     if i < 24 {
         return at_horizon(0, i, room, peak);
@@ -260,7 +267,7 @@ fn case_at(i: u32, room: usize, peak: usize) -> Case {
         return at_horizon(1, i - 46, room, peak);
     }
     listed(
-        b"0028 2008 3098 4328 5498 6097 7228 7238 7288",
+        b"0028 2008 3098 4328 5498 6097 7228 7238 7288 8518 8528 8588",
         (i - 70) as usize,
     )
 }
@@ -294,6 +301,12 @@ fn pond_values(model: &[u8], nodes: &[i64], stages: &[u32]) {
     all_steps(b"at 20", model, nodes, stages, 0, 20, 1);
     all_steps(b"at 39/2", model, nodes, stages, 0, 39, 2);
     all_steps(b"at -5", model, nodes, stages, 0, -5, 1);
+}
+
+fn ended_values(model: &[u8], nodes: &[i64], stages: &[u32]) {
+    all_steps(b"at 20, end worth", model, nodes, stages, 0, 20, 1);
+    all_steps(b"at 39/2, end worth", model, nodes, stages, 0, 39, 2);
+    all_steps(b"at -5, end worth", model, nodes, stages, 0, -5, 1);
 }
 
 fn rain_values(model: &[u8], nodes: &[i64], stages: &[u32]) {
@@ -343,7 +356,7 @@ fn refused_values(model: &[u8], nodes: &[i64], stages: &[u32]) {
 
 // What is read after a solve.
 fn print_values(i: u32, models: &[u8], nodes: &[i64], stages: &[u32]) {
-    if models.len() < WEIGHTS {
+    if models.len() < END {
         return;
     }
     if i == 23 {
@@ -354,6 +367,9 @@ fn print_values(i: u32, models: &[u8], nodes: &[i64], stages: &[u32]) {
     }
     if i == 75 {
         refused_values(&models[..RAIN], nodes, stages);
+    }
+    if i == 81 {
+        ended_values(&models[ENDED..END], nodes, stages);
     }
 }
 
@@ -381,7 +397,7 @@ fn all_solves(
     let mut room: usize = 0;
     let mut peak: usize = 0;
     let mut i: u32 = 0;
-    while i < 79 {
+    while i < 82 {
         let c = case_at(i, room, peak);
         room = c.room;
         peak = solved(models, c, nodes, stages, work);
@@ -478,7 +494,7 @@ fn run(models: &[u8; 65536]) {
 fn main() {
     let mut models = io::large_buffer();
     hex_text::bytes_of(
-        b"S 01 00 02A 01 P 20 01A 10 01000000 OOOKO 22 01A 01 10 OOOOK 32000000 10 OOOOK ffffffff 12 ffffffff OOOK 0a000000 20 02A 10 01000000 OOOK f6ffffff 10 01000000 OOOKO 12 ffffffff OOOK 0a000000 22 02A 01 ff | S 01 01 01A 0a 10 01000000 OOOKO 20 01A 10 OOOOK 07000000 21 01A 01 10 01000000 OOOK 6affffff 10 01000000 OOOK ceffffff 11 05 22 01A 01 ff | S 01 04 01A 64 10 01000000 OOOKO 20 01A 10 OOOOK 32000000 21 01A 01 10 OOOOK 64000000 21 01A 02 P 21 01A 03 10 OOOOK 01000000 21 01A 04 10 01000000 OOOKO 22 01A 01 ff",
+        b"S 01 00 02A 01 P 20 01A 10 01000000 OOOKO 22 01A 01 10 OOOOK 32000000 10 OOOOK ffffffff 12 ffffffff OOOK 0a000000 20 02A 10 01000000 OOOK f6ffffff 10 01000000 OOOKO 12 ffffffff OOOK 0a000000 22 02A 01 ff | S 01 01 01A 0a 10 01000000 OOOKO 20 01A 10 OOOOK 07000000 21 01A 01 10 01000000 OOOK 6affffff 10 01000000 OOOK ceffffff 11 05 22 01A 01 ff | S 01 04 01A 64 10 01000000 OOOKO 20 01A 10 OOOOK 32000000 21 01A 01 10 OOOOK 64000000 21 01A 02 P 21 01A 03 10 OOOOK 01000000 21 01A 04 10 01000000 OOOKO 22 01A 01 ff | S 01 00 02A 01 P 20 01A 10 01000000 OOOKO 22 01A 01 10 OOOOK 32000000 10 OOOOK ffffffff 12 ffffffff OOOK 0a000000 20 02A 10 01000000 OOOK f6ffffff 10 01000000 OOOKO 12 ffffffff OOOK 0a000000 22 02A 01 10 01000000 OOOKO 23 ff",
         &mut models,
     );
     run(&models);

@@ -5,10 +5,10 @@ use Rattle.check_solve.proofs.all_solves.Statement.{statement}
 use Rattle.check_solve.proofs.all_solves.Tie as tie
 
 abbrev Inv-loop : tie.InvT-loop
-Inv-loop models nodes₀ stages₀ work₀ room₀ peak₀ i₀ nodes stages work room peak i = i ≤ 79
+Inv-loop models nodes₀ stages₀ work₀ room₀ peak₀ i₀ nodes stages work room peak i = i ≤ 82
 
 abbrev μ-loop : tie.MeasureT-loop
-μ-loop models nodes₀ stages₀ work₀ room₀ peak₀ i₀ nodes stages work room peak i = 79 - i
+μ-loop models nodes₀ stages₀ work₀ room₀ peak₀ i₀ nodes stages work room peak i = 82 - i
 
 loop-holds : tie.Need-loop-holds Inv-loop μ-loop
 loop-holds c = search needs

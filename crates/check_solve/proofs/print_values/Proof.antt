@@ -11,7 +11,7 @@ returns c = search needs
 
 slice-aggregate-pond-values : tie.Need-slice-aggregate-pond-values
 slice-aggregate-pond-values c =
-    sym (length-take-le 184 (c .before .before .before .before .before .args .models .now) (omega (arith, c .before .before .if1 .left)))
+    sym (length-take-le 184 ((c .before .before .before .before .before) .args .models .now) (omega (arith, c .before .before .if1 .left)))
 
 pond-values-requires : tie.Need-pond-values-requires
 pond-values-requires c κs = search needs
@@ -30,10 +30,22 @@ rain-values-requires c κs = search needs
 
 slice-aggregate-refused-values : tie.Need-slice-aggregate-refused-values
 slice-aggregate-refused-values c =
-    sym (length-take-le 184 (c .before .before .before .before .before .before .before .args .models .now) (omega (arith, c .before .before .before .before .if1 .left)))
+    sym (length-take-le 184 ((c .before .before .before .before .before .before .before) .args .models .now) (omega (arith, c .before .before .before .before .if1 .left)))
 
 refused-values-requires : tie.Need-refused-values-requires
 refused-values-requires c κs = search needs
+
+sub-ended-values : tie.Need-sub-ended-values
+sub-ended-values c = search needs
+
+part-ended-values-start : tie.Need-part-ended-values-start
+part-ended-values-start c = search needs
+
+part-ended-values-end : tie.Need-part-ended-values-end
+part-ended-values-end c = search needs
+
+ended-values-requires : tie.Need-ended-values-requires
+ended-values-requires c κs = search needs
 
 returns-2 : tie.Need-returns-2
 returns-2 c = search needs
@@ -54,5 +66,9 @@ print-values-spec =
     rain-values-requires
     slice-aggregate-refused-values
     refused-values-requires
+    sub-ended-values
+    part-ended-values-start
+    part-ended-values-end
+    ended-values-requires
     returns-2
     returns-3)
