@@ -96,5 +96,12 @@ fn main() {
     for horizon in [2, 3, 8] {
         lent.solved("weights of 100", &weights, horizon, 256, 8);
     }
+    let ended = [&pond[..pond.len() - 1], &bytes("10 01000000 OOOO 23 ff")].concat();
+    for horizon in [1, 2, 8] {
+        lent.solved("pond with an end worth", &ended, horizon, 256, 8);
+    }
+    lent.all_steps("at 20, end worth", &ended, 0, 20, 1);
+    lent.all_steps("at 39/2, end worth", &ended, 0, 39, 2);
+    lent.all_steps("at -5, end worth", &ended, 0, -5, 1);
     println!("240 of 240 as in new tables");
 }
