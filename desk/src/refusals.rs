@@ -84,9 +84,10 @@ fn short(model: &[u8], offset: usize) -> Told {
 
 fn unknown(model: &[u8], offset: usize) -> Told {
     let before = Written::read(&model[..offset]);
-    let commands = "a command begins with 01, 10, 11, 12, 20, 21, 22, 23, 30 or FF";
+    let [first @ .., last] = code::ALL.map(|code| format!("{code:02X}"));
+    let commands = format!("a command begins with {} or {last}", first.join(", "));
     if offset == 0 {
-        return told(commands, "is the file a model? One begins with its site (01)");
+        return told(commands, format!("is the file a model? One begins with its site ({:02X})", code::SITE));
     }
     let last = last_before(model, offset).map_or(String::new(), |(place, command)| {
         format!("; the one before is at byte {place}: {}", words::command(&command, &before))

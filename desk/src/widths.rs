@@ -61,6 +61,7 @@ pub mod code {
     pub const END_WORTH: u8 = 0x23;
     pub const NAME: u8 = 0x30;
     pub const END: u8 = 0xFF;
+    pub const ALL: [u8; 10] = [SITE, LEAF, CONDITION, TEST, REWARD, CHANCE, NEXT, END_WORTH, NAME, END];
 }
 
 /// The numbers of refusals.
