@@ -309,9 +309,9 @@ mod tests {
         let model = spell(SLOPES).expect("a spelled model");
         let (solved, fixed) = (solved(&model), nowhere());
         let map = || Map::cut(&solved, &fixed, [0, 1], 2, &[range(0, 20), range(0, 10)]);
-        assert_eq!(map().read_back(&solved, &fixed), Ok((12, 0)));
+        assert_eq!(map().read_back(&solved, &fixed), Ok((9, 0)));
         let mut spoiled = map();
-        spoiled.regions[3].action = 1;
+        spoiled.regions[2].action = 1;
         assert!(spoiled.read_back(&solved, &fixed).is_err());
         let mut spoiled = map();
         spoiled.regions.iter_mut().for_each(|region| region.corners.iter_mut().for_each(|corner| corner.reverse()));
