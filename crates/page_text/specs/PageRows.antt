@@ -1,5 +1,6 @@
 -- "What a refusal gives", of a page: each number with when it is given, and what it leaves.
-use mathlib.Core.Path.{_≡_, sym, ap, _∙_}
+use mathlib.Core.Path.{_≡_, refl, sym, ap, subst, _∙_}
+use mathlib.Core.Logic.{_↔_}
 use mathlib.Core.Bool.{Bool, true, false, not, _&&_}
 use mathlib.Core.List.{List}
 use Prim.Native.Nat.{ℕ, zero, suc, _+_, _≤_, _<_}
@@ -14,7 +15,7 @@ use Rattle.theory.specs.Solve.{early}
 use Rattle.theory.specs.Value.{Asked, value-of}
 use Rattle.theory.specs.Listing.{written, ListingOut}
 use Rattle.theory.specs.Rows.{Range, Admitted, EarlyRow}
-use Rattle.theory.specs.laws.Rows.{by-early, admitted, early-some}
+use Rattle.theory.specs.laws.Rows.{if-yes, if-no, by-early, admitted, early-some, early-is, admitted-is}
 use Rattle.page_text.specs.Page.{page-text, meets, page-refusal, page}
 
 module _ (B : List ℕ) (H : ℕ) (nodes : List ℤ) (stages : List ℕ) (q : Asked) (buffer : List ℕ) (at : ℕ) where
@@ -111,3 +112,73 @@ module _ (B : List ℕ) (H : ℕ) (nodes : List ℤ) (stages : List ℕ) (q : As
     where
       early-row : (k p : ℕ) → EarlyRow B H (length stages) k p → Row (left-by (refusal k p))
       early-row k p r = by-test (eqb k 0) (λ b. Row (if b done (refused-page B H nodes stages q buffer at k p))) (λ t. absurd (omega (arith, early-some r, eqb→eq k 0 t))) (λ _. page-1-10 r)
+
+-- ---- and each row is the outcome
+
+module _ (B : List ℕ) (H : ℕ) (nodes : List ℤ) (stages : List ℕ) (q : Asked) (buffer : List ℕ) (at : ℕ) where
+  abbrev m : ℕ → Bool
+  m = meets B H nodes stages q
+
+  abbrev short : Bool
+  short = ltb (length buffer) (at + length (page-text B H nodes stages q))
+
+  -- what is left to judge behind 13, behind 15 and behind 14
+  abbrev behind-14 : Verdict
+  behind-14 = if short (refusal 17 0) (refusal 0 0)
+
+  abbrev behind-15 : Verdict
+  behind-15 = if (m 14) (refusal 14 0) behind-14
+
+  abbrev behind-13 : Verdict
+  behind-13 = if (m 15) (refusal 15 0) behind-15
+
+  from-early : Verdict → Verdict
+  from-early v = if (not (eqb (v .number) 0)) v (if (m 13) (refusal 13 0) behind-13)
+
+  abbrev refuses : Verdict
+  refuses = page-refusal B H nodes stages q (length buffer) at
+
+  some-meets : {k h : ℕ} → Range 1 H h → value-of B nodes stages h q .number ≡ k → T (m k)
+  some-meets {k} {h} r e = by-test (m k) T (λ _. tt) (λ t. absurd (none B H nodes stages q buffer at k t h r e))
+
+  none-meets : {k : ℕ} → Spared B H nodes stages q buffer at k → T (not (m k))
+  none-meets {k} s = by-test (m k) (λ b. T (not b)) (λ t. let r = some B H nodes stages q buffer at k t in absurd (s (r .0) (r .1) (r .2))) (λ _. tt)
+
+  admitted-as : Admitted B H (length stages) → refuses ≡ if (m 13) (refusal 13 0) behind-13
+  unfolding page-refusal from-early
+  admitted-as d = ap from-early (admitted-is d)
+
+  past-13 : Admitted B H (length stages) → Spared B H nodes stages q buffer at 13 → refuses ≡ behind-13
+  past-13 d a = admitted-as d ∙ if-no (m 13) (refusal 13 0) behind-13 (none-meets a)
+
+  past-15 : Admitted B H (length stages) → Spared B H nodes stages q buffer at 13 → Spared B H nodes stages q buffer at 15 → refuses ≡ behind-15
+  past-15 d a b = past-13 d a ∙ if-no (m 15) (refusal 15 0) behind-15 (none-meets b)
+
+  past-14 : Admitted B H (length stages) → Spared B H nodes stages q buffer at 13 → Spared B H nodes stages q buffer at 15 → Spared B H nodes stages q buffer at 14 → refuses ≡ behind-14
+  past-14 d a b c = past-15 d a b ∙ if-no (m 14) (refusal 14 0) behind-14 (none-meets c)
+
+  refused-as : (k p : ℕ) → 1 ≤ k → refuses ≡ refusal k p → page B H nodes stages q buffer at ≡ refused-page B H nodes stages q buffer at k p
+  unfolding page
+  refused-as k p h e = ap (left-by B H nodes stages q buffer at) e ∙ by-test (eqb k 0) (λ b. if b (done B H nodes stages q buffer at) (refused-page B H nodes stages q buffer at k p) ≡ refused-page B H nodes stages q buffer at k p)
+      (λ t. absurd (omega (arith, eqb→eq k 0 t))) (λ _. refl)
+
+  -- the page is each of its rows
+  pub page-is : {o : ListingOut} → PageRow B H nodes stages q buffer at o → page B H nodes stages q buffer at ≡ o
+  unfolding page page-refusal from-early
+  page-is (page-0 d a b c l) = ap (left-by B H nodes stages q buffer at) (past-14 d a b c
+      ∙ by-test short (λ x. if x (refusal 17 0) (refusal 0 0) ≡ refusal 0 0) (λ t. absurd (omega (arith, ltb→lt (length buffer) (at + length (page-text B H nodes stages q)) t))) (λ _. refl))
+  page-is (page-1-10 {k = k} {p = p} r) = refused-as k p (early-some r) (ap from-early (early-is r)
+      ∙ by-test (eqb k 0) (λ x. if (not x) (refusal k p) (if (m 13) (refusal 13 0) behind-13) ≡ refusal k p) (λ t. absurd (omega (arith, early-some r, eqb→eq k 0 t))) (λ _. refl))
+  page-is (page-13 d r e) = refused-as 13 0 (omega arith) (admitted-as d ∙ if-yes (m 13) (refusal 13 0) behind-13 (some-meets r e))
+  page-is (page-15 d a r e) = refused-as 15 0 (omega arith) (past-13 d a ∙ if-yes (m 15) (refusal 15 0) behind-15 (some-meets r e))
+  page-is (page-14 d a b r e) = refused-as 14 0 (omega arith) (past-15 d a b ∙ if-yes (m 14) (refusal 14 0) behind-14 (some-meets r e))
+  page-is (page-17 d a b c l) = refused-as 17 0 (omega arith) (past-14 d a b c
+      ∙ by-test short (λ x. if x (refusal 17 0) (refusal 0 0) ≡ refusal 17 0) (λ _. refl) (λ t. absurd (omega (arith, nltb→le (length buffer) (at + length (page-text B H nodes stages q)) t))))
+
+-- every outcome is one of the rows, and no two are rows of the same call
+abbrev pub PageRows : Type 0
+PageRows = (B : List ℕ) (H : ℕ) (nodes : List ℤ) (stages : List ℕ) (q : Asked) (buffer : List ℕ) (at : ℕ) (o : ListingOut)
+    → PageRow B H nodes stages q buffer at o ↔ (page B H nodes stages q buffer at ≡ o)
+
+pub page-rows : PageRows
+page-rows B H nodes stages q buffer at o = (page-is B H nodes stages q buffer at, λ e. subst (PageRow B H nodes stages q buffer at) e (page-row B H nodes stages q buffer at))
