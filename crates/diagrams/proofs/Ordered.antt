@@ -1,21 +1,25 @@
 -- The order of the words is the order of the tests.
-use mathlib.Core.Path.{_≡_, refl, sym, ap, ap₂, _∙_}
+use mathlib.Core.Path.{_≡_, refl, sym, ap, ap₂, _∙_, subst}
 use mathlib.Core.Bool.{Bool, true, false}
-use Prim.Native.Nat.{ℕ, zero, suc, _-_, _<_, compare, Ordering, Ordering·lt, Ordering·eq, Ordering·gt}
+use Prim.Native.Nat.{ℕ, zero, suc, _+_, _-_, _<_, _^_, compare, Ordering, Ordering·lt, Ordering·eq, Ordering·gt}
 use native.Mathlib.Omega.{arith}
 use borrow.Author.Tests.{ltb-true, ltb-false}
 use mathlib.Core.List.{List, [], _∷_}
 use native.Mathlib.Nat.{suc-inj}
-use lib.Dec.{ltb}
+use lib.Dec.{T, ltb, isEq}
 use lib.IntN.{ℤ, pos, natAbs}
-use lib.ListN.{length, getD, take}
-use lib.Signed.{pos-natAbs}
-use Rattle.whole.specs.Linears.{numbers}
-use Rattle.whole.proofs.Comparing.{lt-cmp, gt-cmp, eq-cmp}
+use lib.ListN.{length, getD, take, drop}
+use lib.Signed.{pos-natAbs, mag}
+use mir.Syntax.{w64}
+use mir.Val.{ofZ, toZ}
+use Rattle.whole.specs.Linears.{numbers, ordNum}
+use Rattle.whole.proofs.Comparing.{lt-cmp, gt-cmp, eq-cmp, num-eq, then-here, then-on, cmp-back, order-differs, order-goes, order-ends}
+use Rattle.table.proofs.Words.{R, same-bits}
 use Rattle.table.proofs.Look.{eqZ-true}
 use Rattle.table.specs.Table.{eqZ}
 use Rattle.table.specs.declared.Node.{Node}
 use Rattle.theory.specs.Widths.{levels-most, conditions-most}
+use Rattle.theory.specs.laws.Comps.{cmpZ-eq, cmpZ-refl}
 use Rattle.theory.specs.Diagram.{Linear, Test, now, later, linear, then, cmpZ, cmpList, cmpLinear, cmp}
 use Rattle.diagrams.specs.Nodes.{linOf, firstOf, conditionOf, testOf, Tested}
 use Rattle.diagrams.specs.Roots.{orderOf}
@@ -40,6 +44,42 @@ last-order zero (x ∷ []) (y ∷ []) e d = then-idr (cmpZ x y)
 last-order zero (x ∷ []) (y ∷ z ∷ b) e d = absurd (omega arith)
 last-order zero (x ∷ w ∷ a) (y ∷ b) e d = absurd (omega arith)
 last-order (suc m) (x ∷ a) (y ∷ b) e d = ap (then (cmpZ x y)) (last-order m a b (suc-inj e) (suc-inj d)) ∙ sym (then-assoc (cmpZ x y) (cmpList (take m a) (take m b)) (cmpZ (getD a m (pos 0)) (getD b m (pos 0))))
+
+-- words that differ are not compared as equal
+words-differ : (x y : ℤ) → mag x < 2 ^ 63 → mag y < 2 ^ 63 → (ofZ w64 x ≡ ofZ w64 y → ⊥) → {r : ℕ} → r ≡ ordNum (cmpZ (R x) (R y)) → r ≡ 1 → ⊥
+words-differ x y fx fy n e d = n (ap (ofZ w64) (cmpZ-eq x y (subst (λ (o : Ordering). T (isEq o)) (sym (num-eq (cmpZ x y) (cmp-back x y fx fy e) d)) tt)))
+
+-- and those that do not are
+words-same : (x y : ℤ) → ofZ w64 x ≡ ofZ w64 y → 1 ≡ ordNum (cmpZ (R x) (R y))
+unfolding ordNum
+words-same x y e = ap ordNum (sym (cmpZ-refl (R x)) ∙ ap (cmpZ (R x)) (ap (toZ w64) e))
+
+-- the first numbers that differ decide
+module _ (a b : List ℤ) (ea : length a ≡ numbers) (eb : length b ≡ numbers) (i : ℕ) (is : cmpList (drop i a) (drop i b) ≡ cmpList a b) (h : i < numbers) (fx : mag (getD a i (pos 0)) < 2 ^ 63) (fy : mag (getD b i (pos 0)) < 2 ^ 63) where
+  pub number-differs : (ofZ w64 (getD a i (pos 0)) ≡ ofZ w64 (getD b i (pos 0)) → ⊥) → {r : ℕ} → r ≡ ordNum (cmpZ (R (getD a i (pos 0))) (R (getD b i (pos 0)))) → r ≡ ordNum (cmpList a b)
+  number-differs n e = order-differs a b ea eb i is h fx fy e (words-differ (getD a i (pos 0)) (getD b i (pos 0)) fx fy n e)
+
+  pub number-same : ofZ w64 (getD a i (pos 0)) ≡ ofZ w64 (getD b i (pos 0)) → cmpList (drop (i + 1) a) (drop (i + 1) b) ≡ cmpList a b
+  number-same e = order-goes a b ea eb i is h fx fy (words-same (getD a i (pos 0)) (getD b i (pos 0)) e) refl
+
+-- the constant decides, where the coefficients are equal
+module _ (a b : List ℤ) (ea : length a ≡ numbers) (eb : length b ≡ numbers) (i : ℕ) (ei : i ≡ levels-most) (is : cmpList (drop i a) (drop i b) ≡ cmpList a b) where
+  abbrev p : ℤ
+  p = getD a levels-most (pos 0)
+
+  abbrev q : ℤ
+  q = getD b levels-most (pos 0)
+
+  here : cmpList (drop levels-most a) (drop levels-most b) ≡ cmpList a b
+  here = subst (λ (i : ℕ). cmpList (drop i a) (drop i b) ≡ cmpList a b) ei is
+
+  pub constant-order : mag p < 2 ^ 63 → mag q < 2 ^ 63 → {r : ℕ} → r ≡ ordNum (cmpZ (R p) (R q)) → r ≡ ordNum (cmpList a b)
+  constant-order fa fb {r} e = go r e
+    where
+      go : (r : ℕ) → r ≡ ordNum (cmpZ (R p) (R q)) → r ≡ ordNum (cmpList a b)
+      go zero e = order-differs a b ea eb levels-most here (omega arith) fa fb e (λ d. omega arith)
+      go (suc zero) e = order-ends a b ea eb (levels-most + 1) (order-goes a b ea eb levels-most here (omega arith) fa fb e refl) (omega arith)
+      go (suc (suc r)) e = order-differs a b ea eb levels-most here (omega arith) fa fb e (λ d. omega arith)
 
 linear-order : (x y : Node) → length (x .n) ≡ numbers → length (y .n) ≡ numbers → cmpList (x .n) (y .n) ≡ cmp (linear (linOf x)) (linear (linOf y))
 unfolding cmp cmpLinear linOf
@@ -120,6 +160,22 @@ lin-later p j = refl
 
 lin-con : (p : Linear) (j : ℕ) → Ordering·gt ≡ cmp (linear p) (conditionOf j)
 lin-con p j = by-word j (λ q. lin-later p _ ∙ ap (cmp (linear p)) (sym (later-is j q))) (λ q. lin-now p _ ∙ ap (cmp (linear p)) (sym (now-is j q)))
+
+-- nodes whose kinds the code has told
+module _ (x y : Node) (k l : ℕ) (fx : mag (x .kind) < 2 ^ 63) (fy : mag (y .kind) < 2 ^ 63) (fk : k < 2 ^ 63) (fl : l < 2 ^ 63) where
+  pub kinds-order : ofZ w64 (x .kind) ≡ ofZ w64 (pos k) → ofZ w64 (y .kind) ≡ ofZ w64 (pos l) → {r : ℕ} → r ≡ ordNum (then (compare k l) (cmpList (x .n) (y .n))) → r ≡ ordNum (orderOf x y)
+  unfolding orderOf
+  kinds-order p q e = e ∙ sym (ap₂ (λ (a b : ℤ). ordNum (then (cmpZ a b) (cmpList (x .n) (y .n)))) (same-bits (x .kind) (pos k) fx fk p) (same-bits (y .kind) (pos l) fy fl q))
+
+-- nodes whose kinds differ, and nodes of one kind
+module _ (x y : Node) (fx : mag (x .kind) < 2 ^ 63) (fy : mag (y .kind) < 2 ^ 63) where
+  pub kinds-differ : (ofZ w64 (x .kind) ≡ ofZ w64 (y .kind) → ⊥) → {r : ℕ} → r ≡ ordNum (cmpZ (R (x .kind)) (R (y .kind))) → r ≡ ordNum (orderOf x y)
+  unfolding orderOf
+  kinds-differ n e = then-here (cmpZ (x .kind) (y .kind)) _ (cmp-back (x .kind) (y .kind) fx fy e) (words-differ (x .kind) (y .kind) fx fy n e)
+
+  pub kinds-same : ofZ w64 (x .kind) ≡ ofZ w64 (y .kind) → {r : ℕ} → r ≡ ordNum (cmpList (x .n) (y .n)) → r ≡ ordNum (orderOf x y)
+  unfolding orderOf
+  kinds-same d e = then-on (cmpZ (x .kind) (y .kind)) _ (cmp-back (x .kind) (y .kind) fx fy (words-same (x .kind) (y .kind) d)) refl e
 
 -- the order of two nodes' words is the order of their tests
 module _ (x y : Node) (vx : Tested x) (vy : Tested y) where

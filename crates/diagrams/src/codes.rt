@@ -31,3 +31,13 @@ pub const SUBSTITUTE: usize = 12;
 
 // A choice by a command, while a model is loaded.
 pub const CHOOSE_COMMAND: usize = 13;
+
+// A node's kind, where it is a test.
+pub const CONDITION: i64 = 1;
+
+pub const LINEAR: i64 = 2;
+
+// How two tests are ordered, as whole::linears::compare_two says it of two numbers.
+pub const BEFORE: usize = 0;
+
+pub const AFTER: usize = 2;

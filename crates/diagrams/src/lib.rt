@@ -2,7 +2,7 @@
 pub mod tests; // tests.rt: numbers and tests compared, the test that a choice is given, what lies below a node
 pub mod narrowing; // narrowing.rt: what a low branch is replaced by
 pub mod making; // making.rt: nodes looked up or made
-pub mod codes; // codes.rt: the rules' numbers
+pub mod codes; // codes.rt: the rules' numbers, the kinds of tests and their order
 
 // What lies below a node: nothing where it ends, at a leaf.
 pub struct Down {

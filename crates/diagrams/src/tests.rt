@@ -5,13 +5,18 @@ ghost use lib.Dec.{T};
 ghost use lib.Signed.{nonNeg};
 ghost use lib.IntN.{natAbs};
 ghost use Rattle.theory.specs.Widths.{conditions-most};
+ghost use Rattle.theory.specs.Diagram.{cmpList};
 ghost use Rattle.diagrams.specs.Nodes.{Nums};
 ghost use Rattle.diagrams.specs.Roots.{ordNum, orderOf, laterNode, namedNode, testNode, Readable, downOf};
 use super::Down;
+use super::codes::AFTER;
+use super::codes::BEFORE;
 use super::codes::CHOOSE_LATER;
+use super::codes::CONDITION;
+use super::codes::LINEAR;
 use table::Node;
+use whole::COEFFICIENTS;
 use whole::NUMBERS;
-use whole::linears::compare;
 use whole::linears::compare_two;
 use whole::linears::divided;
 
@@ -46,17 +51,51 @@ pub fn below(x: Node) -> Down
     }
 }
 
-// The order of two tests, by kind and then by their numbers.
+// Two linear tests, coefficient by coefficient, then by the constant.
+fn order_linears(a: [i64; NUMBERS], b: [i64; NUMBERS]) -> usize
+    ensures { λ r. ⌜ r ≡ ordNum (cmpList a b) ⌝ }
+{
+    let mut i: usize = 0;
+    while i < COEFFICIENTS {
+        let p = a[i];
+        let q = b[i];
+        if p != q {
+            return compare_two(p, q);
+        }
+        i += 1;
+    }
+    compare_two(a[COEFFICIENTS], b[COEFFICIENTS])
+}
+
+// The order of two tests, a case each. All numbers are compared in one place, the last, so that this stays small enough
+// to be compiled into its callers: those of linear tests, and of what no case before tells apart, as a condition and itself.
 pub fn order(x: Node, y: Node) -> usize
     ensures { λ r. ⌜ r ≡ ordNum (orderOf x y) ⌝ }
 {
-    let o = compare_two(x.kind, y.kind);
-    if o != 1 {
-        return o;
+    // A condition comes before a linear test.
+    if x.kind == LINEAR {
+        if y.kind == CONDITION {
+            return AFTER;
+        }
     }
-    let a = x.n;
-    let b = y.n;
-    compare(a, b)
+    if x.kind == CONDITION {
+        if y.kind == LINEAR {
+            return BEFORE;
+        }
+        // Two conditions go by number.
+        if y.kind == CONDITION {
+            let j = x.n[0];
+            let k = y.n[0];
+            if j != k {
+                return compare_two(j, k);
+            }
+        }
+    }
+    // A leaf is no test: it keeps the place that its words give it, and no rule goes by it.
+    if x.kind != y.kind {
+        return compare_two(x.kind, y.kind);
+    }
+    order_linears(x.n, y.n)
 }
 
 // The next step's condition k as a test.
@@ -68,7 +107,7 @@ pub fn later(k: usize) -> Node
     let mut n = [0i64; NUMBERS];
     n[0] = number;
     Node {
-        kind: 1,
+        kind: CONDITION,
         n,
         high: 0,
         low: 0,
@@ -84,7 +123,7 @@ pub fn named(x: Node) -> Node
         let l = x.n;
         let n = divided(l);
         return Node {
-            kind: 2,
+            kind: LINEAR,
             n,
             high: 0,
             low: 0,
