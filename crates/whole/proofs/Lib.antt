@@ -8,3 +8,4 @@ pub mod Filled
 pub mod Clipped
 pub mod Comparing
 pub mod Loops
+pub mod Products

@@ -11,9 +11,10 @@ use lib.Signed.{mag, ltZ, leZ}
 use mir.Syntax.{w32, w64}
 use mir.Val.{SFits, toZ}
 use Rattle.whole.specs.declared.Numerator.{Numerator}
+use Rattle.whole.specs.Cases.{clash}
 use Rattle.whole.specs.Int.{atom, diff}
 use Rattle.whole.specs.Magnitude.{abs-add, abs-sub, abs-neg}
-use Rattle.whole.specs.Numerator.{word, number}
+use Rattle.whole.specs.Numerator.{word, number, words}
 use Rattle.whole.specs.NumeratorLaws.{turned, Times, Product, Turned, Sum, below}
 use Rattle.whole.specs.Within.{limit, Small}
 use Rattle.whole.proofs.Signed.{R, R32, back, back32, plain, by-abs, small-back}
@@ -105,7 +106,7 @@ signs (pos a) (negsuc b) = refl
 signs (negsuc a) (pos b) = refl
 signs (negsuc a) (negsuc b) = negℤ-negℤ (pos (suc a * suc b))
 
-abs-i32 : (b : ℤ) → SFits w32 b → natAbs b ≤ 2147483648
+pub abs-i32 : (b : ℤ) → SFits w32 b → natAbs b ≤ 2147483648
 abs-i32 (pos n) f = omega (arith, f .sfits)
 abs-i32 (negsuc n) f = omega (arith, f .sfits)
 
@@ -173,6 +174,26 @@ times-back c n s f = ap₂ _*ℤ_ (small-back c s) (back32 n f)
 
 pub then : (x y r : Numerator) (a b : ℤ) → Sum x y r → number x ≡ a → number y ≡ b → number r ≡ a +ℤ b
 then x y r a b s p q = s .is ∙ ap₂ _+ℤ_ p q
+
+-- ---- the words of a number that one word holds
+
+pub words-below : (z : ℤ) (n : ℕ) → SFits w64 z → ltZ z (pos 0) ≡ true → n ≡ natAbs z → (1 ≤ n) × (_≡_ {A = Numerator} (record { low = 18446744073709551615 - (n - 1); high = negsuc 0 }) (words z))
+unfolding words
+words-below (pos k) n f t e = absurd (let v = ltb-true k 0 t in omega arith)
+words-below (negsuc k) n f t e =
+    let u : k < 2 ^ 63 = f .sfits in
+    let p : 18446744073709551615 - (n - 1) ≡ word - 1 - k % word = omega arith in
+    let q : 0 ≡ k / word = omega arith in
+    (omega arith, λ i. record { low = p i; high = negsuc (q i) })
+
+pub words-above : (z : ℤ) (n : ℕ) → SFits w64 z → ltZ z (pos 0) ≡ false → n ≡ natAbs z → _≡_ {A = Numerator} (record { low = n; high = pos 0 }) (words z)
+unfolding words
+words-above (pos k) n f t e =
+    let u : k < 2 ^ 63 = f .sfits in
+    let p : n ≡ k % word = omega arith in
+    let q : 0 ≡ k / word = omega arith in
+    λ i. record { low = p i; high = pos (q i) }
+words-above (negsuc k) n f t e = clash t
 
 -- ---- the sign of the whole
 

@@ -5,9 +5,7 @@ pub mod Divisor
 pub mod Within
 pub mod Linears
 pub mod Numerator
-pub mod Five
 pub mod Magnitude
 pub mod WithinLaws
 pub mod NumeratorLaws
-pub mod FiveLaws
 pub mod LinearsLaws

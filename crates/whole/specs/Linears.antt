@@ -54,6 +54,12 @@ unfoldable pub quotL : ℕ → List ℤ → List ℤ
 quotL g [] = []
 quotL g (a ∷ r) = quotZ a (pos g) ∷ quotL g r
 
+-- the sum of the products
+unfoldable pub dotL : List ℤ → List ℤ → ℤ
+dotL [] bs = pos 0
+dotL (a ∷ r) [] = pos 0
+dotL (a ∷ r) (b ∷ bs) = (a *ℤ b) +ℤ dotL r bs
+
 -- what a test is divided by: the greatest common divisor of its numbers, 1 where all are 0
 unfoldable pub divisorL : List ℤ → ℕ
 divisorL l = at-least-one (gcdOf (natAbs (getD l coefficients (pos 0))) (gcd-all (take coefficients l)))

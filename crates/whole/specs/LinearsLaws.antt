@@ -8,14 +8,14 @@ use native.Mathlib.Numerals.{add-one}
 use native.Mathlib.Omega.{arith}
 use borrow.Author.Tests.{le-leb, lt-leb, leb-true, eqb-true, eq-eqb}
 use lib.Dec.{leb, eqb}
-use lib.IntN.{ℤ, pos, negsuc, natAbs, _+ℤ_, _-ℤ_, _*ℤ_}
+use lib.IntN.{ℤ, pos, negsuc, natAbs, _+ℤ_, _-ℤ_, _*ℤ_, +ℤ-assoc, +ℤ-comm}
 use lib.ListN.{length, getD, take, drop, length-map}
 use lib.Seq.{drop-cons}
 use lib.Signed.{quotZ}
 use Rattle.whole.specs.Int.{minus-one}
 use Rattle.whole.specs.Within.{limit, Small, small}
 use Rattle.whole.specs.Magnitude.{abs-quot}
-use Rattle.whole.specs.Linears.{numbers, Smalls, smalls, addL, scaleL, subL, clipped, clipL, quotL, eqZ, eqL}
+use Rattle.whole.specs.Linears.{numbers, Smalls, smalls, addL, scaleL, subL, clipped, clipL, quotL, dotL, eqZ, eqL}
 
 -- ---- lengths
 
@@ -103,6 +103,17 @@ quot-take (suc n) g (x ∷ a) = ap (λ (r : List ℤ). quotZ x (pos g) ∷ r) (q
 -- what is left of a list from index i on: the number there, and the rest
 pub rest : (l : List ℤ) (i : ℕ) → i < length l → drop i l ≡ getD l i (pos 0) ∷ drop (i + 1) l
 rest l i h = drop-cons l i (pos 0) h ∙ ap (λ (k : ℕ). getD l i (pos 0) ∷ drop k l) (sym (add-one i))
+
+-- the last two numbers apart: of a linear, the constant and the denominator
+pub dot-last : (k : ℕ) (a b : List ℤ) → length a ≡ suc k → length b ≡ suc k → dotL a b ≡ dotL (take k a) (take k b) +ℤ getD a k (pos 0) *ℤ getD b k (pos 0)
+unfolding dotL
+dot-last k [] b e f = absurd (omega arith)
+dot-last k (x ∷ a) [] e f = absurd (omega arith)
+dot-last zero (x ∷ []) (y ∷ b) e f = +ℤ-comm (x *ℤ y) (pos 0)
+dot-last zero (x ∷ z ∷ a) (y ∷ b) e f = absurd (omega arith)
+dot-last (suc k) (x ∷ a) (y ∷ b) e f =
+    ap (λ (z : ℤ). (x *ℤ y) +ℤ z) (dot-last k a b (suc-inj e) (suc-inj f))
+    ∙ sym (+ℤ-assoc (x *ℤ y) (dotL (take k a) (take k b)) (getD a k (pos 0) *ℤ getD b k (pos 0)))
 
 -- ---- limits
 

@@ -3,6 +3,7 @@ pub mod limits; // limits.rt: sums, differences, products and powers, judged
 pub mod divisors; // divisors.rt: the greatest common divisor, and division by it
 pub mod linears; // linears.rt: lists of numbers, as a linear's are
 pub mod two_words; // two_words.rt: numerators in two words
+pub mod dot_product; // dot_product.rt: a linear's numerator at a point
 
 // The coefficients of a linear, and its numbers: the constant is the last.
 pub const COEFFICIENTS: usize = 4;
@@ -17,13 +18,4 @@ pub enum Within {
 pub struct Numerator {
     pub low: u64,
     pub high: i64,
-}
-
-// The five numbers of a test: four coefficients and the constant.
-pub struct Five {
-    pub a: i64,
-    pub b: i64,
-    pub c: i64,
-    pub d: i64,
-    pub e: i64,
 }

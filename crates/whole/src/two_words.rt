@@ -62,7 +62,7 @@ pub fn product(a: i64, b: i32) -> Numerator
 }
 
 // x + y. The low words' sum wraps where it is below one of them, and is carried.
-fn sum(x: Numerator, y: Numerator) -> Numerator
+pub(crate) fn sum(x: Numerator, y: Numerator) -> Numerator
     requires { ⌜ Small (x .high) × Small (y .high) ⌝ }
     ensures { λ r. ⌜ Sum x y r ⌝ }
 {
@@ -102,6 +102,21 @@ pub fn dot(
     let three = sum(two, product(c3, n3));
     let four = sum(three, product(c4, n4));
     sum(four, product(k, d))
+}
+
+// The two words of a number that one word holds.
+pub fn from_word(z: i64) -> Numerator
+    ensures { λ r. ⌜ r ≡ words z ⌝ }
+{
+    let n = mag(z);
+    if z < 0 {
+        Numerator {
+            low: u64::MAX - (n - 1),
+            high: -1,
+        }
+    } else {
+        Numerator { low: n, high: 0 }
+    }
 }
 
 // x is at most 0: its high word is below 0, or both are 0.
