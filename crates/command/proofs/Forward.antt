@@ -9,7 +9,7 @@ use lib.ListN.{length}
 use borrow.Author.Tests.{lt-leb, le-ltb, leb-false, ltb-false, eqb-false}
 use Rattle.whole.specs.Cases.{if}
 use Rattle.theory.specs.Command.{Command, site, push-leaf, push-condition, push-test, give, name-action, end-model, whole, unknown, short, byte-at, width, command-at, read-at}
-use Rattle.command.specs.Reading.{next-at}
+use Rattle.command.specs.Reading.{with-linear, next-at}
 
 -- the bytes of a command that is whole
 pub record Bytes (B : List ℕ) (at : ℕ) : Type 0 where
@@ -27,20 +27,20 @@ has-linear (give g) = false
 has-linear (name-action a b) = false
 has-linear end-model = false
 
-skip : (b : Bool) (w v : ℕ) (c d : Command) → T (not (has-linear c)) → (T (has-linear d) → v ≡ 21) → T (has-linear (if b c d)) → _≡_ {A = ℕ} (if b w v) 21
+skip : (b : Bool) (w v : ℕ) (c d : Command) → T (not (has-linear c)) → (T (has-linear d) → v ≡ with-linear) → T (has-linear (if b c d)) → _≡_ {A = ℕ} (if b w v) with-linear
 skip true w v c d n f t = absurd (T-not (has-linear c) n t)
 skip false w v c d n f t = f t
 
-found : (b : Bool) (v : ℕ) (c d : Command) → (T (has-linear d) → v ≡ 21) → T (has-linear (if b c d)) → _≡_ {A = ℕ} (if b 21 v) 21
+found : (b : Bool) (v : ℕ) (c d : Command) → (T (has-linear d) → v ≡ with-linear) → T (has-linear (if b c d)) → _≡_ {A = ℕ} (if b with-linear v) with-linear
 found true v c d f t = refl
 found false v c d f t = f t
 
 -- how many bytes a command has
 unfoldable pub length-of : Command → ℕ
 length-of (site m n a w) = 5
-length-of (push-leaf p) = 21
+length-of (push-leaf p) = with-linear
 length-of (push-condition k) = 2
-length-of (push-test p) = 21
+length-of (push-test p) = with-linear
 length-of (give g) = width (g .command)
 length-of (name-action a b) = 18
 length-of end-model = 1
@@ -81,7 +81,7 @@ module _ (B : List ℕ) (at : ℕ) where
       (sized (eqb (byte-at B at) 0x30) _ _ _ _ refl
       (last (eqb (byte-at B at) 0xff)))))))))) k
 
-  linear-wide : T (has-linear (command-at B at)) → width (byte-at B at) ≡ 21
+  linear-wide : T (has-linear (command-at B at)) → width (byte-at B at) ≡ with-linear
   unfolding command-at width has-linear
   linear-wide t =
       skip (eqb (byte-at B at) 0x01) 5 _ _ _ tt
@@ -101,8 +101,8 @@ module _ (B : List ℕ) (at : ℕ) where
       let b = whole-bytes c e in
       length-at (b .0 .known) ∙ ap length-of (sym (b .1))
 
-  -- where a linear is written, its twenty bytes are there
-  pub linear-room : (c : Command) → T (has-linear c) → whole c ≡ read-at B at → at + 21 ≤ length B
+  -- where a linear is written, its bytes are there
+  pub linear-room : (c : Command) → T (has-linear c) → whole c ≡ read-at B at → at + with-linear ≤ length B
   linear-room c t e =
       let b = whole-bytes c e in
       let w = linear-wide (subst (λ (d : Command). T (has-linear d)) (b .1) t) in

@@ -1,4 +1,5 @@
 -- Laws that several proofs cite, here and in the crates above.
 pub mod Signed
+pub mod Linears
 pub mod Stacked
 pub mod Forward

@@ -1,20 +1,30 @@
 -- The reading of document 01 that each answer of the cursor stands for.
-use mathlib.Core.List.{List, [], _∷_}
-use Prim.Native.Nat.{ℕ, _+_}
+use mathlib.Core.List.{List}
+use Prim.Native.Nat.{ℕ, _+_, _*_}
 use lib.Dec.{ltb, leb}
-use lib.ListN.{length, take, drop}
+use lib.IntN.{ℤ, pos}
+use lib.ListN.{length, getD, take, drop}
 use Rattle.whole.specs.Cases.{if}
-use Rattle.theory.specs.Widths.{name-bytes}
+use Rattle.whole.specs.Linears.{numbers}
+use Rattle.theory.specs.Widths.{levels-most, name-bytes}
 use Rattle.theory.specs.Diagram.{Linear}
 use Rattle.theory.specs.Command.{Command, site, push-leaf, push-condition, push-test, give, name-action, end-model, Read, whole, unknown, short, byte-at, width, linear-at}
-use Rattle.command.specs.declared.Linear.{Linear as CodeLinear}
 use Rattle.command.specs.declared.Command.{Command as CodeCommand}
 use Rattle.command.specs.declared.Command.the-variants.{Site, Leaf, Condition, Test, Give, Name, End}
 use Rattle.command.specs.declared.Read.{Read as CodeRead}
 use Rattle.command.specs.declared.Read.the-variants.{Whole, Unknown, Short}
 
-abbrev pub linear-of : CodeLinear → Linear
-linear-of p = record { coeffs = p .c1 ∷ p .c2 ∷ p .c3 ∷ p .c4 ∷ []; const = p .constant }
+-- a linear's numbers have 32 bits each
+abbrev pub linear-bytes : ℕ
+linear-bytes = numbers * 4
+
+-- a command with a linear has its byte too
+abbrev pub with-linear : ℕ
+with-linear = 1 + linear-bytes
+
+-- the coefficients of the levels, and behind them the constant
+abbrev pub linear-of : List ℤ → Linear
+linear-of l = record { coeffs = take levels-most l; const = getD l levels-most (pos 0) }
 
 -- A linear's bytes are those behind the command's byte, a name's those behind its action, in the model itself.
 unfoldable pub command-of : List ℕ → ℕ → CodeCommand → Command

@@ -5,18 +5,14 @@ ghost use Prim.Native.Nat.{ℕ, _+_, _≤_, _<_};
 ghost use lib.ListN.{length};
 ghost use Rattle.theory.specs.Command.{whole, read-at, command-at, linear-at, byte-at, word-at, signed};
 ghost use Rattle.theory.specs.Command.{width as bytes-of};
-ghost use Rattle.command.specs.Reading.{linear-of, command-of, read-of, next-at};
+ghost use Rattle.command.specs.Reading.{linear-bytes, linear-of, command-of, read-of, next-at};
+ghost use Rattle.whole.specs.Linears.{Smalls};
+use whole::NUMBERS;
 
 pub mod stack;
 
-// Coefficients of levels L1 to L4, then a constant: 32 bits each, held as a node holds them.
-pub struct Linear {
-    pub c1: i64,
-    pub c2: i64,
-    pub c3: i64,
-    pub c4: i64,
-    pub constant: i64,
-}
+// A command with a linear: its byte, and numbers of 32 bits.
+const WITH_LINEAR: usize = 1 + 4 * NUMBERS;
 
 // A command with its operands. What is given has its command's byte, the action, and the condition or level (0 where there is none).
 // A linear's bytes stay in the model, behind the command's byte; a name's, behind the action.
@@ -81,17 +77,19 @@ fn number(model: &[u8], at: usize) -> i64
     from_bits(word(model, at))
 }
 
-pub fn linear_at(model: &[u8], at: usize) -> Linear
-    requires { ⌜ at + 20 ≤ length (now model) ⌝ }
-    ensures { λ r. ⌜ linear-of r ≡ linear-at (now (model .entry)) at ⌝ }
+// The coefficients of the levels, then the constant, held as a node holds them.
+pub fn linear_at(model: &[u8], at: usize) -> [i64; NUMBERS]
+    requires { ⌜ at + linear-bytes ≤ length (now model) ⌝ }
+    ensures { λ r. ⌜ Smalls r × (linear-of r ≡ linear-at (now (model .entry)) at) ⌝ }
 {
-    Linear {
-        c1: number(model, at),
-        c2: number(model, at + 4),
-        c3: number(model, at + 8),
-        c4: number(model, at + 12),
-        constant: number(model, at + 16),
+    let mut out = [0i64; NUMBERS];
+    let mut i: usize = 0;
+    while i < NUMBERS {
+        let z = number(model, at + i * 4);
+        out[i] = z;
+        i += 1;
     }
+    out
 }
 
 // How many bytes a command has; 0 where the byte is unknown.
@@ -100,9 +98,9 @@ pub fn width(op: u8) -> usize
 {
     match op {
         0x01 => 5,
-        0x10 => 21,
+        0x10 => WITH_LINEAR,
         0x11 => 2,
-        0x12 => 21,
+        0x12 => WITH_LINEAR,
         0x20 => 2,
         0x21 => 3,
         0x22 => 3,
@@ -161,9 +159,9 @@ pub fn size(c: Command) -> usize
 {
     match c {
         Command::Site(_, _, _, _) => 5,
-        Command::Leaf => 21,
+        Command::Leaf => WITH_LINEAR,
         Command::Condition(_) => 2,
-        Command::Test => 21,
+        Command::Test => WITH_LINEAR,
         Command::Give(op, _, _) => width(op),
         Command::Name(_) => 18,
         Command::End => 1,

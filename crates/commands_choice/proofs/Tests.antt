@@ -13,7 +13,7 @@ use types.Run.{OneOf, miss}
 use denote.Enum.Declared.{tagOf}
 use Rattle.whole.specs.Cases.{if, by-test, both}
 use Rattle.whole.specs.Within.{Small, small, limit}
-use Rattle.whole.specs.Linears.{divisorL}
+use Rattle.whole.specs.Linears.{Smalls, divisorL}
 use Rattle.whole.specs.LinearsLaws.{quot-smalls}
 use Rattle.table.proofs.Words.{back}
 use Rattle.table.specs.Table.{eqZ}
@@ -29,12 +29,11 @@ use lib.ListN.{length}
 use Rattle.command.proofs.Forward.{has-linear, linear-room}
 use Rattle.command.proofs.Command.{the-type as command-type}
 use Rattle.command.proofs.Read.{the-type as read-type}
-use Rattle.command.specs.declared.Linear.{Linear as CodeLinear}
 use Rattle.command.specs.declared.Command.{Command as CodeCommand}
 use Rattle.command.specs.declared.Command.the-variants.{Site, Leaf, Condition, Test as TestBy, Give, Name, End}
 use Rattle.command.specs.declared.Read.{Read as CodeRead}
 use Rattle.command.specs.declared.Read.the-variants.{Whole, Unknown, Short}
-use Rattle.command.specs.Reading.{linear-of, command-of, read-of}
+use Rattle.command.specs.Reading.{with-linear, linear-of, command-of, read-of}
 use Rattle.diagrams.specs.Nodes.{linOf, testOf, conditionOf, Nums, Proper}
 use Rattle.diagrams.specs.Roots.{linearNode, namedNode}
 use Rattle.diagrams.proofs.Trees.{later-is, now-is}
@@ -73,76 +72,18 @@ condition-stood k a b = subst (Stood (condition-test k)) (ap (λ (z : ℤ). reco
 
 -- ---- a linear
 
--- numbers that are written lie within the limits
-wide-command : Command → Bool
-wide-command (site m n a w) = true
-wide-command (push-leaf p) = wide p
-wide-command (push-condition k) = true
-wide-command (push-test p) = wide p
-wide-command (give g) = true
-wide-command (name-action a b) = true
-wide-command end-model = true
+pub words-nums : {p : List ℤ} {x : Node} → x ≡ wordsOf p → Smalls p → Nums x
+words-nums e s = subst Nums (sym e) s
 
-wide-read : Read → Bool
-wide-read (whole c) = wide-command c
-wide-read unknown = true
-wide-read short = true
-
-one-of : (b : Bool) (c d : Command) → T (wide-command c) → T (wide-command d) → T (wide-command (if b c d))
-one-of true c d f g = f
-one-of false c d f g = g
-
-command-wide : (B : List ℕ) (at : ℕ) → T (wide-command (command-at B at))
-unfolding command-at wide-command
-command-wide B at =
-    one-of (eqb (byte-at B at) 0x01) _ _ tt (one-of (eqb (byte-at B at) 0x10) _ _ (linear-wide B (at + 1)) (one-of (eqb (byte-at B at) 0x11) _ _ tt
-    (one-of (eqb (byte-at B at) 0x12) _ _ (linear-wide B (at + 1)) (one-of (eqb (byte-at B at) 0x20) _ _ tt (one-of (eqb (byte-at B at) 0x21) _ _ tt
-    (one-of (eqb (byte-at B at) 0x22) _ _ tt (one-of (eqb (byte-at B at) 0x23) _ _ tt (one-of (eqb (byte-at B at) 0x30) _ _ tt tt))))))))
-
-read-wide : (B : List ℕ) (at : ℕ) → T (wide-read (read-at B at))
-unfolding wide-read
-read-wide B at = by-reading B at (λ r. T (wide-read r)) tt (λ _. tt) (λ _ _. command-wide B at)
-
-is-small : (z : ℤ) → T (small z) → Small z
-unfolding small
-is-small z t = record { small = leb→le (natAbs z) limit t }
-
-five : {a b c d e : ℤ} → Small a → Small b → Small c → Small d → Small e → (k : ℕ) → Small (getD (a ∷ b ∷ c ∷ d ∷ e ∷ []) k (pos 0))
-five a b c d e zero = a
-five a b c d e (suc zero) = b
-five a b c d e (suc (suc zero)) = c
-five a b c d e (suc (suc (suc zero))) = d
-five a b c d e (suc (suc (suc (suc zero)))) = e
-five a b c d e (suc (suc (suc (suc (suc k))))) = record { small = omega arith }
-
-nums-of : (p : CodeLinear) → T (wide (linear-of p)) → Nums (wordsOf p)
-unfolding wordsOf small-linear all
-nums-of p t =
-    let c = both (all small (linear-of p .coeffs)) (small (p .constant)) (wide-small (linear-of p) t) in
-    let a₁ = both (small (p .c1)) (small (p .c2) && (small (p .c3) && (small (p .c4) && true))) (c .0) in
-    let a₂ = both (small (p .c2)) (small (p .c3) && (small (p .c4) && true)) (a₁ .1) in
-    let a₃ = both (small (p .c3)) (small (p .c4) && true) (a₂ .1) in
-    let a₄ = both (small (p .c4)) true (a₃ .1) in
-    record { long = refl; each = five (is-small _ (a₁ .0)) (is-small _ (a₂ .0)) (is-small _ (a₃ .0)) (is-small _ (a₄ .0)) (is-small _ (c .1)) }
-
--- of a command that is there
-pub leaf-nums : (B : List ℕ) (at : ℕ) (p : CodeLinear) → whole (push-leaf (linear-of p)) ≡ read-at B at → Nums (wordsOf p)
-unfolding wide-read wide-command
-leaf-nums B at p e = nums-of p (subst (λ (r : Read). T (wide-read r)) (sym e) (read-wide B at))
-
-test-nums : (B : List ℕ) (at : ℕ) (p : CodeLinear) → whole (push-test (linear-of p)) ≡ read-at B at → Nums (wordsOf p)
-unfolding wide-read wide-command
-test-nums B at p e = nums-of p (subst (λ (r : Read). T (wide-read r)) (sym e) (read-wide B at))
-
-linear-same : (p : CodeLinear) → linOf (wordsOf p) ≡ linear-of p
-unfolding linOf wordsOf
+linear-same : (p : List ℤ) → linOf (wordsOf p) ≡ linear-of p
+unfolding linOf
 linear-same p = refl
 
-named-words : (p : CodeLinear) → namedNode (wordsOf p) ≡ linearNode (quotL (divisorL (wordsOf p .n)) (wordsOf p .n))
-unfolding namedNode wordsOf eqZ
+named-words : (p : List ℤ) → namedNode (wordsOf p) ≡ linearNode (quotL (divisorL (wordsOf p .n)) (wordsOf p .n))
+unfolding namedNode eqZ
 named-words p = refl
 
-pub linear-stood : (p : CodeLinear) {x r : Node} → x ≡ wordsOf p → r ≡ namedNode x → Nums (wordsOf p) → Stood (test-of (linear-of p)) r
+pub linear-stood : (p : List ℤ) {x r : Node} → x ≡ wordsOf p → r ≡ namedNode x → Smalls p → Stood (test-of (linear-of p)) r
 linear-stood p {x} {r} e f s = subst (Stood (test-of (linear-of p))) (sym (f ∙ (ap namedNode e ∙ named-words p)))
     (record { proper = proper-linear _ (quot-smalls _ _ s); test = divided-test (wordsOf p) (s .long) ∙ ap test-of (linear-same p) })
 
@@ -197,17 +138,14 @@ module _ (B : List ℕ) (at : ℕ) (r : CodeRead) (e : read-of B at r ≡ read-a
     unfolding command-of
     linear-is g = ap (λ (d : CodeCommand). whole (command-of B at d)) (sym g) ∙ whole-is f
 
-    pub linear-there : c ≡ TestBy → at + 21 ≤ length B
+    pub linear-there : c ≡ TestBy → at + with-linear ≤ length B
     unfolding has-linear
     linear-there g = linear-room B at (push-test (linear-at B (at + 1))) tt (linear-is g)
 
-    module _ {p : CodeLinear} (g : c ≡ TestBy) (q : linear-of p ≡ linear-at B (at + 1)) where
+    module _ {p : List ℤ} (g : c ≡ TestBy) (q : Smalls p × (linear-of p ≡ linear-at B (at + 1))) where
       linear-read : whole (push-test (linear-of p)) ≡ read-at B at
-      linear-read = ap (λ (z : Linear). whole (push-test z)) q ∙ linear-is g
-
-      pub linear-nums : Nums (wordsOf p)
-      linear-nums = test-nums B at p linear-read
+      linear-read = ap (λ (z : Linear). whole (push-test z)) (q .1) ∙ linear-is g
 
       pub linear-test-stood : {x y : Node} → y ≡ wordsOf p → x ≡ namedNode y → Stood (testAt B at) x
       unfolding test-read test-in
-      linear-test-stood {x} a b = subst (λ (t : Test). Stood t x) (ap test-read linear-read) (linear-stood p a b linear-nums)
+      linear-test-stood {x} a b = subst (λ (t : Test). Stood t x) (ap test-read linear-read) (linear-stood p a b (q .0))

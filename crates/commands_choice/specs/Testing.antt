@@ -1,15 +1,14 @@
 -- The test that a command of the model gives, in words, and what the five words of a cache entry mean while the model is loaded.
 use mathlib.Core.Path.{_≡_}
-use mathlib.Core.List.{List, [], _∷_}
+use mathlib.Core.List.{List}
 use Prim.Native.Nat.{ℕ, _+_, _≤_, _<_}
-use lib.IntN.{pos}
+use lib.IntN.{ℤ, pos}
 use Rattle.table.specs.declared.Node.{Node}
 use Rattle.theory.specs.Widths.{conditions-most}
 use Rattle.theory.specs.Diagram.{Test, test-of}
 use Rattle.theory.specs.Rules.{choose}
 use Rattle.theory.specs.Command.{Command, site, push-leaf, push-condition, push-test, give, name-action, end-model, Read, whole, unknown, short, read-at}
 use Rattle.theory.specs.Load.{condition-test}
-use Rattle.command.specs.declared.Linear.{Linear as CodeLinear}
 use Rattle.diagrams.specs.Nodes.{testOf, treeAt, Proper}
 use Rattle.diagrams.specs.Table.{Rule}
 
@@ -19,8 +18,8 @@ pub record Stood (t : Test) (x : Node) : Type 0 where
   pub test : testOf x ≡ t
 
 -- a linear as a leaf's words
-unfoldable pub wordsOf : CodeLinear → Node
-wordsOf p = record { kind = pos 0; n = p .c1 ∷ p .c2 ∷ p .c3 ∷ p .c4 ∷ p .constant ∷ []; high = pos 0; low = pos 0 }
+abbrev pub wordsOf : List ℤ → Node
+wordsOf n = record { kind = pos 0; n = n; high = pos 0; low = pos 0 }
 
 -- the number of a command's condition, 1 where it has none
 unfoldable pub condition-in : Command → ℕ

@@ -9,7 +9,6 @@ ghost use Rattle.diagrams.specs.Table.{Table, Ran};
 ghost use Rattle.commands_choice.specs.Testing.{Stood, Testing, wordsOf, testAt, loadRule};
 use choice::roots::choice_at;
 use command::Command;
-use command::Linear;
 use command::Read;
 use computed_cache::keep;
 use computed_cache::look;
@@ -38,20 +37,9 @@ fn condition(k: u8) -> Node
 }
 
 // A linear as a leaf's words.
-pub fn words(p: Linear) -> Node
-    ensures { λ r. ⌜ r ≡ wordsOf p ⌝ }
+pub fn words(n: [i64; NUMBERS]) -> Node
+    ensures { λ r. ⌜ r ≡ wordsOf n ⌝ }
 {
-    let c1 = p.c1;
-    let c2 = p.c2;
-    let c3 = p.c3;
-    let c4 = p.c4;
-    let constant = p.constant;
-    let mut n = [0i64; NUMBERS];
-    n[0] = c1;
-    n[1] = c2;
-    n[2] = c3;
-    n[3] = c4;
-    n[4] = constant;
     Node {
         kind: 0,
         n,

@@ -20,7 +20,7 @@ use denote.Enum.Declared.{tagOf}
 use Rattle.command.specs.declared.Command.the-variants.{Site as SiteBy, Leaf, Condition, Test, Give, Name, End}
 use Rattle.command.proofs.Forward.{has-linear, linear-room}
 use Rattle.progress.specs.declared.Seen.{Seen}
-use Rattle.command.specs.Reading.{command-of}
+use Rattle.command.specs.Reading.{with-linear, command-of}
 use Rattle.progress.specs.declared.Progress.{Progress as CodeProgress}
 use Rattle.progress.specs.Standing.{site-as, seen-in, seen, place, flag-of, noted, Slotted, for-name, Stands, Leaves, Later}
 use Rattle.progress.proofs.Numbers.{bounds, is-among, not-false-T}
@@ -237,10 +237,10 @@ pub known-command : (s : CodeProgress) (F : List Bool) (B : List ℕ) (at k : �
 known-command s F B at k e g = subst (λ (x : CodeCommand). Later s F (command-of B at x) k) (sym e) g
 
 -- the bytes of a command that is known by its case
-pub leaf-there : (B : List ℕ) (at : ℕ) {c : CodeCommand} → c ≡ Leaf → whole (command-of B at c) ≡ read-at B at → at + 21 ≤ length B
+pub leaf-there : (B : List ℕ) (at : ℕ) {c : CodeCommand} → c ≡ Leaf → whole (command-of B at c) ≡ read-at B at → at + with-linear ≤ length B
 unfolding command-of has-linear
 leaf-there B at {c} e w = linear-room B at _ (subst (λ (d : CodeCommand). T (has-linear (command-of B at d))) (sym e) tt) w
 
-pub test-there : (B : List ℕ) (at : ℕ) {c : CodeCommand} → c ≡ Test → whole (command-of B at c) ≡ read-at B at → at + 21 ≤ length B
+pub test-there : (B : List ℕ) (at : ℕ) {c : CodeCommand} → c ≡ Test → whole (command-of B at c) ≡ read-at B at → at + with-linear ≤ length B
 unfolding command-of has-linear
 test-there B at {c} e w = linear-room B at _ (subst (λ (d : CodeCommand). T (has-linear (command-of B at d))) (sym e) tt) w

@@ -1,10 +1,12 @@
 -- A node's row: its kind, where the layout is kept.
 use mathlib.Core.List.{List}
-use Prim.Native.Nat.{ℕ, _*_, _≤_}
+use Prim.Native.Nat.{ℕ, _+_, _-_, _*_, _≤_}
 use lib.Dec.{eqb}
 use lib.IntN.{ℤ, pos, negsuc, natAbs}
-use lib.ListN.{length}
+use lib.ListN.{length, take, drop}
 use Rattle.whole.specs.Cases.{if}
+use Rattle.whole.specs.Linears.{numbers}
+use Rattle.theory.specs.Widths.{node-words}
 use Rattle.theory.specs.Value.{node-word, good-row}
 use Rattle.rows.specs.declared.Kind.{Kind}
 use Rattle.rows.specs.declared.Kind.the-variants.{Leaf, Condition, Test, Bad}
@@ -12,7 +14,11 @@ use Rattle.rows.specs.declared.Kind.the-variants.{Leaf, Condition, Test,
 -- node r lies inside the table
 pub record Inside (W : List ℤ) (r : ℕ) : Type 0 where
   pub above : 1 ≤ r
-  pub within : r * 8 ≤ length W
+  pub within : r * node-words ≤ length W
+
+-- the numbers in node r's row
+abbrev pub row-numbers : List ℤ → ℕ → List ℤ
+row-numbers W r = take numbers (drop ((r - 1) * node-words + 1) W)
 
 -- the kind that a first word says; 3, which is none, for one below 0
 unfoldable pub kind-number : ℤ → ℕ

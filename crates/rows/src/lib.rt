@@ -4,6 +4,7 @@ pub mod words; // words.rt: a node's words, judged as they are read
 ghost use mathlib.Core.Path.{_≡_};
 ghost use Prim.Native.Nat.{_+_, _-_, _*_};
 ghost use lib.ListN.{take, drop};
+ghost use Rattle.theory.specs.Widths.{levels-most, node-words};
 ghost use Rattle.theory.specs.Diagram.{zeros};
 ghost use Rattle.theory.specs.Value.{node-linear, good-branches, good-leaf-row, good-condition-row, good-test-row};
 ghost use Rattle.theory.specs.Valid.{small-linear};
@@ -12,6 +13,11 @@ use self::words::is_among;
 use self::words::is_small;
 use self::words::is_zero;
 use self::words::kind;
+use table::HIGH;
+use table::LOW;
+use table::NODE_WORDS;
+use whole::COEFFICIENTS;
+use whole::NUMBERS;
 
 // What a node's words say that it is.
 pub enum Kind {
@@ -26,19 +32,29 @@ fn small_linear(nodes: &[i64], r: usize) -> bool
     requires { ⌜ Inside (now nodes) r ⌝ }
     ensures { λ b. ⌜ b ≡ small-linear (node-linear (now (nodes .entry)) r) ⌝ }
 {
-    is_small(nodes, r, 1)
-        & is_small(nodes, r, 2)
-        & is_small(nodes, r, 3)
-        & is_small(nodes, r, 4)
-        & is_small(nodes, r, 5)
+    let mut i: usize = 0;
+    while i < NUMBERS {
+        if is_small(nodes, r, 1 + i) {} else {
+            return false;
+        }
+        i += 1;
+    }
+    true
 }
 
 // Behind a condition's number all is 0.
 fn zeros_behind(nodes: &[i64], r: usize) -> bool
     requires { ⌜ Inside (now nodes) r ⌝ }
-    ensures { λ b. ⌜ b ≡ zeros (take 4 (drop ((r - 1) * 8 + 2) (now (nodes .entry)))) ⌝ }
+    ensures { λ b. ⌜ b ≡ zeros (take levels-most (drop ((r - 1) * node-words + 2) (now (nodes .entry)))) ⌝ }
 {
-    is_zero(nodes, r, 2) & is_zero(nodes, r, 3) & is_zero(nodes, r, 4) & is_zero(nodes, r, 5)
+    let mut i: usize = 0;
+    while i < COEFFICIENTS {
+        if is_zero(nodes, r, 2 + i) {} else {
+            return false;
+        }
+        i += 1;
+    }
+    true
 }
 
 // Both branches lie below node r.
@@ -46,14 +62,14 @@ fn good_branches(nodes: &[i64], r: usize) -> bool
     requires { ⌜ Inside (now nodes) r ⌝ }
     ensures { λ b. ⌜ b ≡ good-branches (now (nodes .entry)) r ⌝ }
 {
-    is_among(r - 1, nodes, r, 6) & is_among(r - 1, nodes, r, 7)
+    is_among(r - 1, nodes, r, HIGH) & is_among(r - 1, nodes, r, LOW)
 }
 
 fn good_leaf(a: u32, nodes: &[i64], r: usize) -> bool
     requires { ⌜ Inside (now nodes) r ⌝ }
     ensures { λ b. ⌜ b ≡ good-leaf-row a (now (nodes .entry)) r ⌝ }
 {
-    small_linear(nodes, r) & is_among(a as usize, nodes, r, 6) & is_zero(nodes, r, 7)
+    small_linear(nodes, r) & is_among(a as usize, nodes, r, HIGH) & is_zero(nodes, r, LOW)
 }
 
 fn good_condition(n: u32, nodes: &[i64], r: usize) -> bool
@@ -77,7 +93,7 @@ pub fn row_kind(n: u32, a: u32, nodes: &[i64], r: usize) -> Kind
     if r == 0 {
         return Kind::Bad;
     }
-    if nodes.len() / 8 < r {
+    if nodes.len() / NODE_WORDS < r {
         return Kind::Bad;
     }
     let k = kind(nodes, r);

@@ -4,23 +4,25 @@ ghost use mathlib.Core.List.{[], _∷_};
 ghost use Prim.Native.Nat.{_<_};
 ghost use lib.IntN.{natAbs};
 ghost use Rattle.whole.specs.Within.{small};
+ghost use Rattle.theory.specs.Widths.{node-words};
 ghost use Rattle.theory.specs.Diagram.{zeros};
 ghost use Rattle.theory.specs.Value.{node-word, amongZ};
 ghost use Rattle.rows.specs.Row.{Inside, kind-number};
+use table::NODE_WORDS;
 use whole::limits::LIMIT;
 use whole::limits::mag;
 
 // Word i of node r.
 pub fn word(nodes: &[i64], r: usize, i: usize) -> i64
-    requires { ⌜ Inside (now nodes) r × (i < 8) ⌝ }
+    requires { ⌜ Inside (now nodes) r × (i < node-words) ⌝ }
     ensures { λ z. ⌜ z ≡ node-word (now (nodes .entry)) r i ⌝ }
 {
-    nodes[(r - 1) * 8 + i]
+    nodes[(r - 1) * NODE_WORDS + i]
 }
 
 // The magnitude of word i of node r.
 pub fn magnitude(nodes: &[i64], r: usize, i: usize) -> usize
-    requires { ⌜ Inside (now nodes) r × (i < 8) ⌝ }
+    requires { ⌜ Inside (now nodes) r × (i < node-words) ⌝ }
     ensures { λ k. ⌜ k ≡ natAbs (node-word (now (nodes .entry)) r i) ⌝ }
 {
     mag(word(nodes, r, i)) as usize
@@ -28,7 +30,7 @@ pub fn magnitude(nodes: &[i64], r: usize, i: usize) -> usize
 
 // Word i of node r lies within the limits.
 pub(crate) fn is_small(nodes: &[i64], r: usize, i: usize) -> bool
-    requires { ⌜ Inside (now nodes) r × (i < 8) ⌝ }
+    requires { ⌜ Inside (now nodes) r × (i < node-words) ⌝ }
     ensures { λ b. ⌜ b ≡ small (node-word (now (nodes .entry)) r i) ⌝ }
 {
     mag(word(nodes, r, i)) <= LIMIT
@@ -36,7 +38,7 @@ pub(crate) fn is_small(nodes: &[i64], r: usize, i: usize) -> bool
 
 // Word i of node r is 0.
 pub(crate) fn is_zero(nodes: &[i64], r: usize, i: usize) -> bool
-    requires { ⌜ Inside (now nodes) r × (i < 8) ⌝ }
+    requires { ⌜ Inside (now nodes) r × (i < node-words) ⌝ }
     ensures { λ b. ⌜ b ≡ zeros (node-word (now (nodes .entry)) r i ∷ []) ⌝ }
 {
     mag(word(nodes, r, i)) == 0
@@ -44,7 +46,7 @@ pub(crate) fn is_zero(nodes: &[i64], r: usize, i: usize) -> bool
 
 // Word i of node r is 1 to n.
 pub(crate) fn is_among(n: usize, nodes: &[i64], r: usize, i: usize) -> bool
-    requires { ⌜ Inside (now nodes) r × (i < 8) ⌝ }
+    requires { ⌜ Inside (now nodes) r × (i < node-words) ⌝ }
     ensures { λ b. ⌜ b ≡ amongZ n (node-word (now (nodes .entry)) r i) ⌝ }
 {
     let z = word(nodes, r, i);

@@ -11,6 +11,7 @@ use lib.ListN.{length, getD, drop}
 use types.Run.{OneOf, miss}
 use denote.Enum.Declared.{tagOf}
 use Rattle.whole.specs.Cases.{if}
+use Rattle.whole.specs.Linears.{Smalls}
 use Rattle.table.specs.Table.{eqZ}
 use Rattle.table.specs.declared.Node.{Node}
 use Rattle.table.specs.declared.Made.{Made}
@@ -23,17 +24,15 @@ use Rattle.theory.specs.Load.{Entry, Loaded as Loading, condition-test, load-ch
 use Rattle.theory.specs.laws.Comps.{after, run-bind}
 use Rattle.command.proofs.Forward.{has-linear, linear-room}
 use Rattle.command.proofs.Command.{the-type as command-type}
-use Rattle.command.specs.declared.Linear.{Linear as CodeLinear}
 use Rattle.command.specs.declared.Command.{Command as CodeCommand}
 use Rattle.command.specs.declared.Command.the-variants.{Site, Leaf, Condition, Test as TestBy, Give, Name, End}
 use Rattle.command.specs.Held.{held, pushed}
-use Rattle.command.specs.Reading.{linear-of, command-of}
-use Rattle.diagrams.specs.Nodes.{blank, linOf, leafOf, treeOf, trees, treeAt, Nums, Valid, Grown}
+use Rattle.command.specs.Reading.{with-linear, linear-of, command-of}
+use Rattle.diagrams.specs.Nodes.{blank, linOf, leafOf, treeOf, trees, treeAt, Valid, Grown}
 use Rattle.diagrams.specs.Table.{Rule, Bare, Table, Ran, Grew}
 use Rattle.diagrams.proofs.Trees.{trees-kept, grown-not}
 use Rattle.diagrams.proofs.Outcomes.{out-ok, out-no, grown, ran-as, grew-as, lifted}
 use Rattle.diagrams.proofs.Going.{index-small}
-use Rattle.commands_choice.proofs.Tests.{leaf-nums}
 use Rattle.commands_choice.specs.Testing.{wordsOf, condition-in, condition-read, test-in, test-read, testAt, Testing, loadRule}
 use Rattle.stacking.specs.declared.Loaded.{Loaded}
 use Rattle.stacking.specs.Stepping.{standing, Below, Put, Grown-on, Chosen-on, Popped, Able, height, given-to, entered, Ready, loading, Stepped}
@@ -131,8 +130,8 @@ module _ (B : List ℕ) {cap : ℕ} {l : List ℤ} {w : List ℕ} {n : ℕ} (K :
 
 -- ---- a leaf
 
-pub leaf-valid : (p : CodeLinear) {x : Node} (n : ℕ) → x ≡ wordsOf p → Nums (wordsOf p) → Valid x n
-unfolding wordsOf eqZ
+pub leaf-valid : (p : List ℤ) {x : Node} (n : ℕ) → x ≡ wordsOf p → Smalls p → Valid x n
+unfolding eqZ
 leaf-valid p n e s = subst (λ (x : Node). Valid x n) (sym e) (record {
   nums = s;
   high-nat = tt;
@@ -143,11 +142,11 @@ leaf-valid p n e s = subst (λ (x : Node). Valid x n) (sym e) (record {
   low-below = λ d. absurd (let z : _≡_ {A = ℕ} 0 1 = cc in omega arith);
 })
 
-leaf-tree : (p : CodeLinear) (X : List Tree) → treeOf (wordsOf p) X ≡ leaf (plain (linear-of p))
-unfolding treeOf wordsOf eqZ leafOf linOf
+leaf-tree : (p : List ℤ) (X : List Tree) → treeOf (wordsOf p) X ≡ leaf (plain (linear-of p))
+unfolding treeOf eqZ leafOf linOf
 leaf-tree p X = refl
 
-pub leaf-grew : {cap : ℕ} {l : List ℤ} {w : List ℕ} {n : ℕ} (p : CodeLinear) {x : Node} {l′ : List ℤ} {w′ : List ℕ} {k : Made} → x ≡ wordsOf p → Grew cap l w n (make (treeOf x (trees l n))) l′ w′ k → Grew cap l w n (make (leaf (plain (linear-of p)))) l′ w′ k
+pub leaf-grew : {cap : ℕ} {l : List ℤ} {w : List ℕ} {n : ℕ} (p : List ℤ) {x : Node} {l′ : List ℤ} {w′ : List ℕ} {k : Made} → x ≡ wordsOf p → Grew cap l w n (make (treeOf x (trees l n))) l′ w′ k → Grew cap l w n (make (leaf (plain (linear-of p)))) l′ w′ k
 leaf-grew {l = l} {n = n} p e Q = grew-as (ap make (ap (λ (x : Node). treeOf x (trees l n)) e ∙ leaf-tree p (trees l n))) Q
 
 pub small-at : {cap : ℕ} {l l′ : List ℤ} {w w′ : List ℕ} {n : ℕ} {m : Comp Tree} {k : Made} → Grew cap l w n m l′ w′ k → k .stop ≡ 0 → k .at < 65536
@@ -300,14 +299,14 @@ step-as {B} {cap} {l} {w} {at} {s} {l′} {w′} {r} d e p y k = subst (λ (x : 
 
 -- a leaf whose linear is read from the bytes
 module _ {B : List ℕ} {cap : ℕ} {l : List ℤ} {w : List ℕ} {at : ℕ} {s : Loaded} {q : Linear} (y : Ready B cap l w at (push-leaf q) s) where
-  pub leaf-there : at + 21 ≤ length B
+  pub leaf-there : at + with-linear ≤ length B
   unfolding has-linear
   leaf-there = linear-room B at (push-leaf q) tt (y .here)
 
-  module _ (p : CodeLinear) (e : linear-of p ≡ q) where
-    pub leaf-read : Bare cap l w (s .count) × Nums (wordsOf p)
-    leaf-read = (y .table .bare, leaf-nums B at p (ap (λ (z : Linear). whole (push-leaf z)) e ∙ y .here))
+  module _ (p : List ℤ) (e : Smalls p × (linear-of p ≡ q)) where
+    pub leaf-read : Bare cap l w (s .count) × Smalls p
+    leaf-read = (y .table .bare, e .0)
 
     pub leaf-loaded : {l′ : List ℤ} {w′ : List ℕ} {r : Loaded} → Grown-on cap l w (s .count) (make (leaf (plain (linear-of p)))) (held (s .stack)) l′ w′ r
         → Stepped B cap l w (push-leaf q) (s .count) (held (s .stack)) l′ w′ r
-    leaf-loaded {l′} {w′} {r} G = leaf-step B at q y (subst (λ (z : Linear). Grown-on cap l w (s .count) (make (leaf (plain z))) (held (s .stack)) l′ w′ r) e G)
+    leaf-loaded {l′} {w′} {r} G = leaf-step B at q y (subst (λ (z : Linear). Grown-on cap l w (s .count) (make (leaf (plain z))) (held (s .stack)) l′ w′ r) (e .1) G)

@@ -1,29 +1,30 @@
 -- Accepted states: the bits of a mask, and the levels beyond the site's.
 use mathlib.Core.Path.{_≡_, sym, ap, ap₂, _∙_}
 use mathlib.Core.Bool.{Bool, true, false, _&&_}
-use mathlib.Core.List.{[], _∷_}
-use Prim.Native.Nat.{ℕ, zero, suc, _-_, _/_, _%_, _^_, _≤_, _<_}
+use mathlib.Core.List.{List, [], _∷_}
+use Prim.Native.Nat.{ℕ, zero, suc, _+_, _-_, _/_, _%_, _^_, _≤_, _<_}
 use native.Mathlib.Nat.{div-eq-of-lt, div-lt-iff-lt-mul, div-one, div-div-eq-div-mul, pow-zero, pow-succ'}
 use native.Mathlib.Omega.{arith}
 use borrow.Author.Tests.{eq-eqb, ne-eqb, le-leb, lt-leb, lt-ltb, le-ltb}
-use lib.Dec.{eqb, ltb, leb, leb→le, nleb→lt}
+use lib.Dec.{eqb, ltb, leb, isEq, leb→le, nleb→lt}
 use lib.IntN.{ℤ, pos, negsuc}
-use lib.ListN.{drop}
+use lib.ListN.{length, getD, take, drop, drop-of-length-le}
 use lib.Pow.{pow-mono, pow-pos}
-use lib.Seq.{drop-nil}
-use lib.Signed.{leZ}
+use lib.Seq.{getD-take, length-take-le}
+use lib.Signed.{mag, leZ}
 use mir.Syntax.{w32}
 use mir.Val.{SFits, ofZ}
 use Rattle.whole.specs.Cases.{by-test}
-use Rattle.whole.proofs.Signed.{R32}
-use Rattle.theory.specs.Diagram.{zeros}
+use Rattle.whole.specs.Linears.{numbers}
+use Rattle.whole.specs.LinearsLaws.{rest}
+use Rattle.whole.proofs.Signed.{R32, back32}
+use Rattle.theory.specs.Widths.{levels-most}
+use Rattle.theory.specs.Diagram.{cmpZ, zeros}
 use Rattle.theory.specs.Meaning.{nth}
 use Rattle.theory.specs.Value.{accepted, bits}
-use Rattle.theory.specs.Verdict.{or}
 use Rattle.values.specs.declared.Asked.{Asked}
 use Rattle.values.specs.State.{asked}
-use Rattle.rows.proofs.Judged.{and-assoc, and-true, all-three}
-use Rattle.values.proofs.Narrow.{Narrow, narrow-is}
+use Rattle.rows.proofs.Judged.{and-true, all-three}
 
 -- ---- levels
 
@@ -33,21 +34,31 @@ unfolding zeros
 zero-bits (pos n) f = sym (and-true (eqb n 0))
 zero-bits (negsuc n) f = ne-eqb (ofZ w32 (negsuc n)) 0 (λ e. omega (arith, f .sfits))
 
-pub level-among : (m i : ℕ) (z : ℤ) → i ≤ m → true ≡ or (leb i m) (zeros (z ∷ []))
-level-among m i z h = rw (le-leb i m h)
+-- what is left of the levels from i on decides
+module _ (n : List ℤ) (e : length n ≡ numbers) (m i : ℕ) (is : zeros (drop i (take levels-most n)) ≡ zeros (drop m (take levels-most n))) where
+  levels-long : length (take levels-most n) ≡ levels-most
+  levels-long = length-take-le levels-most n (omega arith)
 
-pub level-beyond : (m i : ℕ) (z : ℤ) → SFits w32 z → m < i → eqb (ofZ w32 z) 0 ≡ or (leb i m) (zeros (z ∷ []))
-level-beyond m i z f h = rw (lt-leb i m h) (zero-bits z f)
+  here : i < levels-most → (zeros (getD n i (pos 0) ∷ []) && zeros (drop (i + 1) (take levels-most n))) ≡ zeros (drop m (take levels-most n))
+  unfolding zeros
+  here h =
+      let z = getD n i (pos 0) in
+      ap (λ (b : Bool). b && zeros (drop (i + 1) (take levels-most n))) (and-true (isEq (cmpZ z (pos 0))))
+      ∙ (sym (ap zeros (rest (take levels-most n) i (omega (arith, levels-long)) ∙ ap (λ (y : ℤ). y ∷ drop (i + 1) (take levels-most n)) (getD-take levels-most n i (pos 0) h))) ∙ is)
 
-levels-are : (m : ℕ) (a b c d : ℤ) → ((or (leb 1 m) (zeros (a ∷ [])) && or (leb 2 m) (zeros (b ∷ []))) && or (leb 3 m) (zeros (c ∷ []))) && or (leb 4 m) (zeros (d ∷ [])) ≡ zeros (drop m (a ∷ b ∷ c ∷ d ∷ []))
-unfolding zeros
-levels-are zero a b c d = simp (and-assoc, and-true)
-levels-are (suc zero) a b c d = simp (and-assoc, and-true)
-levels-are (suc (suc zero)) a b c d = simp (and-assoc, and-true)
-levels-are (suc (suc (suc zero))) a b c d = simp (and-assoc, and-true)
-levels-are (suc (suc (suc (suc m)))) a b c d =
-    let k : ℕ = suc (suc (suc (suc m))) in
-    rw (le-leb 1 k (omega arith), le-leb 2 k (omega arith), le-leb 3 k (omega arith), le-leb 4 k (omega arith)) (ap zeros (sym (drop-nil m)))
+  module _ (h : i < levels-most) (f : mag (getD n i (pos 0)) < 2 ^ 31) where
+    bits-are : eqb (ofZ w32 (getD n i (pos 0))) 0 ≡ zeros (getD n i (pos 0) ∷ [])
+    bits-are = zero-bits (getD n i (pos 0)) (record { sfits = f })
+
+    pub one-set : (ofZ w32 (getD n i (pos 0)) ≡ 0 → ⊥) → false ≡ zeros (drop m (take levels-most n))
+    one-set k = ap (λ (b : Bool). b && zeros (drop (i + 1) (take levels-most n))) (sym (ne-eqb (ofZ w32 (getD n i (pos 0))) 0 k) ∙ bits-are) ∙ here h
+
+    pub one-zero : ofZ w32 (getD n i (pos 0)) ≡ 0 → zeros (drop (i + 1) (take levels-most n)) ≡ zeros (drop m (take levels-most n))
+    one-zero k = ap (λ (b : Bool). b && zeros (drop (i + 1) (take levels-most n))) (sym (eq-eqb (ofZ w32 (getD n i (pos 0))) 0 k) ∙ bits-are) ∙ here h
+
+  pub all-zero : levels-most ≤ i → true ≡ zeros (drop m (take levels-most n))
+  unfolding zeros
+  all-zero h = sym (ap zeros (drop-of-length-le (take levels-most n) {i = i} (omega (arith, levels-long)))) ∙ is
 
 -- ---- the mask
 
@@ -81,14 +92,7 @@ condition-far n x k f h g =
 
 -- ---- the whole
 
-module _ (m n : ℕ) (q : Asked) (f : Narrow q) where
-  pub accepted-is : {a b c d p x : Bool} → a ≡ or (leb 1 m) (zeros (R32 (q .n1) ∷ [])) → b ≡ or (leb 2 m) (zeros (R32 (q .n2) ∷ [])) → c ≡ or (leb 3 m) (zeros (R32 (q .n3) ∷ [])) → d ≡ or (leb 4 m) (zeros (R32 (q .n4) ∷ []))
-      → p ≡ leZ (pos 1) (R32 (q .d)) → x ≡ ltb (q .mask) (2 ^ n) → (p && x) && (((a && b) && c) && d) ≡ accepted m n (asked q)
-  unfolding accepted
-  accepted-is e₁ e₂ e₃ e₄ e₅ e₆ =
-      all-three (e₅ ∙ ap (leZ (pos 1)) (narrow-is (q .d) (f .d))) e₆
-      (ap₂ _&&_ (ap₂ _&&_ (ap₂ _&&_ (e₁ ∙ one 1 (narrow-is (q .n1) (f .n1))) (e₂ ∙ one 2 (narrow-is (q .n2) (f .n2)))) (e₃ ∙ one 3 (narrow-is (q .n3) (f .n3)))) (e₄ ∙ one 4 (narrow-is (q .n4) (f .n4)))
-      ∙ levels-are m (q .n1) (q .n2) (q .n3) (q .n4))
-    where
-      one : (i : ℕ) {y z : ℤ} → y ≡ z → or (leb i m) (zeros (y ∷ [])) ≡ or (leb i m) (zeros (z ∷ []))
-      one i e = ap (λ (v : ℤ). or (leb i m) (zeros (v ∷ []))) e
+pub accepted-is : (m n : ℕ) (q : Asked) {p x z : Bool} → mag (getD (q .n) levels-most (pos 0)) < 2 ^ 31 → p ≡ leZ (pos 1) (R32 (getD (q .n) levels-most (pos 0))) → x ≡ ltb (q .mask) (2 ^ n) → z ≡ zeros (drop m (asked q .nums))
+    → (p && x) && z ≡ accepted m n (asked q)
+unfolding accepted
+accepted-is m n q f e₁ e₂ e₃ = all-three (e₁ ∙ ap (leZ (pos 1)) (back32 (getD (q .n) levels-most (pos 0)) (record { sfits = f }))) e₂ e₃

@@ -8,10 +8,7 @@ use borrow.Author.Tests.{eq-eqb, ne-eqb}
 use lib.Dec.{T, eqb, ltb, leb, leb→le, eqb→eq}
 use lib.IntN.{ℤ}
 use lib.ListN.{length, getD}
-use mir.Syntax.{w32}
-use mir.Val.{SFits}
 use Rattle.whole.specs.Cases.{if, by-test, both}
-use Rattle.whole.proofs.Signed.{R32, back32}
 use Rattle.theory.specs.Load.{site-at}
 use Rattle.theory.specs.Solve.{early}
 use Rattle.theory.specs.Valid.{among}
@@ -22,7 +19,6 @@ use Rattle.model.specs.Answers.{shown}
 use Rattle.progress.specs.declared.Site.{Site as CodeSite}
 use Rattle.progress.specs.Standing.{site-as}
 use Rattle.values.specs.Out.{value-after}
-use Rattle.values.specs.State.{asked-by}
 
 -- ---- the early refusals
 
@@ -54,10 +50,6 @@ pub left-of : (B : List ℕ) (steps words : ℕ) {v : CodeVerdict} → shown v �
 left-of B steps words e z = left-by B steps words (ap (λ (w : Verdict). w .number) (sym e) ∙ z)
 
 -- ---- the outcome
-
--- as numbers that are read back
-pub state-is : (mask : ℕ) (l1 l2 l3 l4 d : ℤ) → SFits w32 l1 → SFits w32 l2 → SFits w32 l3 → SFits w32 l4 → SFits w32 d → asked-by mask (R32 l1) (R32 l2) (R32 l3) (R32 l4) (R32 d) ≡ asked-by mask l1 l2 l3 l4 d
-state-is mask l1 l2 l3 l4 d f₁ f₂ f₃ f₄ f₅ = λ i. record { mask = mask; nums = back32 l1 f₁ i ∷ back32 l2 f₂ i ∷ back32 l3 f₃ i ∷ back32 l4 f₄ i ∷ []; den = back32 d f₅ i }
 
 module _ (B : List ℕ) (nodes : List ℤ) (stages : List ℕ) (steps : ℕ) (q : Asked) where
   abbrev from : Verdict → Site → ValueOut

@@ -1,5 +1,4 @@
 -- Laws that several proofs cite.
-pub mod Narrow
 pub mod Accept
 pub mod Linears
 pub mod Down

@@ -1,14 +1,16 @@
 -- A state as the code passes it.
-use mathlib.Core.List.{[], _∷_}
+use mathlib.Core.List.{List}
 use Prim.Native.Nat.{ℕ}
-use lib.IntN.{ℤ}
+use lib.IntN.{ℤ, pos}
+use lib.ListN.{getD, take}
+use Rattle.theory.specs.Widths.{levels-most}
 use Rattle.theory.specs.Value as theory
 use Rattle.values.specs.declared.Asked.{Asked}
 
+-- the state of a mask, and of numerators with the denominator behind them
+abbrev pub asked-by : ℕ → List ℤ → theory.Asked
+asked-by mask n = record { mask = mask; nums = take levels-most n; den = getD n levels-most (pos 0) }
+
 -- the state that document 01 speaks of
 abbrev pub asked : Asked → theory.Asked
-asked q = record { mask = q .mask; nums = q .n1 ∷ q .n2 ∷ q .n3 ∷ q .n4 ∷ []; den = q .d }
-
--- the same by its numbers: the mask, four numerators and the denominator
-abbrev pub asked-by : ℕ → ℤ → ℤ → ℤ → ℤ → ℤ → theory.Asked
-asked-by mask l1 l2 l3 l4 d = record { mask = mask; nums = l1 ∷ l2 ∷ l3 ∷ l4 ∷ []; den = d }
+asked q = asked-by (q .mask) (q .n)

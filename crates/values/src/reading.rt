@@ -10,6 +10,7 @@ use super::states::accepted;
 use super::states::numerator;
 use super::walks::walk;
 use rows::words::magnitude;
+use table::HIGH;
 use whole::Numerator;
 
 fn refused(number: u32, place: usize) -> Value
@@ -31,7 +32,7 @@ fn value_at(a: u32, q: Asked, nodes: &[i64], r: usize) -> Value
     if r == 0 {
         return refused(14, 0);
     }
-    let action = magnitude(nodes, r, 6) as u32;
+    let action = magnitude(nodes, r, HIGH) as u32;
     let x = numerator(q, nodes, r);
     Value {
         number: 0,

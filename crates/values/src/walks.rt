@@ -16,6 +16,8 @@ use super::states::numerator;
 use rows::Kind;
 use rows::row_kind;
 use rows::words::magnitude;
+use table::HIGH;
+use table::LOW;
 use whole::two_words::not_positive;
 
 // The condition of node r is yes.
@@ -39,9 +41,9 @@ fn branch(high: bool, nodes: &[i64], r: usize) -> usize
     ensures { λ s. ⌜ s ≡ natAbs (if high (high-of (now (nodes .entry)) r) (low-of (now (nodes .entry)) r)) ⌝ }
 {
     if high {
-        magnitude(nodes, r, 6)
+        magnitude(nodes, r, HIGH)
     } else {
-        magnitude(nodes, r, 7)
+        magnitude(nodes, r, LOW)
     }
 }
 

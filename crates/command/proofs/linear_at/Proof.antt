@@ -1,72 +1,77 @@
 -- `command::linear_at` meets its contract.
-use mathlib.Core.Path.{_≡_, _∙_}
-use mathlib.Core.List.{List, [], _∷_}
-use Prim.Native.Nat.{ℕ, _+_}
+use mathlib.Core.Path.{refl, _∙_}
+use Prim.Native.Nat.{_-_}
 use native.Mathlib.Omega.{arith}
-use lib.IntN.{ℤ}
 use mir.Syntax.{w64}
 use mir.ValLaws.{toZ-ofZ}
-use Rattle.theory.specs.Diagram.{Linear}
-use Rattle.theory.specs.Command.{signed, signed-from, word-at, linear-at}
-use borrow.Author.Needs.{needs}
+use Rattle.whole.specs.Linears.{numbers}
+use Rattle.whole.proofs.Filled.{Filled, none-filled, one-filled}
+use Rattle.command.proofs.Linears.{number-at, linear-read}
 use Rattle.command.proofs.linear_at.Statement.{statement}
 use Rattle.command.proofs.linear_at.Tie as tie
 
-five : (B : List ℕ) (i : ℕ) (v w x y z : ℤ) → v ≡ signed (word-at B i) → w ≡ signed (word-at B (i + 4)) → x ≡ signed (word-at B (i + 8)) → y ≡ signed (word-at B (i + 12)) → z ≡ signed (word-at B (i + 16))
-    → _≡_ {A = Linear} (record { coeffs = v ∷ w ∷ x ∷ y ∷ []; const = z }) (linear-at B i)
-unfolding linear-at signed-from
-five B i v w x y z e₁ e₂ e₃ e₄ e₅ =
-    let p : i + 4 + 4 ≡ i + 8 = omega arith in
-    let q : i + 8 + 4 ≡ i + 12 = omega arith in
-    rw (p, q) (λ j. record { coeffs = e₁ j ∷ e₂ j ∷ e₃ j ∷ e₄ j ∷ []; const = e₅ j })
+abbrev Inv-loop : tie.InvT-loop
+Inv-loop model at out₀ i₀ out i = Filled numbers (number-at model at) i out
 
-number-requires : tie.Need-number-requires
-number-requires c κs = search needs
+abbrev μ-loop : tie.MeasureT-loop
+μ-loop model at out₀ i₀ out i = numbers - i
 
-add-number : tie.Need-add-number
-add-number c = search needs
+-- src/lib.rt:87:5
+loop-holds : tie.Need-loop-holds Inv-loop μ-loop
+loop-holds c =
+    none-filled refl
 
-number-requires-2 : tie.Need-number-requires-2
-number-requires-2 c κs = search needs
+-- src/lib.rt:88:36
+mul-number : tie.Need-mul-number Inv-loop μ-loop
+mul-number c = omega arith
 
-add-number-2 : tie.Need-add-number-2
-add-number-2 c = search needs
+-- src/lib.rt:88:31
+add-number : tie.Need-add-number Inv-loop μ-loop
+add-number c = omega arith
 
-number-requires-3 : tie.Need-number-requires-3
-number-requires-3 c κs = search needs
+-- src/lib.rt:88:13
+number-requires : tie.Need-number-requires Inv-loop μ-loop
+number-requires c κs = let p = c .before .before .before .pre in omega arith
 
-add-number-3 : tie.Need-add-number-3
-add-number-3 c = search needs
+-- src/lib.rt:89:9
+mul-out : tie.Need-mul-out Inv-loop μ-loop
+mul-out c = omega arith
 
-number-requires-4 : tie.Need-number-requires-4
-number-requires-4 c κs = search needs
+-- src/lib.rt:89:9
+array-set-from-out : tie.Need-array-set-from-out Inv-loop μ-loop
+array-set-from-out c = omega arith
 
-add-number-4 : tie.Need-add-number-4
-add-number-4 c = search needs
+-- src/lib.rt:90:9
+add-i : tie.Need-add-i Inv-loop μ-loop
+add-i c = omega arith
 
-number-requires-5 : tie.Need-number-requires-5
-number-requires-5 c κs = search needs
+-- src/lib.rt:87:5
+loop-less : tie.Need-loop-less Inv-loop μ-loop
+loop-less c = omega arith
 
-returns : tie.Need-returns
+-- src/lib.rt:87:5
+loop-again : tie.Need-loop-again Inv-loop μ-loop
+loop-again c =
+    one-filled (c .before .before .loop .inv) (c .before .loop-test .taken) (toZ-ofZ w64 _ (record { sfits = c .number .ok }) ∙ c .number .ensures)
+
+-- src/lib.rt:81:1
+returns : tie.Need-returns Inv-loop μ-loop
 returns c =
-    five ((c .before .before .before .before .before .before) .args .model .now) ((c .before .before .before .before .before .before) .args .at) _ _ _ _ _
-    (toZ-ofZ w64 _ (record { sfits = c .before .before .before .before .number .ok }) ∙ c .before .before .before .before .number .ensures)
-    (toZ-ofZ w64 _ (record { sfits = c .before .before .before .number2 .ok }) ∙ c .before .before .before .number2 .ensures)
-    (toZ-ofZ w64 _ (record { sfits = c .before .before .number3 .ok }) ∙ c .before .before .number3 .ensures)
-    (toZ-ofZ w64 _ (record { sfits = c .before .number4 .ok }) ∙ c .before .number4 .ensures)
-    (toZ-ofZ w64 _ (record { sfits = c .number5 .ok }) ∙ c .number5 .ensures)
+    linear-read _ _ (c .before .loop .inv) (c .loop-test .left)
 
 pub linear-at-spec : {M : Type 1} → statement M
 linear-at-spec =
     tie.close
     (tie.spec
-    number-requires
+    Inv-loop
+    μ-loop
+    loop-holds
+    mul-number
     add-number
-    number-requires-2
-    add-number-2
-    number-requires-3
-    add-number-3
-    number-requires-4
-    add-number-4
-    number-requires-5
+    number-requires
+    mul-out
+    array-set-from-out
+    add-i
+    loop-less
+    loop-again
     returns)

@@ -1,35 +1,75 @@
 -- `rows::small_linear` meets its contract.
-use borrow.Author.Needs.{needs}
-use Rattle.rows.proofs.Rowed.{small-linear-is}
+use mathlib.Core.Path.{_≡_, refl}
+use Prim.Native.Nat.{_+_, _-_, _*_, _≤_}
+use native.Mathlib.Omega.{arith}
+use lib.ListN.{take, drop}
+use Rattle.whole.specs.Linears.{numbers, smalls}
+use Rattle.theory.specs.Widths.{levels-most, node-words}
+use Rattle.theory.specs.Diagram.{zeros}
+use Rattle.theory.specs.Valid.{small-linear}
+use Rattle.theory.specs.Value.{node-linear}
+use Rattle.rows.specs.Row.{row-numbers}
+use Rattle.rows.proofs.Rowed.{none-judged, one-over, one-fine, all-fine, one-set, one-zero, all-zero}
 use Rattle.rows.proofs.small_linear.Statement.{statement}
 use Rattle.rows.proofs.small_linear.Tie as tie
 
-is-small-requires : tie.Need-is-small-requires
-is-small-requires c κs = search needs
+abbrev Inv-loop : tie.InvT-loop
+Inv-loop nodes r i₀ i = (i ≤ numbers) × (smalls (drop i (row-numbers nodes r)) ≡ small-linear (node-linear nodes r))
 
-is-small-requires-2 : tie.Need-is-small-requires-2
-is-small-requires-2 c κs = search needs
+abbrev μ-loop : tie.MeasureT-loop
+μ-loop nodes r i₀ i = numbers - i
 
-is-small-requires-3 : tie.Need-is-small-requires-3
-is-small-requires-3 c κs = search needs
+-- src/lib.rt:36:5
+loop-holds : tie.Need-loop-holds Inv-loop μ-loop
+loop-holds c =
+    (omega arith, none-judged _ _ (c .pre))
 
-is-small-requires-4 : tie.Need-is-small-requires-4
-is-small-requires-4 c κs = search needs
+-- src/lib.rt:37:31
+add-is-small : tie.Need-add-is-small Inv-loop μ-loop
+add-is-small c =
+    omega arith
 
-is-small-requires-5 : tie.Need-is-small-requires-5
-is-small-requires-5 c κs = search needs
+-- src/lib.rt:37:12
+is-small-requires : tie.Need-is-small-requires Inv-loop μ-loop
+is-small-requires c κs =
+    ((c .before .before) .pre, omega arith)
 
-returns : tie.Need-returns
+-- src/lib.rt:38:13
+returns : tie.Need-returns Inv-loop μ-loop
 returns c =
-    small-linear-is ((c .before .before .before .before .before) .args .nodes .now) ((c .before .before .before .before .before) .args .r) ((c .before .before .before .before .before) .pre) (c .before .before .before .before .is-small .ensures) (c .before .before .before .is-small2 .ensures) (c .before .before .is-small3 .ensures) (c .before .is-small4 .ensures) (c .is-small5 .ensures)
+    one-over _ _ ((c .before .before .before .before) .pre) (c .before .before .before .loop .i) (c .before .before .before .loop .inv .1) (c .before .before .loop-test .taken) (c .before .is-small .ensures) (c .if1 .left)
+
+-- src/lib.rt:40:9
+add-i : tie.Need-add-i Inv-loop μ-loop
+add-i c =
+    omega arith
+
+-- src/lib.rt:36:5
+loop-less : tie.Need-loop-less Inv-loop μ-loop
+loop-less c =
+    omega arith
+
+-- src/lib.rt:36:5
+loop-again : tie.Need-loop-again Inv-loop μ-loop
+loop-again c =
+    (omega arith, one-fine _ _ ((c .before .before .before .before) .pre) (c .before .before .before .loop .i) (c .before .before .before .loop .inv .1) (c .before .before .loop-test .taken) (c .before .is-small .ensures) (c .if1 .taken))
+
+-- src/lib.rt:31:1
+returns-2 : tie.Need-returns-2 Inv-loop μ-loop
+returns-2 c =
+    all-fine _ _ ((c .before .before) .pre) (c .before .loop .i) (c .before .loop .inv .1) (c .loop-test .left)
 
 pub small-linear-spec : {M : Type 1} → statement M
 small-linear-spec =
     tie.close
     (tie.spec
+    Inv-loop
+    μ-loop
+    loop-holds
+    add-is-small
     is-small-requires
-    is-small-requires-2
-    is-small-requires-3
-    is-small-requires-4
-    is-small-requires-5
-    returns)
+    returns
+    add-i
+    loop-less
+    loop-again
+    returns-2)
