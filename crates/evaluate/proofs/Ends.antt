@@ -8,6 +8,8 @@ use lib.IntN.{pos}
 use lib.ListN.{getD}
 use Rattle.whole.specs.Cases.{if, by-test}
 use Rattle.whole.specs.Int.{ring}
+use Rattle.theory.specs.Widths.{levels-most}
+use Rattle.theory.specs.Diagram.{zeros}
 use Rattle.theory.specs.Rules.{no-coeffs}
 use Rattle.theory.specs.Meaning.{State, Env, env, dot, worth-at, end-at}
 use Rattle.theory.specs.Command.{Slot, read-at}
@@ -16,9 +18,10 @@ use Rattle.theory.specs.Load.{Entry, find-slot, found, site-at}
 use Rattle.theory.specs.laws.Expectation.{zero-at}
 use Rattle.theory.specs.laws.Loading.{loaded-entries}
 use Rattle.evaluate.specs.declared.Point.{Point}
-use Rattle.evaluate.specs.Pass.{no-name, no-linear, leaf-of, numerator, Stands}
+use Rattle.evaluate.specs.Pass.{nums-of, no-name, no-linear, leaf-of, numerator, Stands}
 use Rattle.evaluate.specs.Parts.{slots-most, place, Parts}
 use Rattle.evaluate.proofs.Reach.{pass-comes}
+use Rattle.evaluate.proofs.Points.{dot-zeros}
 use Rattle.evaluate.proofs.Turns.{worth-is}
 use Rattle.evaluate.proofs.Finds.{First, first}
 
@@ -29,8 +32,8 @@ found-worth e g [] = zero-at e
 found-worth e g (x ∷ E) = by-test (same-slot g (x .slot)) (λ b. worth-at e (if b (x .tree) (find-slot g E)) ≡ end-at e (if b (x .tree ∷ []) (found g E))) (λ _. refl) (λ _. found-worth e g E)
 
 none-worth : (x : Point) → numerator x no-linear ≡ pos 0
-unfolding numerator dot no-coeffs
-none-worth x = simp ring
+unfolding numerator zeros no-coeffs
+none-worth x = rw (dot-zeros (no-coeffs levels-most) (nums-of x) tt) (simp ring)
 
 no-leaf-first : (B : List ℕ) → First B → no-linear ≡ leaf-of (read-at B 0)
 unfolding leaf-of

@@ -23,7 +23,7 @@ use Rattle.theory.specs.laws.Comps.{cmpZ-eq}
 use Rattle.theory.specs.laws.Valid.{among-out}
 use Rattle.theory.specs.laws.Values.{choose-at, decide-at}
 use Rattle.evaluate.specs.declared.Point.{Point}
-use Rattle.evaluate.specs.Pass.{nums-of, numerator, condition-holds, Stands}
+use Rattle.evaluate.specs.Pass.{nums-of, den-of, numerator, condition-holds, Stands}
 
 -- ---- bits
 
@@ -46,7 +46,7 @@ nth-none (suc (suc (suc (suc zero)))) = refl
 nth-none (suc (suc (suc (suc (suc k))))) = refl
 
 -- a point as the asked state and the masks spell it
-pub stands-bits : (m n : ℕ) (x : Point) (s : State) → n ≤ 4 → s .conditions ≡ bits n (x .mask) → s .nums ≡ take m (nums-of x) → pos (s .den) ≡ x .d → Stands m n x s (bits n (x .setting))
+pub stands-bits : (m n : ℕ) (x : Point) (s : State) → n ≤ 4 → s .conditions ≡ bits n (x .mask) → s .nums ≡ take m (nums-of x) → pos (s .den) ≡ den-of x → Stands m n x s (bits n (x .setting))
 stands-bits m n x s h c u d = record {
   now-is = λ k a b. ap (λ l. nth l k) c ∙ nth-more n 4 (x .mask) k a b h;
   later-is = λ k a b. nth-more n 4 (x .setting) k a b h;
@@ -54,7 +54,7 @@ stands-bits m n x s h c u d = record {
   den-is = d;
 }
 
-pub stands-alone : (m n : ℕ) (x : Point) (s : State) → n ≤ 4 → x .setting ≡ 0 → s .conditions ≡ bits n (x .mask) → s .nums ≡ take m (nums-of x) → pos (s .den) ≡ x .d → Stands m n x s []
+pub stands-alone : (m n : ℕ) (x : Point) (s : State) → n ≤ 4 → x .setting ≡ 0 → s .conditions ≡ bits n (x .mask) → s .nums ≡ take m (nums-of x) → pos (s .den) ≡ den-of x → Stands m n x s []
 stands-alone m n x s h z c u d = record {
   now-is = λ k a b. ap (λ l. nth l k) c ∙ nth-more n 4 (x .mask) k a b h;
   later-is = λ k a b. nth-none k ∙ ap (λ (i : ℕ). nth (bits 4 i) k) (sym z);
@@ -67,7 +67,7 @@ stands-alone m n x s h z c u d = record {
 zero-step : (c y d : ℤ) → c ≡ pos 0 → d ≡ pos 0 → c *ℤ y +ℤ d ≡ pos 0
 zero-step c y d h k = rw (h, k) (simp ring)
 
-dot-zeros : (c x : List ℤ) → T (zeros c) → dot c x ≡ pos 0
+pub dot-zeros : (c x : List ℤ) → T (zeros c) → dot c x ≡ pos 0
 unfolding dot zeros
 dot-zeros [] x t = refl
 dot-zeros (c ∷ cs) [] t = refl

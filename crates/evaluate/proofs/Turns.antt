@@ -4,60 +4,52 @@ use mathlib.Core.Bool.{Bool, true, false}
 use mathlib.Core.List.{List, [], _∷_}
 use Prim.Native.Nat.{ℕ, zero, suc, _+_, _-_, _≤_, _<_}
 use native.Mathlib.Omega.{arith}
-use lib.Dec.{T, eqb, leb→le}
+use lib.Dec.{T}
 use lib.IntN.{ℤ, pos, _+ℤ_, _*ℤ_}
-use lib.ListN.{length, getD}
+use lib.ListN.{length, getD, take, replicate}
 use types.Run.{OneOf, miss}
 use denote.Enum.Declared.{tagOf}
-use Rattle.whole.specs.Cases.{if, both}
-use Rattle.whole.specs.Int.{ring, up}
-use Rattle.whole.specs.Within.{Small, small, limit}
+use Rattle.whole.specs.Cases.{if}
+use Rattle.whole.specs.Int.{up}
+use Rattle.whole.specs.Linears.{numbers, Smalls, dotL}
+use Rattle.whole.specs.LinearsLaws.{dot-last}
+use Rattle.whole.specs.Within.{Small}
+use Rattle.theory.specs.Widths.{levels-most}
 use Rattle.theory.specs.Diagram.{Linear, Tree}
 use Rattle.theory.specs.Meaning.{State, env, nth, dot, at, worth-at, chance-at}
-use Rattle.theory.specs.Valid.{all, wide, small-linear}
 use Rattle.theory.specs.Value.{bits}
 use Rattle.theory.specs.Command.{Command, end-model, Read, whole, unknown, short, byte-at, width, read-at, goes-on, readings-from, readings, Slot, linear-at}
 use Rattle.theory.specs.Load.{find-slot, site-at}
-use Rattle.theory.specs.laws.Loading.{loaded-entries, linear-wide}
+use Rattle.theory.specs.laws.Loading.{loaded-entries}
 use Rattle.command.proofs.Command.{the-type as command-type}
 use Rattle.command.proofs.Read.{the-type as read-type}
-use Rattle.command.specs.declared.Linear.{Linear as CodeLinear}
 use Rattle.command.specs.declared.Command.{Command as CodeCommand}
 use Rattle.command.specs.declared.Command.the-variants.{Site, Leaf, Condition, Test, Give, Name, End}
 use Rattle.command.specs.declared.Read.{Read as CodeRead}
 use Rattle.command.specs.declared.Read.the-variants.{Whole, Unknown, Short}
-use Rattle.command.specs.Reading.{linear-of, command-of, read-of, next-at}
+use Rattle.command.specs.Reading.{with-linear, linear-of, command-of, read-of, next-at}
 use Rattle.command.proofs.Forward.{has-linear, linear-room}
 use Rattle.model.specs.Answers.{is-end}
 use Rattle.model.proofs.Walk.{opened, from-first, at-end, going, forward}
 use Rattle.evaluate.specs.declared.Point.{Point}
-use Rattle.evaluate.specs.Pass.{no-linear, leaf-of, numerator, stepped, takes, pass, Stands, Comes, Small-linear}
+use Rattle.evaluate.specs.Pass.{no-linear, leaf-of, numerator, stepped, takes, pass, Stands, Comes}
 use Rattle.evaluate.specs.Parts.{Seek}
 use Rattle.evaluate.proofs.Points.{value-is}
 
 -- ---- numbers
 
-pub smalls : (p : CodeLinear) → T (wide (linear-of p)) → Small (p .c1) × Small (p .c2) × Small (p .c3) × Small (p .c4) × Small (p .constant)
-unfolding wide small-linear all small
-smalls p t =
-    let a = both (all small (linear-of p .coeffs)) (small (p .constant)) (both (eqb (length (linear-of p .coeffs)) 4) (small-linear (linear-of p)) t .1) in
-    let b = both (small (p .c1)) _ (a .0) in
-    let c = both (small (p .c2)) _ (b .1) in
-    let d = both (small (p .c3)) _ (c .1) in
-    let e = both (small (p .c4)) _ (d .1) in
-    (record { small = leb→le _ limit (b .0) }, record { small = leb→le _ limit (c .0) }, record { small = leb→le _ limit (d .0) }, record { small = leb→le _ limit (e .0) }, record { small = leb→le _ limit (a .1) })
-
-regroup : (a b c d e : ℤ) → a +ℤ b +ℤ c +ℤ d +ℤ e ≡ (a +ℤ (b +ℤ (c +ℤ (d +ℤ pos 0)))) +ℤ e
-regroup a b c d e = simp ring
+dot-same : (a b : List ℤ) → dotL a b ≡ dot a b
+unfolding dotL dot
+dot-same [] b = refl
+dot-same (x ∷ a) [] = refl
+dot-same (x ∷ a) (y ∷ b) = ap (λ (z : ℤ). (x *ℤ y) +ℤ z) (dot-same a b)
 
 -- the sum of products is the linear at the point
-pub numerator-sum : (p : CodeLinear) (x : Point) {c₁ c₂ c₃ c₄ k n₁ n₂ n₃ n₄ d : ℤ} → c₁ ≡ p .c1 → c₂ ≡ p .c2 → c₃ ≡ p .c3 → c₄ ≡ p .c4 → k ≡ p .constant
-    → n₁ ≡ x .n1 → n₂ ≡ x .n2 → n₃ ≡ x .n3 → n₄ ≡ x .n4 → d ≡ x .d
-    → c₁ *ℤ n₁ +ℤ c₂ *ℤ n₂ +ℤ c₃ *ℤ n₃ +ℤ c₄ *ℤ n₄ +ℤ k *ℤ d ≡ numerator x (linear-of p)
-unfolding numerator dot
-numerator-sum p x a b c d e f g h i j =
-    (λ z. a z *ℤ f z +ℤ b z *ℤ g z +ℤ c z *ℤ h z +ℤ d z *ℤ i z +ℤ e z *ℤ j z)
-    ∙ regroup ((p .c1) *ℤ (x .n1)) ((p .c2) *ℤ (x .n2)) ((p .c3) *ℤ (x .n3)) ((p .c4) *ℤ (x .n4)) ((p .constant) *ℤ (x .d))
+pub numerator-sum : (p : List ℤ) (x : Point) → length p ≡ numbers → length (x .n) ≡ numbers → dotL p (x .n) ≡ numerator x (linear-of p)
+unfolding numerator
+numerator-sum p x e f =
+    dot-last levels-most p (x .n) e f
+    ∙ ap (λ (z : ℤ). z +ℤ getD p levels-most (pos 0) *ℤ getD (x .n) levels-most (pos 0)) (dot-same (take levels-most p) (take levels-most (x .n)))
 
 pub bit-past : (m k : ℕ) → (k ≡ 1 → ⊥) → (k ≡ 2 → ⊥) → (k ≡ 3 → ⊥) → (k ≡ 4 → ⊥) → false ≡ nth (bits 4 m) k
 unfolding nth bits
@@ -82,15 +74,11 @@ takes-other g B i End k = refl
 
 -- ---- a command of the bytes
 
--- a linear of the bytes lies within the limits, as all of 32 bits do
-pub linear-small : (B : List ℕ) (i : ℕ) (q : CodeLinear) → linear-of q ≡ linear-at B i → Small-linear (linear-of q)
-linear-small B i q e = subst Small-linear (sym e) (linear-wide B i)
-
-pub leaf-there : (B : List ℕ) (i : ℕ) {c : CodeCommand} → c ≡ Leaf → whole (command-of B i c) ≡ read-at B i → i + 21 ≤ length B
+pub leaf-there : (B : List ℕ) (i : ℕ) {c : CodeCommand} → c ≡ Leaf → whole (command-of B i c) ≡ read-at B i → i + with-linear ≤ length B
 unfolding command-of has-linear
 leaf-there B i {c} e w = linear-room B i _ (subst (λ (d : CodeCommand). T (has-linear (command-of B i d))) (sym e) tt) w
 
-pub test-there : (B : List ℕ) (i : ℕ) {c : CodeCommand} → c ≡ Test → whole (command-of B i c) ≡ read-at B i → i + 21 ≤ length B
+pub test-there : (B : List ℕ) (i : ℕ) {c : CodeCommand} → c ≡ Test → whole (command-of B i c) ≡ read-at B i → i + with-linear ≤ length B
 unfolding command-of has-linear
 test-there B i {c} e w = linear-room B i _ (subst (λ (d : CodeCommand). T (has-linear (command-of B i d))) (sym e) tt) w
 
@@ -136,8 +124,17 @@ module _ {B : List ℕ} {x : Point} {g : Slot} {i : ℕ} {l : List ℕ} (w : See
 
 -- ---- the leaf's linear
 
+zeros-at : (n k : ℕ) → getD (replicate n (pos 0)) k (pos 0) ≡ pos 0
+zeros-at zero k = refl
+zeros-at (suc n) zero = refl
+zeros-at (suc n) (suc k) = zeros-at n k
+
+-- the linear 0
+pub none-small : Smalls (replicate numbers (pos 0))
+none-small = record { long = refl; each = λ k. subst Small (sym (zeros-at numbers k)) (record { small = omega arith }) }
+
 -- what is read at an offset: a leaf, another command, none
-pub leaf-reads : (B : List ℕ) (i : ℕ) (c : CodeCommand) (q : CodeLinear) → whole (command-of B i c) ≡ read-at B i → c ≡ Leaf → linear-of q ≡ linear-at B (i + 1) → linear-of q ≡ leaf-of (read-at B i)
+pub leaf-reads : (B : List ℕ) (i : ℕ) (c : CodeCommand) (q : List ℤ) → whole (command-of B i c) ≡ read-at B i → c ≡ Leaf → linear-of q ≡ linear-at B (i + 1) → linear-of q ≡ leaf-of (read-at B i)
 unfolding command-of leaf-of
 leaf-reads B i c q e f r = r ∙ ap leaf-of (ap (λ (d : CodeCommand). whole (command-of B i d)) (sym f) ∙ e)
 

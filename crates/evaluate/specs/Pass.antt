@@ -12,13 +12,11 @@ use Rattle.theory.specs.Widths.{levels-most, conditions-most}
 use Rattle.theory.specs.Diagram.{Linear}
 use Rattle.theory.specs.Rules.{no-coeffs}
 use Rattle.theory.specs.Meaning.{State, env, nth, dot, at}
-use Rattle.theory.specs.Valid.{wide}
 use Rattle.theory.specs.Command.{Command, site, push-leaf, push-condition, push-test, give, name-action, end-model, Read, whole, unknown, short, Placed, read-at, Slot}
 use Rattle.theory.specs.Verdict.{same-slot, beyond}
 use Rattle.theory.specs.Load.{find-slot, site-at}
 use Rattle.theory.specs.Value.{bits}
 use Rattle.theory.specs.laws.Loading.{loaded-entries}
-use Rattle.command.specs.Reading.{linear-of}
 use Rattle.command.specs.Held.{pushed}
 use Rattle.evaluate.specs.declared.Point.{Point}
 use Rattle.evaluate.specs.declared.Slot.{Slot as CodeSlot}
@@ -29,11 +27,15 @@ slot-of g = record { command = g .command; action = g .action; index = g .index 
 -- ---- the pass
 
 abbrev pub nums-of : Point → List ℤ
-nums-of x = x .n1 ∷ x .n2 ∷ x .n3 ∷ x .n4 ∷ []
+nums-of x = take levels-most (x .n)
+
+-- the denominator stands behind them
+abbrev pub den-of : Point → ℤ
+den-of x = getD (x .n) levels-most (pos 0)
 
 -- a linear at a point, times d
 unfoldable pub numerator : Point → Linear → ℤ
-numerator x p = dot (p .coeffs) (nums-of x) +ℤ (p .const) *ℤ (x .d)
+numerator x p = dot (p .coeffs) (nums-of x) +ℤ (p .const) *ℤ den-of x
 
 -- "1 to n for a condition now, 5 to 4+n for the next step's"
 unfoldable pub condition-holds : Point → ℕ → Bool
@@ -74,10 +76,6 @@ pass x g (y ∷ ys) l = elim (y .read) [
   | short ↦ 0
 ]
 
--- the numbers of a command's linear lie within the limits, as all of 32 bits do
-abbrev pub Small-linear : Linear → Type 0
-Small-linear p = T (wide p)
-
 -- ---- what it comes to
 
 -- a slot that is given a diagram
@@ -93,7 +91,7 @@ pub record Stands (m n : ℕ) (x : Point) (s : State) (r : List Bool) : Type 0 w
   pub now-is : (k : ℕ) → 1 ≤ k → k ≤ n → nth (s .conditions) k ≡ nth (bits 4 (x .mask)) k
   pub later-is : (k : ℕ) → 1 ≤ k → k ≤ n → nth r k ≡ nth (bits 4 (x .setting)) k
   pub nums-are : s .nums ≡ take m (nums-of x)
-  pub den-is : pos (s .den) ≡ x .d
+  pub den-is : pos (s .den) ≡ den-of x
 
 -- the linear of a leaf, 0 of any other command
 unfoldable pub leaf-of : Read → Linear

@@ -9,6 +9,7 @@ ghost use lib.ListN.{length};
 ghost use lib.IntN.{pos};
 ghost use lib.Signed.{leZ};
 ghost use Rattle.whole.specs.Int.{up};
+ghost use Rattle.whole.specs.Linears.{Smalls};
 ghost use Rattle.whole.specs.Numerator.{words};
 ghost use Rattle.theory.specs.Command.{whole, read-at};
 ghost use Rattle.theory.specs.Meaning.{State, env, nth};
@@ -21,14 +22,16 @@ ghost use Rattle.theory.specs.Verdict.{verdict, end-slot, same-slot};
 ghost use Rattle.theory.specs.laws.Loading.{loaded-entries};
 ghost use Rattle.command.specs.Reading.{linear-of, command-of};
 ghost use Rattle.command.specs.Held.{last-first};
-ghost use Rattle.evaluate.specs.Pass.{slot-of, no-name, condition-holds, stepped, Small-linear, leaf-of, Stands, Comes};
+ghost use Rattle.evaluate.specs.Pass.{slot-of, no-name, condition-holds, stepped, leaf-of, Stands, Comes};
 ghost use Rattle.evaluate.specs.Pass.{takes as takes-slot};
 ghost use Rattle.evaluate.specs.Pass.{numerator as numerator-at};
 ghost use Rattle.evaluate.specs.Parts.{Room, Holds, Seek, Parts};
 use command::Command;
-use command::Linear;
 use command::Read;
+use whole::COEFFICIENTS;
+use whole::NUMBERS;
 use whole::Numerator;
+use whole::dot_product::dot;
 use whole::limits::mag;
 use whole::two_words;
 
@@ -42,15 +45,11 @@ pub struct Slot {
     pub index: u8,
 }
 
-// A state, and a setting of the next step's conditions: bit k − 1 for condition k, numerators over d.
+// A state, and a setting of the next step's conditions: bit k − 1 for condition k; the numerators, and the denominator as the last.
 pub struct Point {
     pub mask: u32,
     pub setting: u32,
-    pub n1: i32,
-    pub n2: i32,
-    pub n3: i32,
-    pub n4: i32,
-    pub d: i32,
+    pub n: [i32; NUMBERS],
 }
 
 fn bit(mask: u32, k: u8) -> bool
@@ -77,27 +76,17 @@ fn condition(k: u8, x: Point) -> bool
 }
 
 // A linear at a point, times d.
-fn numerator(p: Linear, x: Point) -> Numerator
-    requires { ⌜ Small-linear (linear-of p) ⌝ }
+fn numerator(p: [i64; NUMBERS], x: Point) -> Numerator
+    requires { ⌜ Smalls p ⌝ }
     ensures { λ r. ⌜ r ≡ words (numerator-at x (linear-of p)) ⌝ }
 {
-    two_words::dot(
-        p.c1,
-        p.c2,
-        p.c3,
-        p.c4,
-        p.constant,
-        x.n1,
-        x.n2,
-        x.n3,
-        x.n4,
-        x.d,
-    )
+    let n = x.n;
+    dot(p, n)
 }
 
 // "high is taken when p ≤ 0"
-fn test(p: Linear, x: Point) -> bool
-    requires { ⌜ Small-linear (linear-of p) ⌝ }
+fn test(p: [i64; NUMBERS], x: Point) -> bool
+    requires { ⌜ Smalls p ⌝ }
     ensures { λ r. ⌜ r ≡ leZ (numerator-at x (linear-of p)) (pos 0) ⌝ }
 {
     two_words::not_positive(numerator(p, x))
@@ -178,16 +167,10 @@ fn leaf_at(model: &[u8], parts: &[u32], g: Slot, x: Point) -> usize
 }
 
 // The linear of the leaf command at an offset, 0 of any other.
-fn leaf(model: &[u8], at: usize) -> Linear
-    ensures { λ r. ⌜ Small-linear (linear-of r) × (linear-of r ≡ leaf-of (read-at (now (model .entry)) at)) ⌝ }
+fn leaf(model: &[u8], at: usize) -> [i64; NUMBERS]
+    ensures { λ r. ⌜ Smalls r × (linear-of r ≡ leaf-of (read-at (now (model .entry)) at)) ⌝ }
 {
-    let none = Linear {
-        c1: 0,
-        c2: 0,
-        c3: 0,
-        c4: 0,
-        constant: 0,
-    };
+    let none = [0i64; NUMBERS];
     let read = command::command_at(model, at);
     let Read::Whole(c) = read else {
         return none;
@@ -234,7 +217,7 @@ pub fn chance_at(model: &[u8], parts: &[u32], g: Slot, x: Point) -> u64
 {
     let at = leaf_at(model, parts, g, x);
     let p = leaf(model, at);
-    weight(p.constant)
+    weight(p[COEFFICIENTS])
 }
 
 // A number below 0 counts as 0; an accepted model has none.

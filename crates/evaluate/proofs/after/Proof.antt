@@ -10,7 +10,7 @@ use Rattle.command.specs.Reading.{command-of}
 use Rattle.command.specs.Held.{last-first}
 use Rattle.evaluate.specs.Pass.{chosen, stepped, numerator}
 use Rattle.evaluate.proofs.Holding.{holds-as}
-use Rattle.evaluate.proofs.Turns.{linear-small, leaf-there, test-there}
+use Rattle.evaluate.proofs.Turns.{leaf-there, test-there}
 use borrow.Author.Needs.{needs}
 use Rattle.evaluate.proofs.after.Statement.{statement}
 use Rattle.evaluate.proofs.after.Tie as tie
@@ -57,7 +57,7 @@ linear-at-requires c κs =
 -- src/lib.rt:114:54
 test-requires : tie.Need-test-requires
 test-requires c κs =
-    linear-small ((c .before .before .before .before .before .before) .args .model .now) _ (c .linear-at .result) (c .linear-at .ensures)
+    c .linear-at .ensures .0
 
 -- src/lib.rt:114:26
 choose-requires-2 : tie.Need-choose-requires-2
@@ -111,7 +111,7 @@ same-length-3 c = search needs
 returns-3 : tie.Need-returns-3
 unfolding stepped command-of
 returns-3 c =
-    holds-as (c .before .before .choose2 .ensures) (ap (λ (b : Bool). chosen b (last-first ((c .before .before .before .before .before .before .before .before .before .before) .args .items .now) ((c .before .before .before .before .before .before .before .before .before .before) .args .len))) (c .before .before .before .test .ensures ∙ ap (λ (p : Linear). leZ (numerator ((c .before .before .before .before .before .before .before .before .before .before) .args .x) p) (pos 0)) (c .before .before .before .before .linear-at .ensures)) ∙ ap (λ (d : CodeCommand). stepped ((c .before .before .before .before .before .before .before .before .before .before) .args .x) ((c .before .before .before .before .before .before .before .before .before .before) .args .at) (command-of ((c .before .before .before .before .before .before .before .before .before .before) .args .model .now) ((c .before .before .before .before .before .before .before .before .before .before) .args .at) d) (last-first ((c .before .before .before .before .before .before .before .before .before .before) .args .items .now) ((c .before .before .before .before .before .before .before .before .before .before) .args .len))) (sym (c .before .before .before .before .before .before .enum-told2 .given .1)))
+    holds-as (c .before .before .choose2 .ensures) (ap (λ (b : Bool). chosen b (last-first ((c .before .before .before .before .before .before .before .before .before .before) .args .items .now) ((c .before .before .before .before .before .before .before .before .before .before) .args .len))) (c .before .before .before .test .ensures ∙ ap (λ (p : Linear). leZ (numerator ((c .before .before .before .before .before .before .before .before .before .before) .args .x) p) (pos 0)) (c .before .before .before .before .linear-at .ensures .1)) ∙ ap (λ (d : CodeCommand). stepped ((c .before .before .before .before .before .before .before .before .before .before) .args .x) ((c .before .before .before .before .before .before .before .before .before .before) .args .at) (command-of ((c .before .before .before .before .before .before .before .before .before .before) .args .model .now) ((c .before .before .before .before .before .before .before .before .before .before) .args .at) d) (last-first ((c .before .before .before .before .before .before .before .before .before .before) .args .items .now) ((c .before .before .before .before .before .before .before .before .before .before) .args .len))) (sym (c .before .before .before .before .before .before .enum-told2 .given .1)))
 
 -- src/lib.rt:107:1
 same-length-4 : tie.Need-same-length-4

@@ -1,30 +1,20 @@
 -- `evaluate::numerator` meets its contract.
-use mathlib.Core.Path.{sym, ap, _∙_, subst}
-use mir.Syntax.{w32, w64}
-use mir.ValLaws.{toZ-ofZ}
-use Rattle.whole.specs.Within.{Small}
+use mathlib.Core.Path.{ap, _∙_}
+use borrow.Author.Needs.{needs}
 use Rattle.whole.specs.Numerator.{words}
-use Rattle.evaluate.proofs.Turns.{smalls, numerator-sum}
+use Rattle.table.proofs.Words.{as-long}
+use Rattle.evaluate.proofs.Turns.{numerator-sum}
 use Rattle.evaluate.proofs.numerator.Statement.{statement}
 use Rattle.evaluate.proofs.numerator.Tie as tie
 
+-- src/lib.rt:84:5
 dot-requires : tie.Need-dot-requires
-dot-requires c κs =
-    let h = smalls ((c .before .before .before .before .before .before .before .before .before .before) .args .p) ((c .before .before .before .before .before .before .before .before .before .before) .pre) in (
-      subst Small (sym (toZ-ofZ w64 _ (record { sfits = c .before .before .before .before .before .before .before .before .before .struct-told .given .0 .1 }))) (h .0),
-      subst Small (sym (toZ-ofZ w64 _ (record { sfits = c .before .before .before .before .before .before .before .before .struct-told2 .given .1 .0 .1 }))) (h .1),
-      subst Small (sym (toZ-ofZ w64 _ (record { sfits = c .before .before .before .before .before .before .before .struct-told3 .given .1 .1 .0 .1 }))) (h .2),
-      subst Small (sym (toZ-ofZ w64 _ (record { sfits = c .before .before .before .before .before .before .struct-told4 .given .1 .1 .1 .0 .1 }))) (h .3),
-      subst Small (sym (toZ-ofZ w64 _ (record { sfits = c .before .before .before .before .before .struct-told5 .given .1 .1 .1 .1 .0 .1 }))) (h .4),
-    )
+dot-requires c κs = search needs
 
+-- src/lib.rt:79:1
 returns : tie.Need-returns
 returns c =
-    c .dot .ensures ∙ ap words (numerator-sum ((c .before .before .before .before .before .before .before .before .before .before .before) .args .p) ((c .before .before .before .before .before .before .before .before .before .before .before) .args .x)
-    (toZ-ofZ w64 _ (record { sfits = c .before .before .before .before .before .before .before .before .before .before .struct-told .given .0 .1 })) (toZ-ofZ w64 _ (record { sfits = c .before .before .before .before .before .before .before .before .before .struct-told2 .given .1 .0 .1 })) (toZ-ofZ w64 _ (record { sfits = c .before .before .before .before .before .before .before .before .struct-told3 .given .1 .1 .0 .1 }))
-    (toZ-ofZ w64 _ (record { sfits = c .before .before .before .before .before .before .before .struct-told4 .given .1 .1 .1 .0 .1 })) (toZ-ofZ w64 _ (record { sfits = c .before .before .before .before .before .before .struct-told5 .given .1 .1 .1 .1 .0 .1 }))
-    (toZ-ofZ w32 _ (record { sfits = c .before .before .before .before .before .struct-told6 .given .1 .1 .0 .1 })) (toZ-ofZ w32 _ (record { sfits = c .before .before .before .before .struct-told7 .given .1 .1 .1 .0 .1 })) (toZ-ofZ w32 _ (record { sfits = c .before .before .before .struct-told8 .given .1 .1 .1 .1 .0 .1 }))
-    (toZ-ofZ w32 _ (record { sfits = c .before .before .struct-told9 .given .1 .1 .1 .1 .1 .0 .1 })) (toZ-ofZ w32 _ (record { sfits = c .before .struct-told10 .given .1 .1 .1 .1 .1 .1 .0 .1 })))
+    c .dot .ensures ∙ ap words (numerator-sum ((c .before .before) .args .p) ((c .before .before) .args .x) ((c .before .before) .pre .long) (as-long ((c .before .before) .args .x .n) ((c .before .before) .good .1 .0 .1 .1 .1 .1 .0 .1 .0 .1)))
 
 pub numerator-spec : {M : Type 1} → statement M
 numerator-spec = tie.close (tie.spec dot-requires returns)
