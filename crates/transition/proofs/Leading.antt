@@ -4,19 +4,23 @@ use mathlib.Core.Bool.{Bool, true, false}
 use mathlib.Core.List.{List, map}
 use Prim.Native.Nat.{ℕ, zero, suc, _+_, _≤_, _<_}
 use native.Mathlib.Omega.{arith}
-use borrow.Author.Tests.{le-leb, lt-leb}
-use lib.Dec.{T, leb, leb→le, nleb→lt}
+use borrow.Author.Tests.{le-leb, lt-leb, eqb-true, eqb-false}
+use lib.Dec.{T, eqb, leb, leb→le, nleb→lt}
 use lib.IntN.{ℤ, pos, negsuc, natAbs}
+use lib.ListN.{length, getD, take, length-set}
+use lib.ListN.{set as store}
+use lib.Seq.{getD-set-same, getD-set-other, getD-take, length-take-le}
 use mir.Syntax.{w32}
 use mir.Val.{SFits}
-use Rattle.whole.specs.Cases.{if, by-test, both, from-true}
+use Rattle.whole.specs.Cases.{if, by-test, both, from-true, clash}
+use Rattle.whole.specs.Linears.{numbers}
 use Rattle.whole.specs.Within.{limit, limited}
 use Rattle.whole.specs.WithinLaws.{limited-is, limited-over}
 use Rattle.whole.specs.Numerator.{number, words}
 use Rattle.whole.specs.NumeratorLaws.{number-words}
 use Rattle.whole.specs.declared.Numerator.{Numerator}
 use Rattle.whole.specs.declared.Within.{Within}
-use Rattle.whole.proofs.Signed.{R32, back32}
+use Rattle.theory.specs.Widths.{levels-most}
 use Rattle.theory.specs.Diagram.{Tree}
 use Rattle.theory.specs.Meaning.{State, env, worth-at, moved}
 use Rattle.theory.specs.Valid.{all}
@@ -26,13 +30,13 @@ use Rattle.theory.specs.Value.{bits}
 use Rattle.theory.specs.Plain.{in-32-bits}
 use Rattle.theory.specs.laws.Loading.{loaded-entries}
 use Rattle.evaluate.specs.declared.Point.{Point}
-use Rattle.evaluate.specs.Pass.{Stands}
+use Rattle.evaluate.specs.Pass.{den-of, Stands}
 use Rattle.judging.specs.declared.Level.{Level}
 use Rattle.judging.specs.declared.Level.the-variants as level
-use Rattle.transition.specs.declared.Next.the-variants as next
+use Rattle.transition.specs.declared.Next.{Next}
 use Rattle.judging.specs.Totals.{judged-32, level-by}
 use Rattle.transition.specs.Standing.{Ready, Spells, under, after, Level-is, Led, Leads}
-use Rattle.transition.proofs.Lists.{map-twice, listed, some-fails, each-passes, four-most, set}
+use Rattle.transition.proofs.Lists.{map-twice, listed-from, some-fails, each-passes, four-most, set}
 
 -- ---- a level
 
@@ -87,12 +91,23 @@ level-lacks true z e = go (in-32-bits z) refl e
 
 -- ---- a state
 
+-- next level i under a setting
+abbrev level-on : List ℕ → ℕ → ℕ → State → ℕ → ℤ
+level-on B a r s i = worth-at (env s (bits (site-at B .conditions) r)) (find-slot (level-slot a i) (loaded-entries B))
+
+-- the first i levels are there, and the denominator
+pub record Moved (B : List ℕ) (a : ℕ) (x : Point) (r i : ℕ) (n : List ℤ) : Type 0 where
+  pub upto : i ≤ levels-most
+  pub long : length n ≡ numbers
+  pub last : getD n levels-most (pos 0) ≡ den-of x
+  pub each : (s : State) → Spells (site-at B) x s → (k : ℕ) → k < i → 1 + k ≤ site-at B .levels → (getD n k (pos 0) ≡ level-on B a r s (1 + k)) × (in-32-bits (level-on B a r s (1 + k)) ≡ true)
+
 module _ (B : List ℕ) (a : ℕ) (x : Point) (r : ℕ) (ok : Ready B) {y : Point} (under-is : y ≡ under x r) where
   abbrev S : Site
   S = site-at B
 
   abbrev level-of : State → ℕ → ℤ
-  level-of s i = worth-at (env s (bits (S .conditions) r)) (find-slot (level-slot a i) (loaded-entries B))
+  level-of s i = level-on B a r s i
 
   nums-after : (s : State) → after B a s r .nums ≡ map (level-of s) (from-to 1 (S .levels))
   unfolding moved action-of
@@ -102,39 +117,59 @@ module _ (B : List ℕ) (a : ℕ) (x : Point) (r : ℕ) (ok : Ready B) {y : Poin
   level-says s p i h = h .is s (bits (S .conditions) r) (rw under-is (set B x s ok p r))
 
   -- some level leaves 32 bits
-  pub leads-over : (i : ℕ) → 1 ≤ i → {z : Level} → Level-is B a i y z → z ≡ level.Over → Leads B a x r next.Over
-  unfolding Led
-  leads-over i low h e = record {
+  pub leads-over : (i : ℕ) → 1 ≤ i → {z : Level} → Level-is B a i y z → z ≡ level.Over → {v : Next} → v .over ≡ true → Leads B a x r v
+  leads-over i low h e {v} o = record {
     leads = λ s p.
         let d = level-lacks (leb i (S .levels)) (level-of s i) (sym e ∙ level-says s p i h) in
-        ap (all in-32-bits) (nums-after s) ∙ some-fails in-32-bits (level-of s) 1 (S .levels) i low (let u = leb→le i (S .levels) (from-true (d .0)) in omega arith) (d .1);
+        record {
+          at = λ q. clash (sym o ∙ q);
+          over = λ _. ap (all in-32-bits) (nums-after s) ∙ some-fails in-32-bits (level-of s) 1 (S .levels) i low (let u = leb→le i (S .levels) (from-true (d .0)) in omega arith) (d .1);
+        };
   }
 
-  module _ {l1 l2 l3 l4 : Level} (h1 : Level-is B a 1 y l1) (h2 : Level-is B a 2 y l2) (h3 : Level-is B a 3 y l3) (h4 : Level-is B a 4 y l4)
-      (n1 n2 n3 n4 : ℤ) (e1 : l1 ≡ level.Is n1) (e2 : l2 ≡ level.Is n2) (e3 : l3 ≡ level.Is n3) (e4 : l4 ≡ level.Is n4)
-      (f1 : SFits w32 n1) (f2 : SFits w32 n2) (f3 : SFits w32 n3) (f4 : SFits w32 n4) (fd : SFits w32 (x .d)) where
-    says : (s : State) → Spells S x s → (i : ℕ) {z : Level} {n : ℤ} → Level-is B a i y z → z ≡ level.Is n → i ≤ S .levels → (n ≡ level-of s i) × (in-32-bits (level-of s i) ≡ true)
-    says s p i {z} {n} h e u = level-gives (leb i (S .levels)) (level-of s i) n (sym e ∙ level-says s p i h) (le-leb i (S .levels) u)
+  pub none-moved : length (x .n) ≡ numbers → Moved B a x r 0 (x .n)
+  none-moved e = record { upto = omega arith; long = e; last = refl; each = λ s p k h. absurd (omega arith) }
 
-    passes : (s : State) → Spells S x s → (j : ℕ) → 1 ≤ j → j < 1 + S .levels → in-32-bits (level-of s j) ≡ true
-    passes s p zero u v = absurd (omega arith)
-    passes s p (suc zero) u v = says s p 1 h1 e1 (omega arith) .1
-    passes s p (suc (suc zero)) u v = says s p 2 h2 e2 (omega arith) .1
-    passes s p (suc (suc (suc zero))) u v = says s p 3 h3 e3 (omega arith) .1
-    passes s p (suc (suc (suc (suc zero)))) u v = says s p 4 h4 e4 (omega arith) .1
-    passes s p (suc (suc (suc (suc (suc j))))) u v = absurd (omega (arith, four-most B ok .1))
+  pub one-moved : {i : ℕ} {n : List ℤ} → Moved B a x r i n → i < levels-most → {j : ℕ} → j ≡ 1 + i → {l : Level} → Level-is B a j y l → {z : ℤ} → l ≡ level.Is z → SFits w32 z → {v : ℤ} → v ≡ z → Moved B a x r (i + 1) (store n i v)
+  one-moved {i} {n} M h {j} ej {l} L {z} e f {v} ev = record {
+    upto = omega arith;
+    long = length-set n i v ∙ M .long;
+    last = getD-set-other n i levels-most v (pos 0) (λ q. omega arith) ∙ M .last;
+    each = λ s p k u w. go s p k u w (eqb k i) (λ t. eqb-true k i t) (λ t. eqb-false k i t);
+  }
+    where
+      go : (s : State) → Spells S x s → (k : ℕ) → k < i + 1 → 1 + k ≤ S .levels → (b : Bool) → (b ≡ true → k ≡ i) → (b ≡ false → k ≡ i → ⊥)
+          → (getD (store n i v) k (pos 0) ≡ level-of s (1 + k)) × (in-32-bits (level-of s (1 + k)) ≡ true)
+      go s p k u w true q d =
+          let t : k ≡ i = q refl in
+          let c : j ≡ 1 + k = omega arith in
+          let g = level-gives (leb j (S .levels)) (level-of s j) z (sym e ∙ level-says s p j L) (le-leb j (S .levels) (omega arith)) in
+          (ap (λ (m : ℕ). getD (store n i v) m (pos 0)) t ∙ (getD-set-same n i v (pos 0) (let b = M .long in omega arith) ∙ (ev ∙ (g .0 ∙ ap (level-of s) c))), ap (λ (m : ℕ). in-32-bits (level-of s m)) (sym c) ∙ g .1)
+      go s p k u w false q d =
+          let t = d refl in
+          let m = M .each s p k (omega arith) w in
+          (getD-set-other n i k v (pos 0) t ∙ m .0, m .1)
 
-    pub leads-at : Leads B a x r (next.At (record { mask = r; setting = 0; n1 = R32 n1; n2 = R32 n2; n3 = R32 n3; n4 = R32 n4; d = R32 (x .d) }))
-    unfolding Led moved
-    leads-at = record {
-      leads = λ s p. record {
+  pub all-moved : {i : ℕ} {n : List ℤ} → Moved B a x r i n → levels-most ≤ i → {v : Next} → v ≡ record { over = false; point = record { mask = r; setting = 0; n = n } } → Leads B a x r v
+  unfolding moved
+  all-moved {i} {n} M h ev = rw ev (record {
+    leads = λ s p. record {
+      over = λ q. clash (sym q);
+      at = λ _. record {
         fits = ap (all in-32-bits) (nums-after s) ∙ each-passes in-32-bits (level-of s) 1 (S .levels) (passes s p);
         alone = refl;
         spells = record {
           conditions-are = refl;
-          nums-are = nums-after s ∙ listed (level-of s) (R32 n1) (R32 n2) (R32 n3) (R32 n4) (S .levels) (four-most B ok .1)
-              (λ u. back32 n1 f1 ∙ says s p 1 h1 e1 u .0) (λ u. back32 n2 f2 ∙ says s p 2 h2 e2 u .0) (λ u. back32 n3 f3 ∙ says s p 3 h3 e3 u .0) (λ u. back32 n4 f4 ∙ says s p 4 h4 e4 u .0);
-          den-is = p .den-is ∙ sym (back32 (x .d) fd);
+          nums-are = nums-after s ∙ listed-from (level-of s) 1 (S .levels) (take levels-most n) (rw firsts (four-most B ok .1)) (λ k u. getD-take levels-most n k (pos 0) (omega (arith, four-most B ok .1)) ∙ M .each s p k (omega (arith, four-most B ok .1, h)) (omega arith) .0);
+          den-is = p .den-is ∙ sym (M .last);
         };
       };
-    }
+    };
+  })
+    where
+      firsts : length (take levels-most n) ≡ levels-most
+      firsts = length-take-le levels-most n (let b = M .long in omega arith)
+
+      passes : (s : State) → Spells S x s → (j : ℕ) → 1 ≤ j → j < 1 + S .levels → in-32-bits (level-of s j) ≡ true
+      passes s p zero u v = absurd (omega arith)
+      passes s p (suc j) u v = let c : 1 + j ≡ suc j = omega arith in ap (λ (m : ℕ). in-32-bits (level-of s m)) (sym c) ∙ M .each s p j (omega (arith, four-most B ok .1, h)) (omega arith) .1

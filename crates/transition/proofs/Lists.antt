@@ -1,11 +1,12 @@
 -- The numbers 1, 2, .. of a site's levels and conditions, and the site of an accepted model.
-use mathlib.Core.Path.{_≡_, refl, sym, ap, _∙_}
+use mathlib.Core.Path.{_≡_, refl, sym, ap, _∙_, ap₂}
 use mathlib.Core.Bool.{Bool, true, false, _&&_}
 use mathlib.Core.List.{List, [], _∷_, map}
 use Prim.Native.Nat.{ℕ, zero, suc, _+_, _^_, _≤_, _<_}
 use native.Mathlib.Omega.{arith}
 use lib.Dec.{eqb, eqb→eq}
-use lib.ListN.{take}
+use lib.IntN.{ℤ, pos}
+use lib.ListN.{getD, length, take}
 use Rattle.whole.specs.Cases.{by-test}
 use Rattle.theory.specs.Meaning.{State}
 use Rattle.theory.specs.Valid.{all}
@@ -33,6 +34,15 @@ listed φ a b c d (suc (suc zero)) h p q r s = λ i. sym (p (omega arith)) i ∷
 listed φ a b c d (suc (suc (suc zero))) h p q r s = λ i. sym (p (omega arith)) i ∷ sym (q (omega arith)) i ∷ sym (r (omega arith)) i ∷ []
 listed φ a b c d (suc (suc (suc (suc zero)))) h p q r s = λ i. sym (p (omega arith)) i ∷ sym (q (omega arith)) i ∷ sym (r (omega arith)) i ∷ sym (s (omega arith)) i ∷ []
 listed φ a b c d (suc (suc (suc (suc (suc n))))) h p q r s = absurd (omega arith)
+
+-- as many as there are, from a list that begins with them
+pub listed-from : (φ : ℕ → ℤ) (b n : ℕ) (l : List ℤ) → n ≤ length l → ((k : ℕ) → k < n → getD l k (pos 0) ≡ φ (b + k)) → map φ (from-to b n) ≡ take n l
+unfolding from-to
+listed-from φ b zero l h f = refl
+listed-from φ b (suc n) [] h f = absurd (omega arith)
+listed-from φ b (suc n) (x ∷ l) h f =
+    let e : b + 0 ≡ b = omega arith in
+    ap₂ _∷_ (sym (f 0 (omega arith) ∙ ap φ e)) (listed-from φ (suc b) n l (omega arith) (λ k u. f (suc k) (omega arith) ∙ ap φ (let q : b + suc k ≡ suc b + k = omega arith in q)))
 
 -- one that fails a test, and all that pass it
 and-false : (a b : Bool) → b ≡ false → a && b ≡ false

@@ -16,11 +16,10 @@ use Rattle.theory.specs.Value.{bits}
 use Rattle.theory.specs.Plain.{in-32-bits}
 use Rattle.theory.specs.laws.Loading.{loaded-entries}
 use Rattle.evaluate.specs.declared.Point.{Point}
-use Rattle.evaluate.specs.Pass.{nums-of, Stands}
+use Rattle.evaluate.specs.Pass.{nums-of, den-of, Stands}
 use Rattle.judging.specs.declared.Level.{Level}
 use Rattle.judging.specs.declared.Level.the-variants as level
 use Rattle.transition.specs.declared.Next.{Next}
-use Rattle.transition.specs.declared.Next.the-variants as next
 use Rattle.transition.specs.declared.Chances.{Chances}
 use Rattle.judging.specs.Totals.{judged-32}
 
@@ -35,7 +34,7 @@ pub record Ready (B : List ℕ) : Type 0 where
 pub record Spells (S : Site) (x : Point) (s : State) : Type 0 where
   pub conditions-are : s .conditions ≡ bits (S .conditions) (x .mask)
   pub nums-are : s .nums ≡ take (S .levels) (nums-of x)
-  pub den-is : pos (s .den) ≡ x .d
+  pub den-is : pos (s .den) ≡ den-of x
 
 -- a point with no setting that spells some state
 pub record Standing (B : List ℕ) (x : Point) : Type 0 where
@@ -53,7 +52,7 @@ abbrev pub act : List ℕ → ℕ → Action
 act B a = action-of (site-at B) (loaded-entries B) a
 
 abbrev pub under : Point → ℕ → Point
-under x r = record { mask = x .mask; setting = r; n1 = x .n1; n2 = x .n2; n3 = x .n3; n4 = x .n4; d = x .d }
+under x r = record { mask = x .mask; setting = r; n = x .n }
 
 -- ---- chances and weights
 
@@ -96,9 +95,9 @@ pub record Reaches (S : Site) (t : State) (y : Point) : Type 0 where
   pub spells : Spells S y t
 
 -- the next state, or some numerator of it leaves 32 bits
-unfoldable pub Led : Site → State → Next → Type 0
-Led S t (next.At y) = Reaches S t y
-Led S t next.Over = all in-32-bits (t .nums) ≡ false
+pub record Led (S : Site) (t : State) (y : Next) : Type 0 where
+  pub at : y .over ≡ false → Reaches S t (y .point)
+  pub over : y .over ≡ true → all in-32-bits (t .nums) ≡ false
 
 pub record Leads (B : List ℕ) (a : ℕ) (x : Point) (r : ℕ) (y : Next) : Type 0 where
   pub leads : (s : State) → Spells (site-at B) x s → Led (site-at B) (after B a s r) y

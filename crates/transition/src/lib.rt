@@ -5,10 +5,10 @@ pub mod sites; // sites.rt: the numbers of the model's site
 pub mod weighing; // weighing.rt: the weight of a setting
 pub mod moves; // moves.rt: the state after an action and a setting
 
-// A next state, where all its numerators have 32 bits.
-pub enum Next {
-    At(Point),
-    Over,
+// A next state, unless one of its numerators leaves 32 bits.
+pub struct Next {
+    pub over: bool,
+    pub point: Point,
 }
 
 // The weights, out of W, that the conditions are yes next; 0 beyond condition n.

@@ -8,6 +8,7 @@ use super::sites;
 use evaluate::Point;
 use evaluate::Slot;
 use judging::Level;
+use whole::COEFFICIENTS;
 
 fn with_setting(mut x: Point, r: u32) -> Point
     ensures { λ y. ⌜ y ≡ under x r ⌝ }
@@ -38,26 +39,24 @@ pub fn next_state(model: &[u8], parts: &[u32], a: u8, x: Point, r: u32) -> Next
     ensures { λ y. ⌜ Leads (now (model .entry)) a x r y ⌝ }
 {
     let y = with_setting(x, r);
-    let Level::Is(n1) = next_level(model, parts, a, 1, y) else {
-        return Next::Over;
-    };
-    let Level::Is(n2) = next_level(model, parts, a, 2, y) else {
-        return Next::Over;
-    };
-    let Level::Is(n3) = next_level(model, parts, a, 3, y) else {
-        return Next::Over;
-    };
-    let Level::Is(n4) = next_level(model, parts, a, 4, y) else {
-        return Next::Over;
-    };
-    let d = x.d;
-    Next::At(Point {
-        mask: r,
-        setting: 0,
-        n1,
-        n2,
-        n3,
-        n4,
-        d,
-    })
+    let mut n = x.n;
+    let mut i: usize = 0;
+    while i < COEFFICIENTS {
+        let Level::Is(z) = next_level(model, parts, a, i as u8 + 1, y) else {
+            return Next {
+                over: true,
+                point: x,
+            };
+        };
+        n[i] = z;
+        i += 1;
+    }
+    Next {
+        over: false,
+        point: Point {
+            mask: r,
+            setting: 0,
+            n,
+        },
+    }
 }

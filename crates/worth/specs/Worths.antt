@@ -18,7 +18,7 @@ use Rattle.transition.specs.Standing.{Spells}
 
 -- the point that a state asked for stands at, with no setting
 abbrev pub point-of : Asked → Point
-point-of q = record { mask = q .mask; setting = 0; n1 = q .n1; n2 = q .n2; n3 = q .n3; n4 = q .n4; d = q .d }
+point-of q = record { mask = q .mask; setting = 0; n = q .n }
 
 -- W^(n×h) × reward, each judged
 pub record Earned (B : List ℕ) (h a : ℕ) (x : Point) (r : Within) : Type 0 where

@@ -12,6 +12,7 @@ use transition::sites;
 use values::Asked;
 use values::Value;
 use whole::Numerator;
+use whole::two_words::from_word;
 
 mod worths; // worths.rt: the worth of a state and of an action
 
@@ -33,7 +34,7 @@ fn answer(t: Total) -> Value
     let Total::Is(z, a) = t else {
         return refused(11, 0);
     };
-    let x = judging::two_words(z);
+    let x = from_word(z);
     Value {
         number: 0,
         place: 0,
@@ -46,14 +47,11 @@ fn answer(t: Total) -> Value
 fn point(q: Asked) -> Point
     ensures { λ x. ⌜ x ≡ point-of q ⌝ }
 {
+    let n = q.n;
     Point {
         mask: q.mask,
         setting: 0,
-        n1: q.n1,
-        n2: q.n2,
-        n3: q.n3,
-        n4: q.n4,
-        d: q.d,
+        n,
     }
 }
 

@@ -8,7 +8,6 @@ use evaluate::Point;
 use evaluate::Slot;
 use evaluate::parts;
 use judging::Total;
-use transition::Next;
 use transition::moves;
 use transition::sites;
 use transition::weighing;
@@ -78,10 +77,11 @@ fn action_worth(model: &[u8], parts: &[u32], steps: u32, a: u8, x: Point) -> Tot
             r += 1;
             continue;
         }
-        let Next::At(y) = moves::next_state(model, parts, a, x, r) else {
+        let y = moves::next_state(model, parts, a, x, r);
+        if y.over {
             return Total::Over;
-        };
-        sum = judging::added(sum, w, state_worth(model, parts, steps - 1, y));
+        }
+        sum = judging::added(sum, w, state_worth(model, parts, steps - 1, y.point));
         r += 1;
     }
 }
