@@ -83,7 +83,7 @@ module _ (B : List ℕ) (steps : ℕ) {v : CodeVerdict} (e : shown v ≡ early B
         spells = record {
           conditions-are = refl;
           nums-are = refl;
-          den-is = pos-up (a .d) (both (leZ (pos 1) (a .d)) (ltb (a .mask) (2 ^ (site-at B .conditions)) && zeros (drop (site-at B .levels) (asked a .nums))) holds .0);
+          den-is = pos-up (asked a .den) (both (leZ (pos 1) (asked a .den)) (ltb (a .mask) (2 ^ (site-at B .conditions)) && zeros (drop (site-at B .levels) (asked a .nums))) holds .0);
         }
 
         pub stands : {x : Point} → x ≡ point-of a → Standing B x

@@ -1,6 +1,6 @@
 -- The loops of an action's worth and of a state's: what holds at each turn.
 use mathlib.Core.Path.{_≡_, refl, sym, ap, ap₂, _∙_, subst}
-use mathlib.Core.Bool.{Bool, true}
+use mathlib.Core.Bool.{Bool, true, false}
 use mathlib.Core.List.{List, [], map}
 use Prim.Native.Nat.{ℕ, zero, suc, _+_, _-_, _*_, _^_, _≤_, _<_}
 use native.Mathlib.Omega.{arith}
@@ -23,7 +23,6 @@ use Rattle.judging.specs.declared.Total.{Total}
 use Rattle.judging.specs.declared.Total.the-variants as total
 use Rattle.transition.specs.declared.Chances.{Chances}
 use Rattle.transition.specs.declared.Next.{Next}
-use Rattle.transition.specs.declared.Next.the-variants as next
 use Rattle.judging.specs.Totals.{total-of, times-of, added-of, summed, tried, Kept, is-over, none-left}
 use Rattle.transition.specs.Standing.{Ready, Spells, Standing, Acts, act, after, Chances-are, Weighs, Reaches, Led, Leads}
 use Rattle.worth.specs.Worths.{Earned, State-worth, Action-worth}
@@ -97,30 +96,28 @@ module _ (B : List ℕ) (h a : ℕ) (x : Point) (count : ℕ) (sum : Within) (r 
     }
 
     module _ (z : w ≡ 0 → ⊥) (y : Next) (L : Leads B a x r y) where
-      pub sums-over : y ≡ next.Over → Action-worth B h a x total.Over
-      unfolding Led total-of
+      pub sums-over : y .over ≡ true → Action-worth B h a x total.Over
+      unfolding total-of
       sums-over e = record {
         is = λ s p.
             settings-over (further B h) (weigh B a s) (moved s (act B a .levels)) (site-at B .conditions) r count sum (worth-of B h a s) (I .runs s p) g (λ q. z (weighs-so s p ∙ q))
-            (subst (Led (site-at B) (after B a s r)) e (L .leads s p));
+            (L .leads s p .over e);
       }
 
-      pub sums-add : (q : Point) → y ≡ next.At q → (t : Total) → State-worth B (h - 1) q t → (sum′ : Within) → sum′ ≡ added-of sum w (total-of t) → Sums B h a x count sum′ (r + 1)
-      unfolding Led
-      sums-add q e t Y sum′ k = record {
+      pub sums-add : y .over ≡ false → (t : Total) → State-worth B (h - 1) (y .point) t → (sum′ : Within) → sum′ ≡ added-of sum w (total-of t) → Sums B h a x count sum′ (r + 1)
+      sums-add e t Y sum′ k = record {
         most = omega arith;
         kept = subst Kept (sym k) (added-kept sum w (total-of t));
         runs = λ s p.
-            let R : Reaches (site-at B) (after B a s r) q = subst (Led (site-at B) (after B a s r)) e (L .leads s p) in
+            let R : Reaches (site-at B) (after B a s r) (y .point) = L .leads s p .at e in
             settings-add (further B h) (weigh B a s) (moved s (act B a .levels)) (site-at B .conditions) r count sum (worth-of B h a s) (I .runs s p) g (λ q. z (weighs-so s p ∙ q)) (R .fits)
             (total-of t) (Y .is (after B a s r) (R .spells)) sum′ (k ∙ ap (λ (n : ℕ). added-of sum n (total-of t)) (weighs-so s p));
       }
 
 -- the next state stands, as this one does
-pub next-stands : (B : List ℕ) (a : ℕ) (x : Point) (r : ℕ) (y : Next) → Standing B x → Leads B a x r y → (q : Point) → y ≡ next.At q → Standing B q
-unfolding Led
-next-stands B a x r y st L q e =
-    let R : Reaches (site-at B) (after B a (st .state) r) q = subst (Led (site-at B) (after B a (st .state) r)) e (L .leads (st .state) (st .spells)) in
+pub next-stands : (B : List ℕ) (a : ℕ) (x : Point) (r : ℕ) (y : Next) → Standing B x → Leads B a x r y → y .over ≡ false → Standing B (y .point)
+next-stands B a x r y st L e =
+    let R : Reaches (site-at B) (after B a (st .state) r) (y .point) = L .leads (st .state) (st .spells) .at e in
     record { ready = st .ready; alone = R .alone; state = after B a (st .state) r; spells = R .spells }
 
 -- ---- the actions of a state

@@ -18,17 +18,17 @@ returns : tie.Need-returns
 returns c =
     c .refused .ensures ∙ answer-over ((c .before .before .before) .args .t) (c .before .enum-told .given .1)
 
-two-words-requires : tie.Need-two-words-requires
-two-words-requires c κs = search needs
+from-word-requires : tie.Need-from-word-requires
+from-word-requires c κs = search needs
 
 cast-t5 : tie.Need-cast-t5
 cast-t5 c = search needs
 
 returns-2 : tie.Need-returns-2
 returns-2 c =
-    answer-is ((c .before .before .before .before) .args .t) _ _ (c .before .before .t .given .1) (record { sfits = c .before .known-told .given .0 .1 }) _ (c .two-words .ensures)
+    answer-is ((c .before .before .before .before) .args .t) _ _ (c .before .before .t .given .1) (record { sfits = c .before .known-told .given .0 .1 }) _ (c .from-word .ensures)
 
 pub answer-spec : {M : Type 1} → statement M
 answer-spec =
     tie.close
-    (tie.spec enum-known-t enum-told refused-requires returns two-words-requires cast-t5 returns-2)
+    (tie.spec enum-known-t enum-told refused-requires returns from-word-requires cast-t5 returns-2)

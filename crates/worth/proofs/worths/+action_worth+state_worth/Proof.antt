@@ -162,44 +162,36 @@ action-worth-next-state-requires : (t : ℕ) → action-worth-lts.Need-next-stat
 action-worth-next-state-requires t c κs =
     ((c .before .before .before .before .before .before .before .before .before .before) .pre .1 .0 .ready, (c .before .before .before .before .before .before .before .before .before .before) .pre .1 .1, (c .before .before .before .before .before .before .before .before .before .before) .pre .1 .4)
 
-action-worth-enum-known-y : (t : ℕ) → action-worth-lts.Need-enum-known-y (action-worth-claims t) (action-worth-at t) action-worth.Post action-worth-Inv-loop action-worth-μ-loop
-action-worth-enum-known-y t c =
-    search needs
-
-action-worth-enum-told : (t : ℕ) → action-worth-lts.Need-enum-told (action-worth-claims t) (action-worth-at t) action-worth.Post action-worth-Inv-loop action-worth-μ-loop
-action-worth-enum-told t c =
-    search needs
-
 action-worth-returns-2 : (t : ℕ) → action-worth-lts.Need-returns-2 (action-worth-claims t) (action-worth-at t) action-worth.Post action-worth-Inv-loop action-worth-μ-loop
 action-worth-returns-2 t c =
-    let s = (c .before .before .before .before .before .before .before .before .before .before .before .before .before) in
-    sums-over (s .args .model .now) (s .args .steps) (s .args .a) (s .args .x) _ _ _ (c .before .before .before .before .before .before .before .loop .inv) _ (c .before .before .before .before .before .before .before .before .before .before .chances .ensures) _ (c .before .before .before .before .weight .ensures) (goes-on (is-over (c .before .before .before .before .before .before .before .loop .sum)) (c .before .before .before .before .before .before .before .before .before .settings .result) (c .before .before .before .before .before .before .before .loop .r) _ (c .before .before .before .before .before .before .settings-done .ensures) (c .before .before .before .before .before .if1 .left)) (c .before .before .before .if2 .left) _ (c .before .before .next-state .ensures) (c .enum-told .given .1)
+    let s = (c .before .before .before .before .before .before .before .before .before .before .before .before) in
+    sums-over (s .args .model .now) (s .args .steps) (s .args .a) (s .args .x) _ _ _ (c .before .before .before .before .before .before .loop .inv) _ (c .before .before .before .before .before .before .before .before .before .chances .ensures) _ (c .before .before .before .weight .ensures) (goes-on (is-over (c .before .before .before .before .before .before .loop .sum)) (c .before .before .before .before .before .before .before .before .settings .result) (c .before .before .before .before .before .before .loop .r) _ (c .before .before .before .before .before .settings-done .ensures) (c .before .before .before .before .if1 .left)) (c .before .before .if2 .left) _ (c .before .next-state .ensures) (c .if3 .taken)
 
 action-worth-sub-state-worth : (t : ℕ) → action-worth-lts.Need-sub-state-worth (action-worth-claims t) (action-worth-at t) action-worth.Post action-worth-Inv-loop action-worth-μ-loop
 action-worth-sub-state-worth t c =
-    (c .before .before .before .before .before .before .before .before .before .before .before .before .before .before) .pre .1 .2
+    (c .before .before .before .before .before .before .before .before .before .before .before .before) .pre .1 .2
 
 action-worth-state-worth-requires : (t : ℕ) → action-worth-lts.Need-state-worth-requires (action-worth-claims t) (action-worth-at t) action-worth.Post action-worth-Inv-loop action-worth-μ-loop
 action-worth-state-worth-requires t c κs =
-    let s = (c .before .before .before .before .before .before .before .before .before .before .before .before .before .before) in
-    (to-state (s .args .steps) t (s .pre .1 .2) (s .pre .0), (next-stands (s .args .model .now) (s .args .a) (s .args .x) _ _ (s .pre .1 .0) (c .before .before .before .next-state .ensures) _ (c .before .y .given .1), omega (arith, s .pre .1 .3), s .pre .1 .4))
+    let s = (c .before .before .before .before .before .before .before .before .before .before .before .before) in
+    (to-state (s .args .steps) t (s .pre .1 .2) (s .pre .0), (next-stands (s .args .model .now) (s .args .a) (s .args .x) _ _ (s .pre .1 .0) (c .before .next-state .ensures) (c .if3 .left), omega (arith, s .pre .1 .3), s .pre .1 .4))
 
 action-worth-added-requires : (t : ℕ) → action-worth-lts.Need-added-requires (action-worth-claims t) (action-worth-at t) action-worth.Post action-worth-Inv-loop action-worth-μ-loop
 action-worth-added-requires t c κs =
-    (c .before .before .before .before .before .before .before .before .before .loop .inv .kept, c .before .before .before .before .before .before .weight .ensures .bounded)
+    (c .before .before .before .before .before .before .before .loop .inv .kept, c .before .before .before .before .weight .ensures .bounded)
 
 action-worth-add-r-2 : (t : ℕ) → action-worth-lts.Need-add-r-2 (action-worth-claims t) (action-worth-at t) action-worth.Post action-worth-Inv-loop action-worth-μ-loop
 action-worth-add-r-2 t c =
-    omega (arith, goes-on (is-over (c .before .before .before .before .before .before .before .before .before .before .loop .sum)) (c .before .before .before .before .before .before .before .before .before .before .before .before .settings .result) (c .before .before .before .before .before .before .before .before .before .before .loop .r) _ (c .before .before .before .before .before .before .before .before .before .settings-done .ensures) (c .before .before .before .before .before .before .before .before .if1 .left))
+    omega (arith, goes-on (is-over (c .before .before .before .before .before .before .before .before .loop .sum)) (c .before .before .before .before .before .before .before .before .before .before .settings .result) (c .before .before .before .before .before .before .before .before .loop .r) _ (c .before .before .before .before .before .before .before .settings-done .ensures) (c .before .before .before .before .before .before .if1 .left))
 
 action-worth-loop-less-2 : (t : ℕ) → action-worth-lts.Need-loop-less-2 (action-worth-claims t) (action-worth-at t) action-worth.Post action-worth-Inv-loop action-worth-μ-loop
 action-worth-loop-less-2 t c =
-    omega (arith, goes-on (is-over (c .before .before .before .before .before .before .before .before .before .before .loop .sum)) (c .before .before .before .before .before .before .before .before .before .before .before .before .settings .result) (c .before .before .before .before .before .before .before .before .before .before .loop .r) _ (c .before .before .before .before .before .before .before .before .before .settings-done .ensures) (c .before .before .before .before .before .before .before .before .if1 .left))
+    omega (arith, goes-on (is-over (c .before .before .before .before .before .before .before .before .loop .sum)) (c .before .before .before .before .before .before .before .before .before .before .settings .result) (c .before .before .before .before .before .before .before .before .loop .r) _ (c .before .before .before .before .before .before .before .settings-done .ensures) (c .before .before .before .before .before .before .if1 .left))
 
 action-worth-loop-again-2 : (t : ℕ) → action-worth-lts.Need-loop-again-2 (action-worth-claims t) (action-worth-at t) action-worth.Post action-worth-Inv-loop action-worth-μ-loop
 action-worth-loop-again-2 t c =
-    let s = (c .before .before .before .before .before .before .before .before .before .before .before .before .before .before .before .before) in
-    sums-add (s .args .model .now) (s .args .steps) (s .args .a) (s .args .x) _ _ _ (c .before .before .before .before .before .before .before .before .before .before .loop .inv) _ (c .before .before .before .before .before .before .before .before .before .before .before .before .before .chances .ensures) _ (c .before .before .before .before .before .before .before .weight .ensures) (goes-on (is-over (c .before .before .before .before .before .before .before .before .before .before .loop .sum)) (c .before .before .before .before .before .before .before .before .before .before .before .before .settings .result) (c .before .before .before .before .before .before .before .before .before .before .loop .r) _ (c .before .before .before .before .before .before .before .before .before .settings-done .ensures) (c .before .before .before .before .before .before .before .before .if1 .left)) (c .before .before .before .before .before .before .if2 .left) _ (c .before .before .before .before .before .next-state .ensures) _ (c .before .before .before .y .given .1) _ (c .before .state-worth .ensures) _ (c .added .ensures)
+    let s = (c .before .before .before .before .before .before .before .before .before .before .before .before .before .before) in
+    sums-add (s .args .model .now) (s .args .steps) (s .args .a) (s .args .x) _ _ _ (c .before .before .before .before .before .before .before .before .loop .inv) _ (c .before .before .before .before .before .before .before .before .before .before .before .chances .ensures) _ (c .before .before .before .before .before .weight .ensures) (goes-on (is-over (c .before .before .before .before .before .before .before .before .loop .sum)) (c .before .before .before .before .before .before .before .before .before .before .settings .result) (c .before .before .before .before .before .before .before .before .loop .r) _ (c .before .before .before .before .before .before .before .settings-done .ensures) (c .before .before .before .before .before .before .if1 .left)) (c .before .before .before .before .if2 .left) _ (c .before .before .before .next-state .ensures) (c .before .before .if3 .left) _ (c .before .state-worth .ensures) _ (c .added .ensures)
 
 abbrev state-worth-Inv-loop : state-worth-lts.InvT-loop
 state-worth-Inv-loop model parts steps x last best₀ a₀ best a = Tries model steps x last best a
@@ -286,8 +278,6 @@ pub +action-worth+state-worth-spec : {M : Type 1} → statement M
     (action-worth-loop-less t)
     (action-worth-loop-again t)
     (action-worth-next-state-requires t)
-    (action-worth-enum-known-y t)
-    (action-worth-enum-told t)
     (action-worth-returns-2 t)
     (action-worth-sub-state-worth t)
     (action-worth-state-worth-requires t)
