@@ -7,7 +7,7 @@ use native.Mathlib.Omega.{arith}
 use lib.Dec.{T-not}
 use lib.ListN.{length}
 use Rattle.whole.specs.Cases.{if, by-test}
-use Rattle.theory.specs.Command.{site, push-leaf, push-condition, push-test, give, name-action, end-model, Read, whole, unknown, short, Placed, byte-at, width, read-at, goes-on, readings-from, readings}
+use Rattle.theory.specs.Command.{site, push-leaf, push-condition, push-test, give, name-action, end-model, Read, whole, unknown, short, Placed, byte-at, width, read-at, goes-on, readings-from, readings-from-in, readings, readings-in}
 use Rattle.theory.specs.Verdict.{from-to}
 use Rattle.theory.specs.Load.{site-at}
 use Rattle.theory.specs.Rows.{Admitted}
@@ -135,7 +135,7 @@ abbrev Once : List Placed → Type 0
 Once l = (a at : ℕ) (t : List ℕ) → List·Memᴰ (naming a at t) l → (z : ℕ) (u : List ℕ) → List·Memᴰ (naming a z u) l → at ≡ z
 
 met-once : (B x : List ℕ) (k p : ℕ) → Once (readings-from B k p) → Distinct (met x (readings-from B k p))
-unfolding readings-from met
+unfolding readings-from-in met
 met-once B x zero p f = tt
 met-once B x (suc k) p f = distinct-more (met-by x (read-at B p)) (met x (behind B k p (goes-on (read-at B p))))
     (λ a m. (
@@ -154,7 +154,7 @@ met-once B x (suc k) p f = distinct-more (met-by x (read-at B p)) (met x (behind
 
 module _ (B x : List ℕ) (d : Admitted B 1 8) (some : x ≡ [] → ⊥) where
   met-listed : Lists (Carries B x) (met x (readings B))
-  unfolding readings
+  unfolding readings-in
   met-listed = record {
     once = met-once B x (suc (length B)) 0 (λ a at t m z u n. named-once B d a at t m z u n);
     each = λ a m.

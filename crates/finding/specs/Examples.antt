@@ -15,21 +15,21 @@ use Rattle.finding.specs.Find as Find
 
 -- one name that unfolds all that the cases compute with
 unfoldable definitions : Unit {0}
-unfolding Diagram.zeros Valid.all Valid.among Command.width Command.word-at Command.signed Command.signed-from Command.linear-at Command.command-at Command.read-at Command.goes-on Command.readings-from Command.readings Verdict.same-slot Verdict.has-slot Verdict.first-broken Verdict.beyond Verdict.printable Verdict.is-weight Verdict.of-site Verdict.may-be Verdict.from-to Verdict.wanted-by Verdict.wanted Verdict.site-rules Verdict.first-rules Verdict.later-rules Verdict.rules-of Verdict.after Verdict.ended Verdict.judged Verdict.verdict Load.site-at Solve.early Name.names-action Name.trimmed Name.named-part Name.name-refusal Name.name-part Name.name Find.trim Find.same-name Find.carries Find.bearers Find.found-among Find.find
+unfolding Diagram.zeros Diagram.padded Valid.all Valid.among Command.width-in Command.word-at Command.signed Command.signed-from Command.bytes-at Command.linear-in Command.command-in Command.read-in Command.goes-on Command.readings-from-in Command.readings-in Verdict.same-slot Verdict.has-slot Verdict.first-broken Verdict.beyond Verdict.printable Verdict.is-weight Verdict.of-site Verdict.may-be Verdict.from-to Verdict.wanted-by Verdict.wanted Verdict.site-rules Verdict.first-rules Verdict.later-rules Verdict.rules-in Verdict.after Verdict.ended Verdict.judged-in Verdict.verdict-in Load.site-in Solve.early Name.names-action Name.trimmed Name.named-part Name.name-refusal Name.name-part Name.name Find.trim Find.same-name Find.carries Find.bearers Find.found-among Find.find
 definitions = tt
 
 -- reward 0, next level 0
 abbrev plain : ℕ → List ℕ
-plain a = (0x10 ∷ replicate 20 0) ++ ((0x20 ∷ a ∷ []) ++ ((0x10 ∷ replicate 20 0) ++ (0x22 ∷ a ∷ 1 ∷ [])))
+plain a = (0x10 ∷ replicate 36 0) ++ ((0x20 ∷ a ∷ 0 ∷ []) ++ ((0x10 ∷ replicate 36 0) ++ (0x22 ∷ a ∷ 0 ∷ 1 ∷ [])))
 
 -- a name and spaces up to 16 bytes
 abbrev named : ℕ → List ℕ → List ℕ
-named a t = 0x30 ∷ a ∷ (t ++ replicate (16 - length t) 0x20)
+named a t = 0x30 ∷ a ∷ 0 ∷ (t ++ replicate (16 - length t) 0x20)
 
 -- actions 1 and 4 are `A`, 2 is ` A`, 3 has no name, 5 has sixteen spaces
 abbrev pub actions : List ℕ
 actions =
-    (0x01 ∷ 1 ∷ 0 ∷ 5 ∷ 1 ∷ []) ++ (plain 1 ++ (plain 2 ++ (plain 3 ++ (plain 4 ++ (plain 5
+    (0x02 ∷ 1 ∷ 0 ∷ 5 ∷ 0 ∷ 1 ∷ []) ++ (plain 1 ++ (plain 2 ++ (plain 3 ++ (plain 4 ++ (plain 5
     ++ (named 4 (0x41 ∷ []) ++ (named 1 (0x41 ∷ []) ++ (named 2 (0x20 ∷ 0x41 ∷ []) ++ (named 5 [] ++ (0xff ∷ []))))))))))
 
 -- number, place and action

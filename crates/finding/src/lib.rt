@@ -2,6 +2,7 @@
 ghost use mathlib.Core.Path.{_≡_};
 ghost use Prim.Native.Nat.{_+_, _≤_};
 ghost use lib.ListN.{length, take, drop};
+ghost use Rattle.theory.specs.Widths.{name-bytes};
 ghost use Rattle.theory.specs.Command.{whole, read-at, readings};
 ghost use Rattle.command.specs.Reading.{command-of};
 ghost use Rattle.finding.specs.declared.Bearers.the-variants.{Nobody};
@@ -11,15 +12,15 @@ ghost use Rattle.finding.specs.Tally.{found-as, with-reading, tally};
 ghost use Rattle.finding.specs.Tally.{joined as joined-by};
 ghost use Rattle.finding.specs.Tally.{told as told-of};
 use command::Command;
+use command::NAME_BYTES;
 use command::Read;
+use command::forms;
+use command::forms::Form;
 
 // "refuses a name that no action carries with 18, and one that several carry with 19"
 const NO_BEARER: u32 = 18;
 
 const SEVERAL_BEARERS: u32 = 19;
-
-// "30 name: action, 16 bytes"
-const NAME_BYTES: usize = 16;
 
 // Number and place of a refusal, 0 and 0 where there is none; the action, 0 where there is one.
 pub struct Found {
@@ -35,7 +36,7 @@ enum Bearers {
     Several,
 }
 
-fn wide(x: u8) -> u32
+fn wide(x: u16) -> u32
     ensures { λ r. ⌜ r ≡ x ⌝ }
 {
     x as u32
@@ -63,8 +64,8 @@ fn joined(known: Bearers, action: u32) -> Bearers
 
 // The bytes of a name command, from an offset on and without the spaces at their end, are the name.
 fn spells(model: &[u8], from: usize, name: &[u8]) -> bool
-    requires { ⌜ from + 16 ≤ length (now model) ⌝ }
-    ensures { λ r. ⌜ r ≡ same-name (trim (take 16 (drop from (now (model .entry))))) (now (name .entry)) ⌝ }
+    requires { ⌜ from + name-bytes ≤ length (now model) ⌝ }
+    ensures { λ r. ⌜ r ≡ same-name (trim (take name-bytes (drop from (now (model .entry))))) (now (name .entry)) ⌝ }
 {
     let size = names::trimmed_len(model, from, NAME_BYTES);
     let to = from + size;
@@ -76,7 +77,7 @@ fn with_command(model: &[u8], at: usize, c: Command, name: &[u8], known: Bearers
     ensures { λ r. ⌜ r ≡ with-reading (now (name .entry)) known (whole (command-of (now (model .entry)) at c)) ⌝ }
 {
     if let Command::Name(a) = c {
-        if spells(model, at + 2, name) {
+        if spells(model, at + forms::behind_action(Form::New), name) {
             joined(known, wide(a))
         } else {
             known

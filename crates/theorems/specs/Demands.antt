@@ -162,7 +162,7 @@ SpelledSame = (B : List ℕ) → process (model B) ≡ process (spelled B)
 abbrev pub DividesAll : ℕ → Linear → Type 0
 DividesAll g p = (z : ℤ) → List·Memᴰ z (p .coeffs ++ (p .const ∷ [])) → Divides g (natAbs z)
 
--- "A test is divided by the greatest common divisor of its five numbers": p is g × the test's linear, g divides p's numbers, and whatever does divides g
+-- "A test is divided by the greatest common divisor of its nine numbers": p is g × the test's linear, g divides p's numbers, and whatever does divides g
 abbrev pub TestsDivided : Type 0
 TestsDivided = (p : Linear) → (T (zeros (p .coeffs)) → ⊥)
     → (g : ℕ) × ((q : Linear) × ((test-of p ≡ linear q) × ((pos g ⊠ q ≡ p) × (DividesAll g p × ((k : ℕ) → DividesAll k p → Divides k g)))))

@@ -27,7 +27,7 @@ use Rattle.theory.specs.Listing as Listing
 
 -- one name that unfolds all that the cases compute with
 unfoldable definitions : Unit {0}
-unfolding Divisor.gcdBy Divisor.gcdOf Divisor.gcd-all Divisor.at-least-one Within.small Numerator.number Numerator.words Diagram.cmpList Diagram.cmpLinear Diagram.cmp Diagram.same-leaf Diagram.same Diagram.addL Diagram.scaleL Diagram._⊞_ Diagram._⊠_ Diagram._⊟_ Diagram.plus-constant Diagram.zeros Diagram.quotL Diagram.quotient Diagram.divisor Diagram.test-of Computation.bind Computation.result Computation.make Computation.names Computation.judge Computation.both Computation.member Computation.run Computation.enter Computation.enter-all Computation.and-then Computation.final Computation.run-all Rules.parallel Rules.narrowed Rules.node Rules.step Rules.choose Rules.over Rules.merge Rules.make-leaf Rules.leaf-sum Rules.leaf-product Rules.leaf-scale Rules.leaf-shift Rules.leaf-complement Rules.leaf-number Rules.decide Rules.leaf-best Rules.sum Rules.product Rules.scale Rules.shift Rules.complement Rules.number Rules.best Rules.no-coeffs Rules.zero-leaf Rules.sum-on Rules.levels-sum Rules.linear-diagram Rules.substitute Rules.is-later Rules.side Rules.expectation Rules.add-reward Process.mean Process.maxZ Process.greatest-from Process.first-best Process.total Process.optimum Process.lowest-best Meaning.nth-action Meaning.action-at Meaning.numbers-from Meaning.nth Meaning.env Meaning.dot Meaning.value Meaning.holds Meaning.at Meaning.worth-at Meaning.end-at Meaning.doubled Meaning.settings Meaning.chance-at Meaning.weight Meaning.moved Meaning.process Stage.all-diagrams Stage.model-diagrams Stage.sum-out Stage.action-total Stage.best-on Stage.stage-over Stage.stages-on Stage.stages-over-end Stage.all-stages Valid.all Valid.among Valid.small-linear Command.width Command.word-at Command.signed Command.signed-from Command.linear-at Command.command-at Command.read-at Command.goes-on Command.readings-from Command.readings Verdict.same-slot Verdict.has-slot Verdict.first-broken Verdict.beyond Verdict.next-condition Verdict.printable Verdict.is-weight Verdict.of-site Verdict.may-be Verdict.joined Verdict.from-to Verdict.wanted-by Verdict.wanted Verdict.site-rules Verdict.first-rules Verdict.later-rules Verdict.rules-of Verdict.after Verdict.ended Verdict.judged Verdict.verdict Load.condition-test Load.load-choice-with Load.load-entry Load.load-one-with Load.load-on-with Load.find-slot Load.found Load.action-of Load.model-of Load.site-at Load.load-with Load.model Solve.room Solve.solve-in Solve.number-of Solve.padded Solve.test-words Solve.row Solve.rows Solve.table-of Solve.solved-nodes Solve.solved-stages Solve.solve-left Solve.early Solve.solve Value.accepted Value.bits Value.state-of Value.node-linear Value.amongZ Value.good-branches Value.good-leaf-row Value.good-condition-row Value.good-test-row Value.good-row Value.numerator-of Value.taken Value.walk Value.value-at Value.value-of Plain.judged Plain.in-32-bits Plain.sum-settings Plain.action-worth Plain.better Plain.try-actions Plain.numbered Plain.state-worth Plain.worth-out Plain.if-true Plain.plain-of Name.names-action Name.trimmed Name.named-part Name.name-refusal Name.name-part Name.name Listing.digits Listing.spaced Listing.spaced-all Listing.first-line Listing.node-line Listing.stage-line Listing.lines Listing.greatest-root Listing.text Listing.refusal-line Listing.written Listing.listing-refusal Listing.listing
+unfolding Divisor.gcdBy Divisor.gcdOf Divisor.gcd-all Divisor.at-least-one Within.small Numerator.number Numerator.words Diagram.cmpList Diagram.cmpLinear Diagram.cmp Diagram.same-leaf Diagram.same Diagram.addL Diagram.scaleL Diagram._⊞_ Diagram._⊠_ Diagram._⊟_ Diagram.plus-constant Diagram.zeros Diagram.quotL Diagram.quotient Diagram.divisor Diagram.test-of Computation.bind Computation.result Computation.make Computation.names Computation.judge Computation.both Computation.member Computation.run Computation.enter Computation.enter-all Computation.and-then Computation.final Computation.run-all Rules.parallel Rules.narrowed Rules.node Rules.step Rules.choose Rules.over Rules.merge Rules.make-leaf Rules.leaf-sum Rules.leaf-product Rules.leaf-scale Rules.leaf-shift Rules.leaf-complement Rules.leaf-number Rules.decide Rules.leaf-best Rules.sum Rules.product Rules.scale Rules.shift Rules.complement Rules.number Rules.best Rules.no-coeffs Rules.zero-leaf Rules.sum-on Rules.levels-sum Rules.linear-diagram Rules.substitute Rules.is-later Rules.side Rules.expectation Rules.add-reward Process.mean Process.maxZ Process.greatest-from Process.first-best Process.total Process.optimum Process.lowest-best Meaning.nth-action Meaning.action-at Meaning.numbers-from Meaning.nth Meaning.env Meaning.dot Meaning.value Meaning.holds Meaning.at Meaning.worth-at Meaning.end-at Meaning.doubled Meaning.settings Meaning.chance-at Meaning.weight Meaning.moved Meaning.process Stage.all-diagrams Stage.model-diagrams Stage.sum-out Stage.action-total Stage.best-on Stage.stage-over Stage.stages-on Stage.stages-over-end Stage.all-stages Valid.all Valid.among Valid.small-linear Command.width-in Command.word-at Command.signed Command.signed-from Command.linear-in Command.bytes-at Command.command-in Command.read-in Command.goes-on Command.readings-from-in Command.readings-in Verdict.same-slot Verdict.has-slot Verdict.first-broken Verdict.beyond Verdict.next-condition Verdict.printable Verdict.is-weight Verdict.of-site Verdict.may-be Verdict.joined Verdict.from-to Verdict.wanted-by Verdict.wanted Verdict.site-rules Verdict.first-rules Verdict.later-rules Verdict.rules-in Verdict.after Verdict.ended Verdict.judged-in Verdict.verdict-in Load.condition-test Load.load-choice-with Load.load-entry Load.load-one-with Load.load-on-with Load.find-slot Load.found Load.action-of Load.model-of Load.site-in Load.load-in Load.model-in Solve.room Solve.solve-in Solve.number-of Diagram.padded Solve.test-words Solve.row Solve.rows Solve.table-of Solve.solved-nodes Solve.solved-stages Solve.solve-left Solve.early Solve.solve Value.accepted Value.bits Value.state-of Value.node-linear Value.amongZ Value.good-branches Value.good-leaf-row Value.good-condition-row Value.good-test-row Value.good-row Value.numerator-of Value.taken Value.walk Value.value-at Value.value-of Plain.judged Plain.in-32-bits Plain.sum-settings Plain.action-worth Plain.better Plain.try-actions Plain.numbered Plain.state-worth Plain.worth-out Plain.if-true Plain.plain-of Name.names-action Name.trimmed Name.named-part Name.name-refusal Name.name-part Name.name Listing.digits Listing.spaced Listing.spaced-all Listing.first-line Listing.node-line Listing.stage-line Listing.lines Listing.greatest-root Listing.text Listing.refusal-line Listing.written Listing.listing-refusal Listing.listing
 definitions = tt
 
 -- ---- models as bytes
@@ -42,30 +42,30 @@ int (negsuc n) = bytes-of (4294967295 - n)
 
 -- a × L1 + c
 abbrev linear₁ : ℤ → ℤ → List ℕ
-linear₁ a c = int a ++ (replicate 12 0 ++ int c)
+linear₁ a c = int a ++ (replicate 28 0 ++ int c)
 
 -- "Pond: m 1, n 0, A 2, W 1. Hold (1): reward 0, next L1. Release (2): test −L1 + 10; reward 50 or −1, next L1 − 10 or L1."
 abbrev pub pond : List ℕ
 pond =
-    (0x01 ∷ 1 ∷ 0 ∷ 2 ∷ 1 ∷ [])
-    ++ ((0x10 ∷ linear₁ (pos 0) (pos 0)) ++ ((0x20 ∷ 1 ∷ []) ++ ((0x10 ∷ linear₁ (pos 1) (pos 0)) ++ ((0x22 ∷ 1 ∷ 1 ∷ [])
-    ++ ((0x10 ∷ linear₁ (pos 0) (pos 50)) ++ ((0x10 ∷ linear₁ (pos 0) (negsuc 0)) ++ ((0x12 ∷ linear₁ (negsuc 0) (pos 10)) ++ ((0x20 ∷ 2 ∷ [])
-    ++ ((0x10 ∷ linear₁ (pos 1) (negsuc 9)) ++ ((0x10 ∷ linear₁ (pos 1) (pos 0)) ++ ((0x12 ∷ linear₁ (negsuc 0) (pos 10)) ++ (0x22 ∷ 2 ∷ 1 ∷ 0xff ∷ []))))))))))))
+    (0x02 ∷ 1 ∷ 0 ∷ 2 ∷ 0 ∷ 1 ∷ [])
+    ++ ((0x10 ∷ linear₁ (pos 0) (pos 0)) ++ ((0x20 ∷ 1 ∷ 0 ∷ []) ++ ((0x10 ∷ linear₁ (pos 1) (pos 0)) ++ ((0x22 ∷ 1 ∷ 0 ∷ 1 ∷ [])
+    ++ ((0x10 ∷ linear₁ (pos 0) (pos 50)) ++ ((0x10 ∷ linear₁ (pos 0) (negsuc 0)) ++ ((0x12 ∷ linear₁ (negsuc 0) (pos 10)) ++ ((0x20 ∷ 2 ∷ 0 ∷ [])
+    ++ ((0x10 ∷ linear₁ (pos 1) (negsuc 9)) ++ ((0x10 ∷ linear₁ (pos 1) (pos 0)) ++ ((0x12 ∷ linear₁ (negsuc 0) (pos 10)) ++ (0x22 ∷ 2 ∷ 0 ∷ 1 ∷ 0xff ∷ []))))))))))))
 
 -- "Rain: m 1, n 1, A 1, W 10, chance 7, reward L1, next L1 − 150 on next-step yes, else L1 − 50"
 abbrev pub rain : List ℕ
 rain =
-    (0x01 ∷ 1 ∷ 1 ∷ 1 ∷ 10 ∷ [])
-    ++ ((0x10 ∷ linear₁ (pos 0) (pos 7)) ++ ((0x21 ∷ 1 ∷ 1 ∷ []) ++ ((0x10 ∷ linear₁ (pos 1) (pos 0)) ++ ((0x20 ∷ 1 ∷ [])
-    ++ ((0x10 ∷ linear₁ (pos 1) (negsuc 149)) ++ ((0x10 ∷ linear₁ (pos 1) (negsuc 49)) ++ (0x11 ∷ 5 ∷ 0x22 ∷ 1 ∷ 1 ∷ 0xff ∷ [])))))))
+    (0x02 ∷ 1 ∷ 1 ∷ 1 ∷ 0 ∷ 10 ∷ [])
+    ++ ((0x10 ∷ linear₁ (pos 0) (pos 7)) ++ ((0x21 ∷ 1 ∷ 0 ∷ 1 ∷ []) ++ ((0x10 ∷ linear₁ (pos 1) (pos 0)) ++ ((0x20 ∷ 1 ∷ 0 ∷ [])
+    ++ ((0x10 ∷ linear₁ (pos 1) (negsuc 149)) ++ ((0x10 ∷ linear₁ (pos 1) (negsuc 49)) ++ (0x11 ∷ 5 ∷ 0x22 ∷ 1 ∷ 0 ∷ 1 ∷ 0xff ∷ [])))))))
 
 -- tables with room for N nodes, and what solve leaves in them
 abbrev solved : List ℕ → ℕ → ℕ → Solve.SolveOut
-solved B H N = Solve.solve B H (replicate (N * 8) (pos 0)) (replicate 8 0) (replicate (N * 8) 0)
+solved B H N = Solve.solve B H (replicate (N * 12) (pos 0)) (replicate 8 0) (replicate (N * 8) 0)
 
 -- x over d at no condition
 abbrev asked : ℤ → ℕ → Value.Asked
-asked x d = record { mask = 0; nums = x ∷ pos 0 ∷ pos 0 ∷ pos 0 ∷ []; den = pos d }
+asked x d = record { mask = 0; nums = x ∷ replicate 7 (pos 0); den = pos d }
 
 -- a value read: its numerator and its action
 abbrev reads : Value.ValueOut → ℕ → ℕ → Bool
@@ -90,7 +90,7 @@ row B o h x d p v a =
 
 -- a × L1 + c, numbered with action 1
 abbrev rain-leaf : ℤ → ℤ → Diagram.Tree
-rain-leaf a c = Diagram.leaf (record { lin = record { coeffs = a ∷ pos 0 ∷ pos 0 ∷ pos 0 ∷ []; const = c }; act = 1 })
+rain-leaf a c = Diagram.leaf (record { lin = record { coeffs = a ∷ replicate 7 (pos 0); const = c }; act = 1 })
 
 -- the pond's peak at horizon 2
 pub pond-peak : T (eqb (solved pond 2 21 .peak) 21 && eqb (solved pond 2 20 .number) 12)
@@ -131,20 +131,20 @@ abbrev pub pond-listing : List ℕ
 pond-listing =
     -- PLAN 1 0 2 1 2
     (80 ∷ 76 ∷ 65 ∷ 78 ∷ 32 ∷ 49 ∷ 32 ∷ 48 ∷ 32 ∷ 50 ∷ 32 ∷ 49 ∷ 32 ∷ 50 ∷ 10 ∷ []) ++ (
-    -- N 1 V 0 0 0 0 50 2
-    (78 ∷ 32 ∷ 49 ∷ 32 ∷ 86 ∷ 32 ∷ 48 ∷ 32 ∷ 48 ∷ 32 ∷ 48 ∷ 32 ∷ 48 ∷ 32 ∷ 53 ∷ 48 ∷ 32 ∷ 50 ∷ 10 ∷ []) ++ (
-    -- N 2 V 0 0 0 0 0 1
-    (78 ∷ 32 ∷ 50 ∷ 32 ∷ 86 ∷ 32 ∷ 48 ∷ 32 ∷ 48 ∷ 32 ∷ 48 ∷ 32 ∷ 48 ∷ 32 ∷ 48 ∷ 32 ∷ 49 ∷ 10 ∷ []) ++ (
-    -- N 3 L -1 0 0 0 10 1 2
-    (78 ∷ 32 ∷ 51 ∷ 32 ∷ 76 ∷ 32 ∷ 45 ∷ 49 ∷ 32 ∷ 48 ∷ 32 ∷ 48 ∷ 32 ∷ 48 ∷ 32 ∷ 49 ∷ 48 ∷ 32 ∷ 49 ∷ 32 ∷ 50 ∷ 10 ∷ []) ++ (
-    -- N 4 V 0 0 0 0 100 2
-    (78 ∷ 32 ∷ 52 ∷ 32 ∷ 86 ∷ 32 ∷ 48 ∷ 32 ∷ 48 ∷ 32 ∷ 48 ∷ 32 ∷ 48 ∷ 32 ∷ 49 ∷ 48 ∷ 48 ∷ 32 ∷ 50 ∷ 10 ∷ []) ++ (
-    -- N 5 V 0 0 0 0 50 1
-    (78 ∷ 32 ∷ 53 ∷ 32 ∷ 86 ∷ 32 ∷ 48 ∷ 32 ∷ 48 ∷ 32 ∷ 48 ∷ 32 ∷ 48 ∷ 32 ∷ 53 ∷ 48 ∷ 32 ∷ 49 ∷ 10 ∷ []) ++ (
-    -- N 6 L -1 0 0 0 20 4 5
-    (78 ∷ 32 ∷ 54 ∷ 32 ∷ 76 ∷ 32 ∷ 45 ∷ 49 ∷ 32 ∷ 48 ∷ 32 ∷ 48 ∷ 32 ∷ 48 ∷ 32 ∷ 50 ∷ 48 ∷ 32 ∷ 52 ∷ 32 ∷ 53 ∷ 10 ∷ []) ++ (
-    -- N 7 L -1 0 0 0 10 6 2
-    (78 ∷ 32 ∷ 55 ∷ 32 ∷ 76 ∷ 32 ∷ 45 ∷ 49 ∷ 32 ∷ 48 ∷ 32 ∷ 48 ∷ 32 ∷ 48 ∷ 32 ∷ 49 ∷ 48 ∷ 32 ∷ 54 ∷ 32 ∷ 50 ∷ 10 ∷ []) ++ (
+    -- N 1 V 0 0 0 0 0 0 0 0 50 2
+    (78 ∷ 32 ∷ 49 ∷ 32 ∷ 86 ∷ 32 ∷ 48 ∷ 32 ∷ 48 ∷ 32 ∷ 48 ∷ 32 ∷ 48 ∷ 32 ∷ 48 ∷ 32 ∷ 48 ∷ 32 ∷ 48 ∷ 32 ∷ 48 ∷ 32 ∷ 53 ∷ 48 ∷ 32 ∷ 50 ∷ 10 ∷ []) ++ (
+    -- N 2 V 0 0 0 0 0 0 0 0 0 1
+    (78 ∷ 32 ∷ 50 ∷ 32 ∷ 86 ∷ 32 ∷ 48 ∷ 32 ∷ 48 ∷ 32 ∷ 48 ∷ 32 ∷ 48 ∷ 32 ∷ 48 ∷ 32 ∷ 48 ∷ 32 ∷ 48 ∷ 32 ∷ 48 ∷ 32 ∷ 48 ∷ 32 ∷ 49 ∷ 10 ∷ []) ++ (
+    -- N 3 L -1 0 0 0 0 0 0 0 10 1 2
+    (78 ∷ 32 ∷ 51 ∷ 32 ∷ 76 ∷ 32 ∷ 45 ∷ 49 ∷ 32 ∷ 48 ∷ 32 ∷ 48 ∷ 32 ∷ 48 ∷ 32 ∷ 48 ∷ 32 ∷ 48 ∷ 32 ∷ 48 ∷ 32 ∷ 48 ∷ 32 ∷ 49 ∷ 48 ∷ 32 ∷ 49 ∷ 32 ∷ 50 ∷ 10 ∷ []) ++ (
+    -- N 4 V 0 0 0 0 0 0 0 0 100 2
+    (78 ∷ 32 ∷ 52 ∷ 32 ∷ 86 ∷ 32 ∷ 48 ∷ 32 ∷ 48 ∷ 32 ∷ 48 ∷ 32 ∷ 48 ∷ 32 ∷ 48 ∷ 32 ∷ 48 ∷ 32 ∷ 48 ∷ 32 ∷ 48 ∷ 32 ∷ 49 ∷ 48 ∷ 48 ∷ 32 ∷ 50 ∷ 10 ∷ []) ++ (
+    -- N 5 V 0 0 0 0 0 0 0 0 50 1
+    (78 ∷ 32 ∷ 53 ∷ 32 ∷ 86 ∷ 32 ∷ 48 ∷ 32 ∷ 48 ∷ 32 ∷ 48 ∷ 32 ∷ 48 ∷ 32 ∷ 48 ∷ 32 ∷ 48 ∷ 32 ∷ 48 ∷ 32 ∷ 48 ∷ 32 ∷ 53 ∷ 48 ∷ 32 ∷ 49 ∷ 10 ∷ []) ++ (
+    -- N 6 L -1 0 0 0 0 0 0 0 20 4 5
+    (78 ∷ 32 ∷ 54 ∷ 32 ∷ 76 ∷ 32 ∷ 45 ∷ 49 ∷ 32 ∷ 48 ∷ 32 ∷ 48 ∷ 32 ∷ 48 ∷ 32 ∷ 48 ∷ 32 ∷ 48 ∷ 32 ∷ 48 ∷ 32 ∷ 48 ∷ 32 ∷ 50 ∷ 48 ∷ 32 ∷ 52 ∷ 32 ∷ 53 ∷ 10 ∷ []) ++ (
+    -- N 7 L -1 0 0 0 0 0 0 0 10 6 2
+    (78 ∷ 32 ∷ 55 ∷ 32 ∷ 76 ∷ 32 ∷ 45 ∷ 49 ∷ 32 ∷ 48 ∷ 32 ∷ 48 ∷ 32 ∷ 48 ∷ 32 ∷ 48 ∷ 32 ∷ 48 ∷ 32 ∷ 48 ∷ 32 ∷ 48 ∷ 32 ∷ 49 ∷ 48 ∷ 32 ∷ 54 ∷ 32 ∷ 50 ∷ 10 ∷ []) ++ (
     -- S 1 3
     (83 ∷ 32 ∷ 49 ∷ 32 ∷ 51 ∷ 10 ∷ []) ++ (
     -- S 2 7
@@ -167,31 +167,31 @@ pond-listed = tt
 -- K4: m 1, n 0, A 2, both next levels L1, rewards (L1 + 4 ≤ 0 ? 10 : 5) and (L1 + 3 ≤ 0 ? 1 : 0)
 abbrev pub idle : List ℕ
 idle =
-    (0x01 ∷ 1 ∷ 0 ∷ 2 ∷ 1 ∷ [])
-    ++ ((0x10 ∷ linear₁ (pos 0) (pos 10)) ++ ((0x10 ∷ linear₁ (pos 0) (pos 5)) ++ ((0x12 ∷ linear₁ (pos 1) (pos 4)) ++ ((0x20 ∷ 1 ∷ [])
-    ++ ((0x10 ∷ linear₁ (pos 1) (pos 0)) ++ ((0x22 ∷ 1 ∷ 1 ∷ [])
-    ++ ((0x10 ∷ linear₁ (pos 0) (pos 1)) ++ ((0x10 ∷ linear₁ (pos 0) (pos 0)) ++ ((0x12 ∷ linear₁ (pos 1) (pos 3)) ++ ((0x20 ∷ 2 ∷ [])
-    ++ ((0x10 ∷ linear₁ (pos 1) (pos 0)) ++ (0x22 ∷ 2 ∷ 1 ∷ 0xff ∷ []))))))))))))
+    (0x02 ∷ 1 ∷ 0 ∷ 2 ∷ 0 ∷ 1 ∷ [])
+    ++ ((0x10 ∷ linear₁ (pos 0) (pos 10)) ++ ((0x10 ∷ linear₁ (pos 0) (pos 5)) ++ ((0x12 ∷ linear₁ (pos 1) (pos 4)) ++ ((0x20 ∷ 1 ∷ 0 ∷ [])
+    ++ ((0x10 ∷ linear₁ (pos 1) (pos 0)) ++ ((0x22 ∷ 1 ∷ 0 ∷ 1 ∷ [])
+    ++ ((0x10 ∷ linear₁ (pos 0) (pos 1)) ++ ((0x10 ∷ linear₁ (pos 0) (pos 0)) ++ ((0x12 ∷ linear₁ (pos 1) (pos 3)) ++ ((0x20 ∷ 2 ∷ 0 ∷ [])
+    ++ ((0x10 ∷ linear₁ (pos 1) (pos 0)) ++ (0x22 ∷ 2 ∷ 0 ∷ 1 ∷ 0xff ∷ []))))))))))))
 
 -- "Making a node now first replaces a low branch", before its branches are compared: the fourth node, L1 + 3 over node 3 and node 2, which stands under node 3
 pub replaced-first : T (let o = solved idle 1 14 in
     eqb (o .number) 0 && (eqb (o .peak) 14 && (eqb (solved idle 1 13 .number) 12
     && same-bytes (o .stages) (4 ∷ replicate 7 0)
-    && isEq (Diagram.cmpList (take 32 (o .nodes)) (
-    pos 0 ∷ pos 0 ∷ pos 0 ∷ pos 0 ∷ pos 0 ∷ pos 10 ∷ pos 1 ∷ pos 0
-    ∷ pos 0 ∷ pos 0 ∷ pos 0 ∷ pos 0 ∷ pos 0 ∷ pos 5 ∷ pos 1 ∷ pos 0
-    ∷ pos 2 ∷ pos 1 ∷ pos 0 ∷ pos 0 ∷ pos 0 ∷ pos 4 ∷ pos 1 ∷ pos 2
-    ∷ pos 2 ∷ pos 1 ∷ pos 0 ∷ pos 0 ∷ pos 0 ∷ pos 3 ∷ pos 3 ∷ pos 2 ∷ [])))))
+    && isEq (Diagram.cmpList (take 48 (o .nodes)) (
+    pos 0 ∷ pos 0 ∷ pos 0 ∷ pos 0 ∷ pos 0 ∷ pos 0 ∷ pos 0 ∷ pos 0 ∷ pos 0 ∷ pos 10 ∷ pos 1 ∷ pos 0
+    ∷ pos 0 ∷ pos 0 ∷ pos 0 ∷ pos 0 ∷ pos 0 ∷ pos 0 ∷ pos 0 ∷ pos 0 ∷ pos 0 ∷ pos 5 ∷ pos 1 ∷ pos 0
+    ∷ pos 2 ∷ pos 1 ∷ pos 0 ∷ pos 0 ∷ pos 0 ∷ pos 0 ∷ pos 0 ∷ pos 0 ∷ pos 0 ∷ pos 4 ∷ pos 1 ∷ pos 2
+    ∷ pos 2 ∷ pos 1 ∷ pos 0 ∷ pos 0 ∷ pos 0 ∷ pos 0 ∷ pos 0 ∷ pos 0 ∷ pos 0 ∷ pos 3 ∷ pos 3 ∷ pos 2 ∷ [])))))
 unfolding definitions same-bytes
 replaced-first = tt
 
 -- one tank that keeps its level, reward (L1 + 3 ≤ 0 ? 3 : L1 + 4 ≤ 0 ? 4 : L1 + 5 ≤ 0 ? 5 : L1 + 6 ≤ 0 ? 6 : 9)
 abbrev pub steps : List ℕ
 steps =
-    (0x01 ∷ 1 ∷ 0 ∷ 1 ∷ 1 ∷ [])
+    (0x02 ∷ 1 ∷ 0 ∷ 1 ∷ 0 ∷ 1 ∷ [])
     ++ ((0x10 ∷ linear₁ (pos 0) (pos 3)) ++ ((0x10 ∷ linear₁ (pos 0) (pos 4)) ++ ((0x10 ∷ linear₁ (pos 0) (pos 5)) ++ ((0x10 ∷ linear₁ (pos 0) (pos 6))
     ++ ((0x10 ∷ linear₁ (pos 0) (pos 9)) ++ ((0x12 ∷ linear₁ (pos 1) (pos 6)) ++ ((0x12 ∷ linear₁ (pos 1) (pos 5)) ++ ((0x12 ∷ linear₁ (pos 1) (pos 4))
-    ++ ((0x12 ∷ linear₁ (pos 1) (pos 3)) ++ ((0x20 ∷ 1 ∷ []) ++ ((0x10 ∷ linear₁ (pos 1) (pos 0)) ++ (0x22 ∷ 1 ∷ 1 ∷ 0xff ∷ []))))))))))))
+    ++ ((0x12 ∷ linear₁ (pos 1) (pos 3)) ++ ((0x20 ∷ 1 ∷ 0 ∷ []) ++ ((0x10 ∷ linear₁ (pos 1) (pos 0)) ++ (0x22 ∷ 1 ∷ 0 ∷ 1 ∷ 0xff ∷ []))))))))))))
 
 -- "the needed nodes are counted with it": three of the four tests are dropped while the model is loaded, and count there
 pub dropped-counted : T (let o = solved steps 1 10 in

@@ -9,15 +9,15 @@ use lib.Signed.{_<ℤ_}
 use Rattle.theory.specs.Value.{node-word, node-linear, high-of, low-of}
 use Rattle.theory.specs.Rows.{Range}
 
--- the first words that differ rise: "by the coefficients of L1 to L4 and the constant, smaller first"
+-- the first words that differ rise: "by the coefficients of L1 to L8 and the constant, smaller first"
 abbrev pub Smaller : List ℤ → List ℤ → Type 0
 Smaller [] m = ⊥
 Smaller (a ∷ l) [] = ⊥
 Smaller (a ∷ l) (b ∷ m) = (a <ℤ b) ⊎ ((a ≡ b) × Smaller l m)
 
--- the test of node r: its kind ("conditions .., then linear tests"), four coefficients, constant
+-- the test of node r: its kind ("conditions .., then linear tests"), eight coefficients, constant
 abbrev pub test-part : List ℤ → ℕ → List ℤ
-test-part W r = take 6 (drop ((r - 1) * 8) W)
+test-part W r = take 10 (drop ((r - 1) * 12) W)
 
 -- node r is no leaf
 abbrev pub Inner : List ℤ → ℕ → Type 0
@@ -38,7 +38,7 @@ pub record Reduced (W : List ℤ) (n : ℕ) : Type 0 where
   -- "Down a path the order rises strictly."
   pub rises : (r b : ℕ) → Range 1 n r → Inner W r → (high-of W r ≡ pos b) ⊎ (low-of W r ≡ pos b) → Inner W b → Smaller (test-part W r) (test-part W b)
   -- "Equal nodes are one node."
-  pub once : (r s : ℕ) → Range 1 n r → Range 1 n s → ((i : ℕ) → i < 8 → node-word W r i ≡ node-word W s i) → r ≡ s
+  pub once : (r s : ℕ) → Range 1 n r → Range 1 n s → ((i : ℕ) → i < 12 → node-word W r i ≡ node-word W s i) → r ≡ s
   -- "A node whose branches are equal is that branch."
   pub differ : (r : ℕ) → Range 1 n r → Inner W r → high-of W r ≡ low-of W r → ⊥
   -- "replaces a low branch that begins so by that branch's own low side, as often as it applies"

@@ -7,7 +7,8 @@ use lib.IntN.{ℤ, pos, negsuc}
 use lib.ListN.{length, getD, take, drop}
 use Rattle.whole.specs.Cases.{if}
 use Rattle.theory.specs.Widths.{levels-most, name-bytes}
-use Rattle.theory.specs.Diagram.{Linear}
+use Rattle.theory.specs.Form.{Form, new-form, site-byte, levels-in, action-bytes, linear-bytes, behind-action}
+use Rattle.theory.specs.Diagram.{Linear, padded}
 
 -- what a diagram is given as: the command's byte, the action, the condition or level (0 where there is none)
 pub record Slot : Type 0 where
@@ -32,17 +33,17 @@ pub data Read : Type 0 where
   short : Read
 
 -- "Commands are one byte .., operands of fixed width": a command's bytes, 0 where the byte is unknown
-unfoldable pub width : ℕ → ℕ
-width op =
-    if (eqb op 0x01) 5
-    (if (eqb op 0x10) 21
+unfoldable pub width-in : Form → ℕ → ℕ
+width-in F op =
+    if (eqb op (site-byte F)) (4 + action-bytes F)
+    (if (eqb op 0x10) (1 + linear-bytes F)
     (if (eqb op 0x11) 2
-    (if (eqb op 0x12) 21
-    (if (eqb op 0x20) 2
-    (if (eqb op 0x21) 3
-    (if (eqb op 0x22) 3
+    (if (eqb op 0x12) (1 + linear-bytes F)
+    (if (eqb op 0x20) (behind-action F)
+    (if (eqb op 0x21) (behind-action F + 1)
+    (if (eqb op 0x22) (behind-action F + 1)
     (if (eqb op 0x23) 1
-    (if (eqb op 0x30) 18
+    (if (eqb op 0x30) (behind-action F + name-bytes)
     (if (eqb op 0xff) 1 0)))))))))
 
 -- a byte of the model, 0 past its end
@@ -62,34 +63,43 @@ unfoldable pub signed-from : List ℕ → ℕ → ℕ → List ℤ
 signed-from B i zero = []
 signed-from B i (suc k) = signed (word-at B i) ∷ signed-from B (i + 4) k
 
--- "five signed 32-bit numbers: coefficients of levels L1 to L4, then a constant"
-unfoldable pub linear-at : List ℕ → ℕ → Linear
-linear-at B i = record { coeffs = signed-from B i levels-most; const = signed (word-at B (i + levels-most * 4)) }
+-- k bytes as a number, "low byte first"
+unfoldable pub bytes-at : List ℕ → ℕ → ℕ → ℕ
+bytes-at B i zero = 0
+bytes-at B i (suc k) = byte-at B i + bytes-at B (i + 1) k * 256
+
+-- an action operand, and A
+abbrev pub action-at : Form → List ℕ → ℕ → ℕ
+action-at F B i = bytes-at B i (action-bytes F)
+
+-- "signed 32-bit numbers: coefficients of levels .., then a constant"; levels that the form has no coefficients for have 0
+unfoldable pub linear-in : Form → List ℕ → ℕ → Linear
+linear-in F B i = record { coeffs = padded levels-most (signed-from B i (levels-in F)); const = signed (word-at B (i + levels-in F * 4)) }
 
 -- a command that is known and whole
-unfoldable pub command-at : List ℕ → ℕ → Command
-command-at B at =
+unfoldable pub command-in : Form → List ℕ → ℕ → Command
+command-in F B at =
     let op = byte-at B at in
-    let x = byte-at B (at + 1) in
-    let y = byte-at B (at + 2) in
-    if (eqb op 0x01) (site x y (byte-at B (at + 3)) (byte-at B (at + 4)))
-    (if (eqb op 0x10) (push-leaf (linear-at B (at + 1)))
-    (if (eqb op 0x11) (push-condition x)
-    (if (eqb op 0x12) (push-test (linear-at B (at + 1)))
-    (if (eqb op 0x20) (give (record { command = 0x20; action = x; index = 0 }))
-    (if (eqb op 0x21) (give (record { command = 0x21; action = x; index = y }))
-    (if (eqb op 0x22) (give (record { command = 0x22; action = x; index = y }))
+    let a = action-at F B (at + 1) in
+    let k = byte-at B (at + behind-action F) in
+    if (eqb op (site-byte F)) (site (byte-at B (at + 1)) (byte-at B (at + 2)) (action-at F B (at + 3)) (byte-at B (at + (3 + action-bytes F))))
+    (if (eqb op 0x10) (push-leaf (linear-in F B (at + 1)))
+    (if (eqb op 0x11) (push-condition (byte-at B (at + 1)))
+    (if (eqb op 0x12) (push-test (linear-in F B (at + 1)))
+    (if (eqb op 0x20) (give (record { command = 0x20; action = a; index = 0 }))
+    (if (eqb op 0x21) (give (record { command = 0x21; action = a; index = k }))
+    (if (eqb op 0x22) (give (record { command = 0x22; action = a; index = k }))
     (if (eqb op 0x23) (give (record { command = 0x23; action = 0; index = 0 }))
-    (if (eqb op 0x30) (name-action x (take name-bytes (drop (at + 2) B)))
+    (if (eqb op 0x30) (name-action a (take name-bytes (drop (at + behind-action F) B)))
     end-model))))))))
 
 -- "within a command 3, 2"
-unfoldable pub read-at : List ℕ → ℕ → Read
-read-at B at =
+unfoldable pub read-in : Form → List ℕ → ℕ → Read
+read-in F B at =
     if (leb (length B) at) short
-    (if (eqb (width (byte-at B at)) 0) unknown
-    (if (ltb (length B) (at + width (byte-at B at))) short
-    (whole (command-at B at))))
+    (if (eqb (width-in F (byte-at B at)) 0) unknown
+    (if (ltb (length B) (at + width-in F (byte-at B at))) short
+    (whole (command-in F B at))))
 
 -- a reading and its offset
 pub record Placed : Type 0 where
@@ -111,13 +121,33 @@ goes-on unknown = false
 goes-on short = false
 
 -- the readings from an offset on, up to the end command or the first that is not whole
-unfoldable pub readings-from : List ℕ → ℕ → ℕ → List Placed
-readings-from B zero at = []
-readings-from B (suc k) at = record { at = at; read = read-at B at } ∷ elim (goes-on (read-at B at)) [
-  | true ↦ readings-from B k (at + width (byte-at B at))
+unfoldable pub readings-from-in : Form → List ℕ → ℕ → ℕ → List Placed
+readings-from-in F B zero at = []
+readings-from-in F B (suc k) at = record { at = at; read = read-in F B at } ∷ elim (goes-on (read-in F B at)) [
+  | true ↦ readings-from-in F B k (at + width-in F (byte-at B at))
   | false ↦ []
 ]
 
 -- each command takes a byte at least
-unfoldable pub readings : List ℕ → List Placed
-readings B = readings-from B (suc (length B)) 0
+unfoldable pub readings-in : Form → List ℕ → List Placed
+readings-in F B = readings-from-in F B (suc (length B)) 0
+
+-- ---- the form that the planner reads
+
+abbrev pub width : ℕ → ℕ
+width = width-in new-form
+
+abbrev pub linear-at : List ℕ → ℕ → Linear
+linear-at = linear-in new-form
+
+abbrev pub command-at : List ℕ → ℕ → Command
+command-at = command-in new-form
+
+abbrev pub read-at : List ℕ → ℕ → Read
+read-at = read-in new-form
+
+abbrev pub readings-from : List ℕ → ℕ → ℕ → List Placed
+readings-from = readings-from-in new-form
+
+abbrev pub readings : List ℕ → List Placed
+readings = readings-in new-form

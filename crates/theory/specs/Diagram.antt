@@ -1,7 +1,7 @@
 -- "Diagrams", first part: linears, tests and their order, diagrams as trees.
 use mathlib.Core.Bool.{Bool, true, false, _&&_}
 use mathlib.Core.List.{List, [], _∷_}
-use Prim.Native.Nat.{ℕ, compare, Ordering, Ordering·lt, Ordering·gt}
+use Prim.Native.Nat.{ℕ, zero, suc, compare, Ordering, Ordering·lt, Ordering·gt}
 use lib.Dec.{isEq, eqb}
 use lib.IntN.{ℤ, pos, negsuc, natAbs, _+ℤ_, _*ℤ_}
 use lib.Signed.{quotZ}
@@ -10,10 +10,16 @@ use Rattle.whole.specs.Divisor.{gcdOf, gcd-all, at-least-one}
 unfoldable pub use Rattle.whole.specs.Linears.{cmpList, addL, scaleL, quotL}
 pub use Rattle.whole.specs.Linears.{then, cmpZ}
 
--- a linear: "five signed 32-bit numbers: coefficients of levels L1 to L4, then a constant"
+-- "A linear has eight coefficients and a constant"
 pub record Linear : Type 0 where
   pub coeffs : List ℤ
   pub const : ℤ
+
+-- k coefficients: zeros beyond those that there are
+unfoldable pub padded : ℕ → List ℤ → List ℤ
+padded zero l = []
+padded (suc k) [] = pos 0 ∷ padded k []
+padded (suc k) (z ∷ l) = z ∷ padded k l
 
 -- a condition now, the next step's condition of that number, or p ≤ 0
 pub data Test : Type 0 where
@@ -35,9 +41,9 @@ pub data Tree : Type 0 where
 abbrev pub plain : Linear → Leaf
 plain p = record { lin = p; act = 0 }
 
--- ---- "Order of tests: conditions 1 to 8, then linear tests by the coefficients of L1 to L4 and the constant, smaller first."
+-- ---- "Order of tests: conditions 1 to 8, then linear tests by the coefficients of L1 to L8 and the constant, smaller first."
 
--- "by the coefficients of L1 to L4 and the constant"
+-- "by the coefficients of L1 to L8 and the constant"
 unfoldable pub cmpLinear : Linear → Linear → Ordering
 cmpLinear p q = then (cmpList (p .coeffs) (q .coeffs)) (cmpZ (p .const) (q .const))
 
@@ -91,13 +97,13 @@ unfoldable pub zeros : List ℤ → Bool
 zeros [] = true
 zeros (a ∷ r) = isEq (cmpZ a (pos 0)) && zeros r
 
--- ---- "A test is divided by the greatest common divisor of its five numbers."
+-- ---- "A test is divided by the greatest common divisor of its nine numbers."
 
 -- all numbers of a linear divided
 unfoldable pub quotient : ℕ → Linear → Linear
 quotient g p = record { coeffs = quotL g (p .coeffs); const = quotZ (p .const) (pos g) }
 
--- "the greatest common divisor of its five numbers", 1 where all are 0
+-- "the greatest common divisor of its nine numbers", 1 where all are 0
 unfoldable pub divisor : Linear → ℕ
 divisor p = at-least-one (gcdOf (natAbs (p .const)) (gcd-all (p .coeffs)))
 

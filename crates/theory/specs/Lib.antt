@@ -4,6 +4,7 @@
 
 -- the numbers that 01 fixes
 pub mod Widths
+pub mod Form
 -- "The site model"
 pub mod Command
 pub mod Verdict

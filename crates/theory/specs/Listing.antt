@@ -39,16 +39,16 @@ unfoldable pub first-line : Site → ℕ → List ℕ
 first-line S H = line (80 ∷ 76 ∷ 65 ∷ 78 ∷ []) (map pos (S .levels ∷ S .conditions ∷ S .actions ∷ S .weights ∷ H ∷ []))
 
 -- "numbers": the coefficients, then the constant
-abbrev pub five : Linear → List ℤ
-five p = p .coeffs ++ (p .const ∷ [])
+abbrev pub numbers-of : Linear → List ℤ
+numbers-of p = p .coeffs ++ (p .const ∷ [])
 
 -- "N: number, kind, numbers; V ends with the action, L with high and low; a condition is B, its number, high, low."
 unfoldable pub node-line : List ℤ → ℕ → List ℕ
 node-line W r =
     let start : List ℕ = 78 ∷ spaced (pos r) in
-    if (eqb (natAbs (node-word W r 0)) 0) (line (start ++ (32 ∷ 86 ∷ [])) (five (node-linear W r) ++ (high-of W r ∷ [])))
+    if (eqb (natAbs (node-word W r 0)) 0) (line (start ++ (32 ∷ 86 ∷ [])) (numbers-of (node-linear W r) ++ (high-of W r ∷ [])))
     (if (eqb (natAbs (node-word W r 0)) 1) (line (start ++ (32 ∷ 66 ∷ [])) (node-word W r 1 ∷ high-of W r ∷ low-of W r ∷ []))
-    (line (start ++ (32 ∷ 76 ∷ [])) (five (node-linear W r) ++ (high-of W r ∷ low-of W r ∷ []))))
+    (line (start ++ (32 ∷ 76 ∷ [])) (numbers-of (node-linear W r) ++ (high-of W r ∷ low-of W r ∷ []))))
 
 -- "S: stage, root."
 unfoldable pub stage-line : List ℕ → ℕ → List ℕ

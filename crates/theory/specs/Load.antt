@@ -1,14 +1,15 @@
 -- "loading the model": the diagrams that the commands of an accepted model spell, made as they come.
 use mathlib.Core.List.{List, [], _∷_, map}
-use Prim.Native.Nat.{ℕ, _-_}
+use Prim.Native.Nat.{ℕ, _+_, _-_}
 use lib.Dec.{leb}
 use Rattle.whole.specs.Cases.{if}
 use Rattle.theory.specs.Widths.{conditions-most}
+use Rattle.theory.specs.Form.{Form, new-form, action-bytes}
 use Rattle.theory.specs.Diagram.{Test, now, later, Tree, leaf, branch, plain, test-of}
 use Rattle.theory.specs.Computation.{Comp, ret, bind, make, result}
 use Rattle.theory.specs.Rules.{choose, zero-leaf}
 use Rattle.theory.specs.Meaning.{Action, Model}
-use Rattle.theory.specs.Command.{Command, site, push-leaf, push-condition, push-test, give, name-action, end-model, whole, unknown, short, Placed, byte-at, readings, Slot}
+use Rattle.theory.specs.Command.{Command, site, push-leaf, push-condition, push-test, give, name-action, end-model, whole, unknown, short, Placed, byte-at, action-at, readings-in, Slot}
 use Rattle.theory.specs.Verdict.{Site, site-of, same-slot, reward-slot, chance-slot, level-slot, end-slot, from-to}
 
 -- a diagram and what it was given as
@@ -103,20 +104,31 @@ model-of S E = record {
 }
 
 -- the operands of the first command
-unfoldable pub site-at : List ℕ → Site
-site-at B = site-of (byte-at B 1) (byte-at B 2) (byte-at B 3) (byte-at B 4)
+unfoldable pub site-in : Form → List ℕ → Site
+site-in F B = site-of (byte-at B 1) (byte-at B 2) (action-at F B 3) (byte-at B (3 + action-bytes F))
 
 -- all commands from the first on, and the model of what they gave
-unfoldable pub load-with : (Test → Tree → Tree → Comp Tree) → List ℕ → Comp Model
-load-with by B = bind (load-on-with by (readings B) (record { stack = []; entries = [] })) (λ s. ret (model-of (site-at B) (s .entries)))
+unfoldable pub load-in : Form → (Test → Tree → Tree → Comp Tree) → List ℕ → Comp Model
+load-in F by B = bind (load-on-with by (readings-in F B) (record { stack = []; entries = [] })) (λ s. ret (model-of (site-in F B) (s .entries)))
+
+-- the model that is loaded
+unfoldable pub model-in : Form → List ℕ → Model
+model-in F B = result (load-in F choose B)
+
+-- ---- the form that the planner reads
+
+abbrev pub site-at : List ℕ → Site
+site-at = site-in new-form
+
+abbrev pub load-with : (Test → Tree → Tree → Comp Tree) → List ℕ → Comp Model
+load-with = load-in new-form
 
 -- "and so is loading the model": one operation, of all commands
 abbrev pub load : List ℕ → Comp Model
 load = load-with choose
 
--- the model that is loaded
-unfoldable pub model : List ℕ → Model
-model B = result (load B)
+abbrev pub model : List ℕ → Model
+model = model-in new-form
 
 -- the model as its bytes spell it: each test over its branches as they stand
 unfoldable pub spelled : List ℕ → Model

@@ -6,6 +6,7 @@ use lib.Dec.{eqb}
 use lib.ListN.{getD, take, drop}
 use Rattle.whole.specs.Cases.{if}
 use Rattle.theory.specs.Widths.{steps-most, name-bytes}
+use Rattle.theory.specs.Form.{new-form, behind-action}
 use Rattle.theory.specs.Valid.{among}
 use Rattle.theory.specs.Command.{site, push-leaf, push-condition, push-test, give, name-action, end-model, Read, whole, unknown, short, Placed, readings}
 use Rattle.theory.specs.Verdict.{Verdict, refusal}
@@ -41,7 +42,9 @@ trimmed l (suc k) = if (eqb (getD l k 0) 0x20) (trimmed l k) (suc k)
 -- the bytes behind the command's byte and its action
 unfoldable pub named-part : List ℕ → ℕ → List Placed → Part
 named-part B a [] = no-part
-named-part B a (x ∷ l) = if (names-action a (x .read)) (record { start = x .at + 2; size = trimmed (drop (x .at + 2) B) name-bytes }) (named-part B a l)
+named-part B a (x ∷ l) =
+    let start = x .at + behind-action new-form in
+    if (names-action a (x .read)) (record { start = start; size = trimmed (drop start B) name-bytes }) (named-part B a l)
 
 -- "16: action not 1 to A", after 10 and the model's own; no steps are asked
 unfoldable pub name-refusal : List ℕ → ℕ → Verdict

@@ -60,9 +60,9 @@ OfSite S g =
 abbrev pub MayBe : Slot → Facts → Type 0
 MayBe g f = (T (f .next-step) → g .command ≡ 0x22) × (g .command ≡ 0x21 → T (f .weights))
 
--- "01 site: m levels (1 to 4), n conditions (0 to 4), A actions (1 to 8), weight total W (1 to 100) .. It is first and only there."
+-- "site: m levels, n conditions (0 to 4), A actions, weight total W (1 to 100) .. It is first and only there."; K5: "A as two bytes (1 to 400) and m up to 8"
 abbrev pub first-asks : Command → Rules
-first-asks (site m n a w) = asks 4 (Range 1 4 m) (asks 4 (n ≤ 4) (asks 4 (Range 1 8 a) (asks 4 (Range 1 100 w) none)))
+first-asks (site m n a w) = asks 4 (Range 1 8 m) (asks 4 (n ≤ 4) (asks 4 (Range 1 400 a) (asks 4 (Range 1 100 w) none)))
 first-asks (push-leaf p) = asks 1 ⊥ none
 first-asks (push-condition k) = asks 1 ⊥ none
 first-asks (push-test p) = asks 1 ⊥ none
@@ -131,27 +131,27 @@ module _ (B : List ℕ) (steps size : ℕ) where
   -- neither 10 nor 9 nor a number of the model's own
   pub record Admitted : Type 0 where
     pub eight : size ≡ 8
-    pub bytes : length B ≤ 65535
+    pub bytes : length B ≤ 262144
     pub horizon : Range 1 8 steps
     pub own : VerdictRow B (refusal 0 0)
 
   -- number and place of what comes before the rows that a call has of its own
   pub data EarlyRow : ℕ → ℕ → Type 0 where
-    -- "10: stage words not eight, or model above 65,535 bytes"
-    early-10 : (size ≡ 8 → length B ≤ 65535 → ⊥) → EarlyRow 10 0
+    -- "10: stage words not eight, or model above 262,144 bytes"
+    early-10 : (size ≡ 8 → length B ≤ 262144 → ⊥) → EarlyRow 10 0
     -- "9: horizon or steps not 1 to 8"
-    early-9 : size ≡ 8 → length B ≤ 65535 → (Range 1 8 steps → ⊥) → EarlyRow 9 0
+    early-9 : size ≡ 8 → length B ≤ 262144 → (Range 1 8 steps → ⊥) → EarlyRow 9 0
     -- the model's own
-    early-1-8 : {k p : ℕ} → size ≡ 8 → length B ≤ 65535 → Range 1 8 steps → VerdictRow B (refusal k p) → 1 ≤ k → EarlyRow k p
+    early-1-8 : {k p : ℕ} → size ≡ 8 → length B ≤ 262144 → Range 1 8 steps → VerdictRow B (refusal k p) → 1 ≤ k → EarlyRow k p
 
 -- ---- solve
 
--- "What the tables hold, N, is the least of node words ÷ 8, work words ÷ 8 and 65,535, rounded down."
+-- "What the tables hold, N, is the least of node words ÷ 12, work words ÷ 8 and 65,535, rounded down."
 pub record Room (nodes work N : ℕ) : Type 0 where
-  pub in-nodes : N * 8 ≤ nodes
+  pub in-nodes : N * 12 ≤ nodes
   pub in-work : N * 8 ≤ work
   pub most : N ≤ 65535
-  pub no-more : (k : ℕ) → k * 8 ≤ nodes → k * 8 ≤ work → k ≤ 65535 → k ≤ N
+  pub no-more : (k : ℕ) → k * 12 ≤ nodes → k * 8 ≤ work → k ≤ 65535 → k ≤ N
 
 -- the tables and the peak after solving; "last 11 or 12": what is met first is FirstMet of Demands
 pub data SolveRow (B : List ℕ) (H : ℕ) (nodes : List ℤ) (stages work : List ℕ) : SolveOut → Type 0 where
@@ -194,9 +194,9 @@ pub record StateFits (m n : ℕ) (q : Asked) : Type 0 where
 
 -- node r of the words W, with n conditions and A actions
 module _ (n A : ℕ) (W : List ℤ) (r : ℕ) where
-  -- not "a number outside ±(2⁶² − 1)": four coefficients and the constant
+  -- not "a number outside ±(2⁶² − 1)": eight coefficients and the constant
   abbrev pub NumbersFit : Type 0
-  NumbersFit = (i : ℕ) → Range 1 5 i → In62 (node-word W r i)
+  NumbersFit = (i : ℕ) → Range 1 9 i → In62 (node-word W r i)
 
   -- not "a branch .. not from 1 to below its node"
   abbrev pub BranchesFit : Type 0
@@ -205,12 +205,12 @@ module _ (n A : ℕ) (W : List ℤ) (r : ℕ) where
   -- not "a kind not 0 to 2 or a nonzero word where the layout has zero .., a condition not 1 to n or an action not 1 to A"
   pub data KindFits : Type 0 where
     fits-leaf : node-word W r 0 ≡ pos 0 → NumbersFit → Among A (high-of W r) → low-of W r ≡ pos 0 → KindFits
-    fits-condition : node-word W r 0 ≡ pos 1 → Among n (node-word W r 1) → ((i : ℕ) → Range 2 5 i → node-word W r i ≡ pos 0) → BranchesFit → KindFits
+    fits-condition : node-word W r 0 ≡ pos 1 → Among n (node-word W r 1) → ((i : ℕ) → Range 2 9 i → node-word W r i ≡ pos 0) → BranchesFit → KindFits
     fits-test : node-word W r 0 ≡ pos 2 → NumbersFit → BranchesFit → KindFits
 
   -- 14 does not apply: nor is it "outside the table"
   pub record NodeFits : Type 0 where
-    pub inside : r * 8 ≤ length W
+    pub inside : r * 12 ≤ length W
     pub kind : KindFits
 
 -- the nodes "on the walk" from a root: at one that fits and is no leaf it goes on
@@ -285,8 +285,8 @@ pub data NameRow (B : List ℕ) (a : ℕ) : Verdict → Type 0 where
 pub data NamePartRow (B : List ℕ) (a : ℕ) : Part → Type 0 where
   -- the 16 bytes of the command that names it, behind its byte and its action, are the name and then spaces; it does not end in one
   name-given : {at size : ℕ} {t : List ℕ} → NameRow B a (refusal 0 0) → List·Memᴰ (record { at = at; read = whole (name-action a t) }) (readings B)
-      → size ≤ 16 → take size (drop (at + 2) B) ++ replicate (16 - size) 0x20 ≡ t → (size ≡ 0) ⊎ (getD (drop (at + 2) B) (size - 1) 0 ≡ 0x20 → ⊥)
-      → NamePartRow B a (record { start = at + 2; size = size })
+      → size ≤ 16 → take size (drop (at + 3) B) ++ replicate (16 - size) 0x20 ≡ t → (size ≡ 0) ⊎ (getD (drop (at + 3) B) (size - 1) 0 ≡ 0x20 → ⊥)
+      → NamePartRow B a (record { start = at + 3; size = size })
   name-empty : NameRow B a (refusal 0 0) → ((at : ℕ) (t : List ℕ) → List·Memᴰ (record { at = at; read = whole (name-action a t) }) (readings B) → ⊥)
       → NamePartRow B a (record { start = 0; size = 0 })
   name-refused : {v : Verdict} → NameRow B a v → 1 ≤ v .number → NamePartRow B a (record { start = 0; size = 0 })

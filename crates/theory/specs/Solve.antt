@@ -7,14 +7,14 @@ use lib.IntN.{ℤ, pos}
 use lib.ListN.{length, replicate}
 use Rattle.whole.specs.Cases.{if}
 use Rattle.theory.specs.Widths.{bytes-most, steps-most, nodes-most, node-words, work-words, conditions-most, levels-most}
-use Rattle.theory.specs.Diagram.{Linear, Test, now, later, linear, Tree, leaf, branch, same}
+use Rattle.theory.specs.Diagram.{Linear, Test, now, later, linear, Tree, leaf, branch, same, padded}
 use Rattle.theory.specs.Computation.{done, stopped, run, enter-all, Solved, solved, refused, run-all}
 use Rattle.theory.specs.Stage.{all-stages}
 use Rattle.theory.specs.Valid.{among}
 use Rattle.theory.specs.Verdict.{Verdict, refusal, verdict, or}
 use Rattle.theory.specs.Load.{load}
 
--- "What the tables hold, N, is the least of node words ÷ 8, work words ÷ 8 and 65,535, rounded down."
+-- "What the tables hold, N, is the least of node words ÷ 12, work words ÷ 8 and 65,535, rounded down."
 unfoldable pub room : ℕ → ℕ → ℕ
 room nodes work = min (nodes / node-words) (min (work / work-words) nodes-most)
 
@@ -32,13 +32,7 @@ unfoldable pub number-of : Tree → List Tree → ℕ
 number-of t [] = 0
 number-of t (x ∷ X) = if (same x t) 1 (elim (number-of t X) [ zero ↦ 0 | suc k ↦ suc (suc k) ])
 
--- as many words as there are coefficients in a node
-unfoldable pub padded : ℕ → List ℤ → List ℤ
-padded zero l = []
-padded (suc k) [] = pos 0 ∷ padded k []
-padded (suc k) (z ∷ l) = z ∷ padded k l
-
--- "four coefficients, constant"
+-- "eight coefficients, constant"
 abbrev pub linear-words : Linear → List ℤ
 linear-words p = padded levels-most (p .coeffs) ++ (p .const ∷ [])
 
@@ -48,7 +42,7 @@ test-words (now k) = pos 1 ∷ (padded levels-most (pos k ∷ []) ++ (pos 0 ∷ 
 test-words (later k) = pos 1 ∷ (padded levels-most (pos (conditions-most + k) ∷ []) ++ (pos 0 ∷ []))
 test-words (linear p) = pos 2 ∷ linear-words p
 
--- "kind (0 leaf, 1 condition, 2 test), four coefficients, constant, high, low .. A leaf has its action in place of high, and zero for low."
+-- "kind (0 leaf, 1 condition, 2 test), eight coefficients, constant, high, low .. A leaf has its action in place of high, and zero for low."
 unfoldable pub row : List Tree → Tree → List ℤ
 row X (leaf f) = pos 0 ∷ (linear-words (f .lin) ++ (pos (f .act) ∷ pos 0 ∷ []))
 row X (branch t h l) = test-words t ++ (pos (number-of h X) ∷ pos (number-of l X) ∷ [])
@@ -100,7 +94,7 @@ solve-left nodes stages work (refused r h) = record {
   work = replicate (length work) 0;
 }
 
--- "10: stage words not eight, or model above 65,535 bytes", "9: horizon or steps not 1 to 8", then the model's own: "Order: 10, 9, the model by offset"
+-- "10: stage words not eight, or model above 262,144 bytes", "9: horizon or steps not 1 to 8", then the model's own: "Order: 10, 9, the model by offset"
 unfoldable pub early : List ℕ → ℕ → ℕ → Verdict
 early B steps words =
     if (or (not (eqb words steps-most)) (ltb bytes-most (length B))) (refusal 10 0)

@@ -18,7 +18,7 @@ use Rattle.theory.specs.Valid.{small-linear}
 use Rattle.theory.specs.Load.{site-at}
 use Rattle.theory.specs.Solve.{early}
 
--- "A state is a mask (bit i−1 for condition i), four signed 32-bit numerators and a signed 32-bit denominator D."
+-- "A state is a mask (bit i−1 for condition i), eight signed 32-bit numerators and a signed 32-bit denominator D."
 pub record Asked : Type 0 where
   pub mask : ℕ
   pub nums : List ℤ
@@ -55,7 +55,7 @@ state-of m n q t = record {
 abbrev pub node-word : List ℤ → ℕ → ℕ → ℤ
 node-word W r i = getD W ((r - 1) * node-words + i) (pos 0)
 
--- "four coefficients, constant" of node r
+-- "eight coefficients, constant" of node r
 unfoldable pub node-linear : List ℤ → ℕ → Linear
 node-linear W r = record { coeffs = take levels-most (drop ((r - 1) * node-words + 1) W); const = node-word W r (levels-most + 1) }
 

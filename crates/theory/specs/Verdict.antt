@@ -7,10 +7,11 @@ use lib.IntN.{pos}
 use lib.ListN.{length, drop}
 use lib.Signed.{leZ}
 use Rattle.whole.specs.Cases.{if}
-use Rattle.theory.specs.Widths.{levels-most, conditions-most, actions-most, weights-most, stack-most}
+use Rattle.theory.specs.Widths.{conditions-most, weights-most, stack-most}
+use Rattle.theory.specs.Form.{Form, new-form, levels-in, actions-in}
 use Rattle.theory.specs.Diagram.{Linear, zeros}
 use Rattle.theory.specs.Valid.{all, among}
-use Rattle.theory.specs.Command.{Command, site, push-leaf, push-condition, push-test, give, Slot, name-action, end-model, whole, unknown, short, Placed, readings}
+use Rattle.theory.specs.Command.{Command, site, push-leaf, push-condition, push-test, give, Slot, name-action, end-model, whole, unknown, short, Placed, readings-in}
 
 -- one or the other
 abbrev pub or : Bool → Bool → Bool
@@ -139,25 +140,25 @@ wanted S = wanted-by S (from-to 1 (S .actions))
 
 -- ---- the rules of a command, "operands 4, then 5, 6, diagram 4"
 
--- "m levels (1 to 4), n conditions (0 to 4), A actions (1 to 8), weight total W (1 to 100)"
-unfoldable pub site-rules : Site → List Rule
-site-rules S =
-    rule 4 (not (among levels-most (S .levels))) ∷ rule 4 (ltb conditions-most (S .conditions))
-    ∷ rule 4 (not (among actions-most (S .actions))) ∷ rule 4 (not (among weights-most (S .weights))) ∷ []
+-- "m levels (1 to 4), n conditions (0 to 4), A actions (1 to 8), weight total W (1 to 100)"; from K5 on m to 8 and A to 400
+unfoldable pub site-rules : Form → Site → List Rule
+site-rules F S =
+    rule 4 (not (among (levels-in F) (S .levels))) ∷ rule 4 (ltb conditions-most (S .conditions))
+    ∷ rule 4 (not (among (actions-in F) (S .actions))) ∷ rule 4 (not (among weights-most (S .weights))) ∷ []
 
 -- the site of four operands
 abbrev pub site-of : ℕ → ℕ → ℕ → ℕ → Site
 site-of m n a w = record { levels = m; conditions = n; actions = a; weights = w }
 
--- "01 site .. is first and only there": the rules of the first command
-unfoldable pub first-rules : Command → List Rule
-first-rules (site m n a w) = site-rules (site-of m n a w)
-first-rules (push-leaf p) = rule 1 true ∷ []
-first-rules (push-condition k) = rule 1 true ∷ []
-first-rules (push-test p) = rule 1 true ∷ []
-first-rules (give g) = rule 1 true ∷ []
-first-rules (name-action a b) = rule 1 true ∷ []
-first-rules end-model = rule 1 true ∷ []
+-- "site .. is first and only there": the rules of the first command
+unfoldable pub first-rules : Form → Command → List Rule
+first-rules F (site m n a w) = site-rules F (site-of m n a w)
+first-rules F (push-leaf p) = rule 1 true ∷ []
+first-rules F (push-condition k) = rule 1 true ∷ []
+first-rules F (push-test p) = rule 1 true ∷ []
+first-rules F (give g) = rule 1 true ∷ []
+first-rules F (name-action a b) = rule 1 true ∷ []
+first-rules F end-model = rule 1 true ∷ []
 
 -- the rules of a later command, over the site, the stack and what has been given
 unfoldable pub later-rules : Site → List Facts → List Slot → Command → List Rule
@@ -171,8 +172,8 @@ later-rules S K G (name-action a b) = rule 4 (not (among (S .actions) a)) ∷ ru
 later-rules S K G end-model = rule 7 (not (all (λ s. has-slot s G) (wanted S))) ∷ rule 7 (ltb 0 (length K)) ∷ []
 
 -- the rules of a command, first or later
-unfoldable pub rules-of : Progress → Command → List Rule
-rules-of s c = if (s .begun) (later-rules (s .site) (s .stack) (s .given) c) (first-rules c)
+unfoldable pub rules-in : Form → Progress → Command → List Rule
+rules-in F s c = if (s .begun) (later-rules (s .site) (s .stack) (s .given) c) (first-rules F c)
 
 -- ---- what a command that breaks none leaves
 
@@ -216,10 +217,10 @@ ended size at (give g) rest = rest
 ended size at (name-action a b) rest = rest
 
 -- "the model by offset": the first command at fault decides
-unfoldable pub judged : ℕ → Progress → List Placed → Verdict
-judged size s [] = refusal 0 0
-judged size s (x ∷ l) = elim (x .read) [
-  | whole c ↦ (let k = first-broken (rules-of s c) in if (eqb k 0) (ended size (x .at) c (judged size (after s c) l)) (refusal k (x .at)))
+unfoldable pub judged-in : Form → ℕ → Progress → List Placed → Verdict
+judged-in F size s [] = refusal 0 0
+judged-in F size s (x ∷ l) = elim (x .read) [
+  | whole c ↦ (let k = first-broken (rules-in F s c) in if (eqb k 0) (ended size (x .at) c (judged-in F size (after s c) l)) (refusal k (x .at)))
   | unknown ↦ refusal 3 (x .at)
   | short ↦ refusal 2 (x .at)
 ]
@@ -233,5 +234,16 @@ abbrev pub at-start : Progress
 at-start = record { begun = false; site = no-site; stack = []; given = [] }
 
 -- the verdict on some bytes
-unfoldable pub verdict : List ℕ → Verdict
-verdict B = judged (length B) at-start (readings B)
+unfoldable pub verdict-in : Form → List ℕ → Verdict
+verdict-in F B = judged-in F (length B) at-start (readings-in F B)
+
+-- ---- the form that the planner reads
+
+abbrev pub rules-of : Progress → Command → List Rule
+rules-of = rules-in new-form
+
+abbrev pub judged : ℕ → Progress → List Placed → Verdict
+judged = judged-in new-form
+
+abbrev pub verdict : List ℕ → Verdict
+verdict = verdict-in new-form

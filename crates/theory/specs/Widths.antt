@@ -1,17 +1,17 @@
--- The widths of document 01, each named once. The rules of diagrams know none of them.
+-- The widths of documents 01 and 02, each named once. The rules of diagrams know none of them.
 use Prim.Native.Nat.{ℕ, _+_, _*_}
 
--- "m levels (1 to 4)"
+-- "m up to 8"
 abbrev pub levels-most : ℕ
-levels-most = 4
+levels-most = 8
 
 -- "n conditions (0 to 4)"; the next step's conditions are numbered from here on, "5 to 4+n"
 abbrev pub conditions-most : ℕ
 conditions-most = 4
 
--- "A actions (1 to 8)"
+-- "A as two bytes (1 to 400)"
 abbrev pub actions-most : ℕ
-actions-most = 8
+actions-most = 400
 
 -- a flag for each thing that an action is given, and for its name: a row of the actions, from 1 on, for the reward, each chance, each next level and the name; flag 0 is the end worth's
 abbrev pub flags-most : ℕ
@@ -25,9 +25,9 @@ weights-most = 100
 abbrev pub stack-most : ℕ
 stack-most = 32
 
--- "model above 65,535 bytes"
+-- "A model may have 262,144 bytes"
 abbrev pub bytes-most : ℕ
-bytes-most = 65535
+bytes-most = 262144
 
 -- "horizon or steps not 1 to 8", and the eight stage words
 abbrev pub steps-most : ℕ
@@ -45,13 +45,13 @@ loaded-roots-most = model-roots-most + 1
 abbrev pub roots-most : ℕ
 roots-most = loaded-roots-most + steps-most + 2
 
--- "What the tables hold, N, is the least of node words ÷ 8, work words ÷ 8 and 65,535"
+-- "What the tables hold, N, is the least of node words ÷ 12, work words ÷ 8 and 65,535"
 abbrev pub nodes-most : ℕ
 nodes-most = 65535
 
--- "Nodes are eight signed 64-bit words"
+-- "A node is twelve 64-bit words"
 abbrev pub node-words : ℕ
-node-words = 8
+node-words = 12
 
 -- "work words ÷ 8"
 abbrev pub work-words : ℕ

@@ -8,10 +8,12 @@ use native.Mathlib.Omega.{arith}
 use lib.Dec.{T, eqb}
 use lib.ListN.{length, take, drop, length-drop}
 use Rattle.whole.specs.Cases.{if, by-test, not-not}
+use Rattle.theory.specs.Widths.{name-bytes}
+use Rattle.theory.specs.Form.{new-form, site-byte, behind-action}
 use Rattle.theory.specs.Valid.{among}
-use Rattle.theory.specs.Command.{Command, site, push-leaf, push-condition, push-test, give, name-action, end-model, Read, whole, unknown, short, Placed, byte-at, width, command-at, read-at, goes-on, readings-from, readings}
-use Rattle.theory.specs.Verdict.{Site, Progress, Verdict, first-broken, first-rules, later-rules, rules-of, after, judged, at-start, verdict}
-use Rattle.theory.specs.Load.{site-at}
+use Rattle.theory.specs.Command.{Command, site, push-leaf, push-condition, push-test, give, name-action, end-model, Read, whole, unknown, short, Placed, byte-at, width, command-at, command-in, read-at, goes-on, readings-from, readings-from-in, readings, readings-in}
+use Rattle.theory.specs.Verdict.{Site, Progress, Verdict, first-broken, first-rules, later-rules, rules-of, rules-in, after, judged, judged-in, at-start, verdict, verdict-in}
+use Rattle.theory.specs.Load.{site-at, site-in}
 use Rattle.theory.specs.Name.{Part, trimmed, name-part, name}
 use Rattle.theory.specs.Rows.{Range, Admitted, name-0, NamePartRow, name-given, name-empty, name-refused}
 use Rattle.theory.specs.laws.Valid.{among-out}
@@ -29,7 +31,7 @@ naming a at t = record { at = at; read = whole (name-action a t) }
 
 -- what is read stands at its offset, and none before the first
 pub placed : (B : List ℕ) (k p : ℕ) (y : Placed) → List·Memᴰ y (readings-from B k p) → (y .read ≡ read-at B (y .at)) × (p ≤ y .at)
-unfolding readings-from
+unfolding readings-from-in
 placed B zero p y m = absurd (List·Memᴰ·not-nil m)
 placed B (suc k) p y m = ⊎-elim
     (λ i. rw i (refl, omega arith))
@@ -64,7 +66,7 @@ module _ (B : List ℕ) where
   step : (k p : ℕ) (s : Progress) (P : Read → Type 0)
       → ((c : Command) → first-broken (rules-of s c) ≡ 0 → (T (goes-on (whole c)) → Accepts (after s c) (readings-from B k (p + width (byte-at B p)))) → P (whole c))
       → (r : Read) → Accepts s (from k p r) → P r
-  unfolding judged
+  unfolding judged-in
   step k p s P f (whole c) e =
       let d = judged-whole (first-broken (rules-of s c)) p _ e in
       f c (d .0) (λ g. ap (λ (v : Verdict). v .number) (sym (ended-going B k p s c g)) ∙ d .1)
@@ -72,10 +74,10 @@ module _ (B : List ℕ) where
   step k p s P f short e = absurd (let z : _≡_ {A = ℕ} 2 0 = e in omega arith)
 
 later : (s : Progress) (c : Command) → T (s .begun) → first-broken (rules-of s c) ≡ 0 → first-broken (later-rules (s .site) (s .stack) (s .given) c) ≡ 0
-unfolding rules-of
+unfolding rules-in
 later s c = go (s .begun)
   where
-    go : (b : Bool) → T b → first-broken (if b (later-rules (s .site) (s .stack) (s .given) c) (first-rules c)) ≡ 0 → first-broken (later-rules (s .site) (s .stack) (s .given) c) ≡ 0
+    go : (b : Bool) → T b → first-broken (if b (later-rules (s .site) (s .stack) (s .given) c) (first-rules new-form c)) ≡ 0 → first-broken (later-rules (s .site) (s .stack) (s .given) c) ≡ 0
     go true t e = e
     go false t e = absurd t
 
@@ -99,7 +101,7 @@ module _ (B : List ℕ) (a at : ℕ) (t : List ℕ) where
   is-naming p c i = let j : whole (name-action a t) ≡ whole c = ap (λ (x : Placed). x .read) i in (cc)
 
   among-later : (k p : ℕ) (s : Progress) → T (s .begun) → Accepts B s (readings-from B k p) → List·Memᴰ (naming a at t) (readings-from B k p) → Range 1 (s .site .actions) a
-  unfolding readings-from
+  unfolding readings-from-in
   among-later zero p s b e m = absurd (List·Memᴰ·not-nil m)
   among-later (suc k) p s b e m = step B k p s (λ r. List·Memᴰ (naming a at t) (from B k p r) → Range 1 (s .site .actions) a)
       (λ c u rest m. ⊎-elim
@@ -122,9 +124,9 @@ begins-if B true c d f g = f
 begins-if B false c d f g = g
 
 begins : (B : List ℕ) → Begins B (command-at B 0)
-unfolding command-at Begins rules-of first-rules after site-at
+unfolding command-in Begins rules-in first-rules after site-in
 begins B =
-    begins-if B (eqb (byte-at B 0) 0x01) _ _ (λ _. (tt, refl)) (begins-if B (eqb (byte-at B 0) 0x10) _ _ (λ e. broken 0 _ e) (begins-if B (eqb (byte-at B 0) 0x11) _ _ (λ e. broken 0 _ e)
+    begins-if B (eqb (byte-at B 0) (site-byte new-form)) _ _ (λ _. (tt, refl)) (begins-if B (eqb (byte-at B 0) 0x10) _ _ (λ e. broken 0 _ e) (begins-if B (eqb (byte-at B 0) 0x11) _ _ (λ e. broken 0 _ e)
     (begins-if B (eqb (byte-at B 0) 0x12) _ _ (λ e. broken 0 _ e) (begins-if B (eqb (byte-at B 0) 0x20) _ _ (λ e. broken 0 _ e) (begins-if B (eqb (byte-at B 0) 0x21) _ _ (λ e. broken 0 _ e)
     (begins-if B (eqb (byte-at B 0) 0x22) _ _ (λ e. broken 0 _ e) (begins-if B (eqb (byte-at B 0) 0x23) _ _ (λ e. broken 0 _ e)
     (begins-if B (eqb (byte-at B 0) 0x30) _ _ (λ e. broken 0 _ e) (λ e. broken 0 _ e)))))))))
@@ -139,11 +141,11 @@ whole-command B at c e = by-read B at (λ r. whole c ≡ r → c ≡ command-at 
     e
 
 no-first : (a : ℕ) (t : List ℕ) → first-broken (rules-of at-start (name-action a t)) ≡ 0 → ⊥
-unfolding rules-of first-rules
+unfolding rules-in first-rules
 no-first a t e = broken 0 _ e
 
 pub named-among : (B : List ℕ) → verdict B .number ≡ 0 → (a at : ℕ) (t : List ℕ) → List·Memᴰ (naming a at t) (readings B) → Range 1 (site-at B .actions) a
-unfolding verdict readings readings-from Begins
+unfolding verdict-in readings-in readings-from-in Begins
 named-among B e a at t m = step B (length B) 0 at-start (λ r. r ≡ read-at B 0 → List·Memᴰ (naming a at t) (from B (length B) 0 r) → Range 1 (site-at B .actions) a)
     (λ c u rest q m. ⊎-elim
     (λ i. absurd (no-first a t (subst (λ (c : Command). first-broken (rules-of at-start c) ≡ 0) (is-naming B a at t 0 c i) u)))
@@ -163,29 +165,29 @@ module _ (B : List ℕ) (d : Admitted B 1 8) (a : ℕ) where
   own = ap (λ (v : Verdict). v .number) (verdict-is B (d .own))
 
   -- the bytes that a name command has, inside the model
-  bytes-there : (at : ℕ) (t : List ℕ) → List·Memᴰ (naming a at t) (readings B) → (t ≡ take 16 (drop (at + 2) B)) × (16 ≤ length (drop (at + 2) B))
-  unfolding readings
+  bytes-there : (at : ℕ) (t : List ℕ) → List·Memᴰ (naming a at t) (readings B) → (t ≡ take name-bytes (drop (at + behind-action new-form) B)) × (name-bytes ≤ length (drop (at + behind-action new-form) B))
+  unfolding readings-in
   bytes-there at t m =
       let b = name-bytes-at B at a t (sym (placed B (suc (length B)) 0 (naming a at t) m .0)) in
-      (b .0, omega (arith, length-drop (at + 2) B, b .1))
+      (b .0, omega (arith, length-drop (at + behind-action new-form) B, b .1))
 
-  part-there : (at : ℕ) (t : List ℕ) → List·Memᴰ (naming a at t) (readings B) → name-part B a ≡ record { start = at + 2; size = trimmed (drop (at + 2) B) 16 }
+  part-there : (at : ℕ) (t : List ℕ) → List·Memᴰ (naming a at t) (readings B) → name-part B a ≡ record { start = at + behind-action new-form; size = trimmed (drop (at + behind-action new-form) B) name-bytes }
   part-there at t m =
-      let l = drop (at + 2) B in
+      let l = drop (at + behind-action new-form) B in
       let b = bytes-there at t m in
-      name-part-is B a (name-given {t = t} (name-0 d (named-among B own a at t m)) m (trimmed-most l 16) (trimmed-spaces l 16 (b .1) ∙ sym (b .0)) (trimmed-last l 16))
+      name-part-is B a (name-given {t = t} (name-0 d (named-among B own a at t m)) m (trimmed-most l name-bytes) (trimmed-spaces l name-bytes (b .1) ∙ sym (b .0)) (trimmed-last l name-bytes))
 
   pub name-there : (at : ℕ) (t : List ℕ) → List·Memᴰ (naming a at t) (readings B) → name B a ≡ trim t
   unfolding name
   name-there at t m =
-      let l = drop (at + 2) B in
+      let l = drop (at + behind-action new-form) B in
       let b = bytes-there at t m in
-      ap (λ (p : Part). take (p .size) (drop (p .start) B)) (part-there at t m) ∙ sym (ap trim (b .0) ∙ trim-first l 16 (b .1))
+      ap (λ (p : Part). take (p .size) (drop (p .start) B)) (part-there at t m) ∙ sym (ap trim (b .0) ∙ trim-first l name-bytes (b .1))
 
   -- two commands that name it are one
   pub named-once : (at : ℕ) (t : List ℕ) → List·Memᴰ (naming a at t) (readings B) → (z : ℕ) (u : List ℕ) → List·Memᴰ (naming a z u) (readings B) → at ≡ z
   named-once at t m z u n =
-      let e : at + 2 ≡ z + 2 = ap (λ (p : Part). p .start) (sym (part-there at t m) ∙ part-there z u n) in
+      let e : at + behind-action new-form ≡ z + behind-action new-form = ap (λ (p : Part). p .start) (sym (part-there at t m) ∙ part-there z u n) in
       omega arith
 
   pub in-range : (at : ℕ) (t : List ℕ) → List·Memᴰ (naming a at t) (readings B) → Range 1 (site-at B .actions) a

@@ -12,11 +12,11 @@ use lib.Seq.{take-at, take-append-le, getD-take, getD-drop, ext-getD}
 use lib.Signed.{_<ℤ_, ltZ}
 use Rattle.whole.specs.Cases.{if, by-test, clash, and-in}
 use Rattle.theory.specs.Widths.{levels-most, node-words}
-use Rattle.theory.specs.Diagram.{Linear, Test, now, later, linear, Leaf, Tree, leaf, branch, then, cmpZ, cmpList, cmpLinear, cmp}
+use Rattle.theory.specs.Diagram.{Linear, Test, now, later, linear, Leaf, Tree, leaf, branch, then, cmpZ, cmpList, cmpLinear, cmp, padded}
 use Rattle.theory.specs.Computation.{member, enter, enter-all}
 use Rattle.theory.specs.Rules.{parallel, zero-leaf}
 use Rattle.theory.specs.Valid.{all, all-nodes, good-test, stage-leaf}
-use Rattle.theory.specs.Solve.{number-of, padded, test-words, row, rows, table-of, solved-nodes}
+use Rattle.theory.specs.Solve.{number-of, test-words, row, rows, table-of, solved-nodes}
 use Rattle.theory.specs.Value.{node-word, node-linear, high-of, low-of}
 use Rattle.theory.specs.Rows.{Range}
 use Rattle.theory.specs.laws.Comps.{cmpZ-eq, cmpList-refl, member-cases, member-in}
@@ -98,8 +98,8 @@ module _ (n A : ℕ) (X : List Tree) (tail : List ℤ) (x : Table X) (nice : (u 
   unfolding row
   row-test t h l m =
       let a = node-has X tail (branch t h l) m in
-      ap (take 6) (a .is) ∙ (take-append-le 6 (row X (branch t h l)) (a .rest) (omega (arith, row-length X (branch t h l)))
-      ∙ take-at (test-words t) (pos (num h) ∷ pos (num l) ∷ []) 6 (test-length t))
+      ap (take (levels-most + 2)) (a .is) ∙ (take-append-le (levels-most + 2) (row X (branch t h l)) (a .rest) (omega (arith, row-length X (branch t h l)))
+      ∙ take-at (test-words t) (pos (num h) ∷ pos (num l) ∷ []) (levels-most + 2) (test-length t))
 
   not-zero : (k : ℕ) (z : ℤ) → z ≡ pos (suc k) → z ≡ pos 0 → ⊥
   not-zero k z e f = let i : suc k ≡ 0 = ap natAbs (sym e ∙ f) in omega arith
@@ -173,18 +173,18 @@ module _ (n A : ℕ) (X : List Tree) (tail : List ℤ) (x : Table X) (nice : (u 
 
   -- ---- "Equal nodes are one node."
 
-  -- the same eight words
+  -- the same words
   abbrev Same : ℕ → ℕ → Type 0
-  Same r s = (i : ℕ) → i < 8 → node-word W r i ≡ node-word W s i
+  Same r s = (i : ℕ) → i < node-words → node-word W r i ≡ node-word W s i
 
   linear-same : (r s : ℕ) (p q : Linear) → Long p → Long q → node-linear W r ≡ p → node-linear W s ≡ q → Same r s → p ≡ q
   unfolding node-linear
-  linear-same r s p q a b e f d = λ i. record { coeffs = coeffs i; const = (sym (ap (λ (y : Linear). y .const) e) ∙ (d 5 (omega arith) ∙ ap (λ (y : Linear). y .const) f)) i }
+  linear-same r s p q a b e f d = λ i. record { coeffs = coeffs i; const = (sym (ap (λ (y : Linear). y .const) e) ∙ (d (levels-most + 1) (omega arith) ∙ ap (λ (y : Linear). y .const) f)) i }
     where
-      word : (r : ℕ) (p : Linear) → node-linear W r ≡ p → (i : ℕ) → i < 4 → getD (p .coeffs) i (pos 0) ≡ node-word W r (suc i)
+      word : (r : ℕ) (p : Linear) → node-linear W r ≡ p → (i : ℕ) → i < levels-most → getD (p .coeffs) i (pos 0) ≡ node-word W r (suc i)
       word r p e i h =
           ap (λ (y : Linear). getD (y .coeffs) i (pos 0)) (sym e)
-          ∙ (getD-take 4 (drop ((r - 1) * node-words + 1) W) i (pos 0) h
+          ∙ (getD-take levels-most (drop ((r - 1) * node-words + 1) W) i (pos 0) h
           ∙ (getD-drop ((r - 1) * node-words + 1) W i (pos 0) ∙ ap (λ (j : ℕ). getD W j (pos 0)) (next ((r - 1) * node-words) i)))
         where
           next : (b i : ℕ) → b + 1 + i ≡ b + suc i
@@ -192,7 +192,7 @@ module _ (n A : ℕ) (X : List Tree) (tail : List ℤ) (x : Table X) (nice : (u 
 
       coeffs : p .coeffs ≡ q .coeffs
       coeffs = ext-getD (pos 0) (p .coeffs) (q .coeffs) (a ∙ sym b) (λ i h.
-          let k : i < 4 = omega (arith, a) in
+          let k : i < levels-most = omega (arith, a) in
           word r p e i k ∙ (d (suc i) (omega arith) ∙ sym (word s q f i k)))
 
   kinds : (r s : ℕ) (i j : ℕ) → node-word W r 0 ≡ pos i → node-word W s 0 ≡ pos j → Same r s → i ≡ j
@@ -200,7 +200,7 @@ module _ (n A : ℕ) (X : List Tree) (tail : List ℤ) (x : Table X) (nice : (u 
 
   test-same : (t u : Test) (h l p q : Tree) → member (branch t h l) X ≡ true → member (branch u p q) X ≡ true → T (good-test n false t) → T (good-test n false u)
       → Same (num (branch t h l)) (num (branch u p q)) → t ≡ u
-  unfolding good-test
+  unfolding good-test padded
   test-same (now i) (now j) h l p q m k a b d =
       let e = linear-same _ _ _ _ refl refl (condition-shows X tail i h l m .numbers) (condition-shows X tail j p q k .numbers) d in
       ap now (pos-same i j (ap (λ (y : Linear). getD (y .coeffs) 0 (pos 0)) e))
@@ -220,7 +220,7 @@ module _ (n A : ℕ) (X : List Tree) (tail : List ℤ) (x : Table X) (nice : (u 
       let a = leaf-row f m in
       let b = leaf-row g k in
       let lin = linear-same _ _ (f .lin) (g .lin) (long-leaf f m) (long-leaf g k) (a .numbers) (b .numbers) d in
-      let act = pos-same (f .act) (g .act) (sym (a .high) ∙ (d 6 (omega arith) ∙ b .high)) in
+      let act = pos-same (f .act) (g .act) (sym (a .high) ∙ (d (levels-most + 2) (omega arith) ∙ b .high)) in
       λ i. leaf (record { lin = lin i; act = act i })
   once-at (leaf f) (branch u p q) m k d = absurd ((branch-row u p q k (test-good u p q k) .inner) (sym (d 0 (omega arith)) ∙ leaf-row f m .kind))
   once-at (branch t h l) (leaf g) m k d = absurd ((branch-row t h l m (test-good t h l m) .inner) (d 0 (omega arith) ∙ leaf-row g k .kind))
@@ -230,8 +230,8 @@ module _ (n A : ℕ) (X : List Tree) (tail : List ℤ) (x : Table X) (nice : (u 
       let c = (x .closed) t h l m in
       let e = (x .closed) u p q k in
       let test = test-same t u h l p q m k (test-good t h l m) (test-good u p q k) d in
-      let high = number-one h p (c .high-in) (e .high-in) (pos-same (num h) (num p) (sym (a .high) ∙ (d 6 (omega arith) ∙ b .high))) in
-      let low = number-one l q (c .low-in) (e .low-in) (pos-same (num l) (num q) (sym (a .low) ∙ (d 7 (omega arith) ∙ b .low))) in
+      let high = number-one h p (c .high-in) (e .high-in) (pos-same (num h) (num p) (sym (a .high) ∙ (d (levels-most + 2) (omega arith) ∙ b .high))) in
+      let low = number-one l q (c .low-in) (e .low-in) (pos-same (num l) (num q) (sym (a .low) ∙ (d (levels-most + 3) (omega arith) ∙ b .low))) in
       λ i. branch (test i) (high i) (low i)
 
   pub table-reduced : Reduced W (length X)

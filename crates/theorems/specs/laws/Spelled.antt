@@ -11,7 +11,7 @@ use Rattle.theory.specs.Rules.{choose}
 use Rattle.theory.specs.Meaning.{Action, nth-action, action-at, numbers-from, Env, env, value, holds, at, worth-at, end-at, chance-at, weight, moved, settings, power, process}
 use Rattle.theory.specs.Command.{Command, site, push-leaf, push-condition, push-test, give, name-action, end-model, Read, whole, unknown, short, Placed, readings, Slot}
 use Rattle.theory.specs.Verdict.{Site, same-slot, reward-slot, chance-slot, level-slot, end-slot, from-to}
-use Rattle.theory.specs.Load.{Entry, Loaded, condition-test, load-entry, load-choice-with, load-one-with, load-on-with, find-slot, found, action-of, model-of, site-at, load-with, model, spelled}
+use Rattle.theory.specs.Load.{Entry, Loaded, condition-test, load-entry, load-choice-with, load-one-with, load-on-with, find-slot, found, action-of, model-of, site-at, load-with, model, spelled, load-in, model-in}
 use Rattle.theory.specs.laws.Comps.{result-bind}
 use Rattle.theory.specs.laws.Values.{Makes, choose-at}
 use Rattle.theorems.specs.Demands.{SpelledSame}
@@ -170,7 +170,7 @@ module _ (S : Site) (E D : List Entry) (d : LikeGiven E D) where
 
 -- a model that is loaded by such a rule
 pub loaded-like : (by : Test → Tree → Tree → Comp Tree) → ((e : Env) → Makes e by) → (B : List ℕ) → process (result (load-with by B)) ≡ process (spelled B)
-unfolding spelled load-with result
+unfolding spelled load-in result
 loaded-like by ok B =
     let none : Loaded = record { stack = []; entries = [] } in
     let d = on-like by ok (readings B) none none (tt, tt) in
@@ -179,5 +179,5 @@ loaded-like by ok B =
     ∙ ap process (sym (result-bind (load-on-with written (readings B) none) _)))
 
 pub spelled-same : SpelledSame
-unfolding model
+unfolding model-in
 spelled-same B = loaded-like choose choose-at B

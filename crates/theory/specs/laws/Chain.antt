@@ -13,7 +13,7 @@ use Rattle.theory.specs.Meaning.{Action, Model, power}
 use Rattle.theory.specs.Stage.{action-diagrams, all-diagrams, model-diagrams, sum-out, action-total, best-on, stage-over, stages-on, stages-over-end, all-stages}
 use Rattle.theory.specs.Command.{Command, site, push-leaf, push-condition, push-test, name-action, end-model, Read, whole, unknown, short, Placed, readings, give, Slot}
 use Rattle.theory.specs.Verdict.{verdict}
-use Rattle.theory.specs.Load.{Entry, Loaded, condition-test, load-choice, load-choice-with, load-entry, load-one, load-one-with, load-on, load-on-with, model-of, site-at, load, load-with, model}
+use Rattle.theory.specs.Load.{Entry, Loaded, condition-test, load-choice, load-choice-with, load-entry, load-one, load-one-with, load-on, load-on-with, model-of, site-at, load, load-with, model, load-in, model-in}
 use Rattle.theory.specs.Solve.{solve-in, table-of}
 use Rattle.theory.specs.Events.{events, needed, inside, all-inside, Chained}
 use Rattle.theory.specs.laws.Comps.{run-all-final}
@@ -200,7 +200,7 @@ load-on-stands X (x ∷ l) s d = go (λ Y u. load-on-stands Y l u) (x .read)
 
 -- every diagram that has been given is there when loading ends
 pub entries-inside : (B : List ℕ) → T (all-inside (entry-trees (loaded-entries B)) (needed [] (events (load B))))
-unfolding load-with events needed
+unfolding load-in events needed
 entries-inside B = bind-gives (λ _ Y. T (all-inside (entry-trees (loaded-entries B)) Y)) [] (load-on (readings B) (record { stack = []; entries = [] })) (λ s. ret (model-of (site-at B) (s .entries)))
     (load-on-stands [] (readings B) (record { stack = []; entries = [] }) (all-none [], all-none []) .1)
 
@@ -249,7 +249,7 @@ ends-fit N p (operation h roots c f) a q X e i = go (run N c (enter-all roots []
 -- the table after solving has no more nodes than the peak
 pub table-fits : (N : ℕ) (B : List ℕ) (H : ℕ) → verdict B .number ≡ 0 → (S : List Tree) (peak : ℕ) → solve-in N B H ≡ solved S peak
     → length (table-of S) ≤ peak
-unfolding solve-in table-of model
+unfolding solve-in table-of model-in
 table-fits N B H v S peak = go (run N (load B) []) refl
   where
     go : (o : Out Model) → run N (load B) [] ≡ o → elim o [ done M X ↦ run-all N (length X) (all-stages M H) | stopped r ↦ refused r 0 ] ≡ solved S peak → length (enter-all S []) ≤ peak

@@ -105,19 +105,19 @@ module _ (n A : ℕ) (W : List ℤ) (r : ℕ) where
   numbers-in t i h =
       let b = (r - 1) * node-words in
       let d = both (all small (take levels-most (drop (b + 1) W))) (small (node-word W r (levels-most + 1))) t in
-      by-test (leb i 4) (λ _. In62 (node-word W r i))
-      (λ k. let l = leb→le i 4 k in
+      by-test (leb i levels-most) (λ _. In62 (node-word W r i))
+      (λ k. let l = leb→le i levels-most k in
       subst (λ (j : ℕ). In62 (getD W j (pos 0))) (word-on b i (h .0))
-      (subst In62 (part-word 4 (b + 1) W (i - 1) (omega (arith, h .0))) (in-62 _ (small-each (take 4 (drop (b + 1) W)) (d .0) (i - 1)))))
-      (λ k. let l = nleb→lt i 4 k in let e : 5 ≡ i = omega (arith, h .1) in subst (λ (j : ℕ). In62 (node-word W r j)) e (in-62 _ (d .1)))
+      (subst In62 (part-word levels-most (b + 1) W (i - 1) (omega (arith, h .0))) (in-62 _ (small-each (take levels-most (drop (b + 1) W)) (d .0) (i - 1)))))
+      (λ k. let l = nleb→lt i levels-most k in let e : levels-most + 1 ≡ i = omega (arith, h .1) in subst (λ (j : ℕ). In62 (node-word W r j)) e (in-62 _ (d .1)))
 
   numbers-back : NumbersFit n A W r → T (small-linear (node-linear W r))
   unfolding small-linear node-linear small
   numbers-back f =
       let b = (r - 1) * node-words in
       and-in (all small (take levels-most (drop (b + 1) W))) (small (node-word W r (levels-most + 1)))
-      (each-small (take 4 (drop (b + 1) W)) (part-each (λ z. T (small z)) tt 4 (b + 1) W (λ i h. back-62 (getD W (b + 1 + i) (pos 0)) (subst (λ (j : ℕ). In62 (getD W j (pos 0))) (next b i) (f (suc i) (omega arith, omega arith))))))
-      (back-62 (node-word W r 5) (f 5 (omega arith, omega arith)))
+      (each-small (take levels-most (drop (b + 1) W)) (part-each (λ z. T (small z)) tt levels-most (b + 1) W (λ i h. back-62 (getD W (b + 1 + i) (pos 0)) (subst (λ (j : ℕ). In62 (getD W j (pos 0))) (next b i) (f (suc i) (omega arith, omega arith))))))
+      (back-62 (node-word W r (levels-most + 1)) (f (levels-most + 1) (omega arith, omega arith)))
     where
       next : (b i : ℕ) → b + suc i ≡ b + 1 + i
       next b i = omega arith
@@ -147,7 +147,7 @@ module _ (n A : ℕ) (W : List ℤ) (r : ℕ) where
       let d = both (amongZ n (node-word W r 1)) (zeros zero-words && good-branches W r) t in
       let c = both (zeros zero-words) (good-branches W r) (d .1) in
       fits-condition e (among-in _ _ (d .0))
-      (λ i h. ap (λ (j : ℕ). getD W j (pos 0)) (two-on b i (h .0)) ∙ (sym (part-word 4 (b + 2) W (i - 2) (omega (arith, h .0, h .1))) ∙ zeros-each zero-words (c .0) (i - 2)))
+      (λ i h. ap (λ (j : ℕ). getD W j (pos 0)) (two-on b i (h .0)) ∙ (sym (part-word levels-most (b + 2) W (i - 2) (omega (arith, h .0, h .1))) ∙ zeros-each zero-words (c .0) (i - 2)))
       (branches-in (c .1))
     where
       two-on : (b i : ℕ) → 2 ≤ i → b + i ≡ b + 2 + (i - 2)
@@ -179,7 +179,7 @@ module _ (n A : ℕ) (W : List ℤ) (r : ℕ) where
   kind-back (fits-condition e a f b) = subst (λ (y : ℤ). T (by-kind n A W r y)) (sym e)
       (and-in (amongZ n (node-word W r 1)) (zeros zero-words && good-branches W r) (among-back _ _ a)
       (and-in (zeros zero-words) (good-branches W r)
-      (each-zeros zero-words (part-each (λ z. z ≡ pos 0) refl 4 ((r - 1) * node-words + 2) W (λ i h. ap (λ (j : ℕ). getD W j (pos 0)) (after-two ((r - 1) * node-words) i) ∙ f (suc (suc i)) (omega arith, omega arith))))
+      (each-zeros zero-words (part-each (λ z. z ≡ pos 0) refl levels-most ((r - 1) * node-words + 2) W (λ i h. ap (λ (j : ℕ). getD W j (pos 0)) (after-two ((r - 1) * node-words) i) ∙ f (suc (suc i)) (omega arith, omega arith))))
       (branches-back b)))
     where
       after-two : (b i : ℕ) → b + 2 + i ≡ b + suc (suc i)

@@ -11,15 +11,16 @@ use lib.ListN.{length, drop}
 use Rattle.whole.specs.Cases.{if, by-test, both, and-in, not-not}
 use Rattle.whole.specs.Within.{small, limit}
 use Rattle.theory.specs.Widths.{levels-most, conditions-most, actions-most, weights-most}
-use Rattle.theory.specs.Diagram.{Linear, Test, now, later, linear, Leaf, Tree, leaf, plain, divisor, test-of}
+use Rattle.theory.specs.Diagram.{Linear, Test, now, later, linear, Leaf, Tree, leaf, plain, divisor, test-of, padded}
 use Rattle.theory.specs.Computation.{ret, bind, make, result}
 use Rattle.theory.specs.Rules.{choose}
 use Rattle.theory.specs.Meaning.{Model}
 use Rattle.theory.specs.Stage.{action-diagrams, all-diagrams, model-diagrams}
 use Rattle.theory.specs.Valid.{all, all-nodes, among, wide, good-test, good-leaf, weight-leaf, valid-action, valid, small-linear}
-use Rattle.theory.specs.Command.{Command, site, push-leaf, push-condition, push-test, name-action, end-model, Read, whole, unknown, short, Placed, byte-at, word-at, signed, signed-from, linear-at, width, command-at, read-at, goes-on, readings-from, readings, give, Slot}
-use Rattle.theory.specs.Verdict.{Site, Facts, Progress, reward-slot, chance-slot, level-slot, end-slot, name-slot, same-slot, has-slot, or, Rule, rule, first-broken, next-condition, is-weight, top, joined, from-to, wanted-by, wanted, site-rules, site-of, first-rules, later-rules, rules-of, after, Verdict, refusal, ended, judged, at-start, verdict, may-be}
-use Rattle.theory.specs.Load.{Entry, Loaded, condition-test, load-choice, load-choice-with, load-entry, load-one, load-one-with, load-on, load-on-with, find-slot, found, action-of, model-of, site-at, load-with, model}
+use Rattle.theory.specs.Form.{new-form, site-byte}
+use Rattle.theory.specs.Command.{Command, site, push-leaf, push-condition, push-test, name-action, end-model, Read, whole, unknown, short, Placed, byte-at, word-at, signed, signed-from, linear-at, width, command-at, read-at, goes-on, readings-from, readings, give, Slot, command-in, linear-in, read-in, readings-from-in, readings-in, action-at}
+use Rattle.theory.specs.Verdict.{Site, Facts, Progress, reward-slot, chance-slot, level-slot, end-slot, name-slot, same-slot, has-slot, or, Rule, rule, first-broken, next-condition, is-weight, top, joined, from-to, wanted-by, wanted, site-rules, site-of, first-rules, later-rules, rules-of, after, Verdict, refusal, ended, judged, at-start, verdict, may-be, judged-in, rules-in, verdict-in}
+use Rattle.theory.specs.Load.{Entry, Loaded, condition-test, load-choice, load-choice-with, load-entry, load-one, load-one-with, load-on, load-on-with, find-slot, found, action-of, model-of, site-at, load-with, model, load-in, model-in, site-in}
 use Rattle.theory.specs.laws.Comps.{result-bind}
 use Rattle.theory.specs.laws.Safe.{any, sure}
 use Rattle.theory.specs.laws.Nodes.{widen, choose-safe}
@@ -44,7 +45,7 @@ signed-length B i zero = refl
 signed-length B i (suc k) = ap suc (signed-length B (i + 4) k)
 
 pub linear-wide : (B : List ℕ) (i : ℕ) → T (wide (linear-at B i))
-unfolding linear-at small-linear
+unfolding linear-in small-linear padded signed-from
 linear-wide B i = wide-in (linear-at B i) (signed-length B i levels-most)
     (and-in (all small (signed-from B i levels-most)) (small (signed (word-at B (i + levels-most * 4)))) (signed-all B i levels-most) (signed-small (word-at B (i + levels-most * 4))))
 
@@ -227,7 +228,7 @@ or-out false b t f g = g t
 
 -- what a command of the bytes has for operands
 Fit : List ℕ → ℕ → Command → Type 0
-Fit B at (site m n a w) = site-of m n a w ≡ site-of (byte-at B (at + 1)) (byte-at B (at + 2)) (byte-at B (at + 3)) (byte-at B (at + 4))
+Fit B at (site m n a w) = site-of m n a w ≡ site-of (byte-at B (at + 1)) (byte-at B (at + 2)) (action-at new-form B (at + 3)) (byte-at B (at + 5))
 Fit B at (push-leaf p) = T (wide p)
 Fit B at (push-condition k) = T true
 Fit B at (push-test p) = T (wide p)
@@ -240,9 +241,9 @@ fit-if B at true c d f g = f
 fit-if B at false c d f g = g
 
 fit : (B : List ℕ) (at : ℕ) → Fit B at (command-at B at)
-unfolding command-at Fit
+unfolding command-in Fit
 fit B at =
-    fit-if B at (eqb (byte-at B at) 0x01) _ _ refl (fit-if B at (eqb (byte-at B at) 0x10) _ _ (linear-wide B (at + 1)) (fit-if B at (eqb (byte-at B at) 0x11) _ _ tt
+    fit-if B at (eqb (byte-at B at) (site-byte new-form)) _ _ refl (fit-if B at (eqb (byte-at B at) 0x10) _ _ (linear-wide B (at + 1)) (fit-if B at (eqb (byte-at B at) 0x11) _ _ tt
     (fit-if B at (eqb (byte-at B at) 0x12) _ _ (linear-wide B (at + 1)) (fit-if B at (eqb (byte-at B at) 0x20) _ _ tt (fit-if B at (eqb (byte-at B at) 0x21) _ _ tt
     (fit-if B at (eqb (byte-at B at) 0x22) _ _ tt (fit-if B at (eqb (byte-at B at) 0x23) _ _ tt (fit-if B at (eqb (byte-at B at) 0x30) _ _ tt tt))))))))
 
@@ -362,7 +363,7 @@ positive (suc w) t = omega arith
 -- what stands at an offset, by cases
 pub by-reading : (B : List ℕ) (at : ℕ) (P : Read → Type 0) → P short → (at < length B → P unknown)
     → (1 ≤ width (byte-at B at) → at + width (byte-at B at) ≤ length B → P (whole (command-at B at))) → P (read-at B at)
-unfolding read-at
+unfolding read-in
 by-reading B at P a b c =
     let w = width (byte-at B at) in
     let r = if (ltb (length B) (at + w)) short (whole (command-at B at)) in
@@ -400,7 +401,7 @@ module _ (B : List ℕ) (k at : ℕ) (S : Site) (ok : In-range S) where
       (ih (s .stack) (s .given) (t .stack) (t .entries) (q .stacked) (q .entered) (subst (λ (s : Progress). judged (length B) s (behind B k at true) .number ≡ 0) same (d .1)))
 
   one-more : Accepted B S (behind B k at true) → (c : Command) → Fit B at c → Accepted B S (record { at = at; read = whole c } ∷ behind B k at (goes-on (whole c)))
-  unfolding judged load-on-with goes-on rules-of ended later-rules load-one-with bind result
+  unfolding judged-in load-on-with goes-on rules-in ended later-rules load-one-with bind result
   one-more ih (site m n a w) f K G X E u v e = broken 0 _ (judged-whole (first-broken (rule 1 true ∷ [])) at _ e .0)
   one-more ih (push-leaf p) f K G X E u v e = goes ih K G X E u v (push-leaf p) f e
   one-more ih (push-condition c) f K G X E u v e = goes ih K G X E u v (push-condition c) f e
@@ -417,13 +418,13 @@ module _ (B : List ℕ) (k at : ℕ) (S : Site) (ok : In-range S) where
   -- the reading at an offset, and those behind it
   one-reading : (at + width (byte-at B at) ≤ length B → 1 ≤ width (byte-at B at) → Accepted B S (behind B k at true))
       → Accepted B S (record { at = at; read = read-at B at } ∷ behind B k at (goes-on (read-at B at)))
-  unfolding judged
+  unfolding judged-in
   one-reading ih = by-reading B at (λ r. Accepted B S (record { at = at; read = r } ∷ behind B k at (goes-on r)))
       (λ K G X E u v e. refused 1 e) (λ _ K G X E u v e. refused 2 e) (λ w l. one-more (ih l w) (command-at B at) (fit B at))
 
 -- fuel for each byte that is left is enough
 accepted-from : (B : List ℕ) (S : Site) → In-range S → (k at : ℕ) → at ≤ length B → length B < at + k → Accepted B S (readings-from B k at)
-unfolding readings-from
+unfolding readings-from-in
 accepted-from B S ok zero at h l = absurd (omega arith)
 accepted-from B S ok (suc k) at h l = one-reading B k at S ok (λ m w. accepted-from B S ok k (at + width (byte-at B at)) m (omega arith))
 
@@ -433,7 +434,7 @@ accepted-from B S ok (suc k) at h l = one-reading B k at S ok (λ m w. accepted-
 abbrev pub loaded-entries : List ℕ → List Entry
 loaded-entries B = result (load-on (readings B) (record { stack = []; entries = [] })) .entries
 
-in-range : (S : Site) → first-broken (site-rules S) ≡ 0 → In-range S
+in-range : (S : Site) → first-broken (site-rules new-form S) ≡ 0 → In-range S
 unfolding site-rules
 in-range S e =
     let a = unbroken 3 _ _ e in
@@ -452,9 +453,9 @@ Begins B l = judged (length B) at-start l .number ≡ 0 → In-range (site-at B)
 
 first-command : (B : List ℕ) → 0 + width (byte-at B 0) ≤ length B → 1 ≤ width (byte-at B 0) → (c : Command) → Fit B 0 c
     → Begins B (record { at = 0; read = whole c } ∷ behind B (length B) 0 (goes-on (whole c)))
-unfolding judged load-on-with goes-on rules-of first-rules ended load-one-with bind result after Fit Stacked site-at
+unfolding judged-in load-on-with goes-on rules-in first-rules ended load-one-with bind result after Fit Stacked site-in
 first-command B h l (site m n a w) f e =
-    let d = judged-whole (first-broken (site-rules (site-of m n a w))) 0 _ e in
+    let d = judged-whole (first-broken (site-rules new-form (site-of m n a w))) 0 _ e in
     let ok = in-range (site-of m n a w) (d .0) in
     subst (λ (S : Site). In-range S × Complete S (result (load-on (behind B (length B) 0 true) (loaded [] [])) .entries)) f
     (ok, accepted-from B (site-of m n a w) ok (length B) (0 + width (byte-at B 0)) h (omega arith) [] [] [] [] tt (given-none (site-of m n a w)) (d .1))
@@ -467,13 +468,13 @@ first-command B h l end-model f e = broken 0 _ (judged-whole (first-broken (rule
 
 -- what a verdict of 0 gives of the site and of what is loaded
 pub accepted : (B : List ℕ) → verdict B .number ≡ 0 → In-range (site-at B) × Complete (site-at B) (loaded-entries B)
-unfolding verdict readings readings-from judged
+unfolding verdict-in readings-in readings-from-in judged-in
 accepted B = by-reading B 0 (λ r. Begins B (record { at = 0; read = r } ∷ behind B (length B) 0 (goes-on r)))
     (λ e. absurd (let z : _≡_ {A = ℕ} 2 0 = e in omega arith)) (λ _ e. absurd (let z : _≡_ {A = ℕ} 3 0 = e in omega arith)) (λ w h. first-command B h w (command-at B 0) (fit B 0))
 
 -- the model that bytes spell, of what is loaded
 pub model-loaded : (B : List ℕ) → model B ≡ model-of (site-at B) (loaded-entries B)
-unfolding model load-with result
+unfolding model-in load-in result
 model-loaded B = result-bind (load-on (readings B) (loaded [] [])) _
 
 -- ---- the model is valid

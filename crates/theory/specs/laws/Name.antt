@@ -10,8 +10,9 @@ use lib.Dec.{T, T-not, eqb, leb, eqb→eq, eqb-refl, leb→le, nleb→lt}
 use lib.ListN.{length, getD, take, drop, replicate, getD-replicate, replicate-append-replicate, length-drop}
 use lib.Seq.{take-suc, getD-take, length-take-le, getD-append-add}
 use Rattle.whole.specs.Cases.{if, by-test}
-use Rattle.theory.specs.Command.{Command, site, push-leaf, push-condition, push-test, name-action, end-model, Read, whole, unknown, short, Placed, byte-at, width, command-at, read-at, goes-on, readings-from, readings, give, Slot}
-use Rattle.theory.specs.Verdict.{Progress, Verdict, refusal, name-slot, same-slot, has-slot, first-broken, first-rules, later-rules, rules-of, after, judged, verdict, at-start}
+use Rattle.theory.specs.Form.{new-form, site-byte}
+use Rattle.theory.specs.Command.{Command, site, push-leaf, push-condition, push-test, name-action, end-model, Read, whole, unknown, short, Placed, byte-at, width, command-at, read-at, goes-on, readings-from, readings, give, Slot, command-in, readings-from-in, readings-in, width-in}
+use Rattle.theory.specs.Verdict.{Progress, Verdict, refusal, name-slot, same-slot, has-slot, first-broken, first-rules, later-rules, rules-of, after, judged, verdict, at-start, judged-in, rules-in, verdict-in}
 use Rattle.theory.specs.Name.{names-action, Part, no-part, trimmed, named-part, name-refusal, name-part}
 use Rattle.theory.specs.Rows.{NameRow, name-0, name-1-10, name-16, NamePartRow, name-given, name-empty, name-refused}
 use Rattle.theory.specs.laws.Rules.{or-left, or-right, same-self}
@@ -89,28 +90,28 @@ Spelt B at (push-leaf p) = Unit {0}
 Spelt B at (push-condition k) = Unit {0}
 Spelt B at (push-test p) = Unit {0}
 Spelt B at (give g) = Unit {0}
-Spelt B at (name-action a t) = (t ≡ take 16 (drop (at + 2) B)) × (width (byte-at B at) ≡ 18)
+Spelt B at (name-action a t) = (t ≡ take 16 (drop (at + 3) B)) × (width (byte-at B at) ≡ 19)
 Spelt B at end-model = Unit {0}
 
 spelt-if : (B : List ℕ) (at : ℕ) (b : Bool) (c d : Command) → Spelt B at c → Spelt B at d → Spelt B at (if b c d)
 spelt-if B at true c d f g = f
 spelt-if B at false c d f g = g
 
-spelt-name : (B : List ℕ) (at x : ℕ) → Spelt B at (if (eqb (byte-at B at) 0x30) (name-action x (take 16 (drop (at + 2) B))) end-model)
-unfolding width
-spelt-name B at x = by-test (eqb (byte-at B at) 0x30) (λ b. Spelt B at (if b (name-action x (take 16 (drop (at + 2) B))) end-model))
+spelt-name : (B : List ℕ) (at x : ℕ) → Spelt B at (if (eqb (byte-at B at) 0x30) (name-action x (take 16 (drop (at + 3) B))) end-model)
+unfolding width-in
+spelt-name B at x = by-test (eqb (byte-at B at) 0x30) (λ b. Spelt B at (if b (name-action x (take 16 (drop (at + 3) B))) end-model))
     (λ t. (refl, ap width (eqb→eq (byte-at B at) 0x30 t))) (λ _. tt)
 
 spelt : (B : List ℕ) (at : ℕ) → Spelt B at (command-at B at)
-unfolding command-at
+unfolding command-in
 spelt B at =
-    spelt-if B at (eqb (byte-at B at) 0x01) _ _ tt (spelt-if B at (eqb (byte-at B at) 0x10) _ _ tt (spelt-if B at (eqb (byte-at B at) 0x11) _ _ tt
+    spelt-if B at (eqb (byte-at B at) (site-byte new-form)) _ _ tt (spelt-if B at (eqb (byte-at B at) 0x10) _ _ tt (spelt-if B at (eqb (byte-at B at) 0x11) _ _ tt
     (spelt-if B at (eqb (byte-at B at) 0x12) _ _ tt (spelt-if B at (eqb (byte-at B at) 0x20) _ _ tt (spelt-if B at (eqb (byte-at B at) 0x21) _ _ tt
     (spelt-if B at (eqb (byte-at B at) 0x22) _ _ tt (spelt-if B at (eqb (byte-at B at) 0x23) _ _ tt (spelt-name B at _))))))))
 
--- a name command that is read: its bytes stand from two behind its offset on, inside the model
-pub name-bytes-at : (B : List ℕ) (at a : ℕ) (t : List ℕ) → read-at B at ≡ whole (name-action a t) → (t ≡ take 16 (drop (at + 2) B)) × (at + 18 ≤ length B)
-name-bytes-at B at a t e = by-read B at (λ r. r ≡ whole (name-action a t) → (t ≡ take 16 (drop (at + 2) B)) × (at + 18 ≤ length B))
+-- a name command that is read: its bytes stand from three behind its offset on, inside the model
+pub name-bytes-at : (B : List ℕ) (at a : ℕ) (t : List ℕ) → read-at B at ≡ whole (name-action a t) → (t ≡ take 16 (drop (at + 3) B)) × (at + 19 ≤ length B)
+name-bytes-at B at a t e = by-read B at (λ r. r ≡ whole (name-action a t) → (t ≡ take 16 (drop (at + 3) B)) × (at + 19 ≤ length B))
     (λ _ e. absurd (let z : _≡_ {A = ℕ} 0 1 = cc in omega arith))
     (λ _ _ e. absurd (let z : _≡_ {A = ℕ} 0 1 = cc in omega arith))
     (λ _ _ _ e. absurd (let z : _≡_ {A = ℕ} 0 1 = cc in omega arith))
@@ -123,7 +124,7 @@ name-bytes-at B at a t e = by-read B at (λ r. r ≡ whole (name-action a t) →
 -- ---- the readings
 
 read-there : (B : List ℕ) (k at : ℕ) (x : Placed) → List·Memᴰ x (readings-from B k at) → x .read ≡ read-at B (x .at)
-unfolding readings-from
+unfolding readings-from-in
 read-there B zero at x m = absurd (List·Memᴰ·not-nil m)
 read-there B (suc k) at x m = ⊎-elim
     (λ i. rw i refl)
@@ -136,10 +137,10 @@ read-there B (suc k) at x m = ⊎-elim
 
 -- what has been given stays given, once the site is there
 stays : (g : Slot) (s : Progress) (c : Command) → first-broken (rules-of s c) ≡ 0 → T (s .begun) → T (has-slot g (s .given)) → T (after s c .begun) × T (has-slot g (after s c .given))
-unfolding after has-slot rules-of later-rules
+unfolding after has-slot rules-in later-rules
 stays g s (site m n a w) e b t = go (s .begun) e b
   where
-    go : {C : Type 0} (b : Bool) → first-broken (if b (later-rules (s .site) (s .stack) (s .given) (site m n a w)) (first-rules (site m n a w))) ≡ 0 → T b → C
+    go : {C : Type 0} (b : Bool) → first-broken (if b (later-rules (s .site) (s .stack) (s .given) (site m n a w)) (first-rules new-form (site m n a w))) ≡ 0 → T b → C
     go true e b = broken 0 _ e
     go false e b = absurd b
 stays g s (push-leaf p) e b t = (b, t)
@@ -171,7 +172,7 @@ module _ (B : List ℕ) (a : ℕ) where
 
   -- the first that names the action, or none does
   abbrev Found : List Placed → Type 0
-  Found l = ((at : ℕ) × ((t : List ℕ) × (List·Memᴰ (naming at t) l × (named-part B a l ≡ record { start = at + 2; size = trimmed (drop (at + 2) B) 16 }))))
+  Found l = ((at : ℕ) × ((t : List ℕ) × (List·Memᴰ (naming at t) l × (named-part B a l ≡ record { start = at + 3; size = trimmed (drop (at + 3) B) 16 }))))
       ⊎ ((named-part B a l ≡ no-part) × ((at : ℕ) (t : List ℕ) → List·Memᴰ (naming at t) l → ⊥))
 
   found : (l : List Placed) → Found l
@@ -182,7 +183,7 @@ module _ (B : List ℕ) (a : ℕ) where
       let d = named-by (x .read) t in
       inl (x .at, (d .0, (List·Memᴰ·head (sym (λ i. record { at = x .at; read = d .1 i })), if-yes (names-action a (x .read)) _ (named-part B a l) t))))
       (λ n e.
-      let same = if-no (names-action a (x .read)) (record { start = x .at + 2; size = trimmed (drop (x .at + 2) B) 16 }) (named-part B a l) n in
+      let same = if-no (names-action a (x .read)) (record { start = x .at + 3; size = trimmed (drop (x .at + 3) B) 16 }) (named-part B a l) n in
       ⊎-elim
       (λ d. inl (d .0, (d .1 .0, (List·Memᴰ·tail (d .1 .1 .0), same ∙ d .1 .1 .1))))
       (λ d. inr (
@@ -198,10 +199,10 @@ module _ (B : List ℕ) (a : ℕ) where
 
   -- a name command that breaks nothing: the site is there, and the action has no name yet
   name-rules : (s : Progress) (t : List ℕ) → first-broken (rules-of s (name-action a t)) ≡ 0 → T (s .begun) × T (not (has-slot (name-slot a) (s .given)))
-  unfolding rules-of later-rules first-rules
+  unfolding rules-in later-rules first-rules
   name-rules s t = go (s .begun)
     where
-      go : (b : Bool) → first-broken (if b (later-rules (s .site) (s .stack) (s .given) (name-action a t)) (first-rules (name-action a t))) ≡ 0 → T b × T (not (has-slot (name-slot a) (s .given)))
+      go : (b : Bool) → first-broken (if b (later-rules (s .site) (s .stack) (s .given) (name-action a t)) (first-rules new-form (name-action a t))) ≡ 0 → T b × T (not (has-slot (name-slot a) (s .given)))
       go true e = (tt, unbroken 5 _ _ (unbroken 3 _ _ (unbroken 3 _ _ e .1) .1) .0)
       go false e = broken 0 _ e
 
@@ -211,13 +212,13 @@ module _ (B : List ℕ) (a : ℕ) where
 
   -- the first of some is c, which breaks nothing
   first-kept : (k p : ℕ) (s : Progress) (c : Command) → judged (length B) s (from k p (whole c)) .number ≡ 0 → first-broken (rules-of s c) ≡ 0
-  unfolding judged
+  unfolding judged-in
   first-kept k p s c e = judged-whole (first-broken (rules-of s c)) p _ e .0
 
   -- and the others are accepted behind it
   others-kept : (k p : ℕ) (s : Progress) (c : Command) → T (goes-on (whole c)) → judged (length B) s (from k p (whole c)) .number ≡ 0
       → judged (length B) (after s c) (readings-from B k (p + width (byte-at B p))) .number ≡ 0
-  unfolding judged
+  unfolding judged-in
   others-kept k p s c g e = ap (λ (v : Verdict). v .number) (sym (ended-going B k p s c g)) ∙ judged-whole (first-broken (rules-of s c)) p _ e .1
 
   -- one of those behind a command, if any is there
@@ -231,7 +232,7 @@ module _ (B : List ℕ) (a : ℕ) where
   -- what is read of an accepted model is whole
   by-whole : (k p : ℕ) (s : Progress) (P : Read → Type 0) → ((c : Command) → judged (length B) s (from k p (whole c)) .number ≡ 0 → P (whole c))
       → (r : Read) → judged (length B) s (from k p r) .number ≡ 0 → P r
-  unfolding judged
+  unfolding judged-in
   by-whole k p s P f (whole c) e = f c e
   by-whole k p s P f unknown e = absurd (let z : _≡_ {A = ℕ} 3 0 = e in omega arith)
   by-whole k p s P f short e = absurd (let z : _≡_ {A = ℕ} 2 0 = e in omega arith)
@@ -239,7 +240,7 @@ module _ (B : List ℕ) (a : ℕ) where
   -- an action that has a name is not named again
   not-again : (k p : ℕ) (s : Progress) → T (s .begun) → T (has-slot (name-slot a) (s .given)) → judged (length B) s (readings-from B k p) .number ≡ 0
       → (at : ℕ) (t : List ℕ) → List·Memᴰ (naming at t) (readings-from B k p) → ⊥
-  unfolding readings-from
+  unfolding readings-from-in
   not-again zero p s b h e at t m = List·Memᴰ·not-nil m
   not-again (suc k) p s b h e at t m = by-whole k p s (λ r. List·Memᴰ (naming at t) (from k p r) → ⊥)
       (λ c e m. ⊎-elim
@@ -263,7 +264,7 @@ module _ (B : List ℕ) (a : ℕ) where
   -- two commands that name it are one
   named-once : (k p : ℕ) (s : Progress) → judged (length B) s (readings-from B k p) .number ≡ 0
       → (at : ℕ) (t : List ℕ) → List·Memᴰ (naming at t) (readings-from B k p) → (x : ℕ) (u : List ℕ) → List·Memᴰ (naming x u) (readings-from B k p) → at ≡ x
-  unfolding readings-from
+  unfolding readings-from-in
   named-once zero p s e at t m x u n = absurd (List·Memᴰ·not-nil m)
   named-once (suc k) p s e at t m x u n = by-whole k p s (λ r. List·Memᴰ (naming at t) (from k p r) → List·Memᴰ (naming x u) (from k p r) → at ≡ x)
       (λ c e m n. ⊎-elim
@@ -276,16 +277,16 @@ module _ (B : List ℕ) (a : ℕ) where
       (read-at B p) e m n
 
   -- the bytes that a name command has, inside the model
-  bytes-there : (at : ℕ) (t : List ℕ) → List·Memᴰ (naming at t) (readings B) → (t ≡ take 16 (drop (at + 2) B)) × (16 ≤ length (drop (at + 2) B))
-  unfolding readings
+  bytes-there : (at : ℕ) (t : List ℕ) → List·Memᴰ (naming at t) (readings B) → (t ≡ take 16 (drop (at + 3) B)) × (16 ≤ length (drop (at + 3) B))
+  unfolding readings-in
   bytes-there at t m =
       let b = name-bytes-at B at a t (sym (read-there B (suc (length B)) 0 (naming at t) m)) in
-      (b .0, omega (arith, length-drop (at + 2) B, b .1))
+      (b .0, omega (arith, length-drop (at + 3) B, b .1))
 
   given-row : NameRow B a (refusal 0 0) → NamePartRow B a (named-part B a (readings B))
   given-row r = ⊎-elim
       (λ d.
-      let l = drop (d .0 + 2) B in
+      let l = drop (d .0 + 3) B in
       let b = bytes-there (d .0) (d .1 .0) (d .1 .1 .0) in
       rw (d .1 .1 .1) (name-given {t = d .1 .0} r (d .1 .1 .0) (trimmed-most l 16) (trimmed-spaces l 16 (b .1) ∙ sym (b .0)) (trimmed-last l 16)))
       (λ d. rw (d .0) (name-empty r (d .1)))
@@ -311,16 +312,16 @@ module _ (B : List ℕ) (a : ℕ) where
 
   -- a name's part is each of its rows
   pub name-part-is : {p : Part} → NamePartRow B a p → name-part B a ≡ p
-  unfolding name-part verdict readings
+  unfolding name-part verdict-in readings-in
   name-part-is (name-given {at = at} {size = size} {t = t} r m h e l) = name-found r ∙ ⊎-elim
       (λ d.
       let i : d .0 ≡ at = named-once (suc (length B)) 0 at-start (accepted-name r refl) (d .0) (d .1 .0) (d .1 .1 .0) at t m in
       let b = bytes-there at t m in
-      let y = drop (at + 2) B in
+      let y = drop (at + 3) B in
       let own : Trims y 16 (trimmed y 16) = (trimmed-most y 16, (trimmed-spaces y 16 (b .1), trimmed-last y 16)) in
       let stated : Trims y 16 size = (h, (e ∙ b .0, l)) in
-      d .1 .1 .1 ∙ ap (λ (x : ℕ). record { start = x + 2; size = trimmed (drop (x + 2) B) 16 }) i
-      ∙ (λ j. record { start = at + 2; size = le-antisymm (trims-most y 16 (b .1) size (trimmed y 16) stated own) (trims-most y 16 (b .1) (trimmed y 16) size own stated) j }))
+      d .1 .1 .1 ∙ ap (λ (x : ℕ). record { start = x + 3; size = trimmed (drop (x + 3) B) 16 }) i
+      ∙ (λ j. record { start = at + 3; size = le-antisymm (trims-most y 16 (b .1) size (trimmed y 16) stated own) (trims-most y 16 (b .1) (trimmed y 16) size own stated) j }))
       (λ d. absurd (d .1 at t m))
       (found (readings B))
   name-part-is (name-empty r f) = name-found r ∙ ⊎-elim (λ d. absurd (f (d .0) (d .1 .0) (d .1 .1 .0))) (λ d. d .0) (found (readings B))

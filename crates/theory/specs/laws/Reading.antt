@@ -15,14 +15,14 @@ use Rattle.whole.specs.Cases.{if, by-test, both, is-true}
 use Rattle.whole.specs.Int.{up, ring}
 use Rattle.whole.specs.Numerator.{words}
 use Rattle.theory.specs.Widths.{steps-most}
-use Rattle.theory.specs.Diagram.{Linear, Test, now, later, linear, Leaf, Tree, leaf, branch, cmpZ, zeros}
+use Rattle.theory.specs.Diagram.{Linear, Test, now, later, linear, Leaf, Tree, leaf, branch, cmpZ, zeros, padded}
 use Rattle.theory.specs.Computation.{member}
 use Rattle.theory.specs.Rules.{zero-leaf}
 use Rattle.theory.specs.Meaning.{Env, nth, env, dot, value, holds, at, worth-at}
 use Rattle.theory.specs.Valid.{all, all-nodes, good-test, stage-leaf}
 use Rattle.theory.specs.Verdict.{Verdict}
 use Rattle.theory.specs.Load.{site-at}
-use Rattle.theory.specs.Solve.{number-of, rows, row, test-words, padded, table-of, solved-nodes, solved-stages, early}
+use Rattle.theory.specs.Solve.{number-of, rows, row, test-words, table-of, solved-nodes, solved-stages, early}
 use Rattle.theory.specs.Value.{Asked, accepted, bits, state-of, node-word, node-linear, high-of, good-row, numerator-of, taken, walk, ValueOut, refused-value, value-at, value-of}
 use Rattle.theory.specs.Listing.{greatest-root}
 use Rattle.theory.specs.laws.Comps.{cmpZ-eq}

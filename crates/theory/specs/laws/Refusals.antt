@@ -11,7 +11,7 @@ use Rattle.theory.specs.Diagram.{Tree}
 use Rattle.theory.specs.Computation.{Comp, result, Out, done, stopped, run, enter-all, Ops, end, operation, and-then, final, Solved, solved, refused, run-all}
 use Rattle.theory.specs.Meaning.{Action, Model}
 use Rattle.theory.specs.Stage.{sum-out, action-total, best-on, stage-over, stages-on, stages-over-end, all-stages, model-diagrams}
-use Rattle.theory.specs.Load.{load, model}
+use Rattle.theory.specs.Load.{load, model, model-in}
 use Rattle.theory.specs.Solve.{solve-in}
 use Rattle.theory.specs.Events.{events, needed, Refused, Passes, RefusedAt, here, later, PassesAll, peak-of, Chained}
 use Rattle.theory.specs.laws.Events.{run-passes, run-refused, run-cases, stopped-number, refused-eleven-twelve, exceeds}
@@ -151,7 +151,7 @@ run-all-peak N p X m a peak g l h e =
 
 module _ (N : ℕ) (B : List ℕ) (H : ℕ) where
   pub solve-loaded : Passes N [] (events (load B)) → solve-in N B H ≡ run-all N (length (loaded B)) (all-stages (model B) H)
-  unfolding solve-in model
+  unfolding solve-in model-in
   solve-loaded p = ap (λ (o : Out Model). elim o [ done M X ↦ run-all N (length X) (all-stages M H) | stopped r ↦ refused r 0 ]) (run-passes N (load B) [] p)
 
   pub solve-stopped : (r : ℕ) → run N (load B) [] ≡ stopped r → solve-in N B H ≡ refused r 0

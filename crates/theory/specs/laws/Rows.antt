@@ -21,9 +21,9 @@ use Rattle.theory.specs.Process.{lowest-best}
 use Rattle.theory.specs.Meaning.{Action, Model, State, nth, process}
 use Rattle.theory.specs.Stage.{all-stages}
 use Rattle.theory.specs.Valid.{all, among, small-linear}
-use Rattle.theory.specs.Command.{Command, site, push-leaf, push-condition, push-test, name-action, end-model, Read, whole, unknown, short, byte-at, width, command-at, read-at, goes-on, readings-from, readings, give}
-use Rattle.theory.specs.Verdict.{Verdict, Site, refusal, Progress, first-broken, rules-of, after, ended, judged, at-start, verdict, from-to, or}
-use Rattle.theory.specs.Load.{site-at, load, model}
+use Rattle.theory.specs.Command.{Command, site, push-leaf, push-condition, push-test, name-action, end-model, Read, whole, unknown, short, byte-at, width, command-at, read-at, goes-on, readings-from, readings, give, read-in, readings-from-in, readings-in}
+use Rattle.theory.specs.Verdict.{Verdict, Site, refusal, Progress, first-broken, rules-of, after, ended, judged, at-start, verdict, from-to, or, judged-in, verdict-in}
+use Rattle.theory.specs.Load.{site-at, load, model, model-in}
 use Rattle.theory.specs.Solve.{room, solve-in, table-of, rows, SolveOut, solved-nodes, solve-left, early, solve}
 use Rattle.theory.specs.Value.{Asked, accepted, bits, numerator-of, state-of, node-word, node-linear, high-of, low-of, amongZ, good-branches, good-leaf-row, good-condition-row, good-test-row, good-row, taken, walk, ValueOut, refused-value, value-at, value-of}
 use Rattle.theory.specs.Plain.{Worth, is, over, better, try-actions, numbered, action-worth, state-worth, worth-out, if-true, plain-of}
@@ -84,7 +84,7 @@ module _ (B : List ℕ) where
   -- what is read at an offset, with why
   pub by-read : (at : ℕ) (P : Read → Type 0) → (length B ≤ at → P short) → (at < length B → width (byte-at B at) ≡ 0 → P unknown)
       → (at < length B → 1 ≤ width (byte-at B at) → length B < at + width (byte-at B at) → P short) → (Whole B at → P (whole (command-at B at))) → P (read-at B at)
-  unfolding read-at
+  unfolding read-in
   by-read at P a b c d =
       let w = width (byte-at B at) in
       let r = if (ltb (length B) (at + w)) short (whole (command-at B at)) in
@@ -117,7 +117,7 @@ module _ (B : List ℕ) where
   past-row at s m e = subst (λ (p : ℕ). Comes B p s → VerdictRow B (refusal 2 p)) e verdict-2-end m
 
   judged-row : (k at : ℕ) (s : Progress) → Comes B at s → at ≤ length B → length B < at + k → VerdictRow B (judged (length B) s (readings-from B k at))
-  unfolding readings-from judged
+  unfolding readings-from-in judged-in
   judged-row zero at s m h l = absurd (omega arith)
   judged-row (suc k) at s m h l = by-read at (λ r. VerdictRow B (judged (length B) s (record { at = at; read = r } ∷ behind B k at (goes-on r))))
       (λ g. past-row at s m (omega arith))
@@ -134,7 +134,7 @@ module _ (B : List ℕ) where
       (by-rules (rules-of s c) (asks-of s c) (rules-agree s c)))
 
   pub verdict-row : VerdictRow B (verdict B)
-  unfolding verdict readings
+  unfolding verdict-in readings-in
   verdict-row = judged-row (suc (length B)) 0 at-start comes-first (omega arith) (omega arith)
 
   -- ---- a row decides
@@ -147,7 +147,7 @@ module _ (B : List ℕ) where
       (λ g e f. absurd (omega (arith, w .inside))) (λ _. refl)
 
   judged-whole : (k at : ℕ) (s : Progress) → Whole B at → judged (length B) s (readings-from B (suc k) at) ≡ from k at s (whole (command-at B at))
-  unfolding readings-from
+  unfolding readings-from-in
   judged-whole k at s w = ap (from k at s) (read-whole at w)
 
   pub ended-going : (k at : ℕ) (s : Progress) (c : Command) → T (goes-on (whole c))
@@ -163,7 +163,7 @@ module _ (B : List ℕ) where
 
   kept-judged : (k at : ℕ) (s : Progress) (c : Command) → Keeps (asks-of s c)
       → from k at s (whole c) ≡ ended (length B) at c (judged (length B) (after s c) (behind B k at (goes-on (whole c))))
-  unfolding judged
+  unfolding judged-in
   kept-judged k at s c f =
       let n = first-broken (rules-of s c) in
       if-yes (eqb n 0) _ (refusal n at) (zero-is n (kept-zero (rules-of s c) (asks-of s c) (rules-agree s c) f))
@@ -187,12 +187,12 @@ module _ (B : List ℕ) where
   )
 
   reaches : {at : ℕ} {s : Progress} → Comes B at s → Reaches at s
-  unfolding verdict readings
+  unfolding verdict-in readings-in
   reaches comes-first = (suc (length B), (omega arith, (omega arith, refl)))
   reaches (comes-next {at = at} {s = s} m w f n) = let r = reaches m in onward (r .0) at s w f n (r .1 .1 .0) (r .1 .1 .1)
 
   here : {at : ℕ} {s : Progress} → Comes B at s → (k : ℕ) × (verdict B ≡ from k at s (read-at B at))
-  unfolding readings-from
+  unfolding readings-from-in
   here {at} {s} m = let r = reaches m in go (r .0) (r .1 .0) (r .1 .1 .0) (r .1 .1 .1)
     where
       go : (k : ℕ) → at ≤ length B → length B < at + k → verdict B ≡ judged (length B) s (readings-from B k at) → (k : ℕ) × (verdict B ≡ from k at s (read-at B at))
@@ -207,7 +207,7 @@ module _ (B : List ℕ) where
 
   -- the verdict is each of its rows
   pub verdict-is : {v : Verdict} → VerdictRow B v → verdict B ≡ v
-  unfolding judged
+  unfolding judged-in
   verdict-is (verdict-0 {at = at} d e) = end-verdict at d ∙ by-test (ltb (at + 1) (length B)) (λ b. if b (refusal 8 (at + 1)) (refusal 0 0) ≡ refusal 0 0)
       (λ t. absurd (omega (arith, ltb→lt (at + 1) (length B) t))) (λ _. refl)
   verdict-is (verdict-8 {at = at} d l) = end-verdict at d ∙ by-test (ltb (at + 1) (length B)) (λ b. if b (refusal 8 (at + 1)) (refusal 0 0) ≡ refusal 8 (at + 1))
@@ -364,7 +364,7 @@ nodes-length size S h =
 
 -- the stages of a solve are run as operations of the model that the bytes spell
 pub solve-runs : (N : ℕ) (B : List ℕ) (H : ℕ) (S : List Tree) (peak : ℕ) → solve-in N B H ≡ solved S peak → (p : ℕ) × (run-all N p (all-stages (model B) H) ≡ solved S peak)
-unfolding solve-in model
+unfolding solve-in model-in
 solve-runs N B H S peak = go (run N (load B) []) refl
   where
     go : (o : Out Model) → run N (load B) [] ≡ o → elim o [ done M X ↦ run-all N (length X) (all-stages M H) | stopped r ↦ refused r 0 ] ≡ solved S peak

@@ -10,8 +10,9 @@ use lib.ListN.{length, drop}
 use Rattle.whole.specs.Cases.{if, by-test, both, and-in, not-not}
 use Rattle.theory.specs.Diagram.{Linear, zeros}
 use Rattle.theory.specs.Valid.{all, among}
+use Rattle.theory.specs.Form.{new-form}
 use Rattle.theory.specs.Command.{Command, site, push-leaf, push-condition, push-test, give, name-action, end-model, Slot}
-use Rattle.theory.specs.Verdict.{Site, Facts, Progress, Rule, rule, first-broken, same-slot, has-slot, reward-slot, chance-slot, level-slot, end-slot, from-to, wanted-by, or, beyond, next-condition, printable, of-site, may-be, top, wanted, site-rules, first-rules, later-rules, rules-of}
+use Rattle.theory.specs.Verdict.{Site, Facts, Progress, Rule, rule, first-broken, same-slot, has-slot, reward-slot, chance-slot, level-slot, end-slot, from-to, wanted-by, or, beyond, next-condition, printable, of-site, may-be, top, wanted, site-rules, first-rules, later-rules, rules-of, rules-in}
 use Rattle.theory.specs.Rows.{Rules, AllGiven, OfSite, MayBe, none, asks, Keeps, Breaks, Range, first-asks, later-asks, asks-of}
 use Rattle.theory.specs.laws.Loading.{from-all, wanted-each}
 use Rattle.theory.specs.laws.Valid.{among-in, among-out}
@@ -280,9 +281,9 @@ n7 = omega arith
 only-first : Agree (rule 1 true ∷ []) (asks 1 ⊥ none)
 only-first = (refl, (n1, (says-never, tt)))
 
-first-agree : (c : Command) → Agree (first-rules c) (first-asks c)
+first-agree : (c : Command) → Agree (first-rules new-form c) (first-asks c)
 unfolding first-rules site-rules
-first-agree (site m n a w) = (refl, (n4, (says-among 4 m, (refl, (n4, (says-below 4 n, (refl, (n4, (says-among 8 a, (refl, (n4, (says-among 100 w, tt))))))))))))
+first-agree (site m n a w) = (refl, (n4, (says-among 8 m, (refl, (n4, (says-below 4 n, (refl, (n4, (says-among 400 a, (refl, (n4, (says-among 100 w, tt))))))))))))
 first-agree (push-leaf p) = only-first
 first-agree (push-condition k) = only-first
 first-agree (push-test p) = only-first
@@ -302,9 +303,9 @@ later-agree S K G end-model = (refl, (n7, (says-given S G, (refl, (n7, (says-emp
 
 -- the rules of a command are what 01 asks of it
 pub rules-agree : (s : Progress) (c : Command) → Agree (rules-of s c) (asks-of s c)
-unfolding rules-of
+unfolding rules-in
 rules-agree s c = go (s .begun)
   where
-    go : (b : Bool) → Agree (if b (later-rules (s .site) (s .stack) (s .given) c) (first-rules c)) (elim b [ true ↦ later-asks (s .site) (s .stack) (s .given) c | false ↦ first-asks c ])
+    go : (b : Bool) → Agree (if b (later-rules (s .site) (s .stack) (s .given) c) (first-rules new-form c)) (elim b [ true ↦ later-asks (s .site) (s .stack) (s .given) c | false ↦ first-asks c ])
     go true = later-agree (s .site) (s .stack) (s .given) c
     go false = first-agree c

@@ -6,15 +6,15 @@ use Prim.Native.Nat.{ℕ, zero, suc, _+_, _-_, _*_, _≤_, _<_}
 use native.Mathlib.Omega.{arith}
 use lib.Dec.{T, eqb, leb, le→leb}
 use lib.IntN.{ℤ, pos, negsuc}
-use lib.ListN.{length, getD, take, drop, length-append, List·getD-append}
-use lib.Seq.{getD-drop, drop-drop, drop-append-le, drop-append-add, take-append-le}
+use lib.ListN.{length, getD, take, drop, length-append, length-drop, List·getD-append}
+use lib.Seq.{getD-drop, drop-drop, drop-append-le, drop-append-add, take-append-le, take-length, getD-append-add}
 use Rattle.whole.specs.Cases.{if, both, and-in}
 use Rattle.theory.specs.Widths.{levels-most, node-words}
-use Rattle.theory.specs.Diagram.{Linear, Test, now, later, linear, Leaf, Tree, leaf, branch, zeros}
+use Rattle.theory.specs.Diagram.{Linear, Test, now, later, linear, Leaf, Tree, leaf, branch, zeros, padded}
 use Rattle.theory.specs.Computation.{member}
 use Rattle.theory.specs.Rules.{zero-leaf}
 use Rattle.theory.specs.Valid.{all-nodes, among, small-linear, wide, good-test, stage-leaf}
-use Rattle.theory.specs.Solve.{number-of, padded, test-words, row, rows}
+use Rattle.theory.specs.Solve.{number-of, test-words, row, rows}
 use Rattle.theory.specs.Value.{node-word, node-linear, high-of, low-of, amongZ, good-branches, good-leaf-row, good-condition-row, good-test-row, good-row}
 use Rattle.theory.specs.laws.Nodes.{parts}
 use Rattle.theory.specs.laws.Valid.{among-in, wide-long, wide-small}
@@ -46,13 +46,13 @@ as-words p = record { coeffs = padded levels-most (p .coeffs); const = p .const 
 wide-as : (p : Linear) → T (wide p) → as-words p ≡ p
 wide-as p t = λ i. record { coeffs = padded-full levels-most (p .coeffs) (wide-long p t) i; const = p .const }
 
-pub test-length : (t : Test) → length (test-words t) ≡ 6
+pub test-length : (t : Test) → length (test-words t) ≡ levels-most + 2
 unfolding test-words padded
 test-length (now k) = refl
 test-length (later k) = refl
 test-length (linear p) = simp (length-append, length-padded)
 
--- "Nodes are eight signed 64-bit words"
+-- "A node is twelve 64-bit words"
 pub row-length : (X : List Tree) (t : Tree) → length (row X t) ≡ node-words
 unfolding row
 row-length X (leaf f) = simp (length-append, length-padded)
@@ -95,30 +95,39 @@ pub record Shows (W : List ℤ) (r : ℕ) (k : ℤ) (p : Linear) (h l : ℤ) : T
   pub high : high-of W r ≡ h
   pub low : low-of W r ≡ l
 
-four : (P : List ℤ → Type 0) → ((a b c d : ℤ) → P (a ∷ b ∷ c ∷ d ∷ [])) → (l : List ℤ) → length l ≡ levels-most → P l
-four P f [] e = absurd (omega arith)
-four P f (a ∷ []) e = absurd (omega arith)
-four P f (a ∷ b ∷ []) e = absurd (omega arith)
-four P f (a ∷ b ∷ c ∷ []) e = absurd (omega arith)
-four P f (a ∷ b ∷ c ∷ d ∷ []) e = f a b c d
-four P f (a ∷ b ∷ c ∷ d ∷ x ∷ l) e = absurd (omega arith)
+-- a row: kind, coefficients, constant, high, low
+abbrev row-words : ℤ → List ℤ → ℤ → ℤ → ℤ → List ℤ
+row-words k cs c h l = k ∷ ((cs ++ (c ∷ [])) ++ (h ∷ l ∷ []))
 
-abbrev eight : ℤ → List ℤ → ℤ → ℤ → ℤ → List ℤ
-eight k cs c h l = k ∷ ((cs ++ (c ∷ [])) ++ (h ∷ l ∷ []))
+module _ (k c h l : ℤ) (cs : List ℤ) where
+  row-behind : row-words k cs c h l ≡ (k ∷ cs) ++ (c ∷ h ∷ l ∷ [])
+  row-behind = ap (λ (r : List ℤ). k ∷ r) (append-assoc cs (c ∷ []) (h ∷ l ∷ []))
 
-shows : (W : List ℤ) (r : ℕ) (k c h l : ℤ) (cs : List ℤ) → length cs ≡ levels-most → Has W r (eight k cs c h l) → Shows W r k (record { coeffs = cs; const = c }) h l
+  -- the constant, high and low stand behind the coefficients
+  behind-coeffs : (j : ℕ) → getD (row-words k cs c h l) (suc (length cs) + j) (pos 0) ≡ getD (c ∷ h ∷ l ∷ []) j (pos 0)
+  behind-coeffs j = ap (λ (r : List ℤ). getD r (suc (length cs) + j) (pos 0)) row-behind ∙ getD-append-add (k ∷ cs) (c ∷ h ∷ l ∷ []) j (pos 0)
+
+  row-size : length (row-words k cs c h l) ≡ length cs + 4
+  row-size = ap length row-behind ∙ length-append (k ∷ cs) (c ∷ h ∷ l ∷ []) ∙ omega arith
+
+  row-coeffs : take (length cs) (drop 1 (row-words k cs c h l)) ≡ cs
+  row-coeffs = ap (take (length cs)) (append-assoc cs (c ∷ []) (h ∷ l ∷ [])) ∙ take-append-le (length cs) cs (c ∷ h ∷ l ∷ []) (omega arith) ∙ take-length cs
+
+shows : (W : List ℤ) (r : ℕ) (k c h l : ℤ) (cs : List ℤ) → length cs ≡ levels-most → Has W r (row-words k cs c h l) → Shows W r k (record { coeffs = cs; const = c }) h l
 unfolding node-linear
-shows W r k c h l = four (λ cs. Has W r (eight k cs c h l) → Shows W r k (record { coeffs = cs; const = c }) h l)
-    (λ x y z u a.
-    let w : List ℤ = eight k (x ∷ y ∷ z ∷ u ∷ []) c h l in
+shows W r k c h l cs e a =
+    let w : List ℤ = row-words k cs c h l in
+    let size = row-size k c h l cs in
+    let word : (j : ℕ) → j < 3 → node-word W r (levels-most + 1 + j) ≡ getD (c ∷ h ∷ l ∷ []) j (pos 0) =
+    λ j b. has-word W r w a (levels-most + 1 + j) (omega (arith, size)) ∙ (ap (λ (n : ℕ). getD w (suc n + j) (pos 0)) (sym e) ∙ behind-coeffs k c h l cs j) in
+    let part : take levels-most (drop ((r - 1) * node-words + 1) W) ≡ cs =
+    has-part W r w a 1 levels-most (omega (arith, size)) (omega (arith, size, length-drop 1 w)) ∙ (ap (λ (n : ℕ). take n (drop 1 w)) (sym e) ∙ row-coeffs k c h l cs) in
     record {
-      kind = has-word W r w a 0 (omega arith);
-      numbers = λ i. record { coeffs = has-part W r w a 1 4 (omega arith) (omega arith) i; const = has-word W r w a 5 (omega arith) i };
-      high = has-word W r w a 6 (omega arith);
-      low = has-word W r w a 7 (omega arith);
-    })
-
--- ---- the nodes of a table
+      kind = has-word W r w a 0 (omega (arith, size));
+      numbers = λ i. record { coeffs = part i; const = word 0 (omega arith) i };
+      high = word 1 (omega arith);
+      low = word 2 (omega arith);
+    }
 
 among-amongZ : (n k : ℕ) → T (among n k) → T (amongZ n (pos k))
 unfolding amongZ among
@@ -161,7 +170,7 @@ module _ (X : List Tree) (tail : List ℤ) where
   number-in t = pos (number-of t X)
 
   pub condition-shows : (k : ℕ) (h l : Tree) → member (branch (now k) h l) X ≡ true
-      → Shows laid (number-of (branch (now k) h l) X) (pos 1) (record { coeffs = pos k ∷ pos 0 ∷ pos 0 ∷ pos 0 ∷ []; const = pos 0 }) (number-in h) (number-in l)
+      → Shows laid (number-of (branch (now k) h l) X) (pos 1) (record { coeffs = padded levels-most (pos k ∷ []); const = pos 0 }) (number-in h) (number-in l)
   unfolding row test-words padded
   condition-shows k h l m =
       shows laid (number-of (branch (now k) h l) X) (pos 1) (pos 0) (number-in h) (number-in l) (padded levels-most (pos k ∷ [])) refl (node-has (branch (now k) h l) m)
