@@ -18,7 +18,7 @@ fn line(text: &[u8]) {
         report::line(text);
         return;
     }
-    let mut room = [0u8; 1024];
+    let mut room = [0u8; 2048];
     judge(&text[..k], &text[k..], &mut room);
 }
 

@@ -27,8 +27,9 @@ fn cut(of: &[u8], input: &[u8], n: usize, action: u32) {
 
 fn cases(input: &[u8]) {
     all(b"named", input);
-    cut(b"without end", input, 377, 1);
-    cut(b"cut in a command", input, 24, 2);
+    show(b"named", input, 257);
+    cut(b"without end", input, 587, 1);
+    cut(b"cut in a command", input, 26, 2);
     cut(b"empty", input, 0, 1);
 }
 

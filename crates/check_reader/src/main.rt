@@ -7,16 +7,16 @@ use hex_text::find;
 use hex_text::report;
 use libc::STDIN_FILENO;
 
-// A command's byte and its operands of one byte, 0 where it has fewer; byte 0 for an unknown one, 2 for one that is cut.
+// A command's byte and its operands of one or two bytes, 0 where it has fewer; byte 0 for an unknown one, 1 for one that is cut.
 struct Row {
     byte: u8,
-    first: u8,
-    second: u8,
-    third: u8,
-    fourth: u8,
+    first: u16,
+    second: u16,
+    third: u16,
+    fourth: u16,
 }
 
-fn row_of(byte: u8, first: u8, second: u8, third: u8, fourth: u8) -> Row {
+fn row_of(byte: u8, first: u16, second: u16, third: u16, fourth: u16) -> Row {
     Row {
         byte,
         first,
@@ -29,12 +29,18 @@ fn row_of(byte: u8, first: u8, second: u8, third: u8, fourth: u8) -> Row {
 fn command_row(c: Command) -> Row {
     match c {
         Command::Site(levels, conditions, actions, weights) => {
-            row_of(0x01, levels, conditions, actions, weights)
+            row_of(
+                0x02,
+                levels as u16,
+                conditions as u16,
+                actions,
+                weights as u16,
+            )
         }
         Command::Leaf => row_of(0x10, 0, 0, 0, 0),
-        Command::Condition(k) => row_of(0x11, k, 0, 0, 0),
+        Command::Condition(k) => row_of(0x11, k as u16, 0, 0, 0),
         Command::Test => row_of(0x12, 0, 0, 0, 0),
-        Command::Give(byte, action, index) => row_of(byte, action, index, 0, 0),
+        Command::Give(byte, action, index) => row_of(byte, action, index as u16, 0, 0),
         Command::Name(action) => row_of(0x30, action, 0, 0, 0),
         Command::End => row_of(0xff, 0, 0, 0, 0),
     }
@@ -44,7 +50,7 @@ fn shown(r: Read) -> Row {
     match r {
         Read::Whole(c) => command_row(c),
         Read::Unknown => row_of(0, 0, 0, 0, 0),
-        Read::Short => row_of(2, 0, 0, 0, 0),
+        Read::Short => row_of(1, 0, 0, 0, 0),
     }
 }
 

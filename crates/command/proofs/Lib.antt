@@ -2,4 +2,6 @@
 pub mod Signed
 pub mod Linears
 pub mod Stacked
+pub mod Operands
 pub mod Forward
+pub mod Sizes

@@ -12,8 +12,9 @@ use lib.Seq.{getD-take, length-take-le, ext-getD}
 use Rattle.whole.specs.Linears.{numbers, Smalls}
 use Rattle.whole.specs.Within.{Small}
 use Rattle.whole.proofs.Filled.{Filled}
+use Rattle.theory.specs.laws.Words.{padded-full}
 use Rattle.theory.specs.Widths.{levels-most}
-use Rattle.theory.specs.Command.{word-at, signed, signed-from, linear-at}
+use Rattle.theory.specs.Command.{word-at, signed, signed-from, linear-in, linear-at}
 use Rattle.command.specs.Reading.{linear-of}
 use Rattle.command.proofs.Signed.{signed-size}
 
@@ -48,5 +49,5 @@ module _ (B : List ℕ) (at : ℕ) {i : ℕ} {out : List ℤ} (F : Filled number
       (λ k h. getD-take levels-most out k (pos 0) (omega arith) ∙ (F .each k (omega arith) ∙ sym (signed-at B at levels-most k (omega arith))))
 
   pub linear-read : Smalls out × (linear-of out ≡ linear-at B at)
-  unfolding linear-at
-  linear-read = (record { long = F .long; each = small-at }, λ j. record { coeffs = coeffs j; const = F .each levels-most (omega arith) j })
+  unfolding linear-in
+  linear-read = (record { long = F .long; each = small-at }, λ j. record { coeffs = (coeffs ∙ sym (padded-full levels-most _ (signed-length B at levels-most))) j; const = F .each levels-most (omega arith) j })

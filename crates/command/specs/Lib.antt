@@ -1,3 +1,4 @@
--- What the code's readings are in the terms of document 01, and what a stack holds.
+-- What the code's forms and readings are in the terms of the documents, and what a stack holds.
+pub mod Forms
 pub mod Reading
 pub mod Held

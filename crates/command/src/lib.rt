@@ -3,26 +3,29 @@ ghost use mathlib.Core.Path.{_≡_};
 ghost use mathlib.Core.List.{List};
 ghost use Prim.Native.Nat.{ℕ, _+_, _≤_, _<_};
 ghost use lib.ListN.{length};
-ghost use Rattle.theory.specs.Command.{whole, read-at, command-at, linear-at, byte-at, word-at, signed};
-ghost use Rattle.theory.specs.Command.{width as bytes-of};
-ghost use Rattle.command.specs.Reading.{linear-bytes, linear-of, command-of, read-of, next-at};
+ghost use Rattle.theory.specs.Command.{whole, read-in, read-at, command-in, byte-at, word-at, action-at, linear-at, signed};
+ghost use Rattle.theory.specs.Command.{width-in as bytes-of};
+ghost use Rattle.command.specs.Forms.{form-of};
+ghost use Rattle.command.specs.Reading.{linear-bytes, linear-of, site-in, command-of-in, read-of-in, read-of, next-in, next-at};
 ghost use Rattle.whole.specs.Linears.{Smalls};
+use forms::Form;
 use whole::NUMBERS;
 
+pub mod forms;
 pub mod stack;
 
-// A command with a linear: its byte, and numbers of 32 bits.
-const WITH_LINEAR: usize = 1 + 4 * NUMBERS;
+// "30 name: action, 16 bytes"
+pub const NAME_BYTES: usize = 16;
 
 // A command with its operands. What is given has its command's byte, the action, and the condition or level (0 where there is none).
 // A linear's bytes stay in the model, behind the command's byte; a name's, behind the action.
 pub enum Command {
-    Site(u8, u8, u8, u8),
+    Site(u8, u8, u16, u8),
     Leaf,
     Condition(u8),
     Test,
-    Give(u8, u8, u8),
-    Name(u8),
+    Give(u8, u16, u8),
+    Name(u16),
     End,
 }
 
@@ -44,6 +47,12 @@ fn wide(x: u8) -> u32
     ensures { λ r. ⌜ (r ≡ x) × (r < 256) ⌝ }
 {
     x as u32
+}
+
+fn as_action(x: u8) -> u16
+    ensures { λ r. ⌜ (r ≡ x) × (r < 256) ⌝ }
+{
+    x as u16
 }
 
 // Four bytes, low byte first.
@@ -92,92 +101,130 @@ pub fn linear_at(model: &[u8], at: usize) -> [i64; NUMBERS]
     out
 }
 
-// How many bytes a command has; 0 where the byte is unknown.
-pub fn width(op: u8) -> usize
-    ensures { λ r. ⌜ r ≡ bytes-of op ⌝ }
+// An action operand, and A.
+pub fn action_in(form: Form, model: &[u8], at: usize) -> u16
+    requires { ⌜ at < 18446744073709551615 ⌝ }
+    ensures { λ r. ⌜ r ≡ action-at (form-of form) (now (model .entry)) at ⌝ }
 {
+    let low = as_action(byte_at(model, at));
+    match form {
+        Form::Old => low,
+        Form::New => low + as_action(byte_at(model, at + 1)) * 256,
+    }
+}
+
+// How many bytes a command has; 0 where the byte is unknown.
+pub fn width_in(form: Form, op: u8) -> usize
+    ensures { λ r. ⌜ (r ≡ bytes-of (form-of form) op) × (r < 1024) ⌝ }
+{
+    if op == forms::site_byte(form) {
+        return 4 + forms::action_bytes(form);
+    }
     match op {
-        0x01 => 5,
-        0x10 => WITH_LINEAR,
+        0x10 => 1 + forms::linear_bytes(form),
         0x11 => 2,
-        0x12 => WITH_LINEAR,
-        0x20 => 2,
-        0x21 => 3,
-        0x22 => 3,
+        0x12 => 1 + forms::linear_bytes(form),
+        0x20 => forms::behind_action(form),
+        0x21 => forms::behind_action(form) + 1,
+        0x22 => forms::behind_action(form) + 1,
         0x23 => 1,
-        0x30 => 18,
+        0x30 => forms::behind_action(form) + NAME_BYTES,
         0xff => 1,
         _ => 0,
     }
 }
 
-// A known command all of whose bytes are there.
-fn whole_at(model: &[u8], at: usize, op: u8) -> Command
-    requires { ⌜ (op ≡ byte-at (now model) at) × (at < length (now model)) × (at + bytes-of op ≤ length (now model)) ⌝ }
-    ensures { λ r. ⌜ command-of (now (model .entry)) at r ≡ command-at (now (model .entry)) at ⌝ }
+// A known site.
+fn site_at(form: Form, model: &[u8], at: usize) -> Command
+    requires { ⌜ at < length (now model) ⌝ }
+    ensures { λ r. ⌜ command-of-in (form-of form) (now (model .entry)) at r ≡ site-in (form-of form) (now (model .entry)) at ⌝ }
 {
+    Command::Site(
+        byte_at(model, at + 1),
+        byte_at(model, at + 2),
+        action_in(form, model, at + 3),
+        byte_at(model, at + (3 + forms::action_bytes(form))),
+    )
+}
+
+// A known command all of whose bytes are there.
+fn whole_at(form: Form, model: &[u8], at: usize, op: u8) -> Command
+    requires { ⌜ (op ≡ byte-at (now model) at) × (at < length (now model)) ⌝ }
+    ensures { λ r. ⌜ command-of-in (form-of form) (now (model .entry)) at r ≡ command-in (form-of form) (now (model .entry)) at ⌝ }
+{
+    if op == forms::site_byte(form) {
+        return site_at(form, model, at);
+    }
+    let behind = at + forms::behind_action(form);
     match op {
-        0x01 => Command::Site(
-            byte_at(model, at + 1),
-            byte_at(model, at + 2),
-            byte_at(model, at + 3),
-            byte_at(model, at + 4),
-        ),
         0x10 => Command::Leaf,
         0x11 => Command::Condition(byte_at(model, at + 1)),
         0x12 => Command::Test,
-        0x20 => Command::Give(0x20, byte_at(model, at + 1), 0),
-        0x21 => Command::Give(0x21, byte_at(model, at + 1), byte_at(model, at + 2)),
-        0x22 => Command::Give(0x22, byte_at(model, at + 1), byte_at(model, at + 2)),
+        0x20 => Command::Give(0x20, action_in(form, model, at + 1), 0),
+        0x21 => Command::Give(0x21, action_in(form, model, at + 1), byte_at(model, behind)),
+        0x22 => Command::Give(0x22, action_in(form, model, at + 1), byte_at(model, behind)),
         0x23 => Command::Give(0x23, 0, 0),
-        0x30 => Command::Name(byte_at(model, at + 1)),
+        0x30 => Command::Name(action_in(form, model, at + 1)),
         _ => Command::End,
     }
 }
 
 // What stands at an offset: past the end and cut short are one answer, since both are refused alike.
-pub fn command_at(model: &[u8], at: usize) -> Read
-    ensures { λ r. ⌜ read-of (now (model .entry)) at r ≡ read-at (now (model .entry)) at ⌝ }
+pub fn command_in(form: Form, model: &[u8], at: usize) -> Read
+    ensures { λ r. ⌜ read-of-in (form-of form) (now (model .entry)) at r ≡ read-in (form-of form) (now (model .entry)) at ⌝ }
 {
     if model.len() <= at {
         return Read::Short;
     }
     let op = model[at];
-    let w = width(op);
+    let w = width_in(form, op);
     if w == 0 {
         return Read::Unknown;
     }
     if model.len() - at < w {
         return Read::Short;
     }
-    Read::Whole(whole_at(model, at, op))
+    Read::Whole(whole_at(form, model, at, op))
 }
 
 // How many bytes a command that was read has, without a second look at them.
-pub fn size(c: Command) -> usize
-    ensures { λ r. ⌜ ((B : List ℕ) (at : ℕ) → whole (command-of B at c) ≡ read-at B at → r ≡ bytes-of (byte-at B at)) ⌝ }
+pub fn size_in(form: Form, c: Command) -> usize
+    ensures { λ r. ⌜ ((B : List ℕ) (at : ℕ) → whole (command-of-in (form-of form) B at c) ≡ read-in (form-of form) B at → r ≡ bytes-of (form-of form) (byte-at B at)) ⌝ }
 {
     match c {
-        Command::Site(_, _, _, _) => 5,
-        Command::Leaf => WITH_LINEAR,
+        Command::Site(_, _, _, _) => 4 + forms::action_bytes(form),
+        Command::Leaf => 1 + forms::linear_bytes(form),
         Command::Condition(_) => 2,
-        Command::Test => WITH_LINEAR,
-        Command::Give(op, _, _) => width(op),
-        Command::Name(_) => 18,
+        Command::Test => 1 + forms::linear_bytes(form),
+        Command::Give(op, _, _) => width_in(form, op),
+        Command::Name(_) => forms::behind_action(form) + NAME_BYTES,
         Command::End => 1,
     }
 }
 
 // The offset behind the command at an offset; it stays within the model.
-pub fn next_after(model: &[u8], at: usize) -> usize
-    ensures { λ r. ⌜ r ≡ next-at (now (model .entry)) at ⌝ }
+pub fn next_after_in(form: Form, model: &[u8], at: usize) -> usize
+    ensures { λ r. ⌜ r ≡ next-in (form-of form) (now (model .entry)) at ⌝ }
 {
     if model.len() <= at {
         return model.len();
     }
-    let w = width(model[at]);
+    let w = width_in(form, model[at]);
     if model.len() - at < w {
         return model.len();
     }
     at + w
+}
+
+// The same in the form that the planner reads.
+pub fn command_at(model: &[u8], at: usize) -> Read
+    ensures { λ r. ⌜ read-of (now (model .entry)) at r ≡ read-at (now (model .entry)) at ⌝ }
+{
+    command_in(Form::New, model, at)
+}
+
+pub fn next_after(model: &[u8], at: usize) -> usize
+    ensures { λ r. ⌜ r ≡ next-at (now (model .entry)) at ⌝ }
+{
+    next_after_in(Form::New, model, at)
 }

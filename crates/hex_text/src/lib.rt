@@ -42,11 +42,11 @@ fn digit(c: u8) -> u8
 // Bytes of a number; of a leaf and its numbers; of an action behind the low one; of coefficients behind L4.
 const NUMBER: usize = 4;
 
-const LEAF: usize = 21;
+const LEAF: usize = 37;
 
-const ACTION_MORE: usize = 0;
+const ACTION_MORE: usize = 1;
 
-const COEFFICIENTS_MORE: usize = 0;
+const COEFFICIENTS_MORE: usize = 16;
 
 // How many bytes a character stands for, with the one behind it.
 fn count(c: u8) -> usize {
@@ -66,7 +66,7 @@ fn count(c: u8) -> usize {
 // The first of these bytes; the others are 0.
 fn first(c: u8, d: u8) -> u8 {
     if c == b'S' {
-        return 0x01;
+        return 0x02;
     }
     if c == b'P' {
         return 0x10;

@@ -5,7 +5,8 @@ ghost use Prim.Native.Nat.{ℕ, _<_};
 ghost use lib.ListN.{length, replicate};
 ghost use Rattle.theory.specs.Widths.{flags-most};
 ghost use Rattle.theory.specs.Command.{end-model};
-ghost use Rattle.theory.specs.Verdict.{verdict};
+ghost use Rattle.theory.specs.Verdict.{verdict, verdict-in};
+ghost use Rattle.command.specs.Forms.{form-of};
 ghost use Rattle.theory.specs.Verdict.{refusal as refused};
 ghost use Rattle.theory.specs.Verdict.{ended as ended-at};
 ghost use Rattle.theory.specs.Verdict.{Verdict as Outcome};
@@ -17,6 +18,8 @@ ghost use Rattle.model.specs.Walk.{Walk};
 ghost use Rattle.model.specs.Answers.{is-end as ends};
 use command::Command;
 use command::Read;
+use command::forms;
+use command::forms::Form;
 use progress::Progress;
 use progress::Site;
 use progress::given::FLAGS;
@@ -26,8 +29,8 @@ use progress::refusals::SIZES;
 use progress::refusals::STEPS;
 use progress::refusals::UNKNOWN;
 
-// "model above 65,535 bytes"
-const BYTES_MOST: usize = 65535;
+// "A model may have 262,144 bytes"
+const BYTES_MOST: usize = 262144;
 
 // "horizon or steps not 1 to 8", and the eight stage words.
 const STEPS_MOST: u32 = 8;
@@ -71,15 +74,15 @@ fn ended(size: usize, at: usize) -> Verdict
 }
 
 // "the model by offset": the first command at fault decides. From the second command on the site stays; `flags`: what has been given.
-fn rest(model: &[u8], flags: &mut [bool], from: usize, begun: Progress) -> Verdict
-    requires { ⌜ (begun .begun ≡ true) × Walk (now model) from begun (now flags) ⌝ }
-    ensures { λ r. ⌜ shown r ≡ verdict (now (model .entry)) ⌝ }
+fn rest(form: Form, model: &[u8], flags: &mut [bool], from: usize, begun: Progress) -> Verdict
+    requires { ⌜ (begun .begun ≡ true) × Walk (form-of form) (now model) from begun (now flags) ⌝ }
+    ensures { λ r. ⌜ shown r ≡ verdict-in (form-of form) (now (model .entry)) ⌝ }
 {
     let site = begun.site;
     let mut seen = begun.seen;
     let mut at = from;
     loop {
-        let read = command::command_at(model, at);
+        let read = command::command_in(form, model, at);
         match read {
             Read::Whole(c) => {
                 let s = Progress {
@@ -87,7 +90,7 @@ fn rest(model: &[u8], flags: &mut [bool], from: usize, begun: Progress) -> Verdi
                     site,
                     seen,
                 };
-                let k = progress::rules::broken(model, at, c, flags, s);
+                let k = progress::rules::broken(form, model, at, c, flags, s);
                 if k != 0 {
                     return refusal(k, at);
                 }
@@ -95,9 +98,9 @@ fn rest(model: &[u8], flags: &mut [bool], from: usize, begun: Progress) -> Verdi
                     return ended(model.len(), at);
                 }
                 progress::given::note(flags, c);
-                let t = progress::states::after(model, at, c, s);
+                let t = progress::states::after(form, model, at, c, s);
                 seen = t.seen;
-                at += command::size(c);
+                at += command::size_in(form, c);
             }
             Read::Unknown => return refusal(UNKNOWN, at),
             Read::Short => return refusal(SHORT, at),
@@ -106,33 +109,40 @@ fn rest(model: &[u8], flags: &mut [bool], from: usize, begun: Progress) -> Verdi
 }
 
 // The first command by itself.
-fn judge(model: &[u8], flags: &mut [bool]) -> Verdict
+fn judge(form: Form, model: &[u8], flags: &mut [bool]) -> Verdict
     requires { ⌜ now flags ≡ replicate flags-most false ⌝ }
-    ensures { λ r. ⌜ shown r ≡ verdict (now (model .entry)) ⌝ }
+    ensures { λ r. ⌜ shown r ≡ verdict-in (form-of form) (now (model .entry)) ⌝ }
 {
-    let read = command::command_at(model, 0);
+    let read = command::command_in(form, model, 0);
     match read {
         Read::Whole(c) => {
-            let k = progress::rules::first(c);
+            let k = progress::rules::first(form, c);
             if k != 0 {
                 return refusal(k, 0);
             }
-            let from = command::next_after(model, 0);
-            rest(model, flags, from, progress::states::first(c))
+            let from = command::next_after_in(form, model, 0);
+            rest(form, model, flags, from, progress::states::first(c))
         }
         Read::Unknown => refusal(UNKNOWN, 0),
         Read::Short => refusal(SHORT, 0),
     }
 }
 
+pub fn validate_in(form: Form, model: &[u8]) -> Verdict
+    ensures { λ r. ⌜ shown r ≡ verdict-in (form-of form) (now (model .entry)) ⌝ }
+{
+    let mut flags = [false; FLAGS];
+    judge(form, model, &mut flags)
+}
+
+// The same in the form that the planner reads.
 pub fn validate(model: &[u8]) -> Verdict
     ensures { λ r. ⌜ shown r ≡ verdict (now (model .entry)) ⌝ }
 {
-    let mut flags = [false; FLAGS];
-    judge(model, &mut flags)
+    validate_in(Form::New, model)
 }
 
-// "10: stage words not eight, or model above 65,535 bytes; 9: horizon or steps not 1 to 8", then the model's own.
+// "10: stage words not eight, or model above 262,144 bytes; 9: horizon or steps not 1 to 8", then the model's own.
 pub fn early(model: &[u8], steps: u32, stage_words: usize) -> Verdict
     ensures { λ r. ⌜ shown r ≡ early-of (now (model .entry)) steps «stage_words» ⌝ }
 {
@@ -158,7 +168,7 @@ pub fn site(model: &[u8]) -> Site
     Site {
         levels: command::byte_at(model, 1),
         conditions: command::byte_at(model, 2),
-        actions: command::byte_at(model, 3),
-        weights: command::byte_at(model, 4),
+        actions: command::action_in(Form::New, model, 3),
+        weights: command::byte_at(model, 3 + forms::action_bytes(Form::New)),
     }
 }

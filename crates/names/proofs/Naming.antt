@@ -11,7 +11,9 @@ use lib.Seq.{getD-drop}
 use types.Run.{OneOf, miss}
 use denote.Enum.Declared.{tagOf}
 use Rattle.whole.specs.Cases.{if}
-use Rattle.theory.specs.Command.{Command, site, push-leaf, push-condition, push-test, give, name-action, end-model, Read, whole, unknown, short, byte-at, width, command-at, read-at, goes-on, readings-from, readings}
+use Rattle.theory.specs.Command.{Command, site, push-leaf, push-condition, push-test, give, name-action, end-model, Read, whole, unknown, short, read-at, byte-at, width, goes-on, readings-from, readings, readings-in}
+use Rattle.theory.specs.Widths.{name-bytes, steps-most}
+use Rattle.theory.specs.Form.{new-form, behind-action}
 use Rattle.theory.specs.Valid.{among}
 use Rattle.theory.specs.Verdict.{Verdict, refusal}
 use Rattle.theory.specs.Load.{site-at}
@@ -23,8 +25,8 @@ use Rattle.command.specs.declared.Command.{Command as CodeCommand}
 use Rattle.command.specs.declared.Command.the-variants.{Site, Leaf, Condition, Test, Give, Name, End}
 use Rattle.command.specs.declared.Read.{Read as CodeRead}
 use Rattle.command.specs.declared.Read.the-variants.{Whole, Unknown, Short}
-use Rattle.command.specs.Reading.{command-of, read-of, next-at}
-use Rattle.command.proofs.Forward.{whole-bytes}
+use Rattle.command.specs.Reading.{command-of, command-of-in, read-of, read-of-in, next-at}
+use Rattle.command.proofs.Forward.{whole-bytes, length-of, length-whole}
 use Rattle.model.specs.declared.Verdict.{Verdict as CodeVerdict}
 use Rattle.model.specs.Answers.{shown, is-end}
 use Rattle.model.proofs.Walk.{opened, from-first, at-end, going, forward}
@@ -52,7 +54,7 @@ module _ (l : List ℕ) (at : ℕ) where
 -- ---- the command that names an action
 
 pub names-other : (a : ℕ) (B : List ℕ) (at : ℕ) (c : CodeCommand) → OneOf (0 ∷ 1 ∷ 2 ∷ 3 ∷ 4 ∷ 6 ∷ []) (tagOf command-type c) → false ≡ names-action a (whole (command-of B at c))
-unfolding names-action command-of
+unfolding names-action command-of-in
 names-other a B at (Site m n b w) k = refl
 names-other a B at Leaf k = refl
 names-other a B at (Condition i) k = refl
@@ -61,54 +63,22 @@ names-other a B at (Give x b j) k = refl
 names-other a B at (Name b) k = absurd (miss (0 ∷ 1 ∷ 2 ∷ 3 ∷ 4 ∷ 6 ∷ []) 5 tt k)
 names-other a B at End k = refl
 
--- a command that names an action is one of 18 bytes
-is-name : Command → Bool
-is-name (site m n a w) = false
-is-name (push-leaf p) = false
-is-name (push-condition k) = false
-is-name (push-test p) = false
-is-name (give g) = false
-is-name (name-action a b) = true
-is-name end-model = false
-
-named-is : (a : ℕ) (c : Command) → names-action a (whole c) ≡ true → is-name c ≡ true
-unfolding names-action is-name
-named-is a (site m n b w) e = e
-named-is a (push-leaf p) e = e
-named-is a (push-condition k) e = e
-named-is a (push-test p) e = e
-named-is a (give g) e = e
-named-is a (name-action b t) e = refl
-named-is a end-model e = e
-
-not-named : (b : Bool) (c d : Command) (w v : ℕ) → is-name c ≡ false → (is-name d ≡ true → v ≡ 18) → is-name (if b c d) ≡ true → _≡_ {A = ℕ} (if b w v) 18
-not-named true c d w v f g e = absurd (let z : _≡_ {A = ℕ} 0 1 = cc in omega arith)
-not-named false c d w v f g e = g e
-
-named-last : (b : Bool) (a : ℕ) (t : List ℕ) (v : ℕ) → is-name (if b (name-action a t) end-model) ≡ true → _≡_ {A = ℕ} (if b 18 v) 18
-unfolding is-name
-named-last true a t v e = refl
-named-last false a t v e = absurd (let z : _≡_ {A = ℕ} 0 1 = cc in omega arith)
-
-name-wide : (B : List ℕ) (at : ℕ) → is-name (command-at B at) ≡ true → width (byte-at B at) ≡ 18
-unfolding command-at is-name width
-name-wide B at e =
-    not-named (eqb (byte-at B at) 0x01) _ _ 5 _ refl
-    (not-named (eqb (byte-at B at) 0x10) _ _ 21 _ refl
-    (not-named (eqb (byte-at B at) 0x11) _ _ 2 _ refl
-    (not-named (eqb (byte-at B at) 0x12) _ _ 21 _ refl
-    (not-named (eqb (byte-at B at) 0x20) _ _ 2 _ refl
-    (not-named (eqb (byte-at B at) 0x21) _ _ 3 _ refl
-    (not-named (eqb (byte-at B at) 0x22) _ _ 3 _ refl
-    (not-named (eqb (byte-at B at) 0x23) _ _ 1 _ refl
-    (named-last (eqb (byte-at B at) 0x30) _ _ _)))))))) e
+-- how many bytes a command that names an action has
+name-length : (a : ℕ) (c : Command) → names-action a (whole c) ≡ true → length-of new-form c ≡ behind-action new-form + name-bytes
+unfolding names-action length-of
+name-length a (site m n b w) e = absurd (let z : _≡_ {A = ℕ} 0 1 = cc in omega arith)
+name-length a (push-leaf p) e = absurd (let z : _≡_ {A = ℕ} 0 1 = cc in omega arith)
+name-length a (push-condition k) e = absurd (let z : _≡_ {A = ℕ} 0 1 = cc in omega arith)
+name-length a (push-test p) e = absurd (let z : _≡_ {A = ℕ} 0 1 = cc in omega arith)
+name-length a (give g) e = absurd (let z : _≡_ {A = ℕ} 0 1 = cc in omega arith)
+name-length a (name-action b t) e = refl
+name-length a end-model e = absurd (let z : _≡_ {A = ℕ} 0 1 = cc in omega arith)
 
 -- the bytes of a name are there
-pub name-room : (a : ℕ) (B : List ℕ) (at : ℕ) (c : Command) → whole c ≡ read-at B at → names-action a (whole c) ≡ true → at + 2 + 16 ≤ length B
+pub name-room : (a : ℕ) (B : List ℕ) (at : ℕ) (c : Command) → whole c ≡ read-at B at → names-action a (whole c) ≡ true → at + behind-action new-form + name-bytes ≤ length B
 name-room a B at c e n =
-    let b = whole-bytes B at c e in
-    let w = name-wide B at (ap is-name (sym (b .1)) ∙ named-is a c n) in
-    let h = b .0 .ends in
+    let w = length-whole new-form B at c e ∙ name-length a c n in
+    let h = whole-bytes new-form B at c e .0 .ends in
     omega arith
 
 -- ---- one turn
@@ -119,7 +89,7 @@ pub record Seek (B : List ℕ) (a at : ℕ) : Type 0 where
   pub finds : named-part B a (readings-from B fuel at) ≡ named-part B a (readings B)
 
 pub seek-starts : (B : List ℕ) (a : ℕ) → Seek B a 0
-unfolding readings
+unfolding readings-in
 seek-starts B a = record { fuel = suc (length B); enough = omega arith; finds = refl }
 
 module _ {B : List ℕ} {a at : ℕ} (w : Seek B a at) where
@@ -128,15 +98,16 @@ module _ {B : List ℕ} {a at : ℕ} (w : Seek B a at) where
 
   -- no whole command
   pub seek-stops : (r : CodeRead) → OneOf (1 ∷ 2 ∷ []) (tagOf read-type r) → read-of B at r ≡ read-at B at → no-part ≡ named-part B a (readings B)
-  unfolding read-of named-part names-action goes-on
+  unfolding read-of-in named-part names-action goes-on
   seek-stops (Whole c) k e = absurd (miss (1 ∷ 2 ∷ []) 0 tt k)
   seek-stops Unknown k e = first unknown e .2
   seek-stops Short k e = first short e .2
 
-  pub seek-found : (c : Command) (n : ℕ) → whole c ≡ read-at B at → names-action a (whole c) ≡ true → n ≡ trimmed (drop (at + 2) B) 16 → record { start = at + 2; size = n } ≡ named-part B a (readings B)
+  pub seek-found : (c : Command) (k n : ℕ) → k ≡ behind-action new-form → whole c ≡ read-at B at → names-action a (whole c) ≡ true → n ≡ trimmed (drop (at + k) B) name-bytes
+      → record { start = at + k; size = n } ≡ named-part B a (readings B)
   unfolding named-part
-  seek-found c n e f g =
-      ap (λ (k : ℕ). record { start = at + 2; size = k }) g ∙ (rw f at (first (whole c) e .2))
+  seek-found c k n b e f g =
+      ap (λ (m : ℕ). record { start = at + k; size = m }) g ∙ ap (λ (m : ℕ). record { start = at + m; size = trimmed (drop (at + m) B) name-bytes }) b ∙ (rw f at (first (whole c) e .2))
 
   other : (c : Command) → whole c ≡ read-at B at → names-action a (whole c) ≡ false → (k : ℕ) × (length B - at < suc k)
       × (named-part B a (if (goes-on (whole c)) (readings-from B k (at + width (byte-at B at))) []) ≡ named-part B a (readings B))
@@ -157,11 +128,11 @@ module _ {B : List ℕ} {a at : ℕ} (w : Seek B a at) where
 -- ---- the call: "empty if it has none or the call is refused"
 
 module _ (B : List ℕ) (a : ℕ) where
-  pub early-refused : (v : CodeVerdict) → shown v ≡ early B 1 8 → (v .number ≡ 0 → ⊥) → shown v ≡ name-refusal B a
+  pub early-refused : (v : CodeVerdict) → shown v ≡ early B 1 steps-most → (v .number ≡ 0 → ⊥) → shown v ≡ name-refusal B a
   unfolding name-refusal
   early-refused v e h = rw (← e, ne-eqb (v .number) 0 h)
 
-  pub early-passed : (v : CodeVerdict) (n : ℕ) (b : Bool) → shown v ≡ early B 1 8 → v .number ≡ 0 → site-at B .actions ≡ n → among n a ≡ b → if b (refusal 0 0) (refusal 16 0) ≡ name-refusal B a
+  pub early-passed : (v : CodeVerdict) (n : ℕ) (b : Bool) → shown v ≡ early B 1 steps-most → v .number ≡ 0 → site-at B .actions ≡ n → among n a ≡ b → if b (refusal 0 0) (refusal 16 0) ≡ name-refusal B a
   unfolding name-refusal
   early-passed v n b e z s t = rw (← e, z, s, t)
 

@@ -12,7 +12,10 @@ ghost use Rattle.command.specs.Reading.{command-of};
 ghost use Rattle.model.specs.Answers.{shown};
 ghost use Rattle.names.specs.Parts.{part-as};
 use command::Command;
+use command::NAME_BYTES;
 use command::Read;
+use command::forms;
+use command::forms::Form;
 use model::Verdict;
 
 // A part of the model.
@@ -21,7 +24,7 @@ pub struct Part {
     pub size: usize,
 }
 
-fn wide(x: u8) -> u32
+fn wide(x: u16) -> u32
     ensures { λ r. ⌜ r ≡ x ⌝ }
 {
     x as u32
@@ -64,10 +67,10 @@ fn named_part(model: &[u8], action: u32) -> Part
             return Part { start: 0, size: 0 };
         };
         if names(c, action) {
-            let from = at + 2;
+            let from = at + forms::behind_action(Form::New);
             return Part {
                 start: from,
-                size: trimmed_len(model, from, 16),
+                size: trimmed_len(model, from, NAME_BYTES),
             };
         }
         if model::is_end(c) {

@@ -21,7 +21,7 @@ use denote.Enum.Declared.{tagOf}
 use Rattle.command.proofs.Command.{the-type}
 use Rattle.command.specs.declared.Command.{Command as CodeCommand}
 use Rattle.command.specs.declared.Command.the-variants.{Site as SiteBy, Leaf, Condition, Test, Give, Name, End}
-use Rattle.progress.specs.Standing.{noted, place, base-of, flag-of, Slotted, for-reward, for-chance, for-level, for-name, for-end}
+use Rattle.progress.specs.Standing.{noted, place, names-row, base-of, flag-of, Slotted, for-reward, for-chance, for-level, for-name, for-end}
 use Rattle.progress.proofs.Numbers.{bounds, is-among}
 
 -- a store past the end changes nothing
@@ -36,10 +36,10 @@ no-flag (suc n) zero = refl
 no-flag (suc n) (suc i) = no-flag n i
 
 pub slotted-below : {g : Slot} {i : ℕ} → Slotted g i → i < flags-most
-slotted-below (for-reward {a = a} t) = let h = bounds 8 a t in omega arith
-slotted-below (for-chance {a = a} {k = k} t u) = let h = bounds 8 a t in let m = bounds 4 k u in omega arith
-slotted-below (for-level {a = a} {i = k} t u) = let h = bounds 8 a t in let m = bounds 4 k u in omega arith
-slotted-below (for-name {a = a} t) = let h = bounds 8 a t in omega arith
+slotted-below (for-reward {a = a} t) = let h = bounds actions-most a t in omega arith
+slotted-below (for-chance {a = a} {k = k} t u) = let h = bounds actions-most a t in let m = bounds conditions-most k u in omega arith
+slotted-below (for-level {a = a} {i = k} t u) = let h = bounds actions-most a t in let m = bounds levels-most k u in omega arith
+slotted-below (for-name {a = a} t) = let h = bounds actions-most a t in omega arith
 slotted-below for-end = omega arith
 
 apart : (i j : ℕ) → (i ≡ j → ⊥) → false ≡ eqb i j
@@ -59,33 +59,33 @@ two a b c d i j f g = same-bool (eqb a b && eqb c d) (eqb i j)
 pub same-place : {g h : Slot} {i j : ℕ} → Slotted g i → Slotted h j → same-slot g h ≡ eqb i j
 unfolding same-slot
 same-place (for-reward {a = a} t) (for-reward {a = b} u) = one a b (place 0 0 a) (place 0 0 b) (λ e. omega arith) (λ e. omega arith)
-same-place (for-reward {a = a} t) (for-chance {a = b} {k = l} u v) = apart (place 0 0 a) (place 0 l b) (let x = bounds 8 a t in let y = bounds 8 b u in let z = bounds 4 l v in λ e. omega arith)
-same-place (for-reward {a = a} t) (for-level {a = b} {i = l} u v) = apart (place 0 0 a) (place 4 l b) (let x = bounds 8 a t in let y = bounds 8 b u in let z = bounds 4 l v in λ e. omega arith)
-same-place (for-reward {a = a} t) (for-name {a = b} u) = apart (place 0 0 a) (place 9 0 b) (let x = bounds 8 a t in let y = bounds 8 b u in λ e. omega arith)
-same-place (for-chance {a = a} {k = k} t r) (for-reward {a = b} u) = apart (place 0 k a) (place 0 0 b) (let x = bounds 8 a t in let y = bounds 8 b u in let w = bounds 4 k r in λ e. omega arith)
+same-place (for-reward {a = a} t) (for-chance {a = b} {k = l} u v) = apart (place 0 0 a) (place 0 l b) (let x = bounds actions-most a t in let y = bounds actions-most b u in let z = bounds conditions-most l v in λ e. omega arith)
+same-place (for-reward {a = a} t) (for-level {a = b} {i = l} u v) = apart (place 0 0 a) (place conditions-most l b) (let x = bounds actions-most a t in let y = bounds actions-most b u in let z = bounds levels-most l v in λ e. omega arith)
+same-place (for-reward {a = a} t) (for-name {a = b} u) = apart (place 0 0 a) (place names-row 0 b) (let x = bounds actions-most a t in let y = bounds actions-most b u in λ e. omega arith)
+same-place (for-chance {a = a} {k = k} t r) (for-reward {a = b} u) = apart (place 0 k a) (place 0 0 b) (let x = bounds actions-most a t in let y = bounds actions-most b u in let w = bounds conditions-most k r in λ e. omega arith)
 same-place (for-chance {a = a} {k = k} t r) (for-chance {a = b} {k = l} u v) =
-    two a b k l (place 0 k a) (place 0 l b) (λ e f. omega arith) (let x = bounds 8 a t in let y = bounds 8 b u in λ e. (omega arith, omega arith))
+    two a b k l (place 0 k a) (place 0 l b) (λ e f. omega arith) (let x = bounds actions-most a t in let y = bounds actions-most b u in λ e. (omega arith, omega arith))
 same-place (for-chance {a = a} {k = k} t r) (for-level {a = b} {i = l} u v) =
-    apart (place 0 k a) (place 4 l b) (let x = bounds 8 a t in let y = bounds 8 b u in let w = bounds 4 k r in let z = bounds 4 l v in λ e. omega arith)
-same-place (for-chance {a = a} {k = k} t r) (for-name {a = b} u) = apart (place 0 k a) (place 9 0 b) (let x = bounds 8 a t in let y = bounds 8 b u in let w = bounds 4 k r in λ e. omega arith)
-same-place (for-level {a = a} {i = k} t r) (for-reward {a = b} u) = apart (place 4 k a) (place 0 0 b) (let x = bounds 8 a t in let y = bounds 8 b u in let w = bounds 4 k r in λ e. omega arith)
+    apart (place 0 k a) (place conditions-most l b) (let x = bounds actions-most a t in let y = bounds actions-most b u in let w = bounds conditions-most k r in let z = bounds levels-most l v in λ e. omega arith)
+same-place (for-chance {a = a} {k = k} t r) (for-name {a = b} u) = apart (place 0 k a) (place names-row 0 b) (let x = bounds actions-most a t in let y = bounds actions-most b u in let w = bounds conditions-most k r in λ e. omega arith)
+same-place (for-level {a = a} {i = k} t r) (for-reward {a = b} u) = apart (place conditions-most k a) (place 0 0 b) (let x = bounds actions-most a t in let y = bounds actions-most b u in let w = bounds levels-most k r in λ e. omega arith)
 same-place (for-level {a = a} {i = k} t r) (for-chance {a = b} {k = l} u v) =
-    apart (place 4 k a) (place 0 l b) (let x = bounds 8 a t in let y = bounds 8 b u in let w = bounds 4 k r in let z = bounds 4 l v in λ e. omega arith)
+    apart (place conditions-most k a) (place 0 l b) (let x = bounds actions-most a t in let y = bounds actions-most b u in let w = bounds levels-most k r in let z = bounds conditions-most l v in λ e. omega arith)
 same-place (for-level {a = a} {i = k} t r) (for-level {a = b} {i = l} u v) =
-    two a b k l (place 4 k a) (place 4 l b) (λ e f. omega arith) (let x = bounds 8 a t in let y = bounds 8 b u in λ e. (omega arith, omega arith))
-same-place (for-level {a = a} {i = k} t r) (for-name {a = b} u) = apart (place 4 k a) (place 9 0 b) (let x = bounds 8 a t in let y = bounds 8 b u in let w = bounds 4 k r in λ e. omega arith)
-same-place (for-name {a = a} t) (for-reward {a = b} u) = apart (place 9 0 a) (place 0 0 b) (let x = bounds 8 a t in let y = bounds 8 b u in λ e. omega arith)
-same-place (for-name {a = a} t) (for-chance {a = b} {k = l} u v) = apart (place 9 0 a) (place 0 l b) (let x = bounds 8 a t in let y = bounds 8 b u in let z = bounds 4 l v in λ e. omega arith)
-same-place (for-name {a = a} t) (for-level {a = b} {i = l} u v) = apart (place 9 0 a) (place 4 l b) (let x = bounds 8 a t in let y = bounds 8 b u in let z = bounds 4 l v in λ e. omega arith)
-same-place (for-name {a = a} t) (for-name {a = b} u) = one a b (place 9 0 a) (place 9 0 b) (λ e. omega arith) (λ e. omega arith)
-same-place (for-reward {a = a} t) for-end = apart (place 0 0 a) 0 (let x = bounds 8 a t in λ e. omega arith)
-same-place (for-chance {a = a} {k = k} t r) for-end = apart (place 0 k a) 0 (let x = bounds 8 a t in λ e. omega arith)
-same-place (for-level {a = a} {i = k} t r) for-end = apart (place 4 k a) 0 (let x = bounds 8 a t in λ e. omega arith)
-same-place (for-name {a = a} t) for-end = apart (place 9 0 a) 0 (let x = bounds 8 a t in λ e. omega arith)
-same-place for-end (for-reward {a = b} u) = apart 0 (place 0 0 b) (let y = bounds 8 b u in λ e. omega arith)
-same-place for-end (for-chance {a = b} {k = l} u v) = apart 0 (place 0 l b) (let y = bounds 8 b u in λ e. omega arith)
-same-place for-end (for-level {a = b} {i = l} u v) = apart 0 (place 4 l b) (let y = bounds 8 b u in λ e. omega arith)
-same-place for-end (for-name {a = b} u) = apart 0 (place 9 0 b) (let y = bounds 8 b u in λ e. omega arith)
+    two a b k l (place conditions-most k a) (place conditions-most l b) (λ e f. omega arith) (let x = bounds actions-most a t in let y = bounds actions-most b u in λ e. (omega arith, omega arith))
+same-place (for-level {a = a} {i = k} t r) (for-name {a = b} u) = apart (place conditions-most k a) (place names-row 0 b) (let x = bounds actions-most a t in let y = bounds actions-most b u in let w = bounds levels-most k r in λ e. omega arith)
+same-place (for-name {a = a} t) (for-reward {a = b} u) = apart (place names-row 0 a) (place 0 0 b) (let x = bounds actions-most a t in let y = bounds actions-most b u in λ e. omega arith)
+same-place (for-name {a = a} t) (for-chance {a = b} {k = l} u v) = apart (place names-row 0 a) (place 0 l b) (let x = bounds actions-most a t in let y = bounds actions-most b u in let z = bounds conditions-most l v in λ e. omega arith)
+same-place (for-name {a = a} t) (for-level {a = b} {i = l} u v) = apart (place names-row 0 a) (place conditions-most l b) (let x = bounds actions-most a t in let y = bounds actions-most b u in let z = bounds levels-most l v in λ e. omega arith)
+same-place (for-name {a = a} t) (for-name {a = b} u) = one a b (place names-row 0 a) (place names-row 0 b) (λ e. omega arith) (λ e. omega arith)
+same-place (for-reward {a = a} t) for-end = apart (place 0 0 a) 0 (let x = bounds actions-most a t in λ e. omega arith)
+same-place (for-chance {a = a} {k = k} t r) for-end = apart (place 0 k a) 0 (let x = bounds actions-most a t in λ e. omega arith)
+same-place (for-level {a = a} {i = k} t r) for-end = apart (place conditions-most k a) 0 (let x = bounds actions-most a t in λ e. omega arith)
+same-place (for-name {a = a} t) for-end = apart (place names-row 0 a) 0 (let x = bounds actions-most a t in λ e. omega arith)
+same-place for-end (for-reward {a = b} u) = apart 0 (place 0 0 b) (let y = bounds actions-most b u in λ e. omega arith)
+same-place for-end (for-chance {a = b} {k = l} u v) = apart 0 (place 0 l b) (let y = bounds actions-most b u in λ e. omega arith)
+same-place for-end (for-level {a = b} {i = l} u v) = apart 0 (place conditions-most l b) (let y = bounds actions-most b u in λ e. omega arith)
+same-place for-end (for-name {a = b} u) = apart 0 (place names-row 0 b) (let y = bounds actions-most b u in λ e. omega arith)
 same-place for-end for-end = refl
 
 -- what the rules let be given

@@ -7,13 +7,14 @@ use native.Mathlib.Omega.{arith}
 use borrow.Author.Tests.{lt-ltb, le-ltb, ltb-false}
 use lib.Dec.{T, ltb, leb}
 use lib.ListN.{length, length-map, getD}
-use Rattle.theory.specs.Widths.{levels-most, conditions-most, actions-most}
+use Rattle.theory.specs.Widths.{levels-most, conditions-most, actions-most, stack-most}
+use Rattle.theory.specs.Form.{Form}
 use Rattle.theory.specs.Diagram.{Linear, zeros}
 use Rattle.theory.specs.Valid.{all, among}
 use Rattle.theory.specs.Command.{Command, push-leaf, push-condition, push-test, give, name-action, end-model, Slot}
-use Rattle.theory.specs.Verdict.{or, Facts, Site, reward-slot, chance-slot, level-slot, name-slot, has-slot, Progress, Rule, rule, first-broken, first-rules, later-rules, rules-of, beyond, next-condition, printable, of-site, may-be, top, from-to, wanted, wanted-by}
+use Rattle.theory.specs.Verdict.{or, Facts, Site, reward-slot, chance-slot, level-slot, name-slot, has-slot, Progress, Rule, rule, first-broken, first-rules, later-rules, rules-in, beyond, next-condition, printable, of-site, may-be, top, from-to, wanted, wanted-by}
 use Rattle.progress.specs.declared.Progress.{Progress as CodeProgress}
-use Rattle.progress.specs.Standing.{seen, site-as, place, flag-of, for-reward, for-chance, for-level, for-name, Stands, in-order, row-given, action-given, all-given}
+use Rattle.progress.specs.Standing.{seen, site-as, place, names-row, flag-of, for-reward, for-chance, for-level, for-name, Stands, in-order, row-given, action-given, all-given}
 use Rattle.progress.proofs.Numbers.{bounds, is-among, not-false-T}
 use Rattle.progress.proofs.Flags.{slotted-given}
 use Rattle.progress.proofs.Bits.{seen-length}
@@ -64,12 +65,12 @@ module _ {s : CodeProgress} {F : List Bool} {p : Progress} (st : Stands s F p) w
 
   -- an operand that is good for the site is good for the widths
   act : (a : ℕ) → not (among (s .site .actions) a) ≡ false → T (among actions-most a)
-  act a e = let h = bounds (s .site .actions) a (not-false-T (among (s .site .actions) a) e) in let q = ap (λ (S : Site). S .actions) (st .site) in let m = st .actions in is-among 8 a (omega arith) (omega arith)
+  act a e = let h = bounds (s .site .actions) a (not-false-T (among (s .site .actions) a) e) in let q = ap (λ (S : Site). S .actions) (st .site) in let m = st .actions in is-among actions-most a (omega arith) (omega arith)
 
-  pub later-leaf : (P : Linear) → first-broken (in-order (beyond (s .site .levels) P) (leb 32 (s .seen .len)) false false)
+  pub later-leaf : (P : Linear) → first-broken (in-order (beyond (s .site .levels) P) (leb stack-most (s .seen .len)) false false)
       ≡ first-broken (later-rules (p .site) (p .stack) (p .given) (push-leaf P))
   unfolding later-rules
-  later-leaf P = stack-only _ _ ∙ ap₂ (λ (S : Site) (n : ℕ). first-broken (rule 4 (beyond (S .levels) P) ∷ rule 5 (leb 32 n) ∷ [])) (st .site) depth
+  later-leaf P = stack-only _ _ ∙ ap₂ (λ (S : Site) (n : ℕ). first-broken (rule 4 (beyond (S .levels) P) ∷ rule 5 (leb stack-most n) ∷ [])) (st .site) depth
 
   pub later-condition : (k : ℕ) → first-broken (in-order (not (or (among (s .site .conditions) k) (next-condition (s .site .conditions) k))) (ltb (s .seen .len) 2) false false)
       ≡ first-broken (later-rules (p .site) (p .stack) (p .given) (push-condition k))
@@ -94,7 +95,7 @@ module _ {s : CodeProgress} {F : List Bool} {p : Progress} (st : Stands s F p) w
       ∙ ap₂ (λ (S : Site) (n : ℕ). first-broken (in-order (not (of-site S g)) (ltb n 1) (getD F (flag-of g) false) (not (may-be g (top (p .stack)))))) (st .site) depth
       ∙ twice-alike _ _ _ (has-slot g (p .given)) _ (λ e. sym (st .given (slotted-given (p .site) g (st .levels) (st .conditions) (st .actions) (not-false-T (of-site (p .site) g) e))))
 
-  pub later-name : (a : ℕ) (b : List ℕ) → first-broken (in-order (or (not (among (s .site .actions) a)) (not (all printable b))) false (getD F (place 9 0 a) false) false)
+  pub later-name : (a : ℕ) (b : List ℕ) → first-broken (in-order (or (not (among (s .site .actions) a)) (not (all printable b))) false (getD F (place names-row 0 a) false) false)
       ≡ first-broken (later-rules (p .site) (p .stack) (p .given) (name-action a b))
   unfolding later-rules
   later-name a b =
@@ -107,25 +108,25 @@ module _ {s : CodeProgress} {F : List Bool} {p : Progress} (st : Stands s F p) w
   has : Slot → Bool
   has g = has-slot g (p .given)
 
-  row-0 : (a n : ℕ) → T (among actions-most a) → n ≤ conditions-most → row-given F 0 a n ≡ all has (map (chance-slot a) (from-to 1 n))
+  row-chances : (a n : ℕ) → T (among actions-most a) → n ≤ conditions-most → row-given F 0 a n ≡ all has (map (chance-slot a) (from-to 1 n))
   unfolding row-given has
-  row-0 a n t h =
-      run-same _ _ 1 n (λ i x y. sym (st .given (for-chance t (is-among 4 i x (omega arith))))) ∙ sym (all-map has (chance-slot a) (from-to 1 n))
+  row-chances a n t h =
+      run-same _ _ 1 n (λ i x y. sym (st .given (for-chance t (is-among conditions-most i x (omega arith))))) ∙ sym (all-map has (chance-slot a) (from-to 1 n))
 
-  row-4 : (a n : ℕ) → T (among actions-most a) → n ≤ levels-most → row-given F 4 a n ≡ all has (map (level-slot a) (from-to 1 n))
+  row-levels : (a n : ℕ) → T (among actions-most a) → n ≤ levels-most → row-given F conditions-most a n ≡ all has (map (level-slot a) (from-to 1 n))
   unfolding row-given has
-  row-4 a n t h =
-      run-same _ _ 1 n (λ i x y. sym (st .given (for-level t (is-among 4 i x (omega arith))))) ∙ sym (all-map has (level-slot a) (from-to 1 n))
+  row-levels a n t h =
+      run-same _ _ 1 n (λ i x y. sym (st .given (for-level t (is-among levels-most i x (omega arith))))) ∙ sym (all-map has (level-slot a) (from-to 1 n))
 
-  wanted-run : (x k : ℕ) → 1 ≤ x → x + k ≤ 9 → all (action-given F (p .site)) (from-to x k) ≡ all has (wanted-by (p .site) (from-to x k))
+  wanted-run : (x k : ℕ) → 1 ≤ x → x + k ≤ actions-most + 1 → all (action-given F (p .site)) (from-to x k) ≡ all has (wanted-by (p .site) (from-to x k))
   unfolding all from-to wanted-by action-given has
   wanted-run x zero h i = refl
   wanted-run x (suc k) h i =
-      let t = is-among 8 x h (omega arith) in
+      let t = is-among actions-most x h (omega arith) in
       let C = map (chance-slot x) (from-to 1 (p .site .conditions)) in
       let L = map (level-slot x) (from-to 1 (p .site .levels)) in
       let R = wanted-by (p .site) (from-to (suc x) k) in
-      ap₂ _&&_ (ap₂ _&&_ (sym (st .given (for-reward t))) (ap₂ _&&_ (row-0 x (p .site .conditions) t (st .conditions)) (row-4 x (p .site .levels) t (st .levels)))) (wanted-run (suc x) k (omega arith) (omega arith))
+      ap₂ _&&_ (ap₂ _&&_ (sym (st .given (for-reward t))) (ap₂ _&&_ (row-chances x (p .site .conditions) t (st .conditions)) (row-levels x (p .site .levels) t (st .levels)))) (wanted-run (suc x) k (omega arith) (omega arith))
       ∙ and-assoc (has (reward-slot x)) (all has C && all has L) (all has R)
       ∙ ap (λ (b : Bool). has (reward-slot x) && b) (and-assoc (all has C) (all has L) (all has R) ∙ ap (λ (b : Bool). all has C && b) (sym (all-append has L R)) ∙ sym (all-append has C (L ++ R)))
 
@@ -154,11 +155,11 @@ end-done b n e h = rw (e, le-ltb 0 n h)
 
 -- ---- the first command and the later ones
 
-module _ {s : CodeProgress} {F : List Bool} {p : Progress} (st : Stands s F p) (c : Command) where
-  pub begun-rules : s .begun ≡ true → first-broken (later-rules (p .site) (p .stack) (p .given) c) ≡ first-broken (rules-of p c)
-  unfolding rules-of
+module _ {s : CodeProgress} {F : List Bool} {p : Progress} (st : Stands s F p) (form : Form) (c : Command) where
+  pub begun-rules : s .begun ≡ true → first-broken (later-rules (p .site) (p .stack) (p .given) c) ≡ first-broken (rules-in form p c)
+  unfolding rules-in
   begun-rules e = let b : p .begun ≡ true = sym (st .begun) ∙ e in rw b
 
-  pub first-rules-of : s .begun ≡ false → first-broken (first-rules c) ≡ first-broken (rules-of p c)
-  unfolding rules-of
+  pub first-rules-of : s .begun ≡ false → first-broken (first-rules form c) ≡ first-broken (rules-in form p c)
+  unfolding rules-in
   first-rules-of e = let b : p .begun ≡ false = sym (st .begun) ∙ e in rw b

@@ -8,11 +8,12 @@ use borrow.Author.Tests.{lt-ltb, leb-false, ltb-false}
 use lib.Dec.{T, ltb}
 use lib.ListN.{length, length-set, length-replicate, getD, set, drop, replicate}
 use Rattle.whole.specs.Cases.{if}
-use Rattle.theory.specs.Widths.{stack-most, flags-most}
+use Rattle.theory.specs.Widths.{levels-most, conditions-most, actions-most, stack-most, flags-most}
+use Rattle.theory.specs.Form.{Form, old-form, new-form, levels-in, actions-in, linear-bytes}
 use Rattle.theory.specs.Diagram.{Linear}
 use Rattle.theory.specs.Valid.{among}
-use Rattle.theory.specs.Command.{Command, site, push-leaf, push-condition, push-test, give, name-action, end-model, Slot, whole, read-at}
-use Rattle.theory.specs.Verdict.{or, Facts, Site, site-of, has-slot, Progress, with-stack, with-slot, at-start, Rule, rule, first-broken, first-rules, later-rules, site-rules, rules-of, after, joined, is-weight, of-site}
+use Rattle.theory.specs.Command.{Command, site, push-leaf, push-condition, push-test, give, name-action, end-model, Slot, whole, read-in}
+use Rattle.theory.specs.Verdict.{or, Facts, Site, site-of, has-slot, Progress, with-stack, with-slot, at-start, Rule, rule, first-broken, first-rules, later-rules, site-rules, rules-in, after, joined, is-weight, of-site}
 use Rattle.command.specs.declared.Command.{Command as CodeCommand}
 use Rattle.command.proofs.Command.{the-type}
 use types.Run.{OneOf, miss}
@@ -20,9 +21,9 @@ use denote.Enum.Declared.{tagOf}
 use Rattle.command.specs.declared.Command.the-variants.{Site as SiteBy, Leaf, Condition, Test, Give, Name, End}
 use Rattle.command.proofs.Forward.{has-linear, linear-room}
 use Rattle.progress.specs.declared.Seen.{Seen}
-use Rattle.command.specs.Reading.{with-linear, command-of}
+use Rattle.command.specs.Reading.{command-of-in}
 use Rattle.progress.specs.declared.Progress.{Progress as CodeProgress}
-use Rattle.progress.specs.Standing.{site-as, seen-in, seen, place, flag-of, noted, Slotted, for-name, Stands, Leaves, Later}
+use Rattle.progress.specs.Standing.{site-as, seen-in, seen, place, names-row, flag-of, noted, Slotted, for-name, Stands, Leaves, Later}
 use Rattle.progress.proofs.Numbers.{bounds, is-among, not-false-T}
 use Rattle.progress.proofs.Flags.{flag-more, no-flag, slotted-given}
 use Rattle.progress.proofs.Bits.{seen-length}
@@ -39,29 +40,29 @@ unfolding first-broken
 one-rule k = refl
 
 -- only a site breaks none as the first command
-later-unbroken : (p : Progress) (c : Command) → first-broken (first-rules c) ≡ 1 → first-broken (rules-of p c) ≡ 0 → first-broken (later-rules (p .site) (p .stack) (p .given) c) ≡ 0
-unfolding rules-of
-later-unbroken p c f e = go (p .begun) e
+later-unbroken : (form : Form) (p : Progress) (c : Command) → first-broken (first-rules form c) ≡ 1 → first-broken (rules-in form p c) ≡ 0 → first-broken (later-rules (p .site) (p .stack) (p .given) c) ≡ 0
+unfolding rules-in
+later-unbroken form p c f e = go (p .begun) e
   where
-    go : (b : Bool) → first-broken (if b (later-rules (p .site) (p .stack) (p .given) c) (first-rules c)) ≡ 0 → first-broken (later-rules (p .site) (p .stack) (p .given) c) ≡ 0
+    go : (b : Bool) → first-broken (if b (later-rules (p .site) (p .stack) (p .given) c) (first-rules form c)) ≡ 0 → first-broken (later-rules (p .site) (p .stack) (p .given) c) ≡ 0
     go true e = e
     go false e = absurd (let z : _≡_ {A = ℕ} 0 1 = cc in omega arith)
 
 -- a site that breaks none is the first command
-not-site : (p : Progress) (m n a w : ℕ) → first-broken (rules-of p (site m n a w)) ≡ 0 → (p .begun ≡ false) × (first-broken (site-rules (site-of m n a w)) ≡ 0)
-unfolding rules-of later-rules first-rules first-broken
-not-site p m n a w e = go (p .begun) e
+not-site : (form : Form) (p : Progress) (m n a w : ℕ) → first-broken (rules-in form p (site m n a w)) ≡ 0 → (p .begun ≡ false) × (first-broken (site-rules form (site-of m n a w)) ≡ 0)
+unfolding rules-in later-rules first-rules first-broken
+not-site form p m n a w e = go (p .begun) e
   where
-    go : (b : Bool) → first-broken (if b (later-rules (p .site) (p .stack) (p .given) (site m n a w)) (first-rules (site m n a w))) ≡ 0 → (b ≡ false) × (first-broken (site-rules (site-of m n a w)) ≡ 0)
+    go : (b : Bool) → first-broken (if b (later-rules (p .site) (p .stack) (p .given) (site m n a w)) (first-rules form (site m n a w))) ≡ 0 → (b ≡ false) × (first-broken (site-rules form (site-of m n a w)) ≡ 0)
     go true e = absurd (let z : _≡_ {A = ℕ} 0 1 = cc in omega arith)
     go false e = (refl, e)
 
 -- any other that breaks none is a later one
-is-later : (p : Progress) (c : Command) → first-broken (first-rules c) ≡ 1 → first-broken (rules-of p c) ≡ 0 → p .begun ≡ true
-unfolding rules-of
-is-later p c f e = go (p .begun) e
+is-later : (form : Form) (p : Progress) (c : Command) → first-broken (first-rules form c) ≡ 1 → first-broken (rules-in form p c) ≡ 0 → p .begun ≡ true
+unfolding rules-in
+is-later form p c f e = go (p .begun) e
   where
-    go : (b : Bool) → first-broken (if b (later-rules (p .site) (p .stack) (p .given) c) (first-rules c)) ≡ 0 → b ≡ true
+    go : (b : Bool) → first-broken (if b (later-rules (p .site) (p .stack) (p .given) c) (first-rules form c)) ≡ 0 → b ≡ true
     go true e = refl
     go false e = absurd (let z : _≡_ {A = ℕ} 0 1 = cc in omega arith)
 
@@ -81,6 +82,11 @@ length-joined b (x ∷ []) = omega arith
 length-joined b (x ∷ y ∷ l) = omega arith
 
 -- ---- the state made anew
+
+-- no form has more than the widths
+within-widths : (form : Form) → (levels-in form ≤ levels-most) × (actions-in form ≤ actions-most)
+within-widths old-form = (omega arith, omega arith)
+within-widths new-form = (omega arith, omega arith)
 
 module _ {s : CodeProgress} {F : List Bool} {p : Progress} (st : Stands s F p) where
   keep-stack : (t : Seen) (K : List Facts) → seen t ≡ K → length K ≤ stack-most → Stands (record { begun = s .begun; site = s .site; seen = t }) F (with-stack p K)
@@ -115,15 +121,6 @@ module _ {s : CodeProgress} {F : List Bool} {p : Progress} (st : Stands s F p) w
   depth : s .seen .len ≡ length (p .stack)
   depth = sym (seen-length (s .seen .later) (s .seen .weights) (s .seen .len)) ∙ ap length (st .stack)
 
-  pub after-leaf : (P : Linear) (w : Bool) (t : Seen) → w ≡ is-weight (s .site .weights) P → (s .seen .len < stack-most → seen t ≡ record { next-step = false; weights = w } ∷ seen (s .seen))
-      → first-broken (rules-of p (push-leaf P)) ≡ 0 → Stands (record { begun = s .begun; site = s .site; seen = t }) F (after p (push-leaf P))
-  unfolding after first-rules later-rules
-  after-leaf P w t f h u =
-      let v = passes 4 _ _ (passes 3 _ _ (later-unbroken p (push-leaf P) (one-rule 1) u) .1) in
-      let n : length (p .stack) < stack-most = leb-false stack-most (length (p .stack)) (v .0) in
-      let d = depth in
-      keep-stack t _ (h (omega arith) ∙ ap₂ (λ (x : Bool) (K : List Facts). record { next-step = false; weights = x } ∷ K) (f ∙ ap (λ (S : Site). is-weight (S .weights) P) (st .site)) (st .stack)) n
-
   joined-keeps : (later : Bool) (t : Seen) → (2 ≤ s .seen .len → s .seen .len ≤ stack-most → seen t ≡ joined later (seen (s .seen)))
       → ltb (length (p .stack)) 2 ≡ false → Stands (record { begun = s .begun; site = s .site; seen = t }) F (with-stack p (joined later (p .stack)))
   joined-keeps later t f u =
@@ -132,40 +129,46 @@ module _ {s : CodeProgress} {F : List Bool} {p : Progress} (st : Stands s F p) w
       let d = depth in
       keep-stack t _ (f (omega arith) (omega arith) ∙ ap (joined later) (st .stack)) (omega (arith, length-joined later (p .stack)))
 
-  pub after-condition : (k : ℕ) (t : Seen) → (2 ≤ s .seen .len → s .seen .len ≤ stack-most → seen t ≡ joined (ltb 4 k) (seen (s .seen)))
-      → first-broken (rules-of p (push-condition k)) ≡ 0 → Stands (record { begun = s .begun; site = s .site; seen = t }) F (after p (push-condition k))
+module _ (form : Form) {s : CodeProgress} {F : List Bool} {p : Progress} (st : Stands s F p) where
+  pub after-leaf : (P : Linear) (w : Bool) (t : Seen) → w ≡ is-weight (s .site .weights) P → (s .seen .len < stack-most → seen t ≡ record { next-step = false; weights = w } ∷ seen (s .seen))
+      → first-broken (rules-in form p (push-leaf P)) ≡ 0 → Stands (record { begun = s .begun; site = s .site; seen = t }) F (after p (push-leaf P))
   unfolding after first-rules later-rules
-  after-condition k t f u = joined-keeps (ltb 4 k) t f (passes 4 _ _ (passes 3 _ _ (later-unbroken p (push-condition k) (one-rule 1) u) .1) .0)
+  after-leaf P w t f h u =
+      let v = passes 4 _ _ (passes 3 _ _ (later-unbroken form p (push-leaf P) (one-rule 1) u) .1) in
+      let n : length (p .stack) < stack-most = leb-false stack-most (length (p .stack)) (v .0) in
+      let d = depth st in
+      keep-stack st t _ (h (omega arith) ∙ ap₂ (λ (x : Bool) (K : List Facts). record { next-step = false; weights = x } ∷ K) (f ∙ ap (λ (S : Site). is-weight (S .weights) P) (st .site)) (st .stack)) n
+
+  pub after-condition : (k : ℕ) (t : Seen) → (2 ≤ s .seen .len → s .seen .len ≤ stack-most → seen t ≡ joined (ltb conditions-most k) (seen (s .seen)))
+      → first-broken (rules-in form p (push-condition k)) ≡ 0 → Stands (record { begun = s .begun; site = s .site; seen = t }) F (after p (push-condition k))
+  unfolding after first-rules later-rules
+  after-condition k t f u = joined-keeps st (ltb conditions-most k) t f (passes 4 _ _ (passes 3 _ _ (later-unbroken form p (push-condition k) (one-rule 1) u) .1) .0)
 
   pub after-test : (P : Linear) (t : Seen) → (2 ≤ s .seen .len → s .seen .len ≤ stack-most → seen t ≡ joined false (seen (s .seen)))
-      → first-broken (rules-of p (push-test P)) ≡ 0 → Stands (record { begun = s .begun; site = s .site; seen = t }) F (after p (push-test P))
+      → first-broken (rules-in form p (push-test P)) ≡ 0 → Stands (record { begun = s .begun; site = s .site; seen = t }) F (after p (push-test P))
   unfolding after first-rules later-rules
-  after-test P t f u = joined-keeps false t f (passes 4 _ _ (passes 3 _ _ (passes 3 _ _ (later-unbroken p (push-test P) (one-rule 1) u) .1) .1) .0)
+  after-test P t f u = joined-keeps st false t f (passes 4 _ _ (passes 3 _ _ (passes 3 _ _ (later-unbroken form p (push-test P) (one-rule 1) u) .1) .1) .0)
 
-  pub after-give : (g : Slot) (t : Seen) → seen t ≡ drop 1 (seen (s .seen)) → first-broken (rules-of p (give g)) ≡ 0
+  pub after-give : (g : Slot) (t : Seen) → seen t ≡ drop 1 (seen (s .seen)) → first-broken (rules-in form p (give g)) ≡ 0
       → Stands (record { begun = s .begun; site = s .site; seen = t }) (set F (flag-of g) true) (after p (give g))
   unfolding after first-rules later-rules
   after-give g t h u =
-      let v = passes 3 _ _ (later-unbroken p (give g) (one-rule 1) u) in
-      keep-flag t _ (slotted-given (p .site) g (st .levels) (st .conditions) (st .actions) (not-false-T (of-site (p .site) g) (v .0))) (is-later p (give g) (one-rule 1) u)
+      let v = passes 3 _ _ (later-unbroken form p (give g) (one-rule 1) u) in
+      keep-flag st t _ (slotted-given (p .site) g (st .levels) (st .conditions) (st .actions) (not-false-T (of-site (p .site) g) (v .0))) (is-later form p (give g) (one-rule 1) u)
       (h ∙ ap (drop 1) (st .stack)) (let z = st .sized in omega (arith, length-drop-one (p .stack)))
 
-  pub after-name : (a : ℕ) (b : List ℕ) → first-broken (rules-of p (name-action a b)) ≡ 0 → Stands s (set F (place 9 0 a) true) (after p (name-action a b))
+  pub after-name : (a : ℕ) (b : List ℕ) → first-broken (rules-in form p (name-action a b)) ≡ 0 → Stands s (set F (place names-row 0 a) true) (after p (name-action a b))
   unfolding after first-rules later-rules
   after-name a b u =
-      let v = passes 3 _ _ (later-unbroken p (name-action a b) (one-rule 1) u) in
-      keep-flag (s .seen) _ (for-name (good (p .site .actions) a 8 (st .actions) (v .0))) (is-later p (name-action a b) (one-rule 1) u) (st .stack) (st .sized)
-
-  pub after-end : Stands s F (after p end-model)
-  unfolding after
-  after-end = st
+      let v = passes 3 _ _ (later-unbroken form p (name-action a b) (one-rule 1) u) in
+      keep-flag st (s .seen) _ (for-name (good (p .site .actions) a actions-most (st .actions) (v .0))) (is-later form p (name-action a b) (one-rule 1) u) (st .stack) (st .sized)
 
   -- nothing has been given before the site
   pub after-site : (m n a w : ℕ) (r : CodeProgress) → r .begun ≡ true → site-as (r .site) ≡ site-of m n a w → seen (r .seen) ≡ []
-      → first-broken (rules-of p (site m n a w)) ≡ 0 → Stands r F (after p (site m n a w))
+      → first-broken (rules-in form p (site m n a w)) ≡ 0 → Stands r F (after p (site m n a w))
   unfolding after site-rules
   after-site m n a w r b i e u =
-      let q = not-site p m n a w u in
+      let q = not-site form p m n a w u in
       let v = passes 3 _ _ (q .1) in
       let x = passes 3 _ _ (v .1) in
       let y = passes 3 _ _ (x .1) in
@@ -176,11 +179,15 @@ module _ {s : CodeProgress} {F : List Bool} {p : Progress} (st : Stands s F p) w
         given = λ {g} o. ap (has-slot g) (sym (st .none (q .0))) ∙ st .given o;
         none = λ z. refl;
         flags = st .flags;
-        levels = bounds 4 m (not-false-T (among 4 m) (v .0)) .1;
-        conditions = ltb-false 4 n (x .0);
-        actions = bounds 8 a (not-false-T (among 8 a) (y .0)) .1;
+        levels = let h = bounds (levels-in form) m (not-false-T (among (levels-in form) m) (v .0)) in omega (arith, h .1, within-widths form .0);
+        conditions = ltb-false conditions-most n (x .0);
+        actions = let h = bounds (actions-in form) a (not-false-T (among (actions-in form) a) (y .0)) in omega (arith, h .1, within-widths form .1);
         sized = omega arith;
       }
+
+pub after-end : {s : CodeProgress} {F : List Bool} {p : Progress} → Stands s F p → Stands s F (after p end-model)
+unfolding after
+after-end st = st
 
 -- ---- the first state
 
@@ -206,41 +213,41 @@ stands-start t e = record {
 -- ---- the first command
 
 -- any but a site breaks the first rule
-pub not-first : (B : List ℕ) (at : ℕ) (c : CodeCommand) → OneOf (1 ∷ 2 ∷ 3 ∷ 4 ∷ 5 ∷ 6 ∷ []) (tagOf the-type c) → 1 ≡ first-broken (first-rules (command-of B at c))
-unfolding command-of first-rules first-broken
-not-first B at (SiteBy m n a w) k = absurd (miss (1 ∷ 2 ∷ 3 ∷ 4 ∷ 5 ∷ 6 ∷ []) 0 tt k)
-not-first B at Leaf k = refl
-not-first B at (Condition i) k = refl
-not-first B at Test k = refl
-not-first B at (Give x a j) k = refl
-not-first B at (Name a) k = refl
-not-first B at End k = refl
+pub not-first : (form : Form) (B : List ℕ) (at : ℕ) (c : CodeCommand) → OneOf (1 ∷ 2 ∷ 3 ∷ 4 ∷ 5 ∷ 6 ∷ []) (tagOf the-type c) → 1 ≡ first-broken (first-rules form (command-of-in form B at c))
+unfolding command-of-in first-rules first-broken
+not-first form B at (SiteBy m n a w) k = absurd (miss (1 ∷ 2 ∷ 3 ∷ 4 ∷ 5 ∷ 6 ∷ []) 0 tt k)
+not-first form B at Leaf k = refl
+not-first form B at (Condition i) k = refl
+not-first form B at Test k = refl
+not-first form B at (Give x a j) k = refl
+not-first form B at (Name a) k = refl
+not-first form B at End k = refl
 
-module _ (B : List ℕ) (at : ℕ) (c : CodeCommand) (r : CodeProgress) where
+module _ (form : Form) (B : List ℕ) (at : ℕ) (c : CodeCommand) (r : CodeProgress) where
   abbrev First : Type 0
-  First = first-broken (first-rules (command-of B at c)) ≡ 0 → (r .begun ≡ true) × Stands r (replicate flags-most false) (after at-start (command-of B at c))
+  First = first-broken (first-rules form (command-of-in form B at c)) ≡ 0 → (r .begun ≡ true) × Stands r (replicate flags-most false) (after at-start (command-of-in form B at c))
 
   pub first-site : {m n a w : ℕ} → c ≡ SiteBy m n a w → r .begun ≡ true → site-as (r .site) ≡ site-of m n a w → seen (r .seen) ≡ [] → First
-  unfolding rules-of command-of seen-in
-  first-site {m} {n} {a} {w} e b i k = subst (λ (d : CodeCommand). first-broken (first-rules (command-of B at d)) ≡ 0 → (r .begun ≡ true) × Stands r (replicate flags-most false) (after at-start (command-of B at d))) (sym e)
-      (λ u. (b, after-site (stands-start (record { len = 0; later = 0; weights = 0 }) refl) m n a w r b i k u))
+  unfolding rules-in command-of-in seen-in
+  first-site {m} {n} {a} {w} e b i k = subst (λ (d : CodeCommand). first-broken (first-rules form (command-of-in form B at d)) ≡ 0 → (r .begun ≡ true) × Stands r (replicate flags-most false) (after at-start (command-of-in form B at d))) (sym e)
+      (λ u. (b, after-site form (stands-start (record { len = 0; later = 0; weights = 0 }) refl) m n a w r b i k u))
 
   pub first-other : OneOf (1 ∷ 2 ∷ 3 ∷ 4 ∷ 5 ∷ 6 ∷ []) (tagOf the-type c) → First
-  first-other k u = absurd (let z : _≡_ {A = ℕ} 0 1 = sym (not-first B at c k ∙ u) in omega arith)
+  first-other k u = absurd (let z : _≡_ {A = ℕ} 0 1 = sym (not-first form B at c k ∙ u) in omega arith)
 
 -- ---- a command that is known by its case
 
-pub by-command : (B : List ℕ) (at : ℕ) (s : CodeProgress) {c d : CodeCommand} {r q : CodeProgress} → c ≡ d → r ≡ q → Leaves B at s d q → Leaves B at s c r
-by-command B at s {c} {d} {r} {q} e f g = subst (λ (x : CodeCommand). Leaves B at s x r) (sym e) (subst (λ (x : CodeProgress). Leaves B at s d x) (sym f) g)
+pub by-command : (form : Form) (B : List ℕ) (at : ℕ) (s : CodeProgress) {c d : CodeCommand} {r q : CodeProgress} → c ≡ d → r ≡ q → Leaves form B at s d q → Leaves form B at s c r
+by-command form B at s {c} {d} {r} {q} e f g = subst (λ (x : CodeCommand). Leaves form B at s x r) (sym e) (subst (λ (x : CodeProgress). Leaves form B at s d x) (sym f) g)
 
-pub known-command : (s : CodeProgress) (F : List Bool) (B : List ℕ) (at k : ℕ) {c d : CodeCommand} → c ≡ d → Later s F (command-of B at d) k → Later s F (command-of B at c) k
-known-command s F B at k e g = subst (λ (x : CodeCommand). Later s F (command-of B at x) k) (sym e) g
+pub known-command : (form : Form) (s : CodeProgress) (F : List Bool) (B : List ℕ) (at k : ℕ) {c d : CodeCommand} → c ≡ d → Later s F (command-of-in form B at d) k → Later s F (command-of-in form B at c) k
+known-command form s F B at k e g = subst (λ (x : CodeCommand). Later s F (command-of-in form B at x) k) (sym e) g
 
 -- the bytes of a command that is known by its case
-pub leaf-there : (B : List ℕ) (at : ℕ) {c : CodeCommand} → c ≡ Leaf → whole (command-of B at c) ≡ read-at B at → at + with-linear ≤ length B
-unfolding command-of has-linear
-leaf-there B at {c} e w = linear-room B at _ (subst (λ (d : CodeCommand). T (has-linear (command-of B at d))) (sym e) tt) w
+pub leaf-there : (form : Form) (B : List ℕ) (at : ℕ) {c : CodeCommand} → c ≡ Leaf → whole (command-of-in form B at c) ≡ read-in form B at → at + (1 + linear-bytes form) ≤ length B
+unfolding command-of-in has-linear
+leaf-there form B at {c} e w = linear-room form B at _ (subst (λ (d : CodeCommand). T (has-linear (command-of-in form B at d))) (sym e) tt) w
 
-pub test-there : (B : List ℕ) (at : ℕ) {c : CodeCommand} → c ≡ Test → whole (command-of B at c) ≡ read-at B at → at + with-linear ≤ length B
-unfolding command-of has-linear
-test-there B at {c} e w = linear-room B at _ (subst (λ (d : CodeCommand). T (has-linear (command-of B at d))) (sym e) tt) w
+pub test-there : (form : Form) (B : List ℕ) (at : ℕ) {c : CodeCommand} → c ≡ Test → whole (command-of-in form B at c) ≡ read-in form B at → at + (1 + linear-bytes form) ≤ length B
+unfolding command-of-in has-linear
+test-there form B at {c} e w = linear-room form B at _ (subst (λ (d : CodeCommand). T (has-linear (command-of-in form B at d))) (sym e) tt) w

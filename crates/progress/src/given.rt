@@ -6,16 +6,16 @@ ghost use lib.ListN.{getD, set};
 ghost use Rattle.progress.specs.Standing.{base-of, row-given, action-given, all-given, site-as, noted};
 ghost use Rattle.progress.specs.Standing.{place as place-of};
 use super::Site;
+use super::operands::CONDITIONS;
 use command::Command;
+use command::forms::ACTIONS;
+use command::forms::LEVELS;
 
-// Flags in all: the end worth's, then rows of the eight actions from 1 on, for the reward, each chance, each next level and the name.
-pub const FLAGS: usize = 81;
+// Flags in all: the end worth's, then rows of the actions from 1 on, for the reward, each chance, each next level and the name.
+pub const FLAGS: usize = (2 + CONDITIONS + LEVELS) * ACTIONS + 1;
 
-// The row before the first next level's.
-pub const LEVELS: usize = 4;
-
-// The row of names.
-pub const NAMES: usize = 9;
+// The row of names: those before it are for the reward, the chances and the next levels.
+pub const NAMES: usize = 1 + CONDITIONS + LEVELS;
 
 fn wide(x: u8) -> usize
     ensures { λ r. ⌜ (r ≡ x) × (r < 256) ⌝ }
@@ -23,19 +23,25 @@ fn wide(x: u8) -> usize
     x as usize
 }
 
-// The place of a flag: rewards have base 0 and i 0, chances base 0, next levels base 4, names base 9 and i 0; the end worth, of action 0, has all 0.
-pub(crate) fn place(base: usize, i: u8, a: u8) -> usize
+fn wide_action(x: u16) -> usize
+    ensures { λ r. ⌜ (r ≡ x) × (r < 65536) ⌝ }
+{
+    x as usize
+}
+
+// The place of a flag: rewards have base 0 and i 0, chances base 0, next levels the conditions as their base, names their row and i 0; the end worth, of action 0, has all 0.
+pub(crate) fn place(base: usize, i: u8, a: u16) -> usize
     requires { ⌜ base < 256 ⌝ }
     ensures { λ r. ⌜ r ≡ place-of base i a ⌝ }
 {
-    (base + wide(i)) * 8 + wide(a)
+    (base + wide(i)) * ACTIONS + wide_action(a)
 }
 
 // The base of what a command gives.
 pub fn base(command: u8) -> usize
     ensures { λ r. ⌜ (r ≡ base-of command) × (r < 256) ⌝ }
 {
-    if command == 0x22 { LEVELS } else { 0 }
+    if command == 0x22 { CONDITIONS } else { 0 }
 }
 
 pub fn has(flags: &[bool], i: usize) -> bool
@@ -64,7 +70,7 @@ pub fn note(flags: &mut [bool], c: Command)
 }
 
 // Flags 1 to n of an action's row.
-fn row(flags: &[bool], base: usize, a: u8, n: u8) -> bool
+fn row(flags: &[bool], base: usize, a: u16, n: u8) -> bool
     requires { ⌜ base < 256 ⌝ }
     ensures { λ r. ⌜ r ≡ row-given (now (flags .entry)) base a n ⌝ }
 {
@@ -78,14 +84,14 @@ fn row(flags: &[bool], base: usize, a: u8, n: u8) -> bool
     true
 }
 
-fn action(flags: &[bool], site: Site, a: u8) -> bool
+fn action(flags: &[bool], site: Site, a: u16) -> bool
     ensures { λ r. ⌜ r ≡ action-given (now (flags .entry)) (site-as site) a ⌝ }
 {
     if has(flags, place(0, 0, a)) {} else {
         return false;
     }
     if row(flags, 0, a, site.conditions) {
-        row(flags, LEVELS, a, site.levels)
+        row(flags, CONDITIONS, a, site.levels)
     } else {
         false
     }
@@ -96,7 +102,7 @@ pub fn complete(flags: &[bool], site: Site) -> bool
     ensures { λ r. ⌜ r ≡ all-given (now (flags .entry)) (site-as site) ⌝ }
 {
     let n = site.actions;
-    let mut a: u8 = 0;
+    let mut a: u16 = 0;
     while a < n {
         a += 1;
         if action(flags, site, a) {} else {

@@ -10,7 +10,7 @@ pub mod states;
 pub struct Site {
     pub levels: u8,
     pub conditions: u8,
-    pub actions: u8,
+    pub actions: u16,
     pub weights: u8,
 }
 

@@ -7,7 +7,9 @@ ghost use Prim.Native.Nat.{_+_, _*_, _≤_};
 ghost use lib.IntN.{pos};
 ghost use lib.ListN.{length, take, drop};
 ghost use lib.Signed.{leZ};
-ghost use Rattle.theory.specs.Widths.{conditions-most};
+ghost use Rattle.theory.specs.Widths.{conditions-most, name-bytes};
+ghost use Rattle.theory.specs.Form.{linear-bytes};
+ghost use Rattle.command.specs.Forms.{form-of};
 ghost use Rattle.theory.specs.Diagram.{zeros as zeros-in};
 ghost use Rattle.theory.specs.Valid.{all};
 ghost use Rattle.theory.specs.Valid.{among as is-among};
@@ -16,25 +18,22 @@ ghost use Rattle.progress.specs.Standing.{site-as};
 ghost use Rattle.whole.specs.Cases.{if};
 ghost use Rattle.theory.specs.Verdict.{beyond as some-beyond};
 ghost use Rattle.theory.specs.Verdict.{printable as is-printable};
-ghost use Rattle.theory.specs.Command.{signed, signed-from, linear-at};
+ghost use Rattle.theory.specs.Command.{signed, signed-from, linear-in};
 use super::Site;
 use super::facts::both;
 use super::facts::either;
 use super::refusals::OPERAND;
+use command::NAME_BYTES;
+use command::forms;
+use command::forms::Form;
 
-// "m levels (1 to 4)", as many coefficients; "n conditions (0 to 4)"; "A actions (1 to 8)"; "weight total W (1 to 100)".
-const LEVELS: u8 = 4;
+// "n conditions (0 to 4)"; "weight total W (1 to 100)".
+pub const CONDITIONS: usize = 4;
 
-const COEFFICIENTS: usize = 4;
-
-const CONDITIONS: u8 = 4;
-
-const ACTIONS: u8 = 8;
-
-const WEIGHTS: u8 = 100;
+const WEIGHTS: usize = 100;
 
 // 1 to n.
-pub fn among(n: u8, k: u8) -> bool
+pub fn among(n: usize, k: usize) -> bool
     ensures { λ r. ⌜ r ≡ is-among n k ⌝ }
 {
     both(1 <= k, k <= n)
@@ -58,16 +57,25 @@ pub fn zeros(model: &[u8], from: usize, n: usize) -> bool
 }
 
 // "Coefficients beyond level m are zero", of the linear at an offset.
-pub fn beyond(model: &[u8], from: usize, m: u8) -> bool
-    requires { ⌜ from + 20 ≤ length (now model) ⌝ }
-    ensures { λ r. ⌜ r ≡ some-beyond m (linear-at (now (model .entry)) from) ⌝ }
+pub fn beyond(form: Form, model: &[u8], from: usize, m: u8) -> bool
+    requires { ⌜ from + linear-bytes (form-of form) ≤ length (now model) ⌝ }
+    ensures { λ r. ⌜ r ≡ some-beyond m (linear-in (form-of form) (now (model .entry)) from) ⌝ }
 {
-    if m < LEVELS {
-        let k = m as usize;
-        !zeros(model, from + k * 4, COEFFICIENTS - k)
+    let levels = forms::levels(form);
+    let k = m as usize;
+    if k < levels {
+        !zeros(model, from + k * 4, levels - k)
     } else {
         false
     }
+}
+
+// "A test has some coefficient not zero": whether the linear at an offset has none.
+pub fn is_constant(form: Form, model: &[u8], from: usize) -> bool
+    requires { ⌜ from + linear-bytes (form-of form) ≤ length (now model) ⌝ }
+    ensures { λ r. ⌜ r ≡ zeros-in (linear-in (form-of form) (now (model .entry)) from .coeffs) ⌝ }
+{
+    zeros(model, from, forms::levels(form))
 }
 
 fn weight_of(w: u8, n: u32) -> bool
@@ -77,13 +85,14 @@ fn weight_of(w: u8, n: u32) -> bool
 }
 
 // A constant 0 to W, of the linear at an offset.
-pub fn weight(model: &[u8], from: usize, w: u8) -> bool
-    requires { ⌜ from + 20 ≤ length (now model) ⌝ }
-    ensures { λ r. ⌜ r ≡ is-weight w (linear-at (now (model .entry)) from) ⌝ }
+pub fn weight(form: Form, model: &[u8], from: usize, w: u8) -> bool
+    requires { ⌜ from + linear-bytes (form-of form) ≤ length (now model) ⌝ }
+    ensures { λ r. ⌜ r ≡ is-weight w (linear-in (form-of form) (now (model .entry)) from) ⌝ }
 {
+    let constant = from + forms::levels(form) * 4;
     both(
-        zeros(model, from, COEFFICIENTS),
-        weight_of(w, command::word(model, from + 16)),
+        is_constant(form, model, from),
+        weight_of(w, command::word(model, constant)),
     )
 }
 
@@ -91,10 +100,12 @@ pub fn weight(model: &[u8], from: usize, w: u8) -> bool
 pub fn condition(n: u8, k: u8) -> bool
     ensures { λ r. ⌜ r ≡ or (is-among n k) (next-condition n k) ⌝ }
 {
-    if CONDITIONS < k {
-        either(among(n, k), among(n, k - CONDITIONS))
+    let most = n as usize;
+    let i = k as usize;
+    if CONDITIONS < i {
+        either(among(most, i), among(most, i - CONDITIONS))
     } else {
-        among(n, k)
+        among(most, i)
     }
 }
 
@@ -103,26 +114,29 @@ fn index(site: Site, command: u8, i: u8) -> bool
 {
     match command {
         0x20 => i == 0,
-        0x21 => among(site.conditions, i),
-        0x22 => among(site.levels, i),
+        0x21 => among(site.conditions as usize, i as usize),
+        0x22 => among(site.levels as usize, i as usize),
         _ => false,
     }
 }
 
 // "23 takes one diagram off the stack as the end worth, with no operand"
-fn end_worth(command: u8, a: u8, i: u8) -> bool
+fn end_worth(command: u8, a: u16, i: u8) -> bool
     ensures { λ r. ⌜ r ≡ same-slot (record { command = command; action = a; index = i }) end-slot ⌝ }
 {
     both(command == 0x23, both(a == 0, i == 0))
 }
 
 // "20 reward: action", "21 chance: action, condition", "22 next level: action, level": each is one of the site's.
-pub fn slot(site: Site, command: u8, a: u8, i: u8) -> bool
+pub fn slot(site: Site, command: u8, a: u16, i: u8) -> bool
     ensures { λ r. ⌜ r ≡ of-site (site-as site) (record { command = command; action = a; index = i }) ⌝ }
 {
     either(
         end_worth(command, a, i),
-        both(among(site.actions, a), index(site, command, i)),
+        both(
+            among(site.actions as usize, a as usize),
+            index(site, command, i),
+        ),
     )
 }
 
@@ -134,10 +148,10 @@ fn printable(b: u8) -> bool
 
 // Whether the bytes of a name from an offset on are printable.
 pub fn text(model: &[u8], from: usize) -> bool
-    ensures { λ r. ⌜ r ≡ all is-printable (take 16 (drop from (now (model .entry)))) ⌝ }
+    ensures { λ r. ⌜ r ≡ all is-printable (take name-bytes (drop from (now (model .entry)))) ⌝ }
 {
     let mut at = from;
-    let mut left: usize = 16;
+    let mut left: usize = NAME_BYTES;
     while 0 < left {
         if model.len() <= at {
             return true;
@@ -151,18 +165,22 @@ pub fn text(model: &[u8], from: usize) -> bool
     true
 }
 
-// m 1 to 4, n 0 to 4, A 1 to 8, W 1 to 100.
-pub fn site(m: u8, n: u8, a: u8, w: u8) -> u32
-    ensures { λ r. ⌜ r ≡ first-broken (site-rules (site-of m n a w)) ⌝ }
+// m 1 to 8, n 0 to 4, A 1 to 400, W 1 to 100; before K5, m 1 to 4 and A 1 to 8.
+pub fn site(form: Form, m: u8, n: u8, a: u16, w: u8) -> u32
+    ensures { λ r. ⌜ r ≡ first-broken (site-rules (form-of form) (site-of m n a w)) ⌝ }
 {
-    if among(LEVELS, m) {} else {
+    if among(forms::levels(form), m as usize) {} else {
         return OPERAND;
     }
-    if CONDITIONS < n {
+    if CONDITIONS < n as usize {
         return OPERAND;
     }
-    if among(ACTIONS, a) {} else {
+    if among(forms::actions(form), a as usize) {} else {
         return OPERAND;
     }
-    if among(WEIGHTS, w) { 0 } else { OPERAND }
+    if among(WEIGHTS, w as usize) {
+        0
+    } else {
+        OPERAND
+    }
 }

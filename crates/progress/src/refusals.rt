@@ -27,5 +27,5 @@ pub const EXTRA: u32 = 8;
 // Horizon or steps not 1 to 8.
 pub const STEPS: u32 = 9;
 
-// Stage words not eight, or model above 65,535 bytes.
+// Stage words not eight, or a model too long.
 pub const SIZES: u32 = 10;

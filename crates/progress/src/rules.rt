@@ -4,11 +4,13 @@ ghost use Prim.Native.Nat.{ℕ, _+_, _≤_};
 ghost use lib.ListN.{length};
 ghost use mathlib.Core.Bool.{Bool};
 ghost use mathlib.Core.List.{List};
-ghost use Rattle.theory.specs.Command.{push-leaf, push-condition, push-test, name-action, end-model, whole, read-at, linear-at};
+ghost use Rattle.theory.specs.Command.{push-leaf, push-condition, push-test, name-action, end-model, whole, read-in, linear-in};
 ghost use Rattle.theory.specs.Command.{give as given-to};
 ghost use Rattle.theory.specs.Valid.{all};
 ghost use Rattle.theory.specs.Verdict.{printable, first-broken, first-rules};
-ghost use Rattle.command.specs.Reading.{command-of};
+ghost use Rattle.theory.specs.Form.{linear-bytes};
+ghost use Rattle.command.specs.Forms.{form-of};
+ghost use Rattle.command.specs.Reading.{command-of-in};
 ghost use Rattle.progress.specs.Standing.{Breaks, Later, in-order};
 use super::Progress;
 use super::facts;
@@ -20,6 +22,8 @@ use super::refusals::ORDER;
 use super::refusals::STACK;
 use super::refusals::TWICE;
 use command::Command;
+use command::forms;
+use command::forms::Form;
 
 // "it holds at most 32"
 const STACK_MOST: usize = 32;
@@ -40,13 +44,13 @@ fn ordered(operand: bool, stack: bool, twice: bool, diagram: bool) -> u32
     if diagram { OPERAND } else { 0 }
 }
 
-fn leaf(model: &[u8], from: usize, s: Progress) -> u32
-    requires { ⌜ from + 20 ≤ length (now model) ⌝ }
-    ensures { λ r. ⌜ ((F : List Bool) → Later s F (push-leaf (linear-at (now (model .entry)) from)) r) ⌝ }
+fn leaf(form: Form, model: &[u8], from: usize, s: Progress) -> u32
+    requires { ⌜ from + linear-bytes (form-of form) ≤ length (now model) ⌝ }
+    ensures { λ r. ⌜ ((F : List Bool) → Later s F (push-leaf (linear-in (form-of form) (now (model .entry)) from)) r) ⌝ }
 {
     let full = STACK_MOST <= s.seen.len;
     ordered(
-        operands::beyond(model, from, s.site.levels),
+        operands::beyond(form, model, from, s.site.levels),
         full,
         false,
         false,
@@ -65,19 +69,19 @@ fn condition(s: Progress, k: u8) -> u32
     )
 }
 
-fn test(model: &[u8], from: usize, s: Progress) -> u32
-    requires { ⌜ from + 20 ≤ length (now model) ⌝ }
-    ensures { λ r. ⌜ ((F : List Bool) → Later s F (push-test (linear-at (now (model .entry)) from)) r) ⌝ }
+fn test(form: Form, model: &[u8], from: usize, s: Progress) -> u32
+    requires { ⌜ from + linear-bytes (form-of form) ≤ length (now model) ⌝ }
+    ensures { λ r. ⌜ ((F : List Bool) → Later s F (push-test (linear-in (form-of form) (now (model .entry)) from)) r) ⌝ }
 {
     let short = s.seen.len < 2;
     let operand = facts::either(
-        operands::beyond(model, from, s.site.levels),
-        operands::zeros(model, from, 4),
+        operands::beyond(form, model, from, s.site.levels),
+        operands::is_constant(form, model, from),
     );
     ordered(operand, short, false, false)
 }
 
-fn give(flags: &[bool], s: Progress, c: u8, a: u8, i: u8) -> u32
+fn give(flags: &[bool], s: Progress, c: u8, a: u16, i: u8) -> u32
     ensures { λ r. ⌜ Later s (now (flags .entry)) (given-to (record { command = c; action = a; index = i })) r ⌝ }
 {
     let short = s.seen.len < 1;
@@ -93,11 +97,11 @@ fn give(flags: &[bool], s: Progress, c: u8, a: u8, i: u8) -> u32
 }
 
 // `text`: whether the name's bytes are printable.
-fn name(flags: &[bool], s: Progress, a: u8, text: bool) -> u32
+fn name(flags: &[bool], s: Progress, a: u16, text: bool) -> u32
     ensures { λ r. ⌜ ((b : List ℕ) → text ≡ all printable b → Later s (now (flags .entry)) (name-action a b) r) ⌝ }
 {
     let twice = given::has(flags, given::place(given::NAMES, 0, a));
-    let operand = facts::either(!operands::among(s.site.actions, a), !text);
+    let operand = facts::either(!operands::among(s.site.actions as usize, a as usize), !text);
     ordered(operand, false, twice, false)
 }
 
@@ -111,40 +115,45 @@ fn end(flags: &[bool], s: Progress) -> u32
     if 0 < s.seen.len { MISSING } else { 0 }
 }
 
-// "01 site .. is first and only there"
-pub fn first(c: Command) -> u32
-    ensures { λ r. ⌜ ((B : List ℕ) (at : ℕ) → r ≡ first-broken (first-rules (command-of B at c))) ⌝ }
+// "site .. is first and only there"
+pub fn first(form: Form, c: Command) -> u32
+    ensures { λ r. ⌜ ((B : List ℕ) (at : ℕ) → r ≡ first-broken (first-rules (form-of form) (command-of-in (form-of form) B at c))) ⌝ }
 {
     if let Command::Site(m, n, a, w) = c {
-        operands::site(m, n, a, w)
+        operands::site(form, m, n, a, w)
     } else {
         ORDER
     }
 }
 
-fn later(model: &[u8], at: usize, c: Command, flags: &[bool], s: Progress) -> u32
-    requires { ⌜ whole (command-of (now model) at c) ≡ read-at (now model) at ⌝ }
-    ensures { λ r. ⌜ Later s (now (flags .entry)) (command-of (now (model .entry)) at c) r ⌝ }
+fn later(form: Form, model: &[u8], at: usize, c: Command, flags: &[bool], s: Progress) -> u32
+    requires { ⌜ whole (command-of-in (form-of form) (now model) at c) ≡ read-in (form-of form) (now model) at ⌝ }
+    ensures { λ r. ⌜ Later s (now (flags .entry)) (command-of-in (form-of form) (now (model .entry)) at c) r ⌝ }
 {
     match c {
         Command::Site(_, _, _, _) => ORDER,
-        Command::Leaf => leaf(model, at + 1, s),
+        Command::Leaf => leaf(form, model, at + 1, s),
         Command::Condition(k) => condition(s, k),
-        Command::Test => test(model, at + 1, s),
+        Command::Test => test(form, model, at + 1, s),
         Command::Give(c, a, i) => give(flags, s, c, a, i),
-        Command::Name(a) => name(flags, s, a, operands::text(model, at + 2)),
+        Command::Name(a) => name(
+            flags,
+            s,
+            a,
+            operands::text(model, at + forms::behind_action(form)),
+        ),
         Command::End => end(flags, s),
     }
 }
 
 // The command that stands at an offset, after those that left `flags` and `s`.
-pub fn broken(model: &[u8], at: usize, c: Command, flags: &[bool], s: Progress) -> u32
-    requires { ⌜ whole (command-of (now model) at c) ≡ read-at (now model) at ⌝ }
-    ensures { λ r. ⌜ Breaks s (now (flags .entry)) (command-of (now (model .entry)) at c) r ⌝ }
+pub fn broken(form: Form, model: &[u8], at: usize, c: Command, flags: &[bool], s: Progress) -> u32
+    requires { ⌜ whole (command-of-in (form-of form) (now model) at c) ≡ read-in (form-of form) (now model) at ⌝ }
+    ensures { λ r. ⌜ Breaks (form-of form) s (now (flags .entry)) (command-of-in (form-of form) (now (model .entry)) at c) r ⌝ }
 {
     if s.begun {
-        later(model, at, c, flags, s)
+        later(form, model, at, c, flags, s)
     } else {
-        first(c)
+        first(form, c)
     }
 }

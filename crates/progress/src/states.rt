@@ -3,13 +3,15 @@ ghost use mathlib.Core.Path.{_≡_};
 ghost use lib.ListN.{replicate};
 ghost use mathlib.Core.Bool.{true, false};
 ghost use mathlib.Core.List.{[]};
-ghost use Rattle.theory.specs.Command.{whole, read-at};
+ghost use Rattle.theory.specs.Command.{whole, read-in};
 ghost use Rattle.theory.specs.Widths.{flags-most};
 ghost use Prim.Native.Nat.{ℕ};
 ghost use mathlib.Core.List.{List};
 ghost use Rattle.theory.specs.Verdict.{at-start, site-of, first-broken, first-rules};
 ghost use Rattle.theory.specs.Verdict.{after as after-command};
-ghost use Rattle.command.specs.Reading.{command-of};
+ghost use Rattle.theory.specs.Form.{Form as Written};
+ghost use Rattle.command.specs.Forms.{form-of};
+ghost use Rattle.command.specs.Reading.{command-of-in};
 ghost use Rattle.progress.specs.Standing.{Stands, Leaves, site-as};
 ghost use Rattle.progress.specs.Standing.{seen as seen-of};
 use super::Progress;
@@ -17,7 +19,9 @@ use super::Seen;
 use super::Site;
 use super::facts;
 use super::operands;
+use super::operands::CONDITIONS;
 use command::Command;
+use command::forms::Form;
 
 pub fn start() -> Progress
     ensures { λ r. ⌜ Stands r (replicate flags-most false) at-start ⌝ }
@@ -34,7 +38,7 @@ pub fn start() -> Progress
     }
 }
 
-fn begun(m: u8, n: u8, a: u8, w: u8) -> Progress
+fn begun(m: u8, n: u8, a: u16, w: u8) -> Progress
     ensures { λ r. ⌜ (r .begun ≡ true) × ((site-as (r .site) ≡ site-of m n a w) × (seen-of (r .seen) ≡ [])) ⌝ }
 {
     Progress {
@@ -51,8 +55,8 @@ fn begun(m: u8, n: u8, a: u8, w: u8) -> Progress
 
 // Behind the first command, which is a site where it breaks no rule.
 pub fn first(c: Command) -> Progress
-    ensures { λ r. ⌜ ((B : List ℕ) (at : ℕ) → first-broken (first-rules (command-of B at c)) ≡ 0
-        → (r .begun ≡ true) × Stands r (replicate flags-most false) (after-command at-start (command-of B at c))) ⌝ }
+    ensures { λ r. ⌜ ((form : Written) (B : List ℕ) (at : ℕ) → first-broken (first-rules form (command-of-in form B at c)) ≡ 0
+        → (r .begun ≡ true) × Stands r (replicate flags-most false) (after-command at-start (command-of-in form B at c))) ⌝ }
 {
     if let Command::Site(m, n, a, w) = c {
         begun(m, n, a, w)
@@ -70,18 +74,18 @@ fn with_seen(s: Progress, seen: Seen) -> Progress
 }
 
 // Behind the command at an offset; what it gives is `given::note`'s.
-pub fn after(model: &[u8], at: usize, c: Command, s: Progress) -> Progress
-    requires { ⌜ whole (command-of (now model) at c) ≡ read-at (now model) at ⌝ }
-    ensures { λ r. ⌜ Leaves (now (model .entry)) at s c r ⌝ }
+pub fn after(form: Form, model: &[u8], at: usize, c: Command, s: Progress) -> Progress
+    requires { ⌜ whole (command-of-in (form-of form) (now model) at c) ≡ read-in (form-of form) (now model) at ⌝ }
+    ensures { λ r. ⌜ Leaves (form-of form) (now (model .entry)) at s c r ⌝ }
 {
     let seen = s.seen;
     match c {
         Command::Site(m, n, a, w) => begun(m, n, a, w),
         Command::Leaf => {
-            let weight = operands::weight(model, at + 1, s.site.weights);
+            let weight = operands::weight(form, model, at + 1, s.site.weights);
             with_seen(s, facts::pushed(seen, false, weight))
         }
-        Command::Condition(k) => with_seen(s, facts::joined(seen, 4 < k)),
+        Command::Condition(k) => with_seen(s, facts::joined(seen, CONDITIONS < k as usize)),
         Command::Test => with_seen(s, facts::joined(seen, false)),
         Command::Give(_, _, _) => with_seen(s, facts::popped(seen)),
         Command::Name(_) => s,

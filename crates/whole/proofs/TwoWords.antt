@@ -172,9 +172,6 @@ module _ (x y : Numerator) (s : Small (x .high) × Small (y .high)) where
 pub times-back : (c n : ℤ) → Small c → SFits w32 n → R c *ℤ R32 n ≡ c *ℤ n
 times-back c n s f = ap₂ _*ℤ_ (small-back c s) (back32 n f)
 
-pub then : (x y r : Numerator) (a b : ℤ) → Sum x y r → number x ≡ a → number y ≡ b → number r ≡ a +ℤ b
-then x y r a b s p q = s .is ∙ ap₂ _+ℤ_ p q
-
 -- ---- the words of a number that one word holds
 
 pub words-below : (z : ℤ) (n : ℕ) → SFits w64 z → ltZ z (pos 0) ≡ true → n ≡ natAbs z → (1 ≤ n) × (_≡_ {A = Numerator} (record { low = 18446744073709551615 - (n - 1); high = negsuc 0 }) (words z))

@@ -2,7 +2,7 @@
 use mathlib.Core.Path.{_≡_}
 use mathlib.Core.Bool.{Bool, true, false, _&&_}
 use mathlib.Core.List.{List, [], _∷_, map}
-use Prim.Native.Nat.{ℕ, suc, compare, Ordering, Ordering·lt, Ordering·eq, Ordering·gt}
+use Prim.Native.Nat.{ℕ, suc, _+_, compare, Ordering, Ordering·lt, Ordering·eq, Ordering·gt}
 use lib.Dec.{eqb}
 use lib.IntN.{ℤ, pos, negsuc, natAbs, _+ℤ_, _-ℤ_, _*ℤ_}
 use lib.ListN.{length, getD, take}
@@ -13,10 +13,10 @@ use Rattle.whole.specs.Within.{limit, Small, small}
 
 -- a linear's coefficients, and its numbers: one more, the constant
 abbrev pub coefficients : ℕ
-coefficients = 4
+coefficients = 8
 
 abbrev pub numbers : ℕ
-numbers = 5
+numbers = coefficients + 1
 
 -- as many, and each lies within the limits
 pub record Smalls (l : List ℤ) : Type 0 where

@@ -6,9 +6,9 @@ pub mod two_words; // two_words.rt: numerators in two words
 pub mod dot_product; // dot_product.rt: a linear's numerator at a point
 
 // The coefficients of a linear, and its numbers: the constant is the last.
-pub const COEFFICIENTS: usize = 4;
+pub const COEFFICIENTS: usize = 8;
 
-pub const NUMBERS: usize = 5;
+pub const NUMBERS: usize = COEFFICIENTS + 1;
 
 pub enum Within {
     Is(i64),

@@ -3,7 +3,7 @@ ghost use mathlib.Core.Path.{_≡_};
 ghost use lib.IntN.{_*ℤ_};
 ghost use lib.ListN.{take};
 ghost use Rattle.whole.specs.Divisor.{gcd-all};
-ghost use Rattle.whole.specs.Linears.{coefficients, Smalls, smalls, addL, subL, clipped, clipL, quotL, divisorL, cmpZ, cmpList, ordNum, eqL};
+ghost use Rattle.whole.specs.Linears.{coefficients, Smalls, smalls, addL, subL, clipped, clipL, quotL, divisorL, cmpZ, ordNum, eqL};
 use super::COEFFICIENTS;
 use super::NUMBERS;
 use super::Within;
@@ -127,21 +127,6 @@ pub fn compare_two(a: i64, b: i64) -> usize
     }
     if b < a {
         return 2;
-    }
-    1
-}
-
-// The same of two lists, by the first numbers that differ.
-pub fn compare(a: [i64; NUMBERS], b: [i64; NUMBERS]) -> usize
-    ensures { λ r. ⌜ r ≡ ordNum (cmpList a b) ⌝ }
-{
-    let mut i: usize = 0;
-    while i < NUMBERS {
-        let o = compare_two(a[i], b[i]);
-        if o != 1 {
-            return o;
-        }
-        i += 1;
     }
     1
 }

@@ -1,7 +1,7 @@
 // Numerators in two words: products and sums that one word cannot hold.
 ghost use mathlib.Core.Path.{_≡_};
 ghost use Prim.Native.Nat.{_*_, _≤_};
-ghost use lib.IntN.{pos, negℤ, _+ℤ_, _*ℤ_};
+ghost use lib.IntN.{pos, negℤ, _*ℤ_};
 ghost use lib.Signed.{leZ};
 ghost use Rattle.whole.specs.Within.{limit, Small};
 ghost use Rattle.whole.specs.Numerator.{number, words};
@@ -80,28 +80,6 @@ pub(crate) fn sum(x: Numerator, y: Numerator) -> Numerator
             high: high,
         }
     }
-}
-
-// The numerator of a linear at a point: each coefficient times its numerator, and the constant times the denominator.
-pub fn dot(
-    c1: i64,
-    c2: i64,
-    c3: i64,
-    c4: i64,
-    k: i64,
-    n1: i32,
-    n2: i32,
-    n3: i32,
-    n4: i32,
-    d: i32,
-) -> Numerator
-    requires { ⌜ Small c1 × Small c2 × Small c3 × Small c4 × Small k ⌝ }
-    ensures { λ r. ⌜ r ≡ words (c1 *ℤ n1 +ℤ c2 *ℤ n2 +ℤ c3 *ℤ n3 +ℤ c4 *ℤ n4 +ℤ k *ℤ d) ⌝ }
-{
-    let two = sum(product(c1, n1), product(c2, n2));
-    let three = sum(two, product(c3, n3));
-    let four = sum(three, product(c4, n4));
-    sum(four, product(k, d))
 }
 
 // The two words of a number that one word holds.

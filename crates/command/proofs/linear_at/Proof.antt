@@ -16,45 +16,35 @@ Inv-loop model at out₀ i₀ out i = Filled numbers (number-at model at) i out
 abbrev μ-loop : tie.MeasureT-loop
 μ-loop model at out₀ i₀ out i = numbers - i
 
--- src/lib.rt:87:5
 loop-holds : tie.Need-loop-holds Inv-loop μ-loop
 loop-holds c =
     none-filled refl
 
--- src/lib.rt:88:36
 mul-number : tie.Need-mul-number Inv-loop μ-loop
 mul-number c = omega arith
 
--- src/lib.rt:88:31
 add-number : tie.Need-add-number Inv-loop μ-loop
 add-number c = omega arith
 
--- src/lib.rt:88:13
 number-requires : tie.Need-number-requires Inv-loop μ-loop
 number-requires c κs = let p = c .before .before .before .pre in omega arith
 
--- src/lib.rt:89:9
 mul-out : tie.Need-mul-out Inv-loop μ-loop
 mul-out c = omega arith
 
--- src/lib.rt:89:9
 array-set-from-out : tie.Need-array-set-from-out Inv-loop μ-loop
 array-set-from-out c = omega arith
 
--- src/lib.rt:90:9
 add-i : tie.Need-add-i Inv-loop μ-loop
 add-i c = omega arith
 
--- src/lib.rt:87:5
 loop-less : tie.Need-loop-less Inv-loop μ-loop
 loop-less c = omega arith
 
--- src/lib.rt:87:5
 loop-again : tie.Need-loop-again Inv-loop μ-loop
 loop-again c =
     one-filled (c .before .before .loop .inv) (c .before .loop-test .taken) (toZ-ofZ w64 _ (record { sfits = c .number .ok }) ∙ c .number .ensures)
 
--- src/lib.rt:81:1
 returns : tie.Need-returns Inv-loop μ-loop
 returns c =
     linear-read _ _ (c .before .loop .inv) (c .loop-test .left)

@@ -1,11 +1,29 @@
 -- `command::whole_at` meets its contract.
+use mathlib.Core.Path.{refl, _∙_, sym}
 use native.Mathlib.Omega.{arith}
-use borrow.Author.Tests.{ne-eqb}
-use Rattle.theory.specs.Command.{width, command-at}
-use Rattle.command.specs.Reading.{command-of}
+use borrow.Author.Tests.{ne-eqb, eq-eqb}
+use Rattle.theory.specs.Command.{command-in}
+use Rattle.command.specs.Reading.{command-of-in}
 use borrow.Author.Needs.{needs}
 use Rattle.command.proofs.whole_at.Statement.{statement}
 use Rattle.command.proofs.whole_at.Tie as tie
+
+site-byte-requires : tie.Need-site-byte-requires
+site-byte-requires c κs = search needs
+
+site-at-requires : tie.Need-site-at-requires
+site-at-requires c κs = search needs
+
+returns : tie.Need-returns
+unfolding command-in
+returns c =
+    rw (← (c .before .before .before .before) .pre .0, eq-eqb _ _ (c .before .if1 .taken ∙ c .before .before .site-byte .ensures)) (c .site-at .ensures)
+
+behind-action-requires : tie.Need-behind-action-requires
+behind-action-requires c κs = search needs
+
+add-behind : tie.Need-add-behind
+add-behind c = search needs
 
 add-byte-at : tie.Need-add-byte-at
 add-byte-at c = search needs
@@ -13,144 +31,103 @@ add-byte-at c = search needs
 byte-at-requires : tie.Need-byte-at-requires
 byte-at-requires c κs = search needs
 
-add-byte-at-2 : tie.Need-add-byte-at-2
-add-byte-at-2 c = search needs
+add-action-in : tie.Need-add-action-in
+add-action-in c = search needs
+
+action-in-requires : tie.Need-action-in-requires
+action-in-requires c κs = search needs
+
+add-action-in-2 : tie.Need-add-action-in-2
+add-action-in-2 c = search needs
+
+action-in-requires-2 : tie.Need-action-in-requires-2
+action-in-requires-2 c κs = search needs
 
 byte-at-requires-2 : tie.Need-byte-at-requires-2
 byte-at-requires-2 c κs = search needs
 
-add-byte-at-3 : tie.Need-add-byte-at-3
-add-byte-at-3 c = search needs
+add-action-in-3 : tie.Need-add-action-in-3
+add-action-in-3 c = search needs
+
+action-in-requires-3 : tie.Need-action-in-requires-3
+action-in-requires-3 c κs = search needs
 
 byte-at-requires-3 : tie.Need-byte-at-requires-3
 byte-at-requires-3 c κs = search needs
 
-add-byte-at-4 : tie.Need-add-byte-at-4
-add-byte-at-4 c = search needs
+add-action-in-4 : tie.Need-add-action-in-4
+add-action-in-4 c = search needs
 
-byte-at-requires-4 : tie.Need-byte-at-requires-4
-byte-at-requires-4 c κs = search needs
-
-add-byte-at-5 : tie.Need-add-byte-at-5
-add-byte-at-5 c = search needs
-
-byte-at-requires-5 : tie.Need-byte-at-requires-5
-byte-at-requires-5 c κs = search needs
-
-add-byte-at-6 : tie.Need-add-byte-at-6
-add-byte-at-6 c = search needs
-
-byte-at-requires-6 : tie.Need-byte-at-requires-6
-byte-at-requires-6 c κs = search needs
-
-add-byte-at-7 : tie.Need-add-byte-at-7
-add-byte-at-7 c = search needs
-
-byte-at-requires-7 : tie.Need-byte-at-requires-7
-byte-at-requires-7 c κs = search needs
-
-add-byte-at-8 : tie.Need-add-byte-at-8
-add-byte-at-8 c = search needs
-
-byte-at-requires-8 : tie.Need-byte-at-requires-8
-byte-at-requires-8 c κs = search needs
-
-add-byte-at-9 : tie.Need-add-byte-at-9
-add-byte-at-9 c = search needs
-
-byte-at-requires-9 : tie.Need-byte-at-requires-9
-byte-at-requires-9 c κs = search needs
-
-add-byte-at-10 : tie.Need-add-byte-at-10
-add-byte-at-10 c = search needs
-
-byte-at-requires-10 : tie.Need-byte-at-requires-10
-byte-at-requires-10 c κs = search needs
-
-add-byte-at-11 : tie.Need-add-byte-at-11
-add-byte-at-11 c = search needs
-
-byte-at-requires-11 : tie.Need-byte-at-requires-11
-byte-at-requires-11 c κs = search needs
-
-returns : tie.Need-returns
-unfolding command-of command-at
-returns c =
-    simp (← (c .before .before .before .before .before .before) .pre .0, c .before .before .before .before .match .keys1, c .before .before .before .byte-at .ensures, c .before .before .byte-at2 .ensures, c .before .byte-at3 .ensures, c .byte-at4 .ensures)
+action-in-requires-4 : tie.Need-action-in-requires-4
+action-in-requires-4 c κs = search needs
 
 returns-2 : tie.Need-returns-2
-unfolding command-of command-at
+unfolding command-of-in command-in
 returns-2 c =
-    simp (← (c .before .before) .pre .0, c .match .keys2)
+    rw (← (c .before .before .before .before .before) .pre .0, ne-eqb _ _ (λ e. c .before .before .if1 .left (e ∙ sym (c .before .before .before .site-byte .ensures))), c .match .keys1) refl
 
 returns-3 : tie.Need-returns-3
-unfolding command-of command-at
+unfolding command-of-in command-in
 returns-3 c =
-    simp (← (c .before .before .before) .pre .0, c .before .match .keys3, c .byte-at5 .ensures)
+    rw (← (c .before .before .before .before .before .before) .pre .0, ne-eqb _ _ (λ e. c .before .before .before .if1 .left (e ∙ sym (c .before .before .before .before .site-byte .ensures))), c .before .match .keys2) (simp (c .byte-at .ensures))
 
 returns-4 : tie.Need-returns-4
-unfolding command-of command-at
+unfolding command-of-in command-in
 returns-4 c =
-    simp (← (c .before .before) .pre .0, c .match .keys4)
+    rw (← (c .before .before .before .before .before) .pre .0, ne-eqb _ _ (λ e. c .before .before .if1 .left (e ∙ sym (c .before .before .before .site-byte .ensures))), c .match .keys3) refl
 
 returns-5 : tie.Need-returns-5
-unfolding command-of command-at
+unfolding command-of-in command-in
 returns-5 c =
-    simp (← (c .before .before .before) .pre .0, c .before .match .keys5, c .byte-at6 .ensures)
+    rw (← (c .before .before .before .before .before .before) .pre .0, ne-eqb _ _ (λ e. c .before .before .before .if1 .left (e ∙ sym (c .before .before .before .before .site-byte .ensures))), c .before .match .keys4) (simp (c .action-in .ensures))
 
 returns-6 : tie.Need-returns-6
-unfolding command-of command-at
+unfolding command-of-in command-in
 returns-6 c =
-    simp (← (c .before .before .before .before) .pre .0, c .before .before .match .keys6, c .before .byte-at7 .ensures, c .byte-at8 .ensures)
+    rw (← (c .before .before .before .before .before .before .before) .pre .0, ne-eqb _ _ (λ e. c .before .before .before .before .if1 .left (e ∙ sym (c .before .before .before .before .before .site-byte .ensures))), c .before .before .match .keys5) (simp (c .before .action-in2 .ensures, c .byte-at2 .ensures, c .before .before .before .behind-action .ensures .0))
 
 returns-7 : tie.Need-returns-7
-unfolding command-of command-at
+unfolding command-of-in command-in
 returns-7 c =
-    simp (← (c .before .before .before .before) .pre .0, c .before .before .match .keys7, c .before .byte-at9 .ensures, c .byte-at10 .ensures)
+    rw (← (c .before .before .before .before .before .before .before) .pre .0, ne-eqb _ _ (λ e. c .before .before .before .before .if1 .left (e ∙ sym (c .before .before .before .before .before .site-byte .ensures))), c .before .before .match .keys6) (simp (c .before .action-in3 .ensures, c .byte-at3 .ensures, c .before .before .before .behind-action .ensures .0))
 
 returns-8 : tie.Need-returns-8
-unfolding command-of command-at
+unfolding command-of-in command-in
 returns-8 c =
-    simp (← (c .before .before) .pre .0, c .match .keys8)
+    rw (← (c .before .before .before .before .before) .pre .0, ne-eqb _ _ (λ e. c .before .before .if1 .left (e ∙ sym (c .before .before .before .site-byte .ensures))), c .match .keys7) refl
 
 returns-9 : tie.Need-returns-9
-unfolding command-of command-at
+unfolding command-of-in command-in
 returns-9 c =
-    simp (← (c .before .before .before) .pre .0, c .before .match .keys9, c .byte-at11 .ensures)
+    rw (← (c .before .before .before .before .before .before) .pre .0, ne-eqb _ _ (λ e. c .before .before .before .if1 .left (e ∙ sym (c .before .before .before .before .site-byte .ensures))), c .before .match .keys8) (simp (c .action-in4 .ensures))
 
 returns-10 : tie.Need-returns-10
-unfolding command-of command-at
+unfolding command-of-in command-in
 returns-10 c =
     let r = c .match .rest in
-    simp (← (c .before .before) .pre .0, ne-eqb _ _ (r .0 .0 .0 .0 .0 .0 .0 .0 .1), ne-eqb _ _ (r .0 .0 .0 .0 .0 .0 .0 .1), ne-eqb _ _ (r .0 .0 .0 .0 .0 .0 .1), ne-eqb _ _ (r .0 .0 .0 .0 .0 .1), ne-eqb _ _ (r .0 .0 .0 .0 .1), ne-eqb _ _ (r .0 .0 .0 .1), ne-eqb _ _ (r .0 .0 .1), ne-eqb _ _ (r .0 .1), ne-eqb _ _ (r .1))
+    simp (← (c .before .before .before .before .before) .pre .0, ne-eqb _ _ (λ e. c .before .before .if1 .left (e ∙ sym (c .before .before .before .site-byte .ensures))), ne-eqb _ _ (r .0 .0 .0 .0 .0 .0 .0 .1), ne-eqb _ _ (r .0 .0 .0 .0 .0 .0 .1), ne-eqb _ _ (r .0 .0 .0 .0 .0 .1), ne-eqb _ _ (r .0 .0 .0 .0 .1), ne-eqb _ _ (r .0 .0 .0 .1), ne-eqb _ _ (r .0 .0 .1), ne-eqb _ _ (r .0 .1), ne-eqb _ _ (r .1))
 
 pub whole-at-spec : {M : Type 1} → statement M
 whole-at-spec =
     tie.close
     (tie.spec
+    site-byte-requires
+    site-at-requires
+    returns
+    behind-action-requires
+    add-behind
     add-byte-at
     byte-at-requires
-    add-byte-at-2
+    add-action-in
+    action-in-requires
+    add-action-in-2
+    action-in-requires-2
     byte-at-requires-2
-    add-byte-at-3
+    add-action-in-3
+    action-in-requires-3
     byte-at-requires-3
-    add-byte-at-4
-    byte-at-requires-4
-    add-byte-at-5
-    byte-at-requires-5
-    add-byte-at-6
-    byte-at-requires-6
-    add-byte-at-7
-    byte-at-requires-7
-    add-byte-at-8
-    byte-at-requires-8
-    add-byte-at-9
-    byte-at-requires-9
-    add-byte-at-10
-    byte-at-requires-10
-    add-byte-at-11
-    byte-at-requires-11
-    returns
+    add-action-in-4
+    action-in-requires-4
     returns-2
     returns-3
     returns-4

@@ -1,12 +1,13 @@
 -- `model::judge` meets its contract.
 use mathlib.Core.Path.{sym, _∙_}
+use Rattle.command.specs.Forms.{form-of}
 use borrow.Author.Needs.{needs}
-use Rattle.model.proofs.Walk.{whole-is, unknown-is, short-is, walk-starts, turn-unknown, turn-short, walk-first, first-broken-at}
+use Rattle.model.proofs.Walk.{whole-is-in, unknown-is, short-is, walk-starts, turn-unknown, turn-short, walk-first, first-broken-at}
 use Rattle.model.proofs.judge.Statement.{statement}
 use Rattle.model.proofs.judge.Tie as tie
 
-command-at-requires : tie.Need-command-at-requires
-command-at-requires c κs =
+command-in-requires : tie.Need-command-in-requires
+command-in-requires c κs =
     search needs
 
 enum-known-read : tie.Need-enum-known-read
@@ -23,10 +24,10 @@ refusal-requires c κs =
 
 returns : tie.Need-returns
 returns c =
-    c .refusal .ensures ∙ first-broken-at (c .before .before .before .before .before .before .before .before .before .args .model .now) _ (c .before .before .first .result) (whole-is (c .before .before .before .before .before .before .before .before .before .args .model .now) 0 (c .before .before .before .before .before .before .command-at .ensures) (c .before .before .before .before .read .given .1)) (c .before .before .first .ensures (c .before .before .before .before .before .before .before .before .before .args .model .now) 0) (c .before .if1 .taken)
+    c .refusal .ensures ∙ first-broken-at (form-of (c .before .before .before .before .before .before .before .before .before .args .form)) (c .before .before .before .before .before .before .before .before .before .args .model .now) _ (c .before .before .first .result) (whole-is-in (form-of (c .before .before .before .before .before .before .before .before .before .args .form)) (c .before .before .before .before .before .before .before .before .before .args .model .now) 0 (c .before .before .before .before .before .before .command-in .ensures) (c .before .before .before .before .read .given .1)) (c .before .before .first .ensures (c .before .before .before .before .before .before .before .before .before .args .model .now) 0) (c .before .if1 .taken)
 
-next-after-requires : tie.Need-next-after-requires
-next-after-requires c κs =
+next-after-in-requires : tie.Need-next-after-in-requires
+next-after-in-requires c κs =
     search needs
 
 first-requires-2 : tie.Need-first-requires-2
@@ -36,8 +37,8 @@ first-requires-2 c κs =
 rest-requires : tie.Need-rest-requires
 rest-requires c κs =
     let f = c .before .before .before .before .first .ensures (c .before .before .before .before .before .before .before .before .before .before .before .args .model .now) 0 in
-    let s = c .first2 .ensures (c .before .before .before .before .before .before .before .before .before .before .before .args .model .now) 0 (sym f ∙ c .before .before .before .if1 .left) in
-    (s .0, walk-first (c .before .before .before .before .before .before .before .before .before .before .before .args .model .now) _ (c .before .before .before .before .before .before .before .before .before .before .before .pre) _ (c .before .before .before .before .first .result) _ _ (whole-is (c .before .before .before .before .before .before .before .before .before .before .before .args .model .now) 0 (c .before .before .before .before .before .before .before .before .command-at .ensures) (c .before .before .before .before .before .before .read .given .1)) f (c .before .before .before .if1 .left) (c .before .before .next-after .ensures) (s .1))
+    let s = c .first2 .ensures (form-of (c .before .before .before .before .before .before .before .before .before .before .before .args .form)) (c .before .before .before .before .before .before .before .before .before .before .before .args .model .now) 0 (sym f ∙ c .before .before .before .if1 .left) in
+    (s .0, walk-first (form-of (c .before .before .before .before .before .before .before .before .before .before .before .args .form)) (c .before .before .before .before .before .before .before .before .before .before .before .args .model .now) _ (c .before .before .before .before .before .before .before .before .before .before .before .pre) _ (c .before .before .before .before .first .result) _ _ (whole-is-in (form-of (c .before .before .before .before .before .before .before .before .before .before .before .args .form)) (c .before .before .before .before .before .before .before .before .before .before .before .args .model .now) 0 (c .before .before .before .before .before .before .before .before .command-in .ensures) (c .before .before .before .before .before .before .read .given .1)) f (c .before .before .before .if1 .left) (c .before .before .next-after-in .ensures) (s .1))
 
 enum-told : tie.Need-enum-told
 enum-told c =
@@ -65,22 +66,22 @@ returns-2 c =
 
 returns-3 : tie.Need-returns-3
 returns-3 c =
-    c .refusal2 .ensures ∙ turn-unknown (walk-starts (c .before .before .before .before .before .before .args .model .now)) (unknown-is (c .before .before .before .before .before .before .args .model .now) 0 (c .before .before .before .command-at .ensures) (c .before .enum-told .given .1))
+    c .refusal2 .ensures ∙ turn-unknown (walk-starts (form-of (c .before .before .before .before .before .before .args .form)) (c .before .before .before .before .before .before .args .model .now)) (unknown-is (form-of (c .before .before .before .before .before .before .args .form)) (c .before .before .before .before .before .before .args .model .now) 0 (c .before .before .before .command-in .ensures) (c .before .enum-told .given .1))
 
 returns-4 : tie.Need-returns-4
 returns-4 c =
-    c .refusal3 .ensures ∙ turn-short (walk-starts (c .before .before .before .before .before .before .args .model .now)) (short-is (c .before .before .before .before .before .before .args .model .now) 0 (c .before .before .before .command-at .ensures) (c .before .enum-told2 .given .1))
+    c .refusal3 .ensures ∙ turn-short (walk-starts (form-of (c .before .before .before .before .before .before .args .form)) (c .before .before .before .before .before .before .args .model .now)) (short-is (form-of (c .before .before .before .before .before .before .args .form)) (c .before .before .before .before .before .before .args .model .now) 0 (c .before .before .before .command-in .ensures) (c .before .enum-told2 .given .1))
 
 pub judge-spec : {M : Type 1} → statement M
 judge-spec =
     tie.close
     (tie.spec
-    command-at-requires
+    command-in-requires
     enum-known-read
     first-requires
     refusal-requires
     returns
-    next-after-requires
+    next-after-in-requires
     first-requires-2
     rest-requires
     enum-told

@@ -5,24 +5,25 @@ use Prim.Native.Nat.{_-_}
 use native.Mathlib.Omega.{arith}
 use lib.ListN.{length}
 use Rattle.command.proofs.Forward.{whole-bytes}
+use Rattle.command.specs.Forms.{form-of}
 use borrow.Author.Needs.{needs}
 use Rattle.model.specs.Walk.{Walk}
-use Rattle.model.proofs.Walk.{same-begun, whole-is, unknown-is, short-is, forward, past, turn-unknown, turn-short, turn-broken, turn-end, turn-on}
+use Rattle.model.proofs.Walk.{same-begun, whole-is-in, unknown-is, short-is, forward-in, past, turn-unknown, turn-short, turn-broken, turn-end, turn-on}
 use Rattle.model.proofs.rest.Statement.{statement}
 use Rattle.model.proofs.rest.Tie as tie
 
 abbrev Inv-loop : tie.InvT-loop
-Inv-loop model flags₀ from site seen₀ at₀ flags seen at = Walk model at (record { begun = true; site = site; seen = seen }) flags
+Inv-loop form model flags₀ from site seen₀ at₀ flags seen at = Walk (form-of form) model at (record { begun = true; site = site; seen = seen }) flags
 
 abbrev μ-loop : tie.MeasureT-loop
-μ-loop model flags₀ from site seen₀ at₀ flags seen at = length model - at
+μ-loop form model flags₀ from site seen₀ at₀ flags seen at = length model - at
 
 loop-holds : tie.Need-loop-holds Inv-loop μ-loop
 loop-holds c =
-    same-begun (c .before .before .before .before .pre .0) (c .before .before .before .before .pre .1)
+    same-begun (form-of (c .before .before .before .before .args .form)) (c .before .before .before .before .pre .0) (c .before .before .before .before .pre .1)
 
-command-at-requires : tie.Need-command-at-requires Inv-loop μ-loop
-command-at-requires c κs =
+command-in-requires : tie.Need-command-in-requires Inv-loop μ-loop
+command-in-requires c κs =
     tt
 
 enum-known-read : tie.Need-enum-known-read Inv-loop μ-loop
@@ -31,7 +32,7 @@ enum-known-read c =
 
 broken-requires : tie.Need-broken-requires Inv-loop μ-loop
 broken-requires c κs =
-    whole-is (c .before .before .before .before .before .before .before .before .before .before .args .model .now) (c .before .before .before .before .before .loop .at) (c .before .before .before .before .command-at .ensures) (c .before .before .read .given .1)
+    whole-is-in (form-of (c .before .before .before .before .before .before .before .before .before .before .args .form)) (c .before .before .before .before .before .before .before .before .before .before .args .model .now) (c .before .before .before .before .before .loop .at) (c .before .before .before .before .command-in .ensures) (c .before .before .read .given .1)
 
 refusal-requires : tie.Need-refusal-requires Inv-loop μ-loop
 refusal-requires c κs =
@@ -44,7 +45,7 @@ same-length c =
 returns : tie.Need-returns Inv-loop μ-loop
 returns c =
     let w = c .before .before .before .before .before .before .before .before .loop .inv in
-    c .refusal .ensures ∙ turn-broken w _ (c .before .before .broken .result) (whole-is (c .before .before .before .before .before .before .before .before .before .before .before .before .before .args .model .now) (c .before .before .before .before .before .before .before .before .loop .at) (c .before .before .before .before .before .before .before .command-at .ensures) (c .before .before .before .before .before .read .given .1)) (c .before .before .broken .ensures (w .so-far) (w .stands)) (c .before .if1 .taken)
+    c .refusal .ensures ∙ turn-broken w _ (c .before .before .broken .result) (whole-is-in (form-of (c .before .before .before .before .before .before .before .before .before .before .before .before .before .args .form)) (c .before .before .before .before .before .before .before .before .before .before .before .before .before .args .model .now) (c .before .before .before .before .before .before .before .before .loop .at) (c .before .before .before .before .before .before .before .command-in .ensures) (c .before .before .before .before .before .read .given .1)) (c .before .before .broken .ensures (w .so-far) (w .stands)) (c .before .if1 .taken)
 
 is-end-requires : tie.Need-is-end-requires Inv-loop μ-loop
 is-end-requires c κs =
@@ -52,7 +53,7 @@ is-end-requires c κs =
 
 ended-requires : tie.Need-ended-requires Inv-loop μ-loop
 ended-requires c κs =
-    whole-bytes (c .before .before .before .before .before .before .before .before .before .before .before .before .before .before .args .model .now) (c .before .before .before .before .before .before .before .before .before .loop .at) _ (whole-is (c .before .before .before .before .before .before .before .before .before .before .before .before .before .before .args .model .now) (c .before .before .before .before .before .before .before .before .before .loop .at) (c .before .before .before .before .before .before .before .before .command-at .ensures) (c .before .before .before .before .before .before .read .given .1)) .0 .starts
+    whole-bytes (form-of (c .before .before .before .before .before .before .before .before .before .before .before .before .before .before .args .form)) (c .before .before .before .before .before .before .before .before .before .before .before .before .before .before .args .model .now) (c .before .before .before .before .before .before .before .before .before .loop .at) _ (whole-is-in (form-of (c .before .before .before .before .before .before .before .before .before .before .before .before .before .before .args .form)) (c .before .before .before .before .before .before .before .before .before .before .before .before .before .before .args .model .now) (c .before .before .before .before .before .before .before .before .before .loop .at) (c .before .before .before .before .before .before .before .before .command-in .ensures) (c .before .before .before .before .before .before .read .given .1)) .0 .starts
 
 same-length-2 : tie.Need-same-length-2 Inv-loop μ-loop
 same-length-2 c =
@@ -61,7 +62,7 @@ same-length-2 c =
 returns-2 : tie.Need-returns-2 Inv-loop μ-loop
 returns-2 c =
     let w = c .before .before .before .before .before .before .before .before .before .before .loop .inv in
-    turn-end w _ (c .before .before .before .before .broken .result) _ (whole-is (c .before .before .before .before .before .before .before .before .before .before .before .before .before .before .before .args .model .now) (c .before .before .before .before .before .before .before .before .before .before .loop .at) (c .before .before .before .before .before .before .before .before .before .command-at .ensures) (c .before .before .before .before .before .before .before .read .given .1)) (c .before .before .before .before .broken .ensures (w .so-far) (w .stands)) (c .before .before .before .if1 .left) (sym (c .before .before .is-end .ensures) ∙ c .before .if2 .taken) (c .ended .ensures)
+    turn-end w _ (c .before .before .before .before .broken .result) _ (whole-is-in (form-of (c .before .before .before .before .before .before .before .before .before .before .before .before .before .before .before .args .form)) (c .before .before .before .before .before .before .before .before .before .before .before .before .before .before .before .args .model .now) (c .before .before .before .before .before .before .before .before .before .before .loop .at) (c .before .before .before .before .before .before .before .before .before .command-in .ensures) (c .before .before .before .before .before .before .before .read .given .1)) (c .before .before .before .before .broken .ensures (w .so-far) (w .stands)) (c .before .before .before .if1 .left) (sym (c .before .before .is-end .ensures) ∙ c .before .if2 .taken) (c .ended .ensures)
 
 note-requires : tie.Need-note-requires Inv-loop μ-loop
 note-requires c κs =
@@ -69,27 +70,27 @@ note-requires c κs =
 
 after-requires : tie.Need-after-requires Inv-loop μ-loop
 after-requires c κs =
-    whole-is (c .before .before .before .before .before .before .before .before .before .before .before .before .before .before .before .before .before .before .args .model .now) (c .before .before .before .before .before .before .before .before .before .before .before .before .before .loop .at) (c .before .before .before .before .before .before .before .before .before .before .before .before .command-at .ensures) (c .before .before .before .before .before .before .before .before .before .before .read .given .1)
+    whole-is-in (form-of (c .before .before .before .before .before .before .before .before .before .before .before .before .before .before .before .before .before .before .args .form)) (c .before .before .before .before .before .before .before .before .before .before .before .before .before .before .before .before .before .before .args .model .now) (c .before .before .before .before .before .before .before .before .before .before .before .before .before .loop .at) (c .before .before .before .before .before .before .before .before .before .before .before .before .command-in .ensures) (c .before .before .before .before .before .before .before .before .before .before .read .given .1)
 
-size-requires : tie.Need-size-requires Inv-loop μ-loop
-size-requires c κs =
+size-in-requires : tie.Need-size-in-requires Inv-loop μ-loop
+size-in-requires c κs =
     tt
 
 add-at : tie.Need-add-at Inv-loop μ-loop
 add-at c =
-    let f = forward (c .before .before .before .before .before .before .before .before .before .before .before .before .before .before .before .before .before .before .before .before .before .args .model .now) (c .before .before .before .before .before .before .before .before .before .before .before .before .before .before .before .before .loop .at) _ _ (whole-is (c .before .before .before .before .before .before .before .before .before .before .before .before .before .before .before .before .before .before .before .before .before .args .model .now) (c .before .before .before .before .before .before .before .before .before .before .before .before .before .before .before .before .loop .at) (c .before .before .before .before .before .before .before .before .before .before .before .before .before .before .before .command-at .ensures) (c .before .before .before .before .before .before .before .before .before .before .before .before .before .read .given .1)) (past (c .before .before .before .before .before .before .before .before .before .before .before .before .before .before .before .before .before .before .before .before .before .args .model .now) (c .before .before .before .before .before .before .before .before .before .before .before .before .before .before .before .before .loop .at) _ (c .size .result) (whole-is (c .before .before .before .before .before .before .before .before .before .before .before .before .before .before .before .before .before .before .before .before .before .args .model .now) (c .before .before .before .before .before .before .before .before .before .before .before .before .before .before .before .before .loop .at) (c .before .before .before .before .before .before .before .before .before .before .before .before .before .before .before .command-at .ensures) (c .before .before .before .before .before .before .before .before .before .before .before .before .before .read .given .1)) (c .size .ensures)) in
+    let f = forward-in (form-of (c .before .before .before .before .before .before .before .before .before .before .before .before .before .before .before .before .before .before .before .before .before .args .form)) (c .before .before .before .before .before .before .before .before .before .before .before .before .before .before .before .before .before .before .before .before .before .args .model .now) (c .before .before .before .before .before .before .before .before .before .before .before .before .before .before .before .before .loop .at) _ _ (whole-is-in (form-of (c .before .before .before .before .before .before .before .before .before .before .before .before .before .before .before .before .before .before .before .before .before .args .form)) (c .before .before .before .before .before .before .before .before .before .before .before .before .before .before .before .before .before .before .before .before .before .args .model .now) (c .before .before .before .before .before .before .before .before .before .before .before .before .before .before .before .before .loop .at) (c .before .before .before .before .before .before .before .before .before .before .before .before .before .before .before .command-in .ensures) (c .before .before .before .before .before .before .before .before .before .before .before .before .before .read .given .1)) (past (form-of (c .before .before .before .before .before .before .before .before .before .before .before .before .before .before .before .before .before .before .before .before .before .args .form)) (c .before .before .before .before .before .before .before .before .before .before .before .before .before .before .before .before .before .before .before .before .before .args .model .now) (c .before .before .before .before .before .before .before .before .before .before .before .before .before .before .before .before .loop .at) _ (c .size-in .result) (whole-is-in (form-of (c .before .before .before .before .before .before .before .before .before .before .before .before .before .before .before .before .before .before .before .before .before .args .form)) (c .before .before .before .before .before .before .before .before .before .before .before .before .before .before .before .before .before .before .before .before .before .args .model .now) (c .before .before .before .before .before .before .before .before .before .before .before .before .before .before .before .before .loop .at) (c .before .before .before .before .before .before .before .before .before .before .before .before .before .before .before .command-in .ensures) (c .before .before .before .before .before .before .before .before .before .before .before .before .before .read .given .1)) (c .size-in .ensures)) in
     omega (arith, f .1, f .2, c .before .before .before .before .before .before .before .before .before .before .before .before .before .before .before .before .before .before .before .before .before .good)
 
 loop-less : tie.Need-loop-less Inv-loop μ-loop
 loop-less c =
-    let f = forward (c .before .before .before .before .before .before .before .before .before .before .before .before .before .before .before .before .before .before .before .before .before .args .model .now) (c .before .before .before .before .before .before .before .before .before .before .before .before .before .before .before .before .loop .at) _ _ (whole-is (c .before .before .before .before .before .before .before .before .before .before .before .before .before .before .before .before .before .before .before .before .before .args .model .now) (c .before .before .before .before .before .before .before .before .before .before .before .before .before .before .before .before .loop .at) (c .before .before .before .before .before .before .before .before .before .before .before .before .before .before .before .command-at .ensures) (c .before .before .before .before .before .before .before .before .before .before .before .before .before .read .given .1)) (past (c .before .before .before .before .before .before .before .before .before .before .before .before .before .before .before .before .before .before .before .before .before .args .model .now) (c .before .before .before .before .before .before .before .before .before .before .before .before .before .before .before .before .loop .at) _ (c .size .result) (whole-is (c .before .before .before .before .before .before .before .before .before .before .before .before .before .before .before .before .before .before .before .before .before .args .model .now) (c .before .before .before .before .before .before .before .before .before .before .before .before .before .before .before .before .loop .at) (c .before .before .before .before .before .before .before .before .before .before .before .before .before .before .before .command-at .ensures) (c .before .before .before .before .before .before .before .before .before .before .before .before .before .read .given .1)) (c .size .ensures)) in
+    let f = forward-in (form-of (c .before .before .before .before .before .before .before .before .before .before .before .before .before .before .before .before .before .before .before .before .before .args .form)) (c .before .before .before .before .before .before .before .before .before .before .before .before .before .before .before .before .before .before .before .before .before .args .model .now) (c .before .before .before .before .before .before .before .before .before .before .before .before .before .before .before .before .loop .at) _ _ (whole-is-in (form-of (c .before .before .before .before .before .before .before .before .before .before .before .before .before .before .before .before .before .before .before .before .before .args .form)) (c .before .before .before .before .before .before .before .before .before .before .before .before .before .before .before .before .before .before .before .before .before .args .model .now) (c .before .before .before .before .before .before .before .before .before .before .before .before .before .before .before .before .loop .at) (c .before .before .before .before .before .before .before .before .before .before .before .before .before .before .before .command-in .ensures) (c .before .before .before .before .before .before .before .before .before .before .before .before .before .read .given .1)) (past (form-of (c .before .before .before .before .before .before .before .before .before .before .before .before .before .before .before .before .before .before .before .before .before .args .form)) (c .before .before .before .before .before .before .before .before .before .before .before .before .before .before .before .before .before .before .before .before .before .args .model .now) (c .before .before .before .before .before .before .before .before .before .before .before .before .before .before .before .before .loop .at) _ (c .size-in .result) (whole-is-in (form-of (c .before .before .before .before .before .before .before .before .before .before .before .before .before .before .before .before .before .before .before .before .before .args .form)) (c .before .before .before .before .before .before .before .before .before .before .before .before .before .before .before .before .before .before .before .before .before .args .model .now) (c .before .before .before .before .before .before .before .before .before .before .before .before .before .before .before .before .loop .at) (c .before .before .before .before .before .before .before .before .before .before .before .before .before .before .before .command-in .ensures) (c .before .before .before .before .before .before .before .before .before .before .before .before .before .read .given .1)) (c .size-in .ensures)) in
     omega (arith, f .1, f .2)
 
 loop-again : tie.Need-loop-again Inv-loop μ-loop
 loop-again c =
     let w = c .before .before .before .before .before .before .before .before .before .before .before .before .before .before .before .before .loop .inv in
-    let e = whole-is (c .before .before .before .before .before .before .before .before .before .before .before .before .before .before .before .before .before .before .before .before .before .args .model .now) (c .before .before .before .before .before .before .before .before .before .before .before .before .before .before .before .before .loop .at) (c .before .before .before .before .before .before .before .before .before .before .before .before .before .before .before .command-at .ensures) (c .before .before .before .before .before .before .before .before .before .before .before .before .before .read .given .1) in
-    turn-on w refl _ (c .before .before .before .before .before .before .before .before .before .before .broken .result) _ (c .before .before .after .result) _ e (c .before .before .before .before .before .before .before .before .before .before .broken .ensures (w .so-far) (w .stands)) (c .before .before .before .before .before .before .before .before .before .if1 .left) (sym (c .before .before .before .before .before .before .before .before .is-end .ensures) ∙ c .before .before .before .before .before .before .before .if2 .left) (past (c .before .before .before .before .before .before .before .before .before .before .before .before .before .before .before .before .before .before .before .before .before .args .model .now) (c .before .before .before .before .before .before .before .before .before .before .before .before .before .before .before .before .loop .at) _ (c .size .result) e (c .size .ensures)) (c .before .before .before .before .before .note .ensures) (c .before .before .after .ensures)
+    let e = whole-is-in (form-of (c .before .before .before .before .before .before .before .before .before .before .before .before .before .before .before .before .before .before .before .before .before .args .form)) (c .before .before .before .before .before .before .before .before .before .before .before .before .before .before .before .before .before .before .before .before .before .args .model .now) (c .before .before .before .before .before .before .before .before .before .before .before .before .before .before .before .before .loop .at) (c .before .before .before .before .before .before .before .before .before .before .before .before .before .before .before .command-in .ensures) (c .before .before .before .before .before .before .before .before .before .before .before .before .before .read .given .1) in
+    turn-on w refl _ (c .before .before .before .before .before .before .before .before .before .before .broken .result) _ (c .before .before .after .result) _ e (c .before .before .before .before .before .before .before .before .before .before .broken .ensures (w .so-far) (w .stands)) (c .before .before .before .before .before .before .before .before .before .if1 .left) (sym (c .before .before .before .before .before .before .before .before .is-end .ensures) ∙ c .before .before .before .before .before .before .before .if2 .left) (past (form-of (c .before .before .before .before .before .before .before .before .before .before .before .before .before .before .before .before .before .before .before .before .before .args .form)) (c .before .before .before .before .before .before .before .before .before .before .before .before .before .before .before .before .before .before .before .before .before .args .model .now) (c .before .before .before .before .before .before .before .before .before .before .before .before .before .before .before .before .loop .at) _ (c .size-in .result) e (c .size-in .ensures)) (c .before .before .before .before .before .note .ensures) (c .before .before .after .ensures)
 
 enum-told : tie.Need-enum-told Inv-loop μ-loop
 enum-told c =
@@ -105,7 +106,7 @@ same-length-3 c =
 
 returns-3 : tie.Need-returns-3 Inv-loop μ-loop
 returns-3 c =
-    c .refusal2 .ensures ∙ turn-unknown (c .before .before .before .before .loop .inv) (unknown-is (c .before .before .before .before .before .before .before .before .before .args .model .now) (c .before .before .before .before .loop .at) (c .before .before .before .command-at .ensures) (c .before .enum-told .given .1))
+    c .refusal2 .ensures ∙ turn-unknown (c .before .before .before .before .loop .inv) (unknown-is (form-of (c .before .before .before .before .before .before .before .before .before .args .form)) (c .before .before .before .before .before .before .before .before .before .args .model .now) (c .before .before .before .before .loop .at) (c .before .before .before .command-in .ensures) (c .before .enum-told .given .1))
 
 enum-told-2 : tie.Need-enum-told-2 Inv-loop μ-loop
 enum-told-2 c =
@@ -121,7 +122,7 @@ same-length-4 c =
 
 returns-4 : tie.Need-returns-4 Inv-loop μ-loop
 returns-4 c =
-    c .refusal3 .ensures ∙ turn-short (c .before .before .before .before .loop .inv) (short-is (c .before .before .before .before .before .before .before .before .before .args .model .now) (c .before .before .before .before .loop .at) (c .before .before .before .command-at .ensures) (c .before .enum-told2 .given .1))
+    c .refusal3 .ensures ∙ turn-short (c .before .before .before .before .loop .inv) (short-is (form-of (c .before .before .before .before .before .before .before .before .before .args .form)) (c .before .before .before .before .before .before .before .before .before .args .model .now) (c .before .before .before .before .loop .at) (c .before .before .before .command-in .ensures) (c .before .enum-told2 .given .1))
 
 pub rest-spec : {M : Type 1} → statement M
 rest-spec =
@@ -130,7 +131,7 @@ rest-spec =
     Inv-loop
     μ-loop
     loop-holds
-    command-at-requires
+    command-in-requires
     enum-known-read
     broken-requires
     refusal-requires
@@ -142,7 +143,7 @@ rest-spec =
     returns-2
     note-requires
     after-requires
-    size-requires
+    size-in-requires
     add-at
     loop-less
     loop-again

@@ -1,5 +1,9 @@
 -- `model::site` meets its contract.
-use Rattle.theory.specs.Load.{site-at}
+use mathlib.Core.Path.{ap, _∙_}
+use Prim.Native.Nat.{ℕ, _+_}
+use Rattle.theory.specs.Command.{byte-at}
+use Rattle.theory.specs.Load.{site-in}
+use Rattle.command.specs.Forms.{form-of}
 use borrow.Author.Needs.{needs}
 use Rattle.model.proofs.site.Statement.{statement}
 use Rattle.model.proofs.site.Tie as tie
@@ -10,18 +14,31 @@ byte-at-requires c κs = search needs
 byte-at-requires-2 : tie.Need-byte-at-requires-2
 byte-at-requires-2 c κs = search needs
 
+action-in-requires : tie.Need-action-in-requires
+action-in-requires c κs = search needs
+
+action-bytes-requires : tie.Need-action-bytes-requires
+action-bytes-requires c κs = search needs
+
+add-byte-at : tie.Need-add-byte-at
+add-byte-at c = search needs
+
 byte-at-requires-3 : tie.Need-byte-at-requires-3
 byte-at-requires-3 c κs = search needs
 
-byte-at-requires-4 : tie.Need-byte-at-requires-4
-byte-at-requires-4 c κs = search needs
-
 returns : tie.Need-returns
-unfolding site-at
+unfolding site-in form-of
 returns c =
-    λ i. record { levels = c .before .before .before .byte-at .ensures i; conditions = c .before .before .byte-at2 .ensures i; actions = c .before .byte-at3 .ensures i; weights = c .byte-at4 .ensures i }
+    λ i. record { levels = c .before .before .before .before .byte-at .ensures i; conditions = c .before .before .before .byte-at2 .ensures i; actions = c .before .before .action-in .ensures i; weights = (c .byte-at3 .ensures ∙ ap (λ (k : ℕ). byte-at ((c .before .before .before .before .before .before) .args .model .now) (3 + k)) (c .before .action-bytes .ensures .0)) i }
 
 pub site-spec : {M : Type 1} → statement M
 site-spec =
     tie.close
-    (tie.spec byte-at-requires byte-at-requires-2 byte-at-requires-3 byte-at-requires-4 returns)
+    (tie.spec
+    byte-at-requires
+    byte-at-requires-2
+    action-in-requires
+    action-bytes-requires
+    add-byte-at
+    byte-at-requires-3
+    returns)

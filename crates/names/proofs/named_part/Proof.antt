@@ -1,12 +1,14 @@
 -- `names::named_part` meets its contract.
+use Rattle.theory.specs.Form.{new-form}
+use Rattle.command.specs.Forms.{form-of}
 use mathlib.Core.Path.{sym, _∙_}
 use Prim.Native.Nat.{_-_}
 use native.Mathlib.Omega.{arith}
 use lib.ListN.{length}
-use borrow.Author.Needs.{needs}
 use Rattle.command.proofs.Forward.{whole-bytes}
 use Rattle.model.proofs.Walk.{whole-is, forward}
 use Rattle.names.proofs.Naming.{Seek, seek-starts, seek-stops, seek-found, seek-ends, seek-on, name-room}
+use borrow.Author.Needs.{needs}
 use Rattle.names.proofs.named_part.Statement.{statement}
 use Rattle.names.proofs.named_part.Tie as tie
 
@@ -36,19 +38,25 @@ names-requires : tie.Need-names-requires Inv-loop μ-loop
 names-requires c κs =
     tt
 
+behind-action-requires : tie.Need-behind-action-requires Inv-loop μ-loop
+behind-action-requires c κs =
+    tt
+
 add-from : tie.Need-add-from Inv-loop μ-loop
 add-from c =
-    let h = whole-bytes ((c .before .before .before .before .before .before .before .before) .args .model .now) (c .before .before .before .before .before .before .loop .at) _ (whole-is ((c .before .before .before .before .before .before .before .before) .args .model .now) (c .before .before .before .before .before .before .loop .at) (c .before .before .before .before .before .command-at .ensures) (c .before .before .before .read .given .1)) .0 .starts in omega arith
+    let h = whole-bytes new-form ((c .before .before .before .before .before .before .before .before .before) .args .model .now) (c .before .before .before .before .before .before .before .loop .at) _ (whole-is ((c .before .before .before .before .before .before .before .before .before) .args .model .now) (c .before .before .before .before .before .before .before .loop .at) (c .before .before .before .before .before .before .command-at .ensures) (c .before .before .before .before .read .given .1)) .0 .starts in omega (arith, c .behind-action .ensures .1)
 
 trimmed-len-requires : tie.Need-trimmed-len-requires Inv-loop μ-loop
+unfolding form-of
 trimmed-len-requires c κs =
-    name-room ((c .before .before .before .before .before .before .before .before) .args .action) ((c .before .before .before .before .before .before .before .before) .args .model .now) (c .before .before .before .before .before .before .loop .at) _ (whole-is ((c .before .before .before .before .before .before .before .before) .args .model .now) (c .before .before .before .before .before .before .loop .at) (c .before .before .before .before .before .command-at .ensures) (c .before .before .before .read .given .1)) (sym (c .before .names .ensures ((c .before .before .before .before .before .before .before .before) .args .model .now) (c .before .before .before .before .before .before .loop .at)) ∙ c .if1 .taken)
+    let r = name-room ((c .before .before .before .before .before .before .before .before .before) .args .action) ((c .before .before .before .before .before .before .before .before .before) .args .model .now) (c .before .before .before .before .before .before .before .loop .at) _ (whole-is ((c .before .before .before .before .before .before .before .before .before) .args .model .now) (c .before .before .before .before .before .before .before .loop .at) (c .before .before .before .before .before .before .command-at .ensures) (c .before .before .before .before .read .given .1)) (sym (c .before .before .names .ensures ((c .before .before .before .before .before .before .before .before .before) .args .model .now) (c .before .before .before .before .before .before .before .loop .at)) ∙ c .before .if1 .taken) in omega (arith, c .behind-action .ensures .0)
 
 returns-2 : tie.Need-returns-2 Inv-loop μ-loop
+unfolding form-of
 returns-2 c =
-    let r = name-room ((c .before .before .before .before .before .before .before .before .before) .args .action) ((c .before .before .before .before .before .before .before .before .before) .args .model .now) (c .before .before .before .before .before .before .before .loop .at) _ (whole-is ((c .before .before .before .before .before .before .before .before .before) .args .model .now) (c .before .before .before .before .before .before .before .loop .at) (c .before .before .before .before .before .before .command-at .ensures) (c .before .before .before .before .read .given .1)) (sym (c .before .before .names .ensures ((c .before .before .before .before .before .before .before .before .before) .args .model .now) (c .before .before .before .before .before .before .before .loop .at)) ∙ c .before .if1 .taken) in
+    let r = name-room ((c .before .before .before .before .before .before .before .before .before .before) .args .action) ((c .before .before .before .before .before .before .before .before .before .before) .args .model .now) (c .before .before .before .before .before .before .before .before .loop .at) _ (whole-is ((c .before .before .before .before .before .before .before .before .before .before) .args .model .now) (c .before .before .before .before .before .before .before .before .loop .at) (c .before .before .before .before .before .before .before .command-at .ensures) (c .before .before .before .before .before .read .given .1)) (sym (c .before .before .before .names .ensures ((c .before .before .before .before .before .before .before .before .before .before) .args .model .now) (c .before .before .before .before .before .before .before .before .loop .at)) ∙ c .before .before .if1 .taken) in
     let t = c .trimmed-len .ensures in
-    (seek-found (c .before .before .before .before .before .before .before .loop .inv) _ (c .trimmed-len .result) (whole-is ((c .before .before .before .before .before .before .before .before .before) .args .model .now) (c .before .before .before .before .before .before .before .loop .at) (c .before .before .before .before .before .before .command-at .ensures) (c .before .before .before .before .read .given .1)) (sym (c .before .before .names .ensures ((c .before .before .before .before .before .before .before .before .before) .args .model .now) (c .before .before .before .before .before .before .before .loop .at)) ∙ c .before .if1 .taken) (t .1), omega (arith, t .0, r))
+    (seek-found (c .before .before .before .before .before .before .before .before .loop .inv) _ (c .before .behind-action .result) (c .trimmed-len .result) (c .before .behind-action .ensures .0) (whole-is ((c .before .before .before .before .before .before .before .before .before .before) .args .model .now) (c .before .before .before .before .before .before .before .before .loop .at) (c .before .before .before .before .before .before .before .command-at .ensures) (c .before .before .before .before .before .read .given .1)) (sym (c .before .before .before .names .ensures ((c .before .before .before .before .before .before .before .before .before .before) .args .model .now) (c .before .before .before .before .before .before .before .before .loop .at)) ∙ c .before .before .if1 .taken) (t .1), omega (arith, t .0, r, c .before .behind-action .ensures .0))
 
 is-end-requires : tie.Need-is-end-requires Inv-loop μ-loop
 is-end-requires c κs =
@@ -82,6 +90,7 @@ named-part-spec =
     enum-known-read
     returns
     names-requires
+    behind-action-requires
     add-from
     trimmed-len-requires
     returns-2

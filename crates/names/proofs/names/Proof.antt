@@ -3,7 +3,7 @@ use mathlib.Core.Path.{sym, ap, _∙_}
 use lib.Dec.{eqb}
 use Rattle.theory.specs.Command.{whole}
 use Rattle.theory.specs.Name.{names-action}
-use Rattle.command.specs.Reading.{command-of}
+use Rattle.command.specs.Reading.{command-of, command-of-in}
 use Rattle.command.specs.declared.Command.{Command as CodeCommand}
 use Rattle.names.proofs.Naming.{names-other}
 use borrow.Author.Needs.{needs}
@@ -17,7 +17,7 @@ wide-requires : tie.Need-wide-requires
 wide-requires c κs = search needs
 
 returns : tie.Need-returns
-unfolding names-action command-of
+unfolding names-action command-of-in
 returns c =
     λ B at. ap (eqb ((c .before .before .before .before) .args .action)) (c .wide .ensures) ∙ ap (λ (d : CodeCommand). names-action ((c .before .before .before .before) .args .action) (whole (command-of B at d))) (sym (c .before .before .c .given .1))
 

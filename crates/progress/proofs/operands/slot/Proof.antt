@@ -9,6 +9,9 @@ use Rattle.progress.proofs.operands.slot.Tie as tie
 end-worth-requires : tie.Need-end-worth-requires
 end-worth-requires c κs = search needs
 
+cast-among : tie.Need-cast-among
+cast-among c = search needs
+
 among-requires : tie.Need-among-requires
 among-requires c κs = search needs
 
@@ -25,9 +28,16 @@ returns : tie.Need-returns
 unfolding of-site
 returns c =
     let acted = c .before .both .ensures ∙ (λ j. c .before .before .before .among .ensures j && c .before .before .index .ensures j) in
-    c .either .ensures ∙ (λ j. or (c .before .before .before .before .end-worth .ensures j) (acted j))
+    c .either .ensures ∙ (λ j. or (c .before .before .before .before .before .end-worth .ensures j) (acted j))
 
 pub slot-spec : {M : Type 1} → statement M
 slot-spec =
     tie.close
-    (tie.spec end-worth-requires among-requires index-requires both-requires either-requires returns)
+    (tie.spec
+    end-worth-requires
+    cast-among
+    among-requires
+    index-requires
+    both-requires
+    either-requires
+    returns)

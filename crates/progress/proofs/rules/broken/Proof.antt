@@ -1,4 +1,5 @@
 -- `progress::rules::broken` meets its contract.
+use Rattle.command.specs.Forms.{form-of}
 use mathlib.Core.Path.{_∙_}
 use Rattle.progress.proofs.Judging.{begun-rules, first-rules-of}
 use borrow.Author.Needs.{needs}
@@ -13,11 +14,11 @@ first-requires c κs = search needs
 
 returns : tie.Need-returns
 returns c =
-    λ p st. c .later .ensures p st ∙ begun-rules st _ (c .before .if1 .taken)
+    λ p st. c .later .ensures p st ∙ begun-rules st (form-of ((c .before .before .before .before) .args .form)) _ (c .before .if1 .taken)
 
 returns-2 : tie.Need-returns-2
 returns-2 c =
-    λ p st. c .first .ensures (c .before .before .before .before .args .model .now) (c .before .before .before .before .args .at) ∙ first-rules-of st _ (c .before .if1 .left)
+    λ p st. c .first .ensures ((c .before .before .before .before) .args .model .now) ((c .before .before .before .before) .args .at) ∙ first-rules-of st (form-of ((c .before .before .before .before) .args .form)) _ (c .before .if1 .left)
 
 pub broken-spec : {M : Type 1} → statement M
 broken-spec = tie.close (tie.spec later-requires first-requires returns returns-2)

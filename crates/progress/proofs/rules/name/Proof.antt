@@ -16,6 +16,9 @@ place-requires c κs = search needs
 has-requires : tie.Need-has-requires
 has-requires c κs = search needs
 
+cast-among : tie.Need-cast-among
+cast-among c = search needs
+
 among-requires : tie.Need-among-requires
 among-requires c κs = search needs
 
@@ -29,10 +32,17 @@ returns : tie.Need-returns
 returns c =
     λ b e p st.
     let o = c .before .either .ensures ∙ (λ i. or (not (c .before .before .among .ensures i)) (not (e i))) in
-    let t = c .before .before .before .has .ensures ∙ ap (λ (k : ℕ). getD (c .before .before .before .before .before .before .args .flags .now) k false) (c .before .before .before .before .place .ensures) in
-    c .ordered .ensures ∙ (λ i. first-broken (in-order (o i) false (t i) false)) ∙ later-name st (c .before .before .before .before .before .before .args .a) b
+    let t = c .before .before .before .before .has .ensures ∙ ap (λ (k : ℕ). getD ((c .before .before .before .before .before .before .before) .args .flags .now) k false) (c .before .before .before .before .before .place .ensures) in
+    c .ordered .ensures ∙ (λ i. first-broken (in-order (o i) false (t i) false)) ∙ later-name st ((c .before .before .before .before .before .before .before) .args .a) b
 
 pub name-spec : {M : Type 1} → statement M
 name-spec =
     tie.close
-    (tie.spec place-requires has-requires among-requires either-requires ordered-requires returns)
+    (tie.spec
+    place-requires
+    has-requires
+    cast-among
+    among-requires
+    either-requires
+    ordered-requires
+    returns)

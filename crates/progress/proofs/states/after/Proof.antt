@@ -1,7 +1,8 @@
 -- `progress::states::after` meets its contract.
+use Rattle.command.specs.Forms.{form-of}
 use mathlib.Core.Path.{refl}
 use native.Mathlib.Omega.{arith}
-use Rattle.command.specs.Reading.{command-of}
+use Rattle.command.specs.Reading.{command-of-in}
 use Rattle.progress.specs.Standing.{noted}
 use Rattle.progress.proofs.Leaving.{by-command, leaf-there, after-site, after-leaf, after-condition, after-test, after-give, after-name, after-end}
 use borrow.Author.Needs.{needs}
@@ -19,11 +20,11 @@ enum-told c = search needs
 
 add-weight : tie.Need-add-weight
 add-weight c =
-    let h = leaf-there (c .before .before .before .before .args .model .now) (c .before .before .before .before .args .at) (c .enum-told .given .1) (c .before .before .before .before .pre) in omega arith
+    let h = leaf-there (form-of ((c .before .before .before .before) .args .form)) ((c .before .before .before .before) .args .model .now) ((c .before .before .before .before) .args .at) (c .enum-told .given .1) ((c .before .before .before .before) .pre) in omega arith
 
 weight-requires : tie.Need-weight-requires
 weight-requires c κs =
-    let h = leaf-there (c .before .before .before .before .args .model .now) (c .before .before .before .before .args .at) (c .enum-told .given .1) (c .before .before .before .before .pre) in omega arith
+    let h = leaf-there (form-of ((c .before .before .before .before) .args .form)) ((c .before .before .before .before) .args .model .now) ((c .before .before .before .before) .args .at) (c .enum-told .given .1) ((c .before .before .before .before) .pre) in omega arith
 
 pushed-requires : tie.Need-pushed-requires
 pushed-requires c κs = search needs
@@ -33,6 +34,9 @@ with-seen-requires c κs = search needs
 
 enum-known-c-2 : tie.Need-enum-known-c-2
 enum-known-c-2 c = search needs
+
+cast-joined : tie.Need-cast-joined
+cast-joined c = search needs
 
 joined-requires : tie.Need-joined-requires
 joined-requires c κs = search needs
@@ -65,39 +69,39 @@ enum-told-5 : tie.Need-enum-told-5
 enum-told-5 c = search needs
 
 returns : tie.Need-returns
-unfolding command-of noted
+unfolding command-of-in noted
 returns c =
-    by-command (c .before .before .before .before .before .before .args .model .now) (c .before .before .before .before .before .before .args .at) (c .before .before .before .before .before .before .args .s) (c .before .before .c .given .1) refl (λ F p st u. after-site st _ _ _ _ (c .begun .result) (c .begun .ensures .0) (c .begun .ensures .1 .0) (c .begun .ensures .1 .1) u)
+    by-command (form-of ((c .before .before .before .before .before .before) .args .form)) ((c .before .before .before .before .before .before) .args .model .now) ((c .before .before .before .before .before .before) .args .at) ((c .before .before .before .before .before .before) .args .s) (c .before .before .c .given .1) refl (λ F p st u. after-site (form-of ((c .before .before .before .before .before .before) .args .form)) st _ _ _ _ (c .begun .result) (c .begun .ensures .0) (c .begun .ensures .1 .0) (c .begun .ensures .1 .1) u)
 
 returns-2 : tie.Need-returns-2
-unfolding command-of noted
+unfolding command-of-in noted
 returns-2 c =
-    by-command (c .before .before .before .before .before .before .before .args .model .now) (c .before .before .before .before .before .before .before .args .at) (c .before .before .before .before .before .before .before .args .s) (c .before .before .before .enum-told .given .1) (c .with-seen .ensures) (λ F p st u. after-leaf st _ (c .before .before .weight .result) (c .before .pushed .result) (c .before .before .weight .ensures) (c .before .pushed .ensures) u)
+    by-command (form-of ((c .before .before .before .before .before .before .before) .args .form)) ((c .before .before .before .before .before .before .before) .args .model .now) ((c .before .before .before .before .before .before .before) .args .at) ((c .before .before .before .before .before .before .before) .args .s) (c .before .before .before .enum-told .given .1) (c .with-seen .ensures) (λ F p st u. after-leaf (form-of ((c .before .before .before .before .before .before .before) .args .form)) st _ (c .before .before .weight .result) (c .before .pushed .result) (c .before .before .weight .ensures) (c .before .pushed .ensures) u)
 
 returns-3 : tie.Need-returns-3
-unfolding command-of noted
+unfolding command-of-in noted
 returns-3 c =
-    by-command (c .before .before .before .before .before .before .before .args .model .now) (c .before .before .before .before .before .before .before .args .at) (c .before .before .before .before .before .before .before .args .s) (c .before .before .before .c2 .given .1) (c .with-seen2 .ensures) (λ F p st u. after-condition st _ (c .before .joined .result) (c .before .joined .ensures) u)
+    by-command (form-of ((c .before .before .before .before .before .before .before) .args .form)) ((c .before .before .before .before .before .before .before) .args .model .now) ((c .before .before .before .before .before .before .before) .args .at) ((c .before .before .before .before .before .before .before) .args .s) (c .before .before .before .c2 .given .1) (c .with-seen2 .ensures) (λ F p st u. after-condition (form-of ((c .before .before .before .before .before .before .before) .args .form)) st _ (c .before .joined .result) (c .before .joined .ensures) u)
 
 returns-4 : tie.Need-returns-4
-unfolding command-of noted
+unfolding command-of-in noted
 returns-4 c =
-    by-command (c .before .before .before .before .before .before .args .model .now) (c .before .before .before .before .before .before .args .at) (c .before .before .before .before .before .before .args .s) (c .before .before .enum-told2 .given .1) (c .with-seen3 .ensures) (λ F p st u. after-test st _ (c .before .joined2 .result) (c .before .joined2 .ensures) u)
+    by-command (form-of ((c .before .before .before .before .before .before) .args .form)) ((c .before .before .before .before .before .before) .args .model .now) ((c .before .before .before .before .before .before) .args .at) ((c .before .before .before .before .before .before) .args .s) (c .before .before .enum-told2 .given .1) (c .with-seen3 .ensures) (λ F p st u. after-test (form-of ((c .before .before .before .before .before .before) .args .form)) st _ (c .before .joined2 .result) (c .before .joined2 .ensures) u)
 
 returns-5 : tie.Need-returns-5
-unfolding command-of noted
+unfolding command-of-in noted
 returns-5 c =
-    by-command (c .before .before .before .before .before .before .args .model .now) (c .before .before .before .before .before .before .args .at) (c .before .before .before .before .before .before .args .s) (c .before .before .enum-told3 .given .1) (c .with-seen4 .ensures) (λ F p st u. after-give st _ (c .before .popped .result) (c .before .popped .ensures .1 .1) u)
+    by-command (form-of ((c .before .before .before .before .before .before) .args .form)) ((c .before .before .before .before .before .before) .args .model .now) ((c .before .before .before .before .before .before) .args .at) ((c .before .before .before .before .before .before) .args .s) (c .before .before .enum-told3 .given .1) (c .with-seen4 .ensures) (λ F p st u. after-give (form-of ((c .before .before .before .before .before .before) .args .form)) st _ (c .before .popped .result) (c .before .popped .ensures .1 .1) u)
 
 returns-6 : tie.Need-returns-6
-unfolding command-of noted
+unfolding command-of-in noted
 returns-6 c =
-    by-command (c .before .before .before .before .args .model .now) (c .before .before .before .before .args .at) (c .before .before .before .before .args .s) (c .enum-told4 .given .1) refl (λ F p st u. after-name st _ _ u)
+    by-command (form-of ((c .before .before .before .before) .args .form)) ((c .before .before .before .before) .args .model .now) ((c .before .before .before .before) .args .at) ((c .before .before .before .before) .args .s) (c .enum-told4 .given .1) refl (λ F p st u. after-name (form-of ((c .before .before .before .before) .args .form)) st _ _ u)
 
 returns-7 : tie.Need-returns-7
-unfolding command-of noted
+unfolding command-of-in noted
 returns-7 c =
-    by-command (c .before .before .before .before .args .model .now) (c .before .before .before .before .args .at) (c .before .before .before .before .args .s) (c .enum-told5 .given .1) refl (λ F p st u. after-end st)
+    by-command (form-of ((c .before .before .before .before) .args .form)) ((c .before .before .before .before) .args .model .now) ((c .before .before .before .before) .args .at) ((c .before .before .before .before) .args .s) (c .enum-told5 .given .1) refl (λ F p st u. after-end st)
 
 pub after-spec : {M : Type 1} → statement M
 after-spec =
@@ -111,6 +115,7 @@ after-spec =
     pushed-requires
     with-seen-requires
     enum-known-c-2
+    cast-joined
     joined-requires
     with-seen-requires-2
     enum-told-2

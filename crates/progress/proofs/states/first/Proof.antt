@@ -15,11 +15,11 @@ start-requires c κs = search needs
 
 returns : tie.Need-returns
 returns c =
-    λ B at. first-site B at _ (c .begun .result) (c .before .before .c .given .1) (c .begun .ensures .0) (c .begun .ensures .1 .0) (c .begun .ensures .1 .1)
+    λ form B at. first-site form B at _ (c .begun .result) (c .before .before .c .given .1) (c .begun .ensures .0) (c .begun .ensures .1 .0) (c .begun .ensures .1 .1)
 
 returns-2 : tie.Need-returns-2
 returns-2 c =
-    λ B at. first-other B at _ _ (c .before .match .keys2)
+    λ form B at. first-other form B at _ _ (c .before .match .keys2)
 
 pub first-spec : {M : Type 1} → statement M
 first-spec = tie.close (tie.spec enum-known-c begun-requires start-requires returns returns-2)
