@@ -69,7 +69,7 @@ fn swap_work(work: &mut [u32], cap: usize, k: usize, p: usize)
 
 // The first c places get the nodes that have the first c numbers.
 pub fn arrange(nodes: &mut [i64], work: &mut [u32], cap: usize, count: usize, c: usize)
-    requires { ⌜ Inverse cap count (now work) 0 c × (cap ≤ nodes-most) × (cap * 8 ≤ length (now nodes)) ⌝ }
+    requires { ⌜ Inverse cap count (now work) 0 c × (cap ≤ nodes-most) × (cap * node-words ≤ length (now nodes)) ⌝ }
     ensures { λ _. ⌜ Arranged (now (nodes .entry)) (now (nodes .exit)) (now (work .entry)) c ⌝ }
 {
     let mut k: usize = 0;

@@ -10,17 +10,24 @@ use values::Value;
 use values::reading::value;
 
 // Room for 256 nodes.
-const WORDS: usize = 2048;
+const ROOM: usize = 256;
+
+const NODES: usize = 3072;
+
+const WORK: usize = 2048;
+
+// One byte more than a model may have.
+const TOO_LONG: usize = 262145;
 
 // The models lie one after another: the pond's from 0, the rain's, one with weights of 100, and the pond's with the end
 // worth L1.
-const RAIN: usize = 184;
+const RAIN: usize = 317;
 
-const WEIGHTS: usize = 284;
+const WEIGHTS: usize = 485;
 
-const ENDED: usize = 433;
+const ENDED: usize = 737;
 
-const END: usize = 639;
+const END: usize = 1092;
 
 // A part of the models' bytes.
 struct Part {
@@ -97,7 +104,7 @@ fn print_name(names: &[u8], k: usize) {
 // A line's begin: what is solved, in which room.
 fn print_case(c: Case) {
     print_name(
-        b"pond;rain;no step;nine steps;no model;65,536 bytes;seven stage words;weights of 100;pond with an end worth",
+        b"pond;rain;no step;nine steps;no model;262,145 bytes;seven stage words;weights of 100;pond with an end worth",
         c.name,
     );
     labelled(b", horizon ", c.horizon as u64);
@@ -134,7 +141,7 @@ fn print_value(label: &[u8], steps: u32, v: Value) {
     print_numerator(n);
 }
 
-// The bytes of the model with a number; 3 is no model, 4 is 65,536 bytes.
+// The bytes of the model with a number; 3 is no model.
 fn part_of(model: usize) -> Part
     ensures { λ r. ⌜ (r .from ≤ r .to) × (r .to ≤ 65536) ⌝ }
 {
@@ -148,20 +155,32 @@ fn part_of(model: usize) -> Part
             from: WEIGHTS,
             to: ENDED,
         },
-        3 => Part { from: 0, to: 0 },
         5 => Part {
             from: ENDED,
             to: END,
         },
-        _ => Part { from: 0, to: 65536 },
+        _ => Part { from: 0, to: 0 },
     }
 }
 
-// The words that a room takes.
-fn words_of(room: usize) -> usize
+// The node words that a room takes.
+fn node_words(room: usize) -> usize
+    ensures { λ r. ⌜ r ≤ 3072 ⌝ }
+{
+    if room < ROOM { room * 12 } else { NODES }
+}
+
+// The work words that it takes.
+fn work_words(room: usize) -> usize
     ensures { λ r. ⌜ r ≤ 2048 ⌝ }
 {
-    if room < 256 { room * 8 } else { WORDS }
+    if room < ROOM { room * 8 } else { WORK }
+}
+
+// A model that is too long, all zeros.
+fn solve_too_long(horizon: u32, nodes: &mut [i64], stages: &mut [u32], work: &mut [u32]) -> Solved {
+    let model = [0u8; TOO_LONG];
+    solve(&model, horizon, nodes, stages, work)
 }
 
 // A number up to a most.
@@ -179,19 +198,23 @@ fn solve_case(
     stages: &mut [u32],
     work: &mut [u32],
 ) -> Solved
-    requires { ⌜ (65536 ≤ length (now models)) × (2048 ≤ length (now nodes)) × (8 ≤ length (now stages)) × (2048 ≤ length (now work)) ⌝ }
+    requires { ⌜ (65536 ≤ length (now models)) × (3072 ≤ length (now nodes)) × (8 ≤ length (now stages)) × (2048 ≤ length (now work)) ⌝ }
 {
+    if c.model == 4 {
+        return solve_too_long(c.horizon, nodes, stages, work);
+    }
     let p = part_of(c.model);
     let from = p.from;
     let to = p.to;
-    let n = words_of(c.room);
+    let n = node_words(c.room);
+    let w = work_words(c.room);
     let roots = least(c.roots, 8);
     solve(
         &models[from..to],
         c.horizon,
         &mut nodes[..n],
         &mut stages[..roots],
-        &mut work[..n],
+        &mut work[..w],
     )
 }
 
@@ -203,11 +226,11 @@ fn next_room(turn: usize, room: usize, peak: usize) -> usize {
         }
     }
     if turn == 2 {
-        if room < 256 {
+        if room < ROOM {
             return room + 1;
         }
     }
-    256
+    ROOM
 }
 
 // A model at all horizons, each three times.
@@ -242,7 +265,7 @@ fn listed(rows: &[u8], k: usize) -> Case {
         name: digit(rows, i) as usize,
         model: digit(rows, i + 1) as usize,
         horizon: digit(rows, i + 2) as u32,
-        room: 256,
+        room: ROOM,
         roots: digit(rows, i + 3) as usize,
     }
 }
@@ -272,15 +295,11 @@ fn case_at(i: u32, room: usize, peak: usize) -> Case {
     )
 }
 
-// A state by its mask, four numerators and the denominator.
-fn state(mask: u32, n1: i32, n2: i32, n3: i32, n4: i32, d: i32) -> Asked {
+// A state by its mask, the first four of its numerators and the denominator.
+fn state(mask: u32, l1: i32, l2: i32, l3: i32, l4: i32, d: i32) -> Asked {
     Asked {
         mask,
-        n1,
-        n2,
-        n3,
-        n4,
-        d,
+        n: [l1, l2, l3, l4, 0, 0, 0, 0, d],
     }
 }
 
@@ -377,9 +396,9 @@ fn print_values(i: u32, models: &[u8], nodes: &[i64], stages: &[u32]) {
 fn solved(
     models: &[u8; 65536],
     c: Case,
-    nodes: &mut [i64; WORDS],
+    nodes: &mut [i64; NODES],
     stages: &mut [u32; 8],
-    work: &mut [u32; WORDS],
+    work: &mut [u32; WORK],
 ) -> usize {
     let r = solve_case(models, c, nodes, stages, work);
     print_case(c);
@@ -390,9 +409,9 @@ fn solved(
 // All solves in the same tables.
 fn all_solves(
     models: &[u8; 65536],
-    nodes: &mut [i64; WORDS],
+    nodes: &mut [i64; NODES],
     stages: &mut [u32; 8],
-    work: &mut [u32; WORDS],
+    work: &mut [u32; WORK],
 ) {
     let mut room: usize = 0;
     let mut peak: usize = 0;
@@ -407,15 +426,15 @@ fn all_solves(
 }
 
 // Solved in new tables.
-fn fresh(models: &[u8; 65536], c: Case, nodes: &mut [i64; WORDS]) -> Solved {
+fn fresh(models: &[u8; 65536], c: Case, nodes: &mut [i64; NODES]) -> Solved {
     let mut stages = [0u32; 8];
-    let mut work = [0u32; WORDS];
+    let mut work = [0u32; WORK];
     solve_case(models, c, nodes, &mut stages, &mut work)
 }
 
-fn same_words(a: &[i64; WORDS], b: &[i64; WORDS]) -> bool {
+fn same_words(a: &[i64; NODES], b: &[i64; NODES]) -> bool {
     let mut i: usize = 0;
-    while i < WORDS {
+    while i < NODES {
         if a[i] != b[i] {
             return false;
         }
@@ -438,11 +457,11 @@ fn same_numbers(r: Solved, s: Solved) -> bool {
 fn again(
     models: &[u8; 65536],
     c: Case,
-    nodes: &mut [i64; WORDS],
+    nodes: &mut [i64; NODES],
     stages: &mut [u32; 8],
-    work: &mut [u32; WORDS],
+    work: &mut [u32; WORK],
 ) -> bool {
-    let mut other = [0i64; WORDS];
+    let mut other = [0i64; NODES];
     let s = fresh(models, c, &mut other);
     let r = solve_case(models, c, nodes, stages, work);
     if same_numbers(r, s) {
@@ -457,7 +476,7 @@ fn in_turn(i: u32) -> Case {
         name: 0,
         model: (i % 3) as usize,
         horizon: 1 + i % 8,
-        room: 256,
+        room: ROOM,
         roots: 8,
     }
 }
@@ -465,9 +484,9 @@ fn in_turn(i: u32) -> Case {
 // 240 times in the same tables.
 fn refilled(
     models: &[u8; 65536],
-    nodes: &mut [i64; WORDS],
+    nodes: &mut [i64; NODES],
     stages: &mut [u32; 8],
-    work: &mut [u32; WORDS],
+    work: &mut [u32; WORK],
 ) {
     let mut alike: u64 = 0;
     let mut i: u32 = 0;
@@ -484,9 +503,9 @@ fn refilled(
 }
 
 fn run(models: &[u8; 65536]) {
-    let mut nodes = [-1i64; WORDS];
+    let mut nodes = [-1i64; NODES];
     let mut stages = [7u32; 8];
-    let mut work = [9u32; WORDS];
+    let mut work = [9u32; WORK];
     all_solves(models, &mut nodes, &mut stages, &mut work);
     refilled(models, &mut nodes, &mut stages, &mut work);
 }

@@ -18,7 +18,7 @@ use Rattle.diagrams.proofs.Trees.{trees-kept}
 use Rattle.diagrams.proofs.Outcomes.{ran-as, grew-as, lifted}
 use Rattle.diagrams.proofs.Caching.{answered, kept-run}
 use Rattle.choice.proofs.Choosing.{Here, Chooses, chooses-as}
-use Rattle.diagrams.proofs.Going.{index-small, key-of}
+use Rattle.diagrams.proofs.Going.{index-small}
 use Rattle.commands_choice.specs.Testing.{Stood, Testing, testAt, loadRule}
 
 rule-is : (B : List ℕ) (l : List ℤ) (n op f g p q : ℕ) → loadRule B l n op f g p q ≡ choose (testAt B p) (treeAt l n f) (treeAt l n g)
@@ -28,7 +28,10 @@ rule-is B l n op f g p q = refl
 module _ {B : List ℕ} {cap : ℕ} {l : List ℤ} {w : List ℕ} {n : ℕ} (A : Table (loadRule B) cap l w n) {at : ℕ} (N : Testing B at) (f g : ℕ) (hf : f < n) (hg : g < n) where
   -- the words fit an entry
   pub choice-key : Key 13 f g at 0
-  choice-key = key-of (omega arith) (index-small f (A .bare) hf) (index-small g (A .bare) hg) (N .within) (omega arith)
+  choice-key =
+      let a = index-small f (A .bare) hf in
+      let b = index-small g (A .bare) hg in
+      record { op-fits = omega arith; f-fits = omega arith; g-fits = omega arith; p-fits = N .within; q-fits = omega arith }
 
   -- the sides that the code has
   pub choice-goes : {z : Node} {s : Sides} → Stood (testAt B at) z → s ≡ choiceOf z (nodeAt l f) f (nodeAt l g) g → Chooses l n (testAt B at) f g s

@@ -1,18 +1,17 @@
 -- The test that a command gives, as a node's words.
 use mathlib.Core.Path.{_≡_, refl, sym, ap, _∙_, subst}
-use mathlib.Core.Bool.{Bool, true, false, _&&_}
 use mathlib.Core.List.{List, [], _∷_}
 use Prim.Native.Nat.{ℕ, zero, suc, _+_, _-_, _≤_, _<_}
 use native.Mathlib.Omega.{arith}
-use lib.Dec.{T, eqb, leb, leb→le, nleb→lt}
-use lib.IntN.{ℤ, pos, natAbs}
+use lib.Dec.{leb, leb→le, nleb→lt}
+use lib.IntN.{ℤ, pos}
 use lib.ListN.{getD, replicate}
 use mir.Syntax.{w64}
 use mir.Val.{toZ}
 use types.Run.{OneOf, miss}
 use denote.Enum.Declared.{tagOf}
-use Rattle.whole.specs.Cases.{if, by-test, both}
-use Rattle.whole.specs.Within.{Small, small, limit}
+use Rattle.whole.specs.Cases.{if, by-test}
+use Rattle.whole.specs.Within.{Small}
 use Rattle.whole.specs.Linears.{Smalls, divisorL}
 use Rattle.whole.specs.LinearsLaws.{quot-smalls}
 use Rattle.table.proofs.Words.{back}
@@ -20,11 +19,9 @@ use Rattle.table.specs.Table.{eqZ}
 use Rattle.table.specs.declared.Node.{Node}
 use Rattle.theory.specs.Widths.{levels-most, conditions-most}
 use Rattle.theory.specs.Diagram.{Linear, Test, now, later, quotL, test-of}
-use Rattle.theory.specs.Valid.{all, small-linear, wide}
-use Rattle.theory.specs.Command.{Command, site, push-leaf, push-condition, push-test, give, name-action, end-model, Read, whole, unknown, short, byte-at, command-at, read-at, linear-at}
+use Rattle.theory.specs.Command.{Command, site, push-leaf, push-condition, push-test, give, name-action, end-model, Read, whole, unknown, short, read-at, linear-at}
 use Rattle.theory.specs.Load.{condition-test}
-use Rattle.theory.specs.laws.Valid.{wide-small}
-use Rattle.theory.specs.laws.Loading.{linear-wide, by-reading}
+use Rattle.theory.specs.Form.{new-form}
 use lib.ListN.{length}
 use Rattle.command.proofs.Forward.{has-linear, linear-room}
 use Rattle.command.proofs.Command.{the-type as command-type}
@@ -33,7 +30,7 @@ use Rattle.command.specs.declared.Command.{Command as CodeCommand}
 use Rattle.command.specs.declared.Command.the-variants.{Site, Leaf, Condition, Test as TestBy, Give, Name, End}
 use Rattle.command.specs.declared.Read.{Read as CodeRead}
 use Rattle.command.specs.declared.Read.the-variants.{Whole, Unknown, Short}
-use Rattle.command.specs.Reading.{with-linear, linear-of, command-of, read-of}
+use Rattle.command.specs.Reading.{with-linear, linear-of, command-of-in, command-of, read-of-in, read-of}
 use Rattle.diagrams.specs.Nodes.{linOf, testOf, conditionOf, Nums, Proper}
 use Rattle.diagrams.specs.Roots.{linearNode, namedNode}
 use Rattle.diagrams.proofs.Trees.{later-is, now-is}
@@ -72,31 +69,32 @@ condition-stood k a b = subst (Stood (condition-test k)) (ap (λ (z : ℤ). reco
 
 -- ---- a linear
 
-pub words-nums : {p : List ℤ} {x : Node} → x ≡ wordsOf p → Smalls p → Nums x
-words-nums e s = subst Nums (sym e) s
+pub words-nums : (p : List ℤ) → Smalls p → Nums (wordsOf p)
+unfolding wordsOf
+words-nums p s = s
 
 linear-same : (p : List ℤ) → linOf (wordsOf p) ≡ linear-of p
-unfolding linOf
+unfolding linOf wordsOf
 linear-same p = refl
 
 named-words : (p : List ℤ) → namedNode (wordsOf p) ≡ linearNode (quotL (divisorL (wordsOf p .n)) (wordsOf p .n))
-unfolding namedNode eqZ
+unfolding namedNode wordsOf eqZ
 named-words p = refl
 
-pub linear-stood : (p : List ℤ) {x r : Node} → x ≡ wordsOf p → r ≡ namedNode x → Smalls p → Stood (test-of (linear-of p)) r
+pub linear-stood : (p : List ℤ) {x r : Node} → x ≡ wordsOf p → r ≡ namedNode x → Nums (wordsOf p) → Stood (test-of (linear-of p)) r
 linear-stood p {x} {r} e f s = subst (Stood (test-of (linear-of p))) (sym (f ∙ (ap namedNode e ∙ named-words p)))
     (record { proper = proper-linear _ (quot-smalls _ _ s); test = divided-test (wordsOf p) (s .long) ∙ ap test-of (linear-same p) })
 
 -- ---- by what the code reads
 
 not-whole : (B : List ℕ) (at : ℕ) (q : CodeRead) → OneOf (1 ∷ 2 ∷ []) (tagOf read-type q) → test-read (read-of B at q) ≡ condition-test 1
-unfolding test-read read-of
+unfolding test-read read-of-in
 not-whole B at (Whole c) k = absurd (miss (1 ∷ 2 ∷ []) 0 tt k)
 not-whole B at Unknown k = refl
 not-whole B at Short k = refl
 
 other-test : (B : List ℕ) (at : ℕ) (d : CodeCommand) → OneOf (0 ∷ 1 ∷ 4 ∷ 5 ∷ 6 ∷ []) (tagOf command-type d) → test-read (whole (command-of B at d)) ≡ condition-test 1
-unfolding test-read test-in command-of
+unfolding test-read test-in command-of-in
 other-test B at (Site m n a w) k = refl
 other-test B at Leaf k = refl
 other-test B at (Condition i) k = absurd (miss (0 ∷ 1 ∷ 4 ∷ 5 ∷ 6 ∷ []) 2 tt k)
@@ -107,7 +105,7 @@ other-test B at End k = refl
 
 module _ (B : List ℕ) (at : ℕ) (r : CodeRead) (e : read-of B at r ≡ read-at B at) where
   pub whole-is : {c : CodeCommand} → r ≡ Whole c → whole (command-of B at c) ≡ read-at B at
-  unfolding read-of
+  unfolding read-of-in
   whole-is f = ap (read-of B at) (sym f) ∙ e
 
   -- nothing whole is there
@@ -121,7 +119,7 @@ module _ (B : List ℕ) (at : ℕ) (r : CodeRead) (e : read-of B at r ≡ read-a
 
     -- a condition
     condition-is : {k : ℕ} → c ≡ Condition k → whole (push-condition k) ≡ read-at B at
-    unfolding command-of
+    unfolding command-of-in
     condition-is g = ap (λ (d : CodeCommand). whole (command-of B at d)) (sym g) ∙ whole-is f
 
     pub condition-fits : {k : ℕ} → c ≡ Condition k → Testing B at → (0 < k) × (k ≤ conditions-most + conditions-most)
@@ -135,17 +133,20 @@ module _ (B : List ℕ) (at : ℕ) (r : CodeRead) (e : read-of B at r ≡ read-a
 
     -- a linear
     linear-is : c ≡ TestBy → whole (push-test (linear-at B (at + 1))) ≡ read-at B at
-    unfolding command-of
+    unfolding command-of-in
     linear-is g = ap (λ (d : CodeCommand). whole (command-of B at d)) (sym g) ∙ whole-is f
 
     pub linear-there : c ≡ TestBy → at + with-linear ≤ length B
     unfolding has-linear
-    linear-there g = linear-room B at (push-test (linear-at B (at + 1))) tt (linear-is g)
+    linear-there g = linear-room new-form B at (push-test (linear-at B (at + 1))) tt (linear-is g)
 
     module _ {p : List ℤ} (g : c ≡ TestBy) (q : Smalls p × (linear-of p ≡ linear-at B (at + 1))) where
       linear-read : whole (push-test (linear-of p)) ≡ read-at B at
       linear-read = ap (λ (z : Linear). whole (push-test z)) (q .1) ∙ linear-is g
 
+      pub linear-nums : Nums (wordsOf p)
+      linear-nums = words-nums p (q .0)
+
       pub linear-test-stood : {x y : Node} → y ≡ wordsOf p → x ≡ namedNode y → Stood (testAt B at) x
       unfolding test-read test-in
-      linear-test-stood {x} a b = subst (λ (t : Test). Stood t x) (ap test-read linear-read) (linear-stood p a b (q .0))
+      linear-test-stood {x} a b = subst (λ (t : Test). Stood t x) (ap test-read linear-read) (linear-stood p a b linear-nums)

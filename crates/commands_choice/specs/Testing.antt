@@ -18,8 +18,8 @@ pub record Stood (t : Test) (x : Node) : Type 0 where
   pub test : testOf x ≡ t
 
 -- a linear as a leaf's words
-abbrev pub wordsOf : List ℤ → Node
-wordsOf n = record { kind = pos 0; n = n; high = pos 0; low = pos 0 }
+unfoldable pub wordsOf : List ℤ → Node
+wordsOf p = record { kind = pos 0; n = p; high = pos 0; low = pos 0 }
 
 -- the number of a command's condition, 1 where it has none
 unfoldable pub condition-in : Command → ℕ
@@ -56,7 +56,7 @@ testAt B at = test-read (read-at B at)
 
 -- the offset fits an entry, and a condition there is one of those now and of the next step
 pub record Testing (B : List ℕ) (at : ℕ) : Type 0 where
-  pub within : at < 65536
+  pub within : at < 4294967296
   pub least : 0 < condition-read (read-at B at)
   pub most : condition-read (read-at B at) ≤ conditions-most + conditions-most
 

@@ -2,12 +2,12 @@
 use mathlib.Core.Path.{_≡_, refl, sym, ap, ap₂, _∙_, subst}
 use mathlib.Core.Bool.{Bool, true, false}
 use mathlib.Core.Logic.{⊎-elim, inl, inr}
-use mathlib.Core.List.{List, [], _∷_}
+use mathlib.Core.List.{List, [], _∷_, map}
 use Prim.Native.Nat.{ℕ, zero, suc, _+_, _-_, _/_, _%_, _≤_, _<_}
 use native.Mathlib.Omega.{arith}
 use borrow.Author.Tests.{eq-eqb, ne-eqb}
 use lib.IntN.{ℤ, pos}
-use lib.ListN.{length, getD, replicate, take}
+use lib.ListN.{length, getD, replicate}
 use mir.Syntax.{w64}
 use mir.Val.{toZ}
 use Rattle.whole.specs.Cases.{if}
@@ -22,7 +22,7 @@ use Rattle.theory.specs.Diagram.{Test, later, linear, Leaf, Tree, leaf, branch,
 use Rattle.theory.specs.Rules.{choose, over, decide, sum, product, best, scale, shift, complement, number, side, substitute}
 use Rattle.diagrams.specs.Nodes.{linOf, leafOf, testOf, treeAt, Nums, Good, Proper, Grown, Root}
 use Rattle.diagrams.specs.Table.{Lasting, Bare, Table}
-use Rattle.diagrams.specs.Meaning.{cOf, testIn, testBy, Names, packed, ruleOf}
+use Rattle.diagrams.specs.Meaning.{cOf, testIn, testBy, Names, indexes, packed, ruleBy, ruleOf}
 use Rattle.diagrams.specs.Roots.{laterNode, linearNode, namedNode, testNode, Readable}
 use Rattle.diagrams.proofs.Trees.{trees-kept, later-is, at-leaf, at-branch}
 
@@ -36,55 +36,55 @@ module _ (l : List ℤ) (n f g p q : ℕ) where
   G = treeAt l n g
 
   pub rule-sum : ruleOf l n 0 f g p q ≡ sum F G
-  unfolding ruleOf
+  unfolding ruleOf ruleBy
   rule-sum = refl
 
   pub rule-product : ruleOf l n 1 f g p q ≡ product F G
-  unfolding ruleOf
+  unfolding ruleOf ruleBy
   rule-product = refl
 
   pub rule-best : ruleOf l n 2 f g p q ≡ best F G
-  unfolding ruleOf
+  unfolding ruleOf ruleBy
   rule-best = refl
 
   pub rule-scale : ruleOf l n 3 f g p q ≡ scale (cOf p q) F
-  unfolding ruleOf
+  unfolding ruleOf ruleBy
   rule-scale = refl
 
   pub rule-shift : ruleOf l n 4 f g p q ≡ shift (cOf p q) F
-  unfolding ruleOf
+  unfolding ruleOf ruleBy
   rule-shift = refl
 
   pub rule-complement : ruleOf l n 5 f g p q ≡ complement p F
-  unfolding ruleOf
+  unfolding ruleOf ruleBy
   rule-complement = refl
 
   pub rule-number : ruleOf l n 6 f g p q ≡ number p F
-  unfolding ruleOf
+  unfolding ruleOf ruleBy
   rule-number = refl
 
   pub rule-yes : ruleOf l n 7 f g p q ≡ side true p F
-  unfolding ruleOf
+  unfolding ruleOf ruleBy
   rule-yes = refl
 
   pub rule-no : ruleOf l n 8 f g p q ≡ side false p F
-  unfolding ruleOf
+  unfolding ruleOf ruleBy
   rule-no = refl
 
   pub rule-walk : ruleOf l n 9 f g p q ≡ over choose (λ x. decide (x .lin) G (treeAt l n p)) F
-  unfolding ruleOf
+  unfolding ruleOf ruleBy
   rule-walk = refl
 
-  pub rule-substitute : ruleOf l n 12 f g p q ≡ substitute (packed l n g p q) F
-  unfolding ruleOf
-  rule-substitute = refl
+  pub rule-substitute : (op : ℕ) → op % 16 ≡ 12 → ruleOf l n op f g p q ≡ substitute (packed l n op f g p q) (treeAt l n (f % 65536))
+  unfolding ruleOf ruleBy
+  rule-substitute op e = ap (λ (c : ℕ). ruleBy c l n op f g p q) e
 
   rule-10 : ruleOf l n 10 f g p q ≡ choose (testBy l n 10 p) F G
-  unfolding ruleOf
+  unfolding ruleOf ruleBy
   rule-10 = refl
 
   rule-11 : ruleOf l n 11 f g p q ≡ choose (testBy l n 11 p) F G
-  unfolding ruleOf
+  unfolding ruleOf ruleBy
   rule-11 = refl
 
   pub rule-choose : (op : ℕ) → Names n op p → ruleOf l n op f g p q ≡ choose (testBy l n op p) F G
@@ -226,44 +226,44 @@ test-is D N e = ap testOf e ∙ stood D N .test
 
 module _ (l : List ℤ) (n f : ℕ) (hf : f < n) where
   pub lasts-scale : (g p q : ℕ) → Lasting ruleOf l n 3 f g p q
-  unfolding ruleOf
+  unfolding ruleOf ruleBy
   lasts-scale g p q l′ n′ D = ap (scale (cOf p q)) (trees-kept D f hf)
 
   pub lasts-shift : (g p q : ℕ) → Lasting ruleOf l n 4 f g p q
-  unfolding ruleOf
+  unfolding ruleOf ruleBy
   lasts-shift g p q l′ n′ D = ap (shift (cOf p q)) (trees-kept D f hf)
 
   pub lasts-complement : (g p q : ℕ) → Lasting ruleOf l n 5 f g p q
-  unfolding ruleOf
+  unfolding ruleOf ruleBy
   lasts-complement g p q l′ n′ D = ap (complement p) (trees-kept D f hf)
 
   pub lasts-number : (g p q : ℕ) → Lasting ruleOf l n 6 f g p q
-  unfolding ruleOf
+  unfolding ruleOf ruleBy
   lasts-number g p q l′ n′ D = ap (number p) (trees-kept D f hf)
 
   pub lasts-yes : (g p q : ℕ) → Lasting ruleOf l n 7 f g p q
-  unfolding ruleOf
+  unfolding ruleOf ruleBy
   lasts-yes g p q l′ n′ D = ap (side true p) (trees-kept D f hf)
 
   pub lasts-no : (g p q : ℕ) → Lasting ruleOf l n 8 f g p q
-  unfolding ruleOf
+  unfolding ruleOf ruleBy
   lasts-no g p q l′ n′ D = ap (side false p) (trees-kept D f hf)
 
   module _ (g : ℕ) (hg : g < n) where
     pub lasts-sum : (p q : ℕ) → Lasting ruleOf l n 0 f g p q
-    unfolding ruleOf
+    unfolding ruleOf ruleBy
     lasts-sum p q l′ n′ D = ap₂ sum (trees-kept D f hf) (trees-kept D g hg)
 
     pub lasts-product : (p q : ℕ) → Lasting ruleOf l n 1 f g p q
-    unfolding ruleOf
+    unfolding ruleOf ruleBy
     lasts-product p q l′ n′ D = ap₂ product (trees-kept D f hf) (trees-kept D g hg)
 
     pub lasts-best : (p q : ℕ) → Lasting ruleOf l n 2 f g p q
-    unfolding ruleOf
+    unfolding ruleOf ruleBy
     lasts-best p q l′ n′ D = ap₂ best (trees-kept D f hf) (trees-kept D g hg)
 
     pub lasts-walk : (p q : ℕ) → p < n → Lasting ruleOf l n 9 f g p q
-    unfolding ruleOf
+    unfolding ruleOf ruleBy
     lasts-walk p q hp l′ n′ D = λ i. over choose (λ x. decide (x .lin) (trees-kept D g hg i) (trees-kept D p hp i)) (trees-kept D f hf i)
 
     pub lasts-choose : (op p q : ℕ) → Names n op p → Lasting ruleOf l n op f g p q
@@ -271,10 +271,15 @@ module _ (l : List ℤ) (n f : ℕ) (hf : f < n) where
         rule-choose l′ n′ f g p q op (names-more (D .more) N)
         ∙ ((λ i. choose (test-kept D N i) (trees-kept D f hf i) (trees-kept D g hg i)) ∙ sym (rule-choose l n f g p q op N))
 
-    -- the four indexes are there, also those beyond their number
-    pub lasts-substitute : (p q : ℕ) → p % 65536 < n → p / 65536 < n → q % 65536 < n → Lasting ruleOf l n 12 f g p q
-    unfolding ruleOf packed
-    lasts-substitute p q h₂ h₃ h₄ l′ n′ D = λ i. substitute (take (q / 65536) (trees-kept D g hg i ∷ trees-kept D (p % 65536) h₂ i ∷ trees-kept D (p / 65536) h₃ i ∷ trees-kept D (q % 65536) h₄ i ∷ [])) (trees-kept D f hf i)
+-- diagrams that are there stay
+pub all-kept : {l l′ : List ℤ} {n n′ : ℕ} → Grown l n l′ n′ → (L : List ℕ) → ((k : ℕ) → getD L k 0 < n) → map (treeAt l′ n′) L ≡ map (treeAt l n) L
+all-kept D [] h = refl
+all-kept D (d ∷ L) h = ap₂ (λ (T : Tree) (Ts : List Tree). T ∷ Ts) (trees-kept D d (h 0)) (all-kept D L (λ k. h (suc k)))
+
+pub lasts-substitute : (l : List ℤ) (n op f g p q : ℕ) → op % 16 ≡ 12 → f % 65536 < n → ((k : ℕ) → getD (indexes op f g p q) k 0 < n) → Lasting ruleOf l n op f g p q
+lasts-substitute l n op f g p q e hf h l′ n′ D =
+    rule-substitute l′ n′ f g p q op e
+    ∙ (ap₂ substitute (all-kept D (indexes op f g p q) h) (trees-kept D (f % 65536) hf) ∙ sym (rule-substitute l n f g p q op e))
 
 -- ---- what the code reads is that test
 

@@ -2,7 +2,7 @@
 use mathlib.Core.Path.{_≡_}
 use mathlib.Core.Bool.{true, false}
 use mathlib.Core.Logic.{_⊎_}
-use mathlib.Core.List.{List, [], _∷_}
+use mathlib.Core.List.{List, [], _∷_, map}
 use Prim.Native.Nat.{ℕ, _+_, _*_, _/_, _%_, _≤_, _<_}
 use lib.Dec.{eqb}
 use lib.IntN.{ℤ}
@@ -33,23 +33,37 @@ testBy l n op p = if (eqb op 10) (later p) (testIn (treeAt l n p))
 abbrev pub Names : ℕ → ℕ → ℕ → Type 0
 Names n op p = ((op ≡ 10) × (0 < p) × (p ≤ conditions-most)) ⊎ ((op ≡ 11) × (p < n))
 
--- up to four indexes d1 to d4 and their number m in three words: d1, d2 + 65536 d3, d4 + 65536 m
-unfoldable pub packed : List ℤ → ℕ → ℕ → ℕ → ℕ → List Tree
-packed l n g p q = take (q / 65536) (treeAt l n g ∷ treeAt l n (p % 65536) ∷ treeAt l n (p / 65536) ∷ treeAt l n (q % 65536) ∷ [])
+-- a word's low and high half, of 16 bits each
+unfoldable pub halves : List ℕ → List ℕ
+halves [] = []
+halves (w ∷ r) = w % 65536 ∷ w / 65536 ∷ halves r
 
-unfoldable pub ruleOf : List ℤ → ℕ → ℕ → ℕ → ℕ → ℕ → ℕ → Comp Tree
-ruleOf l n op f g p q =
-    if (eqb op 0) (sum (treeAt l n f) (treeAt l n g))
-    (if (eqb op 1) (product (treeAt l n f) (treeAt l n g))
-    (if (eqb op 2) (best (treeAt l n f) (treeAt l n g))
-    (if (eqb op 3) (scale (cOf p q) (treeAt l n f))
-    (if (eqb op 4) (shift (cOf p q) (treeAt l n f))
-    (if (eqb op 5) (complement p (treeAt l n f))
-    (if (eqb op 6) (number p (treeAt l n f))
-    (if (eqb op 7) (side true p (treeAt l n f))
-    (if (eqb op 8) (side false p (treeAt l n f))
-    (if (eqb op 9) (over choose (λ x. decide (x .lin) (treeAt l n g) (treeAt l n p)) (treeAt l n f))
-    (if (eqb op 10) (choose (testBy l n 10 p) (treeAt l n f) (treeAt l n g))
-    (if (eqb op 11) (choose (testBy l n 11 p) (treeAt l n f) (treeAt l n g))
-    (if (eqb op 12) (substitute (packed l n g p q) (treeAt l n f))
+-- the indexes d1 to dm that the words of a substitution hold: 12 + 16 m and d1, f and d2, d3 and d4, d5 and d6, d7 and d8
+unfoldable pub indexes : ℕ → ℕ → ℕ → ℕ → ℕ → List ℕ
+indexes op f g p q = take (op % 65536 / 16) (op / 65536 ∷ f / 65536 ∷ halves (g ∷ p ∷ q ∷ []))
+
+-- their diagrams
+abbrev pub packed : List ℤ → ℕ → ℕ → ℕ → ℕ → ℕ → ℕ → List Tree
+packed l n op f g p q = map (treeAt l n) (indexes op f g p q)
+
+-- the rule of the number c
+unfoldable pub ruleBy : ℕ → List ℤ → ℕ → ℕ → ℕ → ℕ → ℕ → ℕ → Comp Tree
+ruleBy c l n op f g p q =
+    if (eqb c 0) (sum (treeAt l n f) (treeAt l n g))
+    (if (eqb c 1) (product (treeAt l n f) (treeAt l n g))
+    (if (eqb c 2) (best (treeAt l n f) (treeAt l n g))
+    (if (eqb c 3) (scale (cOf p q) (treeAt l n f))
+    (if (eqb c 4) (shift (cOf p q) (treeAt l n f))
+    (if (eqb c 5) (complement p (treeAt l n f))
+    (if (eqb c 6) (number p (treeAt l n f))
+    (if (eqb c 7) (side true p (treeAt l n f))
+    (if (eqb c 8) (side false p (treeAt l n f))
+    (if (eqb c 9) (over choose (λ x. decide (x .lin) (treeAt l n g) (treeAt l n p)) (treeAt l n f))
+    (if (eqb c 10) (choose (testBy l n 10 p) (treeAt l n f) (treeAt l n g))
+    (if (eqb c 11) (choose (testBy l n 11 p) (treeAt l n f) (treeAt l n g))
+    (if (eqb c 12) (substitute (packed l n op f g p q) (treeAt l n (f % 65536)))
     (ret blank)))))))))))))
+
+-- a rule's number is the low four bits of its first word, and all of it but for substitution
+unfoldable pub ruleOf : List ℤ → ℕ → ℕ → ℕ → ℕ → ℕ → ℕ → Comp Tree
+ruleOf l n op f g p q = ruleBy (op % 16) l n op f g p q

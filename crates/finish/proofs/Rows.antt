@@ -17,8 +17,8 @@ use Rattle.table.proofs.Look.{eqZ-true}
 use Rattle.table.specs.Table.{high-word, low-word, nodeAt, eqZ}
 use Rattle.table.specs.declared.Node.{Node}
 use Rattle.theory.specs.Widths.{levels-most, conditions-most, node-words}
-use Rattle.theory.specs.Diagram.{now, later, linear, Tree, leaf, branch}
-use Rattle.theory.specs.Solve.{number-of, padded, linear-words, test-words, row, rows}
+use Rattle.theory.specs.Diagram.{now, later, linear, Tree, leaf, branch, padded}
+use Rattle.theory.specs.Solve.{number-of, linear-words, test-words, row, rows}
 use Rattle.diagrams.specs.Nodes.{linOf, leafOf, firstOf, conditionOf, testOf, blank, Tested, Valid}
 use Rattle.diagrams.proofs.Trees.{split-last, same-firsts}
 use Rattle.diagrams.proofs.Meanings.{zeros-behind}

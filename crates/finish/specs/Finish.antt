@@ -4,7 +4,7 @@ use mathlib.Core.List.{List, _++_, map}
 use Prim.Native.Nat.{ℕ, _+_, _-_, _*_, _≤_}
 use lib.IntN.{ℤ, pos}
 use lib.ListN.{length, getD, take, replicate}
-use Rattle.theory.specs.Widths.{node-words, steps-most}
+use Rattle.theory.specs.Widths.{node-words, work-words, steps-most}
 use Rattle.theory.specs.Diagram.{Tree}
 use Rattle.theory.specs.Solve.{table-of, solved-nodes, solved-stages}
 use Rattle.numbering.specs.Number.{Held, Roots}
@@ -13,7 +13,7 @@ use Rattle.arrange.specs.Arrange.{Arranged}
 -- a good table of n nodes, the roots of at most eight stages in it, eight stage words; the work words may hold anything
 pub record Unfinished (cap : ℕ) (l : List ℤ) (n : ℕ) (w R s : List ℕ) : Type 0 where
   pub held : Held cap l n
-  pub works : cap * node-words ≤ length w
+  pub works : cap * work-words ≤ length w
   pub roots : Roots R n
   pub few : length R ≤ steps-most
   pub stages : length s ≡ steps-most

@@ -11,13 +11,14 @@ use lib.IntN.{ℤ}
 use lib.ListN.{length, getD}
 use Rattle.whole.specs.Cases.{if, both, from-true}
 use Rattle.theory.specs.Widths.{bytes-most, loaded-roots-most}
+use Rattle.theory.specs.Form.{new-form, site-byte}
 use Rattle.theory.specs.Diagram.{Tree}
 use Rattle.theory.specs.Valid.{all}
 use Rattle.theory.specs.Meaning.{Model}
 use Rattle.theory.specs.Computation.{Comp, ret, bind, Out, done, stopped, run}
-use Rattle.theory.specs.Command.{Command, site, push-leaf, push-condition, push-test, name-action, end-model, Read, whole, Placed, byte-at, width, command-at, goes-on, readings-from, readings, give, Slot}
-use Rattle.theory.specs.Verdict.{Site, site-of, Progress, reward-slot, chance-slot, level-slot, end-slot, has-slot, first-broken, from-to, wanted-by, wanted, site-rules, first-rules, rules-of, after, ended, judged, at-start, verdict}
-use Rattle.theory.specs.Load.{Entry, Loaded as Loading, load-one-with, load-on, load-on-with, find-slot, found, action-of, model-of, site-at, load, load-with, model}
+use Rattle.theory.specs.Command.{Command, site, push-leaf, push-condition, push-test, name-action, end-model, Read, whole, Placed, byte-at, width, command-in, command-at, goes-on, readings-from-in, readings-from, readings-in, readings, give, Slot}
+use Rattle.theory.specs.Verdict.{Site, site-of, Progress, reward-slot, chance-slot, level-slot, end-slot, has-slot, first-broken, from-to, wanted-by, wanted, site-rules, first-rules, rules-in, after, ended, judged-in, judged, at-start, verdict-in, verdict}
+use Rattle.theory.specs.Load.{Entry, Loaded as Loading, load-one-with, load-on, load-on-with, find-slot, found, action-of, model-of, site-in, site-at, load-in, load, model-in, model}
 use Rattle.theory.specs.Stage.{all-diagrams, model-diagrams}
 use Rattle.theory.specs.laws.Comps.{run-bind, run-result}
 use Rattle.theory.specs.laws.Comps.{after as after-out}
@@ -54,9 +55,9 @@ one-of B true c d f g = f
 one-of B false c d f g = g
 
 first-fits : (B : List ℕ) → site-fits B (command-at B 0)
-unfolding command-at site-fits site-at
+unfolding command-in site-fits site-in
 first-fits B =
-    one-of B (eqb (byte-at B 0) 0x01) _ _ refl (one-of B (eqb (byte-at B 0) 0x10) _ _ tt (one-of B (eqb (byte-at B 0) 0x11) _ _ tt
+    one-of B (eqb (byte-at B 0) (site-byte new-form)) _ _ refl (one-of B (eqb (byte-at B 0) 0x10) _ _ tt (one-of B (eqb (byte-at B 0) 0x11) _ _ tt
     (one-of B (eqb (byte-at B 0) 0x12) _ _ tt (one-of B (eqb (byte-at B 0) 0x20) _ _ tt (one-of B (eqb (byte-at B 0) 0x21) _ _ tt
     (one-of B (eqb (byte-at B 0) 0x22) _ _ tt (one-of B (eqb (byte-at B 0) 0x23) _ _ tt (one-of B (eqb (byte-at B 0) 0x30) _ _ tt tt))))))))
 
@@ -64,7 +65,7 @@ abbrev begun : Site → Progress
 begun S = record { begun = true; site = S; stack = []; given = [] }
 
 pub record Begun (B : List ℕ) (L : List Placed) : Type 0 where
-  pub bytes : Bytes B 0
+  pub bytes : Bytes new-form B 0
   pub judges : judged (length B) (begun (site-at B)) (Rest B) .number ≡ 0
   pub runs : load-on L (loading [] []) ≡ load-on (Rest B) (loading [] [])
 
@@ -72,10 +73,10 @@ abbrev Begins : List ℕ → Read → Type 0
 Begins B r = judged (length B) at-start (record { at = 0; read = r } ∷ behind B (length B) 0 (goes-on r)) .number ≡ 0 → Begun B (record { at = 0; read = r } ∷ behind B (length B) 0 (goes-on r))
 
 first-command : (B : List ℕ) → 1 ≤ width (byte-at B 0) → 0 + width (byte-at B 0) ≤ length B → (c : Command) → site-fits B c → Begins B (whole c)
-unfolding judged load-on-with goes-on rules-of first-rules ended load-one-with bind after site-fits first-broken
+unfolding judged-in load-on-with goes-on rules-in first-rules ended load-one-with bind after site-fits first-broken
 first-command B w h (site m n a v) f e = record {
   bytes = record { starts = omega arith; known = λ z. omega (arith, z); ends = h };
-  judges = subst (λ (S : Site). judged (length B) (begun S) (Rest B) .number ≡ 0) f (judged-whole (first-broken (site-rules (site-of m n a v))) 0 _ e .1);
+  judges = subst (λ (S : Site). judged (length B) (begun S) (Rest B) .number ≡ 0) f (judged-whole (first-broken (site-rules new-form (site-of m n a v))) 0 _ e .1);
   runs = refl;
 }
 first-command B w h (push-leaf p) f e = absurd (let z : _≡_ {A = ℕ} 1 0 = e in omega arith)
@@ -86,7 +87,7 @@ first-command B w h (name-action a b) f e = absurd (let z : _≡_ {A = ℕ} 1 0 
 first-command B w h end-model f e = absurd (let z : _≡_ {A = ℕ} 1 0 = e in omega arith)
 
 begins : (B : List ℕ) → verdict B .number ≡ 0 → Begun B (readings B)
-unfolding verdict readings readings-from judged
+unfolding verdict-in readings-in readings-from-in judged-in
 begins B = by-reading B 0 (Begins B) (λ e. absurd (let z : _≡_ {A = ℕ} 2 0 = e in omega arith)) (λ _ e. absurd (let z : _≡_ {A = ℕ} 3 0 = e in omega arith)) (λ w h. first-command B w h (command-at B 0) (first-fits B))
 
 trees-none : (l : List ℤ) → trees l 0 ≡ []
@@ -104,7 +105,7 @@ pub walk-starts : {B : List ℕ} {cap : ℕ} {l : List ℤ} {w : List ℕ} {R : 
 unfolding Below has-slot
 walk-starts {B} {cap} {l} {w} {R} {at} {s} ok small A room ea st =
     let b = begins B ok in
-    let e : at ≡ 0 + width (byte-at B 0) = ea ∙ next-whole B 0 (b .bytes) in
+    let e : at ≡ 0 + width (byte-at B 0) = ea ∙ next-whole new-form B 0 (b .bytes) in
     let k = b .bytes .known in
     let t = b .bytes .starts in
     record {
@@ -252,7 +253,7 @@ module _ (S : Site) (E : List Entry) where
 -- ---- the end
 
 load-run : (B : List ℕ) (cap : ℕ) → run cap (load B) [] ≡ after-out (run cap (load-on (readings B) (loading [] [])) []) (λ s Y. run cap (ret (model-of (site-at B) (s .entries))) Y)
-unfolding load-with
+unfolding load-in
 load-run B cap = run-bind cap (load-on (readings B) (loading [] [])) _ []
 
 load-stops : (B : List ℕ) (cap : ℕ) {k : ℕ} → run cap (load-on (readings B) (loading [] [])) [] ≡ stopped k → run cap (load B) [] ≡ stopped k
@@ -264,7 +265,7 @@ unfolding after-out run
 load-done B cap e = load-run B cap ∙ ap (λ (o : Out Loading). after-out o (λ s Y. run cap (ret (model-of (site-at B) (s .entries))) Y)) e
 
 is-model : (B : List ℕ) (cap : ℕ) {M : Model} {Y : List Tree} → run cap (load B) [] ≡ done M Y → M ≡ model B
-unfolding model
+unfolding model-in
 is-model B cap {M} {Y} e = run-result cap (load B) [] Y M e
 
 pub ends-loaded : {B : List ℕ} {cap : ℕ} {l : List ℤ} {w : List ℕ} {R : List ℕ} {at : ℕ} {s : Loaded} {flag : Bool} (k : Walk B cap l w R at s flag) → run cap (load-on (readings B) (loading [] [])) [] ≡ done (loading (standing l (s .count) (held (s .stack))) (k .entries)) (trees l (s .count))

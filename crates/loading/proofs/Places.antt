@@ -14,7 +14,7 @@ use lib.Seq.{getD-set-same, getD-set-other}
 use types.Run.{OneOf, miss}
 use denote.Enum.Declared.{tagOf}
 use Rattle.whole.specs.Cases.{if, by-test, both, and-in}
-use Rattle.theory.specs.Widths.{loaded-roots-most}
+use Rattle.theory.specs.Widths.{loaded-roots-most, levels-most, conditions-most, actions-most}
 use Rattle.theory.specs.Diagram.{Tree}
 use Rattle.theory.specs.Command.{give, Slot}
 use Rattle.theory.specs.Verdict.{Site, end-slot, name-slot, same-slot, has-slot, or}
@@ -25,7 +25,7 @@ use Rattle.diagrams.proofs.Trees.{trees-kept}
 use Rattle.command.proofs.Command.{the-type as command-type}
 use Rattle.command.specs.declared.Command.{Command as CodeCommand}
 use Rattle.command.specs.declared.Command.the-variants.{Site as SiteBy, Leaf, Condition, Test, Give, Name, End}
-use Rattle.command.specs.Reading.{command-of}
+use Rattle.command.specs.Reading.{command-of-in, command-of}
 use Rattle.loading.specs.Rooting.{rows-above, offset-of, place-of, ended-by, storedIn}
 
 -- ---- places
@@ -199,9 +199,9 @@ rooted-name {l = l} {n} {R} {G} {E} a r = record {
   end = r .end;
 }
 
-place-few : {S : Site} {g : Slot} {i : ℕ} → S .actions ≤ 8 → S .conditions ≤ 4 → S .levels ≤ 4 → Stands-at S g i → i < loaded-roots-most
+place-few : {S : Site} {g : Slot} {i : ℕ} → S .actions ≤ actions-most → S .conditions ≤ conditions-most → S .levels ≤ levels-most → Stands-at S g i → i < loaded-roots-most
 place-few {S} {g} {i} A N M p =
-    let q = mul-le-mul {n₁ = S .actions} {m₁ = width-of S} {n₂ = 8} {m₂ = 9} A (omega arith) in
+    let q = mul-le-mul {n₁ = S .actions} {m₁ = width-of S} {n₂ = actions-most} {m₂ = 1 + conditions-most + levels-most} A (omega arith) in
     ⊎-elim (λ x. omega (arith, place-less x)) (λ x. omega (arith, x .place)) p
 
 stored-at : (R : List ℕ) (i x : ℕ) → loaded-roots-most ≤ length R → i < loaded-roots-most → getD (storedIn R i x) i 0 ≡ x
@@ -225,7 +225,7 @@ differ true a b = a
 differ false a b = b
 
 -- what is given now stands at its place
-pub rooted-entry : {S : Site} {l : List ℤ} {n : ℕ} {R : List ℕ} {G : List Slot} {E : List Entry} {g : Slot} {i : ℕ} {x : ℕ} {t : Tree} → S .actions ≤ 8 → S .conditions ≤ 4 → S .levels ≤ 4 → loaded-roots-most ≤ length R → Stands-at S g i → Root-of l n x t → Rooted S l n R G E → Rooted S l n (storedIn R i x) (g ∷ G) (record { slot = g; tree = t } ∷ E)
+pub rooted-entry : {S : Site} {l : List ℤ} {n : ℕ} {R : List ℕ} {G : List Slot} {E : List Entry} {g : Slot} {i : ℕ} {x : ℕ} {t : Tree} → S .actions ≤ actions-most → S .conditions ≤ conditions-most → S .levels ≤ levels-most → loaded-roots-most ≤ length R → Stands-at S g i → Root-of l n x t → Rooted S l n R G E → Rooted S l n (storedIn R i x) (g ∷ G) (record { slot = g; tree = t } ∷ E)
 unfolding has-slot find-slot found
 rooted-entry {S} {l} {n} {R} {G} {E} {g} {i} {x} {t} A N M room p o r = record {
   root = λ h j q u.
@@ -246,8 +246,8 @@ ends-given S {g} G d e = ap₂ or (⊎-elim
 
 -- ---- what the code reckons
 
-pub row-few : (a n : ℕ) → a < 256 → n < 512 → a * n < 131072
-row-few a n h k = let m = mul-le-mul-right n (let z : a ≤ 255 = omega arith in z) in omega arith
+pub row-few : (a n : ℕ) → a < 65536 → n < 512 → a * n < 33554432
+row-few a n h k = let m = mul-le-mul-right n (let z : a ≤ 65535 = omega arith in z) in omega arith
 
 pub stored-yes : (R : List ℕ) (i x : ℕ) → i < loaded-roots-most → set R i x ≡ storedIn R i x
 unfolding storedIn
@@ -260,7 +260,7 @@ stored-no R i x h = ap (λ (b : Bool). if b (set R i x) R) (sym (le-ltb i loaded
 -- nothing is given
 pub other-command : (B : List ℕ) (at : ℕ) (d : CodeCommand) → OneOf (0 ∷ 1 ∷ 2 ∷ 3 ∷ 5 ∷ 6 ∷ []) (tagOf command-type d)
     → ((m n A : ℕ) → loaded-roots-most ≡ place-of m n A (command-of B at d)) × ((b : Bool) → b ≡ ended-by b (command-of B at d))
-unfolding place-of ended-by command-of
+unfolding place-of ended-by command-of-in
 other-command B at (SiteBy x y a w) k = (λ m n A. refl, λ b. refl)
 other-command B at Leaf k = (λ m n A. refl, λ b. refl)
 other-command B at (Condition i) k = (λ m n A. refl, λ b. refl)

@@ -11,11 +11,12 @@ use types.Run.{OneOf, miss}
 use denote.Enum.Declared.{tagOf}
 use Rattle.whole.specs.Cases.{if, by-test, both, not-not}
 use Rattle.theory.specs.Widths.{levels-most, conditions-most, actions-most, stack-most, bytes-most, loaded-roots-most}
+use Rattle.theory.specs.Form.{new-form}
 use Rattle.theory.specs.Diagram.{Tree}
 use Rattle.theory.specs.Valid.{all, among}
 use Rattle.theory.specs.Computation.{Comp, bind, Out, done, stopped, run}
-use Rattle.theory.specs.Command.{Command, site, push-leaf, push-condition, push-test, name-action, end-model, Read, whole, unknown, short, Placed, byte-at, width, read-at, goes-on, readings-from, readings, give, Slot}
-use Rattle.theory.specs.Verdict.{Site, Facts, Progress, end-slot, name-slot, has-slot, same-slot, or, Rule, rule, first-broken, next-condition, joined, wanted, later-rules, rules-of, after, Verdict, refusal, ended, judged}
+use Rattle.theory.specs.Command.{Command, site, push-leaf, push-condition, push-test, name-action, end-model, Read, whole, unknown, short, Placed, byte-at, width, read-at, goes-on, readings-from-in, readings-from, readings, give, Slot}
+use Rattle.theory.specs.Verdict.{Site, Facts, Progress, end-slot, name-slot, has-slot, same-slot, or, Rule, rule, first-broken, next-condition, joined, wanted, later-rules, rules-in, after, Verdict, refusal, ended, judged-in, judged}
 use Rattle.theory.specs.Load.{Entry, Loaded as Loading, load-one, load-one-with, load-on, load-on-with, site-at}
 use Rattle.theory.specs.laws.Comps.{run-bind}
 use Rattle.theory.specs.laws.Comps.{after as after-out}
@@ -27,8 +28,10 @@ use Rattle.command.specs.declared.Command.{Command as CodeCommand}
 use Rattle.command.specs.declared.Read.{Read as CodeRead}
 use Rattle.command.specs.declared.Read.the-variants.{Whole, Unknown, Short}
 use Rattle.command.specs.Held.{held}
-use Rattle.command.specs.Reading.{command-of, read-of, next-at}
+use Rattle.command.specs.Reading.{command-of, read-of-in, read-of, next-at}
 use Rattle.command.proofs.Forward.{whole-bytes}
+use Rattle.progress.specs.declared.Site.{Site as CodeSite}
+use Rattle.progress.specs.Standing.{site-as}
 use Rattle.model.specs.Answers.{is-end}
 use Rattle.model.proofs.Walk.{at-end, going, forward, from-first}
 use Rattle.diagrams.specs.Nodes.{trees, treeAt}
@@ -103,7 +106,7 @@ unfolding given-to
 given-first l n [] g E h P p = absurd (omega arith)
 given-first l n (x ∷ H) g E h P p = p
 
-module _ (S : Site) (A : S .actions ≤ 8) (N : S .conditions ≤ 4) (M : S .levels ≤ 4) (K : List Facts) (G : List Slot) {l : List ℤ} {n : ℕ} (H : List ℕ) (b : Below n H) (tall : length H ≡ length K) {R : List ℕ} (room : loaded-roots-most ≤ length R) {E : List Entry} (r : Rooted S l n R G E) where
+module _ (S : Site) (A : S .actions ≤ actions-most) (N : S .conditions ≤ conditions-most) (M : S .levels ≤ levels-most) (K : List Facts) (G : List Slot) {l : List ℤ} {n : ℕ} (H : List ℕ) (b : Below n H) (tall : length H ≡ length K) {R : List ℕ} (room : loaded-roots-most ≤ length R) {E : List Entry} (r : Rooted S l n R G E) where
   took : (g : Slot) (i : ℕ) → Stands-at S g i → 1 ≤ length K → Rooted S l n (storedIn R i (getD H 0 0)) (g ∷ G) (given-to g (standing l n H) E)
   took g i p h = given-first l n H g E (omega arith) (λ F. Rooted S l n (storedIn R i (getD H 0 0)) (g ∷ G) F) (rooted-entry A N M room p (record { below = top-below n H (omega arith) b; tree = refl }) r)
 
@@ -133,9 +136,9 @@ given-ends S K G e end-model f = e
 -- ---- the walk
 
 pub record Fewest (B : List ℕ) : Type 0 where
-  pub actions : site-at B .actions ≤ 8
-  pub conditions : site-at B .conditions ≤ 4
-  pub levels : site-at B .levels ≤ 4
+  pub actions : site-at B .actions ≤ actions-most
+  pub conditions : site-at B .conditions ≤ conditions-most
+  pub levels : site-at B .levels ≤ levels-most
   pub some : 1 ≤ site-at B .actions
 
 pub few-in : (B : List ℕ) → In-range (site-at B) → Fewest B
@@ -165,7 +168,7 @@ pub record Walk (B : List ℕ) (cap : ℕ) (l : List ℤ) (w : List ℕ) (R : Li
   pub room : loaded-roots-most ≤ length R
 
 opened : (P : List Placed → Type 0) (B : List ℕ) (at k : ℕ) → length B - at < k → P (readings-from B k at) → (r : Read) → r ≡ read-at B at → (n : ℕ) × (length B - at < suc n) × P (from-first B at n r)
-unfolding readings-from
+unfolding readings-from-in
 opened P B at zero h j r e = absurd (omega arith)
 opened P B at (suc k) h j r e = (k, h, subst (λ (q : Read). P (from-first B at k q)) (sym e) j)
 
@@ -179,7 +182,7 @@ Both B cap K G X E Y L = (judged (length B) (state (site-at B) K G) L .number �
 
 judge-one : (B : List ℕ) (S : Site) (K : List Facts) (G : List Slot) (at : ℕ) (c : Command) (L : List Placed) → judged (length B) (state S K G) (record { at = at; read = whole c } ∷ L) .number ≡ 0
     → (first-broken (later-rules S K G c) ≡ 0) × (ended (length B) at c (judged (length B) (after (state S K G) c) L) .number ≡ 0)
-unfolding judged rules-of
+unfolding judged-in rules-in
 judge-one B S K G at c L e = judged-whole (first-broken (later-rules S K G c)) at _ e
 
 load-one-on : (at : ℕ) (c : Command) (L : List Placed) (s : Loading) → load-on (record { at = at; read = whole c } ∷ L) s ≡ bind (load-one c s) (load-on L)
@@ -187,15 +190,15 @@ unfolding load-on-with
 load-one-on at c L s = refl
 
 refused-unknown : (n : ℕ) (s : Progress) (at : ℕ) (L : List Placed) {A : Type 0} → judged n s (record { at = at; read = unknown } ∷ L) .number ≡ 0 → A
-unfolding judged
+unfolding judged-in
 refused-unknown n s at L e = absurd (let z : _≡_ {A = ℕ} 3 0 = e in omega arith)
 
 refused-short : (n : ℕ) (s : Progress) (at : ℕ) (L : List Placed) {A : Type 0} → judged n s (record { at = at; read = short } ∷ L) .number ≡ 0 → A
-unfolding judged
+unfolding judged-in
 refused-short n s at L e = absurd (let z : _≡_ {A = ℕ} 2 0 = e in omega arith)
 
 not-whole : (B : List ℕ) (at : ℕ) (r : CodeRead) → OneOf (1 ∷ 2 ∷ []) (tagOf read-type r) → (P : Read → Type 0) → P (read-of B at r) → {A : Type 0} → (P unknown → A) → (P short → A) → A
-unfolding read-of
+unfolding read-of-in
 not-whole B at (Whole c) k P p f g = absurd (miss (1 ∷ 2 ∷ []) 0 tt k)
 not-whole B at Unknown k P p f g = f p
 not-whole B at Short k P p f g = g p
@@ -240,7 +243,7 @@ module _ {B : List ℕ} {cap : ℕ} {l : List ℤ} {w : List ℕ} {R : List ℕ}
       none = k .none;
       table = k .table;
       below = k .below;
-      short = (let b = whole-bytes B at (command-of B at c) e .0 .starts in let m = k .small in omega arith);
+      short = (let b = whole-bytes new-form B at (command-of B at c) e .0 .starts in let m = k .small in omega arith);
       here = e;
       able = subst (Able (command-of B at c)) (sym (k .tall)) (ok .able (k .most));
     }
@@ -299,8 +302,7 @@ module _ {B : List ℕ} {cap : ℕ} {l : List ℤ} {w : List ℕ} {R : List ℕ}
         let z = at-end B at c i in
         (ends-run B cap at (o .0) z (o .2 .1), ends-all (site-at B) (k .facts) (k .given) (subst (λ (d : Command). first-broken (later-rules (site-at B) (k .facts) (k .given) d) ≡ 0) z fine))
 
--- with the levels, conditions and actions that the code reads
-pub placed : (B : List ℕ) {m n A p : ℕ} (c : Command) (R : List ℕ) {R′ : List ℕ} (x : ℕ) → m ≡ byte-at B 1 → n ≡ byte-at B 2 → A ≡ byte-at B 3 → p ≡ place-of m n A c → R′ ≡ storedIn R p x
+-- with the site that the code reads
+pub placed : (B : List ℕ) (s : CodeSite) {p : ℕ} (c : Command) (R : List ℕ) {R′ : List ℕ} (x : ℕ) → site-as s ≡ site-at B → p ≡ place-of (s .levels) (s .conditions) (s .actions) c → R′ ≡ storedIn R p x
     → R′ ≡ storedIn R (place-of (site-at B .levels) (site-at B .conditions) (site-at B .actions) c) x
-unfolding site-at
-placed B {A = A} c R x em en ea ep e = e ∙ ap (λ (i : ℕ). storedIn R i x) (ep ∙ (ap₂ (λ (m n : ℕ). place-of m n A c) em en ∙ ap (λ (A : ℕ). place-of (byte-at B 1) (byte-at B 2) A c) ea))
+placed B s c R x es ep e = e ∙ ap (λ (i : ℕ). storedIn R i x) (ep ∙ ap (λ (S : Site). place-of (S .levels) (S .conditions) (S .actions) c) es)

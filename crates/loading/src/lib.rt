@@ -11,13 +11,19 @@ ghost use Rattle.commands_choice.specs.Testing.{loadRule};
 ghost use Rattle.loading.specs.Rooting.{rows-above, offset-of, place-of, ended-by, storedIn, Starts, Loads};
 use command::Command;
 use command::Read;
+use command::forms::ACTIONS;
+use command::forms::LEVELS;
 use command::stack::Stack;
 use model::is_end;
+use model::site;
 use stacking::Loaded;
 use stacking::step;
 
+// "n conditions (0 to 4)"
+const CONDITIONS: usize = 4;
+
 // The most roots that a model has, with the end worth's.
-pub const LOADED_ROOTS: usize = 73;
+pub const LOADED_ROOTS: usize = (1 + CONDITIONS + LEVELS) * ACTIONS + 1;
 
 // The byte of the command that gives the end worth.
 const END_WORTH: u8 = 0x23;
@@ -29,20 +35,27 @@ pub struct Done {
     pub ended: bool,
 }
 
-fn wide(x: u8) -> usize
+// A byte, and an action's number, as an index.
+pub fn wide(x: u8) -> usize
     ensures { λ r. ⌜ (r ≡ x) × (r < 256) ⌝ }
 {
     x as usize
 }
 
+pub fn wide_action(x: u16) -> usize
+    ensures { λ r. ⌜ (r ≡ x) × (r < 65536) ⌝ }
+{
+    x as usize
+}
+
 // How many actions' roots stand before what is given: those of the actions with lower numbers, or all before the end worth's.
-fn above(actions: u8, command: u8, action: u8) -> usize
-    ensures { λ r. ⌜ ((i : ℕ) → r ≡ rows-above actions (record { command = command; action = action; index = i })) × (r < 256) ⌝ }
+fn above(actions: u16, command: u8, action: u16) -> usize
+    ensures { λ r. ⌜ ((i : ℕ) → r ≡ rows-above actions (record { command = command; action = action; index = i })) × (r < 65536) ⌝ }
 {
     if command == END_WORTH {
-        return wide(actions);
+        return wide_action(actions);
     }
-    let a = wide(action);
+    let a = wide_action(action);
     if a == 0 {
         return 0;
     }
@@ -51,8 +64,8 @@ fn above(actions: u8, command: u8, action: u8) -> usize
 
 // Where the roots behind those of some actions begin.
 fn row(levels: u8, conditions: u8, above: usize) -> usize
-    requires { ⌜ above < 256 ⌝ }
-    ensures { λ r. ⌜ (r ≡ above * (1 + conditions + levels)) × (r < 131072) ⌝ }
+    requires { ⌜ above < 65536 ⌝ }
+    ensures { λ r. ⌜ (r ≡ above * (1 + conditions + levels)) × (r < 33554432) ⌝ }
 {
     let n = 1 + wide(conditions) + wide(levels);
     above * n
@@ -70,7 +83,7 @@ fn offset(conditions: u8, command: u8, index: u8) -> usize
 }
 
 // Where the root goes that a command gives; past all roots where it gives none.
-fn place(levels: u8, conditions: u8, actions: u8, c: Command) -> usize
+fn place(levels: u8, conditions: u8, actions: u16, c: Command) -> usize
     ensures { λ r. ⌜ ((B : List ℕ) (at : ℕ) → r ≡ place-of levels conditions actions (command-of B at c)) ⌝ }
 {
     match c {
@@ -121,9 +134,7 @@ pub fn load(
     requires { ⌜ (verdict (now model) .number ≡ 0) × (length (now model) ≤ bytes-most) × Table (loadRule (now model)) cap (now nodes) (now work) 0 × (loaded-roots-most ≤ length (now roots)) ⌝ }
     ensures { λ r. ⌜ Loads (now (model .entry)) cap (now (nodes .exit)) (now (work .exit)) (now (roots .exit)) r ⌝ }
 {
-    let levels = command::byte_at(model, 1);
-    let conditions = command::byte_at(model, 2);
-    let actions = command::byte_at(model, 3);
+    let operands = site(model);
     let mut at = command::next_after(model, 0);
     let mut s = start();
     let mut ended = false;
@@ -145,7 +156,11 @@ pub fn load(
         }
         let stack = s.stack;
         let x = stack.top();
-        store(roots, place(levels, conditions, actions, c), x);
+        store(
+            roots,
+            place(operands.levels, operands.conditions, operands.actions, c),
+            x,
+        );
         ended = ended_by(ended, c);
         s = step(model, nodes, work, cap, at, c, s);
         if s.stop != 0 {

@@ -7,7 +7,7 @@ use native.Mathlib.Omega.{arith}
 use borrow.Author.Tests.{eq-eqb, ne-eqb}
 use lib.IntN.{ℤ, pos, natAbs}
 use lib.ListN.{length, getD, set, length-set}
-use Rattle.table.specs.Table.{nodeAt, eqZ}
+use Rattle.table.specs.Table.{node-words, nodeAt, eqZ}
 use Rattle.table.specs.declared.Node.{Node}
 use Rattle.diagrams.specs.Nodes.{Valid, Good}
 use Rattle.mark.specs.Mark.{markOf, markStep, markDown}
@@ -61,7 +61,7 @@ pub begins : (l : List ℤ) (w : List ℕ) (n : ℕ) → Descent l w w n n
 begins l w n = record { left = refl; upto = omega arith; len = refl }
 
 module _ {l : List ℤ} {w w′ : List ℕ} {n i : ℕ} (D : Descent l w w′ n i) where
-  pub asks : n * 8 ≤ length l → n ≤ length w → n ≤ 65535 → Good l n → 0 < i → ((i - 1) * 8 + 8 ≤ length l) × (i - 1 < length w′) × (i - 1 ≤ 65535) × Valid (nodeAt l (i - 1)) (i - 1)
+  pub asks : n * node-words ≤ length l → n ≤ length w → n ≤ 65535 → Good l n → 0 < i → ((i - 1) * node-words + node-words ≤ length l) × (i - 1 < length w′) × (i - 1 ≤ 65535) × Valid (nodeAt l (i - 1)) (i - 1)
   asks a b c G h = let u = D .upto in let e = D .len in ((omega arith), (omega arith), (omega arith), G .valid (i - 1) (omega arith))
 
   pub falls : 0 < i → {w″ : List ℕ} → w″ ≡ markStep l w′ (i - 1) → Descent l w w″ n (i - 1)

@@ -17,7 +17,7 @@ use Rattle.diagrams.specs.declared.Sides.{Sides}
 use Rattle.diagrams.specs.Nodes.{leafOf, testOf, treeAt, Root}
 use Rattle.diagrams.specs.Table.{Table, Ran, Grew, Lasting}
 use Rattle.computed_cache.specs.Cache.{Key}
-use Rattle.diagrams.specs.Meaning.{ruleOf}
+use Rattle.diagrams.specs.Meaning.{ruleBy, ruleOf}
 use Rattle.choice.specs.Choice.{sidesOf}
 use Rattle.diagrams.proofs.Outcomes.{ran-as, lifted}
 use Rattle.diagrams.proofs.Meanings.{lasts-sum, lasts-product, lasts-best}
@@ -38,7 +38,7 @@ by-rule P a b c (suc (suc (suc op))) h = absurd (omega arith)
 
 -- the rule's computation is a merge
 pub rule-merge : (l : List ℤ) (n f g op : ℕ) → op ≤ 2 → ruleOf l n op f g 0 0 ≡ merge (makerOf op) (leafRule op) (treeAt l n f) (treeAt l n g)
-unfolding ruleOf makerOf leafRule sum product best
+unfolding ruleOf ruleBy makerOf leafRule sum product best
 rule-merge l n f g = by-rule (λ op. ruleOf l n op f g 0 0 ≡ merge (makerOf op) (leafRule op) (treeAt l n f) (treeAt l n g)) refl refl refl
 
 pub lasts-merge : (l : List ℤ) (n f g : ℕ) → f < n → g < n → (op : ℕ) → op ≤ 2 → Lasting ruleOf l n op f g 0 0

@@ -17,7 +17,7 @@ use Rattle.theory.specs.Valid.{small-linear, all}
 use Rattle.theory.specs.laws.Comps.{run-judge}
 use Rattle.diagrams.specs.Nodes.{trees, treeAt, linOf, Plain}
 use Rattle.diagrams.specs.Table.{Table, Ran, Grew}
-use Rattle.diagrams.specs.Meaning.{ruleOf}
+use Rattle.diagrams.specs.Meaning.{ruleBy, ruleOf}
 use Rattle.diagrams.proofs.Outcomes.{lifted, ran-as, ran-like}
 use Rattle.mark.specs.Mark.{rootsOf}
 use Rattle.solving.specs.Operated.{roots-at}
@@ -75,7 +75,7 @@ module _ {cap n : ℕ} {l l′ : List ℤ} {w w′ : List ℕ} {r : Made} (R : L
       ran-as (ap₂ (λ (a b : Tree). add-reward (weights ^ exponent) a action b) (sym (roots-at X R v (G .0))) (sym (roots-at X R f (G .1))) ∙ ap (compOf (rootsOf X R)) (sym e)) S
 
   pub best-took : {f g : ℕ} → rule ≡ Best f g → Fits (length R) rule → Ran ruleOf cap l w n (ruleOf l n 2 (getD R f 0) (getD R g 0) 0 0) l′ w′ r → Ran ruleOf cap l w n (compOf (rootsOf (trees l n) R) rule) l′ w′ r
-  unfolding compOf Fits ruleOf
+  unfolding compOf Fits ruleOf ruleBy
   best-took {f} {g} e F S =
       let X = trees l n in
       let G = subst (Fits (length R)) e F in

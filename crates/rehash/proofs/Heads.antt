@@ -14,7 +14,7 @@ use lib.Seq.{getD-set-same, getD-set-other}
 use Rattle.table.proofs.Look.{split}
 use Rattle.table.specs.Table.{nodeAt}
 use Rattle.table.specs.declared.Node.{Node}
-use Rattle.unique.specs.Unique.{hashOf, lastOf, Hashed}
+use Rattle.unique.specs.Unique.{work-words, hashOf, lastOf, Hashed}
 use Rattle.unique.proofs.Chain.{H}
 use Rattle.clear.specs.Wipe.{wiped}
 use Rattle.clear.proofs.Parts.{same-length, before, within, after}
@@ -41,12 +41,12 @@ module _ {cap : ℕ} {l : List ℤ} {w w₁ : List ℕ} {n : ℕ} (Z : Space cap
   len₁ : length w₁ ≡ length w
   len₁ = let z = Z .works in same-length 0 w 0 cap e₁ (omega arith) (omega arith)
 
-  room₁ : (cap * 2 ≤ cap * 8) × (cap * 8 ≤ length w₁)
+  room₁ : (cap * 2 ≤ cap * work-words) × (cap * work-words ≤ length w₁)
   room₁ = let z = Z .works in let q = len₁ in ((omega arith), (omega arith))
 
-  module _ {w₂ : List ℕ} (e₂ : w₂ ≡ wiped 0 (cap * 2) (cap * 8) w₁) where
+  module _ {w₂ : List ℕ} (e₂ : w₂ ≡ wiped 0 (cap * 2) (cap * work-words) w₁) where
     len₂ : length w₂ ≡ length w
-    len₂ = same-length 0 w₁ (cap * 2) (cap * 8) e₂ (room₁ .0) (room₁ .1) ∙ len₁
+    len₂ = same-length 0 w₁ (cap * 2) (cap * work-words) e₂ (room₁ .0) (room₁ .1) ∙ len₁
 
     pub begins : Upto cap l w₂ w₂ n 0
     unfolding lastOf
@@ -54,7 +54,7 @@ module _ {cap : ℕ} {l : List ℤ} {w w₁ : List ℕ} {n : ℕ} (Z : Space cap
       upto = omega arith;
       len = refl;
       hashed = record {
-        heads = λ b p. before 0 w₁ (cap * 2) (cap * 8) e₂ (room₁ .0) (room₁ .1) 0 b (omega arith) ∙ within 0 w 0 cap e₁ (omega arith) (let z = Z .works in omega arith) 0 b (omega arith) p;
+        heads = λ b p. before 0 w₁ (cap * 2) (cap * work-words) e₂ (room₁ .0) (room₁ .1) 0 b (omega arith) ∙ within 0 w 0 cap e₁ (omega arith) (let z = Z .works in omega arith) 0 b (omega arith) p;
         links = λ i p. absurd (omega arith);
       };
       frame = λ j p. refl;
@@ -63,17 +63,17 @@ module _ {cap : ℕ} {l : List ℤ} {w w₁ : List ℕ} {n : ℕ} (Z : Space cap
     pub ends : {w′ : List ℕ} {i : ℕ} → Upto cap l w₂ w′ n i → n ≤ i → Rehashed cap l w w′ n
     ends {w′} {i} U h = record {
       hashed = subst (Hashed cap l w′) (let u = U .upto in let q : i ≡ n = omega arith in q) (U .hashed);
-      cache = λ j p q. U .frame j p ∙ within 0 w₁ (cap * 2) (cap * 8) e₂ (room₁ .0) (room₁ .1) 0 j p q;
-      beyond = λ j p. U .frame j (omega arith) ∙ (after 0 w₁ (cap * 2) (cap * 8) e₂ (room₁ .0) (room₁ .1) 0 j p ∙ after 0 w 0 cap e₁ (omega arith) (let z = Z .works in omega arith) 0 j (omega arith));
+      cache = λ j p q. U .frame j p ∙ within 0 w₁ (cap * 2) (cap * work-words) e₂ (room₁ .0) (room₁ .1) 0 j p q;
+      beyond = λ j p. U .frame j (omega arith) ∙ (after 0 w₁ (cap * 2) (cap * work-words) e₂ (room₁ .0) (room₁ .1) 0 j p ∙ after 0 w 0 cap e₁ (omega arith) (let z = Z .works in omega arith) 0 j (omega arith));
       len = U .len ∙ len₂;
     }
 
 -- ---- one node more
-module _ {cap : ℕ} {l : List ℤ} {w₀ w : List ℕ} {m i : ℕ} (U : Upto cap l w₀ w m i) (big : cap * 8 ≤ length w₀) (nm : i < m) (mc : m ≤ cap) (x : Node) (ex : x ≡ nodeAt l i) (b : ℕ) (eb : b ≡ hashOf cap x) (bc : b < cap) where
+module _ {cap : ℕ} {l : List ℤ} {w₀ w : List ℕ} {m i : ℕ} (U : Upto cap l w₀ w m i) (big : cap * work-words ≤ length w₀) (nm : i < m) (mc : m ≤ cap) (x : Node) (ex : x ≡ nodeAt l i) (b : ℕ) (eb : b ≡ hashOf cap x) (bc : b < cap) where
   abbrev w′ : List ℕ
   w′ = set (set w (cap + i) (getD w b 0)) b (i + 1)
 
-  works : cap * 8 ≤ length w
+  works : cap * work-words ≤ length w
   works = let e = U .len in omega arith
 
   hash-i : H cap l i ≡ b

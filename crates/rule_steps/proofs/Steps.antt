@@ -14,9 +14,9 @@ use Rattle.table.specs.declared.Made.{Made}
 use Rattle.theory.specs.Computation.{Comp}
 use Rattle.theory.specs.Diagram.{Tree}
 use Rattle.theory.specs.Widths.{levels-most}
-use Rattle.unique.specs.Unique.{lastOf}
+use Rattle.unique.specs.Unique.{work-words, lastOf}
 use Rattle.diagrams.specs.Nodes.{Proper}
-use Rattle.table.specs.Table.{eqZ}
+use Rattle.table.specs.Table.{node-words, eqZ}
 use Rattle.diagrams.specs.Table.{Table, Grew}
 use Rattle.diagrams.specs.Meaning.{ruleOf}
 use Rattle.unary_node.specs.Acts.{Acts}
@@ -31,7 +31,7 @@ pub same : {cap n k : ℕ} {l : List ℤ} {w : List ℕ} → k ≡ n → Table r
 same {cap = cap} {l = l} {w = w} e A = subst (λ j. Table ruleOf cap l w j) (sym e) A
 
 -- no nodes yet
-pub empty : (cap : ℕ) (l : List ℤ) (w : List ℕ) → 0 < cap → cap ≤ 65535 → cap * 8 ≤ length l → cap * 8 ≤ length w → ((k : ℕ) → k < length w → getD w k 0 ≡ 0) → Table ruleOf cap l w 0
+pub empty : (cap : ℕ) (l : List ℤ) (w : List ℕ) → 0 < cap → cap ≤ 65535 → cap * node-words ≤ length l → cap * work-words ≤ length w → ((k : ℕ) → k < length w → getD w k 0 ≡ 0) → Table ruleOf cap l w 0
 unfolding lastOf
 empty cap l w some few hl hw z = fresh
     (record {

@@ -2,6 +2,7 @@
 use super::Step;
 use libc::STDOUT_FILENO;
 use table::Made;
+use table::NODE_WORDS;
 use whole::limits::mag;
 
 // No table has this index.
@@ -82,20 +83,16 @@ fn print_word(nodes: &[i64], at: usize) {
     print_signed(word(nodes, at));
 }
 
-// The eight words of the node at an index.
+// The words of the node at an index.
 fn print_node(nodes: &[i64], at: usize) {
     if at >= NOWHERE {
         return;
     }
-    let from = at * 8;
-    print_word(nodes, from);
-    print_word(nodes, from + 1);
-    print_word(nodes, from + 2);
-    print_word(nodes, from + 3);
-    print_word(nodes, from + 4);
-    print_word(nodes, from + 5);
-    print_word(nodes, from + 6);
-    print_word(nodes, from + 7);
+    let mut i: usize = 0;
+    while i < NODE_WORDS {
+        print_word(nodes, at * NODE_WORDS + i);
+        i += 1;
+    }
 }
 
 fn print_spaced(x: u64) {

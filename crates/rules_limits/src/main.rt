@@ -1,9 +1,12 @@
 // Numbers at the limits ±(2⁶² − 1) and one beyond (11); tables exactly full and one short (12).
 // A row is a rule, two lines and a number: 9 the leaf b L1 + c, 0 sum, 1 product, 2 best, 3 scale, 4 shift. A rule
 // on a line that came to no node is not run: 255.
+use table::NODE_WORDS;
+use unique::WORK_WORDS;
+
 fn case(cap: usize, rows: &[i64]) {
-    let mut nodes = [0i64; 128];
-    let mut work = [0u32; 128];
+    let mut nodes = [0i64; 16 * NODE_WORDS];
+    let mut work = [0u32; 16 * WORK_WORDS];
     let mut results = [0usize; 32];
     rule_steps::runs::run(&mut nodes, &mut work, &mut results, cap, rows);
     io::write_all(1, b"\n");

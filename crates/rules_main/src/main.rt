@@ -1,23 +1,26 @@
-// Staircases merged in a table of 65,535 nodes: what each step came to, as its refusal's number and the count of nodes.
+// Staircases merged in a table of 49,152 nodes: what each step came to, as its refusal's number and the count of nodes.
 ghost use Prim.Native.Nat.{_≤_, _<_};
 ghost use Rattle.diagrams.specs.Table.{Table};
 ghost use Rattle.diagrams.specs.Meaning.{ruleOf};
-ghost use Rattle.rules_main.specs.Held.{Held};
+ghost use Rattle.rules_main.specs.Held.{cap, Held};
 use diagrams::making::join_test;
 use diagrams::making::make_leaf;
 use merge::merge;
 use table::Made;
+use table::NODE_WORDS;
 use table::Node;
+use unique::WORK_WORDS;
 use whole::COEFFICIENTS;
 use whole::NUMBERS;
 
-const CAP: usize = 65535;
+// The tables and the recursion share 8 MB of stack.
+const CAP: usize = 49152;
 
 const TESTS: usize = 750;
 
 // A leaf without coefficients.
 fn leaf(nodes: &mut [i64], work: &mut [u32], count: usize, value: usize) -> Made
-    requires { ⌜ Table ruleOf 65535 (now nodes) (now work) count × (value ≤ 1000000) ⌝ }
+    requires { ⌜ Table ruleOf cap (now nodes) (now work) count × (value ≤ 1000000) ⌝ }
     ensures { λ r. ⌜ Held count (now (nodes .exit)) (now (work .exit)) r ⌝ }
 {
     let mut n = [0i64; NUMBERS];
@@ -40,7 +43,7 @@ fn stair(
     value: usize,
     below: usize,
 ) -> Made
-    requires { ⌜ Table ruleOf 65535 (now nodes) (now work) count × (at ≤ 1000000) × (value ≤ 1000000) × (below < count) ⌝ }
+    requires { ⌜ Table ruleOf cap (now nodes) (now work) count × (at ≤ 1000000) × (value ≤ 1000000) × (below < count) ⌝ }
     ensures { λ r. ⌜ Held count (now (nodes .exit)) (now (work .exit)) r ⌝ }
 {
     let l = leaf(nodes, work, count, value);
@@ -68,7 +71,7 @@ fn stairs(
     value: usize,
     values: usize,
 ) -> Made
-    requires { ⌜ Table ruleOf 65535 (now nodes) (now work) count × (from ≤ 1000) × (value ≤ 1000) × (0 < values) ⌝ }
+    requires { ⌜ Table ruleOf cap (now nodes) (now work) count × (from ≤ 1000) × (value ≤ 1000) × (0 < values) ⌝ }
     ensures { λ r. ⌜ Held count (now (nodes .exit)) (now (work .exit)) r ⌝ }
 {
     let mut f = leaf(nodes, work, count, value + TESTS);
@@ -103,7 +106,7 @@ fn pair(
     value: usize,
     values: usize,
 ) -> Made
-    requires { ⌜ Table ruleOf 65535 (now nodes) (now work) count × (op ≤ 2) × (value ≤ 1000) × (0 < values) ⌝ }
+    requires { ⌜ Table ruleOf cap (now nodes) (now work) count × (op ≤ 2) × (value ≤ 1000) × (0 < values) ⌝ }
     ensures { λ r. ⌜ Held count (now (nodes .exit)) (now (work .exit)) r ⌝ }
 {
     let f = stairs(nodes, work, count, 0, value, values);
@@ -123,7 +126,7 @@ fn pair(
 
 // Best of leaves that all differ; a sum that has room, and one that has not.
 fn all(nodes: &mut [i64], work: &mut [u32])
-    requires { ⌜ Table ruleOf 65535 (now nodes) (now work) 0 ⌝ }
+    requires { ⌜ Table ruleOf cap (now nodes) (now work) 0 ⌝ }
 {
     let a = pair(nodes, work, 0, 2, 1000, 1000);
     if a.stop != 0 {
@@ -144,7 +147,7 @@ fn run(nodes: &mut [i64], work: &mut [u32]) {
 }
 
 fn main() {
-    let mut nodes = [0i64; 524280];
-    let mut work = [0u32; 524280];
+    let mut nodes = [0i64; CAP * NODE_WORDS];
+    let mut work = [0u32; CAP * WORK_WORDS];
     run(&mut nodes, &mut work);
 }

@@ -10,6 +10,7 @@ use lib.Dec.{ltb}
 use lib.IntN.{ℤ}
 use lib.ListN.{length, getD, take, drop, length-drop}
 use lib.Seq.{length-take-le, getD-take, getD-drop}
+use Rattle.theory.specs.Widths.{levels-most, actions-most}
 use Rattle.theory.specs.Widths.{roots-most}
 use Rattle.theory.specs.Verdict.{Verdict, verdict}
 use Rattle.model.specs.Answers.{shown}
@@ -41,10 +42,10 @@ module _ (held : ℕ) (rule : Rule) where
   levels-fit at m f e o h t =
       let p : at + m ≤ held = omega arith in
       let q : 0 < m = omega arith in
-      let r : m ≤ 4 = omega arith in
+      let r : m ≤ levels-most = omega arith in
       subst (Fits held) (sym e) (p, q, r, ltb-true f held t)
 
-  pub reward-fits : (v f weights exponent action : ℕ) → rule ≡ Reward v f weights exponent action → action ≤ 8 → v < held → ltb f held ≡ true → Fits held rule
+  pub reward-fits : (v f weights exponent action : ℕ) → rule ≡ Reward v f weights exponent action → action ≤ actions-most → v < held → ltb f held ≡ true → Fits held rule
   unfolding Fits
   reward-fits v f weights exponent action e a h t = subst (Fits held) (sym e) (h, ltb-true f held t, a)
 

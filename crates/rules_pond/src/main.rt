@@ -12,7 +12,14 @@ use libc::STDOUT_FILENO;
 use operate::Rule;
 use operate::Run;
 use operate::operate;
+use table::NODE_WORDS;
+use unique::WORK_WORDS;
 use value_iteration::ROOTS;
+
+// The words of 32 nodes.
+const NODES_WORDS: usize = 32 * NODE_WORDS;
+
+const NODES_WORK: usize = 32 * WORK_WORDS;
 
 fn text(s: &[u8]) {
     io::write_all(STDOUT_FILENO, s);
@@ -44,9 +51,9 @@ fn signed(z: i64) {
 
 // The words of a node.
 fn node(nodes: &[i64], at: u32) {
-    let from = at as usize * 8;
+    let from = at as usize * NODE_WORDS;
     let mut i: usize = 0;
-    while i < 8 {
+    while i < NODE_WORDS {
         if from + i < nodes.len() {
             signed(nodes[from + i]);
         }
@@ -290,8 +297,8 @@ fn run(model: &[u8], nodes: &mut [i64], work: &mut [u32], roots: &mut [u32], row
 }
 
 fn pond(room: &[u8], n: usize) {
-    let mut nodes = [0i64; 256];
-    let mut work = [0u32; 256];
+    let mut nodes = [0i64; NODES_WORDS];
+    let mut work = [0u32; NODES_WORK];
     let mut roots = [0u32; ROOTS];
     if room.len() < n {
         return;
@@ -306,7 +313,7 @@ fn pond(room: &[u8], n: usize) {
 }
 
 fn main() {
-    let mut model = [0u8; 300];
+    let mut model = [0u8; 400];
     let n = hex_text::bytes_of(
         b"S 01 00 02A 01 P 20 01A 10 01000000 OOOKO 22 01A 01 10 OOOOK 32000000 10 OOOOK ffffffff 12 ffffffff OOOK 0a000000 20 02A 10 01000000 OOOK f6ffffff 10 01000000 OOOKO 12 ffffffff OOOK 0a000000 22 02A 01 ff",
         &mut model,

@@ -1,9 +1,12 @@
 // Shared diagrams: equal nodes are one node, a rule run again makes nothing, the order of choices does not matter.
 // A row is a rule, two lines and a number: 9 the leaf b L1 + c, 0 sum, 2 best, 7 and 8 the sides of condition c + 4,
 // 10 the choice by condition c + 4, 11 the choice by the test that line c's node names, 12 a node of condition c.
+use table::NODE_WORDS;
+use unique::WORK_WORDS;
+
 fn case(cap: usize, rows: &[i64]) {
-    let mut nodes = [0i64; 512];
-    let mut work = [0u32; 512];
+    let mut nodes = [0i64; 64 * NODE_WORDS];
+    let mut work = [0u32; 64 * WORK_WORDS];
     let mut results = [0usize; 32];
     rule_steps::runs::run(&mut nodes, &mut work, &mut results, cap, rows);
     io::write_all(1, b"\n");

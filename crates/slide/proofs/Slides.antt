@@ -12,7 +12,7 @@ use lib.ListN.{length, getD, set, length-set}
 use lib.Seq.{getD-set-same, getD-set-other}
 use Rattle.table.proofs.Look.{split}
 use Rattle.table.proofs.Store.{put-length, put-other, put-above, put-same}
-use Rattle.table.specs.Table.{nodeAt, putAt, eqZ}
+use Rattle.table.specs.Table.{node-words, nodeAt, putAt, eqZ}
 use Rattle.table.specs.declared.Node.{Node}
 use Rattle.theory.specs.Diagram.{Tree, branch}
 use Rattle.diagrams.specs.Nodes.{linOf, testOf, treeOf, blank, trees, Nums, Tested, Valid, Good}
@@ -210,7 +210,7 @@ module _ {cap : ℕ} {l : List ℤ} {w : List ℕ} {n : ℕ} (Z : Space cap l w 
       abbrev w″ : List ℕ
       w″ = set w′ (cap + i) j
 
-      room : j * 8 + 8 ≤ length l′
+      room : j * node-words + node-words ≤ length l′
       room = let a = j-le in let b = Z .words in let c = S .len in let d = Z .room in omega arith
 
       new-kept : trees l″ (j + 1) ≡ keepOf mk (trees l n) (i + 1)

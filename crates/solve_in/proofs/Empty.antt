@@ -8,7 +8,7 @@ use Rattle.theory.specs.Widths.{actions-most}
 use Rattle.theory.specs.Computation.{Comp, ret, bind, make, result, Out, stopped, run, member, refused}
 use Rattle.theory.specs.Command.{Command, site, push-leaf, push-condition, push-test, give, name-action, end-model, Read, whole, unknown, short, Placed, readings}
 use Rattle.theory.specs.Verdict.{verdict, reward-slot}
-use Rattle.theory.specs.Load.{Loaded, load-choice-with, load-entry, load-one, load-one-with, load-on, load-on-with, find-slot, model-of, site-at, load, load-with}
+use Rattle.theory.specs.Load.{Loaded, load-choice-with, load-entry, load-one, load-one-with, load-on, load-on-with, find-slot, model-of, site-at, load, load-in}
 use Rattle.theory.specs.Solve.{solve-in}
 use Rattle.theory.specs.laws.Comps.{after, run-bind}
 use Rattle.theory.specs.laws.Valid.{among-out}
@@ -51,7 +51,7 @@ not-idle B v e =
     List·Memᴰ·not-nil (subst (λ (m : Comp Loaded). List·Memᴰ (find-slot (reward-slot 1) (result m .entries)) (entry-trees (result m .entries))) e (d .1 .rewards 1 (omega arith) (r .0) .loaded))
 
 unloaded : (B : List ℕ) → verdict B .number ≡ 0 → run 0 (load B) [] ≡ stopped 12
-unfolding load-with after
+unfolding load-in after
 unloaded B v = ⊎-elim
     (λ e. run-bind 0 (load-on (readings B) nothing) _ [] ∙ ap (λ (o : Out Loaded). after o (λ s Y. run 0 (ret (model-of (site-at B) (s .entries))) Y)) e)
     (λ e. absurd (not-idle B v e)) (all-idle (readings B))

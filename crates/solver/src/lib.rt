@@ -21,7 +21,7 @@ fn least(a: usize, b: usize) -> usize
     if a < b { a } else { b }
 }
 
-// "the least of node words ÷ 8, work words ÷ 8 and 65,535"
+// "the least of node words ÷ 12, work words ÷ 8 and 65,535"
 fn room(nodes: usize, work: usize) -> usize
     ensures { λ r. ⌜ r ≡ room-of nodes work ⌝ }
 {

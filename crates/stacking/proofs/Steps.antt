@@ -11,11 +11,12 @@ use lib.ListN.{length, getD, drop}
 use types.Run.{OneOf, miss}
 use denote.Enum.Declared.{tagOf}
 use Rattle.whole.specs.Cases.{if}
-use Rattle.whole.specs.Linears.{Smalls}
 use Rattle.table.specs.Table.{eqZ}
 use Rattle.table.specs.declared.Node.{Node}
 use Rattle.table.specs.declared.Made.{Made}
+use Rattle.whole.specs.Linears.{Smalls}
 use Rattle.theory.specs.Widths.{stack-most, conditions-most}
+use Rattle.theory.specs.Form.{new-form}
 use Rattle.theory.specs.Diagram.{Linear, Test, Tree, leaf, plain, test-of}
 use Rattle.theory.specs.Computation.{Comp, ret, bind, make, Out, done, stopped, run}
 use Rattle.theory.specs.Rules.{choose}
@@ -27,12 +28,13 @@ use Rattle.command.proofs.Command.{the-type as command-type}
 use Rattle.command.specs.declared.Command.{Command as CodeCommand}
 use Rattle.command.specs.declared.Command.the-variants.{Site, Leaf, Condition, Test as TestBy, Give, Name, End}
 use Rattle.command.specs.Held.{held, pushed}
-use Rattle.command.specs.Reading.{with-linear, linear-of, command-of}
-use Rattle.diagrams.specs.Nodes.{blank, linOf, leafOf, treeOf, trees, treeAt, Valid, Grown}
+use Rattle.command.specs.Reading.{with-linear, linear-of, command-of-in, command-of}
+use Rattle.diagrams.specs.Nodes.{blank, linOf, leafOf, treeOf, trees, treeAt, Nums, Valid, Grown}
 use Rattle.diagrams.specs.Table.{Rule, Bare, Table, Ran, Grew}
 use Rattle.diagrams.proofs.Trees.{trees-kept, grown-not}
 use Rattle.diagrams.proofs.Outcomes.{out-ok, out-no, grown, ran-as, grew-as, lifted}
 use Rattle.diagrams.proofs.Going.{index-small}
+use Rattle.commands_choice.proofs.Tests.{words-nums}
 use Rattle.commands_choice.specs.Testing.{wordsOf, condition-in, condition-read, test-in, test-read, testAt, Testing, loadRule}
 use Rattle.stacking.specs.declared.Loaded.{Loaded}
 use Rattle.stacking.specs.Stepping.{standing, Below, Put, Grown-on, Chosen-on, Popped, Able, height, given-to, entered, Ready, loading, Stepped}
@@ -130,8 +132,8 @@ module _ (B : List ℕ) {cap : ℕ} {l : List ℤ} {w : List ℕ} {n : ℕ} (K :
 
 -- ---- a leaf
 
-pub leaf-valid : (p : List ℤ) {x : Node} (n : ℕ) → x ≡ wordsOf p → Smalls p → Valid x n
-unfolding eqZ
+pub leaf-valid : (p : List ℤ) {x : Node} (n : ℕ) → x ≡ wordsOf p → Nums (wordsOf p) → Valid x n
+unfolding wordsOf eqZ
 leaf-valid p n e s = subst (λ (x : Node). Valid x n) (sym e) (record {
   nums = s;
   high-nat = tt;
@@ -143,7 +145,7 @@ leaf-valid p n e s = subst (λ (x : Node). Valid x n) (sym e) (record {
 })
 
 leaf-tree : (p : List ℤ) (X : List Tree) → treeOf (wordsOf p) X ≡ leaf (plain (linear-of p))
-unfolding treeOf eqZ leafOf linOf
+unfolding treeOf wordsOf eqZ leafOf linOf
 leaf-tree p X = refl
 
 pub leaf-grew : {cap : ℕ} {l : List ℤ} {w : List ℕ} {n : ℕ} (p : List ℤ) {x : Node} {l′ : List ℤ} {w′ : List ℕ} {k : Made} → x ≡ wordsOf p → Grew cap l w n (make (treeOf x (trees l n))) l′ w′ k → Grew cap l w n (make (leaf (plain (linear-of p)))) l′ w′ k
@@ -279,7 +281,7 @@ module _ {B : List ℕ} {cap : ℕ} {l : List ℤ} {w : List ℕ} {at : ℕ} {s 
 -- a command that leaves all as it is
 module _ {B : List ℕ} {cap : ℕ} {l : List ℤ} {w : List ℕ} {at : ℕ} {s : Loaded} where
   pub other-step : (d : CodeCommand) → OneOf (0 ∷ 5 ∷ 6 ∷ []) (tagOf command-type d) → Ready B cap l w at (command-of B at d) s → Stepped B cap l w (command-of B at d) (s .count) (held (s .stack)) l w s
-  unfolding command-of height entered load-one-with
+  unfolding command-of-in height entered load-one-with
   other-step (Site m n a v) k y = still-step (site m n a v) y refl refl (held (s .stack)) refl (y .below) refl (λ E. refl)
   other-step Leaf k y = absurd (miss (0 ∷ 5 ∷ 6 ∷ []) 1 tt k)
   other-step (Condition i) k y = absurd (miss (0 ∷ 5 ∷ 6 ∷ []) 2 tt k)
@@ -301,11 +303,11 @@ step-as {B} {cap} {l} {w} {at} {s} {l′} {w′} {r} d e p y k = subst (λ (x : 
 module _ {B : List ℕ} {cap : ℕ} {l : List ℤ} {w : List ℕ} {at : ℕ} {s : Loaded} {q : Linear} (y : Ready B cap l w at (push-leaf q) s) where
   pub leaf-there : at + with-linear ≤ length B
   unfolding has-linear
-  leaf-there = linear-room B at (push-leaf q) tt (y .here)
+  leaf-there = linear-room new-form B at (push-leaf q) tt (y .here)
 
   module _ (p : List ℤ) (e : Smalls p × (linear-of p ≡ q)) where
-    pub leaf-read : Bare cap l w (s .count) × Smalls p
-    leaf-read = (y .table .bare, e .0)
+    pub leaf-read : Bare cap l w (s .count) × Nums (wordsOf p)
+    leaf-read = (y .table .bare, words-nums p (e .0))
 
     pub leaf-loaded : {l′ : List ℤ} {w′ : List ℕ} {r : Loaded} → Grown-on cap l w (s .count) (make (leaf (plain (linear-of p)))) (held (s .stack)) l′ w′ r
         → Stepped B cap l w (push-leaf q) (s .count) (held (s .stack)) l′ w′ r

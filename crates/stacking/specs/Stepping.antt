@@ -91,7 +91,7 @@ pub record Ready (B : List ℕ) (cap : ℕ) (l : List ℤ) (w : List ℕ) (at : 
   pub none : s .stop ≡ 0
   pub table : Table (loadRule B) cap l w (s .count)
   pub below : Below (s .count) (held (s .stack))
-  pub short : at < 65536
+  pub short : at < 4294967296
   pub here : whole c ≡ read-at B at
   pub able : Able c (length (held (s .stack)))
 

@@ -2,15 +2,14 @@
 ghost use mathlib.Core.Path.{_≡_};
 ghost use Prim.Native.Nat.{_<_};
 ghost use lib.ListN.{drop, getD};
-ghost use Rattle.whole.specs.Linears.{Smalls};
 ghost use Rattle.theory.specs.Diagram.{leaf as leafed, plain};
 ghost use Rattle.theory.specs.Rules.{choose};
 ghost use Rattle.theory.specs.Computation.{make};
 ghost use Rattle.command.specs.Held.{held};
 ghost use Rattle.command.specs.Reading.{linear-of, command-of};
-ghost use Rattle.diagrams.specs.Nodes.{treeAt};
+ghost use Rattle.diagrams.specs.Nodes.{treeAt, Nums};
 ghost use Rattle.diagrams.specs.Table.{Bare, Table};
-ghost use Rattle.commands_choice.specs.Testing.{Testing, testAt, loadRule};
+ghost use Rattle.commands_choice.specs.Testing.{Testing, testAt, loadRule, wordsOf};
 ghost use Rattle.stacking.specs.Stepping.{Put, Grown-on, Chosen-on, Popped, Ready, Stepped};
 use command::Command;
 use command::stack::Stack;
@@ -49,7 +48,7 @@ fn put(stack: Stack, m: Made) -> Loaded
 
 // A leaf.
 fn leaf(nodes: &mut [i64], work: &mut [u32], cap: usize, s: Loaded, p: [i64; NUMBERS]) -> Loaded
-    requires { ⌜ Bare cap (now nodes) (now work) (s .count) × Smalls p ⌝ }
+    requires { ⌜ Bare cap (now nodes) (now work) (s .count) × Nums (wordsOf p) ⌝ }
     ensures { λ r. ⌜ Grown-on cap (now (nodes .entry)) (now (work .entry)) (s .count) (make (leafed (plain (linear-of p)))) (held (s .stack)) (now (nodes .exit)) (now (work .exit)) r ⌝ }
 {
     let stack = s.stack;

@@ -10,9 +10,10 @@ use Rattle.theory.specs.Diagram.{Tree}
 use Rattle.theory.specs.Computation.{Comp, Ops, end, operation, and-then, Solved, run-all}
 use Rattle.theory.specs.Rules.{best}
 use Rattle.theory.specs.Meaning.{Action}
-use Rattle.theory.specs.Command.{byte-at}
-use Rattle.theory.specs.Verdict.{verdict}
+use Rattle.theory.specs.Verdict.{Site, verdict}
 use Rattle.theory.specs.Load.{site-at, model}
+use Rattle.progress.specs.declared.Site.{Site as CodeSite}
+use Rattle.progress.specs.Standing.{site-as}
 use Rattle.theory.specs.Stage.{action-total, best-on, stage-over}
 use Rattle.theory.specs.laws.Loading.{accepted-site}
 use Rattle.diagrams.specs.Nodes.{blank}
@@ -58,10 +59,6 @@ module _ (B : List ℕ) (N p h : ℕ) (K : List Tree) (P : Tree) (a i : ℕ) (F 
 pub others-count : (B : List ℕ) → verdict B .number ≡ 0 → suc (length (model B .others)) ≡ site-at B .actions
 others-count B e = accepted-site B e .1 .same-actions
 
-pub actions-byte : (B : List ℕ) → byte-at B 3 ≡ site-at B .actions
-unfolding site-at
-actions-byte B = refl
-
 -- ---- the loop
 
 -- actions 2 to a − 1 are tried: the best so far stands behind what is held
@@ -76,9 +73,9 @@ pub record Trying (B : List ℕ) (cap : ℕ) (l₀ : List ℤ) (R₀ : List ℕ)
       → run-all cap (r₀ .peak) (best-on (model B) h K (getD (heldTrees l₀ (r₀ .count) R₀ held) before blank) 2 (model B .others) (rootAt l₀ (r₀ .count) R₀ held))
       ≡ run-all cap (r .peak) (best-on (model B) h K (getD (heldTrees l₀ (r₀ .count) R₀ held) before blank) a (drop (a - 2) (model B .others)) (rootAt l (r .count) R held))
 
-pub trying-starts : {B : List ℕ} {cap : ℕ} {l : List ℤ} {w R : List ℕ} {held before h actions : ℕ} {r : Run} → Ready B cap l w (r .count) R (held + 1) → r .stop ≡ 0 → modelSize B ≤ held → actions ≡ byte-at B 3
+pub trying-starts : {B : List ℕ} {cap : ℕ} {l : List ℤ} {w R : List ℕ} {held before h actions : ℕ} {r : Run} → Ready B cap l w (r .count) R (held + 1) → r .stop ≡ 0 → modelSize B ≤ held → {s : CodeSite} → site-as s ≡ site-at B → actions ≡ s .actions
     → Trying B cap l R held before h actions r l w R r 2
-trying-starts {B} D ok f e = record { ok = ok; low = omega arith; count = e ∙ actions-byte B; ready = D; first = f; same = refl; left = λ K al. refl }
+trying-starts {B} D ok f es e = record { ok = ok; low = omega arith; count = e ∙ ap (λ (S : Site). S .actions) es; ready = D; first = f; same = refl; left = λ K al. refl }
 
 module _ {B : List ℕ} {cap : ℕ} {l₀ : List ℤ} {R₀ : List ℕ} {held before h actions : ℕ} {r₀ : Run} {l : List ℤ} {w R : List ℕ} {r : Run} {a : ℕ} (Y : Trying B cap l₀ R₀ held before h actions r₀ l w R r a) where
   pub trying-action : a ≤ actions → a ≤ site-at B .actions

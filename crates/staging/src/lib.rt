@@ -10,6 +10,8 @@ ghost use Rattle.diagrams.specs.Nodes.{blank};
 ghost use Rattle.operate.specs.Operation.{heldTrees};
 ghost use Rattle.totals.specs.Planning.{modelSize, Ready, rootAt, Ran};
 ghost use Rattle.staging.specs.Stages.{bettered, Staged};
+use loading::wide_action;
+use model::site;
 use operate::Rule;
 use operate::Run;
 use operate::operate;
@@ -85,7 +87,8 @@ fn others(
         (λ K. best-on (model-of (now (model .entry))) stage K (getD (heldTrees (now (nodes .entry)) (run .count) (now (roots .entry)) held) before blank) 2 (model-of (now (model .entry)) .others) (rootAt (now (nodes .entry)) (run .count) (now (roots .entry)) held))
         (now (nodes .exit)) (now (work .exit)) (now (roots .exit)) r ⌝ }
 {
-    let actions = command::byte_at(model, 3) as usize;
+    let operands = site(model);
+    let actions = wide_action(operands.actions);
     let mut r = run;
     let mut a: usize = 2;
     while a <= actions {

@@ -2,8 +2,8 @@
 use mathlib.Core.Path.{_≡_, refl, sym, ap, ap₂, _∙_, subst}
 use mathlib.Core.Bool.{Bool, true, false}
 use mathlib.Core.Logic.{inl}
-use mathlib.Core.List.{List, [], _∷_, map}
-use Prim.Native.Nat.{ℕ, _-_, _/_, _%_, _^_, _≤_, _<_}
+use mathlib.Core.List.{List, [], _∷_}
+use Prim.Native.Nat.{ℕ, zero, suc, _+_, _-_, _*_, _/_, _%_, _^_, _≤_, _<_}
 use native.Mathlib.Nat.{lt-of-lt-of-le}
 use native.Mathlib.Omega.{arith}
 use borrow.Author.Tests.{eq-eqb, ne-eqb, lt-ltb, le-ltb, ltb-true, ltb-false}
@@ -17,15 +17,15 @@ use Rattle.whole.specs.Cases.{if}
 use Rattle.table.specs.Table.{nodeAt, eqZ}
 use Rattle.table.specs.declared.Node.{Node}
 use Rattle.table.specs.declared.Made.{Made}
-use Rattle.theory.specs.Widths.{conditions-most}
+use Rattle.theory.specs.Widths.{levels-most, conditions-most}
 use Rattle.theory.specs.Diagram.{Linear, Test, now, later, linear, Tree, branch}
 use Rattle.theory.specs.Computation.{Comp, ret, bind, both}
 use Rattle.theory.specs.Rules.{over, choose, decide, linear-diagram, substitute}
 use Rattle.diagrams.specs.declared.Down.{Down}
 use Rattle.diagrams.specs.Nodes.{firstOf, linOf, leafOf, conditionOf, testOf, treeAt, Tested, Grown}
-use Rattle.diagrams.specs.Table.{Rule, Table, Ran}
-use Rattle.computed_cache.specs.Cache.{Room, Key, Entry, slotOf, storeOf}
-use Rattle.diagrams.specs.Meaning.{testBy, Names, packed, ruleOf}
+use Rattle.diagrams.specs.Table.{Rule, Lasting, Table, Ran}
+use Rattle.computed_cache.specs.Cache.{Room, Key}
+use Rattle.diagrams.specs.Meaning.{testBy, Names, halves, indexes, ruleOf}
 use Rattle.diagrams.specs.Roots.{downOf}
 use Rattle.diagrams.proofs.Trees.{trees-kept, grown-on, at-leaf, at-branch}
 use Rattle.diagrams.proofs.Outcomes.{grown, stop, seq, ran-as, both-high-stops, both-low-stops, both-made}
@@ -34,7 +34,8 @@ use Rattle.diagrams.proofs.Meanings.{rule-substitute, rule-walk, lasts-substitu
 use Rattle.diagrams.proofs.Going.{index-small}
 use Rattle.linear_combination.specs.Levels.{Levels, levelsAt}
 use Rattle.linear_combination.proofs.Adding.{levels-kept, levels-more}
-use Rattle.substitute.specs.Substitution.{pair, first-word, middle-word, last-word, Held, withResult, conditionIn, headOf, overTest}
+use Rattle.substitute.specs.declared.Words.{Words}
+use Rattle.substitute.specs.Substitution.{pair, wordsOf, Held, withResult, conditionIn, headOf, overTest}
 
 -- ---- two indexes in a word
 
@@ -51,43 +52,81 @@ module _ (a b : ℕ) (ha : a < 65536) where
   unfolding pair
   pair-small hb = omega arith
 
--- the words of an entry fit
-pub levels-key : (f : ℕ) (L : List ℕ) → f < 65536 → Levels 65536 L → Key 12 f (first-word L) (middle-word L) (last-word L)
-levels-key f L h B =
-    let a = B .below 0 in
-    let b = pair-small (getD L 1 0) (getD L 2 0) (B .below 1) (B .below 2) in
-    let c = pair-small (getD L 3 0) (length L) (B .below 3) (let q = B .most in omega arith) in
-    record { op-fits = omega arith; f-fits = omega arith; g-fits = omega arith; p-fits = omega arith; q-fits = omega arith }
+-- an entry for the same words
+pub held-as : (cap r : ℕ) (w : List ℕ) {k k′ : Words} → k ≡ k′ → Held cap w k r → Held cap w k′ r
+held-as cap r w e E = subst (λ (k : Words). Held cap w k r) e E
 
--- as the code finds them
-module _ (L : List ℕ) {a b c d u v : ℕ} (ea : a ≡ getD L 0 0) (eb : b ≡ getD L 1 0) (ec : c ≡ getD L 2 0) (ed : d ≡ getD L 3 0) (eu : u ≡ pair b c) (ev : v ≡ pair d (length L)) where
-  middle-is : u ≡ middle-word L
-  middle-is = eu ∙ ap₂ pair eb ec
+pub stored-as : (cap r : ℕ) (w : List ℕ) {w′ : List ℕ} {k k′ : Words} → k ≡ k′ → w′ ≡ withResult cap w k r → w′ ≡ withResult cap w k′ r
+stored-as cap r w e s = s ∙ ap (λ (k : Words). withResult cap w k r) e
 
-  last-is : v ≡ last-word L
-  last-is = ev ∙ ap (λ (k : ℕ). pair k (length L)) ed
+-- k numbers of L from i on, 0 beyond them
+firsts : ℕ → ℕ → List ℕ → List ℕ
+firsts i zero L = []
+firsts i (suc k) L = getD L i 0 ∷ firsts (suc i) k L
 
-  pub key-as : (f : ℕ) → f < 65536 → Levels 65536 L → Key 12 f a u v
-  key-as f h B =
-      let K = levels-key f L h B in
-      record { op-fits = K .op-fits; f-fits = K .f-fits; g-fits = omega (arith, ea, K .g-fits); p-fits = omega (arith, middle-is, K .p-fits); q-fits = omega (arith, last-is, K .q-fits) }
+firsts-next : (i k d : ℕ) (L : List ℕ) → firsts (suc i) k (d ∷ L) ≡ firsts i k L
+unfolding firsts
+firsts-next i zero d L = refl
+firsts-next i (suc k) d L = ap (λ (r : List ℕ). getD L i 0 ∷ r) (firsts-next (suc i) k d L)
 
-  pub held-as : (cap f r : ℕ) (w : List ℕ) → Entry w (slotOf cap 12 f a u v) 12 f a u v r → Held cap w f L r
-  held-as cap f r w E =
-      subst (λ (q : ℕ). Entry w (slotOf cap 12 f (first-word L) (middle-word L) q) 12 f (first-word L) (middle-word L) q r) last-is
-      (subst (λ (p : ℕ). Entry w (slotOf cap 12 f (first-word L) p v) 12 f (first-word L) p v r) middle-is
-      (subst (λ (g : ℕ). Entry w (slotOf cap 12 f g u v) 12 f g u v r) ea E))
+-- as many as there are of them are L
+taken : (k : ℕ) (L : List ℕ) → length L ≤ k → take (length L) (firsts 0 k L) ≡ L
+unfolding firsts
+taken k [] h = refl
+taken zero (d ∷ L) h = absurd (omega arith)
+taken (suc k) (d ∷ L) h = ap (λ (r : List ℕ). d ∷ take (length L) r) (firsts-next 0 k d L) ∙ ap (λ (r : List ℕ). d ∷ r) (taken k L (omega arith))
 
-  pub stored-as : (cap f r : ℕ) (w : List ℕ) {w′ : List ℕ} → w′ ≡ storeOf w (slotOf cap 12 f a u v) 12 f a u v r → w′ ≡ withResult cap w f L r
-  stored-as cap f r w e = e ∙ (λ i. storeOf w (slotOf cap 12 f (ea i) (middle-is i) (last-is i)) 12 f (ea i) (middle-is i) (last-is i) r)
+module _ (f : ℕ) (L : List ℕ) (h : f < 65536) (B : Levels 65536 L) where
+  abbrev K : Words
+  K = wordsOf f L
 
-taken : (D : ℕ → Tree) (L : List ℕ) → length L ≤ 4 → take (length L) (D (getD L 0 0) ∷ D (getD L 1 0) ∷ D (getD L 2 0) ∷ D (getD L 3 0) ∷ []) ≡ map D L
-taken D [] h = refl
-taken D (a ∷ []) h = refl
-taken D (a ∷ b ∷ []) h = refl
-taken D (a ∷ b ∷ c ∷ []) h = refl
-taken D (a ∷ b ∷ c ∷ d ∷ []) h = refl
-taken D (a ∷ b ∷ c ∷ d ∷ e ∷ L) h = absurd (omega arith)
+  two-small : (i j : ℕ) → pair (getD L i 0) (getD L j 0) < 4294967296
+  two-small i j = pair-small (getD L i 0) (getD L j 0) (B .below i) (B .below j)
+
+  coded : 12 + length L * 16 < 65536
+  coded = let q = B .most in omega arith
+
+  -- the words of an entry fit
+  words-fit : Key (K .op) (K .f) (K .g) (K .p) (K .q)
+  unfolding wordsOf
+  words-fit = record {
+    op-fits = pair-small (12 + length L * 16) (getD L 0 0) coded (B .below 0);
+    f-fits = pair-small f (getD L 1 0) h (B .below 1);
+    g-fits = two-small 2 3;
+    p-fits = two-small 4 5;
+    q-fits = two-small 6 7;
+  }
+
+  pub key-fits : {k : Words} → k ≡ K → Key (k .op) (k .f) (k .g) (k .p) (k .q)
+  key-fits e = subst (λ (k : Words). Key (k .op) (k .f) (k .g) (k .p) (k .q)) (sym e) words-fit
+
+  -- the first has the rule's number
+  code-is : K .op % 16 ≡ 12
+  unfolding wordsOf pair
+  code-is = omega arith
+
+  place-is : K .f % 65536 ≡ f
+  unfolding wordsOf
+  place-is = pair-low f (getD L 1 0) h
+
+  count-is : K .op % 65536 / 16 ≡ length L
+  unfolding wordsOf
+  count-is = ap (λ (m : ℕ). m / 16) (pair-low (12 + length L * 16) (getD L 0 0) coded) ∙ (let e : (12 + length L * 16) / 16 ≡ length L = omega arith in e)
+
+  low : (i j : ℕ) → pair (getD L i 0) (getD L j 0) % 65536 ≡ getD L i 0
+  low i j = pair-low (getD L i 0) (getD L j 0) (B .below i)
+
+  high : (i j : ℕ) → pair (getD L i 0) (getD L j 0) / 65536 ≡ getD L j 0
+  high i j = pair-high (getD L i 0) (getD L j 0) (B .below i)
+
+  -- and all of them the levels
+  indexes-are : indexes (K .op) (K .f) (K .g) (K .p) (K .q) ≡ L
+  unfolding wordsOf indexes halves firsts
+  indexes-are =
+      (λ t. take (count-is t)
+      (pair-high (12 + length L * 16) (getD L 0 0) coded t ∷ pair-high f (getD L 1 0) h t
+      ∷ low 2 3 t ∷ high 2 3 t ∷ low 4 5 t ∷ high 4 5 t ∷ low 6 7 t ∷ high 6 7 t ∷ []))
+      ∙ taken levels-most L (B .most)
 
 -- ---- the condition of a node
 
@@ -214,31 +253,29 @@ module _ {cap : ℕ} {l : List ℤ} {w : List ℕ} {n : ℕ} (A : Table ruleOf c
   pub sub-asks : Room cap w × (f < 65536) × Levels 65536 L
   sub-asks = (room-in A, index-small f (A .bare) hf, record { below = λ k. index-small (getD L k 0) (A .bare) (B .below k); some = B .some; most = B .most })
 
-  small : (k : ℕ) → getD L k 0 < 65536
-  small k = sub-asks .2 .below k
+  abbrev k : Words
+  k = wordsOf f L
 
-  unpacked : packed l n (first-word L) (middle-word L) (last-word L) ≡ levelsAt l n L
-  unfolding packed
-  unpacked = (λ i. take (pair-high (getD L 3 0) (length L) (small 3) i) (treeAt l n (getD L 0 0) ∷ treeAt l n (pair-low (getD L 1 0) (getD L 2 0) (small 1) i) ∷ treeAt l n (pair-high (getD L 1 0) (getD L 2 0) (small 1) i) ∷ treeAt l n (pair-low (getD L 3 0) (length L) (small 3) i) ∷ []))
-      ∙ taken (treeAt l n) L (B .most)
-
-  rule-is : ruleOf l n 12 f (first-word L) (middle-word L) (last-word L) ≡ Sub l n f L
-  rule-is = rule-substitute l n f (first-word L) (middle-word L) (last-word L) ∙ ap (λ (Ds : List Tree). substitute Ds (treeAt l n f)) unpacked
+  rule-is : ruleOf l n (k .op) (k .f) (k .g) (k .p) (k .q) ≡ Sub l n f L
+  rule-is =
+      rule-substitute l n (k .f) (k .g) (k .p) (k .q) (k .op) (code-is f L (sub-asks .1) (sub-asks .2))
+      ∙ ap₂ (λ (I : List ℕ) (i : ℕ). substitute (levelsAt l n I) (treeAt l n i)) (indexes-are f L (sub-asks .1) (sub-asks .2)) (place-is f L (sub-asks .1) (sub-asks .2))
 
   -- an entry answers
-  pub sub-answered : (k : ℕ) → Held cap w f L k → Ran ruleOf cap l w n (Sub l n f L) l w (record { stop = 0; at = k; count = n })
-  sub-answered k E = ran-as rule-is (answered A 12 f (first-word L) (middle-word L) (last-word L) k E)
+  pub sub-answered : (r : ℕ) → Held cap w k r → Ran ruleOf cap l w n (Sub l n f L) l w (record { stop = 0; at = r; count = n })
+  sub-answered r E = ran-as rule-is (answered A (k .op) (k .f) (k .g) (k .p) (k .q) r E)
+
+  lasts : Lasting ruleOf l n (k .op) (k .f) (k .g) (k .p) (k .q)
+  lasts = lasts-substitute l n (k .op) (k .f) (k .g) (k .p) (k .q) (code-is f L (sub-asks .1) (sub-asks .2)) (subst (λ (i : ℕ). i < n) (sym (place-is f L (sub-asks .1) (sub-asks .2))) hf)
+      (subst (λ (I : List ℕ). (i : ℕ) → getD I i 0 < n) (sym (indexes-are f L (sub-asks .1) (sub-asks .2))) (B .below))
 
   -- a result is kept
   module _ {l′ : List ℤ} {w′ : List ℕ} {r : Made} (Q : Ran ruleOf cap l w n (Sub l n f L) l′ w′ r) (ok : r .stop ≡ 0) where
     pub retain-asks : Room cap w′ × (f < 65536) × Levels 65536 L × (r .at < 65536)
     retain-asks = (room-in (Q .table), sub-asks .1, sub-asks .2, index-small (r .at) (Q .table .bare) (Q .within ok))
 
-    pub sub-stored : {w″ : List ℕ} → w″ ≡ withResult cap w′ f L (r .at) → Ran ruleOf cap l w n (Sub l n f L) l′ w″ r
-    sub-stored e = ran-as rule-is (kept-run (lasts-substitute l n f hf (first-word L) (B .below 0) (middle-word L) (last-word L) (low (pair-low (getD L 1 0) (getD L 2 0) (small 1)) (B .below 1)) (low (pair-high (getD L 1 0) (getD L 2 0) (small 1)) (B .below 2)) (low (pair-low (getD L 3 0) (length L) (small 3)) (B .below 3))) (ran-as (sym rule-is) Q) ok e)
-      where
-        low : {a b : ℕ} → a ≡ b → b < n → a < n
-        low e h = omega arith
+    pub sub-stored : {w″ : List ℕ} → w″ ≡ withResult cap w′ k (r .at) → Ran ruleOf cap l w n (Sub l n f L) l′ w″ r
+    sub-stored e = ran-as rule-is (kept-run lasts (ran-as (sym rule-is) Q) ok e)
 
   -- ---- what the node at f is
 

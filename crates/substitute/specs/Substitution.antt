@@ -6,6 +6,7 @@ use lib.IntN.{pos, natAbs}
 use lib.ListN.{length, getD}
 use Rattle.computed_cache.specs.Cache.{slotOf, Entry, storeOf}
 use Rattle.diagrams.specs.Nodes.{firstOf}
+use Rattle.substitute.specs.declared.Words.{Words}
 use Rattle.whole.specs.Cases.{if}
 use Rattle.table.specs.Table.{eqZ}
 use Rattle.table.specs.declared.Node.{Node}
@@ -18,26 +19,26 @@ use Rattle.theory.specs.Rules.{over, choose, decide, linear-diagram}
 unfoldable pub pair : ℕ → ℕ → ℕ
 pair a b = b * 65536 + a
 
--- the three words of a cache entry that the levels settle
-abbrev pub first-word : List ℕ → ℕ
-first-word L = getD L 0 0
+-- the words of the entry for the diagram at f with the levels L, as `indexes` reads them
+unfoldable pub wordsOf : ℕ → List ℕ → Words
+wordsOf f L = record {
+  op = pair (12 + length L * 16) (getD L 0 0);
+  f = pair f (getD L 1 0);
+  g = pair (getD L 2 0) (getD L 3 0);
+  p = pair (getD L 4 0) (getD L 5 0);
+  q = pair (getD L 6 0) (getD L 7 0);
+}
 
-abbrev pub middle-word : List ℕ → ℕ
-middle-word L = pair (getD L 1 0) (getD L 2 0)
+abbrev pub slot : ℕ → Words → ℕ
+slot cap k = slotOf cap (k .op) (k .f) (k .g) (k .p) (k .q)
 
-abbrev pub last-word : List ℕ → ℕ
-last-word L = pair (getD L 3 0) (length L)
-
-abbrev pub slot : ℕ → ℕ → List ℕ → ℕ
-slot cap f L = slotOf cap 12 f (first-word L) (middle-word L) (last-word L)
-
--- the cache holds the index r for the diagram at f with the levels L
-abbrev pub Held : ℕ → List ℕ → ℕ → List ℕ → ℕ → Type 0
-Held cap w f L r = Entry w (slot cap f L) 12 f (first-word L) (middle-word L) (last-word L) r
+-- the cache holds the index r for the words k
+abbrev pub Held : ℕ → List ℕ → Words → ℕ → Type 0
+Held cap w k r = Entry w (slot cap k) (k .op) (k .f) (k .g) (k .p) (k .q) r
 
 -- the work words with it
-abbrev pub withResult : ℕ → List ℕ → ℕ → List ℕ → ℕ → List ℕ
-withResult cap w f L r = storeOf w (slot cap f L) 12 f (first-word L) (middle-word L) (last-word L) r
+abbrev pub withResult : ℕ → List ℕ → Words → ℕ → List ℕ
+withResult cap w k r = storeOf w (slot cap k) (k .op) (k .f) (k .g) (k .p) (k .q) r
 
 -- ---- a substitution at a branch
 

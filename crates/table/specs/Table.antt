@@ -13,13 +13,13 @@ use Rattle.table.specs.declared.Made.{Made}
 
 -- a node's words: its kind, its numbers, and high and low behind them
 abbrev pub node-words : ℕ
-node-words = 8
+node-words = numbers + 3
 
 abbrev pub high-word : ℕ
-high-word = 6
+high-word = numbers + 1
 
 abbrev pub low-word : ℕ
-low-word = 7
+low-word = numbers + 2
 
 -- the node at index i
 unfoldable pub nodeAt : List ℤ → ℕ → Node

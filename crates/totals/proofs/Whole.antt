@@ -14,10 +14,12 @@ use Rattle.theory.specs.Diagram.{Tree}
 use Rattle.theory.specs.Computation.{Comp, end, operation, solved, run-all}
 use Rattle.theory.specs.Rules.{substitute, add-reward}
 use Rattle.theory.specs.Meaning.{Action, power}
-use Rattle.theory.specs.Command.{byte-at}
+use Rattle.theory.specs.Verdict.{Site}
 use Rattle.theory.specs.Load.{model, site-at}
 use Rattle.theory.specs.Stage.{sum-out, action-total}
 use Rattle.diagrams.specs.Nodes.{blank}
+use Rattle.progress.specs.declared.Site.{Site as CodeSite}
+use Rattle.progress.specs.Standing.{site-as}
 use Rattle.loading.proofs.Places.{row-few}
 use Rattle.solving.specs.Alike.{Alike}
 use Rattle.solving.specs.Onward.{Works, Stops, works-run, stops-run, run-all-end, answered, answered-ok, answered-no, onward-ok, onward-no}
@@ -43,20 +45,19 @@ pub record Totals (B : List ℕ) (cap : ℕ) (l : List ℤ) (w R : List ℕ) (r 
   pub conditions : n ≡ site-at B .conditions
   pub weigh : weights ≡ site-at B .weights
 
-pub totals-of : {B : List ℕ} {cap : ℕ} {l : List ℤ} {w R : List ℕ} (r : Run) (held before stage action : ℕ) {m n weights : ℕ}
+pub totals-of : {B : List ℕ} {cap : ℕ} {l : List ℤ} {w R : List ℕ} (r : Run) (held before stage action : ℕ) {s : CodeSite} {m n : ℕ}
     → Ready B cap l w (r .count) R held × (r .stop ≡ 0) × (held + 1 ≤ length R) × (before < held) × (stage ≤ steps-most) × (1 ≤ action) × (action ≤ site-at B .actions)
-    → m ≡ byte-at B 1 → n ≡ byte-at B 2 → weights ≡ byte-at B 4 → Totals B cap l w R r held before stage action m n weights
-unfolding site-at
-totals-of r held before stage action p em en ew = record {
+    → site-as s ≡ site-at B → m ≡ s .levels → n ≡ s .conditions → Totals B cap l w R r held before stage action m n (s .weights)
+totals-of r held before stage action p es em en = record {
   ready = p .0;
   room = let z = p .2 in omega (arith, z);
   earlier = p .3;
   few-stages = p .4;
   some-action = p .5;
   an-action = p .6;
-  levels = em;
-  conditions = en;
-  weigh = ew;
+  levels = em ∙ ap (λ (S : Site). S .levels) es;
+  conditions = en ∙ ap (λ (S : Site). S .conditions) es;
+  weigh = ap (λ (S : Site). S .weights) es;
 }
 
 abbrev row-at : ℕ → ℕ → ℕ → ℕ
@@ -65,7 +66,7 @@ row-at action n m = (action - 1) * (1 + n + m)
 -- the places of an action's diagrams, among few
 pub record Few (held action m n weights : ℕ) : Type 0 where
   pub row : row-at action n m + (1 + n + m) ≤ held
-  pub small : row-at action n m < 131072
+  pub small : row-at action n m < 33554432
   pub some-levels : 1 ≤ m
   pub few-levels : m ≤ levels-most
   pub few-conditions : n ≤ conditions-most
@@ -207,7 +208,7 @@ module _ {B : List ℕ} {cap : ℕ} {l : List ℤ} {w R : List ℕ} {r : Run} {h
 
   -- ---- the reward
 
-  pub exponent-few : n * stage < 131072
+  pub exponent-few : n * stage < 33554432
   exponent-few = let f = total-few t .few-conditions in let s = t .few-stages in row-few n stage (omega (arith, f)) (omega (arith, s))
 
   module _ {l₂ : List ℤ} {w₂ R₂ : List ℕ} {e : Run} (D : Summed B cap l R r held before stage action l₂ w₂ R₂ e) where

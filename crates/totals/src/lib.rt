@@ -11,15 +11,11 @@ ghost use Rattle.diagrams.specs.Nodes.{blank};
 ghost use lib.ListN.{getD};
 ghost use Rattle.operate.specs.Operation.{heldTrees, Standing};
 ghost use Rattle.totals.specs.Planning.{Ready, actionOf, rootAt, Ran};
+use loading::wide;
+use model::site;
 use operate::Rule;
 use operate::Run;
 use operate::operate;
-
-fn wide(x: u8) -> usize
-    ensures { λ r. ⌜ (r ≡ x) × (r < 256) ⌝ }
-{
-    x as usize
-}
 
 // The conditions, their weights from the place `first` on, summed out of the last root.
 fn sum_out(
@@ -77,9 +73,10 @@ pub fn total(
         (λ K. action-total (model-of (now (model .entry))) stage K (getD (heldTrees (now (nodes .entry)) (run .count) (now (roots .entry)) held) before blank) action (actionOf (now (model .entry)) action))
         (now (nodes .exit)) (now (work .exit)) (now (roots .exit)) r ⌝ }
 {
-    let m = wide(command::byte_at(model, 1));
-    let n = wide(command::byte_at(model, 2));
-    let weights = command::byte_at(model, 4) as u32;
+    let operands = site(model);
+    let m = wide(operands.levels);
+    let n = wide(operands.conditions);
+    let weights = operands.weights as u32;
     let row = (action - 1) * (1 + n + m);
     let s = operate(
         nodes,

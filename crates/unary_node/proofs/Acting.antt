@@ -15,7 +15,7 @@ use Rattle.theory.specs.laws.Comps.{cmp-eq, cmp-refl}
 use Rattle.diagrams.specs.Nodes.{treeAt}
 use Rattle.diagrams.specs.Table.{Bare, Lasting}
 use Rattle.computed_cache.specs.Cache.{Key}
-use Rattle.diagrams.specs.Meaning.{ruleOf}
+use Rattle.diagrams.specs.Meaning.{ruleBy, ruleOf}
 use Rattle.diagrams.proofs.Trees.{trees-kept}
 use Rattle.diagrams.proofs.Going.{index-small}
 use Rattle.unary_node.specs.Acts.{actOf, Acts}
@@ -38,7 +38,7 @@ by-op P p₃ p₄ p₅ p₆ p₇ p₈ {op} lo hi =
 
 -- what the words mean
 pub rule-is : (l : List ℤ) (n f g p q : ℕ) {op : ℕ} → 3 ≤ op → op ≤ 8 → ruleOf l n op f g p q ≡ actOf op p q (treeAt l n f)
-unfolding ruleOf actOf
+unfolding ruleOf ruleBy actOf
 rule-is l n f g p q lo hi = by-op (λ (op : ℕ). ruleOf l n op f g p q ≡ actOf op p q (treeAt l n f)) refl refl refl refl refl refl lo hi
 
 module _ {op p q : ℕ} (A : Acts op p q) where

@@ -10,9 +10,10 @@ use lib.ListN.{length, getD, take, drop, replicate, getD-replicate}
 use lib.Seq.{drop-cons}
 use Rattle.theory.specs.Widths.{levels-most, conditions-most, actions-most, model-roots-most}
 use Rattle.theory.specs.Diagram.{Tree}
-use Rattle.theory.specs.Command.{byte-at}
-use Rattle.theory.specs.Verdict.{verdict, from-to}
+use Rattle.theory.specs.Verdict.{Site, verdict, from-to}
 use Rattle.theory.specs.Load.{site-at, model}
+use Rattle.progress.specs.declared.Site.{Site as CodeSite}
+use Rattle.progress.specs.Standing.{site-as}
 use Rattle.theory.specs.Stage.{model-diagrams}
 use Rattle.theory.specs.laws.Valid.{among-out}
 use Rattle.theory.specs.laws.Loading.{accepted-site}
@@ -25,6 +26,7 @@ use Rattle.mark.specs.Mark.{Below as Lower}
 use Rattle.finish.proofs.Fill.{all-wiped}
 use Rattle.stacking.specs.Stepping.{Below}
 use Rattle.loading.specs.declared.Done.{Done}
+use Rattle.loading.proofs.Places.{row-few}
 use Rattle.solving.specs.Operated.{below-cons}
 use Rattle.operate.specs.Operation.{heldTrees, Standing}
 use Rattle.totals.specs.Planning.{modelSize}
@@ -61,12 +63,11 @@ no-nodes S = record { some = S .some; few = S .few; room = omega arith; words = 
 
 -- ---- how many roots a model has
 
-pub size-of : (B : List ℕ) {m n a : ℕ} → m ≡ byte-at B 1 → n ≡ byte-at B 2 → a ≡ byte-at B 3 → a * (1 + n + m) ≡ modelSize B
-unfolding site-at
-size-of B em en ea = ap₂ _*_ ea (ap₂ (λ (m n : ℕ). 1 + n + m) em en)
+pub size-of : (B : List ℕ) {s : CodeSite} {m n a : ℕ} → site-as s ≡ site-at B → m ≡ s .levels → n ≡ s .conditions → a ≡ s .actions → a * (1 + n + m) ≡ modelSize B
+size-of B es em en ea = ap₂ _*_ ea (ap₂ (λ (m n : ℕ). 1 + n + m) em en) ∙ ap (λ (S : Site). S .actions * (1 + S .conditions + S .levels)) es
 
-pub size-fits : (m n a : ℕ) → m < 256 → n < 256 → a < 256 → a * (1 + n + m) < 131072
-size-fits m n a h k j = let q = mul-le-mul {n₁ = a} {m₁ = 1 + n + m} {n₂ = 255} {m₂ = 511} (omega arith) (omega arith) in omega arith
+pub size-fits : (m n a : ℕ) → m < 256 → n < 256 → a < 65536 → a * (1 + n + m) < 33554432
+size-fits m n a h k j = row-few a (1 + n + m) j (omega arith)
 
 pub size-few : (B : List ℕ) → verdict B .number ≡ 0 → modelSize B ≤ model-roots-most
 size-few B v =
@@ -74,7 +75,7 @@ size-few B v =
     let a = among-out actions-most (site-at B .actions) (r .actions-in) .1 in
     let m = among-out levels-most (site-at B .levels) (r .levels-in) .1 in
     let n = leb→le (site-at B .conditions) conditions-most (r .conditions-in) in
-    let q = mul-le-mul {n₁ = site-at B .actions} {m₁ = 1 + site-at B .conditions + site-at B .levels} {n₂ = 8} {m₂ = 9} a (omega arith) in
+    let q = mul-le-mul {n₁ = site-at B .actions} {m₁ = 1 + site-at B .conditions + site-at B .levels} {n₂ = actions-most} {m₂ = 1 + conditions-most + levels-most} a (omega arith) in
     omega arith
 
 -- ---- the roots of a loaded model

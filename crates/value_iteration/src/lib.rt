@@ -8,6 +8,10 @@ ghost use Rattle.mark.specs.Mark.{Space};
 ghost use Rattle.value_iteration.specs.Iteration.{Brought, Grounded, Plans};
 ghost use Rattle.totals.specs.Planning.{modelSize};
 use loading::Done;
+use loading::LOADED_ROOTS;
+use loading::wide;
+use loading::wide_action;
+use model::site;
 use operate::Rule;
 use operate::Run;
 use operate::larger;
@@ -18,15 +22,16 @@ use staging::Planned;
 use staging::stages;
 
 // The roots that a solve keeps: the model's, stage 0, the finished stages, the best so far and the last result.
-pub const ROOTS: usize = 83;
+pub const ROOTS: usize = LOADED_ROOTS + 10;
 
 // How many roots the model's diagrams have.
 pub fn model_size(model: &[u8]) -> usize
-    ensures { λ r. ⌜ (r ≡ modelSize (now (model .entry))) × (r < 131072) ⌝ }
+    ensures { λ r. ⌜ (r ≡ modelSize (now (model .entry))) × (r < 33554432) ⌝ }
 {
-    let m = command::byte_at(model, 1) as usize;
-    let n = command::byte_at(model, 2) as usize;
-    let a = command::byte_at(model, 3) as usize;
+    let operands = site(model);
+    let m = wide(operands.levels);
+    let n = wide(operands.conditions);
+    let a = wide_action(operands.actions);
     a * (1 + n + m)
 }
 

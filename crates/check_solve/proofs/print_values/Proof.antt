@@ -11,7 +11,7 @@ returns c = search needs
 
 slice-aggregate-pond-values : tie.Need-slice-aggregate-pond-values
 slice-aggregate-pond-values c =
-    sym (length-take-le 184 ((c .before .before .before .before .before) .args .models .now) (omega (arith, c .before .before .if1 .left)))
+    sym (length-take-le 317 ((c .before .before .before .before .before) .args .models .now) (omega (arith, c .before .before .if1 .left)))
 
 pond-values-requires : tie.Need-pond-values-requires
 pond-values-requires c κs = search needs
@@ -30,7 +30,7 @@ rain-values-requires c κs = search needs
 
 slice-aggregate-refused-values : tie.Need-slice-aggregate-refused-values
 slice-aggregate-refused-values c =
-    sym (length-take-le 184 ((c .before .before .before .before .before .before .before) .args .models .now) (omega (arith, c .before .before .before .before .if1 .left)))
+    sym (length-take-le 317 ((c .before .before .before .before .before .before .before) .args .models .now) (omega (arith, c .before .before .before .before .if1 .left)))
 
 refused-values-requires : tie.Need-refused-values-requires
 refused-values-requires c κs = search needs

@@ -5,10 +5,10 @@ use Rattle.check_solve.proofs.same_words.Statement.{statement}
 use Rattle.check_solve.proofs.same_words.Tie as tie
 
 abbrev Inv-loop : tie.InvT-loop
-Inv-loop a b i₀ i = i ≤ 2048
+Inv-loop a b i₀ i = i ≤ 3072
 
 abbrev μ-loop : tie.MeasureT-loop
-μ-loop a b i₀ i = 2048 - i
+μ-loop a b i₀ i = 3072 - i
 
 loop-holds : tie.Need-loop-holds Inv-loop μ-loop
 loop-holds c = search needs

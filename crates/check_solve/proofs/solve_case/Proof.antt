@@ -6,11 +6,29 @@ use borrow.Author.Needs.{needs}
 use Rattle.check_solve.proofs.solve_case.Statement.{statement}
 use Rattle.check_solve.proofs.solve_case.Tie as tie
 
+solve-too-long-requires : tie.Need-solve-too-long-requires
+solve-too-long-requires c κs = search needs
+
+same-length : tie.Need-same-length
+same-length c = search needs
+
+same-length-2 : tie.Need-same-length-2
+same-length-2 c = search needs
+
+same-length-3 : tie.Need-same-length-3
+same-length-3 c = search needs
+
+returns : tie.Need-returns
+returns c = search needs
+
 part-of-requires : tie.Need-part-of-requires
 part-of-requires c κs = search needs
 
-words-of-requires : tie.Need-words-of-requires
-words-of-requires c κs = search needs
+node-words-requires : tie.Need-node-words-requires
+node-words-requires c κs = search needs
+
+work-words-requires : tie.Need-work-words-requires
+work-words-requires c κs = search needs
 
 least-requires : tie.Need-least-requires
 least-requires c κs = search needs
@@ -29,43 +47,49 @@ slice-relend-prefix-solve c = search needs
 
 slice-aggregate-solve : tie.Need-slice-aggregate-solve
 slice-aggregate-solve c =
-    sym (length-take-le (c .before .before .before .words-of .result) (c .before .before .before .before .before .before .before .before .args .nodes .now) (le-trans (c .before .before .before .words-of .ensures) (c .before .before .before .before .before .before .before .before .pre .1)))
+    sym (length-take-le (c .before .before .before .before .node-words .result) (c .before .before .before .before .before .before .before .before .before .before .before .args .nodes .now) (le-trans (c .before .before .before .before .node-words .ensures) (c .before .before .before .before .before .before .before .before .before .before .before .pre .1)))
 
 slice-relend-prefix-solve-2 : tie.Need-slice-relend-prefix-solve-2
 slice-relend-prefix-solve-2 c = search needs
 
 slice-aggregate-solve-2 : tie.Need-slice-aggregate-solve-2
 slice-aggregate-solve-2 c =
-    sym (length-take-le (c .before .before .before .least .result) (c .before .before .before .before .before .before .before .before .before .args .stages .now) (le-trans (c .before .before .before .least .ensures) (c .before .before .before .before .before .before .before .before .before .pre .2)))
+    sym (length-take-le (c .before .before .before .least .result) (c .before .before .before .before .before .before .before .before .before .before .before .before .args .stages .now) (le-trans (c .before .before .before .least .ensures) (c .before .before .before .before .before .before .before .before .before .before .before .before .pre .2)))
 
 slice-relend-prefix-solve-3 : tie.Need-slice-relend-prefix-solve-3
 slice-relend-prefix-solve-3 c = search needs
 
 slice-aggregate-solve-3 : tie.Need-slice-aggregate-solve-3
 slice-aggregate-solve-3 c =
-    sym (length-take-le (c .before .before .before .before .before .words-of .result) (c .before .before .before .before .before .before .before .before .before .before .args .work .now) (le-trans (c .before .before .before .before .before .words-of .ensures) (c .before .before .before .before .before .before .before .before .before .before .pre .3)))
+    sym (length-take-le (c .before .before .before .before .before .work-words .result) (c .before .before .before .before .before .before .before .before .before .before .before .before .before .args .work .now) (le-trans (c .before .before .before .before .before .work-words .ensures) (c .before .before .before .before .before .before .before .before .before .before .before .before .before .pre .3)))
 
 solve-requires : tie.Need-solve-requires
 solve-requires c κs = search needs
 
-same-length : tie.Need-same-length
-same-length c = search needs
+same-length-4 : tie.Need-same-length-4
+same-length-4 c = search needs
 
-same-length-2 : tie.Need-same-length-2
-same-length-2 c = search needs
+same-length-5 : tie.Need-same-length-5
+same-length-5 c = search needs
 
-same-length-3 : tie.Need-same-length-3
-same-length-3 c = search needs
+same-length-6 : tie.Need-same-length-6
+same-length-6 c = search needs
 
-returns : tie.Need-returns
-returns c = search needs
+returns-2 : tie.Need-returns-2
+returns-2 c = search needs
 
 pub solve-case-spec : {M : Type 1} → statement M
 solve-case-spec =
     tie.close
     (tie.spec
+    solve-too-long-requires
+    same-length
+    same-length-2
+    same-length-3
+    returns
     part-of-requires
-    words-of-requires
+    node-words-requires
+    work-words-requires
     least-requires
     sub-solve
     part-solve-start
@@ -77,7 +101,7 @@ solve-case-spec =
     slice-relend-prefix-solve-3
     slice-aggregate-solve-3
     solve-requires
-    same-length
-    same-length-2
-    same-length-3
-    returns)
+    same-length-4
+    same-length-5
+    same-length-6
+    returns-2)

@@ -1,7 +1,8 @@
 -- `commands_choice::test_from` meets its contract.
-use Rattle.commands_choice.proofs.Tests.{none-stood, other-stood, condition-fits, condition-test-stood, linear-there, words-nums, linear-test-stood}
+use Rattle.commands_choice.proofs.Tests.{none-stood, other-stood, condition-fits, condition-test-stood, linear-there, linear-nums, linear-test-stood}
 use native.Mathlib.Omega.{arith}
 use mathlib.Core.Path.{sym, subst}
+use Rattle.diagrams.specs.Nodes.{Nums}
 use borrow.Author.Needs.{needs}
 use Rattle.commands_choice.proofs.test_from.Statement.{statement}
 use Rattle.commands_choice.proofs.test_from.Tie as tie
@@ -42,7 +43,7 @@ words-requires c κs = search needs
 
 named-requires : tie.Need-named-requires
 named-requires c κs =
-    words-nums (c .words .ensures) (c .before .linear-at .ensures .0)
+    subst Nums (sym (c .words .ensures)) (linear-nums (c .before .before .before .before .before .before .before .before .before .args .model .now) (c .before .before .before .before .before .before .before .before .before .args .at) (c .before .before .before .before .before .before .before .command-at .result) (c .before .before .before .before .before .before .before .command-at .ensures) (c .before .before .before .before .before .read .given .1) (c .before .before .enum-told .given .1) (c .before .linear-at .ensures))
 
 condition-requires-3 : tie.Need-condition-requires-3
 condition-requires-3 c κs = search needs

@@ -3,7 +3,7 @@ use mathlib.Core.Path.{ap, _∙_, sym}
 use mathlib.Core.Bool.{Bool}
 use borrow.Author.Tests.{eq-eqb, ne-eqb}
 use Rattle.theory.specs.Verdict.{or}
-use Rattle.command.specs.Reading.{command-of}
+use Rattle.command.specs.Reading.{command-of-in, command-of}
 use Rattle.command.specs.declared.Command.{Command as CodeCommand}
 use Rattle.loading.specs.Rooting.{ended-by}
 use Rattle.loading.proofs.Places.{other-command}
@@ -15,12 +15,12 @@ enum-known-c : tie.Need-enum-known-c
 enum-known-c c = search needs
 
 returns : tie.Need-returns
-unfolding ended-by command-of
+unfolding ended-by command-of-in
 returns c =
     λ B at. sym (ap (λ (d : CodeCommand). ended-by ((c .before .before .before .before) .args .ended) (command-of B at d)) (c .before .before .c .given .1) ∙ ap (λ (b : Bool). or b ((c .before .before .before .before) .args .ended)) (eq-eqb _ _ (c .if1 .taken)))
 
 returns-2 : tie.Need-returns-2
-unfolding ended-by command-of
+unfolding ended-by command-of-in
 returns-2 c =
     λ B at. sym (ap (λ (d : CodeCommand). ended-by ((c .before .before .before .before) .args .ended) (command-of B at d)) (c .before .before .c .given .1) ∙ ap (λ (b : Bool). or b ((c .before .before .before .before) .args .ended)) (ne-eqb _ _ (c .if1 .left)))
 

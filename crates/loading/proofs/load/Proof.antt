@@ -11,23 +11,15 @@ use Rattle.loading.proofs.load.Statement.{statement}
 use Rattle.loading.proofs.load.Tie as tie
 
 abbrev Inv-loop : tie.InvT-loop
-Inv-loop model nodes₀ work₀ cap roots₀ levels conditions actions at₀ s₀ ended₀ nodes work roots at s ended =
+Inv-loop model nodes₀ work₀ cap roots₀ operands at₀ s₀ ended₀ nodes work roots at s ended =
     Walk model cap nodes work roots at s ended × (length nodes ≡ length nodes₀) × (length work ≡ length work₀) × (length roots ≡ length roots₀)
 
 abbrev μ-loop : tie.MeasureT-loop
-μ-loop model nodes₀ work₀ cap roots₀ levels conditions actions at₀ s₀ ended₀ nodes work roots at s ended =
+μ-loop model nodes₀ work₀ cap roots₀ operands at₀ s₀ ended₀ nodes work roots at s ended =
     length model - at
 
-byte-at-requires : tie.Need-byte-at-requires Inv-loop μ-loop
-byte-at-requires c κs =
-    tt
-
-byte-at-requires-2 : tie.Need-byte-at-requires-2 Inv-loop μ-loop
-byte-at-requires-2 c κs =
-    tt
-
-byte-at-requires-3 : tie.Need-byte-at-requires-3 Inv-loop μ-loop
-byte-at-requires-3 c κs =
+site-requires : tie.Need-site-requires Inv-loop μ-loop
+site-requires c κs =
     tt
 
 next-after-requires : tie.Need-next-after-requires Inv-loop μ-loop
@@ -40,7 +32,7 @@ start-requires c κs =
 
 loop-holds : tie.Need-loop-holds Inv-loop μ-loop
 loop-holds c =
-    (walk-starts ((c .before .before .before .before .before .before .before .before) .pre .0) ((c .before .before .before .before .before .before .before .before) .pre .1) ((c .before .before .before .before .before .before .before .before) .pre .2) ((c .before .before .before .before .before .before .before .before) .pre .3) (c .before .next-after .ensures) (c .start .ensures), refl, refl, refl)
+    (walk-starts ((c .before .before .before .before .before .before) .pre .0) ((c .before .before .before .before .before .before) .pre .1) ((c .before .before .before .before .before .before) .pre .2) ((c .before .before .before .before .before .before) .pre .3) (c .before .next-after .ensures) (c .start .ensures), refl, refl, refl)
 
 command-at-requires : tie.Need-command-at-requires Inv-loop μ-loop
 command-at-requires c κs =
@@ -84,7 +76,7 @@ same-length-6 c =
 
 returns-2 : tie.Need-returns-2 Inv-loop μ-loop
 returns-2 c =
-    let e = whole-is ((c .before .before .before .before .before .before .before .before .before .before .before .before .before .before .before) .args .model .now) (c .before .before .before .before .before .before .loop .at) (c .before .before .before .before .before .command-at .ensures) (c .before .before .before .read .given .1) in
+    let e = whole-is ((c .before .before .before .before .before .before .before .before .before .before .before .before .before) .args .model .now) (c .before .before .before .before .before .before .loop .at) (c .before .before .before .before .before .command-at .ensures) (c .before .before .before .read .given .1) in
     let t = turn-end (c .before .before .before .before .before .before .loop .inv .0) _ e (sym (c .before .is-end .ensures) ∙ c .if1 .taken) in
     ends-loaded (c .before .before .before .before .before .before .loop .inv .0) (t .0) (t .1)
 
@@ -106,7 +98,7 @@ ended-by-requires c κs =
 
 step-requires : tie.Need-step-requires Inv-loop μ-loop
 step-requires c κs =
-    ready (c .before .before .before .before .before .before .before .before .before .before .before .before .before .before .before .before .loop .inv .0) _ (whole-is ((c .before .before .before .before .before .before .before .before .before .before .before .before .before .before .before .before .before .before .before .before .before .before .before .before .before) .args .model .now) (c .before .before .before .before .before .before .before .before .before .before .before .before .before .before .before .before .loop .at) (c .before .before .before .before .before .before .before .before .before .before .before .before .before .before .before .command-at .ensures) (c .before .before .before .before .before .before .before .before .before .before .before .before .before .read .given .1))
+    ready (c .before .before .before .before .before .before .before .before .before .before .before .before .before .before .before .before .loop .inv .0) _ (whole-is ((c .before .before .before .before .before .before .before .before .before .before .before .before .before .before .before .before .before .before .before .before .before .before .before) .args .model .now) (c .before .before .before .before .before .before .before .before .before .before .before .before .before .before .before .before .loop .at) (c .before .before .before .before .before .before .before .before .before .before .before .before .before .before .before .command-at .ensures) (c .before .before .before .before .before .before .before .before .before .before .before .before .before .read .given .1))
 
 same-length-7 : tie.Need-same-length-7 Inv-loop μ-loop
 same-length-7 c =
@@ -122,7 +114,7 @@ same-length-9 c =
 
 returns-3 : tie.Need-returns-3 Inv-loop μ-loop
 returns-3 c =
-    let e = whole-is ((c .before .before .before .before .before .before .before .before .before .before .before .before .before .before .before .before .before .before .before .before .before .before .before .before .before .before .before .before .before .before .before) .args .model .now) (c .before .before .before .before .before .before .before .before .before .before .before .before .before .before .before .before .before .before .before .before .before .before .loop .at) (c .before .before .before .before .before .before .before .before .before .before .before .before .before .before .before .before .before .before .before .before .before .command-at .ensures) (c .before .before .before .before .before .before .before .before .before .before .before .before .before .before .before .before .before .before .before .read .given .1) in
+    let e = whole-is ((c .before .before .before .before .before .before .before .before .before .before .before .before .before .before .before .before .before .before .before .before .before .before .before .before .before .before .before .before .before) .args .model .now) (c .before .before .before .before .before .before .before .before .before .before .before .before .before .before .before .before .before .before .before .before .before .before .loop .at) (c .before .before .before .before .before .before .before .before .before .before .before .before .before .before .before .before .before .before .before .before .before .command-at .ensures) (c .before .before .before .before .before .before .before .before .before .before .before .before .before .before .before .before .before .before .before .read .given .1) in
     stops-loaded _ (c .before .before .before .before .before .step .ensures .table) (turn-stops (c .before .before .before .before .before .before .before .before .before .before .before .before .before .before .before .before .before .before .before .before .before .before .loop .inv .0) _ e (c .before .before .before .before .before .step .ensures) (c .if2 .taken)) (c .if2 .taken)
 
 next-after-requires-2 : tie.Need-next-after-requires-2 Inv-loop μ-loop
@@ -131,15 +123,15 @@ next-after-requires-2 c κs =
 
 loop-less : tie.Need-loop-less Inv-loop μ-loop
 loop-less c =
-    let f = forward ((c .before .before .before .before .before .before .before .before .before .before .before .before .before .before .before .before .before .before .before .before .before .before .before .before .before .before .before .before .before .before .before .before) .args .model .now) (c .before .before .before .before .before .before .before .before .before .before .before .before .before .before .before .before .before .before .before .before .before .before .before .loop .at) _ (c .next-after2 .result) (whole-is ((c .before .before .before .before .before .before .before .before .before .before .before .before .before .before .before .before .before .before .before .before .before .before .before .before .before .before .before .before .before .before .before .before) .args .model .now) (c .before .before .before .before .before .before .before .before .before .before .before .before .before .before .before .before .before .before .before .before .before .before .before .loop .at) (c .before .before .before .before .before .before .before .before .before .before .before .before .before .before .before .before .before .before .before .before .before .before .command-at .ensures) (c .before .before .before .before .before .before .before .before .before .before .before .before .before .before .before .before .before .before .before .before .read .given .1)) (c .next-after2 .ensures) in
+    let f = forward ((c .before .before .before .before .before .before .before .before .before .before .before .before .before .before .before .before .before .before .before .before .before .before .before .before .before .before .before .before .before .before) .args .model .now) (c .before .before .before .before .before .before .before .before .before .before .before .before .before .before .before .before .before .before .before .before .before .before .before .loop .at) _ (c .next-after2 .result) (whole-is ((c .before .before .before .before .before .before .before .before .before .before .before .before .before .before .before .before .before .before .before .before .before .before .before .before .before .before .before .before .before .before) .args .model .now) (c .before .before .before .before .before .before .before .before .before .before .before .before .before .before .before .before .before .before .before .before .before .before .before .loop .at) (c .before .before .before .before .before .before .before .before .before .before .before .before .before .before .before .before .before .before .before .before .before .before .command-at .ensures) (c .before .before .before .before .before .before .before .before .before .before .before .before .before .before .before .before .before .before .before .before .read .given .1)) (c .next-after2 .ensures) in
     omega (arith, f .1, f .2)
 
 loop-again : tie.Need-loop-again Inv-loop μ-loop
 loop-again c =
-    let e = whole-is ((c .before .before .before .before .before .before .before .before .before .before .before .before .before .before .before .before .before .before .before .before .before .before .before .before .before .before .before .before .before .before .before .before) .args .model .now) (c .before .before .before .before .before .before .before .before .before .before .before .before .before .before .before .before .before .before .before .before .before .before .before .loop .at) (c .before .before .before .before .before .before .before .before .before .before .before .before .before .before .before .before .before .before .before .before .before .before .command-at .ensures) (c .before .before .before .before .before .before .before .before .before .before .before .before .before .before .before .before .before .before .before .before .read .given .1) in (
+    let e = whole-is ((c .before .before .before .before .before .before .before .before .before .before .before .before .before .before .before .before .before .before .before .before .before .before .before .before .before .before .before .before .before .before) .args .model .now) (c .before .before .before .before .before .before .before .before .before .before .before .before .before .before .before .before .before .before .before .before .before .before .before .loop .at) (c .before .before .before .before .before .before .before .before .before .before .before .before .before .before .before .before .before .before .before .before .before .before .command-at .ensures) (c .before .before .before .before .before .before .before .before .before .before .before .before .before .before .before .before .before .before .before .before .read .given .1) in (
       turn-on (c .before .before .before .before .before .before .before .before .before .before .before .before .before .before .before .before .before .before .before .before .before .before .before .loop .inv .0) _ e (c .before .before .before .before .before .before .step .ensures) (c .next-after2 .result) (c .before .before .before .before .before .before .before .before .before .before .before .before .before .before .before .top .result) (sym (c .before .before .before .before .before .before .before .before .before .before .before .before .before .before .before .before .before .before .is-end .ensures) ∙ c .before .before .before .before .before .before .before .before .before .before .before .before .before .before .before .before .before .if1 .left) (c .next-after2 .ensures) (c .before .if2 .left) (c .before .before .before .before .before .before .before .before .before .before .before .before .before .before .before .top .ensures)
-          (placed ((c .before .before .before .before .before .before .before .before .before .before .before .before .before .before .before .before .before .before .before .before .before .before .before .before .before .before .before .before .before .before .before .before) .args .model .now) _ (c .before .before .before .before .before .before .before .before .before .before .before .before .before .before .before .before .before .before .before .before .before .before .before .loop .roots) (c .before .before .before .before .before .before .before .before .before .before .before .before .before .before .before .top .result) (c .before .before .before .before .before .before .before .before .before .before .before .before .before .before .before .before .before .before .before .before .before .before .before .before .before .before .before .before .byte-at .ensures) (c .before .before .before .before .before .before .before .before .before .before .before .before .before .before .before .before .before .before .before .before .before .before .before .before .before .before .before .byte-at2 .ensures) (c .before .before .before .before .before .before .before .before .before .before .before .before .before .before .before .before .before .before .before .before .before .before .before .before .before .before .byte-at3 .ensures) (c .before .before .before .before .before .before .before .before .before .before .before .before .before .place .ensures ((c .before .before .before .before .before .before .before .before .before .before .before .before .before .before .before .before .before .before .before .before .before .before .before .before .before .before .before .before .before .before .before .before) .args .model .now) (c .before .before .before .before .before .before .before .before .before .before .before .before .before .before .before .before .before .before .before .before .before .before .before .loop .at)) (c .before .before .before .before .before .before .before .before .before .before .before .before .store .ensures))
-          (c .before .before .before .before .before .before .before .before .before .ended-by .ensures ((c .before .before .before .before .before .before .before .before .before .before .before .before .before .before .before .before .before .before .before .before .before .before .before .before .before .before .before .before .before .before .before .before) .args .model .now) (c .before .before .before .before .before .before .before .before .before .before .before .before .before .before .before .before .before .before .before .before .before .before .before .loop .at)),
+          (placed ((c .before .before .before .before .before .before .before .before .before .before .before .before .before .before .before .before .before .before .before .before .before .before .before .before .before .before .before .before .before .before) .args .model .now) (c .before .before .before .before .before .before .before .before .before .before .before .before .before .before .before .before .before .before .before .before .before .before .before .before .before .before .site .result) _ (c .before .before .before .before .before .before .before .before .before .before .before .before .before .before .before .before .before .before .before .before .before .before .before .loop .roots) (c .before .before .before .before .before .before .before .before .before .before .before .before .before .before .before .top .result) (c .before .before .before .before .before .before .before .before .before .before .before .before .before .before .before .before .before .before .before .before .before .before .before .before .before .before .site .ensures) (c .before .before .before .before .before .before .before .before .before .before .before .before .before .place .ensures ((c .before .before .before .before .before .before .before .before .before .before .before .before .before .before .before .before .before .before .before .before .before .before .before .before .before .before .before .before .before .before) .args .model .now) (c .before .before .before .before .before .before .before .before .before .before .before .before .before .before .before .before .before .before .before .before .before .before .before .loop .at)) (c .before .before .before .before .before .before .before .before .before .before .before .before .store .ensures))
+          (c .before .before .before .before .before .before .before .before .before .ended-by .ensures ((c .before .before .before .before .before .before .before .before .before .before .before .before .before .before .before .before .before .before .before .before .before .before .before .before .before .before .before .before .before .before) .args .model .now) (c .before .before .before .before .before .before .before .before .before .before .before .before .before .before .before .before .before .before .before .before .before .before .before .loop .at)),
       c .before .before .before .before .before .before .step .kept .1 .0 ∙ c .before .before .before .before .before .before .before .before .before .before .before .before .before .before .before .before .before .before .before .before .before .before .before .loop .inv .1,
       c .before .before .before .before .before .before .step .kept .1 .1 .0 ∙ c .before .before .before .before .before .before .before .before .before .before .before .before .before .before .before .before .before .before .before .before .before .before .before .loop .inv .2,
       c .before .before .before .before .before .before .before .before .before .before .before .before .store .kept .0 ∙ c .before .before .before .before .before .before .before .before .before .before .before .before .before .before .before .before .before .before .before .before .before .before .before .loop .inv .3,
@@ -151,9 +143,7 @@ load-spec =
     (tie.spec
     Inv-loop
     μ-loop
-    byte-at-requires
-    byte-at-requires-2
-    byte-at-requires-3
+    site-requires
     next-after-requires
     start-requires
     loop-holds

@@ -1,7 +1,7 @@
 -- `loading::place` meets its contract.
 use mathlib.Core.Path.{ap, ap₂, _∙_, sym}
 use Prim.Native.Nat.{ℕ, _+_, _*_}
-use Rattle.command.specs.Reading.{command-of}
+use Rattle.command.specs.Reading.{command-of-in, command-of}
 use Rattle.command.specs.declared.Command.{Command as CodeCommand}
 use Rattle.loading.specs.Rooting.{place-of}
 use Rattle.loading.proofs.Places.{other-command}
@@ -25,7 +25,7 @@ add-result : tie.Need-add-result
 add-result c = search needs
 
 returns : tie.Need-returns
-unfolding place-of command-of
+unfolding place-of command-of-in
 returns c =
     λ B at.
     ap₂ (λ (x y : ℕ). x + y) (c .before .row .ensures .0 ∙ ap (λ (x : ℕ). x * (1 + (c .before .before .before .before .before .before) .args .conditions + (c .before .before .before .before .before .before) .args .levels)) (c .before .before .above .ensures .0 _)) (c .offset .ensures .0 _)

@@ -2,16 +2,19 @@
 use mathlib.Core.Path.{sym}
 use lib.ListN.{length-replicate}
 use lib.IntN.{pos}
-use Prim.Native.Nat.{ℕ}
+use Prim.Native.Nat.{ℕ, _*_}
+use Rattle.table.specs.Table.{node-words}
+use Rattle.unique.specs.Unique.{work-words}
+use Rattle.rules_main.specs.Held.{cap}
 use borrow.Author.Needs.{needs}
 use Rattle.rules_main.proofs.main.Statement.{statement}
 use Rattle.rules_main.proofs.main.Tie as tie
 
 slice-aggregate-run : tie.Need-slice-aggregate-run
-slice-aggregate-run c = sym (length-replicate 524280 (pos 0))
+slice-aggregate-run c = sym (length-replicate (cap * node-words) (pos 0))
 
 slice-aggregate-run-2 : tie.Need-slice-aggregate-run-2
-slice-aggregate-run-2 c = sym (length-replicate {A = ℕ} 524280 0)
+slice-aggregate-run-2 c = sym (length-replicate {A = ℕ} (cap * work-words) 0)
 
 run-requires : tie.Need-run-requires
 run-requires c κs = search needs

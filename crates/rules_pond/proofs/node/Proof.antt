@@ -1,14 +1,15 @@
 -- `rules_pond::node` meets its contract.
 use borrow.Author.Needs.{needs}
 use Prim.Native.Nat.{_≤_, _-_}
+use Rattle.theory.specs.Widths.{node-words}
 use Rattle.rules_pond.proofs.node.Statement.{statement}
 use Rattle.rules_pond.proofs.node.Tie as tie
 
 abbrev Inv-loop : tie.InvT-loop
-Inv-loop nodes at from i₀ t5 i = i ≤ 8
+Inv-loop nodes at from i₀ t5 i = i ≤ node-words
 
 abbrev μ-loop : tie.MeasureT-loop
-μ-loop nodes at from i₀ t5 i = 8 - i
+μ-loop nodes at from i₀ t5 i = node-words - i
 
 mul-from : tie.Need-mul-from Inv-loop μ-loop
 mul-from c = search needs

@@ -1,6 +1,6 @@
 -- `stacking::step` meets its contract.
 use native.Mathlib.Omega.{arith}
-use Rattle.command.specs.Reading.{command-of}
+use Rattle.command.specs.Reading.{command-of-in}
 use Rattle.stacking.proofs.Steps.{leaf-there, leaf-read, leaf-loaded, condition-asks, test-asks, condition-step, test-step, give-step, other-step, ready-as, step-as}
 use borrow.Author.Needs.{needs}
 use Rattle.stacking.proofs.step.Statement.{statement}
@@ -10,17 +10,17 @@ enum-told : tie.Need-enum-told
 enum-told c = search needs
 
 add-linear-at : tie.Need-add-linear-at
-unfolding command-of
+unfolding command-of-in
 add-linear-at c =
     let h = leaf-there (ready-as _ _ (c .before .before .enum-told .given .1) (c .before .before .before .before .before .before .pre)) in omega arith
 
 linear-at-requires : tie.Need-linear-at-requires
-unfolding command-of
+unfolding command-of-in
 linear-at-requires c κs =
     let h = leaf-there (ready-as _ _ (c .before .before .enum-told .given .1) (c .before .before .before .before .before .before .pre)) in omega arith
 
 leaf-requires : tie.Need-leaf-requires
-unfolding command-of
+unfolding command-of-in
 leaf-requires c κs =
     leaf-read (ready-as _ _ (c .before .before .before .enum-told .given .1) (c .before .before .before .before .before .before .before .pre)) (c .linear-at .result) (c .linear-at .ensures)
 
@@ -28,7 +28,7 @@ enum-told-2 : tie.Need-enum-told-2
 enum-told-2 c = search needs
 
 choice-requires : tie.Need-choice-requires
-unfolding command-of
+unfolding command-of-in
 choice-requires c κs =
     condition-asks _ (ready-as _ _ (c .before .before .enum-told2 .given .1) (c .before .before .before .before .before .before .pre))
 
@@ -36,7 +36,7 @@ enum-told-3 : tie.Need-enum-told-3
 enum-told-3 c = search needs
 
 choice-requires-2 : tie.Need-choice-requires-2
-unfolding command-of
+unfolding command-of-in
 choice-requires-2 c κs =
     test-asks _ (ready-as _ _ (c .before .before .enum-told3 .given .1) (c .before .before .before .before .before .before .pre))
 
@@ -53,7 +53,7 @@ same-length-2 : tie.Need-same-length-2
 same-length-2 c = search needs
 
 returns : tie.Need-returns
-unfolding command-of
+unfolding command-of-in
 returns c =
     step-as _ _ (c .before .before .before .before .before .before .before .enum-told .given .1) (c .before .before .before .before .before .before .before .before .before .before .before .pre) (λ y. leaf-loaded y (c .before .before .before .before .linear-at .result) (c .before .before .before .before .linear-at .ensures) (c .before .before .before .leaf .ensures))
 
@@ -64,7 +64,7 @@ same-length-4 : tie.Need-same-length-4
 same-length-4 c = search needs
 
 returns-2 : tie.Need-returns-2
-unfolding command-of
+unfolding command-of-in
 returns-2 c =
     step-as _ _ (c .before .before .before .before .before .before .enum-told2 .given .1) (c .before .before .before .before .before .before .before .before .before .before .pre) (λ y. condition-step _ _ _ y (c .before .before .before .choice .ensures))
 
@@ -75,12 +75,12 @@ same-length-6 : tie.Need-same-length-6
 same-length-6 c = search needs
 
 returns-3 : tie.Need-returns-3
-unfolding command-of
+unfolding command-of-in
 returns-3 c =
     step-as _ _ (c .before .before .before .before .before .before .enum-told3 .given .1) (c .before .before .before .before .before .before .before .before .before .before .pre) (λ y. test-step _ _ _ y (c .before .before .before .choice2 .ensures))
 
 returns-4 : tie.Need-returns-4
-unfolding command-of
+unfolding command-of-in
 returns-4 c =
     step-as _ _ (c .before .enum-told4 .given .1) (c .before .before .before .before .before .pre) (λ y. give-step _ y (c .taken .ensures))
 

@@ -15,21 +15,21 @@ abbrev μ-loop : tie.MeasureT-loop
 μ-loop model nodes₀ work₀ cap roots₀ held before stage actions r₀ a₀ nodes work roots r a =
     actions + 1 - a
 
-byte-at-requires : tie.Need-byte-at-requires Inv-loop μ-loop
-byte-at-requires c κs =
+site-requires : tie.Need-site-requires Inv-loop μ-loop
+site-requires c κs =
     tt
 
-cast-actions : tie.Need-cast-actions Inv-loop μ-loop
-cast-actions c =
-    omega (arith, c .byte-at .ok)
+wide-action-requires : tie.Need-wide-action-requires Inv-loop μ-loop
+wide-action-requires c κs =
+    tt
 
 loop-holds : tie.Need-loop-holds Inv-loop μ-loop
 loop-holds c =
-    (trying-starts (c .before .before .before .before .pre .0) (c .before .before .before .before .pre .1) (c .before .before .before .before .pre .3) (c .byte-at .ensures), refl, refl, refl)
+    (trying-starts (c .before .before .before .before .before .pre .0) (c .before .before .before .before .before .pre .1) (c .before .before .before .before .before .pre .3) (c .before .site .ensures) (c .wide-action .ensures .0), refl, refl, refl)
 
 better-requires : tie.Need-better-requires Inv-loop μ-loop
 better-requires c κs =
-    (c .before .before .before .before .loop .inv .0 .ready, c .before .before .before .before .loop .inv .0 .ok, omega (arith, c .before .before .before .before .before .before .before .before .before .pre .2, c .before .before .before .before .loop .inv .3), c .before .before .before .before .before .before .before .before .before .pre .4, c .before .before .before .before .before .before .before .before .before .pre .5, omega (arith, c .before .before .before .before .loop .inv .0 .low), trying-action (c .before .before .before .before .loop .inv .0) (omega (arith, c .before .before .before .loop-test .taken)))
+    (c .before .before .before .before .loop .inv .0 .ready, c .before .before .before .before .loop .inv .0 .ok, omega (arith, c .before .before .before .before .before .before .before .before .before .before .pre .2, c .before .before .before .before .loop .inv .3), c .before .before .before .before .before .before .before .before .before .before .pre .4, c .before .before .before .before .before .before .before .before .before .before .pre .5, omega (arith, c .before .before .before .before .loop .inv .0 .low), trying-action (c .before .before .before .before .loop .inv .0) (omega (arith, c .before .before .before .loop-test .taken)))
 
 same-length : tie.Need-same-length Inv-loop μ-loop
 same-length c =
@@ -49,7 +49,7 @@ returns c =
 
 add-a : tie.Need-add-a Inv-loop μ-loop
 add-a c =
-    omega (arith, c .before .before .before .before .before .before .before .before .before .before .before .loop-test .taken, c .before .before .before .before .before .before .before .before .before .before .before .before .before .byte-at .ok)
+    omega (arith, c .before .before .before .before .before .before .before .before .before .before .before .loop-test .taken, c .before .before .before .before .before .before .before .before .before .before .before .before .before .wide-action .ensures .1)
 
 loop-less : tie.Need-loop-less Inv-loop μ-loop
 loop-less c =
@@ -57,7 +57,7 @@ loop-less c =
 
 loop-again : tie.Need-loop-again Inv-loop μ-loop
 loop-again c = (
-  trying-on (c .before .before .before .before .before .before .before .before .before .before .before .before .loop .inv .0) (omega (arith, c .before .before .before .before .before .before .before .before .before .before .before .loop-test .taken)) (c .before .before .before .before .before .before .before .better .ensures) (c .if1 .left) (omega (arith, c .before .before .before .before .before .before .before .before .before .before .before .before .before .before .before .before .before .pre .2, c .before .before .before .before .before .before .before .before .before .before .before .before .loop .inv .3, c .before .before .before .before .before .before .before .better .kept .1 .1 .1 .1 .1 .0)),
+  trying-on (c .before .before .before .before .before .before .before .before .before .before .before .before .loop .inv .0) (omega (arith, c .before .before .before .before .before .before .before .before .before .before .before .loop-test .taken)) (c .before .before .before .before .before .before .before .better .ensures) (c .if1 .left) (omega (arith, c .before .before .before .before .before .before .before .before .before .before .before .before .before .before .before .before .before .before .pre .2, c .before .before .before .before .before .before .before .before .before .before .before .before .loop .inv .3, c .before .before .before .before .before .before .before .better .kept .1 .1 .1 .1 .1 .0)),
   c .before .before .before .before .before .before .before .better .kept .1 .0 ∙ c .before .before .before .before .before .before .before .before .before .before .before .before .loop .inv .1,
   c .before .before .before .before .before .before .before .better .kept .1 .1 .0 ∙ c .before .before .before .before .before .before .before .before .before .before .before .before .loop .inv .2,
   c .before .before .before .before .before .before .before .better .kept .1 .1 .1 .1 .1 .0 ∙ c .before .before .before .before .before .before .before .before .before .before .before .before .loop .inv .3,
@@ -85,8 +85,8 @@ others-spec =
     (tie.spec
     Inv-loop
     μ-loop
-    byte-at-requires
-    cast-actions
+    site-requires
+    wide-action-requires
     loop-holds
     better-requires
     same-length

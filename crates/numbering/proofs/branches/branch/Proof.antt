@@ -1,6 +1,7 @@
 use Prim.Native.Nat.{_+_, _*_}
 use lib.IntN.{pos}
 use lib.ListN.{getD}
+use Rattle.table.specs.Table.{node-words}
 use Rattle.table.proofs.Tests.{nat-back, abs-of}
 use borrow.Author.Needs.{needs}
 use Rattle.numbering.proofs.branches.branch.Statement.{statement}
@@ -20,11 +21,11 @@ shared-slice-copy-out-z c = search needs
 
 index-requires : tie.Need-index-requires
 index-requires c κs =
-    nat-back (getD ((c .before) .args .nodes .now) ((c .before) .args .i * 8 + (c .before) .args .word) (pos 0)) (c .z .given) ((c .before) .pre .2)
+    nat-back (getD ((c .before) .args .nodes .now) ((c .before) .args .i * node-words + (c .before) .args .word) (pos 0)) (c .z .given) ((c .before) .pre .2)
 
 returns : tie.Need-returns
 returns c =
-    abs-of (getD ((c .before .before) .args .nodes .now) ((c .before .before) .args .i * 8 + (c .before .before) .args .word) (pos 0)) (c .before .z .given) (c .index .ensures)
+    abs-of (getD ((c .before .before) .args .nodes .now) ((c .before .before) .args .i * node-words + (c .before .before) .args .word) (pos 0)) (c .before .z .given) (c .index .ensures)
 
 pub branch-spec : {M : Type 1} → statement M
 branch-spec =

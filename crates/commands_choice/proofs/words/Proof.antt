@@ -1,0 +1,12 @@
+-- `commands_choice::words` meets its contract.
+use mathlib.Core.Path.{refl}
+use Rattle.commands_choice.specs.Testing.{wordsOf}
+use Rattle.commands_choice.proofs.words.Statement.{statement}
+use Rattle.commands_choice.proofs.words.Tie as tie
+
+returns : tie.Need-returns
+unfolding wordsOf
+returns c = refl
+
+pub words-spec : {M : Type 1} → statement M
+words-spec = tie.close (tie.spec returns)
