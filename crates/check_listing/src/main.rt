@@ -1,6 +1,20 @@
 // Listings of the pond from tables that are filled by hand: whole, from a place, of a smaller horizon, and each refusal.
 // The buffer is full of dots before, so that they show what stays untouched.
 use hex_text::report;
+use table::HIGH;
+use table::LOW;
+use table::NODE_WORDS;
+use whole::NUMBERS;
+
+// The words of seven nodes.
+const SEVEN: usize = 7 * NODE_WORDS;
+
+// The bytes of the pond, of its listing, and of the buffer.
+const POND: usize = 317;
+
+const TEXT: usize = 225;
+
+const ROOM: usize = TEXT + 7;
 
 fn print(name: &[u8], r: listing::Listed, room: &[u8]) {
     report::label(name);
@@ -30,7 +44,7 @@ fn into(
     listing::listing(model, horizon, nodes, stages, &mut room[..n], place)
 }
 
-// A listing into the first n bytes of a new buffer of 176.
+// A listing into the first n bytes of a new buffer.
 fn list(
     name: &[u8],
     model: &[u8],
@@ -40,75 +54,45 @@ fn list(
     n: usize,
     place: usize,
 ) {
-    let mut room = [46u8; 176];
+    let mut room = [46u8; ROOM];
     let r = into(model, horizon, nodes, stages, &mut room, n, place);
     print(name, r, &room);
 }
 
+fn set(nodes: &mut [i64], at: usize, z: i64) {
+    if at < nodes.len() {
+        nodes[at] = z;
+    }
+}
+
+// Node r + 1 of a table of zeros: its kind, the coefficient of L1, the constant, high and low.
+fn row(nodes: &mut [i64], r: u8, kind: i64, first: i64, constant: i64, high: i64, low: i64) {
+    let at = (r as usize) * NODE_WORDS;
+    set(nodes, at, kind);
+    set(nodes, at + 1, first);
+    set(nodes, at + NUMBERS, constant);
+    set(nodes, at + HIGH, high);
+    set(nodes, at + LOW, low);
+}
+
+// The pond's seven nodes.
+fn seven(nodes: &mut [i64]) {
+    row(nodes, 0, 0, 0, 50, 2, 0);
+    row(nodes, 1, 0, 0, 0, 1, 0);
+    row(nodes, 2, 2, -1, 10, 1, 2);
+    row(nodes, 3, 0, 0, 100, 2, 0);
+    row(nodes, 4, 0, 0, 50, 1, 0);
+    row(nodes, 5, 2, -1, 20, 4, 5);
+    row(nodes, 6, 2, -1, 10, 6, 2);
+}
+
 // A listing of the seven nodes.
 fn of_model(name: &[u8], model: &[u8], horizon: u32, stages: &[u32], n: usize, place: usize) {
-    let nodes: [i64; 56] = [
-        0,
-        0,
-        0,
-        0,
-        0,
-        50,
-        2,
-        0,
-        0,
-        0,
-        0,
-        0,
-        0,
-        0,
-        1,
-        0,
-        2,
-        -1,
-        0,
-        0,
-        0,
-        10,
-        1,
-        2,
-        0,
-        0,
-        0,
-        0,
-        0,
-        100,
-        2,
-        0,
-        0,
-        0,
-        0,
-        0,
-        0,
-        50,
-        1,
-        0,
-        2,
-        -1,
-        0,
-        0,
-        0,
-        20,
-        4,
-        5,
-        2,
-        -1,
-        0,
-        0,
-        0,
-        10,
-        6,
-        2,
-    ];
+    let mut nodes = [0i64; SEVEN];
+    seven(&mut nodes);
     list(name, model, horizon, &nodes, stages, n, place);
 }
 
-// The model has 184 bytes.
 fn pond(room: &mut [u8]) {
     hex_text::bytes_of(
         b"S 01 00 02A 01 P 20 01A 10 01000000 OOOKO 22 01A 01 10 OOOOK 32000000 10 OOOOK ffffffff 12 ffffffff OOOK 0a000000 20 02A 10 01000000 OOOK f6ffffff 10 01000000 OOOKO 12 ffffffff OOOK 0a000000 22 02A 01 ff",
@@ -117,7 +101,7 @@ fn pond(room: &mut [u8]) {
 }
 
 fn from_stages(name: &[u8], horizon: u32, stages: &[u32], n: usize, place: usize) {
-    let mut model = [0u8; 184];
+    let mut model = [0u8; POND];
     pond(&mut model);
     of_model(name, &model, horizon, stages, n, place);
 }
@@ -128,42 +112,49 @@ fn from_two(name: &[u8], horizon: u32, n: usize, place: usize) {
     from_stages(name, horizon, &stages, n, place);
 }
 
-// The text has 169 bytes.
 fn places() {
-    from_two(b"whole", 2, 169, 0);
-    from_two(b"one short", 2, 168, 0);
-    from_two(b"from 3", 2, 176, 3);
-    from_two(b"from 7", 2, 176, 7);
-    from_two(b"from 8", 2, 176, 8);
-    from_two(b"at the end", 2, 176, 176);
-    from_two(b"past the end", 2, 176, 177);
-    from_two(b"far past the end", 2, 176, 18446744073709551615);
+    from_two(b"whole", 2, TEXT, 0);
+    from_two(b"one short", 2, TEXT - 1, 0);
+    from_two(b"from 3", 2, ROOM, 3);
+    from_two(b"from 7", 2, ROOM, 7);
+    from_two(b"from 8", 2, ROOM, 8);
+    from_two(b"at the end", 2, ROOM, ROOM);
+    from_two(b"past the end", 2, ROOM, ROOM + 1);
+    from_two(b"far past the end", 2, ROOM, 18446744073709551615);
 }
 
 fn horizons() {
-    from_two(b"horizon 1", 1, 176, 0);
+    from_two(b"horizon 1", 1, ROOM, 0);
     from_two(b"stage 3 without a root", 3, 1, 0);
-    from_two(b"horizon 0", 0, 176, 0);
-    from_two(b"horizon 9", 9, 176, 0);
+    from_two(b"horizon 0", 0, ROOM, 0);
+    from_two(b"horizon 9", 9, ROOM, 0);
 }
 
 fn refusals() {
-    from_stages(b"seven stage words", 9, &[3, 7, 0, 0, 0, 0, 0], 176, 0);
-    of_model(b"no end command", b"", 2, &[3, 7, 0, 0, 0, 0, 0, 0], 176, 0);
-    from_stages(b"root 8 of 7 nodes", 2, &[3, 8, 0, 0, 0, 0, 0, 0], 176, 0);
+    from_stages(b"seven stage words", 9, &[3, 7, 0, 0, 0, 0, 0], ROOM, 0);
+    of_model(
+        b"no end command",
+        b"",
+        2,
+        &[3, 7, 0, 0, 0, 0, 0, 0],
+        ROOM,
+        0,
+    );
+    from_stages(b"root 8 of 7 nodes", 2, &[3, 8, 0, 0, 0, 0, 0, 0], ROOM, 0);
     from_stages(
         b"greatest root far outside",
         2,
         &[4294967295, 7, 0, 0, 0, 0, 0, 0],
-        176,
+        ROOM,
         0,
     );
 }
 
 fn other_nodes() {
-    let mut model = [0u8; 184];
+    let mut model = [0u8; POND];
     pond(&mut model);
-    let nodes: [i64; 8] = [1, 1, 0, 0, 0, 0, 1, 1];
+    let mut nodes = [0i64; NODE_WORDS];
+    row(&mut nodes, 0, 1, 1, 0, 1, 1);
     let stages: [u32; 8] = [1, 0, 0, 0, 0, 0, 0, 0];
     list(
         b"a condition that is none",
@@ -171,7 +162,7 @@ fn other_nodes() {
         1,
         &nodes,
         &stages,
-        176,
+        ROOM,
         0,
     );
 }

@@ -1,9 +1,17 @@
 // Plain working of the states on standard input, a line each: a label, a colon, and as hexadecimal text the steps left, the mask,
-// four numerators and the denominator, four bytes each, then the model. A line without a colon is copied.
+// the numerators of eight levels and the denominator, four bytes each, then the model. A line without a colon is copied.
 ghost use Prim.Native.Nat.{_<_};
 use hex_text::find;
 use hex_text::report;
 use libc::STDIN_FILENO;
+use whole::NUMBERS;
+
+// Bytes of a number; where the numerators begin, behind the steps left and the mask; where the model begins.
+const WORD: usize = 4;
+
+const NUMERATORS: usize = 2 * WORD;
+
+const MODEL: usize = NUMERATORS + NUMBERS * WORD;
 
 fn byte(input: &[u8], at: usize) -> u32
     ensures { λ r. ⌜ r < 256 ⌝ }
@@ -53,25 +61,29 @@ fn show(v: values::Value) {
     numerator(v.numerator);
 }
 
+fn numerators(input: &[u8]) -> [i32; NUMBERS] {
+    let mut n = [0i32; NUMBERS];
+    let mut i: usize = 0;
+    while i < NUMBERS {
+        n[i] = level(input, NUMERATORS + i * WORD);
+        i += 1;
+    }
+    n
+}
+
 // The worth of the state that the input begins with.
 fn asked(input: &[u8], model: &[u8]) -> values::Value {
-    let q = values::Asked {
-        mask: word(input, 4),
-        n1: level(input, 8),
-        n2: level(input, 12),
-        n3: level(input, 16),
-        n4: level(input, 20),
-        d: level(input, 24),
-    };
-    worth::worth(model, word(input, 0), q)
+    let mask = word(input, WORD);
+    let n = numerators(input);
+    worth::worth(model, word(input, 0), values::Asked { mask, n })
 }
 
 fn work(name: &[u8], input: &[u8]) {
-    if input.len() < 28 {
+    if input.len() < MODEL {
         return;
     }
     report::label(name);
-    show(asked(input, &input[28..]));
+    show(asked(input, &input[MODEL..]));
 }
 
 fn row(name: &[u8], text: &[u8], room: &mut [u8]) {

@@ -8,7 +8,7 @@ use lib.IntN.{ℤ, pos}
 use lib.ListN.{length, take, drop, getD, length-append, take-append-drop}
 use lib.Seq.{take-suc, take-all, drop-cons}
 use Rattle.theory.specs.Listing.{spaced, spaced-all, line}
-use Rattle.decimal.specs.Put.{PutAt}
+use Rattle.decimal.specs.Put.{PutAt, number-bytes}
 use Rattle.decimal.proofs.Puts.{then, rename}
 
 all-append : (a b : List ℤ) → spaced-all (a ++ b) ≡ spaced-all a ++ spaced-all b
@@ -89,7 +89,7 @@ line-put {start} l h p q s = rename (append-assoc start (spaced-all l) (10 ∷ [
 pub record Counted (l : List ℤ) (i n : ℕ) : Type 0 where
   pub within : i ≤ length l
   pub count : n ≡ length (spaced-all (take i l))
-  pub short : n ≤ 22 * i
+  pub short : n ≤ number-bytes * i
 
 pub counted-none : (l : List ℤ) → Counted l 0 0
 counted-none l = record { within = omega arith; count = sym (ap length (all-none l)); short = omega arith }
@@ -99,7 +99,7 @@ pub counted-more :
     Counted l i n →
     i < length l →
     m ≡ length (spaced (getD l i (pos 0))) →
-    m ≤ 22 →
+    m ≤ number-bytes →
     Counted l (i + 1) (n + m)
 counted-more l i n m w h e s = record {
   within = omega arith;
@@ -107,5 +107,5 @@ counted-more l i n m w h e s = record {
   short = omega (arith, w .short);
 }
 
-pub counted-all : {l : List ℤ} {i n : ℕ} → Counted l i n → length l ≤ i → length l ≤ 8 → (n ≡ length (spaced-all l)) × (n ≤ 176)
-counted-all {l} {i} {n} w h k = (w .count ∙ ap (λ (x : List ℤ). length (spaced-all x)) (take-all i l h), omega (arith, w .within, w .short))
+pub counted-all : {l : List ℤ} {i n : ℕ} → Counted l i n → length l ≤ i → (n ≡ length (spaced-all l)) × (n ≤ number-bytes * length l)
+counted-all {l} {i} {n} w h = (w .count ∙ ap (λ (x : List ℤ). length (spaced-all x)) (take-all i l h), omega (arith, w .within, w .short))

@@ -5,7 +5,7 @@ ghost use Prim.Native.Nat.{_+_, _≤_};
 ghost use lib.IntN.{pos};
 ghost use lib.ListN.{length};
 ghost use Rattle.theory.specs.Listing.{digits, spaced};
-ghost use Rattle.decimal.specs.Put.{PutAt};
+ghost use Rattle.decimal.specs.Put.{PutAt, number-bytes};
 use whole::limits::mag;
 
 pub mod lines; // lines.rt: some numbers, and lines of them
@@ -83,7 +83,7 @@ fn put_signed(out: &mut [u8], at: usize, z: i64) -> usize
 }
 
 pub fn signed_len(z: i64) -> usize
-    ensures { λ r. ⌜ (r ≡ length (spaced z)) × (r ≤ 22) ⌝ }
+    ensures { λ r. ⌜ (r ≡ length (spaced z)) × (r ≤ number-bytes) ⌝ }
 {
     let n = number_len(mag(z));
     if z < 0 { n + 1 } else { n }

@@ -1,11 +1,11 @@
 // Some numbers, each behind a space, and lines of them: node words are signed, all other numbers are not.
 ghost use mathlib.Core.Path.{_≡_};
 ghost use mathlib.Core.List.{map};
-ghost use Prim.Native.Nat.{_+_, _≤_};
+ghost use Prim.Native.Nat.{_+_, _*_, _^_, _≤_};
 ghost use lib.IntN.{pos};
 ghost use lib.ListN.{length};
 ghost use Rattle.theory.specs.Listing.{spaced-all, line};
-ghost use Rattle.decimal.specs.Put.{PutAt};
+ghost use Rattle.decimal.specs.Put.{PutAt, number-bytes, line-bytes};
 use super::number_len;
 use super::put_bytes;
 use super::put_number;
@@ -39,8 +39,8 @@ fn put_words(out: &mut [u8], at: usize, xs: &[i64]) -> usize
 }
 
 fn numbers_len(xs: &[u64]) -> usize
-    requires { ⌜ length (now xs) ≤ 8 ⌝ }
-    ensures { λ r. ⌜ (r ≡ length (spaced-all (map pos (now (xs .entry))))) × (r ≤ 176) ⌝ }
+    requires { ⌜ length (now xs) ≤ 2 ^ 32 ⌝ }
+    ensures { λ r. ⌜ (r ≡ length (spaced-all (map pos (now (xs .entry))))) × (r ≤ number-bytes * length (now (xs .entry))) ⌝ }
 {
     let mut n = 0;
     let mut i = 0;
@@ -52,8 +52,8 @@ fn numbers_len(xs: &[u64]) -> usize
 }
 
 fn words_len(xs: &[i64]) -> usize
-    requires { ⌜ length (now xs) ≤ 8 ⌝ }
-    ensures { λ r. ⌜ (r ≡ length (spaced-all (now (xs .entry)))) × (r ≤ 176) ⌝ }
+    requires { ⌜ length (now xs) ≤ 2 ^ 32 ⌝ }
+    ensures { λ r. ⌜ (r ≡ length (spaced-all (now (xs .entry)))) × (r ≤ number-bytes * length (now (xs .entry))) ⌝ }
 {
     let mut n = 0;
     let mut i = 0;
@@ -83,15 +83,15 @@ pub fn put_words_line(out: &mut [u8], at: usize, start: &[u8], xs: &[i64]) -> us
 }
 
 pub fn line_len(start: &[u8], xs: &[u64]) -> usize
-    requires { ⌜ (length (now start) ≤ 8) × (length (now xs) ≤ 8) ⌝ }
-    ensures { λ r. ⌜ (r ≡ length (line (now (start .entry)) (map pos (now (xs .entry))))) × (r ≤ 185) ⌝ }
+    requires { ⌜ (length (now start) ≤ 2 ^ 32) × (length (now xs) ≤ 2 ^ 32) ⌝ }
+    ensures { λ r. ⌜ (r ≡ length (line (now (start .entry)) (map pos (now (xs .entry))))) × (r ≤ line-bytes (length (now (start .entry))) (length (now (xs .entry)))) ⌝ }
 {
     start.len() + numbers_len(xs) + 1
 }
 
 pub fn words_line_len(start: &[u8], xs: &[i64]) -> usize
-    requires { ⌜ (length (now start) ≤ 8) × (length (now xs) ≤ 8) ⌝ }
-    ensures { λ r. ⌜ (r ≡ length (line (now (start .entry)) (now (xs .entry)))) × (r ≤ 185) ⌝ }
+    requires { ⌜ (length (now start) ≤ 2 ^ 32) × (length (now xs) ≤ 2 ^ 32) ⌝ }
+    ensures { λ r. ⌜ (r ≡ length (line (now (start .entry)) (now (xs .entry)))) × (r ≤ line-bytes (length (now (start .entry))) (length (now (xs .entry)))) ⌝ }
 {
     start.len() + words_len(xs) + 1
 }

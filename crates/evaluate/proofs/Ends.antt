@@ -11,7 +11,7 @@ use Rattle.whole.specs.Int.{ring}
 use Rattle.theory.specs.Widths.{levels-most}
 use Rattle.theory.specs.Diagram.{zeros}
 use Rattle.theory.specs.Rules.{no-coeffs}
-use Rattle.theory.specs.Meaning.{State, Env, env, dot, worth-at, end-at}
+use Rattle.theory.specs.Meaning.{State, Env, env, worth-at, end-at}
 use Rattle.theory.specs.Command.{Slot, read-at}
 use Rattle.theory.specs.Verdict.{same-slot, verdict}
 use Rattle.theory.specs.Load.{Entry, find-slot, found, site-at}

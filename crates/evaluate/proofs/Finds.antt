@@ -4,15 +4,15 @@ use mathlib.Core.Bool.{Bool, true, false}
 use mathlib.Core.List.{List, [], _∷_}
 use Prim.Native.Nat.{ℕ, zero, suc, _+_, _-_, _≤_, _<_}
 use native.Mathlib.Omega.{arith}
-use borrow.Author.Tests.{eqb-true, lt-ltb, le-ltb}
-use lib.Dec.{T, eqb, ltb}
+use borrow.Author.Tests.{eqb-true, le-ltb}
+use lib.Dec.{eqb, ltb}
 use lib.ListN.{length, getD, replicate, length-replicate}
 use types.Run.{OneOf, miss}
 use denote.Enum.Declared.{tagOf}
 use Rattle.whole.specs.Cases.{if, by-eq, by-test, from-true}
 use Rattle.theory.specs.Widths.{stack-most}
-use Rattle.theory.specs.Command.{Command, site, push-leaf, push-condition, push-test, give, name-action, end-model, Read, whole, Placed, byte-at, width, command-at, read-at, goes-on, Slot, readings-from, readings}
-use Rattle.theory.specs.Verdict.{same-slot, verdict, judged, at-start, rule, first-broken, first-rules, rules-of}
+use Rattle.theory.specs.Command.{Command, site, push-leaf, push-condition, push-test, give, name-action, end-model, whole, Placed, byte-at, width, command-at, read-at, goes-on, Slot, readings, readings-in, readings-from-in}
+use Rattle.theory.specs.Verdict.{same-slot, verdict, judged, at-start, rule, first-broken, first-rules, judged-in, rules-in, verdict-in}
 use Rattle.theory.specs.laws.Loading.{by-reading, behind}
 use Rattle.command.proofs.Command.{the-type as command-type}
 use Rattle.command.proofs.Read.{the-type as read-type}
@@ -20,7 +20,7 @@ use Rattle.command.specs.declared.Command.{Command as CodeCommand}
 use Rattle.command.specs.declared.Command.the-variants.{Site, Leaf, Condition, Test, Give, Name, End}
 use Rattle.command.specs.Held.{pushed}
 use Rattle.command.specs.declared.Read.{Read as CodeRead}
-use Rattle.command.specs.Reading.{command-of, read-of, next-at}
+use Rattle.command.specs.Reading.{command-of, read-of, next-at, command-of-in}
 use Rattle.model.specs.Answers.{is-end}
 use Rattle.model.proofs.Walk.{forward}
 use Rattle.evaluate.specs.declared.Point.{Point}
@@ -40,7 +40,7 @@ pub record First (B : List ℕ) : Type 0 where
   pub reads : whole (site m n a w) ≡ read-at B 0
 
 first-is : (B : List ℕ) (c : Command) (ys : List Placed) → read-at B 0 ≡ whole c → judged (length B) at-start (placed 0 (whole c) ∷ ys) .number ≡ 0 → First B
-unfolding judged rules-of first-rules
+unfolding judged-in rules-in first-rules
 first-is B (site m n a w) ys o j = record { m = m; n = n; a = a; w = w; reads = sym o }
 first-is B (push-leaf p) ys o j = broken 0 _ (judged-whole (first-broken (rule 1 true ∷ [])) 0 _ j .0)
 first-is B (push-condition k) ys o j = broken 0 _ (judged-whole (first-broken (rule 1 true ∷ [])) 0 _ j .0)
@@ -50,7 +50,7 @@ first-is B (name-action a b) ys o j = broken 0 _ (judged-whole (first-broken (ru
 first-is B end-model ys o j = broken 0 _ (judged-whole (first-broken (rule 1 true ∷ [])) 0 _ j .0)
 
 pub first : (B : List ℕ) → verdict B .number ≡ 0 → First B
-unfolding verdict readings readings-from judged
+unfolding verdict-in readings-in readings-from-in judged-in
 first B = by-reading B 0 (λ r. read-at B 0 ≡ r → judged (length B) at-start (placed 0 r ∷ behind B (length B) 0 (goes-on r)) .number ≡ 0 → First B)
     (λ _ j. absurd (let z : _≡_ {A = ℕ} 2 0 = j in omega arith)) (λ _ _ j. absurd (let z : _≡_ {A = ℕ} 3 0 = j in omega arith)) (λ w h o j. first-is B (command-at B 0) (behind B (length B) 0 (goes-on (whole (command-at B 0)))) o j) refl
 
@@ -90,7 +90,7 @@ by-given (name-action a b′) b t P none gives = none (λ g. refl) refl
 by-given end-model b t P none gives = none (λ g. refl) refl
 
 pub noted-other : (B : List ℕ) (i : ℕ) (c : CodeCommand) (b : ℕ) (t : List ℕ) → OneOf (0 ∷ 1 ∷ 2 ∷ 3 ∷ 5 ∷ 6 ∷ []) (tagOf command-type c) → t ≡ noted (command-of B i c) b t
-unfolding noted command-of
+unfolding noted command-of-in
 noted-other B i (Site m n a w) b t k = refl
 noted-other B i Leaf b t k = refl
 noted-other B i (Condition j) b t k = refl
@@ -138,6 +138,9 @@ finds-starts B t i v e n =
 
 -- where the commands end, what has no word is not given
 module _ {B : List ℕ} {i b n : ℕ} {t : List ℕ} (f : Finds B i b n t) where
+  pub finds-long : (u : List ℕ) → u ≡ replicate slots-most 0 → length t ≡ length u
+  finds-long u e = f .long ∙ sym (ap length e ∙ length-replicate {A = ℕ} slots-most 0)
+
   finds-all : ((x : Point) (g : Slot) (l : List ℕ) → Seek B x g i l → 0 ≡ pass x g (readings B) []) → Parts B t
   finds-all stops = record { begins = f .begins; absent = λ g x u z. let o = f .ahead g u z x in stops x g (o .stack) (o .here) }
 

@@ -9,7 +9,7 @@ use lib.Dec.{eqb, leb, ltb}
 use lib.ListN.{length, getD, set, length-set}
 use lib.Seq.{set-out, getD-set-same, getD-set-other}
 use Rattle.whole.specs.Cases.{if, by-eq}
-use Rattle.theory.specs.Widths.{conditions-most}
+use Rattle.theory.specs.Widths.{levels-most, conditions-most}
 use Rattle.theory.specs.Command.{Slot}
 use Rattle.evaluate.specs.Parts.{end-row, slots-each, slots-most, row, place, put}
 
@@ -25,33 +25,35 @@ record Back (c i r : ℕ) : Type 0 where
 row-back : (c i : ℕ) → row c i < slots-each → Back c i (row c i)
 unfolding row
 row-back c i = by-eq (eqb i 0) (λ b. alone-or b < slots-each → Back c i (alone-or b))
-    (λ z. alone z (eqb c 0x20) (eqb c 0x23) refl refl) (λ z. numbered z (ltb conditions-most i) (eqb c 0x21) (eqb c 0x22) refl refl refl)
+    (λ z. alone z (eqb c 0x20) (eqb c 0x23) refl refl) (λ z. numbered z (eqb c 0x21) (eqb c 0x22) (ltb conditions-most i) (ltb levels-most i) refl refl refl refl)
   where
     alone-row : Bool → Bool → ℕ
     alone-row a b = if a 0 (if b end-row slots-each)
 
-    numbered-row : Bool → Bool → Bool → ℕ
-    numbered-row m d l = if m slots-each (if d i (if l (conditions-most + i) slots-each))
+    numbered-row : Bool → Bool → Bool → Bool → ℕ
+    numbered-row d l m n = if d (if m slots-each i) (if l (if n slots-each (conditions-most + i)) slots-each)
 
     alone-or : Bool → ℕ
-    alone-or b = if b (alone-row (eqb c 0x20) (eqb c 0x23)) (numbered-row (ltb conditions-most i) (eqb c 0x21) (eqb c 0x22))
+    alone-or b = if b (alone-row (eqb c 0x20) (eqb c 0x23)) (numbered-row (eqb c 0x21) (eqb c 0x22) (ltb conditions-most i) (ltb levels-most i))
 
     alone : eqb i 0 ≡ true → (a b : Bool) → eqb c 0x20 ≡ a → eqb c 0x23 ≡ b → alone-row a b < slots-each → Back c i (alone-row a b)
     alone z true b e₁ e₂ h = record { reward = λ _. (eqb-true c 0x20 e₁, eqb-true i 0 z); chance = λ u _. absurd (omega arith); level = λ u _. absurd (omega arith); ending = λ u. absurd (omega arith) }
     alone z false true e₁ e₂ h = record { reward = λ u. absurd (omega arith); chance = λ _ u. absurd (omega arith); level = λ _ u. absurd (omega arith); ending = λ _. (eqb-true c 0x23 e₂, eqb-true i 0 z) }
     alone z false false e₁ e₂ h = absurd (omega arith)
 
-    numbered : eqb i 0 ≡ false → (m d l : Bool) → ltb conditions-most i ≡ m → eqb c 0x21 ≡ d → eqb c 0x22 ≡ l → numbered-row m d l < slots-each → Back c i (numbered-row m d l)
-    numbered z true d l e₁ e₂ e₃ h = absurd (omega arith)
-    numbered z false true l e₁ e₂ e₃ h =
-        let n = eqb-false i 0 z in
-        let m = ltb-false conditions-most i e₁ in
-        record { reward = λ u. absurd (n u); chance = λ _ _. (eqb-true c 0x21 e₂, refl); level = λ u _. absurd (omega arith); ending = λ u. absurd (omega arith) }
-    numbered z false false true e₁ e₂ e₃ h =
-        let n = eqb-false i 0 z in
-        let m = ltb-false conditions-most i e₁ in
-        record { reward = λ u. absurd (omega arith); chance = λ u v. absurd (n (omega arith)); level = λ u _. (eqb-true c 0x22 e₃, omega arith); ending = λ u. absurd (omega arith) }
-    numbered z false false false e₁ e₂ e₃ h = absurd (omega arith)
+    numbered : eqb i 0 ≡ false → (d l m n : Bool) → eqb c 0x21 ≡ d → eqb c 0x22 ≡ l → ltb conditions-most i ≡ m → ltb levels-most i ≡ n
+        → numbered-row d l m n < slots-each → Back c i (numbered-row d l m n)
+    numbered z true l true n e₁ e₂ e₃ e₄ h = absurd (omega arith)
+    numbered z true l false n e₁ e₂ e₃ e₄ h =
+        let o = eqb-false i 0 z in
+        let m = ltb-false conditions-most i e₃ in
+        record { reward = λ u. absurd (o u); chance = λ _ _. (eqb-true c 0x21 e₁, refl); level = λ u _. absurd (omega arith); ending = λ u. absurd (omega arith) }
+    numbered z false true m true e₁ e₂ e₃ e₄ h = absurd (omega arith)
+    numbered z false true m false e₁ e₂ e₃ e₄ h =
+        let o = eqb-false i 0 z in
+        let n = ltb-false levels-most i e₄ in
+        record { reward = λ u. absurd (omega arith); chance = λ u v. absurd (o (omega arith)); level = λ u _. (eqb-true c 0x22 e₂, omega arith); ending = λ u. absurd (omega arith) }
+    numbered z false false m n e₁ e₂ e₃ e₄ h = absurd (omega arith)
 
 one-slot : (c i d j r : ℕ) → r < slots-each → Back c i r → Back d j r → (c ≡ d) × (i ≡ j)
 one-slot c i d j r h a b = go (eqb r 0) (leb r conditions-most) (ltb r end-row) refl refl refl

@@ -11,14 +11,15 @@ use lib.ListN.{length, getD, drop}
 use lib.Signed.{leZ}
 use Rattle.whole.specs.Cases.{if, by-test, by-eq, both, not-not, is-true, from-true, clash}
 use Rattle.theory.specs.Widths.{stack-most, conditions-most}
+use Rattle.theory.specs.Form.{new-form, site-byte, action-bytes}
 use Rattle.theory.specs.Diagram.{Test, Leaf, Tree, leaf, plain, cmpZ, zeros, test-of}
 use Rattle.theory.specs.Computation.{ret, bind, make, result}
 use Rattle.theory.specs.Rules.{choose, no-coeffs, zero-leaf}
 use Rattle.theory.specs.Meaning.{State, Env, env, at}
 use Rattle.theory.specs.Valid.{among, wide}
-use Rattle.theory.specs.Command.{Command, site, push-leaf, push-condition, push-test, name-action, end-model, Read, whole, Placed, byte-at, width, command-at, read-at, goes-on, readings-from, readings, give, Slot}
-use Rattle.theory.specs.Verdict.{Site, site-of, Facts, Progress, name-slot, same-slot, has-slot, or, Rule, rule, first-broken, beyond, next-condition, joined, site-rules, first-rules, later-rules, rules-of, after, Verdict, refusal, ended, judged, at-start, verdict}
-use Rattle.theory.specs.Load.{Entry, Loaded, condition-test, load-choice, load-choice-with, load-entry, load-one, load-one-with, load-on, load-on-with, find-slot, site-at}
+use Rattle.theory.specs.Command.{Command, site, push-leaf, push-condition, push-test, name-action, end-model, Read, whole, Placed, byte-at, width, command-at, read-at, goes-on, readings-from, readings, give, Slot, command-in, readings-from-in, readings-in, action-at}
+use Rattle.theory.specs.Verdict.{Site, site-of, Facts, Progress, name-slot, same-slot, has-slot, or, Rule, rule, first-broken, beyond, next-condition, joined, site-rules, first-rules, later-rules, after, Verdict, refusal, ended, judged, at-start, verdict, judged-in, rules-in, verdict-in}
+use Rattle.theory.specs.Load.{Entry, Loaded, condition-test, load-choice, load-choice-with, load-entry, load-one, load-one-with, load-on, load-on-with, find-slot, site-at, site-in}
 use Rattle.theory.specs.laws.Comps.{result-bind}
 use Rattle.theory.specs.laws.Loading.{by-reading, behind, loaded-entries, accepted, linear-wide}
 use Rattle.command.specs.Held.{pushed}
@@ -29,7 +30,7 @@ use Rattle.evaluate.proofs.Points.{Sides, condition-sides, test-sides}
 -- ---- what a command of the bytes has for operands
 
 unfoldable pub Fit : List ℕ → ℕ → Command → Type 0
-Fit B i (site m n a w) = site-of m n a w ≡ site-of (byte-at B (i + 1)) (byte-at B (i + 2)) (byte-at B (i + 3)) (byte-at B (i + 4))
+Fit B i (site m n a w) = site-of m n a w ≡ site-of (byte-at B (i + 1)) (byte-at B (i + 2)) (action-at new-form B (i + 3)) (byte-at B (i + (3 + action-bytes new-form)))
 Fit B i (push-leaf p) = T (wide p)
 Fit B i (push-condition k) = T true
 Fit B i (push-test p) = T (wide p)
@@ -42,9 +43,9 @@ fit-if B i true c d f g = f
 fit-if B i false c d f g = g
 
 pub fit : (B : List ℕ) (i : ℕ) → Fit B i (command-at B i)
-unfolding command-at Fit
+unfolding command-in Fit
 fit B i =
-    fit-if B i (eqb (byte-at B i) 0x01) _ _ refl (fit-if B i (eqb (byte-at B i) 0x10) _ _ (linear-wide B (i + 1)) (fit-if B i (eqb (byte-at B i) 0x11) _ _ tt
+    fit-if B i (eqb (byte-at B i) (site-byte new-form)) _ _ refl (fit-if B i (eqb (byte-at B i) 0x10) _ _ (linear-wide B (i + 1)) (fit-if B i (eqb (byte-at B i) 0x11) _ _ tt
     (fit-if B i (eqb (byte-at B i) 0x12) _ _ (linear-wide B (i + 1)) (fit-if B i (eqb (byte-at B i) 0x20) _ _ tt (fit-if B i (eqb (byte-at B i) 0x21) _ _ tt
     (fit-if B i (eqb (byte-at B i) 0x22) _ _ tt (fit-if B i (eqb (byte-at B i) 0x23) _ _ tt (fit-if B i (eqb (byte-at B i) 0x30) _ _ tt tt))))))))
 
@@ -145,7 +146,7 @@ module _ (B : List ℕ) (S : Site) (x : Point) (g : Slot) (s : State) (r : List 
         ap (λ (a : Loaded). find-slot g (a .entries)) (result-bind (load-one c (loaded Y F)) (load-on ys)) ∙ (rw z (ih K G (result (load-one c (loaded X E)) .stack) (result (load-one c (loaded X E)) .entries) q j ∙ k))
 
     stays-step : (c : Command) → goes-on (whole c) ≡ true → Stays (placed i (whole c) ∷ ys)
-    unfolding judged load-on-with rules-of later-rules ended after goes-on load-one-with make bind result
+    unfolding judged-in load-on-with rules-in later-rules ended after goes-on load-one-with make bind result
     stays-step (site m n a w) w′ K G X E q j = broken 0 _ (judged-whole (first-broken (rule 1 true ∷ [])) i _ j .0)
     stays-step (push-leaf p) w K G X E q j = ih _ G _ E q (judged-whole (first-broken (later-rules S K G (push-leaf p))) i _ j .1)
     stays-step (push-condition k) w K G X E q j =
@@ -217,7 +218,7 @@ module _ (B : List ℕ) (S : Site) (x : Point) (g : Slot) (s : State) (r : List 
         rw (result-bind (load-choice t X E) (load-on ys)) (ih K′ G (c .stack) (c .entries) (chosen b l) (d .0) (omega arith) (omega arith) f (ap (find-slot g) (choice-entries t X E) ∙ v) j)
 
     reach-step : (c : Command) → read-at B i ≡ whole c → goes-on (whole c) ≡ true → Reach (placed i (whole c) ∷ ys)
-    unfolding Agree judged load-on-with rules-of later-rules ended after goes-on load-one-with make bind result pass takes stepped at has-slot leaf-of
+    unfolding Agree judged-in load-on-with rules-in later-rules ended after goes-on load-one-with make bind result pass takes stepped at has-slot leaf-of
     reach-step (site m n a w) o w′ K G X E l y q z f e₀ j = broken 0 _ (judged-whole (first-broken (rule 1 true ∷ [])) i _ j .0)
     reach-step (push-leaf p) o w K G X E l y q z f e₀ j =
         let d = judged-whole (first-broken (later-rules S K G (push-leaf p))) i _ j in
@@ -278,7 +279,7 @@ module _ (B : List ℕ) (S : Site) (x : Point) (g : Slot) (s : State) (r : List 
 
   -- fuel for each byte that is left is enough
   both-from : (k i : ℕ) → i ≤ length B → length B < i + k → Both (readings-from B k i)
-  unfolding readings-from judged
+  unfolding readings-from-in judged-in
   both-from zero i h n = absurd (omega arith)
   both-from (suc k) i h n = by-reading B i (λ r. read-at B i ≡ r → Both (placed i r ∷ behind B k i (goes-on r)))
       (λ _. (λ K G X E l y q z f v j. cut 1 j, λ K G X E q j. cut 1 j)) (λ _ _. (λ K G X E l y q z f v j. cut 2 j, λ K G X E q j. cut 2 j))
@@ -291,9 +292,9 @@ module _ (B : List ℕ) (x : Point) (g : Slot) (s : State) (r : List Bool) (st :
   Begins ys = judged (length B) at-start ys .number ≡ 0 → Leaf-at B (site-at B .levels) (pass x g ys []) (at (env s r) (find-slot g (result (load-on ys (loaded [] [])) .entries)) .lin)
 
   first-command : 0 + width (byte-at B 0) ≤ length B → 1 ≤ width (byte-at B 0) → (c : Command) → read-at B 0 ≡ whole c → Fit B 0 c → Begins (placed 0 (whole c) ∷ behind B (length B) 0 (goes-on (whole c)))
-  unfolding judged load-on-with goes-on rules-of first-rules ended load-one-with bind result after Fit Agree pass takes stepped has-slot find-slot leaf-of site-at
+  unfolding judged-in load-on-with goes-on rules-in first-rules ended load-one-with bind result after Fit Agree pass takes stepped has-slot find-slot leaf-of site-in
   first-command h n (site m k a w) o f j =
-      let d = judged-whole (first-broken (site-rules (site-of m k a w))) 0 _ j in
+      let d = judged-whole (first-broken (site-rules new-form (site-of m k a w))) 0 _ j in
       both-from B (site-at B) x g s r st few given (ap leaf-of o) (length B) (0 + width (byte-at B 0)) h (omega arith) .0 [] [] [] [] [] tt refl (omega arith) refl refl
       (subst (λ (S : Site). judged (length B) (state S [] []) (behind B (length B) 0 true) .number ≡ 0) f (d .1))
   first-command h n (push-leaf p) o f j = broken 0 _ (judged-whole (first-broken (rule 1 true ∷ [])) 0 _ j .0)
@@ -304,7 +305,7 @@ module _ (B : List ℕ) (x : Point) (g : Slot) (s : State) (r : List Bool) (st :
   first-command h n end-model o f j = broken 0 _ (judged-whole (first-broken (rule 1 true ∷ [])) 0 _ j .0)
 
   reached : verdict B .number ≡ 0 → Leaf-at B (site-at B .levels) (pass x g (readings B) []) (at (env s r) (find-slot g (loaded-entries B)) .lin)
-  unfolding verdict readings readings-from judged
+  unfolding verdict-in readings-in readings-from-in judged-in
   reached = by-reading B 0 (λ r. read-at B 0 ≡ r → Begins (placed 0 r ∷ behind B (length B) 0 (goes-on r)))
       (λ _ j. absurd (let z : _≡_ {A = ℕ} 2 0 = j in omega arith)) (λ _ _ j. absurd (let z : _≡_ {A = ℕ} 3 0 = j in omega arith)) (λ w h o. first-command h w (command-at B 0) o (fit B 0)) refl
 

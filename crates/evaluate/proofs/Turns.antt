@@ -1,10 +1,11 @@
 -- One turn of the pass, with fuel enough for the rest; and what the code's numbers are.
-use mathlib.Core.Path.{_≡_, refl, sym, ap, _∙_, subst}
+use mathlib.Core.Path.{_≡_, refl, sym, ap, ap₂, _∙_, subst}
 use mathlib.Core.Bool.{Bool, true, false}
 use mathlib.Core.List.{List, [], _∷_}
 use Prim.Native.Nat.{ℕ, zero, suc, _+_, _-_, _≤_, _<_}
 use native.Mathlib.Omega.{arith}
-use lib.Dec.{T}
+use borrow.Author.Tests.{eqb-true, ltb-false, lt-leb, le-ltb}
+use lib.Dec.{T, eqb, leb, ltb}
 use lib.IntN.{ℤ, pos, _+ℤ_, _*ℤ_}
 use lib.ListN.{length, getD, take, replicate}
 use types.Run.{OneOf, miss}
@@ -15,10 +16,11 @@ use Rattle.whole.specs.Linears.{numbers, Smalls, dotL}
 use Rattle.whole.specs.LinearsLaws.{dot-last}
 use Rattle.whole.specs.Within.{Small}
 use Rattle.theory.specs.Widths.{levels-most}
+use Rattle.theory.specs.Form.{new-form, site-byte}
 use Rattle.theory.specs.Diagram.{Linear, Tree}
 use Rattle.theory.specs.Meaning.{State, env, nth, dot, at, worth-at, chance-at}
 use Rattle.theory.specs.Value.{bits}
-use Rattle.theory.specs.Command.{Command, end-model, Read, whole, unknown, short, byte-at, width, read-at, goes-on, readings-from, readings, Slot, linear-at}
+use Rattle.theory.specs.Command.{Command, end-model, Read, whole, unknown, short, byte-at, width, read-at, goes-on, readings-from, readings, Slot, linear-at, readings-in, command-at, command-in, read-in, width-in}
 use Rattle.theory.specs.Load.{find-slot, site-at}
 use Rattle.theory.specs.laws.Loading.{loaded-entries}
 use Rattle.command.proofs.Command.{the-type as command-type}
@@ -27,12 +29,13 @@ use Rattle.command.specs.declared.Command.{Command as CodeCommand}
 use Rattle.command.specs.declared.Command.the-variants.{Site, Leaf, Condition, Test, Give, Name, End}
 use Rattle.command.specs.declared.Read.{Read as CodeRead}
 use Rattle.command.specs.declared.Read.the-variants.{Whole, Unknown, Short}
-use Rattle.command.specs.Reading.{with-linear, linear-of, command-of, read-of, next-at}
-use Rattle.command.proofs.Forward.{has-linear, linear-room}
+use Rattle.command.specs.Reading.{with-linear, linear-of, command-of, read-of, next-at, command-of-in, read-of-in}
+use Rattle.command.proofs.Forward.{Bytes, has-linear, linear-room, next-whole}
+use Rattle.command.specs.Held.{pushed}
 use Rattle.model.specs.Answers.{is-end}
 use Rattle.model.proofs.Walk.{opened, from-first, at-end, going, forward}
 use Rattle.evaluate.specs.declared.Point.{Point}
-use Rattle.evaluate.specs.Pass.{no-linear, leaf-of, numerator, stepped, takes, pass, Stands, Comes}
+use Rattle.evaluate.specs.Pass.{no-linear, leaf-of, has-leaf, numerator, stepped, takes, pass, Stands, Comes}
 use Rattle.evaluate.specs.Parts.{Seek}
 use Rattle.evaluate.proofs.Points.{value-is}
 
@@ -63,7 +66,7 @@ bit-past m (suc (suc (suc (suc (suc k))))) a b c d = refl
 -- ---- a command that gives nothing
 
 pub takes-other : (g : Slot) (B : List ℕ) (i : ℕ) (c : CodeCommand) → OneOf (0 ∷ 1 ∷ 2 ∷ 3 ∷ 5 ∷ 6 ∷ []) (tagOf command-type c) → false ≡ takes g (command-of B i c)
-unfolding takes command-of
+unfolding takes command-of-in
 takes-other g B i (Site m n a w) k = refl
 takes-other g B i Leaf k = refl
 takes-other g B i (Condition j) k = refl
@@ -75,17 +78,78 @@ takes-other g B i End k = refl
 -- ---- a command of the bytes
 
 pub leaf-there : (B : List ℕ) (i : ℕ) {c : CodeCommand} → c ≡ Leaf → whole (command-of B i c) ≡ read-at B i → i + with-linear ≤ length B
-unfolding command-of has-linear
-leaf-there B i {c} e w = linear-room B i _ (subst (λ (d : CodeCommand). T (has-linear (command-of B i d))) (sym e) tt) w
+unfolding command-of-in has-linear
+leaf-there B i {c} e w = linear-room new-form B i _ (subst (λ (d : CodeCommand). T (has-linear (command-of B i d))) (sym e) tt) w
 
 pub test-there : (B : List ℕ) (i : ℕ) {c : CodeCommand} → c ≡ Test → whole (command-of B i c) ≡ read-at B i → i + with-linear ≤ length B
-unfolding command-of has-linear
-test-there B i {c} e w = linear-room B i _ (subst (λ (d : CodeCommand). T (has-linear (command-of B i d))) (sym e) tt) w
+unfolding command-of-in has-linear
+test-there B i {c} e w = linear-room new-form B i _ (subst (λ (d : CodeCommand). T (has-linear (command-of B i d))) (sym e) tt) w
+
+-- ---- a leaf told by its byte
+
+module _ (B : List ℕ) (i : ℕ) where
+  pub leaf-room : has-leaf B i ≡ true → (i + with-linear ≤ length B) × (byte-at B i ≡ 0x10)
+  unfolding has-leaf
+  leaf-room t = go (ltb (length B) (i + with-linear)) refl t
+    where
+      go : (b : Bool) → ltb (length B) (i + with-linear) ≡ b → if b false (eqb (byte-at B i) 0x10) ≡ true → (i + with-linear ≤ length B) × (byte-at B i ≡ 0x10)
+      go true e f = absurd (let z : _≡_ {A = ℕ} 0 1 = cc in omega arith)
+      go false e f = (ltb-false _ _ e, eqb-true _ _ f)
+
+  leaf-bytes : has-leaf B i ≡ true → Bytes new-form B i × (width (byte-at B i) ≡ with-linear)
+  unfolding width-in
+  leaf-bytes t =
+      let r = leaf-room t in
+      let w : width (byte-at B i) ≡ with-linear = ap width (r .1) in
+      (record { starts = omega (arith, r .0); known = λ e. omega (arith, w); ends = omega (arith, r .0, w) }, w)
+
+  pub leaf-whole : has-leaf B i ≡ true → whole (command-of B i Leaf) ≡ read-at B i
+  unfolding command-of-in read-in command-in width-in
+  leaf-whole t =
+      let r = leaf-room t in
+      let b = leaf-bytes t .0 in
+      sym (simp (lt-leb _ _ (b .starts), r .1, le-ltb _ _ (r .0)))
+
+  skip : (b : Bool) (c d : Command) → no-linear ≡ leaf-of (whole c) → no-linear ≡ leaf-of (whole d) → no-linear ≡ leaf-of (whole (if b c d))
+  skip true c d e f = e
+  skip false c d e f = f
+
+  other-command : eqb (byte-at B i) 0x10 ≡ false → no-linear ≡ leaf-of (whole (command-at B i))
+  unfolding command-in leaf-of
+  other-command n =
+      skip (eqb (byte-at B i) (site-byte new-form)) _ _ refl
+      (rw n
+      (skip (eqb (byte-at B i) 0x11) _ _ refl
+      (skip (eqb (byte-at B i) 0x12) _ _ refl
+      (skip (eqb (byte-at B i) 0x20) _ _ refl
+      (skip (eqb (byte-at B i) 0x21) _ _ refl
+      (skip (eqb (byte-at B i) 0x22) _ _ refl
+      (skip (eqb (byte-at B i) 0x23) _ _ refl
+      (skip (eqb (byte-at B i) 0x30) _ _ refl refl))))))))
+
+  other-byte : has-leaf B i ≡ false → ltb (length B) (i + width (byte-at B i)) ≡ false → (b : Bool) → eqb (byte-at B i) 0x10 ≡ b → no-linear ≡ leaf-of (whole (command-at B i))
+  unfolding has-leaf width-in
+  other-byte t f true e =
+      let w : width (byte-at B i) ≡ with-linear = ap width {x = byte-at B i} {y = 16} (eqb-true (byte-at B i) 16 e) in
+      let g : ltb (length B) (i + with-linear) ≡ false = sym (ap (λ (k : ℕ). ltb (length B) (i + k)) w) ∙ f in
+      let h : true ≡ false = sym (ap₂ (λ (a c : Bool). if a false c) g e) ∙ t in
+      absurd (let z : _≡_ {A = ℕ} 0 1 = cc in omega arith)
+  other-byte t f false e = other-command e
+
+  pub no-leaf : has-leaf B i ≡ false → no-linear ≡ leaf-of (read-at B i)
+  unfolding leaf-of read-in
+  no-leaf t = go (leb (length B) i) (eqb (width (byte-at B i)) 0) (ltb (length B) (i + width (byte-at B i))) refl
+    where
+      go : (b₁ b₂ b₃ : Bool) → ltb (length B) (i + width (byte-at B i)) ≡ b₃ → no-linear ≡ leaf-of (if b₁ short (if b₂ unknown (if b₃ short (whole (command-at B i)))))
+      go true b₂ b₃ e = refl
+      go false true b₃ e = refl
+      go false false true e = refl
+      go false false false e = other-byte t e (eqb (byte-at B i) 0x10) refl
 
 -- ---- one turn
 
 pub seek-starts : (B : List ℕ) (x : Point) (g : Slot) (l : List ℕ) → l ≡ [] → Seek B x g 0 l
-unfolding readings
+unfolding readings-in
 seek-starts B x g l e = record { fuel = suc (length B); enough = omega arith; comes = ap (pass x g (readings B)) e }
 
 module _ {B : List ℕ} {x : Point} {g : Slot} {i : ℕ} {l : List ℕ} (w : Seek B x g i l) where
@@ -94,7 +158,7 @@ module _ {B : List ℕ} {x : Point} {g : Slot} {i : ℕ} {l : List ℕ} (w : See
 
   -- no whole command
   pub seek-stops : (r : CodeRead) → OneOf (1 ∷ 2 ∷ []) (tagOf read-type r) → read-of B i r ≡ read-at B i → 0 ≡ pass x g (readings B) []
-  unfolding read-of pass goes-on
+  unfolding read-of-in pass goes-on
   seek-stops (Whole c) k e = absurd (miss (1 ∷ 2 ∷ []) 0 tt k)
   seek-stops Unknown k e = first unknown e .2
   seek-stops Short k e = first short e .2
@@ -122,6 +186,13 @@ module _ {B : List ℕ} {x : Point} {g : Slot} {i : ℕ} {l : List ℕ} (w : See
       → l′ ≡ stepped x i (command-of B i c) l → Seek B x g next l′
   seek-on c next l′ e f q n s = subst (Seek B x g next) (sym s) (seek-next (command-of B i c) next e f (going B i c q .0) n)
 
+  -- a leaf is pushed
+  pub seek-leaf : (l′ : List ℕ) → has-leaf B i ≡ true → l′ ≡ pushed i l → Seek B x g (i + with-linear) l′
+  unfolding command-of-in takes is-end stepped
+  seek-leaf l′ t s =
+      let b = leaf-bytes B i t in
+      seek-on Leaf (i + with-linear) l′ (leaf-whole B i t) refl refl (sym (next-whole new-form B i (b .0) ∙ ap (λ (k : ℕ). i + k) (b .1))) s
+
 -- ---- the leaf's linear
 
 zeros-at : (n k : ℕ) → getD (replicate n (pos 0)) k (pos 0) ≡ pos 0
@@ -133,26 +204,9 @@ zeros-at (suc n) (suc k) = zeros-at n k
 pub none-small : Smalls (replicate numbers (pos 0))
 none-small = record { long = refl; each = λ k. subst Small (sym (zeros-at numbers k)) (record { small = omega arith }) }
 
--- what is read at an offset: a leaf, another command, none
-pub leaf-reads : (B : List ℕ) (i : ℕ) (c : CodeCommand) (q : List ℤ) → whole (command-of B i c) ≡ read-at B i → c ≡ Leaf → linear-of q ≡ linear-at B (i + 1) → linear-of q ≡ leaf-of (read-at B i)
-unfolding command-of leaf-of
-leaf-reads B i c q e f r = r ∙ ap leaf-of (ap (λ (d : CodeCommand). whole (command-of B i d)) (sym f) ∙ e)
-
-pub no-leaf : (B : List ℕ) (i : ℕ) (c : CodeCommand) → whole (command-of B i c) ≡ read-at B i → OneOf (0 ∷ 2 ∷ 3 ∷ 4 ∷ 5 ∷ 6 ∷ []) (tagOf command-type c) → no-linear ≡ leaf-of (read-at B i)
-unfolding command-of leaf-of
-no-leaf B i (Site m n a w) e k = ap leaf-of e
-no-leaf B i Leaf e k = absurd (miss (0 ∷ 2 ∷ 3 ∷ 4 ∷ 5 ∷ 6 ∷ []) 1 tt k)
-no-leaf B i (Condition j) e k = ap leaf-of e
-no-leaf B i Test e k = ap leaf-of e
-no-leaf B i (Give x a j) e k = ap leaf-of e
-no-leaf B i (Name a) e k = ap leaf-of e
-no-leaf B i End e k = ap leaf-of e
-
-pub no-command : (B : List ℕ) (i : ℕ) (r : CodeRead) → OneOf (1 ∷ 2 ∷ []) (tagOf read-type r) → read-of B i r ≡ read-at B i → no-linear ≡ leaf-of (read-at B i)
-unfolding read-of leaf-of
-no-command B i (Whole c) k e = absurd (miss (1 ∷ 2 ∷ []) 0 tt k)
-no-command B i Unknown k e = ap leaf-of e
-no-command B i Short k e = ap leaf-of e
+pub leaf-reads : (B : List ℕ) (i : ℕ) (q : List ℤ) → has-leaf B i ≡ true → linear-of q ≡ linear-at B (i + 1) → linear-of q ≡ leaf-of (read-at B i)
+unfolding command-of-in leaf-of
+leaf-reads B i q t r = r ∙ ap leaf-of (leaf-whole B i t)
 
 -- ---- what the leaf comes to
 

@@ -1,8 +1,8 @@
 -- The stack of a pass, and where each slot's diagram begins.
 use mathlib.Core.Path.{_≡_}
 use mathlib.Core.List.{List, []}
-use Prim.Native.Nat.{ℕ, suc, _+_, _-_, _*_, _≤_, _<_}
-use lib.Dec.{eqb, leb, ltb}
+use Prim.Native.Nat.{ℕ, _+_, _-_, _*_, _≤_, _<_}
+use lib.Dec.{eqb, ltb}
 use lib.ListN.{length, getD, set}
 use Rattle.whole.specs.Cases.{if}
 use Rattle.theory.specs.Widths.{levels-most, conditions-most, actions-most, stack-most}
@@ -33,7 +33,7 @@ pub record Seek (B : List ℕ) (x : Point) (g : Slot) (i : ℕ) (l : List ℕ) :
 
 -- ---- a place for each slot
 
--- the end worth's place among an action's slots, behind a reward, and a chance and a next level for each number
+-- the end worth's place among an action's slots, behind a reward, the chances and the next levels
 abbrev pub end-row : ℕ
 end-row = 1 + conditions-most + levels-most
 
@@ -48,9 +48,8 @@ slots-most = (1 + actions-most) * slots-each
 unfoldable pub row : ℕ → ℕ → ℕ
 row c i =
     if (eqb i 0) (if (eqb c 0x20) 0 (if (eqb c 0x23) end-row slots-each))
-    (if (ltb conditions-most i) slots-each
-    (if (eqb c 0x21) i
-    (if (eqb c 0x22) (conditions-most + i) slots-each)))
+    (if (eqb c 0x21) (if (ltb conditions-most i) slots-each i)
+    (if (eqb c 0x22) (if (ltb levels-most i) slots-each (conditions-most + i)) slots-each))
 
 unfoldable pub place : Slot → ℕ
 place g = if (ltb (row (g .command) (g .index)) slots-each) ((g .action) * slots-each + row (g .command) (g .index)) slots-most

@@ -1,22 +1,23 @@
 -- The pass over a model's commands to the leaf that a slot's diagram comes to, and what that leaf is.
 use mathlib.Core.Path.{_≡_}
-use mathlib.Core.Bool.{Bool, true, false, not}
+use mathlib.Core.Bool.{Bool, false, not}
 use mathlib.Core.List.{List, [], _∷_}
-use Prim.Native.Nat.{ℕ, _-_, _≤_}
-use lib.Dec.{T, eqb, leb}
+use Prim.Native.Nat.{ℕ, _+_, _-_, _≤_}
+use lib.Dec.{T, eqb, leb, ltb}
 use lib.IntN.{ℤ, pos, _+ℤ_, _*ℤ_}
-use lib.ListN.{getD, take, drop}
+use lib.ListN.{length, getD, take, drop}
 use lib.Signed.{leZ}
 use Rattle.whole.specs.Cases.{if}
 use Rattle.theory.specs.Widths.{levels-most, conditions-most}
 use Rattle.theory.specs.Diagram.{Linear}
 use Rattle.theory.specs.Rules.{no-coeffs}
 use Rattle.theory.specs.Meaning.{State, env, nth, dot, at}
-use Rattle.theory.specs.Command.{Command, site, push-leaf, push-condition, push-test, give, name-action, end-model, Read, whole, unknown, short, Placed, read-at, Slot}
+use Rattle.theory.specs.Command.{Command, site, push-leaf, push-condition, push-test, give, name-action, end-model, Read, whole, unknown, short, Placed, byte-at, read-at, Slot}
 use Rattle.theory.specs.Verdict.{same-slot, beyond}
 use Rattle.theory.specs.Load.{find-slot, site-at}
 use Rattle.theory.specs.Value.{bits}
 use Rattle.theory.specs.laws.Loading.{loaded-entries}
+use Rattle.command.specs.Reading.{with-linear}
 use Rattle.command.specs.Held.{pushed}
 use Rattle.evaluate.specs.declared.Point.{Point}
 use Rattle.evaluate.specs.declared.Slot.{Slot as CodeSlot}
@@ -104,6 +105,10 @@ leaf-of (whole (name-action a b)) = no-linear
 leaf-of (whole end-model) = no-linear
 leaf-of unknown = no-linear
 leaf-of short = no-linear
+
+-- a whole leaf stands at an offset
+unfoldable pub has-leaf : List ℕ → ℕ → Bool
+has-leaf B i = if (ltb (length B) (i + with-linear)) false (eqb (byte-at B i) 0x10)
 
 -- the leaf at an offset has that linear, whose coefficients beyond level m are zero
 pub record Leaf-at (B : List ℕ) (m i : ℕ) (p : Linear) : Type 0 where

@@ -11,7 +11,7 @@ ghost use lib.Signed.{leZ};
 ghost use Rattle.whole.specs.Int.{up};
 ghost use Rattle.whole.specs.Linears.{Smalls};
 ghost use Rattle.whole.specs.Numerator.{words};
-ghost use Rattle.theory.specs.Command.{whole, read-at};
+ghost use Rattle.theory.specs.Command.{whole, byte-at, width, read-at};
 ghost use Rattle.theory.specs.Meaning.{State, env, nth};
 ghost use Rattle.theory.specs.Meaning.{worth-at as worth-of};
 ghost use Rattle.theory.specs.Meaning.{end-at as end-of};
@@ -22,12 +22,13 @@ ghost use Rattle.theory.specs.Verdict.{verdict, end-slot, same-slot};
 ghost use Rattle.theory.specs.laws.Loading.{loaded-entries};
 ghost use Rattle.command.specs.Reading.{linear-of, command-of};
 ghost use Rattle.command.specs.Held.{last-first};
-ghost use Rattle.evaluate.specs.Pass.{slot-of, no-name, condition-holds, stepped, leaf-of, Stands, Comes};
+ghost use Rattle.evaluate.specs.Pass.{slot-of, no-name, condition-holds, stepped, leaf-of, has-leaf, Stands, Comes};
 ghost use Rattle.evaluate.specs.Pass.{takes as takes-slot};
 ghost use Rattle.evaluate.specs.Pass.{numerator as numerator-at};
 ghost use Rattle.evaluate.specs.Parts.{Room, Holds, Seek, Parts};
 use command::Command;
 use command::Read;
+use command::forms::Form;
 use whole::COEFFICIENTS;
 use whole::NUMBERS;
 use whole::Numerator;
@@ -38,10 +39,13 @@ use whole::two_words;
 mod offsets; // offsets.rt: the stack of a pass
 pub mod parts; // parts.rt: where each slot's diagram begins
 
+// Bytes of a leaf or a test, with its command's byte.
+const WITH_LINEAR: usize = 1 + NUMBERS * 4;
+
 // What a diagram is given as: the command's byte, the action, the condition or level (0 where there is none).
 pub struct Slot {
     pub command: u8,
-    pub action: u8,
+    pub action: u16,
     pub index: u8,
 }
 
@@ -108,7 +112,7 @@ fn after(model: &[u8], at: usize, c: Command, items: &mut [u32], len: usize, x: 
     }
 }
 
-fn same(g: Slot, command: u8, action: u8, index: u8) -> bool
+fn same(g: Slot, command: u8, action: u16, index: u8) -> bool
     ensures { λ r. ⌜ r ≡ same-slot (slot-of g) (record { command = command; action = action; index = index }) ⌝ }
 {
     let a = g.action;
@@ -133,6 +137,26 @@ fn takes(c: Command, g: Slot) -> bool
     }
 }
 
+// The bytes of a command that was read.
+fn size(c: Command) -> usize
+    ensures { λ r. ⌜ ((B : List ℕ) (i : ℕ) → whole (command-of B i c) ≡ read-at B i → r ≡ width (byte-at B i)) ⌝ }
+{
+    command::size_in(Form::New, c)
+}
+
+// Whether a whole leaf stands at an offset: most commands are leaves.
+fn is_leaf(model: &[u8], at: usize) -> bool
+    ensures { λ r. ⌜ r ≡ has-leaf (now (model .entry)) at ⌝ }
+{
+    if model.len() <= at {
+        return false;
+    }
+    if model.len() - at < WITH_LINEAR {
+        return false;
+    }
+    model[at] == 0x10
+}
+
 // From an offset on, with nothing on the stack there, to the command that gives the slot.
 fn pass_from(model: &[u8], begin: usize, g: Slot, x: Point, items: &mut [u32]) -> usize
     requires { ⌜ (verdict (now model) .number ≡ 0) × (length (now model) < 4294967296) × T (no-name (slot-of g)) × Room (now items) 0 × Seek (now model) x (slot-of g) begin [] ⌝ }
@@ -141,6 +165,11 @@ fn pass_from(model: &[u8], begin: usize, g: Slot, x: Point, items: &mut [u32]) -
     let mut at = begin;
     let mut len: usize = 0;
     loop {
+        if is_leaf(model, at) {
+            len = offsets::push(items, len, at as u32);
+            at += WITH_LINEAR;
+            continue;
+        }
         let read = command::command_at(model, at);
         let Read::Whole(c) = read else {
             return 0;
@@ -152,7 +181,7 @@ fn pass_from(model: &[u8], begin: usize, g: Slot, x: Point, items: &mut [u32]) -
             return 0;
         }
         len = after(model, at, c, items, len, x);
-        at = command::next_after(model, at);
+        at += size(c);
     }
 }
 
@@ -170,16 +199,10 @@ fn leaf_at(model: &[u8], parts: &[u32], g: Slot, x: Point) -> usize
 fn leaf(model: &[u8], at: usize) -> [i64; NUMBERS]
     ensures { λ r. ⌜ Smalls r × (linear-of r ≡ leaf-of (read-at (now (model .entry)) at)) ⌝ }
 {
-    let none = [0i64; NUMBERS];
-    let read = command::command_at(model, at);
-    let Read::Whole(c) = read else {
-        return none;
-    };
-    if let Command::Leaf = c {
-        command::linear_at(model, at + 1)
-    } else {
-        none
+    if is_leaf(model, at) {
+        return command::linear_at(model, at + 1);
     }
+    [0i64; NUMBERS]
 }
 
 // What a slot's diagram comes to, times d: a reward, or a next level.

@@ -16,14 +16,19 @@ ghost use Rattle.evaluate.specs.Parts.{place as place-of};
 use super::Slot;
 use command::Command;
 use command::Read;
+use command::forms::ACTIONS;
+use command::forms::LEVELS;
 
-// The end worth's place among an action's slots: behind a reward, and a chance and a next level for each number that a condition or a level can have.
-const END_ROW: usize = 9;
+// The conditions that a model can have.
+const CONDITIONS: usize = 4;
 
-pub const SLOTS_EACH: usize = 10;
+// The end worth's place among an action's slots: behind a reward, the chances and the next levels.
+const END_ROW: usize = 1 + CONDITIONS + LEVELS;
+
+pub const SLOTS_EACH: usize = END_ROW + 1;
 
 // For each action; action 0 has its words too, for the end worth.
-pub const SLOTS: usize = 90;
+pub const SLOTS: usize = (ACTIONS + 1) * SLOTS_EACH;
 
 // The place among an action's slots, SLOTS_EACH where there is no such slot.
 fn row(command: u8, index: u8) -> usize
@@ -38,14 +43,18 @@ fn row(command: u8, index: u8) -> usize
         }
         return SLOTS_EACH;
     }
-    if 4 < index {
-        return SLOTS_EACH;
-    }
+    let i = index as usize;
     if command == 0x21 {
-        return index as usize;
+        if CONDITIONS < i {
+            return SLOTS_EACH;
+        }
+        return i;
     }
     if command == 0x22 {
-        return 4 + index as usize;
+        if LEVELS < i {
+            return SLOTS_EACH;
+        }
+        return CONDITIONS + i;
     }
     SLOTS_EACH
 }

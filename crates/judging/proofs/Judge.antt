@@ -1,7 +1,7 @@
 -- Numbers judged: two words and 32 bits, sums and products, the best so far.
 use mathlib.Core.Path.{_≡_, refl, sym, ap, ap₂, _∙_}
 use mathlib.Core.Bool.{Bool, true, false, not, _&&_}
-use Prim.Native.Nat.{ℕ, suc, _+_, _-_, _*_, _/_, _%_, _^_, _≤_, _<_}
+use Prim.Native.Nat.{ℕ, suc, _+_, _-_, _*_, _≤_, _<_}
 use native.Mathlib.Omega.{arith}
 use borrow.Author.Tests.{ltb-true, ltb-false, le-leb, lt-leb}
 use lib.IntN.{ℤ, pos, negsuc, natAbs, _+ℤ_, _-ℤ_, _*ℤ_}
@@ -12,9 +12,8 @@ use Rattle.whole.specs.Cases.{if, clash}
 use Rattle.whole.specs.Int.{diff, dif-negsuc}
 use Rattle.whole.specs.Within.{limit, limited, Small}
 use Rattle.whole.specs.WithinLaws.{limited-is, limited-over, limited-gives}
-use Rattle.whole.specs.Numerator.{word, number, words}
+use Rattle.whole.specs.Numerator.{word}
 use Rattle.whole.specs.NumeratorLaws.{below}
-use Rattle.whole.specs.declared.Numerator.{Numerator}
 use Rattle.whole.specs.declared.Within.{Within}
 use Rattle.whole.specs.declared.Within.the-variants as within
 use Rattle.whole.proofs.Signed.{R, R32, back, back32, plain, by-abs}
@@ -77,25 +76,6 @@ high-minus (negsuc k) l b t u e =
 pub high-none : (h : ℤ) (l : ℕ) → ltZ (pos 0) h ≡ false → ltZ h (pos 0) ≡ false → {r : Within} → r ≡ limited (pos l) → r ≡ limited (held h l)
 high-none (pos k) l t u e = let v = ltb-false 0 k t in e ∙ ap (λ (n : ℕ). limited (pos n)) (omega arith)
 high-none (negsuc k) l t u e = clash u
-
--- the words of a number of 64 bits
-pub words-below : (z : ℤ) (n : ℕ) → SFits w64 z → ltZ z (pos 0) ≡ true → n ≡ natAbs z → (1 ≤ n) × (_≡_ {A = Numerator} (record { low = 18446744073709551615 - (n - 1); high = negsuc 0 }) (words z))
-unfolding words
-words-below (pos k) n f t e = absurd (let v = ltb-true k 0 t in omega arith)
-words-below (negsuc k) n f t e =
-    let u : k < 2 ^ 63 = f .sfits in
-    let p : 18446744073709551615 - (n - 1) ≡ word - 1 - k % word = omega arith in
-    let q : 0 ≡ k / word = omega arith in
-    (omega arith, λ i. record { low = p i; high = negsuc (q i) })
-
-pub words-above : (z : ℤ) (n : ℕ) → SFits w64 z → ltZ z (pos 0) ≡ false → n ≡ natAbs z → _≡_ {A = Numerator} (record { low = n; high = pos 0 }) (words z)
-unfolding words
-words-above (pos k) n f t e =
-    let u : k < 2 ^ 63 = f .sfits in
-    let p : n ≡ k % word = omega arith in
-    let q : 0 ≡ k / word = omega arith in
-    λ i. record { low = p i; high = pos (q i) }
-words-above (negsuc k) n f t e = clash t
 
 -- ---- 32 bits
 

@@ -4,7 +4,7 @@ ghost use Prim.Native.Nat.{_≤_};
 ghost use lib.Dec.{leb, ltb};
 ghost use lib.IntN.{pos, negsuc};
 ghost use Rattle.whole.specs.Within.{limit, limited};
-ghost use Rattle.whole.specs.Numerator.{number, words};
+ghost use Rattle.whole.specs.Numerator.{number};
 ghost use Rattle.theory.specs.Verdict.{or};
 ghost use Rattle.theory.specs.Plain.{numbered as numbered-of};
 ghost use Rattle.judging.specs.Totals.{total-of, level-by, times-of, added-of, tried, summed, Kept, is-over, none-left};
@@ -12,12 +12,11 @@ use whole::Numerator;
 use whole::Within;
 use whole::limits::LIMIT;
 use whole::limits::add_within;
-use whole::limits::mag;
 use whole::limits::mul_within;
 
 // A worth and the action that has it, or a number left its limits.
 pub enum Total {
-    Is(i64, u8),
+    Is(i64, u16),
     Over,
 }
 
@@ -64,21 +63,6 @@ pub fn narrow(x: Numerator) -> Within
         return negative(u64::MAX - low);
     }
     not_negative(low)
-}
-
-// The two words of a number.
-pub fn two_words(z: i64) -> Numerator
-    ensures { λ r. ⌜ r ≡ words z ⌝ }
-{
-    let n = mag(z);
-    if z < 0 {
-        Numerator {
-            low: u64::MAX - (n - 1),
-            high: -1,
-        }
-    } else {
-        Numerator { low: n, high: 0 }
-    }
 }
 
 // "a next state's numerator .. leaves 32 bits"
@@ -148,7 +132,7 @@ pub fn numbered(t: Total) -> Total
 }
 
 // The better of the best so far and action a's worth, the earlier where they are equal.
-pub fn better(best: Total, a: u8, t: Total) -> Total
+pub fn better(best: Total, a: u16, t: Total) -> Total
     ensures { λ r. ⌜ total-of r ≡ tried (total-of best) a (total-of t) ⌝ }
 {
     let Total::Is(v, _) = best else {
@@ -171,7 +155,7 @@ pub fn settings_done(sum: Within, r: u32, count: u32) -> bool
 }
 
 // No action is left, or the best so far is over.
-pub fn actions_done(best: Total, a: u8, last: u8) -> bool
+pub fn actions_done(best: Total, a: u16, last: u16) -> bool
     ensures { λ b. ⌜ b ≡ or (none-left (total-of best)) (ltb last a) ⌝ }
 {
     if let Total::Over = best {

@@ -12,6 +12,7 @@ use lib.Dec.{eqb, leb}
 use lib.IntN.{ℤ, natAbs}
 use lib.ListN.{length, getD}
 use Rattle.whole.specs.Cases.{if}
+use Rattle.theory.specs.Widths.{node-words, steps-most}
 use Rattle.theory.specs.Value.{node-word, good-row}
 use Rattle.theory.specs.Verdict.{Site}
 use Rattle.theory.specs.Listing.{greatest-root}
@@ -42,21 +43,21 @@ module _ (stages : List ℕ) (h : ℕ) where
   rooted-yes f = ap not (ne-eqb (getD stages (h + 1 - 1) 0) 0 (λ e. f (sym (ap (λ (k : ℕ). getD stages k 0) same) ∙ e)))
 
 module _ (n A : ℕ) (W : List ℤ) where
-  outside : (r : ℕ) → length W / 8 < r → good-row n A W r ≡ false
+  outside : (r : ℕ) → length W / node-words < r → good-row n A W r ≡ false
   unfolding good-row
-  outside r h = rw (lt-leb (r * 8) (length W) (omega arith))
+  outside r h = rw (lt-leb (r * node-words) (length W) (omega arith))
 
   -- a last node outside the table
-  pub outside-last : (last : ℕ) → length W / 8 < last → false ≡ every (good-row n A W) last
+  pub outside-last : (last : ℕ) → length W / node-words < last → false ≡ every (good-row n A W) last
   outside-last last h =
       let e : last - 1 + 1 ≡ last = omega arith in
       sym (every-false (good-row n A W) (last - 1) last (omega arith) (ap (good-row n A W) e ∙ outside last h))
 
-  inside : (r : ℕ) → good-row n A W r ≡ true → r * 8 ≤ length W
+  inside : (r : ℕ) → good-row n A W r ≡ true → r * node-words ≤ length W
   unfolding good-row
-  inside r t = leb-true (r * 8) (length W) (and-left (leb (r * 8) (length W)) _ t)
+  inside r t = leb-true (r * node-words) (length W) (and-left (leb (r * node-words) (length W)) _ t)
 
-  pub inside-last : (last : ℕ) → every (good-row n A W) last ≡ true → last * 8 ≤ length W
+  pub inside-last : (last : ℕ) → every (good-row n A W) last ≡ true → last * node-words ≤ length W
   inside-last zero t = omega arith
   inside-last (suc r) t = inside (suc r) (every-last (good-row n A W) (suc r) (omega arith) t)
 
@@ -114,7 +115,7 @@ module _ (S : Site) (H : ℕ) (nodes : List ℤ) (stages : List ℕ) where
       go true true e = refl
 
   -- a plan that is not refused can be written
-  pub ready : {number root : ℕ} → number ≡ plan-refusal S H nodes stages → number ≡ 0 → root ≡ greatest-root H stages → H ≤ length stages → H ≤ 8 → Ready H nodes stages root
+  pub ready : {number root : ℕ} → number ≡ plan-refusal S H nodes stages → number ≡ 0 → root ≡ greatest-root H stages → H ≤ length stages → H ≤ steps-most → Ready H nodes stages root
   ready p z e h k = record {
     greatest = e;
     inside = omega (arith, inside-last (S .conditions) (S .actions) nodes (greatest-root H stages) (good-rows (sym z ∙ p)));

@@ -110,12 +110,12 @@ module _ (B : List ℕ) (H : ℕ) (nodes : List ℤ) (stages buffer : List ℕ) 
       ∙ stopping (λ z. f (ap (λ (v : Verdict). v .number) e ∙ z))
 
 -- what early has judged
-pub early-judged : (B : List ℕ) (H words : ℕ) {v : Verdict} → v ≡ early B H words → v .number ≡ 0 → (H ≤ words) × (H ≤ 8)
+pub early-judged : (B : List ℕ) (H words : ℕ) {v : Verdict} → v ≡ early B H words → v .number ≡ 0 → (H ≤ words) × (H ≤ steps-most)
 unfolding early among
 early-judged B H words s z =
     let r = go (eqb words steps-most) (ltb bytes-most (length B)) (among steps-most H) (verdict B) (ap (λ (v : Verdict). v .number) (sym s) ∙ z) in
-    let w = eqb-true words 8 (r .0) in
-    let h = leb-true H 8 (and-right (leb 1 H) (leb H 8) (r .1)) in
+    let w = eqb-true words steps-most (r .0) in
+    let h = leb-true H steps-most (and-right (leb 1 H) (leb H steps-most) (r .1)) in
     (omega arith, h)
   where
     go : (a b c : Bool) (v : Verdict) → if (or (not a) b) (refusal 10 0) (if (not c) (refusal 9 0) v) .number ≡ 0 → (a ≡ true) × (c ≡ true)

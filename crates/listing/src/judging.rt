@@ -12,6 +12,7 @@ ghost use Rattle.listing.specs.Refusal.{rooted, plan-refusal};
 use progress::Site;
 use rows::Kind;
 use rows::row_kind;
+use table::NODE_WORDS;
 
 fn larger(a: u32, b: u32) -> u32
     ensures { λ r. ⌜ r ≡ max a b ⌝ }
@@ -59,7 +60,7 @@ fn good(conditions: u32, actions: u32, nodes: &[i64], r: usize) -> bool
 fn all_good(conditions: u32, actions: u32, nodes: &[i64], last: usize) -> bool
     ensures { λ b. ⌜ b ≡ all (good-row conditions actions (now (nodes .entry))) (from-to 1 last) ⌝ }
 {
-    if nodes.len() / 8 < last {
+    if nodes.len() / NODE_WORDS < last {
         return false;
     }
     let mut r = 0;

@@ -2,6 +2,7 @@
 ghost use mathlib.Core.Path.{_≡_};
 ghost use Prim.Native.Nat.{_≤_};
 ghost use lib.ListN.{length};
+ghost use Rattle.theory.specs.Widths.{steps-most};
 ghost use Rattle.theory.specs.Listing.{listing as listing-of};
 ghost use Rattle.progress.specs.Standing.{site-as};
 ghost use Rattle.listing.specs.Refusal.{plan-listing};
@@ -37,7 +38,7 @@ fn list_plan(
     text: &mut [u8],
     place: usize,
 ) -> Listed
-    requires { ⌜ (horizon ≤ length (now stages)) × (horizon ≤ 8) ⌝ }
+    requires { ⌜ (horizon ≤ length (now stages)) × (horizon ≤ steps-most) ⌝ }
     ensures { λ r. ⌜ outcome r (now (text .exit)) ≡ plan-listing (site-as site) horizon (now (nodes .entry)) (now (stages .entry)) (now (text .entry)) place ⌝ }
 {
     let number = judging::plan_refusal(site, horizon, nodes, stages);

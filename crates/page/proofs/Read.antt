@@ -1,21 +1,25 @@
 -- What is read at a stage: as the value call reads it, refused with 13, 15 or 14 or with none.
 use mathlib.Core.Path.{_≡_, refl, sym, ap, _∙_}
 use mathlib.Core.Bool.{Bool, true, false, not, _&&_}
-use mathlib.Core.List.{List, [], _∷_}
+use mathlib.Core.List.{List, [], _∷_, map}
 use Prim.Native.Nat.{ℕ, zero, suc, _+_, _-_, _*_, _^_, _≤_, _<_}
 use native.Mathlib.Omega.{arith}
 use borrow.Author.Tests.{eq-eqb, ne-eqb}
 use lib.Dec.{T, eqb, ltb}
 use lib.IntN.{ℤ, pos, negsuc, natAbs}
-use lib.ListN.{length, getD, drop}
+use lib.ListN.{length, getD, take, drop}
 use lib.Signed.{leZ, mag, nonNeg}
 use mir.Syntax.{w32}
-use mir.Val.{Fits}
+use mir.Val.{Fits, Val}
+use denote.Shadow.{shadow}
+use denote.Array.{each}
+use denote.Signed.{SInt}
 use Rattle.whole.specs.Cases.{if, both, by-test, from-true}
 use Rattle.whole.specs.Int.{up}
-use Rattle.whole.proofs.Signed.{R32}
+use Rattle.whole.proofs.Signed.{R32, back32}
 use Rattle.whole.specs.Numerator.{number, words}
 use Rattle.whole.specs.declared.Numerator.{Numerator}
+use Rattle.theory.specs.Widths.{levels-most, steps-most}
 use Rattle.theory.specs.Diagram.{zeros}
 use Rattle.theory.specs.Verdict.{Verdict, Site, from-to}
 use Rattle.theory.specs.Listing.{lines}
@@ -26,7 +30,6 @@ use Rattle.theory.specs.Value.{Asked, accepted, node-linear, high-of, numerator
 use Rattle.values.specs.declared.Asked.{Asked as CodeAsked}
 use Rattle.values.specs.State.{asked}
 use Rattle.values.specs.Out.{value-after}
-use Rattle.values.proofs.Narrow.{Narrow, narrow-is}
 use Rattle.decimal.specs.Put.{PutAt}
 use Rattle.long_division.specs.Floor.{floor-by}
 use Rattle.page_text.specs.Page.{page-line, whole-part, line-at, page-text}
@@ -42,16 +45,25 @@ abs-narrow : (z : ℤ) → mag z < 2 ^ 31 → natAbs z ≤ 2147483648
 abs-narrow (pos n) h = omega arith
 abs-narrow (negsuc n) h = omega arith
 
+-- what owning an array of 32-bit numbers tells of them
+abbrev Owned : List ℤ → List Val → Type 0
+Owned l us = shadow (each ℤ (SInt w32 .own) (map (λ (z : ℤ). z) l) us)
+
+each-narrow : (l : List ℤ) (us : List Val) → Owned l us → (i : ℕ) → natAbs (getD l i (pos 0)) ≤ 2147483648
+each-narrow [] us o i = omega arith
+each-narrow (z ∷ l) [] o i = absurd o
+each-narrow (z ∷ l) (u ∷ us) o zero = abs-narrow z (o .0 .1)
+each-narrow (z ∷ l) (u ∷ us) o (suc i) = each-narrow l us (o .1) i
+
+taken-narrow : (k : ℕ) (l : List ℤ) → ((i : ℕ) → natAbs (getD l i (pos 0)) ≤ 2147483648) → (i : ℕ) → natAbs (getD (take k l) i (pos 0)) ≤ 2147483648
+taken-narrow zero l f i = omega arith
+taken-narrow (suc k) [] f i = omega arith
+taken-narrow (suc k) (z ∷ l) f zero = f 0
+taken-narrow (suc k) (z ∷ l) f (suc i) = taken-narrow k l (λ j. f (suc j)) i
+
 -- a state's numbers as the code has them
-pub narrow-state : (q : CodeAsked) → Narrow q → Signed32 (asked q)
-narrow-state q f = record { nums = go; den = abs-narrow (q .d) (f .d) }
-  where
-    go : (i : ℕ) → natAbs (getD (q .n1 ∷ q .n2 ∷ q .n3 ∷ q .n4 ∷ []) i (pos 0)) ≤ 2147483648
-    go zero = abs-narrow (q .n1) (f .n1)
-    go (suc zero) = abs-narrow (q .n2) (f .n2)
-    go (suc (suc zero)) = abs-narrow (q .n3) (f .n3)
-    go (suc (suc (suc zero))) = abs-narrow (q .n4) (f .n4)
-    go (suc (suc (suc (suc i)))) = omega arith
+pub narrow-state : (q : CodeAsked) (us : List Val) → Owned (q .n) us → Signed32 (asked q)
+narrow-state q us o = let f = each-narrow (q .n) us o in record { nums = taken-narrow levels-most (q .n) f; den = f levels-most }
 
 -- ---- by the site
 
@@ -133,13 +145,13 @@ module _ {B : List ℕ} {S : Site} {nodes : List ℤ} {stages : List ℕ} {q : A
   in-stages : Passed B h (length stages)
   in-stages = passed B (length stages) h (w .passed)
 
-  pub shown-steps : (1 ≤ h) × (h ≤ length stages) × (h ≤ 8)
+  pub shown-steps : (1 ≤ h) × (h ≤ length stages) × (h ≤ steps-most)
   shown-steps = let p = in-stages in (p .least, omega (arith, p .most, p .eight), p .most)
 
   shown-read : read-after S nodes stages q h ≡ value-of B nodes stages h q
   shown-read = read-is B S nodes stages q h (w .site) (w .passed)
 
-  pub shown-divisor : (0 < S .weights) × (0 < up (q .den)) × (h ≤ 8)
+  pub shown-divisor : (0 < S .weights) × (0 < up (q .den)) × (h ≤ steps-most)
   shown-divisor =
       let p = in-stages in
       (omega (arith, weights-some B (length stages) h (w .passed), ap (λ (S : Site). S .weights) (w .site)), den-some S nodes stages q h (ap (λ (v : ValueOut). v .number) shown-read ∙ w .read), p .most)
@@ -148,9 +160,9 @@ module _ {B : List ℕ} {S : Site} {nodes : List ℤ} {stages : List ℕ} {q : A
     reads : v ≡ value-of B nodes stages h q
     reads = e ∙ shown-read
 
-    pub part-is : {z : ℤ} → z ≡ floor-by (number (v .numerator)) (up (q .den) * (S .weights) ^ ((S .conditions) * h)) → z ≡ whole-part B q h (value-of B nodes stages h q .numerator)
+    pub part-is : {z : ℤ} {d : ℕ} → d ≡ up (q .den) → z ≡ floor-by (number (v .numerator)) (d * (S .weights) ^ ((S .conditions) * h)) → z ≡ whole-part B q h (value-of B nodes stages h q .numerator)
     unfolding whole-part
-    part-is p = p ∙ (λ i. floor-by (number (reads i .numerator)) (up (q .den) * (w .site i .weights) ^ ((w .site i .conditions) * h)))
+    part-is e p = p ∙ (λ i. floor-by (number (reads i .numerator)) (e i * (w .site i .weights) ^ ((w .site i .conditions) * h)))
 
     pub name-as : {t : List ℕ} → t ≡ name B (v .action) → t ≡ name B (value-of B nodes stages h q .action)
     name-as p = p ∙ ap (λ (v : ValueOut). name B (v .action)) reads
@@ -166,10 +178,18 @@ module _ {B : List ℕ} {S : Site} {nodes : List ℤ} {stages : List ℕ} {q : A
     unfolding line-at
     line-is = λ i. page-line h (p i) (n i)
 
+-- a denominator as it is read from an array
+module _ (z : ℤ) (f : mag z < 2 ^ 31) where
+  pub divisor-read : {a h : ℕ} → (0 < a) × (0 < up z) × (h ≤ steps-most) → (0 < a) × (0 < up (R32 z)) × (h ≤ steps-most)
+  divisor-read p = (p .0, rw (back32 z (record { sfits = f })) (p .1), p .2)
+
+  pub den-read : up (R32 z) ≡ up z
+  den-read = ap up (back32 z (record { sfits = f }))
+
 -- what a denominator of 1 or more is read as
 module _ (z : ℤ) (f : mag z < 2 ^ 31) (s : 0 < up z) where
   as-up : R32 z ≡ pos (up z)
-  as-up = narrow-is z f ∙ go z s
+  as-up = back32 z (record { sfits = f }) ∙ go z s
     where
       go : (z : ℤ) → 0 < up z → z ≡ pos (up z)
       go (pos n) s = refl

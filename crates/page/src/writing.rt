@@ -4,6 +4,7 @@ ghost use Prim.Native.Nat.{ℕ, _+_, _*_, _^_, _≤_, _<_};
 ghost use lib.ListN.{length};
 ghost use Rattle.whole.specs.Int.{up};
 ghost use Rattle.whole.specs.Numerator.{number};
+ghost use Rattle.theory.specs.Widths.{steps-most};
 ghost use Rattle.progress.specs.Standing.{site-as};
 ghost use Rattle.values.specs.State.{asked};
 ghost use Rattle.decimal.specs.Put.{PutAt};
@@ -17,16 +18,17 @@ use page_text::lines::put_line;
 use progress::Site;
 use values::Asked;
 use values::reading::value_after;
+use whole::COEFFICIENTS;
 use whole::Numerator;
 
 // The whole part of a value with h steps left: numerator ÷ (D × W^(n×h)), rounded downward.
-fn part(site: Site, q: Asked, h: u32, x: Numerator) -> Whole
-    requires { ⌜ (0 < site .weights) × (0 < up (q .d)) × (h ≤ 8) ⌝ }
-    ensures { λ r. ⌜ whole-as r ≡ floor-by (number x) (up (q .d) * (site .weights) ^ ((site .conditions) * h)) ⌝ }
+fn part(site: Site, d: i32, h: u32, x: Numerator) -> Whole
+    requires { ⌜ (0 < site .weights) × (0 < up d) × (h ≤ steps-most) ⌝ }
+    ensures { λ r. ⌜ whole-as r ≡ floor-by (number x) (up d * (site .weights) ^ ((site .conditions) * h)) ⌝ }
 {
     whole_part(
         x,
-        q.d as u32,
+        d as u32,
         site.weights as u32,
         (site.conditions as u32) * h,
     )
@@ -54,7 +56,8 @@ fn write_line(
         root,
         q,
     );
-    let x = part(site, q, h, v.numerator);
+    let numbers = q.n;
+    let x = part(site, numbers[COEFFICIENTS], h, v.numerator);
     put_line(text, 0, h, x, names::name(model, v.action))
 }
 

@@ -16,7 +16,8 @@ use Rattle.whole.specs.Numerator.{number, words}
 use Rattle.whole.specs.NumeratorLaws.{number-words}
 use Rattle.whole.specs.declared.Numerator.{Numerator}
 use Rattle.whole.specs.Within.{limit, small}
-use Rattle.theory.specs.Widths.{node-words, levels-most, name-bytes}
+use Rattle.theory.specs.Widths.{node-words, levels-most, steps-most, name-bytes}
+use Rattle.theory.specs.Form.{new-form, behind-action}
 use Rattle.theory.specs.Command.{Placed, readings}
 use Rattle.theory.specs.Diagram.{Linear}
 use Rattle.theory.specs.Meaning.{dot}
@@ -37,7 +38,7 @@ pub record Signed32 (q : Asked) : Type 0 where
   pub nums : (i : ℕ) → natAbs (getD (q .nums) i (pos 0)) ≤ 2147483648
   pub den : natAbs (q .den) ≤ 2147483648
 
--- ---- a numerator, with any number of levels up to eight
+-- ---- a numerator, with any number of levels
 
 abbrev most : ℕ
 most = limit * 2147483648
@@ -58,7 +59,7 @@ dot-most (c ∷ cs) (x ∷ xs) t f =
     omega (arith, abs-add (c *ℤ x) (dot cs xs), product-most c x (small-abs c (s .0)) (f 0), dot-most cs xs (s .1) (λ i. f (suc i)))
 
 -- "with eight levels too"
-pub numerator-most : (q : Asked) (p : Linear) → Signed32 q → length (p .coeffs) ≤ 8 → T (small-linear p) → natAbs (numerator-of q p) < 10 ^ 29
+pub numerator-most : (q : Asked) (p : Linear) → Signed32 q → length (p .coeffs) ≤ levels-most → T (small-linear p) → natAbs (numerator-of q p) < 10 ^ 29
 unfolding numerator-of small-linear
 numerator-most q p s l t =
     let d = both (all small (p .coeffs)) (small (p .const)) t in
@@ -67,7 +68,7 @@ numerator-most q p s l t =
       abs-add (dot (p .coeffs) (q .nums)) ((p .const) *ℤ (q .den)),
       dot-most (p .coeffs) (q .nums) (d .0) (s .nums),
       product-most (p .const) (q .den) (small-abs (p .const) (d .1)) (s .den),
-      mul-le-mul-right {m = length (p .coeffs)} {n = 8} most l,
+      mul-le-mul-right {m = length (p .coeffs)} {n = levels-most} most l,
     )
 
 -- ---- a reading
@@ -101,7 +102,7 @@ module _ (n A : ℕ) (q : Asked) (W : List ℤ) where
       go true g false l w f z = f z
       go false g l e w f z = absurd (z refl)
 
-linear-levels : (W : List ℤ) (r : ℕ) → length (node-linear W r .coeffs) ≤ 8
+linear-levels : (W : List ℤ) (r : ℕ) → length (node-linear W r .coeffs) ≤ levels-most
 unfolding node-linear
 linear-levels W r = omega (arith, length-take levels-most (drop ((r - 1) * node-words + 1) W))
 
@@ -137,13 +138,16 @@ part-most B q h x k = omega (arith, floor-abs (number x) (up (q .den) * (site-at
 
 -- ---- a name
 
+abbrev behind : Placed → ℕ
+behind x = x .at + behind-action new-form
+
 named-most : (B : List ℕ) (a : ℕ) (l : List Placed) → named-part B a l .size ≤ name-bytes
 unfolding named-part
 named-most B a [] = omega arith
 named-most B a (x ∷ l) = go (names-action a (x .read)) (named-most B a l)
   where
-    go : (b : Bool) → named-part B a l .size ≤ name-bytes → if b (record { start = x .at + 2; size = trimmed (drop (x .at + 2) B) name-bytes }) (named-part B a l) .size ≤ name-bytes
-    go true h = trimmed-most (drop (x .at + 2) B) name-bytes
+    go : (b : Bool) → named-part B a l .size ≤ name-bytes → if b (record { start = behind x; size = trimmed (drop (behind x) B) name-bytes }) (named-part B a l) .size ≤ name-bytes
+    go true h = trimmed-most (drop (behind x) B) name-bytes
     go false h = h
 
 pub name-most : (B : List ℕ) (a : ℕ) → length (name B a) ≤ name-bytes
@@ -171,6 +175,6 @@ module _ (B : List ℕ) (nodes : List ℤ) (stages : List ℕ) (q : Asked) (s : 
   lines-bytes a zero h = omega arith
   lines-bytes a (suc k) h = omega (arith, length-append (line-at B nodes stages q a) (lines (line-at B nodes stages q) (from-to (suc a) k)), line-bytes a (omega arith), lines-bytes (suc a) k (omega arith))
 
-  pub page-bytes : (H : ℕ) → H ≤ 8 → length (page-text B H nodes stages q) ≡ 51 * H
+  pub page-bytes : (H : ℕ) → H ≤ steps-most → length (page-text B H nodes stages q) ≡ 51 * H
   unfolding page-text
   page-bytes H h = lines-bytes 1 H (omega arith)

@@ -2,19 +2,19 @@
 use mathlib.Core.Path.{_≡_, refl, sym, ap, _∙_}
 use mathlib.Core.Bool.{Bool, true, false}
 use mathlib.Core.List.{List, [], _∷_, _++_, map, append-assoc}
-use Prim.Native.Nat.{ℕ, _+_, _-_, _*_, _<_}
-use native.Mathlib.Numerals.{add-one}
+use Prim.Native.Nat.{ℕ, _+_, _-_, _*_, _≤_, _<_}
 use native.Mathlib.Omega.{arith}
 use borrow.Author.Tests.{eq-eqb, ne-eqb}
 use lib.Dec.{eqb}
 use lib.IntN.{ℤ, pos, natAbs}
-use lib.ListN.{length, getD, take, drop, length-append}
-use lib.Seq.{drop-cons, drop-drop, take-add}
+use lib.ListN.{length, getD, take, drop, length-append, length-take}
 use Rattle.whole.specs.Cases.{if}
+use Rattle.theory.specs.Widths.{node-words, levels-most}
 use Rattle.theory.specs.Verdict.{refusal}
 use Rattle.theory.specs.Value.{node-word, node-linear, high-of, low-of}
-use Rattle.theory.specs.Listing.{spaced, spaced-all, line, five, first-line, node-line, stage-line, refusal-line}
+use Rattle.theory.specs.Listing.{spaced, spaced-all, line, numbers-of, first-line, node-line, stage-line, refusal-line}
 use Rattle.rows.specs.Row.{Inside}
+use Rattle.rows.proofs.Rowed.{take-more}
 use Rattle.progress.specs.declared.Site.{Site}
 use Rattle.progress.specs.Standing.{site-as}
 use Rattle.plan_text.specs.Plan.{node-rest}
@@ -36,9 +36,6 @@ refusal-is number place = refl
 
 -- ---- nodes
 
-next : (W : List ℤ) (k : ℕ) → k < length W → drop k W ≡ getD W k (pos 0) ∷ drop (k + 1) W
-next W k h = drop-cons W k (pos 0) h ∙ ap (λ (n : ℕ). getD W k (pos 0) ∷ drop n W) (sym (add-one k))
-
 -- a line whose start has a part before it, whichever of three it is
 behind :
     (s x y z : List ℕ) (l₀ l₁ l₂ m₀ m₂ : List ℤ) →
@@ -58,51 +55,41 @@ second-of : (a : Bool) (x y : List ℕ) → a ≡ false → y ≡ if a x y
 second-of true x y e = absurd (let z : _≡_ {A = ℕ} 0 1 = cc in omega arith)
 second-of false x y e = refl
 
+-- where a node's numbers begin
+abbrev pub from : ℕ → ℕ
+from r = (r - 1) * node-words + 1
+
+-- a part has no more words than were asked for
+pub part-few : (W : List ℤ) (at k : ℕ) → length (take (at + k - at) (drop at W)) ≤ k
+part-few W at k = omega (arith, length-take (at + k - at) (drop at W))
+
 module _ (W : List ℤ) (r : ℕ) (h : Inside W r) where
-  last-three : drop 4 (drop ((r - 1) * 8 + 1) W) ≡ node-word W r 5 ∷ high-of W r ∷ low-of W r ∷ drop ((r - 1) * 8 + 8) W
-  last-three =
-      let p = h .above in
-      let q = h .within in
-      let b : ℕ = (r - 1) * 8 in
-      let e₅ : b + 1 + 4 ≡ b + 5 = omega arith in
-      let e₆ : b + 5 + 1 ≡ b + 6 = omega arith in
-      let e₇ : b + 6 + 1 ≡ b + 7 = omega arith in
-      let e₈ : b + 7 + 1 ≡ b + 8 = omega arith in
-      drop-drop 4 (b + 1) W
-      ∙ ap (λ (k : ℕ). drop k W) e₅
-      ∙ next W (b + 5) (omega arith)
-      ∙ ap (λ (k : ℕ). node-word W r 5 ∷ drop k W) e₆
-      ∙ ap (λ (l : List ℤ). node-word W r 5 ∷ l) (next W (b + 6) (omega arith))
-      ∙ ap (λ (k : ℕ). node-word W r 5 ∷ high-of W r ∷ drop k W) e₇
-      ∙ ap (λ (l : List ℤ). node-word W r 5 ∷ high-of W r ∷ l) (next W (b + 7) (omega arith))
-      ∙ ap (λ (k : ℕ). node-word W r 5 ∷ high-of W r ∷ low-of W r ∷ drop k W) e₈
+  -- word k of a node, of those that stand before it and it
+  one-more : (k : ℕ) → k < levels-most + 3 → take (k + 1) (drop (from r) W) ≡ take k (drop (from r) W) ++ (node-word W r (k + 1) ∷ [])
+  one-more k l = take-more W (from r) k ((r - 1) * node-words + (k + 1)) (omega arith) (omega (arith, h .above, h .within))
 
-  six : five (node-linear W r) ++ (high-of W r ∷ []) ≡ take 6 (drop ((r - 1) * 8 + 1) W)
+  up-to-high : numbers-of (node-linear W r) ++ (high-of W r ∷ []) ≡ take (levels-most + 2) (drop (from r) W)
   unfolding node-linear
-  six =
-      let D : List ℤ = drop ((r - 1) * 8 + 1) W in
-      append-assoc (take 4 D) (node-word W r 5 ∷ []) (high-of W r ∷ [])
-      ∙ ap (λ (l : List ℤ). take 4 D ++ take 2 l) (sym last-three)
-      ∙ sym (take-add 4 2 D)
+  up-to-high =
+      ap (λ (l : List ℤ). l ++ (high-of W r ∷ [])) (sym (one-more levels-most (omega arith)))
+      ∙ sym (one-more (levels-most + 1) (omega arith))
 
-  seven : five (node-linear W r) ++ (high-of W r ∷ low-of W r ∷ []) ≡ take 7 (drop ((r - 1) * 8 + 1) W)
-  unfolding node-linear
-  seven =
-      let D : List ℤ = drop ((r - 1) * 8 + 1) W in
-      append-assoc (take 4 D) (node-word W r 5 ∷ []) (high-of W r ∷ low-of W r ∷ [])
-      ∙ ap (λ (l : List ℤ). take 4 D ++ take 3 l) (sym last-three)
-      ∙ sym (take-add 4 3 D)
+  up-to-low : numbers-of (node-linear W r) ++ (high-of W r ∷ low-of W r ∷ []) ≡ take (levels-most + 3) (drop (from r) W)
+  up-to-low =
+      sym (append-assoc (numbers-of (node-linear W r)) (high-of W r ∷ []) (low-of W r ∷ []))
+      ∙ ap (λ (l : List ℤ). l ++ (low-of W r ∷ [])) up-to-high
+      ∙ sym (one-more (levels-most + 2) (omega arith))
 
   pub node-is : node-line W r ≡ (78 ∷ spaced (pos r)) ++ node-rest W r
   unfolding node-line node-rest
   node-is = behind (78 ∷ spaced (pos r)) (32 ∷ 86 ∷ []) (32 ∷ 66 ∷ []) (32 ∷ 76 ∷ [])
-      (five (node-linear W r) ++ (high-of W r ∷ []))
+      (numbers-of (node-linear W r) ++ (high-of W r ∷ []))
       (node-word W r 1 ∷ high-of W r ∷ low-of W r ∷ [])
-      (five (node-linear W r) ++ (high-of W r ∷ low-of W r ∷ []))
-      (take 6 (drop ((r - 1) * 8 + 1) W))
-      (take 7 (drop ((r - 1) * 8 + 1) W))
-      six
-      seven
+      (numbers-of (node-linear W r) ++ (high-of W r ∷ low-of W r ∷ []))
+      (take (levels-most + 2) (drop (from r) W))
+      (take (levels-most + 3) (drop (from r) W))
+      up-to-high
+      up-to-low
       (eqb (natAbs (node-word W r 0)) 0)
       (eqb (natAbs (node-word W r 0)) 1)
 
@@ -111,20 +98,17 @@ module _ (W : List ℤ) (r : ℕ) (h : Inside W r) where
 
 -- the kind that the code found, k
 module _ (W : List ℤ) (r k : ℕ) (e : k ≡ natAbs (node-word W r 0)) where
-  abbrev from : ℕ
-  from = (r - 1) * 8 + 1
-
   is : (n : ℕ) → k ≡ n → eqb (natAbs (node-word W r 0)) n ≡ true
   is n z = eq-eqb (natAbs (node-word W r 0)) n (sym e ∙ z)
 
   is-not : (n : ℕ) → (k ≡ n → ⊥) → eqb (natAbs (node-word W r 0)) n ≡ false
   is-not n f = ne-eqb (natAbs (node-word W r 0)) n (λ z. f (e ∙ z))
 
-  pub rest-leaf : k ≡ 0 → line (32 ∷ 86 ∷ []) (take (from + 6 - from) (drop from W)) ≡ node-rest W r
+  pub rest-leaf : k ≡ 0 → line (32 ∷ 86 ∷ []) (take (from r + (levels-most + 2) - from r) (drop (from r) W)) ≡ node-rest W r
   unfolding node-rest
   rest-leaf z =
-      let n : from + 6 - from ≡ 6 = omega arith in
-      ap (λ (i : ℕ). line (32 ∷ 86 ∷ []) (take i (drop from W))) n ∙ first-of (eqb (natAbs (node-word W r 0)) 0) _ _ (is 0 z)
+      let n : from r + (levels-most + 2) - from r ≡ levels-most + 2 = omega arith in
+      ap (λ (i : ℕ). line (32 ∷ 86 ∷ []) (take i (drop (from r) W))) n ∙ first-of (eqb (natAbs (node-word W r 0)) 0) _ _ (is 0 z)
 
   pub rest-condition : {xs : List ℤ} → k ≡ 1 → xs ≡ node-word W r 1 ∷ high-of W r ∷ low-of W r ∷ [] → line (32 ∷ 66 ∷ []) xs ≡ node-rest W r
   unfolding node-rest
@@ -133,10 +117,10 @@ module _ (W : List ℤ) (r k : ℕ) (e : k ≡ natAbs (node-word W r 0)) where
       ∙ first-of (eqb (natAbs (node-word W r 0)) 1) _ _ (is 1 z)
       ∙ second-of (eqb (natAbs (node-word W r 0)) 0) _ _ (is-not 0 (λ (o : k ≡ 0). omega arith))
 
-  pub rest-test : (k ≡ 1 → ⊥) → (k ≡ 0 → ⊥) → line (32 ∷ 76 ∷ []) (take (from + 7 - from) (drop from W)) ≡ node-rest W r
+  pub rest-test : (k ≡ 1 → ⊥) → (k ≡ 0 → ⊥) → line (32 ∷ 76 ∷ []) (take (from r + (levels-most + 3) - from r) (drop (from r) W)) ≡ node-rest W r
   unfolding node-rest
   rest-test o z =
-      let n : from + 7 - from ≡ 7 = omega arith in
-      ap (λ (i : ℕ). line (32 ∷ 76 ∷ []) (take i (drop from W))) n
+      let n : from r + (levels-most + 3) - from r ≡ levels-most + 3 = omega arith in
+      ap (λ (i : ℕ). line (32 ∷ 76 ∷ []) (take i (drop (from r) W))) n
       ∙ second-of (eqb (natAbs (node-word W r 0)) 1) _ _ (is-not 1 o)
       ∙ second-of (eqb (natAbs (node-word W r 0)) 0) _ _ (is-not 0 z)

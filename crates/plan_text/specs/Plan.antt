@@ -9,6 +9,7 @@ use Rattle.whole.specs.Cases.{if}
 use Rattle.theory.specs.Widths.{node-words, levels-most, steps-most}
 use Rattle.theory.specs.Value.{node-word, high-of, low-of}
 use Rattle.theory.specs.Listing.{line, greatest-root}
+use Rattle.decimal.specs.Put.{number-bytes, line-bytes}
 
 -- a node's line behind its number, the numbers as they stand in the table
 unfoldable pub node-rest : List ℤ → ℕ → List ℕ
@@ -17,6 +18,18 @@ node-rest W r =
     if (eqb (natAbs (node-word W r 0)) 0) (line (32 ∷ 86 ∷ []) (take (levels-most + 2) numbers))
     (if (eqb (natAbs (node-word W r 0)) 1) (line (32 ∷ 66 ∷ []) (node-word W r 1 ∷ high-of W r ∷ low-of W r ∷ []))
     (line (32 ∷ 76 ∷ []) (take (levels-most + 3) numbers)))
+
+-- no line is longer, but for a node's own number: the letters of "PLAN", and the numbers of a test with its branches
+abbrev pub line-most : ℕ
+line-most = line-bytes 4 (levels-most + 3)
+
+-- no node's line is longer: its letter, its number, and the rest of it
+abbrev pub node-line-most : ℕ
+node-line-most = number-bytes + line-most
+
+-- nor are the lines that have no node's number: the first, and a line for each stage
+abbrev pub other-lines-most : ℕ
+other-lines-most = (steps-most + 1) * line-most
 
 -- a plan that can be written: root is the greatest one of stages 1 to H, and its node lies inside the table
 pub record Ready (H : ℕ) (nodes : List ℤ) (stages : List ℕ) (root : ℕ) : Type 0 where

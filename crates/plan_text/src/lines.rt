@@ -9,7 +9,7 @@ ghost use Rattle.theory.specs.Listing.{first-line, node-line, stage-line, refus
 ghost use Rattle.progress.specs.Standing.{site-as};
 ghost use Rattle.rows.specs.Row.{Inside};
 ghost use Rattle.decimal.specs.Put.{PutAt};
-ghost use Rattle.plan_text.specs.Plan.{node-rest};
+ghost use Rattle.plan_text.specs.Plan.{node-rest, line-most, node-line-most};
 use decimal::lines::line_len;
 use decimal::lines::put_line;
 use decimal::lines::put_words_line;
@@ -20,6 +20,9 @@ use decimal::put_number;
 use progress::Site;
 use rows::words::magnitude;
 use rows::words::word;
+use table::HIGH;
+use table::LOW;
+use table::NODE_WORDS;
 
 fn first_numbers(site: Site, horizon: u32) -> [u64; 5]
     ensures { λ r. ⌜ r ≡ site .levels ∷ site .conditions ∷ site .actions ∷ site .weights ∷ horizon ∷ [] ⌝ }
@@ -42,7 +45,7 @@ pub(crate) fn first_line(out: &mut [u8], site: Site, horizon: u32) -> usize
 }
 
 pub(crate) fn first_line_len(site: Site, horizon: u32) -> usize
-    ensures { λ n. ⌜ (n ≡ length (first-line (site-as site) horizon)) × (n ≤ 185) ⌝ }
+    ensures { λ n. ⌜ (n ≡ length (first-line (site-as site) horizon)) × (n ≤ line-most) ⌝ }
 {
     let xs = first_numbers(site, horizon);
     line_len(b"PLAN", &xs)
@@ -53,7 +56,7 @@ fn condition_numbers(nodes: &[i64], r: usize) -> [i64; 3]
     requires { ⌜ Inside (now nodes) r ⌝ }
     ensures { λ l. ⌜ l ≡ node-word (now (nodes .entry)) r 1 ∷ high-of (now (nodes .entry)) r ∷ low-of (now (nodes .entry)) r ∷ [] ⌝ }
 {
-    [word(nodes, r, 1), word(nodes, r, 6), word(nodes, r, 7)]
+    [word(nodes, r, 1), word(nodes, r, HIGH), word(nodes, r, LOW)]
 }
 
 // Behind a node's number: the letter of its kind, and the numbers that the kind has.
@@ -66,30 +69,30 @@ fn node_rest(out: &mut [u8], at: usize, nodes: &[i64], r: usize) -> usize
         let xs = condition_numbers(nodes, r);
         return put_words_line(out, at, b" B", &xs);
     }
-    let first = (r - 1) * 8 + 1;
+    let first = (r - 1) * NODE_WORDS + 1;
     if kind == 0 {
-        let end = first + 6;
+        let end = first + HIGH;
         return put_words_line(out, at, b" V", &nodes[first..end]);
     }
-    let end = first + 7;
+    let end = first + LOW;
     put_words_line(out, at, b" L", &nodes[first..end])
 }
 
 fn node_rest_len(nodes: &[i64], r: usize) -> usize
     requires { ⌜ Inside (now nodes) r ⌝ }
-    ensures { λ n. ⌜ (n ≡ length (node-rest (now (nodes .entry)) r)) × (n ≤ 185) ⌝ }
+    ensures { λ n. ⌜ (n ≡ length (node-rest (now (nodes .entry)) r)) × (n ≤ line-most) ⌝ }
 {
     let kind = magnitude(nodes, r, 0);
     if kind == 1 {
         let xs = condition_numbers(nodes, r);
         return words_line_len(b" B", &xs);
     }
-    let first = (r - 1) * 8 + 1;
+    let first = (r - 1) * NODE_WORDS + 1;
     if kind == 0 {
-        let end = first + 6;
+        let end = first + HIGH;
         return words_line_len(b" V", &nodes[first..end]);
     }
-    let end = first + 7;
+    let end = first + LOW;
     words_line_len(b" L", &nodes[first..end])
 }
 
@@ -104,7 +107,7 @@ pub(crate) fn node_line(out: &mut [u8], nodes: &[i64], r: usize) -> usize
 
 pub(crate) fn node_line_len(nodes: &[i64], r: usize) -> usize
     requires { ⌜ Inside (now nodes) r ⌝ }
-    ensures { λ n. ⌜ (n ≡ length (node-line (now (nodes .entry)) r)) × (n ≤ 207) ⌝ }
+    ensures { λ n. ⌜ (n ≡ length (node-line (now (nodes .entry)) r)) × (n ≤ node-line-most) ⌝ }
 {
     1 + number_len(r as u64) + node_rest_len(nodes, r)
 }
@@ -126,7 +129,7 @@ pub(crate) fn stage_line(out: &mut [u8], stages: &[u32], h: usize) -> usize
 
 pub(crate) fn stage_line_len(stages: &[u32], h: usize) -> usize
     requires { ⌜ (1 ≤ h) × (h ≤ length (now stages)) ⌝ }
-    ensures { λ n. ⌜ (n ≡ length (stage-line (now (stages .entry)) h)) × (n ≤ 185) ⌝ }
+    ensures { λ n. ⌜ (n ≡ length (stage-line (now (stages .entry)) h)) × (n ≤ line-most) ⌝ }
 {
     let xs = stage_numbers(stages, h);
     line_len(b"S", &xs)

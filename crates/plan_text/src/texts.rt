@@ -2,11 +2,12 @@
 ghost use mathlib.Core.Path.{_≡_};
 ghost use Prim.Native.Nat.{_+_, _*_, _^_, _≤_, _<_};
 ghost use lib.ListN.{length};
+ghost use Rattle.theory.specs.Widths.{node-words, steps-most};
 ghost use Rattle.theory.specs.Verdict.{from-to};
 ghost use Rattle.theory.specs.Listing.{lines, node-line, stage-line, text};
 ghost use Rattle.progress.specs.Standing.{site-as};
 ghost use Rattle.decimal.specs.Put.{PutAt};
-ghost use Rattle.plan_text.specs.Plan.{Ready, upto};
+ghost use Rattle.plan_text.specs.Plan.{Ready, line-most, other-lines-most, upto};
 use super::lines::first_line;
 use super::lines::first_line_len;
 use super::lines::node_line;
@@ -17,7 +18,7 @@ use progress::Site;
 
 // The lines of nodes 1 to the last.
 fn node_lines(buffer: &mut [u8], at: usize, nodes: &[i64], last: usize) -> usize
-    requires { ⌜ (last * 8 ≤ length (now nodes)) × (at + length (lines (node-line (now nodes)) (from-to 1 last)) ≤ length (now buffer)) ⌝ }
+    requires { ⌜ (last * node-words ≤ length (now nodes)) × (at + length (lines (node-line (now nodes)) (from-to 1 last)) ≤ length (now buffer)) ⌝ }
     ensures { λ n. ⌜ PutAt (now (buffer .entry)) at (lines (node-line (now (nodes .entry))) (from-to 1 last)) n (now (buffer .exit)) ⌝ }
 {
     let mut next = at;
@@ -61,8 +62,8 @@ pub fn write_text(
 }
 
 fn stage_lines_len(stages: &[u32], last: usize) -> usize
-    requires { ⌜ (last ≤ length (now stages)) × (last ≤ 8) ⌝ }
-    ensures { λ n. ⌜ (n ≡ length (lines (stage-line (now (stages .entry))) (from-to 1 last))) × (n ≤ 1480) ⌝ }
+    requires { ⌜ (last ≤ length (now stages)) × (last ≤ steps-most) ⌝ }
+    ensures { λ n. ⌜ (n ≡ length (lines (stage-line (now (stages .entry))) (from-to 1 last))) × (n ≤ steps-most * line-most) ⌝ }
 {
     let mut n = 0;
     let mut h = 0;
@@ -75,7 +76,7 @@ fn stage_lines_len(stages: &[u32], last: usize) -> usize
 
 // How long the nodes' lines are with what was counted before, or room + 1 where that is more: a long table's sum could wrap.
 fn node_lines_len(before: usize, nodes: &[i64], last: usize, room: usize) -> usize
-    requires { ⌜ (before ≤ 2000) × (last * 8 ≤ length (now nodes)) × (room < 2 ^ 63) ⌝ }
+    requires { ⌜ (before ≤ other-lines-most) × (last * node-words ≤ length (now nodes)) × (room < 2 ^ 63) ⌝ }
     ensures { λ n. ⌜ n ≡ upto room (before + length (lines (node-line (now (nodes .entry))) (from-to 1 last))) ⌝ }
 {
     let mut n = before;

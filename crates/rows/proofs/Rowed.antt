@@ -1,116 +1,113 @@
 -- A node's row: its words out of the table's, and its kind.
-use mathlib.Core.Path.{_≡_, refl, sym, ap, _∙_}
+use mathlib.Core.Path.{_≡_, refl, sym, ap, ap₂, _∙_}
 use mathlib.Core.Bool.{Bool, true, false, _&&_}
-use mathlib.Core.List.{List, [], _∷_}
-use Prim.Native.Nat.{ℕ, zero, suc, _+_, _-_, _*_, _/_, _≤_, _<_}
-use native.Mathlib.Nat.{suc-inj}
+use mathlib.Core.List.{List, [], _∷_, _++_}
+use Prim.Native.Nat.{ℕ, _+_, _-_, _*_, _/_, _≤_, _<_}
+use native.Mathlib.Numerals.{add-one}
 use native.Mathlib.Omega.{arith}
 use borrow.Author.Tests.{eq-eqb, ne-eqb, le-leb, lt-leb}
-use lib.Dec.{eqb, leb, isEq}
+use lib.Dec.{isEq, eqb, leb}
 use lib.IntN.{ℤ, pos, negsuc, natAbs}
-use lib.ListN.{length, getD, take, drop, length-drop, drop-of-length-le}
-use lib.Seq.{getD-take, getD-drop, take-take, length-take-le}
+use lib.ListN.{length, getD, take, drop, length-drop}
+use lib.Seq.{take-suc, take-take, getD-take, getD-drop, length-take-le}
 use Rattle.whole.specs.Cases.{if}
 use Rattle.whole.specs.Linears.{numbers, smalls}
-use Rattle.whole.specs.LinearsLaws.{rest}
 use Rattle.whole.specs.Within.{small}
-use Rattle.theory.specs.Widths.{levels-most, node-words}
-use Rattle.theory.specs.Diagram.{cmpZ, zeros}
-use Rattle.theory.specs.Valid.{all}
+use Rattle.theory.specs.Widths.{node-words, levels-most}
+use Rattle.theory.specs.Diagram.{zeros, cmpZ}
+use Rattle.theory.specs.Valid.{all, small-linear}
 use Rattle.theory.specs.Value.{node-word, node-linear, good-leaf-row, good-condition-row, good-test-row, good-row}
-use Rattle.theory.specs.Valid.{small-linear}
 use Rattle.rows.proofs.Judged.{and-assoc, and-true}
 use Rattle.rows.specs.declared.Kind.{Kind}
 use Rattle.rows.specs.declared.Kind.the-variants.{Leaf, Condition, Test, Bad}
 use Rattle.rows.specs.Row.{Inside, row-numbers, kind-number, kind-of, row-kind}
 
--- ---- numbers of a row, one by one
+-- ---- words in a row, judged one after another
 
--- number i of n in a row from offset a on
-part-at : (W : List ℤ) (a n i : ℕ) → i < n → getD (take n (drop a W)) i (pos 0) ≡ getD W (a + i) (pos 0)
-part-at W a n i h = getD-take n (drop a W) i (pos 0) h ∙ getD-drop a W i (pos 0)
+-- one word more; `at` is its place as the code counts it
+pub take-more : (W : List ℤ) (b i at : ℕ) → at ≡ b + i → at < length W → take (i + 1) (drop b W) ≡ take i (drop b W) ++ (getD W at (pos 0) ∷ [])
+take-more W b i at p h =
+    ap (λ (k : ℕ). take k (drop b W)) (add-one i)
+    ∙ take-suc (drop b W) i (pos 0) (omega (arith, length-drop b W))
+    ∙ ap (λ (z : ℤ). take i (drop b W) ++ (z ∷ [])) (getD-drop b W i (pos 0) ∙ ap (λ (k : ℕ). getD W k (pos 0)) (sym p))
 
-part-length : (W : List ℤ) (a n : ℕ) → a + n ≤ length W → length (take n (drop a W)) ≡ n
-part-length W a n h = length-take-le n (drop a W) (let w = length-drop a W in omega arith)
+-- a judgement of lists that goes number by number
+pub record Each (f : List ℤ → Bool) : Type 0 where
+  pub none : f [] ≡ true
+  pub more : (z : ℤ) (l : List ℤ) → f (z ∷ l) ≡ f (z ∷ []) && f l
 
--- all but the last, and the last
-small-all : (k : ℕ) (l : List ℤ) → length l ≡ suc k → (all small (take k l) && small (getD l k (pos 0))) ≡ smalls l
-unfolding all smalls
-small-all k [] e = absurd (omega arith)
-small-all zero (x ∷ []) e = sym (and-true (small x))
-small-all zero (x ∷ y ∷ l) e = absurd (omega arith)
-small-all (suc k) (x ∷ l) e = and-assoc (small x) (all small (take k l)) (small (getD l k (pos 0))) ∙ ap (λ (b : Bool). small x && b) (small-all k l (suc-inj e))
+pub each-small : Each smalls
+unfolding smalls
+each-small = record { none = refl; more = λ z l. ap (λ (b : Bool). b && smalls l) (sym (and-true (small z))) }
 
-first-zero : (z : ℤ) → zeros (z ∷ []) ≡ isEq (cmpZ z (pos 0))
+pub small-one : (z : ℤ) → small z ≡ smalls (z ∷ [])
+unfolding smalls
+small-one z = sym (and-true (small z))
+
+smalls-all : (l : List ℤ) → smalls l ≡ all small l
+unfolding smalls all
+smalls-all [] = refl
+smalls-all (z ∷ l) = ap (λ (b : Bool). small z && b) (smalls-all l)
+
+pub each-zero : Each zeros
 unfolding zeros
-first-zero z = and-true (isEq (cmpZ z (pos 0)))
+each-zero = record { none = refl; more = λ z l. ap (λ (b : Bool). b && zeros l) (sym (and-true (isEq (cmpZ z (pos 0))))) }
 
-cons-zero : (z : ℤ) (l : List ℤ) → zeros (z ∷ l) ≡ (isEq (cmpZ z (pos 0)) && zeros l)
-unfolding zeros
-cons-zero z l = refl
+module _ {f : List ℤ → Bool} (e : Each f) where
+  last : (l : List ℤ) (z : ℤ) → f (l ++ (z ∷ [])) ≡ f l && f (z ∷ [])
+  last [] z = ap (λ (b : Bool). b && f (z ∷ [])) (sym (e .none))
+  last (y ∷ l) z =
+      e .more y (l ++ (z ∷ [])) ∙ ap (λ (b : Bool). f (y ∷ []) && b) (last l z)
+      ∙ sym (and-assoc (f (y ∷ [])) (f l) (f (z ∷ []))) ∙ ap (λ (b : Bool). b && f (z ∷ [])) (sym (e .more y l))
+
+  pub words-more : (W : List ℤ) (b i at : ℕ) → at ≡ b + i → at < length W → f (take (i + 1) (drop b W)) ≡ f (take i (drop b W)) && f (getD W at (pos 0) ∷ [])
+  words-more W b i at p h = ap f (take-more W b i at p h) ∙ last (take i (drop b W)) (getD W at (pos 0))
+
+  -- a turn of the loop over n words from b on
+  pub record So (W : List ℤ) (b n i : ℕ) (good : Bool) : Type 0 where
+    pub within : i ≤ n
+    pub so : good ≡ f (take i (drop b W))
+
+  pub so-none : (W : List ℤ) (b n : ℕ) → So W b n 0 true
+  so-none W b n = record { within = omega arith; so = sym (e .none) }
+
+  pub so-more :
+      (W : List ℤ) (b n i : ℕ) (good : Bool) (at : ℕ) {g : Bool} →
+      So W b n i good → i < n → at ≡ b + i → at < length W → g ≡ f (getD W at (pos 0) ∷ []) → So W b n (i + 1) (good && g)
+  so-more W b n i good at {g} s t p h q = record {
+    within = omega arith;
+    so = ap₂ _&&_ (s .so) q ∙ sym (words-more W b i at p h);
+  }
+
+  pub so-all : {W : List ℤ} {b n i : ℕ} {good : Bool} → So W b n i good → n ≤ i → good ≡ f (take n (drop b W))
+  so-all {W} {b} {n} {i} s h =
+      let e : i ≡ n = omega (arith, s .within) in
+      s .so ∙ ap (λ (k : ℕ). f (take k (drop b W))) e
+
+-- ---- a node's numbers
 
 module _ (W : List ℤ) (r : ℕ) (h : Inside W r) where
-  abbrev base : ℕ
-  base = (r - 1) * node-words
+  abbrev first : ℕ
+  first = (r - 1) * node-words + 1
 
   pub numbers-long : length (row-numbers W r) ≡ numbers
-  numbers-long = part-length W (base + 1) numbers (omega (arith, h .above, h .within))
+  numbers-long = length-take-le numbers (drop first W) (omega (arith, length-drop first W, h .above, h .within))
 
-  number-is : (i : ℕ) → i < numbers → getD (row-numbers W r) i (pos 0) ≡ node-word W r (1 + i)
-  number-is i b = part-at W (base + 1) numbers i b ∙ ap (λ (k : ℕ). getD W k (pos 0)) (omega arith)
+  constant-is : getD (row-numbers W r) levels-most (pos 0) ≡ node-word W r (levels-most + 1)
+  constant-is =
+      let e : first + levels-most ≡ (r - 1) * node-words + (levels-most + 1) = omega arith in
+      getD-take numbers (drop first W) levels-most (pos 0) (omega arith) ∙ getD-drop first W levels-most (pos 0) ∙ ap (λ (k : ℕ). getD W k (pos 0)) e
 
   -- a node's linear, by its numbers
   pub linear-is : node-linear W r ≡ record { coeffs = take levels-most (row-numbers W r); const = getD (row-numbers W r) levels-most (pos 0) }
   unfolding node-linear
-  linear-is = λ j. record { coeffs = sym (take-take levels-most numbers (drop (base + 1) W) (omega arith)) j; const = sym (number-is levels-most (omega arith)) j }
+  linear-is = λ i. record { coeffs = sym (take-take levels-most numbers (drop first W) (omega arith)) i; const = sym constant-is i }
 
-  smalls-is : smalls (row-numbers W r) ≡ small-linear (node-linear W r)
-  unfolding small-linear
-  smalls-is = sym (ap small-linear linear-is ∙ small-all levels-most (row-numbers W r) numbers-long)
-
-  -- what is left decides
-  module _ (i : ℕ) (is : smalls (drop i (row-numbers W r)) ≡ small-linear (node-linear W r)) where
-    here : i < numbers → (small (node-word W r (1 + i)) && smalls (drop (i + 1) (row-numbers W r))) ≡ small-linear (node-linear W r)
-    unfolding smalls
-    here b = sym (ap smalls (rest (row-numbers W r) i (omega (arith, numbers-long))) ∙ ap (λ (z : ℤ). small z && smalls (drop (i + 1) (row-numbers W r))) (number-is i b)) ∙ is
-
-    pub one-over : i < numbers → {b : Bool} → b ≡ small (node-word W r (1 + i)) → b ≡ false → false ≡ small-linear (node-linear W r)
-    one-over b e t = ap (λ (y : Bool). y && smalls (drop (i + 1) (row-numbers W r))) (sym t ∙ e) ∙ here b
-
-    pub one-fine : i < numbers → {b : Bool} → b ≡ small (node-word W r (1 + i)) → b ≡ true → smalls (drop (i + 1) (row-numbers W r)) ≡ small-linear (node-linear W r)
-    one-fine b e t = ap (λ (y : Bool). y && smalls (drop (i + 1) (row-numbers W r))) (sym t ∙ e) ∙ here b
-
-    pub all-fine : numbers ≤ i → true ≡ small-linear (node-linear W r)
-    unfolding smalls
-    all-fine b = sym (ap smalls (drop-of-length-le (row-numbers W r) {i = i} (omega (arith, numbers-long)))) ∙ is
-
-  pub none-judged : smalls (drop 0 (row-numbers W r)) ≡ small-linear (node-linear W r)
-  none-judged = smalls-is
-
-  -- ---- zeros behind a condition's number
-
-  abbrev behind : List ℤ
-  behind = take levels-most (drop (base + 2) W)
-
-  behind-long : length behind ≡ levels-most
-  behind-long = part-length W (base + 2) levels-most (omega (arith, h .above, h .within))
-
-  behind-is : (i : ℕ) → i < levels-most → getD behind i (pos 0) ≡ node-word W r (2 + i)
-  behind-is i b = part-at W (base + 2) levels-most i b ∙ ap (λ (k : ℕ). getD W k (pos 0)) (omega arith)
-
-  module _ (i : ℕ) (is : zeros (drop i behind) ≡ zeros behind) where
-    zero-here : i < levels-most → (zeros (node-word W r (2 + i) ∷ []) && zeros (drop (i + 1) behind)) ≡ zeros behind
-    zero-here b = ap (λ (y : Bool). y && zeros (drop (i + 1) behind)) (first-zero (node-word W r (2 + i))) ∙ (sym (ap zeros (rest behind i (omega (arith, behind-long)) ∙ ap (λ (z : ℤ). z ∷ drop (i + 1) behind) (behind-is i b)) ∙ cons-zero (node-word W r (2 + i)) (drop (i + 1) behind)) ∙ is)
-
-    pub one-set : i < levels-most → {b : Bool} → b ≡ zeros (node-word W r (2 + i) ∷ []) → b ≡ false → false ≡ zeros behind
-    one-set b e t = ap (λ (y : Bool). y && zeros (drop (i + 1) behind)) (sym t ∙ e) ∙ zero-here b
-
-    pub one-zero : i < levels-most → {b : Bool} → b ≡ zeros (node-word W r (2 + i) ∷ []) → b ≡ true → zeros (drop (i + 1) behind) ≡ zeros behind
-    one-zero b e t = ap (λ (y : Bool). y && zeros (drop (i + 1) behind)) (sym t ∙ e) ∙ zero-here b
-
-    pub all-zero : levels-most ≤ i → true ≡ zeros behind
-    unfolding zeros
-    all-zero b = sym (ap zeros (drop-of-length-le behind {i = i} (omega (arith, behind-long)))) ∙ is
+  pub numbers-small : smalls (row-numbers W r) ≡ small-linear (node-linear W r)
+  unfolding small-linear node-linear
+  numbers-small =
+      words-more each-small W first levels-most ((r - 1) * node-words + (levels-most + 1)) (omega arith) (omega (arith, h .above, h .within))
+      ∙ ap₂ _&&_ (smalls-all (take levels-most (drop first W))) (sym (small-one (node-word W r (levels-most + 1))))
 
 -- ---- the kind
 

@@ -4,7 +4,7 @@ pub mod words; // words.rt: a node's words, judged as they are read
 ghost use mathlib.Core.Path.{_≡_};
 ghost use Prim.Native.Nat.{_+_, _-_, _*_};
 ghost use lib.ListN.{take, drop};
-ghost use Rattle.theory.specs.Widths.{levels-most, node-words};
+ghost use Rattle.theory.specs.Widths.{node-words, levels-most};
 ghost use Rattle.theory.specs.Diagram.{zeros};
 ghost use Rattle.theory.specs.Value.{node-linear, good-branches, good-leaf-row, good-condition-row, good-test-row};
 ghost use Rattle.theory.specs.Valid.{small-linear};
@@ -32,14 +32,13 @@ fn small_linear(nodes: &[i64], r: usize) -> bool
     requires { ⌜ Inside (now nodes) r ⌝ }
     ensures { λ b. ⌜ b ≡ small-linear (node-linear (now (nodes .entry)) r) ⌝ }
 {
+    let mut good = true;
     let mut i: usize = 0;
     while i < NUMBERS {
-        if is_small(nodes, r, 1 + i) {} else {
-            return false;
-        }
+        good = good & is_small(nodes, r, i + 1);
         i += 1;
     }
-    true
+    good
 }
 
 // Behind a condition's number all is 0.
@@ -47,14 +46,13 @@ fn zeros_behind(nodes: &[i64], r: usize) -> bool
     requires { ⌜ Inside (now nodes) r ⌝ }
     ensures { λ b. ⌜ b ≡ zeros (take levels-most (drop ((r - 1) * node-words + 2) (now (nodes .entry)))) ⌝ }
 {
+    let mut good = true;
     let mut i: usize = 0;
     while i < COEFFICIENTS {
-        if is_zero(nodes, r, 2 + i) {} else {
-            return false;
-        }
+        good = good & is_zero(nodes, r, i + 2);
         i += 1;
     }
-    true
+    good
 }
 
 // Both branches lie below node r.

@@ -4,7 +4,7 @@ use mathlib.Core.Bool.{Bool, true, false}
 use mathlib.Core.List.{List, map}
 use Prim.Native.Nat.{ℕ, zero, suc, _+_, _≤_, _<_}
 use native.Mathlib.Omega.{arith}
-use borrow.Author.Tests.{le-leb, lt-leb, eqb-true, eqb-false}
+use borrow.Author.Tests.{eqb-true, eqb-false}
 use lib.Dec.{T, eqb, leb, leb→le, nleb→lt}
 use lib.IntN.{ℤ, pos, negsuc, natAbs}
 use lib.ListN.{length, getD, take, length-set}
@@ -12,7 +12,7 @@ use lib.ListN.{set as store}
 use lib.Seq.{getD-set-same, getD-set-other, getD-take, length-take-le}
 use mir.Syntax.{w32}
 use mir.Val.{SFits}
-use Rattle.whole.specs.Cases.{if, by-test, both, from-true, clash}
+use Rattle.whole.specs.Cases.{if, by-test, both, clash}
 use Rattle.whole.specs.Linears.{numbers}
 use Rattle.whole.specs.Within.{limit, limited}
 use Rattle.whole.specs.WithinLaws.{limited-is, limited-over}
@@ -21,7 +21,6 @@ use Rattle.whole.specs.NumeratorLaws.{number-words}
 use Rattle.whole.specs.declared.Numerator.{Numerator}
 use Rattle.whole.specs.declared.Within.{Within}
 use Rattle.theory.specs.Widths.{levels-most}
-use Rattle.theory.specs.Diagram.{Tree}
 use Rattle.theory.specs.Meaning.{State, env, worth-at, moved}
 use Rattle.theory.specs.Valid.{all}
 use Rattle.theory.specs.Verdict.{Site, level-slot, from-to}
@@ -35,8 +34,8 @@ use Rattle.judging.specs.declared.Level.{Level}
 use Rattle.judging.specs.declared.Level.the-variants as level
 use Rattle.transition.specs.declared.Next.{Next}
 use Rattle.judging.specs.Totals.{judged-32, level-by}
-use Rattle.transition.specs.Standing.{Ready, Spells, under, after, Level-is, Led, Leads}
-use Rattle.transition.proofs.Lists.{map-twice, listed-from, some-fails, each-passes, four-most, set}
+use Rattle.transition.specs.Standing.{Ready, Spells, under, after, Level-is, Leads}
+use Rattle.transition.proofs.Lists.{map-twice, listed-from, some-fails, each-passes, within-widths, set}
 
 -- ---- a level
 
@@ -55,39 +54,31 @@ level-judged z = by-test (leb (natAbs z) limit) (λ _. level-by (limited z) ≡ 
     large : limit < natAbs z → level.Over ≡ if (in-32-bits z) (level.Is z) level.Over
     large h = by-test (in-32-bits z) (λ b. level.Over ≡ if b (level.Is z) level.Over) (λ t. absurd (omega (arith, bits-small z t))) (λ _. refl)
 
-module _ (B : List ℕ) (a i : ℕ) (x : Point) (m : ℕ) (e : m ≡ site-at B .levels) where
-  abbrev tree : Tree
-  tree = find-slot (level-slot a i) (loaded-entries B)
-
-  pub level-beyond : m < i → Level-is B a i x (level.Is (pos 0))
-  level-beyond h = record { is = λ s r p. ap (λ (b : Bool). if b (judged-32 (worth-at (env s r) tree)) (level.Is (pos 0))) (sym (lt-leb i (site-at B .levels) (omega arith))) }
-
-  pub level-found : i ≤ m → (v : Numerator) → ((s : State) (r : List Bool) → Stands (site-at B .levels) (site-at B .conditions) x s r → v ≡ words (worth-at (env s r) tree))
-      → {w : Within} → w ≡ limited (number v) → {z : Level} → z ≡ level-by w → Level-is B a i x z
-  level-found h v f p q = record {
-    is = λ s r st.
-        q ∙ ap level-by (p ∙ ap (λ (u : Numerator). limited (number u)) (f s r st) ∙ ap limited (number-words (worth-at (env s r) tree)))
-        ∙ level-judged (worth-at (env s r) tree)
-        ∙ ap (λ (b : Bool). if b (judged-32 (worth-at (env s r) tree)) (level.Is (pos 0))) (sym (le-leb i (site-at B .levels) (omega arith)));
-  }
+pub level-found : (B : List ℕ) (a i : ℕ) (x : Point) (v : Numerator)
+    → ((s : State) (r : List Bool) → Stands (site-at B .levels) (site-at B .conditions) x s r → v ≡ words (worth-at (env s r) (find-slot (level-slot a i) (loaded-entries B))))
+    → {w : Within} → w ≡ limited (number v) → {z : Level} → z ≡ level-by w → Level-is B a i x z
+level-found B a i x v f p q = record {
+  is = λ s r st.
+      let l : ℤ = worth-at (env s r) (find-slot (level-slot a i) (loaded-entries B)) in
+      q ∙ ap level-by (p ∙ ap (λ (u : Numerator). limited (number u)) (f s r st) ∙ ap limited (number-words l)) ∙ level-judged l;
+}
 
 -- what a level says of its numerator
-level-gives : (b : Bool) (z n : ℤ) → level.Is n ≡ if b (judged-32 z) (level.Is (pos 0)) → b ≡ true → (n ≡ z) × (in-32-bits z ≡ true)
+level-gives : (z n : ℤ) → level.Is n ≡ judged-32 z → (n ≡ z) × (in-32-bits z ≡ true)
 unfolding judged-32
-level-gives b z n e t = go (in-32-bits z) refl (e ∙ ap (λ (c : Bool). if c (judged-32 z) (level.Is (pos 0))) t)
+level-gives z n e = go (in-32-bits z) refl e
   where
     go : (c : Bool) → in-32-bits z ≡ c → level.Is n ≡ if c (level.Is z) level.Over → (n ≡ z) × (in-32-bits z ≡ true)
     go true q u = (cc, q)
     go false q u = absurd (let y : _≡_ {A = ℕ} 0 1 = cc in omega arith)
 
-level-lacks : (b : Bool) (z : ℤ) → level.Over ≡ if b (judged-32 z) (level.Is (pos 0)) → (b ≡ true) × (in-32-bits z ≡ false)
+level-lacks : (z : ℤ) → level.Over ≡ judged-32 z → in-32-bits z ≡ false
 unfolding judged-32
-level-lacks false z e = absurd (let y : _≡_ {A = ℕ} 0 1 = cc in omega arith)
-level-lacks true z e = go (in-32-bits z) refl e
+level-lacks z e = go (in-32-bits z) refl e
   where
-    go : (c : Bool) → in-32-bits z ≡ c → level.Over ≡ if c (level.Is z) level.Over → (true ≡ true) × (in-32-bits z ≡ false)
+    go : (c : Bool) → in-32-bits z ≡ c → level.Over ≡ if c (level.Is z) level.Over → in-32-bits z ≡ false
     go true q u = absurd (let y : _≡_ {A = ℕ} 0 1 = cc in omega arith)
-    go false q u = (refl, q)
+    go false q u = q
 
 -- ---- a state
 
@@ -113,28 +104,26 @@ module _ (B : List ℕ) (a : ℕ) (x : Point) (r : ℕ) (ok : Ready B) {y : Poin
   unfolding moved action-of
   nums-after s = map-twice (worth-at (env s (bits (S .conditions) r))) (λ i. find-slot (level-slot a i) (loaded-entries B)) (from-to 1 (S .levels))
 
-  level-says : (s : State) → Spells S x s → (i : ℕ) {z : Level} → Level-is B a i y z → z ≡ if (leb i (S .levels)) (judged-32 (level-of s i)) (level.Is (pos 0))
+  level-says : (s : State) → Spells S x s → (i : ℕ) {z : Level} → Level-is B a i y z → z ≡ judged-32 (level-of s i)
   level-says s p i h = h .is s (bits (S .conditions) r) (rw under-is (set B x s ok p r))
 
   -- some level leaves 32 bits
-  pub leads-over : (i : ℕ) → 1 ≤ i → {z : Level} → Level-is B a i y z → z ≡ level.Over → {v : Next} → v .over ≡ true → Leads B a x r v
-  leads-over i low h e {v} o = record {
-    leads = λ s p.
-        let d = level-lacks (leb i (S .levels)) (level-of s i) (sym e ∙ level-says s p i h) in
-        record {
-          at = λ q. clash (sym o ∙ q);
-          over = λ _. ap (all in-32-bits) (nums-after s) ∙ some-fails in-32-bits (level-of s) 1 (S .levels) i low (let u = leb→le i (S .levels) (from-true (d .0)) in omega arith) (d .1);
-        };
+  pub leads-over : (i : ℕ) → 1 ≤ i → i ≤ S .levels → {z : Level} → Level-is B a i y z → z ≡ level.Over → {v : Next} → v .over ≡ true → Leads B a x r v
+  leads-over i low high h e {v} o = record {
+    leads = λ s p. record {
+      at = λ q. clash (sym o ∙ q);
+      over = λ _. ap (all in-32-bits) (nums-after s) ∙ some-fails in-32-bits (level-of s) 1 (S .levels) i low (omega arith) (level-lacks (level-of s i) (sym e ∙ level-says s p i h));
+    };
   }
 
   pub none-moved : length (x .n) ≡ numbers → Moved B a x r 0 (x .n)
   none-moved e = record { upto = omega arith; long = e; last = refl; each = λ s p k h. absurd (omega arith) }
 
-  pub one-moved : {i : ℕ} {n : List ℤ} → Moved B a x r i n → i < levels-most → {j : ℕ} → j ≡ 1 + i → {l : Level} → Level-is B a j y l → {z : ℤ} → l ≡ level.Is z → SFits w32 z → {v : ℤ} → v ≡ z → Moved B a x r (i + 1) (store n i v)
+  pub one-moved : {i : ℕ} {n : List ℤ} → Moved B a x r i n → i < S .levels → {j : ℕ} → j ≡ 1 + i → {l : Level} → Level-is B a j y l → {z : ℤ} → l ≡ level.Is z → SFits w32 z → {v : ℤ} → v ≡ z → Moved B a x r (i + 1) (store n i v)
   one-moved {i} {n} M h {j} ej {l} L {z} e f {v} ev = record {
-    upto = omega arith;
+    upto = omega (arith, within-widths B ok .1);
     long = length-set n i v ∙ M .long;
-    last = getD-set-other n i levels-most v (pos 0) (λ q. omega arith) ∙ M .last;
+    last = getD-set-other n i levels-most v (pos 0) (λ q. omega (arith, within-widths B ok .1)) ∙ M .last;
     each = λ s p k u w. go s p k u w (eqb k i) (λ t. eqb-true k i t) (λ t. eqb-false k i t);
   }
     where
@@ -143,14 +132,14 @@ module _ (B : List ℕ) (a : ℕ) (x : Point) (r : ℕ) (ok : Ready B) {y : Poin
       go s p k u w true q d =
           let t : k ≡ i = q refl in
           let c : j ≡ 1 + k = omega arith in
-          let g = level-gives (leb j (S .levels)) (level-of s j) z (sym e ∙ level-says s p j L) (le-leb j (S .levels) (omega arith)) in
-          (ap (λ (m : ℕ). getD (store n i v) m (pos 0)) t ∙ (getD-set-same n i v (pos 0) (let b = M .long in omega arith) ∙ (ev ∙ (g .0 ∙ ap (level-of s) c))), ap (λ (m : ℕ). in-32-bits (level-of s m)) (sym c) ∙ g .1)
+          let g = level-gives (level-of s j) z (sym e ∙ level-says s p j L) in
+          (ap (λ (m : ℕ). getD (store n i v) m (pos 0)) t ∙ (getD-set-same n i v (pos 0) (let b = M .long in omega (arith, within-widths B ok .1)) ∙ (ev ∙ (g .0 ∙ ap (level-of s) c))), ap (λ (m : ℕ). in-32-bits (level-of s m)) (sym c) ∙ g .1)
       go s p k u w false q d =
           let t = d refl in
           let m = M .each s p k (omega arith) w in
           (getD-set-other n i k v (pos 0) t ∙ m .0, m .1)
 
-  pub all-moved : {i : ℕ} {n : List ℤ} → Moved B a x r i n → levels-most ≤ i → {v : Next} → v ≡ record { over = false; point = record { mask = r; setting = 0; n = n } } → Leads B a x r v
+  pub all-moved : {i : ℕ} {n : List ℤ} → Moved B a x r i n → S .levels ≤ i → {v : Next} → v ≡ record { over = false; point = record { mask = r; setting = 0; n = n } } → Leads B a x r v
   unfolding moved
   all-moved {i} {n} M h ev = rw ev (record {
     leads = λ s p. record {
@@ -160,7 +149,7 @@ module _ (B : List ℕ) (a : ℕ) (x : Point) (r : ℕ) (ok : Ready B) {y : Poin
         alone = refl;
         spells = record {
           conditions-are = refl;
-          nums-are = nums-after s ∙ listed-from (level-of s) 1 (S .levels) (take levels-most n) (rw firsts (four-most B ok .1)) (λ k u. getD-take levels-most n k (pos 0) (omega (arith, four-most B ok .1)) ∙ M .each s p k (omega (arith, four-most B ok .1, h)) (omega arith) .0);
+          nums-are = nums-after s ∙ listed-from (level-of s) 1 (S .levels) (take levels-most n) (rw firsts (within-widths B ok .1)) (λ k u. getD-take levels-most n k (pos 0) (omega (arith, within-widths B ok .1)) ∙ M .each s p k (omega (arith, within-widths B ok .1, h)) (omega arith) .0);
           den-is = p .den-is ∙ sym (M .last);
         };
       };
@@ -172,4 +161,4 @@ module _ (B : List ℕ) (a : ℕ) (x : Point) (r : ℕ) (ok : Ready B) {y : Poin
 
       passes : (s : State) → Spells S x s → (j : ℕ) → 1 ≤ j → j < 1 + S .levels → in-32-bits (level-of s j) ≡ true
       passes s p zero u v = absurd (omega arith)
-      passes s p (suc j) u v = let c : 1 + j ≡ suc j = omega arith in ap (λ (m : ℕ). in-32-bits (level-of s m)) (sym c) ∙ M .each s p j (omega (arith, four-most B ok .1, h)) (omega arith) .1
+      passes s p (suc j) u v = let c : 1 + j ≡ suc j = omega arith in ap (λ (m : ℕ). in-32-bits (level-of s m)) (sym c) ∙ M .each s p j (omega (arith, within-widths B ok .1, h)) (omega arith) .1

@@ -8,6 +8,7 @@ use lib.Dec.{eqb, eqb→eq}
 use lib.IntN.{ℤ, pos}
 use lib.ListN.{getD, length, take}
 use Rattle.whole.specs.Cases.{by-test}
+use Rattle.theory.specs.Widths.{levels-most, conditions-most}
 use Rattle.theory.specs.Meaning.{State}
 use Rattle.theory.specs.Valid.{all}
 use Rattle.theory.specs.Verdict.{from-to}
@@ -64,8 +65,8 @@ each-passes p φ b (suc k) h =
 
 -- ---- the site
 
-pub four-most : (B : List ℕ) → Ready B → (site-at B .conditions ≤ 4) × (site-at B .levels ≤ 4)
-four-most B r = let s = site-accepted B (r .accepted) in (s .conditions, s .levels .1)
+pub within-widths : (B : List ℕ) → Ready B → (site-at B .conditions ≤ conditions-most) × (site-at B .levels ≤ levels-most)
+within-widths B r = let s = site-accepted B (r .accepted) in (s .conditions, s .levels .1)
 
 pub sixteen : (n k : ℕ) → n ≡ k → k ≤ 4 → (n ≡ 0 → ⊥) → (n ≡ 1 → ⊥) → (n ≡ 2 → ⊥) → (n ≡ 3 → ⊥) → 16 ≡ 2 ^ k
 sixteen n k e h p q r s = ap (λ (j : ℕ). 2 ^ j) (let z : 4 ≡ k = omega arith in z)
@@ -74,7 +75,7 @@ sixteen n k e h p q r s = ap (λ (j : ℕ). 2 ^ j) (let z : 4 ≡ k = omega arit
 
 module _ (B : List ℕ) (x : Point) (s : State) (ok : Ready B) (p : Spells (site-at B) x s) where
   pub alone : x .setting ≡ 0 → Stands (site-at B .levels) (site-at B .conditions) x s []
-  alone z = stands-alone (site-at B .levels) (site-at B .conditions) x s (four-most B ok .0) z (p .conditions-are) (p .nums-are) (p .den-is)
+  alone z = stands-alone (site-at B .levels) (site-at B .conditions) x s (within-widths B ok .0) z (p .conditions-are) (p .nums-are) (p .den-is)
 
   pub set : (r : ℕ) → Stands (site-at B .levels) (site-at B .conditions) (under x r) s (bits (site-at B .conditions) r)
-  set r = stands-bits (site-at B .levels) (site-at B .conditions) (under x r) s (four-most B ok .0) (p .conditions-are) (p .nums-are) (p .den-is)
+  set r = stands-bits (site-at B .levels) (site-at B .conditions) (under x r) s (within-widths B ok .0) (p .conditions-are) (p .nums-are) (p .den-is)

@@ -21,7 +21,7 @@ use Rattle.evaluate.specs.Pass.{Stands}
 use Rattle.evaluate.proofs.Actions.{chance-within}
 use Rattle.transition.specs.declared.Chances.{Chances}
 use Rattle.transition.specs.Standing.{Ready, Standing, Acts, Chance, Chances-are, Out-of, Weighs}
-use Rattle.transition.proofs.Lists.{map-twice, listed, four-most, alone}
+use Rattle.transition.proofs.Lists.{map-twice, listed, within-widths, alone}
 
 -- ---- chances
 
@@ -47,7 +47,7 @@ unfolding action-of
 chances-are B a x ok c h1 h2 h3 h4 = record {
   bounded = record { b1 = h1 .bounded; b2 = h2 .bounded; b3 = h3 .bounded; b4 = h4 .bounded };
   are = λ s p. map-twice (chance-at (env s [])) (λ k. find-slot (chance-slot a k) (loaded-entries B)) (from-to 1 (site-at B .conditions))
-      ∙ listed (λ k. chance-at (env s []) (find-slot (chance-slot a k) (loaded-entries B))) (c .c1) (c .c2) (c .c3) (c .c4) (site-at B .conditions) (four-most B ok .0)
+      ∙ listed (λ k. chance-at (env s []) (find-slot (chance-slot a k) (loaded-entries B))) (c .c1) (c .c2) (c .c3) (c .c4) (site-at B .conditions) (within-widths B ok .0)
       (among s 1 (h1 .is s p)) (among s 2 (h2 .is s p)) (among s 3 (h3 .is s p)) (among s 4 (h4 .is s p));
 }
   where
@@ -123,6 +123,6 @@ module _ (B : List ℕ) (ok : Ready B) (c : Chances) (o : Out-of (site-at B .wei
   pub weighs : Weighs (site-at B) c r (f1 * f2 * (f3 * f4))
   weighs = record {
     is = (λ i. h1 i * h2 i * (h3 i * h4 i)) ∙ (λ i. part (en i) (eW i) 1 (c .c1) r * part (en i) (eW i) 2 (c .c2) r * (part (en i) (eW i) 3 (c .c3) r * part (en i) (eW i) 4 (c .c4) r))
-        ∙ weight-parts (site-at B .weights) (c .c1) (c .c2) (c .c3) (c .c4) r (site-at B .conditions) (four-most B ok .0);
+        ∙ weight-parts (site-at B .weights) (c .c1) (c .c2) (c .c3) (c .c4) r (site-at B .conditions) (within-widths B ok .0);
     bounded = omega (arith, both-pairs);
   }

@@ -80,10 +80,10 @@ pub record Weighs (S : Site) (c : Chances) (r w : ℕ) : Type 0 where
 
 -- ---- next states
 
--- next level i, 0 beyond level m
+-- next level i
 pub record Level-is (B : List ℕ) (a i : ℕ) (x : Point) (z : Level) : Type 0 where
   pub is : (s : State) (r : List Bool) → Stands (site-at B .levels) (site-at B .conditions) x s r
-      → z ≡ if (leb i (site-at B .levels)) (judged-32 (worth-at (env s r) (find-slot (level-slot a i) (loaded-entries B)))) (level.Is (pos 0))
+      → z ≡ judged-32 (worth-at (env s r) (find-slot (level-slot a i) (loaded-entries B)))
 
 -- the state after action a, with the setting that a mask spells
 abbrev pub after : List ℕ → ℕ → State → ℕ → State

@@ -1,6 +1,5 @@
 // The state after an action and a setting of the next conditions.
 ghost use mathlib.Core.Path.{_≡_};
-ghost use Prim.Native.Nat.{_≤_};
 ghost use Rattle.evaluate.specs.Parts.{Parts};
 ghost use Rattle.transition.specs.Standing.{Ready, Standing, Acts, under, Level-is, Leads};
 use super::Next;
@@ -8,7 +7,6 @@ use super::sites;
 use evaluate::Point;
 use evaluate::Slot;
 use judging::Level;
-use whole::COEFFICIENTS;
 
 fn with_setting(mut x: Point, r: u32) -> Point
     ensures { λ y. ⌜ y ≡ under x r ⌝ }
@@ -17,14 +15,11 @@ fn with_setting(mut x: Point, r: u32) -> Point
     x
 }
 
-// The numerator of next level i at a point and its setting; 0 beyond level m.
-fn next_level(model: &[u8], parts: &[u32], a: u8, i: u8, x: Point) -> Level
-    requires { ⌜ Ready (now model) × Acts (now model) a × (1 ≤ i) × Parts (now model) (now parts) ⌝ }
+// The numerator of next level i at a point and its setting.
+fn next_level(model: &[u8], parts: &[u32], a: u16, i: u8, x: Point) -> Level
+    requires { ⌜ Ready (now model) × Acts (now model) a × Parts (now model) (now parts) ⌝ }
     ensures { λ z. ⌜ Level-is (now (model .entry)) a i x z ⌝ }
 {
-    if sites::levels(model) < i {
-        return Level::Is(0);
-    }
     let g = Slot {
         command: 0x22,
         action: a,
@@ -34,14 +29,15 @@ fn next_level(model: &[u8], parts: &[u32], a: u8, i: u8, x: Point) -> Level
 }
 
 // The next state has the setting as its mask, and the same denominator.
-pub fn next_state(model: &[u8], parts: &[u32], a: u8, x: Point, r: u32) -> Next
+pub fn next_state(model: &[u8], parts: &[u32], a: u16, x: Point, r: u32) -> Next
     requires { ⌜ Ready (now model) × Acts (now model) a × Parts (now model) (now parts) ⌝ }
     ensures { λ y. ⌜ Leads (now (model .entry)) a x r y ⌝ }
 {
     let y = with_setting(x, r);
     let mut n = x.n;
+    let m = sites::levels(model) as usize;
     let mut i: usize = 0;
-    while i < COEFFICIENTS {
+    while i < m {
         let Level::Is(z) = next_level(model, parts, a, i as u8 + 1, y) else {
             return Next {
                 over: true,

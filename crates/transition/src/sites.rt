@@ -18,7 +18,7 @@ pub fn conditions(model: &[u8]) -> u8
     s.conditions
 }
 
-pub fn actions(model: &[u8]) -> u8
+pub fn actions(model: &[u8]) -> u16
     ensures { λ r. ⌜ r ≡ site-at (now (model .entry)) .actions ⌝ }
 {
     let s = model::site(model);

@@ -15,7 +15,7 @@ use evaluate::Point;
 use evaluate::Slot;
 use values::states::condition;
 
-fn chance(model: &[u8], parts: &[u32], a: u8, k: u8, x: Point) -> u64
+fn chance(model: &[u8], parts: &[u32], a: u16, k: u8, x: Point) -> u64
     requires { ⌜ Standing (now model) x × Acts (now model) a × (1 ≤ k) × Parts (now model) (now parts) ⌝ }
     ensures { λ w. ⌜ Chance (now (model .entry)) a k x w ⌝ }
 {
@@ -31,7 +31,7 @@ fn chance(model: &[u8], parts: &[u32], a: u8, k: u8, x: Point) -> u64
 }
 
 // The chances of an action at a state.
-pub fn chances(model: &[u8], parts: &[u32], a: u8, x: Point) -> Chances
+pub fn chances(model: &[u8], parts: &[u32], a: u16, x: Point) -> Chances
     requires { ⌜ Standing (now model) x × Acts (now model) a × Parts (now model) (now parts) ⌝ }
     ensures { λ r. ⌜ Chances-are (now (model .entry)) a x r ⌝ }
 {

@@ -10,6 +10,7 @@ use lib.IntN.{ℤ, pos, negsuc, natAbs}
 use lib.ListN.{length, take, drop}
 use lib.Signed.{leZ}
 use Rattle.whole.specs.Cases.{if, by-test, both}
+use Rattle.theory.specs.Widths.{levels-most, node-words}
 use Rattle.theory.specs.Diagram.{zeros}
 use Rattle.theory.specs.Meaning.{nth}
 use Rattle.theory.specs.Value.{Asked, bits, node-word, node-linear, high-of, low-of, amongZ, good-branches, good-leaf-row, good-condition-row, good-test-row, good-row, numerator-of, taken, walk}
@@ -61,14 +62,14 @@ module _ (n A : ℕ) (W : List ℤ) (r : ℕ) where
       (λ t₂ t. record { inside = h; good = g; kind = ap natAbs e ∙ eqb→eq k 2 t₂; keeps = t })
       (λ _ t. absurd t)))
 
-  parts : T (good-row n A W r) → T (leb (r * 8) (length W)) × T (judge (node-word W r 0))
+  parts : T (good-row n A W r) → T (leb (r * node-words) (length W)) × T (judge (node-word W r 0))
   unfolding good-row
-  parts t = both (leb (r * 8) (length W)) (judge (node-word W r 0)) t
+  parts t = both (leb (r * node-words) (length W)) (judge (node-word W r 0)) t
 
   told-good : (r ≡ 0 → ⊥) → T (good-row n A W r) → Told (kind-of (natAbs (node-word W r 0)))
   told-good z t =
       let p = parts t in
-      by-first (node-word W r 0) refl (record { above = omega arith; within = leb→le (r * 8) (length W) (p .0) }) (is-true (good-row n A W r) t) (p .1)
+      by-first (node-word W r 0) refl (record { above = omega arith; within = leb→le (r * node-words) (length W) (p .0) }) (is-true (good-row n A W r) t) (p .1)
 
   pub told : Told (row-kind n A W r)
   unfolding row-kind
@@ -122,7 +123,7 @@ module _ (n : ℕ) (q : Asked) (W : List ℤ) (r : ℕ) where
 pub condition-branches : (n : ℕ) (W : List ℤ) (r : ℕ) → T (good-condition-row n W r) → T (amongZ n (node-word W r 1)) × T (good-branches W r)
 unfolding good-condition-row
 condition-branches n W r t =
-    let z = zeros (take 4 (drop ((r - 1) * 8 + 2) W)) in
+    let z = zeros (take levels-most (drop ((r - 1) * node-words + 2) W)) in
     let p = both (amongZ n (node-word W r 1)) (z && good-branches W r) t in
     (p .0, both z (good-branches W r) (p .1) .1)
 

@@ -9,6 +9,7 @@ use lib.Dec.{T, eqb, ltb, leb, leb→le, eqb→eq}
 use lib.IntN.{ℤ}
 use lib.ListN.{length, getD}
 use Rattle.whole.specs.Cases.{if, by-test, both}
+use Rattle.theory.specs.Widths.{bytes-most}
 use Rattle.theory.specs.Load.{site-at}
 use Rattle.theory.specs.Solve.{early}
 use Rattle.theory.specs.Valid.{among}
@@ -39,12 +40,12 @@ pub record Left (steps words : ℕ) : Type 0 where
 left-by : (B : List ℕ) (steps words : ℕ) → early B steps words .number ≡ 0 → Left steps words
 unfolding early among
 left-by B steps words =
-    by-test (or (not (eqb words 8)) (ltb 65535 (length B))) (λ b. if b (refusal 10 0) (if (not (among 8 steps)) (refusal 9 0) (verdict B)) .number ≡ 0 → Left steps words)
+    by-test (or (not (eqb words 8)) (ltb bytes-most (length B))) (λ b. if b (refusal 10 0) (if (not (among 8 steps)) (refusal 9 0) (verdict B)) .number ≡ 0 → Left steps words)
     (λ t e. absurd (omega arith))
     (λ t. by-test (not (among 8 steps)) (λ b. if b (refusal 9 0) (verdict B) .number ≡ 0 → Left steps words)
     (λ u e. absurd (omega arith))
     (λ u e. let p = both (leb 1 steps) (leb steps 8) (not-not (among 8 steps) u) in
-    record { eight = eqb→eq words 8 (not-not (eqb words 8) (neither (not (eqb words 8)) (ltb 65535 (length B)) t .0)); some = leb→le 1 steps (p .0); few = leb→le steps 8 (p .1) }))
+    record { eight = eqb→eq words 8 (not-not (eqb words 8) (neither (not (eqb words 8)) (ltb bytes-most (length B)) t .0)); some = leb→le 1 steps (p .0); few = leb→le steps 8 (p .1) }))
 
 pub left-of : (B : List ℕ) (steps words : ℕ) {v : CodeVerdict} → shown v ≡ early B steps words → v .number ≡ 0 → Left steps words
 left-of B steps words e z = left-by B steps words (ap (λ (w : Verdict). w .number) (sym e) ∙ z)

@@ -20,7 +20,7 @@ use Rattle.theory.specs.Meaning.{dot}
 use Rattle.theory.specs.Valid.{small-linear}
 use Rattle.theory.specs.Value.{node-linear, numerator-of}
 use Rattle.rows.specs.Row.{Inside, row-numbers}
-use Rattle.rows.proofs.Rowed.{numbers-long, none-judged, linear-is}
+use Rattle.rows.proofs.Rowed.{numbers-long, numbers-small, linear-is}
 use Rattle.values.specs.declared.Asked.{Asked}
 use Rattle.values.specs.State.{asked}
 
@@ -37,7 +37,7 @@ module _ (W : List ℤ) (r : ℕ) (h : Inside W r) {x : Node} (e : x ≡ nodeAt 
   numbers-are = ap (λ (y : Node). y .n) e
 
   pub row-small : T (small-linear (node-linear W r)) → Smalls (x .n)
-  row-small t = subst Smalls (sym numbers-are) (smalls-of (row-numbers W r) (numbers-long W r h) (none-judged W r h ∙ is-true (small-linear (node-linear W r)) t))
+  row-small t = subst Smalls (sym numbers-are) (smalls-of (row-numbers W r) (numbers-long W r h) (numbers-small W r h ∙ is-true (small-linear (node-linear W r)) t))
 
   pub numerator-is : (q : Asked) → length (q .n) ≡ numbers → {y : Numerator} → y ≡ words (dotL (x .n) (q .n)) → y ≡ words (numerator-of (asked q) (node-linear W r))
   unfolding numerator-of

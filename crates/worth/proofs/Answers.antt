@@ -30,11 +30,11 @@ use Rattle.judging.specs.declared.Total.the-variants as total
 use Rattle.judging.specs.Totals.{total-of, times-of, summed}
 use Rattle.transition.specs.Standing.{Ready, Standing}
 use Rattle.worth.specs.Worths.{Earned, State-worth}
-use Rattle.transition.proofs.Lists.{four-most, alone}
+use Rattle.transition.proofs.Lists.{within-widths, alone}
 
 -- n × h
 pub exponent-fits : (B : List ℕ) → Ready B → (n h : ℕ) → n ≡ site-at B .conditions → h ≤ 8 → n * h ≤ 32
-exponent-fits B ok n h e k = mul-le-mul {n₁ = n} {m₁ = h} {n₂ = 4} {m₂ = 8} (omega (arith, four-most B ok .0)) k
+exponent-fits B ok n h e k = mul-le-mul {n₁ = n} {m₁ = h} {n₂ = 4} {m₂ = 8} (omega (arith, within-widths B ok .0)) k
 
 pub earned-is : (B : List ℕ) (h a : ℕ) (x : Point) → Standing B x → {n W : ℕ} → n ≡ site-at B .conditions → W ≡ site-at B .weights → {p : Within} → p ≡ limited (pos (W ^ (n * h)))
     → {v : Numerator} → ((s : State) (z : List Bool) → Stands (site-at B .levels) (site-at B .conditions) x s z → v ≡ words (worth-at (env s z) (find-slot (reward-slot a) (loaded-entries B))))

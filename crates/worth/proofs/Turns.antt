@@ -24,7 +24,7 @@ use Rattle.judging.specs.declared.Total.the-variants as total
 use Rattle.transition.specs.declared.Chances.{Chances}
 use Rattle.transition.specs.declared.Next.{Next}
 use Rattle.judging.specs.Totals.{total-of, times-of, added-of, summed, tried, Kept, is-over, none-left}
-use Rattle.transition.specs.Standing.{Ready, Spells, Standing, Acts, act, after, Chances-are, Weighs, Reaches, Led, Leads}
+use Rattle.transition.specs.Standing.{Ready, Spells, Standing, Acts, act, after, Chances-are, Weighs, Reaches, Leads}
 use Rattle.worth.specs.Worths.{Earned, State-worth, Action-worth}
 use Rattle.judging.proofs.Judge.{times-kept, added-kept}
 use Rattle.worth.proofs.Runs.{left, on, settings-are, judged-on, settings-end, settings-skip, settings-over, settings-add, others, actions-end, actions-on}

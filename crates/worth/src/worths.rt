@@ -15,7 +15,7 @@ use whole::Within;
 use whole::limits::power_within;
 
 // "W^(n×h), a reward, W^(n×h) × reward"
-fn earned(model: &[u8], parts: &[u32], steps: u32, a: u8, x: Point) -> Within
+fn earned(model: &[u8], parts: &[u32], steps: u32, a: u16, x: Point) -> Within
     requires { ⌜ Standing (now model) x × Acts (now model) a × (steps ≤ 8) × Parts (now model) (now parts) ⌝ }
     ensures { λ r. ⌜ Earned (now (model .entry)) steps a x r ⌝ }
 {
@@ -49,7 +49,7 @@ fn state_worth(model: &[u8], parts: &[u32], steps: u32, x: Point) -> Total
     }
     let last = sites::actions(model);
     let mut best = judging::numbered(action_worth(model, parts, steps, 1, x));
-    let mut a: u8 = 2;
+    let mut a: u16 = 2;
     loop {
         if judging::actions_done(best, a, last) {
             return best;
@@ -60,7 +60,7 @@ fn state_worth(model: &[u8], parts: &[u32], steps: u32, x: Point) -> Total
 }
 
 // "an action's worth sums the worth of its next states; those of weight 0 are skipped"
-fn action_worth(model: &[u8], parts: &[u32], steps: u32, a: u8, x: Point) -> Total
+fn action_worth(model: &[u8], parts: &[u32], steps: u32, a: u16, x: Point) -> Total
     requires { ⌜ Standing (now model) x × Acts (now model) a × (1 ≤ steps) × (steps ≤ 8) × Parts (now model) (now parts) ⌝ }
     ensures { λ r. ⌜ Action-worth (now (model .entry)) steps a x r ⌝ }
 {

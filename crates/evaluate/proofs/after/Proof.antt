@@ -6,7 +6,7 @@ use lib.IntN.{pos}
 use lib.Signed.{leZ}
 use Rattle.theory.specs.Diagram.{Linear}
 use Rattle.command.specs.declared.Command.{Command as CodeCommand}
-use Rattle.command.specs.Reading.{command-of}
+use Rattle.command.specs.Reading.{command-of, command-of-in}
 use Rattle.command.specs.Held.{last-first}
 use Rattle.evaluate.specs.Pass.{chosen, stepped, numerator}
 use Rattle.evaluate.proofs.Holding.{holds-as}
@@ -89,7 +89,7 @@ same-length c = search needs
 
 -- src/lib.rt:107:1
 returns : tie.Need-returns
-unfolding stepped command-of
+unfolding stepped command-of-in
 returns c =
     holds-as (c .before .before .push .ensures) (ap (λ (d : CodeCommand). stepped ((c .before .before .before .before .before .before .before .before) .args .x) ((c .before .before .before .before .before .before .before .before) .args .at) (command-of ((c .before .before .before .before .before .before .before .before) .args .model .now) ((c .before .before .before .before .before .before .before .before) .args .at) d) (last-first ((c .before .before .before .before .before .before .before .before) .args .items .now) ((c .before .before .before .before .before .before .before .before) .args .len))) (sym (c .before .before .before .before .enum-told .given .1)))
 
@@ -99,7 +99,7 @@ same-length-2 c = search needs
 
 -- src/lib.rt:107:1
 returns-2 : tie.Need-returns-2
-unfolding stepped command-of
+unfolding stepped command-of-in
 returns-2 c =
     holds-as (c .before .before .choose .ensures) (ap (λ (b : Bool). chosen b (last-first ((c .before .before .before .before .before .before .before .before .before .before) .args .items .now) ((c .before .before .before .before .before .before .before .before .before .before) .args .len))) (c .before .before .before .condition .ensures) ∙ ap (λ (d : CodeCommand). stepped ((c .before .before .before .before .before .before .before .before .before .before) .args .x) ((c .before .before .before .before .before .before .before .before .before .before) .args .at) (command-of ((c .before .before .before .before .before .before .before .before .before .before) .args .model .now) ((c .before .before .before .before .before .before .before .before .before .before) .args .at) d) (last-first ((c .before .before .before .before .before .before .before .before .before .before) .args .items .now) ((c .before .before .before .before .before .before .before .before .before .before) .args .len))) (sym (c .before .before .before .before .before .before .c .given .1)))
 
@@ -109,7 +109,7 @@ same-length-3 c = search needs
 
 -- src/lib.rt:107:1
 returns-3 : tie.Need-returns-3
-unfolding stepped command-of
+unfolding stepped command-of-in
 returns-3 c =
     holds-as (c .before .before .choose2 .ensures) (ap (λ (b : Bool). chosen b (last-first ((c .before .before .before .before .before .before .before .before .before .before) .args .items .now) ((c .before .before .before .before .before .before .before .before .before .before) .args .len))) (c .before .before .before .test .ensures ∙ ap (λ (p : Linear). leZ (numerator ((c .before .before .before .before .before .before .before .before .before .before) .args .x) p) (pos 0)) (c .before .before .before .before .linear-at .ensures .1)) ∙ ap (λ (d : CodeCommand). stepped ((c .before .before .before .before .before .before .before .before .before .before) .args .x) ((c .before .before .before .before .before .before .before .before .before .before) .args .at) (command-of ((c .before .before .before .before .before .before .before .before .before .before) .args .model .now) ((c .before .before .before .before .before .before .before .before .before .before) .args .at) d) (last-first ((c .before .before .before .before .before .before .before .before .before .before) .args .items .now) ((c .before .before .before .before .before .before .before .before .before .before) .args .len))) (sym (c .before .before .before .before .before .before .enum-told2 .given .1)))
 
@@ -119,25 +119,25 @@ same-length-4 c = search needs
 
 -- src/lib.rt:107:1
 returns-4 : tie.Need-returns-4
-unfolding stepped command-of
+unfolding stepped command-of-in
 returns-4 c =
     holds-as (c .pop .ensures) (ap (λ (d : CodeCommand). stepped ((c .before .before .before .before .before .before) .args .x) ((c .before .before .before .before .before .before) .args .at) (command-of ((c .before .before .before .before .before .before) .args .model .now) ((c .before .before .before .before .before .before) .args .at) d) (last-first ((c .before .before .before .before .before .before) .args .items .now) ((c .before .before .before .before .before .before) .args .len))) (sym (c .before .before .enum-told3 .given .1)))
 
 -- src/lib.rt:107:1
 returns-5 : tie.Need-returns-5
-unfolding stepped command-of
+unfolding stepped command-of-in
 returns-5 c =
     holds-as (record { room = (c .before .before .before .before) .pre .0; holds = refl }) (ap (λ (d : CodeCommand). stepped ((c .before .before .before .before) .args .x) ((c .before .before .before .before) .args .at) (command-of ((c .before .before .before .before) .args .model .now) ((c .before .before .before .before) .args .at) d) (last-first ((c .before .before .before .before) .args .items .now) ((c .before .before .before .before) .args .len))) (sym (c .enum-told4 .given .1)))
 
 -- src/lib.rt:107:1
 returns-6 : tie.Need-returns-6
-unfolding stepped command-of
+unfolding stepped command-of-in
 returns-6 c =
     holds-as (record { room = (c .before .before .before .before) .pre .0; holds = refl }) (ap (λ (d : CodeCommand). stepped ((c .before .before .before .before) .args .x) ((c .before .before .before .before) .args .at) (command-of ((c .before .before .before .before) .args .model .now) ((c .before .before .before .before) .args .at) d) (last-first ((c .before .before .before .before) .args .items .now) ((c .before .before .before .before) .args .len))) (sym (c .enum-told5 .given .1)))
 
 -- src/lib.rt:107:1
 returns-7 : tie.Need-returns-7
-unfolding stepped command-of
+unfolding stepped command-of-in
 returns-7 c =
     holds-as (record { room = (c .before .before .before .before) .pre .0; holds = refl }) (ap (λ (d : CodeCommand). stepped ((c .before .before .before .before) .args .x) ((c .before .before .before .before) .args .at) (command-of ((c .before .before .before .before) .args .model .now) ((c .before .before .before .before) .args .at) d) (last-first ((c .before .before .before .before) .args .items .now) ((c .before .before .before .before) .args .len))) (sym (c .enum-told6 .given .1)))
 

@@ -3,12 +3,13 @@ use mathlib.Core.Path.{sym, _∙_}
 use Prim.Native.Nat.{_-_}
 use native.Mathlib.Omega.{arith}
 use lib.ListN.{length}
+use Rattle.theory.specs.Form.{new-form}
 use Rattle.command.specs.Held.{last-first}
-use Rattle.model.proofs.Walk.{whole-is, forward}
+use Rattle.model.proofs.Walk.{whole-is, forward, past}
 use Rattle.evaluate.specs.Pass.{slot-of}
 use Rattle.evaluate.specs.Parts.{Room, Seek}
 use Rattle.evaluate.proofs.Reach.{pass-comes}
-use Rattle.evaluate.proofs.Turns.{seek-stops, seek-found, seek-ends, seek-on}
+use Rattle.evaluate.proofs.Turns.{leaf-room, seek-stops, seek-found, seek-ends, seek-on, seek-leaf}
 use borrow.Author.Needs.{needs}
 use Rattle.evaluate.proofs.pass_from.Statement.{statement}
 use Rattle.evaluate.proofs.pass_from.Tie as tie
@@ -24,6 +25,30 @@ unfolding last-first
 loop-holds c =
     (c .before .before .pre .3, c .before .before .pre .4)
 
+is-leaf-requires : tie.Need-is-leaf-requires Inv-loop μ-loop
+is-leaf-requires c κs =
+    tt
+
+cast-push : tie.Need-cast-push Inv-loop μ-loop
+cast-push c =
+    let r = leaf-room (c .before .before .before .before .before .before .args .model .now) (c .before .before .before .loop .at) (sym (c .before .before .is-leaf .ensures) ∙ c .before .if1 .taken) in omega (arith, r .0, c .before .before .before .before .before .before .pre .1)
+
+push-requires : tie.Need-push-requires Inv-loop μ-loop
+push-requires c κs =
+    c .before .before .before .loop .inv .0
+
+add-at : tie.Need-add-at Inv-loop μ-loop
+add-at c =
+    let r = leaf-room (c .before .before .before .before .before .before .before .before .before .args .model .now) (c .before .before .before .before .before .before .loop .at) (sym (c .before .before .before .before .before .is-leaf .ensures) ∙ c .before .before .before .before .if1 .taken) in omega (arith, r .0, c .before .before .before .before .before .before .before .before .before .pre .1)
+
+loop-less : tie.Need-loop-less Inv-loop μ-loop
+loop-less c =
+    let r = leaf-room (c .before .before .before .before .before .before .before .before .before .args .model .now) (c .before .before .before .before .before .before .loop .at) (sym (c .before .before .before .before .before .is-leaf .ensures) ∙ c .before .before .before .before .if1 .taken) in omega (arith, r .0)
+
+loop-again : tie.Need-loop-again Inv-loop μ-loop
+loop-again c =
+    let h = c .before .before .push .ensures in (h .room, seek-leaf (c .before .before .before .before .before .before .loop .inv .1) _ (sym (c .before .before .before .before .before .is-leaf .ensures) ∙ c .before .before .before .before .if1 .taken) (h .holds))
+
 command-at-requires : tie.Need-command-at-requires Inv-loop μ-loop
 command-at-requires c κs =
     tt
@@ -38,7 +63,7 @@ same-length c =
 
 returns : tie.Need-returns Inv-loop μ-loop
 returns c =
-    pass-comes (c .before .before .before .before .before .args .model .now) (c .before .before .before .before .before .args .x) (slot-of (c .before .before .before .before .before .args .g)) 0 (c .before .before .before .before .before .pre .0) (c .before .before .before .before .before .pre .2) (seek-stops (c .before .before .loop .inv .1) (c .before .command-at .result) (c .match .keys2) (c .before .command-at .ensures))
+    pass-comes (c .before .before .before .before .before .before .before .args .model .now) (c .before .before .before .before .before .before .before .args .x) (slot-of (c .before .before .before .before .before .before .before .args .g)) 0 (c .before .before .before .before .before .before .before .pre .0) (c .before .before .before .before .before .before .before .pre .2) (seek-stops (c .before .before .before .before .loop .inv .1) (c .before .command-at .result) (c .match .keys2) (c .before .command-at .ensures))
 
 takes-requires : tie.Need-takes-requires Inv-loop μ-loop
 takes-requires c κs =
@@ -46,7 +71,7 @@ takes-requires c κs =
 
 top-requires : tie.Need-top-requires Inv-loop μ-loop
 top-requires c κs =
-    c .before .before .before .before .before .before .before .loop .inv .0
+    c .before .before .before .before .before .before .before .before .before .loop .inv .0
 
 cast-result : tie.Need-cast-result Inv-loop μ-loop
 cast-result c =
@@ -58,7 +83,7 @@ same-length-2 c =
 
 returns-2 : tie.Need-returns-2 Inv-loop μ-loop
 returns-2 c =
-    pass-comes (c .before .before .before .before .before .before .before .before .before .before .before .args .model .now) (c .before .before .before .before .before .before .before .before .before .before .before .args .x) (slot-of (c .before .before .before .before .before .before .before .before .before .before .before .args .g)) _ (c .before .before .before .before .before .before .before .before .before .before .before .pre .0) (c .before .before .before .before .before .before .before .before .before .before .before .pre .2) (seek-found (c .before .before .before .before .before .before .before .before .loop .inv .1) _ _ (whole-is (c .before .before .before .before .before .before .before .before .before .before .before .args .model .now) (c .before .before .before .before .before .before .before .before .loop .at) (c .before .before .before .before .before .before .before .command-at .ensures) (c .before .before .before .before .before .read .given .1)) (sym (c .before .before .before .takes .ensures (c .before .before .before .before .before .before .before .before .before .before .before .args .model .now) (c .before .before .before .before .before .before .before .before .loop .at)) ∙ c .before .before .if1 .taken) (c .top .ensures))
+    pass-comes (c .before .before .before .before .before .before .before .before .before .before .before .before .before .args .model .now) (c .before .before .before .before .before .before .before .before .before .before .before .before .before .args .x) (slot-of (c .before .before .before .before .before .before .before .before .before .before .before .before .before .args .g)) _ (c .before .before .before .before .before .before .before .before .before .before .before .before .before .pre .0) (c .before .before .before .before .before .before .before .before .before .before .before .before .before .pre .2) (seek-found (c .before .before .before .before .before .before .before .before .before .before .loop .inv .1) _ _ (whole-is (c .before .before .before .before .before .before .before .before .before .before .before .before .before .args .model .now) (c .before .before .before .before .before .before .before .before .before .before .loop .at) (c .before .before .before .before .before .before .before .command-at .ensures) (c .before .before .before .before .before .read .given .1)) (sym (c .before .before .before .takes .ensures (c .before .before .before .before .before .before .before .before .before .before .before .before .before .args .model .now) (c .before .before .before .before .before .before .before .before .before .before .loop .at)) ∙ c .before .before .if2 .taken) (c .top .ensures))
 
 is-end-requires : tie.Need-is-end-requires Inv-loop μ-loop
 is-end-requires c κs =
@@ -70,23 +95,27 @@ same-length-3 c =
 
 returns-3 : tie.Need-returns-3 Inv-loop μ-loop
 returns-3 c =
-    pass-comes (c .before .before .before .before .before .before .before .before .before .before .before .args .model .now) (c .before .before .before .before .before .before .before .before .before .before .before .args .x) (slot-of (c .before .before .before .before .before .before .before .before .before .before .before .args .g)) 0 (c .before .before .before .before .before .before .before .before .before .before .before .pre .0) (c .before .before .before .before .before .before .before .before .before .before .before .pre .2) (seek-ends (c .before .before .before .before .before .before .before .before .loop .inv .1) _ (whole-is (c .before .before .before .before .before .before .before .before .before .before .before .args .model .now) (c .before .before .before .before .before .before .before .before .loop .at) (c .before .before .before .before .before .before .before .command-at .ensures) (c .before .before .before .before .before .read .given .1)) (sym (c .before .is-end .ensures) ∙ c .if2 .taken))
+    pass-comes (c .before .before .before .before .before .before .before .before .before .before .before .before .before .args .model .now) (c .before .before .before .before .before .before .before .before .before .before .before .before .before .args .x) (slot-of (c .before .before .before .before .before .before .before .before .before .before .before .before .before .args .g)) 0 (c .before .before .before .before .before .before .before .before .before .before .before .before .before .pre .0) (c .before .before .before .before .before .before .before .before .before .before .before .before .before .pre .2) (seek-ends (c .before .before .before .before .before .before .before .before .before .before .loop .inv .1) _ (whole-is (c .before .before .before .before .before .before .before .before .before .before .before .before .before .args .model .now) (c .before .before .before .before .before .before .before .before .before .before .loop .at) (c .before .before .before .before .before .before .before .command-at .ensures) (c .before .before .before .before .before .read .given .1)) (sym (c .before .is-end .ensures) ∙ c .if3 .taken))
 
 after-requires : tie.Need-after-requires Inv-loop μ-loop
 after-requires c κs =
-    (c .before .before .before .before .before .before .before .before .before .loop .inv .0, whole-is (c .before .before .before .before .before .before .before .before .before .before .before .before .args .model .now) (c .before .before .before .before .before .before .before .before .before .loop .at) (c .before .before .before .before .before .before .before .before .command-at .ensures) (c .before .before .before .before .before .before .read .given .1), c .before .before .before .before .before .before .before .before .before .before .before .before .pre .1)
+    (c .before .before .before .before .before .before .before .before .before .before .before .loop .inv .0, whole-is (c .before .before .before .before .before .before .before .before .before .before .before .before .before .before .args .model .now) (c .before .before .before .before .before .before .before .before .before .before .before .loop .at) (c .before .before .before .before .before .before .before .before .command-at .ensures) (c .before .before .before .before .before .before .read .given .1), c .before .before .before .before .before .before .before .before .before .before .before .before .before .before .pre .1)
 
-next-after-requires : tie.Need-next-after-requires Inv-loop μ-loop
-next-after-requires c κs =
+size-requires : tie.Need-size-requires Inv-loop μ-loop
+size-requires c κs =
     tt
 
-loop-less : tie.Need-loop-less Inv-loop μ-loop
-loop-less c =
-    let f = forward (c .before .before .before .before .before .before .before .before .before .before .before .before .before .before .before .before .args .model .now) (c .before .before .before .before .before .before .before .before .before .before .before .before .before .loop .at) _ (c .next-after .result) (whole-is (c .before .before .before .before .before .before .before .before .before .before .before .before .before .before .before .before .args .model .now) (c .before .before .before .before .before .before .before .before .before .before .before .before .before .loop .at) (c .before .before .before .before .before .before .before .before .before .before .before .before .command-at .ensures) (c .before .before .before .before .before .before .before .before .before .before .read .given .1)) (c .next-after .ensures) in omega (arith, f .1, f .2)
+add-at-2 : tie.Need-add-at-2 Inv-loop μ-loop
+add-at-2 c =
+    let f = forward (c .before .before .before .before .before .before .before .before .before .before .before .before .before .before .before .before .before .before .args .model .now) (c .before .before .before .before .before .before .before .before .before .before .before .before .before .before .before .loop .at) _ _ (whole-is (c .before .before .before .before .before .before .before .before .before .before .before .before .before .before .before .before .before .before .args .model .now) (c .before .before .before .before .before .before .before .before .before .before .before .before .before .before .before .loop .at) (c .before .before .before .before .before .before .before .before .before .before .before .before .command-at .ensures) (c .before .before .before .before .before .before .before .before .before .before .read .given .1)) (past new-form (c .before .before .before .before .before .before .before .before .before .before .before .before .before .before .before .before .before .before .args .model .now) (c .before .before .before .before .before .before .before .before .before .before .before .before .before .before .before .loop .at) _ (c .size .result) (whole-is (c .before .before .before .before .before .before .before .before .before .before .before .before .before .before .before .before .before .before .args .model .now) (c .before .before .before .before .before .before .before .before .before .before .before .before .before .before .before .loop .at) (c .before .before .before .before .before .before .before .before .before .before .before .before .command-at .ensures) (c .before .before .before .before .before .before .before .before .before .before .read .given .1)) (c .size .ensures)) in omega (arith, f .1, f .2, c .before .before .before .before .before .before .before .before .before .before .before .before .before .before .before .before .before .before .pre .1)
 
-loop-again : tie.Need-loop-again Inv-loop μ-loop
-loop-again c =
-    let h = c .before .before .before .after .ensures in (h .room, seek-on (c .before .before .before .before .before .before .before .before .before .before .before .before .before .loop .inv .1) _ (c .next-after .result) _ (whole-is (c .before .before .before .before .before .before .before .before .before .before .before .before .before .before .before .before .args .model .now) (c .before .before .before .before .before .before .before .before .before .before .before .before .before .loop .at) (c .before .before .before .before .before .before .before .before .before .before .before .before .command-at .ensures) (c .before .before .before .before .before .before .before .before .before .before .read .given .1)) (sym (c .before .before .before .before .before .before .before .before .takes .ensures (c .before .before .before .before .before .before .before .before .before .before .before .before .before .before .before .before .args .model .now) (c .before .before .before .before .before .before .before .before .before .before .before .before .before .loop .at)) ∙ c .before .before .before .before .before .before .before .if1 .left) (sym (c .before .before .before .before .before .before .is-end .ensures) ∙ c .before .before .before .before .before .if2 .left) (c .next-after .ensures) (h .holds))
+loop-less-2 : tie.Need-loop-less-2 Inv-loop μ-loop
+loop-less-2 c =
+    let f = forward (c .before .before .before .before .before .before .before .before .before .before .before .before .before .before .before .before .before .before .args .model .now) (c .before .before .before .before .before .before .before .before .before .before .before .before .before .before .before .loop .at) _ _ (whole-is (c .before .before .before .before .before .before .before .before .before .before .before .before .before .before .before .before .before .before .args .model .now) (c .before .before .before .before .before .before .before .before .before .before .before .before .before .before .before .loop .at) (c .before .before .before .before .before .before .before .before .before .before .before .before .command-at .ensures) (c .before .before .before .before .before .before .before .before .before .before .read .given .1)) (past new-form (c .before .before .before .before .before .before .before .before .before .before .before .before .before .before .before .before .before .before .args .model .now) (c .before .before .before .before .before .before .before .before .before .before .before .before .before .before .before .loop .at) _ (c .size .result) (whole-is (c .before .before .before .before .before .before .before .before .before .before .before .before .before .before .before .before .before .before .args .model .now) (c .before .before .before .before .before .before .before .before .before .before .before .before .before .before .before .loop .at) (c .before .before .before .before .before .before .before .before .before .before .before .before .command-at .ensures) (c .before .before .before .before .before .before .before .before .before .before .read .given .1)) (c .size .ensures)) in omega (arith, f .1, f .2)
+
+loop-again-2 : tie.Need-loop-again-2 Inv-loop μ-loop
+loop-again-2 c =
+    let h = c .before .before .before .after .ensures in (h .room, seek-on (c .before .before .before .before .before .before .before .before .before .before .before .before .before .before .before .loop .inv .1) _ _ _ (whole-is (c .before .before .before .before .before .before .before .before .before .before .before .before .before .before .before .before .before .before .args .model .now) (c .before .before .before .before .before .before .before .before .before .before .before .before .before .before .before .loop .at) (c .before .before .before .before .before .before .before .before .before .before .before .before .command-at .ensures) (c .before .before .before .before .before .before .before .before .before .before .read .given .1)) (sym (c .before .before .before .before .before .before .before .before .takes .ensures (c .before .before .before .before .before .before .before .before .before .before .before .before .before .before .before .before .before .before .args .model .now) (c .before .before .before .before .before .before .before .before .before .before .before .before .before .before .before .loop .at)) ∙ c .before .before .before .before .before .before .before .if2 .left) (sym (c .before .before .before .before .before .before .is-end .ensures) ∙ c .before .before .before .before .before .if3 .left) (past new-form (c .before .before .before .before .before .before .before .before .before .before .before .before .before .before .before .before .before .before .args .model .now) (c .before .before .before .before .before .before .before .before .before .before .before .before .before .before .before .loop .at) _ (c .size .result) (whole-is (c .before .before .before .before .before .before .before .before .before .before .before .before .before .before .before .before .before .before .args .model .now) (c .before .before .before .before .before .before .before .before .before .before .before .before .before .before .before .loop .at) (c .before .before .before .before .before .before .before .before .before .before .before .before .command-at .ensures) (c .before .before .before .before .before .before .before .before .before .before .read .given .1)) (c .size .ensures)) (h .holds))
 
 pub pass-from-spec : {M : Type 1} → statement M
 pass-from-spec =
@@ -95,6 +124,12 @@ pass-from-spec =
     Inv-loop
     μ-loop
     loop-holds
+    is-leaf-requires
+    cast-push
+    push-requires
+    add-at
+    loop-less
+    loop-again
     command-at-requires
     enum-known-read
     same-length
@@ -108,6 +143,7 @@ pass-from-spec =
     same-length-3
     returns-3
     after-requires
-    next-after-requires
-    loop-less
-    loop-again)
+    size-requires
+    add-at-2
+    loop-less-2
+    loop-again-2)

@@ -1,7 +1,7 @@
 -- `evaluate::takes` meets its contract.
 use mathlib.Core.Path.{sym, ap, _∙_}
 use Rattle.command.specs.declared.Command.{Command as CodeCommand}
-use Rattle.command.specs.Reading.{command-of}
+use Rattle.command.specs.Reading.{command-of, command-of-in}
 use Rattle.evaluate.specs.Pass.{slot-of}
 use Rattle.evaluate.specs.Pass.{takes as takes-slot}
 use Rattle.evaluate.proofs.Turns.{takes-other}
@@ -16,7 +16,7 @@ same-requires : tie.Need-same-requires
 same-requires c κs = search needs
 
 returns : tie.Need-returns
-unfolding takes-slot command-of
+unfolding takes-slot command-of-in
 returns c =
     λ B i. c .same .ensures ∙ ap (λ (d : CodeCommand). takes-slot (slot-of ((c .before .before .before .before) .args .g)) (command-of B i d)) (sym (c .before .before .c .given .1))
 

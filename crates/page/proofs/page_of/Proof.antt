@@ -29,7 +29,7 @@ refused-requires-2 c κs = search needs
 returns-2 : tie.Need-returns-2
 returns-2 c =
     let g = c .before .before .before .before .before .before .before .good .1 .1 .1 .1 .1 .0 .1 .1 in
-    let f = narrow-state (c .before .before .before .before .before .before .before .args .q) (record { n1 = g .1 .0 .1; n2 = g .1 .1 .0 .1; n3 = g .1 .1 .1 .0 .1; n4 = g .1 .1 .1 .1 .0 .1; d = g .1 .1 .1 .1 .1 .0 .1 }) in
+    let f = narrow-state (c .before .before .before .before .before .before .before .args .q) (g .1 .0 .0) (g .1 .0 .1 .1) in
     ap (λ (x : Listed). outcome x (c .before .before .before .before .before .before .before .args .text .now)) (c .refused2 .ensures) ∙ page-17 (c .before .before .before .before .before .before .before .args .model .now) (site-as (c .before .before .before .before .before .before .before .args .site)) (c .before .before .before .before .before .before .before .args .horizon) (c .before .before .before .before .before .before .before .args .nodes .now) (c .before .before .before .before .before .before .before .args .stages .now) (asked (c .before .before .before .before .before .before .before .args .q)) (c .before .before .before .before .before .before .before .args .text .now) (c .before .before .before .before .before .before .before .args .place) (c .before .before .before .before .before .before .before .pre) (c .before .before .before .refusal .result) (c .before .before .before .refusal .ensures) (c .before .before .if1 .left) f (inl (c .before .if2 .taken))
 
 mul-size : tie.Need-mul-size
@@ -44,13 +44,13 @@ refused-requires-3 c κs = search needs
 returns-3 : tie.Need-returns-3
 returns-3 c =
     let g = c .before .before .before .before .before .before .before .before .good .1 .1 .1 .1 .1 .0 .1 .1 in
-    let f = narrow-state (c .before .before .before .before .before .before .before .before .args .q) (record { n1 = g .1 .0 .1; n2 = g .1 .1 .0 .1; n3 = g .1 .1 .1 .0 .1; n4 = g .1 .1 .1 .1 .0 .1; d = g .1 .1 .1 .1 .1 .0 .1 }) in
+    let f = narrow-state (c .before .before .before .before .before .before .before .before .args .q) (g .1 .0 .0) (g .1 .0 .1 .1) in
     ap (λ (x : Listed). outcome x (c .before .before .before .before .before .before .before .before .args .text .now)) (c .refused3 .ensures) ∙ page-17 (c .before .before .before .before .before .before .before .before .args .model .now) (site-as (c .before .before .before .before .before .before .before .before .args .site)) (c .before .before .before .before .before .before .before .before .args .horizon) (c .before .before .before .before .before .before .before .before .args .nodes .now) (c .before .before .before .before .before .before .before .before .args .stages .now) (asked (c .before .before .before .before .before .before .before .before .args .q)) (c .before .before .before .before .before .before .before .before .args .text .now) (c .before .before .before .before .before .before .before .before .args .place) (c .before .before .before .before .before .before .before .before .pre) (c .before .before .before .before .refusal .result) (c .before .before .before .before .refusal .ensures) (c .before .before .before .if1 .left) f (inr (c .before .if3 .taken))
 
 write-lines-requires : tie.Need-write-lines-requires
 write-lines-requires c κs =
     let g = c .before .before .before .before .before .before .before .before .good .1 .1 .1 .1 .1 .0 .1 .1 in
-    let f = narrow-state (c .before .before .before .before .before .before .before .before .args .q) (record { n1 = g .1 .0 .1; n2 = g .1 .1 .0 .1; n3 = g .1 .1 .1 .0 .1; n4 = g .1 .1 .1 .1 .0 .1; d = g .1 .1 .1 .1 .1 .0 .1 }) in
+    let f = narrow-state (c .before .before .before .before .before .before .before .before .args .q) (g .1 .0 .0) (g .1 .0 .1 .1) in
     (page-shown (c .before .before .before .before .before .before .before .before .args .model .now) (site-as (c .before .before .before .before .before .before .before .before .args .site)) (c .before .before .before .before .before .before .before .before .args .horizon) (c .before .before .before .before .before .before .before .before .args .nodes .now) (c .before .before .before .before .before .before .before .before .args .stages .now) (asked (c .before .before .before .before .before .before .before .before .args .q)) (c .before .before .before .before .before .before .before .before .args .text .now) (c .before .before .before .before .before .before .before .before .args .place) (c .before .before .before .before .before .before .before .before .pre) (c .before .before .before .before .refusal .result) (c .before .before .before .before .refusal .ensures) (c .before .before .before .if1 .left) f, page-room (c .before .before .before .before .before .before .before .before .args .model .now) (site-as (c .before .before .before .before .before .before .before .before .args .site)) (c .before .before .before .before .before .before .before .before .args .horizon) (c .before .before .before .before .before .before .before .before .args .nodes .now) (c .before .before .before .before .before .before .before .before .args .stages .now) (asked (c .before .before .before .before .before .before .before .before .args .q)) (c .before .before .before .before .before .before .before .before .args .text .now) (c .before .before .before .before .before .before .before .before .args .place) (c .before .before .before .before .before .before .before .before .pre) (c .before .before .before .before .refusal .result) (c .before .before .before .before .refusal .ensures) (c .before .before .before .if1 .left) f (c .before .before .if2 .left) (c .before .if3 .left))
 
 same-length : tie.Need-same-length
@@ -59,7 +59,7 @@ same-length c = search needs
 returns-4 : tie.Need-returns-4
 returns-4 c =
     let g = c .before .before .before .before .before .before .before .before .before .before .before .good .1 .1 .1 .1 .1 .0 .1 .1 in
-    let f = narrow-state (c .before .before .before .before .before .before .before .before .before .before .before .args .q) (record { n1 = g .1 .0 .1; n2 = g .1 .1 .0 .1; n3 = g .1 .1 .1 .0 .1; n4 = g .1 .1 .1 .1 .0 .1; d = g .1 .1 .1 .1 .1 .0 .1 }) in
+    let f = narrow-state (c .before .before .before .before .before .before .before .before .before .before .before .args .q) (g .1 .0 .0) (g .1 .0 .1 .1) in
     page-written (c .before .before .before .before .before .before .before .before .before .before .before .args .model .now) (site-as (c .before .before .before .before .before .before .before .before .before .before .before .args .site)) (c .before .before .before .before .before .before .before .before .before .before .before .args .horizon) (c .before .before .before .before .before .before .before .before .before .before .before .args .nodes .now) (c .before .before .before .before .before .before .before .before .before .before .before .args .stages .now) (asked (c .before .before .before .before .before .before .before .before .before .before .before .args .q)) (c .before .before .before .before .before .before .before .before .before .before .before .args .text .now) (c .before .before .before .before .before .before .before .before .before .before .before .args .place) (c .before .before .before .before .before .before .before .before .before .before .before .pre) (c .before .before .before .before .before .before .before .refusal .result) (c .before .before .before .before .before .before .before .refusal .ensures) (c .before .before .before .before .before .before .if1 .left) f (c .before .before .before .before .before .if2 .left) (c .before .before .before .before .if3 .left) refl (c .before .before .write-lines .ensures .left)
 
 pub page-of-spec : {M : Type 1} → statement M

@@ -56,7 +56,8 @@ loop-again c =
 returns : tie.Need-returns Inv-loop μ-loop
 returns c =
     let e = length-map ((c .before .before .before) .args .xs .now) pos in
-    counted-all (c .before .loop .inv) (omega (arith, e, c .loop-test .left)) (omega (arith, e, (c .before .before .before) .pre))
+    let n = counted-all (c .before .loop .inv) (omega (arith, e, c .loop-test .left)) in
+    (n .0, omega (arith, e, n .1))
 
 pub numbers-len-spec : {M : Type 1} → statement M
 numbers-len-spec =

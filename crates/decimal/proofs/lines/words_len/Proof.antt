@@ -53,7 +53,7 @@ loop-again c =
 
 returns : tie.Need-returns Inv-loop μ-loop
 returns c =
-    counted-all (c .before .loop .inv) (c .loop-test .left) ((c .before .before) .pre)
+    counted-all (c .before .loop .inv) (c .loop-test .left)
 
 pub words-len-spec : {M : Type 1} → statement M
 words-len-spec =

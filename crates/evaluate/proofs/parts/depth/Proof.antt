@@ -1,7 +1,7 @@
 -- `evaluate::parts::depth` meets its contract.
 use mathlib.Core.Path.{sym, ap, _∙_}
 use Rattle.command.specs.declared.Command.{Command as CodeCommand}
-use Rattle.command.specs.Reading.{command-of}
+use Rattle.command.specs.Reading.{command-of, command-of-in}
 use Rattle.evaluate.specs.Parts.{depth-after}
 use borrow.Author.Needs.{needs}
 use Rattle.evaluate.proofs.parts.depth.Statement.{statement}
@@ -41,37 +41,37 @@ enum-told-7 : tie.Need-enum-told-7
 enum-told-7 c = search needs
 
 returns : tie.Need-returns
-unfolding depth-after command-of
+unfolding depth-after command-of-in
 returns c =
     λ B i. c .pushed .ensures ∙ ap (λ (d : CodeCommand). depth-after (command-of B i d) (c .before .before .before .args .n)) (sym (c .before .enum-told .given .1))
 
 returns-2 : tie.Need-returns-2
-unfolding depth-after command-of
+unfolding depth-after command-of-in
 returns-2 c =
     λ B i. c .joined .ensures ∙ ap (λ (d : CodeCommand). depth-after (command-of B i d) (c .before .before .before .args .n)) (sym (c .before .enum-told2 .given .1))
 
 returns-3 : tie.Need-returns-3
-unfolding depth-after command-of
+unfolding depth-after command-of-in
 returns-3 c =
     λ B i. c .joined2 .ensures ∙ ap (λ (d : CodeCommand). depth-after (command-of B i d) (c .before .before .before .args .n)) (sym (c .before .enum-told3 .given .1))
 
 returns-4 : tie.Need-returns-4
-unfolding depth-after command-of
+unfolding depth-after command-of-in
 returns-4 c =
     λ B i. c .popped .ensures ∙ ap (λ (d : CodeCommand). depth-after (command-of B i d) (c .before .before .before .args .n)) (sym (c .before .enum-told4 .given .1))
 
 returns-5 : tie.Need-returns-5
-unfolding depth-after command-of
+unfolding depth-after command-of-in
 returns-5 c =
     λ B i. ap (λ (d : CodeCommand). depth-after (command-of B i d) (c .before .before .args .n)) (sym (c .enum-told5 .given .1))
 
 returns-6 : tie.Need-returns-6
-unfolding depth-after command-of
+unfolding depth-after command-of-in
 returns-6 c =
     λ B i. ap (λ (d : CodeCommand). depth-after (command-of B i d) (c .before .before .args .n)) (sym (c .enum-told6 .given .1))
 
 returns-7 : tie.Need-returns-7
-unfolding depth-after command-of
+unfolding depth-after command-of-in
 returns-7 c =
     λ B i. ap (λ (d : CodeCommand). depth-after (command-of B i d) (c .before .before .args .n)) (sym (c .enum-told7 .given .1))
 

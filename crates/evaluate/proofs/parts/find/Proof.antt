@@ -3,10 +3,10 @@ use mathlib.Core.Path.{sym, _∙_}
 use Prim.Native.Nat.{_-_}
 use native.Mathlib.Omega.{arith}
 use lib.ListN.{length}
-use Rattle.command.specs.Reading.{command-of}
+use Rattle.theory.specs.Form.{new-form}
 use Rattle.command.proofs.Forward.{whole-bytes}
 use Rattle.model.proofs.Walk.{whole-is, going, forward}
-use Rattle.evaluate.proofs.Finds.{Finds, finds-starts, finds-stop, finds-end, finds-on}
+use Rattle.evaluate.proofs.Finds.{Finds, finds-long, finds-starts, finds-stop, finds-end, finds-on}
 use borrow.Author.Needs.{needs}
 use Rattle.evaluate.proofs.parts.find.Statement.{statement}
 use Rattle.evaluate.proofs.parts.find.Tie as tie
@@ -39,7 +39,7 @@ enum-known-read c =
 
 same-length : tie.Need-same-length Inv-loop μ-loop
 same-length c =
-    search needs
+    finds-long (c .before .before .loop .inv) (c .before .before .before .before .before .before .args .parts .now) (c .before .before .before .before .before .before .pre .2)
 
 returns : tie.Need-returns Inv-loop μ-loop
 returns c =
@@ -51,7 +51,7 @@ is-end-requires c κs =
 
 same-length-2 : tie.Need-same-length-2 Inv-loop μ-loop
 same-length-2 c =
-    search needs
+    finds-long (c .before .before .before .before .before .before .loop .inv) (c .before .before .before .before .before .before .before .before .before .before .args .parts .now) (c .before .before .before .before .before .before .before .before .before .before .pre .2)
 
 returns-2 : tie.Need-returns-2 Inv-loop μ-loop
 returns-2 c =
@@ -59,7 +59,7 @@ returns-2 c =
 
 cast-last-empty : tie.Need-cast-last-empty Inv-loop μ-loop
 cast-last-empty c =
-    let h = whole-bytes (c .before .before .before .before .before .before .before .before .before .before .args .model .now) (c .before .before .before .before .before .before .loop .at) _ (whole-is (c .before .before .before .before .before .before .before .before .before .before .args .model .now) (c .before .before .before .before .before .before .loop .at) (c .before .before .before .before .before .command-at .ensures) (c .before .before .before .read .given .1)) .0 .starts in omega (arith, c .before .before .before .before .before .before .before .before .before .before .pre .1)
+    let h = whole-bytes new-form (c .before .before .before .before .before .before .before .before .before .before .args .model .now) (c .before .before .before .before .before .before .loop .at) _ (whole-is (c .before .before .before .before .before .before .before .before .before .before .args .model .now) (c .before .before .before .before .before .before .loop .at) (c .before .before .before .before .before .command-at .ensures) (c .before .before .before .read .given .1)) .0 .starts in omega (arith, c .before .before .before .before .before .before .before .before .before .before .pre .1)
 
 last-empty-requires : tie.Need-last-empty-requires Inv-loop μ-loop
 last-empty-requires c κs =

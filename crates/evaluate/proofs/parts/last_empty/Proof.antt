@@ -1,5 +1,5 @@
 -- `evaluate::parts::last_empty` meets its contract.
-use borrow.Author.Tests.{ne-eqb, eq-eqb, le-leb, lt-leb, lt-ltb, le-ltb, not-true, not-false}
+use borrow.Author.Tests.{ne-eqb, eq-eqb}
 use Rattle.evaluate.proofs.parts.last_empty.Statement.{statement}
 use Rattle.evaluate.proofs.parts.last_empty.Tie as tie
 

@@ -1,7 +1,7 @@
 -- `evaluate::parts::note` meets its contract.
 use mathlib.Core.Path.{sym, ap, _∙_}
 use Rattle.command.specs.declared.Command.{Command as CodeCommand}
-use Rattle.command.specs.Reading.{command-of}
+use Rattle.command.specs.Reading.{command-of, command-of-in}
 use Rattle.evaluate.specs.Parts.{noted}
 use Rattle.evaluate.proofs.Finds.{noted-other}
 use borrow.Author.Needs.{needs}
@@ -18,7 +18,7 @@ same-length : tie.Need-same-length
 same-length c = search needs
 
 returns : tie.Need-returns
-unfolding noted command-of
+unfolding noted command-of-in
 returns c =
     λ B i. c .before .before .enter .ensures ∙ ap (λ (d : CodeCommand). noted (command-of B i d) (c .before .before .before .before .before .before .before .before .args .begin) (c .before .before .before .before .before .before .before .before .args .parts .now)) (sym (c .before .before .before .before .before .c .given .1))
 

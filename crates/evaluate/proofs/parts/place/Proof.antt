@@ -1,5 +1,4 @@
 -- `evaluate::parts::place` meets its contract.
-use mathlib.Core.Path.{sym}
 use borrow.Author.Tests.{lt-ltb, le-ltb}
 use Rattle.evaluate.specs.Parts.{slots-each}
 use Rattle.evaluate.specs.Parts.{place as place-of}

@@ -1,5 +1,6 @@
 -- `plan_text::lines::first_line_len` meets its contract.
 use mathlib.Core.Path.{ap, _∙_}
+use native.Mathlib.Omega.{arith}
 use lib.ListN.{length}
 use Rattle.plan_text.proofs.Numbered.{first-is}
 use borrow.Author.Needs.{needs}
@@ -20,7 +21,7 @@ line-len-requires c κs = search needs
 
 returns : tie.Need-returns
 returns c =
-    (c .line-len .ensures .0 ∙ ap length (first-is ((c .before .before .before .before) .args .site) ((c .before .before .before .before) .args .horizon) (c .before .before .before .first-numbers .ensures)), c .line-len .ensures .1)
+    (c .line-len .ensures .0 ∙ ap length (first-is ((c .before .before .before .before) .args .site) ((c .before .before .before .before) .args .horizon) (c .before .before .before .first-numbers .ensures)), omega (arith, c .line-len .ensures .1, ap length (c .before .before .before .first-numbers .ensures)))
 
 pub first-line-len-spec : {M : Type 1} → statement M
 first-line-len-spec =

@@ -1,7 +1,10 @@
 -- `plan_text::lines::node_rest_len` meets its contract.
 use mathlib.Core.Path.{ap, _∙_}
+use Prim.Native.Nat.{_+_}
+use native.Mathlib.Omega.{arith}
 use lib.ListN.{length}
-use Rattle.plan_text.proofs.Numbered.{rest-leaf, rest-condition, rest-test}
+use Rattle.theory.specs.Widths.{levels-most}
+use Rattle.plan_text.proofs.Numbered.{from, part-few, rest-leaf, rest-condition, rest-test}
 use borrow.Author.Needs.{needs}
 use Rattle.plan_text.proofs.lines.node_rest_len.Statement.{statement}
 use Rattle.plan_text.proofs.lines.node_rest_len.Tie as tie
@@ -24,7 +27,7 @@ words-line-len-requires c κs = search needs
 returns : tie.Need-returns
 returns c =
     let e = rest-condition ((c .before .before .before .before .before .before) .args .nodes .now) ((c .before .before .before .before .before .before) .args .r) (c .before .before .before .before .before .magnitude .result) (c .before .before .before .before .before .magnitude .ensures) (c .before .before .before .before .if1 .taken) (c .before .before .before .condition-numbers .ensures) in
-    (c .words-line-len .ensures .0 ∙ ap length e, c .words-line-len .ensures .1)
+    (c .words-line-len .ensures .0 ∙ ap length e, omega (arith, c .words-line-len .ensures .1, ap length (c .before .before .before .condition-numbers .ensures)))
 
 sub-first : tie.Need-sub-first
 sub-first c = search needs
@@ -59,7 +62,7 @@ words-line-len-requires-2 c κs = search needs
 returns-2 : tie.Need-returns-2
 returns-2 c =
     let e = rest-leaf ((c .before .before .before .before .before .before) .args .nodes .now) ((c .before .before .before .before .before .before) .args .r) (c .before .before .before .before .before .magnitude .result) (c .before .before .before .before .before .magnitude .ensures) (c .before .before .before .if2 .taken) in
-    (c .words-line-len2 .ensures .0 ∙ ap length e, c .words-line-len2 .ensures .1)
+    (c .words-line-len2 .ensures .0 ∙ ap length e, omega (arith, c .words-line-len2 .ensures .1, part-few ((c .before .before .before .before .before .before) .args .nodes .now) (from ((c .before .before .before .before .before .before) .args .r)) (levels-most + 2)))
 
 add-end-2 : tie.Need-add-end-2
 add-end-2 c = search needs
@@ -85,7 +88,7 @@ words-line-len-requires-3 c κs = search needs
 returns-3 : tie.Need-returns-3
 returns-3 c =
     let e = rest-test ((c .before .before .before .before .before .before) .args .nodes .now) ((c .before .before .before .before .before .before) .args .r) (c .before .before .before .before .before .magnitude .result) (c .before .before .before .before .before .magnitude .ensures) (c .before .before .before .before .if1 .left) (c .before .before .before .if2 .left) in
-    (c .words-line-len3 .ensures .0 ∙ ap length e, c .words-line-len3 .ensures .1)
+    (c .words-line-len3 .ensures .0 ∙ ap length e, omega (arith, c .words-line-len3 .ensures .1, part-few ((c .before .before .before .before .before .before) .args .nodes .now) (from ((c .before .before .before .before .before .before) .args .r)) (levels-most + 3)))
 
 pub node-rest-len-spec : {M : Type 1} → statement M
 node-rest-len-spec =

@@ -1,5 +1,6 @@
 -- `plan_text::lines::stage_line_len` meets its contract.
 use mathlib.Core.Path.{ap, _∙_}
+use native.Mathlib.Omega.{arith}
 use lib.ListN.{length}
 use Rattle.plan_text.proofs.Numbered.{stage-is}
 use borrow.Author.Needs.{needs}
@@ -20,7 +21,7 @@ line-len-requires c κs = search needs
 
 returns : tie.Need-returns
 returns c =
-    (c .line-len .ensures .0 ∙ ap length (stage-is ((c .before .before .before .before .before) .args .stages .now) ((c .before .before .before .before .before) .args .h) (c .before .before .before .stage-numbers .ensures)), c .line-len .ensures .1)
+    (c .line-len .ensures .0 ∙ ap length (stage-is ((c .before .before .before .before .before) .args .stages .now) ((c .before .before .before .before .before) .args .h) (c .before .before .before .stage-numbers .ensures)), omega (arith, c .line-len .ensures .1, ap length (c .before .before .before .stage-numbers .ensures)))
 
 pub stage-line-len-spec : {M : Type 1} → statement M
 stage-line-len-spec =

@@ -4,13 +4,13 @@ use native.Mathlib.Omega.{arith}
 use mathlib.Core.Path.{_≡_, ap, _∙_}
 use lib.ListN.{length}
 use Rattle.theory.specs.Listing.{node-line}
-use Rattle.plan_text.specs.Plan.{upto}
+use Rattle.plan_text.specs.Plan.{node-line-most, other-lines-most, upto}
 use Rattle.plan_text.proofs.Joined.{upon, counted-none, counted-more, counted-over, counted-within}
 use Rattle.plan_text.proofs.texts.node_lines_len.Statement.{statement}
 use Rattle.plan_text.proofs.texts.node_lines_len.Tie as tie
 
 abbrev Inv-loop : tie.InvT-loop
-Inv-loop before nodes last room n₀ r₀ n r = (r ≤ last) × (n ≡ before + length (upon (node-line nodes) r)) × (n ≤ room + 2207)
+Inv-loop before nodes last room n₀ r₀ n r = (r ≤ last) × (n ≡ before + length (upon (node-line nodes) r)) × (n ≤ room + (other-lines-most + node-line-most))
 
 abbrev μ-loop : tie.MeasureT-loop
 μ-loop before nodes last room n₀ r₀ n r = last - r

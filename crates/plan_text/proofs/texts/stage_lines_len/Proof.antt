@@ -4,12 +4,13 @@ use native.Mathlib.Omega.{arith}
 use mathlib.Core.Path.{_≡_, ap}
 use lib.ListN.{length}
 use Rattle.theory.specs.Listing.{stage-line}
+use Rattle.plan_text.specs.Plan.{line-most}
 use Rattle.plan_text.proofs.Joined.{upon, counted-none, counted-more}
 use Rattle.plan_text.proofs.texts.stage_lines_len.Statement.{statement}
 use Rattle.plan_text.proofs.texts.stage_lines_len.Tie as tie
 
 abbrev Inv-loop : tie.InvT-loop
-Inv-loop stages last n₀ h₀ n h = (h ≤ last) × (n ≡ 0 + length (upon (stage-line stages) h)) × (n ≤ 185 * h)
+Inv-loop stages last n₀ h₀ n h = (h ≤ last) × (n ≡ 0 + length (upon (stage-line stages) h)) × (n ≤ line-most * h)
 
 abbrev μ-loop : tie.MeasureT-loop
 μ-loop stages last n₀ h₀ n h = last - h

@@ -1,22 +1,13 @@
 -- `transition::moves::next_level` meets its contract.
-use native.Mathlib.Omega.{arith}
-use Rattle.transition.proofs.Leading.{level-beyond, level-found}
+use Rattle.transition.proofs.Leading.{level-found}
 use borrow.Author.Needs.{needs}
 use Rattle.transition.proofs.moves.next_level.Statement.{statement}
 use Rattle.transition.proofs.moves.next_level.Tie as tie
 
-levels-requires : tie.Need-levels-requires
-levels-requires c κs = search needs
-
-returns : tie.Need-returns
-returns c =
-    let s = (c .before .before .before .before) in
-    level-beyond (s .args .model .now) (s .args .a) (s .args .i) (s .args .x) _ (c .before .levels .ensures) (c .if1 .taken)
-
 worth-at-requires : tie.Need-worth-at-requires
 worth-at-requires c κs =
-    let s = (c .before .before .before .before) in
-    (s .pre .0 .accepted, s .pre .0 .short, tt, s .pre .3)
+    let s = c .before .before in
+    (s .pre .0 .accepted, s .pre .0 .short, tt, s .pre .2)
 
 narrow-requires : tie.Need-narrow-requires
 narrow-requires c κs = search needs
@@ -24,18 +15,10 @@ narrow-requires c κs = search needs
 in-32-bits-requires : tie.Need-in-32-bits-requires
 in-32-bits-requires c κs = search needs
 
-returns-2 : tie.Need-returns-2
-returns-2 c =
-    let s = (c .before .before .before .before .before .before .before) in
-    level-found (s .args .model .now) (s .args .a) (s .args .i) (s .args .x) _ (c .before .before .before .before .levels .ensures) (c .before .before .before .if1 .left) _ (c .before .before .worth-at .ensures) (c .before .narrow .ensures) (c .in-32-bits .ensures)
+returns : tie.Need-returns
+returns c =
+    let s = c .before .before .before .before .before in
+    level-found (s .args .model .now) (s .args .a) (s .args .i) (s .args .x) _ (c .before .before .worth-at .ensures) (c .before .narrow .ensures) (c .in-32-bits .ensures)
 
 pub next-level-spec : {M : Type 1} → statement M
-next-level-spec =
-    tie.close
-    (tie.spec
-    levels-requires
-    returns
-    worth-at-requires
-    narrow-requires
-    in-32-bits-requires
-    returns-2)
+next-level-spec = tie.close (tie.spec worth-at-requires narrow-requires in-32-bits-requires returns)

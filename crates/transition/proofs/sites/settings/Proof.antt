@@ -1,7 +1,7 @@
 -- `transition::sites::settings` meets its contract.
 use mathlib.Core.Path.{sym, ap, _∙_}
 use Prim.Native.Nat.{ℕ, _^_}
-use Rattle.transition.proofs.Lists.{four-most, sixteen}
+use Rattle.transition.proofs.Lists.{within-widths, sixteen}
 use borrow.Author.Needs.{needs}
 use Rattle.transition.proofs.sites.settings.Statement.{statement}
 use Rattle.transition.proofs.sites.settings.Tie as tie
@@ -27,7 +27,7 @@ returns-4 c =
 
 returns-5 : tie.Need-returns-5
 returns-5 c =
-    sixteen _ _ (c .before .conditions .ensures) (four-most _ ((c .before .before .before) .pre) .0) (c .match .rest .0 .0 .0 .1) (c .match .rest .0 .0 .1) (c .match .rest .0 .1) (c .match .rest .1)
+    sixteen _ _ (c .before .conditions .ensures) (within-widths _ ((c .before .before .before) .pre) .0) (c .match .rest .0 .0 .0 .1) (c .match .rest .0 .0 .1) (c .match .rest .0 .1) (c .match .rest .1)
 
 pub settings-spec : {M : Type 1} → statement M
 settings-spec =

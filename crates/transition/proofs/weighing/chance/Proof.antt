@@ -1,5 +1,4 @@
 -- `transition::weighing::chance` meets its contract.
-use native.Mathlib.Omega.{arith}
 use Rattle.transition.proofs.Weigh.{chance-beyond, chance-found}
 use borrow.Author.Needs.{needs}
 use Rattle.transition.proofs.weighing.chance.Statement.{statement}

@@ -1,6 +1,5 @@
 -- `worth::worths::action_worth` and `worth::worths::state_worth`, which call each other, meet their contracts.
 use native.Mathlib.Omega.{arith}
-use borrow.Author.Needs.{needs}
 use Rattle.model.proofs.Accepted.{site-accepted}
 use Rattle.judging.specs.Totals.{total-of, is-over, none-left}
 use Rattle.worth.proofs.Runs.{goes-on, not-last}

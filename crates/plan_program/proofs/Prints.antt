@@ -2,16 +2,17 @@
 use mathlib.Core.Path.{_≡_, refl, sym, ap, _∙_}
 use mathlib.Core.Bool.{Bool, true, false, not}
 use mathlib.Core.List.{List, [], _∷_, _++_}
-use Prim.Native.Nat.{ℕ, zero, suc, _+_, _-_, _≤_, _<_, _/_, _%_}
+use Prim.Native.Nat.{ℕ, zero, suc, _+_, _-_, _*_, _≤_, _<_, _/_, _%_}
 use native.Mathlib.Omega.{arith}
-use borrow.Author.Tests.{eq-eqb, ne-eqb, eqb-true, ltb-false, lt-ltb}
+use borrow.Author.Tests.{eq-eqb, ne-eqb, eqb-true, ltb-false, lt-ltb, le-ltb}
 use lib.Dec.{eqb, ltb}
 use lib.IntN.{ℤ, pos}
 use lib.ListN.{length, getD, take, drop, replicate, length-append}
 use lib.Seq.{take-at, take-all, length-take-le}
 use Rattle.whole.specs.Cases.{if}
+use Rattle.theory.specs.Widths.{node-words, work-words, steps-most}
 use Rattle.theory.specs.Valid.{all}
-use Rattle.theory.specs.Verdict.{Verdict, refusal, or, from-to}
+use Rattle.theory.specs.Verdict.{Verdict, refusal, from-to}
 use Rattle.theory.specs.Load.{site-at}
 use Rattle.theory.specs.Solve.{early, SolveOut, solve}
 use Rattle.theory.specs.Value.{good-row}
@@ -19,7 +20,8 @@ use Rattle.theory.specs.Listing.{digits, spaced, spaced-all, greatest-root, ref
 use Rattle.decimal.specs.Put.{PutAt}
 use Rattle.decimal.proofs.Numbers.{spaced-plain}
 use Rattle.decimal.proofs.Rows.{line-length}
-use Rattle.print_plan.specs.Printed.{listed, printed, plan-printed, program}
+use Rattle.plan_text.specs.Plan.{line-most}
+use Rattle.plan_program.specs.Printed.{listed, printed, model-most, text-bytes, nodes-held, tables-printed, plan-printed, program}
 
 -- ---- a refusal's line has room
 
@@ -39,7 +41,7 @@ two-short : (x y : ℕ) → length (spaced-all (pos x ∷ pos y ∷ [])) ≤ 42
 unfolding spaced-all
 two-short x y = omega (arith, length-append (spaced (pos x)) (spaced (pos y) ++ []), length-append (spaced (pos y)) [], spaced-short x, spaced-short y)
 
-pub refusal-short : (number place room : ℕ) → 185 ≤ room → length (refusal-line (refusal number place)) ≤ room
+pub refusal-short : (number place room : ℕ) → line-most ≤ room → length (refusal-line (refusal number place)) ≤ room
 unfolding refusal-line
 refusal-short number place room h = omega (arith, line-length (82 ∷ []) (pos number ∷ pos place ∷ []), two-short number place)
 
@@ -140,10 +142,19 @@ module _ (B : List ℕ) (H : ℕ) (nodes : List ℤ) (stages work buffer : List 
 
 -- ---- from the input
 
--- a plan in a buffer of 65,536 bytes
-pub plan-is : (B : List ℕ) (H : ℕ) {room : ℕ} {t : List ℕ} → room ≡ 65536 → t ≡ printed B H (replicate 8192 (pos 0)) (replicate 8 0) (replicate 8192 0) room → t ≡ plan-printed B H
-unfolding plan-printed
-plan-is B H e f = f ∙ ap (printed B H (replicate 8192 (pos 0)) (replicate 8 0) (replicate 8192 0)) e
+-- in the program's own tables
+pub tables-are : (B : List ℕ) (H : ℕ) {room : ℕ} {t : List ℕ} → room ≡ text-bytes → t ≡ printed B H (replicate (nodes-held * node-words) (pos 0)) (replicate steps-most 0) (replicate (nodes-held * work-words) 0) room → t ≡ tables-printed B H
+unfolding tables-printed
+tables-are B H e f = f ∙ ap (printed B H (replicate (nodes-held * node-words) (pos 0)) (replicate steps-most 0) (replicate (nodes-held * work-words) 0)) e
+
+module _ (B : List ℕ) (H : ℕ) {t : List ℕ} where
+  pub longer : model-most < length B → t ≡ refusal-line (refusal 10 0) → t ≡ plan-printed B H
+  unfolding plan-printed
+  longer h e = e ∙ sym (ap (λ (b : Bool). if b (refusal-line (refusal 10 0)) (tables-printed B H)) (lt-ltb model-most (length B) h))
+
+  pub no-longer : length B ≤ model-most → t ≡ tables-printed B H → t ≡ plan-printed B H
+  unfolding plan-printed
+  no-longer h e = e ∙ sym (ap (λ (b : Bool). if b (refusal-line (refusal 10 0)) (tables-printed B H)) (le-ltb model-most (length B) h))
 
 -- no byte
 pub none-given : (input : List ℕ) {t : List ℕ} → length input ≡ 0 → t ≡ plan-printed input 0 → t ≡ program input
@@ -159,19 +170,10 @@ horizon-given (x ∷ l) h n e f = f ∙ (λ i. plan-printed (take-all (length (x
 
 -- ---- bytes behind the room decide nothing
 
-or-true : (b : Bool) → or b true ≡ true
-or-true true = refl
-or-true false = refl
-
-too-long : (B : List ℕ) (H : ℕ) (nodes : List ℤ) (stages work : List ℕ) (room : ℕ) → 65535 < length B → printed B H nodes stages work room ≡ refusal-line (refusal 10 0)
-unfolding printed solve early
-too-long B H nodes stages work room h = rw (lt-ltb 65535 (length B) h, or-true (not (eqb (length stages) 8)))
-
--- the program reads 65,537 bytes: of a longer input it prints what it would of the whole
-pub rest-unread : (input : List ℕ) → 65537 ≤ length input → program (take 65537 input) ≡ program input
-unfolding program plan-printed
+-- the program reads a horizon byte and one byte more than it takes: of a longer input it prints what it would of the whole
+pub rest-unread : (input : List ℕ) → model-most + 2 ≤ length input → program (take (model-most + 2) input) ≡ program input
+unfolding program
 rest-unread [] h = refl
 rest-unread (x ∷ B) h =
-    let e = length-take-le 65536 B (omega arith) in
-    too-long (take 65536 B) x (replicate 8192 (pos 0)) (replicate 8 0) (replicate 8192 0) 65536 (omega arith)
-    ∙ sym (too-long B x (replicate 8192 (pos 0)) (replicate 8 0) (replicate 8192 0) 65536 (omega arith))
+    let e = length-take-le (model-most + 1) B (omega arith) in
+    sym (longer (take (model-most + 1) B) x (omega arith) refl) ∙ longer B x (omega arith) refl

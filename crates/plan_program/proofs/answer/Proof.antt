@@ -1,8 +1,8 @@
--- `print_plan::answer` meets its contract.
-use Rattle.print_plan.proofs.Prints.{none-given, horizon-given}
+-- `plan_program::answer` meets its contract.
+use Rattle.plan_program.proofs.Prints.{none-given, horizon-given}
 use borrow.Author.Needs.{needs}
-use Rattle.print_plan.proofs.answer.Statement.{statement}
-use Rattle.print_plan.proofs.answer.Tie as tie
+use Rattle.plan_program.proofs.answer.Statement.{statement}
+use Rattle.plan_program.proofs.answer.Tie as tie
 
 plan-requires : tie.Need-plan-requires
 plan-requires c κs = search needs

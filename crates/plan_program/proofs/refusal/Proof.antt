@@ -1,9 +1,9 @@
--- `print_plan::refusal` meets its contract.
+-- `plan_program::refusal` meets its contract.
 use lib.ListN.{length}
-use Rattle.print_plan.proofs.Prints.{refusal-short, put-front}
+use Rattle.plan_program.proofs.Prints.{refusal-short, put-front}
 use borrow.Author.Needs.{needs}
-use Rattle.print_plan.proofs.refusal.Statement.{statement}
-use Rattle.print_plan.proofs.refusal.Tie as tie
+use Rattle.plan_program.proofs.refusal.Statement.{statement}
+use Rattle.plan_program.proofs.refusal.Tie as tie
 
 refusal-line-requires : tie.Need-refusal-line-requires
 refusal-line-requires c κs =

@@ -1,9 +1,9 @@
--- `print_plan::plan` meets its contract.
+-- `plan_program::tabled` meets its contract.
 use native.Mathlib.Omega.{arith}
-use Rattle.print_plan.proofs.Prints.{plan-is}
+use Rattle.plan_program.proofs.Prints.{tables-are}
 use borrow.Author.Needs.{needs}
-use Rattle.print_plan.proofs.plan.Statement.{statement}
-use Rattle.print_plan.proofs.plan.Tie as tie
+use Rattle.plan_program.proofs.tabled.Statement.{statement}
+use Rattle.plan_program.proofs.tabled.Tie as tie
 
 slice-aggregate-print : tie.Need-slice-aggregate-print
 slice-aggregate-print c = search needs
@@ -24,10 +24,10 @@ returns : tie.Need-returns
 returns c =
     let p = c .before .before .before .before .before .print in
     let s = c .before .before .before .before .before .before .before .before .before .before .before .before in
-    (omega (arith, p .ensures .0, s .pre), plan-is (s .args .model .now) (s .args .horizon) (s .pre) (p .ensures .1))
+    (omega (arith, p .ensures .0, s .pre), tables-are (s .args .model .now) (s .args .horizon) (s .pre) (p .ensures .1))
 
-pub plan-spec : {M : Type 1} → statement M
-plan-spec =
+pub tabled-spec : {M : Type 1} → statement M
+tabled-spec =
     tie.close
     (tie.spec
     slice-aggregate-print

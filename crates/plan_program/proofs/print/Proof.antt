@@ -1,11 +1,11 @@
--- `print_plan::print` meets its contract.
+-- `plan_program::print` meets its contract.
 use mathlib.Core.Path.{_∙_}
 use native.Mathlib.Omega.{arith}
 use lib.ListN.{length}
-use Rattle.print_plan.proofs.Prints.{refused-printed, listing-refused-printed, listing-printed}
+use Rattle.plan_program.proofs.Prints.{refused-printed, listing-refused-printed, listing-printed}
 use borrow.Author.Needs.{needs}
-use Rattle.print_plan.proofs.print.Statement.{statement}
-use Rattle.print_plan.proofs.print.Tie as tie
+use Rattle.plan_program.proofs.print.Statement.{statement}
+use Rattle.plan_program.proofs.print.Tie as tie
 
 solve-requires : tie.Need-solve-requires
 solve-requires c κs = search needs

@@ -1,10 +1,11 @@
 -- "The listing program": the listing of what is solved, or `R number place`.
 use mathlib.Core.List.{List, [], _∷_}
-use Prim.Native.Nat.{ℕ}
-use lib.Dec.{eqb}
+use Prim.Native.Nat.{ℕ, _*_}
+use lib.Dec.{eqb, ltb}
 use lib.IntN.{ℤ, pos}
-use lib.ListN.{replicate}
+use lib.ListN.{length, replicate}
 use Rattle.whole.specs.Cases.{if}
+use Rattle.theory.specs.Widths.{node-words, work-words, steps-most}
 use Rattle.theory.specs.Verdict.{Verdict, refusal}
 use Rattle.theory.specs.Load.{site-at}
 use Rattle.theory.specs.Solve.{SolveOut, solve}
@@ -22,9 +23,25 @@ printed B H nodes stages work room =
     let o = solve B H nodes stages work in
     if (eqb (o .number) 0) (listed B H (o .nodes) (o .stages) room) (refusal-line (refusal (o .number) (o .place)))
 
--- "has 1,024 nodes, and prints from the start of its 65,536-byte buffer"
+-- "It takes 65,535 bytes"
+abbrev pub model-most : ℕ
+model-most = 65535
+
+-- "its 65,536-byte buffer"
+abbrev pub text-bytes : ℕ
+text-bytes = 65536
+
+-- "has 512 nodes"
+abbrev pub nodes-held : ℕ
+nodes-held = 512
+
+-- in tables of zeros, "from the start of its 65,536-byte buffer"
+unfoldable pub tables-printed : List ℕ → ℕ → List ℕ
+tables-printed B H = printed B H (replicate (nodes-held * node-words) (pos 0)) (replicate steps-most 0) (replicate (nodes-held * work-words) 0) text-bytes
+
+-- a longer model is 10, before all else
 unfoldable pub plan-printed : List ℕ → ℕ → List ℕ
-plan-printed B H = printed B H (replicate 8192 (pos 0)) (replicate 8 0) (replicate 8192 0) 65536
+plan-printed B H = if (ltb model-most (length B)) (refusal-line (refusal 10 0)) (tables-printed B H)
 
 -- "reads standard input, horizon byte then model .. empty input counts as horizon 0"
 unfoldable pub program : List ℕ → List ℕ

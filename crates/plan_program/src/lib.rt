@@ -1,0 +1,93 @@
+// The listing program's answer: from a horizon byte and a model to the listing of the plan, or to the refusal.
+ghost use mathlib.Core.Path.{_≡_};
+ghost use Prim.Native.Nat.{_≤_};
+ghost use lib.ListN.{length, take};
+ghost use Rattle.theory.specs.Verdict.{refusal as refusal-of};
+ghost use Rattle.theory.specs.Listing.{refusal-line};
+ghost use Rattle.plan_text.specs.Plan.{line-most};
+ghost use Rattle.plan_program.specs.Printed.{printed, text-bytes, tables-printed, plan-printed, program};
+use solver::solve;
+use table::NODE_WORDS;
+use unique::WORK_WORDS;
+
+// The longest model that the program takes, in bytes.
+pub const MODEL_MOST: usize = 65535;
+
+// How many nodes its tables hold, and their words.
+const NODES: usize = 512;
+
+const NODES_WORDS: usize = NODES * NODE_WORDS;
+
+const NODES_WORK: usize = NODES * WORK_WORDS;
+
+const STAGE_WORDS: usize = 8;
+
+// "A refusal prints `R number place`."
+fn refusal(text: &mut [u8], number: u32, place: usize) -> usize
+    requires { ⌜ line-most ≤ length (now text) ⌝ }
+    ensures { λ r. ⌜ (r ≤ length (now (text .entry))) × (take r (now (text .exit)) ≡ refusal-line (refusal-of number place)) ⌝ }
+{
+    plan_text::lines::refusal_line(text, number, place)
+}
+
+// What is printed stands in the text's first bytes; answers how many.
+fn print(
+    model: &[u8],
+    horizon: u32,
+    nodes: &mut [i64],
+    stages: &mut [u32],
+    work: &mut [u32],
+    text: &mut [u8],
+) -> usize
+    requires { ⌜ line-most ≤ length (now text) ⌝ }
+    ensures { λ r. ⌜ (r ≤ length (now (text .entry))) × (take r (now (text .exit)) ≡ printed (now (model .entry)) horizon (now (nodes .entry)) (now (stages .entry)) (now (work .entry)) (length (now (text .entry)))) ⌝ }
+{
+    let s = solve(model, horizon, nodes, stages, work);
+    if s.number != 0 {
+        return refusal(text, s.number, s.place);
+    }
+    let r = listing::listing(model, horizon, nodes, stages, text, 0);
+    if r.number != 0 {
+        return refusal(text, r.number, r.place);
+    }
+    r.size
+}
+
+// In tables of its own.
+fn tabled(model: &[u8], horizon: u32, text: &mut [u8]) -> usize
+    requires { ⌜ length (now text) ≡ text-bytes ⌝ }
+    ensures { λ r. ⌜ (r ≤ text-bytes) × (take r (now (text .exit)) ≡ tables-printed (now (model .entry)) horizon) ⌝ }
+{
+    let mut nodes = [0i64; NODES_WORDS];
+    let mut stages = [0u32; STAGE_WORDS];
+    let mut work = [0u32; NODES_WORK];
+    print(model, horizon, &mut nodes, &mut stages, &mut work, text)
+}
+
+// A longer model is refused whatever the horizon.
+fn plan(model: &[u8], horizon: u32, text: &mut [u8]) -> usize
+    requires { ⌜ length (now text) ≡ text-bytes ⌝ }
+    ensures { λ r. ⌜ (r ≤ text-bytes) × (take r (now (text .exit)) ≡ plan-printed (now (model .entry)) horizon) ⌝ }
+{
+    if MODEL_MOST < model.len() {
+        return refusal(text, 10, 0);
+    }
+    tabled(model, horizon, text)
+}
+
+fn wide(b: u8) -> u32
+    ensures { λ r. ⌜ r ≡ b ⌝ }
+{
+    b as u32
+}
+
+// From the input's bytes to the text that is printed.
+pub fn answer(input: &[u8], text: &mut [u8]) -> usize
+    requires { ⌜ length (now text) ≡ text-bytes ⌝ }
+    ensures { λ r. ⌜ (r ≤ text-bytes) × (take r (now (text .exit)) ≡ program (now (input .entry))) ⌝ }
+{
+    if input.len() == 0 {
+        return plan(input, 0, text);
+    }
+    plan(&input[1..], wide(input[0]), text)
+}
