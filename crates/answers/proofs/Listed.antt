@@ -1,4 +1,4 @@
--- A listing's answer. With too short an `out` the plan is judged with an empty text: what that gives is refused alike.
+-- The answer of a call that writes a text, and a listing's. With too short an `out` the call is judged with an empty text: what that gives is refused alike.
 use mathlib.Core.Path.{_≡_, refl, sym, ap, _∙_}
 use mathlib.Core.Bool.{Bool, true, false, not}
 use mathlib.Core.List.{List, [], _∷_, _++_}
@@ -24,6 +24,27 @@ use Rattle.answers.proofs.Answered.{at-start}
 empty : {l : List ℕ} → length l ≡ 0 → l ≡ []
 empty {l = []} e = refl
 empty {l = x ∷ l} e = absurd (omega arith)
+
+-- ---- a text by any definition, its outcome v
+
+-- o is what the judging with an empty text came to, and is refused alike
+pub text-short : (v o : ListingOut) (buffer : List ℕ) {out : List ℕ} {r : ℕ} → length out < 8 → short (o .number) ≡ short (v .number) → length (o .buffer) ≡ 0 → r ≡ short (o .number)
+    → listed r out (o .buffer ++ buffer) ≡ listing-answer v buffer out
+unfolding listing-answer
+text-short v o buffer {out} h e z s =
+    (λ i. listed ((s ∙ e) i) out (empty {l = o .buffer} z i ++ buffer))
+    ∙ sym (ap (λ (b : Bool). if b (listed (short (v .number)) out buffer) (listed (v .number) (pair-bytes (v .place) (v .size) ++ drop 8 out) (v .buffer))) (lt-ltb (length out) 8 h))
+
+-- o is what the call came to
+pub text-whole : (v : ListingOut) (buffer out : List ℕ) {o : ListingOut} {after : List ℕ} {n : ℕ} → 8 ≤ length out → o ≡ v → PutAt out 0 (pair-bytes (o .place) (o .size)) n after
+    → listed (o .number) after (o .buffer) ≡ listing-answer v buffer out
+unfolding listing-answer
+text-whole v buffer out {o} {after} h e p =
+    (λ i. listed (o .number) (at-start (pair-length (o .place) (o .size)) p i) (o .buffer))
+    ∙ ap (λ (w : ListingOut). listed (w .number) (pair-bytes (w .place) (w .size) ++ drop 8 out) (w .buffer)) e
+    ∙ sym (ap (λ (b : Bool). if b (listed (short (v .number)) out buffer) (listed (v .number) (pair-bytes (v .place) (v .size) ++ drop 8 out) (v .buffer))) (le-ltb (length out) 8 h))
+
+-- ---- a listing
 
 -- "PLAN" begins each text
 text-some : (S : Site) (H : ℕ) (nodes : List ℤ) (stages : List ℕ) → 0 < length (text S H nodes stages)
@@ -74,18 +95,4 @@ module _ (B : List ℕ) (H : ℕ) (nodes : List ℤ) (stages : List ℕ) (at : �
   -- o is what the judging with an empty text came to
   pub listing-short : (buffer : List ℕ) {o : ListingOut} {out : List ℕ} {r : ℕ} → length out < 8 → o ≡ listing B H nodes stages [] at → length (o .buffer) ≡ 0 → r ≡ short (o .number)
       → listed r out (o .buffer ++ buffer) ≡ listing-answer (listing B H nodes stages buffer at) buffer out
-  unfolding listing-answer
-  listing-short buffer {o} {out} h e z s =
-      let v = listing B H nodes stages buffer at in
-      (λ i. listed ((s ∙ ap (λ (w : ListingOut). short (w .number)) e ∙ emptied buffer) i) out (empty {l = o .buffer} z i ++ buffer))
-      ∙ sym (ap (λ (b : Bool). if b (listed (short (v .number)) out buffer) (listed (v .number) (pair-bytes (v .place) (v .size) ++ drop 8 out) (v .buffer))) (lt-ltb (length out) 8 h))
-
-  -- o is what the listing came to
-  pub listing-whole : (buffer out : List ℕ) {o : ListingOut} {after : List ℕ} {n : ℕ} → 8 ≤ length out → o ≡ listing B H nodes stages buffer at
-      → PutAt out 0 (pair-bytes (o .place) (o .size)) n after → listed (o .number) after (o .buffer) ≡ listing-answer (listing B H nodes stages buffer at) buffer out
-  unfolding listing-answer
-  listing-whole buffer out {o} {after} h e p =
-      let v = listing B H nodes stages buffer at in
-      (λ i. listed (o .number) (at-start (pair-length (o .place) (o .size)) p i) (o .buffer))
-      ∙ ap (λ (w : ListingOut). listed (w .number) (pair-bytes (w .place) (w .size) ++ drop 8 out) (w .buffer)) e
-      ∙ sym (ap (λ (b : Bool). if b (listed (short (v .number)) out buffer) (listed (v .number) (pair-bytes (v .place) (v .size) ++ drop 8 out) (v .buffer))) (le-ltb (length out) 8 h))
+  listing-short buffer {o} h e z s = text-short (listing B H nodes stages buffer at) o buffer h (ap (λ (w : ListingOut). short (w .number)) e ∙ emptied buffer) z s

@@ -49,8 +49,8 @@ unfolding named-part
 named-most B a [] = omega arith
 named-most B a (x ∷ l) =
     let h = named-most B a l in
-    by-test (names-action a (x .read)) (λ b. if b (record { start = x .at + 2; size = trimmed (drop (x .at + 2) B) 16 }) (named-part B a l) .size ≤ 16)
-    (λ _. trimmed-most (drop (x .at + 2) B) 16) (λ _. h)
+    by-test (names-action a (x .read)) (λ b. if b (record { start = x .at + 3; size = trimmed (drop (x .at + 3) B) 16 }) (named-part B a l) .size ≤ 16)
+    (λ _. trimmed-most (drop (x .at + 3) B) 16) (λ _. h)
 
 part-most : (B : List ℕ) (a : ℕ) → name-part B a .size ≤ 16
 unfolding name-part

@@ -12,7 +12,8 @@ use lib.Signed.{_≤ℤ_}
 use Rattle.whole.specs.Numerator.{words}
 use Rattle.theory.specs.Diagram.{Tree, zeros}
 use Rattle.theory.specs.Computation.{solved, refused}
-use Rattle.theory.specs.Command.{Command, site, push-leaf, push-condition, push-test, name-action, end-model, whole, readings, byte-at, width, command-at, give, Slot}
+use Rattle.theory.specs.Form.{Form, new-form, levels-in, actions-in}
+use Rattle.theory.specs.Command.{Command, site, push-leaf, push-condition, push-test, name-action, end-model, whole, readings, byte-at, width-in, command-in, give, Slot}
 use Rattle.theory.specs.Verdict.{Verdict, refusal, Site, Facts, Progress, at-start, after, top, reward-slot, chance-slot, level-slot, end-slot, name-slot}
 use Rattle.theory.specs.Load.{site-at, model}
 use Rattle.theory.specs.Solve.{solve-in, SolveOut, solved-nodes, solved-stages}
@@ -60,15 +61,15 @@ OfSite S g =
 abbrev pub MayBe : Slot → Facts → Type 0
 MayBe g f = (T (f .next-step) → g .command ≡ 0x22) × (g .command ≡ 0x21 → T (f .weights))
 
--- "site: m levels, n conditions (0 to 4), A actions, weight total W (1 to 100) .. It is first and only there."; K5: "A as two bytes (1 to 400) and m up to 8"
-abbrev pub first-asks : Command → Rules
-first-asks (site m n a w) = asks 4 (Range 1 8 m) (asks 4 (n ≤ 4) (asks 4 (Range 1 400 a) (asks 4 (Range 1 100 w) none)))
-first-asks (push-leaf p) = asks 1 ⊥ none
-first-asks (push-condition k) = asks 1 ⊥ none
-first-asks (push-test p) = asks 1 ⊥ none
-first-asks (give g) = asks 1 ⊥ none
-first-asks (name-action a b) = asks 1 ⊥ none
-first-asks end-model = asks 1 ⊥ none
+-- "site: m levels, n conditions (0 to 4), A actions, weight total W (1 to 100) .. It is first and only there."; m and A by the form, K5: "A as two bytes (1 to 400) and m up to 8"
+abbrev pub first-asks-in : Form → Command → Rules
+first-asks-in F (site m n a w) = asks 4 (Range 1 (levels-in F) m) (asks 4 (n ≤ 4) (asks 4 (Range 1 (actions-in F) a) (asks 4 (Range 1 100 w) none)))
+first-asks-in F (push-leaf p) = asks 1 ⊥ none
+first-asks-in F (push-condition k) = asks 1 ⊥ none
+first-asks-in F (push-test p) = asks 1 ⊥ none
+first-asks-in F (give g) = asks 1 ⊥ none
+first-asks-in F (name-action a b) = asks 1 ⊥ none
+first-asks-in F end-model = asks 1 ⊥ none
 
 -- of the commands behind it, with the stack K and what has been given, G: "1, operands 4, then 5, 6, diagram 4"; at the end 7
 abbrev pub later-asks : Site → List Facts → List Slot → Command → Rules
@@ -88,44 +89,64 @@ later-asks S K G (name-action a b) =
 later-asks S K G end-model = asks 7 (AllGiven S G) (asks 7 (length K ≡ 0) none)
 
 -- of a command, first or later
-abbrev pub asks-of : Progress → Command → Rules
-asks-of s c = elim (s .begun) [ true ↦ later-asks (s .site) (s .stack) (s .given) c | false ↦ first-asks c ]
+abbrev pub asks-in : Form → Progress → Command → Rules
+asks-in F s c = elim (s .begun) [ true ↦ later-asks (s .site) (s .stack) (s .given) c | false ↦ first-asks-in F c ]
 
 -- ---- numbers 1 to 8, and those of every call that takes a model
 
-module _ (B : List ℕ) where
+module _ (F : Form) (B : List ℕ) where
   -- neither 3 nor 2 at an offset
-  pub record Whole (at : ℕ) : Type 0 where
-    pub known : 1 ≤ width (byte-at B at)
-    pub inside : at + width (byte-at B at) ≤ length B
+  pub record Whole-in (at : ℕ) : Type 0 where
+    pub known : 1 ≤ width-in F (byte-at B at)
+    pub inside : at + width-in F (byte-at B at) ≤ length B
 
   -- "the model by offset": a command comes at an offset where each before it is whole, keeps its rules and is not the end
-  pub data Comes : ℕ → Progress → Type 0 where
-    comes-first : Comes 0 at-start
-    comes-next : {at : ℕ} {s : Progress} → Comes at s → Whole at → Keeps (asks-of s (command-at B at)) → (command-at B at ≡ end-model → ⊥)
-        → Comes (at + width (byte-at B at)) (after s (command-at B at))
+  pub data Comes-in : ℕ → Progress → Type 0 where
+    comes-first : Comes-in 0 at-start
+    comes-next : {at : ℕ} {s : Progress} → Comes-in at s → Whole-in at → Keeps (asks-in F s (command-in F B at)) → (command-in F B at ≡ end-model → ⊥)
+        → Comes-in (at + width-in F (byte-at B at)) (after s (command-in F B at))
 
   -- an end command comes at an offset and keeps its rules
-  pub record EndsAt (at : ℕ) : Type 0 where
+  pub record EndsAt-in (at : ℕ) : Type 0 where
     pub so-far : Progress
-    pub comes : Comes at so-far
-    pub whole : Whole at
-    pub end : command-at B at ≡ end-model
-    pub keeps : Keeps (asks-of so-far end-model)
+    pub comes : Comes-in at so-far
+    pub whole : Whole-in at
+    pub end : command-in F B at ≡ end-model
+    pub keeps : Keeps (asks-in F so-far end-model)
 
-  pub data VerdictRow : Verdict → Type 0 where
+  pub data VerdictRow-in : Verdict → Type 0 where
     -- "Success has number and place 0."
-    verdict-0 : {at : ℕ} → EndsAt at → at + 1 ≡ length B → VerdictRow (refusal 0 0)
+    verdict-0 : {at : ℕ} → EndsAt-in at → at + 1 ≡ length B → VerdictRow-in (refusal 0 0)
     -- "3: unknown byte"
-    verdict-3 : {at : ℕ} {s : Progress} → Comes at s → at < length B → width (byte-at B at) ≡ 0 → VerdictRow (refusal 3 at)
+    verdict-3 : {at : ℕ} {s : Progress} → Comes-in at s → at < length B → width-in F (byte-at B at) ≡ 0 → VerdictRow-in (refusal 3 at)
     -- "2: bytes end before it is whole"
-    verdict-2 : {at : ℕ} {s : Progress} → Comes at s → at < length B → 1 ≤ width (byte-at B at) → length B < at + width (byte-at B at) → VerdictRow (refusal 2 at)
+    verdict-2 : {at : ℕ} {s : Progress} → Comes-in at s → at < length B → 1 ≤ width-in F (byte-at B at) → length B < at + width-in F (byte-at B at) → VerdictRow-in (refusal 2 at)
     -- "or no end command (then at the length)"
-    verdict-2-end : {s : Progress} → Comes (length B) s → VerdictRow (refusal 2 (length B))
+    verdict-2-end : {s : Progress} → Comes-in (length B) s → VerdictRow-in (refusal 2 (length B))
     -- 1, 4, 5, 6, 7: the first rule that it breaks
-    verdict-1-7 : {k at : ℕ} {s : Progress} → Comes at s → Whole at → Breaks (asks-of s (command-at B at)) k → VerdictRow (refusal k at)
+    verdict-1-7 : {k at : ℕ} {s : Progress} → Comes-in at s → Whole-in at → Breaks (asks-in F s (command-in F B at)) k → VerdictRow-in (refusal k at)
     -- "offset of the extra byte .. 8: bytes after end"
-    verdict-8 : {at : ℕ} → EndsAt at → at + 1 < length B → VerdictRow (refusal 8 (at + 1))
+    verdict-8 : {at : ℕ} → EndsAt-in at → at + 1 < length B → VerdictRow-in (refusal 8 (at + 1))
+
+-- ---- the form that the planner reads
+
+abbrev pub first-asks : Command → Rules
+first-asks = first-asks-in new-form
+
+abbrev pub asks-of : Progress → Command → Rules
+asks-of = asks-in new-form
+
+abbrev pub Whole : List ℕ → ℕ → Type 0
+Whole = Whole-in new-form
+
+abbrev pub Comes : List ℕ → ℕ → Progress → Type 0
+Comes = Comes-in new-form
+
+abbrev pub EndsAt : List ℕ → ℕ → Type 0
+EndsAt = EndsAt-in new-form
+
+abbrev pub VerdictRow : List ℕ → Verdict → Type 0
+VerdictRow = VerdictRow-in new-form
 
 module _ (B : List ℕ) (steps size : ℕ) where
   -- neither 10 nor 9 nor a number of the model's own

@@ -26,6 +26,7 @@ pub mod Chain
 pub mod Rules
 pub mod Fits
 pub mod Rows
+pub mod Numbers
 pub mod Name
 -- plain working
 pub mod Plain

@@ -17,8 +17,8 @@ use Rattle.theory.specs.Rules.{choose}
 use Rattle.theory.specs.Meaning.{Model}
 use Rattle.theory.specs.Stage.{action-diagrams, all-diagrams, model-diagrams}
 use Rattle.theory.specs.Valid.{all, all-nodes, among, wide, good-test, good-leaf, weight-leaf, valid-action, valid, small-linear}
-use Rattle.theory.specs.Form.{new-form, site-byte}
-use Rattle.theory.specs.Command.{Command, site, push-leaf, push-condition, push-test, name-action, end-model, Read, whole, unknown, short, Placed, byte-at, word-at, signed, signed-from, linear-at, width, command-at, read-at, goes-on, readings-from, readings, give, Slot, command-in, linear-in, read-in, readings-from-in, readings-in, action-at}
+use Rattle.theory.specs.Form.{Form, new-form, site-byte}
+use Rattle.theory.specs.Command.{Command, site, push-leaf, push-condition, push-test, name-action, end-model, Read, whole, unknown, short, Placed, byte-at, word-at, signed, signed-from, linear-at, width, command-at, read-at, goes-on, readings-from, readings, give, Slot, command-in, linear-in, read-in, readings-from-in, readings-in, action-at, width-in}
 use Rattle.theory.specs.Verdict.{Site, Facts, Progress, reward-slot, chance-slot, level-slot, end-slot, name-slot, same-slot, has-slot, or, Rule, rule, first-broken, next-condition, is-weight, top, joined, from-to, wanted-by, wanted, site-rules, site-of, first-rules, later-rules, rules-of, after, Verdict, refusal, ended, judged, at-start, verdict, may-be, judged-in, rules-in, verdict-in}
 use Rattle.theory.specs.Load.{Entry, Loaded, condition-test, load-choice, load-choice-with, load-entry, load-one, load-one-with, load-on, load-on-with, find-slot, found, action-of, model-of, site-at, load-with, model, load-in, model-in, site-in}
 use Rattle.theory.specs.laws.Comps.{result-bind}
@@ -379,8 +379,11 @@ judged-whole k at v = by-test (eqb k 0) (λ b. (if b v (refusal k at)) .number �
     (λ t e. (eqb→eq k 0 t, e)) (λ n e. absurd (T-not (eqb k 0) n (rw e tt)))
 
 -- the readings behind one
+abbrev pub behind-in : Form → List ℕ → ℕ → ℕ → Bool → List Placed
+behind-in F B k at b = elim b [ true ↦ readings-from-in F B k (at + width-in F (byte-at B at)) | false ↦ [] ]
+
 abbrev pub behind : List ℕ → ℕ → ℕ → Bool → List Placed
-behind B k at b = elim b [ true ↦ readings-from B k (at + width (byte-at B at)) | false ↦ [] ]
+behind = behind-in new-form
 
 abbrev Accepted : List ℕ → Site → List Placed → Type 0
 Accepted B S l = (K : List Facts) (G : List Slot) (X : List Tree) (E : List Entry) → Stacked S K X → Given S G E → judged (length B) (state S K G) l .number ≡ 0

@@ -21,18 +21,19 @@ use Rattle.theory.specs.Process.{lowest-best}
 use Rattle.theory.specs.Meaning.{Action, Model, State, nth, process}
 use Rattle.theory.specs.Stage.{all-stages}
 use Rattle.theory.specs.Valid.{all, among, small-linear}
-use Rattle.theory.specs.Command.{Command, site, push-leaf, push-condition, push-test, name-action, end-model, Read, whole, unknown, short, byte-at, width, command-at, read-at, goes-on, readings-from, readings, give, read-in, readings-from-in, readings-in}
-use Rattle.theory.specs.Verdict.{Verdict, Site, refusal, Progress, first-broken, rules-of, after, ended, judged, at-start, verdict, from-to, or, judged-in, verdict-in}
+use Rattle.theory.specs.Form.{Form, new-form}
+use Rattle.theory.specs.Command.{Command, site, push-leaf, push-condition, push-test, name-action, end-model, Read, whole, unknown, short, byte-at, width, command-at, read-at, goes-on, readings-from, readings, give, width-in, command-in, read-in, readings-from-in, readings-in}
+use Rattle.theory.specs.Verdict.{Verdict, Site, refusal, Progress, first-broken, rules-of, after, ended, judged, at-start, verdict, from-to, or, rules-in, judged-in, verdict-in}
 use Rattle.theory.specs.Load.{site-at, load, model, model-in}
 use Rattle.theory.specs.Solve.{room, solve-in, table-of, rows, SolveOut, solved-nodes, solve-left, early, solve}
 use Rattle.theory.specs.Value.{Asked, accepted, bits, numerator-of, state-of, node-word, node-linear, high-of, low-of, amongZ, good-branches, good-leaf-row, good-condition-row, good-test-row, good-row, taken, walk, ValueOut, refused-value, value-at, value-of}
 use Rattle.theory.specs.Plain.{Worth, is, over, better, try-actions, numbered, action-worth, state-worth, worth-out, if-true, plain-of}
 use Rattle.theory.specs.Name.{name-refusal}
 use Rattle.theory.specs.Listing.{greatest-root, text, written, ListingOut, listing-refusal, listing}
-use Rattle.theory.specs.Rows.{Keeps, Range, asks-of, Whole, Comes, comes-first, comes-next, EndsAt, VerdictRow, verdict-0, verdict-3, verdict-2, verdict-2-end, verdict-1-7, verdict-8, Admitted, EarlyRow, early-10, early-9, early-1-8, Room, SolveRow, solve-0, solve-1-10, solve-11-12, OnWalk, first-met, then-met, Stated, ValueRow, value-0, value-1-10, value-13, value-14, value-15, PlainRow, plain-0, plain-1-10, plain-13, plain-11, NameRow, name-0, name-1-10, name-16, Rooted, Tabled, ListingRow, listing-0, listing-1-10, listing-14, listing-15, listing-17}
+use Rattle.theory.specs.Rows.{Keeps, Range, asks-in, asks-of, Whole-in, Whole, Comes-in, comes-first, comes-next, EndsAt-in, VerdictRow-in, VerdictRow, verdict-0, verdict-3, verdict-2, verdict-2-end, verdict-1-7, verdict-8, Admitted, EarlyRow, early-10, early-9, early-1-8, Room, SolveRow, solve-0, solve-1-10, solve-11-12, OnWalk, first-met, then-met, Stated, ValueRow, value-0, value-1-10, value-13, value-14, value-15, PlainRow, plain-0, plain-1-10, plain-13, plain-11, NameRow, name-0, name-1-10, name-16, Rooted, Tabled, ListingRow, listing-0, listing-1-10, listing-14, listing-15, listing-17}
 use Rattle.theory.specs.laws.Plain.{plain-exact, plain-action}
 use Rattle.theory.specs.laws.Staying.{answers-stay, over-leaves, stays-some}
-use Rattle.theory.specs.laws.Rules.{by-rules, kept-zero, broken-number, rules-agree}
+use Rattle.theory.specs.laws.Rules.{by-rules, kept-zero, broken-number, rules-agree-in, rules-agree}
 use Rattle.theory.specs.laws.Fits.{state-fits, state-accepted, state-refused, node-fits, fits-good, misfits, misfits-bad, kind-zero, zero-kind, kind-other}
 use Rattle.theory.specs.laws.Comps.{run-result, run-all-final}
 use Rattle.theory.specs.laws.Stages.{all-stages-length}
@@ -41,7 +42,7 @@ use Rattle.theory.specs.laws.Chain.{peak-fits, table-fits}
 use Rattle.theory.specs.laws.Words.{rows-length, by-kind}
 use Rattle.theory.specs.laws.Reading.{stages-length}
 use Rattle.theory.specs.laws.Valid.{among-in, among-out, other-above}
-use Rattle.theory.specs.laws.Loading.{positive, behind, accepted-site}
+use Rattle.theory.specs.laws.Loading.{positive, behind-in, behind, accepted-site}
 
 -- ---- tests
 
@@ -80,31 +81,31 @@ not-end-going (give g) f = tt
 not-end-going (name-action a b) f = tt
 not-end-going end-model f = absurd (f refl)
 
-module _ (B : List ℕ) where
+module _ (F : Form) (B : List ℕ) where
   -- what is read at an offset, with why
-  pub by-read : (at : ℕ) (P : Read → Type 0) → (length B ≤ at → P short) → (at < length B → width (byte-at B at) ≡ 0 → P unknown)
-      → (at < length B → 1 ≤ width (byte-at B at) → length B < at + width (byte-at B at) → P short) → (Whole B at → P (whole (command-at B at))) → P (read-at B at)
+  pub by-read-in : (at : ℕ) (P : Read → Type 0) → (length B ≤ at → P short) → (at < length B → width-in F (byte-at B at) ≡ 0 → P unknown)
+      → (at < length B → 1 ≤ width-in F (byte-at B at) → length B < at + width-in F (byte-at B at) → P short) → (Whole-in F B at → P (whole (command-in F B at))) → P (read-in F B at)
   unfolding read-in
-  by-read at P a b c d =
-      let w = width (byte-at B at) in
-      let r = if (ltb (length B) (at + w)) short (whole (command-at B at)) in
+  by-read-in at P a b c d =
+      let w = width-in F (byte-at B at) in
+      let r = if (ltb (length B) (at + w)) short (whole (command-in F B at)) in
       by-test (leb (length B) at) (λ x. P (if x short (if (eqb w 0) unknown r)))
       (λ o. a (leb→le (length B) at o))
       (λ o.
       let l = nleb→lt (length B) at o in
       by-test (eqb w 0) (λ x. P (if x unknown r))
       (λ e. b l (eqb→eq w 0 e))
-      (λ n. by-test (ltb (length B) (at + w)) (λ x. P (if x short (whole (command-at B at))))
+      (λ n. by-test (ltb (length B) (at + w)) (λ x. P (if x short (whole (command-in F B at))))
       (λ m. c l (positive w n) (ltb→lt (length B) (at + w) m)) (λ m. d (record { known = positive w n; inside = nltb→le (length B) (at + w) m }))))
 
   -- the byte behind the end, or what the commands behind another one say
-  ended-row : (k at : ℕ) (s : Progress) → Comes B at s → Whole B at → (c : Command) → command-at B at ≡ c → Keeps (asks-of s c)
-      → ((command-at B at ≡ end-model → ⊥) → VerdictRow B (judged (length B) (after s c) (behind B k at true)))
-      → VerdictRow B (ended (length B) at c (judged (length B) (after s c) (behind B k at (goes-on (whole c)))))
+  ended-row : (k at : ℕ) (s : Progress) → Comes-in F B at s → Whole-in F B at → (c : Command) → command-in F B at ≡ c → Keeps (asks-in F s c)
+      → ((command-in F B at ≡ end-model → ⊥) → VerdictRow-in F B (judged-in F (length B) (after s c) (behind-in F B k at true)))
+      → VerdictRow-in F B (ended (length B) at c (judged-in F (length B) (after s c) (behind-in F B k at (goes-on (whole c)))))
   unfolding ended goes-on
   ended-row k at s m w end-model e f ih =
-      let d : EndsAt B at = record { so-far = s; comes = m; whole = w; end = e; keeps = f } in
-      by-test (ltb (at + 1) (length B)) (λ b. VerdictRow B (if b (refusal 8 (at + 1)) (refusal 0 0)))
+      let d : EndsAt-in F B at = record { so-far = s; comes = m; whole = w; end = e; keeps = f } in
+      by-test (ltb (at + 1) (length B)) (λ b. VerdictRow-in F B (if b (refusal 8 (at + 1)) (refusal 0 0)))
       (λ t. verdict-8 d (ltb→lt (at + 1) (length B) t)) (λ t. verdict-0 d (omega (arith, nltb→le (at + 1) (length B) t, w .known, w .inside)))
   ended-row k at s m w (site x n a v) e f ih = ih (λ z. going-not-end (site x n a v) tt (sym e ∙ z))
   ended-row k at s m w (push-leaf p) e f ih = ih (λ z. going-not-end (push-leaf p) tt (sym e ∙ z))
@@ -113,67 +114,67 @@ module _ (B : List ℕ) where
   ended-row k at s m w (give g) e f ih = ih (λ z. going-not-end (give g) tt (sym e ∙ z))
   ended-row k at s m w (name-action a b) e f ih = ih (λ z. going-not-end (name-action a b) tt (sym e ∙ z))
 
-  past-row : (at : ℕ) (s : Progress) → Comes B at s → length B ≡ at → VerdictRow B (refusal 2 at)
-  past-row at s m e = subst (λ (p : ℕ). Comes B p s → VerdictRow B (refusal 2 p)) e verdict-2-end m
+  past-row : (at : ℕ) (s : Progress) → Comes-in F B at s → length B ≡ at → VerdictRow-in F B (refusal 2 at)
+  past-row at s m e = subst (λ (p : ℕ). Comes-in F B p s → VerdictRow-in F B (refusal 2 p)) e verdict-2-end m
 
-  judged-row : (k at : ℕ) (s : Progress) → Comes B at s → at ≤ length B → length B < at + k → VerdictRow B (judged (length B) s (readings-from B k at))
+  judged-row : (k at : ℕ) (s : Progress) → Comes-in F B at s → at ≤ length B → length B < at + k → VerdictRow-in F B (judged-in F (length B) s (readings-from-in F B k at))
   unfolding readings-from-in judged-in
   judged-row zero at s m h l = absurd (omega arith)
-  judged-row (suc k) at s m h l = by-read at (λ r. VerdictRow B (judged (length B) s (record { at = at; read = r } ∷ behind B k at (goes-on r))))
+  judged-row (suc k) at s m h l = by-read-in at (λ r. VerdictRow-in F B (judged-in F (length B) s (record { at = at; read = r } ∷ behind-in F B k at (goes-on r))))
       (λ g. past-row at s m (omega arith))
       (λ g e. verdict-3 m g e)
       (λ g e f. verdict-2 m g e f)
       (λ w.
-      let c = command-at B at in
-      let n = first-broken (rules-of s c) in
-      let rest = ended (length B) at c (judged (length B) (after s c) (behind B k at (goes-on (whole c)))) in
+      let c = command-in F B at in
+      let n = first-broken (rules-in F s c) in
+      let rest = ended (length B) at c (judged-in F (length B) (after s c) (behind-in F B k at (goes-on (whole c)))) in
       ⊎-elim
-      (λ d. subst (VerdictRow B) (sym (if-yes (eqb n 0) rest (refusal n at) (zero-is n (d .0))))
-      (ended-row k at s m w c refl (d .1) (λ z. judged-row k (at + width (byte-at B at)) (after s c) (comes-next m w (d .1) z) (w .inside) (omega (arith, w .known)))))
-      (λ d. subst (VerdictRow B) (sym (if-no (eqb n 0) rest (refusal n at) (some-not n (d .0)))) (verdict-1-7 m w (d .1)))
-      (by-rules (rules-of s c) (asks-of s c) (rules-agree s c)))
+      (λ d. subst (VerdictRow-in F B) (sym (if-yes (eqb n 0) rest (refusal n at) (zero-is n (d .0))))
+      (ended-row k at s m w c refl (d .1) (λ z. judged-row k (at + width-in F (byte-at B at)) (after s c) (comes-next m w (d .1) z) (w .inside) (omega (arith, w .known)))))
+      (λ d. subst (VerdictRow-in F B) (sym (if-no (eqb n 0) rest (refusal n at) (some-not n (d .0)))) (verdict-1-7 m w (d .1)))
+      (by-rules (rules-in F s c) (asks-in F s c) (rules-agree-in F s c)))
 
-  pub verdict-row : VerdictRow B (verdict B)
+  pub verdict-row-in : VerdictRow-in F B (verdict-in F B)
   unfolding verdict-in readings-in
-  verdict-row = judged-row (suc (length B)) 0 at-start comes-first (omega arith) (omega arith)
+  verdict-row-in = judged-row (suc (length B)) 0 at-start comes-first (omega arith) (omega arith)
 
   -- ---- a row decides
 
   abbrev from : ℕ → ℕ → Progress → Read → Verdict
-  from k at s r = judged (length B) s (record { at = at; read = r } ∷ behind B k at (goes-on r))
+  from k at s r = judged-in F (length B) s (record { at = at; read = r } ∷ behind-in F B k at (goes-on r))
 
-  read-whole : (at : ℕ) → Whole B at → read-at B at ≡ whole (command-at B at)
-  read-whole at w = by-read at (λ r. r ≡ whole (command-at B at)) (λ g. absurd (omega (arith, w .known, w .inside))) (λ g e. absurd (omega (arith, w .known)))
+  pub read-whole-in : (at : ℕ) → Whole-in F B at → read-in F B at ≡ whole (command-in F B at)
+  read-whole-in at w = by-read-in at (λ r. r ≡ whole (command-in F B at)) (λ g. absurd (omega (arith, w .known, w .inside))) (λ g e. absurd (omega (arith, w .known)))
       (λ g e f. absurd (omega (arith, w .inside))) (λ _. refl)
 
-  judged-whole : (k at : ℕ) (s : Progress) → Whole B at → judged (length B) s (readings-from B (suc k) at) ≡ from k at s (whole (command-at B at))
+  judged-whole : (k at : ℕ) (s : Progress) → Whole-in F B at → judged-in F (length B) s (readings-from-in F B (suc k) at) ≡ from k at s (whole (command-in F B at))
   unfolding readings-from-in
-  judged-whole k at s w = ap (from k at s) (read-whole at w)
+  judged-whole k at s w = ap (from k at s) (read-whole-in at w)
 
-  pub ended-going : (k at : ℕ) (s : Progress) (c : Command) → T (goes-on (whole c))
-      → ended (length B) at c (judged (length B) (after s c) (behind B k at (goes-on (whole c)))) ≡ judged (length B) (after s c) (behind B k at true)
+  pub ended-going-in : (k at : ℕ) (s : Progress) (c : Command) → T (goes-on (whole c))
+      → ended (length B) at c (judged-in F (length B) (after s c) (behind-in F B k at (goes-on (whole c)))) ≡ judged-in F (length B) (after s c) (behind-in F B k at true)
   unfolding ended goes-on
-  ended-going k at s (site x n a v) t = refl
-  ended-going k at s (push-leaf p) t = refl
-  ended-going k at s (push-condition c) t = refl
-  ended-going k at s (push-test p) t = refl
-  ended-going k at s (give g) t = refl
-  ended-going k at s (name-action a b) t = refl
-  ended-going k at s end-model t = absurd t
+  ended-going-in k at s (site x n a v) t = refl
+  ended-going-in k at s (push-leaf p) t = refl
+  ended-going-in k at s (push-condition c) t = refl
+  ended-going-in k at s (push-test p) t = refl
+  ended-going-in k at s (give g) t = refl
+  ended-going-in k at s (name-action a b) t = refl
+  ended-going-in k at s end-model t = absurd t
 
-  kept-judged : (k at : ℕ) (s : Progress) (c : Command) → Keeps (asks-of s c)
-      → from k at s (whole c) ≡ ended (length B) at c (judged (length B) (after s c) (behind B k at (goes-on (whole c))))
+  kept-judged : (k at : ℕ) (s : Progress) (c : Command) → Keeps (asks-in F s c)
+      → from k at s (whole c) ≡ ended (length B) at c (judged-in F (length B) (after s c) (behind-in F B k at (goes-on (whole c))))
   unfolding judged-in
   kept-judged k at s c f =
-      let n = first-broken (rules-of s c) in
-      if-yes (eqb n 0) _ (refusal n at) (zero-is n (kept-zero (rules-of s c) (asks-of s c) (rules-agree s c) f))
+      let n = first-broken (rules-in F s c) in
+      if-yes (eqb n 0) _ (refusal n at) (zero-is n (kept-zero (rules-in F s c) (asks-in F s c) (rules-agree-in F s c) f))
 
   -- the verdict from a command that comes
   abbrev Reaches : ℕ → Progress → Type 0
-  Reaches at s = (k : ℕ) × ((at ≤ length B) × ((length B < at + k) × (verdict B ≡ judged (length B) s (readings-from B k at))))
+  Reaches at s = (k : ℕ) × ((at ≤ length B) × ((length B < at + k) × (verdict-in F B ≡ judged-in F (length B) s (readings-from-in F B k at))))
 
-  onward : (k at : ℕ) (s : Progress) → Whole B at → Keeps (asks-of s (command-at B at)) → (command-at B at ≡ end-model → ⊥) → length B < at + k
-      → verdict B ≡ judged (length B) s (readings-from B k at) → Reaches (at + width (byte-at B at)) (after s (command-at B at))
+  onward : (k at : ℕ) (s : Progress) → Whole-in F B at → Keeps (asks-in F s (command-in F B at)) → (command-in F B at ≡ end-model → ⊥) → length B < at + k
+      → verdict-in F B ≡ judged-in F (length B) s (readings-from-in F B k at) → Reaches (at + width-in F (byte-at B at)) (after s (command-in F B at))
   onward zero at s w f n l e = absurd (omega (arith, w .known, w .inside))
   onward (suc k) at s w f n l e = (
     k,
@@ -181,58 +182,77 @@ module _ (B : List ℕ) where
       w .inside,
       (
         omega (arith, w .known),
-        e ∙ judged-whole k at s w ∙ kept-judged k at s (command-at B at) f ∙ ended-going k at s (command-at B at) (not-end-going (command-at B at) n),
+        e ∙ judged-whole k at s w ∙ kept-judged k at s (command-in F B at) f ∙ ended-going-in k at s (command-in F B at) (not-end-going (command-in F B at) n),
       ),
     ),
   )
 
-  reaches : {at : ℕ} {s : Progress} → Comes B at s → Reaches at s
+  reaches : {at : ℕ} {s : Progress} → Comes-in F B at s → Reaches at s
   unfolding verdict-in readings-in
   reaches comes-first = (suc (length B), (omega arith, (omega arith, refl)))
   reaches (comes-next {at = at} {s = s} m w f n) = let r = reaches m in onward (r .0) at s w f n (r .1 .1 .0) (r .1 .1 .1)
 
-  here : {at : ℕ} {s : Progress} → Comes B at s → (k : ℕ) × (verdict B ≡ from k at s (read-at B at))
+  here : {at : ℕ} {s : Progress} → Comes-in F B at s → (k : ℕ) × (verdict-in F B ≡ from k at s (read-in F B at))
   unfolding readings-from-in
   here {at} {s} m = let r = reaches m in go (r .0) (r .1 .0) (r .1 .1 .0) (r .1 .1 .1)
     where
-      go : (k : ℕ) → at ≤ length B → length B < at + k → verdict B ≡ judged (length B) s (readings-from B k at) → (k : ℕ) × (verdict B ≡ from k at s (read-at B at))
+      go : (k : ℕ) → at ≤ length B → length B < at + k → verdict-in F B ≡ judged-in F (length B) s (readings-from-in F B k at) → (k : ℕ) × (verdict-in F B ≡ from k at s (read-in F B at))
       go zero h l e = absurd (omega arith)
       go (suc k) h l e = (k, e)
 
-  end-verdict : (at : ℕ) → EndsAt B at → verdict B ≡ if (ltb (at + 1) (length B)) (refusal 8 (at + 1)) (refusal 0 0)
+  end-verdict : (at : ℕ) → EndsAt-in F B at → verdict-in F B ≡ if (ltb (at + 1) (length B)) (refusal 8 (at + 1)) (refusal 0 0)
   unfolding ended
   end-verdict at d =
       let r = here (d .comes) in
-      r .1 ∙ ap (from (r .0) at (d .so-far)) (read-whole at (d .whole) ∙ ap whole (d .end)) ∙ kept-judged (r .0) at (d .so-far) end-model (d .keeps)
+      r .1 ∙ ap (from (r .0) at (d .so-far)) (read-whole-in at (d .whole) ∙ ap whole (d .end)) ∙ kept-judged (r .0) at (d .so-far) end-model (d .keeps)
 
   -- the verdict is each of its rows
-  pub verdict-is : {v : Verdict} → VerdictRow B v → verdict B ≡ v
+  pub verdict-is-in : {v : Verdict} → VerdictRow-in F B v → verdict-in F B ≡ v
   unfolding judged-in
-  verdict-is (verdict-0 {at = at} d e) = end-verdict at d ∙ by-test (ltb (at + 1) (length B)) (λ b. if b (refusal 8 (at + 1)) (refusal 0 0) ≡ refusal 0 0)
+  verdict-is-in (verdict-0 {at = at} d e) = end-verdict at d ∙ by-test (ltb (at + 1) (length B)) (λ b. if b (refusal 8 (at + 1)) (refusal 0 0) ≡ refusal 0 0)
       (λ t. absurd (omega (arith, ltb→lt (at + 1) (length B) t))) (λ _. refl)
-  verdict-is (verdict-8 {at = at} d l) = end-verdict at d ∙ by-test (ltb (at + 1) (length B)) (λ b. if b (refusal 8 (at + 1)) (refusal 0 0) ≡ refusal 8 (at + 1))
+  verdict-is-in (verdict-8 {at = at} d l) = end-verdict at d ∙ by-test (ltb (at + 1) (length B)) (λ b. if b (refusal 8 (at + 1)) (refusal 0 0) ≡ refusal 8 (at + 1))
       (λ _. refl) (λ t. absurd (omega (arith, nltb→le (at + 1) (length B) t)))
-  verdict-is (verdict-3 {at = at} {s = s} m l e) = let r = here m in r .1 ∙ by-read at (λ x. from (r .0) at s x ≡ refusal 3 at)
+  verdict-is-in (verdict-3 {at = at} {s = s} m l e) = let r = here m in r .1 ∙ by-read-in at (λ x. from (r .0) at s x ≡ refusal 3 at)
       (λ g. absurd (omega arith)) (λ _ _. refl) (λ g h _. absurd (omega arith)) (λ w. absurd (omega (arith, w .known)))
-  verdict-is (verdict-2 {at = at} {s = s} m l e f) = let r = here m in r .1 ∙ by-read at (λ x. from (r .0) at s x ≡ refusal 2 at)
+  verdict-is-in (verdict-2 {at = at} {s = s} m l e f) = let r = here m in r .1 ∙ by-read-in at (λ x. from (r .0) at s x ≡ refusal 2 at)
       (λ _. refl) (λ g h. absurd (omega arith)) (λ _ _ _. refl) (λ w. absurd (omega (arith, w .inside)))
-  verdict-is (verdict-2-end {s = s} m) = let r = here m in r .1 ∙ by-read (length B) (λ x. from (r .0) (length B) s x ≡ refusal 2 (length B))
+  verdict-is-in (verdict-2-end {s = s} m) = let r = here m in r .1 ∙ by-read-in (length B) (λ x. from (r .0) (length B) s x ≡ refusal 2 (length B))
       (λ _. refl) (λ g h. absurd (omega arith)) (λ _ _ _. refl) (λ w. absurd (omega (arith, w .known, w .inside)))
-  verdict-is (verdict-1-7 {k = k} {at = at} {s = s} m w d) =
+  verdict-is-in (verdict-1-7 {k = k} {at = at} {s = s} m w d) =
       let r = here m in
-      let c = command-at B at in
-      let n = first-broken (rules-of s c) in
-      let i = broken-number (rules-of s c) (asks-of s c) (rules-agree s c) k d in
-      r .1 ∙ ap (from (r .0) at s) (read-whole at w) ∙ if-no (eqb n 0) _ (refusal n at) (some-not n (omega (arith, i .0, i .1))) ∙ ap (λ (n : ℕ). refusal n at) (i .0)
+      let c = command-in F B at in
+      let n = first-broken (rules-in F s c) in
+      let i = broken-number (rules-in F s c) (asks-in F s c) (rules-agree-in F s c) k d in
+      r .1 ∙ ap (from (r .0) at s) (read-whole-in at w) ∙ if-no (eqb n 0) _ (refusal n at) (some-not n (omega (arith, i .0, i .1))) ∙ ap (λ (n : ℕ). refusal n at) (i .0)
 
   -- a row's place is at most the length
-  pub place-inside : {v : Verdict} → VerdictRow B v → v .place ≤ length B
-  place-inside (verdict-0 d e) = omega arith
-  place-inside (verdict-3 m l e) = omega arith
-  place-inside (verdict-2 m l e f) = omega arith
-  place-inside (verdict-2-end m) = omega arith
-  place-inside (verdict-1-7 {at = at} m w d) = omega (arith, w .known, w .inside)
-  place-inside (verdict-8 d l) = omega arith
+  pub place-inside-in : {v : Verdict} → VerdictRow-in F B v → v .place ≤ length B
+  place-inside-in (verdict-0 d e) = omega arith
+  place-inside-in (verdict-3 m l e) = omega arith
+  place-inside-in (verdict-2 m l e f) = omega arith
+  place-inside-in (verdict-2-end m) = omega arith
+  place-inside-in (verdict-1-7 {at = at} m w d) = omega (arith, w .known, w .inside)
+  place-inside-in (verdict-8 d l) = omega arith
+
+-- ---- the form that the planner reads
+
+pub by-read : (B : List ℕ) (at : ℕ) (P : Read → Type 0) → (length B ≤ at → P short) → (at < length B → width (byte-at B at) ≡ 0 → P unknown)
+    → (at < length B → 1 ≤ width (byte-at B at) → length B < at + width (byte-at B at) → P short) → (Whole B at → P (whole (command-at B at))) → P (read-at B at)
+by-read = by-read-in new-form
+
+pub ended-going : (B : List ℕ) (k at : ℕ) (s : Progress) (c : Command) → T (goes-on (whole c))
+    → ended (length B) at c (judged (length B) (after s c) (behind B k at (goes-on (whole c)))) ≡ judged (length B) (after s c) (behind B k at true)
+ended-going = ended-going-in new-form
+
+pub verdict-row : (B : List ℕ) → VerdictRow B (verdict B)
+verdict-row = verdict-row-in new-form
+
+pub verdict-is : (B : List ℕ) {v : Verdict} → VerdictRow B v → verdict B ≡ v
+verdict-is B r = verdict-is-in new-form B r
+
+pub place-inside : (B : List ℕ) {v : Verdict} → VerdictRow B v → v .place ≤ length B
+place-inside B r = place-inside-in new-form B r
 
 -- ---- what every call that takes a model goes through first
 
@@ -244,18 +264,18 @@ pub record Passed (B : List ℕ) (steps size : ℕ) : Type 0 where
   pub bytes : length B ≤ bytes-most
   pub own : verdict B .number ≡ 0
 
-zero-row : {B : List ℕ} {v : Verdict} → VerdictRow B v → v .number ≡ 0 → VerdictRow B (refusal 0 0)
-zero-row (verdict-0 d e) z = verdict-0 d e
-zero-row (verdict-3 m l e) z = absurd (omega arith)
-zero-row (verdict-2 m l e f) z = absurd (omega arith)
-zero-row (verdict-2-end m) z = absurd (omega arith)
-zero-row {B} (verdict-1-7 {k = k} {at = at} {s = s} m w d) z =
-    let i = broken-number (rules-of s (command-at B at)) (asks-of s (command-at B at)) (rules-agree s (command-at B at)) k d in
+pub zero-row-in : (F : Form) {B : List ℕ} {v : Verdict} → VerdictRow-in F B v → v .number ≡ 0 → VerdictRow-in F B (refusal 0 0)
+zero-row-in F (verdict-0 d e) z = verdict-0 d e
+zero-row-in F (verdict-3 m l e) z = absurd (omega arith)
+zero-row-in F (verdict-2 m l e f) z = absurd (omega arith)
+zero-row-in F (verdict-2-end m) z = absurd (omega arith)
+zero-row-in F {B} (verdict-1-7 {k = k} {at = at} {s = s} m w d) z =
+    let i = broken-number (rules-in F s (command-in F B at)) (asks-in F s (command-in F B at)) (rules-agree-in F s (command-in F B at)) k d in
     absurd (omega (arith, i .1))
-zero-row (verdict-8 d l) z = absurd (omega arith)
+zero-row-in F (verdict-8 d l) z = absurd (omega arith)
 
 pub admitted : {B : List ℕ} {steps size : ℕ} → Passed B steps size → Admitted B steps size
-admitted {B} p = record { eight = p .eight; bytes = p .bytes; horizon = (p .least, p .most); own = zero-row (verdict-row B) (p .own) }
+admitted {B} p = record { eight = p .eight; bytes = p .bytes; horizon = (p .least, p .most); own = zero-row-in new-form (verdict-row B) (p .own) }
 
 module _ (B : List ℕ) (steps size : ℕ) (P : Verdict → Bool → Type 0) (pass : Passed B steps size → P (refusal 0 0) true) (stop : (k p : ℕ) → EarlyRow B steps size k p → P (refusal k p) false) where
   abbrev Goal : Verdict → Type 0
