@@ -10,16 +10,17 @@
  *
  *  1 to 8  the model is refused; place is an offset in it
  *  9       horizon or steps not 1 to 8
- * 10       stage words not eight, or a model above 65,535 bytes
+ * 10       stage words not eight, a model above 262,144 bytes, or an old one above 65,535
  * 11       a number leaves its limits; place is the stage, 0 while loading
  * 12       the tables are too small; place is the stage, 0 while loading
  * 13       the state is not one of the model's
  * 14       a node is not as the layout has it
  * 15       a stage word is 0
  * 16       action not 1 to A
- * 17       `out` or `text` is too short, or `place` past its end
+ * 17       `out`, `text` or `buffer` is too short, or `place` past the end of `text`
  * 18       no action carries the name
  * 19       several actions carry the name
+ * 20       the model does not fit the old form: above 4 levels, 8 actions or 65,535 bytes once written
  */
 #ifndef PLANNER_H
 #define PLANNER_H
@@ -31,15 +32,22 @@
 extern "C" {
 #endif
 
-/* What the tables are made of, for a table of so many nodes; more than PLANNER_NODES_MOST are never used. */
+/* What the tables are made of, for a table of so many nodes; more than PLANNER_NODES_MOST are never used. A node is twelve
+ * words: kind, eight coefficients, constant, high, low. Its work words are eight of 32 bits. */
 #define PLANNER_NODES_MOST 65535u
-#define PLANNER_NODE_WORDS(nodes) ((size_t)8 * (nodes))
+#define PLANNER_NODE_WORDS(nodes) ((size_t)12 * (nodes))
 #define PLANNER_WORK_WORDS(nodes) ((size_t)8 * (nodes))
 #define PLANNER_STAGE_WORDS ((size_t)8)
 
-/* A model is at most so long, and a name in it. */
-#define PLANNER_MODEL_BYTES_MOST ((size_t)65535)
+/* A site has at most so many levels and actions; a model is at most so long, and a name in it. */
+#define PLANNER_LEVELS_MOST 8
+#define PLANNER_ACTIONS_MOST 400
+#define PLANNER_MODEL_BYTES_MOST ((size_t)262144)
 #define PLANNER_NAME_LETTERS_MOST ((size_t)16)
+
+/* A model of the old form is at most so long; in the new form it has fewer bytes than the second figure. */
+#define PLANNER_OLD_MODEL_BYTES_MOST ((size_t)65535)
+#define PLANNER_TO_NEW_MODEL_BYTES ((size_t)115500)
 
 /* The bytes of each answer. */
 #define PLANNER_SOLVE_BYTES ((size_t)8)
@@ -49,16 +57,27 @@ extern "C" {
 #define PLANNER_LISTING_BYTES ((size_t)8)
 #define PLANNER_FIND_BYTES ((size_t)8)
 #define PLANNER_PAGE_BYTES ((size_t)8)
+#define PLANNER_TO_NEW_BYTES ((size_t)8)
+#define PLANNER_TO_OLD_BYTES ((size_t)8)
 
 /* The bytes of a page, for so many stages: 50 columns and a line end for each. */
 #define PLANNER_PAGE_TEXT_BYTES(horizon) ((size_t)51 * (horizon))
 
 /* The stack that a thread needs to solve with so many nodes. Recursion goes down by node numbers: merging and choosing each
  * at most 2 levels a node deep, a substitution one level a node and the same again for the test that it replaces. The
- * figure is the larger sum of these levels' frames in the built library, rounded up. */
-#define PLANNER_STACK_BYTES_A_NODE ((size_t)2304)
+ * figure is the larger sum of these levels' frames in the built library, rounded up. Beside the recursion stand the roots of
+ * up to 5,211 diagrams. */
+#define PLANNER_STACK_BYTES_A_NODE ((size_t)2816)
 #define PLANNER_STACK_BYTES_BESIDE ((size_t)65536)
 #define PLANNER_STACK_BYTES(nodes) (PLANNER_STACK_BYTES_BESIDE + PLANNER_STACK_BYTES_A_NODE * (size_t)(nodes))
+
+/* A state: bit i - 1 of mask is condition i; the levels' numerators, those beyond the site's levels zero, and their
+ * denominator. Each function of a state has one with the suffix _at that takes it so. */
+struct planner_state {
+    uint32_t mask;
+    int32_t level[PLANNER_LEVELS_MOST];
+    int32_t denominator;
+};
 
 /* Solves the model into the lent tables. Answer: place u32, peak u32.
  * A refusal 1 to 10 or 17 leaves all words as they are; 11 and 12 leave them zero. */
@@ -67,16 +86,35 @@ uint32_t planner_solve(const uint8_t *model, size_t model_len, uint32_t horizon,
                        uint32_t *work, size_t work_words, uint8_t *out, size_t out_len);
 
 /* The value and the best action at a state, with 1 to horizon steps left, from tables that planner_solve filled.
- * Bit i - 1 of mask is condition i; l1 to l4 are the levels' numerators, d their denominator.
+ * Bit i - 1 of mask is condition i; l1 to l8 are the levels' numerators, d their denominator.
  * Answer: place u32, action u32, low word u64, high word i64. The value is
  * (high * 2^64 + low) / (d * W^(n * steps)), with the model's W and n. */
 uint32_t planner_value(const uint8_t *model, size_t model_len, const int64_t *nodes, size_t node_words,
                        const uint32_t *stages, size_t stage_words, uint32_t steps, uint32_t mask,
-                       int32_t l1, int32_t l2, int32_t l3, int32_t l4, int32_t d, uint8_t *out, size_t out_len);
+                       int32_t l1, int32_t l2, int32_t l3, int32_t l4, int32_t l5, int32_t l6, int32_t l7, int32_t l8,
+                       int32_t d, uint8_t *out, size_t out_len);
+
+static inline uint32_t planner_value_at(const uint8_t *model, size_t model_len, const int64_t *nodes, size_t node_words,
+                                        const uint32_t *stages, size_t stage_words, uint32_t steps,
+                                        const struct planner_state *state, uint8_t *out, size_t out_len)
+{
+    const int32_t *l = state->level;
+    return planner_value(model, model_len, nodes, node_words, stages, stage_words, steps, state->mask, l[0], l[1], l[2],
+                         l[3], l[4], l[5], l[6], l[7], state->denominator, out, out_len);
+}
 
 /* The same worked from the model alone, without tables; its time grows steeply with the steps. Answers as planner_value. */
 uint32_t planner_worth(const uint8_t *model, size_t model_len, uint32_t steps, uint32_t mask,
-                       int32_t l1, int32_t l2, int32_t l3, int32_t l4, int32_t d, uint8_t *out, size_t out_len);
+                       int32_t l1, int32_t l2, int32_t l3, int32_t l4, int32_t l5, int32_t l6, int32_t l7, int32_t l8,
+                       int32_t d, uint8_t *out, size_t out_len);
+
+static inline uint32_t planner_worth_at(const uint8_t *model, size_t model_len, uint32_t steps,
+                                        const struct planner_state *state, uint8_t *out, size_t out_len)
+{
+    const int32_t *l = state->level;
+    return planner_worth(model, model_len, steps, state->mask, l[0], l[1], l[2], l[3], l[4], l[5], l[6], l[7],
+                         state->denominator, out, out_len);
+}
 
 /* An action's name without its trailing spaces, empty where it has none.
  * Answer: place u32, length u32, the name's bytes, zeros up to 16. */
@@ -100,9 +138,20 @@ uint32_t planner_listing(const uint8_t *model, size_t model_len, uint32_t horizo
  * before 14 of any. */
 uint32_t planner_page(const uint8_t *model, size_t model_len, uint32_t horizon, const int64_t *nodes, size_t node_words,
                       const uint32_t *stages, size_t stage_words, uint32_t mask, int32_t l1, int32_t l2, int32_t l3,
-                      int32_t l4, int32_t d, uint8_t *text, size_t text_len, size_t place, uint8_t *out, size_t out_len);
+                      int32_t l4, int32_t l5, int32_t l6, int32_t l7, int32_t l8, int32_t d, uint8_t *text,
+                      size_t text_len, size_t place, uint8_t *out, size_t out_len);
 
-/* The number and the place of a model's refusal: 10 and 0 for a model above 65,535 bytes, else 1 to 8; 0 and 0 where it is
+static inline uint32_t planner_page_at(const uint8_t *model, size_t model_len, uint32_t horizon, const int64_t *nodes,
+                                       size_t node_words, const uint32_t *stages, size_t stage_words,
+                                       const struct planner_state *state, uint8_t *text, size_t text_len, size_t place,
+                                       uint8_t *out, size_t out_len)
+{
+    const int32_t *l = state->level;
+    return planner_page(model, model_len, horizon, nodes, node_words, stages, stage_words, state->mask, l[0], l[1], l[2],
+                        l[3], l[4], l[5], l[6], l[7], state->denominator, text, text_len, place, out, out_len);
+}
+
+/* The number and the place of a model's refusal: 10 and 0 for a model above 262,144 bytes, else 1 to 8; 0 and 0 where it is
  * accepted. */
 typedef struct planner_judged {
     uint32_t number;
@@ -110,6 +159,20 @@ typedef struct planner_judged {
 } planner_judged;
 
 planner_judged planner_validate(const uint8_t *model, size_t model_len);
+
+/* A model in the other form (K6), written to the start of `buffer`: the same commands in the same order, with the same values
+ * and best actions. An old model begins with site 01; a new one, which all functions above read, with site 02. Answer:
+ * place u32 of a refusal, an offset in the model that is given; length u32 of what was written. A refusal leaves `buffer` as
+ * it is, and no byte behind the result is touched.
+ *
+ * Old into new. Refusals in order: 10 for an old model above 65,535 bytes; 1 to 8 by the old form's rules; 17. */
+uint32_t planner_to_new(const uint8_t *old, size_t old_len, uint8_t *buffer, size_t buffer_len,
+                        uint8_t *out, size_t out_len);
+
+/* New into old; planner_to_new then gives the same bytes again. Refusals in order: 10 for a model above 262,144 bytes; 1 to 8;
+ * 20 where it does not fit the old form; 17. */
+uint32_t planner_to_old(const uint8_t *model, size_t model_len, uint8_t *buffer, size_t buffer_len,
+                        uint8_t *out, size_t out_len);
 
 #ifdef __cplusplus
 }

@@ -4,27 +4,21 @@ use mathlib.Core.Bool.{Bool, true, false, not}
 use mathlib.Core.List.{List, [], _∷_, _++_}
 use Prim.Native.Nat.{ℕ, zero, suc, _+_, _≤_, _<_}
 use native.Mathlib.Omega.{arith}
-use borrow.Author.Tests.{lt-ltb, le-ltb, eqb-true}
+use borrow.Author.Tests.{lt-ltb, eqb-true}
 use lib.Dec.{eqb, ltb, eqb→eq}
 use lib.IntN.{ℤ, pos}
-use lib.ListN.{length, drop, length-append}
+use lib.ListN.{length, length-append}
 use Rattle.whole.specs.Cases.{if, by-test}
 use Rattle.theory.specs.Verdict.{Verdict, refusal, from-to}
 use Rattle.theory.specs.Solve.{early}
 use Rattle.theory.specs.Value.{Asked, value-of}
 use Rattle.theory.specs.Name.{name}
 use Rattle.theory.specs.Listing.{lines, written, ListingOut}
-use Rattle.decimal.specs.Put.{PutAt}
 use Rattle.page_text.specs.Page.{in-decimal, right, left, page-line, whole-part, line-at, page-text, meets, page-refusal, page}
 use Rattle.page.proofs.Early.{passed}
-use Rattle.answers.specs.Answers.{pair-bytes, short}
+use Rattle.answers.specs.Answers.{short}
 use Rattle.answers.specs.Texts.{listed, listing-answer}
-use Rattle.answers.proofs.Bytes.{pair-length}
-use Rattle.answers.proofs.Answered.{at-start}
-
-empty : {l : List ℕ} → length l ≡ 0 → l ≡ []
-empty {l = []} e = refl
-empty {l = x ∷ l} e = absurd (omega arith)
+use Rattle.answers.proofs.Listed.{text-short}
 
 -- 17 stands for success too
 alike : (v : Verdict) (t a b c d e : Bool) → (t ≡ true → e ≡ true)
@@ -41,14 +35,6 @@ alike v true false false false d true f = go d
     go true = refl
     go false = refl
 alike v true false false false d false f = absurd (let z : _≡_ {A = ℕ} 0 1 = cc (f refl) in omega arith)
-
--- o is an outcome by a definition, with its text as it was lent and what `out` was lent as
-pub text-whole : (v : ListingOut) (buffer out : List ℕ) {o : ListingOut} {after : List ℕ} {n : ℕ} → 8 ≤ length out → o ≡ v → PutAt out 0 (pair-bytes (o .place) (o .size)) n after → listed (o .number) after (o .buffer) ≡ listing-answer v buffer out
-unfolding listing-answer
-text-whole v buffer out {o} {after} h e p =
-    (λ i. listed (o .number) (at-start (pair-length (o .place) (o .size)) p i) (o .buffer))
-    ∙ ap (λ (w : ListingOut). listed (w .number) (pair-bytes (w .place) (w .size) ++ drop 8 out) (w .buffer)) e
-    ∙ sym (ap (λ (b : Bool). if b (listed (short (v .number)) out buffer) (listed (v .number) (pair-bytes (v .place) (v .size) ++ drop 8 out) (v .buffer))) (le-ltb (length out) 8 h))
 
 module _ (B : List ℕ) (H : ℕ) (nodes : List ℤ) (stages : List ℕ) (q : Asked) (at : ℕ) where
   line-some : (h : ℕ) → 0 < length (line-at B nodes stages q h)
@@ -92,8 +78,4 @@ module _ (B : List ℕ) (H : ℕ) (nodes : List ℤ) (stages : List ℕ) (q : As
   -- o is what the judging with an empty text came to
   pub page-short : (buffer : List ℕ) {o : ListingOut} {out : List ℕ} {r : ℕ} → length out < 8 → o ≡ page B H nodes stages q [] at → length (o .buffer) ≡ 0 → r ≡ short (o .number)
       → listed r out (o .buffer ++ buffer) ≡ listing-answer (page B H nodes stages q buffer at) buffer out
-  unfolding listing-answer
-  page-short buffer {o} {out} h e z s =
-      let v = page B H nodes stages q buffer at in
-      (λ i. listed ((s ∙ ap (λ (w : ListingOut). short (w .number)) e ∙ emptied buffer) i) out (empty {l = o .buffer} z i ++ buffer))
-      ∙ sym (ap (λ (b : Bool). if b (listed (short (v .number)) out buffer) (listed (v .number) (pair-bytes (v .place) (v .size) ++ drop 8 out) (v .buffer))) (lt-ltb (length out) 8 h))
+  page-short buffer {o} h e z s = text-short (page B H nodes stages q buffer at) o buffer h (ap (λ (w : ListingOut). short (w .number)) e ∙ emptied buffer) z s

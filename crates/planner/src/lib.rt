@@ -4,3 +4,4 @@ pub mod reading; // reading.rt: values at a state
 pub mod texts; // texts.rt: names and listings
 pub mod lookup; // lookup.rt: an action found by its name
 pub mod pages; // pages.rt: pages
+pub mod conversions; // conversions.rt: models in the other form

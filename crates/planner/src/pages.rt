@@ -1,5 +1,6 @@
 // The export that writes a page.
 ghost use mathlib.Core.Path.{_≡_};
+ghost use mathlib.Core.List.{[], _∷_};
 ghost use Rattle.values.specs.State.{asked-by};
 ghost use Rattle.page_text.specs.Page.{page as page-of};
 ghost use Rattle.answers.specs.Texts.{listed, listing-answer};
@@ -17,20 +18,20 @@ pub extern "C" fn planner_page(
     l2: i32,
     l3: i32,
     l4: i32,
+    l5: i32,
+    l6: i32,
+    l7: i32,
+    l8: i32,
     d: i32,
     text: &mut [u8],
     place: usize,
     out: &mut [u8],
 ) -> u32
-    ensures { λ r. ⌜ listed r (now (out .exit)) (now (text .exit)) ≡ listing-answer (page-of (now (bytes .entry)) horizon (now (nodes .entry)) (now (stages .entry)) (asked-by mask l1 l2 l3 l4 d) (now (text .entry)) place) (now (text .entry)) (now (out .entry)) ⌝ }
+    ensures { λ r. ⌜ listed r (now (out .exit)) (now (text .exit)) ≡ listing-answer (page-of (now (bytes .entry)) horizon (now (nodes .entry)) (now (stages .entry)) (asked-by mask (l1 ∷ l2 ∷ l3 ∷ l4 ∷ l5 ∷ l6 ∷ l7 ∷ l8 ∷ d ∷ [])) (now (text .entry)) place) (now (text .entry)) (now (out .entry)) ⌝ }
 {
     let q = values::Asked {
         mask,
-        n1: l1,
-        n2: l2,
-        n3: l3,
-        n4: l4,
-        d,
+        n: [l1, l2, l3, l4, l5, l6, l7, l8, d],
     };
     if out.len() < 8 {
         let v = page::page(bytes, horizon, nodes, stages, q, &mut text[..0], place);

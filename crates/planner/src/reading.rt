@@ -1,5 +1,6 @@
 // Exports that read a value at a state, or work it plainly.
 ghost use mathlib.Core.Path.{_≡_};
+ghost use mathlib.Core.List.{[], _∷_};
 ghost use Rattle.theory.specs.Value.{value-of};
 ghost use Rattle.theory.specs.Plain.{plain-of};
 ghost use Rattle.values.specs.State.{asked-by};
@@ -18,18 +19,18 @@ pub extern "C" fn planner_value(
     l2: i32,
     l3: i32,
     l4: i32,
+    l5: i32,
+    l6: i32,
+    l7: i32,
+    l8: i32,
     d: i32,
     out: &mut [u8],
 ) -> u32
-    ensures { λ r. ⌜ answered r (now (out .exit)) ≡ value-answer (value-of (now (bytes .entry)) (now (nodes .entry)) (now (stages .entry)) steps (asked-by mask l1 l2 l3 l4 d)) (now (out .entry)) ⌝ }
+    ensures { λ r. ⌜ answered r (now (out .exit)) ≡ value-answer (value-of (now (bytes .entry)) (now (nodes .entry)) (now (stages .entry)) steps (asked-by mask (l1 ∷ l2 ∷ l3 ∷ l4 ∷ l5 ∷ l6 ∷ l7 ∷ l8 ∷ d ∷ []))) (now (out .entry)) ⌝ }
 {
     let q = values::Asked {
         mask,
-        n1: l1,
-        n2: l2,
-        n3: l3,
-        n4: l4,
-        d,
+        n: [l1, l2, l3, l4, l5, l6, l7, l8, d],
     };
     answers::reading::value(out, values::reading::value(bytes, nodes, stages, steps, q))
 }
@@ -44,18 +45,18 @@ pub extern "C" fn planner_worth(
     l2: i32,
     l3: i32,
     l4: i32,
+    l5: i32,
+    l6: i32,
+    l7: i32,
+    l8: i32,
     d: i32,
     out: &mut [u8],
 ) -> u32
-    ensures { λ r. ⌜ answered r (now (out .exit)) ≡ value-answer (plain-of (now (bytes .entry)) steps (asked-by mask l1 l2 l3 l4 d)) (now (out .entry)) ⌝ }
+    ensures { λ r. ⌜ answered r (now (out .exit)) ≡ value-answer (plain-of (now (bytes .entry)) steps (asked-by mask (l1 ∷ l2 ∷ l3 ∷ l4 ∷ l5 ∷ l6 ∷ l7 ∷ l8 ∷ d ∷ []))) (now (out .entry)) ⌝ }
 {
     let q = values::Asked {
         mask,
-        n1: l1,
-        n2: l2,
-        n3: l3,
-        n4: l4,
-        d,
+        n: [l1, l2, l3, l4, l5, l6, l7, l8, d],
     };
     answers::reading::value(out, worth::worth(bytes, steps, q))
 }

@@ -1,5 +1,6 @@
 -- `planner::texts::planner_listing` meets its contract.
-use Rattle.answers.proofs.Listed.{listing-short, listing-whole}
+use Rattle.theory.specs.Listing.{listing}
+use Rattle.answers.proofs.Listed.{text-whole, listing-short}
 use borrow.Author.Needs.{needs}
 use Rattle.planner.proofs.texts.planner_listing.Statement.{statement}
 use Rattle.planner.proofs.texts.planner_listing.Tie as tie
@@ -39,7 +40,7 @@ same-length-3 c = search needs
 returns-2 : tie.Need-returns-2
 returns-2 c =
     let a = c .before .before .before .before .before .before .before .before .before .before .before .before .before .args in
-    listing-whole (a .bytes .now) (a .horizon) (a .nodes .now) (a .stages .now) (a .place) (a .text .now) (a .out .now) (c .before .before .before .before .before .before .before .before .if1 .left) (c .before .before .before .before .before .before .listing2 .ensures) (c .before .before .put-pair .ensures .0)
+    text-whole (listing (a .bytes .now) (a .horizon) (a .nodes .now) (a .stages .now) (a .text .now) (a .place)) (a .text .now) (a .out .now) (c .before .before .before .before .before .before .before .before .if1 .left) (c .before .before .before .before .before .before .listing2 .ensures) (c .before .before .put-pair .ensures .0)
 
 pub planner-listing-spec : {M : Type 1} → statement M
 planner-listing-spec =
