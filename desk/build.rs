@@ -7,7 +7,11 @@ use std::{env, fs, path::Path};
 const LATER: [&str; 2] = ["planner_find", "planner_page"];
 
 /// Numbers that the header gives names to, without their PLANNER_.
-const NUMBERS: [&str; 9] = [
+const NUMBERS: [&str; 13] = [
+    "LEVELS_MOST",
+    "ACTIONS_MOST",
+    "OLD_MODEL_BYTES_MOST",
+    "TO_NEW_MODEL_BYTES",
     "NODES_MOST",
     "NODE_WORDS",
     "WORK_WORDS",

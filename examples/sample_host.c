@@ -1,9 +1,10 @@
 /* A host: solves a model file and says what to do in one state, and the whole plan.
  *
- *   sample_host MODEL HORIZON NODES [--page] MASK L1 L2 L3 L4 D
+ *   sample_host MODEL HORIZON NODES [--page] MASK L1 .. D
  *
- * prints the value and the action with HORIZON steps left, then the listing; with --page the state's page and nothing
- * else; a refusal as `R number place`.
+ * L1 .. are the numerators of one level or more; those that are left out are 0. Prints the value and the action with HORIZON
+ * steps left, the action that its name leads back to, then the listing; with --page the state's page and nothing else; a
+ * refusal as `R number place`.
  */
 #define _POSIX_C_SOURCE 200809L
 
@@ -16,8 +17,8 @@
 #include <stdlib.h>
 #include <string.h>
 
-/* No line of a listing is longer. */
-#define LINE_BYTES_MOST ((size_t)207)
+/* No line of a listing is longer: nine numbers of 20 characters, and less than 48 for all else. */
+#define LINE_BYTES_MOST ((size_t)(48 + 21 * (PLANNER_LEVELS_MOST + 1)))
 
 typedef struct plan {
     uint8_t *model;
@@ -121,6 +122,19 @@ static void print_words(uint64_t low, uint64_t high)
     printf("%s%s", negative ? "-" : "", digits + at);
 }
 
+/* A panel sends the name back: the action that carries it, if no other does. */
+static void print_found(const plan *p, const uint8_t *name, size_t letters)
+{
+    uint8_t out[PLANNER_FIND_BYTES];
+    uint32_t number = planner_find(p->model, p->model_len, name, letters, out, sizeof out);
+    if (number == 19)
+        printf("several actions are called %.*s\n", (int)letters, (const char *)name);
+    else if (number != 0)
+        refused(number, out);
+    else
+        printf("%.*s is action %" PRIu64 "\n", (int)letters, (const char *)name, number_at(out + 4, 4));
+}
+
 static void print_name(const plan *p, uint32_t action)
 {
     uint8_t out[PLANNER_NAME_BYTES];
@@ -129,20 +143,21 @@ static void print_name(const plan *p, uint32_t action)
         refused(number, out);
     int letters = (int)number_at(out + 4, 4);
     printf("action %" PRIu32 "%s%.*s\n", action, letters == 0 ? "" : " ", letters, (const char *)out + 8);
+    if (letters > 0)
+        print_found(p, out + 8, (size_t)letters);
 }
 
-static void print_value(const plan *p, uint32_t mask, const int32_t state[5])
+static void print_value(const plan *p, const struct planner_state *state)
 {
     uint8_t out[PLANNER_VALUE_BYTES];
-    uint32_t number = planner_value(p->model, p->model_len, p->nodes, PLANNER_NODE_WORDS(p->capacity), p->stages,
-                                    PLANNER_STAGE_WORDS, p->horizon, mask, state[0], state[1], state[2], state[3],
-                                    state[4], out, sizeof out);
+    uint32_t number = planner_value_at(p->model, p->model_len, p->nodes, PLANNER_NODE_WORDS(p->capacity), p->stages,
+                                       PLANNER_STAGE_WORDS, p->horizon, state, out, sizeof out);
     if (number != 0)
         refused(number, out);
-    /* An accepted model begins with 01, m, n, A, W. */
+    /* An accepted model begins with 02, m, n, A in two bytes, W. */
     printf("value ");
     print_words(number_at(out + 8, 8), number_at(out + 16, 8));
-    printf(" / (%" PRId32 " * %d^%" PRIu32 ")\n", state[4], p->model[4], p->model[2] * p->horizon);
+    printf(" / (%" PRId32 " * %d^%" PRIu32 ")\n", state->denominator, p->model[5], p->model[2] * p->horizon);
     print_name(p, (uint32_t)number_at(out + 4, 4));
 }
 
@@ -160,12 +175,11 @@ static void print_plan(const plan *p)
 }
 
 /* A line for each number of steps left. */
-static void print_page(const plan *p, uint32_t mask, const int32_t state[5])
+static void print_page(const plan *p, const struct planner_state *state)
 {
     uint8_t out[PLANNER_PAGE_BYTES], text[PLANNER_PAGE_TEXT_BYTES(PLANNER_STAGE_WORDS)];
-    uint32_t number = planner_page(p->model, p->model_len, p->horizon, p->nodes, PLANNER_NODE_WORDS(p->capacity), p->stages,
-                                   PLANNER_STAGE_WORDS, mask, state[0], state[1], state[2], state[3], state[4], text,
-                                   sizeof text, 0, out, sizeof out);
+    uint32_t number = planner_page_at(p->model, p->model_len, p->horizon, p->nodes, PLANNER_NODE_WORDS(p->capacity),
+                                      p->stages, PLANNER_STAGE_WORDS, state, text, sizeof text, 0, out, sizeof out);
     if (number != 0)
         refused(number, out);
     fwrite(text, 1, (size_t)number_at(out + 4, 4), stdout);
@@ -180,26 +194,34 @@ static long long argument(const char *text, long long least, long long most)
     return number;
 }
 
+/* The mask, levels and their denominator; levels that are left out are 0. */
+static struct planner_state state_of(int count, char **arguments)
+{
+    struct planner_state state = {0, {0}, 0};
+    if (count < 3 || count > PLANNER_LEVELS_MOST + 2)
+        fail("usage: sample_host MODEL HORIZON NODES [--page] MASK L1 .. D");
+    state.mask = (uint32_t)argument(arguments[0], 0, UINT32_MAX);
+    for (int i = 0; i < count - 2; i++)
+        state.level[i] = (int32_t)argument(arguments[1 + i], INT32_MIN, INT32_MAX);
+    state.denominator = (int32_t)argument(arguments[count - 1], INT32_MIN, INT32_MAX);
+    return state;
+}
+
 int main(int count, char **arguments)
 {
     plan p;
-    int32_t state[5];
-    int page = count == 11 && strcmp(arguments[4], "--page") == 0;
-    if (count != 10 && !page)
-        fail("usage: sample_host MODEL HORIZON NODES [--page] MASK L1 L2 L3 L4 D");
+    int page = count > 4 && strcmp(arguments[4], "--page") == 0, first = 4 + page;
+    struct planner_state state = state_of(count - first, arguments + first);
     memset(&p, 0, sizeof p);
     load(&p, arguments[1]);
     p.horizon = (uint32_t)argument(arguments[2], 0, UINT32_MAX);
     p.capacity = (size_t)argument(arguments[3], 0, PLANNER_NODES_MOST);
-    uint32_t mask = (uint32_t)argument(arguments[4 + page], 0, UINT32_MAX);
-    for (int i = 0; i < 5; i++)
-        state[i] = (int32_t)argument(arguments[5 + page + i], INT32_MIN, INT32_MAX);
     solve(&p);
     if (page) {
-        print_page(&p, mask, state);
+        print_page(&p, &state);
     } else {
         printf("solved, peak %" PRIu64 "\n", number_at(p.out + 4, 4));
-        print_value(&p, mask, state);
+        print_value(&p, &state);
         print_plan(&p);
     }
     free(p.model);

@@ -9,6 +9,8 @@ usage: ./plan MODEL HORIZON [--nodes N]                   the plan of a site, as
        ./plan find MODEL NAME                             the action that carries a name
        ./plan picture MODEL HORIZON --along LEVEL .. -o FILE
                                                           values and actions drawn over one level or two
+       ./plan --to-new OLD NEW                            a model of the old form, which begins with 01, made new
+       ./plan --to-old NEW OLD                            and the way back
        ./plan VERB --help                                 more about a verb
 
 HORIZON is the number of steps, 1 to 8.
@@ -44,6 +46,22 @@ usage: ./plan find MODEL NAME [--raw]
 
 Prints the number of the action that carries the name. Trailing spaces do not count. Refused with 18 if no action carries
 it, with 19 if several do.
+";
+
+pub const TO_NEW: &str = "\
+usage: ./plan --to-new OLD NEW [--raw]
+
+Writes the model of the file OLD, which is of the old form (its first byte is 01), to the file NEW in the form that the
+planner reads (02), command by command. Values and actions stay the same, and --to-old gives the old bytes again. A model
+that is refused, with the old form's rules and offsets, is not written. A file NEW that is there already stays as it is.
+";
+
+pub const TO_OLD: &str = "\
+usage: ./plan --to-old NEW OLD [--raw]
+
+Writes the model of the file NEW to the file OLD in the old form, for a unit that reads no other. Refused with 20 if the
+model does not fit that form: more than 4 levels, more than 8 actions, or more than 65,535 bytes once written. A file OLD
+that is there already stays as it is.
 ";
 
 pub const PICTURE: &str = "\

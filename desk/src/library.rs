@@ -1,7 +1,9 @@
 //! The calls of libplanner.a that the desk makes, as include/planner.h has them. The only unsafe code here.
 
 use crate::state::State;
-use crate::widths::{refusal, NAME_BYTES, PAIR_BYTES, STAGE_WORDS, VALUE_BYTES};
+use crate::widths::{
+    refusal, NAME_BYTES, OLD_MODEL_BYTES_MOST, PAIR_BYTES, STAGE_WORDS, TO_NEW_MODEL_BYTES, VALUE_BYTES,
+};
 
 /// A refusal: its number and its place.
 #[derive(Clone, Copy, Debug, PartialEq, Eq)]
@@ -34,7 +36,8 @@ extern "C" {
     ) -> u32;
     fn planner_value(
         model: Bytes, model_len: usize, nodes: *const i64, node_words: usize, stages: *const u32, stage_words: usize,
-        steps: u32, mask: u32, l1: i32, l2: i32, l3: i32, l4: i32, d: i32, out: Answer, out_len: usize,
+        steps: u32, mask: u32, l1: i32, l2: i32, l3: i32, l4: i32, l5: i32, l6: i32, l7: i32, l8: i32, d: i32,
+        out: Answer, out_len: usize,
     ) -> u32;
     fn planner_name(model: Bytes, model_len: usize, action: u32, out: Answer, out_len: usize) -> u32;
     fn planner_listing(
@@ -42,12 +45,19 @@ extern "C" {
         stages: *const u32, stage_words: usize, text: *mut u8, text_len: usize, place: usize,
         out: Answer, out_len: usize,
     ) -> u32;
+    fn planner_to_new(
+        old: Bytes, old_len: usize, buffer: *mut u8, buffer_len: usize, out: Answer, out_len: usize,
+    ) -> u32;
+    fn planner_to_old(
+        model: Bytes, model_len: usize, buffer: *mut u8, buffer_len: usize, out: Answer, out_len: usize,
+    ) -> u32;
     #[cfg(planner_find)]
     fn planner_find(model: Bytes, model_len: usize, name: Bytes, name_len: usize, out: Answer, out_len: usize) -> u32;
     #[cfg(planner_page)]
     fn planner_page(
         model: Bytes, model_len: usize, horizon: u32, nodes: *const i64, node_words: usize,
-        stages: *const u32, stage_words: usize, mask: u32, l1: i32, l2: i32, l3: i32, l4: i32, d: i32,
+        stages: *const u32, stage_words: usize, mask: u32,
+        l1: i32, l2: i32, l3: i32, l4: i32, l5: i32, l6: i32, l7: i32, l8: i32, d: i32,
         text: *mut u8, text_len: usize, place: usize, out: Answer, out_len: usize,
     ) -> u32;
 }
@@ -96,12 +106,12 @@ pub fn solve(
 pub fn value(
     m: &[u8], nodes: &[i64], stages: &[u32; STAGE_WORDS], steps: u32, state: &State,
 ) -> Result<Reading, Refusal> {
-    let (mut out, [l1, l2, l3, l4]) = ([0; VALUE_BYTES], state.numerators);
+    let (mut out, [l1, l2, l3, l4, l5, l6, l7, l8]) = ([0; VALUE_BYTES], state.numerators);
     // SAFETY: as said above.
     let number = unsafe {
         planner_value(
             m.as_ptr(), m.len(), nodes.as_ptr(), nodes.len(), stages.as_ptr(), stages.len(), steps, state.mask,
-            l1, l2, l3, l4, state.denominator, out.as_mut_ptr(), out.len(),
+            l1, l2, l3, l4, l5, l6, l7, l8, state.denominator, out.as_mut_ptr(), out.len(),
         )
     };
     let out = judged(number, out)?;
@@ -137,6 +147,29 @@ pub fn listing(
     Ok(text)
 }
 
+type Convert = unsafe extern "C" fn(Bytes, usize, *mut u8, usize, Answer, usize) -> u32;
+
+/// What a conversion writes, which has at most `room` bytes.
+fn converted(convert: Convert, m: &[u8], room: usize) -> Result<Vec<u8>, Refusal> {
+    let (mut out, mut buffer) = ([0; PAIR_BYTES], vec![0; room]);
+    // SAFETY: as said above.
+    let number =
+        unsafe { convert(m.as_ptr(), m.len(), buffer.as_mut_ptr(), buffer.len(), out.as_mut_ptr(), out.len()) };
+    let out = judged(number, out)?;
+    buffer.truncate(number_at(&out, 4, 4) as usize);
+    Ok(buffer)
+}
+
+/// A model of the old form in the planner's.
+pub fn to_new(old: &[u8]) -> Result<Vec<u8>, Refusal> {
+    converted(planner_to_new, old, TO_NEW_MODEL_BYTES)
+}
+
+/// A model in the old form.
+pub fn to_old(model: &[u8]) -> Result<Vec<u8>, Refusal> {
+    converted(planner_to_old, model, OLD_MODEL_BYTES_MOST)
+}
+
 /// The action that carries a name.
 #[cfg(planner_find)]
 pub fn find(m: &[u8], name: &[u8]) -> Result<u32, Refusal> {
@@ -152,12 +185,12 @@ pub fn find(m: &[u8], name: &[u8]) -> Result<u32, Refusal> {
 pub fn page(
     m: &[u8], horizon: u32, nodes: &[i64], stages: &[u32; STAGE_WORDS], state: &State, room: usize,
 ) -> Result<Vec<u8>, Refusal> {
-    let (mut out, mut text, [l1, l2, l3, l4]) = ([0; PAIR_BYTES], vec![0; room], state.numerators);
+    let (mut out, mut text, [l1, l2, l3, l4, l5, l6, l7, l8]) = ([0; PAIR_BYTES], vec![0; room], state.numerators);
     // SAFETY: as said above.
     let number = unsafe {
         planner_page(
             m.as_ptr(), m.len(), horizon, nodes.as_ptr(), nodes.len(), stages.as_ptr(), stages.len(), state.mask,
-            l1, l2, l3, l4, state.denominator, text.as_mut_ptr(), text.len(), 0, out.as_mut_ptr(), out.len(),
+            l1, l2, l3, l4, l5, l6, l7, l8, state.denominator, text.as_mut_ptr(), text.len(), 0, out.as_mut_ptr(), out.len(),
         )
     };
     let out = judged(number, out)?;

@@ -1,5 +1,5 @@
-//! The engineer's command over the library: plans, states, models in words, pictures. Nothing is proved about it; whatever it
-//! says about a model, a value or an action comes from the library's calls.
+//! The engineer's command over the library: plans, states, models in words and in the other form, pictures. Nothing is
+//! proved about it; whatever it says about a model, a value or an action comes from the library's calls.
 
 mod arguments;
 mod fraction;

@@ -1,7 +1,54 @@
 //! A model's bytes as commands and diagrams, for showing: what can be decoded is, whatever rules it breaks. The judging is
 //! the library's.
 
-use crate::widths::{code, ACTION_BYTES, LETTERS, LEVELS, LINEAR_BYTES, NUMBER_BYTES};
+use crate::widths::{code, Form, LETTERS, LEVELS, NEW, NUMBER_BYTES, OLD};
+
+/// The bytes of a model, and the form that they are read in.
+#[derive(Clone, Copy, Debug)]
+pub struct Model<'a> {
+    pub bytes: &'a [u8],
+    pub form: &'static Form,
+}
+
+impl<'a> Model<'a> {
+    /// In the planner's form.
+    pub fn new(bytes: &'a [u8]) -> Model<'a> {
+        Model { bytes, form: &NEW }
+    }
+
+    pub fn old(bytes: &'a [u8]) -> Model<'a> {
+        Model { bytes, form: &OLD }
+    }
+
+    pub fn is_old(&self) -> bool {
+        self.form.site == OLD.site
+    }
+
+    pub fn len(&self) -> usize {
+        self.bytes.len()
+    }
+
+    /// The byte at an offset, if there is one.
+    pub fn byte(&self, offset: usize) -> Option<u8> {
+        self.bytes.get(offset).copied()
+    }
+
+    /// What stands before an offset.
+    pub fn before(&self, offset: usize) -> Model<'a> {
+        Model { bytes: &self.bytes[..offset], ..*self }
+    }
+
+    /// The bytes that its commands have in another form, as far as they can be read.
+    pub fn bytes_in(&self, form: &Form) -> usize {
+        let (mut offset, mut bytes) = (0, 0);
+        while let Ok((_, behind)) = command_at(*self, offset) {
+            let first = Some(self.bytes[offset]).filter(|&first| first != self.form.site).unwrap_or(form.site);
+            bytes += command_bytes(form, first).unwrap_or(0);
+            offset = behind;
+        }
+        bytes
+    }
+}
 
 #[derive(Clone, Debug, PartialEq, Eq)]
 pub struct Linear {
@@ -42,14 +89,14 @@ pub enum Unread {
 }
 
 /// Bytes of the command that begins so, this one included.
-pub fn command_bytes(first: u8) -> Option<usize> {
+pub fn command_bytes(form: &Form, first: u8) -> Option<usize> {
     let operands = match first {
-        code::SITE => 3 + ACTION_BYTES,
-        code::LEAF | code::TEST => LINEAR_BYTES,
+        first if first == form.site => 3 + form.action_bytes,
+        code::LEAF | code::TEST => NUMBER_BYTES * (form.levels + 1),
         code::CONDITION => 1,
-        code::REWARD => ACTION_BYTES,
-        code::CHANCE | code::NEXT => ACTION_BYTES + 1,
-        code::NAME => ACTION_BYTES + LETTERS,
+        code::REWARD => form.action_bytes,
+        code::CHANCE | code::NEXT => form.action_bytes + 1,
+        code::NAME => form.action_bytes + LETTERS,
         code::END_WORTH | code::END => 0,
         _ => return None,
     };
@@ -60,24 +107,28 @@ fn number(bytes: &[u8]) -> usize {
     bytes.iter().rev().fold(0, |number, &byte| number << 8 | usize::from(byte))
 }
 
+/// The last number is the constant; coefficients that the form has no place for are zero.
 fn linear(bytes: &[u8]) -> Linear {
     let numbers: Vec<i64> = bytes
         .chunks(NUMBER_BYTES)
         .map(|chunk| i64::from(i32::from_le_bytes(chunk.try_into().expect("the bytes of a number"))))
         .collect();
-    Linear { coefficients: std::array::from_fn(|i| numbers[i]), constant: numbers[LEVELS] }
+    let [coefficients @ .., constant] = numbers.as_slice() else { unreachable!("a linear has numbers") };
+    let coefficient = |level: usize| coefficients.get(level).copied().unwrap_or(0);
+    Linear { coefficients: std::array::from_fn::<i64, LEVELS, _>(coefficient), constant: *constant }
 }
 
 /// The command at an offset, and the offset behind it.
-pub fn command_at(model: &[u8], offset: usize) -> Result<(Command, usize), Unread> {
-    let first = *model.get(offset).ok_or(Unread::NoEnd)?;
-    let bytes = command_bytes(first).ok_or(Unread::Unknown(first))?;
-    let whole = model.get(offset..offset + bytes).ok_or(Unread::Short(bytes))?;
-    let (action, rest) = whole[1..].split_at(ACTION_BYTES.min(bytes - 1));
+pub fn command_at(model: Model, offset: usize) -> Result<(Command, usize), Unread> {
+    let Model { bytes: all, form } = model;
+    let first = *all.get(offset).ok_or(Unread::NoEnd)?;
+    let bytes = command_bytes(form, first).ok_or(Unread::Unknown(first))?;
+    let whole = all.get(offset..offset + bytes).ok_or(Unread::Short(bytes))?;
+    let (action, rest) = whole[1..].split_at(form.action_bytes.min(bytes - 1));
     let action = number(action);
     let last = || usize::from(rest[0]);
     let command = match first {
-        code::SITE => Command::Site(site(&whole[1..])),
+        first if first == form.site => Command::Site(site(&whole[1..], form)),
         code::LEAF => Command::Leaf(linear(&whole[1..])),
         code::TEST => Command::Test(linear(&whole[1..])),
         code::CONDITION => Command::Condition(whole[1].into()),
@@ -92,8 +143,8 @@ pub fn command_at(model: &[u8], offset: usize) -> Result<(Command, usize), Unrea
 }
 
 /// m, n, A, W.
-fn site(bytes: &[u8]) -> Site {
-    let weight = 2 + ACTION_BYTES;
+fn site(bytes: &[u8], form: &Form) -> Site {
+    let weight = 2 + form.action_bytes;
     Site {
         levels: bytes[0].into(),
         conditions: bytes[1].into(),
@@ -133,7 +184,7 @@ pub struct Written {
 
 impl Written {
     /// Reads up to the end command, a command that cannot be decoded or one whose diagrams are not there.
-    pub fn read(model: &[u8]) -> Written {
+    pub fn read(model: Model) -> Written {
         let mut written = Written::default();
         loop {
             match command_at(model, written.stop) {
@@ -201,5 +252,25 @@ fn printable(letter: u8) -> char {
     match letter {
         0x20..=0x7E => char::from(letter),
         _ => '?',
+    }
+}
+
+#[cfg(test)]
+mod tests {
+    use super::*;
+
+    const POND: &[u8] = include_bytes!("../../examples/pond.model");
+    const OLD_POND: &[u8] = include_bytes!("../../examples/old/pond.model");
+
+    #[test]
+    fn both_forms_have_the_same_commands() {
+        let commands = |model| Written::read(model).items.into_iter().map(|item| item.command).collect::<Vec<_>>();
+        let (new, old) = (Model::new(POND), Model::old(OLD_POND));
+        assert_eq!(commands(new), commands(old));
+        assert_eq!(commands(new).len(), 8);
+        assert_eq!([new.bytes_in(&OLD), new.bytes_in(&NEW)], [OLD_POND.len(), POND.len()]);
+        assert_eq!([old.bytes_in(&OLD), old.bytes_in(&NEW)], [OLD_POND.len(), POND.len()]);
+        // Neither is read in the other form.
+        assert_eq!([commands(Model::old(POND)), commands(Model::new(OLD_POND))], [vec![], vec![]]);
     }
 }

@@ -1,7 +1,7 @@
 //! Refusals in words: what stands at their place, the rule it breaks and what may help.
 
 use crate::library::Refusal;
-use crate::model::{command_at, Command, Diagram, Item, Linear, Site, Unread, Written};
+use crate::model::{command_at, Command, Diagram, Item, Linear, Model, Site, Unread, Written};
 use crate::state::State;
 use crate::widths::*;
 use crate::words;
@@ -9,7 +9,7 @@ use crate::words;
 /// What was asked about, as far as the words of a refusal need it.
 pub struct Subject<'a> {
     pub path: &'a str,
-    pub model: &'a [u8],
+    pub model: Model<'a>,
     /// The nodes of the tables, and whether more can be had.
     pub nodes: Option<(usize, bool)>,
     pub state: Option<&'a State>,
@@ -35,6 +35,8 @@ pub fn explain(refused: Refusal, subject: &Subject) -> String {
         refusal::LIMITS | refusal::ROOM => of_solve(refused, subject),
         refusal::STATE => of_state(subject),
         refusal::NAMELESS | refusal::AMBIGUOUS => of_name(number, subject.model),
+        refusal::NO_FIT => of_fit(subject.model),
+        refusal::SIZE => of_size(subject.model),
         _ => of_call(number),
     };
     text += &format!("  rule:   {rule}\n  advice: {advice}\n");
@@ -42,7 +44,7 @@ pub fn explain(refused: Refusal, subject: &Subject) -> String {
 }
 
 /// What the bytes at an offset are.
-fn there(model: &[u8], offset: usize) -> String {
+fn there(model: Model, offset: usize) -> String {
     let bytes = words::bytes_at(model, offset);
     match command_at(model, offset) {
         Ok((command, _)) => format!("byte {offset}: {bytes}: {}", words::command(&command, &Written::read(model))),
@@ -52,10 +54,10 @@ fn there(model: &[u8], offset: usize) -> String {
     }
 }
 
-fn of_model(number: u32, model: &[u8], offset: usize) -> Told {
+fn of_model(number: u32, model: Model, offset: usize) -> Told {
     match number {
         refusal::FIRST if offset == 0 => told(
-            format!("the first command is site ({:02X})", code::SITE),
+            format!("the first command is site ({:02X})", model.form.site),
             "is the file a model? One begins with its site: levels, conditions, actions, weight total",
         ),
         refusal::FIRST => told("site is the first command and no other", "leave this second site out"),
@@ -72,7 +74,7 @@ fn of_model(number: u32, model: &[u8], offset: usize) -> Told {
     }
 }
 
-fn short(model: &[u8], offset: usize) -> Told {
+fn short(model: Model, offset: usize) -> Told {
     match command_at(model, offset) {
         Err(Unread::Short(whole)) => {
             let lacking = words::count(offset + whole - model.len(), "byte");
@@ -82,12 +84,21 @@ fn short(model: &[u8], offset: usize) -> Told {
     }
 }
 
-fn unknown(model: &[u8], offset: usize) -> Told {
-    let before = Written::read(&model[..offset]);
-    let [first @ .., last] = code::ALL.map(|code| format!("{code:02X}"));
-    let commands = format!("a command begins with {} or {last}", first.join(", "));
+fn unknown(model: Model, offset: usize) -> Told {
+    let before = Written::read(model.before(offset));
+    let [first @ .., last] = code::SHARED.map(|code| format!("{code:02X}"));
+    let commands = format!("a command begins with {:02X}, {} or {last}", model.form.site, first.join(", "));
     if offset == 0 {
-        return told(commands, format!("is the file a model? One begins with its site ({:02X})", code::SITE));
+        let advice = match (model.is_old(), model.byte(0)) {
+            (false, Some(code::OLD_SITE)) => {
+                "it may be a model of the old form: './plan --to-new OLD NEW' makes a new one of it".to_string()
+            }
+            (true, Some(code::SITE)) => {
+                "it may be a new model already; './plan --to-old NEW OLD' is the way back".to_string()
+            }
+            _ => format!("is the file a model? One begins with its site ({:02X})", model.form.site),
+        };
+        return told(commands, advice);
     }
     let last = last_before(model, offset).map_or(String::new(), |(place, command)| {
         format!("; the one before is at byte {place}: {}", words::command(&command, &before))
@@ -95,7 +106,7 @@ fn unknown(model: &[u8], offset: usize) -> Told {
     told(commands, format!("check the lengths of the commands before it{last}"))
 }
 
-fn last_before(model: &[u8], offset: usize) -> Option<(usize, Command)> {
+fn last_before(model: Model, offset: usize) -> Option<(usize, Command)> {
     let (mut place, mut last) = (0, None);
     while place < offset {
         let (command, behind) = command_at(model, place).ok()?;
@@ -105,12 +116,12 @@ fn last_before(model: &[u8], offset: usize) -> Option<(usize, Command)> {
     last
 }
 
-fn rule_broken(model: &[u8], offset: usize) -> Told {
+fn rule_broken(model: Model, offset: usize) -> Told {
     let written = Written::read(model);
     let (Ok((command, _)), Some(site)) = (command_at(model, offset), written.site()) else {
         return told("operands and diagrams keep to the rules", "see the rules for this command");
     };
-    operand_broken(&command, site)
+    operand_broken(&command, site, model.form)
         .or_else(|| diagram_broken(written.items.iter().find(|item| item.offset == offset)?, model, site))
         .unwrap_or_else(|| told("operands and diagrams keep to the rules", "see the rules for this command"))
 }
@@ -133,12 +144,12 @@ fn of_site(what: &str, most: usize, number: usize) -> Option<Told> {
 }
 
 /// The first rule on operands that a command breaks.
-fn operand_broken(command: &Command, site: Site) -> Option<Told> {
+fn operand_broken(command: &Command, site: Site, form: &Form) -> Option<Told> {
     let action = |number: usize| of_site("action", site.actions, number);
     match command {
-        Command::Site(site) => bounded("number of levels", 1, LEVELS, site.levels)
+        Command::Site(site) => bounded("number of levels", 1, form.levels, site.levels)
             .or_else(|| bounded("number of conditions", 0, CONDITIONS, site.conditions))
-            .or_else(|| bounded("number of actions", 1, ACTIONS, site.actions))
+            .or_else(|| bounded("number of actions", 1, form.actions, site.actions))
             .or_else(|| bounded("weight total", 1, WEIGHT_MOST, site.weight)),
         Command::Leaf(linear) => beyond(linear, site),
         Command::Test(linear) => beyond(linear, site).or_else(|| idle(linear)),
@@ -182,7 +193,7 @@ fn condition(number: usize, site: Site) -> Option<Told> {
 }
 
 /// The rule on diagrams that a reward, a chance or an end worth breaks.
-fn diagram_broken(item: &Item, model: &[u8], site: Site) -> Option<Told> {
+fn diagram_broken(item: &Item, model: Model, site: Site) -> Option<Told> {
     let diagram = item.diagram.as_ref()?;
     let next_step = |command: &Command| matches!(command, Command::Condition(number) if *number > CONDITIONS);
     if let Some(place) = first(diagram, &next_step).filter(|_| !matches!(item.command, Command::Next(..))) {
@@ -208,14 +219,14 @@ fn first(diagram: &Diagram, asked: &dyn Fn(&Command) -> bool) -> Option<usize> {
     below.chain(asked(&diagram.command).then_some(diagram.offset)).min()
 }
 
-fn stack(model: &[u8], offset: usize) -> Told {
-    let held = Written::read(&model[..offset]).left.len();
-    if model.get(offset) == Some(&code::LEAF) {
+fn stack(model: Model, offset: usize) -> Told {
+    let held = Written::read(model.before(offset)).left.len();
+    if model.byte(offset) == Some(code::LEAF) {
         let rule = format!("the stack holds at most {STACK_MOST} diagrams");
         return told(rule, "combine branches sooner: a test or condition right behind its high and low");
     }
-    let needed = match model.get(offset) {
-        Some(&code::CONDITION | &code::TEST) => "low and then high",
+    let needed = match model.byte(offset) {
+        Some(code::CONDITION | code::TEST) => "low and then high",
         _ => "a diagram",
     };
     told(
@@ -224,7 +235,7 @@ fn stack(model: &[u8], offset: usize) -> Told {
     )
 }
 
-fn twice(model: &[u8], offset: usize) -> Told {
+fn twice(model: Model, offset: usize) -> Told {
     let written = Written::read(model);
     let rule = "a reward, chance, next level, end worth or name is given once";
     let here = command_at(model, offset).map(|(command, _)| command);
@@ -239,7 +250,7 @@ fn twice(model: &[u8], offset: usize) -> Told {
     }
 }
 
-fn missing(model: &[u8], offset: usize) -> Told {
+fn missing(model: Model, offset: usize) -> Told {
     let written = Written::read(model);
     if let Some(diagram) = written.left.first() {
         let left = words::count(written.left.len(), "diagram");
@@ -310,7 +321,7 @@ fn of_state(subject: &Subject) -> Told {
     told(rule, format!("L{level} is not zero here: leave it out"))
 }
 
-fn of_name(number: u32, model: &[u8]) -> Told {
+fn of_name(number: u32, model: Model) -> Told {
     let written = Written::read(model);
     let actions = 1..=written.site().map_or(0, |site| site.actions);
     let names: Vec<String> =
@@ -325,15 +336,34 @@ fn of_name(number: u32, model: &[u8]) -> Told {
     }
 }
 
+fn of_size(model: Model) -> Told {
+    let what = if model.is_old() { "a model of the old form" } else { "a model" };
+    let rule = format!("{what} has at most {} bytes", model.form.model_bytes);
+    told(rule, "is the file a model? Else write its diagrams shorter")
+}
+
+/// Why a model has no old form, in the order of the request: levels, actions, bytes.
+fn of_fit(model: Model) -> Told {
+    let site = Written::read(model).site();
+    let fewer = |what: &str, most: usize, number: usize| {
+        (number > most).then(|| {
+            let rule = format!("a model of the old form has at most {most} {what}s");
+            told(rule, format!("it has {number} here: keep the model as it is, or write one with fewer"))
+        })
+    };
+    site.and_then(|site| fewer("level", OLD.levels, site.levels).or_else(|| fewer("action", OLD.actions, site.actions)))
+        .unwrap_or_else(|| {
+            let rule = format!("a model of the old form has at most {} bytes", OLD.model_bytes);
+            let bytes = words::count(model.bytes_in(&OLD), "byte");
+            told(rule, format!("it would have {bytes}: keep the model as it is, or write its diagrams shorter"))
+        })
+}
+
 fn of_call(number: u32) -> Told {
     match number {
         refusal::STEPS => {
             told(format!("the horizon is 1 to {STAGE_WORDS}"), "ask for fewer steps, and for one at least")
         }
-        refusal::SIZE => told(
-            format!("a model has at most {MODEL_BYTES_MOST} bytes"),
-            "is the file a model? Else write its diagrams shorter",
-        ),
         refusal::STATE => told("the state is one of the model's", "see its denominator, conditions and levels"),
         refusal::NODE => told("the tables are as solving leaves them", "solve again"),
         refusal::STAGE => told("the tables have the stage that is asked for", "solve with a longer horizon"),

@@ -1,12 +1,12 @@
 //! A model's commands in words, one to a line with its offset: each item with its diagram below it.
 
-use crate::model::{Command, Diagram, Unread, Written};
+use crate::model::{Command, Diagram, Model, Unread, Written};
 use crate::words;
 
 /// Deeper lines are not indented further; they say how deep they are.
 const INDENTED_MOST: usize = 16;
 
-pub fn show(model: &[u8]) -> String {
+pub fn show(model: Model) -> String {
     let written = Written::read(model);
     let mut text = String::new();
     for item in &written.items {
@@ -43,7 +43,7 @@ fn show_diagram(text: &mut String, diagram: &Diagram, depth: usize, before: &str
 }
 
 /// What stands where reading stopped, if that is not behind the end command with nothing more.
-fn stopped(text: &mut String, model: &[u8], written: &Written) {
+fn stopped(text: &mut String, model: Model, written: &Written) {
     let (stop, bytes) = (written.stop, words::bytes_at(model, written.stop));
     let words = match written.unread {
         Some(Unread::Unknown(_)) => format!("{bytes}: no command; what follows cannot be read"),

@@ -2,7 +2,7 @@
 
 use crate::fraction::Fraction;
 use crate::library::{self, Refusal};
-use crate::model::{Site, Written};
+use crate::model::{Model, Site, Written};
 use crate::state::State;
 use crate::whole::Whole;
 use crate::widths::*;
@@ -86,6 +86,6 @@ fn solve_with(model: &[u8], horizon: u32, size: usize) -> Result<Solved<'_>, Uns
         Ok(thread.join().expect("solving does not panic"))
     })?;
     number.map_err(|refused| Unsolved::Refused(refused, size))?;
-    let site = Written::read(model).site().expect("a solved model has a site");
+    let site = Written::read(Model::new(model)).site().expect("a solved model has a site");
     Ok(Solved { model, site, horizon: horizon as usize, nodes: tables.nodes, stages: tables.stages })
 }

@@ -37,7 +37,12 @@ fn linear(words: &[&str]) -> Result<Vec<u8>, String> {
 }
 
 fn action(word: &str) -> Result<Vec<u8>, String> {
-    Ok(number(word)?.to_le_bytes()[..ACTION_BYTES].to_vec())
+    let bytes = number(word)?.to_le_bytes();
+    let (kept, rest) = bytes.split_at(NEW.action_bytes);
+    match rest.iter().all(|&byte| byte == 0) {
+        true => Ok(kept.to_vec()),
+        false => Err(format!("'{word}' is no action")),
+    }
 }
 
 fn byte(word: &str) -> Result<Vec<u8>, String> {

@@ -85,15 +85,16 @@ impl State {
         Some(State { mask, numerators, denominator: common.to_i32()? })
     }
 
-    /// MASK L1 .. D.
+    /// MASK L1 .. D; levels that have no word are 0.
     pub fn read(words: &[String]) -> Result<State, String> {
         let number = |word: &String| word.parse::<i32>().map_err(|_| format!("'{word}' is no whole number of 32 bits"));
         let mask = words[0].parse().map_err(|_| format!("the mask '{}' is no whole number of 32 bits", words[0]))?;
+        let (levels, last) = (&words[1..words.len() - 1], &words[words.len() - 1]);
         let mut numerators = [0; LEVELS];
-        for (numerator, word) in numerators.iter_mut().zip(&words[1..]) {
+        for (numerator, word) in numerators.iter_mut().zip(levels) {
             *numerator = number(word)?;
         }
-        Ok(State { mask, numerators, denominator: number(&words[1 + LEVELS])? })
+        Ok(State { mask, numerators, denominator: number(last)? })
     }
 
     /// In the words of `--at`, for a site with so many levels and conditions.
@@ -120,6 +121,11 @@ mod tests {
         for text in ["L1", "L99=1", "L01=1", "C9", "L1=x", "L1=1 L1=2", "C1 !C1", "L1=1/0", "x"] {
             assert!(Given::read(text).is_err(), "{text}");
         }
+        let read = |text: &str| State::read(&text.split(' ').map(str::to_string).collect::<Vec<_>>());
+        assert_eq!(read("1 78 -1 4"), Ok(state.clone()));
+        assert_eq!(read("1 78 -1 0 0 0 0 0 0 4"), Ok(state));
+        assert_eq!(read("0 1 2 3 4 5 6 7 8 9").map(|state| (state.numerators[7], state.denominator)), Ok((8, 9)));
+        assert!(Given::read("L8=1 L7=-1/2").is_ok() && Given::read("L9=1").is_err());
         assert!(Given::read("L1=3000000000").unwrap().state().is_err());
         assert!(Given::read("L1=1/65537 L2=1/65539").unwrap().state().is_err());
     }

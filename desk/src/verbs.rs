@@ -2,14 +2,14 @@
 
 use crate::arguments::Arguments;
 use crate::library::{self, Refusal};
-use crate::model::Written;
+use crate::model::{Model, Written};
 use crate::picture::{Picture, Stopped};
 use crate::refusals::{explain, Subject};
 use crate::solved::{Solved, Unsolved};
 use crate::state::{Given, State};
 use crate::widths::{LEVELS, MODEL_BYTES_MOST, NODES_MOST};
 use crate::{help, show, words, Failure};
-use std::io::Read;
+use std::io::{Read, Write};
 
 type Done = Result<(), Failure>;
 
@@ -23,6 +23,8 @@ pub fn run(given: &[String], out: &mut Vec<u8>) -> Done {
         "show" => verb(rest, &["--raw"], help::SHOW, out, show),
         "find" => verb(rest, &["--raw"], help::FIND, out, find),
         "picture" => verb(rest, &PICTURE_OPTIONS, help::PICTURE, out, picture),
+        "--to-new" => verb(rest, &["--raw"], help::TO_NEW, out, to_new),
+        "--to-old" => verb(rest, &["--raw"], help::TO_OLD, out, to_old),
         "help" => helped(rest, out),
         _ => verb(given, &["--at", "--nodes", "--raw", "--page"], help::PLAN, out, plan),
     }
@@ -76,7 +78,7 @@ fn refuse(arguments: &Arguments, refused: Refusal, subject: &Subject, out: &mut 
 }
 
 fn subject<'a>(path: &'a str, model: &'a [u8]) -> Subject<'a> {
-    Subject { path, model, nodes: None, state: None }
+    Subject { path, model: Model::new(model), nodes: None, state: None }
 }
 
 fn one_model(arguments: &Arguments) -> Result<(&str, Vec<u8>), Failure> {
@@ -93,14 +95,14 @@ fn check(arguments: &Arguments, out: &mut Vec<u8>) -> Done {
         out.extend(b"R 0 0\n");
         return Ok(());
     }
-    let site = Written::read(&model).site().map(words::site).unwrap_or_default();
+    let site = Written::read(Model::new(&model)).site().map(words::site).unwrap_or_default();
     out.extend(format!("{path}: accepted\n  {site}, {}\n", words::count(model.len(), "byte")).bytes());
     Ok(())
 }
 
 fn show(arguments: &Arguments, out: &mut Vec<u8>) -> Done {
     let (path, model) = one_model(arguments)?;
-    out.extend(show::show(&model).bytes());
+    out.extend(show::show(Model::new(&model)).bytes());
     library::validate(&model).map_err(|refused| refuse(arguments, refused, &subject(path, &model), out))
 }
 
@@ -117,6 +119,43 @@ fn find(arguments: &Arguments, out: &mut Vec<u8>) -> Done {
 #[cfg(not(planner_find))]
 fn find(_: &Arguments, _: &mut Vec<u8>) -> Done {
     Err(Failure::Around("this library does not find actions by name".to_string()))
+}
+
+fn to_new(arguments: &Arguments, out: &mut Vec<u8>) -> Done {
+    let [from, to] = arguments.words.as_slice() else {
+        return Err(usage("an old model and a file for the new one are needed"));
+    };
+    let old = load(from)?;
+    let subject = Subject { model: Model::old(&old), ..subject(from, &old) };
+    let written = library::to_new(&old).map_err(|refused| refuse(arguments, refused, &subject, out))?;
+    keep(to, &written, out)
+}
+
+fn to_old(arguments: &Arguments, out: &mut Vec<u8>) -> Done {
+    let [from, to] = arguments.words.as_slice() else {
+        return Err(usage("a model and a file for the old one are needed"));
+    };
+    let model = load(from)?;
+    let written = library::to_old(&model).map_err(|refused| refuse(arguments, refused, &subject(from, &model), out))?;
+    keep(to, &written, out)
+}
+
+/// A model to a file that is not there yet: what is there stays, so that no model is lost by a slip.
+fn keep(path: &str, model: &[u8], out: &mut Vec<u8>) -> Done {
+    let unwritten = |error: std::io::Error| match error.kind() {
+        std::io::ErrorKind::AlreadyExists => Failure::Around(format!(
+            "{path} is there already and stays as it is: give another name, or remove it first"
+        )),
+        _ => Failure::Around(format!("cannot write {path}: {error}")),
+    };
+    let mut file = std::fs::File::create_new(path).map_err(unwritten)?;
+    file.write_all(model).map_err(|error| {
+        // What is half written is no model.
+        let _ = std::fs::remove_file(path);
+        unwritten(error)
+    })?;
+    out.extend(format!("{path}: written, {}\n", words::count(model.len(), "byte")).bytes());
+    Ok(())
 }
 
 /// The words of a call that solves: model, horizon, and a state in numbers or with --at.
@@ -153,26 +192,31 @@ impl<'a> Asked<'a> {
         state: Option<&State>,
         out: &mut Vec<u8>,
     ) -> Failure {
-        let subject = Subject { path: self.path, model: &self.model, nodes, state };
+        let subject = Subject { path: self.path, model: Model::new(&self.model), nodes, state };
         refuse(self.arguments, refused, &subject, out)
     }
 }
 
-/// The state of a call, if it has one.
-fn state(arguments: &Arguments) -> Result<Option<State>, Failure> {
+/// The state of a call, if it has one. In numbers it has a numerator for each level of the site, or for all that there are.
+fn state(arguments: &Arguments, model: &[u8]) -> Result<Option<State>, Failure> {
     let numbers = &arguments.words[2..];
+    let levels = || Written::read(Model::new(model)).site().map_or(LEVELS, |site| site.levels);
     match (&arguments.at, numbers.len()) {
         (None, 0) => Ok(None),
         (Some(at), 0) => Given::read(at).and_then(|given| given.state()).map(Some).map_err(Failure::Usage),
-        (None, count) if count == LEVELS + 2 => State::read(numbers).map(Some).map_err(Failure::Usage),
+        (None, count) if count == LEVELS + 2 || count > 2 && count == levels() + 2 => {
+            State::read(numbers).map(Some).map_err(Failure::Usage)
+        }
         (Some(_), _) => Err(usage("the state is given twice, or there is a word too many")),
-        _ => Err(Failure::Usage(format!("a state has a mask, {LEVELS} numerators and a denominator"))),
+        _ => Err(Failure::Usage(format!(
+            "a state has a mask, a numerator for each of the site's levels or for all {LEVELS}, and a denominator"
+        ))),
     }
 }
 
 fn plan(arguments: &Arguments, out: &mut Vec<u8>) -> Done {
     let asked = Asked::read(arguments)?;
-    let state = state(arguments)?;
+    let state = state(arguments, &asked.model)?;
     if arguments.page && state.is_none() {
         return Err(usage("--page is for a state: --at STATE"));
     }

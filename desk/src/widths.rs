@@ -7,21 +7,36 @@ mod header {
 pub use header::*;
 
 /// Levels, and so the coefficients of a linear and the numerators of a state.
-pub const LEVELS: usize = 4;
+pub const LEVELS: usize = LEVELS_MOST;
 /// Conditions that a site may have. Next-step ones are numbered behind them.
 pub const CONDITIONS: usize = 4;
-pub const ACTIONS: usize = 8;
+pub const ACTIONS: usize = ACTIONS_MOST;
 pub const WEIGHT_MOST: usize = 100;
 /// Diagrams that the stack of a model holds.
 pub const STACK_MOST: usize = 32;
 /// Letters of a name.
 pub const LETTERS: usize = NAME_LETTERS_MOST;
 
-/// Bytes of an action, as an operand and in the site.
-pub const ACTION_BYTES: usize = 1;
 /// Bytes of each number of a linear.
 pub const NUMBER_BYTES: usize = 4;
-pub const LINEAR_BYTES: usize = NUMBER_BYTES * (LEVELS + 1);
+
+/// A form of models: the planner's own, or the old one, before document 02's K5.
+#[derive(Debug)]
+pub struct Form {
+    /// The byte of the site command. The other form's is an unknown byte.
+    pub site: u8,
+    /// Levels that a site may have, and so coefficients of a written linear.
+    pub levels: usize,
+    pub actions: usize,
+    /// Bytes of an action, as an operand and in the site, low byte first.
+    pub action_bytes: usize,
+    pub model_bytes: usize,
+}
+
+pub static NEW: Form =
+    Form { site: code::SITE, levels: LEVELS, actions: ACTIONS, action_bytes: 2, model_bytes: MODEL_BYTES_MOST };
+pub static OLD: Form =
+    Form { site: code::OLD_SITE, levels: 4, actions: 8, action_bytes: 1, model_bytes: OLD_MODEL_BYTES_MOST };
 
 /// Words of a node: kind, a coefficient for each level, constant, high, low. A condition has its number first, a leaf its
 /// action in place of high.
@@ -51,7 +66,9 @@ pub const SIZES: [usize; 4] = [1024, 4096, 16384, NODES_MOST];
 
 /// The bytes that commands begin with.
 pub mod code {
-    pub const SITE: u8 = 0x01;
+    pub const SITE: u8 = 0x02;
+    /// The site of models before document 02's K5, which the planner reads to convert them only.
+    pub const OLD_SITE: u8 = 0x01;
     pub const LEAF: u8 = 0x10;
     pub const CONDITION: u8 = 0x11;
     pub const TEST: u8 = 0x12;
@@ -61,7 +78,8 @@ pub mod code {
     pub const END_WORTH: u8 = 0x23;
     pub const NAME: u8 = 0x30;
     pub const END: u8 = 0xFF;
-    pub const ALL: [u8; 10] = [SITE, LEAF, CONDITION, TEST, REWARD, CHANCE, NEXT, END_WORTH, NAME, END];
+    /// All but the site, which the forms differ in.
+    pub const SHARED: [u8; 9] = [LEAF, CONDITION, TEST, REWARD, CHANCE, NEXT, END_WORTH, NAME, END];
 }
 
 /// The numbers of refusals.
@@ -85,4 +103,5 @@ pub mod refusal {
     pub const BUFFER: u32 = 17;
     pub const NAMELESS: u32 = 18;
     pub const AMBIGUOUS: u32 = 19;
+    pub const NO_FIT: u32 = 20;
 }

@@ -1,6 +1,6 @@
 //! Commands, linears and counts in words.
 
-use crate::model::{command_bytes, Command, Linear, Site, Written};
+use crate::model::{command_bytes, Command, Linear, Model, Site, Written};
 use crate::widths::CONDITIONS;
 
 /// `1 level`, `2 levels`.
@@ -105,10 +105,10 @@ pub fn command(command: &Command, written: &Written) -> String {
 }
 
 /// The bytes of the command at an offset in hexadecimal, as far as they are there.
-pub fn bytes_at(model: &[u8], offset: usize) -> String {
+pub fn bytes_at(model: Model, offset: usize) -> String {
     const SHOWN: usize = 24;
-    let rest = &model[offset.min(model.len())..];
-    let bytes = rest.first().and_then(|&first| command_bytes(first)).unwrap_or(1).min(rest.len());
+    let rest = &model.bytes[offset.min(model.len())..];
+    let bytes = rest.first().and_then(|&first| command_bytes(model.form, first)).unwrap_or(1).min(rest.len());
     let shown: Vec<String> = rest[..bytes.min(SHOWN)].iter().map(|byte| format!("{byte:02X}")).collect();
     shown.join(" ") + if bytes > SHOWN { " .." } else { "" }
 }

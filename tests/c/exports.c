@@ -69,33 +69,44 @@ static void command(model *m, const char *bytes, size_t count)
     m->len += count;
 }
 
-static void linear(model *m, uint8_t code, int32_t l1, int32_t constant)
+/* Bytes of a leaf or a test: its code, eight coefficients and the constant. */
+#define LINEAR_BYTES ((size_t)37)
+#define SITE_BYTES ((size_t)6)
+/* A name with its code and its action, and the end command behind it. */
+#define NAME_AND_END ((size_t)20)
+
+/* A leaf or a test of so many bytes. */
+static size_t linear_at(uint8_t *at, size_t bytes, uint8_t code, int32_t l1, int32_t constant)
 {
-    uint8_t *at = m->bytes + m->len;
-    memset(at, 0, 21);
+    memset(at, 0, bytes);
     at[0] = code;
     put(at + 1, (uint32_t)l1, 4);
-    put(at + 17, (uint32_t)constant, 4);
-    m->len += 21;
+    put(at + bytes - 4, (uint32_t)constant, 4);
+    return bytes;
+}
+
+static void linear(model *m, uint8_t code, int32_t l1, int32_t constant)
+{
+    m->len += linear_at(m->bytes + m->len, LINEAR_BYTES, code, l1, constant);
 }
 
 /* Action 1 has the name, action 2 has none. */
 static model pond(const char *name)
 {
     model m = {{0}, 0};
-    command(&m, "\x01\x01\x00\x02\x01", 5);
+    command(&m, "\x02\x01\x00\x02\x00\x01", SITE_BYTES);
     linear(&m, 0x10, 0, 0);
-    command(&m, "\x20\x01", 2);
+    command(&m, "\x20\x01\x00", 3);
     linear(&m, 0x10, 1, 0);
-    command(&m, "\x22\x01\x01", 3);
+    command(&m, "\x22\x01\x00\x01", 4);
     linear(&m, 0x10, 0, 50);
     linear(&m, 0x10, 0, -1);
     linear(&m, 0x12, -1, 10);
-    command(&m, "\x20\x02", 2);
+    command(&m, "\x20\x02\x00", 3);
     linear(&m, 0x10, 1, -10);
     linear(&m, 0x10, 1, 0);
     linear(&m, 0x12, -1, 10);
-    command(&m, "\x22\x02\x01\x30\x01", 5);
+    command(&m, "\x22\x02\x00\x01\x30\x01\x00", 7);
     command(&m, name, 16);
     command(&m, "\xff", 1);
     return m;
@@ -115,30 +126,34 @@ static model pond_ending(void)
 static model still(int32_t l1)
 {
     model m = {{0}, 0};
-    command(&m, "\x01\x01\x00\x01\x01", 5);
+    command(&m, "\x02\x01\x00\x01\x00\x01", SITE_BYTES);
     linear(&m, 0x10, 0, 0);
-    command(&m, "\x20\x01", 2);
+    command(&m, "\x20\x01\x00", 3);
     linear(&m, 0x10, 1, 0);
-    command(&m, "\x22\x01\x01", 3);
+    command(&m, "\x22\x01\x00\x01", 4);
     linear(&m, 0x10, l1, 0);
     command(&m, "\x23\xff", 2);
     return m;
 }
 
+/* Words of a node, and where its numbers and branches are. */
+enum { NODE = 12, L1 = 1, CONSTANT = 9, HIGH = 10, LOW = 11 };
+
 static const int64_t NODES[] = {
-    0, 0,  0, 0, 0, 50, 2, 0, /* 1 */
-    0, 0,  0, 0, 0, 0,  1, 0, /* 2 */
-    2, -1, 0, 0, 0, 10, 1, 2, /* 3 */
-    0, 0,  0, 0, 0, 100, 2, 0, /* 4 */
-    0, 0,  0, 0, 0, 50, 1, 0, /* 5 */
-    2, -1, 0, 0, 0, 20, 4, 5, /* 6 */
-    2, -1, 0, 0, 0, 10, 6, 2, /* 7 */
+    0, 0,  0, 0, 0, 0, 0, 0, 0, 50,  2, 0, /* 1 */
+    0, 0,  0, 0, 0, 0, 0, 0, 0, 0,   1, 0, /* 2 */
+    2, -1, 0, 0, 0, 0, 0, 0, 0, 10,  1, 2, /* 3 */
+    0, 0,  0, 0, 0, 0, 0, 0, 0, 100, 2, 0, /* 4 */
+    0, 0,  0, 0, 0, 0, 0, 0, 0, 50,  1, 0, /* 5 */
+    2, -1, 0, 0, 0, 0, 0, 0, 0, 20,  4, 5, /* 6 */
+    2, -1, 0, 0, 0, 0, 0, 0, 0, 10,  6, 2, /* 7 */
 };
 #define WORDS (sizeof NODES / sizeof *NODES)
 static const uint32_t STAGES[8] = {3, 7};
 static const char LISTING[] = "PLAN 1 0 2 1 2\n"
-                              "N 1 V 0 0 0 0 50 2\nN 2 V 0 0 0 0 0 1\nN 3 L -1 0 0 0 10 1 2\nN 4 V 0 0 0 0 100 2\n"
-                              "N 5 V 0 0 0 0 50 1\nN 6 L -1 0 0 0 20 4 5\nN 7 L -1 0 0 0 10 6 2\n"
+                              "N 1 V 0 0 0 0 0 0 0 0 50 2\nN 2 V 0 0 0 0 0 0 0 0 0 1\nN 3 L -1 0 0 0 0 0 0 0 10 1 2\n"
+                              "N 4 V 0 0 0 0 0 0 0 0 100 2\nN 5 V 0 0 0 0 0 0 0 0 50 1\n"
+                              "N 6 L -1 0 0 0 0 0 0 0 20 4 5\nN 7 L -1 0 0 0 0 0 0 0 10 6 2\n"
                               "S 1 3\nS 2 7\n";
 #define LISTING_BYTES (sizeof LISTING - 1)
 
@@ -149,13 +164,13 @@ typedef struct call {
     size_t node_words;
     uint32_t stages[8];
     size_t stage_words;
-    uint32_t steps, mask;
-    int32_t levels[4], d;
+    uint32_t steps;
+    struct planner_state state;
 } call;
 
 static call usual(void)
 {
-    call c = {pond("Hold            "), {0}, WORDS, {0}, 8, 2, 0, {20, 0, 0, 0}, 1};
+    call c = {pond("Hold            "), {0}, WORDS, {0}, 8, 2, {0, {20}, 1}};
     memcpy(c.nodes, NODES, sizeof NODES);
     memcpy(c.stages, STAGES, sizeof STAGES);
     return c;
@@ -165,9 +180,8 @@ static call usual(void)
 
 static uint32_t value(const call *c, uint8_t *out, size_t out_len)
 {
-    return planner_value(c->m.bytes, c->m.len, c->node_words == 0 ? NULL : c->nodes, c->node_words,
-                         c->stage_words == 0 ? NULL : c->stages, c->stage_words, c->steps, c->mask, c->levels[0],
-                         c->levels[1], c->levels[2], c->levels[3], c->d, out, out_len);
+    return planner_value_at(c->m.bytes, c->m.len, c->node_words == 0 ? NULL : c->nodes, c->node_words,
+                            c->stage_words == 0 ? NULL : c->stages, c->stage_words, c->steps, &c->state, out, out_len);
 }
 
 /* The whole answer in a longer slice, in one of just its length, and in all that are too short. */
@@ -200,8 +214,8 @@ static void starred(uint32_t steps, int32_t level, int32_t d, uint64_t low, uint
 {
     call c = usual();
     c.steps = steps;
-    c.levels[0] = level;
-    c.d = d;
+    c.state.level[0] = level;
+    c.state.denominator = d;
     value_is(&c, 0, 0, action, low, 0);
 }
 
@@ -217,31 +231,34 @@ static void values_read(void)
     starred(1, 19, 2, 0, 1);
     /* Both words, and a sign: a leaf (2^62 - 1) L1 - 1 in place of node 4. */
     call c = usual();
-    c.nodes[3 * 8 + 1] = ((int64_t)1 << 62) - 1;
-    c.nodes[3 * 8 + 5] = -1;
-    c.levels[0] = INT32_MAX;
+    c.nodes[3 * NODE + L1] = ((int64_t)1 << 62) - 1;
+    c.nodes[3 * NODE + CONSTANT] = -1;
+    c.state.level[0] = INT32_MAX;
     value_is(&c, 0, 0, 2, ((uint64_t)3 << 62) - ((uint64_t)1 << 31), ((int64_t)1 << 29) - 1);
-    c.nodes[3 * 8 + 1] = -c.nodes[3 * 8 + 1];
+    c.nodes[3 * NODE + L1] = -c.nodes[3 * NODE + L1];
     value_is(&c, 0, 0, 2, ((uint64_t)1 << 62) + ((uint64_t)1 << 31) - 2, -((int64_t)1 << 29));
-    c.nodes[3 * 8 + 1] = 0;
+    c.nodes[3 * NODE + L1] = 0;
     value_is(&c, 0, 0, 2, UINT64_MAX, -1);
 }
 
 static void values_of_states_refused(void)
 {
     call c = usual();
-    c.d = 0;
+    c.state.denominator = 0;
     value_refused(&c, 13, 0);
     c = usual();
-    c.mask = 1;
+    c.state.mask = 1;
     value_refused(&c, 13, 0);
     c = usual();
-    c.levels[3] = 1;
+    c.state.level[1] = -1;
+    value_refused(&c, 13, 0);
+    c = usual();
+    c.state.level[7] = 1;
     value_refused(&c, 13, 0);
     c.stages[1] = 0;
     value_refused(&c, 13, 0);
-    c.levels[3] = 0;
-    c.nodes[6 * 8] = 3;
+    c.state.level[7] = 0;
+    c.nodes[6 * NODE] = 3;
     value_refused(&c, 15, 0);
     c = usual();
     c.steps = 3;
@@ -251,10 +268,12 @@ static void values_of_states_refused(void)
 /* Node 7 is met first; each word of it is put wrong in turn. */
 static void values_of_nodes_refused(void)
 {
-    static const int64_t wrong[8] = {3, (int64_t)1 << 62, INT64_MIN, INT64_MAX, -((int64_t)1 << 62), INT64_MIN, 7, 0};
-    for (int i = 0; i < 8; i++) {
+    static const int64_t beyond = (int64_t)1 << 62;
+    static const int64_t wrong[NODE] = {3, beyond, INT64_MIN, INT64_MAX, -beyond, beyond, INT64_MIN, -beyond, INT64_MAX,
+                                        INT64_MIN, 7, 0};
+    for (int i = 0; i < NODE; i++) {
         call c = usual();
-        c.nodes[6 * 8 + i] = wrong[i];
+        c.nodes[6 * NODE + i] = wrong[i];
         value_refused(&c, 14, 0);
     }
     call c = usual();
@@ -276,12 +295,12 @@ static void values_early_refused(void)
     c.stage_words = 0;
     value_refused(&c, 10, 0);
     c.stage_words = 8;
-    c.m.bytes[0] = 2;
+    c.m.bytes[0] = 1;
     value_refused(&c, 9, 0);
     c.steps = 9;
     value_refused(&c, 9, 0);
     c.steps = 2;
-    c.d = 0;
+    c.state.denominator = 0;
     value_refused(&c, 3, 0);
 }
 
@@ -291,6 +310,7 @@ static void worth_is(const model *m, uint32_t steps, int32_t level, int32_t d, u
                      uint32_t action, uint64_t low, int64_t high)
 {
     model kept = *m;
+    struct planner_state state = {0, {level}, d};
     lent out;
     uint8_t answer[PLANNER_WORTH_BYTES];
     put(answer, place, 4);
@@ -300,8 +320,8 @@ static void worth_is(const model *m, uint32_t steps, int32_t level, int32_t d, u
     for (size_t len = 0; len <= PLANNER_WORTH_BYTES + 3; len++) {
         uint8_t *start = lend(&out, len);
         int fits = len >= PLANNER_WORTH_BYTES, yields = number == 0 || number == 11;
-        uint32_t r = planner_worth(kept.len == 0 ? NULL : kept.bytes, kept.len, steps, 0, level, 0, 0, 0, d,
-                                   len == 0 ? NULL : start, len);
+        uint32_t r = planner_worth_at(kept.len == 0 ? NULL : kept.bytes, kept.len, steps, &state,
+                                      len == 0 ? NULL : start, len);
         expect(r == (fits || !yields ? number : 17), "number of a worth");
         expect(marked_beside(&out, 0, fits ? sizeof answer : 0), "no byte beside a worth's answer is written");
         expect(!fits || holds_bytes(&out, 0, answer, sizeof answer), "a worth's answer");
@@ -338,12 +358,13 @@ static void name_is(const model *m, uint32_t action, uint32_t number, uint32_t p
 static void listing_is(const call *given, uint32_t number, uint32_t place);
 static void find_is(const model *m, const char *name, uint32_t number, uint32_t place, uint32_t action);
 static void page_is(const call *given, uint32_t number, uint32_t place);
+static void to_old_refused(const model *m, uint32_t number, uint32_t place);
 
 static void model_refused(const model *m, uint32_t number, uint32_t place)
 {
     call c = usual();
     c.m = *m;
-    c.d = 0;
+    c.state.denominator = 0;
     planner_judged judged = planner_validate(m->len == 0 ? NULL : m->bytes, m->len);
     expect(judged.number == number && judged.place == place, "a model judged");
     value_refused(&c, number, place);
@@ -352,6 +373,7 @@ static void model_refused(const model *m, uint32_t number, uint32_t place)
     find_is(m, "", number, place, 0);
     listing_is(&c, number, place);
     page_is(&c, number, place);
+    to_old_refused(m, number, place);
 }
 
 static void models_refused(void)
@@ -364,27 +386,38 @@ static void models_refused(void)
     model_refused(&m, 1, 0);
     m.bytes[0] = 0x77;
     model_refused(&m, 3, 0);
-    m.bytes[0] = 1;
-    m.bytes[1] = 5;
+    m.bytes[0] = 1; /* the site of old models */
+    model_refused(&m, 3, 0);
+    m.bytes[0] = 2;
+    m.bytes[1] = 9;
     model_refused(&m, 4, 0);
     m.bytes[1] = 1;
-    m.bytes[5] = 0x12;
-    m.bytes[6] = 1;
-    model_refused(&m, 5, 5);
+    m.bytes[3] = 0x91; /* 401 actions */
+    m.bytes[4] = 1;
+    model_refused(&m, 4, 0);
+    m = pond("Hold            ");
+    m.bytes[SITE_BYTES + LINEAR_BYTES + 2] = 1; /* the reward of action 257 */
+    model_refused(&m, 4, SITE_BYTES + LINEAR_BYTES);
+    m = pond("Hold            ");
+    m.bytes[SITE_BYTES] = 0x12;
+    m.bytes[SITE_BYTES + 1] = 1;
+    model_refused(&m, 5, SITE_BYTES);
+    m.bytes[SITE_BYTES + 29] = 1; /* a coefficient of L8 */
+    model_refused(&m, 4, SITE_BYTES);
     m = pond("Hold           \x7f");
-    model_refused(&m, 4, (uint32_t)(end - 18));
+    model_refused(&m, 4, (uint32_t)(end - 19));
     m = pond("Hold            ");
     m.len = end;
     model_refused(&m, 2, (uint32_t)end);
     command(&m, "\x10", 1);
     model_refused(&m, 2, (uint32_t)end);
     m.len = end;
-    command(&m, "\x30\x01" "Again           \xff", 19);
+    command(&m, "\x30\x01\x00" "Again           \xff", NAME_AND_END);
     model_refused(&m, 6, (uint32_t)end);
     m.len = end;
     linear(&m, 0x10, 0, 0);
     command(&m, "\xff", 1);
-    model_refused(&m, 7, (uint32_t)end + 21);
+    model_refused(&m, 7, (uint32_t)(end + LINEAR_BYTES));
     m = pond("Hold            ");
     command(&m, "\xff", 1);
     model_refused(&m, 8, (uint32_t)end + 1);
@@ -398,7 +431,7 @@ static void end_worths_refused(void)
     uint32_t end = (uint32_t)m.len - 1;
     m.bytes[0] = 0x23;
     model_refused(&m, 1, 0);
-    m.bytes[0] = 1;
+    m.bytes[0] = 2;
     m.len = end;
     model_refused(&m, 2, end);
     command(&m, "\x23\xff", 2);
@@ -406,38 +439,56 @@ static void end_worths_refused(void)
     m.len = end;
     linear(&m, 0x10, 0, 0);
     command(&m, "\x23\xff", 2);
-    model_refused(&m, 6, end + 21);
+    model_refused(&m, 6, (uint32_t)(end + LINEAR_BYTES));
     /* A next-step condition in it. */
     m.len = 0;
-    command(&m, "\x01\x01\x01\x01\x0a", 5);
+    command(&m, "\x02\x01\x01\x01\x00\x0a", SITE_BYTES);
     linear(&m, 0x10, 1, 0);
     linear(&m, 0x10, 0, 0);
     command(&m, "\x11\x05\x23\xff", 4);
-    model_refused(&m, 4, 49);
-    m.bytes[48] = 1;
-    model_refused(&m, 7, 50);
+    uint32_t condition = (uint32_t)(SITE_BYTES + 2 * LINEAR_BYTES);
+    model_refused(&m, 4, condition + 2);
+    m.bytes[condition + 1] = 1;
+    model_refused(&m, 7, condition + 3);
 }
 
-/* A model of 65,536 bytes is refused before it is read; one byte less is judged. */
+/* A model of 262,145 bytes is refused before it is read; one byte less is judged. */
 static void long_models_refused(void)
 {
-    uint8_t *bytes = calloc(65536, 1), out[PLANNER_NAME_BYTES], zeros[PLANNER_NAME_BYTES] = {0};
+    const size_t most = PLANNER_MODEL_BYTES_MOST, longer = most + 1;
+    uint8_t *bytes = calloc(longer, 1), out[PLANNER_NAME_BYTES], zeros[PLANNER_NAME_BYTES] = {0};
     call c = usual();
-    expect(bytes != NULL, "memory");
-    expect(planner_name(bytes, 65536, 1, out, sizeof out) == 10, "a long model");
+    struct planner_state none = {0, {0}, 0};
+    expect(bytes != NULL && most == 262144, "memory");
+    expect(planner_name(bytes, longer, 1, out, sizeof out) == 10, "a long model");
     expect(memcmp(out, zeros, sizeof out) == 0, "a long model's name");
-    expect(planner_value(bytes, 65536, c.nodes, WORDS, c.stages, 8, 0, 0, 0, 0, 0, 0, 0, out, sizeof out) == 10,
+    expect(planner_value_at(bytes, longer, c.nodes, WORDS, c.stages, 8, 0, &none, out, sizeof out) == 10,
            "a long model's value");
-    expect(planner_listing(bytes, 65536, 0, c.nodes, WORDS, c.stages, 8, NULL, 0, 1, out, sizeof out) == 10,
+    expect(planner_worth_at(bytes, longer, 0, &none, out, sizeof out) == 10, "a long model's worth");
+    expect(planner_listing(bytes, longer, 0, c.nodes, WORDS, c.stages, 8, NULL, 0, 1, out, sizeof out) == 10,
            "a long model's listing");
-    expect(planner_find(bytes, 65536, NULL, 0, out, sizeof out) == 10, "a name in a long model");
-    expect(planner_page(bytes, 65536, 0, c.nodes, WORDS, c.stages, 8, 0, 0, 0, 0, 0, 0, NULL, 0, 1, out, sizeof out) == 10,
+    expect(planner_find(bytes, longer, NULL, 0, out, sizeof out) == 10, "a name in a long model");
+    expect(planner_page_at(bytes, longer, 0, c.nodes, WORDS, c.stages, 8, &none, NULL, 0, 1, out, sizeof out) == 10,
            "a long model's page");
-    planner_judged judged = planner_validate(bytes, 65536);
+    expect(planner_to_old(bytes, longer, NULL, 0, out, sizeof out) == 10, "a long model in the old form");
+    planner_judged judged = planner_validate(bytes, longer);
     expect(judged.number == 10 && judged.place == 0, "a long model judged");
-    expect(planner_name(bytes, 65535, 1, out, sizeof out) == 3, "a model of the greatest length");
-    judged = planner_validate(bytes, 65535);
+    expect(planner_name(bytes, most, 1, out, sizeof out) == 3, "a model of the greatest length");
+    judged = planner_validate(bytes, most);
     expect(judged.number == 3 && judged.place == 0, "a model of the greatest length judged");
+    /* A place beyond 16 bits: a chain of tests, and then a byte 0, which is no command. */
+    size_t at = SITE_BYTES + LINEAR_BYTES;
+    memcpy(bytes, "\x02\x01\x00\x01\x00\x01\x10", SITE_BYTES + 1);
+    while (at <= 65535) {
+        bytes[at] = 0x10;
+        memcpy(bytes + at + LINEAR_BYTES, "\x12\x01", 2);
+        at += 2 * LINEAR_BYTES;
+    }
+    judged = planner_validate(bytes, most);
+    expect(judged.number == 3 && judged.place == at, "a place beyond 16 bits");
+    put(zeros, at, 4);
+    expect(planner_name(bytes, most, 1, out, sizeof out) == 3 && memcmp(out, zeros, sizeof out) == 0,
+           "a place beyond 16 bits in an answer");
     free(bytes);
 }
 
@@ -517,11 +568,11 @@ static void finds(void)
     find_is(&m, "", 18, 0, 0);
     find_is(&m, "                    ", 18, 0, 0);
     m.len--;
-    command(&m, "\x30\x02" "  two words     \xff", 19);
+    command(&m, "\x30\x02\x00" "  two words     \xff", NAME_AND_END);
     find_is(&m, "  two words ", 0, 0, 2);
     find_is(&m, "two words", 18, 0, 0);
-    m.len -= 19;
-    command(&m, "\x30\x02" "Hold            \xff", 19);
+    m.len -= NAME_AND_END;
+    command(&m, "\x30\x02\x00" "Hold            \xff", NAME_AND_END);
     find_is(&m, "Hold ", 19, 0, 0);
     m = pond("                ");
     find_is(&m, "", 18, 0, 0);
@@ -611,9 +662,9 @@ static void listings_refused(void)
 
 static uint32_t page(const call *c, uint8_t *text, size_t text_len, size_t place, uint8_t *out, size_t out_len)
 {
-    return planner_page(c->m.len == 0 ? NULL : c->m.bytes, c->m.len, c->steps, c->node_words == 0 ? NULL : c->nodes,
-                        c->node_words, c->stage_words == 0 ? NULL : c->stages, c->stage_words, c->mask, c->levels[0],
-                        c->levels[1], c->levels[2], c->levels[3], c->d, text, text_len, place, out, out_len);
+    return planner_page_at(c->m.len == 0 ? NULL : c->m.bytes, c->m.len, c->steps, c->node_words == 0 ? NULL : c->nodes,
+                           c->node_words, c->stage_words == 0 ? NULL : c->stages, c->stage_words, &c->state, text,
+                           text_len, place, out, out_len);
 }
 
 /* The page from `place` of a text of `text_len` bytes on, with every length of `out`. */
@@ -657,8 +708,8 @@ static void pages_written(void)
 {
     call c = usual();
     size_t size = PLANNER_PAGE_TEXT_BYTES(2);
-    c.levels[0] = 39;
-    c.d = 2;
+    c.state.level[0] = 39;
+    c.state.denominator = 2;
     const char *lines = two_lines("50", "", "50", "Hold");
     page_at(&c, ROOM, 0, 0, 0, lines);
     page_at(&c, ROOM, 17, 0, 0, lines);
@@ -678,20 +729,20 @@ static void pages_written(void)
 static void pages_rounded(void)
 {
     call c = usual();
-    c.nodes[0 * 8 + 5] = 0;
-    c.nodes[0 * 8 + 1] = 1;
+    c.nodes[0 * NODE + CONSTANT] = 0;
+    c.nodes[0 * NODE + L1] = 1;
     c.stages[0] = 1;
     c.stages[1] = 2;
-    c.levels[0] = -1;
-    c.d = 2;
+    c.state.level[0] = -1;
+    c.state.denominator = 2;
     page_at(&c, ROOM, 0, 0, 0, two_lines("-1", "", "0", "Hold"));
-    c.levels[0] = -4;
+    c.state.level[0] = -4;
     page_at(&c, ROOM, 3, 0, 0, two_lines("-2", "", "0", "Hold"));
     c = usual();
     c.stages[0] = c.stages[1] = 1;
-    c.nodes[1] = c.nodes[5] = -(((int64_t)1 << 62) - 1);
-    c.levels[0] = INT32_MAX;
-    c.d = 1;
+    c.nodes[L1] = c.nodes[CONSTANT] = -(((int64_t)1 << 62) - 1);
+    c.state.level[0] = INT32_MAX;
+    c.state.denominator = 1;
     page_at(&c, ROOM, 0, 0, 0, two_lines("-9903520314283042197045510144", "", "-9903520314283042197045510144", ""));
 }
 
@@ -707,11 +758,11 @@ static void pages_refused(void)
     page_is(&c, 9, 0);
     c = usual();
     c.steps = 3;
-    c.d = 0;
-    c.nodes[2 * 8] = 3;
+    c.state.denominator = 0;
+    c.nodes[2 * NODE] = 3;
     page_is(&c, 13, 0);
     /* Stage 1 meets a bad node, stage 3 has no root. */
-    c.d = 1;
+    c.state.denominator = 1;
     page_is(&c, 15, 0);
     c.steps = 2;
     page_is(&c, 14, 0);
@@ -719,10 +770,272 @@ static void pages_refused(void)
     page_is(&c, 14, 0);
     /* A bad node off the walks is not looked at. */
     c = usual();
-    c.nodes[1 * 8] = 3;
+    c.nodes[1 * NODE] = 3;
     page_at(&c, ROOM, 0, 0, 0, two_lines("50", "", "100", ""));
     c.stages[1] = UINT32_MAX;
     page_is(&c, 14, 0);
+}
+
+/* ---- models of the old form, and back */
+
+/* What the two forms differ in: the site's byte, the bytes of an action and of a leaf or test. */
+typedef struct form {
+    uint8_t site;
+    size_t action_bytes, linear_bytes;
+} form;
+
+static const form OLD = {0x01, 1, 21}, NEW = {0x02, 2, 37};
+
+/* Levels and actions that a site of the old form may have. */
+enum { OLD_LEVELS_MOST = 4, OLD_ACTIONS_MOST = 8 };
+
+/* Bytes at a place, which moves on. */
+static void byte_to(uint8_t **at, uint8_t byte)
+{
+    *(*at)++ = byte;
+}
+
+static void linear_to(uint8_t **at, const form *f, uint8_t code, int32_t l1, int32_t constant)
+{
+    *at += linear_at(*at, f->linear_bytes, code, l1, constant);
+}
+
+/* A command with an action below 256, the code being 0 for the site's. */
+static void action_to(uint8_t **at, const form *f, uint8_t code, uint8_t action)
+{
+    if (code != 0)
+        byte_to(at, code);
+    byte_to(at, action);
+    if (f->action_bytes == 2)
+        byte_to(at, 0);
+}
+
+static void site_to(uint8_t **at, const form *f, uint8_t m, uint8_t n, uint8_t actions, uint8_t w)
+{
+    byte_to(at, f->site);
+    byte_to(at, m);
+    byte_to(at, n);
+    action_to(at, f, 0, actions);
+    byte_to(at, w);
+}
+
+static void level_to(uint8_t **at, const form *f, uint8_t code, uint8_t action, uint8_t index)
+{
+    action_to(at, f, code, action);
+    byte_to(at, index);
+}
+
+/* One action and one level in a site of a condition, with every command. */
+static model every_command(const form *f)
+{
+    model m = {{0}, 0};
+    uint8_t *at = m.bytes;
+    site_to(&at, f, 1, 1, 1, 10);
+    linear_to(&at, f, 0x10, 0, 7);
+    level_to(&at, f, 0x21, 1, 1);
+    linear_to(&at, f, 0x10, -2, INT32_MAX);
+    linear_to(&at, f, 0x10, 0, -1);
+    linear_to(&at, f, 0x12, INT32_MIN, 10);
+    action_to(&at, f, 0x20, 1);
+    action_to(&at, f, 0x30, 1);
+    memcpy(at, "Let water out!  ", PLANNER_NAME_LETTERS_MOST);
+    at += PLANNER_NAME_LETTERS_MOST;
+    linear_to(&at, f, 0x10, 1, -150);
+    linear_to(&at, f, 0x10, 1, -50);
+    byte_to(&at, 0x11);
+    byte_to(&at, 5);
+    level_to(&at, f, 0x22, 1, 1);
+    linear_to(&at, f, 0x10, 0, 120);
+    byte_to(&at, 0x23);
+    byte_to(&at, 0xFF);
+    m.len = (size_t)(at - m.bytes);
+    return m;
+}
+
+/* So many levels and actions that do nothing. */
+static model idle(const form *f, uint8_t m, uint8_t actions)
+{
+    model made = {{0}, 0};
+    uint8_t *at = made.bytes;
+    site_to(&at, f, m, 0, actions, 1);
+    for (uint8_t action = 1; action <= actions; action++) {
+        linear_to(&at, f, 0x10, 0, 0);
+        action_to(&at, f, 0x20, action);
+        for (uint8_t level = 1; level <= m; level++) {
+            linear_to(&at, f, 0x10, 0, 0);
+            level_to(&at, f, 0x22, action, level);
+        }
+    }
+    byte_to(&at, 0xFF);
+    made.len = (size_t)(at - made.bytes);
+    return made;
+}
+
+typedef uint32_t conversion(const uint8_t *, size_t, uint8_t *, size_t, uint8_t *, size_t);
+
+/* The other form in a buffer of so many bytes, with every length of `out`; no other one by a refusal. */
+static void converted(conversion *convert, const model *m, size_t buffer_len, uint32_t number, uint32_t place,
+                      const model *other)
+{
+    model kept = *m;
+    lent out, buffer;
+    size_t size = number == 0 ? other->len : 0;
+    uint8_t answer[PLANNER_TO_NEW_BYTES];
+    put(answer, place, 4);
+    put(answer + 4, size, 4);
+    for (size_t len = 0; len <= PLANNER_TO_NEW_BYTES + 3; len++) {
+        uint8_t *out_start = lend(&out, len), *start = lend(&buffer, buffer_len);
+        int fits = len >= PLANNER_TO_NEW_BYTES;
+        uint32_t r = convert(kept.len == 0 ? NULL : kept.bytes, kept.len, buffer_len == 0 ? NULL : start, buffer_len,
+                             len == 0 ? NULL : out_start, len);
+        expect(r == (fits || number != 0 ? number : 17), "number of a conversion");
+        expect(marked_beside(&out, 0, fits ? sizeof answer : 0), "no byte beside a conversion's answer is written");
+        expect(!fits || holds_bytes(&out, 0, answer, sizeof answer), "a conversion's answer");
+        expect(marked_beside(&buffer, 0, fits ? size : 0), "no byte behind the converted model is written");
+        expect(!fits || number != 0 || holds_bytes(&buffer, 0, other->bytes, size), "the converted model");
+        expect(memcmp(&kept, m, sizeof kept) == 0, "a conversion leaves the model as it is");
+    }
+}
+
+/* Refused whatever the buffer. */
+static void conversion_refused(conversion *convert, const model *m, uint32_t number, uint32_t place)
+{
+    converted(convert, m, ROOM, number, place, NULL);
+    converted(convert, m, 1, number, place, NULL);
+    converted(convert, m, 0, number, place, NULL);
+}
+
+static void to_old_refused(const model *m, uint32_t number, uint32_t place)
+{
+    conversion_refused(planner_to_old, m, number, place);
+}
+
+static void both_ways(const model *old, const model *new_one)
+{
+    converted(planner_to_new, old, ROOM, 0, 0, new_one);
+    converted(planner_to_new, old, new_one->len, 0, 0, new_one);
+    converted(planner_to_new, old, new_one->len - 1, 17, 0, NULL);
+    converted(planner_to_new, old, 0, 17, 0, NULL);
+    converted(planner_to_old, new_one, ROOM, 0, 0, old);
+    converted(planner_to_old, new_one, old->len, 0, 0, old);
+    converted(planner_to_old, new_one, old->len - 1, 17, 0, NULL);
+    converted(planner_to_old, new_one, 0, 17, 0, NULL);
+    /* Each given to the other one: an unknown byte. */
+    conversion_refused(planner_to_new, new_one, 3, 0);
+    conversion_refused(planner_to_old, old, 3, 0);
+}
+
+static void conversions(void)
+{
+    model old = every_command(&OLD), new_one = every_command(&NEW);
+    expect(old.len == 5 + 7 * 21 + 3 + 2 + 18 + 2 + 3 + 2, "bytes of an old model");
+    expect(new_one.len == 6 + 7 * 37 + 4 + 3 + 19 + 2 + 4 + 2, "bytes of a model");
+    both_ways(&old, &new_one);
+    old = idle(&OLD, OLD_LEVELS_MOST, 1);
+    new_one = idle(&NEW, OLD_LEVELS_MOST, 1);
+    both_ways(&old, &new_one);
+    old = idle(&OLD, 1, OLD_ACTIONS_MOST);
+    new_one = idle(&NEW, 1, OLD_ACTIONS_MOST);
+    both_ways(&old, &new_one);
+}
+
+/* m of 5 and A of 9; 20 comes after the model's own and before 17. */
+static void conversions_refused(void)
+{
+    model m = idle(&NEW, OLD_LEVELS_MOST + 1, 1);
+    to_old_refused(&m, 20, 0);
+    command(&m, "\xff", 1);
+    to_old_refused(&m, 8, (uint32_t)m.len - 1);
+    m = idle(&NEW, 1, OLD_ACTIONS_MOST + 1);
+    to_old_refused(&m, 20, 0);
+    m.len--;
+    to_old_refused(&m, 2, (uint32_t)m.len);
+    /* The old form's own, at its offsets. */
+    m = idle(&OLD, OLD_LEVELS_MOST + 1, 1);
+    conversion_refused(planner_to_new, &m, 4, 0);
+    m = idle(&OLD, 1, OLD_ACTIONS_MOST + 1);
+    conversion_refused(planner_to_new, &m, 4, 0);
+    m = every_command(&OLD);
+    m.bytes[5] = 0x13;
+    conversion_refused(planner_to_new, &m, 3, 5);
+    m = every_command(&OLD);
+    m.bytes[5 + 21 + 1] = 2; /* the chance of action 2 */
+    conversion_refused(planner_to_new, &m, 4, 5 + 21);
+    m = every_command(&OLD);
+    m.len--;
+    conversion_refused(planner_to_new, &m, 2, (uint32_t)m.len);
+    m.len = 0;
+    conversion_refused(planner_to_new, &m, 2, 0);
+    conversion_refused(planner_to_old, &m, 2, 0);
+}
+
+/* A reward that is a chain of 1,558 tests, and an end worth: just 65,535 bytes in the old form. With a condition in place of
+ * the end worth it is one more. */
+static size_t long_model(uint8_t *to, const form *f, int longer)
+{
+    uint8_t *at = to;
+    site_to(&at, f, 1, 1, 1, 10);
+    linear_to(&at, f, 0x10, 0, 7);
+    level_to(&at, f, 0x21, 1, 1);
+    linear_to(&at, f, 0x10, 1, 0);
+    level_to(&at, f, 0x22, 1, 1);
+    linear_to(&at, f, 0x10, 0, 5);
+    if (longer) {
+        linear_to(&at, f, 0x10, 0, 6);
+        byte_to(&at, 0x11);
+        byte_to(&at, 1);
+    } else {
+        byte_to(&at, 0x23);
+        linear_to(&at, f, 0x10, 0, 6);
+    }
+    for (int i = 0; i < 1558; i++) {
+        linear_to(&at, f, 0x10, 0, i);
+        linear_to(&at, f, 0x12, 1, -i);
+    }
+    action_to(&at, f, 0x20, 1);
+    byte_to(&at, 0xFF);
+    return (size_t)(at - to);
+}
+
+static int all_marked(const uint8_t *bytes, size_t count)
+{
+    for (size_t i = 0; i < count; i++)
+        if (bytes[i] != MARK)
+            return 0;
+    return 1;
+}
+
+/* As many bytes as the old form has room for, and one more. */
+static void long_conversions(void)
+{
+    const size_t most = PLANNER_OLD_MODEL_BYTES_MOST, room = PLANNER_TO_NEW_MODEL_BYTES;
+    uint8_t *old = malloc(room), *new_one = malloc(room), *buffer = malloc(room), out[PLANNER_TO_OLD_BYTES];
+    expect(old != NULL && new_one != NULL && buffer != NULL && most == 65535, "memory");
+    size_t old_len = long_model(old, &OLD, 0), len = long_model(new_one, &NEW, 0);
+    expect(old_len == most && len < room, "bytes of the longest old model");
+    memset(buffer, MARK, room);
+    expect(planner_to_old(new_one, len, buffer, most - 1, out, sizeof out) == 17 && all_marked(buffer, room), "a byte short");
+    expect(planner_to_old(new_one, len, buffer, most, out, sizeof out) == 0, "the longest old model");
+    expect(memcmp(buffer, old, most) == 0 && all_marked(buffer + most, room - most), "its bytes");
+    uint8_t answer[PLANNER_TO_OLD_BYTES];
+    put(answer, 0, 4);
+    put(answer + 4, most, 4);
+    expect(memcmp(out, answer, sizeof out) == 0, "its length");
+    memset(buffer, MARK, room);
+    expect(planner_to_new(old, most, buffer, room, out, sizeof out) == 0, "the longest old model made new");
+    expect(memcmp(buffer, new_one, len) == 0 && all_marked(buffer + len, room - len), "its bytes again");
+    old_len = long_model(old, &OLD, 1);
+    len = long_model(new_one, &NEW, 1);
+    expect(old_len == most + 1, "bytes of an old model one too long");
+    memset(buffer, MARK, room);
+    expect(planner_to_old(new_one, len, buffer, room, out, sizeof out) == 20, "one byte too many");
+    expect(planner_to_old(new_one, len, NULL, 0, out, sizeof out) == 20, "20 comes before 17");
+    expect(planner_to_new(old, old_len, buffer, room, out, sizeof out) == 10, "an old model one too long");
+    expect(planner_to_new(old, old_len, NULL, 0, NULL, 0) == 10, "10 comes before 17");
+    expect(all_marked(buffer, room), "nothing is written by a refusal");
+    free(old);
+    free(new_one);
+    free(buffer);
 }
 
 int main(void)
@@ -742,6 +1055,9 @@ int main(void)
     pages_written();
     pages_rounded();
     pages_refused();
+    conversions();
+    conversions_refused();
+    long_conversions();
     printf("exports: %u checks\n", checks);
     return 0;
 }

@@ -143,7 +143,7 @@ fn draw_piece(frame: &Frame, level: usize, piece: &Piece, panel: &Panel) -> Stri
     let shade = format!("fill=\"{fill}\" fill-opacity=\"0.10\"");
     body += &format!("<rect x=\"{x}\" y=\"{}\" width=\"{wide}\" height=\"{PLOT}\" {shade}/>\n", px(panel.top));
     body += &format!("<rect x=\"{x}\" y=\"{}\" width=\"{wide}\" height=\"{STRIP}\" fill=\"{fill}\"/>\n", px(strip));
-    body += &segment((from, begin), (to, end), fill, 2.6);
+    body += &segment((from, begin), (to, end), &fill, 2.6);
     let number = piece.action.to_string();
     let fitting = [action.as_str(), &number].into_iter().find(|words| width(words, 11.0) + 12.0 < to - from);
     if let Some(words) = fitting {
@@ -166,7 +166,7 @@ fn dots(left: &Piece, right: &Piece, panel: &Panel) -> String {
     if limit != mine {
         body += &circle(&limit, other.action, "#FFFFFF");
     }
-    body += &circle(&mine, owner.action, colour(owner.action));
+    body += &circle(&mine, owner.action, &colour(owner.action));
     let (top, bottom) = (px(panel.strip() - 2.0), px(panel.strip() + STRIP + 2.0));
     let tip = px(if right.from.closed { x + 5.0 } else { x - 5.0 });
     let x = px(x);

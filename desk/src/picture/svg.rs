@@ -19,11 +19,23 @@ const COLOURS: [(&str, bool); 8] = [
 pub const INK: &str = "#222222";
 pub const FAINT: &str = "#DDDDDD";
 
-fn of(action: u32) -> (&'static str, bool) {
-    COLOURS[(action as usize).saturating_sub(1) % COLOURS.len()]
+fn of(action: u32) -> (String, bool) {
+    let place = (action as usize).saturating_sub(1);
+    COLOURS.get(place).map_or_else(|| further(place), |&(colour, dark)| (colour.to_string(), dark))
 }
 
-pub fn colour(action: u32) -> &'static str {
+/// Behind the first ones: hues far from those just before, in turn dark, middle and light. No two of 400 are the same.
+fn further(place: usize) -> (String, bool) {
+    let (hue, lightness) = (place * 137 % 360, [70, 110, 160][(place + place / 360) % 3]);
+    let part = |turn: usize| {
+        let away = (hue + turn) % 360;
+        let share = away.min(360 - away).clamp(60, 120) - 60; // 0 at the part's own hue, 60 far from it
+        lightness + 40 - share * 80 / 60
+    };
+    (format!("#{:02X}{:02X}{:02X}", part(0), part(240), part(120)), lightness < 160)
+}
+
+pub fn colour(action: u32) -> String {
     of(action).0
 }
 
@@ -118,4 +130,18 @@ pub fn legend(actions: &[(u32, String)], left: f64, top: f64, right: f64) -> (St
         x += wide;
     }
     (body, y + 20.0 - top)
+}
+
+#[cfg(test)]
+mod tests {
+    use super::*;
+    use crate::widths::ACTIONS;
+    use std::collections::BTreeSet;
+
+    #[test]
+    fn every_action_has_a_colour_of_its_own() {
+        let colours: BTreeSet<String> = (1..=ACTIONS as u32).map(colour).collect();
+        assert_eq!(colours.len(), ACTIONS);
+        assert!(colours.iter().all(|colour| colour.len() == 7));
+    }
 }

@@ -15,7 +15,7 @@ fn words(numbers: &[u32]) -> Vec<u8> {
     numbers.iter().flat_map(|number| number.to_le_bytes()).collect()
 }
 
-fn reading(reading: Reading, out: &mut [u8]) -> u32 {
+pub fn reading(reading: Reading, out: &mut [u8]) -> u32 {
     let mut bytes = words(&[reading.place, reading.action]);
     bytes.extend(reading.low.to_le_bytes());
     bytes.extend(reading.high.to_le_bytes());
@@ -73,16 +73,30 @@ pub fn listed(
     place: usize,
     out: &mut [u8],
 ) -> u32 {
-    match listing(model, horizon, nodes, stages, text.len(), place) {
-        Ok(lines) => {
-            let number = answer(0, words(&[0, lines.len() as u32]), out);
+    let lines = listing(model, horizon, nodes, stages, text.len(), place).map(String::into_bytes);
+    written(lines, text, place, out)
+}
+
+/// Bytes written to a lent buffer from a place on, or a refusal; the answer has their length.
+fn written(bytes: Result<Vec<u8>, Refusal>, buffer: &mut [u8], from: usize, out: &mut [u8]) -> u32 {
+    match bytes {
+        Ok(bytes) => {
+            let number = answer(0, words(&[0, bytes.len() as u32]), out);
             if number == 0 {
-                text[place..place + lines.len()].copy_from_slice(lines.as_bytes());
+                buffer[from..from + bytes.len()].copy_from_slice(&bytes);
             }
             number
         }
         Err(Refusal { number, place }) => answer(number, words(&[place, 0]), out),
     }
+}
+
+pub fn to_new(old: &[u8], buffer: &mut [u8], out: &mut [u8]) -> u32 {
+    written(reference::to_new(old, buffer.len()), buffer, 0, out)
+}
+
+pub fn to_old(model: &[u8], buffer: &mut [u8], out: &mut [u8]) -> u32 {
+    written(reference::to_old(model, buffer.len()), buffer, 0, out)
 }
 
 pub fn found(model: &[u8], name: &[u8], out: &mut [u8]) -> u32 {
@@ -101,14 +115,5 @@ pub fn paged(
     place: usize,
     out: &mut [u8],
 ) -> u32 {
-    match page(model, horizon, nodes, stages, state, text.len(), place) {
-        Ok(lines) => {
-            let number = answer(0, words(&[0, lines.len() as u32]), out);
-            if number == 0 {
-                text[place..place + lines.len()].copy_from_slice(&lines);
-            }
-            number
-        }
-        Err(Refusal { number, place }) => answer(number, words(&[place, 0]), out),
-    }
+    written(page(model, horizon, nodes, stages, state, text.len(), place), text, place, out)
 }

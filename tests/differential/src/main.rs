@@ -1,6 +1,7 @@
 //! Compares every outcome of libplanner.a with the second program: numbers, places, peaks, all lent words, values,
-//! names and actions found by them, listings, pages, plain working. See tests/README.md for the link line.
+//! names and actions found by them, listings, pages, models of the other form, plain working. See tests/README.md for the link line.
 
+mod conversion;
 mod expected;
 mod meter;
 #[cfg(not(linked))]
@@ -11,22 +12,23 @@ mod planner;
 mod speed;
 
 use models::{
-    damaged, deep, near_limit, pond, pond_kept, rain, rain_tanks_kept, random, releases, reservoirs, staircases,
-    steep_end, Rng,
+    chain, damaged, deep, mixed, near_limit, of_length, pond, pond_kept, rain, rain_tanks_kept, random, releases,
+    reservoirs, settings, staircases, steep_end, Rng, MODEL_BYTES,
 };
-use reference::{solve, validate, with_deep_stack, Outcome, State};
+use reference::widths::{CONDITIONS, LEVELS, NODES_MOST, NODE_WORDS, NUMBERS, STAGES, WORK_WORDS};
+use reference::{solve_with_room, validate, with_deep_stack, Outcome, State};
 use std::fmt::Debug;
 use std::time::Instant;
 
 const USAGE: &str = "differential random [COUNT [SEED]]      random models, tables, states, damage
-differential endurance [COUNT [SEED]]   the same tables for one model after another
-differential large                      the large models, with times
+differential endurance [COUNT [SEED]]   the same tables and buffer for one model after another
+differential large                      the large models, with times, and their other form
 differential speed                      the README's figures, library and second program in one run
 differential time MODEL HORIZON         the time of both to solve the model of a file";
 
 /// What a call was made with, kept for the report of a difference.
 struct Calls {
-    by_number: [u64; 20],
+    by_number: [u64; 21],
     model: Vec<u8>,
     round: u64,
 }
@@ -133,10 +135,21 @@ fn compare_state(calls: &mut Calls, rng: &mut Rng, tables: &Tables, steps: u32, 
 
 /// Next states that plain working meets, about.
 fn cost(model: &[u8], steps: u32) -> u64 {
-    if validate(model).0 != 0 || steps > 8 {
+    if validate(model).0 != 0 || steps > STAGES as u32 {
         return 0;
     }
-    (u64::from(model[3]) << model[2]).saturating_pow(steps)
+    (u64::from(actions(model)) << model[2]).saturating_pow(steps)
+}
+
+/// The actions of a model's site, 8 where there is none.
+fn actions(model: &[u8]) -> u16 {
+    model.get(3..5).map_or(8, |bytes| u16::from_le_bytes([bytes[0], bytes[1]]))
+}
+
+/// The levels and conditions of a model's site, as far as there can be so many.
+fn site(model: &[u8]) -> (usize, u32) {
+    let number = |place: usize, most: usize| model.get(place).map_or(most, |&number| most.min(number.into()));
+    (number(1, LEVELS), number(2, CONDITIONS) as u32)
 }
 
 fn compare_name(calls: &mut Calls, rng: &mut Rng, action: u32) {
@@ -152,8 +165,7 @@ fn compare_name(calls: &mut Calls, rng: &mut Rng, action: u32) {
 
 /// A name to send: one of the model's, as it stands or changed, or any bytes; with spaces behind it.
 fn any_name(rng: &mut Rng, model: &[u8]) -> Vec<u8> {
-    let actions = model.get(3).map_or(8, |&actions| actions.clamp(1, 8));
-    let action = rng.between(1, actions.into()) as u32;
+    let action = rng.between(1, actions(model).max(1).into()) as u32;
     let mut name = reference::name(model, action).map_or(Vec::new(), |name| name.to_vec());
     let place = rng.below(name.len() + 1);
     match rng.below(12) {
@@ -253,14 +265,16 @@ fn compare_page(calls: &mut Calls, rng: &mut Rng, tables: &Tables, horizon: u32)
 /// Tables that no solve left: a leaf with the largest numbers, and states with the largest numerators; values of -1/2,
 /// 0 and whole ones.
 fn compare_foreign_pages(calls: &mut Calls, rng: &mut Rng) {
-    let (m, n) = (calls.model.get(1).map_or(0, |&m| m.min(4).into()), calls.model.get(2).map_or(0, |&n| n.min(4)));
+    let (m, n) = site(&calls.model);
     let limit: i64 = (1 << 62) - 1;
     for _ in 0..4 {
         let largest = rng.once_in(2);
         let mut number =
             || if largest { rng.pick(&[limit, -limit]) } else { rng.pick(&[0, 0, 1, -1, 2, limit, -limit]) };
-        let row = [0, number(), number(), number(), number(), number(), 1, 0];
-        let tables = Tables { nodes: row.to_vec(), stages: vec![1; 8], work: Vec::new() };
+        let mut row = [0; NODE_WORDS];
+        row[1..=NUMBERS].fill_with(&mut number);
+        row[NUMBERS + 1] = 1;
+        let tables = Tables { nodes: row.to_vec(), stages: vec![1; STAGES], work: Vec::new() };
         let mut numerator = || rng.pick(&[i32::MIN, i32::MAX, i32::MIN, i32::MAX, 0, 1, -1, 7]);
         let nums = std::array::from_fn(|i| if i < m { numerator() } else { 0 });
         let state = State { mask: rng.word() as u32 & ((1 << n) - 1), nums, d: rng.pick(&[1, 1, 2, 3, i32::MAX]) };
@@ -270,7 +284,7 @@ fn compare_foreign_pages(calls: &mut Calls, rng: &mut Rng) {
 }
 
 fn state(rng: &mut Rng, model: &[u8]) -> State {
-    let (m, n) = (model.get(1).map_or(4, |&m| m.into()), model.get(2).map_or(4, |&n| u32::from(n.min(8))));
+    let (m, n) = site(model);
     let (size, once) = (rng.pick(&[3, 30, 3_000, i32::MAX]), !rng.once_in(15));
     let d = rng.pick(&[1, 1, 1, 2, 3, 10, 1_000, i32::MAX]);
     State {
@@ -302,9 +316,9 @@ fn damage(rng: &mut Rng, tables: &mut Tables) {
                 let stage = rng.below(tables.stages.len());
                 tables.stages[stage] = rng.pick(&[0, 1, rows as u32, rows as u32 + 1, u32::MAX]);
             }
-            1 => tables.nodes.truncate(8 * rows - rng.below(9).min(8 * rows)),
+            1 => tables.nodes.truncate(NODE_WORDS * rows - rng.below(NODE_WORDS + 1)),
             _ => {
-                if let Some(place) = tables.nodes.get_mut(8 * row + rng.below(8)) {
+                if let Some(place) = tables.nodes.get_mut(NODE_WORDS * row + rng.below(NODE_WORDS)) {
                     *place = word;
                 }
             }
@@ -319,22 +333,28 @@ fn any_model(rng: &mut Rng) -> Vec<u8> {
         model = damaged(rng, &model);
     }
     if rng.once_in(300) {
-        model.resize(rng.pick(&[65_535, 65_536, 70_000]), 0x10);
+        model.resize(rng.pick(&[65_536, MODEL_BYTES, MODEL_BYTES + 1, 300_000]), 0x10);
     }
     model
+}
+
+/// Node and work words of tables of so many nodes; one of the two may have room for more.
+fn words(rng: &mut Rng, nodes: usize) -> (usize, usize) {
+    let more = rng.pick(&[0, 0, 1, 3]);
+    let (more_nodes, more_work) = if rng.once_in(2) { (nodes + more, nodes) } else { (nodes, nodes + more) };
+    (NODE_WORDS * more_nodes + rng.below(NODE_WORDS), WORK_WORDS * more_work + rng.below(WORK_WORDS))
 }
 
 /// Solves with room at the peak, around it and anywhere below; the last tables that were solved.
 fn solve_around_peak(calls: &mut Calls, rng: &mut Rng, horizon: u32) -> Option<Tables> {
     let most = rng.pick(&[60, 200, 600, 2_000]);
-    let first = solve(&calls.model, horizon, 8 * most, 8, 8 * most);
+    let first = solve_with_room(&calls.model, horizon, most);
     let peak = if first.number == 0 { first.peak as usize } else { most };
     let below = rng.below(peak + 1);
     let mut solved = None;
     for size in [peak, peak.saturating_sub(1), peak + 1, below] {
-        let (least, more) = (8 * size + rng.below(8), 8 * size + rng.below(40));
-        let (node_words, work_words) = if rng.once_in(2) { (least, more) } else { (more, least) };
-        let stage_words = if rng.once_in(40) { rng.pick(&[0, 7, 9]) } else { 8 };
+        let (node_words, work_words) = words(rng, size);
+        let stage_words = if rng.once_in(40) { rng.pick(&[0, 7, 9]) } else { STAGES };
         let tables = Tables::full_of_anything(rng, node_words, stage_words, work_words);
         let (number, tables) = compare_solve(calls, rng, horizon, tables);
         if number == 0 {
@@ -352,14 +372,19 @@ fn one_round(calls: &mut Calls, rng: &mut Rng) {
     let horizon = any_horizon(rng);
     let solved = solve_around_peak(calls, rng, horizon);
     for _ in 0..2 {
-        let action = if rng.once_in(9) { rng.pick(&[0, 9, u32::MAX]) } else { rng.between(1, 8) as u32 };
+        let last = u32::from(actions(&calls.model));
+        let action = match rng.below(9) {
+            0 => rng.pick(&[0, last + 1, 401, u32::MAX]),
+            1 => last,
+            _ => rng.between(1, last.clamp(1, 400) as i32) as u32,
+        };
         compare_name(calls, rng, action);
     }
     for _ in 0..4 {
         compare_find(calls, rng);
     }
     let is_solved = solved.is_some();
-    let mut tables = solved.unwrap_or_else(|| Tables::full_of_anything(rng, 80, 8, 0));
+    let mut tables = solved.unwrap_or_else(|| Tables::full_of_anything(rng, 10 * NODE_WORDS, STAGES, 0));
     for _ in 0..if is_solved { 6 } else { 2 } {
         let steps = any_horizon(rng).min(if rng.once_in(9) { u32::MAX } else { horizon });
         compare_state(calls, rng, &tables, steps, is_solved);
@@ -376,19 +401,20 @@ fn one_round(calls: &mut Calls, rng: &mut Rng) {
         compare_listing(calls, rng, &bad, horizon);
         compare_page(calls, rng, &bad, horizon);
     }
-    tables.stages.truncate(rng.pick(&[8, 7, 0]));
+    tables.stages.truncate(rng.pick(&[STAGES, 7, 0]));
     compare_state(calls, rng, &tables, horizon, false);
     compare_listing(calls, rng, &tables, horizon);
     compare_page(calls, rng, &tables, horizon);
+    conversion::round(calls, rng, horizon);
 }
 
-/// The same tables, never cleared from outside, for one model after another: each time as with fresh ones.
-fn endurance_round(calls: &mut Calls, rng: &mut Rng, lent: &mut Tables) {
+/// The same tables and buffer, never cleared from outside, for one model after another: each time as with fresh ones.
+fn endurance_round(calls: &mut Calls, rng: &mut Rng, lent: &mut Tables, buffer: &mut [u8]) {
     calls.model = any_model(rng);
     let horizon = any_horizon(rng);
     let (node_words, work_words) = (rng.below(lent.nodes.len() + 1), rng.below(lent.work.len() + 1));
     let (mut out, mut fresh_out, mut our_out) = ([0; 8], [0; 8], [0; 8]);
-    let mut fresh = Tables { nodes: vec![0; node_words], stages: vec![0; 8], work: vec![0; work_words] };
+    let mut fresh = Tables { nodes: vec![0; node_words], stages: vec![0; STAGES], work: vec![0; work_words] };
     let mut ours = lent.clone();
     let (nodes, work) = (&mut lent.nodes[..node_words], &mut lent.work[..work_words]);
     let number = planner::solve(&calls.model, horizon, nodes, &mut lent.stages, work, &mut out);
@@ -408,6 +434,7 @@ fn endurance_round(calls: &mut Calls, rng: &mut Rng, lent: &mut Tables) {
     }
     calls.count(number);
     compare_state(calls, rng, lent, horizon, number == 0);
+    conversion::endurance(calls, rng, buffer);
 }
 
 fn large(calls: &mut Calls) {
@@ -423,12 +450,20 @@ fn large(calls: &mut Calls) {
         ("releases", releases(&[10, 15, 20, 25]), 8),
         ("reservoirs", reservoirs(), 8),
         ("deep", deep(), 4),
+        ("seven tanks", chain(7), 8),
+        ("eight tanks", chain(8), 6),
+        ("eight levels mixed", mixed(), 1),
+        ("eight levels mixed", mixed(), 2),
+        ("400 settings", settings(), 8),
+        ("the longest model", of_length(MODEL_BYTES), 1),
+        ("a model too long", of_length(MODEL_BYTES + 1), 1),
     ];
     for (name, model, horizon) in cases {
-        let whole = solve(&model, horizon, 8 * 65_535, 8, 8 * 65_535);
+        let whole = solve_with_room(&model, horizon, NODES_MOST);
         calls.model = model;
-        for size in [65_535, whole.peak as usize, whole.peak.saturating_sub(1) as usize] {
-            let mut tables = Tables { nodes: vec![-1; 8 * size], stages: vec![7; 8], work: vec![9; 8 * size] };
+        for size in [NODES_MOST, whole.peak as usize, whole.peak.saturating_sub(1) as usize] {
+            let (nodes, work) = (vec![-1; NODE_WORDS * size], vec![9; WORK_WORDS * size]);
+            let mut tables = Tables { nodes, stages: vec![7; STAGES], work };
             let mut ours = tables.clone();
             let mut out = [0; 8];
             let start = Instant::now();
@@ -436,7 +471,7 @@ fn large(calls: &mut Calls) {
             let number = planner::solve(&calls.model, horizon, nodes, stages, work, &mut out);
             let time = start.elapsed().as_secs_f64();
             let start = Instant::now();
-            let done: Outcome = solve(&calls.model, horizon, 8 * size, 8, 8 * size);
+            let done: Outcome = solve_with_room(&calls.model, horizon, size);
             let our_time = start.elapsed().as_secs_f64();
             expected::leave(&done, &mut ours.nodes, &mut ours.stages, &mut ours.work);
             let our_out = [done.place.to_le_bytes(), done.peak.to_le_bytes()].concat();
@@ -444,7 +479,7 @@ fn large(calls: &mut Calls) {
             calls.check(name, "place, peak", &out.to_vec(), &our_out, &size);
             calls.check(name, "tables", &tables, &ours, &size);
             calls.count(number);
-            let (bytes, rows, peak) = (calls.model.len(), done.nodes.len() / 8, done.peak);
+            let (bytes, rows, peak) = (calls.model.len(), done.nodes.len() / NODE_WORDS, done.peak);
             println!("{name}: {bytes} bytes, horizon {horizon}, N {size}: number {number}, peak {peak}, {rows} nodes");
             println!("  library {time:.3} s, reference {our_time:.3} s");
         }
@@ -475,13 +510,20 @@ fn rounds(calls: &mut Calls, count: u64, seed: u64, mut round: impl FnMut(&mut C
 }
 
 fn compare(mode: &str, count: u64, seed: u64) {
-    let mut calls = Calls { by_number: [0; 20], model: Vec::new(), round: 0 };
+    let mut calls = Calls { by_number: [0; 21], model: Vec::new(), round: 0 };
     let start = Instant::now();
-    let mut lent = Tables::full_of_anything(&mut Rng(seed), 8 * 2_000 + 3, 8, 8 * 2_000 + 5);
+    let (node_words, work_words) = (NODE_WORDS * 2_000 + 3, WORK_WORDS * 2_000 + 5);
+    let mut lent = Tables::full_of_anything(&mut Rng(seed), node_words, STAGES, work_words);
+    let mut buffer = bytes(&mut Rng(seed), 20_000);
     match mode {
-        "large" => large(&mut calls),
+        "large" => {
+            large(&mut calls);
+            conversion::large(&mut calls, &mut Rng(seed));
+        }
         "random" => rounds(&mut calls, count, seed, one_round),
-        "endurance" => rounds(&mut calls, count, seed, |calls, rng| endurance_round(calls, rng, &mut lent)),
+        "endurance" => {
+            rounds(&mut calls, count, seed, |calls, rng| endurance_round(calls, rng, &mut lent, &mut buffer));
+        }
         _ => usage(),
     }
     let library = if cfg!(linked) { "libplanner.a" } else { "the mock" };

@@ -1,18 +1,31 @@
 //! Stands in for the library, so that the comparison can be built and tried without it. A fault can be asked for with
-//! PLANNER_FAULT=function (solve, value, name, worth, listing, find or page); the comparison has to find it.
+//! PLANNER_FAULT=function (solve, value, name, worth, listing, find, page, to_new or to_old; to_new_buffer and
+//! to_old_buffer spoil the last byte of the lent buffer); the comparison has to find it.
 
 use crate::expected;
 use reference::State;
 use std::sync::atomic::{AtomicU32, Ordering};
 
+/// Says once in 50 times yes, if that fault is asked for.
+fn is_due(fault: &str) -> bool {
+    static COUNT: AtomicU32 = AtomicU32::new(0);
+    let asked = std::env::var("PLANNER_FAULT").is_ok_and(|asked| asked == fault);
+    asked && COUNT.fetch_add(1, Ordering::Relaxed) % 50 == 49
+}
+
 /// Spoils one answer in 50, if asked to for this function.
 fn spoil(function: &str, number: u32, out: &mut [u8]) -> u32 {
-    static COUNT: AtomicU32 = AtomicU32::new(0);
-    let asked = std::env::var("PLANNER_FAULT").is_ok_and(|fault| fault == function);
-    if asked && !out.is_empty() && COUNT.fetch_add(1, Ordering::Relaxed) % 50 == 49 {
+    if !out.is_empty() && is_due(function) {
         out[0] ^= 1;
     }
     number
+}
+
+/// Spoils the last byte of a lent buffer instead.
+fn spoil_buffer(fault: &str, buffer: &mut [u8]) {
+    if !buffer.is_empty() && is_due(fault) {
+        buffer[buffer.len() - 1] ^= 1;
+    }
 }
 
 pub fn validate(model: &[u8]) -> (u32, usize) {
@@ -64,4 +77,16 @@ pub fn page(
     out: &mut [u8],
 ) -> u32 {
     spoil("page", expected::paged(model, horizon, nodes, stages, state, text, place, out), out)
+}
+
+pub fn to_new(old: &[u8], buffer: &mut [u8], out: &mut [u8]) -> u32 {
+    let number = spoil("to_new", expected::to_new(old, buffer, out), out);
+    spoil_buffer("to_new_buffer", buffer);
+    number
+}
+
+pub fn to_old(model: &[u8], buffer: &mut [u8], out: &mut [u8]) -> u32 {
+    let number = spoil("to_old", expected::to_old(model, buffer, out), out);
+    spoil_buffer("to_old_buffer", buffer);
+    number
 }

@@ -38,6 +38,10 @@ extern "C" {
         l2: i32,
         l3: i32,
         l4: i32,
+        l5: i32,
+        l6: i32,
+        l7: i32,
+        l8: i32,
         d: i32,
         out: *mut u8,
         out_len: usize,
@@ -61,6 +65,10 @@ extern "C" {
         l2: i32,
         l3: i32,
         l4: i32,
+        l5: i32,
+        l6: i32,
+        l7: i32,
+        l8: i32,
         d: i32,
         out: *mut u8,
         out_len: usize,
@@ -82,6 +90,16 @@ extern "C" {
     ) -> u32;
 }
 
+#[rustfmt::skip]
+extern "C" {
+    fn planner_to_new(
+        old: *const u8, old_len: usize, buffer: *mut u8, buffer_len: usize, out: *mut u8, out_len: usize,
+    ) -> u32;
+    fn planner_to_old(
+        model: *const u8, model_len: usize, buffer: *mut u8, buffer_len: usize, out: *mut u8, out_len: usize,
+    ) -> u32;
+}
+
 extern "C" {
     #[rustfmt::skip]
     fn planner_page(
@@ -97,6 +115,10 @@ extern "C" {
         l2: i32,
         l3: i32,
         l4: i32,
+        l5: i32,
+        l6: i32,
+        l7: i32,
+        l8: i32,
         d: i32,
         text: *mut u8,
         text_len: usize,
@@ -127,12 +149,12 @@ pub fn solve(m: &[u8], horizon: u32, nodes: &mut [i64], stages: &mut [u32], work
 
 #[rustfmt::skip]
 pub fn value(model: &[u8], nodes: &[i64], stages: &[u32], steps: u32, state: State, out: &mut [u8]) -> u32 {
-    let State { mask, nums: [l1, l2, l3, l4], d } = state;
+    let State { mask, nums: [l1, l2, l3, l4, l5, l6, l7, l8], d } = state;
     // SAFETY: as said above.
     unsafe {
         planner_value(
             model.as_ptr(), model.len(), nodes.as_ptr(), nodes.len(), stages.as_ptr(), stages.len(), steps, mask,
-            l1, l2, l3, l4, d, out.as_mut_ptr(), out.len(),
+            l1, l2, l3, l4, l5, l6, l7, l8, d, out.as_mut_ptr(), out.len(),
         )
     }
 }
@@ -143,9 +165,27 @@ pub fn name(model: &[u8], action: u32, out: &mut [u8]) -> u32 {
 }
 
 pub fn worth(model: &[u8], steps: u32, state: State, out: &mut [u8]) -> u32 {
-    let State { mask, nums: [l1, l2, l3, l4], d } = state;
+    let State { mask, nums: [l1, l2, l3, l4, l5, l6, l7, l8], d } = state;
     // SAFETY: as said above.
-    unsafe { planner_worth(model.as_ptr(), model.len(), steps, mask, l1, l2, l3, l4, d, out.as_mut_ptr(), out.len()) }
+    unsafe {
+        planner_worth(
+            model.as_ptr(),
+            model.len(),
+            steps,
+            mask,
+            l1,
+            l2,
+            l3,
+            l4,
+            l5,
+            l6,
+            l7,
+            l8,
+            d,
+            out.as_mut_ptr(),
+            out.len(),
+        )
+    }
 }
 
 #[rustfmt::skip]
@@ -171,12 +211,24 @@ pub fn find(model: &[u8], name: &[u8], out: &mut [u8]) -> u32 {
 pub fn page(
     model: &[u8], horizon: u32, nodes: &[i64], stages: &[u32], state: State, text: &mut [u8], place: usize, out: &mut [u8],
 ) -> u32 {
-    let State { mask, nums: [l1, l2, l3, l4], d } = state;
+    let State { mask, nums: [l1, l2, l3, l4, l5, l6, l7, l8], d } = state;
     // SAFETY: as said above.
     unsafe {
         planner_page(
             model.as_ptr(), model.len(), horizon, nodes.as_ptr(), nodes.len(), stages.as_ptr(), stages.len(),
-            mask, l1, l2, l3, l4, d, text.as_mut_ptr(), text.len(), place, out.as_mut_ptr(), out.len(),
+            mask, l1, l2, l3, l4, l5, l6, l7, l8, d, text.as_mut_ptr(), text.len(), place, out.as_mut_ptr(), out.len(),
         )
     }
+}
+
+pub fn to_new(old: &[u8], buffer: &mut [u8], out: &mut [u8]) -> u32 {
+    let (buffer_len, out_len) = (buffer.len(), out.len());
+    // SAFETY: as said above.
+    unsafe { planner_to_new(old.as_ptr(), old.len(), buffer.as_mut_ptr(), buffer_len, out.as_mut_ptr(), out_len) }
+}
+
+pub fn to_old(model: &[u8], buffer: &mut [u8], out: &mut [u8]) -> u32 {
+    let (buffer_len, out_len) = (buffer.len(), out.len());
+    // SAFETY: as said above.
+    unsafe { planner_to_old(model.as_ptr(), model.len(), buffer.as_mut_ptr(), buffer_len, out.as_mut_ptr(), out_len) }
 }

@@ -1,19 +1,19 @@
 //! Domains of the papers, as far as whole numbers express them, and ponds and chains of tanks of any size. A loss of a
 //! million stands for what the papers forbid.
 
-use crate::Writer;
+use crate::{Writer, LEVELS};
 
 const FORBIDDEN: i32 = -1_000_000;
 
 /// The pond with several releases: each pays a little less for its water than the one before.
 pub fn releases(amounts: &[i32]) -> Vec<u8> {
-    let mut w = Writer::site(1, 0, 1 + amounts.len() as u8, 1);
-    w.leaf([0; 4], 0).reward(1).leaf([1, 0, 0, 0], 0).next(1, 1);
-    for (action, &amount) in (2_u8..).zip(amounts) {
-        let enough = |w: &mut Writer| _ = w.test([-1, 0, 0, 0], amount);
-        w.leaf([0; 4], amount * (12 - i32::from(action)) / 2).leaf([0; 4], -1);
+    let mut w = Writer::site(1, 0, 1 + amounts.len() as u16, 1);
+    w.leaf([], 0).reward(1).leaf([1], 0).next(1, 1);
+    for (action, &amount) in (2_u16..).zip(amounts) {
+        let enough = |w: &mut Writer| _ = w.test([-1], amount);
+        w.leaf([], amount * (12 - i32::from(action)) / 2).leaf([], -1);
         enough(&mut w);
-        w.reward(action).leaf([1, 0, 0, 0], -amount).leaf([1, 0, 0, 0], 0);
+        w.reward(action).leaf([1], -amount).leaf([1], 0);
         enough(&mut w);
         w.next(action, 1);
     }
@@ -21,15 +21,21 @@ pub fn releases(amounts: &[i32]) -> Vec<u8> {
 }
 
 /// One diagram where a level lies above `least` and not above `most`, another elsewhere. All tests point one way.
-fn between(w: &mut Writer, level: [i32; 4], [least, most]: [i32; 2], elsewhere: i32, inside: impl FnOnce(&mut Writer)) {
-    w.leaf([0; 4], elsewhere);
+fn between<const N: usize>(
+    w: &mut Writer,
+    level: [i32; N],
+    [least, most]: [i32; 2],
+    elsewhere: i32,
+    inside: impl FnOnce(&mut Writer),
+) {
+    w.leaf([], elsewhere);
     inside(w);
-    w.leaf([0; 4], elsewhere).test(level, -most).test(level, -least);
+    w.leaf([], elsewhere).test(level, -most).test(level, -least);
 }
 
 /// Inventory control of one item (document 001), twenty times its rewards: nothing is ordered, or a multiple of an equal
 /// part of 200. The demand is 100, or else condition 1 is a high one, of 150 and not 50.
-pub fn inventory(orders: u8, known: bool) -> Vec<u8> {
+pub fn inventory(orders: u16, known: bool) -> Vec<u8> {
     let demands: &[i32] = if known { &[100] } else { &[150, 50] };
     let by_demand = |w: &mut Writer, diagram: &dyn Fn(&mut Writer, i32)| {
         demands.iter().for_each(|&demand| diagram(w, demand));
@@ -41,14 +47,14 @@ pub fn inventory(orders: u8, known: bool) -> Vec<u8> {
     for action in 1..=1 + orders {
         let amount = i32::from(action - 1) * (200 / i32::from(orders));
         if !known {
-            w.leaf([0; 4], 7).leaf([0; 4], 3).condition(1).chance(action, 1);
+            w.leaf([], 7).leaf([], 3).condition(1).chance(action, 1);
         }
-        by_demand(&mut w, &|w, demand| _ = w.leaf([1, 0, 0, 0], amount - demand));
+        by_demand(&mut w, &|w, demand| _ = w.leaf([1], amount - demand));
         w.next(action, 1);
-        between(&mut w, [1, 0, 0, 0], [0, 500], FORBIDDEN, |w| {
+        between(&mut w, [1], [0, 500], FORBIDDEN, |w| {
             by_demand(w, &|w, demand| {
-                w.leaf([19, 0, 0, 0], -2 * amount).leaf([-1, 0, 0, 0], 20 * demand - 2 * amount);
-                w.test([1, 0, 0, 0], -demand);
+                w.leaf([19], -2 * amount).leaf([-1], 20 * demand - 2 * amount);
+                w.test([1], -demand);
             });
         });
         w.reward(action);
@@ -61,11 +67,11 @@ pub fn inventory(orders: u8, known: bool) -> Vec<u8> {
 pub fn rover() -> Vec<u8> {
     let mut w = Writer::site(1, 1, 2, 1);
     for (action, distance) in [(1, -10), (2, 10)] {
-        w.leaf([1, 0, 0, 0], distance).next(action, 1).leaf([0; 4], 1);
-        between(&mut w, [1, 0, 0, 0], [-2, 2], 0, |w| _ = w.leaf([0; 4], 1));
-        w.condition(1).chance(action, 1).leaf([0; 4], 0);
-        between(&mut w, [1, 0, 0, 0], [-2, 2], 0, |w| {
-            w.leaf([2, 0, 0, 0], 4).leaf([-2, 0, 0, 0], 4).test([1, 0, 0, 0], 0);
+        w.leaf([1], distance).next(action, 1).leaf([], 1);
+        between(&mut w, [1], [-2, 2], 0, |w| _ = w.leaf([], 1));
+        w.condition(1).chance(action, 1).leaf([], 0);
+        between(&mut w, [1], [-2, 2], 0, |w| {
+            w.leaf([2], 4).leaf([-2], 4).test([1], 0);
         });
         w.condition(1).reward(action);
     }
@@ -77,9 +83,9 @@ pub fn reservoirs() -> Vec<u8> {
     let mut w = Writer::site(2, 0, 3, 1);
     for (action, time, drains) in [(1, 1, 0), (2, 1, 1), (3, 2, 1)] {
         let (first, second) = ((-300 + 500 * drains) * time, (400 - 500 * drains) * time);
-        w.leaf([1, 0, 0, 0], first).next(action, 1).leaf([0, 1, 0, 0], second).next(action, 2);
-        between(&mut w, [1, 0, 0, 0], [50 - first, 4500 - first], FORBIDDEN, |w| {
-            between(w, [0, 1, 0, 0], [50 - second, 4500 - second], FORBIDDEN, |w| _ = w.leaf([0; 4], time * drains));
+        w.leaf([1], first).next(action, 1).leaf([0, 1], second).next(action, 2);
+        between(&mut w, [1], [50 - first, 4500 - first], FORBIDDEN, |w| {
+            between(w, [0, 1], [50 - second, 4500 - second], FORBIDDEN, |w| _ = w.leaf([], time * drains));
         });
         w.reward(action);
     }
@@ -88,10 +94,11 @@ pub fn reservoirs() -> Vec<u8> {
 
 /// A chain of tanks: hold, let 10 from a tank into the next one, or release 10 from the last one for 50.
 pub fn chain(tanks: u8) -> Vec<u8> {
-    let mut w = Writer::site(tanks, 0, tanks + 1, 1);
-    let level = |tank: u8| -> [i32; 4] { std::array::from_fn(|i| i32::from(i + 1 == tank.into())) };
+    let mut w = Writer::site(tanks, 0, u16::from(tanks) + 1, 1);
+    let level = |tank: u8| -> [i32; LEVELS] { std::array::from_fn(|i| i32::from(i + 1 == tank.into())) };
     for action in 0..=tanks {
         // Action 0 holds; action i takes from tank i.
+        let number = u16::from(action) + 1;
         let empty = |w: &mut Writer| _ = w.test(level(action).map(|x| -x), 10);
         for tank in 1..=tanks {
             let change = if tank == action { -10 } else { 10 };
@@ -101,15 +108,15 @@ pub fn chain(tanks: u8) -> Vec<u8> {
             } else {
                 w.leaf(level(tank), 0);
             }
-            w.next(action + 1, tank);
+            w.next(number, tank);
         }
         if action == tanks {
-            w.leaf([0; 4], 50).leaf([0; 4], -1);
+            w.leaf([], 50).leaf([], -1);
             empty(&mut w);
         } else {
-            w.leaf([0; 4], 0);
+            w.leaf([], 0);
         }
-        w.reward(action + 1);
+        w.reward(number);
     }
     w.end()
 }

@@ -2,30 +2,49 @@
 
 mod domains;
 mod large;
+mod old;
 mod random;
 
 pub use domains::{chain, inventory, releases, reservoirs, rover};
-pub use large::{deep, long_listing, near_limit, rain_tanks_kept, staircases};
-pub use random::{commands, damaged, random, Rng};
+pub use large::{
+    deep, long_listing, mixed, near_limit, of_length, of_old_length, rain_tanks_kept, settings, staircases,
+};
+pub use old::{old_form, Form, NEW, OLD, OLD_BYTES};
+pub use random::{commands, damaged, damaged_in, random, Rng};
 
-/// Writes a model, command by command.
+/// The levels, actions and bytes that a model may have, and the bytes of its site command.
+pub const LEVELS: usize = 8;
+pub const ACTIONS: u16 = 400;
+pub const MODEL_BYTES: usize = 262_144;
+pub const SITE_BYTES: usize = 6;
+
+/// Writes a model, command by command. An action has two bytes.
 #[derive(Clone, Debug)]
 pub struct Writer(Vec<u8>);
 
 impl Writer {
-    pub fn site(m: u8, n: u8, a: u8, w: u8) -> Writer {
-        Writer(vec![0x01, m, n, a, w])
+    pub fn site(m: u8, n: u8, a: u16, w: u8) -> Writer {
+        let [low, high] = a.to_le_bytes();
+        Writer(vec![0x02, m, n, low, high, w])
     }
 
-    fn linear(&mut self, code: u8, coefficients: [i32; 4], constant: i32) -> &mut Self {
+    /// The first coefficients; the others are 0.
+    fn linear<const N: usize>(&mut self, code: u8, coefficients: [i32; N], constant: i32) -> &mut Self {
+        const { assert!(N <= LEVELS) };
         self.0.push(code);
-        for number in coefficients.into_iter().chain([constant]) {
+        for number in coefficients.into_iter().chain([0; LEVELS]).take(LEVELS).chain([constant]) {
             self.0.extend(number.to_le_bytes());
         }
         self
     }
 
-    pub fn leaf(&mut self, coefficients: [i32; 4], constant: i32) -> &mut Self {
+    /// A command whose first operand is an action.
+    fn action(&mut self, code: u8, action: u16) -> &mut Self {
+        let [low, high] = action.to_le_bytes();
+        self.command(&[code, low, high])
+    }
+
+    pub fn leaf<const N: usize>(&mut self, coefficients: [i32; N], constant: i32) -> &mut Self {
         self.linear(0x10, coefficients, constant)
     }
 
@@ -33,28 +52,33 @@ impl Writer {
         self.command(&[0x11, number])
     }
 
-    pub fn test(&mut self, coefficients: [i32; 4], constant: i32) -> &mut Self {
+    pub fn test<const N: usize>(&mut self, coefficients: [i32; N], constant: i32) -> &mut Self {
         self.linear(0x12, coefficients, constant)
     }
 
-    pub fn reward(&mut self, action: u8) -> &mut Self {
-        self.command(&[0x20, action])
+    pub fn reward(&mut self, action: u16) -> &mut Self {
+        self.action(0x20, action)
     }
 
-    pub fn chance(&mut self, action: u8, condition: u8) -> &mut Self {
-        self.command(&[0x21, action, condition])
+    pub fn chance(&mut self, action: u16, condition: u8) -> &mut Self {
+        self.action(0x21, action).command(&[condition])
     }
 
-    pub fn next(&mut self, action: u8, level: u8) -> &mut Self {
-        self.command(&[0x22, action, level])
+    pub fn next(&mut self, action: u16, level: u8) -> &mut Self {
+        self.action(0x22, action).command(&[level])
     }
 
     pub fn end_worth(&mut self) -> &mut Self {
         self.command(&[0x23])
     }
 
-    pub fn name(&mut self, action: u8, name: &str) -> &mut Self {
-        self.command(&[0x30, action]).command(format!("{name:16}").as_bytes())
+    pub fn name(&mut self, action: u16, name: &str) -> &mut Self {
+        self.letters(action, format!("{name:16}").as_bytes().try_into().expect("sixteen letters"))
+    }
+
+    /// A name by its bytes, whatever they are.
+    pub fn letters(&mut self, action: u16, letters: &[u8; 16]) -> &mut Self {
+        self.action(0x30, action).command(letters)
     }
 
     pub fn command(&mut self, bytes: &[u8]) -> &mut Self {
@@ -92,29 +116,29 @@ pub fn pond_ending(write: impl FnOnce(&mut Writer)) -> Vec<u8> {
 /// worth is emptied.
 pub fn pond_kept() -> Vec<u8> {
     pond_ending(|w| {
-        w.leaf([0; 4], 120).leaf([0; 4], 0).test([-1, 0, 0, 0], 20);
+        w.leaf([], 120).leaf([], 0).test([-1], 20);
     })
 }
 
 /// One action, its next level and the end worth −2³¹ × L1 each: stage 1 names 2⁶², which is beyond the limits.
 pub fn steep_end() -> Vec<u8> {
     let mut w = Writer::site(1, 0, 1, 1);
-    w.leaf([0; 4], 0).reward(1).leaf([i32::MIN, 0, 0, 0], 0).next(1, 1).leaf([i32::MIN, 0, 0, 0], 0).end_worth();
+    w.leaf([], 0).reward(1).leaf([i32::MIN], 0).next(1, 1).leaf([i32::MIN], 0).end_worth();
     w.end()
 }
 
 fn pond_commands() -> Writer {
     let mut w = Writer::site(1, 0, 2, 1);
-    w.leaf([0; 4], 0).reward(1).leaf([1, 0, 0, 0], 0).next(1, 1);
-    w.leaf([0; 4], 50).leaf([0; 4], -1).test([-1, 0, 0, 0], 10).reward(2);
-    w.leaf([1, 0, 0, 0], -10).leaf([1, 0, 0, 0], 0).test([-1, 0, 0, 0], 10).next(2, 1);
+    w.leaf([], 0).reward(1).leaf([1], 0).next(1, 1);
+    w.leaf([], 50).leaf([], -1).test([-1], 10).reward(2);
+    w.leaf([1], -10).leaf([1], 0).test([-1], 10).next(2, 1);
     w.name(1, "Hold").name(2, "Release");
     w
 }
 
 pub fn rain() -> Vec<u8> {
     let mut w = Writer::site(1, 1, 1, 10);
-    w.leaf([0; 4], 7).chance(1, 1).leaf([1, 0, 0, 0], 0).reward(1);
-    w.leaf([1, 0, 0, 0], -150).leaf([1, 0, 0, 0], -50).condition(5).next(1, 1);
+    w.leaf([], 7).chance(1, 1).leaf([1], 0).reward(1);
+    w.leaf([1], -150).leaf([1], -50).condition(5).next(1, 1);
     w.end()
 }

@@ -1,7 +1,8 @@
 //! Writes the models to a folder, and some random ones: `models FOLDER [COUNT [SEED]]`.
 
 use models::{
-    damaged, deep, long_listing, near_limit, pond, pond_kept, rain, rain_tanks_kept, random, staircases, steep_end, Rng,
+    chain, damaged, deep, long_listing, mixed, near_limit, of_length, of_old_length, old_form, pond, pond_kept, rain,
+    rain_tanks_kept, random, settings, staircases, steep_end, Rng, MODEL_BYTES, OLD_BYTES,
 };
 use std::path::Path;
 
@@ -22,12 +23,23 @@ fn main() -> std::io::Result<()> {
         ("near_limit", near_limit()),
         ("rain_tanks_kept", rain_tanks_kept()),
         ("deep", deep()),
-        // With horizon 8, 65,536 bytes of text and one more.
-        ("text_fits", long_listing(259)),
-        ("text_too_long", long_listing(258)),
+        ("settings", settings()),
+        ("mixed", mixed()),
+        ("seven_tanks", chain(7)),
+        ("longest", of_length(MODEL_BYTES)),
+        ("too_long", of_length(MODEL_BYTES + 1)),
+        // 65,535 bytes in the old form, and one more.
+        ("old_fits", of_old_length(OLD_BYTES)),
+        ("old_too_long", of_old_length(OLD_BYTES + 1)),
+        // With horizon 7, 65,536 bytes of text and one more.
+        ("text_fits", long_listing(117)),
+        ("text_too_long", long_listing(116)),
     ];
     for (name, model) in fixed {
         std::fs::write(folder.join(name), model)?;
+    }
+    for (name, model) in [("old_pond", pond()), ("old_pond_kept", pond_kept()), ("old_rain", rain())] {
+        std::fs::write(folder.join(name), old_form(&model))?;
     }
     let mut rng = Rng(number(2).unwrap_or(1));
     for i in 0..number(1).unwrap_or(0) {

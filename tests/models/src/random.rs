@@ -1,6 +1,6 @@
 //! Random models from a seed, valid and damaged.
 
-use crate::Writer;
+use crate::{Form, Writer, ACTIONS, LEVELS, NEW, SITE_BYTES};
 
 /// A source of numbers: splitmix64.
 pub struct Rng(pub u64);
@@ -50,6 +50,10 @@ struct Shape {
     size: i32,
     huge: usize,
     depth: usize,
+    /// One diagram in so many is a long chain.
+    chains: usize,
+    /// Tests ask for L1 alone, and rewards are constants: plans of many actions stay small.
+    simple: bool,
 }
 
 /// What is wrong with an end worth.
@@ -61,11 +65,40 @@ enum Fault {
     Twice,
 }
 
+/// One action that keeps all levels but one. In stage 1 a number is named that is about as large as one may be: a
+/// coefficient, mostly that of the last level, by a product, or the constant, by a product and a sum.
+fn at_limits(rng: &mut Rng) -> Vec<u8> {
+    let m = if rng.once_in(2) { LEVELS as u8 } else { rng.between(1, LEVELS as i32) as u8 };
+    let large = if rng.once_in(2) { m } else { rng.between(1, m.into()) as u8 };
+    let times = |level: u8, number: i32| -> [i32; LEVELS] {
+        std::array::from_fn(|i| if i + 1 == level.into() { number } else { 0 })
+    };
+    let mut factor = || rng.pick(&[i32::MIN, i32::MIN, i32::MIN + 1, i32::MIN + 1, i32::MAX]);
+    let (first, second) = (factor(), factor());
+    let is_constant = rng.once_in(2);
+    let mut writer = Writer::site(m, 0, 1, 1);
+    writer.leaf([], rng.pick(&[0, i32::MAX, i32::MAX])).reward(1);
+    for level in 1..=m {
+        match level == large {
+            true if is_constant => writer.leaf([], first),
+            true => writer.leaf(times(level, first), 0),
+            false => writer.leaf(times(level, 1), 0),
+        };
+        writer.next(1, level);
+    }
+    writer.leaf(times(large, second), rng.between(-1, 1)).end_worth();
+    writer.end()
+}
+
 /// A valid model, except that now and then a long chain of leaves outgrows the stack and that one end worth in eight is
 /// at fault. A third of the models have an end worth. It comes from a source of its own: the rest of the model is what
 /// the seed gives without it.
 pub fn random(rng: &mut Rng) -> Vec<u8> {
     let mut own = Rng(Rng(rng.0 ^ 0x23).word());
+    if own.once_in(12) {
+        rng.word();
+        return at_limits(&mut own);
+    }
     let (shape, model) = without_end_worth(rng);
     if own.once_in(3) {
         with_end_worth(&mut own, &shape, &model)
@@ -83,7 +116,7 @@ fn with_end_worth(rng: &mut Rng, shape: &Shape, model: &[u8]) -> Vec<u8> {
         diagram(rng, &mut writer, shape, Kind::Reward, depth);
     }
     if fault == Fault::NextStep && shape.n > 0 {
-        writer.leaf([0; 4], 0).condition(4 + rng.between(1, shape.n.into()) as u8);
+        writer.leaf([], 0).condition(4 + rng.between(1, shape.n.into()) as u8);
     }
     let once = put_in(rng, model, &writer.0);
     if fault == Fault::Twice {
@@ -97,27 +130,50 @@ fn with_end_worth(rng: &mut Rng, shape: &Shape, model: &[u8]) -> Vec<u8> {
 fn put_in(rng: &mut Rng, model: &[u8], diagram: &[u8]) -> Vec<u8> {
     let last = model.len() - 1;
     if rng.once_in(4) {
-        return [&model[..5], diagram, &model[5..last], &[0x23], &model[last..]].concat();
+        return [&model[..SITE_BYTES], diagram, &model[SITE_BYTES..last], &[0x23], &model[last..]].concat();
     }
     let offsets = commands(model);
     let at = offsets[1 + rng.below(offsets.len() - 2)];
     [&model[..at], diagram, &[0x23], &model[at..]].concat()
 }
 
-fn without_end_worth(rng: &mut Rng) -> (Shape, Vec<u8>) {
-    let m = rng.pick(&[1, 1, 1, 2, 2, 3, 4]);
-    let n = rng.pick(&[0, 0, 1, 1, 1, 2, 2, 3, 4]);
-    let a = rng.pick(&[1, 1, 2, 2, 2, 3, 3, 4, 8]);
+/// Few actions, and what they have.
+fn any_shape(rng: &mut Rng) -> (u16, Shape) {
     let w = rng.pick(&[1, 2, 2, 3, 10, 10, 100, 0]);
-    let w = if w == 0 { rng.between(1, 100) } else { w };
     let shape = Shape {
-        m: m.into(),
-        n,
-        w,
+        m: rng.pick(&[1, 1, 1, 1, 2, 2, 2, 3, 3, 4, 5, 6, 7, 8]),
+        n: rng.pick(&[0, 0, 1, 1, 1, 2, 2, 3, 4]),
+        w: if w == 0 { rng.between(1, 100) } else { w },
         size: rng.pick(&[1, 3, 3, 20, 1000]),
         huge: rng.pick(&[0, 0, 0, 40, 10]),
         depth: rng.pick(&[0, 1, 1, 2, 2, 3, 4]),
+        chains: 400,
+        simple: false,
     };
+    (rng.pick(&[1, 1, 2, 2, 2, 3, 3, 4, 8]), shape)
+}
+
+/// Up to 400 actions with small diagrams, which no model of so many could be long enough for else.
+fn many_actions(rng: &mut Rng) -> (u16, Shape) {
+    let (_, shape) = any_shape(rng);
+    let m = rng.pick(&[1, 1, 2, 8]);
+    let simple = !rng.once_in(3);
+    let shape = Shape {
+        m,
+        n: rng.pick(&[0, 0, 1, 2]),
+        size: if simple { 3 } else { shape.size },
+        huge: if simple { 0 } else { shape.huge },
+        depth: if m == LEVELS { 0 } else { rng.pick(&[0, 0, 1]) },
+        chains: 20_000,
+        simple,
+        ..shape
+    };
+    (rng.pick(&[9, 100, 255, 256, 257, 258, 300, 399, ACTIONS, ACTIONS]), shape)
+}
+
+fn without_end_worth(rng: &mut Rng) -> (Shape, Vec<u8>) {
+    let (a, shape) = if rng.once_in(40) { many_actions(rng) } else { any_shape(rng) };
+    let (m, n) = (shape.m as u8, shape.n);
     let mut items = Vec::new();
     for action in 1..=a {
         items.push((action, Kind::Reward));
@@ -127,7 +183,7 @@ fn without_end_worth(rng: &mut Rng) -> (Shape, Vec<u8>) {
     for i in (1..items.len()).rev() {
         items.swap(i, rng.below(i + 1));
     }
-    let mut writer = Writer::site(m, n, a, w as u8);
+    let mut writer = Writer::site(m, n, a, shape.w as u8);
     let mut rest = &items[..];
     while !rest.is_empty() {
         let several = if rng.once_in(3) { 1 + rng.below(6) } else { 1 };
@@ -147,8 +203,7 @@ fn without_end_worth(rng: &mut Rng) -> (Shape, Vec<u8>) {
     }
     for action in 1..=a {
         if rng.once_in(2) {
-            writer.command(&[0x30, action]);
-            writer.command(&name(rng));
+            writer.letters(action, &name(rng));
         }
     }
     (shape, writer.end())
@@ -168,7 +223,7 @@ fn name(rng: &mut Rng) -> [u8; 16] {
 }
 
 fn diagram(rng: &mut Rng, writer: &mut Writer, shape: &Shape, kind: Kind, depth: usize) {
-    if rng.once_in(400) {
+    if rng.once_in(shape.chains) {
         // A chain on the low side, with the stack at its limit or past it.
         let leaves = rng.between(30, 33);
         (0..leaves).for_each(|_| leaf(rng, writer, shape, kind));
@@ -190,7 +245,7 @@ fn choice(rng: &mut Rng, writer: &mut Writer, shape: &Shape, kind: Kind) {
         writer.condition(later + rng.between(1, shape.n.into()) as u8);
     } else {
         let mut coefficients = coefficients(rng, shape);
-        if coefficients == [0; 4] {
+        if coefficients == [0; LEVELS] {
             coefficients[rng.below(shape.m)] = rng.pick(&[-1, 1, 2]);
         }
         let constant = number(rng, shape);
@@ -202,14 +257,14 @@ fn choice(rng: &mut Rng, writer: &mut Writer, shape: &Shape, kind: Kind) {
 fn leaf(rng: &mut Rng, writer: &mut Writer, shape: &Shape, kind: Kind) {
     match kind {
         Kind::Chance(_) => {
-            writer.leaf([0; 4], if rng.once_in(3) { rng.pick(&[0, shape.w]) } else { rng.between(0, shape.w) })
+            writer.leaf([], if rng.once_in(3) { rng.pick(&[0, shape.w]) } else { rng.between(0, shape.w) })
         }
         Kind::Next(level) if !rng.once_in(4) => {
-            let mut own = [0; 4];
+            let mut own = [0; LEVELS];
             own[usize::from(level) - 1] = 1;
             writer.leaf(own, number(rng, shape))
         }
-        _ if rng.once_in(2) => writer.leaf([0; 4], number(rng, shape)),
+        _ if shape.simple || rng.once_in(2) => writer.leaf([], number(rng, shape)),
         _ => {
             let coefficients = coefficients(rng, shape);
             writer.leaf(coefficients, number(rng, shape))
@@ -217,7 +272,16 @@ fn leaf(rng: &mut Rng, writer: &mut Writer, shape: &Shape, kind: Kind) {
     };
 }
 
-fn coefficients(rng: &mut Rng, shape: &Shape) -> [i32; 4] {
+fn coefficients(rng: &mut Rng, shape: &Shape) -> [i32; LEVELS] {
+    if shape.simple {
+        return std::array::from_fn(|i| i32::from(i == 0));
+    }
+    // Now and then tests that differ in their last level alone.
+    if rng.once_in(4) {
+        let (first, last) = (rng.pick(&[0, 0, 1]), rng.pick(&[-2, -1, 1, 2, 3]));
+        let number = |i: usize| if i + 1 == shape.m { last } else { first * i32::from(i == 0) };
+        return std::array::from_fn(number);
+    }
     std::array::from_fn(|i| match i < shape.m && rng.once_in(2) {
         true if shape.huge > 0 && rng.once_in(shape.huge) => huge(rng),
         true => rng.pick(&[-2, -1, -1, 1, 1, 1, 2, 3]),
@@ -237,39 +301,84 @@ fn huge(rng: &mut Rng) -> i32 {
     rng.pick(&[i32::MIN, i32::MIN + 1, i32::MAX, i32::MAX - 1, 1 << 30, -(1 << 30), 1 << 20, 46_341])
 }
 
+/// Bytes of the command that begins so.
+fn width(form: &Form, code: u8) -> usize {
+    match code {
+        code if code == form.site => form.site_bytes,
+        0x10 | 0x12 => 5 + form.coefficients,
+        0x11 => 2,
+        0x20 => 1 + form.action,
+        0x21 | 0x22 => 2 + form.action,
+        0x30 => 17 + form.action,
+        _ => 1, // 23 and FF, and unknown bytes
+    }
+}
+
 /// Offsets of the commands of a model without fault, the end of the last one included.
 pub fn commands(model: &[u8]) -> Vec<usize> {
+    commands_in(&NEW, model)
+}
+
+fn commands_in(form: &Form, model: &[u8]) -> Vec<usize> {
     let mut offsets = vec![0];
     let mut offset = 0;
     while offset < model.len() {
-        offset += match model[offset] {
-            0x01 => 5,
-            0x10 | 0x12 => 21,
-            0x11 | 0x20 => 2,
-            0x21 | 0x22 => 3,
-            0x30 => 18,
-            _ => 1, // 23 and FF, and unknown bytes
-        };
+        offset += width(form, model[offset]);
         offsets.push(offset.min(model.len()));
     }
     offsets
 }
 
-/// The commands' bytes, and two that no command has.
-const CODES: [u8; 12] = [0x00, 0x01, 0x10, 0x11, 0x12, 0x20, 0x21, 0x22, 0x23, 0x24, 0x30, 0xFF];
+/// The commands' bytes, and four that no command has, the other form's site among them.
+const CODES: [u8; 14] = [0x00, 0x01, 0x02, 0x10, 0x11, 0x12, 0x13, 0x20, 0x21, 0x22, 0x23, 0x24, 0x30, 0xFF];
+
+/// Another action, which needs its high byte, if it has one: none, beyond the site's or beyond all, or the same low byte.
+fn another_action(rng: &mut Rng, form: &Form, bytes: &mut [u8], low: usize) {
+    let read = |place: usize| {
+        let bytes = bytes.get(place..place + form.action)?;
+        Some(bytes.iter().rev().fold(0, |action: u16, &byte| action << 8 | u16::from(byte)))
+    };
+    let (action, most, beyond) = (read(low).unwrap_or(0), read(3).unwrap_or(1), form.actions + 1);
+    let other = rng.pick(&[0, most.wrapping_add(1), form.actions, beyond, action ^ 0x100, action | 0xFF00, u16::MAX]);
+    bytes[low..low + form.action].copy_from_slice(&other.to_le_bytes()[..form.action]);
+}
+
+/// A fault in an operand of a whole command.
+fn damage_operand(rng: &mut Rng, form: &Form, command: usize, bytes: &mut [u8]) {
+    match bytes[command] {
+        code if code == form.site && rng.once_in(2) => bytes[command + 1] = rng.pick(&[0, 5, 6, 7, 8, 9, 255]),
+        code if code == form.site => another_action(rng, form, bytes, command + 3),
+        0x20 | 0x21 | 0x22 | 0x30 => another_action(rng, form, bytes, command + 1),
+        // The last coefficients, where the site has fewer levels.
+        0x10 | 0x12 => {
+            let byte = rng.pick(&[1, 0x80, 0xFF]);
+            bytes[command + 1 + rng.pick(&[4, 15, 16, 20, 28, 31]) % form.coefficients] = byte;
+        }
+        _ => {}
+    }
+}
 
 /// The model with a few faults, most of which give a refusal.
 pub fn damaged(rng: &mut Rng, model: &[u8]) -> Vec<u8> {
+    damaged_in(&NEW, rng, model)
+}
+
+/// The same of either form.
+pub fn damaged_in(form: &Form, rng: &mut Rng, model: &[u8]) -> Vec<u8> {
     let mut bytes = model.to_vec();
     for _ in 0..rng.pick(&[1, 1, 1, 2, 3]) {
-        let offsets = commands(&bytes);
+        let offsets = commands_in(form, &bytes);
         let some = rng.below(offsets.len().max(2) - 1);
         let (from, to) = (offsets[some], offsets.get(some + 1).copied().unwrap_or(bytes.len()));
         let at = rng.below(bytes.len() + 1);
         let byte = rng.pick(&[0, 1, 2, 4, 5, 8, 9, 0x10, 0x11, 0x1F, 0x20, 0x23, 0x7E, 0x7F, 0x80, 0xFE, 0xFF]);
-        match rng.below(10) {
+        match rng.below(12) {
+            10 | 11 if to > from && to - from == width(form, bytes[from]) => {
+                damage_operand(rng, form, from, &mut bytes)
+            }
+            10 | 11 if !bytes.is_empty() => bytes[0] = rng.pick(&[0x01, 0x02]),
             0 if from < to => bytes[from] = rng.pick(&CODES),
-            1..=3 if from + 1 < to => bytes[from + 1 + rng.below((to - from - 1).min(3))] = byte,
+            1..=3 if from + 1 < to => bytes[from + 1 + rng.below((to - from - 1).min(SITE_BYTES - 1))] = byte,
             4 => bytes.truncate(at),
             5 => drop(bytes.drain(from..to)),
             6 => drop(bytes.splice(to..to, bytes[from..to].to_vec())),

@@ -1,11 +1,17 @@
-//! The model files of `examples/` are what is written here: `models FOLDER` makes them again.
+//! The model files of `examples/` are what is written here, and those of `examples/old` their old form: `models FOLDER`
+//! makes them again.
 
-use models::{pond, pond_kept, rain};
+use models::{old_form, pond, pond_kept, rain};
+
+fn example(name: &str) -> Vec<u8> {
+    let path = format!("{}/../../examples/{name}.model", env!("CARGO_MANIFEST_DIR"));
+    std::fs::read(&path).expect("an example")
+}
 
 #[test]
 fn examples_are_written_here() {
     for (name, model) in [("pond", pond()), ("pond_kept", pond_kept()), ("rain", rain())] {
-        let path = format!("{}/../../examples/{name}.model", env!("CARGO_MANIFEST_DIR"));
-        assert_eq!(std::fs::read(&path).expect("an example"), model, "{name}");
+        assert_eq!(example(name), model, "{name}");
+        assert_eq!(example(&format!("old/{name}")), old_form(&model), "old {name}");
     }
 }

@@ -3,9 +3,8 @@
 
 use models::{chain, deep, inventory, near_limit, pond, rain, releases, reservoirs, rover, staircases};
 use reference::diagram::without_replacing;
-use reference::{solve, with_deep_stack, Outcome};
-
-const NODES: usize = 65_535;
+use reference::widths::NODES_MOST;
+use reference::{solve_with_room, with_deep_stack, Outcome};
 
 fn rows() -> Vec<(String, Vec<u8>, u32)> {
     let named = |name: &str, model, horizon| (name.to_string(), model, horizon);
@@ -36,7 +35,7 @@ fn rows() -> Vec<(String, Vec<u8>, u32)> {
 fn needed(done: &Outcome) -> String {
     match done.number {
         0 => done.peak.to_string(),
-        12 => format!("more than {NODES} (stage {})", done.place),
+        12 => format!("more than {NODES_MOST} (stage {})", done.place),
         number => format!("refused with {number} (stage {})", done.place),
     }
 }
@@ -45,7 +44,7 @@ fn main() {
     println!("| model | horizon | needed without | needed with | share |");
     println!("|---|---|---|---|---|");
     for (name, model, horizon) in rows() {
-        let count = || solve(&model, horizon, 8 * NODES, 8, 8 * NODES);
+        let count = || solve_with_room(&model, horizon, NODES_MOST);
         let (before, now) = with_deep_stack(|| (without_replacing(count), count()));
         let share = match (before.number, now.number) {
             (0, 0) => format!("{:.0} %", 100.0 * f64::from(now.peak) / f64::from(before.peak)),

@@ -4,12 +4,14 @@
 //! every moment: what is needed from before, and what the operation's rules have made.
 
 use crate::unique::{hash, Computed, Places};
+use crate::widths::{CONDITIONS, CONSTANT, LEVELS, NUMBERS};
 use crate::LIMIT;
 use std::cell::Cell;
 
 /// A node's place in the store. Branches stand before their node.
 pub type Id = u32;
 pub type Fault = u32;
+type Numbers = [i64; NUMBERS];
 /// A label's place in the store.
 type LabelId = u32;
 
@@ -25,7 +27,7 @@ pub enum Kind {
 #[derive(Clone, Copy, Debug, PartialEq, Eq, PartialOrd, Ord)]
 pub struct Label {
     pub kind: Kind,
-    pub nums: [i64; 5],
+    pub nums: Numbers,
 }
 
 /// A node; equal labels are one label, so that it is three numbers. A leaf has its action in place of `high`.
@@ -66,6 +68,8 @@ pub struct Store {
     labels: Vec<Label>,
     label_places: Places,
     computed: Computed,
+    /// The nodes before this place are needed as long as the store is.
+    fixed: usize,
     most: usize,
     replaces: bool,
     pub effort: Effort,
@@ -109,20 +113,27 @@ fn judge(number: Option<i64>) -> Result<i64, Fault> {
 }
 
 /// Number by number.
-fn combine(f: &[i64; 5], g: &[i64; 5], with: fn(i64, i64) -> Option<i64>) -> Result<[i64; 5], Fault> {
-    let mut nums = [0; 5];
-    for i in 0..5 {
+fn combine(f: &Numbers, g: &Numbers, with: fn(i64, i64) -> Option<i64>) -> Result<Numbers, Fault> {
+    let mut nums = [0; NUMBERS];
+    for i in 0..NUMBERS {
         nums[i] = judge(with(f[i], g[i]))?;
     }
     Ok(nums)
 }
 
+/// Has a linear no coefficient?
+fn is_constant(nums: &Numbers) -> bool {
+    nums[..LEVELS] == [0; LEVELS]
+}
+
 pub fn condition(number: i64) -> Label {
-    Label { kind: Kind::Condition, nums: [number, 0, 0, 0, 0] }
+    let mut nums = [0; NUMBERS];
+    nums[0] = number;
+    Label { kind: Kind::Condition, nums }
 }
 
 /// A linear with some coefficient not 0, divided by the common divisor (22).
-pub fn divided(nums: [i64; 5]) -> Label {
+pub fn divided(nums: Numbers) -> Label {
     let divisor = nums.iter().fold(0, |divisor, &x| common_divisor(divisor, x));
     Label { kind: Kind::Test, nums: if divisor == 1 { nums } else { nums.map(|x| x / divisor) } }
 }
@@ -136,14 +147,18 @@ fn common_divisor(mut x: i64, mut y: i64) -> i64 {
 
 impl Label {
     fn hash(&self) -> u32 {
-        let [a, b, c, d, k] = self.nums.map(|x| x as u64);
-        hash([a, b, c, d, k, self.kind as u64])
+        let mut words = [self.kind as u64; NUMBERS + 1];
+        for (word, &number) in words.iter_mut().zip(&self.nums) {
+            *word = number as u64;
+        }
+        hash(words)
     }
 
     /// The same coefficients and a larger constant: never true on the low side of the other.
     fn is_parallel_to(&self, other: &Label) -> bool {
-        let ([.., k], [.., l]) = (self.nums, other.nums);
-        (self.kind, other.kind) == (Kind::Test, Kind::Test) && k > l && self.nums[..4] == other.nums[..4]
+        (self.kind, other.kind) == (Kind::Test, Kind::Test)
+            && self.nums[CONSTANT] > other.nums[CONSTANT]
+            && self.nums[..LEVELS] == other.nums[..LEVELS]
     }
 }
 
@@ -165,6 +180,7 @@ impl Store {
             labels: Vec::new(),
             label_places: Places::new(),
             computed: Computed::new(),
+            fixed: 0,
             most,
             replaces: REPLACES.get(),
             effort: Effort::default(),
@@ -184,13 +200,18 @@ impl Store {
         &self.labels[self.node(id).label as usize]
     }
 
-    /// Cuts the store down to what the roots lead to, and forgets all results.
+    /// Says that all nodes there are will be needed to the end: `keep` need not look at them any more.
+    pub fn fix(&mut self) {
+        self.fixed = self.nodes.len();
+    }
+
+    /// Cuts the store down to what is fixed and what the roots lead to, and forgets all results.
     pub fn keep<'a>(&mut self, roots: impl Iterator<Item = &'a mut Id>) {
-        let roots: Vec<&mut Id> = roots.collect();
+        let roots: Vec<&mut Id> = roots.filter(|root| **root as usize >= self.fixed).collect();
         let mut places = self.needed(&roots);
         self.slide(&mut places);
         for root in roots {
-            *root = places[*root as usize];
+            *root = self.place(*root, &places);
         }
         if self.labels.len() > LABELS_A_NODE * (self.nodes.len() + 256) {
             self.keep_labels();
@@ -198,16 +219,24 @@ impl Store {
         self.computed.forget();
     }
 
-    /// 0 for each node that the roots lead to.
+    /// Where a node has gone, of the places of those that are not fixed.
+    fn place(&self, id: Id, places: &[Id]) -> Id {
+        (id as usize).checked_sub(self.fixed).map_or(id, |i| places[i])
+    }
+
+    /// 0 for each node that the roots lead to, of those that are not fixed.
     fn needed(&self, roots: &[&mut Id]) -> Vec<Id> {
-        let mut places = vec![GONE; self.nodes.len()];
+        let mut places = vec![GONE; self.nodes.len() - self.fixed];
         for root in roots {
-            places[**root as usize] = 0;
+            places[**root as usize - self.fixed] = 0;
         }
-        for (i, node) in self.nodes.iter().enumerate().rev() {
+        for (i, node) in self.nodes[self.fixed..].iter().enumerate().rev() {
             if places[i] == 0 && !node.is_leaf() {
-                places[node.high as usize] = 0;
-                places[node.low as usize] = 0;
+                for branch in [node.high, node.low] {
+                    if let Some(place) = (branch as usize).checked_sub(self.fixed) {
+                        places[place] = 0;
+                    }
+                }
             }
         }
         places
@@ -215,22 +244,23 @@ impl Store {
 
     /// Moves the needed nodes together, and says where each one went. Those before the first gap stay as they are.
     fn slide(&mut self, places: &mut [Id]) {
+        let fixed = self.fixed;
         let standing = places.iter().position(|&place| place == GONE).unwrap_or(places.len());
-        for node in self.nodes[standing..].iter().rev() {
+        for node in self.nodes[fixed + standing..].iter().rev() {
             self.node_places.take_last(node.hash());
         }
         for (i, place) in places[..standing].iter_mut().enumerate() {
-            *place = i as Id;
+            *place = (fixed + i) as Id;
         }
-        let mut count = standing;
-        for i in standing..self.nodes.len() {
+        let mut count = fixed + standing;
+        for i in standing..places.len() {
             if places[i] == GONE {
                 continue;
             }
-            let mut node = self.nodes[i];
+            let mut node = self.nodes[fixed + i];
             if !node.is_leaf() {
-                node.high = places[node.high as usize];
-                node.low = places[node.low as usize];
+                node.high = self.place(node.high, places);
+                node.low = self.place(node.low, places);
             }
             places[i] = self.node_places.enter(node.hash());
             self.nodes[count] = node;
@@ -275,7 +305,7 @@ impl Store {
         Ok(self.node_places.enter(hash))
     }
 
-    pub fn leaf(&mut self, nums: [i64; 5], action: Id) -> Result<Id, Fault> {
+    pub fn leaf(&mut self, nums: Numbers, action: Id) -> Result<Id, Fault> {
         let label = self.label_id(Label { kind: Kind::Leaf, nums });
         self.make(Node { label, high: action, low: NO_BRANCH })
     }
@@ -376,7 +406,7 @@ impl Store {
         let (x, y) = (&self.label(f).nums, &self.label(g).nums);
         let nums = match rule {
             Rule::Sum => combine(x, y, i64::checked_add)?,
-            _ => combine(&[x[4]; 5], y, i64::checked_mul)?,
+            _ => combine(&[x[CONSTANT]; NUMBERS], y, i64::checked_mul)?,
         };
         self.leaf(nums, 0)
     }
@@ -407,9 +437,9 @@ impl Store {
     fn best_of_leaves(&mut self, f: Id, g: Id) -> Result<Id, Fault> {
         self.effort.begin();
         let d = combine(&self.label(g).nums, &self.label(f).nums, i64::checked_sub)?;
-        let result = match d {
-            [0, 0, 0, 0, constant] => Ok(if constant <= 0 { f } else { g }),
-            _ => self.choose(divided(d), f, g),
+        let result = match is_constant(&d) {
+            true => Ok(if d[CONSTANT] <= 0 { f } else { g }),
+            false => self.choose(divided(d), f, g),
         };
         self.effort.end();
         result
@@ -431,9 +461,9 @@ impl Store {
     fn act_on_leaf(&mut self, rule: Rule, number: i64, f: Id) -> Result<Id, Fault> {
         let mut nums = self.label(f).nums;
         match rule {
-            Rule::Scale => nums = combine(&[number; 5], &nums, i64::checked_mul)?,
-            Rule::Add => nums[4] = judge(number.checked_add(nums[4]))?,
-            Rule::From => nums[4] = judge(number.checked_sub(nums[4]))?,
+            Rule::Scale => nums = combine(&[number; NUMBERS], &nums, i64::checked_mul)?,
+            Rule::Add => nums[CONSTANT] = judge(number.checked_add(nums[CONSTANT]))?,
+            Rule::From => nums[CONSTANT] = judge(number.checked_sub(nums[CONSTANT]))?,
             _ => return self.leaf(nums, number as Id),
         }
         self.leaf(nums, 0)
@@ -474,13 +504,13 @@ impl Store {
     }
 
     /// A linear of the next levels (33, 34).
-    fn linear(&mut self, nums: &[i64; 5], nexts: &[Id]) -> Result<Id, Fault> {
+    fn linear(&mut self, nums: &Numbers, nexts: &[Id]) -> Result<Id, Fault> {
         let mut sum = self.scale(nums[0], nexts[0])?;
         for (&c, &next) in nums.iter().zip(nexts).skip(1) {
             let term = self.scale(c, next)?;
             sum = self.sum(sum, term)?;
         }
-        self.act(Rule::Add, nums[4], sum)
+        self.act(Rule::Add, nums[CONSTANT], sum)
     }
 
     /// Substitutes the next levels, one operation having one list of them (35 to 38).
@@ -493,7 +523,7 @@ impl Store {
             if kind == Kind::Condition {
                 let high = s.substitute(node.high, nexts)?;
                 let low = s.substitute(node.low, nexts)?;
-                return s.choose(condition(nums[0] + 4), high, low);
+                return s.choose(condition(nums[0] + CONDITIONS as i64), high, low);
             }
             let linear = s.linear(&nums, nexts)?;
             let high = s.substitute(node.high, nexts)?;
@@ -507,7 +537,7 @@ impl Store {
             let node = s.node(linear);
             if node.is_leaf() {
                 return match s.label(linear).nums {
-                    [0, 0, 0, 0, constant] => Ok(if constant <= 0 { high } else { low }),
+                    nums if is_constant(&nums) => Ok(if nums[CONSTANT] <= 0 { high } else { low }),
                     nums => s.choose(divided(nums), high, low),
                 };
             }

@@ -1,34 +1,41 @@
 //! The second program: document 01 and the requests after it, as settled by docs/DECISIONS.md, written for speed and for
 //! reading, not proved. The numbers in brackets are those of the decisions.
 //!
-//! `model` reads and judges the bytes, `diagram` has the rules on diagrams and `unique` their hash tables, `solve` the
-//! operations of a solve, `read` the readers of tables, `find` an action by its name, `page` the page of a state, and
-//! `plain` works a state out from the written model, without diagrams.
+//! `widths` has the sizes of everything; `model` reads and judges the bytes, in the planner's form or in the old one,
+//! `diagram` has the rules on diagrams and `unique` their hash tables, `solve` the operations of a solve, `read` the
+//! readers of tables, `find` an action by its name, `page` the page of a state, `convert` writes a model in the other
+//! form, and `plain` works a state out from the written model, without diagrams. `hex_text` is for the programs in `bin`.
 
+pub mod convert;
 pub mod diagram;
 pub mod find;
+pub mod hex_text;
 pub mod model;
 pub mod page;
 pub mod plain;
 pub mod read;
 pub mod solve;
 mod unique;
+pub mod widths;
 
+pub use convert::{to_new, to_old};
 pub use find::find;
-pub use model::{validate, Model, Refusal, Site};
+pub use model::{validate, validate_old, Model, Refusal, Site};
 pub use page::page;
-pub use plain::worth;
+pub use plain::{worth, worth_old};
 pub use read::{listing, name, program, value, Reading};
-pub use solve::{solve, Outcome};
+pub use solve::{solve, solve_old, solve_with_room, Outcome};
+
+use widths::{CONSTANT, LEVELS, NUMBERS};
 
 /// The largest size of a number (46).
 pub const LIMIT: i64 = (1 << 62) - 1;
 
-/// What 01 says of a state: mask, four numerators, denominator.
+/// A state: mask, a numerator for each level, denominator.
 #[derive(Clone, Copy, Debug, PartialEq, Eq, Hash)]
 pub struct State {
     pub mask: u32,
-    pub nums: [i32; 4],
+    pub nums: [i32; LEVELS],
     pub d: i32,
 }
 
@@ -43,9 +50,9 @@ impl State {
     }
 }
 
-/// A linear at a state, times the denominator, exactly.
-fn at(linear: &[i64; 5], nums: &[i32; 4], d: i32) -> i128 {
-    let mut sum = i128::from(linear[4]) * i128::from(d);
+/// A linear at a state, times the denominator, exactly. The numerators are those of the site's levels.
+fn at(linear: &[i64; NUMBERS], nums: &[i32], d: i32) -> i128 {
+    let mut sum = i128::from(linear[CONSTANT]) * i128::from(d);
     for (&c, &x) in linear.iter().zip(nums) {
         sum += i128::from(c) * i128::from(x);
     }

@@ -1,19 +1,27 @@
 //! A small command line over the second program.
 
-use reference::{find, name, program, solve, validate, value, with_deep_stack, worth, Reading, State};
+use reference::widths::{LEVELS, NODES_MOST, NODE_WORDS};
+use reference::{
+    find, name, program, solve_with_room, to_new, to_old, validate, validate_old, value, with_deep_stack, worth,
+    Reading, Refusal, State,
+};
 use std::str::FromStr;
 use std::time::Instant;
 
 const USAGE: &str = "reference validate MODEL
+reference validate_old MODEL
 reference solve MODEL HORIZON NODES
 reference list MODEL HORIZON
 reference print INPUT
-reference value MODEL HORIZON STEPS MASK L1 L2 L3 L4 D
-reference worth MODEL STEPS MASK L1 L2 L3 L4 D
+reference value MODEL HORIZON STEPS MASK L1 .. L8 D
+reference worth MODEL STEPS MASK L1 .. L8 D
 reference name MODEL ACTION
 reference find MODEL NAME
+reference to_new OLD FILE
+reference to_old MODEL FILE
 MODEL is a file, INPUT one with what the listing program reads. Each prints number and place first, and after a success
-solve: peak; value and worth: action, low word, high word; name: the name; find: the action.
+solve: peak; value and worth: action, low word, high word; name: the name; find: the action; to_new and to_old: the bytes
+written to FILE.
 list and print print what the listing program prints.";
 
 fn number<T: FromStr>(args: &[String], place: usize) -> T {
@@ -30,7 +38,7 @@ fn state(args: &[String], place: usize) -> State {
     State {
         mask: number(args, place),
         nums: std::array::from_fn(|i| number(args, place + 1 + i)),
-        d: number(args, place + 5),
+        d: number(args, place + 1 + LEVELS),
     }
 }
 
@@ -41,10 +49,25 @@ fn show(reading: Reading) {
 
 fn show_solve(model: &[u8], horizon: u32, nodes: usize) {
     let start = Instant::now();
-    let done = solve(model, horizon, 8 * nodes, 8, 8 * nodes);
+    let done = solve_with_room(model, horizon, nodes);
     let time = start.elapsed().as_secs_f64();
     println!("{} {} {}", done.number, done.place, done.peak);
     eprintln!("roots {:?}, {} rule calls, {} deep, {time:.3} s", done.stages, done.calls, done.deepest);
+}
+
+fn write(converted: Result<Vec<u8>, Refusal>, path: &str) {
+    match converted {
+        Ok(bytes) => match std::fs::write(path, &bytes) {
+            Ok(()) => println!("0 0 {}", bytes.len()),
+            Err(error) => fail(path, &error),
+        },
+        Err(refusal) => println!("{} {} 0", refusal.number, refusal.place),
+    }
+}
+
+fn fail(path: &str, error: &std::io::Error) -> ! {
+    eprintln!("{path}: {error}");
+    std::process::exit(2)
 }
 
 fn main() {
@@ -54,13 +77,14 @@ fn main() {
 
 fn run(args: &[String]) {
     let (Some(command), Some(path)) = (args.first(), args.get(1)) else { usage() };
-    let model = std::fs::read(path).unwrap_or_else(|error| {
-        eprintln!("{path}: {error}");
-        std::process::exit(2)
-    });
+    let model = std::fs::read(path).unwrap_or_else(|error| fail(path, &error));
     match command.as_str() {
         "validate" => {
             let (number, place) = validate(&model);
+            println!("{number} {place}");
+        }
+        "validate_old" => {
+            let (number, place) = validate_old(&model);
             println!("{number} {place}");
         }
         "solve" => show_solve(&model, number(args, 2), number(args, 3)),
@@ -70,12 +94,11 @@ fn run(args: &[String]) {
         }
         "print" => print!("{}", program(&model)),
         "value" => {
-            let words = 8 * 65_535;
-            let mut done = solve(&model, number(args, 2), words, 8, words);
+            let mut done = solve_with_room(&model, number(args, 2), NODES_MOST);
             if done.number != 0 {
                 return println!("{} {} 0 0 0", done.number, done.place);
             }
-            done.nodes.resize(words, 0);
+            done.nodes.resize(NODE_WORDS * NODES_MOST, 0);
             show(value(&model, &done.nodes, &done.stages, number(args, 3), state(args, 4)));
         }
         "worth" => show(worth(&model, number(args, 2), state(args, 3))),
@@ -87,6 +110,8 @@ fn run(args: &[String]) {
             Ok(action) => println!("0 0 {action}"),
             Err(refusal) => println!("{} {} 0", refusal.number, refusal.place),
         },
+        "to_new" if args.len() == 3 => write(to_new(&model, usize::MAX), &args[2]),
+        "to_old" if args.len() == 3 => write(to_old(&model, usize::MAX), &args[2]),
         _ => usage(),
     }
 }

@@ -1,4 +1,7 @@
-//! The site model: commands, refusals 1 to 8, and the diagrams as written.
+//! The site model: commands, refusals 1 to 8, and the diagrams as written, in either form.
+
+use crate::widths::{Form, New, Old, CONDITIONS, CONSTANT, LETTERS, LEVELS, NUMBERS, STACK_MOST, STAGES, WEIGHT_MOST};
+use std::marker::PhantomData;
 
 /// A refusal: 01's number and place.
 #[derive(Clone, Copy, Debug, PartialEq, Eq)]
@@ -14,10 +17,9 @@ impl Refusal {
     }
 }
 
-const SITE: u8 = 0x01;
-const LEAF: u8 = 0x10;
+pub const LEAF: u8 = 0x10;
 const CONDITION: u8 = 0x11;
-const TEST: u8 = 0x12;
+pub const TEST: u8 = 0x12;
 const REWARD: u8 = 0x20;
 const CHANCE: u8 = 0x21;
 const NEXT: u8 = 0x22;
@@ -37,9 +39,9 @@ pub struct Site {
 /// A diagram as written. Branches are earlier places in the list of trees, whose order is that of the commands.
 #[derive(Clone, Copy, Debug)]
 pub enum Tree {
-    Leaf([i64; 5]),
+    Leaf([i64; NUMBERS]),
     Condition { number: u8, high: u32, low: u32 },
-    Test { linear: [i64; 5], high: u32, low: u32 },
+    Test { linear: [i64; NUMBERS], high: u32, low: u32 },
 }
 
 /// Where a reader leaves the written diagrams.
@@ -65,19 +67,19 @@ impl Trees for NoTrees {
     }
 }
 
-/// What an action is given: its reward first, then four places for chances, four for next levels, one for the name.
+/// What an action is given: its reward first, then places for chances, for next levels, and one for the name.
 const CHANCES: usize = 1;
-const NEXTS: usize = 5;
-const NAMES: usize = 9;
+const NEXTS: usize = CHANCES + CONDITIONS;
+const NAMES: usize = NEXTS + LEVELS;
 const MISSING: u32 = u32::MAX;
 
-/// A model without fault. What is given are places of trees, and for a name the offset of its 16 bytes; actions count
+/// A model without fault. What is given are places of trees, and for a name the offset of its letters; actions count
 /// from 0.
 #[derive(Debug)]
 pub struct Model<T = Vec<Tree>> {
     pub site: Site,
     pub trees: T,
-    given: [[u32; 10]; 8],
+    given: Vec<[u32; NAMES + 1]>,
     end_worth: u32,
 }
 
@@ -118,54 +120,91 @@ struct Entry {
     is_weight: bool,
 }
 
-/// The operands of a leaf or a test.
-#[derive(Clone, Copy)]
-struct Linear<'a>(&'a [u8]);
+/// The operands of a leaf or a test. An old one has no words for the upper half of the coefficients, which are zero.
+struct Linear<'a, F>(&'a [u8], PhantomData<F>);
 
-impl Linear<'_> {
+/// All coefficients as two words, the first one lowest.
+type Coefficients = [u128; 2];
+const COEFFICIENT_BITS: usize = 32;
+const _: () = assert!(LEVELS * COEFFICIENT_BITS == 2 * 128);
+
+impl<F: Form> Linear<'_, F> {
     fn number(&self, place: usize) -> i64 {
         let bytes = self.0[4 * place..][..4].try_into().expect("four bytes");
         i32::from_le_bytes(bytes).into()
     }
 
-    fn numbers(&self) -> [i64; 5] {
-        std::array::from_fn(|place| self.number(place))
+    fn constant(&self) -> i64 {
+        self.number(F::LEVELS)
     }
 
-    /// The four coefficients as one word, the first one lowest.
-    fn coefficients(&self) -> u128 {
-        u128::from_le_bytes(self.0[..16].try_into().expect("sixteen bytes"))
+    fn numbers(&self) -> [i64; NUMBERS] {
+        let mut numbers = [0; NUMBERS];
+        for (place, number) in numbers[..F::LEVELS].iter_mut().enumerate() {
+            *number = self.number(place);
+        }
+        numbers[CONSTANT] = self.constant();
+        numbers
     }
 
-    /// Are coefficients beyond level m zero?
-    fn is_within(&self, m: usize) -> bool {
-        self.coefficients().checked_shr(32 * m as u32).unwrap_or(0) == 0
+    fn coefficients(&self) -> Coefficients {
+        let word = |place: usize| match self.0[..4 * F::LEVELS].get(16 * place..16 * (place + 1)) {
+            Some(bytes) => u128::from_le_bytes(bytes.try_into().expect("sixteen bytes")),
+            None => 0,
+        };
+        [word(0), word(1)]
     }
+}
+
+/// The bits of the coefficients beyond level m.
+fn beyond(m: usize) -> Coefficients {
+    let bits = |word: usize| {
+        let kept = (m * COEFFICIENT_BITS).saturating_sub(128 * word) as u32;
+        u128::MAX.checked_shl(kept).unwrap_or(0)
+    };
+    [bits(0), bits(1)]
 }
 
 /// Is the operand 1 to `most`?
-fn within(operand: u8, most: usize) -> bool {
+fn within(operand: u16, most: usize) -> bool {
     operand >= 1 && usize::from(operand) <= most
 }
 
+/// A number of one or two bytes, low byte first.
+fn number(bytes: &[u8]) -> u16 {
+    bytes.iter().rev().fold(0, |number, &byte| number << 8 | u16::from(byte))
+}
+
+/// Is the first operand of this command an action?
+pub fn takes_action(code: u8) -> bool {
+    matches!(code, REWARD | CHANCE | NEXT | NAME)
+}
+
 /// A command and its operands, or 3 or 2 (1).
-fn command(bytes: &[u8], offset: usize) -> Result<(u8, &[u8]), u32> {
+pub fn command<F: Form>(bytes: &[u8], offset: usize) -> Result<(u8, &[u8]), u32> {
     let &code = bytes.get(offset).ok_or(2u32)?;
     let width = match code {
-        SITE => 4,
-        LEAF | TEST => 20,
-        CONDITION | REWARD => 1,
-        CHANCE | NEXT => 2,
-        NAME => 17,
+        LEAF | TEST => 4 * (F::LEVELS + 1),
+        CONDITION => 1,
+        REWARD => F::ACTION_BYTES,
+        CHANCE | NEXT => F::ACTION_BYTES + 1,
+        NAME => F::ACTION_BYTES + LETTERS,
         END_WORTH | END => 0,
+        code if code == F::SITE => 3 + F::ACTION_BYTES,
         _ => return Err(3),
     };
     Ok((code, bytes.get(offset + 1..offset + 1 + width).ok_or(2u32)?))
 }
 
-fn site(bytes: &[u8]) -> Result<Site, u32> {
-    let (SITE, &[m, n, a, w]) = command(bytes, 0)? else { return Err(1) };
-    if within(m, 4) && n <= 4 && within(a, 8) && within(w, 100) {
+fn site<F: Form>(bytes: &[u8]) -> Result<Site, u32> {
+    let (code, operands) = command::<F>(bytes, 0)?;
+    if code != F::SITE {
+        return Err(1);
+    }
+    let (m, n, w) = (operands[0], operands[1], operands[2 + F::ACTION_BYTES]);
+    let a = number(&operands[2..2 + F::ACTION_BYTES]);
+    let conditions = usize::from(n) <= CONDITIONS;
+    if within(m.into(), F::LEVELS) && conditions && within(a, F::ACTIONS) && within(w.into(), WEIGHT_MOST) {
         Ok(Site { m: m.into(), n: n.into(), a: a.into(), w: w.into() })
     } else {
         Err(4)
@@ -174,59 +213,66 @@ fn site(bytes: &[u8]) -> Result<Site, u32> {
 
 /// A model as far as it has been read. Each command gives its refusal's number, or nothing; within a command the
 /// operands are judged first (4), then the stack (5), what is given twice (6), the diagram (4).
-struct Reader<T> {
+struct Reader<F, T> {
     model: Model<T>,
-    stack: [Entry; 32],
+    beyond: Coefficients,
+    stack: [Entry; STACK_MOST],
     height: usize,
+    form: PhantomData<F>,
 }
 
-impl<T: Trees> Reader<T> {
-    fn new(site: Site) -> Reader<T> {
-        let model = Model { site, trees: T::default(), given: [[MISSING; 10]; 8], end_worth: MISSING };
-        Reader { model, stack: [Entry::default(); 32], height: 0 }
+impl<F: Form, T: Trees> Reader<F, T> {
+    fn new(site: Site) -> Reader<F, T> {
+        let given = vec![[MISSING; NAMES + 1]; site.a];
+        let model = Model { site, trees: T::default(), given, end_worth: MISSING };
+        let stack = [Entry::default(); STACK_MOST];
+        Reader { model, beyond: beyond(site.m), stack, height: 0, form: PhantomData }
     }
 
     fn take(&mut self, code: u8, operands: &[u8], offset: usize) -> Result<(), u32> {
         match code {
-            LEAF => self.leaf(Linear(operands)),
-            TEST => self.test(Linear(operands)),
+            LEAF => self.leaf(Linear(operands, PhantomData)),
+            TEST => self.test(Linear(operands, PhantomData)),
             CONDITION => self.condition(operands[0]),
-            REWARD => self.give(code, operands[0], 0),
-            CHANCE if !within(operands[1], self.model.site.n) => Err(4),
-            CHANCE => self.give(code, operands[0], CHANCES + usize::from(operands[1]) - 1),
-            NEXT if !within(operands[1], self.model.site.m) => Err(4),
-            NEXT => self.give(code, operands[0], NEXTS + usize::from(operands[1]) - 1),
+            REWARD | CHANCE | NEXT => self.give(code, operands),
             END_WORTH => self.end_worth(),
             NAME => self.name(operands, offset),
             _ => Err(1),
         }
     }
 
-    fn leaf(&mut self, linear: Linear) -> Result<(), u32> {
-        let Site { m, w, .. } = self.model.site;
-        if !linear.is_within(m) {
+    fn is_within(&self, coefficients: Coefficients) -> bool {
+        coefficients[0] & self.beyond[0] | coefficients[1] & self.beyond[1] == 0
+    }
+
+    fn leaf(&mut self, linear: Linear<F>) -> Result<(), u32> {
+        let coefficients = linear.coefficients();
+        if !self.is_within(coefficients) {
             return Err(4);
         }
-        if self.height == 32 {
+        if self.height == STACK_MOST {
             return Err(5);
         }
-        let is_weight = linear.coefficients() == 0 && (0..=w).contains(&linear.number(4));
+        let is_weight = coefficients == [0; 2] && (0..=self.model.site.w).contains(&linear.constant());
         let tree = self.model.trees.add(|| Tree::Leaf(linear.numbers()));
         self.stack[self.height] = Entry { tree, has_next: false, is_weight };
         self.height += 1;
         Ok(())
     }
 
-    fn test(&mut self, linear: Linear) -> Result<(), u32> {
-        if !linear.is_within(self.model.site.m) || linear.coefficients() == 0 {
+    fn test(&mut self, linear: Linear<F>) -> Result<(), u32> {
+        let coefficients = linear.coefficients();
+        if !self.is_within(coefficients) || coefficients == [0; 2] {
             return Err(4);
         }
         self.branch(false, |high, low| Tree::Test { linear: linear.numbers(), high, low })
     }
 
     fn condition(&mut self, number: u8) -> Result<(), u32> {
-        let (n, is_next) = (self.model.site.n, number > 4);
-        if !within(if is_next { number - 4 } else { number }, n) {
+        let later = CONDITIONS as u8;
+        let is_next = number > later;
+        let condition = if is_next { number - later } else { number };
+        if !within(condition.into(), self.model.site.n) {
             return Err(4);
         }
         self.branch(is_next, |high, low| Tree::Condition { number, high, low })
@@ -246,12 +292,29 @@ impl<T: Trees> Reader<T> {
         Ok(())
     }
 
-    fn give(&mut self, code: u8, action: u8, what: usize) -> Result<(), u32> {
-        if !within(action, self.model.site.a) {
-            return Err(4);
+    /// The action's place in what is given, or 4.
+    fn action(&self, operands: &[u8]) -> Result<usize, u32> {
+        let action = number(&operands[..F::ACTION_BYTES]);
+        if within(action, self.model.site.a) {
+            Ok(usize::from(action) - 1)
+        } else {
+            Err(4)
         }
+    }
+
+    fn give(&mut self, code: u8, operands: &[u8]) -> Result<(), u32> {
+        let action = self.action(operands)?;
+        let (most, first) = match code {
+            CHANCE => (self.model.site.n, CHANCES),
+            _ => (self.model.site.m, NEXTS),
+        };
+        let what = match operands.get(F::ACTION_BYTES) {
+            None => 0,
+            Some(&index) if within(index.into(), most) => first + usize::from(index) - 1,
+            Some(_) => return Err(4),
+        };
         let entry = self.pop()?;
-        put(&mut self.model.given[usize::from(action) - 1][what], entry.tree)?;
+        put(&mut self.model.given[action][what], entry.tree)?;
         if code != NEXT && entry.has_next || code == CHANCE && !entry.is_weight {
             return Err(4);
         }
@@ -274,11 +337,11 @@ impl<T: Trees> Reader<T> {
     }
 
     fn name(&mut self, operands: &[u8], offset: usize) -> Result<(), u32> {
-        let (action, letters) = (operands[0], &operands[1..]);
-        if !within(action, self.model.site.a) || !letters.iter().all(|b| (0x20..=0x7E).contains(b)) {
+        let (action, letters) = (self.action(operands)?, &operands[F::ACTION_BYTES..]);
+        if !letters.iter().all(|b| (0x20..=0x7E).contains(b)) {
             return Err(4);
         }
-        put(&mut self.model.given[usize::from(action) - 1][NAMES], offset as u32 + 2)
+        put(&mut self.model.given[action][NAMES], (offset + 1 + F::ACTION_BYTES) as u32)
     }
 
     fn end(self) -> Result<Model<T>, u32> {
@@ -301,12 +364,12 @@ fn put(given: &mut u32, place: u32) -> Result<(), u32> {
 }
 
 /// Reads a model, or gives the first refusal of 1 to 8.
-fn parse<T: Trees>(bytes: &[u8]) -> Result<Model<T>, Refusal> {
+fn parse<F: Form, T: Trees>(bytes: &[u8]) -> Result<Model<T>, Refusal> {
     let refusal = |place: usize| move |number| Refusal { number, place: place as u32 };
-    let mut reader = Reader::new(site(bytes).map_err(refusal(0))?);
-    let mut offset = 5;
+    let mut reader = Reader::<F, T>::new(site::<F>(bytes).map_err(refusal(0))?);
+    let mut offset = 4 + F::ACTION_BYTES;
     loop {
-        let (code, operands) = command(bytes, offset).map_err(refusal(offset))?;
+        let (code, operands) = command::<F>(bytes, offset).map_err(refusal(offset))?;
         if code == END {
             break;
         }
@@ -320,18 +383,35 @@ fn parse<T: Trees>(bytes: &[u8]) -> Result<Model<T>, Refusal> {
     Ok(model)
 }
 
-/// 10, 9 and the model, for calls with `stage_words` or `steps` where these are given (17).
-pub fn open<T: Trees>(bytes: &[u8], stage_words: Option<usize>, steps: Option<u32>) -> Result<Model<T>, Refusal> {
-    if bytes.len() > 65_535 || stage_words.is_some_and(|count| count != 8) {
+/// A model of either form: 10 for too many bytes, then 1 to 8.
+pub fn open_as<F: Form, T: Trees>(bytes: &[u8]) -> Result<Model<T>, Refusal> {
+    if bytes.len() > F::MODEL_BYTES {
         return Refusal::of(10);
     }
-    if steps.is_some_and(|h| !(1..=8).contains(&h)) {
+    parse::<F, T>(bytes)
+}
+
+/// 10, 9 and the model, for calls with `stage_words` or `steps` where these are given (17).
+pub fn open<T: Trees>(bytes: &[u8], stage_words: Option<usize>, steps: Option<u32>) -> Result<Model<T>, Refusal> {
+    if bytes.len() > New::MODEL_BYTES || stage_words.is_some_and(|count| count != STAGES) {
+        return Refusal::of(10);
+    }
+    if steps.is_some_and(|h| !(1..=STAGES as u32).contains(&h)) {
         return Refusal::of(9);
     }
-    parse(bytes)
+    open_as::<New, T>(bytes)
+}
+
+fn judged<F: Form>(bytes: &[u8]) -> (u32, u32) {
+    open_as::<F, NoTrees>(bytes).map_or_else(|refusal| (refusal.number, refusal.place), |_| (0, 0))
 }
 
 /// Number and place of a model's refusal, 0 and 0 for a model without fault.
 pub fn validate(bytes: &[u8]) -> (u32, u32) {
-    open::<NoTrees>(bytes, None, None).map_or_else(|refusal| (refusal.number, refusal.place), |_| (0, 0))
+    judged::<New>(bytes)
+}
+
+/// The same for a model of the old form.
+pub fn validate_old(bytes: &[u8]) -> (u32, u32) {
+    judged::<Old>(bytes)
 }

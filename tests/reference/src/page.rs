@@ -1,7 +1,7 @@
 //! The page for the pump house wall (document 02, K3): for one state a line per stage.
 
 use crate::model::{open, NoTrees, Refusal, Site};
-use crate::read::{name, value, Reading};
+use crate::read::{name_in, value_of_site, Reading};
 use crate::State;
 
 /// The value's whole part, rounded downward. A divisor beyond 128 bits is larger than any numerator.
@@ -24,17 +24,17 @@ pub fn page(
     text_length: usize,
     place: usize,
 ) -> Result<Vec<u8>, Refusal> {
-    let site = open::<NoTrees>(bytes, Some(stages.len()), Some(horizon))?.site;
-    let readings: Vec<Reading> = (1..=horizon).map(|steps| value(bytes, nodes, stages, steps, state)).collect();
-    for number in [13, 15, 14] {
-        if readings.iter().any(|reading| reading.number == number) {
-            return Refusal::of(number);
-        }
+    let model = open::<NoTrees>(bytes, Some(stages.len()), Some(horizon))?;
+    state.judge(&model.site)?;
+    if stages[..horizon as usize].contains(&0) {
+        return Refusal::of(15);
     }
     let mut text = Vec::new();
-    for (steps, reading) in (1..).zip(&readings) {
-        let name = String::from_utf8_lossy(name(bytes, reading.action)?);
-        text.extend(format!("{steps:>2} {:>30} {name:<16}\n", whole_part(reading, &site, state.d, steps)).bytes());
+    for steps in 1..=horizon {
+        let reading = value_of_site(&model.site, nodes, stages, steps, &state)?;
+        let name = String::from_utf8_lossy(name_in(&model, bytes, reading.action as usize - 1));
+        let whole = whole_part(&reading, &model.site, state.d, steps);
+        text.extend(format!("{steps:>2} {whole:>30} {name:<16}\n").bytes());
     }
     if text_length < place || text_length - place < text.len() {
         return Refusal::of(17);

@@ -1,17 +1,22 @@
 //! Plain working: a state worked out from the model as written, without diagrams.
 
-use crate::model::{open, Model, Refusal, Tree};
+use crate::model::{open, open_as, Model, Refusal, Tree};
 use crate::read::Reading;
 use crate::solve::power;
+use crate::widths::{Old, CONDITIONS, CONSTANT, LEVELS, NUMBERS};
 use crate::{at, State, LIMIT};
 
 /// The worth of a state with so many steps left: the words and the action (72).
 pub fn worth(bytes: &[u8], steps: u32, state: State) -> Reading {
-    try_worth(bytes, steps, state).unwrap_or_else(Reading::refused)
+    open(bytes, None, Some(steps)).and_then(|model| try_worth(model, steps, state)).unwrap_or_else(Reading::refused)
 }
 
-fn try_worth(bytes: &[u8], steps: u32, state: State) -> Result<Reading, Refusal> {
-    let model = open(bytes, None, Some(steps))?;
+/// The same for a model of the old form and 1 to 8 steps.
+pub fn worth_old(bytes: &[u8], steps: u32, state: State) -> Reading {
+    open_as::<Old, _>(bytes).and_then(|model| try_worth(model, steps, state)).unwrap_or_else(Reading::refused)
+}
+
+fn try_worth(model: Model, steps: u32, state: State) -> Result<Reading, Refusal> {
     state.judge(&model.site)?;
     let (worth, action) = worth_of_state(&model, steps, &state).ok_or(Refusal { number: 11, place: 0 })?;
     Ok(Reading::new(worth, action))
@@ -23,9 +28,11 @@ fn worth_of_state(model: &Model, h: u32, state: &State) -> Option<(i128, u32)> {
         let worth = model.end_worth().map_or(0, |tree| evaluate(model, tree, state, 0));
         return Some((judged(worth)?, 0));
     }
+    // The first number that an action names, the same for all.
+    let power = power(model.site.w, model.site.n as u32 * h)?;
     let mut best = None;
     for action in 0..model.site.a {
-        let worth = worth_of_action(model, h, action, state)?;
+        let worth = worth_of_action(model, h, action, state, power)?;
         if best.is_none_or(|(most, _)| worth > most) {
             best = Some((worth, action as u32 + 1));
         }
@@ -38,20 +45,19 @@ fn judged(number: i128) -> Option<i128> {
 }
 
 /// The steps are those of decision 73, in its order.
-fn worth_of_action(model: &Model, h: u32, action: usize, state: &State) -> Option<i128> {
-    let power = power(model.site.w, model.site.n as u32 * h)?;
+fn worth_of_action(model: &Model, h: u32, action: usize, state: &State, power: i64) -> Option<i128> {
     let reward = judged(evaluate(model, model.reward(action), state, 0))?;
     let mut sum = judged(i128::from(power) * reward)?;
-    let mut chances = [0; 4];
+    let mut chances = [0; CONDITIONS];
     for (yes, &chance) in chances.iter_mut().zip(model.chances(action)) {
-        *yes = (evaluate(model, chance, state, 0) / i128::from(state.d)) as i64;
+        *yes = leaf(model, chance, state, 0)[CONSTANT];
     }
     for setting in 0..1u32 << model.site.n {
         let weight = weight(model, &chances, setting);
         if weight == 0 {
             continue;
         }
-        let mut next = State { mask: setting, nums: [0; 4], d: state.d };
+        let mut next = State { mask: setting, nums: [0; LEVELS], d: state.d };
         for (num, &level) in next.nums.iter_mut().zip(model.nexts(action)) {
             *num = i32::try_from(evaluate(model, level, state, setting)).ok()?;
         }
@@ -62,22 +68,28 @@ fn worth_of_action(model: &Model, h: u32, action: usize, state: &State) -> Optio
 }
 
 /// A setting's weight, of the weights for yes.
-fn weight(model: &Model, chances: &[i64; 4], setting: u32) -> i64 {
+fn weight(model: &Model, chances: &[i64; CONDITIONS], setting: u32) -> i64 {
     let one = |(i, &yes): (usize, &i64)| if setting >> i & 1 == 1 { yes } else { model.site.w - yes };
     chances[..model.site.n].iter().enumerate().map(one).product()
 }
 
-/// A written diagram at a state and a setting of the next conditions, times D.
-fn evaluate(model: &Model, mut tree: u32, state: &State, setting: u32) -> i128 {
+/// The leaf of a written diagram for a state and a setting of the next conditions.
+fn leaf<'a>(model: &'a Model, mut tree: u32, state: &State, setting: u32) -> &'a [i64; NUMBERS] {
+    let nums = &state.nums[..model.site.m];
     loop {
         let (holds, high, low) = match &model.trees[tree as usize] {
-            Tree::Leaf(linear) => return at(linear, &state.nums, state.d),
+            Tree::Leaf(linear) => return linear,
             Tree::Condition { number, high, low } => {
-                let bits = state.mask | setting << 4;
+                let bits = state.mask | setting << CONDITIONS;
                 (bits >> (number - 1) & 1 == 1, high, low)
             }
-            Tree::Test { linear, high, low } => (at(linear, &state.nums, state.d) <= 0, high, low),
+            Tree::Test { linear, high, low } => (at(linear, nums, state.d) <= 0, high, low),
         };
         tree = *if holds { high } else { low };
     }
+}
+
+/// Its value, times D.
+fn evaluate(model: &Model, tree: u32, state: &State, setting: u32) -> i128 {
+    at(leaf(model, tree, state, setting), &state.nums[..model.site.m], state.d)
 }

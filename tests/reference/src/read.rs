@@ -1,7 +1,8 @@
 //! Readers: a value from the tables, a name, the listing, and what the listing program prints.
 
-use crate::model::{open, NoTrees, Refusal, Site};
-use crate::{at, solve, State, LIMIT};
+use crate::model::{open, Model, NoTrees, Refusal, Site};
+use crate::widths::{program, LETTERS, NODE_WORDS, NUMBERS};
+use crate::{at, solve_with_room, State, LIMIT};
 use std::fmt::Write;
 
 /// A value's answer: the numerator in two words, and the action.
@@ -24,25 +25,33 @@ impl Reading {
     }
 }
 
-/// A row of the table, or 14 (65 to 69). Kind, numbers, high, low.
-fn row(site: &Site, nodes: &[i64], number: i64) -> Result<(i64, [i64; 5], i64, i64), Refusal> {
-    let inside = 1 <= number && number <= (nodes.len() / 8) as i64;
+/// A row of the table.
+struct Row<'a> {
+    kind: i64,
+    nums: &'a [i64; NUMBERS],
+    high: i64,
+    low: i64,
+}
+
+/// A row of the table, or 14 (65 to 69).
+fn row<'a>(site: &Site, nodes: &'a [i64], number: i64) -> Result<Row<'a>, Refusal> {
+    let inside = 1 <= number && number <= (nodes.len() / NODE_WORDS) as i64;
     if !inside {
         return Refusal::of(14);
     }
-    let words = &nodes[8 * (number as usize - 1)..][..8];
-    let nums = [words[1], words[2], words[3], words[4], words[5]];
-    let (kind, high, low) = (words[0], words[6], words[7]);
+    let words = &nodes[NODE_WORDS * (number as usize - 1)..][..NODE_WORDS];
+    let nums: &[i64; NUMBERS] = words[1..=NUMBERS].try_into().expect("the numbers of a row");
+    let (kind, high, low) = (words[0], words[NUMBERS + 1], words[NUMBERS + 2]);
     let in_limits = nums.iter().all(|x| (-LIMIT..=LIMIT).contains(x));
     let branches = 1 <= high && high < number && 1 <= low && low < number;
     let good = match kind {
         0 => in_limits && (1..=site.a as i64).contains(&high) && low == 0,
-        1 => (1..=site.n as i64).contains(&nums[0]) && nums[1..] == [0; 4] && branches,
+        1 => (1..=site.n as i64).contains(&nums[0]) && nums[1..] == [0; NUMBERS - 1] && branches,
         2 => in_limits && branches,
         _ => false,
     };
     if good {
-        Ok((kind, nums, high, low))
+        Ok(Row { kind, nums, high, low })
     } else {
         Refusal::of(14)
     }
@@ -50,22 +59,33 @@ fn row(site: &Site, nodes: &[i64], number: i64) -> Result<(i64, [i64; 5], i64, i
 
 /// Reads a value and an action (62 to 71).
 pub fn value(bytes: &[u8], nodes: &[i64], stages: &[u32], steps: u32, state: State) -> Reading {
-    try_value(bytes, nodes, stages, steps, state).unwrap_or_else(Reading::refused)
+    let reading = || {
+        let site = open::<NoTrees>(bytes, Some(stages.len()), Some(steps))?.site;
+        state.judge(&site)?;
+        value_of_site(&site, nodes, stages, steps, &state)
+    };
+    reading().unwrap_or_else(Reading::refused)
 }
 
-fn try_value(bytes: &[u8], nodes: &[i64], stages: &[u32], steps: u32, state: State) -> Result<Reading, Refusal> {
-    let site = open::<NoTrees>(bytes, Some(stages.len()), Some(steps))?.site;
-    state.judge(&site)?;
+/// 15 and 14, for a state of an accepted model.
+pub fn value_of_site(
+    site: &Site,
+    nodes: &[i64],
+    stages: &[u32],
+    steps: u32,
+    state: &State,
+) -> Result<Reading, Refusal> {
+    let nums = &state.nums[..site.m];
     let mut place = i64::from(stages[steps as usize - 1]);
     if place == 0 {
         return Refusal::of(15);
     }
     loop {
-        let (kind, nums, high, low) = row(&site, nodes, place)?;
+        let Row { kind, nums: linear, high, low } = row(site, nodes, place)?;
         let holds = match kind {
-            0 => return Ok(Reading::new(at(&nums, &state.nums, state.d), high as u32)),
-            1 => state.mask >> (nums[0] - 1) & 1 == 1,
-            _ => at(&nums, &state.nums, state.d) <= 0,
+            0 => return Ok(Reading::new(at(linear, nums, state.d), high as u32)),
+            1 => state.mask >> (linear[0] - 1) & 1 == 1,
+            _ => at(linear, nums, state.d) <= 0,
         };
         place = if holds { high } else { low };
     }
@@ -77,10 +97,17 @@ pub fn name(bytes: &[u8], action: u32) -> Result<&[u8], Refusal> {
     if !(1..=model.site.a as u32).contains(&action) {
         return Refusal::of(16);
     }
-    let Some(start) = model.name(action as usize - 1) else { return Ok(&[]) };
-    let name = &bytes[start..start + 16];
+    Ok(name_in(&model, bytes, action as usize - 1))
+}
+
+/// Without trailing spaces; empty where none is given. Actions count from 0 here.
+pub fn name_in<'a>(model: &Model<NoTrees>, bytes: &'a [u8], action: usize) -> &'a [u8] {
+    without_trailing_spaces(model.name(action).map_or(&[], |start| &bytes[start..start + LETTERS]))
+}
+
+pub fn without_trailing_spaces(name: &[u8]) -> &[u8] {
     let length = name.iter().rposition(|&b| b != b' ').map_or(0, |last| last + 1);
-    Ok(&name[..length])
+    &name[..length]
 }
 
 /// The listing for a buffer of so many bytes, to stand at a place of it (82 to 86).
@@ -107,11 +134,11 @@ pub fn listing(
     };
     line(&[site.m as i64, site.n as i64, site.a as i64, site.w, horizon.into()], "PLAN");
     for number in 1..=i64::from(*roots.iter().max().expect("a stage")) {
-        let (kind, [a, b, c, d, k], high, low) = row(&site, nodes, number)?;
+        let Row { kind, nums, high, low } = row(&site, nodes, number)?;
         match kind {
-            0 => line(&[a, b, c, d, k, high], &format!("N {number} V")),
-            1 => line(&[a, high, low], &format!("N {number} B")),
-            _ => line(&[a, b, c, d, k, high, low], &format!("N {number} L")),
+            0 => line(&[&nums[..], &[high]].concat(), &format!("N {number} V")),
+            1 => line(&[nums[0], high, low], &format!("N {number} B")),
+            _ => line(&[&nums[..], &[high, low]].concat(), &format!("N {number} L")),
         }
     }
     for (h, &root) in (1..).zip(roots) {
@@ -123,18 +150,20 @@ pub fn listing(
     Ok(text)
 }
 
-/// What the listing program prints for its input (87).
+/// What the listing program prints for its input (87). It says 10 itself for what it takes no more of, before all else.
 pub fn program(input: &[u8]) -> String {
     let (horizon, model) = input.split_first().map_or((0, input), |(&h, rest)| (h.into(), rest));
-    let mut solved = solve(model, horizon, 8_192, 8, 8_192);
-    let (number, place) = if solved.number != 0 {
-        (solved.number, solved.place)
-    } else {
-        solved.nodes.resize(8_192, 0);
-        match listing(model, horizon, &solved.nodes, &solved.stages, 65_536, 0) {
-            Ok(text) => return text,
-            Err(refusal) => (refusal.number, refusal.place),
-        }
-    };
-    format!("R {number} {place}\n")
+    plan(model, horizon).unwrap_or_else(|Refusal { number, place }| format!("R {number} {place}\n"))
+}
+
+fn plan(model: &[u8], horizon: u32) -> Result<String, Refusal> {
+    if model.len() > program::MODEL_BYTES {
+        return Refusal::of(10);
+    }
+    let mut solved = solve_with_room(model, horizon, program::NODES);
+    if solved.number != 0 {
+        return Err(Refusal { number: solved.number, place: solved.place });
+    }
+    solved.nodes.resize(NODE_WORDS * program::NODES, 0);
+    listing(model, horizon, &solved.nodes, &solved.stages, program::TEXT_BYTES, 0)
 }

@@ -1,7 +1,8 @@
 //! A solve: loading, the operations of each stage, and the tables.
 
 use crate::diagram::{condition, divided, Effort, Fault, Id, Kind, Label, Store};
-use crate::model::{open, Model, Site, Tree};
+use crate::model::{open, open_as, Model, Refusal, Site, Tree};
+use crate::widths::{Old, CONDITIONS, NODES_MOST, NODE_WORDS, NUMBERS, STAGES, WORK_WORDS};
 use crate::LIMIT;
 
 /// What a solve returns and leaves. `nodes` has the rows in use; every node word after them is zero, and so is every
@@ -12,7 +13,7 @@ pub struct Outcome {
     pub place: u32,
     pub peak: u32,
     pub nodes: Vec<i64>,
-    pub stages: [u32; 8],
+    pub stages: [u32; STAGES],
     /// Rule calls worked out and their greatest depth: figures of this program, not of 01.
     pub calls: u64,
     pub deepest: u32,
@@ -52,12 +53,25 @@ struct Solver<'a> {
 
 /// Solves a model for tables of so many words; a large model asks for `with_deep_stack`.
 pub fn solve(bytes: &[u8], horizon: u32, node_words: usize, stage_words: usize, work_words: usize) -> Outcome {
-    let model = match open(bytes, Some(stage_words), Some(horizon)) {
-        Ok(model) => model,
-        Err(refusal) => return Outcome { number: refusal.number, place: refusal.place, ..Outcome::default() },
-    };
-    let most = (node_words / 8).min(work_words / 8).min(65_535);
-    Solver::new(&model, most).run(horizon)
+    let most = (node_words / NODE_WORDS).min(work_words / WORK_WORDS).min(NODES_MOST);
+    run(open(bytes, Some(stage_words), Some(horizon)), horizon, most)
+}
+
+/// A model of the old form, for a horizon of 1 to 8 and tables of so many nodes.
+pub fn solve_old(bytes: &[u8], horizon: u32, nodes: usize) -> Outcome {
+    run(open_as::<Old, _>(bytes), horizon, nodes)
+}
+
+fn run(model: Result<Model, Refusal>, horizon: u32, most: usize) -> Outcome {
+    match model {
+        Ok(model) => Solver::new(&model, most).run(horizon),
+        Err(Refusal { number, place }) => Outcome { number, place, ..Outcome::default() },
+    }
+}
+
+/// Solves a model in tables of so many nodes.
+pub fn solve_with_room(bytes: &[u8], horizon: u32, nodes: usize) -> Outcome {
+    solve(bytes, horizon, NODE_WORDS * nodes, STAGES, WORK_WORDS * nodes)
 }
 
 impl Solver<'_> {
@@ -89,10 +103,17 @@ impl Solver<'_> {
     }
 
     /// Keeps the needed nodes only: model, finished stages, best so far, last result (47, 50). An end worth is stage 0,
-    /// finished as it is loaded (K1.2).
+    /// finished as it is loaded (K1.2). Model and stages stand below what `fix` has fixed.
     fn begin(&mut self) {
+        self.store.keep(self.best.iter_mut().chain(&mut self.last));
+    }
+
+    /// Before a stage: model and finished stages are needed to the end, and nothing else is. The last result is a stage.
+    fn fix(&mut self) {
+        self.last = None;
         let model = self.actions.iter_mut().flat_map(Action::roots);
-        self.store.keep(model.chain(&mut self.stages).chain(&mut self.best).chain(&mut self.last));
+        self.store.keep(model.chain(&mut self.stages));
+        self.store.fix();
     }
 
     /// One operation: its result is the last one, and its count goes into the peak (51).
@@ -132,10 +153,11 @@ impl Solver<'_> {
         self.load()?;
         for h in 1..=horizon {
             self.stage = h;
+            self.fix();
             if self.stages.is_empty() {
-                self.begin();
-                let zero = self.store.leaf([0; 5], 0)?; // 49, without an end worth
+                let zero = self.store.leaf([0; NUMBERS], 0)?; // 49, without an end worth
                 self.stages.push(zero);
+                self.fix();
             }
             for action in 0..self.model.site.a {
                 self.try_action(h, action)?;
@@ -154,7 +176,7 @@ impl Solver<'_> {
         for i in 0..n {
             self.operation(|s| {
                 let (weight, last) = (s.actions[action].chances[i], s.last());
-                let next = condition(5 + i as i64);
+                let next = condition((CONDITIONS + 1 + i) as i64);
                 let side = s.store.side(next, true, last)?; // 41
                 let yes = s.store.product(weight, side)?;
                 let rest = s.store.rest(w, weight)?;
@@ -191,7 +213,7 @@ impl Solver<'_> {
 
     fn write_diagram(&self, id: Id, numbers: &mut Vec<u32>, rows: &mut Vec<i64>) -> u32 {
         if numbers[id as usize] == 0 {
-            let (node, &Label { kind, nums: [a, b, c, d, k] }) = (self.store.node(id), self.store.label(id));
+            let (node, &Label { kind, nums }) = (self.store.node(id), self.store.label(id));
             let (kind, high, low) = match kind {
                 Kind::Leaf => (0, node.high, 0),
                 kind => {
@@ -199,8 +221,10 @@ impl Solver<'_> {
                     (kind as i64, high, self.write_diagram(node.low, numbers, rows))
                 }
             };
-            rows.extend([kind, a, b, c, d, k, high.into(), low.into()]);
-            numbers[id as usize] = (rows.len() / 8) as u32;
+            rows.push(kind);
+            rows.extend(nums);
+            rows.extend([high, low].map(i64::from));
+            numbers[id as usize] = (rows.len() / NODE_WORDS) as u32;
         }
         numbers[id as usize]
     }

@@ -1,16 +1,24 @@
 //! The hash tables of a solve: where each item of a list stands, and which results are known.
 
-/// An odd number for each word of a hash: the upper half of a sum of products is the hash.
-const FACTORS: [u64; 6] = [
+use crate::widths::NUMBERS;
+
+/// An odd number for each word of a hash, a kind and the numbers of a linear: the upper half of a sum of products is the
+/// hash.
+const FACTORS: [u64; 1 + NUMBERS] = [
     0x9E37_79B9_7F4A_7C15,
     0xC2B2_AE3D_27D4_EB4F,
     0x1656_67B1_9E37_79F9,
     0xD6E8_FEB8_6659_FD93,
     0xA076_1D64_78BD_642F,
     0xE703_7ED1_A0B4_28DB,
+    0x8EBC_6AF0_9C88_C6E3,
+    0x5899_65CC_7537_4CC3,
+    0x1D8E_4E27_C47D_124F,
+    0xEB44_ACCA_B455_D165,
 ];
 
 pub fn hash<const N: usize>(words: [u64; N]) -> u32 {
+    const { assert!(N <= FACTORS.len()) };
     let products = words.iter().zip(FACTORS).map(|(word, factor)| word.wrapping_mul(factor));
     (products.fold(0, u64::wrapping_add) >> 32) as u32
 }

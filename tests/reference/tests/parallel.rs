@@ -3,14 +3,14 @@
 
 use models::{chain, near_limit, pond, random, releases, rover, Rng};
 use reference::diagram::without_replacing;
-use reference::{solve, validate, value, with_deep_stack, State};
+use reference::{solve_with_room, validate, value, with_deep_stack, State};
 
-const WORDS: usize = 8 * 4_000;
+const NODES: usize = 4_000;
 
 /// Compares what is read at some states; true where both have solved the model and their tables differ.
 fn compared(model: &[u8], horizon: u32, rng: &mut Rng) -> bool {
-    let now = solve(model, horizon, WORDS, 8, WORDS);
-    let before = without_replacing(|| solve(model, horizon, WORDS, 8, WORDS));
+    let now = solve_with_room(model, horizon, NODES);
+    let before = without_replacing(|| solve_with_room(model, horizon, NODES));
     if (now.number, before.number) != (0, 0) {
         return false;
     }

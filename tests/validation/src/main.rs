@@ -1,7 +1,7 @@
 //! `validation COUNT SEED`: the proved validation and the second program's judge COUNT random models and as many
-//! damaged ones alike, and models about as long as one may be.
+//! damaged ones alike, large ones, and models about as long as one may be.
 
-use models::{damaged, random, staircases, Rng};
+use models::{damaged, of_length, old_form, pond, random, settings, staircases, Rng, MODEL_BYTES};
 
 #[repr(C)]
 struct Judged {
@@ -46,10 +46,21 @@ fn main() {
         }
     }
     println!("validation: {} models judged alike, by number {seen:?}", 2 * count);
+    assert_eq!(judged_alike(&old_form(&pond())), (3, 0), "an old model");
     let large = staircases();
-    for (size, expected) in [(65_535, (8, large.len())), (65_536, (10, 0)), (70_000, (10, 0))] {
+    for (size, expected) in [(MODEL_BYTES, (8, large.len())), (MODEL_BYTES + 1, (10, 0)), (300_000, (10, 0))] {
         let mut longer = large.clone();
         longer.resize(size, 0);
         assert_eq!(judged_alike(&longer), expected, "{size} bytes");
     }
+    assert_eq!(judged_alike(&of_length(MODEL_BYTES)), (0, 0), "the longest model");
+    assert_eq!(judged_alike(&of_length(MODEL_BYTES + 1)), (10, 0), "a model that is too long");
+    // Faults anywhere in 250 kB, most of them at places beyond 16 bits.
+    let whole = settings();
+    let mut far = 0;
+    for _ in 0..(count / 20).max(100) {
+        far += u32::from(judged_alike(&damaged(&mut rng, &whole)).1 > 65_535);
+    }
+    println!("validation: {far} places beyond 16 bits");
+    assert!(far > 20);
 }

@@ -1,13 +1,23 @@
 //! What `crates/rules_main` has to print, worked out by the second program.
 
 use reference::diagram::{Fault, Id, Kind, Label, Store};
+use reference::widths::{CONSTANT, NUMBERS};
 use reference::with_deep_stack;
 
-const NODES: usize = 65_535;
 const TESTS: i64 = 750;
 
+/// Nodes that the lent tables have room for.
+const ROOM: usize = 49_152;
+
+/// So many times L1, and a constant.
+fn linear(coefficient: i64, constant: i64) -> [i64; NUMBERS] {
+    let mut nums = [0; NUMBERS];
+    (nums[0], nums[CONSTANT]) = (coefficient, constant);
+    nums
+}
+
 fn leaf(store: &mut Store, value: i64) -> Result<Id, Fault> {
-    store.leaf([0, 0, 0, 0, value], 0)
+    store.leaf(linear(0, value), 0)
 }
 
 /// A staircase, its last step first: the tests stand two apart from `from` on, the leaves take `values` values.
@@ -15,7 +25,7 @@ fn stairs(store: &mut Store, from: i64, value: i64, values: i64) -> Result<Id, F
     let mut f = leaf(store, value + TESTS)?;
     for i in 0..TESTS {
         let low = leaf(store, value + i % values)?;
-        f = store.choose(Label { kind: Kind::Test, nums: [1, 0, 0, 0, from + (TESTS - i) * 2] }, f, low)?;
+        f = store.choose(Label { kind: Kind::Test, nums: linear(1, from + (TESTS - i) * 2) }, f, low)?;
     }
     Ok(f)
 }
@@ -37,7 +47,7 @@ fn pair(store: &mut Store, is_best: bool, value: i64, values: i64) -> Result<Id,
 
 fn main() {
     with_deep_stack(|| {
-        let store = &mut Store::new(NODES);
+        let store = &mut Store::new(ROOM);
         let steps = [(true, 1000, 1000), (false, 0, 20), (false, 1000, 1000)];
         let _ =
             steps.into_iter().try_for_each(|(is_best, value, values)| pair(store, is_best, value, values).map(|_| ()));

@@ -1,17 +1,16 @@
 //! What `crates/rules_pond` has to print, worked out by the second program.
 
 use reference::diagram::{condition, divided, Id, Kind, Store};
+use reference::hex_text::bytes;
 use reference::model::{open, Model, Tree};
-use reference::{listing, solve};
+use reference::widths::{NODE_WORDS, NUMBERS};
+use reference::{listing, solve_with_room};
+
+/// Nodes that the tables have room for.
+const ROOM: usize = 32;
 
 /// Kind, x, y, z, and the place of the result.
 const ROWS: &str = "00004 11405 20515 13406 22626 35605 11506 20616 13507 22727 36706";
-
-fn bytes(text: &str) -> Vec<u8> {
-    let text = text.replace('P', "10 OOOOO").replace('O', "00000000");
-    let digits: Vec<u8> = text.chars().filter_map(|c| c.to_digit(16)).map(|d| d as u8).collect();
-    digits.chunks(2).map(|pair| pair[0] * 16 + pair[1]).collect()
-}
 
 /// The roots in order: of each action its reward and its next level.
 fn load(model: &Model, store: &mut Store) -> Vec<Id> {
@@ -34,7 +33,7 @@ fn operation(store: &mut Store, roots: &[Id], row: &[usize]) -> Id {
     let (x, y) = (roots.get(row[1]), roots.get(row[2]));
     let (x, y) = (*x.expect("a root"), *y.expect("a root"));
     let made = match row[0] {
-        0 => store.leaf([0; 5], 0),
+        0 => store.leaf([0; NUMBERS], 0),
         1 => store.substitute(y, &[x]),
         2 => store.scale(1, x).and_then(|reward| store.sum(y, reward)).and_then(|sum| store.number(row[3] as Id, sum)),
         _ => store.best(x, y),
@@ -44,11 +43,11 @@ fn operation(store: &mut Store, roots: &[Id], row: &[usize]) -> Id {
 
 fn main() {
     let pond = bytes(
-        "01 01 00 02 01 P 20 01 10 01000000 OOOO 22 01 01 10 OOOO 32000000 10 OOOO ffffffff 12 ffffffff OOO 0a000000
-        20 02 10 01000000 OOO f6ffffff 10 01000000 OOOO 12 ffffffff OOO 0a000000 22 02 01 ff",
+        "S 01 00 02A 01 P 20 01A 10 01000000 OOOKO 22 01A 01 10 OOOOK 32000000 10 OOOOK ffffffff 12 ffffffff OOOK 0a000000
+        20 02A 10 01000000 OOOK f6ffffff 10 01000000 OOOKO 12 ffffffff OOOK 0a000000 22 02A 01 ff",
     );
     let Ok(model) = open(&pond, None, None) else { panic!("the pond is accepted") };
-    let mut store = Store::new(32);
+    let mut store = Store::new(ROOM);
     let mut roots = load(&model, &mut store);
     println!("0 {} loaded, roots {} ", store.count(), roots.len());
     let mut peak = store.count();
@@ -66,10 +65,10 @@ fn main() {
         label.nums.iter().for_each(|x| print!("{x} "));
         println!("{} {low} ", node.high);
     }
-    let done = solve(&pond, 2, 256, 8, 256);
+    let done = solve_with_room(&pond, 2, ROOM);
     let text = listing(&pond, 2, &done.nodes, &done.stages, usize::MAX, 0);
     println!("0 0 listed");
     print!("{}", text.expect("a listing"));
-    println!("{} nodes, peak {peak} ", done.nodes.len() / 8);
+    println!("{} nodes, peak {peak} ", done.nodes.len() / NODE_WORDS);
     assert_eq!(peak, done.peak as usize);
 }

@@ -1,0 +1,11 @@
+//! What `crates/check_models` has to print for its input, worked out by the second program.
+
+use reference::hex_text::rows;
+use reference::validate;
+
+fn main() -> std::io::Result<()> {
+    rows(|model| {
+        let (number, place) = validate(model);
+        format!("R {number} {place}")
+    })
+}
