@@ -1,4 +1,4 @@
-/* A host: solves a model file and says what to do in one state, and the whole plan.
+/* A host: solves a model file, an old one too, and says what to do in one state, and the whole plan.
  *
  *   sample_host MODEL HORIZON NODES [--page] MASK L1 .. D
  *
@@ -72,6 +72,19 @@ static void load(plan *p, const char *path)
     if (ferror(file))
         fail("cannot read the model");
     fclose(file);
+}
+
+/* An old model begins with 01, which is no command of a new one: it is made new first. */
+static void renew(plan *p)
+{
+    uint8_t out[PLANNER_TO_NEW_BYTES];
+    uint8_t *model = lent(PLANNER_TO_NEW_MODEL_BYTES, 1);
+    uint32_t number = planner_to_new(p->model, p->model_len, model, PLANNER_TO_NEW_MODEL_BYTES, out, sizeof out);
+    if (number != 0)
+        refused(number, out);
+    free(p->model);
+    p->model = model;
+    p->model_len = (size_t)number_at(out + 4, 4);
 }
 
 static void *solve_here(void *argument)
@@ -214,6 +227,8 @@ int main(int count, char **arguments)
     struct planner_state state = state_of(count - first, arguments + first);
     memset(&p, 0, sizeof p);
     load(&p, arguments[1]);
+    if (p.model_len > 0 && p.model[0] == 0x01)
+        renew(&p);
     p.horizon = (uint32_t)argument(arguments[2], 0, UINT32_MAX);
     p.capacity = (size_t)argument(arguments[3], 0, PLANNER_NODES_MOST);
     solve(&p);
