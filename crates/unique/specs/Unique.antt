@@ -2,28 +2,40 @@
 use mathlib.Core.Path.{_≡_}
 use mathlib.Core.Bool.{Bool, true, false, cond}
 use mathlib.Core.List.{List, [], _∷_}
-use Prim.Native.Nat.{ℕ, zero, suc, _+_, _*_, _/_, _%_, _≤_, _<_}
+use Prim.Native.Nat.{ℕ, zero, suc, _+_, _-_, _*_, _/_, _%_, _^_, _≤_, _<_}
 use lib.Dec.{eqb}
-use lib.IntN.{ℤ, natAbs}
+use lib.IntN.{ℤ, pos, negsuc}
 use lib.ListN.{length, getD}
 use Rattle.table.specs.Table.{node-words, nodeAt, internR, internW}
 use Rattle.table.specs.declared.Made.{Made}
 use Rattle.table.specs.declared.Node.{Node}
 
--- each of a node's words has a share in its hash, none waits for another
-unfoldable pub shareOf : ℤ → ℕ → ℕ
-shareOf z k = (natAbs z % 4294967296 + natAbs z / 4294967296) * k % 4294967296
+-- a word as it is stored, in two's complement
+unfoldable pub bitsOf : ℤ → ℕ
+bitsOf (pos n) = n
+bitsOf (negsuc n) = 18446744073709551615 - n
+
+-- each of a node's words has a share in its hash, by a factor of its own, below this; none waits for another
+abbrev pub factors-end : ℕ
+factors-end = 2147483648
+
+unfoldable pub addedOf : ℕ → ℤ → ℕ → ℕ
+addedOf h z k = (h + bitsOf z * k) % 2 ^ 64
+
+unfoldable pub nextOf : ℕ → ℕ
+nextOf k = k * 69069 % factors-end
 
 -- the shares of the numbers, the first by the factor k, over the sum h
 unfoldable pub hashL : ℕ → ℕ → List ℤ → ℕ
 hashL h k [] = h
-hashL h k (z ∷ l) = hashL (h + shareOf z k) (k * 69069 % 2147483648) l
+hashL h k (z ∷ l) = hashL (addedOf h z k) (nextOf k) l
 
+-- both halves of the sum as a fraction of the room
 unfoldable pub bucketOf : ℕ → ℕ → ℕ
-bucketOf s cap = s % 4294967296 * cap / 4294967296
+bucketOf s cap = (s % 4294967296 + s / 4294967296) % 4294967296 * cap / 4294967296
 
 unfoldable pub hashOf : ℕ → Node → ℕ
-hashOf cap x = bucketOf (hashL (shareOf (x .kind) 1640531527) 1367130551 (x .n) + shareOf (x .high) 2024237689 + shareOf (x .low) 1812433253) cap
+hashOf cap x = bucketOf (addedOf (addedOf (hashL (addedOf 0 (x .kind) 1640531527) 1367130551 (x .n)) (x .high) 2024237689) (x .low) 1812433253) cap
 
 -- a node's work words: two for the chains, and six for the cache
 abbrev pub work-words : ℕ

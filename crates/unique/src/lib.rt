@@ -1,32 +1,77 @@
 // The unique table: equal nodes are one node, found by hash chains. The work words hold the heads at 0 to cap
 // and the links at cap to 2 cap, each one more than an index, or 0.
+use std::num::wrapping_add_u64;
 use table::Made;
 use table::Node;
 use whole::NUMBERS;
-use whole::limits::mag;
 ghost use mathlib.Core.Path.{_≡_};
-ghost use Prim.Native.Nat.{_≤_, _<_};
+ghost use Prim.Native.Nat.{_*_, _%_, _^_, _≤_, _<_};
 ghost use Rattle.table.specs.Table.{firstNode};
-ghost use Rattle.unique.specs.Unique.{shareOf, bucketOf, hashOf, Chained, Entered};
+ghost use Rattle.unique.specs.Unique.{factors-end, bitsOf, addedOf, nextOf, bucketOf, hashOf, Chained, Entered};
 
 // A node's work words: two for the chains, and six for the cache.
 pub const WORK_WORDS: usize = 8;
 
-// One word's share in a hash: both halves of its magnitude, spread over 32 bits.
-fn share(z: i64, k: u64) -> u64
-    requires { ⌜ k < 2147483648 ⌝ }
-    ensures { λ r. ⌜ (r ≡ shareOf z k) × (r < 4294967296) ⌝ }
+// 2³², of which a word has two digits.
+const HALF: u64 = 4294967296;
+
+// Each word of a node counts by a factor of its own, below 2³¹: the kind, the first number, high and low.
+const KIND_FACTOR: u64 = 1640531527;
+
+const FIRST_FACTOR: u64 = 1367130551;
+
+const HIGH_FACTOR: u64 = 2024237689;
+
+const LOW_FACTOR: u64 = 1812433253;
+
+const FACTORS_END: u64 = 2147483648;
+
+// A word as it is stored. The compiler makes nothing of it.
+fn bits(z: i64) -> u64
+    ensures { λ r. ⌜ r ≡ bitsOf z ⌝ }
 {
-    let m = mag(z);
-    (m % 4294967296 + m / 4294967296) * k % 4294967296
+    if z < 0 {
+        u64::MAX - (-(z + 1)) as u64
+    } else {
+        z as u64
+    }
 }
 
-// The bucket of a sum of shares, by its 32 low bits as a fraction: no division by the room.
+// The last 64 bits of a product, by halves, since no product may be longer. The compiler makes one multiplication of it.
+fn times(x: u64, k: u64) -> u64
+    requires { ⌜ k < factors-end ⌝ }
+    ensures { λ r. ⌜ r ≡ x * k % 2 ^ 64 ⌝ }
+{
+    let high = x / HALF;
+    let low = x % HALF;
+    let k_high = k / HALF;
+    let k_low = k % HALF;
+    let cross = low * k_high + high * k_low;
+    wrapping_add_u64(low * k_low, cross % HALF * HALF)
+}
+
+// A sum of shares with one word more.
+fn added(h: u64, z: i64, k: u64) -> u64
+    requires { ⌜ k < factors-end ⌝ }
+    ensures { λ r. ⌜ r ≡ addedOf h z k ⌝ }
+{
+    wrapping_add_u64(h, times(bits(z), k))
+}
+
+// The factor after k.
+fn next(k: u64) -> u64
+    requires { ⌜ k < factors-end ⌝ }
+    ensures { λ r. ⌜ (r ≡ nextOf k) × (r < factors-end) ⌝ }
+{
+    k * 69069 % FACTORS_END
+}
+
+// The bucket of a sum of shares, by both its halves as a fraction: no division by the room.
 fn bucket(sum: u64, cap: usize) -> usize
     requires { ⌜ (0 < cap) × (cap ≤ 65535) ⌝ }
     ensures { λ r. ⌜ (r ≡ bucketOf sum cap) × (r < cap) ⌝ }
 {
-    let fraction = (sum % 4294967296) as usize;
+    let fraction = ((sum % HALF + sum / HALF) % HALF) as usize;
     fraction * cap / 4294967296
 }
 
@@ -36,18 +81,16 @@ pub fn hash(x: Node, cap: usize) -> usize
     ensures { λ r. ⌜ (r ≡ hashOf cap x) × (r < cap) ⌝ }
 {
     let n = x.n;
-    let mut h = share(x.kind, 1640531527);
-    let mut k: u64 = 1367130551;
+    let mut h = added(0, x.kind, KIND_FACTOR);
+    let mut k = FIRST_FACTOR;
     let mut i: usize = 0;
     while i < NUMBERS {
         let z = n[i];
-        h += share(z, k);
-        k = k * 69069 % 2147483648;
+        h = added(h, z, k);
+        k = next(k);
         i += 1;
     }
-    let a = share(x.high, 2024237689);
-    let b = share(x.low, 1812433253);
-    bucket(h + a + b, cap)
+    bucket(added(added(h, x.high, HIGH_FACTOR), x.low, LOW_FACTOR), cap)
 }
 
 // The node that equals x, or count where there is none: along its bucket's chain.
