@@ -157,12 +157,14 @@ fn attempt(
     compute(nodes, work, part, count, roots, rule)
 }
 
-// The part of the room that a rule begins with.
+// The part of the room that a rule begins with: sixteen times what is held, or four times where that is more than 4,096 nodes, since
+// every operation clears it.
 fn first_part(cap: usize, count: usize) -> usize
     requires { ⌜ (0 < cap) × (cap ≤ 65535) × (count ≤ cap) ⌝ }
     ensures { λ r. ⌜ (0 < r) × (count ≤ r) × (r ≤ cap) ⌝ }
 {
-    least(cap, larger(512, count * 16))
+    let wide = least(count * 16, larger(4096, count * 4));
+    least(cap, larger(512, wide))
 }
 
 // The part after one that was too small.
