@@ -157,13 +157,13 @@ fn attempt(
     compute(nodes, work, part, count, roots, rule)
 }
 
-// The part of the room that a rule begins with: sixteen times what is held, or four times where that is more than 4,096 nodes, since
+// The part of the room that a rule begins with: sixteen times what is held, or eight times where that is more than 4,096 nodes, since
 // every operation clears it.
 fn first_part(cap: usize, count: usize) -> usize
     requires { ⌜ (0 < cap) × (cap ≤ 65535) × (count ≤ cap) ⌝ }
     ensures { λ r. ⌜ (0 < r) × (count ≤ r) × (r ≤ cap) ⌝ }
 {
-    let wide = least(count * 16, larger(4096, count * 4));
+    let wide = least(count * 16, larger(4096, count * 8));
     least(cap, larger(512, wide))
 }
 
