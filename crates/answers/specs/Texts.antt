@@ -1,27 +1,11 @@
--- Answers of names and listings.
+-- The answer of a call that writes a text: a listing, a page, or a model in the other form.
 use mathlib.Core.List.{List, _++_}
-use Prim.Native.Nat.{ℕ, _-_}
+use Prim.Native.Nat.{ℕ}
 use lib.Dec.{ltb}
-use lib.ListN.{length, drop, replicate}
+use lib.ListN.{length, drop}
 use Rattle.whole.specs.Cases.{if}
-use Rattle.theory.specs.Widths.{name-bytes}
-use Rattle.theory.specs.Name.{name-refusal, name}
 use Rattle.theory.specs.Listing.{ListingOut}
-use Rattle.answers.specs.Answers.{pair-bytes, pair-size, short, Answer, answer}
-
--- zeros up to 16 bytes
-unfoldable pub padded-name : List ℕ → List ℕ
-padded-name t = t ++ replicate (name-bytes - length t) 0
-
-abbrev pub name-size : ℕ
-name-size = 24
-
-unfoldable pub named-bytes : ℕ → List ℕ → List ℕ
-named-bytes place t = pair-bytes place (length t) ++ padded-name t
-
--- the name of action a
-unfoldable pub name-answer : List ℕ → ℕ → List ℕ → Answer
-name-answer B a out = answer name-size (name-refusal B a .number) (named-bytes (name-refusal B a .place) (name B a)) out
+use Rattle.answers.specs.Answers.{pair-bytes, pair-size, short}
 
 -- a listing also has its text; with too short an `out` that too is left as it is
 pub record ListingAnswer : Type 0 where

@@ -6,10 +6,6 @@ ghost use Rattle.decimal.specs.Put.{PutAt};
 ghost use Rattle.answers.specs.Answers.{le, pair-bytes};
 ghost use Rattle.answers.specs.Answers.{short as short-of};
 
-pub mod reading; // reading.rt: a value's answer
-pub mod texts; // texts.rt: a name's answer
-pub mod lookup; // lookup.rt: the answer of an action found by its name
-
 // "17: buffer too short" yields to every refusal but 11 and 12.
 pub fn short(number: u32) -> u32
     ensures { λ r. ⌜ r ≡ short-of number ⌝ }
@@ -27,7 +23,7 @@ pub fn short(number: u32) -> u32
 }
 
 // k bytes of x, from a place on; then the place behind them.
-fn put_le(out: &mut [u8], at: usize, x: u64, k: usize) -> usize
+pub fn put_le(out: &mut [u8], at: usize, x: u64, k: usize) -> usize
     requires { ⌜ at + k ≤ length (now out) ⌝ }
     ensures { λ r. ⌜ PutAt (now (out .entry)) at (le k x) r (now (out .exit)) ⌝ }
 {

@@ -4,11 +4,11 @@ use mathlib.Core.Bool.{Bool, true, false, not}
 use mathlib.Core.List.{List, [], _∷_, _++_}
 use Prim.Native.Nat.{ℕ, zero, suc, _+_, _-_, _*_, _≤_, _<_, _/_, _%_}
 use native.Mathlib.Omega.{arith}
-use borrow.Author.Tests.{eq-eqb, ne-eqb, eqb-true, ltb-false, lt-ltb, le-ltb}
+use borrow.Author.Tests.{eq-eqb, ne-eqb, eqb-true, ltb-false}
 use lib.Dec.{eqb, ltb}
 use lib.IntN.{ℤ, pos}
 use lib.ListN.{length, getD, take, drop, replicate, length-append}
-use lib.Seq.{take-at, take-all, length-take-le}
+use lib.Seq.{take-at}
 use Rattle.whole.specs.Cases.{if}
 use Rattle.theory.specs.Widths.{node-words, work-words, steps-most}
 use Rattle.theory.specs.Valid.{all}
@@ -21,7 +21,7 @@ use Rattle.decimal.specs.Put.{PutAt}
 use Rattle.decimal.proofs.Numbers.{spaced-plain}
 use Rattle.decimal.proofs.Rows.{line-length}
 use Rattle.plan_text.specs.Plan.{line-most}
-use Rattle.plan_program.specs.Printed.{listed, printed, model-most, text-bytes, nodes-held, tables-printed, plan-printed, program}
+use Rattle.plan_input.specs.Printed.{listed, printed, text-bytes, nodes-held, tables-printed}
 
 -- ---- a refusal's line has room
 
@@ -140,40 +140,7 @@ module _ (B : List ℕ) (H : ℕ) (nodes : List ℤ) (stages work buffer : List 
   pub listing-printed : n ≡ 0 → (size ≤ length buffer) × (take size after ≡ printed B H nodes stages work (length buffer))
   listing-printed m = let r = listed-front B H l s buffer f m in (r .0, r .1 ∙ solved-printed B H nodes stages work (length buffer) e z)
 
--- ---- from the input
-
 -- in the program's own tables
 pub tables-are : (B : List ℕ) (H : ℕ) {room : ℕ} {t : List ℕ} → room ≡ text-bytes → t ≡ printed B H (replicate (nodes-held * node-words) (pos 0)) (replicate steps-most 0) (replicate (nodes-held * work-words) 0) room → t ≡ tables-printed B H
 unfolding tables-printed
 tables-are B H e f = f ∙ ap (printed B H (replicate (nodes-held * node-words) (pos 0)) (replicate steps-most 0) (replicate (nodes-held * work-words) 0)) e
-
-module _ (B : List ℕ) (H : ℕ) {t : List ℕ} where
-  pub longer : model-most < length B → t ≡ refusal-line (refusal 10 0) → t ≡ plan-printed B H
-  unfolding plan-printed
-  longer h e = e ∙ sym (ap (λ (b : Bool). if b (refusal-line (refusal 10 0)) (tables-printed B H)) (lt-ltb model-most (length B) h))
-
-  pub no-longer : length B ≤ model-most → t ≡ tables-printed B H → t ≡ plan-printed B H
-  unfolding plan-printed
-  no-longer h e = e ∙ sym (ap (λ (b : Bool). if b (refusal-line (refusal 10 0)) (tables-printed B H)) (le-ltb model-most (length B) h))
-
--- no byte
-pub none-given : (input : List ℕ) {t : List ℕ} → length input ≡ 0 → t ≡ plan-printed input 0 → t ≡ program input
-unfolding program
-none-given [] e f = f
-none-given (x ∷ l) e f = absurd (omega arith)
-
--- a horizon byte, and the rest
-pub horizon-given : (input : List ℕ) (h : ℕ) {t : List ℕ} → (length input ≡ 0 → ⊥) → h ≡ getD input 0 0 → t ≡ plan-printed (take (length input - 1) (drop 1 input)) h → t ≡ program input
-unfolding program
-horizon-given [] h n e f = absurd (n refl)
-horizon-given (x ∷ l) h n e f = f ∙ (λ i. plan-printed (take-all (length (x ∷ l) - 1) l (omega arith) i) (e i))
-
--- ---- bytes behind the room decide nothing
-
--- the program reads a horizon byte and one byte more than it takes: of a longer input it prints what it would of the whole
-pub rest-unread : (input : List ℕ) → model-most + 2 ≤ length input → program (take (model-most + 2) input) ≡ program input
-unfolding program
-rest-unread [] h = refl
-rest-unread (x ∷ B) h =
-    let e = length-take-le (model-most + 1) B (omega arith) in
-    sym (longer (take (model-most + 1) B) x (omega arith) refl) ∙ longer B x (omega arith) refl

@@ -5,13 +5,10 @@ ghost use lib.ListN.{length, take};
 ghost use Rattle.theory.specs.Verdict.{refusal as refusal-of};
 ghost use Rattle.theory.specs.Listing.{refusal-line};
 ghost use Rattle.plan_text.specs.Plan.{line-most};
-ghost use Rattle.plan_program.specs.Printed.{printed, text-bytes, tables-printed, plan-printed, program};
+ghost use Rattle.plan_input.specs.Printed.{printed, text-bytes, tables-printed, plan-printed, program};
 use solver::solve;
 use table::NODE_WORDS;
 use unique::WORK_WORDS;
-
-// The longest model that the program takes, in bytes.
-pub const MODEL_MOST: usize = 65535;
 
 // How many nodes its tables hold, and their words.
 const NODES: usize = 512;
@@ -69,16 +66,10 @@ fn plan(model: &[u8], horizon: u32, text: &mut [u8]) -> usize
     requires { ⌜ length (now text) ≡ text-bytes ⌝ }
     ensures { λ r. ⌜ (r ≤ text-bytes) × (take r (now (text .exit)) ≡ plan-printed (now (model .entry)) horizon) ⌝ }
 {
-    if MODEL_MOST < model.len() {
+    if plan_input::too_long(model) {
         return refusal(text, 10, 0);
     }
     tabled(model, horizon, text)
-}
-
-fn wide(b: u8) -> u32
-    ensures { λ r. ⌜ r ≡ b ⌝ }
-{
-    b as u32
 }
 
 // From the input's bytes to the text that is printed.
@@ -86,8 +77,5 @@ pub fn answer(input: &[u8], text: &mut [u8]) -> usize
     requires { ⌜ length (now text) ≡ text-bytes ⌝ }
     ensures { λ r. ⌜ (r ≤ text-bytes) × (take r (now (text .exit)) ≡ program (now (input .entry))) ⌝ }
 {
-    if input.len() == 0 {
-        return plan(input, 0, text);
-    }
-    plan(&input[1..], wide(input[0]), text)
+    plan(plan_input::model(input), plan_input::horizon(input), text)
 }

@@ -2,12 +2,12 @@
 ghost use mathlib.Core.Path.{_≡_};
 ghost use Rattle.finding.specs.Find.{find as find-of};
 ghost use Rattle.answers.specs.Answers.{answered};
-ghost use Rattle.answers.specs.Finding.{find-answer};
+ghost use Rattle.name_answers.specs.Finding.{find-answer};
 
 // Answer, 8 bytes: place, action.
 #[no_mangle]
 pub extern "C" fn planner_find(bytes: &[u8], name: &[u8], out: &mut [u8]) -> u32
     ensures { λ r. ⌜ answered r (now (out .exit)) ≡ find-answer (find-of (now (bytes .entry)) (now (name .entry))) (now (out .entry)) ⌝ }
 {
-    answers::lookup::found(out, finding::find(bytes, name))
+    name_answers::lookup::found(out, finding::find(bytes, name))
 }

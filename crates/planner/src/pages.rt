@@ -6,7 +6,6 @@ ghost use Rattle.page_text.specs.Page.{page as page-of};
 ghost use Rattle.answers.specs.Texts.{listed, listing-answer};
 
 // Answer, 8 bytes: place of a refusal, length written to `text` from `place` on.
-// Where `out` has no room for it the page is judged with an empty text, so that nothing is written.
 #[no_mangle]
 pub extern "C" fn planner_page(
     bytes: &[u8],
@@ -29,15 +28,23 @@ pub extern "C" fn planner_page(
 ) -> u32
     ensures { λ r. ⌜ listed r (now (out .exit)) (now (text .exit)) ≡ listing-answer (page-of (now (bytes .entry)) horizon (now (nodes .entry)) (now (stages .entry)) (asked-by mask (l1 ∷ l2 ∷ l3 ∷ l4 ∷ l5 ∷ l6 ∷ l7 ∷ l8 ∷ d ∷ [])) (now (text .entry)) place) (now (text .entry)) (now (out .entry)) ⌝ }
 {
-    let q = values::Asked {
+    page_calls::page(
+        bytes,
+        horizon,
+        nodes,
+        stages,
         mask,
-        n: [l1, l2, l3, l4, l5, l6, l7, l8, d],
-    };
-    if out.len() < 8 {
-        let v = page::page(bytes, horizon, nodes, stages, q, &mut text[..0], place);
-        return answers::short(v.number);
-    }
-    let v = page::page(bytes, horizon, nodes, stages, q, text, place);
-    answers::put_pair(out, v.place, v.size);
-    v.number
+        l1,
+        l2,
+        l3,
+        l4,
+        l5,
+        l6,
+        l7,
+        l8,
+        d,
+        text,
+        place,
+        out,
+    )
 }

@@ -5,7 +5,7 @@ ghost use Rattle.theory.specs.Value.{value-of};
 ghost use Rattle.theory.specs.Plain.{plain-of};
 ghost use Rattle.values.specs.State.{asked-by};
 ghost use Rattle.answers.specs.Answers.{answered};
-ghost use Rattle.answers.specs.Reading.{value-answer};
+ghost use Rattle.value_answers.specs.Reading.{value-answer};
 
 // Answer, 24 bytes: place, action, low word, high word.
 #[no_mangle]
@@ -28,11 +28,23 @@ pub extern "C" fn planner_value(
 ) -> u32
     ensures { λ r. ⌜ answered r (now (out .exit)) ≡ value-answer (value-of (now (bytes .entry)) (now (nodes .entry)) (now (stages .entry)) steps (asked-by mask (l1 ∷ l2 ∷ l3 ∷ l4 ∷ l5 ∷ l6 ∷ l7 ∷ l8 ∷ d ∷ []))) (now (out .entry)) ⌝ }
 {
-    let q = values::Asked {
+    value_calls::value(
+        bytes,
+        nodes,
+        stages,
+        steps,
         mask,
-        n: [l1, l2, l3, l4, l5, l6, l7, l8, d],
-    };
-    answers::reading::value(out, values::reading::value(bytes, nodes, stages, steps, q))
+        l1,
+        l2,
+        l3,
+        l4,
+        l5,
+        l6,
+        l7,
+        l8,
+        d,
+        out,
+    )
 }
 
 // Answer, 24 bytes, as planner_value's: plain working.
@@ -54,9 +66,5 @@ pub extern "C" fn planner_worth(
 ) -> u32
     ensures { λ r. ⌜ answered r (now (out .exit)) ≡ value-answer (plain-of (now (bytes .entry)) steps (asked-by mask (l1 ∷ l2 ∷ l3 ∷ l4 ∷ l5 ∷ l6 ∷ l7 ∷ l8 ∷ d ∷ []))) (now (out .entry)) ⌝ }
 {
-    let q = values::Asked {
-        mask,
-        n: [l1, l2, l3, l4, l5, l6, l7, l8, d],
-    };
-    answers::reading::value(out, worth::worth(bytes, steps, q))
+    value_calls::worth(bytes, steps, mask, l1, l2, l3, l4, l5, l6, l7, l8, d, out)
 }

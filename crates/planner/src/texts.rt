@@ -2,7 +2,8 @@
 ghost use mathlib.Core.Path.{_≡_};
 ghost use Rattle.theory.specs.Listing.{listing as listing-of};
 ghost use Rattle.answers.specs.Answers.{answered};
-ghost use Rattle.answers.specs.Texts.{name-answer, listed, listing-answer};
+ghost use Rattle.answers.specs.Texts.{listed, listing-answer};
+ghost use Rattle.name_answers.specs.Names.{name-answer};
 
 // Answer, 24 bytes: place, length, the name, zeros up to 16.
 #[no_mangle]
@@ -13,7 +14,7 @@ pub extern "C" fn planner_name(bytes: &[u8], action: u32, out: &mut [u8]) -> u32
     if out.len() < 24 {
         return answers::short(v.number);
     }
-    answers::texts::put_name(out, v.place, names::name(bytes, action));
+    name_answers::names::put_name(out, v.place, names::name(bytes, action));
     v.number
 }
 

@@ -1,12 +1,11 @@
 -- `planner::reading::planner_worth` meets its contract.
-use mathlib.Core.Path.{ap}
-use mathlib.Core.List.{List, [], _∷_, map}
+use mathlib.Core.Path.{ap, _∙_}
+use mathlib.Core.List.{List, [], _∷_}
 use lib.IntN.{ℤ}
-use Rattle.whole.proofs.Signed.{R32}
 use Rattle.theory.specs.Plain.{plain-of}
 use Rattle.values.specs.State.{asked-by}
-use Rattle.planner.proofs.States.{read-back}
-use Rattle.answers.proofs.Read.{value-found}
+use Rattle.answers.proofs.States.{read-back}
+use Rattle.value_answers.specs.Reading.{value-answer}
 use borrow.Author.Needs.{needs}
 use Rattle.planner.proofs.reading.planner_worth.Statement.{statement}
 use Rattle.planner.proofs.reading.planner_worth.Tie as tie
@@ -14,19 +13,17 @@ use Rattle.planner.proofs.reading.planner_worth.Tie as tie
 worth-requires : tie.Need-worth-requires
 worth-requires c κs = search needs
 
-value-requires : tie.Need-value-requires
-value-requires c κs = search needs
-
 same-length : tie.Need-same-length
 same-length c = search needs
 
 returns : tie.Need-returns
 returns c =
-    let s = c .before .before .before .before .before .before .before in
+    let s = c .before .before .before .before .before .before in
     let a = s .args in
     let n : List ℤ = a .l1 ∷ a .l2 ∷ a .l3 ∷ a .l4 ∷ a .l5 ∷ a .l6 ∷ a .l7 ∷ a .l8 ∷ a .d ∷ [] in
-    value-found (plain-of (a .bytes .now) (a .steps)) {p = asked-by (a .mask) (map R32 n)} {q = asked-by (a .mask) n} (a .out .now) (c .before .before .value .ensures) (c .before .before .before .worth .ensures)
-    (ap (asked-by (a .mask)) (read-back n (s .fits .l1, (s .fits .l2, (s .fits .l3, (s .fits .l4, (s .fits .l5, (s .fits .l6, (s .fits .l7, (s .fits .l8, (s .fits .d, tt)))))))))))
+    c .before .before .worth .ensures
+    ∙ ap (λ (l : List ℤ). value-answer (plain-of (a .bytes .now) (a .steps) (asked-by (a .mask) l)) (a .out .now))
+    (read-back n (s .fits .l1, (s .fits .l2, (s .fits .l3, (s .fits .l4, (s .fits .l5, (s .fits .l6, (s .fits .l7, (s .fits .l8, (s .fits .d, tt))))))))))
 
 pub planner-worth-spec : {M : Type 1} → statement M
-planner-worth-spec = tie.close (tie.spec worth-requires value-requires same-length returns)
+planner-worth-spec = tie.close (tie.spec worth-requires same-length returns)
