@@ -37,7 +37,7 @@ pub const CONDITION: i64 = 1;
 
 pub const LINEAR: i64 = 2;
 
-// How two tests are ordered, as whole::linears::compare_two says it of two numbers.
+// How two tests are ordered, as linears::compare_two says it of two numbers.
 pub const BEFORE: usize = 0;
 
 pub const AFTER: usize = 2;

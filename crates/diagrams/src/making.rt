@@ -72,7 +72,7 @@ pub fn within(x: Node) -> bool
     ensures { λ r. ⌜ r ≡ small-linear (linOf x) ⌝ }
 {
     let n = x.n;
-    whole::linears::within(n)
+    linears::within(n)
 }
 
 // A leaf without action, its numbers judged first.

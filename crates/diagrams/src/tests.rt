@@ -14,11 +14,11 @@ use super::codes::BEFORE;
 use super::codes::CHOOSE_LATER;
 use super::codes::CONDITION;
 use super::codes::LINEAR;
+use linears::compare_two;
+use linears::divided;
 use table::Node;
 use whole::COEFFICIENTS;
 use whole::NUMBERS;
-use whole::linears::compare_two;
-use whole::linears::divided;
 
 // A branch word as an index.
 pub fn index(z: i64) -> usize

@@ -6,11 +6,11 @@ ghost use Rattle.whole.specs.Cases.{if};
 ghost use Rattle.theory.specs.Diagram.{zeros};
 ghost use Rattle.diagrams.specs.Nodes.{linOf, constantOf, Nums};
 ghost use Rattle.leaves.specs.Leaves.{sumNode, lessNode, productNode};
+use linears::add;
+use linears::sub;
+use linears::times;
 use table::Node;
 use whole::COEFFICIENTS;
-use whole::linears::add;
-use whole::linears::sub;
-use whole::linears::times;
 
 // x + y. Numbers within the limits have sums that fit.
 pub fn plus(x: Node, y: Node) -> Node

@@ -2,7 +2,7 @@
 use mathlib.Core.Path.{_≡_, refl, sym, ap, _∙_}
 use mathlib.Core.Bool.{Bool, true, false}
 use mathlib.Core.List.{List, [], _∷_}
-use Prim.Native.Nat.{ℕ, _+_, _-_, _≤_, _<_}
+use Prim.Native.Nat.{ℕ, suc, _+_, _-_, _≤_, _<_}
 use native.Mathlib.Omega.{arith}
 use borrow.Author.Tests.{lt-ltb}
 use lib.Dec.{ltb}
@@ -55,11 +55,13 @@ given input e f g = g ∙ (λ i. plan-printed (e i) (f i))
 
 -- ---- bytes behind the room decide nothing
 
+cut : (n : ℕ) (input : List ℕ) → model-most < n → suc n ≤ length input → program (take (suc n) input) ≡ program input
+unfolding program horizon-of model-of
+cut n [] k h = refl
+cut n (x ∷ B) k h =
+    let e = length-take-le n B (omega arith) in
+    sym (longer (take n B) x (lt-ltb model-most (length (take n B)) (omega arith)) refl) ∙ longer B x (lt-ltb model-most (length B) (omega arith)) refl
+
 -- the program reads a horizon byte and one byte more than it takes: of a longer input it prints what it would of the whole
 pub rest-unread : (input : List ℕ) → model-most + 2 ≤ length input → program (take (model-most + 2) input) ≡ program input
-unfolding program horizon-of model-of
-rest-unread [] h = refl
-rest-unread (x ∷ B) h =
-    let e = length-take-le (model-most + 1) B (omega arith) in
-    let l = take (model-most + 1) B in
-    sym (longer l x (lt-ltb model-most (length l) (omega arith)) refl) ∙ longer B x (lt-ltb model-most (length B) (omega arith)) refl
+rest-unread input h = cut (model-most + 1) input (omega arith) h

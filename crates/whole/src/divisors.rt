@@ -28,7 +28,7 @@ pub fn at_least_one(g: u64) -> u64
 }
 
 // a divided by g, toward zero.
-pub(crate) fn quot(a: i64, g: u64) -> i64
+pub fn quot(a: i64, g: u64) -> i64
     requires { ⌜ (0 < g) × (g ≤ limit) ⌝ }
     ensures { λ r. ⌜ r ≡ quotZ a (pos g) ⌝ }
 {

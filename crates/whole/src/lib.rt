@@ -1,7 +1,7 @@
 // Whole numbers within ±(2⁶² − 1), divisors, powers, and numerators in two words.
 pub mod limits; // limits.rt: sums, differences, products and powers, judged
 pub mod divisors; // divisors.rt: the greatest common divisor, and division by it
-pub mod linears; // linears.rt: lists of numbers, as a linear's are
+pub mod linears; // linears.rt: whether two lists of numbers are equal
 pub mod two_words; // two_words.rt: numerators in two words
 pub mod dot_product; // dot_product.rt: a linear's numerator at a point
 

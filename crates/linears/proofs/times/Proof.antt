@@ -5,13 +5,13 @@ use borrow.Author.Needs.{needs}
 use lib.IntN.{ℤ, pos, _+ℤ_, _-ℤ_, _*ℤ_}
 use lib.ListN.{length, getD, take, drop}
 use lib.Signed.{quotZ}
 use Rattle.whole.specs.Linears.{numbers, clipped}
 use Rattle.whole.proofs.Filled.{Filled, none-filled, one-filled}
 use mir.Syntax.{w64}
 use mir.Val.{toZ}
 use Rattle.whole.proofs.Loops.{times-word, multiplied-word}
-use Rattle.whole.proofs.linears.times.Statement.{statement}
-use Rattle.whole.proofs.linears.times.Tie as tie
+use Rattle.linears.proofs.times.Statement.{statement}
+use Rattle.linears.proofs.times.Tie as tie
 
 abbrev Inv-loop : tie.InvT-loop
 Inv-loop k a out₀ i₀ out i = Filled numbers (λ j. clipped (toZ w64 k *ℤ getD a j (pos 0))) i out

@@ -5,11 +5,11 @@ use borrow.Author.Needs.{needs}
 use lib.IntN.{ℤ, pos, _+ℤ_, _-ℤ_, _*ℤ_}
 use lib.ListN.{length, getD, take, drop}
 use lib.Signed.{quotZ}
 use Rattle.whole.specs.Divisor.{gcdOf, gcd-all, at-least-one}
 use Rattle.whole.specs.Linears.{coefficients, divisorL}
 use Rattle.whole.proofs.Loops.{divisor-is}
-use Rattle.whole.proofs.linears.divisor.Statement.{statement}
-use Rattle.whole.proofs.linears.divisor.Tie as tie
+use Rattle.linears.proofs.divisor.Statement.{statement}
+use Rattle.linears.proofs.divisor.Tie as tie
 
 array-copy-out-mag : tie.Need-array-copy-out-mag
 array-copy-out-mag c = search needs

@@ -5,11 +5,11 @@ use borrow.Author.Needs.{needs}
 use lib.IntN.{ℤ, pos, _+ℤ_, _-ℤ_, _*ℤ_}
 use lib.ListN.{length, getD, take, drop}
 use lib.Signed.{quotZ}
 use Rattle.whole.specs.Linears.{numbers, divisorL}
 use Rattle.whole.proofs.Filled.{Filled, none-filled, one-filled}
 use Rattle.whole.proofs.Loops.{divisor-fits-as, part-is, divided-all}
-use Rattle.whole.proofs.linears.divided.Statement.{statement}
-use Rattle.whole.proofs.linears.divided.Tie as tie
+use Rattle.linears.proofs.divided.Statement.{statement}
+use Rattle.linears.proofs.divided.Tie as tie
 
 abbrev Inv-loop : tie.InvT-loop
 Inv-loop a g out₀ i₀ out i = Filled numbers (λ k. quotZ (getD a k (pos 0)) (pos (divisorL a))) i out

@@ -1,8 +1,8 @@
 use mathlib.Core.Path.{sym, ap}
 use Rattle.whole.specs.Linears.{ordNum}
 use Rattle.whole.proofs.Comparing.{lt-of, cmp-lt, cmp-gt, cmp-same}
-use Rattle.whole.proofs.linears.compare_two.Statement.{statement}
-use Rattle.whole.proofs.linears.compare_two.Tie as tie
+use Rattle.linears.proofs.compare_two.Statement.{statement}
+use Rattle.linears.proofs.compare_two.Tie as tie
 
 returns : tie.Need-returns
 unfolding ordNum

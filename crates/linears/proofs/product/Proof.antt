@@ -1,7 +1,7 @@
 use Rattle.whole.proofs.Clipped.{times-over, times-is}
 use borrow.Author.Needs.{needs}
-use Rattle.whole.proofs.linears.product.Statement.{statement}
-use Rattle.whole.proofs.linears.product.Tie as tie
+use Rattle.linears.proofs.product.Statement.{statement}
+use Rattle.linears.proofs.product.Tie as tie
 
 mul-within-requires : tie.Need-mul-within-requires
 mul-within-requires c κs = search needs

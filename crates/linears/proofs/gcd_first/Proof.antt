@@ -5,11 +5,11 @@ use borrow.Author.Needs.{needs}
 use lib.IntN.{ℤ, pos, _+ℤ_, _-ℤ_, _*ℤ_}
 use lib.ListN.{length, getD, take, drop}
 use lib.Signed.{quotZ}
 use Rattle.whole.specs.Divisor.{gcd-all}
 use Rattle.whole.specs.Linears.{coefficients}
 use Rattle.whole.proofs.Loops.{gcd-none, gcd-more}
-use Rattle.whole.proofs.linears.gcd_first.Statement.{statement}
-use Rattle.whole.proofs.linears.gcd_first.Tie as tie
+use Rattle.linears.proofs.gcd_first.Statement.{statement}
+use Rattle.linears.proofs.gcd_first.Tie as tie
 
 abbrev Inv-loop : tie.InvT-loop
 Inv-loop a g₀ i₀ g i = (i ≤ coefficients) × (g ≡ gcd-all (drop i (take coefficients a)))

@@ -5,10 +5,10 @@ use borrow.Author.Needs.{needs}
 use lib.IntN.{ℤ, pos, _+ℤ_, _-ℤ_, _*ℤ_}
 use lib.ListN.{length, getD, take, drop}
 use lib.Signed.{quotZ}
 use Rattle.whole.specs.Linears.{numbers, smalls}
 use Rattle.whole.proofs.Loops.{one-over, one-fine, all-fine}
-use Rattle.whole.proofs.linears.within.Statement.{statement}
-use Rattle.whole.proofs.linears.within.Tie as tie
+use Rattle.linears.proofs.within.Statement.{statement}
+use Rattle.linears.proofs.within.Tie as tie
 
 abbrev Inv-loop : tie.InvT-loop
 Inv-loop a i₀ i = (i ≤ numbers) × (smalls (drop i a) ≡ smalls a)
