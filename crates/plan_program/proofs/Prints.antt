@@ -20,7 +20,7 @@ use Rattle.theory.specs.Listing.{digits, spaced, spaced-all, greatest-root, ref
 use Rattle.decimal.specs.Put.{PutAt}
 use Rattle.decimal.proofs.Numbers.{spaced-plain}
 use Rattle.decimal.proofs.Rows.{line-length}
-use Rattle.plan_text.specs.Plan.{line-most}
+use Rattle.plan_lines.specs.Lines.{line-most}
 use Rattle.plan_input.specs.Printed.{listed, printed, text-bytes, nodes-held, tables-printed}
 
 -- ---- a refusal's line has room

@@ -4,7 +4,7 @@ ghost use Prim.Native.Nat.{_≤_};
 ghost use lib.ListN.{length, take};
 ghost use Rattle.theory.specs.Verdict.{refusal as refusal-of};
 ghost use Rattle.theory.specs.Listing.{refusal-line};
-ghost use Rattle.plan_text.specs.Plan.{line-most};
+ghost use Rattle.plan_lines.specs.Lines.{line-most};
 ghost use Rattle.plan_input.specs.Printed.{printed, text-bytes, tables-printed, plan-printed, program};
 use solver::solve;
 use table::NODE_WORDS;
@@ -24,7 +24,7 @@ fn refusal(text: &mut [u8], number: u32, place: usize) -> usize
     requires { ⌜ line-most ≤ length (now text) ⌝ }
     ensures { λ r. ⌜ (r ≤ length (now (text .entry))) × (take r (now (text .exit)) ≡ refusal-line (refusal-of number place)) ⌝ }
 {
-    plan_text::lines::refusal_line(text, number, place)
+    plan_lines::refusal_line(text, number, place)
 }
 
 // What is printed stands in the text's first bytes; answers how many.

@@ -1,3 +1,2 @@
 // The text of a plan, written into a lent buffer from any place of it.
-pub mod lines; // lines.rt: each line, and how long it is
 pub mod texts; // texts.rt: all lines of a plan

@@ -7,13 +7,14 @@ ghost use Rattle.theory.specs.Verdict.{from-to};
 ghost use Rattle.theory.specs.Listing.{lines, node-line, stage-line, text};
 ghost use Rattle.progress.specs.Standing.{site-as};
 ghost use Rattle.decimal.specs.Put.{PutAt};
-ghost use Rattle.plan_text.specs.Plan.{Ready, line-most, other-lines-most, upto};
-use super::lines::first_line;
-use super::lines::first_line_len;
-use super::lines::node_line;
-use super::lines::node_line_len;
-use super::lines::stage_line;
-use super::lines::stage_line_len;
+ghost use Rattle.plan_lines.specs.Lines.{line-most};
+ghost use Rattle.plan_text.specs.Plan.{Ready, other-lines-most, upto};
+use plan_lines::first_line;
+use plan_lines::first_line_len;
+use plan_lines::node_line;
+use plan_lines::node_line_len;
+use plan_lines::stage_line;
+use plan_lines::stage_line_len;
 use progress::Site;
 
 // The lines of nodes 1 to the last.

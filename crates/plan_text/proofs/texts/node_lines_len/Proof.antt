@@ -4,7 +4,8 @@ use native.Mathlib.Omega.{arith}
 use mathlib.Core.Path.{_≡_, ap, _∙_}
 use lib.ListN.{length}
 use Rattle.theory.specs.Listing.{node-line}
-use Rattle.plan_text.specs.Plan.{node-line-most, other-lines-most, upto}
+use Rattle.plan_lines.specs.Lines.{node-line-most}
+use Rattle.plan_text.specs.Plan.{other-lines-most, upto}
 use Rattle.plan_text.proofs.Joined.{upon, counted-none, counted-more, counted-over, counted-within}
 use Rattle.plan_text.proofs.texts.node_lines_len.Statement.{statement}
 use Rattle.plan_text.proofs.texts.node_lines_len.Tie as tie

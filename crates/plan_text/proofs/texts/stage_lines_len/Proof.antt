@@ -4,7 +4,7 @@ use native.Mathlib.Omega.{arith}
 use mathlib.Core.Path.{_≡_, ap}
 use lib.ListN.{length}
 use Rattle.theory.specs.Listing.{stage-line}
-use Rattle.plan_text.specs.Plan.{line-most}
+use Rattle.plan_lines.specs.Lines.{line-most}
 use Rattle.plan_text.proofs.Joined.{upon, counted-none, counted-more}
 use Rattle.plan_text.proofs.texts.stage_lines_len.Statement.{statement}
 use Rattle.plan_text.proofs.texts.stage_lines_len.Tie as tie

@@ -1,11 +1,11 @@
--- `plan_text::lines::stage_line_len` meets its contract.
+-- `plan_lines::stage_line_len` meets its contract.
 use mathlib.Core.Path.{ap, _∙_}
 use native.Mathlib.Omega.{arith}
 use lib.ListN.{length}
-use Rattle.plan_text.proofs.Numbered.{stage-is}
+use Rattle.plan_lines.proofs.Numbered.{stage-is}
 use borrow.Author.Needs.{needs}
-use Rattle.plan_text.proofs.lines.stage_line_len.Statement.{statement}
-use Rattle.plan_text.proofs.lines.stage_line_len.Tie as tie
+use Rattle.plan_lines.proofs.stage_line_len.Statement.{statement}
+use Rattle.plan_lines.proofs.stage_line_len.Tie as tie
 
 stage-numbers-requires : tie.Need-stage-numbers-requires
 stage-numbers-requires c κs = search needs

@@ -1,12 +1,12 @@
--- `plan_text::lines::node_rest` meets its contract.
+-- `plan_lines::node_rest` meets its contract.
 use native.Mathlib.Omega.{arith}
 use mathlib.Core.Path.{ap}
 use lib.ListN.{length}
 use Rattle.decimal.proofs.Puts.{rename}
-use Rattle.plan_text.proofs.Numbered.{rest-leaf, rest-condition, rest-test}
+use Rattle.plan_lines.proofs.Numbered.{rest-leaf, rest-condition, rest-test}
 use borrow.Author.Needs.{needs}
-use Rattle.plan_text.proofs.lines.node_rest.Statement.{statement}
-use Rattle.plan_text.proofs.lines.node_rest.Tie as tie
+use Rattle.plan_lines.proofs.node_rest.Statement.{statement}
+use Rattle.plan_lines.proofs.node_rest.Tie as tie
 
 magnitude-requires : tie.Need-magnitude-requires
 magnitude-requires c κs = search needs

@@ -1,11 +1,11 @@
--- `plan_text::lines::first_line_len` meets its contract.
+-- `plan_lines::first_line_len` meets its contract.
 use mathlib.Core.Path.{ap, _∙_}
 use native.Mathlib.Omega.{arith}
 use lib.ListN.{length}
-use Rattle.plan_text.proofs.Numbered.{first-is}
+use Rattle.plan_lines.proofs.Numbered.{first-is}
 use borrow.Author.Needs.{needs}
-use Rattle.plan_text.proofs.lines.first_line_len.Statement.{statement}
-use Rattle.plan_text.proofs.lines.first_line_len.Tie as tie
+use Rattle.plan_lines.proofs.first_line_len.Statement.{statement}
+use Rattle.plan_lines.proofs.first_line_len.Tie as tie
 
 first-numbers-requires : tie.Need-first-numbers-requires
 first-numbers-requires c κs = search needs

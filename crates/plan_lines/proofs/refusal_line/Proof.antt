@@ -1,12 +1,12 @@
--- `plan_text::lines::refusal_line` meets its contract.
+-- `plan_lines::refusal_line` meets its contract.
 use native.Mathlib.Omega.{arith}
 use mathlib.Core.Path.{ap}
 use lib.ListN.{length}
 use Rattle.decimal.proofs.Puts.{rename}
-use Rattle.plan_text.proofs.Numbered.{refusal-is}
+use Rattle.plan_lines.proofs.Numbered.{refusal-is}
 use borrow.Author.Needs.{needs}
-use Rattle.plan_text.proofs.lines.refusal_line.Statement.{statement}
-use Rattle.plan_text.proofs.lines.refusal_line.Tie as tie
+use Rattle.plan_lines.proofs.refusal_line.Statement.{statement}
+use Rattle.plan_lines.proofs.refusal_line.Tie as tie
 
 slice-aggregate-put-line : tie.Need-slice-aggregate-put-line
 slice-aggregate-put-line c = search needs

@@ -1,12 +1,12 @@
--- `plan_text::lines::first_line` meets its contract.
+-- `plan_lines::first_line` meets its contract.
 use native.Mathlib.Omega.{arith}
 use mathlib.Core.Path.{ap}
 use lib.ListN.{length}
 use Rattle.decimal.proofs.Puts.{rename}
-use Rattle.plan_text.proofs.Numbered.{first-is}
+use Rattle.plan_lines.proofs.Numbered.{first-is}
 use borrow.Author.Needs.{needs}
-use Rattle.plan_text.proofs.lines.first_line.Statement.{statement}
-use Rattle.plan_text.proofs.lines.first_line.Tie as tie
+use Rattle.plan_lines.proofs.first_line.Statement.{statement}
+use Rattle.plan_lines.proofs.first_line.Tie as tie
 
 first-numbers-requires : tie.Need-first-numbers-requires
 first-numbers-requires c κs = search needs

@@ -1,9 +1,9 @@
--- `plan_text::lines::stage_numbers` meets its contract.
+-- `plan_lines::stage_numbers` meets its contract.
 use native.Mathlib.Omega.{arith}
 use Prim.Native.Nat.{_-_}
 use borrow.Author.Needs.{needs}
-use Rattle.plan_text.proofs.lines.stage_numbers.Statement.{statement}
-use Rattle.plan_text.proofs.lines.stage_numbers.Tie as tie
+use Rattle.plan_lines.proofs.stage_numbers.Statement.{statement}
+use Rattle.plan_lines.proofs.stage_numbers.Tie as tie
 
 sub-t4 : tie.Need-sub-t4
 sub-t4 c = search needs

@@ -1,12 +1,12 @@
--- `plan_text::lines::stage_line` meets its contract.
+-- `plan_lines::stage_line` meets its contract.
 use native.Mathlib.Omega.{arith}
 use mathlib.Core.Path.{ap}
 use lib.ListN.{length}
 use Rattle.decimal.proofs.Puts.{rename}
-use Rattle.plan_text.proofs.Numbered.{stage-is}
+use Rattle.plan_lines.proofs.Numbered.{stage-is}
 use borrow.Author.Needs.{needs}
-use Rattle.plan_text.proofs.lines.stage_line.Statement.{statement}
-use Rattle.plan_text.proofs.lines.stage_line.Tie as tie
+use Rattle.plan_lines.proofs.stage_line.Statement.{statement}
+use Rattle.plan_lines.proofs.stage_line.Tie as tie
 
 stage-numbers-requires : tie.Need-stage-numbers-requires
 stage-numbers-requires c κs = search needs

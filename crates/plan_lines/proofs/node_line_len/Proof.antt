@@ -1,9 +1,9 @@
--- `plan_text::lines::node_line_len` meets its contract.
+-- `plan_lines::node_line_len` meets its contract.
 use native.Mathlib.Omega.{arith}
-use Rattle.plan_text.proofs.Numbered.{node-length}
+use Rattle.plan_lines.proofs.Numbered.{node-length}
 use borrow.Author.Needs.{needs}
-use Rattle.plan_text.proofs.lines.node_line_len.Statement.{statement}
-use Rattle.plan_text.proofs.lines.node_line_len.Tie as tie
+use Rattle.plan_lines.proofs.node_line_len.Statement.{statement}
+use Rattle.plan_lines.proofs.node_line_len.Tie as tie
 
 number-len-requires : tie.Need-number-len-requires
 number-len-requires c κs = search needs

@@ -1,13 +1,13 @@
--- `plan_text::lines::node_rest_len` meets its contract.
+-- `plan_lines::node_rest_len` meets its contract.
 use mathlib.Core.Path.{ap, _∙_}
 use Prim.Native.Nat.{_+_}
 use native.Mathlib.Omega.{arith}
 use lib.ListN.{length}
 use Rattle.theory.specs.Widths.{levels-most}
-use Rattle.plan_text.proofs.Numbered.{from, part-few, rest-leaf, rest-condition, rest-test}
+use Rattle.plan_lines.proofs.Numbered.{from, part-few, rest-leaf, rest-condition, rest-test}
 use borrow.Author.Needs.{needs}
-use Rattle.plan_text.proofs.lines.node_rest_len.Statement.{statement}
-use Rattle.plan_text.proofs.lines.node_rest_len.Tie as tie
+use Rattle.plan_lines.proofs.node_rest_len.Statement.{statement}
+use Rattle.plan_lines.proofs.node_rest_len.Tie as tie
 
 magnitude-requires : tie.Need-magnitude-requires
 magnitude-requires c κs = search needs

@@ -9,7 +9,7 @@ ghost use Rattle.theory.specs.Listing.{first-line, node-line, stage-line, refus
 ghost use Rattle.progress.specs.Standing.{site-as};
 ghost use Rattle.rows.specs.Row.{Inside};
 ghost use Rattle.decimal.specs.Put.{PutAt};
-ghost use Rattle.plan_text.specs.Plan.{node-rest, line-most, node-line-most};
+ghost use Rattle.plan_lines.specs.Lines.{node-rest, line-most, node-line-most};
 use decimal::lines::line_len;
 use decimal::lines::put_line;
 use decimal::lines::put_words_line;
@@ -36,7 +36,7 @@ fn first_numbers(site: Site, horizon: u32) -> [u64; 5]
     ]
 }
 
-pub(crate) fn first_line(out: &mut [u8], site: Site, horizon: u32) -> usize
+pub fn first_line(out: &mut [u8], site: Site, horizon: u32) -> usize
     requires { ⌜ length (first-line (site-as site) horizon) ≤ length (now out) ⌝ }
     ensures { λ n. ⌜ PutAt (now (out .entry)) 0 (first-line (site-as site) horizon) n (now (out .exit)) ⌝ }
 {
@@ -44,7 +44,7 @@ pub(crate) fn first_line(out: &mut [u8], site: Site, horizon: u32) -> usize
     put_line(out, 0, b"PLAN", &xs)
 }
 
-pub(crate) fn first_line_len(site: Site, horizon: u32) -> usize
+pub fn first_line_len(site: Site, horizon: u32) -> usize
     ensures { λ n. ⌜ (n ≡ length (first-line (site-as site) horizon)) × (n ≤ line-most) ⌝ }
 {
     let xs = first_numbers(site, horizon);
@@ -96,7 +96,7 @@ fn node_rest_len(nodes: &[i64], r: usize) -> usize
     words_line_len(b" L", &nodes[first..end])
 }
 
-pub(crate) fn node_line(out: &mut [u8], nodes: &[i64], r: usize) -> usize
+pub fn node_line(out: &mut [u8], nodes: &[i64], r: usize) -> usize
     requires { ⌜ Inside (now nodes) r × (length (node-line (now nodes) r) ≤ length (now out)) ⌝ }
     ensures { λ n. ⌜ PutAt (now (out .entry)) 0 (node-line (now (nodes .entry)) r) n (now (out .exit)) ⌝ }
 {
@@ -105,7 +105,7 @@ pub(crate) fn node_line(out: &mut [u8], nodes: &[i64], r: usize) -> usize
     node_rest(out, m, nodes, r)
 }
 
-pub(crate) fn node_line_len(nodes: &[i64], r: usize) -> usize
+pub fn node_line_len(nodes: &[i64], r: usize) -> usize
     requires { ⌜ Inside (now nodes) r ⌝ }
     ensures { λ n. ⌜ (n ≡ length (node-line (now (nodes .entry)) r)) × (n ≤ node-line-most) ⌝ }
 {
@@ -119,7 +119,7 @@ fn stage_numbers(stages: &[u32], h: usize) -> [u64; 2]
     [h as u64, stages[h - 1] as u64]
 }
 
-pub(crate) fn stage_line(out: &mut [u8], stages: &[u32], h: usize) -> usize
+pub fn stage_line(out: &mut [u8], stages: &[u32], h: usize) -> usize
     requires { ⌜ (1 ≤ h) × (h ≤ length (now stages)) × (length (stage-line (now stages) h) ≤ length (now out)) ⌝ }
     ensures { λ n. ⌜ PutAt (now (out .entry)) 0 (stage-line (now (stages .entry)) h) n (now (out .exit)) ⌝ }
 {
@@ -127,7 +127,7 @@ pub(crate) fn stage_line(out: &mut [u8], stages: &[u32], h: usize) -> usize
     put_line(out, 0, b"S", &xs)
 }
 
-pub(crate) fn stage_line_len(stages: &[u32], h: usize) -> usize
+pub fn stage_line_len(stages: &[u32], h: usize) -> usize
     requires { ⌜ (1 ≤ h) × (h ≤ length (now stages)) ⌝ }
     ensures { λ n. ⌜ (n ≡ length (stage-line (now (stages .entry)) h)) × (n ≤ line-most) ⌝ }
 {

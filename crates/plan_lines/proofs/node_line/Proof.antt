@@ -1,13 +1,13 @@
--- `plan_text::lines::node_line` meets its contract.
+-- `plan_lines::node_line` meets its contract.
 use native.Mathlib.Omega.{arith}
 use Prim.Native.Nat.{_≤_}
 use mathlib.Core.Path.{sym}
 use lib.ListN.{length}
 use Rattle.decimal.proofs.Puts.{then, rename}
-use Rattle.plan_text.proofs.Numbered.{node-is, node-length}
+use Rattle.plan_lines.proofs.Numbered.{node-is, node-length}
 use borrow.Author.Needs.{needs}
-use Rattle.plan_text.proofs.lines.node_line.Statement.{statement}
-use Rattle.plan_text.proofs.lines.node_line.Tie as tie
+use Rattle.plan_lines.proofs.node_line.Statement.{statement}
+use Rattle.plan_lines.proofs.node_line.Tie as tie
 
 slice-aggregate-put-bytes : tie.Need-slice-aggregate-put-bytes
 slice-aggregate-put-bytes c = search needs

@@ -17,7 +17,7 @@ use Rattle.rows.specs.Row.{Inside}
 use Rattle.rows.proofs.Rowed.{take-more}
 use Rattle.progress.specs.declared.Site.{Site}
 use Rattle.progress.specs.Standing.{site-as}
-use Rattle.plan_text.specs.Plan.{node-rest}
+use Rattle.plan_lines.specs.Lines.{node-rest}
 
 pub first-is :
     (s : Site) (h : ℕ) {xs : List ℕ} →

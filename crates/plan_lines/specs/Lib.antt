@@ -1,0 +1,2 @@
+-- What the writers of a line promise, in the terms of document 01.
+pub mod Lines
