@@ -22,7 +22,8 @@ use Rattle.command.specs.Reading.{command-of, command-of-in, read-of, read-of-i
 use Rattle.command.proofs.Forward.{whole-bytes, next-whole}
 use Rattle.progress.specs.declared.Progress.{Progress as CodeProgress}
 use Rattle.progress.specs.declared.Site.{Site as CodeSite}
-use Rattle.progress.specs.Standing.{site-as, seen-in, noted, Stands, Leaves}
+use Rattle.facts.specs.Seen.{seen-in}
+use Rattle.progress.specs.Standing.{site-as, noted, Stands, Leaves}
 use Rattle.progress.proofs.Leaving.{stands-start}
 use Rattle.model.specs.Answers.{is-end}
 use Rattle.model.specs.Walk.{Walk}

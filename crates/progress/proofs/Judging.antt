@@ -14,10 +14,11 @@ use Rattle.theory.specs.Valid.{all, among}
 use Rattle.theory.specs.Command.{Command, push-leaf, push-condition, push-test, give, name-action, end-model, Slot}
 use Rattle.theory.specs.Verdict.{or, Facts, Site, reward-slot, chance-slot, level-slot, name-slot, has-slot, Progress, Rule, rule, first-broken, first-rules, later-rules, rules-in, beyond, next-condition, printable, of-site, may-be, top, from-to, wanted, wanted-by}
 use Rattle.progress.specs.declared.Progress.{Progress as CodeProgress}
-use Rattle.progress.specs.Standing.{seen, site-as, place, names-row, flag-of, for-reward, for-chance, for-level, for-name, Stands, in-order, row-given, action-given, all-given}
+use Rattle.progress.specs.Standing.{site-as, place, names-row, flag-of, for-reward, for-chance, for-level, for-name, Stands, in-order, row-given, action-given, all-given}
 use Rattle.progress.proofs.Numbers.{bounds, is-among, not-false-T}
 use Rattle.progress.proofs.Flags.{slotted-given}
-use Rattle.progress.proofs.Bits.{seen-length}
+use Rattle.facts.specs.Seen.{seen}
+use Rattle.facts.proofs.Bits.{seen-length}
 use Rattle.progress.proofs.Runs.{run-same, all-map, all-append, and-assoc}
 
 -- ---- the order of the rules

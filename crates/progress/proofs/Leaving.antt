@@ -20,13 +20,14 @@ use types.Run.{OneOf, miss}
 use denote.Enum.Declared.{tagOf}
 use Rattle.command.specs.declared.Command.the-variants.{Site as SiteBy, Leaf, Condition, Test, Give, Name, End}
 use Rattle.command.proofs.Forward.{has-linear, linear-room}
-use Rattle.progress.specs.declared.Seen.{Seen}
+use Rattle.facts.specs.declared.Seen.{Seen}
 use Rattle.command.specs.Reading.{command-of-in}
 use Rattle.progress.specs.declared.Progress.{Progress as CodeProgress}
-use Rattle.progress.specs.Standing.{site-as, seen-in, seen, place, names-row, flag-of, noted, Slotted, for-name, Stands, Leaves, Later}
+use Rattle.progress.specs.Standing.{site-as, place, names-row, flag-of, noted, Slotted, for-name, Stands, Leaves, Later}
 use Rattle.progress.proofs.Numbers.{bounds, is-among, not-false-T}
 use Rattle.progress.proofs.Flags.{flag-more, no-flag, slotted-given}
-use Rattle.progress.proofs.Bits.{seen-length}
+use Rattle.facts.specs.Seen.{seen-in, seen}
+use Rattle.facts.proofs.Bits.{seen-length}
 
 -- ---- rules that are not broken
 

@@ -3,5 +3,4 @@ pub mod Numbers
 pub mod Runs
 pub mod Flags
 pub mod Judging
-pub mod Bits
 pub mod Leaving

@@ -1,33 +1,25 @@
--- The code keeps the two facts of the diagrams in two words of bits, and what is given in flags at fixed places; document 01's definitions keep records and a list.
+-- The code keeps what is given in flags at fixed places; document 01's definitions keep a list.
 use mathlib.Core.Path.{_≡_}
 use mathlib.Core.Bool.{Bool, true, false, _&&_}
 use mathlib.Core.List.{List, [], _∷_}
-use Prim.Native.Nat.{ℕ, zero, suc, _+_, _*_, _/_, _%_, _≤_}
+use Prim.Native.Nat.{ℕ, _+_, _*_, _≤_}
 use lib.Dec.{T, eqb}
 use lib.ListN.{length, getD, set}
 use Rattle.whole.specs.Cases.{if}
 use Rattle.theory.specs.Widths.{levels-most, conditions-most, actions-most, stack-most, flags-most}
 use Rattle.theory.specs.Valid.{all, among}
 use Rattle.theory.specs.Command.{Command, Slot}
-use Rattle.theory.specs.Verdict.{Site, site-of, Facts, reward-slot, chance-slot, level-slot, end-slot, name-slot, has-slot, Progress, rule, Rule, first-broken, rules-in, later-rules, after, from-to}
+use Rattle.theory.specs.Verdict.{Site, site-of, reward-slot, chance-slot, level-slot, end-slot, name-slot, has-slot, Progress, rule, Rule, first-broken, rules-in, later-rules, after, from-to}
 use Rattle.command.specs.declared.Command.{Command as CodeCommand}
 use Rattle.command.specs.declared.Command.the-variants.{Site as SiteBy, Leaf, Condition, Test, Give, Name, End}
 use Rattle.theory.specs.Form.{Form}
+use Rattle.facts.specs.Seen.{seen}
 use Rattle.command.specs.Reading.{command-of-in}
 use Rattle.progress.specs.declared.Site.{Site as CodeSite}
-use Rattle.progress.specs.declared.Seen.{Seen}
 use Rattle.progress.specs.declared.Progress.{Progress as CodeProgress}
 
 abbrev pub site-as : CodeSite → Site
 site-as s = site-of (s .levels) (s .conditions) (s .actions) (s .weights)
-
--- the facts of the n diagrams on the stack, its top first, of two words of bits
-unfoldable pub seen-in : ℕ → ℕ → ℕ → List Facts
-seen-in later weights zero = []
-seen-in later weights (suc n) = record { next-step = eqb (later % 2) 1; weights = eqb (weights % 2) 1 } ∷ seen-in (later / 2) (weights / 2) n
-
-abbrev pub seen : Seen → List Facts
-seen t = seen-in (t .later) (t .weights) (t .len)
 
 -- the place of a flag: the end worth's, then rows of the actions, rewards in row 0, then chances, next levels and names
 abbrev pub place : ℕ → ℕ → ℕ → ℕ

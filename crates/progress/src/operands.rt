@@ -20,12 +20,12 @@ ghost use Rattle.theory.specs.Verdict.{beyond as some-beyond};
 ghost use Rattle.theory.specs.Verdict.{printable as is-printable};
 ghost use Rattle.theory.specs.Command.{signed, signed-from, linear-in};
 use super::Site;
-use super::facts::both;
-use super::facts::either;
 use super::refusals::OPERAND;
 use command::NAME_BYTES;
 use command::forms;
 use command::forms::Form;
+use facts::both;
+use facts::either;
 
 // "n conditions (0 to 4)"; "weight total W (1 to 100)".
 pub const CONDITIONS: usize = 4;

@@ -13,7 +13,6 @@ ghost use Rattle.command.specs.Forms.{form-of};
 ghost use Rattle.command.specs.Reading.{command-of-in};
 ghost use Rattle.progress.specs.Standing.{Breaks, Later, in-order};
 use super::Progress;
-use super::facts;
 use super::given;
 use super::operands;
 use super::refusals::MISSING;

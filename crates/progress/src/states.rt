@@ -13,15 +13,14 @@ ghost use Rattle.theory.specs.Form.{Form as Written};
 ghost use Rattle.command.specs.Forms.{form-of};
 ghost use Rattle.command.specs.Reading.{command-of-in};
 ghost use Rattle.progress.specs.Standing.{Stands, Leaves, site-as};
-ghost use Rattle.progress.specs.Standing.{seen as seen-of};
+ghost use Rattle.facts.specs.Seen.{seen as seen-of};
 use super::Progress;
-use super::Seen;
 use super::Site;
-use super::facts;
 use super::operands;
 use super::operands::CONDITIONS;
 use command::Command;
 use command::forms::Form;
+use facts::Seen;
 
 pub fn start() -> Progress
     ensures { λ r. ⌜ Stands r (replicate flags-most false) at-start ⌝ }

@@ -1,9 +1,9 @@
--- `progress::facts::popped` meets its contract.
+-- `facts::popped` meets its contract.
 use native.Mathlib.Omega.{arith}
-use Rattle.progress.proofs.Bits.{seen-popped, seen-none}
+use Rattle.facts.proofs.Bits.{seen-popped, seen-none}
 use borrow.Author.Needs.{needs}
-use Rattle.progress.proofs.facts.popped.Statement.{statement}
-use Rattle.progress.proofs.facts.popped.Tie as tie
+use Rattle.facts.proofs.popped.Statement.{statement}
+use Rattle.facts.proofs.popped.Tie as tie
 
 sub-t6 : tie.Need-sub-t6
 sub-t6 c = search needs

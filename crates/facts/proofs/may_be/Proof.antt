@@ -1,12 +1,12 @@
--- `progress::facts::may_be` meets its contract.
+-- `facts::may_be` meets its contract.
 use mathlib.Core.Path.{_∙_, sym, ap}
 use mathlib.Core.Bool.{not, _&&_}
 use lib.Dec.{eqb}
 use Rattle.theory.specs.Verdict.{or, Facts, may-be}
-use Rattle.progress.proofs.Bits.{seen-top}
+use Rattle.facts.proofs.Bits.{seen-top}
 use borrow.Author.Needs.{needs}
-use Rattle.progress.proofs.facts.may_be.Statement.{statement}
-use Rattle.progress.proofs.facts.may_be.Tie as tie
+use Rattle.facts.proofs.may_be.Statement.{statement}
+use Rattle.facts.proofs.may_be.Tie as tie
 
 low-requires : tie.Need-low-requires
 low-requires c κs = search needs

@@ -1,9 +1,9 @@
--- `progress::facts::pushed` meets its contract.
+-- `facts::pushed` meets its contract.
 use native.Mathlib.Omega.{arith}
-use Rattle.progress.proofs.Bits.{seen-pushed}
+use Rattle.facts.proofs.Bits.{seen-pushed}
 use borrow.Author.Needs.{needs}
-use Rattle.progress.proofs.facts.pushed.Statement.{statement}
-use Rattle.progress.proofs.facts.pushed.Tie as tie
+use Rattle.facts.proofs.pushed.Statement.{statement}
+use Rattle.facts.proofs.pushed.Tie as tie
 
 add-t8 : tie.Need-add-t8
 add-t8 c = search needs

@@ -10,8 +10,14 @@ ghost use Rattle.theory.specs.Widths.{stack-most};
 ghost use Rattle.theory.specs.Verdict.{or, top};
 ghost use Rattle.theory.specs.Verdict.{joined as joined-facts};
 ghost use Rattle.theory.specs.Verdict.{may-be as may-be-given};
-ghost use Rattle.progress.specs.Standing.{seen-in, seen};
-use super::Seen;
+ghost use Rattle.facts.specs.Seen.{seen-in, seen};
+
+// The two facts of each diagram on the stack, a word of bits for each fact, the top's lowest.
+pub struct Seen {
+    pub len: usize,
+    pub later: u32,
+    pub weights: u32,
+}
 
 pub fn either(a: bool, b: bool) -> bool
     ensures { λ r. ⌜ r ≡ or a b ⌝ }

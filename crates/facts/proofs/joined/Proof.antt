@@ -1,12 +1,12 @@
--- `progress::facts::joined` meets its contract.
+-- `facts::joined` meets its contract.
 use mathlib.Core.Path.{ap, ap₂, _∙_}
 use mathlib.Core.Bool.{_&&_}
 use Rattle.theory.specs.Verdict.{or}
-use Rattle.progress.specs.Standing.{seen}
-use Rattle.progress.proofs.Bits.{seen-joined}
+use Rattle.facts.specs.Seen.{seen}
+use Rattle.facts.proofs.Bits.{seen-joined}
 use borrow.Author.Needs.{needs}
-use Rattle.progress.proofs.facts.joined.Statement.{statement}
-use Rattle.progress.proofs.facts.joined.Tie as tie
+use Rattle.facts.proofs.joined.Statement.{statement}
+use Rattle.facts.proofs.joined.Tie as tie
 
 popped-requires : tie.Need-popped-requires
 popped-requires c κs = search needs

@@ -1,9 +1,9 @@
--- `progress::facts::below` meets its contract.
+-- `facts::below` meets its contract.
 use mathlib.Core.Path.{_≡_}
 use native.Mathlib.Omega.{arith}
 use borrow.Author.Needs.{needs}
-use Rattle.progress.proofs.facts.below.Statement.{statement}
-use Rattle.progress.proofs.facts.below.Tie as tie
+use Rattle.facts.proofs.below.Statement.{statement}
+use Rattle.facts.proofs.below.Tie as tie
 
 mul-rest : tie.Need-mul-rest
 mul-rest c = search needs

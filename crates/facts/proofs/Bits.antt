@@ -11,7 +11,7 @@ use lib.Pow.{field, mod-mod-pow}
 use Rattle.whole.specs.Cases.{if}
 use Rattle.theory.specs.Widths.{stack-most}
 use Rattle.theory.specs.Verdict.{or, Facts, top, joined}
-use Rattle.progress.specs.Standing.{seen-in}
+use Rattle.facts.specs.Seen.{seen-in}
 
 pub seen-length : (l w n : ℕ) → length (seen-in l w n) ≡ n
 unfolding seen-in
