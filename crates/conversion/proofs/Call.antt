@@ -17,7 +17,8 @@ use Rattle.decimal.specs.Put.{PutAt}
 use Rattle.model.specs.declared.Verdict.{Verdict as CodeVerdict}
 use Rattle.model.specs.Answers.{shown}
 use Rattle.conversion.specs.declared.Converted.{Converted}
-use Rattle.conversion.specs.Conversion.{model-as, own-refusal, too-large, conversion-refusal, conversion}
+use Rattle.model_forms.specs.Forms.{model-as}
+use Rattle.conversion.specs.Conversion.{own-refusal, too-large, conversion-refusal, conversion}
 use Rattle.conversion.specs.Statements.{refused-conversion, wrote}
 use Rattle.conversion.specs.Written.{outcome-as}
 

@@ -1,7 +1,2 @@
 -- Laws that several proofs cite.
-pub mod Operands
-pub mod Going
-pub mod Filling
-pub mod Putting
-pub mod Pass
 pub mod Call

@@ -11,7 +11,8 @@ use Rattle.theory.specs.Verdict.{Site, refusal}
 use Rattle.theory.specs.Load.{site-in, model-in, model}
 use Rattle.theory.specs.Listing.{written, ListingOut}
 use Rattle.theory.specs.Rows.{VerdictRow-in}
-use Rattle.conversion.specs.Conversion.{model-as, conversion, to-new, to-old}
+use Rattle.model_forms.specs.Forms.{model-as}
+use Rattle.conversion.specs.Conversion.{conversion, to-new, to-old}
 
 -- neither 10 nor a number of the model's own
 pub record AdmittedIn (F : Form) (B : List ℕ) : Type 0 where

@@ -16,9 +16,6 @@ use command::forms::levels;
 use model::Verdict;
 use progress::refusals::SIZES;
 
-mod layouts; // layouts.rt: what differs between the forms of a command
-mod writing; // writing.rt: the length of a model in another form, and its bytes
-
 // "17: buffer too short"
 const SHORT_BUFFER: u32 = 17;
 
@@ -86,14 +83,14 @@ fn convert(from: Form, to: Form, model: &[u8], buffer: &mut [u8]) -> Converted
     if v.number != 0 {
         return refused(v.number, v.place);
     }
-    let size = writing::model_len(from, to, model);
+    let size = model_forms::writing::model_len(from, to, model);
     if too_large(from, to, model, size) {
         return refused(NO_FIT, 0);
     }
     if buffer.len() < size {
         return refused(SHORT_BUFFER, 0);
     }
-    let n = writing::put_model(buffer, from, to, model);
+    let n = model_forms::writing::put_model(buffer, from, to, model);
     Converted {
         number: 0,
         place: 0,

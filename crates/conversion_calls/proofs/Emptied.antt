@@ -13,7 +13,8 @@ use Rattle.theory.specs.Command.{readings-from-in, readings-in}
 use Rattle.theory.specs.Verdict.{Verdict, refusal}
 use Rattle.theory.specs.Load.{site-in}
 use Rattle.theory.specs.Listing.{ListingOut}
-use Rattle.conversion.specs.Conversion.{converted, converted-all, model-as, own-refusal, too-large, conversion-refusal, conversion}
+use Rattle.model_forms.specs.Forms.{converted, converted-all, model-as}
+use Rattle.conversion.specs.Conversion.{own-refusal, too-large, conversion-refusal, conversion}
 use Rattle.conversion.specs.Statements.{wrote, refused-conversion}
 use Rattle.answers.specs.Answers.{short}
 use Rattle.answers.specs.Texts.{listed, listing-answer}

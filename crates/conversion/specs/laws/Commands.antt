@@ -19,7 +19,7 @@ use Rattle.theory.specs.laws.Valid.{among-out}
 use Rattle.theory.specs.Rows.{Whole-in}
 use Rattle.theory.specs.laws.Loading.{broken, unbroken, judged-whole, behind-in}
 use Rattle.theory.specs.laws.Rows.{if-yes, if-no, by-read-in, read-whole-in}
-use Rattle.conversion.specs.Conversion.{converted, converted-all}
+use Rattle.model_forms.specs.Forms.{converted, converted-all}
 use Rattle.conversion.specs.laws.OneCommand.{Turn, Fits, one, first-byte, command-drop, converted-drop, copied-is}
 
 -- ---- what a form has room for

@@ -19,7 +19,7 @@ use Rattle.theory.specs.Load.{Loaded, load-one-with, load-on-with, load-in, mod
 use Rattle.theory.specs.laws.Valid.{among-out, among-in}
 use Rattle.theory.specs.laws.Loading.{broken, unbroken}
 use Rattle.theory.specs.laws.Rows.{read-whole-in}
-use Rattle.conversion.specs.Conversion.{model-as}
+use Rattle.model_forms.specs.Forms.{model-as}
 use Rattle.conversion.specs.laws.OneCommand.{Turn, turned-round, Fits}
 use Rattle.conversion.specs.laws.Commands.{Room, turned, turn-read, unbroken-read}
 

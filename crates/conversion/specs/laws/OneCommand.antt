@@ -13,7 +13,7 @@ use Rattle.theory.specs.Form.{Form, old-form, new-form, site-byte, levels-in, a
 use Rattle.theory.specs.Diagram.{Linear, padded, zeros}
 use Rattle.theory.specs.Command.{Command, site, push-leaf, push-condition, push-test, give, name-action, end-model, byte-at, word-at, signed, signed-from, bytes-at, linear-in, width-in, command-in}
 use Rattle.theory.specs.laws.Fits.{zeros-each}
-use Rattle.conversion.specs.Conversion.{layout-in, byte-in, copied, fitted, converted}
+use Rattle.model_forms.specs.Forms.{layout-in, byte-in, copied, fitted, converted}
 
 -- ---- the bytes of a command
 

@@ -13,7 +13,8 @@ use Rattle.theory.specs.Load.{site-in}
 use Rattle.theory.specs.Listing.{ListingOut}
 use Rattle.theory.specs.Rows.{VerdictRow-in}
 use Rattle.theory.specs.laws.Rows.{if-yes, if-no, some-not, verdict-row-in, verdict-is-in, zero-row-in}
-use Rattle.conversion.specs.Conversion.{model-as, own-refusal, too-large, conversion-refusal, conversion}
+use Rattle.model_forms.specs.Forms.{model-as}
+use Rattle.conversion.specs.Conversion.{own-refusal, too-large, conversion-refusal, conversion}
 use Rattle.conversion.specs.Statements.{AdmittedIn, FitsIn, refused-conversion, wrote, ConversionRow, conversion-0, conversion-10, conversion-1-8, conversion-20, conversion-17, ConversionRows}
 
 -- ---- tests

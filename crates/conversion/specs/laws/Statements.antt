@@ -14,7 +14,8 @@ use Rattle.theory.specs.Listing.{written, ListingOut}
 use Rattle.theory.specs.Rows.{VerdictRow-in}
 use Rattle.theory.specs.laws.Rows.{verdict-is-in, verdict-row-in}
 use Rattle.theory.specs.laws.Numbers.{verdict-most}
-use Rattle.conversion.specs.Conversion.{model-as, conversion}
+use Rattle.model_forms.specs.Forms.{model-as}
+use Rattle.conversion.specs.Conversion.{conversion}
 use Rattle.conversion.specs.Statements.{AdmittedIn, FitsIn, wrote, ConversionRow, conversion-0, conversion-10, conversion-1-8, conversion-20, conversion-17, bytes-of, OnlyItsOwn, NothingElse, NewAccepted, OldAccepted, SameBest, SameBack, BackAndForward, ForwardAndBack, NeverTwenty}
 use Rattle.conversion.specs.laws.OneCommand.{Turn, turn-new, turn-old}
 use Rattle.conversion.specs.laws.Commands.{Room}
