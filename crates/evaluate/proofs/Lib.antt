@@ -2,6 +2,7 @@
 pub mod Points
 pub mod Reach
 pub mod Turns
+pub mod Sums
 pub mod Actions
 pub mod Holding
 pub mod Places

@@ -2,15 +2,16 @@
 use mathlib.Core.Path.{_≡_, refl, sym, ap, ap₂, _∙_, subst}
 use mathlib.Core.Bool.{Bool, true, false}
 use mathlib.Core.List.{List, [], _∷_}
-use Prim.Native.Nat.{ℕ, zero, suc, _+_, _-_, _≤_, _<_}
+use Prim.Native.Nat.{ℕ, zero, suc, _+_, _-_, _*_, _≤_, _<_}
 use native.Mathlib.Omega.{arith}
-use borrow.Author.Tests.{eqb-true, ltb-false, lt-leb, le-ltb}
+use borrow.Author.Tests.{eq-eqb, ne-eqb, eqb-true, eqb-false, leb-true, ltb-false, lt-leb, le-ltb}
 use lib.Dec.{T, eqb, leb, ltb}
 use lib.IntN.{ℤ, pos, _+ℤ_, _*ℤ_}
 use lib.ListN.{length, getD, take, replicate}
+use lib.Signed.{leZ}
 use types.Run.{OneOf, miss}
 use denote.Enum.Declared.{tagOf}
-use Rattle.whole.specs.Cases.{if}
+use Rattle.whole.specs.Cases.{if, by-test, from-true, clash}
 use Rattle.whole.specs.Int.{up}
 use Rattle.whole.specs.Linears.{numbers, Smalls, dotL}
 use Rattle.whole.specs.LinearsLaws.{dot-last}
@@ -20,7 +21,8 @@ use Rattle.theory.specs.Form.{new-form, site-byte}
 use Rattle.theory.specs.Diagram.{Linear, Tree}
 use Rattle.theory.specs.Meaning.{State, env, nth, dot, at, worth-at, chance-at}
 use Rattle.theory.specs.Value.{bits}
-use Rattle.theory.specs.Command.{Command, end-model, Read, whole, unknown, short, byte-at, width, read-at, goes-on, readings-from, readings, Slot, linear-at, readings-in, command-at, command-in, read-in, width-in}
+use Rattle.theory.specs.Command.{Command, give, end-model, Read, whole, unknown, short, byte-at, width, read-at, goes-on, readings-from, readings, Slot, linear-at, linear-in, word-at, signed, action-at, readings-in, command-at, command-in, read-in, width-in}
+use Rattle.theory.specs.Verdict.{same-slot}
 use Rattle.theory.specs.Load.{find-slot, site-at}
 use Rattle.theory.specs.laws.Loading.{loaded-entries}
 use Rattle.command.proofs.Command.{the-type as command-type}
@@ -35,9 +37,10 @@ use Rattle.command.specs.Held.{pushed}
 use Rattle.model.specs.Answers.{is-end}
 use Rattle.model.proofs.Walk.{opened, from-first, at-end, going, forward}
 use Rattle.evaluate.specs.declared.Point.{Point}
-use Rattle.evaluate.specs.Pass.{no-linear, leaf-of, has-leaf, numerator, stepped, takes, pass, Stands, Comes}
+use Rattle.evaluate.specs.Pass.{no-linear, leaf-of, code-at, pushes, push-of, push-width, index-at, numerator, condition-holds, chosen, stepped, takes, pass, Stands, Comes}
 use Rattle.evaluate.specs.Parts.{Seek}
 use Rattle.evaluate.proofs.Points.{value-is}
+use Rattle.evaluate.proofs.Reach.{same-is}
 
 -- ---- numbers
 
@@ -75,6 +78,10 @@ takes-other g B i (Give x a j) k = absurd (miss (0 ∷ 1 ∷ 2 ∷ 3 ∷ 5 ∷ 6
 takes-other g B i (Name a) k = refl
 takes-other g B i End k = refl
 
+pub takes-own : (g : Slot) → takes g (give g) ≡ true
+unfolding takes same-slot
+takes-own g = rw (eq-eqb (g .command) (g .command) refl, eq-eqb (g .action) (g .action) refl, eq-eqb (g .index) (g .index) refl) refl
+
 -- ---- a command of the bytes
 
 pub leaf-there : (B : List ℕ) (i : ℕ) {c : CodeCommand} → c ≡ Leaf → whole (command-of B i c) ≡ read-at B i → i + with-linear ≤ length B
@@ -85,30 +92,122 @@ pub test-there : (B : List ℕ) (i : ℕ) {c : CodeCommand} → c ≡ Test → w
 unfolding command-of-in has-linear
 test-there B i {c} e w = linear-room new-form B i _ (subst (λ (d : CodeCommand). T (has-linear (command-of B i d))) (sym e) tt) w
 
--- ---- a leaf told by its byte
+-- ---- commands told by their bytes
+
+-- a push is a leaf, a condition or a test
+push-cases : (P : ℕ → Type 0) → P 16 → P 17 → P 18 → (op : ℕ) → pushes op ≡ true → P op
+unfolding pushes
+push-cases P l k t op e = go (ltb op 16) (eqb op 16) (eqb op 17) refl refl refl e
+  where
+    go : (b₁ b₂ b₃ : Bool) → ltb op 16 ≡ b₁ → eqb op 16 ≡ b₂ → eqb op 17 ≡ b₃ → if b₁ false (leb op 18) ≡ true → P op
+    go true b₂ b₃ e₁ e₂ e₃ e = clash (sym e)
+    go false true b₃ e₁ e₂ e₃ e = subst P (sym (eqb-true op 16 e₂)) l
+    go false false true e₁ e₂ e₃ e = subst P (sym (eqb-true op 17 e₃)) k
+    go false false false e₁ e₂ e₃ e = subst P (let q : 18 ≡ op = omega (arith, ltb-false op 16 e₁, eqb-false op 16 e₂, eqb-false op 17 e₃, leb-true op 18 e) in q) t
+
+pub push-least : (op : ℕ) → pushes op ≡ true → 1 ≤ op
+push-least = push-cases (λ (k : ℕ). 1 ≤ k) (omega arith) (omega arith) (omega arith)
+
+pub push-wide : (op : ℕ) → (2 ≤ push-width op) × (push-width op ≤ with-linear)
+unfolding push-width
+push-wide op = by-test (eqb op 17) (λ b. (2 ≤ if b 2 with-linear) × (if b 2 with-linear ≤ with-linear)) (λ _. (omega arith, omega arith)) (λ _. (omega arith, omega arith))
 
 module _ (B : List ℕ) (i : ℕ) where
-  pub leaf-room : has-leaf B i ≡ true → (i + with-linear ≤ length B) × (byte-at B i ≡ 0x10)
-  unfolding has-leaf
-  leaf-room t = go (ltb (length B) (i + with-linear)) refl t
+  pub code-room : (op : ℕ) → 1 ≤ op → op ≡ code-at B i → (i + with-linear ≤ length B) × (byte-at B i ≡ op)
+  unfolding code-at
+  code-room op h e = go (ltb (length B) (i + with-linear)) refl e
     where
-      go : (b : Bool) → ltb (length B) (i + with-linear) ≡ b → if b false (eqb (byte-at B i) 0x10) ≡ true → (i + with-linear ≤ length B) × (byte-at B i ≡ 0x10)
-      go true e f = absurd (let z : _≡_ {A = ℕ} 0 1 = cc in omega arith)
-      go false e f = (ltb-false _ _ e, eqb-true _ _ f)
+      go : (b : Bool) → ltb (length B) (i + with-linear) ≡ b → op ≡ if b 0 (byte-at B i) → (i + with-linear ≤ length B) × (byte-at B i ≡ op)
+      go true e f = absurd (omega (arith, f))
+      go false e f = (ltb-false _ _ e, sym f)
 
-  leaf-bytes : has-leaf B i ≡ true → Bytes new-form B i × (width (byte-at B i) ≡ with-linear)
-  unfolding width-in
-  leaf-bytes t =
-      let r = leaf-room t in
+  -- a whole command, its width and what it is
+  record Told (op : ℕ) : Type 0 where
+    bytes : Bytes new-form B i
+    wide : width (byte-at B i) ≡ push-width op
+    whole-is : whole (command-of B i (push-of B i op)) ≡ read-at B i
+
+  module _ (op : ℕ) (h : 1 ≤ op) (e : op ≡ code-at B i) where
+    bytes-of : (w : ℕ) → 2 ≤ w → w ≤ with-linear → width (byte-at B i) ≡ w → Bytes new-form B i
+    bytes-of w u v q =
+        let r = code-room op h e in
+        record { starts = omega (arith, r .0); known = λ z. omega (arith, q, z); ends = omega (arith, r .0, q) }
+
+  told-leaf : 16 ≡ code-at B i → Told 16
+  unfolding command-of-in read-in command-in width-in push-width push-of
+  told-leaf e =
+      let r = code-room 16 (omega arith) e in
       let w : width (byte-at B i) ≡ with-linear = ap width (r .1) in
-      (record { starts = omega (arith, r .0); known = λ e. omega (arith, w); ends = omega (arith, r .0, w) }, w)
+      let b = bytes-of 16 (omega arith) e with-linear (omega arith) (omega arith) w in
+      record { bytes = b; wide = w; whole-is = sym (simp (lt-leb _ _ (b .starts), r .1, le-ltb _ _ (r .0))) }
 
-  pub leaf-whole : has-leaf B i ≡ true → whole (command-of B i Leaf) ≡ read-at B i
-  unfolding command-of-in read-in command-in width-in
-  leaf-whole t =
-      let r = leaf-room t in
-      let b = leaf-bytes t .0 in
-      sym (simp (lt-leb _ _ (b .starts), r .1, le-ltb _ _ (r .0)))
+  told-condition : 17 ≡ code-at B i → Told 17
+  unfolding command-of-in read-in command-in width-in push-width push-of
+  told-condition e =
+      let r = code-room 17 (omega arith) e in
+      let w : width (byte-at B i) ≡ 2 = ap width (r .1) in
+      let b = bytes-of 17 (omega arith) e 2 (omega arith) (omega arith) w in
+      let f : i + 2 ≤ length B = omega (arith, r .0) in
+      record { bytes = b; wide = w; whole-is = sym (simp (lt-leb _ _ (b .starts), r .1, le-ltb _ _ f)) }
+
+  told-test : 18 ≡ code-at B i → Told 18
+  unfolding command-of-in read-in command-in width-in push-width push-of
+  told-test e =
+      let r = code-room 18 (omega arith) e in
+      let w : width (byte-at B i) ≡ with-linear = ap width (r .1) in
+      let b = bytes-of 18 (omega arith) e with-linear (omega arith) (omega arith) w in
+      record { bytes = b; wide = w; whole-is = sym (simp (lt-leb _ _ (b .starts), r .1, le-ltb _ _ (r .0))) }
+
+  told : (op : ℕ) → pushes op ≡ true → op ≡ code-at B i → Told op
+  told op t = push-cases (λ (k : ℕ). k ≡ code-at B i → Told k) told-leaf told-condition told-test op t
+
+  -- a give of an action
+  abbrev slot-at : ℕ → Slot
+  slot-at k = record { command = k; action = action-at new-form B (i + 1); index = index-at B i k }
+
+  abbrev Given : ℕ → Type 0
+  Given k = k ≡ code-at B i → whole (give (slot-at k)) ≡ read-at B i
+
+  given-room : (k w : ℕ) → 1 ≤ k → w ≤ with-linear → k ≡ code-at B i → (leb (length B) i ≡ false) × (byte-at B i ≡ k) × (ltb (length B) (i + w) ≡ false)
+  given-room k w h u e =
+      let r = code-room k h e in
+      let s : i < length B = omega (arith, r .0) in
+      let t : i + w ≤ length B = omega (arith, r .0) in
+      (lt-leb _ _ s, r .1, le-ltb _ _ t)
+
+  given-reward : Given 32
+  unfolding read-in command-in width-in index-at
+  given-reward e = let r = given-room 32 3 (omega arith) (omega arith) e in sym (simp (r .0, r .1, r .2))
+
+  given-chance : Given 33
+  unfolding read-in command-in width-in index-at
+  given-chance e = let r = given-room 33 4 (omega arith) (omega arith) e in sym (simp (r .0, r .1, r .2))
+
+  given-level : Given 34
+  unfolding read-in command-in width-in index-at
+  given-level e = let r = given-room 34 4 (omega arith) (omega arith) e in sym (simp (r .0, r .1, r .2))
+
+  given-of : (k : ℕ) → 0x20 ≤ k → k ≤ 0x22 → Given k
+  given-of k u v = go (eqb k 32) (eqb k 33) refl refl
+    where
+      go : (b c : Bool) → eqb k 32 ≡ b → eqb k 33 ≡ c → Given k
+      go true c p q = subst Given (sym (eqb-true k 32 p)) given-reward
+      go false true p q = subst Given (sym (eqb-true k 33 q)) given-chance
+      go false false p q = subst Given (let z : 34 ≡ k = omega (arith, eqb-false k 32 p, eqb-false k 33 q) in z) given-level
+
+  pub given-whole : (op : ℕ) (g : Slot) → op ≡ code-at B i → 0x20 ≤ op → op ≤ 0x22 → (a j : ℕ) → a ≡ action-at new-form B (i + 1) → j ≡ index-at B i op
+      → same-slot g (record { command = op; action = a; index = j }) ≡ true → whole (give g) ≡ read-at B i
+  given-whole op g e u v a j p q t =
+      ap (λ (h : Slot). whole (give h)) (same-is g _ (from-true t) ∙ (λ k. record { command = op; action = p k; index = q k })) ∙ given-of op u v e
+
+  -- the leaf's linear
+  pub leaf-reads : 16 ≡ code-at B i → linear-at B (i + 1) ≡ leaf-of (read-at B i)
+  unfolding command-of-in leaf-of push-of
+  leaf-reads e = ap leaf-of (told-leaf e .whole-is)
+
+  pub leaf-constant : 16 ≡ code-at B i → signed (word-at B (i + 1 + levels-most * 4)) ≡ leaf-of (read-at B i) .const
+  unfolding linear-in
+  leaf-constant e = ap (λ (p : Linear). p .const) (leaf-reads e)
 
   skip : (b : Bool) (c d : Command) → no-linear ≡ leaf-of (whole c) → no-linear ≡ leaf-of (whole d) → no-linear ≡ leaf-of (whole (if b c d))
   skip true c d e f = e
@@ -127,16 +226,16 @@ module _ (B : List ℕ) (i : ℕ) where
       (skip (eqb (byte-at B i) 0x23) _ _ refl
       (skip (eqb (byte-at B i) 0x30) _ _ refl refl))))))))
 
-  other-byte : has-leaf B i ≡ false → ltb (length B) (i + width (byte-at B i)) ≡ false → (b : Bool) → eqb (byte-at B i) 0x10 ≡ b → no-linear ≡ leaf-of (whole (command-at B i))
-  unfolding has-leaf width-in
+  other-byte : (code-at B i ≡ 16 → ⊥) → ltb (length B) (i + width (byte-at B i)) ≡ false → (b : Bool) → eqb (byte-at B i) 0x10 ≡ b → no-linear ≡ leaf-of (whole (command-at B i))
+  unfolding code-at width-in
   other-byte t f true e =
-      let w : width (byte-at B i) ≡ with-linear = ap width {x = byte-at B i} {y = 16} (eqb-true (byte-at B i) 16 e) in
+      let k : byte-at B i ≡ 16 = eqb-true (byte-at B i) 16 e in
+      let w : width (byte-at B i) ≡ with-linear = ap width {x = byte-at B i} {y = 16} k in
       let g : ltb (length B) (i + with-linear) ≡ false = sym (ap (λ (k : ℕ). ltb (length B) (i + k)) w) ∙ f in
-      let h : true ≡ false = sym (ap₂ (λ (a c : Bool). if a false c) g e) ∙ t in
-      absurd (let z : _≡_ {A = ℕ} 0 1 = cc in omega arith)
+      absurd (t (ap (λ (a : Bool). if a 0 (byte-at B i)) g ∙ k))
   other-byte t f false e = other-command e
 
-  pub no-leaf : has-leaf B i ≡ false → no-linear ≡ leaf-of (read-at B i)
+  pub no-leaf : (code-at B i ≡ 16 → ⊥) → no-linear ≡ leaf-of (read-at B i)
   unfolding leaf-of read-in
   no-leaf t = go (leb (length B) i) (eqb (width (byte-at B i)) 0) (ltb (length B) (i + width (byte-at B i))) refl
     where
@@ -145,6 +244,23 @@ module _ (B : List ℕ) (i : ℕ) where
       go false true b₃ e = refl
       go false false true e = refl
       go false false false e = other-byte t e (eqb (byte-at B i) 0x10) refl
+
+-- what a push leaves, case by case
+module _ (B : List ℕ) (x : Point) (i op : ℕ) (l : List ℕ) where
+  abbrev Left : List ℕ
+  Left = stepped x i (command-of B i (push-of B i op)) l
+
+  pub leaf-left : op ≡ 16 → pushed i l ≡ Left
+  unfolding push-of stepped command-of-in
+  leaf-left e = rw (eq-eqb op 16 e) refl
+
+  pub condition-left : (op ≡ 16 → ⊥) → op ≡ 17 → (b : Bool) → b ≡ condition-holds x (byte-at B (i + 1)) → chosen b l ≡ Left
+  unfolding push-of stepped command-of-in
+  condition-left n e b q = rw (ne-eqb op 16 n, eq-eqb op 17 e) (ap (λ (a : Bool). chosen a l) q)
+
+  pub test-left : (op ≡ 16 → ⊥) → (op ≡ 17 → ⊥) → (b : Bool) → b ≡ leZ (numerator x (linear-at B (i + 1))) (pos 0) → chosen b l ≡ Left
+  unfolding push-of stepped command-of-in
+  test-left n e b q = rw (ne-eqb op 16 n, ne-eqb op 17 e) (ap (λ (a : Bool). chosen a l) q)
 
 -- ---- one turn
 
@@ -186,12 +302,19 @@ module _ {B : List ℕ} {x : Point} {g : Slot} {i : ℕ} {l : List ℕ} (w : See
       → l′ ≡ stepped x i (command-of B i c) l → Seek B x g next l′
   seek-on c next l′ e f q n s = subst (Seek B x g next) (sym s) (seek-next (command-of B i c) next e f (going B i c q .0) n)
 
-  -- a leaf is pushed
-  pub seek-leaf : (l′ : List ℕ) → has-leaf B i ≡ true → l′ ≡ pushed i l → Seek B x g (i + with-linear) l′
-  unfolding command-of-in takes is-end stepped
-  seek-leaf l′ t s =
-      let b = leaf-bytes B i t in
-      seek-on Leaf (i + with-linear) l′ (leaf-whole B i t) refl refl (sym (next-whole new-form B i (b .0) ∙ ap (λ (k : ℕ). i + k) (b .1))) s
+  push-takes : (b c : Bool) (k : ℕ) → (takes g (command-of B i (if b Leaf (if c (Condition k) Test))) ≡ false) × (is-end (if b Leaf (if c (Condition k) Test)) ≡ false)
+  unfolding command-of-in takes is-end
+  push-takes true c k = (refl, refl)
+  push-takes false true k = (refl, refl)
+  push-takes false false k = (refl, refl)
+
+  -- a push, told by its byte
+  pub seek-push : (op w : ℕ) (l′ : List ℕ) → op ≡ code-at B i → pushes op ≡ true → w ≡ push-width op → l′ ≡ stepped x i (command-of B i (push-of B i op)) l → Seek B x g (i + w) l′
+  unfolding push-of
+  seek-push op w l′ e t q s =
+      let d = told B i op t e in
+      let f = push-takes (eqb op 16) (eqb op 17) (byte-at B (i + 1)) in
+      seek-on (push-of B i op) (i + w) l′ (d .whole-is) (f .0) (f .1) (sym (next-whole new-form B i (d .bytes) ∙ ap (λ (k : ℕ). i + k) (d .wide ∙ sym q))) s
 
 -- ---- the leaf's linear
 
@@ -203,10 +326,6 @@ zeros-at (suc n) (suc k) = zeros-at n k
 -- the linear 0
 pub none-small : Smalls (replicate numbers (pos 0))
 none-small = record { long = refl; each = λ k. subst Small (sym (zeros-at numbers k)) (record { small = omega arith }) }
-
-pub leaf-reads : (B : List ℕ) (i : ℕ) (q : List ℤ) → has-leaf B i ≡ true → linear-of q ≡ linear-at B (i + 1) → linear-of q ≡ leaf-of (read-at B i)
-unfolding command-of-in leaf-of
-leaf-reads B i q t r = r ∙ ap leaf-of (leaf-whole B i t)
 
 -- ---- what the leaf comes to
 

@@ -2,7 +2,7 @@
 use mathlib.Core.Path.{_≡_}
 use mathlib.Core.Bool.{Bool, false, not}
 use mathlib.Core.List.{List, [], _∷_}
-use Prim.Native.Nat.{ℕ, _+_, _-_, _≤_}
+use Prim.Native.Nat.{ℕ, _+_, _-_, _≤_, _<_}
 use lib.Dec.{T, eqb, leb, ltb}
 use lib.IntN.{ℤ, pos, _+ℤ_, _*ℤ_}
 use lib.ListN.{length, getD, take, drop}
@@ -17,6 +17,8 @@ use Rattle.theory.specs.Verdict.{same-slot, beyond}
 use Rattle.theory.specs.Load.{find-slot, site-at}
 use Rattle.theory.specs.Value.{bits}
 use Rattle.theory.specs.laws.Loading.{loaded-entries}
+use Rattle.command.specs.declared.Command.{Command as CodeCommand}
+use Rattle.command.specs.declared.Command.the-variants.{Leaf, Condition, Test}
 use Rattle.command.specs.Reading.{with-linear}
 use Rattle.command.specs.Held.{pushed}
 use Rattle.evaluate.specs.declared.Point.{Point}
@@ -33,6 +35,11 @@ nums-of x = take levels-most (x .n)
 -- the denominator stands behind them
 abbrev pub den-of : Point → ℤ
 den-of x = getD (x .n) levels-most (pos 0)
+
+-- beyond a point's levels its numerators are 0
+pub record Flat (x : Point) : Type 0 where
+  pub few : x .levels ≤ levels-most
+  pub rest : (k : ℕ) → x .levels ≤ k → k < levels-most → getD (x .n) k (pos 0) ≡ pos 0
 
 -- a linear at a point, times d
 unfoldable pub numerator : Point → Linear → ℤ
@@ -67,6 +74,28 @@ takes g (push-test p) = false
 takes g (give h) = same-slot g h
 takes g (name-action a b) = false
 takes g end-model = false
+
+-- ---- commands told by their bytes
+
+-- the byte at an offset, where bytes for a linear stand behind it; else 0
+unfoldable pub code-at : List ℕ → ℕ → ℕ
+code-at B i = if (ltb (length B) (i + with-linear)) 0 (byte-at B i)
+
+-- "10 leaf", "11 condition", "12 test"
+unfoldable pub pushes : ℕ → Bool
+pushes op = if (ltb op 0x10) false (leb op 0x12)
+
+unfoldable pub push-of : List ℕ → ℕ → ℕ → CodeCommand
+push-of B i op = if (eqb op 0x10) Leaf (if (eqb op 0x11) (Condition (byte-at B (i + 1))) Test)
+
+unfoldable pub push-width : ℕ → ℕ
+push-width op = if (eqb op 0x11) 2 with-linear
+
+-- "20 reward: action", "21 chance: action, condition", "22 next level: action, level"
+unfoldable pub index-at : List ℕ → ℕ → ℕ → ℕ
+index-at B i op = if (eqb op 0x20) 0 (byte-at B (i + 3))
+
+-- ---- the whole pass
 
 -- the offset on the top of the stack where a slot is given
 unfoldable pub pass : Point → Slot → List Placed → List ℕ → ℕ
@@ -105,10 +134,6 @@ leaf-of (whole (name-action a b)) = no-linear
 leaf-of (whole end-model) = no-linear
 leaf-of unknown = no-linear
 leaf-of short = no-linear
-
--- a whole leaf stands at an offset
-unfoldable pub has-leaf : List ℕ → ℕ → Bool
-has-leaf B i = if (ltb (length B) (i + with-linear)) false (eqb (byte-at B i) 0x10)
 
 -- the leaf at an offset has that linear, whose coefficients beyond level m are zero
 pub record Leaf-at (B : List ℕ) (m i : ℕ) (p : Linear) : Type 0 where

@@ -2,8 +2,8 @@
 // A pass over the commands of that diagram; on the stack stands for each diagram the offset of the leaf that it comes to.
 ghost use mathlib.Core.Path.{_≡_};
 ghost use mathlib.Core.List.{List, []};
-ghost use mathlib.Core.Bool.{Bool};
-ghost use Prim.Native.Nat.{ℕ, _<_};
+ghost use mathlib.Core.Bool.{Bool, true};
+ghost use Prim.Native.Nat.{ℕ, _+_, _≤_, _<_};
 ghost use lib.Dec.{T};
 ghost use lib.ListN.{length};
 ghost use lib.IntN.{pos};
@@ -11,7 +11,7 @@ ghost use lib.Signed.{leZ};
 ghost use Rattle.whole.specs.Int.{up};
 ghost use Rattle.whole.specs.Linears.{Smalls};
 ghost use Rattle.whole.specs.Numerator.{words};
-ghost use Rattle.theory.specs.Command.{whole, byte-at, width, read-at};
+ghost use Rattle.theory.specs.Command.{whole, give, byte-at, width, read-at};
 ghost use Rattle.theory.specs.Meaning.{State, env, nth};
 ghost use Rattle.theory.specs.Meaning.{worth-at as worth-of};
 ghost use Rattle.theory.specs.Meaning.{end-at as end-of};
@@ -20,9 +20,9 @@ ghost use Rattle.theory.specs.Load.{find-slot, found, site-at};
 ghost use Rattle.theory.specs.Value.{bits};
 ghost use Rattle.theory.specs.Verdict.{verdict, end-slot, same-slot};
 ghost use Rattle.theory.specs.laws.Loading.{loaded-entries};
-ghost use Rattle.command.specs.Reading.{linear-of, command-of};
+ghost use Rattle.command.specs.Reading.{with-linear, linear-of, command-of};
 ghost use Rattle.command.specs.Held.{last-first};
-ghost use Rattle.evaluate.specs.Pass.{slot-of, no-name, condition-holds, stepped, leaf-of, has-leaf, Stands, Comes};
+ghost use Rattle.evaluate.specs.Pass.{slot-of, no-name, Flat, condition-holds, stepped, leaf-of, code-at, pushes, push-width, push-of, index-at, Stands, Comes};
 ghost use Rattle.evaluate.specs.Pass.{takes as takes-slot};
 ghost use Rattle.evaluate.specs.Pass.{numerator as numerator-at};
 ghost use Rattle.evaluate.specs.Parts.{Room, Holds, Seek, Parts};
@@ -37,6 +37,7 @@ use whole::limits::mag;
 use whole::two_words;
 
 mod offsets; // offsets.rt: the stack of a pass
+mod numerators; // numerators.rt: linears of the bytes at a point
 pub mod parts; // parts.rt: where each slot's diagram begins
 
 // Bytes of a leaf or a test, with its command's byte.
@@ -50,22 +51,25 @@ pub struct Slot {
 }
 
 // A state, and a setting of the next step's conditions: bit k − 1 for condition k; the numerators, and the denominator as the last.
+// Beyond the first `levels` the numerators are 0.
 pub struct Point {
     pub mask: u32,
     pub setting: u32,
     pub n: [i32; NUMBERS],
+    pub levels: usize,
 }
 
+// Condition k of four.
 fn bit(mask: u32, k: u8) -> bool
     ensures { λ r. ⌜ r ≡ nth (bits 4 mask) k ⌝ }
 {
-    match k {
-        1 => mask % 2 == 1,
-        2 => mask / 2 % 2 == 1,
-        3 => mask / 2 / 2 % 2 == 1,
-        4 => mask / 2 / 2 / 2 % 2 == 1,
-        _ => false,
+    if k == 0 {
+        return false;
     }
+    if 4 < k {
+        return false;
+    }
+    values::states::condition(4, mask, k as u32)
 }
 
 // "1 to n for a condition now, 5 to 4+n for the next step's"
@@ -144,31 +148,92 @@ fn size(c: Command) -> usize
     command::size_in(Form::New, c)
 }
 
-// Whether a whole leaf stands at an offset: most commands are leaves.
-fn is_leaf(model: &[u8], at: usize) -> bool
-    ensures { λ r. ⌜ r ≡ has-leaf (now (model .entry)) at ⌝ }
+// The byte at an offset, where bytes for a linear stand behind it; else 0.
+fn code(model: &[u8], at: usize) -> u8
+    ensures { λ r. ⌜ r ≡ code-at (now (model .entry)) at ⌝ }
 {
     if model.len() <= at {
-        return false;
+        return 0;
     }
     if model.len() - at < WITH_LINEAR {
+        return 0;
+    }
+    model[at]
+}
+
+fn is_push(op: u8) -> bool
+    ensures { λ r. ⌜ r ≡ pushes op ⌝ }
+{
+    if op < 0x10 {
         return false;
     }
-    model[at] == 0x10
+    op <= 0x12
+}
+
+// The bytes of a push.
+fn push_size(op: u8) -> usize
+    ensures { λ r. ⌜ r ≡ push-width op ⌝ }
+{
+    if op == 0x11 { 2 } else { WITH_LINEAR }
+}
+
+// What a leaf, a condition or a test leaves of the stack, told by its byte.
+fn push_by(model: &[u8], at: usize, op: u8, items: &mut [u32], len: usize, x: Point) -> usize
+    requires { ⌜ Room (now items) len × (at + with-linear ≤ length (now model)) × (length (now model) < 4294967296) × Flat x ⌝ }
+    ensures { λ r. ⌜ Holds (now (items .exit)) r (stepped x at (command-of (now (model .entry)) at (push-of (now (model .entry)) at op)) (last-first (now (items .entry)) len)) ⌝ }
+{
+    if op == 0x10 {
+        return offsets::push(items, len, at as u32);
+    }
+    if op == 0x11 {
+        return offsets::choose(items, len, condition(model[at + 1], x));
+    }
+    offsets::choose(items, len, numerators::test_at(model, at + 1, x))
+}
+
+// The condition or level that a give of an action has.
+fn index_at(model: &[u8], at: usize, op: u8) -> u8
+    requires { ⌜ at + with-linear ≤ length (now model) ⌝ }
+    ensures { λ r. ⌜ r ≡ index-at (now (model .entry)) at op ⌝ }
+{
+    if op == 0x20 { 0 } else { model[at + 3] }
+}
+
+// Whether the slot is given at an offset, told by the bytes; some gives are left to the general way.
+fn gives(model: &[u8], at: usize, op: u8, g: Slot) -> bool
+    requires { ⌜ op ≡ code-at (now model) at ⌝ }
+    ensures { λ r. ⌜ (r ≡ true → whole (give (slot-of g)) ≡ read-at (now (model .entry)) at) ⌝ }
+{
+    if op < 0x20 {
+        return false;
+    }
+    if 0x22 < op {
+        return false;
+    }
+    same(
+        g,
+        op,
+        command::action_in(Form::New, model, at + 1),
+        index_at(model, at, op),
+    )
 }
 
 // From an offset on, with nothing on the stack there, to the command that gives the slot.
 fn pass_from(model: &[u8], begin: usize, g: Slot, x: Point, items: &mut [u32]) -> usize
-    requires { ⌜ (verdict (now model) .number ≡ 0) × (length (now model) < 4294967296) × T (no-name (slot-of g)) × Room (now items) 0 × Seek (now model) x (slot-of g) begin [] ⌝ }
+    requires { ⌜ (verdict (now model) .number ≡ 0) × (length (now model) < 4294967296) × T (no-name (slot-of g)) × Room (now items) 0 × Seek (now model) x (slot-of g) begin [] × Flat x ⌝ }
     ensures { λ r. ⌜ Comes (now (model .entry)) (slot-of g) x r ⌝ }
 {
     let mut at = begin;
     let mut len: usize = 0;
     loop {
-        if is_leaf(model, at) {
-            len = offsets::push(items, len, at as u32);
-            at += WITH_LINEAR;
+        let op = code(model, at);
+        if is_push(op) {
+            len = push_by(model, at, op, items, len, x);
+            at += push_size(op);
             continue;
+        }
+        if gives(model, at, op, g) {
+            return offsets::top(items, len) as usize;
         }
         let read = command::command_at(model, at);
         let Read::Whole(c) = read else {
@@ -187,7 +252,7 @@ fn pass_from(model: &[u8], begin: usize, g: Slot, x: Point, items: &mut [u32]) -
 
 // The offset of the leaf that a slot's diagram comes to, in an accepted model; 0 where none is given.
 fn leaf_at(model: &[u8], parts: &[u32], g: Slot, x: Point) -> usize
-    requires { ⌜ (verdict (now model) .number ≡ 0) × (length (now model) < 4294967296) × T (no-name (slot-of g)) × Parts (now model) (now parts) ⌝ }
+    requires { ⌜ (verdict (now model) .number ≡ 0) × (length (now model) < 4294967296) × T (no-name (slot-of g)) × Parts (now model) (now parts) × Flat x ⌝ }
     ensures { λ r. ⌜ Comes (now (model .entry)) (slot-of g) x r ⌝ }
 {
     let begin = parts::begin(parts, g);
@@ -195,29 +260,40 @@ fn leaf_at(model: &[u8], parts: &[u32], g: Slot, x: Point) -> usize
     pass_from(model, begin, g, x, &mut items)
 }
 
-// The linear of the leaf command at an offset, 0 of any other.
-fn leaf(model: &[u8], at: usize) -> [i64; NUMBERS]
-    ensures { λ r. ⌜ Smalls r × (linear-of r ≡ leaf-of (read-at (now (model .entry)) at)) ⌝ }
+// The leaf at an offset, at a point, times d; 0 where no leaf stands there.
+fn leaf_numerator(model: &[u8], at: usize, x: Point) -> Numerator
+    requires { ⌜ Flat x ⌝ }
+    ensures { λ r. ⌜ r ≡ words (numerator-at x (leaf-of (read-at (now (model .entry)) at))) ⌝ }
 {
-    if is_leaf(model, at) {
-        return command::linear_at(model, at + 1);
+    if code(model, at) == 0x10 {
+        return numerators::numerator_at(model, at + 1, x);
     }
-    [0i64; NUMBERS]
+    numerator([0i64; NUMBERS], x)
+}
+
+// The constant of the leaf at an offset; 0 where no leaf stands there.
+fn leaf_constant(model: &[u8], at: usize) -> i64
+    ensures { λ r. ⌜ r ≡ leaf-of (read-at (now (model .entry)) at) .const ⌝ }
+{
+    if code(model, at) == 0x10 {
+        return numerators::number(model, at + 1 + COEFFICIENTS * 4);
+    }
+    0
 }
 
 // What a slot's diagram comes to, times d: a reward, or a next level.
 pub fn worth_at(model: &[u8], parts: &[u32], g: Slot, x: Point) -> Numerator
-    requires { ⌜ (verdict (now model) .number ≡ 0) × (length (now model) < 4294967296) × T (no-name (slot-of g)) × Parts (now model) (now parts) ⌝ }
+    requires { ⌜ (verdict (now model) .number ≡ 0) × (length (now model) < 4294967296) × T (no-name (slot-of g)) × Parts (now model) (now parts) × Flat x ⌝ }
     ensures { λ r. ⌜ ((s : State) (z : List Bool) → Stands (site-at (now (model .entry)) .levels) (site-at (now (model .entry)) .conditions) x s z
         → r ≡ words (worth-of (env s z) (find-slot (slot-of g) (loaded-entries (now (model .entry)))))) ⌝ }
 {
     let at = leaf_at(model, parts, g, x);
-    numerator(leaf(model, at), x)
+    leaf_numerator(model, at, x)
 }
 
 // What the end worth comes to, times d; 0 where none is given.
 pub fn end_at(model: &[u8], parts: &[u32], x: Point) -> Numerator
-    requires { ⌜ (verdict (now model) .number ≡ 0) × (length (now model) < 4294967296) × Parts (now model) (now parts) ⌝ }
+    requires { ⌜ (verdict (now model) .number ≡ 0) × (length (now model) < 4294967296) × Parts (now model) (now parts) × Flat x ⌝ }
     ensures { λ r. ⌜ ((s : State) (z : List Bool) → Stands (site-at (now (model .entry)) .levels) (site-at (now (model .entry)) .conditions) x s z
         → r ≡ words (end-of (env s z) (found end-slot (loaded-entries (now (model .entry)))))) ⌝ }
 {
@@ -234,13 +310,12 @@ pub fn end_at(model: &[u8], parts: &[u32], x: Point) -> Numerator
 
 // The weight, out of W, that a slot's diagram comes to.
 pub fn chance_at(model: &[u8], parts: &[u32], g: Slot, x: Point) -> u64
-    requires { ⌜ (verdict (now model) .number ≡ 0) × (length (now model) < 4294967296) × T (no-name (slot-of g)) × Parts (now model) (now parts) ⌝ }
+    requires { ⌜ (verdict (now model) .number ≡ 0) × (length (now model) < 4294967296) × T (no-name (slot-of g)) × Parts (now model) (now parts) × Flat x ⌝ }
     ensures { λ r. ⌜ ((s : State) (z : List Bool) → Stands (site-at (now (model .entry)) .levels) (site-at (now (model .entry)) .conditions) x s z
         → r ≡ chance-of (env s z) (find-slot (slot-of g) (loaded-entries (now (model .entry))))) ⌝ }
 {
     let at = leaf_at(model, parts, g, x);
-    let p = leaf(model, at);
-    weight(p[COEFFICIENTS])
+    weight(leaf_constant(model, at))
 }
 
 // A number below 0 counts as 0; an accepted model has none.

@@ -29,12 +29,12 @@ use Rattle.theory.specs.Value.{bits}
 use Rattle.theory.specs.Plain.{in-32-bits}
 use Rattle.theory.specs.laws.Loading.{loaded-entries}
 use Rattle.evaluate.specs.declared.Point.{Point}
-use Rattle.evaluate.specs.Pass.{den-of, Stands}
+use Rattle.evaluate.specs.Pass.{den-of, Flat, Stands}
 use Rattle.judging.specs.declared.Level.{Level}
 use Rattle.judging.specs.declared.Level.the-variants as level
 use Rattle.transition.specs.declared.Next.{Next}
 use Rattle.judging.specs.Totals.{judged-32, level-by}
-use Rattle.transition.specs.Standing.{Ready, Spells, under, after, Level-is, Leads}
+use Rattle.transition.specs.Standing.{Ready, Spells, Fits, under, after, Level-is, Leads}
 use Rattle.transition.proofs.Lists.{map-twice, listed-from, some-fails, each-passes, within-widths, set}
 
 -- ---- a level
@@ -82,6 +82,10 @@ level-lacks z e = go (in-32-bits z) refl e
 
 -- ---- a state
 
+-- a setting changes no numerator
+pub flat-under : {x : Point} {r : ℕ} → Flat x → {y : Point} → y ≡ under x r → Flat y
+flat-under f e = rw e (record { few = f .few; rest = f .rest })
+
 -- next level i under a setting
 abbrev level-on : List ℕ → ℕ → ℕ → State → ℕ → ℤ
 level-on B a r s i = worth-at (env s (bits (site-at B .conditions) r)) (find-slot (level-slot a i) (loaded-entries B))
@@ -91,6 +95,7 @@ pub record Moved (B : List ℕ) (a : ℕ) (x : Point) (r i : ℕ) (n : List ℤ)
   pub upto : i ≤ levels-most
   pub long : length n ≡ numbers
   pub last : getD n levels-most (pos 0) ≡ den-of x
+  pub rest : (k : ℕ) → site-at B .levels ≤ k → getD n k (pos 0) ≡ getD (x .n) k (pos 0)
   pub each : (s : State) → Spells (site-at B) x s → (k : ℕ) → k < i → 1 + k ≤ site-at B .levels → (getD n k (pos 0) ≡ level-on B a r s (1 + k)) × (in-32-bits (level-on B a r s (1 + k)) ≡ true)
 
 module _ (B : List ℕ) (a : ℕ) (x : Point) (r : ℕ) (ok : Ready B) {y : Point} (under-is : y ≡ under x r) where
@@ -117,13 +122,14 @@ module _ (B : List ℕ) (a : ℕ) (x : Point) (r : ℕ) (ok : Ready B) {y : Poin
   }
 
   pub none-moved : length (x .n) ≡ numbers → Moved B a x r 0 (x .n)
-  none-moved e = record { upto = omega arith; long = e; last = refl; each = λ s p k h. absurd (omega arith) }
+  none-moved e = record { upto = omega arith; long = e; last = refl; rest = λ k h. refl; each = λ s p k h. absurd (omega arith) }
 
   pub one-moved : {i : ℕ} {n : List ℤ} → Moved B a x r i n → i < S .levels → {j : ℕ} → j ≡ 1 + i → {l : Level} → Level-is B a j y l → {z : ℤ} → l ≡ level.Is z → SFits w32 z → {v : ℤ} → v ≡ z → Moved B a x r (i + 1) (store n i v)
   one-moved {i} {n} M h {j} ej {l} L {z} e f {v} ev = record {
     upto = omega (arith, within-widths B ok .1);
     long = length-set n i v ∙ M .long;
     last = getD-set-other n i levels-most v (pos 0) (λ q. omega (arith, within-widths B ok .1)) ∙ M .last;
+    rest = λ k u. getD-set-other n i k v (pos 0) (λ q. omega (arith, q)) ∙ M .rest k u;
     each = λ s p k u w. go s p k u w (eqb k i) (λ t. eqb-true k i t) (λ t. eqb-false k i t);
   }
     where
@@ -139,14 +145,18 @@ module _ (B : List ℕ) (a : ℕ) (x : Point) (r : ℕ) (ok : Ready B) {y : Poin
           let m = M .each s p k (omega arith) w in
           (getD-set-other n i k v (pos 0) t ∙ m .0, m .1)
 
-  pub all-moved : {i : ℕ} {n : List ℤ} → Moved B a x r i n → S .levels ≤ i → {v : Next} → v ≡ record { over = false; point = record { mask = r; setting = 0; n = n } } → Leads B a x r v
+  pub all-moved : {i : ℕ} {n : List ℤ} → Moved B a x r i n → S .levels ≤ i → Fits S x → {m : ℕ} → m ≡ S .levels → {v : Next} → v ≡ record { over = false; point = record { mask = r; setting = 0; n = n; levels = m } } → Leads B a x r v
   unfolding moved
-  all-moved {i} {n} M h ev = rw ev (record {
+  all-moved {i} {n} M h ft {m} em ev = rw ev (record {
     leads = λ s p. record {
       over = λ q. clash (sym q);
       at = λ _. record {
         fits = ap (all in-32-bits) (nums-after s) ∙ each-passes in-32-bits (level-of s) 1 (S .levels) (passes s p);
         alone = refl;
+        point-fits = record {
+          flat = record { few = omega (arith, em, within-widths B ok .1); rest = λ k u w. M .rest k (omega (arith, em)) ∙ ft .flat .rest k (omega (arith, em, ft .few)) w };
+          few = omega (arith, em);
+        };
         spells = record {
           conditions-are = refl;
           nums-are = nums-after s ∙ listed-from (level-of s) 1 (S .levels) (take levels-most n) (rw firsts (within-widths B ok .1)) (λ k u. getD-take levels-most n k (pos 0) (omega (arith, within-widths B ok .1)) ∙ M .each s p k (omega (arith, within-widths B ok .1, h)) (omega arith) .0);

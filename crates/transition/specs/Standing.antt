@@ -16,7 +16,7 @@ use Rattle.theory.specs.Value.{bits}
 use Rattle.theory.specs.Plain.{in-32-bits}
 use Rattle.theory.specs.laws.Loading.{loaded-entries}
 use Rattle.evaluate.specs.declared.Point.{Point}
-use Rattle.evaluate.specs.Pass.{nums-of, den-of, Stands}
+use Rattle.evaluate.specs.Pass.{nums-of, den-of, Flat, Stands}
 use Rattle.judging.specs.declared.Level.{Level}
 use Rattle.judging.specs.declared.Level.the-variants as level
 use Rattle.transition.specs.declared.Next.{Next}
@@ -36,10 +36,16 @@ pub record Spells (S : Site) (x : Point) (s : State) : Type 0 where
   pub nums-are : s .nums ≡ take (S .levels) (nums-of x)
   pub den-is : pos (s .den) ≡ den-of x
 
+-- beyond a site's levels the numerators are 0
+pub record Fits (S : Site) (x : Point) : Type 0 where
+  pub flat : Flat x
+  pub few : x .levels ≤ S .levels
+
 -- a point with no setting that spells some state
 pub record Standing (B : List ℕ) (x : Point) : Type 0 where
   pub ready : Ready B
   pub alone : x .setting ≡ 0
+  pub fits : Fits (site-at B) x
   pub state : State
   pub spells : Spells (site-at B) x state
 
@@ -52,7 +58,7 @@ abbrev pub act : List ℕ → ℕ → Action
 act B a = action-of (site-at B) (loaded-entries B) a
 
 abbrev pub under : Point → ℕ → Point
-under x r = record { mask = x .mask; setting = r; n = x .n }
+under x r = record { mask = x .mask; setting = r; n = x .n; levels = x .levels }
 
 -- ---- chances and weights
 
@@ -92,6 +98,7 @@ after B a s r = moved s (act B a .levels) (bits (site-at B .conditions) r)
 pub record Reaches (S : Site) (t : State) (y : Point) : Type 0 where
   pub fits : all in-32-bits (t .nums) ≡ true
   pub alone : y .setting ≡ 0
+  pub point-fits : Fits S y
   pub spells : Spells S y t
 
 -- the next state, or some numerator of it leaves 32 bits

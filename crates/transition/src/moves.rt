@@ -1,7 +1,9 @@
 // The state after an action and a setting of the next conditions.
 ghost use mathlib.Core.Path.{_≡_};
+ghost use Rattle.theory.specs.Load.{site-at};
+ghost use Rattle.evaluate.specs.Pass.{Flat};
 ghost use Rattle.evaluate.specs.Parts.{Parts};
-ghost use Rattle.transition.specs.Standing.{Ready, Standing, Acts, under, Level-is, Leads};
+ghost use Rattle.transition.specs.Standing.{Ready, Fits, Acts, under, Level-is, Leads};
 use super::Next;
 use super::sites;
 use evaluate::Point;
@@ -17,7 +19,7 @@ fn with_setting(mut x: Point, r: u32) -> Point
 
 // The numerator of next level i at a point and its setting.
 fn next_level(model: &[u8], parts: &[u32], a: u16, i: u8, x: Point) -> Level
-    requires { ⌜ Ready (now model) × Acts (now model) a × Parts (now model) (now parts) ⌝ }
+    requires { ⌜ Ready (now model) × Acts (now model) a × Parts (now model) (now parts) × Flat x ⌝ }
     ensures { λ z. ⌜ Level-is (now (model .entry)) a i x z ⌝ }
 {
     let g = Slot {
@@ -30,7 +32,7 @@ fn next_level(model: &[u8], parts: &[u32], a: u16, i: u8, x: Point) -> Level
 
 // The next state has the setting as its mask, and the same denominator.
 pub fn next_state(model: &[u8], parts: &[u32], a: u16, x: Point, r: u32) -> Next
-    requires { ⌜ Ready (now model) × Acts (now model) a × Parts (now model) (now parts) ⌝ }
+    requires { ⌜ Ready (now model) × Acts (now model) a × Parts (now model) (now parts) × Fits (site-at (now model)) x ⌝ }
     ensures { λ y. ⌜ Leads (now (model .entry)) a x r y ⌝ }
 {
     let y = with_setting(x, r);
@@ -53,6 +55,7 @@ pub fn next_state(model: &[u8], parts: &[u32], a: u16, x: Point, r: u32) -> Next
             mask: r,
             setting: 0,
             n,
+            levels: m,
         },
     }
 }

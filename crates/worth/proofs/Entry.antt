@@ -1,17 +1,20 @@
 -- The public entry: what the refusals leave, and the state that is asked for.
 use mathlib.Core.Path.{_≡_, refl, sym, ap, _∙_}
 use mathlib.Core.Bool.{Bool, true, false, _&&_}
-use mathlib.Core.List.{List}
-use Prim.Native.Nat.{ℕ, _^_}
+use mathlib.Core.List.{List, [], _∷_}
+use Prim.Native.Nat.{ℕ, zero, suc, _≤_, _^_}
 use native.Mathlib.Omega.{arith}
 use borrow.Author.Tests.{eq-eqb, ne-eqb}
-use lib.Dec.{T, eqb, ltb}
+use lib.Dec.{T, isEq, eqb, ltb}
 use lib.IntN.{ℤ, pos, negsuc}
-use lib.ListN.{drop}
+use lib.ListN.{getD, take, drop}
+use lib.Seq.{getD-take}
 use lib.Signed.{leZ}
 use Rattle.whole.specs.Cases.{if, both, from-true}
 use Rattle.whole.specs.Int.{up}
-use Rattle.theory.specs.Diagram.{zeros}
+use Rattle.theory.specs.Widths.{levels-most}
+use Rattle.theory.specs.Diagram.{cmpZ, zeros}
+use Rattle.theory.specs.laws.Comps.{cmpZ-eq}
 use Rattle.theory.specs.Meaning.{State}
 use Rattle.theory.specs.Load.{site-at, model}
 use Rattle.theory.specs.Solve.{early}
@@ -26,7 +29,8 @@ use Rattle.values.specs.declared.Asked.{Asked as CodeAsked}
 use Rattle.evaluate.specs.declared.Point.{Point}
 use Rattle.judging.specs.declared.Total.{Total}
 use Rattle.judging.specs.Totals.{total-of}
-use Rattle.transition.specs.Standing.{Ready, Spells, Standing}
+use Rattle.transition.specs.Standing.{Ready, Spells, Fits, Standing}
+use Rattle.transition.proofs.Lists.{within-widths}
 use Rattle.worth.specs.Worths.{point-of, State-worth}
 
 if-yes : {A : Type 0} (b : Bool) (f : T b → A) (x : A) (t : T b) → if-true b f x ≡ f t
@@ -42,6 +46,15 @@ if-no false f x e = refl
 pos-up : (z : ℤ) → T (leZ (pos 1) z) → pos (up z) ≡ z
 pos-up (pos n) t = refl
 pos-up (negsuc n) t = absurd t
+
+-- zeros from some number on
+zeros-at : (m : ℕ) (l : List ℤ) (k : ℕ) → T (zeros (drop m l)) → m ≤ k → getD l k (pos 0) ≡ pos 0
+unfolding zeros
+zeros-at m [] k t h = refl
+zeros-at zero (z ∷ l) zero t h = cmpZ-eq z (pos 0) (both (isEq (cmpZ z (pos 0))) (zeros l) t .0)
+zeros-at zero (z ∷ l) (suc k) t h = zeros-at zero l k (both (isEq (cmpZ z (pos 0))) (zeros l) t .1) (omega arith)
+zeros-at (suc m) (z ∷ l) zero t h = absurd (omega arith)
+zeros-at (suc m) (z ∷ l) (suc k) t h = zeros-at m l k t (omega arith)
 
 module _ (B : List ℕ) (steps : ℕ) {v : CodeVerdict} (e : shown v ≡ early B steps 8) where
   abbrev worked : Asked → ValueOut
@@ -78,7 +91,7 @@ module _ (B : List ℕ) (steps : ℕ) {v : CodeVerdict} (e : shown v ≡ early B
         abbrev s : State
         s = state-of (site-at B .levels) (site-at B .conditions) (asked a) holds
 
-        spells : Spells (site-at B) (point-of a) s
+        spells : Spells (site-at B) (point-of m a) s
         unfolding state-of accepted
         spells = record {
           conditions-are = refl;
@@ -86,8 +99,23 @@ module _ (B : List ℕ) (steps : ℕ) {v : CodeVerdict} (e : shown v ≡ early B
           den-is = pos-up (asked a .den) (both (leZ (pos 1) (asked a .den)) (ltb (a .mask) (2 ^ (site-at B .conditions)) && zeros (drop (site-at B .levels) (asked a .nums))) holds .0);
         }
 
-        pub stands : {x : Point} → x ≡ point-of a → Standing B x
-        stands e = rw e (record { ready = ready; alone = refl; state = s; spells = spells })
+        few : m ≤ levels-most
+        few = omega (arith, em, within-widths B ready .1)
 
-        pub answered : {x : Point} → x ≡ point-of a → {t : Total} → State-worth B steps x t → {o : ValueOut} → o ≡ worth-out (total-of t) → o ≡ plain-of B steps (asked a)
+        -- the numerators beyond the levels
+        zero-rest : T (zeros (drop m (take levels-most (a .n))))
+        unfolding accepted
+        zero-rest =
+            rw em (both (ltb (a .mask) (2 ^ (site-at B .conditions))) (zeros (drop (site-at B .levels) (asked a .nums))) (both (leZ (pos 1) (asked a .den)) (ltb (a .mask) (2 ^ (site-at B .conditions)) && zeros (drop (site-at B .levels) (asked a .nums))) holds .1) .1)
+
+        fits : Fits (site-at B) (point-of m a)
+        fits = record {
+          flat = record { few = few; rest = λ k u w. sym (getD-take levels-most (a .n) k (pos 0) w) ∙ zeros-at m (take levels-most (a .n)) k zero-rest u };
+          few = omega (arith, em);
+        }
+
+        pub stands : {x : Point} → x ≡ point-of m a → Standing B x
+        stands e = rw e (record { ready = ready; alone = refl; fits = fits; state = s; spells = spells })
+
+        pub answered : {x : Point} → x ≡ point-of m a → {t : Total} → State-worth B steps x t → {o : ValueOut} → o ≡ worth-out (total-of t) → o ≡ plain-of B steps (asked a)
         answered e W p = onward (asked a) (p ∙ ap worth-out (W .is s (rw e spells)) ∙ sym (if-yes (accepted (site-at B .levels) (site-at B .conditions) (asked a)) _ (refused-value 13 0) holds))

@@ -118,7 +118,7 @@ module _ (B : List ℕ) (h a : ℕ) (x : Point) (count : ℕ) (sum : Within) (r 
 pub next-stands : (B : List ℕ) (a : ℕ) (x : Point) (r : ℕ) (y : Next) → Standing B x → Leads B a x r y → y .over ≡ false → Standing B (y .point)
 next-stands B a x r y st L e =
     let R : Reaches (site-at B) (after B a (st .state) r) (y .point) = L .leads (st .state) (st .spells) .at e in
-    record { ready = st .ready; alone = R .alone; state = after B a (st .state) r; spells = R .spells }
+    record { ready = st .ready; alone = R .alone; fits = R .point-fits; state = after B a (st .state) r; spells = R .spells }
 
 -- ---- the actions of a state
 

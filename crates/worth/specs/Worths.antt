@@ -16,9 +16,9 @@ use Rattle.judging.specs.declared.Total.{Total}
 use Rattle.judging.specs.Totals.{total-of, times-of}
 use Rattle.transition.specs.Standing.{Spells}
 
--- the point that a state asked for stands at, with no setting
-abbrev pub point-of : Asked → Point
-point-of q = record { mask = q .mask; setting = 0; n = q .n }
+-- the point that a state of m levels asked for stands at, with no setting
+abbrev pub point-of : ℕ → Asked → Point
+point-of m q = record { mask = q .mask; setting = 0; n = q .n; levels = m }
 
 -- W^(n×h) × reward, each judged
 pub record Earned (B : List ℕ) (h a : ℕ) (x : Point) (r : Within) : Type 0 where

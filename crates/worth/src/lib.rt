@@ -43,15 +43,16 @@ fn answer(t: Total) -> Value
     }
 }
 
-// The state that is asked for, with no setting.
-fn point(q: Asked) -> Point
-    ensures { λ x. ⌜ x ≡ point-of q ⌝ }
+// The state of m levels that is asked for, with no setting.
+fn point(m: u32, q: Asked) -> Point
+    ensures { λ x. ⌜ x ≡ point-of m q ⌝ }
 {
     let n = q.n;
     Point {
         mask: q.mask,
         setting: 0,
         n,
+        levels: m as usize,
     }
 }
 
@@ -68,5 +69,5 @@ pub fn worth(bytes: &[u8], steps: u32, q: Asked) -> Value
     if values::states::accepted(m, n, q) {} else {
         return refused(13, 0);
     }
-    answer(worths::worked(bytes, steps, point(q)))
+    answer(worths::worked(bytes, steps, point(m, q)))
 }

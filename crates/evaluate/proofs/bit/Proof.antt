@@ -1,33 +1,23 @@
 -- `evaluate::bit` meets its contract.
-use Rattle.theory.specs.Meaning.{nth}
-use Rattle.theory.specs.Value.{bits}
+use native.Mathlib.Omega.{arith}
 use Rattle.evaluate.proofs.Turns.{bit-past}
+use borrow.Author.Needs.{needs}
 use Rattle.evaluate.proofs.bit.Statement.{statement}
 use Rattle.evaluate.proofs.bit.Tie as tie
 
 returns : tie.Need-returns
-unfolding nth bits
 returns c =
-    rw (c .match .keys1)
+    let z = c .if1 .taken in bit-past _ _ (λ e. omega (arith, e, z)) (λ e. omega (arith, e, z)) (λ e. omega (arith, e, z)) (λ e. omega (arith, e, z))
 
 returns-2 : tie.Need-returns-2
-unfolding nth bits
 returns-2 c =
-    rw (c .match .keys2)
+    let z = c .if2 .taken in bit-past _ _ (λ e. omega (arith, e, z)) (λ e. omega (arith, e, z)) (λ e. omega (arith, e, z)) (λ e. omega (arith, e, z))
+
+condition-requires : tie.Need-condition-requires
+condition-requires c κs = search needs
 
 returns-3 : tie.Need-returns-3
-unfolding nth bits
-returns-3 c =
-    rw (c .match .keys3)
-
-returns-4 : tie.Need-returns-4
-unfolding nth bits
-returns-4 c =
-    rw (c .match .keys4)
-
-returns-5 : tie.Need-returns-5
-returns-5 c =
-    let r = c .match .rest in bit-past _ _ (r .0 .0 .0 .1) (r .0 .0 .1) (r .0 .1) (r .1)
+returns-3 c = search needs
 
 pub bit-spec : {M : Type 1} → statement M
-bit-spec = tie.close (tie.spec returns returns-2 returns-3 returns-4 returns-5)
+bit-spec = tie.close (tie.spec returns returns-2 condition-requires returns-3)

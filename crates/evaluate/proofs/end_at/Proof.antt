@@ -21,7 +21,7 @@ returns c =
 
 worth-at-requires : tie.Need-worth-at-requires
 worth-at-requires c κs =
-    (c .before .before .before .before .pre .0, c .before .before .before .before .pre .1, tt, c .before .before .before .before .pre .2)
+    (c .before .before .before .before .pre .0, c .before .before .before .before .pre .1, tt, c .before .before .before .before .pre .2, c .before .before .before .before .pre .3)
 
 returns-2 : tie.Need-returns-2
 returns-2 c =

@@ -17,7 +17,7 @@ slice-aggregate-pass-from c = search needs
 
 pass-from-requires : tie.Need-pass-from-requires
 pass-from-requires c κs =
-    (c .before .before .before .before .pre .0, c .before .before .before .before .pre .1, c .before .before .before .before .pre .2, record { long = refl; few = omega arith }, subst (λ (k : ℕ). Seek (c .before .before .before .before .args .model .now) (c .before .before .before .before .args .x) (slot-of (c .before .before .before .before .args .g)) k []) (sym (c .before .begin .ensures)) (c .before .before .before .before .pre .3 .begins (slot-of (c .before .before .before .before .args .g)) (c .before .before .before .before .args .x)))
+    (c .before .before .before .before .pre .0, c .before .before .before .before .pre .1, c .before .before .before .before .pre .2, record { long = refl; few = omega arith }, subst (λ (k : ℕ). Seek (c .before .before .before .before .args .model .now) (c .before .before .before .before .args .x) (slot-of (c .before .before .before .before .args .g)) k []) (sym (c .before .begin .ensures)) (c .before .before .before .before .pre .3 .begins (slot-of (c .before .before .before .before .args .g)) (c .before .before .before .before .args .x)), c .before .before .before .before .pre .4)
 
 returns : tie.Need-returns
 returns c = search needs

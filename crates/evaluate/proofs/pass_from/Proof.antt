@@ -9,7 +9,7 @@ use Rattle.model.proofs.Walk.{whole-is, forward, past}
 use Rattle.evaluate.specs.Pass.{slot-of}
 use Rattle.evaluate.specs.Parts.{Room, Seek}
 use Rattle.evaluate.proofs.Reach.{pass-comes}
-use Rattle.evaluate.proofs.Turns.{leaf-room, seek-stops, seek-found, seek-ends, seek-on, seek-leaf}
+use Rattle.evaluate.proofs.Turns.{code-room, push-least, push-wide, takes-own, seek-stops, seek-found, seek-ends, seek-on, seek-push}
 use borrow.Author.Needs.{needs}
 use Rattle.evaluate.proofs.pass_from.Statement.{statement}
 use Rattle.evaluate.proofs.pass_from.Tie as tie
@@ -25,29 +25,53 @@ unfolding last-first
 loop-holds c =
     (c .before .before .pre .3, c .before .before .pre .4)
 
-is-leaf-requires : tie.Need-is-leaf-requires Inv-loop μ-loop
-is-leaf-requires c κs =
+code-requires : tie.Need-code-requires Inv-loop μ-loop
+code-requires c κs =
     tt
 
-cast-push : tie.Need-cast-push Inv-loop μ-loop
-cast-push c =
-    let r = leaf-room (c .before .before .before .before .before .before .args .model .now) (c .before .before .before .loop .at) (sym (c .before .before .is-leaf .ensures) ∙ c .before .if1 .taken) in omega (arith, r .0, c .before .before .before .before .before .before .pre .1)
+is-push-requires : tie.Need-is-push-requires Inv-loop μ-loop
+is-push-requires c κs =
+    tt
 
-push-requires : tie.Need-push-requires Inv-loop μ-loop
-push-requires c κs =
-    c .before .before .before .loop .inv .0
+push-by-requires : tie.Need-push-by-requires Inv-loop μ-loop
+push-by-requires c κs =
+    let r = code-room (c .before .before .before .before .before .before .before .args .model .now) (c .before .before .before .before .loop .at) _ (push-least _ (sym (c .before .before .is-push .ensures) ∙ c .before .if1 .taken)) (c .before .before .before .code .ensures) in (c .before .before .before .before .loop .inv .0, r .0, c .before .before .before .before .before .before .before .pre .1, c .before .before .before .before .before .before .before .pre .5)
+
+push-size-requires : tie.Need-push-size-requires Inv-loop μ-loop
+push-size-requires c κs =
+    tt
 
 add-at : tie.Need-add-at Inv-loop μ-loop
 add-at c =
-    let r = leaf-room (c .before .before .before .before .before .before .before .before .before .args .model .now) (c .before .before .before .before .before .before .loop .at) (sym (c .before .before .before .before .before .is-leaf .ensures) ∙ c .before .before .before .before .if1 .taken) in omega (arith, r .0, c .before .before .before .before .before .before .before .before .before .pre .1)
+    let r = code-room (c .before .before .before .before .before .before .before .before .before .before .before .args .model .now) (c .before .before .before .before .before .before .before .before .loop .at) _ (push-least _ (sym (c .before .before .before .before .before .before .is-push .ensures) ∙ c .before .before .before .before .before .if1 .taken)) (c .before .before .before .before .before .before .before .code .ensures) in let w = push-wide (c .before .before .before .before .before .before .before .code .result) in let e = c .push-size .ensures in omega (arith, r .0, w .1, e, c .before .before .before .before .before .before .before .before .before .before .before .pre .1)
 
 loop-less : tie.Need-loop-less Inv-loop μ-loop
 loop-less c =
-    let r = leaf-room (c .before .before .before .before .before .before .before .before .before .args .model .now) (c .before .before .before .before .before .before .loop .at) (sym (c .before .before .before .before .before .is-leaf .ensures) ∙ c .before .before .before .before .if1 .taken) in omega (arith, r .0)
+    let r = code-room (c .before .before .before .before .before .before .before .before .before .before .before .args .model .now) (c .before .before .before .before .before .before .before .before .loop .at) _ (push-least _ (sym (c .before .before .before .before .before .before .is-push .ensures) ∙ c .before .before .before .before .before .if1 .taken)) (c .before .before .before .before .before .before .before .code .ensures) in let w = push-wide (c .before .before .before .before .before .before .before .code .result) in let e = c .push-size .ensures in omega (arith, r .0, w .0, e)
 
 loop-again : tie.Need-loop-again Inv-loop μ-loop
 loop-again c =
-    let h = c .before .before .push .ensures in (h .room, seek-leaf (c .before .before .before .before .before .before .loop .inv .1) _ (sym (c .before .before .before .before .before .is-leaf .ensures) ∙ c .before .before .before .before .if1 .taken) (h .holds))
+    let h = c .before .before .before .push-by .ensures in (h .room, seek-push (c .before .before .before .before .before .before .before .before .loop .inv .1) (c .before .before .before .before .before .before .before .code .result) _ _ (c .before .before .before .before .before .before .before .code .ensures) (sym (c .before .before .before .before .before .before .is-push .ensures) ∙ c .before .before .before .before .before .if1 .taken) (c .push-size .ensures) (h .holds))
+
+gives-requires : tie.Need-gives-requires Inv-loop μ-loop
+gives-requires c κs =
+    c .before .before .code .ensures
+
+top-requires : tie.Need-top-requires Inv-loop μ-loop
+top-requires c κs =
+    c .before .before .before .before .before .before .loop .inv .0
+
+cast-result : tie.Need-cast-result Inv-loop μ-loop
+cast-result c =
+    search needs
+
+same-length : tie.Need-same-length Inv-loop μ-loop
+same-length c =
+    search needs
+
+returns : tie.Need-returns Inv-loop μ-loop
+returns c =
+    pass-comes (c .before .before .before .before .before .before .before .before .before .before .args .model .now) (c .before .before .before .before .before .before .before .before .before .before .args .x) (slot-of (c .before .before .before .before .before .before .before .before .before .before .args .g)) _ (c .before .before .before .before .before .before .before .before .before .before .pre .0) (c .before .before .before .before .before .before .before .before .before .before .pre .2) (seek-found (c .before .before .before .before .before .before .before .loop .inv .1) _ _ (c .before .before .before .gives .ensures (c .before .before .if2 .taken)) (takes-own (slot-of (c .before .before .before .before .before .before .before .before .before .before .args .g))) (c .top .ensures))
 
 command-at-requires : tie.Need-command-at-requires Inv-loop μ-loop
 command-at-requires c κs =
@@ -57,37 +81,25 @@ enum-known-read : tie.Need-enum-known-read Inv-loop μ-loop
 enum-known-read c =
     search needs
 
-same-length : tie.Need-same-length Inv-loop μ-loop
-same-length c =
-    search needs
-
-returns : tie.Need-returns Inv-loop μ-loop
-returns c =
-    pass-comes (c .before .before .before .before .before .before .before .args .model .now) (c .before .before .before .before .before .before .before .args .x) (slot-of (c .before .before .before .before .before .before .before .args .g)) 0 (c .before .before .before .before .before .before .before .pre .0) (c .before .before .before .before .before .before .before .pre .2) (seek-stops (c .before .before .before .before .loop .inv .1) (c .before .command-at .result) (c .match .keys2) (c .before .command-at .ensures))
-
-takes-requires : tie.Need-takes-requires Inv-loop μ-loop
-takes-requires c κs =
-    tt
-
-top-requires : tie.Need-top-requires Inv-loop μ-loop
-top-requires c κs =
-    c .before .before .before .before .before .before .before .before .before .loop .inv .0
-
-cast-result : tie.Need-cast-result Inv-loop μ-loop
-cast-result c =
-    search needs
-
 same-length-2 : tie.Need-same-length-2 Inv-loop μ-loop
 same-length-2 c =
     search needs
 
 returns-2 : tie.Need-returns-2 Inv-loop μ-loop
 returns-2 c =
-    pass-comes (c .before .before .before .before .before .before .before .before .before .before .before .before .before .args .model .now) (c .before .before .before .before .before .before .before .before .before .before .before .before .before .args .x) (slot-of (c .before .before .before .before .before .before .before .before .before .before .before .before .before .args .g)) _ (c .before .before .before .before .before .before .before .before .before .before .before .before .before .pre .0) (c .before .before .before .before .before .before .before .before .before .before .before .before .before .pre .2) (seek-found (c .before .before .before .before .before .before .before .before .before .before .loop .inv .1) _ _ (whole-is (c .before .before .before .before .before .before .before .before .before .before .before .before .before .args .model .now) (c .before .before .before .before .before .before .before .before .before .before .loop .at) (c .before .before .before .before .before .before .before .command-at .ensures) (c .before .before .before .before .before .read .given .1)) (sym (c .before .before .before .takes .ensures (c .before .before .before .before .before .before .before .before .before .before .before .before .before .args .model .now) (c .before .before .before .before .before .before .before .before .before .before .loop .at)) ∙ c .before .before .if2 .taken) (c .top .ensures))
+    pass-comes (c .before .before .before .before .before .before .before .before .before .before .args .model .now) (c .before .before .before .before .before .before .before .before .before .before .args .x) (slot-of (c .before .before .before .before .before .before .before .before .before .before .args .g)) 0 (c .before .before .before .before .before .before .before .before .before .before .pre .0) (c .before .before .before .before .before .before .before .before .before .before .pre .2) (seek-stops (c .before .before .before .before .before .before .before .loop .inv .1) (c .before .command-at .result) (c .match .keys2) (c .before .command-at .ensures))
 
-is-end-requires : tie.Need-is-end-requires Inv-loop μ-loop
-is-end-requires c κs =
+takes-requires : tie.Need-takes-requires Inv-loop μ-loop
+takes-requires c κs =
     tt
+
+top-requires-2 : tie.Need-top-requires-2 Inv-loop μ-loop
+top-requires-2 c κs =
+    c .before .before .before .before .before .before .before .before .before .before .before .before .loop .inv .0
+
+cast-result-2 : tie.Need-cast-result-2 Inv-loop μ-loop
+cast-result-2 c =
+    search needs
 
 same-length-3 : tie.Need-same-length-3 Inv-loop μ-loop
 same-length-3 c =
@@ -95,11 +107,23 @@ same-length-3 c =
 
 returns-3 : tie.Need-returns-3 Inv-loop μ-loop
 returns-3 c =
-    pass-comes (c .before .before .before .before .before .before .before .before .before .before .before .before .before .args .model .now) (c .before .before .before .before .before .before .before .before .before .before .before .before .before .args .x) (slot-of (c .before .before .before .before .before .before .before .before .before .before .before .before .before .args .g)) 0 (c .before .before .before .before .before .before .before .before .before .before .before .before .before .pre .0) (c .before .before .before .before .before .before .before .before .before .before .before .before .before .pre .2) (seek-ends (c .before .before .before .before .before .before .before .before .before .before .loop .inv .1) _ (whole-is (c .before .before .before .before .before .before .before .before .before .before .before .before .before .args .model .now) (c .before .before .before .before .before .before .before .before .before .before .loop .at) (c .before .before .before .before .before .before .before .command-at .ensures) (c .before .before .before .before .before .read .given .1)) (sym (c .before .is-end .ensures) ∙ c .if3 .taken))
+    pass-comes (c .before .before .before .before .before .before .before .before .before .before .before .before .before .before .before .before .args .model .now) (c .before .before .before .before .before .before .before .before .before .before .before .before .before .before .before .before .args .x) (slot-of (c .before .before .before .before .before .before .before .before .before .before .before .before .before .before .before .before .args .g)) _ (c .before .before .before .before .before .before .before .before .before .before .before .before .before .before .before .before .pre .0) (c .before .before .before .before .before .before .before .before .before .before .before .before .before .before .before .before .pre .2) (seek-found (c .before .before .before .before .before .before .before .before .before .before .before .before .before .loop .inv .1) _ _ (whole-is (c .before .before .before .before .before .before .before .before .before .before .before .before .before .before .before .before .args .model .now) (c .before .before .before .before .before .before .before .before .before .before .before .before .before .loop .at) (c .before .before .before .before .before .before .before .command-at .ensures) (c .before .before .before .before .before .read .given .1)) (sym (c .before .before .before .takes .ensures (c .before .before .before .before .before .before .before .before .before .before .before .before .before .before .before .before .args .model .now) (c .before .before .before .before .before .before .before .before .before .before .before .before .before .loop .at)) ∙ c .before .before .if3 .taken) (c .top2 .ensures))
+
+is-end-requires : tie.Need-is-end-requires Inv-loop μ-loop
+is-end-requires c κs =
+    tt
+
+same-length-4 : tie.Need-same-length-4 Inv-loop μ-loop
+same-length-4 c =
+    search needs
+
+returns-4 : tie.Need-returns-4 Inv-loop μ-loop
+returns-4 c =
+    pass-comes (c .before .before .before .before .before .before .before .before .before .before .before .before .before .before .before .before .args .model .now) (c .before .before .before .before .before .before .before .before .before .before .before .before .before .before .before .before .args .x) (slot-of (c .before .before .before .before .before .before .before .before .before .before .before .before .before .before .before .before .args .g)) 0 (c .before .before .before .before .before .before .before .before .before .before .before .before .before .before .before .before .pre .0) (c .before .before .before .before .before .before .before .before .before .before .before .before .before .before .before .before .pre .2) (seek-ends (c .before .before .before .before .before .before .before .before .before .before .before .before .before .loop .inv .1) _ (whole-is (c .before .before .before .before .before .before .before .before .before .before .before .before .before .before .before .before .args .model .now) (c .before .before .before .before .before .before .before .before .before .before .before .before .before .loop .at) (c .before .before .before .before .before .before .before .command-at .ensures) (c .before .before .before .before .before .read .given .1)) (sym (c .before .is-end .ensures) ∙ c .if4 .taken))
 
 after-requires : tie.Need-after-requires Inv-loop μ-loop
 after-requires c κs =
-    (c .before .before .before .before .before .before .before .before .before .before .before .loop .inv .0, whole-is (c .before .before .before .before .before .before .before .before .before .before .before .before .before .before .args .model .now) (c .before .before .before .before .before .before .before .before .before .before .before .loop .at) (c .before .before .before .before .before .before .before .before .command-at .ensures) (c .before .before .before .before .before .before .read .given .1), c .before .before .before .before .before .before .before .before .before .before .before .before .before .before .pre .1)
+    (c .before .before .before .before .before .before .before .before .before .before .before .before .before .before .loop .inv .0, (whole-is (c .before .before .before .before .before .before .before .before .before .before .before .before .before .before .before .before .before .args .model .now) (c .before .before .before .before .before .before .before .before .before .before .before .before .before .before .loop .at) (c .before .before .before .before .before .before .before .before .command-at .ensures) (c .before .before .before .before .before .before .read .given .1)), c .before .before .before .before .before .before .before .before .before .before .before .before .before .before .before .before .before .pre .1)
 
 size-requires : tie.Need-size-requires Inv-loop μ-loop
 size-requires c κs =
@@ -107,15 +131,15 @@ size-requires c κs =
 
 add-at-2 : tie.Need-add-at-2 Inv-loop μ-loop
 add-at-2 c =
-    let f = forward (c .before .before .before .before .before .before .before .before .before .before .before .before .before .before .before .before .before .before .args .model .now) (c .before .before .before .before .before .before .before .before .before .before .before .before .before .before .before .loop .at) _ _ (whole-is (c .before .before .before .before .before .before .before .before .before .before .before .before .before .before .before .before .before .before .args .model .now) (c .before .before .before .before .before .before .before .before .before .before .before .before .before .before .before .loop .at) (c .before .before .before .before .before .before .before .before .before .before .before .before .command-at .ensures) (c .before .before .before .before .before .before .before .before .before .before .read .given .1)) (past new-form (c .before .before .before .before .before .before .before .before .before .before .before .before .before .before .before .before .before .before .args .model .now) (c .before .before .before .before .before .before .before .before .before .before .before .before .before .before .before .loop .at) _ (c .size .result) (whole-is (c .before .before .before .before .before .before .before .before .before .before .before .before .before .before .before .before .before .before .args .model .now) (c .before .before .before .before .before .before .before .before .before .before .before .before .before .before .before .loop .at) (c .before .before .before .before .before .before .before .before .before .before .before .before .command-at .ensures) (c .before .before .before .before .before .before .before .before .before .before .read .given .1)) (c .size .ensures)) in omega (arith, f .1, f .2, c .before .before .before .before .before .before .before .before .before .before .before .before .before .before .before .before .before .before .pre .1)
+    let f = forward (c .before .before .before .before .before .before .before .before .before .before .before .before .before .before .before .before .before .before .before .before .before .args .model .now) (c .before .before .before .before .before .before .before .before .before .before .before .before .before .before .before .before .before .before .loop .at) _ _ (whole-is (c .before .before .before .before .before .before .before .before .before .before .before .before .before .before .before .before .before .before .before .before .before .args .model .now) (c .before .before .before .before .before .before .before .before .before .before .before .before .before .before .before .before .before .before .loop .at) (c .before .before .before .before .before .before .before .before .before .before .before .before .command-at .ensures) (c .before .before .before .before .before .before .before .before .before .before .read .given .1)) (past new-form (c .before .before .before .before .before .before .before .before .before .before .before .before .before .before .before .before .before .before .before .before .before .args .model .now) (c .before .before .before .before .before .before .before .before .before .before .before .before .before .before .before .before .before .before .loop .at) _ (c .size .result) (whole-is (c .before .before .before .before .before .before .before .before .before .before .before .before .before .before .before .before .before .before .before .before .before .args .model .now) (c .before .before .before .before .before .before .before .before .before .before .before .before .before .before .before .before .before .before .loop .at) (c .before .before .before .before .before .before .before .before .before .before .before .before .command-at .ensures) (c .before .before .before .before .before .before .before .before .before .before .read .given .1)) (c .size .ensures)) in omega (arith, f .1, f .2, c .before .before .before .before .before .before .before .before .before .before .before .before .before .before .before .before .before .before .before .before .before .pre .1)
 
 loop-less-2 : tie.Need-loop-less-2 Inv-loop μ-loop
 loop-less-2 c =
-    let f = forward (c .before .before .before .before .before .before .before .before .before .before .before .before .before .before .before .before .before .before .args .model .now) (c .before .before .before .before .before .before .before .before .before .before .before .before .before .before .before .loop .at) _ _ (whole-is (c .before .before .before .before .before .before .before .before .before .before .before .before .before .before .before .before .before .before .args .model .now) (c .before .before .before .before .before .before .before .before .before .before .before .before .before .before .before .loop .at) (c .before .before .before .before .before .before .before .before .before .before .before .before .command-at .ensures) (c .before .before .before .before .before .before .before .before .before .before .read .given .1)) (past new-form (c .before .before .before .before .before .before .before .before .before .before .before .before .before .before .before .before .before .before .args .model .now) (c .before .before .before .before .before .before .before .before .before .before .before .before .before .before .before .loop .at) _ (c .size .result) (whole-is (c .before .before .before .before .before .before .before .before .before .before .before .before .before .before .before .before .before .before .args .model .now) (c .before .before .before .before .before .before .before .before .before .before .before .before .before .before .before .loop .at) (c .before .before .before .before .before .before .before .before .before .before .before .before .command-at .ensures) (c .before .before .before .before .before .before .before .before .before .before .read .given .1)) (c .size .ensures)) in omega (arith, f .1, f .2)
+    let f = forward (c .before .before .before .before .before .before .before .before .before .before .before .before .before .before .before .before .before .before .before .before .before .args .model .now) (c .before .before .before .before .before .before .before .before .before .before .before .before .before .before .before .before .before .before .loop .at) _ _ (whole-is (c .before .before .before .before .before .before .before .before .before .before .before .before .before .before .before .before .before .before .before .before .before .args .model .now) (c .before .before .before .before .before .before .before .before .before .before .before .before .before .before .before .before .before .before .loop .at) (c .before .before .before .before .before .before .before .before .before .before .before .before .command-at .ensures) (c .before .before .before .before .before .before .before .before .before .before .read .given .1)) (past new-form (c .before .before .before .before .before .before .before .before .before .before .before .before .before .before .before .before .before .before .before .before .before .args .model .now) (c .before .before .before .before .before .before .before .before .before .before .before .before .before .before .before .before .before .before .loop .at) _ (c .size .result) (whole-is (c .before .before .before .before .before .before .before .before .before .before .before .before .before .before .before .before .before .before .before .before .before .args .model .now) (c .before .before .before .before .before .before .before .before .before .before .before .before .before .before .before .before .before .before .loop .at) (c .before .before .before .before .before .before .before .before .before .before .before .before .command-at .ensures) (c .before .before .before .before .before .before .before .before .before .before .read .given .1)) (c .size .ensures)) in omega (arith, f .1, f .2)
 
 loop-again-2 : tie.Need-loop-again-2 Inv-loop μ-loop
 loop-again-2 c =
-    let h = c .before .before .before .after .ensures in (h .room, seek-on (c .before .before .before .before .before .before .before .before .before .before .before .before .before .before .before .loop .inv .1) _ _ _ (whole-is (c .before .before .before .before .before .before .before .before .before .before .before .before .before .before .before .before .before .before .args .model .now) (c .before .before .before .before .before .before .before .before .before .before .before .before .before .before .before .loop .at) (c .before .before .before .before .before .before .before .before .before .before .before .before .command-at .ensures) (c .before .before .before .before .before .before .before .before .before .before .read .given .1)) (sym (c .before .before .before .before .before .before .before .before .takes .ensures (c .before .before .before .before .before .before .before .before .before .before .before .before .before .before .before .before .before .before .args .model .now) (c .before .before .before .before .before .before .before .before .before .before .before .before .before .before .before .loop .at)) ∙ c .before .before .before .before .before .before .before .if2 .left) (sym (c .before .before .before .before .before .before .is-end .ensures) ∙ c .before .before .before .before .before .if3 .left) (past new-form (c .before .before .before .before .before .before .before .before .before .before .before .before .before .before .before .before .before .before .args .model .now) (c .before .before .before .before .before .before .before .before .before .before .before .before .before .before .before .loop .at) _ (c .size .result) (whole-is (c .before .before .before .before .before .before .before .before .before .before .before .before .before .before .before .before .before .before .args .model .now) (c .before .before .before .before .before .before .before .before .before .before .before .before .before .before .before .loop .at) (c .before .before .before .before .before .before .before .before .before .before .before .before .command-at .ensures) (c .before .before .before .before .before .before .before .before .before .before .read .given .1)) (c .size .ensures)) (h .holds))
+    let h = c .before .before .before .after .ensures in (h .room, seek-on (c .before .before .before .before .before .before .before .before .before .before .before .before .before .before .before .before .before .before .loop .inv .1) _ _ _ (whole-is (c .before .before .before .before .before .before .before .before .before .before .before .before .before .before .before .before .before .before .before .before .before .args .model .now) (c .before .before .before .before .before .before .before .before .before .before .before .before .before .before .before .before .before .before .loop .at) (c .before .before .before .before .before .before .before .before .before .before .before .before .command-at .ensures) (c .before .before .before .before .before .before .before .before .before .before .read .given .1)) (sym (c .before .before .before .before .before .before .before .before .takes .ensures (c .before .before .before .before .before .before .before .before .before .before .before .before .before .before .before .before .before .before .before .before .before .args .model .now) (c .before .before .before .before .before .before .before .before .before .before .before .before .before .before .before .before .before .before .loop .at)) ∙ c .before .before .before .before .before .before .before .if3 .left) (sym (c .before .before .before .before .before .before .is-end .ensures) ∙ c .before .before .before .before .before .if4 .left) (past new-form (c .before .before .before .before .before .before .before .before .before .before .before .before .before .before .before .before .before .before .before .before .before .args .model .now) (c .before .before .before .before .before .before .before .before .before .before .before .before .before .before .before .before .before .before .loop .at) _ (c .size .result) (whole-is (c .before .before .before .before .before .before .before .before .before .before .before .before .before .before .before .before .before .before .before .before .before .args .model .now) (c .before .before .before .before .before .before .before .before .before .before .before .before .before .before .before .before .before .before .loop .at) (c .before .before .before .before .before .before .before .before .before .before .before .before .command-at .ensures) (c .before .before .before .before .before .before .before .before .before .before .read .given .1)) (c .size .ensures)) (h .holds))
 
 pub pass-from-spec : {M : Type 1} → statement M
 pass-from-spec =
@@ -124,24 +148,30 @@ pass-from-spec =
     Inv-loop
     μ-loop
     loop-holds
-    is-leaf-requires
-    cast-push
-    push-requires
+    code-requires
+    is-push-requires
+    push-by-requires
+    push-size-requires
     add-at
     loop-less
     loop-again
-    command-at-requires
-    enum-known-read
-    same-length
-    returns
-    takes-requires
+    gives-requires
     top-requires
     cast-result
+    same-length
+    returns
+    command-at-requires
+    enum-known-read
     same-length-2
     returns-2
-    is-end-requires
+    takes-requires
+    top-requires-2
+    cast-result-2
     same-length-3
     returns-3
+    is-end-requires
+    same-length-4
+    returns-4
     after-requires
     size-requires
     add-at-2

@@ -1,5 +1,5 @@
 -- `evaluate::worth_at` meets its contract.
-use mathlib.Core.Path.{ap, _∙_}
+use mathlib.Core.Path.{refl, ap, _∙_}
 use Rattle.whole.specs.Numerator.{words}
 use Rattle.evaluate.specs.Pass.{slot-of}
 use Rattle.evaluate.proofs.Turns.{worth-is}
@@ -10,17 +10,13 @@ leaf-at-requires : tie.Need-leaf-at-requires
 leaf-at-requires c κs =
     c .before .before .pre
 
-leaf-requires : tie.Need-leaf-requires
-leaf-requires c κs =
-    tt
-
-numerator-requires : tie.Need-numerator-requires
-numerator-requires c κs =
-    c .leaf .ensures .0
+leaf-numerator-requires : tie.Need-leaf-numerator-requires
+leaf-numerator-requires c κs =
+    c .before .before .before .pre .4
 
 returns : tie.Need-returns
 returns c =
-    λ s z st. c .numerator .ensures ∙ ap words (worth-is (c .before .before .before .before .before .args .model .now) (slot-of (c .before .before .before .before .before .args .g)) (c .before .before .before .before .before .args .x) _ (c .before .before .leaf-at .ensures) _ (c .before .leaf .ensures .1) s z st)
+    λ s z st. c .leaf-numerator .ensures ∙ ap words (worth-is (c .before .before .before .before .args .model .now) (slot-of (c .before .before .before .before .args .g)) (c .before .before .before .before .args .x) _ (c .before .leaf-at .ensures) _ refl s z st)
 
 pub worth-at-spec : {M : Type 1} → statement M
-worth-at-spec = tie.close (tie.spec leaf-at-requires leaf-requires numerator-requires returns)
+worth-at-spec = tie.close (tie.spec leaf-at-requires leaf-numerator-requires returns)

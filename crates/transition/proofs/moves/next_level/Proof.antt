@@ -7,7 +7,7 @@ use Rattle.transition.proofs.moves.next_level.Tie as tie
 worth-at-requires : tie.Need-worth-at-requires
 worth-at-requires c κs =
     let s = c .before .before in
-    (s .pre .0 .accepted, s .pre .0 .short, tt, s .pre .2)
+    (s .pre .0 .accepted, s .pre .0 .short, tt, s .pre .2, s .pre .3)
 
 narrow-requires : tie.Need-narrow-requires
 narrow-requires c κs = search needs

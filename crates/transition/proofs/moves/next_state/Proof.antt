@@ -7,7 +7,7 @@ use mir.Syntax.{w32}
 use mir.ValLaws.{toZ-ofZ}
 use Rattle.table.proofs.Words.{as-long}
 use Rattle.transition.proofs.Lists.{within-widths}
-use Rattle.transition.proofs.Leading.{Moved, none-moved, one-moved, all-moved, leads-over}
+use Rattle.transition.proofs.Leading.{Moved, none-moved, one-moved, all-moved, leads-over, flat-under}
 use Rattle.transition.proofs.moves.next_state.Statement.{statement}
 use Rattle.transition.proofs.moves.next_state.Tie as tie
 
@@ -44,7 +44,7 @@ add-next-level c =
 next-level-requires : tie.Need-next-level-requires Inv-loop μ-loop
 next-level-requires c κs =
     let s = c .before .before .before .before .before .before .before in
-    (s .pre .0, s .pre .1, s .pre .2)
+    (s .pre .0, s .pre .1, s .pre .2, flat-under (s .pre .3 .flat) (c .before .before .before .before .with-setting .ensures))
 
 enum-known-z : tie.Need-enum-known-z Inv-loop μ-loop
 enum-known-z c = search needs
@@ -83,7 +83,7 @@ loop-again c =
 returns-2 : tie.Need-returns-2 Inv-loop μ-loop
 returns-2 c =
     let s = c .before .before .before .before .before .before .before in
-    all-moved (s .args .model .now) (s .args .a) (s .args .x) (s .args .r) (s .pre .0) (c .before .before .before .before .with-setting .ensures) (c .before .loop .inv) (omega (arith, c .before .before .levels .ensures)) refl
+    all-moved (s .args .model .now) (s .args .a) (s .args .x) (s .args .r) (s .pre .0) (c .before .before .before .before .with-setting .ensures) (c .before .loop .inv) (omega (arith, c .before .before .levels .ensures)) (s .pre .3) (c .before .before .levels .ensures) refl
 
 pub next-state-spec : {M : Type 1} → statement M
 next-state-spec =

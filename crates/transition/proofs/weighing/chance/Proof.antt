@@ -15,7 +15,7 @@ returns c =
 chance-at-requires : tie.Need-chance-at-requires
 chance-at-requires c κs =
     let s = (c .before .before .before .before) in
-    (s .pre .0 .ready .accepted, s .pre .0 .ready .short, tt, s .pre .3)
+    (s .pre .0 .ready .accepted, s .pre .0 .ready .short, tt, s .pre .3, s .pre .0 .fits .flat)
 
 returns-2 : tie.Need-returns-2
 returns-2 c =

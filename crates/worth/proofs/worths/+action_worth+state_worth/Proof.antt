@@ -159,7 +159,7 @@ action-worth-loop-again t c =
 
 action-worth-next-state-requires : (t : ℕ) → action-worth-lts.Need-next-state-requires (action-worth-claims t) (action-worth-at t) action-worth.Post action-worth-Inv-loop action-worth-μ-loop
 action-worth-next-state-requires t c κs =
-    ((c .before .before .before .before .before .before .before .before .before .before) .pre .1 .0 .ready, (c .before .before .before .before .before .before .before .before .before .before) .pre .1 .1, (c .before .before .before .before .before .before .before .before .before .before) .pre .1 .4)
+    ((c .before .before .before .before .before .before .before .before .before .before) .pre .1 .0 .ready, (c .before .before .before .before .before .before .before .before .before .before) .pre .1 .1, (c .before .before .before .before .before .before .before .before .before .before) .pre .1 .4, (c .before .before .before .before .before .before .before .before .before .before) .pre .1 .0 .fits)
 
 action-worth-returns-2 : (t : ℕ) → action-worth-lts.Need-returns-2 (action-worth-claims t) (action-worth-at t) action-worth.Post action-worth-Inv-loop action-worth-μ-loop
 action-worth-returns-2 t c =

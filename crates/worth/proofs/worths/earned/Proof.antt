@@ -28,7 +28,7 @@ power-within-requires c κs = search needs
 worth-at-requires : tie.Need-worth-at-requires
 worth-at-requires c κs =
     let s = (c .before .before .before .before .before) in
-    (s .pre .0 .ready .accepted, s .pre .0 .ready .short, tt, s .pre .3)
+    (s .pre .0 .ready .accepted, s .pre .0 .ready .short, tt, s .pre .3, s .pre .0 .fits .flat)
 
 narrow-requires : tie.Need-narrow-requires
 narrow-requires c κs = search needs

@@ -6,7 +6,7 @@ use Rattle.worth.proofs.worths.ended.Tie as tie
 
 end-at-requires : tie.Need-end-at-requires
 end-at-requires c κs =
-    (c .before .before .pre .0 .ready .accepted, c .before .before .pre .0 .ready .short, c .before .before .pre .1)
+    (c .before .before .pre .0 .ready .accepted, c .before .before .pre .0 .ready .short, c .before .before .pre .1, c .before .before .pre .0 .fits .flat)
 
 narrow-requires : tie.Need-narrow-requires
 narrow-requires c κs = search needs
