@@ -2,6 +2,7 @@
 use mathlib.Core.Path.{_≡_, refl, sym, ap, ap₂, _∙_}
 use mathlib.Core.Bool.{Bool, true, false, not, _&&_}
 use Prim.Native.Nat.{ℕ, suc, _+_, _-_, _*_, _≤_, _<_}
+use native.Mathlib.Nat.{mul-le-mul}
 use native.Mathlib.Omega.{arith}
 use borrow.Author.Tests.{ltb-true, ltb-false, le-leb, lt-leb}
 use lib.IntN.{ℤ, pos, negsuc, natAbs, _+ℤ_, _-ℤ_, _*ℤ_}
@@ -16,7 +17,8 @@ use Rattle.whole.specs.Numerator.{word}
 use Rattle.whole.specs.NumeratorLaws.{below}
 use Rattle.whole.specs.declared.Within.{Within}
 use Rattle.whole.specs.declared.Within.the-variants as within
-use Rattle.whole.proofs.Signed.{R, R32, back, back32, plain, by-abs}
+use Rattle.whole.specs.Magnitude.{abs-mul}
+use Rattle.whole.proofs.Signed.{R, R32, back, back32, plain, by-abs, abs-back}
 use Rattle.theory.specs.Plain.{Worth, is, over, in-32-bits, better, numbered}
 use Rattle.theory.specs.Verdict.{or}
 use Rattle.judging.specs.declared.Total.{Total}
@@ -24,6 +26,25 @@ use Rattle.judging.specs.declared.Total.the-variants as total
 use Rattle.judging.specs.declared.Level.{Level}
 use Rattle.judging.specs.declared.Level.the-variants as level
 use Rattle.judging.specs.Totals.{total-of, judged-32, level-by, times-of, plus-of, added-of, summed, tried, Kept, is-over, none-left}
+
+-- ---- products
+
+module _ (a b : ℤ) (fa : SFits w64 a) (fb : SFits w64 b) where
+  pub product-as : {r : Within} → r ≡ limited (R a *ℤ R b) → r ≡ limited (a *ℤ b)
+  product-as e = e ∙ ap limited (ap₂ _*ℤ_ (back a fa) (back b fb))
+
+  -- magnitudes of 31 bits
+  module _ {p q : ℕ} (ep : p ≡ natAbs (R a)) (eq : q ≡ natAbs (R b)) (hp : p ≤ 2147483647) (hq : q ≤ 2147483647) where
+    short-small : natAbs (a *ℤ b) ≤ limit
+    short-small =
+        let k : natAbs a * natAbs b ≤ 2147483647 * 2147483647 = mul-le-mul {n₁ = natAbs a} {m₁ = natAbs b} {n₂ = 2147483647} {m₂ = 2147483647} (omega (arith, abs-back a fa ep)) (omega (arith, abs-back b fb eq)) in
+        rw (abs-mul a b) (omega (arith, k))
+
+    pub short-fits : SFits w64 (R a *ℤ R b)
+    short-fits = rw (back a fa, back b fb) (by-abs (a *ℤ b) (let k = short-small in omega arith))
+
+    pub short-is : within.Is (R (R a *ℤ R b)) ≡ limited (a *ℤ b)
+    short-is = ap within.Is (back (R a *ℤ R b) short-fits ∙ ap₂ _*ℤ_ (back a fa) (back b fb)) ∙ sym (limited-is (a *ℤ b) short-small)
 
 -- ---- within the limits, by magnitude
 

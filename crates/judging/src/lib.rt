@@ -2,7 +2,7 @@
 ghost use mathlib.Core.Path.{_≡_};
 ghost use Prim.Native.Nat.{_≤_};
 ghost use lib.Dec.{leb, ltb};
-ghost use lib.IntN.{pos, negsuc};
+ghost use lib.IntN.{pos, negsuc, _*ℤ_};
 ghost use Rattle.whole.specs.Within.{limit, limited};
 ghost use Rattle.whole.specs.Numerator.{number};
 ghost use Rattle.theory.specs.Verdict.{or};
@@ -12,6 +12,7 @@ use whole::Numerator;
 use whole::Within;
 use whole::limits::LIMIT;
 use whole::limits::add_within;
+use whole::limits::mag;
 use whole::limits::mul_within;
 
 // A worth and the action that has it, or a number left its limits.
@@ -81,6 +82,22 @@ pub fn in_32_bits(w: Within) -> Level
     Level::Is(z as i32)
 }
 
+// 2³¹ − 1: two such magnitudes have a product within the limits, which no division has to tell.
+const SHORT: u64 = 2147483647;
+
+// a × b.
+fn product(a: i64, b: i64) -> Within
+    ensures { λ r. ⌜ r ≡ limited (a *ℤ b) ⌝ }
+{
+    if mag(a) > SHORT {
+        return mul_within(a, b);
+    }
+    if mag(b) > SHORT {
+        return mul_within(a, b);
+    }
+    Within::Is(a * b)
+}
+
 // p × z, where both and the product lie within the limits.
 pub fn times(p: Within, z: Within) -> Within
     ensures { λ r. ⌜ r ≡ times-of p z ⌝ }
@@ -91,7 +108,7 @@ pub fn times(p: Within, z: Within) -> Within
     let Within::Is(b) = z else {
         return Within::Over;
     };
-    mul_within(a, b)
+    product(a, b)
 }
 
 // The running sum with weight × worth.
@@ -105,7 +122,7 @@ pub fn added(sum: Within, w: u64, t: Total) -> Within
     let Total::Is(v, _) = t else {
         return Within::Over;
     };
-    let Within::Is(p) = mul_within(w as i64, v) else {
+    let Within::Is(p) = product(w as i64, v) else {
         return Within::Over;
     };
     add_within(s, p)

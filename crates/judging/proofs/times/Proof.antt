@@ -24,12 +24,12 @@ returns-2 : tie.Need-returns-2
 returns-2 c =
     times-none ((c .before .before .before .before .before) .args .p) ((c .before .before .before .before .before) .args .z) _ (c .before .before .before .p .given .1) (record { sfits = c .before .before .known-told .given .0 .1 }) (c .enum-told2 .given .1)
 
-mul-within-requires : tie.Need-mul-within-requires
-mul-within-requires c κs = search needs
+product-requires : tie.Need-product-requires
+product-requires c κs = search needs
 
 returns-3 : tie.Need-returns-3
 returns-3 c =
-    times-is ((c .before .before .before .before .before .before .before) .args .p) ((c .before .before .before .before .before .before .before) .args .z) _ (c .before .before .before .before .before .p .given .1) (record { sfits = c .before .before .before .before .known-told .given .0 .1 }) _ (c .before .before .z .given .1) (record { sfits = c .before .known-told2 .given .0 .1 }) (c .mul-within .ensures)
+    times-is ((c .before .before .before .before .before .before .before) .args .p) ((c .before .before .before .before .before .before .before) .args .z) _ (c .before .before .before .before .before .p .given .1) (record { sfits = c .before .before .before .before .known-told .given .0 .1 }) _ (c .before .before .z .given .1) (record { sfits = c .before .known-told2 .given .0 .1 }) (c .product .ensures)
 
 pub times-spec : {M : Type 1} → statement M
 times-spec =
@@ -41,5 +41,5 @@ times-spec =
     enum-known-z
     enum-told-2
     returns-2
-    mul-within-requires
+    product-requires
     returns-3)
