@@ -152,10 +152,10 @@ fn size(c: Command) -> usize
 fn code(model: &[u8], at: usize) -> u8
     ensures { λ r. ⌜ r ≡ code-at (now (model .entry)) at ⌝ }
 {
-    if model.len() <= at {
+    if model.len() < WITH_LINEAR {
         return 0;
     }
-    if model.len() - at < WITH_LINEAR {
+    if model.len() - WITH_LINEAR < at {
         return 0;
     }
     model[at]

@@ -21,11 +21,11 @@ sub-if2 c = search needs
 returns-2 : tie.Need-returns-2
 unfolding code-at
 returns-2 c =
-    let h : length (c .before .before .args .model .now) < c .before .before .args .at + with-linear = omega (arith, c .if2 .taken) in
+    let h : length (c .before .before .args .model .now) < c .before .before .args .at + with-linear = omega (arith, c .if2 .taken, c .before .if1 .left) in
     simp (lt-ltb _ _ h)
 
 shared-slice-read-result : tie.Need-shared-slice-read-result
-shared-slice-read-result c = search needs
+shared-slice-read-result c = omega (arith, c .before .if2 .left, c .before .before .if1 .left)
 
 returns-3 : tie.Need-returns-3
 unfolding code-at
