@@ -5,13 +5,13 @@ use mathlib.Core.List.{List}
 use Prim.Native.Nat.{ℕ, zero, suc, _+_, _*_, _≤_, _<_}
 use lib.IntN.{ℤ, pos, natAbs}
 use lib.ListN.{length, getD, set}
-use Rattle.table.specs.Table.{nodeAt, putAt, eqZ}
+use Rattle.table.specs.Table.{nodeAt, putAt, isLeaf}
 use Rattle.table.specs.declared.Node.{Node}
 
 -- a node with its branches' numbers
 unfoldable pub renumber : List ℕ → ℕ → Node → Node
 renumber w cap x =
-    cond (eqZ (x .kind) (pos 0)) x
+    cond (isLeaf (x .kind)) x
     (record { kind = x .kind; n = x .n; high = pos (getD w (cap + natAbs (x .high)) 0); low = pos (getD w (cap + natAbs (x .low)) 0) })
 
 -- nodes k and p in each other's place

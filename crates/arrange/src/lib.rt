@@ -17,7 +17,7 @@ fn renumbered(work: &[u32], cap: usize, x: Node) -> Node
 {
     let h = x.high;
     let l = x.low;
-    if x.kind == 0 {
+    if table::is_leaf(x.kind) {
         return x;
     }
     let hi = cap + index(h);

@@ -7,7 +7,7 @@ use native.Mathlib.Omega.{arith}
 use lib.Dec.{eqb}
 use lib.IntN.{ℤ, pos, natAbs}
 use Rattle.whole.specs.Cases.{if}
-use Rattle.table.specs.Table.{nodeAt, eqZ}
+use Rattle.table.specs.Table.{nodeAt, isLeaf}
 use Rattle.table.specs.declared.Node.{Node}
 use Rattle.theory.specs.Diagram.{Test, Tree, cmp}
 use Rattle.theory.specs.Computation.{ret, both}
@@ -46,13 +46,13 @@ module _ {l : List ℤ} {n : ℕ} (G : Good l n) (z : Node) (vz : Tested z) (f g
   abbrev t : Test
   t = testOf z
 
-  cmp-p : eqZ (p .kind) (pos 0) ≡ false → orderOf z p ≡ cmp t (testOf p)
+  cmp-p : isLeaf (p .kind) ≡ false → orderOf z p ≡ cmp t (testOf p)
   cmp-p ep = order-is z p vz (G .valid f hf .tested ep)
 
-  cmp-q : eqZ (q .kind) (pos 0) ≡ false → orderOf z q ≡ cmp t (testOf q)
+  cmp-q : isLeaf (q .kind) ≡ false → orderOf z q ≡ cmp t (testOf q)
   cmp-q eq = order-is z q vz (G .valid g hg .tested eq)
 
-  cmp-pq : eqZ (p .kind) (pos 0) ≡ false → eqZ (q .kind) (pos 0) ≡ false → orderOf p q ≡ cmp (testOf p) (testOf q)
+  cmp-pq : isLeaf (p .kind) ≡ false → isLeaf (q .kind) ≡ false → orderOf p q ≡ cmp (testOf p) (testOf q)
   cmp-pq ep eq = order-is p q (G .valid f hf .tested ep) (G .valid g hg .tested eq)
 
   abbrev pickBy : Bool → Bool → Bool → ℕ → Sides
@@ -63,11 +63,11 @@ module _ {l : List ℤ} {n : ℕ} (G : Good l n) (z : Node) (vz : Tested z) (f g
     ends-go : {j : ℕ} → j < n → choose t (Y f) (Y g) ≡ node t (Y i) (Y j) → Chooses l n t f g (endSides i g j)
     ends-go hj e = (λ _. record { fh = hi; gl = hj; is = e }, λ b. no b)
 
-    low-end : eqZ (q .kind) (pos 0) ≡ false → choose t (Y f) (Y g) ≡ node t (Y i) (Y (natAbs (q .low))) → Chooses l n t f g (endSides i g (downOf q .low))
+    low-end : isLeaf (q .kind) ≡ false → choose t (Y f) (Y g) ≡ node t (Y i) (Y (natAbs (q .low))) → Chooses l n t f g (endSides i g (downOf q .low))
     unfolding downOf
     low-end eq e = ends-go (let b = G .valid g hg .low-below eq in omega arith) e
 
-    low : (b : Bool) (o : Ordering) → eqZ (q .kind) (pos 0) ≡ b → orderOf z q ≡ o → Chooses l n t f g (pickBy b (eqb (ordNum o) 2) (eqb (ordNum o) 1) i)
+    low : (b : Bool) (o : Ordering) → isLeaf (q .kind) ≡ b → orderOf z q ≡ o → Chooses l n t f g (pickBy b (eqb (ordNum o) 2) (eqb (ordNum o) 1) i)
     unfolding ordNum
     low true o eq eo = ends-go hg (e (Y g) ∙ (ap (step node t (λ _. ret (Y i)) ret) (at-leaf G g hg eq) ∙ (step-leaf node t _ _ _ ∙ (both-ret (node t) (Y i) _ ∙ ap (node t (Y i)) (sym (at-leaf G g hg eq))))))
     low false Ordering·lt eq eo = ends-go hg (e (Y g) ∙ (ap (step node t (λ _. ret (Y i)) ret) (at-branch G g hg eq) ∙ (step-lt node t _ _ _ _ _ (sym (cmp-q eq) ∙ eo) ∙ (both-ret (node t) (Y i) _ ∙ ap (node t (Y i)) (sym (at-branch G g hg eq))))))
@@ -76,34 +76,34 @@ module _ {l : List ℤ} {n : ℕ} (G : Good l n) (z : Node) (vz : Tested z) (f g
 
     pub low-at : Chooses l n t f g (pickLow i f (downOf q) g (ordNum (orderOf z q)))
     unfolding pickLow downOf
-    low-at = low (eqZ (q .kind) (pos 0)) (orderOf z q) refl refl
+    low-at = low (isLeaf (q .kind)) (orderOf z q) refl refl
 
   -- t comes after the root of f
-  after-go : (b : Bool) (o : Ordering) → eqZ (p .kind) (pos 0) ≡ false → orderOf z p ≡ Ordering·gt → eqZ (q .kind) (pos 0) ≡ b → orderOf p q ≡ o → Chooses l n t f g (splitBy false b (eqb (ordNum o) 0) (eqb (ordNum o) 1) (downOf p) f (downOf q) g)
+  after-go : (b : Bool) (o : Ordering) → isLeaf (p .kind) ≡ false → orderOf z p ≡ Ordering·gt → isLeaf (q .kind) ≡ b → orderOf p q ≡ o → Chooses l n t f g (splitBy false b (eqb (ordNum o) 0) (eqb (ordNum o) 1) (downOf p) f (downOf q) g)
   unfolding ordNum
   after-go b o ep ez eq eo = go b o eq eo
     where
       c : (H : Tree) → choose t (Y f) H ≡ step node (testOf p) (choose t (Y (natAbs (p .high)))) (choose t (Y (natAbs (p .low)))) H
       c H = ap (λ (F : Tree). choose t F H) (at-branch G f hf ep) ∙ choose-gt t (testOf p) _ _ H (sym (cmp-p ep) ∙ ez)
 
-      go : (b : Bool) (o : Ordering) → eqZ (q .kind) (pos 0) ≡ b → orderOf p q ≡ o → Chooses l n t f g (splitBy false b (eqb (ordNum o) 0) (eqb (ordNum o) 1) (downOf p) f (downOf q) g)
+      go : (b : Bool) (o : Ordering) → isLeaf (q .kind) ≡ b → orderOf p q ≡ o → Chooses l n t f g (splitBy false b (eqb (ordNum o) 0) (eqb (ordNum o) 1) (downOf p) f (downOf q) g)
       go true o eq eo = (λ b. no (sym b), λ _. left-on G f g hf hg (choose t) node ep (c (Y g) ∙ (ap (step node (testOf p) (choose t (Y (natAbs (p .high)))) (choose t (Y (natAbs (p .low))))) (at-leaf G g hg eq) ∙ (step-leaf node _ _ _ _ ∙ ap (λ (H : Tree). both (node (testOf p)) (choose t (Y (natAbs (p .high))) H) (choose t (Y (natAbs (p .low))) H)) (sym (at-leaf G g hg eq))))))
       go false Ordering·lt eq eo = (λ b. no (sym b), λ _. left-on G f g hf hg (choose t) node ep (c (Y g) ∙ (ap (step node (testOf p) (choose t (Y (natAbs (p .high)))) (choose t (Y (natAbs (p .low))))) (at-branch G g hg eq) ∙ (step-lt node _ _ _ _ _ _ (sym (cmp-pq ep eq) ∙ eo) ∙ ap (λ (H : Tree). both (node (testOf p)) (choose t (Y (natAbs (p .high))) H) (choose t (Y (natAbs (p .low))) H)) (sym (at-branch G g hg eq))))))
       go false Ordering·eq eq eo = (λ b. no (sym b), λ _. both-on G f g hf hg (choose t) node ep eq (c (Y g) ∙ (ap (step node (testOf p) (choose t (Y (natAbs (p .high)))) (choose t (Y (natAbs (p .low))))) (at-branch G g hg eq) ∙ step-eq node _ _ _ _ _ _ (sym (cmp-pq ep eq) ∙ eo))))
       go false Ordering·gt eq eo = (λ b. no (sym b), λ _. right-on G f g hf hg (choose t) node eq (c (Y g) ∙ (ap (step node (testOf p) (choose t (Y (natAbs (p .high)))) (choose t (Y (natAbs (p .low))))) (at-branch G g hg eq) ∙ (step-gt node _ _ _ _ _ _ (sym (cmp-pq ep eq) ∙ eo) ∙ ap₂ (both (node (testOf q))) (sym (c _)) (sym (c _))))))
 
-  high-at : eqZ (p .kind) (pos 0) ≡ false → ((H : Tree) → choose t (Y f) H ≡ step node t (λ _. ret (Y (natAbs (p .high)))) ret H) → Chooses l n t f g (pickLow (downOf p .high) f (downOf q) g (ordNum (orderOf z q)))
+  high-at : isLeaf (p .kind) ≡ false → ((H : Tree) → choose t (Y f) H ≡ step node t (λ _. ret (Y (natAbs (p .high)))) ret H) → Chooses l n t f g (pickLow (downOf p .high) f (downOf q) g (ordNum (orderOf z q)))
   unfolding downOf
   high-at ep e = low-at (natAbs (p .high)) (let b = G .valid f hf .high-below ep in omega arith) e
 
-  after-all : eqZ (p .kind) (pos 0) ≡ false → orderOf z p ≡ Ordering·gt → Chooses l n t f g (splitOf (downOf p) f (downOf q) g (ordNum (orderOf p q)))
+  after-all : isLeaf (p .kind) ≡ false → orderOf z p ≡ Ordering·gt → Chooses l n t f g (splitOf (downOf p) f (downOf q) g (ordNum (orderOf p q)))
   unfolding downOf
-  after-all ep eo = subst (Chooses l n t f g) (split-as (downOf p) f (downOf q) g (ordNum (orderOf p q)) false (eqZ (q .kind) (pos 0)) (eqb (ordNum (orderOf p q)) 0) (eqb (ordNum (orderOf p q)) 1) ep refl refl refl) (after-go (eqZ (q .kind) (pos 0)) (orderOf p q) ep eo refl refl)
+  after-all ep eo = subst (Chooses l n t f g) (split-as (downOf p) f (downOf q) g (ordNum (orderOf p q)) false (isLeaf (q .kind)) (eqb (ordNum (orderOf p q)) 0) (eqb (ordNum (orderOf p q)) 1) ep refl refl refl) (after-go (isLeaf (q .kind)) (orderOf p q) ep eo refl refl)
 
   abbrev pickAll : Bool → Bool → Bool → Sides
   pickAll b c d = if b (pickLow f f (downOf q) g (ordNum (orderOf z q))) (if c (splitOf (downOf p) f (downOf q) g (ordNum (orderOf p q))) (if d (pickLow (downOf p .high) f (downOf q) g (ordNum (orderOf z q))) (pickLow f f (downOf q) g (ordNum (orderOf z q)))))
 
-  all : (b : Bool) (o : Ordering) → eqZ (p .kind) (pos 0) ≡ b → orderOf z p ≡ o → Chooses l n t f g (pickAll b (eqb (ordNum o) 2) (eqb (ordNum o) 1))
+  all : (b : Bool) (o : Ordering) → isLeaf (p .kind) ≡ b → orderOf z p ≡ o → Chooses l n t f g (pickAll b (eqb (ordNum o) 2) (eqb (ordNum o) 1))
   unfolding ordNum
   all true o ep eo = low-at f hf (λ H. ap (λ (F : Tree). choose t F H) (at-leaf G f hf ep) ∙ (choose-leaf t _ H ∙ ap (λ (F : Tree). step node t (λ _. ret F) ret H) (sym (at-leaf G f hf ep))))
   all false Ordering·lt ep eo = low-at f hf (λ H. ap (λ (F : Tree). choose t F H) (at-branch G f hf ep) ∙ (choose-lt t (testOf p) _ _ H (sym (cmp-p ep) ∙ eo) ∙ ap (λ (F : Tree). step node t (λ _. ret F) ret H) (sym (at-branch G f hf ep))))
@@ -112,7 +112,7 @@ module _ {l : List ℤ} {n : ℕ} (G : Good l n) (z : Node) (vz : Tested z) (f g
 
   pub chooses : Chooses l n t f g (choiceOf z p f q g)
   unfolding choiceOf pickOf downOf
-  chooses = all (eqZ (p .kind) (pos 0)) (orderOf z p) refl refl
+  chooses = all (isLeaf (p .kind)) (orderOf z p) refl refl
 
 -- with the sides that the code has
 pub chooses-as : {l : List ℤ} {n : ℕ} (G : Good l n) {t : Test} (z : Node) → Tested z → testOf z ≡ t → (f g : ℕ) → f < n → g < n → {s : Sides} → s ≡ choiceOf z (nodeAt l f) f (nodeAt l g) g → Chooses l n t f g s

@@ -6,7 +6,7 @@ use Prim.Native.Nat.{ℕ, _<_, Ordering, Ordering·lt, Ordering·eq, Ordering·g
 use native.Mathlib.Omega.{arith}
 use lib.Dec.{eqb}
 use lib.IntN.{ℤ, pos, natAbs}
-use Rattle.table.specs.Table.{nodeAt, eqZ}
+use Rattle.table.specs.Table.{nodeAt, isLeaf}
 use Rattle.table.specs.declared.Node.{Node}
 use Rattle.theory.specs.Diagram.{Test, Leaf, Tree, cmp}
 use Rattle.theory.specs.Computation.{Comp, both}
@@ -22,8 +22,8 @@ use Rattle.diagrams.proofs.Stepping.{merge-ll, merge-ln, merge-nl, merge-lt, me
 
 -- both are leaves
 pub record Ends (l : List ℤ) (n : ℕ) (m : Tree → Tree → Comp Tree) (op : Leaf → Leaf → Comp Tree) (f g : ℕ) : Type 0 where
-  pub left : eqZ (nodeAt l f .kind) (pos 0) ≡ true
-  pub right : eqZ (nodeAt l g .kind) (pos 0) ≡ true
+  pub left : isLeaf (nodeAt l f .kind) ≡ true
+  pub right : isLeaf (nodeAt l g .kind) ≡ true
   pub is : m (treeAt l n f) (treeAt l n g) ≡ op (leafOf (nodeAt l f)) (leafOf (nodeAt l g))
 
 abbrev pub Goes : List ℤ → ℕ → (Test → Tree → Tree → Comp Tree) → (Leaf → Leaf → Comp Tree) → ℕ → ℕ → Sides → Type 0
@@ -42,10 +42,10 @@ module _ {l : List ℤ} {n : ℕ} (G : Good l n) (f g : ℕ) (hf : f < n) (hg : 
   abbrev y : Node
   y = nodeAt l g
 
-  order-at : eqZ (x .kind) (pos 0) ≡ false → eqZ (y .kind) (pos 0) ≡ false → orderOf x y ≡ cmp (testOf x) (testOf y)
+  order-at : isLeaf (x .kind) ≡ false → isLeaf (y .kind) ≡ false → orderOf x y ≡ cmp (testOf x) (testOf y)
   order-at ex ey = order-is x y (G .valid f hf .tested ex) (G .valid g hg .tested ey)
 
-  go : (a b : Bool) (o : Ordering) → eqZ (x .kind) (pos 0) ≡ a → eqZ (y .kind) (pos 0) ≡ b → orderOf x y ≡ o → Goes l n mk op f g (splitBy a b (eqb (ordNum o) 0) (eqb (ordNum o) 1) (downOf x) f (downOf y) g)
+  go : (a b : Bool) (o : Ordering) → isLeaf (x .kind) ≡ a → isLeaf (y .kind) ≡ b → orderOf x y ≡ o → Goes l n mk op f g (splitBy a b (eqb (ordNum o) 0) (eqb (ordNum o) 1) (downOf x) f (downOf y) g)
   unfolding ordNum
   go true true o ex ey eo =
       (λ t. record { left = ex; right = ey; is = ap₂ (merge mk op) (at-leaf G f hf ex) (at-leaf G g hg ey) ∙ merge-ll mk op _ _ }, λ t. no t)
@@ -70,7 +70,7 @@ module _ {l : List ℤ} {n : ℕ} (G : Good l n) (f g : ℕ) (hf : f < n) (hg : 
 
   pub goes : Goes l n mk op f g (sidesOf x f y g)
   unfolding sidesOf downOf
-  goes = subst (Goes l n mk op f g) (split-as (downOf x) f (downOf y) g (ordNum (orderOf x y)) (eqZ (x .kind) (pos 0)) (eqZ (y .kind) (pos 0)) (eqb (ordNum (orderOf x y)) 0) (eqb (ordNum (orderOf x y)) 1) refl refl refl refl) (go (eqZ (x .kind) (pos 0)) (eqZ (y .kind) (pos 0)) (orderOf x y) refl refl refl)
+  goes = subst (Goes l n mk op f g) (split-as (downOf x) f (downOf y) g (ordNum (orderOf x y)) (isLeaf (x .kind)) (isLeaf (y .kind)) (eqb (ordNum (orderOf x y)) 0) (eqb (ordNum (orderOf x y)) 1) refl refl refl refl) (go (isLeaf (x .kind)) (isLeaf (y .kind)) (orderOf x y) refl refl refl)
 
 -- with the sides that the code has
 pub goes-as : {l : List ℤ} {n : ℕ} (G : Good l n) (mk : Test → Tree → Tree → Comp Tree) (op : Leaf → Leaf → Comp Tree) (f g : ℕ) → f < n → g < n → {s : Sides} → s ≡ sidesOf (nodeAt l f) f (nodeAt l g) g → Goes l n mk op f g s

@@ -8,7 +8,7 @@ use lib.Dec.{eqb}
 use lib.IntN.{ℤ, pos, natAbs}
 use lib.ListN.{length, getD, set, take}
 use lib.Seq.{take-suc, take-length}
-use Rattle.table.specs.Table.{nodeAt, eqZ}
+use Rattle.table.specs.Table.{nodeAt, isLeaf}
 use Rattle.theory.specs.Diagram.{Tree}
 use Rattle.diagrams.specs.Nodes.{testOf, blank, trees, Good}
 use Rattle.mark.specs.Mark.{needed, rootsOf, flag, markOf, Below, Space, Marked}
@@ -121,7 +121,7 @@ module _ {cap : ℕ} {l : List ℤ} {w w′ R : List ℕ} {n : ℕ} (C : Space c
   unfolding markOf
   mark-is i h = ap (λ (v : ℕ). not (eqb v 0)) (M .marks i h) ∙ flag-mark (needed S (getD X i blank))
 
-  branches : (i : ℕ) (h : i < n) → markOf w′ i ≡ true → (d : eqZ (nodeAt l i .kind) (pos 0) ≡ false) → (needed S (getD X (natAbs (nodeAt l i .high)) blank) ≡ true) × (needed S (getD X (natAbs (nodeAt l i .low)) blank) ≡ true)
+  branches : (i : ℕ) (h : i < n) → markOf w′ i ≡ true → (d : isLeaf (nodeAt l i .kind) ≡ false) → (needed S (getD X (natAbs (nodeAt l i .high)) blank) ≡ true) × (needed S (getD X (natAbs (nodeAt l i .low)) blank) ≡ true)
   branches i h a d = needed-branch (testOf (nodeAt l i)) (getD X (natAbs (nodeAt l i .high)) blank) (getD X (natAbs (nodeAt l i .low)) blank) S (ap (needed S) (sym (at-branch G i h d)) ∙ (sym (mark-is i h) ∙ a))
 
   pub closed : Closed l w′ n

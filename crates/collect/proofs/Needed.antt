@@ -9,7 +9,7 @@ use lib.Dec.{T}
 use lib.IntN.{ℤ, pos, natAbs}
 use lib.ListN.{length, getD}
 use Rattle.whole.specs.Cases.{if, same-bool}
-use Rattle.table.specs.Table.{nodeAt, eqZ}
+use Rattle.table.specs.Table.{nodeAt, isLeaf}
 use Rattle.theory.specs.Diagram.{Leaf, Tree, leaf, branch, same}
 use Rattle.theory.specs.Computation.{Comp, member, run, enter-all}
 use Rattle.theory.specs.Rules.{zero-leaf}
@@ -117,9 +117,9 @@ module _ {l : List ℤ} {n : ℕ} {R : List ℕ} (G : Good l n) (B : Below R n) 
   -- with a needed node all below it is kept
   kept-inside : (d i : ℕ) → i < d → i < n → needed S (getD X i blank) ≡ true → T (inside (getD X i blank) K)
   kept-inside zero i a h e = absurd (omega arith)
-  kept-inside (suc d) i a h e = go (eqZ (nodeAt l i .kind) (pos 0)) refl (λ k b. kept-inside d k (omega arith) (omega arith))
+  kept-inside (suc d) i a h e = go (isLeaf (nodeAt l i .kind)) refl (λ k b. kept-inside d k (omega arith) (omega arith))
     where
-      go : (b : Bool) → eqZ (nodeAt l i .kind) (pos 0) ≡ b → ((k : ℕ) → k < i → needed S (getD X k blank) ≡ true → T (inside (getD X k blank) K)) → T (inside (getD X i blank) K)
+      go : (b : Bool) → isLeaf (nodeAt l i .kind) ≡ b → ((k : ℕ) → k < i → needed S (getD X k blank) ≡ true → T (inside (getD X k blank) K)) → T (inside (getD X i blank) K)
       go true f rec = leaf-inside (leafOf (nodeAt l i)) (getD X i blank) K (at-leaf G i h f) (kept-in i h e)
       go false f rec =
           let q = at-branch G i h f in

@@ -6,7 +6,7 @@ use Prim.Native.Nat.{ℕ, _<_}
 use native.Mathlib.Nat.{lt-of-lt-of-le}
 use native.Mathlib.Omega.{arith}
 use lib.IntN.{ℤ, pos, natAbs}
-use Rattle.table.specs.Table.{nodeAt, eqZ}
+use Rattle.table.specs.Table.{nodeAt, isLeaf}
 use Rattle.table.specs.declared.Node.{Node}
 use Rattle.table.specs.declared.Made.{Made}
 use Rattle.theory.specs.Diagram.{Test, Leaf, Tree, leaf, branch}
@@ -70,9 +70,9 @@ module _ (mk : Test → Tree → Tree → Comp Tree) (op : Leaf → Comp Tree) w
 
   module _ {l : List ℤ} {n : ℕ} (G : Good l n) (f : ℕ) (hf : f < n) where
     -- at a leaf
-    pub over-leaf : eqZ (nodeAt l f .kind) (pos 0) ≡ true → over mk op (treeAt l n f) ≡ op (leafOf (nodeAt l f))
+    pub over-leaf : isLeaf (nodeAt l f .kind) ≡ true → over mk op (treeAt l n f) ≡ op (leafOf (nodeAt l f))
     over-leaf e = ap (over mk op) (at-leaf G f hf e) ∙ over-l _
 
     -- at a branch
-    pub over-branch : eqZ (nodeAt l f .kind) (pos 0) ≡ false → over mk op (treeAt l n f) ≡ both (mk (testOf (nodeAt l f))) (over mk op (treeAt l n (natAbs (nodeAt l f .high)))) (over mk op (treeAt l n (natAbs (nodeAt l f .low))))
+    pub over-branch : isLeaf (nodeAt l f .kind) ≡ false → over mk op (treeAt l n f) ≡ both (mk (testOf (nodeAt l f))) (over mk op (treeAt l n (natAbs (nodeAt l f .high)))) (over mk op (treeAt l n (natAbs (nodeAt l f .low))))
     over-branch e = ap (over mk op) (at-branch G f hf e) ∙ over-b _ _ _

@@ -11,7 +11,7 @@ use mir.Syntax.{w64}
 use mir.Val.{toZ}
 use Rattle.whole.specs.Cases.{if}
 use Rattle.table.proofs.Words.{R, back}
-use Rattle.table.specs.Table.{node-words, nodeAt, eqZ}
+use Rattle.table.specs.Table.{node-words, nodeAt, isLeaf}
 use Rattle.table.specs.declared.Node.{Node}
 use Rattle.table.specs.declared.Made.{Made}
 use Rattle.theory.specs.Diagram.{Tree, branch, same}
@@ -86,4 +86,4 @@ word-at t A h = let q = A .chained .room in let r = A .chained .words in omega a
 
 -- a root stays one as the table grows
 pub root-kept : {l l′ : List ℤ} {n n′ t : ℕ} → Grown l n l′ n′ → Root l n t → Root l′ n′ t
-root-kept {t = t} G r = let p = G .more in let q = r .below in record { below = omega arith; branches = ap (λ (x : Node). eqZ (x .kind) (pos 0)) (G .kept t (r .below)) ∙ r .branches }
+root-kept {t = t} G r = let p = G .more in let q = r .below in record { below = omega arith; branches = ap (λ (x : Node). isLeaf (x .kind)) (G .kept t (r .below)) ∙ r .branches }

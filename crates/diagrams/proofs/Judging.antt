@@ -14,7 +14,7 @@ use Rattle.whole.specs.LinearsLaws.{smalls-of}
 use Rattle.whole.specs.Within.{small}
 use Rattle.theory.specs.Widths.{levels-most}
 use Rattle.table.proofs.Look.{eqZ-refl}
-use Rattle.table.specs.Table.{nodeAt, eqZ}
+use Rattle.table.specs.Table.{nodeAt, eqZ, isLeaf}
 use Rattle.table.specs.declared.Node.{Node}
 use Rattle.table.specs.declared.Made.{Made}
 use Rattle.theory.specs.Diagram.{leaf, plain}
@@ -56,7 +56,7 @@ nums-of x n e = smalls-of (x .n) n (smalls-are x n ∙ e)
 
 -- ---- a leaf without action
 
-is-leaf : {s : Node} → Plain s → eqZ (s .kind) (pos 0) ≡ true
+is-leaf : {s : Node} → Plain s → isLeaf (s .kind) ≡ true
 is-leaf P = ap (λ (k : ℤ). eqZ k (pos 0)) (P .kind) ∙ eqZ-refl (pos 0)
 
 module _ {cap : ℕ} {l : List ℤ} {w : List ℕ} {n : ℕ} (A : Bare cap l w n) (s : Node) (long : length (s .n) ≡ numbers) (P : Plain s) {b : Bool} (eb : b ≡ small-linear (linOf s)) where

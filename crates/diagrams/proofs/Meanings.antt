@@ -15,7 +15,7 @@ use Rattle.whole.specs.Within.{Small}
 use Rattle.whole.specs.Linears.{numbers, Smalls, divisorL}
 use Rattle.whole.specs.LinearsLaws.{quot-take, quot-at, quot-smalls}
 use Rattle.table.proofs.Words.{back}
-use Rattle.table.specs.Table.{nodeAt, eqZ}
+use Rattle.table.specs.Table.{nodeAt, eqZ, isLeaf}
 use Rattle.table.specs.declared.Node.{Node}
 use Rattle.theory.specs.Widths.{levels-most, conditions-most}
 use Rattle.theory.specs.Diagram.{Test, later, linear, Leaf, Tree, leaf, branch, quotL, quotient, divisor, test-of}
@@ -185,11 +185,11 @@ in-branch : (t : Test) (h l : Tree) → testIn (branch t h l) ≡ t
 unfolding testIn
 in-branch t h l = refl
 
-pub named-leaf : (x : Node) → eqZ (x .kind) (pos 0) ≡ true → namedNode x ≡ linearNode (quotL (divisorL (x .n)) (x .n))
+pub named-leaf : (x : Node) → isLeaf (x .kind) ≡ true → namedNode x ≡ linearNode (quotL (divisorL (x .n)) (x .n))
 unfolding namedNode
 named-leaf x e = ap (λ (b : Bool). if b (linearNode (quotL (divisorL (x .n)) (x .n))) x) e
 
-named-branch : (x : Node) → eqZ (x .kind) (pos 0) ≡ false → namedNode x ≡ x
+named-branch : (x : Node) → isLeaf (x .kind) ≡ false → namedNode x ≡ x
 unfolding namedNode
 named-branch x e = ap (λ (b : Bool). if b (linearNode (quotL (divisorL (x .n)) (x .n))) x) e
 
@@ -198,9 +198,9 @@ unfolding leafOf
 leaf-lin x = refl
 
 stood-named : {l : List ℤ} {n : ℕ} → Good l n → (p : ℕ) → p < n → Stood (namedNode (nodeAt l p)) (testIn (treeAt l n p))
-stood-named {l} {n} D p h = go (eqZ (nodeAt l p .kind) (pos 0)) refl
+stood-named {l} {n} D p h = go (isLeaf (nodeAt l p .kind)) refl
   where
-    go : (b : Bool) → eqZ (nodeAt l p .kind) (pos 0) ≡ b → Stood (namedNode (nodeAt l p)) (testIn (treeAt l n p))
+    go : (b : Bool) → isLeaf (nodeAt l p .kind) ≡ b → Stood (namedNode (nodeAt l p)) (testIn (treeAt l n p))
     go true e = subst (λ (x : Node). Stood x (testIn (treeAt l n p))) (sym (named-leaf (nodeAt l p) e)) (record {
       proper = proper-linear _ (quot-smalls _ _ (D .valid p h .nums));
       test = divided-test (nodeAt l p) (D .valid p h .nums .long) ∙ (ap test-of (sym (leaf-lin (nodeAt l p))) ∙ (sym (in-leaf _) ∙ ap testIn (sym (at-leaf D p h e))));
@@ -289,11 +289,11 @@ later-node k h =
     let e : toZ w64 (conditions-most + k) ≡ pos (conditions-most + k) = back (pos (conditions-most + k)) (omega arith) in
     λ i. record { kind = pos 1; n = e i ∷ replicate levels-most (pos 0); high = pos 0; low = pos 0 }
 
-pub named-leaf-as : {d : List ℤ} (x : Node) → eqZ (x .kind) (pos 0) ≡ true → d ≡ quotL (divisorL (x .n)) (x .n) → _≡_ {A = Node} (record { kind = pos 2; n = d; high = pos 0; low = pos 0 }) (namedNode x)
+pub named-leaf-as : {d : List ℤ} (x : Node) → isLeaf (x .kind) ≡ true → d ≡ quotL (divisorL (x .n)) (x .n) → _≡_ {A = Node} (record { kind = pos 2; n = d; high = pos 0; low = pos 0 }) (namedNode x)
 unfolding linearNode
 named-leaf-as x k ed = ap linearNode ed ∙ sym (named-leaf x k)
 
-pub named-branch-as : (x : Node) → eqZ (x .kind) (pos 0) ≡ false → x ≡ namedNode x
+pub named-branch-as : (x : Node) → isLeaf (x .kind) ≡ false → x ≡ namedNode x
 named-branch-as x k = sym (named-branch x k)
 
 pub test-later : {r : Node} (l : List ℤ) (op p : ℕ) → op ≡ 10 → r ≡ laterNode p → r ≡ testNode l op p

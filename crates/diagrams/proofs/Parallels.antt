@@ -14,7 +14,7 @@ use Rattle.whole.specs.Linears.{numbers, eqL}
 use Rattle.whole.specs.LinearsLaws.{eqZ-refl}
 use Rattle.table.proofs.Words.{R, back}
 use Rattle.table.proofs.Look.{eqZ-true}
-use Rattle.table.specs.Table.{nodeAt, eqZ}
+use Rattle.table.specs.Table.{nodeAt, eqZ, isLeaf}
 use Rattle.table.specs.declared.Node.{Node}
 use Rattle.theory.specs.Widths.{levels-most}
 use Rattle.theory.specs.Diagram.{Linear, Test, now, later, linear, Tree, leaf, branch, then, cmpZ, cmpList}
@@ -140,7 +140,7 @@ module _ (t x : Node) (v : Tested t) where
   unfolding eqZ
   one-two = refl
 
-  pub parallel-leaf : eqZ (x .kind) (pos 0) ≡ true → parallelOf t x ≡ false
+  pub parallel-leaf : isLeaf (x .kind) ≡ true → parallelOf t x ≡ false
   parallel-leaf q = sym (second-not t x (not-two x 0 zero-two q))
 
   pub parallel-tests : Tested x → parallelOf t x ≡ parallel (testOf t) (testOf x)
@@ -170,17 +170,17 @@ module _ {s : List ℤ} {n : ℕ} (G : Good s n) (t : Node) (P : Proper t) (i : 
 
   -- it stays
   pub stays : b ≡ false → treeAt s n i ≡ narrowed (testOf t) (treeAt s n i)
-  stays q = go (eqZ (nodeAt s i .kind) (pos 0)) refl
+  stays q = go (isLeaf (nodeAt s i .kind)) refl
     where
-      go : (c : Bool) → eqZ (nodeAt s i .kind) (pos 0) ≡ c → treeAt s n i ≡ narrowed (testOf t) (treeAt s n i)
+      go : (c : Bool) → isLeaf (nodeAt s i .kind) ≡ c → treeAt s n i ≡ narrowed (testOf t) (treeAt s n i)
       go true k = leaf-stays (testOf t) (treeAt s n i) (at-leaf G i h k)
       go false k = sym (branch-goes (testOf t) _ (treeAt s n i) _ _ false (at-branch G i h k) (sym (parallel-tests t (nodeAt s i) (P .tested) (G .valid i h .tested k)) ∙ (here ∙ q)))
 
   -- it is replaced by its low side, which lies below it
   pub goes : b ≡ true → (natAbs (x .low) < i) × (narrowed (testOf t) (treeAt s n (natAbs (x .low))) ≡ narrowed (testOf t) (treeAt s n i))
-  goes q = go (eqZ (nodeAt s i .kind) (pos 0)) refl
+  goes q = go (isLeaf (nodeAt s i .kind)) refl
     where
-      go : (c : Bool) → eqZ (nodeAt s i .kind) (pos 0) ≡ c → (natAbs (x .low) < i) × (narrowed (testOf t) (treeAt s n (natAbs (x .low))) ≡ narrowed (testOf t) (treeAt s n i))
+      go : (c : Bool) → isLeaf (nodeAt s i .kind) ≡ c → (natAbs (x .low) < i) × (narrowed (testOf t) (treeAt s n (natAbs (x .low))) ≡ narrowed (testOf t) (treeAt s n i))
       go true k = no (sym q ∙ (sym here ∙ parallel-leaf t (nodeAt s i) (P .tested) k))
       go false k =
           rw e (G .valid i h .low-below k, sym (branch-goes (testOf t) _ (treeAt s n i) _ _ true (at-branch G i h k) (sym (parallel-tests t (nodeAt s i) (P .tested) (G .valid i h .tested k)) ∙ (here ∙ q))))

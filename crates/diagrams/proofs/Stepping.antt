@@ -5,7 +5,7 @@ use Prim.Native.Nat.{ℕ, _+_, _<_, Ordering, Ordering·lt, Ordering·eq, Orderi
 use mathlib.Core.Bool.{false}
 use native.Mathlib.Omega.{arith}
 use lib.IntN.{ℤ, pos, natAbs}
-use Rattle.table.specs.Table.{nodeAt, eqZ}
+use Rattle.table.specs.Table.{nodeAt, isLeaf}
 use Rattle.table.specs.declared.Node.{Node}
 use Rattle.theory.specs.Diagram.{Test, Leaf, Tree, leaf, branch, cmp}
 use Rattle.theory.specs.Computation.{Comp, ret, bind, both}
@@ -90,7 +90,7 @@ pub record On (l : List ℤ) (n : ℕ) (m : Tree → Tree → Comp Tree) (mk : T
   pub root : s .root < n
   pub high : s .fh + s .gh < f + g
   pub low : s .fl + s .gl < f + g
-  pub test : eqZ (nodeAt l (s .root) .kind) (pos 0) ≡ false
+  pub test : isLeaf (nodeAt l (s .root) .kind) ≡ false
   pub is : m (treeAt l n f) (treeAt l n g) ≡ both (mk (testOf (nodeAt l (s .root)))) (m (treeAt l n (s .fh)) (treeAt l n (s .gh))) (m (treeAt l n (s .fl)) (treeAt l n (s .gl)))
 
 -- f's sides with g whole, g's with f whole, and the sides of both
@@ -104,17 +104,17 @@ module _ {l : List ℤ} {n : ℕ} (G : Good l n) (f g : ℕ) (hf : f < n) (hg : 
   abbrev y : Node
   y = nodeAt l g
 
-  pub left-on : eqZ (x .kind) (pos 0) ≡ false → m (X f) (X g) ≡ both (mk (testOf x)) (m (X (natAbs (x .high))) (X g)) (m (X (natAbs (x .low))) (X g)) → On l n m mk f g (leftSides (downOf x) f g)
+  pub left-on : isLeaf (x .kind) ≡ false → m (X f) (X g) ≡ both (mk (testOf x)) (m (X (natAbs (x .high))) (X g)) (m (X (natAbs (x .low))) (X g)) → On l n m mk f g (leftSides (downOf x) f g)
   unfolding downOf
   left-on ex e = let a = G .valid f hf .high-below ex in let b = G .valid f hf .low-below ex in
       record { fh = omega arith; gh = hg; fl = omega arith; gl = hg; root = hf; high = omega arith; low = omega arith; test = ex; is = e }
 
-  pub right-on : eqZ (y .kind) (pos 0) ≡ false → m (X f) (X g) ≡ both (mk (testOf y)) (m (X f) (X (natAbs (y .high)))) (m (X f) (X (natAbs (y .low)))) → On l n m mk f g (rightSides f (downOf y) g)
+  pub right-on : isLeaf (y .kind) ≡ false → m (X f) (X g) ≡ both (mk (testOf y)) (m (X f) (X (natAbs (y .high)))) (m (X f) (X (natAbs (y .low)))) → On l n m mk f g (rightSides f (downOf y) g)
   unfolding downOf
   right-on ey e = let a = G .valid g hg .high-below ey in let b = G .valid g hg .low-below ey in
       record { fh = hf; gh = omega arith; fl = hf; gl = omega arith; root = hg; high = omega arith; low = omega arith; test = ey; is = e }
 
-  pub both-on : eqZ (x .kind) (pos 0) ≡ false → eqZ (y .kind) (pos 0) ≡ false → m (X f) (X g) ≡ both (mk (testOf x)) (m (X (natAbs (x .high))) (X (natAbs (y .high)))) (m (X (natAbs (x .low))) (X (natAbs (y .low)))) → On l n m mk f g (bothSides (downOf x) f (downOf y))
+  pub both-on : isLeaf (x .kind) ≡ false → isLeaf (y .kind) ≡ false → m (X f) (X g) ≡ both (mk (testOf x)) (m (X (natAbs (x .high))) (X (natAbs (y .high)))) (m (X (natAbs (x .low))) (X (natAbs (y .low)))) → On l n m mk f g (bothSides (downOf x) f (downOf y))
   unfolding downOf
   both-on ex ey e =
       let a = G .valid f hf .high-below ex in let b = G .valid f hf .low-below ex in

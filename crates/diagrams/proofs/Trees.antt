@@ -15,7 +15,7 @@ use lib.Seq.{getD-at, take-suc, take-all, ext-getD}
 use Rattle.whole.specs.Cases.{if}
 use Rattle.whole.specs.Linears.{numbers}
 use Rattle.table.proofs.Look.{split, eqZ-true}
-use Rattle.table.specs.Table.{nodeAt, eqZ}
+use Rattle.table.specs.Table.{nodeAt, eqZ, isLeaf}
 use Rattle.table.specs.declared.Node.{Node}
 use Rattle.theory.specs.Widths.{levels-most, conditions-most}
 use Rattle.theory.specs.Diagram.{Linear, now, later, linear, Leaf, Tree, leaf, branch}
@@ -63,11 +63,11 @@ grown-on G H = let a = G .more in let b = H .more in record { more = omega arith
 abbrev pub branchOf : Node → List Tree → Tree
 branchOf x X = branch (testOf x) (getD X (natAbs (x .high)) blank) (getD X (natAbs (x .low)) blank)
 
-pub tree-leaf : (x : Node) (X : List Tree) → eqZ (x .kind) (pos 0) ≡ true → treeOf x X ≡ leaf (leafOf x)
+pub tree-leaf : (x : Node) (X : List Tree) → isLeaf (x .kind) ≡ true → treeOf x X ≡ leaf (leafOf x)
 unfolding treeOf
 tree-leaf x X e = ap (λ (b : Bool). if b (leaf (leafOf x)) (branchOf x X)) e
 
-pub tree-branch : (x : Node) (X : List Tree) → eqZ (x .kind) (pos 0) ≡ false → treeOf x X ≡ branchOf x X
+pub tree-branch : (x : Node) (X : List Tree) → isLeaf (x .kind) ≡ false → treeOf x X ≡ branchOf x X
 unfolding treeOf
 tree-branch x X e = ap (λ (b : Bool). if b (leaf (leafOf x)) (branchOf x X)) e
 
@@ -192,27 +192,27 @@ weaken h v = record {
 
 module _ {l : List ℤ} {n : ℕ} (G : Good l n) where
   -- the tree at a leaf, and at a branch
-  pub at-leaf : (f : ℕ) → f < n → eqZ (nodeAt l f .kind) (pos 0) ≡ true → treeAt l n f ≡ leaf (leafOf (nodeAt l f))
+  pub at-leaf : (f : ℕ) → f < n → isLeaf (nodeAt l f .kind) ≡ true → treeAt l n f ≡ leaf (leafOf (nodeAt l f))
   at-leaf f h e = trees-at l n f h ∙ tree-leaf (nodeAt l f) (trees l f) e
 
-  pub at-branch : (f : ℕ) → f < n → eqZ (nodeAt l f .kind) (pos 0) ≡ false → treeAt l n f ≡ branchOf (nodeAt l f) (trees l n)
+  pub at-branch : (f : ℕ) → f < n → isLeaf (nodeAt l f .kind) ≡ false → treeAt l n f ≡ branchOf (nodeAt l f) (trees l n)
   at-branch f h e =
       trees-at l n f h ∙ (tree-branch (nodeAt l f) (trees l f) e
       ∙ ap₂ (branch (testOf (nodeAt l f))) (trees-le l f n (natAbs (nodeAt l f .high)) (G .valid f h .high-below e) (omega arith)) (trees-le l f n (natAbs (nodeAt l f .low)) (G .valid f h .low-below e) (omega arith)))
 
   -- each tree is that of its node over all the trees
   pub tree-at : (i : ℕ) → i < n → treeAt l n i ≡ treeOf (nodeAt l i) (trees l n)
-  tree-at i h = go (eqZ (nodeAt l i .kind) (pos 0)) refl
+  tree-at i h = go (isLeaf (nodeAt l i .kind)) refl
     where
-      go : (b : Bool) → eqZ (nodeAt l i .kind) (pos 0) ≡ b → treeAt l n i ≡ treeOf (nodeAt l i) (trees l n)
+      go : (b : Bool) → isLeaf (nodeAt l i .kind) ≡ b → treeAt l n i ≡ treeOf (nodeAt l i) (trees l n)
       go true e = at-leaf i h e ∙ sym (tree-leaf (nodeAt l i) (trees l n) e)
       go false e = at-branch i h e ∙ sym (tree-branch (nodeAt l i) (trees l n) e)
 
   -- the tree of a node decides the node
   pub inj : (x y : Node) → Valid x n → Valid y n → treeOf x (trees l n) ≡ treeOf y (trees l n) → x ≡ y
-  inj x y vx vy e = go (eqZ (x .kind) (pos 0)) (eqZ (y .kind) (pos 0)) refl refl
+  inj x y vx vy e = go (isLeaf (x .kind)) (isLeaf (y .kind)) refl refl
     where
-      go : (a b : Bool) → eqZ (x .kind) (pos 0) ≡ a → eqZ (y .kind) (pos 0) ≡ b → x ≡ y
+      go : (a b : Bool) → isLeaf (x .kind) ≡ a → isLeaf (y .kind) ≡ b → x ≡ y
       go true true p q =
           let s : leaf (leafOf x) ≡ leaf (leafOf y) = sym (tree-leaf x (trees l n) p) ∙ (e ∙ tree-leaf y (trees l n) q) in
           let u = same-leaf x y (vx .nums .long) (vy .nums .long) (cc) (eqZ-true (x .kind) (pos 0) p ∙ sym (eqZ-true (y .kind) (pos 0) q)) in

@@ -9,7 +9,7 @@ use lib.Signed.{nonNeg}
 use lib.ListN.{length, getD, take}
 use Rattle.whole.specs.Cases.{if}
 use Rattle.whole.specs.Linears.{numbers, Smalls}
-use Rattle.table.specs.Table.{node-words, nodeAt, eqZ}
+use Rattle.table.specs.Table.{node-words, nodeAt, eqZ, isLeaf}
 use Rattle.table.specs.declared.Node.{Node}
 use Rattle.theory.specs.Widths.{levels-most, conditions-most}
 use Rattle.theory.specs.Diagram.{Linear, Test, now, later, linear, Leaf, Tree, leaf, branch}
@@ -43,7 +43,7 @@ blank = leaf (record { lin = record { coeffs = []; const = pos 0 }; act = 0 })
 
 -- the tree of a node over the trees of those below it
 unfoldable pub treeOf : Node → List Tree → Tree
-treeOf x X = if (eqZ (x .kind) (pos 0)) (leaf (leafOf x)) (branch (testOf x) (getD X (natAbs (x .high)) blank) (getD X (natAbs (x .low)) blank))
+treeOf x X = if (isLeaf (x .kind)) (leaf (leafOf x)) (branch (testOf x) (getD X (natAbs (x .high)) blank) (getD X (natAbs (x .low)) blank))
 
 -- the trees of the first n nodes
 unfoldable pub trees : List ℤ → ℕ → List Tree
@@ -73,10 +73,10 @@ pub record Valid (x : Node) (n : ℕ) : Type 0 where
   pub nums : Nums x
   pub high-nat : T (nonNeg (x .high))
   pub low-nat : T (nonNeg (x .low))
-  pub leaf-low : eqZ (x .kind) (pos 0) ≡ true → x .low ≡ pos 0
-  pub tested : eqZ (x .kind) (pos 0) ≡ false → Tested x
-  pub high-below : eqZ (x .kind) (pos 0) ≡ false → natAbs (x .high) < n
-  pub low-below : eqZ (x .kind) (pos 0) ≡ false → natAbs (x .low) < n
+  pub leaf-low : isLeaf (x .kind) ≡ true → x .low ≡ pos 0
+  pub tested : isLeaf (x .kind) ≡ false → Tested x
+  pub high-below : isLeaf (x .kind) ≡ false → natAbs (x .high) < n
+  pub low-below : isLeaf (x .kind) ≡ false → natAbs (x .low) < n
 
 -- "Equal nodes are one node."
 pub record Good (l : List ℤ) (n : ℕ) : Type 0 where
@@ -98,14 +98,14 @@ pub record At (l : List ℤ) (i : ℕ) : Type 0 where
 
 -- a node whose test can be put over branches
 pub record Proper (t : Node) : Type 0 where
-  pub branches : eqZ (t .kind) (pos 0) ≡ false
+  pub branches : isLeaf (t .kind) ≡ false
   pub nums : Nums t
   pub tested : Tested t
 
 -- a node of the table that is no leaf
 pub record Root (l : List ℤ) (n t : ℕ) : Type 0 where
   pub below : t < n
-  pub branches : eqZ (nodeAt l t .kind) (pos 0) ≡ false
+  pub branches : isLeaf (nodeAt l t .kind) ≡ false
 
 -- a leaf without action, as it stands in words
 pub record Plain (s : Node) : Type 0 where

@@ -9,7 +9,7 @@ use lib.ListN.{length, replicate}
 use Rattle.whole.specs.Cases.{if}
 use Rattle.whole.specs.Linears.{quotL, divisorL}
 unfoldable pub use Rattle.whole.specs.Linears.{ordNum}
-use Rattle.table.specs.Table.{node-words, nodeAt, eqZ}
+use Rattle.table.specs.Table.{node-words, nodeAt, eqZ, isLeaf}
 use Rattle.table.specs.declared.Node.{Node}
 use Rattle.theory.specs.Widths.{levels-most, conditions-most}
 use Rattle.theory.specs.Diagram.{linear, then, cmpZ, cmpList}
@@ -38,7 +38,7 @@ linearNode l = record { kind = pos 2; n = l; high = pos 0; low = pos 0 }
 
 -- the test that a node names
 unfoldable pub namedNode : Node → Node
-namedNode x = if (eqZ (x .kind) (pos 0)) (linearNode (quotL (divisorL (x .n)) (x .n))) x
+namedNode x = if (isLeaf (x .kind)) (linearNode (quotL (divisorL (x .n)) (x .n))) x
 
 unfoldable pub testNode : List ℤ → ℕ → ℕ → Node
 testNode l op p = if (eqb op 10) (laterNode p) (namedNode (nodeAt l p))
@@ -52,7 +52,7 @@ pub record Readable (l : List ℤ) (op p : ℕ) : Type 0 where
 -- ---- the sides
 
 unfoldable pub downOf : Node → Down
-downOf x = record { ends = eqZ (x .kind) (pos 0); high = natAbs (x .high); low = natAbs (x .low) }
+downOf x = record { ends = isLeaf (x .kind); high = natAbs (x .high); low = natAbs (x .low) }
 
 abbrev pub leftSides : Down → ℕ → ℕ → Sides
 leftSides x f g = record { ends = false; root = f; fh = x .high; gh = g; fl = x .low; gl = g }

@@ -37,7 +37,7 @@ pub fn below(x: Node) -> Down
     let l = x.low;
     let high = index(h);
     let low = index(l);
-    if x.kind == 0 {
+    if table::is_leaf(x.kind) {
         return Down {
             ends: true,
             high,
@@ -119,7 +119,7 @@ pub fn named(x: Node) -> Node
     requires { ⌜ Nums x ⌝ }
     ensures { λ r. ⌜ r ≡ namedNode x ⌝ }
 {
-    if x.kind == 0 {
+    if table::is_leaf(x.kind) {
         let l = x.n;
         let n = divided(l);
         return Node {

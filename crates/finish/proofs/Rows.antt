@@ -14,7 +14,7 @@ use lib.Seq.{take-add, drop-cons, drop-drop, length-take-le}
 use Rattle.whole.specs.Cases.{if}
 use Rattle.whole.specs.Linears.{numbers}
 use Rattle.table.proofs.Look.{eqZ-true}
-use Rattle.table.specs.Table.{high-word, low-word, nodeAt, eqZ}
+use Rattle.table.specs.Table.{high-word, low-word, nodeAt, eqZ, isLeaf}
 use Rattle.table.specs.declared.Node.{Node}
 use Rattle.theory.specs.Widths.{levels-most, conditions-most, node-words}
 use Rattle.theory.specs.Diagram.{now, later, linear, Tree, leaf, branch, padded}
@@ -47,7 +47,7 @@ linear-word x e =
     ap (λ (t : List ℤ). t ++ (getD (x .n) levels-most (pos 0) ∷ [])) (padded-all levels-most (take levels-most (x .n)) (length-take-le levels-most (x .n) (omega arith)))
     ∙ split-last levels-most (x .n) e
 
-pub row-leaf : (Y : List Tree) (x : Node) (n : ℕ) → Valid x n → eqZ (x .kind) (pos 0) ≡ true → words-of x ≡ row Y (leaf (leafOf x))
+pub row-leaf : (Y : List Tree) (x : Node) (n : ℕ) → Valid x n → isLeaf (x .kind) ≡ true → words-of x ≡ row Y (leaf (leafOf x))
 unfolding words-of row leafOf
 row-leaf Y x n v e =
     let k = eqZ-true (x .kind) (pos 0) e in

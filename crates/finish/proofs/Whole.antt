@@ -9,7 +9,7 @@ use lib.IntN.{ℤ, pos, natAbs}
 use lib.ListN.{length, getD, take, replicate, length-map, List·getD-append}
 use lib.Seq.{getD-at}
 use Rattle.table.proofs.Look.{split}
-use Rattle.table.specs.Table.{nodeAt, eqZ}
+use Rattle.table.specs.Table.{nodeAt, isLeaf}
 use Rattle.theory.specs.Widths.{node-words, steps-most}
 use Rattle.theory.specs.Diagram.{Tree}
 use Rattle.theory.specs.Solve.{number-of, row, rows, table-of, solved-nodes, solved-stages}
@@ -65,9 +65,9 @@ module _ {cap : ℕ} {l : List ℤ} {n : ℕ} (G : Held cap l n) {w : List ℕ} 
   -- a node with its branches' numbers is its tree's row
   renumbered-row : (i : ℕ) → i < n → words-of (renumber w cap (nodeAt l i)) ≡ row Y (treeAt l n i)
   unfolding renumber
-  renumbered-row i h = go (eqZ (nodeAt l i .kind) (pos 0)) refl
+  renumbered-row i h = go (isLeaf (nodeAt l i .kind)) refl
     where
-      go : (b : Bool) → eqZ (nodeAt l i .kind) (pos 0) ≡ b → words-of (cond b (nodeAt l i) (over (nodeAt l i) (pos (getD w (cap + natAbs (nodeAt l i .high)) 0)) (pos (getD w (cap + natAbs (nodeAt l i .low)) 0)))) ≡ row Y (treeAt l n i)
+      go : (b : Bool) → isLeaf (nodeAt l i .kind) ≡ b → words-of (cond b (nodeAt l i) (over (nodeAt l i) (pos (getD w (cap + natAbs (nodeAt l i .high)) 0)) (pos (getD w (cap + natAbs (nodeAt l i .low)) 0)))) ≡ row Y (treeAt l n i)
       go true d = row-leaf Y (nodeAt l i) i (G .good .valid i h) d ∙ ap (row Y) (sym (at-leaf (G .good) i h d))
       go false d =
           let p = N .numbers (natAbs (nodeAt l i .high)) (let q = G .good .valid i h .high-below d in omega arith) in

@@ -6,7 +6,7 @@ use Prim.Native.Nat.{ℕ, _<_}
 use lib.IntN.{ℤ, pos, _+ℤ_, _-ℤ_}
 use lib.ListN.{set}
 use Rattle.whole.specs.Linears.{addL, subL, clipL}
-use Rattle.table.specs.Table.{nodeAt, eqZ}
+use Rattle.table.specs.Table.{nodeAt, isLeaf}
 use Rattle.table.specs.declared.Node.{Node}
 use Rattle.theory.specs.Widths.{levels-most}
 use Rattle.diagrams.specs.Nodes.{constantOf}
@@ -14,7 +14,7 @@ use Rattle.diagrams.specs.Nodes.{constantOf}
 -- a leaf of the table
 pub record AtLeaf (l : List ℤ) (n f : ℕ) : Type 0 where
   pub below : f < n
-  pub ends : eqZ (nodeAt l f .kind) (pos 0) ≡ true
+  pub ends : isLeaf (nodeAt l f .kind) ≡ true
 
 -- a leaf of these numbers, without action
 abbrev pub leafNode : List ℤ → Node

@@ -11,7 +11,7 @@ use lib.Dec.{T, eqb}
 use lib.IntN.{ℤ, pos, natAbs}
 use lib.ListN.{length, getD, set, length-set}
 use lib.Seq.{getD-set-same, getD-set-other}
-use Rattle.table.specs.Table.{nodeAt, eqZ}
+use Rattle.table.specs.Table.{nodeAt, isLeaf}
 use Rattle.table.specs.declared.Node.{Node}
 use Rattle.theory.specs.Diagram.{Test, Leaf, Tree, leaf, branch, same}
 use Rattle.theory.specs.laws.Comps.{same-eq, same-refl}
@@ -134,8 +134,8 @@ pub record Pass (cap : ℕ) (l : List ℤ) (w w′ : List ℕ) (R : List ℕ) (n
   pub bit : (k : ℕ) → k < n → getD w′ k 0 ≡ flag (markOf w′ k)
   pub sound : (k : ℕ) → k < n → markOf w′ k ≡ true → needed (rootsOf (trees l n) R) (getD (trees l n) k blank) ≡ true
   pub roots : (j : ℕ) → j < m → markOf w′ (getD R j 0) ≡ true
-  pub high : (k : ℕ) → i ≤ k → k < n → markOf w′ k ≡ true → eqZ (nodeAt l k .kind) (pos 0) ≡ false → markOf w′ (natAbs (nodeAt l k .high)) ≡ true
-  pub low : (k : ℕ) → i ≤ k → k < n → markOf w′ k ≡ true → eqZ (nodeAt l k .kind) (pos 0) ≡ false → markOf w′ (natAbs (nodeAt l k .low)) ≡ true
+  pub high : (k : ℕ) → i ≤ k → k < n → markOf w′ k ≡ true → isLeaf (nodeAt l k .kind) ≡ false → markOf w′ (natAbs (nodeAt l k .high)) ≡ true
+  pub low : (k : ℕ) → i ≤ k → k < n → markOf w′ k ≡ true → isLeaf (nodeAt l k .kind) ≡ false → markOf w′ (natAbs (nodeAt l k .low)) ≡ true
 
 module _ {cap : ℕ} {l : List ℤ} {R : List ℕ} {n : ℕ} (room : n ≤ cap) (G : Good l n) (B : Below R n) where
   abbrev X : List Tree
@@ -239,7 +239,7 @@ module _ {cap : ℕ} {l : List ℤ} {R : List ℕ} {n : ℕ} (room : n ≤ cap) 
     here = let u = P .upto in omega arith
 
     -- node i has nothing to mark, or its branches are marked in a later state
-    less : {w″ : List ℕ} → Pass cap l w w″ R n m (i + 1) → (markOf w″ i ≡ true → eqZ (x .kind) (pos 0) ≡ false → (markOf w″ (natAbs (x .high)) ≡ true) × (markOf w″ (natAbs (x .low)) ≡ true)) → Pass cap l w w″ R n m i
+    less : {w″ : List ℕ} → Pass cap l w w″ R n m (i + 1) → (markOf w″ i ≡ true → isLeaf (x .kind) ≡ false → (markOf w″ (natAbs (x .high)) ≡ true) × (markOf w″ (natAbs (x .low)) ≡ true)) → Pass cap l w w″ R n m i
     less {w″} Q f = record {
       big = Q .big;
       upto = omega (arith, here);
@@ -254,22 +254,22 @@ module _ {cap : ℕ} {l : List ℤ} {R : List ℕ} {n : ℕ} (room : n ≤ cap) 
       low = λ k a b c d. go-low k a b c d (eqb k i) refl;
     }
       where
-        go-high : (k : ℕ) → i ≤ k → k < n → markOf w″ k ≡ true → eqZ (nodeAt l k .kind) (pos 0) ≡ false → (t : Bool) → eqb k i ≡ t → markOf w″ (natAbs (nodeAt l k .high)) ≡ true
+        go-high : (k : ℕ) → i ≤ k → k < n → markOf w″ k ≡ true → isLeaf (nodeAt l k .kind) ≡ false → (t : Bool) → eqb k i ≡ t → markOf w″ (natAbs (nodeAt l k .high)) ≡ true
         go-high k a b c d true e =
             let q = eqb-true k i e in
-            ap (λ (z : ℕ). markOf w″ (natAbs (nodeAt l z .high))) q ∙ f (ap (markOf w″) (sym q) ∙ c) (ap (λ (z : ℕ). eqZ (nodeAt l z .kind) (pos 0)) (sym q) ∙ d) .0
+            ap (λ (z : ℕ). markOf w″ (natAbs (nodeAt l z .high))) q ∙ f (ap (markOf w″) (sym q) ∙ c) (ap (λ (z : ℕ). isLeaf (nodeAt l z .kind)) (sym q) ∙ d) .0
         go-high k a b c d false e = Q .high k (let q = eqb-false k i e in omega arith) b c d
 
-        go-low : (k : ℕ) → i ≤ k → k < n → markOf w″ k ≡ true → eqZ (nodeAt l k .kind) (pos 0) ≡ false → (t : Bool) → eqb k i ≡ t → markOf w″ (natAbs (nodeAt l k .low)) ≡ true
+        go-low : (k : ℕ) → i ≤ k → k < n → markOf w″ k ≡ true → isLeaf (nodeAt l k .kind) ≡ false → (t : Bool) → eqb k i ≡ t → markOf w″ (natAbs (nodeAt l k .low)) ≡ true
         go-low k a b c d true e =
             let q = eqb-true k i e in
-            ap (λ (z : ℕ). markOf w″ (natAbs (nodeAt l z .low))) q ∙ f (ap (markOf w″) (sym q) ∙ c) (ap (λ (z : ℕ). eqZ (nodeAt l z .kind) (pos 0)) (sym q) ∙ d) .1
+            ap (λ (z : ℕ). markOf w″ (natAbs (nodeAt l z .low))) q ∙ f (ap (markOf w″) (sym q) ∙ c) (ap (λ (z : ℕ). isLeaf (nodeAt l z .kind)) (sym q) ∙ d) .1
         go-low k a b c d false e = Q .low k (let q = eqb-false k i e in omega arith) b c d
 
-    branches : markOf w′ i ≡ true → eqZ (x .kind) (pos 0) ≡ false → (needed S (getD X (natAbs (x .high)) blank) ≡ true) × (needed S (getD X (natAbs (x .low)) blank) ≡ true)
+    branches : markOf w′ i ≡ true → isLeaf (x .kind) ≡ false → (needed S (getD X (natAbs (x .high)) blank) ≡ true) × (needed S (getD X (natAbs (x .low)) blank) ≡ true)
     branches a d = needed-branch (testOf x) (getD X (natAbs (x .high)) blank) (getD X (natAbs (x .low)) blank) S (ap (needed S) (sym (at-branch G i here d)) ∙ P .sound i here a)
 
-    both : markOf w′ i ≡ true → eqZ (x .kind) (pos 0) ≡ false → Pass cap l w (set (set w′ (natAbs (x .high)) 1) (natAbs (x .low)) 1) R n m i
+    both : markOf w′ i ≡ true → isLeaf (x .kind) ≡ false → Pass cap l w (set (set w′ (natAbs (x .high)) 1) (natAbs (x .low)) 1) R n m i
     both a d =
         let v = G .valid i here in
         let nb = branches a d in
@@ -284,9 +284,9 @@ module _ {cap : ℕ} {l : List ℤ} {R : List ℕ} {n : ℕ} (room : n ≤ cap) 
 
     steps : Pass cap l w (markStep l w′ i) R n m i
     unfolding markStep
-    steps = go (markOf w′ i) refl (eqZ (x .kind) (pos 0)) refl
+    steps = go (markOf w′ i) refl (isLeaf (x .kind)) refl
       where
-        go : (a : Bool) → markOf w′ i ≡ a → (d : Bool) → eqZ (x .kind) (pos 0) ≡ d → Pass cap l w (cond a (cond d w′ (set (set w′ (natAbs (x .high)) 1) (natAbs (x .low)) 1)) w′) R n m i
+        go : (a : Bool) → markOf w′ i ≡ a → (d : Bool) → isLeaf (x .kind) ≡ d → Pass cap l w (cond a (cond d w′ (set (set w′ (natAbs (x .high)) 1) (natAbs (x .low)) 1)) w′) R n m i
         go false e d f = less P (λ t _. clash t e)
         go true e true f = less P (λ _ t. clash f t)
         go true e false f = both e f
@@ -299,12 +299,12 @@ module _ {cap : ℕ} {l : List ℤ} {R : List ℕ} {n : ℕ} (room : n ≤ cap) 
     under (suc d) k a b c j q e = under-step k b c j q e (λ h p r s. under d h (omega arith) (omega arith) r j q s)
       where
         under-step : (k : ℕ) (b : k < n) → markOf w′ k ≡ true → (j : ℕ) → j < n → sub (getD X j blank) (getD X k blank) ≡ true → ((h : ℕ) → h < k → markOf w′ h ≡ true → sub (getD X j blank) (getD X h blank) ≡ true → markOf w′ j ≡ true) → markOf w′ j ≡ true
-        under-step k b c j q e rec = go (eqZ (nodeAt l k .kind) (pos 0)) refl
+        under-step k b c j q e rec = go (isLeaf (nodeAt l k .kind)) refl
           where
             itself : same (getD X j blank) (getD X k blank) ≡ true → markOf w′ j ≡ true
             itself f = ap (markOf w′) (G .distinct j k q b (same-true (getD X j blank) (getD X k blank) f)) ∙ c
 
-            go : (t : Bool) → eqZ (nodeAt l k .kind) (pos 0) ≡ t → markOf w′ j ≡ true
+            go : (t : Bool) → isLeaf (nodeAt l k .kind) ≡ t → markOf w′ j ≡ true
             go true f = itself (sub-leaf (getD X j blank) (getD X k blank) (at-leaf G k b f) e)
             go false f =
                 let v = G .valid k b in

@@ -7,7 +7,7 @@ use native.Mathlib.Omega.{arith}
 use borrow.Author.Tests.{eq-eqb, ne-eqb}
 use lib.IntN.{ℤ, pos, natAbs}
 use lib.ListN.{length, getD, set, length-set}
-use Rattle.table.specs.Table.{node-words, nodeAt, eqZ}
+use Rattle.table.specs.Table.{node-words, nodeAt, isLeaf}
 use Rattle.table.specs.declared.Node.{Node}
 use Rattle.diagrams.specs.Nodes.{Valid, Good}
 use Rattle.mark.specs.Mark.{markOf, markStep, markDown}
@@ -19,9 +19,9 @@ module _ (l : List ℤ) (w : List ℕ) (i : ℕ) where
   step-zero e = sym (rw (eq-eqb (getD w i 0) 0 e))
 
   -- the node that is read
-  module _ (e : getD w i 0 ≡ 0 → ⊥) {x : Node} (ex : x ≡ nodeAt l i) {b : Bool} (d : b ≡ eqZ (x .kind) (pos 0)) where
-    kind-is : b ≡ eqZ (nodeAt l i .kind) (pos 0)
-    kind-is = d ∙ ap (λ (y : Node). eqZ (y .kind) (pos 0)) ex
+  module _ (e : getD w i 0 ≡ 0 → ⊥) {x : Node} (ex : x ≡ nodeAt l i) {b : Bool} (d : b ≡ isLeaf (x .kind)) where
+    kind-is : b ≡ isLeaf (nodeAt l i .kind)
+    kind-is = d ∙ ap (λ (y : Node). isLeaf (y .kind)) ex
 
     pub step-leaf : b ≡ true → w ≡ markStep l w i
     unfolding markStep markOf
@@ -42,7 +42,7 @@ module _ (l : List ℤ) (w : List ℕ) (i : ℕ) where
 
 step-length : (l : List ℤ) (w : List ℕ) (i : ℕ) → length (markStep l w i) ≡ length w
 unfolding markStep
-step-length l w i = go (markOf w i) (eqZ (nodeAt l i .kind) (pos 0))
+step-length l w i = go (markOf w i) (isLeaf (nodeAt l i .kind))
   where
     go : (a b : Bool) → length (cond a (cond b w (set (set w (natAbs (nodeAt l i .high)) 1) (natAbs (nodeAt l i .low)) 1)) w) ≡ length w
     go false b = refl

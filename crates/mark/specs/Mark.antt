@@ -6,9 +6,9 @@ use Prim.Native.Nat.{ℕ, zero, suc, _*_, _≤_, _<_}
 use lib.Dec.{eqb}
 use lib.IntN.{ℤ, pos, natAbs}
 use lib.ListN.{length, getD, set}
-use Rattle.table.specs.Table.{node-words}
+use Rattle.table.specs.Table.{node-words, isLeaf}
 use Rattle.unique.specs.Unique.{work-words}
-use Rattle.table.specs.Table.{nodeAt, eqZ}
+use Rattle.table.specs.Table.{nodeAt}
 use Rattle.theory.specs.Diagram.{Tree, leaf, branch, same}
 use Rattle.diagrams.specs.Nodes.{blank, trees}
 
@@ -51,7 +51,7 @@ flag false = 0
 
 -- the work words with the branches of node i marked where it is marked
 unfoldable pub markStep : List ℤ → List ℕ → ℕ → List ℕ
-markStep l w i = cond (markOf w i) (cond (eqZ (nodeAt l i .kind) (pos 0)) w (set (set w (natAbs (nodeAt l i .high)) 1) (natAbs (nodeAt l i .low)) 1)) w
+markStep l w i = cond (markOf w i) (cond (isLeaf (nodeAt l i .kind)) w (set (set w (natAbs (nodeAt l i .high)) 1) (natAbs (nodeAt l i .low)) 1)) w
 
 -- so for the nodes below i, from the last down
 unfoldable pub markDown : List ℤ → List ℕ → ℕ → List ℕ

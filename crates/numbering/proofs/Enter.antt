@@ -12,7 +12,7 @@ use lib.IntN.{ℤ, pos, natAbs}
 use lib.ListN.{length, getD, set, length-set, length-append}
 use lib.Seq.{getD-set-same, getD-set-other}
 use Rattle.table.proofs.Look.{split}
-use Rattle.table.specs.Table.{nodeAt, eqZ}
+use Rattle.table.specs.Table.{nodeAt, isLeaf}
 use Rattle.theory.specs.Diagram.{Tree, branch}
 use Rattle.theory.specs.Computation.{member, enter}
 use Rattle.theory.specs.Events.{Distinct}
@@ -136,13 +136,13 @@ module _ {cap : ℕ} {l : List ℤ} {n : ℕ} (G : Held cap l n) where
     pub was-there : (getD w (cap + i) 0 ≡ 0 → ⊥) → Entered cap l n w w c c (treeAt l n i)
     was-there z = record { state = N; listed = sym (enter-there (treeAt l n i) (listOf X w c) (number-in (treeAt l n i) (listOf X w c) (λ e. z (N .numbers i h ∙ e)))) }
 
-    pub leaf-new : (z : getD w (cap + i) 0 ≡ 0) → eqZ (nodeAt l i .kind) (pos 0) ≡ true → {r : ℕ} {w″ : List ℕ} → r ≡ c + 1 → w″ ≡ assigned w cap c i → Entered cap l n w w″ c r (treeAt l n i)
+    pub leaf-new : (z : getD w (cap + i) 0 ≡ 0) → isLeaf (nodeAt l i .kind) ≡ true → {r : ℕ} {w″ : List ℕ} → r ≡ c + 1 → w″ ≡ assigned w cap c i → Entered cap l n w w″ c r (treeAt l n i)
     unfolding assigned
     leaf-new z d {r} {w″} er ew =
         subst (λ (k : ℕ). Entered cap l n w w″ c k (treeAt l n i)) (sym er) (subst (λ (v : List ℕ). Entered cap l n w v c (c + 1) (treeAt l n i)) (sym ew)
         (record { state = assigns N i h z; listed = listed-new N i h z ∙ sym (enter-leaf (treeAt l n i) (listOf X w c) (absent N i h z) (at-leaf (G .good) i h d)) }))
 
-    module _ (z : getD w (cap + i) 0 ≡ 0) (d : eqZ (nodeAt l i .kind) (pos 0) ≡ false) {p q : ℕ} (ep : p ≡ natAbs (nodeAt l i .high)) (eq : q ≡ natAbs (nodeAt l i .low)) {w₁ w₂ : List ℕ} {c₁ c₂ : ℕ} (E₁ : Entered cap l n w w₁ c c₁ (treeAt l n p)) (E₂ : Entered cap l n w₁ w₂ c₁ c₂ (treeAt l n q)) where
+    module _ (z : getD w (cap + i) 0 ≡ 0) (d : isLeaf (nodeAt l i .kind) ≡ false) {p q : ℕ} (ep : p ≡ natAbs (nodeAt l i .high)) (eq : q ≡ natAbs (nodeAt l i .low)) {w₁ w₂ : List ℕ} {c₁ c₂ : ℕ} (E₁ : Entered cap l n w w₁ c c₁ (treeAt l n p)) (E₂ : Entered cap l n w₁ w₂ c₁ c₂ (treeAt l n q)) where
       tree-is : treeAt l n i ≡ branch (testOf (nodeAt l i)) (treeAt l n p) (treeAt l n q)
       tree-is = at-branch (G .good) i h d ∙ sym (ap₂ (λ (a b : ℕ). branch (testOf (nodeAt l i)) (treeAt l n a) (treeAt l n b)) ep eq)
 

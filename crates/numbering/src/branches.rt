@@ -5,7 +5,7 @@ ghost use lib.Dec.{T};
 ghost use lib.IntN.{pos, natAbs};
 ghost use lib.ListN.{length, getD};
 ghost use lib.Signed.{nonNeg};
-ghost use Rattle.table.specs.Table.{node-words, nodeAt, eqZ};
+ghost use Rattle.table.specs.Table.{node-words, nodeAt, isLeaf};
 use diagrams::tests::index;
 use table::NODE_WORDS;
 
@@ -17,10 +17,10 @@ pub const LOW: usize = table::LOW;
 // Whether node i is a leaf.
 pub fn is_leaf(nodes: &[i64], i: usize) -> bool
     requires { ⌜ i * node-words + node-words ≤ length (now nodes) ⌝ }
-    ensures { λ r. ⌜ r ≡ eqZ (nodeAt (now (nodes .entry)) i .kind) (pos 0) ⌝ }
+    ensures { λ r. ⌜ r ≡ isLeaf (nodeAt (now (nodes .entry)) i .kind) ⌝ }
 {
-    let k = nodes[i * NODE_WORDS];
-    if k == 0 { true } else { false }
+    let kind = nodes[i * NODE_WORDS];
+    table::is_leaf(kind)
 }
 
 // The index in one of node i's words.

@@ -3,13 +3,13 @@ use table::Node;
 use whole::limits::mag;
 ghost use mathlib.Core.Path.{_≡_};
 ghost use lib.IntN.{pos, natAbs};
-ghost use Rattle.table.specs.Table.{eqZ};
+ghost use Rattle.table.specs.Table.{isLeaf};
 
 // Whether it has no branches.
 pub fn is_leaf(x: Node) -> bool
-    ensures { λ r. ⌜ r ≡ eqZ (x .kind) (pos 0) ⌝ }
+    ensures { λ r. ⌜ r ≡ isLeaf (x .kind) ⌝ }
 {
-    if x.kind == 0 { true } else { false }
+    table::is_leaf(x.kind)
 }
 
 // The index of its high branch.

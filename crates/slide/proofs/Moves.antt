@@ -10,7 +10,7 @@ use lib.ListN.{getD, set}
 use mir.Syntax.{w64}
 use mir.Val.{toZ}
 use Rattle.table.proofs.Words.{back}
-use Rattle.table.specs.Table.{nodeAt, putAt, eqZ}
+use Rattle.table.specs.Table.{nodeAt, putAt, isLeaf}
 use Rattle.table.specs.declared.Node.{Node}
 use Rattle.diagrams.specs.Nodes.{Valid}
 use Rattle.mark.specs.Mark.{markOf}
@@ -19,11 +19,11 @@ use Rattle.slide.specs.Slide.{renumber, SlidOne}
 -- ---- a node with its branches' new indexes
 
 module _ (w : List ℕ) (cap : ℕ) (x : Node) where
-  pub moved-leaf : {b : Bool} → b ≡ eqZ (x .kind) (pos 0) → b ≡ true → x ≡ renumber w cap x
+  pub moved-leaf : {b : Bool} → b ≡ isLeaf (x .kind) → b ≡ true → x ≡ renumber w cap x
   unfolding renumber
   moved-leaf d e = sym (rw (sym d ∙ e))
 
-  module _ {b : Bool} (d : b ≡ eqZ (x .kind) (pos 0)) (e : b ≡ false) (v : Valid x cap) where
+  module _ {b : Bool} (d : b ≡ isLeaf (x .kind)) (e : b ≡ false) (v : Valid x cap) where
     pub high-less : {p : ℕ} → p ≡ natAbs (x .high) → p < cap
     high-less f = let q = v .high-below (sym d ∙ e) in omega arith
 

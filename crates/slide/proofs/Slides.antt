@@ -12,7 +12,7 @@ use lib.ListN.{length, getD, set, length-set}
 use lib.Seq.{getD-set-same, getD-set-other}
 use Rattle.table.proofs.Look.{split}
 use Rattle.table.proofs.Store.{put-length, put-other, put-above, put-same}
-use Rattle.table.specs.Table.{node-words, nodeAt, putAt, eqZ}
+use Rattle.table.specs.Table.{node-words, nodeAt, putAt, isLeaf}
 use Rattle.table.specs.declared.Node.{Node}
 use Rattle.theory.specs.Diagram.{Tree, branch}
 use Rattle.diagrams.specs.Nodes.{linOf, testOf, treeOf, blank, trees, Nums, Tested, Valid, Good}
@@ -131,37 +131,37 @@ module _ {cap : ℕ} {l : List ℤ} {w : List ℕ} {n : ℕ} (Z : Space cap l w 
       abbrev y : Node
       y = renumber w′ cap x
 
-      renumber-leaf : eqZ (x .kind) (pos 0) ≡ true → y ≡ x
+      renumber-leaf : isLeaf (x .kind) ≡ true → y ≡ x
       unfolding renumber
       renumber-leaf d = rw d
 
       abbrev z : Node
       z = record { kind = x .kind; n = x .n; high = pos (rank mk (natAbs (x .high))); low = pos (rank mk (natAbs (x .low))) }
 
-      renumber-node : eqZ (x .kind) (pos 0) ≡ false → y ≡ z
+      renumber-node : isLeaf (x .kind) ≡ false → y ≡ z
       unfolding renumber
       renumber-node d =
           let p = S .moved (natAbs (x .high)) (G .valid i h .high-below d) (C .high i h e d) in
           let q = S .moved (natAbs (x .low)) (G .valid i h .low-below d) (C .low i h e d) in
           rw d (λ t. record { kind = x .kind; n = x .n; high = pos (p t); low = pos (q t) })
 
-      at-high : eqZ (x .kind) (pos 0) ≡ false → (rank mk (natAbs (x .high)) < rank mk i) × (getD (keepOf mk (trees l n) i) (rank mk (natAbs (x .high))) blank ≡ getD (trees l n) (natAbs (x .high)) blank)
+      at-high : isLeaf (x .kind) ≡ false → (rank mk (natAbs (x .high)) < rank mk i) × (getD (keepOf mk (trees l n) i) (rank mk (natAbs (x .high))) blank ≡ getD (trees l n) (natAbs (x .high)) blank)
       at-high d = keep-at mk (trees l n) i (natAbs (x .high)) (G .valid i h .high-below d) (C .high i h e d)
 
-      at-low : eqZ (x .kind) (pos 0) ≡ false → (rank mk (natAbs (x .low)) < rank mk i) × (getD (keepOf mk (trees l n) i) (rank mk (natAbs (x .low))) blank ≡ getD (trees l n) (natAbs (x .low)) blank)
+      at-low : isLeaf (x .kind) ≡ false → (rank mk (natAbs (x .low)) < rank mk i) × (getD (keepOf mk (trees l n) i) (rank mk (natAbs (x .low))) blank ≡ getD (trees l n) (natAbs (x .low)) blank)
       at-low d = keep-at mk (trees l n) i (natAbs (x .low)) (G .valid i h .low-below d) (C .low i h e d)
 
       -- the moved node stands for the same tree
       new-tree : treeOf y (keepOf mk (trees l n) i) ≡ getD (trees l n) i blank
       unfolding testOf linOf
-      new-tree = go (eqZ (x .kind) (pos 0)) refl
+      new-tree = go (isLeaf (x .kind)) refl
         where
-          go : (b : Bool) → eqZ (x .kind) (pos 0) ≡ b → treeOf y (keepOf mk (trees l n) i) ≡ getD (trees l n) i blank
+          go : (b : Bool) → isLeaf (x .kind) ≡ b → treeOf y (keepOf mk (trees l n) i) ≡ getD (trees l n) i blank
           go true d = ap (λ (v : Node). treeOf v (keepOf mk (trees l n) i)) (renumber-leaf d) ∙ (tree-leaf x (keepOf mk (trees l n) i) d ∙ sym (tree-at G i h ∙ tree-leaf x (trees l n) d))
           go false d =
               ap (λ (v : Node). treeOf v (keepOf mk (trees l n) i)) (renumber-node d) ∙ (tree-z d ∙ sym (tree-at G i h ∙ tree-branch x (trees l n) d))
             where
-              tree-z : eqZ (x .kind) (pos 0) ≡ false → treeOf z (keepOf mk (trees l n) i) ≡ branch (testOf x) (getD (trees l n) (natAbs (x .high)) blank) (getD (trees l n) (natAbs (x .low)) blank)
+              tree-z : isLeaf (x .kind) ≡ false → treeOf z (keepOf mk (trees l n) i) ≡ branch (testOf x) (getD (trees l n) (natAbs (x .high)) blank) (getD (trees l n) (natAbs (x .low)) blank)
               tree-z d = tree-branch z (keepOf mk (trees l n) i) d ∙ ap₂ (branch (testOf z)) (at-high d .1) (at-low d .1)
 
       -- a node with other branches has the same numbers and test
@@ -172,7 +172,7 @@ module _ {cap : ℕ} {l : List ℤ} {w : List ℕ} {n : ℕ} (Z : Space cap l w 
       tested-z v = record { kind = v .kind; long = v .long; number = v .number; bounds = v .bounds; rest = v .rest }
 
       new-valid : Valid y j
-      new-valid = go (eqZ (x .kind) (pos 0)) refl
+      new-valid = go (isLeaf (x .kind)) refl
         where
           v : Valid x i
           v = G .valid i h
@@ -180,7 +180,7 @@ module _ {cap : ℕ} {l : List ℤ} {w : List ℕ} {n : ℕ} (Z : Space cap l w 
           never : {A : Type 0} {b : Bool} → b ≡ true → b ≡ false → A
           never p q = absurd (let t : _≡_ {A = ℕ} 0 1 = cc in omega arith)
 
-          go : (b : Bool) → eqZ (x .kind) (pos 0) ≡ b → Valid y j
+          go : (b : Bool) → isLeaf (x .kind) ≡ b → Valid y j
           go true d = subst (λ (u : Node). Valid u j) (sym (renumber-leaf d)) (record {
             nums = v .nums;
             high-nat = v .high-nat;

@@ -5,7 +5,7 @@ use mathlib.Core.List.{List, [], _∷_, _++_}
 use Prim.Native.Nat.{ℕ, zero, suc, _+_, _*_, _≤_, _<_}
 use lib.IntN.{ℤ, pos, natAbs}
 use lib.ListN.{length, getD, set}
-use Rattle.table.specs.Table.{nodeAt, putAt, eqZ}
+use Rattle.table.specs.Table.{nodeAt, putAt, isLeaf}
 use Rattle.table.specs.declared.Node.{Node}
 use Rattle.theory.specs.Diagram.{Tree}
 use Rattle.diagrams.specs.Nodes.{blank, trees, Good}
@@ -24,7 +24,7 @@ keepOf m X (suc n) = cond (m n) (keepOf m X n ++ (getD X n blank ∷ [])) (keepO
 -- a node with its branches' new indexes
 unfoldable pub renumber : List ℕ → ℕ → Node → Node
 renumber w cap x =
-    cond (eqZ (x .kind) (pos 0)) x
+    cond (isLeaf (x .kind)) x
     (record { kind = x .kind; n = x .n; high = pos (getD w (cap + natAbs (x .high)) 0); low = pos (getD w (cap + natAbs (x .low)) 0) })
 
 -- node i goes to index j where it is marked, and its new index into the work words
@@ -44,8 +44,8 @@ pub record Stayed (cap : ℕ) (w w′ : List ℕ) (n r : ℕ) : Type 0 where
 
 -- a marked node's branches are marked
 pub record Closed (l : List ℤ) (w : List ℕ) (n : ℕ) : Type 0 where
-  pub high : (i : ℕ) → i < n → markOf w i ≡ true → eqZ (nodeAt l i .kind) (pos 0) ≡ false → markOf w (natAbs (nodeAt l i .high)) ≡ true
-  pub low : (i : ℕ) → i < n → markOf w i ≡ true → eqZ (nodeAt l i .kind) (pos 0) ≡ false → markOf w (natAbs (nodeAt l i .low)) ≡ true
+  pub high : (i : ℕ) → i < n → markOf w i ≡ true → isLeaf (nodeAt l i .kind) ≡ false → markOf w (natAbs (nodeAt l i .high)) ≡ true
+  pub low : (i : ℕ) → i < n → markOf w i ≡ true → isLeaf (nodeAt l i .kind) ≡ false → markOf w (natAbs (nodeAt l i .low)) ≡ true
 
 -- what stands after the slide: the marked trees in order, and each marked node's new index
 pub record Slid (cap : ℕ) (l l′ : List ℤ) (w w′ : List ℕ) (n r : ℕ) : Type 0 where

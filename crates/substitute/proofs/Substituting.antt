@@ -14,7 +14,7 @@ use lib.ListN.{length, getD, take}
 use mir.Syntax.{w64}
 use mir.Val.{ofZ}
 use Rattle.whole.specs.Cases.{if}
-use Rattle.table.specs.Table.{nodeAt, eqZ}
+use Rattle.table.specs.Table.{nodeAt, eqZ, isLeaf}
 use Rattle.table.specs.declared.Node.{Node}
 use Rattle.table.specs.declared.Made.{Made}
 use Rattle.theory.specs.Widths.{levels-most, conditions-most}
@@ -283,7 +283,7 @@ module _ {cap : ℕ} {l : List ℤ} {w : List ℕ} {n : ℕ} (A : Table ruleOf c
   x = nodeAt l f
 
   module _ {s : Down} (es : s ≡ downOf x) where
-    kind-of : eqZ (x .kind) (pos 0) ≡ s .ends
+    kind-of : isLeaf (x .kind) ≡ s .ends
     unfolding downOf
     kind-of = ap (λ (s : Down). s .ends) (sym es)
 

@@ -30,6 +30,10 @@ nodeAt l i = record {
   low = getD l (i * node-words + low-word) (pos 0);
 }
 
+-- "kind (0 leaf ..)": a node of this kind ends a diagram
+unfoldable pub isLeaf : ℤ → Bool
+isLeaf k = eqZ k (pos 0)
+
 -- the words with s stored from index `at` on
 unfoldable pub storeL : List ℤ → ℕ → List ℤ → List ℤ
 storeL l at [] = l

@@ -4,7 +4,7 @@ ghost use mathlib.Core.Bool.{Bool};
 ghost use Prim.Native.Nat.{ℕ, _+_, _*_, _≤_};
 ghost use lib.IntN.{ℤ};
 ghost use lib.ListN.{length};
-ghost use Rattle.table.specs.Table.{node-words, nodeAt, putAt, SameNode};
+ghost use Rattle.table.specs.Table.{node-words, nodeAt, putAt, SameNode, isLeaf};
 use whole::COEFFICIENTS;
 use whole::NUMBERS;
 
@@ -30,6 +30,13 @@ pub struct Made {
     pub stop: usize,
     pub at: usize,
     pub count: usize,
+}
+
+// Whether a node of this kind ends a diagram.
+pub fn is_leaf(kind: i64) -> bool
+    ensures { λ r. ⌜ r ≡ isLeaf kind ⌝ }
+{
+    if kind == 0 { true } else { false }
 }
 
 // The node at index i.

@@ -7,7 +7,7 @@ use native.Mathlib.Omega.{arith}
 use lib.IntN.{ℤ, pos, _+ℤ_, _-ℤ_}
 use lib.Signed.{mag}
 use Rattle.whole.proofs.Signed.{R, back}
-use Rattle.table.specs.Table.{nodeAt, eqZ}
+use Rattle.table.specs.Table.{nodeAt, eqZ, isLeaf}
 use Rattle.table.specs.declared.Node.{Node}
 use Rattle.table.specs.declared.Made.{Made}
 use Rattle.theory.specs.Diagram.{Linear, Tree, leaf, plus-constant}
@@ -113,7 +113,7 @@ module _ (p q : ℕ) (x : Node) where
     low-below = λ e. no e;
   }
 
-  number-kind : eqZ (numberNode p x .kind) (pos 0) ≡ true
+  number-kind : isLeaf (numberNode p x .kind) ≡ true
   unfolding numberNode eqZ
   number-kind = refl
 

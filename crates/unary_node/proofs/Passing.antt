@@ -9,7 +9,7 @@ use borrow.Author.Tests.{eqb-true, eqb-false, lt-ltb, le-ltb, ltb-false}
 use lib.Dec.{ltb, eqb}
 use lib.IntN.{ℤ, pos}
 use Rattle.whole.specs.Cases.{if}
-use Rattle.table.specs.Table.{nodeAt, eqZ}
+use Rattle.table.specs.Table.{nodeAt, isLeaf}
 use Rattle.table.specs.declared.Node.{Node}
 use Rattle.theory.specs.Diagram.{later, Tree, cmp}
 use Rattle.theory.specs.Computation.{Comp}
@@ -44,7 +44,7 @@ abbrev pub alone : (Tree → Comp Tree) → Tree → Tree → Comp Tree
 alone m F G = m F
 
 pub record Passes (l : List ℤ) (n : ℕ) (m : Tree → Comp Tree) (f : ℕ) (w : Way) : Type 0 where
-  pub ends : w .ends ≡ true → eqZ (nodeAt l f .kind) (pos 0) ≡ true
+  pub ends : w .ends ≡ true → isLeaf (nodeAt l f .kind) ≡ true
   pub picks : w .ends ≡ false → w .picks ≡ true → Picked l n m f w
   pub goes : w .ends ≡ false → w .picks ≡ false → On l n (alone m) node f 0 (sidesBy w f)
 
@@ -69,7 +69,7 @@ module _ {l : List ℤ} {n : ℕ} (G : Good l n) {op p q : ℕ} (A : Acts op p q
   unfolding testBy
   is-words h = test-is {l = l} {n = n} {op = 10} {p = p} G (inl (refl, A .some h, A .picks h)) (test-later l 10 p refl refl)
 
-  order-as : 7 ≤ op → eqZ (x .kind) (pos 0) ≡ false → orderOf x (laterNode p) ≡ cmp (testOf x) (later p)
+  order-as : 7 ≤ op → isLeaf (x .kind) ≡ false → orderOf x (laterNode p) ≡ cmp (testOf x) (later p)
   order-as h e = order-is x (laterNode p) (G .valid f hf .tested e) (words h) ∙ ap (cmp (testOf x)) (is-words h)
 
   o-side : 7 ≤ op → o ≡ ordNum (orderOf x (laterNode p))
@@ -85,10 +85,10 @@ module _ {l : List ℤ} {n : ℕ} (G : Good l n) {op p q : ℕ} (A : Acts op p q
       go true t = absurd (let z = ap (λ (b : Bool). if b 0 (ordNum (orderOf x (laterNode p)))) t in omega arith)
       go false t = ltb-false op 7 t
 
-  later-yes : o ≡ 1 → eqZ (x .kind) (pos 0) ≡ false → is-later p (testOf x) ≡ true
+  later-yes : o ≡ 1 → isLeaf (x .kind) ≡ false → is-later p (testOf x) ≡ true
   later-yes e k = is-condition p (testOf x) (sym (order-as (o-one e) k) ∙ num-eq (orderOf x (laterNode p)) (o-side (o-one e)) e)
 
-  later-no : (o ≡ 1 → ⊥) → eqZ (x .kind) (pos 0) ≡ false → 7 ≤ op → is-later p (testOf x) ≡ false
+  later-no : (o ≡ 1 → ⊥) → isLeaf (x .kind) ≡ false → 7 ≤ op → is-later p (testOf x) ≡ false
   unfolding ordNum
   later-no n k h = not-condition p (testOf x) (λ e. n (o-side h ∙ ap ordNum (order-as h k ∙ e)))
 

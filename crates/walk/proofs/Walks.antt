@@ -10,7 +10,7 @@ use lib.IntN.{ℤ, pos}
 use lib.Signed.{leZ}
 use Rattle.whole.specs.Cases.{if}
 use Rattle.whole.proofs.Signed.{R, small-back}
-use Rattle.table.specs.Table.{nodeAt, eqZ}
+use Rattle.table.specs.Table.{nodeAt, isLeaf}
 use Rattle.table.specs.declared.Node.{Node}
 use Rattle.table.specs.declared.Made.{Made}
 use Rattle.theory.specs.Widths.{levels-most}
@@ -73,7 +73,7 @@ module _ {cap : ℕ} {l : List ℤ} {w : List ℕ} {n : ℕ} (A : Table ruleOf c
   pub walk-key : Key 9 f g p 0
   walk-key = key-of (omega arith) (index-small f (A .bare) hf) (index-small g (A .bare) hg) (index-small p (A .bare) hp) (omega arith)
 
-  kind-of : {s : Down} → s ≡ downOf (nodeAt l f) → eqZ (nodeAt l f .kind) (pos 0) ≡ s .ends
+  kind-of : {s : Down} → s ≡ downOf (nodeAt l f) → isLeaf (nodeAt l f .kind) ≡ s .ends
   unfolding downOf
   kind-of e = ap (λ (s : Down). s .ends) (sym e)
 
