@@ -15,6 +15,7 @@ use Rattle.whole.specs.Within.{Small}
 use Rattle.whole.specs.Linears.{Smalls, divisorL}
 use Rattle.whole.specs.LinearsLaws.{quot-smalls}
 use Rattle.table.proofs.Words.{back}
+use Rattle.table.proofs.Leaf.{leaf-as, condition-as}
 use Rattle.table.specs.Table.{eqZ}
 use Rattle.table.specs.declared.Node.{Node}
 use Rattle.theory.specs.Widths.{levels-most, conditions-most}
@@ -34,7 +35,7 @@ use Rattle.command.specs.Reading.{with-linear, linear-of, command-of-in, comman
 use Rattle.diagrams.specs.Nodes.{linOf, testOf, conditionOf, Nums, Proper}
 use Rattle.diagrams.specs.Roots.{linearNode, namedNode}
 use Rattle.diagrams.proofs.Trees.{later-is, now-is}
-use Rattle.diagrams.proofs.Meanings.{zeros-behind, proper-linear, divided-test}
+use Rattle.diagrams.proofs.Meanings.{zeros-behind, proper-linear, divided-test, named-leaf}
 use Rattle.commands_choice.specs.Testing.{Stood, wordsOf, condition-in, condition-read, test-in, test-read, testAt, Testing}
 
 -- ---- a condition
@@ -55,7 +56,7 @@ stood-condition : (k : ℕ) → 0 < k → k ≤ conditions-most + conditions-mos
 unfolding conditionNode testOf eqZ
 stood-condition k a b = record {
   proper = record {
-    branches = refl;
+    branches = condition-as refl;
     nums = record { long = refl; each = small-number k b };
     tested = record { kind = λ e. absurd (let z : _≡_ {A = ℕ} 0 1 = cc in omega arith); long = refl; number = λ _. tt; bounds = λ _. (a, b); rest = λ _. zeros-behind (pos k) };
   };
@@ -78,8 +79,8 @@ unfolding linOf wordsOf
 linear-same p = refl
 
 named-words : (p : List ℤ) → namedNode (wordsOf p) ≡ linearNode (quotL (divisorL (wordsOf p .n)) (wordsOf p .n))
-unfolding namedNode wordsOf eqZ
-named-words p = refl
+unfolding wordsOf
+named-words p = named-leaf (wordsOf p) (leaf-as refl)
 
 pub linear-stood : (p : List ℤ) {x r : Node} → x ≡ wordsOf p → r ≡ namedNode x → Nums (wordsOf p) → Stood (test-of (linear-of p)) r
 linear-stood p {x} {r} e f s = subst (Stood (test-of (linear-of p))) (sym (f ∙ (ap namedNode e ∙ named-words p)))

@@ -13,8 +13,8 @@ use Rattle.whole.specs.Linears.{numbers, smalls}
 use Rattle.whole.specs.LinearsLaws.{smalls-of}
 use Rattle.whole.specs.Within.{small}
 use Rattle.theory.specs.Widths.{levels-most}
-use Rattle.table.proofs.Look.{eqZ-refl}
-use Rattle.table.specs.Table.{nodeAt, eqZ, isLeaf}
+use Rattle.table.proofs.Leaf.{leaf-as}
+use Rattle.table.specs.Table.{nodeAt, isLeaf}
 use Rattle.table.specs.declared.Node.{Node}
 use Rattle.table.specs.declared.Made.{Made}
 use Rattle.theory.specs.Diagram.{leaf, plain}
@@ -57,7 +57,7 @@ nums-of x n e = smalls-of (x .n) n (smalls-are x n ∙ e)
 -- ---- a leaf without action
 
 is-leaf : {s : Node} → Plain s → isLeaf (s .kind) ≡ true
-is-leaf P = ap (λ (k : ℤ). eqZ k (pos 0)) (P .kind) ∙ eqZ-refl (pos 0)
+is-leaf P = leaf-as (P .kind)
 
 module _ {cap : ℕ} {l : List ℤ} {w : List ℕ} {n : ℕ} (A : Bare cap l w n) (s : Node) (long : length (s .n) ≡ numbers) (P : Plain s) {b : Bool} (eb : b ≡ small-linear (linOf s)) where
   pub leaf-over : b ≡ false → Grew cap l w n (make-leaf (linOf s)) l w (record { stop = 11; at = 0; count = n })

@@ -15,6 +15,7 @@ use Rattle.whole.specs.Within.{Small}
 use Rattle.whole.specs.Linears.{numbers, Smalls, divisorL}
 use Rattle.whole.specs.LinearsLaws.{quot-take, quot-at, quot-smalls}
 use Rattle.table.proofs.Words.{back}
+use Rattle.table.proofs.Leaf.{condition-as, test-as}
 use Rattle.table.specs.Table.{nodeAt, eqZ, isLeaf}
 use Rattle.table.specs.declared.Node.{Node}
 use Rattle.theory.specs.Widths.{levels-most, conditions-most}
@@ -157,7 +158,7 @@ stood-later : (p : ℕ) → 0 < p → p ≤ conditions-most → Stood (laterNode
 unfolding laterNode testOf eqZ
 stood-later p a b = record {
   proper = record {
-    branches = refl;
+    branches = condition-as refl;
     nums = record { long = refl; each = small-first b };
     tested = record { kind = λ e. absurd (let z : _≡_ {A = ℕ} 0 1 = cc in omega arith); long = refl; number = λ _. tt; bounds = λ _. (omega arith, omega arith); rest = λ _. zeros-behind _ };
   };
@@ -167,7 +168,7 @@ stood-later p a b = record {
 pub proper-linear : (l : List ℤ) → Smalls l → Proper (linearNode l)
 unfolding linearNode eqZ
 proper-linear l s = record {
-  branches = refl;
+  branches = test-as refl;
   nums = s;
   tested = record { kind = λ _. refl; long = s .long; number = λ e. absurd (let z : _≡_ {A = ℕ} 0 1 = cc in omega arith); bounds = λ e. absurd (let z : _≡_ {A = ℕ} 0 1 = cc in omega arith); rest = λ e. absurd (let z : _≡_ {A = ℕ} 0 1 = cc in omega arith) };
 }

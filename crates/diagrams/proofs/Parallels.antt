@@ -14,6 +14,7 @@ use Rattle.whole.specs.Linears.{numbers, eqL}
 use Rattle.whole.specs.LinearsLaws.{eqZ-refl}
 use Rattle.table.proofs.Words.{R, back}
 use Rattle.table.proofs.Look.{eqZ-true}
+use Rattle.table.proofs.Leaf.{leaf-kind}
 use Rattle.table.specs.Table.{nodeAt, eqZ, isLeaf}
 use Rattle.table.specs.declared.Node.{Node}
 use Rattle.theory.specs.Widths.{levels-most}
@@ -141,7 +142,7 @@ module _ (t x : Node) (v : Tested t) where
   one-two = refl
 
   pub parallel-leaf : isLeaf (x .kind) ≡ true → parallelOf t x ≡ false
-  parallel-leaf q = sym (second-not t x (not-two x 0 zero-two q))
+  parallel-leaf q = sym (second-not t x (ap (λ (z : ℤ). eqZ z (pos 2)) (leaf-kind (x .kind) q) ∙ zero-two))
 
   pub parallel-tests : Tested x → parallelOf t x ≡ parallel (testOf t) (testOf x)
   parallel-tests w = go (eqZ (t .kind) (pos 1)) (eqZ (x .kind) (pos 1)) refl refl

@@ -15,6 +15,7 @@ use lib.Seq.{getD-at, take-suc, take-all, ext-getD}
 use Rattle.whole.specs.Cases.{if}
 use Rattle.whole.specs.Linears.{numbers}
 use Rattle.table.proofs.Look.{split, eqZ-true}
+use Rattle.table.proofs.Leaf.{leaf-kind}
 use Rattle.table.specs.Table.{nodeAt, eqZ, isLeaf}
 use Rattle.table.specs.declared.Node.{Node}
 use Rattle.theory.specs.Widths.{levels-most, conditions-most}
@@ -215,7 +216,7 @@ module _ {l : List ℤ} {n : ℕ} (G : Good l n) where
       go : (a b : Bool) → isLeaf (x .kind) ≡ a → isLeaf (y .kind) ≡ b → x ≡ y
       go true true p q =
           let s : leaf (leafOf x) ≡ leaf (leafOf y) = sym (tree-leaf x (trees l n) p) ∙ (e ∙ tree-leaf y (trees l n) q) in
-          let u = same-leaf x y (vx .nums .long) (vy .nums .long) (cc) (eqZ-true (x .kind) (pos 0) p ∙ sym (eqZ-true (y .kind) (pos 0) q)) in
+          let u = same-leaf x y (vx .nums .long) (vy .nums .long) (cc) (leaf-kind (x .kind) p ∙ sym (leaf-kind (y .kind) q)) in
           same-node x y (u .0) (nat-eq (x .high) (y .high) (vx .high-nat) (vy .high-nat) (u .1)) (vx .leaf-low p ∙ sym (vy .leaf-low q))
       go true false p q =
           let s : leaf (leafOf x) ≡ branchOf y (trees l n) = sym (tree-leaf x (trees l n) p) ∙ (e ∙ tree-branch y (trees l n) q) in

@@ -14,6 +14,7 @@ use lib.Seq.{take-add, drop-cons, drop-drop, length-take-le}
 use Rattle.whole.specs.Cases.{if}
 use Rattle.whole.specs.Linears.{numbers}
 use Rattle.table.proofs.Look.{eqZ-true}
+use Rattle.table.proofs.Leaf.{leaf-kind}
 use Rattle.table.specs.Table.{high-word, low-word, nodeAt, eqZ, isLeaf}
 use Rattle.table.specs.declared.Node.{Node}
 use Rattle.theory.specs.Widths.{levels-most, conditions-most, node-words}
@@ -50,7 +51,7 @@ linear-word x e =
 pub row-leaf : (Y : List Tree) (x : Node) (n : ℕ) → Valid x n → isLeaf (x .kind) ≡ true → words-of x ≡ row Y (leaf (leafOf x))
 unfolding words-of row leafOf
 row-leaf Y x n v e =
-    let k = eqZ-true (x .kind) (pos 0) e in
+    let k = leaf-kind (x .kind) e in
     let a = sym (linear-word x (v .nums .long)) in
     let h = sym (pos-natAbs (x .high) (v .high-nat)) in
     let l = v .leaf-low e in

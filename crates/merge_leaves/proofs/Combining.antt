@@ -12,7 +12,8 @@ use Rattle.whole.specs.Cases.{if}
 use Rattle.whole.specs.Linears.{numbers, quotL, divisorL}
 use Rattle.whole.specs.LinearsLaws.{quot-smalls}
 use Rattle.whole.proofs.Signed.{R, small-back}
-use Rattle.table.specs.Table.{nodeAt, eqZ, isLeaf}
+use Rattle.table.proofs.Leaf.{leaf-as}
+use Rattle.table.specs.Table.{nodeAt, isLeaf}
 use Rattle.table.specs.declared.Node.{Node}
 use Rattle.table.specs.declared.Made.{Made}
 use Rattle.theory.specs.Widths.{levels-most}
@@ -85,8 +86,8 @@ module _ {cap : ℕ} {l : List ℤ} {w : List ℕ} {n : ℕ} (A : Bare cap l w n
   d-long = ap (λ (z : Node). length (z .n)) (ed ∙ ap₂ lessNode ey ex) ∙ less-long (nodeAt l g) (nodeAt l f) (A .good .valid g (G .below) .nums) (A .good .valid f (F .below) .nums)
 
   is-kind : isLeaf (d .kind) ≡ true
-  unfolding lessNode eqZ
-  is-kind = ap (λ (d : Node). isLeaf (d .kind)) ed
+  unfolding lessNode
+  is-kind = leaf-as (ap (λ (d : Node). d .kind) ed)
 
   module _ {b : Bool} (eb : b ≡ small-linear (linOf d)) where
     pub best-over : b ≡ false → Best l w (record { stop = 11; at = 0; count = n })

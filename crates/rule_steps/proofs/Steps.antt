@@ -16,6 +16,7 @@ use Rattle.theory.specs.Diagram.{Tree}
 use Rattle.theory.specs.Widths.{levels-most}
 use Rattle.unique.specs.Unique.{work-words, lastOf}
 use Rattle.diagrams.specs.Nodes.{Proper}
+use Rattle.table.proofs.Leaf.{condition-as}
 use Rattle.table.specs.Table.{node-words, eqZ}
 use Rattle.diagrams.specs.Table.{Table, Grew}
 use Rattle.diagrams.specs.Meaning.{ruleOf}
@@ -56,7 +57,7 @@ small-number n h (suc k) = subst Small (sym (zeros-behind (pos n) (suc k) (omega
 proper-pos : (k : ℕ) → 0 < k → k ≤ 8 → Proper (record { kind = pos 1; n = pos k ∷ replicate levels-most (pos 0); high = pos 0; low = pos 0 })
 unfolding eqZ
 proper-pos k a b = record {
-  branches = refl;
+  branches = condition-as refl;
   nums = record { long = refl; each = small-number k b };
   tested = record { kind = λ e. absurd (let z : _≡_ {A = ℕ} 0 1 = cc in omega arith); long = refl; number = λ _. tt; bounds = λ _. (omega arith, omega arith); rest = λ _. zeros-behind (pos k) };
 }

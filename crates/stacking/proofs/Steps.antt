@@ -11,7 +11,7 @@ use lib.ListN.{length, getD, drop}
 use types.Run.{OneOf, miss}
 use denote.Enum.Declared.{tagOf}
 use Rattle.whole.specs.Cases.{if}
-use Rattle.table.specs.Table.{eqZ}
+use Rattle.table.proofs.Leaf.{leaf-as, leaf-not}
 use Rattle.table.specs.declared.Node.{Node}
 use Rattle.table.specs.declared.Made.{Made}
 use Rattle.whole.specs.Linears.{Smalls}
@@ -31,7 +31,7 @@ use Rattle.command.specs.Held.{held, pushed}
 use Rattle.command.specs.Reading.{with-linear, linear-of, command-of-in, command-of}
 use Rattle.diagrams.specs.Nodes.{blank, linOf, leafOf, treeOf, trees, treeAt, Nums, Valid, Grown}
 use Rattle.diagrams.specs.Table.{Rule, Bare, Table, Ran, Grew}
-use Rattle.diagrams.proofs.Trees.{trees-kept, grown-not}
+use Rattle.diagrams.proofs.Trees.{trees-kept, grown-not, tree-leaf}
 use Rattle.diagrams.proofs.Outcomes.{out-ok, out-no, grown, ran-as, grew-as, lifted}
 use Rattle.diagrams.proofs.Going.{index-small}
 use Rattle.commands_choice.proofs.Tests.{words-nums}
@@ -133,20 +133,20 @@ module _ (B : List ℕ) {cap : ℕ} {l : List ℤ} {w : List ℕ} {n : ℕ} (K :
 -- ---- a leaf
 
 pub leaf-valid : (p : List ℤ) {x : Node} (n : ℕ) → x ≡ wordsOf p → Nums (wordsOf p) → Valid x n
-unfolding wordsOf eqZ
+unfolding wordsOf
 leaf-valid p n e s = subst (λ (x : Node). Valid x n) (sym e) (record {
   nums = s;
   high-nat = tt;
   low-nat = tt;
   leaf-low = λ _. refl;
-  tested = λ d. absurd (let z : _≡_ {A = ℕ} 0 1 = cc in omega arith);
-  high-below = λ d. absurd (let z : _≡_ {A = ℕ} 0 1 = cc in omega arith);
-  low-below = λ d. absurd (let z : _≡_ {A = ℕ} 0 1 = cc in omega arith);
+  tested = λ d. leaf-not refl d;
+  high-below = λ d. leaf-not refl d;
+  low-below = λ d. leaf-not refl d;
 })
 
 leaf-tree : (p : List ℤ) (X : List Tree) → treeOf (wordsOf p) X ≡ leaf (plain (linear-of p))
-unfolding treeOf wordsOf eqZ leafOf linOf
-leaf-tree p X = refl
+unfolding wordsOf leafOf linOf
+leaf-tree p X = tree-leaf (wordsOf p) X (leaf-as refl)
 
 pub leaf-grew : {cap : ℕ} {l : List ℤ} {w : List ℕ} {n : ℕ} (p : List ℤ) {x : Node} {l′ : List ℤ} {w′ : List ℕ} {k : Made} → x ≡ wordsOf p → Grew cap l w n (make (treeOf x (trees l n))) l′ w′ k → Grew cap l w n (make (leaf (plain (linear-of p)))) l′ w′ k
 leaf-grew {l = l} {n = n} p e Q = grew-as (ap make (ap (λ (x : Node). treeOf x (trees l n)) e ∙ leaf-tree p (trees l n))) Q

@@ -7,7 +7,8 @@ use native.Mathlib.Omega.{arith}
 use lib.IntN.{ℤ, pos, _+ℤ_, _-ℤ_}
 use lib.Signed.{mag}
 use Rattle.whole.proofs.Signed.{R, back}
-use Rattle.table.specs.Table.{nodeAt, eqZ, isLeaf}
+use Rattle.table.proofs.Leaf.{leaf-as, leaf-not}
+use Rattle.table.specs.Table.{nodeAt, isLeaf}
 use Rattle.table.specs.declared.Node.{Node}
 use Rattle.table.specs.declared.Made.{Made}
 use Rattle.theory.specs.Diagram.{Linear, Tree, leaf, plus-constant}
@@ -102,20 +103,20 @@ module _ (p q : ℕ) (x : Node) where
         (λ h. absurd (omega arith)) (λ h. absurd (omega arith)) (λ h. absurd (omega arith))
 
   number-valid : (n : ℕ) → Nums x → Valid (numberNode p x) n
-  unfolding numberNode eqZ
+  unfolding numberNode
   number-valid n s = record {
     nums = s;
     high-nat = tt;
     low-nat = tt;
     leaf-low = λ _. refl;
-    tested = λ e. no e;
-    high-below = λ e. no e;
-    low-below = λ e. no e;
+    tested = λ e. leaf-not refl e;
+    high-below = λ e. leaf-not refl e;
+    low-below = λ e. leaf-not refl e;
   }
 
   number-kind : isLeaf (numberNode p x .kind) ≡ true
-  unfolding numberNode eqZ
-  number-kind = refl
+  unfolding numberNode
+  number-kind = leaf-as refl
 
   number-leaf : make (leaf (leafOf (numberNode p x))) ≡ actOf 6 p q (leaf (leafOf x))
   unfolding numberNode linOf leafOf actOf number over leaf-number

@@ -1,7 +1,8 @@
 -- `diagrams::tests::below` meets its contract.
-use native.Mathlib.Omega.{arith}
+use mathlib.Core.Path.{_∙_}
 use mathlib.Core.Bool.{true, false}
-use Rattle.table.proofs.Tests.{kind-yes, kind-no, abs-of}
+use Rattle.table.proofs.Tests.{abs-of}
+use Rattle.table.proofs.Leaf.{leaf-told}
 use Rattle.diagrams.proofs.Comparing.{down-as}
 use borrow.Author.Needs.{needs}
 use Rattle.diagrams.proofs.tests.below.Statement.{statement}
@@ -13,13 +14,16 @@ index-requires c κs = search needs
 index-requires-2 : tie.Need-index-requires-2
 index-requires-2 c κs = search needs
 
+is-leaf-requires : tie.Need-is-leaf-requires
+is-leaf-requires c κs = search needs
+
 returns : tie.Need-returns
 returns c =
-    down-as ((c .before .before .before .before .before .before .before) .args .x) true (kind-yes 0 (omega arith) ((c .before .before .before .before .before .before .before) .args .x .kind) (c .before .struct-told3 .given .0 .1) (c .if1 .taken)) (abs-of ((c .before .before .before .before .before .before .before) .args .x .high) (c .before .before .before .before .before .before .struct-told .given .1 .1 .0 .1) (c .before .before .before .before .index .ensures)) (abs-of ((c .before .before .before .before .before .before .before) .args .x .low) (c .before .before .before .before .before .before .struct-told .given .1 .1 .1 .0 .1) (c .before .before .before .index2 .ensures))
+    down-as ((c .before .before .before .before .before .before .before) .args .x) true (leaf-told ((c .before .before .before .before .before .before .before) .args .x .kind) (c .before .before .struct-told3 .given .0 .1) (c .before .is-leaf .ensures) ∙ c .if1 .taken) (abs-of ((c .before .before .before .before .before .before .before) .args .x .high) (c .before .before .before .before .before .before .struct-told .given .1 .1 .0 .1) (c .before .before .before .before .index .ensures)) (abs-of ((c .before .before .before .before .before .before .before) .args .x .low) (c .before .before .before .before .before .before .struct-told .given .1 .1 .1 .0 .1) (c .before .before .before .index2 .ensures))
 
 returns-2 : tie.Need-returns-2
 returns-2 c =
-    down-as ((c .before .before .before .before .before .before .before) .args .x) false (kind-no 0 ((c .before .before .before .before .before .before .before) .args .x .kind) (c .if1 .left)) (abs-of ((c .before .before .before .before .before .before .before) .args .x .high) (c .before .before .before .before .before .before .struct-told .given .1 .1 .0 .1) (c .before .before .before .before .index .ensures)) (abs-of ((c .before .before .before .before .before .before .before) .args .x .low) (c .before .before .before .before .before .before .struct-told .given .1 .1 .1 .0 .1) (c .before .before .before .index2 .ensures))
+    down-as ((c .before .before .before .before .before .before .before) .args .x) false (leaf-told ((c .before .before .before .before .before .before .before) .args .x .kind) (c .before .before .struct-told3 .given .0 .1) (c .before .is-leaf .ensures) ∙ c .if1 .left) (abs-of ((c .before .before .before .before .before .before .before) .args .x .high) (c .before .before .before .before .before .before .struct-told .given .1 .1 .0 .1) (c .before .before .before .before .index .ensures)) (abs-of ((c .before .before .before .before .before .before .before) .args .x .low) (c .before .before .before .before .before .before .struct-told .given .1 .1 .1 .0 .1) (c .before .before .before .index2 .ensures))
 
 pub below-spec : {M : Type 1} → statement M
-below-spec = tie.close (tie.spec index-requires index-requires-2 returns returns-2)
+below-spec = tie.close (tie.spec index-requires index-requires-2 is-leaf-requires returns returns-2)

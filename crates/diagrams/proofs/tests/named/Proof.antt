@@ -1,9 +1,12 @@
-use native.Mathlib.Omega.{arith}
-use Rattle.table.proofs.Tests.{kind-yes, kind-no}
+use mathlib.Core.Path.{_∙_}
+use Rattle.table.proofs.Leaf.{leaf-told}
 use Rattle.diagrams.proofs.Meanings.{named-leaf-as, named-branch-as}
 use borrow.Author.Needs.{needs}
 use Rattle.diagrams.proofs.tests.named.Statement.{statement}
 use Rattle.diagrams.proofs.tests.named.Tie as tie
+
+is-leaf-requires : tie.Need-is-leaf-requires
+is-leaf-requires c κs = search needs
 
 divided-requires : tie.Need-divided-requires
 divided-requires c κs =
@@ -11,11 +14,11 @@ divided-requires c κs =
 
 returns : tie.Need-returns
 returns c =
-    let s = (c .before .before .before .before .before) in named-leaf-as (s .args .x) (kind-yes 0 (omega arith) (s .args .x .kind) (c .before .before .before .struct-told .given .0 .1) (c .before .before .if1 .taken)) (c .divided .ensures)
+    let s = (c .before .before .before .before .before) in named-leaf-as (s .args .x) (leaf-told (s .args .x .kind) (c .before .before .before .before .struct-told .given .0 .1) (c .before .before .before .is-leaf .ensures) ∙ c .before .before .if1 .taken) (c .divided .ensures)
 
 returns-2 : tie.Need-returns-2
 returns-2 c =
-    let s = (c .before .before .before) in named-branch-as (s .args .x) (kind-no 0 (s .args .x .kind) (c .if1 .left))
+    let s = (c .before .before .before) in named-branch-as (s .args .x) (leaf-told (s .args .x .kind) (c .before .before .struct-told .given .0 .1) (c .before .is-leaf .ensures) ∙ c .if1 .left)
 
 pub named-spec : {M : Type 1} → statement M
-named-spec = tie.close (tie.spec divided-requires returns returns-2)
+named-spec = tie.close (tie.spec is-leaf-requires divided-requires returns returns-2)
