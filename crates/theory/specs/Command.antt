@@ -7,7 +7,7 @@ use lib.IntN.{ℤ, pos, negsuc}
 use lib.ListN.{length, getD, take, drop}
 use Rattle.whole.specs.Cases.{if}
 use Rattle.theory.specs.Widths.{levels-most, name-bytes}
-use Rattle.theory.specs.Form.{Form, new-form, site-byte, levels-in, action-bytes, linear-bytes, behind-action}
+use Rattle.theory.specs.Form.{Form, new-form, site-byte, levels-in, action-bytes, forbidden-bytes, linear-bytes, behind-action}
 use Rattle.theory.specs.Diagram.{Linear, padded}
 
 -- what a diagram is given as: the command's byte, the action, the condition or level (0 where there is none)
@@ -22,6 +22,7 @@ pub data Command : Type 0 where
   push-leaf : Linear → Command
   push-condition : ℕ → Command
   push-test : Linear → Command
+  push-forbidden : Command
   give : Slot → Command
   name-action : ℕ → List ℕ → Command
   end-model : Command
@@ -39,12 +40,13 @@ width-in F op =
     (if (eqb op 0x10) (1 + linear-bytes F)
     (if (eqb op 0x11) 2
     (if (eqb op 0x12) (1 + linear-bytes F)
+    (if (eqb op 0x13) (forbidden-bytes F)
     (if (eqb op 0x20) (behind-action F)
     (if (eqb op 0x21) (behind-action F + 1)
     (if (eqb op 0x22) (behind-action F + 1)
     (if (eqb op 0x23) 1
     (if (eqb op 0x30) (behind-action F + name-bytes)
-    (if (eqb op 0xff) 1 0)))))))))
+    (if (eqb op 0xff) 1 0))))))))))
 
 -- a byte of the model, 0 past its end
 abbrev pub byte-at : List ℕ → ℕ → ℕ
@@ -86,12 +88,13 @@ command-in F B at =
     (if (eqb op 0x10) (push-leaf (linear-in F B (at + 1)))
     (if (eqb op 0x11) (push-condition (byte-at B (at + 1)))
     (if (eqb op 0x12) (push-test (linear-in F B (at + 1)))
+    (if (eqb op 0x13) push-forbidden
     (if (eqb op 0x20) (give (record { command = 0x20; action = a; index = 0 }))
     (if (eqb op 0x21) (give (record { command = 0x21; action = a; index = k }))
     (if (eqb op 0x22) (give (record { command = 0x22; action = a; index = k }))
     (if (eqb op 0x23) (give (record { command = 0x23; action = 0; index = 0 }))
     (if (eqb op 0x30) (name-action a (take name-bytes (drop (at + behind-action F) B)))
-    end-model))))))))
+    end-model)))))))))
 
 -- "within a command 3, 2"
 unfoldable pub read-in : Form → List ℕ → ℕ → Read
@@ -113,6 +116,7 @@ goes-on (whole c) = elim c [
   | push-leaf p ↦ true
   | push-condition k ↦ true
   | push-test p ↦ true
+  | push-forbidden ↦ true
   | give g ↦ true
   | name-action a b ↦ true
   | end-model ↦ false

@@ -5,6 +5,7 @@ use Prim.Native.Nat.{ℕ, zero, suc, compare, Ordering, Ordering·lt, Ordering·
 use lib.Dec.{isEq, eqb}
 use lib.IntN.{ℤ, pos, negsuc, natAbs, _+ℤ_, _*ℤ_}
 use lib.Signed.{quotZ}
+use Rattle.theory.specs.Widths.{levels-most}
 use Rattle.whole.specs.Divisor.{gcdOf, gcd-all, at-least-one}
 -- number by number: the order, "smaller first", sums, products and quotients
 unfoldable pub use Rattle.whole.specs.Linears.{cmpList, addL, scaleL, quotL}
@@ -27,10 +28,34 @@ pub data Test : Type 0 where
   later : ℕ → Test
   linear : Linear → Test
 
--- a linear, and the action that it is numbered with; 0 where it is not numbered
-pub record Leaf : Type 0 where
-  pub lin : Linear
-  pub act : ℕ
+-- k coefficients 0
+unfoldable pub no-coeffs : ℕ → List ℤ
+no-coeffs zero = []
+no-coeffs (suc k) = pos 0 ∷ no-coeffs k
+
+-- the linear 0
+abbrev pub zero-linear : Linear
+zero-linear = record { coeffs = no-coeffs levels-most; const = pos 0 }
+
+-- a linear with the action that it is numbered with, 0 where it is not numbered; or "a leaf "forbidden"", which is the leaf "none" too
+pub data Leaf : Type 0 where
+  some : Linear → ℕ → Leaf
+  forbidden : Leaf
+
+-- the linear of a leaf: "A leaf "none" has .. all other words zero"
+unfoldable pub lin-of : Leaf → Linear
+lin-of (some p a) = p
+lin-of forbidden = zero-linear
+
+-- its action
+unfoldable pub act-of : Leaf → ℕ
+act-of (some p a) = a
+act-of forbidden = 0
+
+-- it is not forbidden
+unfoldable pub permitted : Leaf → Bool
+permitted (some p a) = true
+permitted forbidden = false
 
 -- "High is taken when the condition is yes"; "high is taken when p ≤ 0": test, high, low
 pub data Tree : Type 0 where
@@ -39,7 +64,7 @@ pub data Tree : Type 0 where
 
 -- a leaf that is not numbered
 abbrev pub plain : Linear → Leaf
-plain p = record { lin = p; act = 0 }
+plain p = some p 0
 
 -- ---- "Order of tests: conditions 1 to 8, then linear tests by the coefficients of L1 to L8 and the constant, smaller first."
 
@@ -61,9 +86,12 @@ cmp (linear p) (linear q) = cmpLinear p q
 
 -- ---- "Equal nodes are one node."
 
--- the same numbers and the same action
+-- the same numbers and the same action, or both forbidden
 unfoldable pub same-leaf : Leaf → Leaf → Bool
-same-leaf f g = isEq (cmpLinear (f .lin) (g .lin)) && eqb (f .act) (g .act)
+same-leaf (some p a) (some q b) = isEq (cmpLinear p q) && eqb a b
+same-leaf (some p a) forbidden = false
+same-leaf forbidden (some q b) = false
+same-leaf forbidden forbidden = true
 
 -- the same test over the same branches
 unfoldable pub same : Tree → Tree → Bool

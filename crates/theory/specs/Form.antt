@@ -31,6 +31,11 @@ abbrev pub bytes-in : Form → ℕ
 bytes-in old-form = 65535
 bytes-in new-form = bytes-most
 
+-- "Command 13 pushes a leaf "forbidden"": one byte; "A model with 13 does not fit the old form"
+abbrev pub forbidden-bytes : Form → ℕ
+forbidden-bytes old-form = 0
+forbidden-bytes new-form = 1
+
 -- the bytes of a linear: "signed 32-bit numbers: coefficients .., then a constant"
 abbrev pub linear-bytes : Form → ℕ
 linear-bytes F = (levels-in F + 1) * 4

@@ -11,7 +11,9 @@ pub mod Verdict
 pub mod Valid
 pub mod Load
 -- "The value that is meant"
+pub mod Total
 pub mod Process
+pub mod Loss
 pub mod Meaning
 -- "Diagrams"
 pub mod Diagram

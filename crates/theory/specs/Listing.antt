@@ -42,13 +42,14 @@ first-line S H = line (80 ∷ 76 ∷ 65 ∷ 78 ∷ []) (map pos (S .levels ∷ S
 abbrev pub numbers-of : Linear → List ℤ
 numbers-of p = p .coeffs ++ (p .const ∷ [])
 
--- "N: number, kind, numbers; V ends with the action, L with high and low; a condition is B, its number, high, low."
+-- "N: number, kind, numbers; V ends with the action, L with high and low; a condition is B, its number, high, low."; of a leaf "none" "the letter X alone for kind and numbers"
 unfoldable pub node-line : List ℤ → ℕ → List ℕ
 node-line W r =
     let start : List ℕ = 78 ∷ spaced (pos r) in
     if (eqb (natAbs (node-word W r 0)) 0) (line (start ++ (32 ∷ 86 ∷ [])) (numbers-of (node-linear W r) ++ (high-of W r ∷ [])))
     (if (eqb (natAbs (node-word W r 0)) 1) (line (start ++ (32 ∷ 66 ∷ [])) (node-word W r 1 ∷ high-of W r ∷ low-of W r ∷ []))
-    (line (start ++ (32 ∷ 76 ∷ [])) (numbers-of (node-linear W r) ++ (high-of W r ∷ low-of W r ∷ []))))
+    (if (eqb (natAbs (node-word W r 0)) 3) (line (start ++ (32 ∷ 88 ∷ [])) [])
+    (line (start ++ (32 ∷ 76 ∷ [])) (numbers-of (node-linear W r) ++ (high-of W r ∷ low-of W r ∷ [])))))
 
 -- "S: stage, root."
 unfoldable pub stage-line : List ℕ → ℕ → List ℕ

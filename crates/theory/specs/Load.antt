@@ -7,9 +7,9 @@ use Rattle.theory.specs.Widths.{conditions-most}
 use Rattle.theory.specs.Form.{Form, new-form, action-bytes}
 use Rattle.theory.specs.Diagram.{Test, now, later, Tree, leaf, branch, plain, test-of}
 use Rattle.theory.specs.Computation.{Comp, ret, bind, make, result}
-use Rattle.theory.specs.Rules.{choose, zero-leaf}
+use Rattle.theory.specs.Rules.{choose, zero-leaf, none-leaf}
 use Rattle.theory.specs.Meaning.{Action, Model}
-use Rattle.theory.specs.Command.{Command, site, push-leaf, push-condition, push-test, give, name-action, end-model, whole, unknown, short, Placed, byte-at, action-at, readings-in, Slot}
+use Rattle.theory.specs.Command.{Command, site, push-leaf, push-condition, push-test, push-forbidden, give, name-action, end-model, whole, unknown, short, Placed, byte-at, action-at, readings-in, Slot}
 use Rattle.theory.specs.Verdict.{Site, site-of, same-slot, reward-slot, chance-slot, level-slot, end-slot, from-to}
 
 -- a diagram and what it was given as
@@ -49,6 +49,7 @@ module _ (by : Test → Tree → Tree → Comp Tree) where
   load-one-with (push-leaf p) s = bind (make (leaf (plain p))) (λ t. ret (push t s))
   load-one-with (push-condition k) s = load-choice-with (condition-test k) (s .stack) (s .entries)
   load-one-with (push-test p) s = load-choice-with (test-of p) (s .stack) (s .entries)
+  load-one-with push-forbidden s = bind (make none-leaf) (λ t. ret (push t s))
   load-one-with (give g) s = load-entry g (s .stack) (s .entries)
   load-one-with (name-action a b) s = ret s
   load-one-with end-model s = ret s

@@ -6,7 +6,8 @@ use lib.IntN.{ℤ, pos, _+ℤ_, _*ℤ_}
 use lib.Signed.{leZ}
 use Rattle.whole.specs.Cases.{if}
 use Rattle.whole.specs.Int.{up}
-use Rattle.theory.specs.Diagram.{Linear, Test, now, later, linear, Leaf, Tree, leaf, branch}
+use Rattle.theory.specs.Diagram.{Linear, Test, now, later, linear, Leaf, some, forbidden, lin-of, Tree, leaf, branch}
+use Rattle.theory.specs.Total.{Total, num, none, weigh}
 use Rattle.theory.specs.Process.{Process}
 
 -- ---- models
@@ -91,14 +92,23 @@ unfoldable pub at : Env → Tree → Leaf
 at e (leaf f) = f
 at e (branch t h l) = elim (holds e t) [ true ↦ at e h | false ↦ at e l ]
 
--- what a diagram comes to, times D
-unfoldable pub worth-at : Env → Tree → ℤ
-worth-at e F = value e (at e F .lin)
+-- what a leaf comes to, times D: nothing where it is forbidden
+unfoldable pub leaf-worth : Env → Leaf → Total
+leaf-worth e (some p a) = num (value e p)
+leaf-worth e forbidden = none
+
+-- what a reward or a stage comes to, times D
+unfoldable pub worth-at : Env → Tree → Total
+worth-at e F = leaf-worth e (at e F)
+
+-- what a level or an end worth comes to, times D: no leaf of them is forbidden
+unfoldable pub level-at : Env → Tree → ℤ
+level-at e F = value e (lin-of (at e F))
 
 -- "V₀ is that diagram; without the command it is 0": times D
 unfoldable pub end-at : Env → List Tree → ℤ
 end-at e [] = pos 0
-end-at e (F ∷ l) = worth-at e F
+end-at e (F ∷ l) = level-at e F
 
 -- ---- the process
 
@@ -114,7 +124,7 @@ settings (suc k) = doubled (settings k)
 
 -- the weight, out of W, that a condition is yes next
 unfoldable pub chance-at : Env → Tree → ℕ
-chance-at e C = up (at e C .lin .const)
+chance-at e C = up (lin-of (at e C) .const)
 
 -- "A setting's weight is the product over conditions of w or W − w"
 unfoldable pub weight : ℕ → List ℕ → List Bool → ℕ
@@ -124,7 +134,7 @@ weight W (w ∷ ws) (b ∷ r) = if b w (W - w) * weight W ws r
 
 -- the state after an action's next levels: "Next levels may read the next conditions"
 unfoldable pub moved : State → List Tree → List Bool → State
-moved s Ds r = record { conditions = r; nums = map (worth-at (env s r)) Ds; den = s .den; D>0 = s .D>0 }
+moved s Ds r = record { conditions = r; nums = map (level-at (env s r)) Ds; den = s .den; D>0 = s .D>0 }
 
 -- W^(n×h)
 abbrev pub power : Model → ℕ → ℕ
@@ -136,7 +146,7 @@ process M = record {
   first = 1;
   others = numbers-from 2 (M .others);
   settings = settings (M .conditions);
-  reward = λ h a s. pos (power M (suc h)) *ℤ worth-at (env s []) (action-at M a .reward);
+  reward = λ h a s. weigh (power M (suc h)) (worth-at (env s []) (action-at M a .reward));
   weight = λ a s r. weight (M .weights) (map (chance-at (env s [])) (action-at M a .chances)) r;
   next = λ a s r. moved s (action-at M a .levels) r;
   end = λ s. end-at (env s []) (M .end);

@@ -8,7 +8,7 @@ use Rattle.whole.specs.Cases.{if}
 use Rattle.theory.specs.Widths.{steps-most, name-bytes}
 use Rattle.theory.specs.Form.{new-form, behind-action}
 use Rattle.theory.specs.Valid.{among}
-use Rattle.theory.specs.Command.{site, push-leaf, push-condition, push-test, give, name-action, end-model, Read, whole, unknown, short, Placed, readings}
+use Rattle.theory.specs.Command.{site, push-leaf, push-condition, push-test, push-forbidden, give, name-action, end-model, Read, whole, unknown, short, Placed, readings}
 use Rattle.theory.specs.Verdict.{Verdict, refusal}
 use Rattle.theory.specs.Load.{site-at}
 use Rattle.theory.specs.Solve.{early}
@@ -19,6 +19,7 @@ names-action a (whole (site m n b w)) = false
 names-action a (whole (push-leaf p)) = false
 names-action a (whole (push-condition k)) = false
 names-action a (whole (push-test p)) = false
+names-action a (whole push-forbidden) = false
 names-action a (whole (give g)) = false
 names-action a (whole (name-action b t)) = eqb a b
 names-action a (whole end-model) = false

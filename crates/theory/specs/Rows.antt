@@ -13,11 +13,12 @@ use Rattle.whole.specs.Numerator.{words}
 use Rattle.theory.specs.Diagram.{Tree, zeros}
 use Rattle.theory.specs.Computation.{solved, refused}
 use Rattle.theory.specs.Form.{Form, new-form, levels-in, actions-in}
-use Rattle.theory.specs.Command.{Command, site, push-leaf, push-condition, push-test, name-action, end-model, whole, readings, byte-at, width-in, command-in, give, Slot}
+use Rattle.theory.specs.Command.{Command, site, push-leaf, push-condition, push-test, push-forbidden, name-action, end-model, whole, readings, byte-at, width-in, command-in, give, Slot}
 use Rattle.theory.specs.Verdict.{Verdict, refusal, Site, Facts, Progress, at-start, after, top, reward-slot, chance-slot, level-slot, end-slot, name-slot}
 use Rattle.theory.specs.Load.{site-at, model}
 use Rattle.theory.specs.Solve.{solve-in, SolveOut, solved-nodes, solved-stages}
-use Rattle.theory.specs.Value.{Asked, accepted, state-of, node-word, node-linear, high-of, low-of, numerator-of, taken, ValueOut, refused-value}
+use Rattle.theory.specs.Value.{Asked, accepted, state-of, node-word, node-linear, high-of, low-of, numerator-of, taken, ValueOut, refused-value, answered}
+use Rattle.theory.specs.Total.{none as no-total}
 use Rattle.theory.specs.Process.{optimum, lowest-best}
 use Rattle.theory.specs.Meaning.{State, process}
 use Rattle.theory.specs.Staying.{In62, Stays}
@@ -57,9 +58,9 @@ OfSite S g =
     ⊎ (Range 1 (S .actions) (g .action)
     × (((g .command ≡ 0x20) × (g .index ≡ 0)) ⊎ (((g .command ≡ 0x21) × Range 1 (S .conditions) (g .index)) ⊎ ((g .command ≡ 0x22) × Range 1 (S .levels) (g .index)))))
 
--- "Next-step conditions stand only in next levels"; "The leaves of a chance are constants 0 to W"
+-- "Next-step conditions stand only in next levels"; "The leaves of a chance are constants 0 to W"; a leaf "forbidden" is "allowed in rewards only"
 abbrev pub MayBe : Slot → Facts → Type 0
-MayBe g f = (T (f .next-step) → g .command ≡ 0x22) × (g .command ≡ 0x21 → T (f .weights))
+MayBe g f = (T (f .next-step) → g .command ≡ 0x22) × ((g .command ≡ 0x21 → T (f .weights)) × (T (f .forbids) → g .command ≡ 0x20))
 
 -- "site: m levels, n conditions (0 to 4), A actions, weight total W (1 to 100) .. It is first and only there."; m and A by the form, K5: "A as two bytes (1 to 400) and m up to 8"
 abbrev pub first-asks-in : Form → Command → Rules
@@ -67,6 +68,7 @@ first-asks-in F (site m n a w) = asks 4 (Range 1 (levels-in F) m) (asks 4 (n ≤
 first-asks-in F (push-leaf p) = asks 1 ⊥ none
 first-asks-in F (push-condition k) = asks 1 ⊥ none
 first-asks-in F (push-test p) = asks 1 ⊥ none
+first-asks-in F push-forbidden = asks 1 ⊥ none
 first-asks-in F (give g) = asks 1 ⊥ none
 first-asks-in F (name-action a b) = asks 1 ⊥ none
 first-asks-in F end-model = asks 1 ⊥ none
@@ -80,6 +82,8 @@ later-asks S K G (push-leaf p) = asks 4 (T (zeros (drop (S .levels) (p .coeffs))
 later-asks S K G (push-condition k) = asks 4 (Range 1 (S .conditions) k ⊎ Range 5 (4 + S .conditions) k) (asks 5 (2 ≤ length K) none)
 -- "A test has some coefficient not zero."
 later-asks S K G (push-test p) = asks 4 (T (zeros (drop (S .levels) (p .coeffs)))) (asks 4 (T (zeros (p .coeffs)) → ⊥) (asks 5 (2 ≤ length K) none))
+-- "or a 33rd entry"
+later-asks S K G push-forbidden = asks 5 (length K < 32) none
 -- "6: given twice"
 later-asks S K G (give g) = asks 4 (OfSite S g) (asks 5 (1 ≤ length K) (asks 6 (List·Memᴰ g G → ⊥) (asks 4 (MayBe g (top K)) none)))
 -- "30 name: action, 16 bytes, each 20 to 7E. Optional; at most one per action."
@@ -223,11 +227,12 @@ module _ (n A : ℕ) (W : List ℤ) (r : ℕ) where
   abbrev pub BranchesFit : Type 0
   BranchesFit = Among (r - 1) (high-of W r) × Among (r - 1) (low-of W r)
 
-  -- not "a kind not 0 to 2 or a nonzero word where the layout has zero .., a condition not 1 to n or an action not 1 to A"
+  -- not "a kind not 0 to 2", nor 3, "or a nonzero word where the layout has zero .., a condition not 1 to n or an action not 1 to A"
   pub data KindFits : Type 0 where
     fits-leaf : node-word W r 0 ≡ pos 0 → NumbersFit → Among A (high-of W r) → low-of W r ≡ pos 0 → KindFits
     fits-condition : node-word W r 0 ≡ pos 1 → Among n (node-word W r 1) → ((i : ℕ) → Range 2 9 i → node-word W r i ≡ pos 0) → BranchesFit → KindFits
     fits-test : node-word W r 0 ≡ pos 2 → NumbersFit → BranchesFit → KindFits
+    fits-none : node-word W r 0 ≡ pos 3 → ((i : ℕ) → Range 1 11 i → node-word W r i ≡ pos 0) → KindFits
 
   -- 14 does not apply: nor is it "outside the table"
   pub record NodeFits : Type 0 where
@@ -237,7 +242,7 @@ module _ (n A : ℕ) (W : List ℤ) (r : ℕ) where
 -- the nodes "on the walk" from a root: at one that fits and is no leaf it goes on
 pub data OnWalk (n A : ℕ) (q : Asked) (W : List ℤ) (root : ℕ) : ℕ → Type 0 where
   first-met : OnWalk n A q W root root
-  then-met : {r : ℕ} → OnWalk n A q W root r → NodeFits n A W r → (node-word W r 0 ≡ pos 0 → ⊥) → OnWalk n A q W root (taken n q W r)
+  then-met : {r : ℕ} → OnWalk n A q W root r → NodeFits n A W r → (node-word W r 0 ≡ pos 0 → ⊥) → (node-word W r 0 ≡ pos 3 → ⊥) → OnWalk n A q W root (taken n q W r)
 
 -- a value and an action: "then .. 13, 15, 14"
 module _ (B : List ℕ) (nodes : List ℤ) (stages : List ℕ) (steps : ℕ) (q : Asked) where
@@ -259,6 +264,9 @@ module _ (B : List ℕ) (nodes : List ℤ) (stages : List ℕ) (steps : ℕ) (q 
     value-0 : {r : ℕ} → Stated → 1 ≤ root-word → Met r → NodeFits (site-at B .conditions) (site-at B .actions) nodes r → node-word nodes r 0 ≡ pos 0
         → Range 1 (site-at B .actions) (natAbs (high-of nodes r))
         → ValueRow (record { number = 0; place = 0; action = natAbs (high-of nodes r); numerator = words (numerator-of q (node-linear nodes r)) })
+    -- read: the walk ends at a leaf "none", which "reads as numerator 0, action 0"
+    value-none : {r : ℕ} → Stated → 1 ≤ root-word → Met r → NodeFits (site-at B .conditions) (site-at B .actions) nodes r → node-word nodes r 0 ≡ pos 3
+        → ValueRow (answered no-total 0)
     value-1-10 : {k p : ℕ} → EarlyRow B steps (length stages) k p → ValueRow (refused-value k p)
     -- "13: D < 1, mask bit n or above, nonzero numerator beyond m"
     value-13 : Admitted B steps (length stages) → (StateFits (site-at B .levels) (site-at B .conditions) q → ⊥) → ValueRow (refused-value 13 0)
@@ -279,14 +287,9 @@ module _ (B : List ℕ) (steps : ℕ) (q : Asked) where
   asked-state t = state-of (site-at B .levels) (site-at B .conditions) q t
 
   pub data PlainRow : ValueOut → Type 0 where
-    -- answered: no number leaves its limits; the action is one of the model's
+    -- answered: no number leaves its limits; the action is one of the model's, where there is a value
     plain-0 : Admitted B steps 8 → (t : Accepts) → Stays (model B) steps (asked-state t) → Range 1 (site-at B .actions) (lowest-best (process (model B)) steps (asked-state t))
-        → PlainRow (record {
-          number = 0;
-          place = 0;
-          action = lowest-best (process (model B)) steps (asked-state t);
-          numerator = words (optimum (process (model B)) steps (asked-state t));
-        })
+        → PlainRow (answered (optimum (process (model B)) steps (asked-state t)) (lowest-best (process (model B)) steps (asked-state t)))
     plain-1-10 : {k p : ℕ} → EarlyRow B steps 8 k p → PlainRow (refused-value k p)
     -- "13: D < 1, mask bit n or above, nonzero numerator beyond m"
     plain-13 : Admitted B steps 8 → (StateFits (site-at B .levels) (site-at B .conditions) q → ⊥) → PlainRow (refused-value 13 0)

@@ -6,8 +6,7 @@ use lib.Dec.{eqb, isEq}
 use lib.IntN.{ℤ, pos, _-ℤ_}
 use lib.Signed.{leZ, ltZ}
 use Rattle.whole.specs.Cases.{if}
-use Rattle.theory.specs.Widths.{levels-most}
-use Rattle.theory.specs.Diagram.{Linear, Test, now, later, linear, Leaf, Tree, leaf, branch, plain, cmpList, cmp, same, _⊞_, _⊠_, _⊟_, plus-constant, zeros, test-of}
+use Rattle.theory.specs.Diagram.{Linear, Test, now, later, linear, Leaf, some, forbidden, lin-of, zero-linear, Tree, leaf, branch, plain, cmpZ, cmpList, cmp, same, _⊞_, _⊠_, _⊟_, plus-constant, zeros, test-of}
 use Rattle.theory.specs.Computation.{Comp, ret, named, bind, make, judge, both}
 
 -- ---- making a node
@@ -65,37 +64,51 @@ merge mk op (branch u h l) G = step mk u (merge mk op h) (merge mk op l) G
 unfoldable pub make-leaf : Linear → Comp Tree
 make-leaf p = judge p (make (leaf (plain p)))
 
--- two leaves added
+-- "a leaf 0"
+unfoldable pub zero-leaf : Tree
+zero-leaf = leaf (plain zero-linear)
+
+-- "a leaf "forbidden"": "a leaf "none""
+abbrev pub none-leaf : Tree
+none-leaf = leaf forbidden
+
+-- two leaves added: "a sum with it .. is it"
 unfoldable pub leaf-sum : Leaf → Leaf → Comp Tree
-leaf-sum f g = make-leaf ((f .lin) ⊞ (g .lin))
+leaf-sum forbidden g = make none-leaf
+leaf-sum (some p a) forbidden = make none-leaf
+leaf-sum (some p a) (some q b) = make-leaf (p ⊞ q)
+
+-- a number times a leaf: "or a product not by 0, is it"
+unfoldable pub leaf-scale : ℤ → Leaf → Comp Tree
+leaf-scale c (some q b) = make-leaf (c ⊠ q)
+leaf-scale c forbidden = make (if (isEq (cmpZ c (pos 0))) zero-leaf none-leaf)
 
 -- the constant of a weight times a leaf
 unfoldable pub leaf-product : Leaf → Leaf → Comp Tree
-leaf-product f g = make-leaf ((f .lin .const) ⊠ (g .lin))
+leaf-product f g = leaf-scale (lin-of f .const) g
 
--- a number times a leaf
-unfoldable pub leaf-scale : ℤ → Leaf → Comp Tree
-leaf-scale c g = make-leaf (c ⊠ (g .lin))
-
--- a leaf plus a number
+-- a leaf of a level plus a number
 unfoldable pub leaf-shift : ℤ → Leaf → Comp Tree
-leaf-shift c g = make-leaf (plus-constant c (g .lin))
+leaf-shift c g = make-leaf (plus-constant c (lin-of g))
 
 -- "W − w"
 unfoldable pub leaf-complement : ℕ → Leaf → Comp Tree
-leaf-complement W g = make-leaf (record { coeffs = g .lin .coeffs; const = pos W -ℤ (g .lin .const) })
+leaf-complement W g = make-leaf (record { coeffs = lin-of g .coeffs; const = pos W -ℤ (lin-of g .const) })
 
--- "number the leaves with the action"
+-- "number the leaves with the action"; a leaf "none" has no action
 unfoldable pub leaf-number : ℕ → Leaf → Comp Tree
-leaf-number a g = make (leaf (record { lin = g .lin; act = a }))
+leaf-number a (some p b) = make (leaf (some p a))
+leaf-number a forbidden = make none-leaf
 
 -- "a constant decides, another linear is a choose": the first where p ≤ 0
 unfoldable pub decide : Linear → Tree → Tree → Comp Tree
 decide p H L = if (zeros (p .coeffs)) (if (leZ (p .const) (pos 0)) (ret H) (ret L)) (choose (test-of p) H L)
 
--- "at two leaves f, g let d = g − f; a constant d gives f when d ≤ 0, else g; otherwise choose (d, f, g)"
+-- "at two leaves f, g let d = g − f; a constant d gives f when d ≤ 0, else g; otherwise choose (d, f, g)"; a forbidden one "loses to any other leaf", and d is not worked out
 unfoldable pub leaf-best : Leaf → Leaf → Comp Tree
-leaf-best f g = judge ((g .lin) ⊟ (f .lin)) (decide ((g .lin) ⊟ (f .lin)) (leaf f) (leaf g))
+leaf-best forbidden g = ret (leaf g)
+leaf-best (some p a) forbidden = ret (leaf (some p a))
+leaf-best (some p a) (some q b) = judge (q ⊟ p) (decide (q ⊟ p) (leaf (some p a)) (leaf (some q b)))
 
 -- ---- the rules
 
@@ -129,15 +142,6 @@ best = merge choose leaf-best
 
 -- ---- substitute
 
--- k coefficients 0
-unfoldable pub no-coeffs : ℕ → List ℤ
-no-coeffs zero = []
-no-coeffs (suc k) = pos 0 ∷ no-coeffs k
-
--- "a leaf 0"
-unfoldable pub zero-leaf : Tree
-zero-leaf = leaf (plain (record { coeffs = no-coeffs levels-most; const = pos 0 }))
-
 -- the running sum F and the levels that are left: "Sums run over levels in order, constant last."
 unfoldable pub sum-on : Tree → List ℤ → List Tree → Comp Tree
 sum-on F [] Ns = ret F
@@ -154,13 +158,14 @@ levels-sum (c ∷ cs) (D ∷ Ds) = bind (scale c D) (λ F. sum-on F cs Ds)
 unfoldable pub linear-diagram : List Tree → Linear → Comp Tree
 linear-diagram Ds p = bind (levels-sum (p .coeffs) Ds) (shift (p .const))
 
--- "A condition becomes the next-step one, by choose. A test's linear is built the same way; at each leaf of that diagram a constant decides, another linear is a choose between the substituted branches. Above leaves it is choose on that diagram's root."
+-- "A condition becomes the next-step one, by choose. A test's linear is built the same way; at each leaf of that diagram a constant decides, another linear is a choose between the substituted branches. Above leaves it is choose on that diagram's root." A forbidden leaf: "substitution leaves it as it is"
 unfoldable pub substitute : List Tree → Tree → Comp Tree
-substitute Ds (leaf f) = linear-diagram Ds (f .lin)
+substitute Ds (leaf (some p a)) = linear-diagram Ds p
+substitute Ds (leaf forbidden) = make none-leaf
 substitute Ds (branch (now k) h l) = both (choose (later k)) (substitute Ds h) (substitute Ds l)
 substitute Ds (branch (later k) h l) = both (choose (later k)) (substitute Ds h) (substitute Ds l)
 substitute Ds (branch (linear p) h l) =
-    bind (linear-diagram Ds p) (λ P. bind (substitute Ds h) (λ H. bind (substitute Ds l) (λ L. over choose (λ f. decide (f .lin) H L) P)))
+    bind (linear-diagram Ds p) (λ P. bind (substitute Ds h) (λ H. bind (substitute Ds l) (λ L. over choose (λ f. decide (lin-of f) H L) P)))
 
 -- ---- conditions summed out
 

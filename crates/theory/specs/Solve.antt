@@ -7,7 +7,7 @@ use lib.IntN.{ℤ, pos}
 use lib.ListN.{length, replicate}
 use Rattle.whole.specs.Cases.{if}
 use Rattle.theory.specs.Widths.{bytes-most, steps-most, nodes-most, node-words, work-words, conditions-most, levels-most}
-use Rattle.theory.specs.Diagram.{Linear, Test, now, later, linear, Tree, leaf, branch, same, padded}
+use Rattle.theory.specs.Diagram.{Linear, Test, now, later, linear, Leaf, some, forbidden, lin-of, act-of, Tree, leaf, branch, same, padded}
 use Rattle.theory.specs.Computation.{done, stopped, run, enter-all, Solved, solved, refused, run-all}
 use Rattle.theory.specs.Stage.{all-stages}
 use Rattle.theory.specs.Valid.{among}
@@ -42,9 +42,14 @@ test-words (now k) = pos 1 ∷ (padded levels-most (pos k ∷ []) ++ (pos 0 ∷ 
 test-words (later k) = pos 1 ∷ (padded levels-most (pos (conditions-most + k) ∷ []) ++ (pos 0 ∷ []))
 test-words (linear p) = pos 2 ∷ linear-words p
 
--- "kind (0 leaf, 1 condition, 2 test), eight coefficients, constant, high, low .. A leaf has its action in place of high, and zero for low."
+-- "kind (0 leaf ..)"; "A leaf "none" has kind 3"
+unfoldable pub leaf-kind : Leaf → ℤ
+leaf-kind (some p a) = pos 0
+leaf-kind forbidden = pos 3
+
+-- "kind (0 leaf, 1 condition, 2 test), eight coefficients, constant, high, low .. A leaf has its action in place of high, and zero for low."; of a leaf "none" "all other words zero"
 unfoldable pub row : List Tree → Tree → List ℤ
-row X (leaf f) = pos 0 ∷ (linear-words (f .lin) ++ (pos (f .act) ∷ pos 0 ∷ []))
+row X (leaf f) = leaf-kind f ∷ (linear-words (lin-of f) ++ (pos (act-of f) ∷ pos 0 ∷ []))
 row X (branch t h l) = test-words t ++ (pos (number-of h X) ∷ pos (number-of l X) ∷ [])
 
 -- the rows of some nodes, numbered as in X

@@ -13,8 +13,10 @@ use Rattle.whole.specs.Numerator.{words}
 use Rattle.whole.specs.declared.Numerator.{Numerator}
 use Rattle.theory.specs.Widths.{node-words, levels-most}
 use Rattle.theory.specs.Diagram.{Linear, zeros}
+use Rattle.theory.specs.Total.{Total, num, none}
 use Rattle.theory.specs.Meaning.{State, nth, dot}
 use Rattle.theory.specs.Valid.{small-linear}
+use Rattle.theory.specs.Verdict.{or}
 use Rattle.theory.specs.Load.{site-at}
 use Rattle.theory.specs.Solve.{early}
 
@@ -88,10 +90,14 @@ good-condition-row n W r =
 unfoldable pub good-test-row : List ℤ → ℕ → Bool
 good-test-row W r = small-linear (node-linear W r) && good-branches W r
 
--- 14 does not apply to node r: inside the table, "a kind not 0 to 2"
+-- a leaf "none": "all other words zero"
+unfoldable pub good-none-row : List ℤ → ℕ → Bool
+good-none-row W r = zeros (take (node-words - 1) (drop ((r - 1) * node-words + 1) W))
+
+-- 14 does not apply to node r: inside the table, "a kind not 0 to 2", nor 3, "no cause for 14 now"
 unfoldable pub good-row : ℕ → ℕ → List ℤ → ℕ → Bool
 good-row n A W r = leb (r * node-words) (length W) && elim (node-word W r 0) [
-  | pos k ↦ if (eqb k 0) (good-leaf-row A W r) (if (eqb k 1) (good-condition-row n W r) (if (eqb k 2) (good-test-row W r) false))
+  | pos k ↦ if (eqb k 0) (good-leaf-row A W r) (if (eqb k 1) (good-condition-row n W r) (if (eqb k 2) (good-test-row W r) (if (eqb k 3) (good-none-row W r) false)))
   | negsuc k ↦ false
 ]
 
@@ -109,11 +115,15 @@ taken n q W r =
     (leZ (numerator-of q (node-linear W r)) (pos 0)) in
     natAbs (if high? (high-of W r) (low-of W r))
 
+-- a node of kind k is a leaf: 0, or 3, a leaf "none"
+unfoldable pub ends : ℕ → Bool
+ends k = or (eqb k 0) (eqb k 3)
+
 -- the leaf that the walk ends at, 0 where a node on it is refused; branches lie below their nodes, so r steps are enough
 unfoldable pub walk : ℕ → ℕ → Asked → List ℤ → ℕ → ℕ → ℕ
 walk n A q W zero r = 0
 walk n A q W (suc k) r = elim (good-row n A W r) [
-  | true ↦ if (eqb (natAbs (node-word W r 0)) 0) r (walk n A q W k (taken n q W r))
+  | true ↦ if (ends (natAbs (node-word W r 0))) r (walk n A q W k (taken n q W r))
   | false ↦ 0
 ]
 
@@ -130,7 +140,12 @@ pub record ValueOut : Type 0 where
 abbrev pub refused-value : ℕ → ℕ → ValueOut
 refused-value k p = record { number = k; place = p; action = 0; numerator = words (pos 0) }
 
--- what is read at the leaf that the walk ends at
+-- a total and the action that has it: ""None" reads as numerator 0, action 0"
+unfoldable pub answered : Total → ℕ → ValueOut
+answered (num z) a = record { number = 0; place = 0; action = a; numerator = words z }
+answered none a = record { number = 0; place = 0; action = 0; numerator = words (pos 0) }
+
+-- what is read at the leaf that the walk ends at; the words of a leaf "none" are zero
 unfoldable pub value-at : Asked → List ℤ → ℕ → ValueOut
 value-at q W r = if (eqb r 0) (refused-value 14 0) (record {
   number = 0;

@@ -11,7 +11,7 @@ use Rattle.theory.specs.Widths.{conditions-most, weights-most, stack-mos
 use Rattle.theory.specs.Form.{Form, new-form, levels-in, actions-in}
 use Rattle.theory.specs.Diagram.{Linear, zeros}
 use Rattle.theory.specs.Valid.{all, among}
-use Rattle.theory.specs.Command.{Command, site, push-leaf, push-condition, push-test, give, Slot, name-action, end-model, whole, unknown, short, Placed, readings-in}
+use Rattle.theory.specs.Command.{Command, site, push-leaf, push-condition, push-test, push-forbidden, give, Slot, name-action, end-model, whole, unknown, short, Placed, readings-in}
 
 -- one or the other
 abbrev pub or : Bool → Bool → Bool
@@ -28,6 +28,7 @@ pub record Site : Type 0 where
 pub record Facts : Type 0 where
   pub next-step : Bool
   pub weights : Bool
+  pub forbids : Bool
 
 -- the commands so far: whether the site is there, the stack (its top first) and what has been given
 pub record Progress : Type 0 where
@@ -109,18 +110,20 @@ of-site S g = or (same-slot g end-slot)
 
 -- the top of the stack
 abbrev pub top : List Facts → Facts
-top [] = record { next-step = false; weights = false }
+top [] = record { next-step = false; weights = false; forbids = false }
 top (f ∷ l) = f
 
--- "Next-step conditions stand only in next levels"; "The leaves of a chance are constants 0 to W"
+-- "Next-step conditions stand only in next levels"; "The leaves of a chance are constants 0 to W"; a forbidden leaf is "allowed in rewards only"
 unfoldable pub may-be : Slot → Facts → Bool
-may-be g f = or (eqb (g .command) 0x22) (not (f .next-step)) && or (not (eqb (g .command) 0x21)) (f .weights)
+may-be g f =
+    or (eqb (g .command) 0x22) (not (f .next-step))
+    && (or (not (eqb (g .command) 0x21)) (f .weights) && or (eqb (g .command) 0x20) (not (f .forbids)))
 
 -- "takes low, then high, off the stack and pushes the choice"
 unfoldable pub joined : Bool → List Facts → List Facts
 joined later [] = []
 joined later (l ∷ []) = []
-joined later (l ∷ h ∷ r) = record { next-step = or later (or (h .next-step) (l .next-step)); weights = h .weights && l .weights } ∷ r
+joined later (l ∷ h ∷ r) = record { next-step = or later (or (h .next-step) (l .next-step)); weights = h .weights && l .weights; forbids = or (h .forbids) (l .forbids) } ∷ r
 
 -- ---- what must be given: "Every reward, chance and next level is given exactly once."
 
@@ -156,6 +159,7 @@ first-rules F (site m n a w) = site-rules F (site-of m n a w)
 first-rules F (push-leaf p) = rule 1 true ∷ []
 first-rules F (push-condition k) = rule 1 true ∷ []
 first-rules F (push-test p) = rule 1 true ∷ []
+first-rules F push-forbidden = rule 1 true ∷ []
 first-rules F (give g) = rule 1 true ∷ []
 first-rules F (name-action a b) = rule 1 true ∷ []
 first-rules F end-model = rule 1 true ∷ []
@@ -166,6 +170,7 @@ later-rules S K G (site m n a w) = rule 1 true ∷ []
 later-rules S K G (push-leaf p) = rule 4 (beyond (S .levels) p) ∷ rule 5 (leb stack-most (length K)) ∷ []
 later-rules S K G (push-condition k) = rule 4 (not (or (among (S .conditions) k) (next-condition (S .conditions) k))) ∷ rule 5 (ltb (length K) 2) ∷ []
 later-rules S K G (push-test p) = rule 4 (beyond (S .levels) p) ∷ rule 4 (zeros (p .coeffs)) ∷ rule 5 (ltb (length K) 2) ∷ []
+later-rules S K G push-forbidden = rule 5 (leb stack-most (length K)) ∷ []
 later-rules S K G (give g) =
     rule 4 (not (of-site S g)) ∷ rule 5 (ltb (length K) 1) ∷ rule 6 (has-slot g G) ∷ rule 4 (not (may-be g (top K))) ∷ []
 later-rules S K G (name-action a b) = rule 4 (not (among (S .actions) a)) ∷ rule 4 (not (all printable b)) ∷ rule 6 (has-slot (name-slot a) G) ∷ []
@@ -188,9 +193,10 @@ with-slot s K g = record { begun = s .begun; site = s .site; stack = K; given = 
 -- what the commands so far come to with one more
 unfoldable pub after : Progress → Command → Progress
 after s (site m n a w) = record { begun = true; site = site-of m n a w; stack = []; given = [] }
-after s (push-leaf p) = with-stack s (record { next-step = false; weights = is-weight (s .site .weights) p } ∷ s .stack)
+after s (push-leaf p) = with-stack s (record { next-step = false; weights = is-weight (s .site .weights) p; forbids = false } ∷ s .stack)
 after s (push-condition k) = with-stack s (joined (ltb conditions-most k) (s .stack))
 after s (push-test p) = with-stack s (joined false (s .stack))
+after s push-forbidden = with-stack s (record { next-step = false; weights = false; forbids = true } ∷ s .stack)
 after s (give g) = with-slot s (drop 1 (s .stack)) g
 after s (name-action a b) = with-slot s (s .stack) (name-slot a)
 after s end-model = s
@@ -213,6 +219,7 @@ ended size at (site m n a w) rest = rest
 ended size at (push-leaf p) rest = rest
 ended size at (push-condition k) rest = rest
 ended size at (push-test p) rest = rest
+ended size at push-forbidden rest = rest
 ended size at (give g) rest = rest
 ended size at (name-action a b) rest = rest
 

@@ -11,6 +11,8 @@ pub mod Valid
 pub mod Loading
 pub mod Good
 -- the value that is meant, and what diagrams and stages come to
+pub mod Total
+pub mod Lists
 pub mod Process
 pub mod Values
 pub mod Expectation

@@ -8,10 +8,10 @@ use lib.Dec.{T}
 use lib.ListN.{length}
 use Rattle.theory.specs.Diagram.{Test, Tree, leaf, plain, test-of}
 use Rattle.theory.specs.Computation.{Comp, ret, bind, result, make, Out, done, stopped, run, enter-all, Ops, end, operation, and-then, final, solved, refused, run-all}
-use Rattle.theory.specs.Rules.{choose, zero-leaf, expectation}
+use Rattle.theory.specs.Rules.{choose, zero-leaf, none-leaf, expectation}
 use Rattle.theory.specs.Meaning.{Action, Model, power}
 use Rattle.theory.specs.Stage.{action-diagrams, all-diagrams, model-diagrams, sum-out, action-total, best-on, stage-over, stages-on, stages-over-end, all-stages}
-use Rattle.theory.specs.Command.{Command, site, push-leaf, push-condition, push-test, name-action, end-model, Read, whole, unknown, short, Placed, readings, give, Slot}
+use Rattle.theory.specs.Command.{Command, site, push-leaf, push-condition, push-test, push-forbidden, name-action, end-model, Read, whole, unknown, short, Placed, readings, give, Slot}
 use Rattle.theory.specs.Verdict.{verdict}
 use Rattle.theory.specs.Load.{Entry, Loaded, condition-test, load-choice, load-choice-with, load-entry, load-one, load-one-with, load-on, load-on-with, model-of, site-at, load, load-with, model, load-in, model-in}
 use Rattle.theory.specs.Solve.{solve-in, table-of}
@@ -21,7 +21,7 @@ use Rattle.theory.specs.laws.Events.{run-done}
 use Rattle.theory.specs.laws.Counting.{roots-fit}
 use Rattle.theory.specs.laws.Refusals.{loaded, solve-passes, run-all-peak}
 use Rattle.theory.specs.laws.Loading.{entry-trees, loaded-entries, diagrams-loaded, end-loaded}
-use Rattle.theory.specs.laws.Inside.{sub-needed, all-none, all-parts, all-cons, all-more, all-left, all-right, roots-inside, bind-gives, Built, builds, leaf-built, zero-built, choose-built, best-built, substitute-built, expectation-built, reward-built}
+use Rattle.theory.specs.laws.Inside.{sub-needed, all-none, all-parts, all-cons, all-more, all-left, all-right, roots-inside, bind-gives, Built, builds, leaf-built, zero-built, none-built, choose-built, best-built, substitute-built, expectation-built, reward-built}
 
 -- ---- operations
 
@@ -183,6 +183,7 @@ one-loads X (site m n a w) s d = ret-loads X s d
 one-loads X (push-leaf p) s d = push-loads X (make (leaf (plain p))) (s .stack) (s .entries) (leaf-built X (plain p)) (d .0) (d .1)
 one-loads X (push-condition k) s d = choice-loads X (condition-test k) (s .stack) (s .entries) (d .0) (d .1)
 one-loads X (push-test p) s d = choice-loads X (test-of p) (s .stack) (s .entries) (d .0) (d .1)
+one-loads X push-forbidden s d = push-loads X (make none-leaf) (s .stack) (s .entries) (none-built X) (d .0) (d .1)
 one-loads X (give g) s d = entry-loads X g (s .stack) (s .entries) (d .0) (d .1)
 one-loads X (name-action a b) s d = ret-loads X s d
 one-loads X end-model s d = ret-loads X s d

@@ -11,7 +11,7 @@ use lib.IntN.{ℤ, pos, negsuc}
 use lib.ListN.{length, getD}
 use Rattle.whole.specs.Cases.{if, by-test, both, clash, from-true}
 use Rattle.whole.specs.Within.{small}
-use Rattle.theory.specs.Diagram.{Linear, Test, now, later, linear, Leaf, Tree, leaf, branch, then, cmpZ, cmpList, cmpLinear, cmp, same-leaf, same}
+use Rattle.theory.specs.Diagram.{Linear, Test, now, later, linear, Leaf, some, forbidden, Tree, leaf, branch, then, cmpZ, cmpList, cmpLinear, cmp, same-leaf, same}
 use Rattle.theory.specs.Computation.{Comp, ret, named, made, bind, result, names, judge, Out, done, stopped, member, run, enter-all, Ops, end, operation, and-then, final, solved}
 use Rattle.theory.specs.Computation.{refused, run-all}
 use Rattle.theory.specs.Computation as C
@@ -59,9 +59,12 @@ cmp-eq (linear p) (linear q) t = ap linear (cmpLinear-eq p q t)
 
 pub same-leaf-eq : (f g : Leaf) → T (same-leaf f g) → f ≡ g
 unfolding same-leaf
-same-leaf-eq f g t =
-    let d = both (isEq (cmpLinear (f .lin) (g .lin))) (eqb (f .act) (g .act)) t in
-    λ i. record { lin = cmpLinear-eq (f .lin) (g .lin) (d .0) i; act = eqb→eq (f .act) (g .act) (d .1) i }
+same-leaf-eq (some p a) (some q b) t =
+    let d = both (isEq (cmpLinear p q)) (eqb a b) t in
+    ap₂ some (cmpLinear-eq p q (d .0)) (eqb→eq a b (d .1))
+same-leaf-eq (some p a) forbidden t = absurd t
+same-leaf-eq forbidden (some q b) t = absurd t
+same-leaf-eq forbidden forbidden t = refl
 
 pub same-eq : (F G : Tree) → T (same F G) → F ≡ G
 unfolding same
@@ -104,7 +107,8 @@ cmp-refl (linear p) = cmpLinear-refl p
 
 pub same-leaf-refl : (f : Leaf) → same-leaf f f ≡ true
 unfolding same-leaf
-same-leaf-refl f = ap₂ (λ (o : Ordering) (b : Bool). isEq o && b) (cmpLinear-refl (f .lin)) (eq-eqb (f .act) (f .act) refl)
+same-leaf-refl (some p a) = ap₂ (λ (o : Ordering) (b : Bool). isEq o && b) (cmpLinear-refl p) (eq-eqb a a refl)
+same-leaf-refl forbidden = refl
 
 pub same-refl : (F : Tree) → same F F ≡ true
 unfolding same

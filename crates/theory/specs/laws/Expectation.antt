@@ -2,83 +2,104 @@
 use mathlib.Core.Path.{_≡_, refl, sym, ap, ap₂, _∙_, fun-ext}
 use mathlib.Core.Bool.{Bool, true, false, not, _&&_}
 use mathlib.Core.List.{List, [], _∷_, map}
-use Prim.Native.Nat.{ℕ, zero, suc, _+_, _*_, _-_, _≤_}
+use Prim.Native.Nat.{ℕ, zero, suc, _+_, _*_, _-_}
 use native.Mathlib.Omega.{arith}
 use native.Mathlib.Nat.{sub-zero}
 use borrow.Author.Tests.{eq-eqb, ne-eqb}
 use lib.Dec.{T, eqb}
-use lib.IntN.{ℤ, pos, negsuc, _+ℤ_, _-ℤ_, _*ℤ_, +ℤ-idr, +ℤ-assoc, zero-*ℤ}
+use lib.IntN.{ℤ, pos, negsuc, _+ℤ_, _-ℤ_, _*ℤ_}
 use lib.ListN.{length}
 use lib.Signed.{_≤ℤ_, leZ, leZ-yes}
 use Rattle.whole.specs.Cases.{if, by-test, both}
-use Rattle.whole.specs.Int.{atom, up, diff, le-in}
-use Rattle.theory.specs.Diagram.{Linear, Test, now, later, linear, Leaf, Tree, leaf, branch, zeros}
+use Rattle.whole.specs.Int.{up, diff, le-in}
+use Rattle.theory.specs.Diagram.{Linear, Test, now, later, linear, Leaf, some, forbidden, lin-of, permitted, Tree, leaf, branch, zeros}
 use Rattle.theory.specs.Computation.{result, make, final}
 use Rattle.theory.specs.Computation as C
-use Rattle.theory.specs.Rules.{node, choose, sum, product, scale, shift, complement, no-coeffs, zero-leaf, sum-on, levels-sum, linear-diagram, substitute, is-later, side}
+use Rattle.theory.specs.Rules.{node, choose, sum, product, scale, shift, complement, sum-on, levels-sum, linear-diagram, substitute, is-later, side}
 use Rattle.theory.specs.Rules.{expectation}
-use Rattle.theory.specs.Process.{mean}
-use Rattle.theory.specs.Meaning.{State, Env, nth, env, dot, value, holds, at, worth-at, doubled, settings, chance-at, weight, moved}
+use Rattle.theory.specs.Total.{Total, num, _⊕_, weigh, mean}
+use Rattle.theory.specs.Meaning.{State, Env, nth, env, dot, value, holds, at, leaf-worth, worth-at, level-at, doubled, settings, chance-at, weight, moved}
 use Rattle.theory.specs.Stage.{sum-out}
-use Rattle.theory.specs.Valid.{all, all-nodes, among, good-test, good-leaf, weight-leaf}
+use Rattle.theory.specs.Valid.{all, all-nodes, among, good-test, level-leaf, weight-leaf}
+use Rattle.theory.specs.laws.Total.{sums, ⊕-assoc, ⊕-zero, num-⊕, weigh-⊕, weigh-one, weigh-times, weigh-swap}
 use Rattle.theory.specs.laws.Comps.{result-bind}
-use Rattle.theory.specs.laws.Values.{node-at, choose-at, both-at, over-at, value-constant, sum-at, product-at, scale-at, shift-at, complement-at, decide-at}
+use Rattle.theory.specs.laws.Values.{node-at, choose-at, both-at, over-at, zero-at, number-level, sum-at, product-at, scale-level, shift-at, complement-at, decide-at}
 use Rattle.theory.specs.laws.Safe.{any, sure}
-use Rattle.theory.specs.laws.Nodes.{Tests, parts, widen, any-closed, expectation-safe}
-use Rattle.theory.specs.laws.Valid.{open-test, open-now, open-next, open-none}
+use Rattle.theory.specs.laws.Nodes.{Tests, parts, widen, all-widen, any-closed, expectation-safe}
+use Rattle.theory.specs.laws.Valid.{level-permitted, open-test, open-now, open-next, open-none}
+
+-- ---- leaves
+
+-- the leaf that a good diagram comes to is good
+pub at-good : (e : Env) (t? : Test → Bool) (f? : Leaf → Bool) (F : Tree) → T (all-nodes t? f? F) → T (f? (at e F))
+unfolding all-nodes at
+at-good e t? f? (leaf f) q = q
+at-good e t? f? (branch t h l) q =
+    let d = parts t? f? t h l q in
+    by-test (holds e t) (λ b. T (f? (if b (at e h) (at e l)))) (λ _. at-good e t? f? h (d .1 .0)) (λ _. at-good e t? f? l (d .1 .1))
+
+-- each diagram comes to a leaf that is not forbidden
+abbrev pub Permitted : Env → List Tree → Type 0
+Permitted e Ds = T (all (λ D. permitted (at e D)) Ds)
+
+-- and so do the next levels of an accepted model
+pub levels-permitted : (e : Env) (t? : Test → Bool) (Ds : List Tree) → T (all (all-nodes t? level-leaf) Ds) → Permitted e Ds
+levels-permitted e t? Ds q = all-widen (all-nodes t? level-leaf) (λ D. permitted (at e D)) (λ D g. level-permitted (at e D) (at-good e t? level-leaf D g)) Ds q
 
 -- ---- substitution
 
 module _ (e : Env) where
-  pub zero-at : worth-at e zero-leaf ≡ pos 0
-  unfolding worth-at at zero-leaf no-coeffs zeros
-  zero-at = value-constant e _ tt ∙ zero-*ℤ (pos (e .den))
+  sum-on-at : (F : Tree) (cs : List ℤ) (Ds : List Tree) → Permitted e Ds → worth-at e (result (sum-on F cs Ds)) ≡ worth-at e F ⊕ num (dot cs (map (level-at e) Ds))
+  unfolding sum-on dot result all
+  sum-on-at F [] Ds ok = sym (⊕-zero _)
+  sum-on-at F (c ∷ cs) [] ok = sym (⊕-zero _)
+  sum-on-at F (c ∷ cs) (D ∷ Ds) ok =
+      let d = both (permitted (at e D)) (all (λ D. permitted (at e D)) Ds) ok in
+      ap (worth-at e) (result-bind (scale c D) _ ∙ result-bind (sum F _) _) ∙ sum-on-at _ cs Ds (d .1)
+      ∙ ap (λ z. z ⊕ num (dot cs (map (level-at e) Ds))) (sum-at e F _ ∙ ap (λ z. worth-at e F ⊕ z) (scale-level e c D (d .0)))
+      ∙ ⊕-assoc (worth-at e F) (num (c *ℤ level-at e D)) (num (dot cs (map (level-at e) Ds)))
+      ∙ ap (λ z. worth-at e F ⊕ z) (num-⊕ (c *ℤ level-at e D) (dot cs (map (level-at e) Ds)))
 
-  sum-on-at : (F : Tree) (cs : List ℤ) (Ds : List Tree) → worth-at e (result (sum-on F cs Ds)) ≡ worth-at e F +ℤ dot cs (map (worth-at e) Ds)
-  unfolding sum-on dot result
-  sum-on-at F [] Ds = sym (+ℤ-idr _)
-  sum-on-at F (c ∷ cs) [] = sym (+ℤ-idr _)
-  sum-on-at F (c ∷ cs) (D ∷ Ds) =
-      ap (worth-at e) (result-bind (scale c D) _ ∙ result-bind (sum F _) _) ∙ sum-on-at _ cs Ds
-      ∙ ap (λ z. z +ℤ dot cs (map (worth-at e) Ds)) (sum-at e F _ ∙ ap (λ z. worth-at e F +ℤ z) (scale-at e c D))
-      ∙ +ℤ-assoc (worth-at e F) (c *ℤ worth-at e D) (dot cs (map (worth-at e) Ds))
+  levels-at : (cs : List ℤ) (Ds : List Tree) → Permitted e Ds → worth-at e (result (levels-sum cs Ds)) ≡ num (dot cs (map (level-at e) Ds))
+  unfolding levels-sum dot result make all
+  levels-at [] Ds ok = zero-at e
+  levels-at (c ∷ cs) [] ok = zero-at e
+  levels-at (c ∷ cs) (D ∷ Ds) ok =
+      let d = both (permitted (at e D)) (all (λ D. permitted (at e D)) Ds) ok in
+      ap (worth-at e) (result-bind (scale c D) _) ∙ sum-on-at _ cs Ds (d .1) ∙ ap (λ z. z ⊕ num (dot cs (map (level-at e) Ds))) (scale-level e c D (d .0))
+      ∙ num-⊕ (c *ℤ level-at e D) (dot cs (map (level-at e) Ds))
 
-  levels-at : (cs : List ℤ) (Ds : List Tree) → worth-at e (result (levels-sum cs Ds)) ≡ dot cs (map (worth-at e) Ds)
-  unfolding levels-sum dot result make
-  levels-at [] Ds = zero-at
-  levels-at (c ∷ cs) [] = zero-at
-  levels-at (c ∷ cs) (D ∷ Ds) = ap (worth-at e) (result-bind (scale c D) _) ∙ sum-on-at _ cs Ds ∙ ap (λ z. z +ℤ dot cs (map (worth-at e) Ds)) (scale-at e c D)
-
-module _ (s : State) (r : List Bool) (Ds : List Tree) where
+module _ (s : State) (r : List Bool) (Ds : List Tree) (ok : Permitted (env s r) Ds) where
   -- the next state, with the next conditions at hand as those after it too
   abbrev next : Env
   next = env (moved s Ds r) r
 
-  linear-at : (p : Linear) → worth-at (env s r) (result (linear-diagram Ds p)) ≡ value next p
+  linear-at : (p : Linear) → worth-at (env s r) (result (linear-diagram Ds p)) ≡ num (value next p)
   unfolding linear-diagram value env moved
   linear-at p = ap (worth-at (env s r)) (result-bind (levels-sum (p .coeffs) Ds) (shift (p .const)))
-      ∙ shift-at (env s r) (p .const) _ ∙ ap (λ z. z +ℤ (p .const) *ℤ pos (s .den)) (levels-at (env s r) (p .coeffs) Ds)
+      ∙ shift-at (env s r) (p .const) _ ∙ ap (λ z. num (z +ℤ (p .const) *ℤ pos (s .den))) (number-level (env s r) _ _ (levels-at (env s r) (p .coeffs) Ds ok))
 
   -- a branch on tests that come to the same
-  branch-at : (b c : Bool) (f g : Leaf) (h l : Tree) → b ≡ c → value (env s r) (f .lin) ≡ worth-at next h → value (env s r) (g .lin) ≡ worth-at next l
-      → value (env s r) ((if b f g) .lin) ≡ value next ((if c (at next h) (at next l)) .lin)
+  branch-at : (b c : Bool) (f g : Leaf) (h l : Tree) → b ≡ c → leaf-worth (env s r) f ≡ worth-at next h → leaf-worth (env s r) g ≡ worth-at next l
+      → leaf-worth (env s r) (if b f g) ≡ leaf-worth next (if c (at next h) (at next l))
   unfolding worth-at
-  branch-at b c f g h l q x y = rw q (by-test c (λ c. value (env s r) ((if c f g) .lin) ≡ value next ((if c (at next h) (at next l)) .lin)) (λ _. x) (λ _. y))
+  branch-at b c f g h l q x y = rw q (by-test c (λ c. leaf-worth (env s r) (if c f g) ≡ leaf-worth next (if c (at next h) (at next l))) (λ _. x) (λ _. y))
 
   -- what is substituted comes to what the diagram does at the next state
   pub substitute-next : (F : Tree) → worth-at (env s r) (result (substitute Ds F)) ≡ worth-at next F
-  unfolding substitute at holds worth-at env moved
-  substitute-next (leaf f) = linear-at (f .lin)
-  substitute-next (branch (now k) h l) = ap (λ (f : Leaf). value (env s r) (f .lin)) (both-at (env s r) choose (choose-at (env s r)) (later k) _ _)
+  unfolding substitute at holds worth-at leaf-worth level-at env moved make result
+  substitute-next (leaf (some p a)) = linear-at p
+  substitute-next (leaf forbidden) = refl
+  substitute-next (branch (now k) h l) = ap (leaf-worth (env s r)) (both-at (env s r) choose (choose-at (env s r)) (later k) _ _)
       ∙ branch-at (nth r k) (nth r k) _ _ h l refl (substitute-next h) (substitute-next l)
-  substitute-next (branch (later k) h l) = ap (λ (f : Leaf). value (env s r) (f .lin)) (both-at (env s r) choose (choose-at (env s r)) (later k) _ _)
+  substitute-next (branch (later k) h l) = ap (leaf-worth (env s r)) (both-at (env s r) choose (choose-at (env s r)) (later k) _ _)
       ∙ branch-at (nth r k) (nth r k) _ _ h l refl (substitute-next h) (substitute-next l)
   substitute-next (branch (linear p) h l) =
       ap (worth-at (env s r)) (result-bind (linear-diagram Ds p) _ ∙ result-bind (substitute Ds h) _ ∙ result-bind (substitute Ds l) _)
-      ∙ ap (λ (f : Leaf). value (env s r) (f .lin)) (over-at (env s r) choose (choose-at (env s r)) _
-      (λ f. if (leZ (value (env s r) (f .lin)) (pos 0)) (at (env s r) (result (substitute Ds h))) (at (env s r) (result (substitute Ds l))))
-      (λ f. decide-at (env s r) (f .lin) _ _) (result (linear-diagram Ds p)))
-      ∙ branch-at _ _ _ _ h l (ap (λ z. leZ z (pos 0)) (linear-at p)) (substitute-next h) (substitute-next l)
+      ∙ ap (leaf-worth (env s r)) (over-at (env s r) choose (choose-at (env s r)) _
+      (λ f. if (leZ (value (env s r) (lin-of f)) (pos 0)) (at (env s r) (result (substitute Ds h))) (at (env s r) (result (substitute Ds l))))
+      (λ f. decide-at (env s r) (lin-of f) _ _) (result (linear-diagram Ds p)))
+      ∙ branch-at (leZ (level-at (env s r) (result (linear-diagram Ds p))) (pos 0)) (leZ (value next p) (pos 0)) _ _ h l (ap (λ z. leZ z (pos 0)) (number-level (env s r) (result (linear-diagram Ds p)) (value next p) (linear-at p))) (substitute-next h) (substitute-next l)
 
 -- ---- which tests stand in a stage
 
@@ -92,6 +113,12 @@ now-test n (linear p) = true
 
 abbrev pub with-later : Env → (ℕ → Bool) → Env
 with-later e f = record { is-now = e .is-now; is-later = f; nums = e .nums; den = e .den; D>0 = e .D>0 }
+
+-- no leaf asks for them
+later-worth : (e : Env) (g : ℕ → Bool) (f : Leaf) → leaf-worth e f ≡ leaf-worth (with-later e g) f
+unfolding leaf-worth value
+later-worth e g (some p a) = refl
+later-worth e g forbidden = refl
 
 -- condition k is b
 unfoldable pub given : ℕ → Bool → (ℕ → Bool) → ℕ → Bool
@@ -127,8 +154,8 @@ module _ (e : Env) (b : Bool) (k : ℕ) where
       (λ q. both-at e node (node-at e) t _ _ ∙ rw (other-fixed t q) (ap₂ (if (holds fixed t)) (side-leaf h) (side-leaf l)))
 
   pub side-at : (F : Tree) → worth-at e (result (side b k F)) ≡ worth-at fixed F
-  unfolding worth-at value
-  side-at F = ap (λ (f : Leaf). value e (f .lin)) (side-leaf F)
+  unfolding worth-at
+  side-at F = ap (leaf-worth e) (side-leaf F) ∙ later-worth e (given k b (e .is-later)) (at fixed F)
 
 -- a diagram without next-step conditions does not ask for them
 pub free-at : (n : ℕ) (e : Env) (g : ℕ → Bool) (F : Tree) → Tests (now-test n) F → at e F ≡ at (with-later e g) F
@@ -142,20 +169,13 @@ free-at n e g (branch (linear p) h l) q =
     let d = parts (now-test n) (λ _. true) (linear p) h l q in
     ap₂ (if (leZ (value e p) (pos 0))) (free-at n e g h (d .1 .0)) (free-at n e g l (d .1 .1))
 
-pub substitute-at : (n : ℕ) (s : State) (r : List Bool) (Ds : List Tree) (F : Tree) → Tests (now-test n) F
+pub substitute-at : (n : ℕ) (s : State) (r : List Bool) (Ds : List Tree) → Permitted (env s r) Ds → (F : Tree) → Tests (now-test n) F
     → worth-at (env s r) (result (substitute Ds F)) ≡ worth-at (env (moved s Ds r) []) F
-unfolding env worth-at value
-substitute-at n s r Ds F q = substitute-next s r Ds F ∙ ap (λ (f : Leaf). value (env (moved s Ds r) r) (f .lin)) (free-at n (env (moved s Ds r) r) (nth []) F q)
+unfolding env worth-at
+substitute-at n s r Ds ok F q = substitute-next s r Ds ok F ∙ ap (leaf-worth (env (moved s Ds r) r)) (free-at n (env (moved s Ds r) r) (nth []) F q)
+    ∙ later-worth (env (moved s Ds r) r) (nth []) _
 
 -- ---- chances
-
--- the leaf that a good diagram comes to is good
-pub at-good : (e : Env) (t? : Test → Bool) (f? : Leaf → Bool) (F : Tree) → T (all-nodes t? f? F) → T (f? (at e F))
-unfolding all-nodes at
-at-good e t? f? (leaf f) q = q
-at-good e t? f? (branch t h l) q =
-    let d = parts t? f? t h l q in
-    by-test (holds e t) (λ b. T (f? (if b (at e h) (at e l)))) (λ _. at-good e t? f? h (d .1 .0)) (λ _. at-good e t? f? l (d .1 .1))
 
 pos-up : (c : ℤ) → pos 0 ≤ℤ c → c ≡ pos (up c)
 pos-up (pos n) h = refl
@@ -176,40 +196,45 @@ good-now n (later k) q = absurd q
 good-now n (linear p) q = tt
 
 module _ (n W : ℕ) (w : Tree) (ok : Chance n W w) where
-  in-range : (e : Env) → (pos 0 ≤ℤ (at e w .lin .const)) × ((at e w .lin .const) ≤ℤ pos W)
+  in-range : (e : Env) → (pos 0 ≤ℤ (lin-of (at e w) .const)) × ((lin-of (at e w) .const) ≤ℤ pos W)
   unfolding weight-leaf
   in-range e =
       let f = at e w in
-      let d = both (good-leaf f) (zeros (f .lin .coeffs) && (leZ (pos 0) (f .lin .const) && leZ (f .lin .const) (pos W))) (at-good e (good-test n false) (weight-leaf W) w ok) .1 in
-      let c = both (leZ (pos 0) (f .lin .const)) (leZ (f .lin .const) (pos W)) (both (zeros (f .lin .coeffs)) _ d .1) in
+      let d = both (level-leaf f) (zeros (lin-of f .coeffs) && (leZ (pos 0) (lin-of f .const) && leZ (lin-of f .const) (pos W))) (at-good e (good-test n false) (weight-leaf W) w ok) .1 in
+      let c = both (leZ (pos 0) (lin-of f .const)) (leZ (lin-of f .const) (pos W)) (both (zeros (lin-of f .coeffs)) _ d .1) in
       (leZ-yes (c .0), leZ-yes (c .1))
 
   chance-free : (e : Env) (g : ℕ → Bool) → chance-at (with-later e g) w ≡ chance-at e w
   unfolding chance-at
-  chance-free e g = ap (λ (f : Leaf). up (f .lin .const)) (sym (free-at n e g w (widen (good-test n false) (now-test n) (weight-leaf W) any (good-now n) (λ _ _. tt) w ok)))
+  chance-free e g = ap (λ (f : Leaf). up (lin-of f .const)) (sym (free-at n e g w (widen (good-test n false) (now-test n) (weight-leaf W) any (good-now n) (λ _ _. tt) w ok)))
 
   pub expectation-at : (e : Env) (k : ℕ) (F : Tree)
-      → worth-at e (result (expectation W w k F)) ≡ pos (chance-at e w) *ℤ worth-at (fixed e true k) F +ℤ pos (W - chance-at e w) *ℤ worth-at (fixed e false k) F
+      → worth-at e (result (expectation W w k F)) ≡ weigh (chance-at e w) (worth-at (fixed e true k) F) ⊕ weigh (W - chance-at e w) (worth-at (fixed e false k) F)
   unfolding expectation chance-at
   expectation-at e k F =
       ap (worth-at e) (result-bind (side true k F) _ ∙ result-bind (product w _) _ ∙ result-bind (complement W w) _ ∙ result-bind (side false k F) _ ∙ result-bind (product _ _) _)
-      ∙ sum-at e _ _ ∙ ap₂ _+ℤ_
-      (product-at e w _ ∙ ap₂ _*ℤ_ (pos-up _ (in-range e .0)) (side-at e true k F))
-      (product-at e _ _ ∙ ap₂ _*ℤ_ (complement-at e W w ∙ pos-rest W _ (in-range e .0) (in-range e .1)) (side-at e false k F))
+      ∙ sum-at e _ _ ∙ ap₂ _⊕_
+      (product-at e _ w _ (pos-up _ (in-range e .0)) ∙ ap (weigh _) (side-at e true k F))
+      (product-at e _ _ _ (complement-at e W w ∙ pos-rest W _ (in-range e .0) (in-range e .1)) ∙ ap (weigh _) (side-at e false k F))
 
 -- ---- all conditions summed out
 
-double-step : (a b v : ℕ) (x y m z : ℤ) → z ≡ m → pos (b * v) *ℤ y +ℤ (pos (a * v) *ℤ x +ℤ z) ≡ pos v *ℤ (pos a *ℤ x +ℤ pos b *ℤ y) +ℤ m
-double-step a b v x y m z h = rw (h, ← atom x, ← atom y, ← atom m) (simp diff (omega arith))
+turned : (x y z : Total) → y ⊕ (x ⊕ z) ≡ x ⊕ y ⊕ z
+turned x y z = simp sums
 
-mean-doubled : (W w : ℕ) (ws : List ℕ) (f : List Bool → ℤ) (l : List (List Bool))
-    → mean (weight W (w ∷ ws)) f (doubled l) ≡ mean (weight W ws) (λ r. pos w *ℤ f (true ∷ r) +ℤ pos (W - w) *ℤ f (false ∷ r)) l
+double-step : (a b v : ℕ) (x y m z : Total) → z ≡ m → weigh (b * v) y ⊕ (weigh (a * v) x ⊕ z) ≡ weigh v (weigh a x ⊕ weigh b y) ⊕ m
+double-step a b v x y m z h =
+    ap₂ _⊕_ (weigh-times b v y ∙ weigh-swap b v y) (ap₂ _⊕_ (weigh-times a v x ∙ weigh-swap a v x) h) ∙ turned _ _ m ∙ ap (λ t. t ⊕ m) (sym (weigh-⊕ v (weigh a x) (weigh b y)))
+
+-- the mean over settings, the first condition apart
+pub mean-doubled : (W w : ℕ) (ws : List ℕ) (f : List Bool → Total) (l : List (List Bool))
+    → mean (weight W (w ∷ ws)) f (doubled l) ≡ mean (weight W ws) (λ r. weigh w (f (true ∷ r)) ⊕ weigh (W - w) (f (false ∷ r))) l
 unfolding mean doubled weight
 mean-doubled W w ws f [] = refl
 mean-doubled W w ws f (r ∷ l) = double-step w (W - w) (weight W ws r) (f (true ∷ r)) (f (false ∷ r)) _ _ (mean-doubled W w ws f l)
 
-one-term : (x : ℤ) → x ≡ pos 1 *ℤ x +ℤ pos 0
-one-term x = rw (← atom x) (simp diff (omega arith))
+one-term : (x : Total) → x ≡ weigh 1 x ⊕ num (pos 0)
+one-term x = sym (⊕-zero _ ∙ weigh-one x)
 
 module _ (n W : ℕ) where
   abbrev pub Chances : List Tree → Type 0
@@ -224,13 +249,13 @@ module _ (n W : ℕ) where
   sum-out-at h kept k (w ∷ ws) F q e =
       let d = both (all-nodes (good-test n false) (weight-leaf W) w) (all (all-nodes (good-test n false) (weight-leaf W)) ws) q in
       sum-out-at h kept (suc k) ws (result (expectation W w k F)) (d .1) e
-      ∙ ap (λ (f : List Bool → ℤ). mean (weight W (map (chance-at e) ws)) f (settings (length ws))) (fun-ext (λ r. one (d .0) (given-all (suc k) r (e .is-later))))
+      ∙ ap (λ (f : List Bool → Total). mean (weight W (map (chance-at e) ws)) f (settings (length ws))) (fun-ext (λ r. one (d .0) (given-all (suc k) r (e .is-later))))
       ∙ sym (mean-doubled W (chance-at e w) (map (chance-at e) ws) (λ r. worth-at (with-later e (given-all k r (e .is-later))) F) (settings (length ws)))
     where
       one : Chance n W w → (g : ℕ → Bool) → worth-at (with-later e g) (result (expectation W w k F))
-          ≡ pos (chance-at e w) *ℤ worth-at (with-later e (given k true g)) F +ℤ pos (W - chance-at e w) *ℤ worth-at (with-later e (given k false g)) F
+          ≡ weigh (chance-at e w) (worth-at (with-later e (given k true g)) F) ⊕ weigh (W - chance-at e w) (worth-at (with-later e (given k false g)) F)
       one ok g = expectation-at n W w ok (with-later e g) k F
-          ∙ ap (λ (c : ℕ). pos c *ℤ worth-at (with-later e (given k true g)) F +ℤ pos (W - c) *ℤ worth-at (with-later e (given k false g)) F) (chance-free n W w ok e g)
+          ∙ ap (λ (c : ℕ). weigh c (worth-at (with-later e (given k true g)) F) ⊕ weigh (W - c) (worth-at (with-later e (given k false g)) F)) (chance-free n W w ok e g)
 
   pub sum-out-tests : (h : ℕ) (kept : List Tree) (k : ℕ) (ws : List Tree) (F : Tree) → k + length ws ≡ suc n → Chances ws → Tests (open-test any n k) F
       → Tests (now-test n) (final (sum-out W h kept k ws F))

@@ -1,5 +1,6 @@
 -- 13 and 14 by computed tests, and as 01 lists them.
 use mathlib.Core.Path.{_≡_, refl, sym, ap, _∙_, subst}
+use mathlib.Core.Logic.{_⊎_, inl, inr, ⊎-elim}
 use mathlib.Core.Bool.{false, not, _&&_}
 use mathlib.Core.List.{List, [], _∷_}
 use Prim.Native.Nat.{ℕ, zero, suc, _+_, _-_, _*_, _^_, _≤_, _<_}
@@ -14,9 +15,9 @@ use Rattle.whole.specs.Within.{small}
 use Rattle.theory.specs.Widths.{levels-most, node-words}
 use Rattle.theory.specs.Diagram.{cmpZ, zeros}
 use Rattle.theory.specs.Valid.{all, small-linear}
-use Rattle.theory.specs.Value.{Asked, accepted, node-word, node-linear, high-of, low-of, amongZ, good-branches, good-leaf-row, good-condition-row, good-test-row, good-row}
+use Rattle.theory.specs.Value.{Asked, accepted, node-word, node-linear, high-of, low-of, amongZ, good-branches, good-leaf-row, good-condition-row, good-test-row, good-none-row, good-row, ends}
 use Rattle.theory.specs.Staying.{In62}
-use Rattle.theory.specs.Rows.{Among, StateFits, NumbersFit, BranchesFit, KindFits, fits-leaf, fits-condition, fits-test, NodeFits}
+use Rattle.theory.specs.Rows.{Among, StateFits, NumbersFit, BranchesFit, KindFits, fits-leaf, fits-condition, fits-test, fits-none, NodeFits}
 use Rattle.theory.specs.laws.Comps.{cmpZ-eq}
 use Rattle.theory.specs.laws.Staying.{in-62, back-62}
 use Rattle.theory.specs.laws.Words.{by-kind}
@@ -55,7 +56,7 @@ beyond-part (suc k) (z ∷ l) zero h = absurd (omega arith)
 beyond-part (suc k) (z ∷ l) (suc i) h = beyond-part k l i (omega arith)
 
 -- what holds of 0 and of k words from one on holds of each of their list
-part-each : (P : ℤ → Type 0) → P (pos 0) → (k j : ℕ) (W : List ℤ) → ((i : ℕ) → i < k → P (getD W (j + i) (pos 0))) → (i : ℕ) → P (getD (take k (drop j W)) i (pos 0))
+pub part-each : (P : ℤ → Type 0) → P (pos 0) → (k j : ℕ) (W : List ℤ) → ((i : ℕ) → i < k → P (getD W (j + i) (pos 0))) → (i : ℕ) → P (getD (take k (drop j W)) i (pos 0))
 part-each P z k j W f i = by-test (ltb i k) (λ _. P (getD (take k (drop j W)) i (pos 0)))
     (λ t. let h = ltb→lt i k t in subst P (sym (part-word k j W i h)) (f i h))
     (λ t. subst P (sym (beyond-part k (drop j W) i (nltb→le i k t))) z)
@@ -157,18 +158,29 @@ module _ (n A : ℕ) (W : List ℤ) (r : ℕ) where
   unfolding good-test-row
   test-in e t = let d = both (small-linear (node-linear W r)) (good-branches W r) t in fits-test e (numbers-in (d .0)) (branches-in (d .1))
 
+  abbrev words-behind : List ℤ
+  words-behind = take (node-words - 1) (drop ((r - 1) * node-words + 1) W)
+
+  none-in : node-word W r 0 ≡ pos 3 → T (good-none-row W r) → KindFits n A W r
+  unfolding good-none-row
+  none-in e t =
+      let b = (r - 1) * node-words in
+      fits-none e (λ i h. ap (λ (j : ℕ). getD W j (pos 0)) (sym (word-on b i (h .0))) ∙ (sym (part-word (node-words - 1) (b + 1) W (i - 1) (omega (arith, h .0, h .1))) ∙ zeros-each words-behind t (i - 1)))
+
   kind-in : (z : ℤ) → node-word W r 0 ≡ z → T (by-kind n A W r z) → KindFits n A W r
-  kind-in (pos k) e t = by-test (eqb k 0) (λ b. T (if b (good-leaf-row A W r) (if (eqb k 1) (good-condition-row n W r) (if (eqb k 2) (good-test-row W r) false))) → KindFits n A W r)
+  kind-in (pos k) e t = by-test (eqb k 0) (λ b. T (if b (good-leaf-row A W r) (if (eqb k 1) (good-condition-row n W r) (if (eqb k 2) (good-test-row W r) (if (eqb k 3) (good-none-row W r) false)))) → KindFits n A W r)
       (λ h. leaf-in (e ∙ ap pos (eqb→eq k 0 h)))
-      (λ _. by-test (eqb k 1) (λ b. T (if b (good-condition-row n W r) (if (eqb k 2) (good-test-row W r) false)) → KindFits n A W r)
+      (λ _. by-test (eqb k 1) (λ b. T (if b (good-condition-row n W r) (if (eqb k 2) (good-test-row W r) (if (eqb k 3) (good-none-row W r) false))) → KindFits n A W r)
       (λ h. condition-in (e ∙ ap pos (eqb→eq k 1 h)))
-      (λ _. by-test (eqb k 2) (λ b. T (if b (good-test-row W r) false) → KindFits n A W r)
-      (λ h. test-in (e ∙ ap pos (eqb→eq k 2 h))) (λ _ t. absurd t)))
+      (λ _. by-test (eqb k 2) (λ b. T (if b (good-test-row W r) (if (eqb k 3) (good-none-row W r) false)) → KindFits n A W r)
+      (λ h. test-in (e ∙ ap pos (eqb→eq k 2 h)))
+      (λ _. by-test (eqb k 3) (λ b. T (if b (good-none-row W r) false) → KindFits n A W r)
+      (λ h. none-in (e ∙ ap pos (eqb→eq k 3 h))) (λ _ t. absurd t))))
       t
   kind-in (negsuc k) e t = absurd t
 
   kind-back : KindFits n A W r → T (by-kind n A W r (node-word W r 0))
-  unfolding good-leaf-row good-condition-row good-test-row
+  unfolding good-leaf-row good-condition-row good-test-row good-none-row
   kind-back (fits-leaf e f a z) = subst (λ (y : ℤ). T (by-kind n A W r y)) (sym e)
       (and-in (small-linear (node-linear W r)) (amongZ A (high-of W r) && zeros (low-of W r ∷ [])) (numbers-back f)
       (and-in (amongZ A (high-of W r)) (zeros (low-of W r ∷ [])) (among-back _ _ a) (each-zeros (low-of W r ∷ []) (one (low-of W r) z))))
@@ -185,6 +197,11 @@ module _ (n A : ℕ) (W : List ℤ) (r : ℕ) where
       after-two : (b i : ℕ) → b + 2 + i ≡ b + suc (suc i)
       after-two b i = omega arith
   kind-back (fits-test e f b) = subst (λ (y : ℤ). T (by-kind n A W r y)) (sym e) (and-in (small-linear (node-linear W r)) (good-branches W r) (numbers-back f) (branches-back b))
+  kind-back (fits-none e f) = subst (λ (y : ℤ). T (by-kind n A W r y)) (sym e)
+      (each-zeros words-behind (part-each (λ z. z ≡ pos 0) refl (node-words - 1) ((r - 1) * node-words + 1) W (λ i h. ap (λ (j : ℕ). getD W j (pos 0)) (after-one ((r - 1) * node-words) i) ∙ f (suc i) (omega arith, omega arith))))
+    where
+      after-one : (b i : ℕ) → b + 1 + i ≡ b + suc i
+      after-one b i = omega arith
 
   pub node-fits : T (good-row n A W r) → NodeFits n A W r
   unfolding good-row
@@ -202,13 +219,53 @@ module _ (n A : ℕ) (W : List ℤ) (r : ℕ) where
   pub misfits-bad : (NodeFits n A W r → ⊥) → T (not (good-row n A W r))
   misfits-bad f = by-test (good-row n A W r) (λ b. T (not b)) (λ t. absurd (f (node-fits t))) (λ _. tt)
 
--- a kind that is 0, or is not
-pub kind-zero : (z : ℤ) → T (eqb (natAbs z) 0) → z ≡ pos 0
-kind-zero (pos k) t = ap pos (eqb→eq k 0 t)
-kind-zero (negsuc k) t = absurd (let z = eqb→eq (suc k) 0 t in omega arith)
+-- the kind of a leaf, 0 or 3, of a node that fits
+pub zero-ends : (z : ℤ) → z ≡ pos 0 → T (ends (natAbs z))
+unfolding ends
+zero-ends z e = rw e tt
 
-pub zero-kind : (z : ℤ) → z ≡ pos 0 → T (eqb (natAbs z) 0)
-zero-kind z e = rw e tt
+pub three-ends : (z : ℤ) → z ≡ pos 3 → T (ends (natAbs z))
+unfolding ends
+three-ends z e = rw e tt
 
-pub kind-other : (z : ℤ) → (z ≡ pos 0 → ⊥) → T (not (eqb (natAbs z) 0))
-kind-other z f = by-test (eqb (natAbs z) 0) (λ b. T (not b)) (λ t. absurd (f (kind-zero z t))) (λ _. tt)
+pub ends-kind : (n A : ℕ) (W : List ℤ) (r : ℕ) → NodeFits n A W r → T (ends (natAbs (node-word W r 0))) → (node-word W r 0 ≡ pos 0) ⊎ (node-word W r 0 ≡ pos 3)
+unfolding ends
+ends-kind n A W r f = go (node-word W r 0) refl (f .kind)
+  where
+    go : (z : ℤ) → node-word W r 0 ≡ z → KindFits n A W r → T (ends (natAbs z)) → (node-word W r 0 ≡ pos 0) ⊎ (node-word W r 0 ≡ pos 3)
+    go z e (fits-leaf k _ _ _) t = inl k
+    go z e (fits-none k _) t = inr k
+    go z e (fits-condition k _ _ _) t = absurd (subst (λ (y : ℤ). T (ends (natAbs y))) (sym e ∙ k) t)
+    go z e (fits-test k _ _) t = absurd (subst (λ (y : ℤ). T (ends (natAbs y))) (sym e ∙ k) t)
+
+pub kind-other : (n A : ℕ) (W : List ℤ) (r : ℕ) → NodeFits n A W r → (node-word W r 0 ≡ pos 0 → ⊥) → (node-word W r 0 ≡ pos 3 → ⊥) → T (not (ends (natAbs (node-word W r 0))))
+kind-other n A W r f a b = by-test (ends (natAbs (node-word W r 0))) (λ c. T (not c)) (λ t. absurd (⊎-elim a b (ends-kind n A W r f t))) (λ _. tt)
+
+-- ---- a leaf's row, of either kind
+
+among-most : (n : ℕ) (z : ℤ) → Among n z → natAbs z ≤ n
+among-most n (pos k) d = leb→le k n (d .1 .le)
+among-most n (negsuc k) d = absurd (d .0 .le)
+
+module _ (n A : ℕ) (W : List ℤ) (r : ℕ) where
+  -- its numbers lie within the limits
+  pub leaf-small : NodeFits n A W r → T (ends (natAbs (node-word W r 0))) → T (small-linear (node-linear W r))
+  unfolding ends
+  leaf-small f t = go (f .kind)
+    where
+      go : KindFits n A W r → T (small-linear (node-linear W r))
+      go (fits-leaf _ g _ _) = numbers-back n A W r g
+      go (fits-none _ g) = numbers-back n A W r (λ i h. subst In62 (sym (g i (h .0, omega (arith, h .1)))) (omega arith))
+      go (fits-condition k _ _ _) = absurd (subst (λ (y : ℤ). T (ends (natAbs y))) k t)
+      go (fits-test k _ _) = absurd (subst (λ (y : ℤ). T (ends (natAbs y))) k t)
+
+  -- its action is one of the model's, or 0
+  pub leaf-most : NodeFits n A W r → T (ends (natAbs (node-word W r 0))) → natAbs (high-of W r) ≤ A
+  unfolding ends
+  leaf-most f t = go (f .kind)
+    where
+      go : KindFits n A W r → natAbs (high-of W r) ≤ A
+      go (fits-leaf _ _ a _) = among-most A (high-of W r) a
+      go (fits-none _ g) = omega (arith, ap natAbs (g 10 (omega arith, omega arith)))
+      go (fits-condition k _ _ _) = absurd (subst (λ (y : ℤ). T (ends (natAbs y))) k t)
+      go (fits-test k _ _) = absurd (subst (λ (y : ℤ). T (ends (natAbs y))) k t)

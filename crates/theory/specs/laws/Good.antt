@@ -7,24 +7,24 @@ use native.Mathlib.Omega.{arith}
 use lib.Dec.{T}
 use lib.ListN.{length}
 use Rattle.whole.specs.Cases.{both, and-in}
-use Rattle.theory.specs.Diagram.{Test, now, later, Leaf, Tree, divisor, test-of}
+use Rattle.theory.specs.Diagram.{Linear, Test, now, later, Leaf, some, forbidden, lin-of, Tree, divisor, test-of}
 use Rattle.theory.specs.Computation.{make, end, solved, run-all}
 use Rattle.theory.specs.Rules.{best, zero-leaf, substitute, expectation}
 use Rattle.theory.specs.Meaning.{Action, Model, power}
 use Rattle.theory.specs.Stage.{model-diagrams, sum-out, action-total, best-on, stage-over, stages-on, stages-over-end, all-stages}
-use Rattle.theory.specs.Valid.{all, all-nodes, among, wide, good-test, good-leaf, stage-leaf, weight-leaf, valid-action, valid}
+use Rattle.theory.specs.Valid.{all, all-nodes, among, wide, good-test, good-leaf, level-leaf, stage-leaf, weight-leaf, valid-action, valid}
 use Rattle.theory.specs.laws.Safe.{SafeOps, safe-make, safe-end, safe-operation, safe-then, run-all-safe}
 use Rattle.theory.specs.laws.Nodes.{Good, widen, all-widen, expectation-safe, zero-good, best-safe, substitute-safe, reward-safe}
-use Rattle.theory.specs.laws.Valid.{among-in, wide-long, leaf-wide, weight-good, stage-wide, wide-leaf, quotient-wide, good-closed, open-test, open-all, open-now, open-next, open-none, accepted, valid-actions, valid-end}
+use Rattle.theory.specs.laws.Valid.{among-in, wide-long, leaf-wide, level-good, weight-good, stage-wide, wide-leaf, quotient-wide, good-closed, open-test, open-all, open-now, open-next, open-none, accepted, valid-actions, valid-end}
 
 -- ---- stages
 
 chance-left : (n W k : ℕ) (w : Tree) → Good (good-test n false) (weight-leaf W) w → Good (open-test wide n k) good-leaf w
 chance-left n W k = widen (good-test n false) (open-test wide n k) (weight-leaf W) good-leaf (open-now wide n (λ _ t. t) k) (weight-good W)
 
-levels-left : (n : ℕ) (Ds : List Tree) → T (all (all-nodes (good-test n true) good-leaf) Ds) → T (all (all-nodes (open-test wide n 1) good-leaf) Ds)
-levels-left n = all-widen (all-nodes (good-test n true) good-leaf) (all-nodes (open-test wide n 1) good-leaf)
-    (widen (good-test n true) (open-test wide n 1) good-leaf good-leaf (open-all wide n (λ _ t. t)) (λ _ t. t))
+levels-left : (n : ℕ) (Ds : List Tree) → T (all (all-nodes (good-test n true) level-leaf) Ds) → T (all (all-nodes (open-test wide n 1) good-leaf) Ds)
+levels-left n = all-widen (all-nodes (good-test n true) level-leaf) (all-nodes (open-test wide n 1) good-leaf)
+    (widen (good-test n true) (open-test wide n 1) level-leaf good-leaf (open-all wide n (λ _ t. t)) level-good)
 
 closed : (n k : ℕ) → k ≡ suc n → (t : Test) → T (open-test wide n k t) → T (good-test n false t)
 unfolding good-test
@@ -52,17 +52,21 @@ none-later n k t = absurd t
 
 -- a divided test of a good leaf's linear
 module _ (n : ℕ) where
-  open-linear : (k : ℕ) (f : Leaf) → T (good-leaf f) → T (open-test wide n k (test-of (f .lin)))
+  open-linear : (k : ℕ) (f : Leaf) → T (good-leaf f) → T (open-test wide n k (test-of (lin-of f)))
   unfolding open-test test-of
-  open-linear k f a = quotient-wide (divisor (f .lin)) (f .lin) (leaf-wide f a)
+  open-linear k f a = quotient-wide (divisor (lin-of f)) (lin-of f) (leaf-wide f a)
 
-  good-linear : (f : Leaf) → T (good-leaf f) → T (good-test n false (test-of (f .lin)))
+  good-linear : (f : Leaf) → T (good-leaf f) → T (good-test n false (test-of (lin-of f)))
   unfolding good-test test-of
-  good-linear f a = quotient-wide (divisor (f .lin)) (f .lin) (leaf-wide f a)
+  good-linear f a = quotient-wide (divisor (lin-of f)) (lin-of f) (leaf-wide f a)
 
-numbered : (A a : ℕ) → T (among A a) → (f : Leaf) → T (good-leaf f) → T (stage-leaf A (record { lin = f .lin; act = a }))
+numbered : (A a : ℕ) → T (among A a) → (p : Linear) (b : ℕ) → T (good-leaf (some p b)) → T (stage-leaf A (some p a))
+unfolding stage-leaf lin-of
+numbered A a i p b t = and-in (wide p) (among A a) (leaf-wide (some p b) t) i
+
+none-staged : (A : ℕ) → T (stage-leaf A forbidden)
 unfolding stage-leaf
-numbered A a i f t = and-in (wide (f .lin)) (among A a) (leaf-wide f t) i
+none-staged A = tt
 
 module _ (M : Model) where
   abbrev acts : ℕ
@@ -98,7 +102,7 @@ module _ (M : Model) where
         (substitute-safe good-closed (open-test wide n 1) (open-linear n 1) (x .levels) (levels-left n (x .levels) (f .levels)) (good-test n false) wide-leaf (good-open n) (λ k t. none-later n k t) P good)
         (λ F a₁. safe-then _ (sum-out (M .weights) h kept 1 (x .chances) F) _ (sum-out-safe n (M .weights) h kept 1 (x .chances) F (let c = f .count in omega arith) (f .chances) a₁)
         (λ G a₂. safe-operation _ h (G ∷ kept) _ end
-        (reward-safe good-closed (good-test n false) (stage-leaf acts) (power M h) (x .reward) a G (numbered acts a i) (f .reward) a₂) (safe-end _)))
+        (reward-safe good-closed (good-test n false) (stage-leaf acts) (power M h) (x .reward) a G (numbered acts a i) (none-staged acts) (f .reward) a₂) (safe-end _)))
 
     best-on-safe : (kept : List Tree) (a : ℕ) (l : List Action) (F : Tree) → 1 ≤ a → a + length l ≡ suc acts → T (all fits l) → StageGood F → SafeOps StageGood (best-on M h kept P a l F)
     unfolding best-on all
@@ -107,7 +111,7 @@ module _ (M : Model) where
         let d = both (fits x) (all fits l) v in
         safe-then _ (action-total M h (F ∷ kept) P a x) _ (total-safe (F ∷ kept) a x (among-in _ a i (omega arith)) (d .0))
         (λ G c. safe-operation _ h (G ∷ F ∷ kept) (best F G) (best-on M h kept P (suc a) l)
-        (best-safe good-closed now? (good-linear (M .conditions)) stage? (λ f t. wide-long (f .lin) (stage-wide acts f t)) F G b c)
+        (best-safe good-closed now? (good-linear (M .conditions)) stage? (λ f t. wide-long (lin-of f) (stage-wide acts f t)) F G b c)
         (λ S s. best-on-safe kept (suc a) l S (omega arith) (omega arith) (d .1) s))
 
     pub stage-safe : (kept : List Tree) → T (all fits (M .first ∷ M .others)) → SafeOps StageGood (stage-over M h kept P)
@@ -136,10 +140,13 @@ module _ (M : Model) where
       as-wide : (F : Tree) → Good now? good-leaf F → WideGood F
       as-wide = widen now? now? good-leaf wide-leaf (λ _ t. t) leaf-wide
 
-      over-end : (l : List Tree) → T (all (all-nodes now? good-leaf) l) → SafeOps (StagesGood H) (stages-over-end M H l)
+      as-good : (F : Tree) → Good now? level-leaf F → Good now? good-leaf F
+      as-good = widen now? now? level-leaf good-leaf (λ _ t. t) level-good
+
+      over-end : (l : List Tree) → T (all (all-nodes now? level-leaf) l) → SafeOps (StagesGood H) (stages-over-end M H l)
       over-end [] t = safe-operation _ 1 (model-diagrams M) (make zero-leaf) _ (safe-make zero-leaf (as-wide zero-leaf (zero-good good-closed now?)))
           (λ Z z. stages-safe (valid-actions M v) H 1 (Z ∷ []) Z z)
-      over-end (E ∷ l) t = stages-safe (valid-actions M v) H 1 _ E (as-wide E (both (all-nodes now? good-leaf E) _ t .0))
+      over-end (E ∷ l) t = stages-safe (valid-actions M v) H 1 _ E (as-wide E (as-good E (both (all-nodes now? level-leaf E) _ t .0)))
 
 -- the stages of a solved model: as many as steps, each node good, each leaf with an action of the model
 pub stages-good : (M : Model) → T (valid M) → (N p H : ℕ) (S : List Tree) (q : ℕ) → run-all N p (all-stages M H) ≡ solved S q

@@ -4,14 +4,14 @@ use mathlib.Core.Logic.{_⊎_, inl, inr, ⊎-elim}
 use mathlib.Core.Bool.{Bool, true, false, _&&_}
 use mathlib.Core.List.{List, [], _∷_, _++_}
 use Prim.Native.Nat.{ℕ, Ordering·lt, Ordering·eq, Ordering·gt}
-use lib.Dec.{T}
+use lib.Dec.{T, isEq}
 use lib.IntN.{ℤ, pos}
 use lib.Signed.{leZ}
 use Rattle.whole.specs.Cases.{if, by-test, by-order, both, and-in, is-true, from-true}
-use Rattle.theory.specs.Diagram.{Linear, Test, now, later, linear, Leaf, Tree, leaf, branch, plain, cmp, same, _⊟_, zeros, test-of}
+use Rattle.theory.specs.Diagram.{Linear, Test, now, later, linear, Leaf, some, forbidden, lin-of, Tree, leaf, branch, plain, cmp, cmpZ, same, _⊟_, zeros, test-of}
 use Rattle.theory.specs.Computation.{Comp, ret, named, bind, result, make, names, judge, member, enter, enter-all}
 use Rattle.theory.specs.Computation as C
-use Rattle.theory.specs.Rules.{parallel, narrowed, node, step, choose, over, merge, make-leaf, leaf-sum, leaf-product, leaf-scale, leaf-shift, leaf-complement, leaf-number, decide, leaf-best, sum, product, scale, shift, complement, number, best, zero-leaf, sum-on, levels-sum, linear-diagram, substitute, is-later, side, expectation, add-reward}
+use Rattle.theory.specs.Rules.{parallel, narrowed, node, step, choose, over, merge, make-leaf, leaf-sum, leaf-product, leaf-scale, leaf-shift, leaf-complement, leaf-number, decide, leaf-best, none-leaf, sum, product, scale, shift, complement, number, best, zero-leaf, sum-on, levels-sum, linear-diagram, substitute, is-later, side, expectation, add-reward}
 use Rattle.theory.specs.Events.{Event, makes, events, needed, inside, all-inside}
 use Rattle.theory.specs.Events as E
 use Rattle.theory.specs.laws.Comps.{result-bind, member-more, member-cases, member-last, with-made, with-made-more, with-made-in}
@@ -311,21 +311,39 @@ new-leaf : (X : List Tree) (p : Linear) → Built X (make-leaf p)
 unfolding make-leaf
 new-leaf X p = judge-built p (leaf-built X (plain p))
 
+pub zero-built : (X : List Tree) → Built X (make zero-leaf)
+unfolding zero-leaf
+zero-built X = leaf-built X _
+
+pub none-built : (X : List Tree) → Built X (make none-leaf)
+none-built X = leaf-built X forbidden
+
+leaf-sum-built : (X : List Tree) (f g : Leaf) → Built X (leaf-sum f g)
+unfolding leaf-sum
+leaf-sum-built X forbidden g = none-built X
+leaf-sum-built X (some p a) forbidden = none-built X
+leaf-sum-built X (some p a) (some q b) = new-leaf X _
+
+leaf-scale-built : (c : ℤ) (X : List Tree) (g : Leaf) → Built X (leaf-scale c g)
+unfolding leaf-scale
+leaf-scale-built c X (some q b) = new-leaf X _
+leaf-scale-built c X forbidden = by-test (isEq (cmpZ c (pos 0))) (λ z. Built X (make (if z zero-leaf none-leaf))) (λ _. zero-built X) (λ _. none-built X)
+
 pub sum-built : Keeps sum
-unfolding sum leaf-sum
-sum-built = merge-built node node-built leaf-sum (λ X f g _ _. new-leaf X _)
+unfolding sum
+sum-built = merge-built node node-built leaf-sum (λ X f g _ _. leaf-sum-built X f g)
 
 pub product-built : Keeps product
 unfolding product leaf-product
-product-built = merge-built node node-built leaf-product (λ X f g _ _. new-leaf X _)
+product-built = merge-built node node-built leaf-product (λ X f g _ _. leaf-scale-built _ X g)
 
 -- a leaf operation that makes a leaf, on each leaf in turn
 leaves-built : (op : Leaf → Comp Tree) → ((Y : List Tree) (g : Leaf) → Built Y (op g)) → (X : List Tree) (G : Tree) → T (inside G X) → Built X (over node op G)
 leaves-built op o X G i = over-built node node-built op X (λ Y _ g _. o Y g) X sub-refl G i
 
 pub scale-built : (c : ℤ) (X : List Tree) (G : Tree) → T (inside G X) → Built X (scale c G)
-unfolding scale leaf-scale
-scale-built c = leaves-built (leaf-scale c) (λ Y g. new-leaf Y _)
+unfolding scale
+scale-built c = leaves-built (leaf-scale c) (leaf-scale-built c)
 
 pub shift-built : (c : ℤ) (X : List Tree) (G : Tree) → T (inside G X) → Built X (shift c G)
 unfolding shift leaf-shift
@@ -335,9 +353,14 @@ pub complement-built : (W : ℕ) (X : List Tree) (G : Tree) → T (inside G X) �
 unfolding complement leaf-complement
 complement-built W = leaves-built (leaf-complement W) (λ Y g. new-leaf Y _)
 
+leaf-number-built : (a : ℕ) (X : List Tree) (g : Leaf) → Built X (leaf-number a g)
+unfolding leaf-number
+leaf-number-built a X (some p b) = leaf-built X _
+leaf-number-built a X forbidden = none-built X
+
 pub number-built : (a : ℕ) (X : List Tree) (G : Tree) → T (inside G X) → Built X (number a G)
-unfolding number leaf-number
-number-built a = leaves-built (leaf-number a) (λ Y g. leaf-built Y _)
+unfolding number
+number-built a = leaves-built (leaf-number a) (leaf-number-built a)
 
 pub decide-built : (p : Linear) → Keeps (decide p)
 unfolding decide
@@ -346,9 +369,15 @@ decide-built p X H L a b = by-test (zeros (p .coeffs))
     (λ _. by-test (leZ (p .const) (pos 0)) (λ z. Built X (elim z [ true ↦ ret H | false ↦ ret L ])) (λ _. ret-built X H a) (λ _. ret-built X L b))
     (λ _. choose-built (test-of p) X H L a b)
 
+leaf-best-built : (X : List Tree) (f g : Leaf) → T (inside (leaf f) X) → T (inside (leaf g) X) → Built X (leaf-best f g)
+unfolding leaf-best
+leaf-best-built X forbidden g a b = ret-built X (leaf g) b
+leaf-best-built X (some p k) forbidden a b = ret-built X (leaf (some p k)) a
+leaf-best-built X (some p k) (some q j) a b = judge-built (q ⊟ p) (decide-built (q ⊟ p) X (leaf (some p k)) (leaf (some q j)) a b)
+
 pub best-built : Keeps best
-unfolding best leaf-best
-best-built = merge-built choose choose-built leaf-best (λ X f g a b. judge-built ((g .lin) ⊟ (f .lin)) (decide-built ((g .lin) ⊟ (f .lin)) X (leaf f) (leaf g) a b))
+unfolding best
+best-built = merge-built choose choose-built leaf-best leaf-best-built
 
 -- ---- substitute
 
@@ -361,10 +390,6 @@ sum-on-built X F (c ∷ cs) (D ∷ Ds) a b =
     bind-built _ (scale-built c X D (d .0))
     (λ Y s g. bind-built _ (sum-built Y F _ (inside-more s F a) g)
     (λ Z r i. sum-on-built Z _ cs Ds i (all-more (sub-trans s r) Ds (d .1))))
-
-pub zero-built : (X : List Tree) → Built X (make zero-leaf)
-unfolding zero-leaf
-zero-built X = leaf-built X _
 
 pub levels-built : (X : List Tree) (cs : List ℤ) (Ds : List Tree) → T (all-inside Ds X) → Built X (levels-sum cs Ds)
 unfolding levels-sum
@@ -381,15 +406,16 @@ linear-built X Ds p b = bind-built (shift (p .const)) (levels-built X (p .coeffs
 -- the diagram that is substituted in is taken apart, and need not be there
 pub substitute-built : (X : List Tree) (Ds : List Tree) (F : Tree) → T (all-inside Ds X) → Built X (substitute Ds F)
 unfolding substitute
-substitute-built X Ds (leaf f) b = linear-built X Ds (f .lin) b
+substitute-built X Ds (leaf (some p a)) b = linear-built X Ds p b
+substitute-built X Ds (leaf forbidden) b = none-built X
 substitute-built X Ds (branch (now k) h l) b = both-built (choose (later k)) (choose-built (later k)) (substitute-built X Ds h b) (substitute-built X Ds l b)
 substitute-built X Ds (branch (later k) h l) b = both-built (choose (later k)) (choose-built (later k)) (substitute-built X Ds h b) (substitute-built X Ds l b)
 substitute-built X Ds (branch (linear p) h l) b =
     bind-built _ (linear-built X Ds p b)
     (λ Y₁ s₁ i. bind-built _ (built-more s₁ (substitute-built X Ds h b))
     (λ Y₂ s₂ j. bind-built _ (built-more (sub-trans s₁ s₂) (substitute-built X Ds l b))
-    (λ Y₃ s₃ k. over-built choose choose-built (λ f. decide (f .lin) (result (substitute Ds h)) (result (substitute Ds l))) Y₃
-    (λ Z r f _. decide-built (f .lin) Z _ _ (inside-more (sub-trans s₃ r) _ j) (inside-more r _ k))
+    (λ Y₃ s₃ k. over-built choose choose-built (λ f. decide (lin-of f) (result (substitute Ds h)) (result (substitute Ds l))) Y₃
+    (λ Z r f _. decide-built (lin-of f) Z _ _ (inside-more (sub-trans s₃ r) _ j) (inside-more r _ k))
     Y₃ sub-refl _ (inside-more (sub-trans s₂ s₃) _ i))))
 
 -- ---- conditions summed out

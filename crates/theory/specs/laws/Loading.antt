@@ -11,20 +11,20 @@ use lib.ListN.{length, drop}
 use Rattle.whole.specs.Cases.{if, by-test, both, and-in, not-not}
 use Rattle.whole.specs.Within.{small, limit}
 use Rattle.theory.specs.Widths.{levels-most, conditions-most, actions-most, weights-most}
-use Rattle.theory.specs.Diagram.{Linear, Test, now, later, linear, Leaf, Tree, leaf, plain, divisor, test-of, padded}
+use Rattle.theory.specs.Diagram.{Linear, Test, now, later, linear, Leaf, lin-of, permitted, Tree, leaf, plain, divisor, test-of, padded}
 use Rattle.theory.specs.Computation.{ret, bind, make, result}
-use Rattle.theory.specs.Rules.{choose}
+use Rattle.theory.specs.Rules.{choose, none-leaf}
 use Rattle.theory.specs.Meaning.{Model}
 use Rattle.theory.specs.Stage.{action-diagrams, all-diagrams, model-diagrams}
-use Rattle.theory.specs.Valid.{all, all-nodes, among, wide, good-test, good-leaf, weight-leaf, valid-action, valid, small-linear}
+use Rattle.theory.specs.Valid.{all, all-nodes, among, wide, good-test, good-leaf, level-leaf, weight-leaf, valid-action, valid, small-linear}
 use Rattle.theory.specs.Form.{Form, new-form, site-byte}
-use Rattle.theory.specs.Command.{Command, site, push-leaf, push-condition, push-test, name-action, end-model, Read, whole, unknown, short, Placed, byte-at, word-at, signed, signed-from, linear-at, width, command-at, read-at, goes-on, readings-from, readings, give, Slot, command-in, linear-in, read-in, readings-from-in, readings-in, action-at, width-in}
+use Rattle.theory.specs.Command.{Command, site, push-leaf, push-condition, push-test, push-forbidden, name-action, end-model, Read, whole, unknown, short, Placed, byte-at, word-at, signed, signed-from, linear-at, width, command-at, read-at, goes-on, readings-from, readings, give, Slot, command-in, linear-in, read-in, readings-from-in, readings-in, action-at, width-in}
 use Rattle.theory.specs.Verdict.{Site, Facts, Progress, reward-slot, chance-slot, level-slot, end-slot, name-slot, same-slot, has-slot, or, Rule, rule, first-broken, next-condition, is-weight, top, joined, from-to, wanted-by, wanted, site-rules, site-of, first-rules, later-rules, rules-of, after, Verdict, refusal, ended, judged, at-start, verdict, may-be, judged-in, rules-in, verdict-in}
 use Rattle.theory.specs.Load.{Entry, Loaded, condition-test, load-choice, load-choice-with, load-entry, load-one, load-one-with, load-on, load-on-with, find-slot, found, action-of, model-of, site-at, load-with, model, load-in, model-in, site-in}
 use Rattle.theory.specs.laws.Comps.{result-bind}
 use Rattle.theory.specs.laws.Safe.{any, sure}
 use Rattle.theory.specs.laws.Nodes.{widen, choose-safe}
-use Rattle.theory.specs.laws.Valid.{among-out, other-above, wide-in, quotient-wide}
+use Rattle.theory.specs.laws.Valid.{among-out, other-above, wide-in, quotient-wide, level-good, weight-level, weight-good, plain-good, none-good}
 
 -- ---- numbers that are written lie within the limits, and so do those of a test
 
@@ -92,13 +92,13 @@ wanted-each p S b (suc k) t a u v =
 
 -- ---- what is loaded for a slot
 
--- a constant 0 to W where w, a leaf within the limits else
-unfoldable pub leaf-as : ℕ → Bool → Leaf → Bool
-leaf-as W w f = if w (weight-leaf W f) (good-leaf f)
+-- a constant 0 to W where w, a leaf within the limits else, forbidden only where n
+unfoldable pub leaf-as : ℕ → Bool → Bool → Leaf → Bool
+leaf-as W w n f = if w (weight-leaf W f) (if n (good-leaf f) (level-leaf f))
 
 -- the diagrams that a command may give
 unfoldable pub fits : Site → ℕ → Tree → Bool
-fits S c t = all-nodes (good-test (S .conditions) (eqb c 0x22)) (leaf-as (S .weights) (eqb c 0x21)) t
+fits S c t = all-nodes (good-test (S .conditions) (eqb c 0x22)) (leaf-as (S .weights) (eqb c 0x21) (eqb c 0x20)) t
 
 abbrev pub entry-trees : List Entry → List Tree
 entry-trees E = map (λ e. e .tree) E
@@ -151,7 +151,7 @@ given-none S = (λ h r n. absurd r, tt)
 -- ---- diagrams on the stack are what the checker says of them
 
 Sound : Site → Facts → Tree → Type 0
-Sound S f t = T (all-nodes (good-test (S .conditions) (f .next-step)) (leaf-as (S .weights) (f .weights)) t)
+Sound S f t = T (all-nodes (good-test (S .conditions) (f .next-step)) (leaf-as (S .weights) (f .weights) (f .forbids)) t)
 
 Stacked : Site → List Facts → List Tree → Type 0
 Stacked S [] [] = T true
@@ -165,12 +165,16 @@ test-less n a b h (now k) g = g
 test-less n a b h (later k) g = let d = both a (among n k) g in and-in b (among n k) (h (d .0)) (d .1)
 test-less n a b h (linear p) g = g
 
-leaf-less : (W : ℕ) (a b : Bool) → (T b → T a) → (f : Leaf) → T (leaf-as W a f) → T (leaf-as W b f)
-unfolding leaf-as weight-leaf
-leaf-less W true true h f g = g
-leaf-less W true false h f g = both (good-leaf f) _ g .0
-leaf-less W false true h f g = absurd (h tt)
-leaf-less W false false h f g = g
+leaf-less : (W : ℕ) (a b m n : Bool) → (T b → T a) → (T m → T n) → (f : Leaf) → T (leaf-as W a m f) → T (leaf-as W b n f)
+unfolding leaf-as
+leaf-less W true true m n h k f g = g
+leaf-less W true false m true h k f g = weight-good W f g
+leaf-less W true false m false h k f g = weight-level W f g
+leaf-less W false true m n h k f g = absurd (h tt)
+leaf-less W false false true true h k f g = g
+leaf-less W false false true false h k f g = absurd (k tt)
+leaf-less W false false false true h k f g = level-good f g
+leaf-less W false false false false h k f g = g
 
 pub or-left : (a b : Bool) → T a → T (or a b)
 or-left true b t = tt
@@ -180,23 +184,28 @@ pub or-right : (a b : Bool) → T b → T (or a b)
 or-right true b t = tt
 or-right false b t = t
 
-sound-leaf : (S : Site) (p : Linear) → T (wide p) → Sound S (record { next-step = false; weights = is-weight (S .weights) p }) (leaf (plain p))
-unfolding Sound all-nodes leaf-as weight-leaf is-weight good-leaf
+sound-leaf : (S : Site) (p : Linear) → T (wide p) → Sound S (record { next-step = false; weights = is-weight (S .weights) p; forbids = false }) (leaf (plain p))
+unfolding Sound all-nodes leaf-as weight-leaf is-weight level-leaf permitted lin-of
 sound-leaf S p w =
-    let g = and-in (wide p) (eqb 0 0) w tt in
-    by-test (is-weight (S .weights) p) (λ b. T (if b (weight-leaf (S .weights) (plain p)) (good-leaf (plain p)))) (λ t. and-in (good-leaf (plain p)) (is-weight (S .weights) p) g t) (λ _. g)
+    let g = and-in true (good-leaf (plain p)) tt (plain-good p w) in
+    by-test (is-weight (S .weights) p) (λ b. T (if b (weight-leaf (S .weights) (plain p)) (level-leaf (plain p)))) (λ t. and-in (level-leaf (plain p)) (is-weight (S .weights) p) g t) (λ _. g)
+
+sound-none : (S : Site) → Sound S (record { next-step = false; weights = false; forbids = true }) none-leaf
+unfolding Sound all-nodes leaf-as
+sound-none S = none-good
 
 -- a choice between two: the checker's facts of it
 sound-choice : (S : Site) (b : Bool) (t : Test) (h l : Facts) (H L : Tree) → T (good-test (S .conditions) (or b (or (h .next-step) (l .next-step))) t)
-    → Sound S h H → Sound S l L → Sound S (record { next-step = or b (or (h .next-step) (l .next-step)); weights = h .weights && l .weights }) (result (choose t H L))
+    → Sound S h H → Sound S l L → Sound S (record { next-step = or b (or (h .next-step) (l .next-step)); weights = h .weights && l .weights; forbids = or (h .forbids) (l .forbids) }) (result (choose t H L))
 unfolding Sound
 sound-choice S b t h l H L g u v =
     let n = S .conditions in
     let next = or b (or (h .next-step) (l .next-step)) in
     let w = h .weights && l .weights in
-    sure (choose t H L) (choose-safe any (good-test n next) (leaf-as (S .weights) w) t H L g
-    (widen _ _ _ _ (test-less n (h .next-step) next (λ x. or-right b _ (or-left (h .next-step) _ x))) (leaf-less (S .weights) (h .weights) w (λ x. both (h .weights) (l .weights) x .0)) H u)
-    (widen _ _ _ _ (test-less n (l .next-step) next (λ x. or-right b _ (or-right (h .next-step) _ x))) (leaf-less (S .weights) (l .weights) w (λ x. both (h .weights) (l .weights) x .1)) L v))
+    let o = or (h .forbids) (l .forbids) in
+    sure (choose t H L) (choose-safe any (good-test n next) (leaf-as (S .weights) w o) t H L g
+    (widen _ _ _ _ (test-less n (h .next-step) next (λ x. or-right b _ (or-left (h .next-step) _ x))) (leaf-less (S .weights) (h .weights) w (h .forbids) o (λ x. both (h .weights) (l .weights) x .0) (or-left (h .forbids) (l .forbids))) H u)
+    (widen _ _ _ _ (test-less n (l .next-step) next (λ x. or-right b _ (or-right (h .next-step) _ x))) (leaf-less (S .weights) (l .weights) w (l .forbids) o (λ x. both (h .weights) (l .weights) x .1) (or-right (h .forbids) (l .forbids))) L v))
 
 -- ---- one command that breaks no rule
 
@@ -232,6 +241,7 @@ Fit B at (site m n a w) = site-of m n a w ≡ site-of (byte-at B (at + 1)) (byte
 Fit B at (push-leaf p) = T (wide p)
 Fit B at (push-condition k) = T true
 Fit B at (push-test p) = T (wide p)
+Fit B at push-forbidden = T true
 Fit B at (give g) = T true
 Fit B at (name-action a b) = T true
 Fit B at end-model = T true
@@ -244,8 +254,8 @@ fit : (B : List ℕ) (at : ℕ) → Fit B at (command-at B at)
 unfolding command-in Fit
 fit B at =
     fit-if B at (eqb (byte-at B at) (site-byte new-form)) _ _ refl (fit-if B at (eqb (byte-at B at) 0x10) _ _ (linear-wide B (at + 1)) (fit-if B at (eqb (byte-at B at) 0x11) _ _ tt
-    (fit-if B at (eqb (byte-at B at) 0x12) _ _ (linear-wide B (at + 1)) (fit-if B at (eqb (byte-at B at) 0x20) _ _ tt (fit-if B at (eqb (byte-at B at) 0x21) _ _ tt
-    (fit-if B at (eqb (byte-at B at) 0x22) _ _ tt (fit-if B at (eqb (byte-at B at) 0x23) _ _ tt (fit-if B at (eqb (byte-at B at) 0x30) _ _ tt tt))))))))
+    (fit-if B at (eqb (byte-at B at) 0x12) _ _ (linear-wide B (at + 1)) (fit-if B at (eqb (byte-at B at) 0x13) _ _ tt (fit-if B at (eqb (byte-at B at) 0x20) _ _ tt (fit-if B at (eqb (byte-at B at) 0x21) _ _ tt
+    (fit-if B at (eqb (byte-at B at) 0x22) _ _ tt (fit-if B at (eqb (byte-at B at) 0x23) _ _ tt (fit-if B at (eqb (byte-at B at) 0x30) _ _ tt tt)))))))))
 
 condition-good : (n k : ℕ) → n ≤ conditions-most → T (or (among n k) (next-condition n k)) → (next : Bool) → T (good-test n (or (ltb conditions-most k) next) (condition-test k))
 unfolding good-test condition-test next-condition
@@ -288,8 +298,10 @@ fits-given : (S : Site) (g : Slot) (f : Facts) → T (may-be g f) → (t : Tree)
 unfolding Sound fits may-be
 fits-given S g f m t s =
     let d = both (or (eqb (g .command) 0x22) (not (f .next-step))) _ m in
+    let c = both (or (not (eqb (g .command) 0x21)) (f .weights)) _ (d .1) in
     widen _ _ _ _ (test-less (S .conditions) (f .next-step) (eqb (g .command) 0x22) (or-not (eqb (g .command) 0x22) (f .next-step) (d .0)))
-    (leaf-less (S .weights) (f .weights) (eqb (g .command) 0x21) (not-or (eqb (g .command) 0x21) (f .weights) (d .1))) t s
+    (leaf-less (S .weights) (f .weights) (eqb (g .command) 0x21) (f .forbids) (eqb (g .command) 0x20)
+    (not-or (eqb (g .command) 0x21) (f .weights) (c .0)) (or-not (eqb (g .command) 0x20) (f .forbids) (c .1))) t s
 
 -- the checker's and the loader's states agree
 record Kept (S : Site) (s : Progress) (t : Loaded) : Type 0 where
@@ -318,6 +330,7 @@ module _ (B : List ℕ) (at : ℕ) (S : Site) (ok : In-range S) (K : List Facts)
       let u = unbroken 3 _ _ e in
       let v = unbroken 3 _ _ (u .1) in
       chose false (test-of p) (unbroken 4 _ _ (v .1) .0) (λ _. quotient-wide (divisor p) p f)
+  stepped push-forbidden f e = record { is-begun = refl; is-site = refl; stacked = (sound-none S, stacked); entered = entered }
   stepped (give g) f e =
       let u = unbroken 3 _ _ e in
       let v = unbroken 4 _ _ (u .1) in
@@ -409,6 +422,7 @@ module _ (B : List ℕ) (k at : ℕ) (S : Site) (ok : In-range S) where
   one-more ih (push-leaf p) f K G X E u v e = goes ih K G X E u v (push-leaf p) f e
   one-more ih (push-condition c) f K G X E u v e = goes ih K G X E u v (push-condition c) f e
   one-more ih (push-test p) f K G X E u v e = goes ih K G X E u v (push-test p) f e
+  one-more ih push-forbidden f K G X E u v e = goes ih K G X E u v push-forbidden f e
   one-more ih (give g) f K G X E u v e = goes ih K G X E u v (give g) f e
   one-more ih (name-action a b) f K G X E u v e = goes ih K G X E u v (name-action a b) f e
   one-more ih end-model f K G X E u v e =
@@ -465,6 +479,7 @@ first-command B h l (site m n a w) f e =
 first-command B h l (push-leaf p) f e = broken 0 _ (judged-whole (first-broken (rule 1 true ∷ [])) 0 _ e .0)
 first-command B h l (push-condition k) f e = broken 0 _ (judged-whole (first-broken (rule 1 true ∷ [])) 0 _ e .0)
 first-command B h l (push-test p) f e = broken 0 _ (judged-whole (first-broken (rule 1 true ∷ [])) 0 _ e .0)
+first-command B h l push-forbidden f e = broken 0 _ (judged-whole (first-broken (rule 1 true ∷ [])) 0 _ e .0)
 first-command B h l (give g) f e = broken 0 _ (judged-whole (first-broken (rule 1 true ∷ [])) 0 _ e .0)
 first-command B h l (name-action a b) f e = broken 0 _ (judged-whole (first-broken (rule 1 true ∷ [])) 0 _ e .0)
 first-command B h l end-model f e = broken 0 _ (judged-whole (first-broken (rule 1 true ∷ [])) 0 _ e .0)
@@ -490,15 +505,15 @@ fits-as-chance : (S : Site) (t : Tree) → T (fits S 0x21 t) → T (all-nodes (g
 unfolding fits leaf-as
 fits-as-chance S t h = h
 
-fits-as-level : (S : Site) (t : Tree) → T (fits S 0x22 t) → T (all-nodes (good-test (S .conditions) true) good-leaf t)
+fits-as-level : (S : Site) (t : Tree) → T (fits S 0x22 t) → T (all-nodes (good-test (S .conditions) true) level-leaf t)
 unfolding fits leaf-as
 fits-as-level S t h = h
 
--- an end worth is under the rules for a reward
-fits-as-end : (S : Site) (l : List Tree) → T (all (fits S 0x23) l) → T (all (all-nodes (good-test (S .conditions) false) good-leaf) l)
+-- an end worth is under the rules for a reward, and holds no forbidden leaf
+fits-as-end : (S : Site) (l : List Tree) → T (all (fits S 0x23) l) → T (all (all-nodes (good-test (S .conditions) false) level-leaf) l)
 unfolding fits leaf-as all
 fits-as-end S [] h = tt
-fits-as-end S (t ∷ l) h = let d = both (fits S 0x23 t) _ h in and-in (all-nodes (good-test (S .conditions) false) good-leaf t) _ (d .0) (fits-as-end S l (d .1))
+fits-as-end S (t ∷ l) h = let d = both (fits S 0x23 t) _ h in and-in (all-nodes (good-test (S .conditions) false) level-leaf t) _ (d .0) (fits-as-end S l (d .1))
 
 length-is : (f : ℕ → Tree) (b k : ℕ) → T (eqb (length (map f (from-to b k))) k)
 length-is f b k = rw (from-length f b k) (eqb-refl k)

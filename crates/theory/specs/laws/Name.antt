@@ -11,7 +11,7 @@ use lib.ListN.{length, getD, take, drop, replicate, getD-replicate, replicate-ap
 use lib.Seq.{take-suc, getD-take, length-take-le, getD-append-add}
 use Rattle.whole.specs.Cases.{if, by-test}
 use Rattle.theory.specs.Form.{new-form, site-byte}
-use Rattle.theory.specs.Command.{Command, site, push-leaf, push-condition, push-test, name-action, end-model, Read, whole, unknown, short, Placed, byte-at, width, command-at, read-at, goes-on, readings-from, readings, give, Slot, command-in, readings-from-in, readings-in, width-in}
+use Rattle.theory.specs.Command.{Command, site, push-leaf, push-condition, push-test, push-forbidden, name-action, end-model, Read, whole, unknown, short, Placed, byte-at, width, command-at, read-at, goes-on, readings-from, readings, give, Slot, command-in, readings-from-in, readings-in, width-in}
 use Rattle.theory.specs.Verdict.{Progress, Verdict, refusal, name-slot, same-slot, has-slot, first-broken, first-rules, later-rules, rules-of, after, judged, verdict, at-start, judged-in, rules-in, verdict-in}
 use Rattle.theory.specs.Name.{names-action, Part, no-part, trimmed, named-part, name-refusal, name-part}
 use Rattle.theory.specs.Rows.{NameRow, name-0, name-1-10, name-16, NamePartRow, name-given, name-empty, name-refused}
@@ -89,6 +89,7 @@ Spelt B at (site m n a w) = Unit {0}
 Spelt B at (push-leaf p) = Unit {0}
 Spelt B at (push-condition k) = Unit {0}
 Spelt B at (push-test p) = Unit {0}
+Spelt B at push-forbidden = Unit {0}
 Spelt B at (give g) = Unit {0}
 Spelt B at (name-action a t) = (t ≡ take 16 (drop (at + 3) B)) × (width (byte-at B at) ≡ 19)
 Spelt B at end-model = Unit {0}
@@ -106,8 +107,8 @@ spelt : (B : List ℕ) (at : ℕ) → Spelt B at (command-at B at)
 unfolding command-in
 spelt B at =
     spelt-if B at (eqb (byte-at B at) (site-byte new-form)) _ _ tt (spelt-if B at (eqb (byte-at B at) 0x10) _ _ tt (spelt-if B at (eqb (byte-at B at) 0x11) _ _ tt
-    (spelt-if B at (eqb (byte-at B at) 0x12) _ _ tt (spelt-if B at (eqb (byte-at B at) 0x20) _ _ tt (spelt-if B at (eqb (byte-at B at) 0x21) _ _ tt
-    (spelt-if B at (eqb (byte-at B at) 0x22) _ _ tt (spelt-if B at (eqb (byte-at B at) 0x23) _ _ tt (spelt-name B at _))))))))
+    (spelt-if B at (eqb (byte-at B at) 0x12) _ _ tt (spelt-if B at (eqb (byte-at B at) 0x13) _ _ tt (spelt-if B at (eqb (byte-at B at) 0x20) _ _ tt (spelt-if B at (eqb (byte-at B at) 0x21) _ _ tt
+    (spelt-if B at (eqb (byte-at B at) 0x22) _ _ tt (spelt-if B at (eqb (byte-at B at) 0x23) _ _ tt (spelt-name B at _)))))))))
 
 -- a name command that is read: its bytes stand from three behind its offset on, inside the model
 pub name-bytes-at : (B : List ℕ) (at a : ℕ) (t : List ℕ) → read-at B at ≡ whole (name-action a t) → (t ≡ take 16 (drop (at + 3) B)) × (at + 19 ≤ length B)
@@ -146,6 +147,7 @@ stays g s (site m n a w) e b t = go (s .begun) e b
 stays g s (push-leaf p) e b t = (b, t)
 stays g s (push-condition k) e b t = (b, t)
 stays g s (push-test p) e b t = (b, t)
+stays g s push-forbidden e b t = (b, t)
 stays g s (give x) e b t = (b, or-right (same-slot g x) _ t)
 stays g s (name-action a l) e b t = (b, or-right (same-slot g (name-slot a)) _ t)
 stays g s end-model e b t = (b, t)
@@ -160,6 +162,7 @@ module _ (B : List ℕ) (a : ℕ) where
   named-by (whole (push-leaf p)) t = absurd t
   named-by (whole (push-condition k)) t = absurd t
   named-by (whole (push-test p)) t = absurd t
+  named-by (whole push-forbidden) t = absurd t
   named-by (whole (give g)) t = absurd t
   named-by (whole (name-action b l)) t = (l, ap (λ (c : ℕ). whole (name-action c l)) (sym (eqb→eq a b t)))
   named-by (whole end-model) t = absurd t

@@ -2,15 +2,14 @@
 use mathlib.Core.Bool.{Bool, true, false, not, _&&_}
 use mathlib.Core.List.{List, [], _∷_}
 use Prim.Native.Nat.{ℕ, Ordering·lt, Ordering·eq, Ordering·gt}
-use lib.Dec.{T}
+use lib.Dec.{T, isEq}
 use lib.IntN.{ℤ, pos, negsuc}
 use lib.Signed.{leZ}
 use Rattle.whole.specs.Cases.{if, by-test, by-order, both, and-in}
-use Rattle.theory.specs.Widths.{levels-most}
-use Rattle.theory.specs.Diagram.{Linear, Test, now, later, linear, Leaf, Tree, leaf, branch, plain, cmp, same, _⊞_, _⊠_, _⊟_, plus-constant, zeros, test-of}
+use Rattle.theory.specs.Diagram.{Linear, Test, now, later, linear, Leaf, some, forbidden, lin-of, zero-linear, Tree, leaf, branch, plain, cmpZ, cmp, same, _⊞_, _⊠_, _⊟_, plus-constant, zeros, test-of}
 use Rattle.theory.specs.Computation.{Comp, ret, make}
 use Rattle.theory.specs.Computation as C
-use Rattle.theory.specs.Rules.{parallel, narrowed, node, step, choose, over, merge, make-leaf, leaf-sum, leaf-product, leaf-scale, leaf-shift, leaf-complement, leaf-number, decide, leaf-best, sum, product, scale, shift, complement, number, best, no-coeffs, zero-leaf, sum-on, levels-sum, linear-diagram, substitute, is-later, side, expectation, add-reward}
+use Rattle.theory.specs.Rules.{parallel, narrowed, node, step, choose, over, merge, make-leaf, leaf-sum, leaf-product, leaf-scale, leaf-shift, leaf-complement, leaf-number, decide, leaf-best, sum, product, scale, shift, complement, number, best, zero-leaf, none-leaf, sum-on, levels-sum, linear-diagram, substitute, is-later, side, expectation, add-reward}
 use Rattle.theory.specs.Valid.{all, all-nodes}
 use Rattle.theory.specs.laws.Safe.{Safe, safe-ret, safe-named, safe-make, safe-bind, safe-both, safe-judge, any}
 
@@ -152,16 +151,17 @@ module _ (s? : ℤ → Bool) (t? : Test → Bool) where
 
 -- leaves g? are such that those made of them are, once their numbers are named; Long is what their linears are before
 pub record Closed (s? : ℤ → Bool) (g? : Leaf → Bool) (Long : Linear → Type 0) : Type 0 where
-  pub long : (f : Leaf) → T (g? f) → Long (f .lin)
+  pub long : (f : Leaf) → T (g? f) → Long (lin-of f)
   pub add : (p q : Linear) → Long p → Long q → Long (p ⊞ q)
   pub times : (k : ℤ) (p : Linear) → Long p → Long (k ⊠ p)
   pub constant : (p : Linear) (k : ℤ) → Long p → Long (record { coeffs = p .coeffs; const = k })
-  pub zero : T (g? (plain (record { coeffs = no-coeffs levels-most; const = pos 0 })))
+  pub zero : T (g? (plain zero-linear))
+  pub none : T (g? forbidden)
   pub judged : (p : Linear) → Long p → T (all s? (p .coeffs)) → T (s? (p .const)) → T (g? (plain p))
 
 -- any leaf, whatever the numbers
 pub any-closed : Closed any any (λ _. Unit {0})
-any-closed = record { long = λ _ _. tt; add = λ _ _ _ _. tt; times = λ _ _ _. tt; constant = λ _ _ _. tt; zero = tt; judged = λ _ _ _ _. tt }
+any-closed = record { long = λ _ _. tt; add = λ _ _ _ _. tt; times = λ _ _ _. tt; constant = λ _ _ _. tt; zero = tt; none = tt; judged = λ _ _ _ _. tt }
 
 module _ {s? : ℤ → Bool} {g? : Leaf → Bool} {Long : Linear → Type 0} (c : Closed s? g? Long) (t? : Test → Bool) where
   abbrev Made : Comp Tree → Type 0
@@ -178,34 +178,60 @@ module _ {s? : ℤ → Bool} {g? : Leaf → Bool} {Long : Linear → Type 0} (c 
   each : (op : Leaf → Comp Tree) → ((g : Leaf) → T (g? g) → Made (op g)) → (F : Tree) → Good t? g? F → Made (over node op F)
   each = over-safe s? t? g? g? node (node-safe s? t? g?)
 
+  pub zero-good : Good t? g? zero-leaf
+  unfolding zero-leaf
+  zero-good = leaf-good t? g? _ (c .zero)
+
+  none-safe : Made (make none-leaf)
+  none-safe = safe-make none-leaf (leaf-good t? g? forbidden (c .none))
+
+  long : (p : Linear) (a : ℕ) → T (g? (some p a)) → Long p
+  unfolding lin-of
+  long p a = (c .long) (some p a)
+
+  leaf-sum-safe : (f g : Leaf) → T (g? f) → T (g? g) → Made (leaf-sum f g)
+  unfolding leaf-sum
+  leaf-sum-safe forbidden g a b = none-safe
+  leaf-sum-safe (some p k) forbidden a b = none-safe
+  leaf-sum-safe (some p k) (some q j) a b = make-leaf-safe _ (c .add p q (long p k a) (long q j b))
+
+  leaf-scale-safe : (k : ℤ) (g : Leaf) → T (g? g) → Made (leaf-scale k g)
+  unfolding leaf-scale
+  leaf-scale-safe k (some q j) b = make-leaf-safe _ (c .times k q (long q j b))
+  leaf-scale-safe k forbidden b = by-test (isEq (cmpZ k (pos 0))) (λ z. Made (make (if z zero-leaf none-leaf))) (λ _. safe-make zero-leaf zero-good) (λ _. none-safe)
+
   pub sum-safe : (F G : Tree) → Good t? g? F → Good t? g? G → Made (sum F G)
-  unfolding sum leaf-sum
-  sum-safe = merged leaf-sum (λ f g a b. make-leaf-safe _ (c .add (f .lin) (g .lin) (c .long f a) (c .long g b)))
+  unfolding sum
+  sum-safe = merged leaf-sum leaf-sum-safe
 
   pub product-safe : (F G : Tree) → Good t? g? F → Good t? g? G → Made (product F G)
   unfolding product leaf-product
-  product-safe = merged leaf-product (λ f g a b. make-leaf-safe _ (c .times (f .lin .const) (g .lin) (c .long g b)))
+  product-safe = merged leaf-product (λ f g _. leaf-scale-safe (lin-of f .const) g)
 
   pub scale-safe : (k : ℤ) (F : Tree) → Good t? g? F → Made (scale k F)
-  unfolding scale leaf-scale
-  scale-safe k = each (leaf-scale k) (λ g b. make-leaf-safe _ (c .times k (g .lin) (c .long g b)))
+  unfolding scale
+  scale-safe k = each (leaf-scale k) (leaf-scale-safe k)
 
   pub shift-safe : (k : ℤ) (F : Tree) → Good t? g? F → Made (shift k F)
   unfolding shift leaf-shift plus-constant
-  shift-safe k = each (leaf-shift k) (λ g b. make-leaf-safe _ (c .constant (g .lin) _ (c .long g b)))
+  shift-safe k = each (leaf-shift k) (λ g b. make-leaf-safe _ (c .constant (lin-of g) _ (c .long g b)))
 
   pub complement-safe : (W : ℕ) (F : Tree) → Good t? g? F → Made (complement W F)
   unfolding complement leaf-complement
-  complement-safe W = each (leaf-complement W) (λ g b. make-leaf-safe _ (c .constant (g .lin) _ (c .long g b)))
+  complement-safe W = each (leaf-complement W) (λ g b. make-leaf-safe _ (c .constant (lin-of g) _ (c .long g b)))
 
-  -- leaves numbered with an action are r?
-  pub reward-safe : (r? : Leaf → Bool) (power : ℕ) (reward : Tree) (a : ℕ) (F : Tree) → ((f : Leaf) → T (g? f) → T (r? (record { lin = f .lin; act = a })))
+  -- leaves numbered with an action are r?, and so is none
+  pub reward-safe : (r? : Leaf → Bool) (power : ℕ) (reward : Tree) (a : ℕ) (F : Tree) → ((p : Linear) (b : ℕ) → T (g? (some p b)) → T (r? (some p a))) → T (r? forbidden)
       → Good t? g? reward → Good t? g? F → Safe s? (Good t? r?) (add-reward power reward a F)
   unfolding add-reward number leaf-number
-  reward-safe r? power reward a F i r b =
+  reward-safe r? power reward a F i n r b =
       safe-named (λ _. safe-bind (scale (pos power) reward) _ (scale-safe (pos power) reward r)
       (λ R d. safe-bind (sum F R) (number a) (sum-safe F R b d)
-      (over-safe s? t? r? g? node (node-safe s? t? r?) (leaf-number a) (λ g e. safe-make _ (leaf-good t? r? _ (i g e))))))
+      (over-safe s? t? r? g? node (node-safe s? t? r?) (leaf-number a) numbered)))
+    where
+      numbered : (g : Leaf) → T (g? g) → Safe s? (Good t? r?) (leaf-number a g)
+      numbered (some p j) e = safe-make _ (leaf-good t? r? _ (i p j e))
+      numbered forbidden e = safe-make none-leaf (leaf-good t? r? forbidden n)
 
   -- t? is q? without next-step condition k; the chance has none of it either
   pub expectation-safe : (q? : Test → Bool) (W : ℕ) (w : Tree) (k : ℕ) → ((t : Test) → T (q? t) → T (not (is-later k t)) → T (t? t)) → Good t? g? w
@@ -219,20 +245,22 @@ module _ {s? : ℤ → Bool} {g? : Leaf → Bool} {Long : Linear → Type 0} (c 
       (λ N n. safe-bind (product u N) _ (product-safe u N d n)
       (λ Q q. sum-safe P Q p q)))))
 
-  pub zero-good : Good t? g? zero-leaf
-  unfolding zero-leaf
-  zero-good = leaf-good t? g? _ (c .zero)
-
   -- ---- where linears of such leaves are such tests
 
-  module _ (lin : (f : Leaf) → T (g? f) → T (t? (test-of (f .lin)))) where
+  module _ (lin : (f : Leaf) → T (g? f) → T (t? (test-of (lin-of f)))) where
     -- the leaves stay as they are
-    pub best-safe : (r? : Leaf → Bool) → ((f : Leaf) → T (r? f) → Long (f .lin)) → (F G : Tree) → Good t? r? F → Good t? r? G → Safe s? (Good t? r?) (best F G)
-    unfolding best leaf-best _⊟_
-    best-safe r? w = merge-safe s? t? r? r? r? choose (choose-safe s? t? r?) leaf-best (λ f g a b.
-        let d = (g .lin) ⊟ (f .lin) in
-        safe-judge d _ (λ x y. decide-safe s? t? r? d (leaf f) (leaf g) (lin (plain d) (c .judged d (c .add (g .lin) (negsuc 0 ⊠ (f .lin)) (w g b) (c .times (negsuc 0) (f .lin) (w f a))) x y))
-        (leaf-good t? r? f a) (leaf-good t? r? g b)))
+    pub best-safe : (r? : Leaf → Bool) → ((f : Leaf) → T (r? f) → Long (lin-of f)) → (F G : Tree) → Good t? r? F → Good t? r? G → Safe s? (Good t? r?) (best F G)
+    unfolding best leaf-best _⊟_ lin-of
+    best-safe r? w = merge-safe s? t? r? r? r? choose (choose-safe s? t? r?) leaf-best better
+      where
+        better : (f g : Leaf) → T (r? f) → T (r? g) → Safe s? (Good t? r?) (leaf-best f g)
+        better forbidden g a b = safe-ret (leaf-good t? r? g b)
+        better (some p j) forbidden a b = safe-ret (leaf-good t? r? _ a)
+        better (some p j) (some q i) a b =
+            let d = q ⊟ p in
+            safe-judge d _ (λ x y. decide-safe s? t? r? d (leaf (some p j)) (leaf (some q i))
+            (lin (plain d) (c .judged d (c .add q (negsuc 0 ⊠ p) (w (some q i) b) (c .times (negsuc 0) p (w (some p j) a))) x y))
+            (leaf-good t? r? _ a) (leaf-good t? r? _ b))
 
     -- ---- substitute, over such next levels
 
@@ -266,7 +294,8 @@ module _ {s? : ℤ → Bool} {g? : Leaf → Bool} {Long : Linear → Type 0} (c 
     pub substitute-safe : (Ds : List Tree) → Goods Ds → (q? : Test → Bool) (i? : Leaf → Bool) → ((k : ℕ) → T (q? (now k)) → T (t? (later k))) → ((k : ℕ) → T (q? (later k)) → T (t? (later k)))
         → (F : Tree) → Good q? i? F → Made (substitute Ds F)
     unfolding substitute
-    substitute-safe Ds b q? i? w v (leaf f) a = linear-safe Ds (f .lin) b
+    substitute-safe Ds b q? i? w v (leaf (some p j)) a = linear-safe Ds p b
+    substitute-safe Ds b q? i? w v (leaf forbidden) a = none-safe
     substitute-safe Ds b q? i? w v (branch (now k) h l) a =
         let d = parts q? i? (now k) h l a in
         chosen k _ _ (w k (d .0)) (substitute-safe Ds b q? i? w v h (d .1 .0)) (substitute-safe Ds b q? i? w v l (d .1 .1))
@@ -280,4 +309,4 @@ module _ {s? : ℤ → Bool} {g? : Leaf → Bool} {Long : Linear → Type 0} (c 
         safe-bind (linear-diagram Ds z) _ (linear-safe Ds z b)
         (λ P p. safe-bind (substitute Ds h) _ hs
         (λ H x. safe-bind (substitute Ds l) _ ls
-        (λ L y. over-safe s? t? g? g? choose (choose-safe s? t? g?) (λ f. decide (f .lin) H L) (λ f g. decide-safe s? t? g? (f .lin) H L (lin f g) x y) P p)))
+        (λ L y. over-safe s? t? g? g? choose (choose-safe s? t? g?) (λ f. decide (lin-of f) H L) (λ f g. decide-safe s? t? g? (lin-of f) H L (lin f g) x y) P p)))

@@ -5,7 +5,7 @@ use mathlib.Core.List.{List}
 use Prim.Native.Nat.{ℕ, _≤_}
 use native.Mathlib.Omega.{arith}
 use Rattle.theory.specs.Form.{Form}
-use Rattle.theory.specs.Command.{Command, site, push-leaf, push-condition, push-test, give, name-action, end-model, command-in, Slot}
+use Rattle.theory.specs.Command.{Command, site, push-leaf, push-condition, push-test, push-forbidden, give, name-action, end-model, command-in, Slot}
 use Rattle.theory.specs.Verdict.{Verdict, Site, Facts, Progress}
 use Rattle.theory.specs.Rows.{Rules, none, asks, Breaks, first-asks-in, later-asks, asks-in, VerdictRow-in, verdict-0, verdict-3, verdict-2, verdict-2-end, verdict-1-7, verdict-8}
 
@@ -23,6 +23,7 @@ first-below F (site m n a w) = (omega arith, (omega arith, (omega arith, (omega 
 first-below F (push-leaf p) = (omega arith, tt)
 first-below F (push-condition k) = (omega arith, tt)
 first-below F (push-test p) = (omega arith, tt)
+first-below F push-forbidden = (omega arith, tt)
 first-below F (give g) = (omega arith, tt)
 first-below F (name-action a b) = (omega arith, tt)
 first-below F end-model = (omega arith, tt)
@@ -32,6 +33,7 @@ later-below S K G (site m n a w) = (omega arith, tt)
 later-below S K G (push-leaf p) = (omega arith, (omega arith, tt))
 later-below S K G (push-condition k) = (omega arith, (omega arith, tt))
 later-below S K G (push-test p) = (omega arith, (omega arith, (omega arith, tt)))
+later-below S K G push-forbidden = (omega arith, tt)
 later-below S K G (give g) = (omega arith, (omega arith, (omega arith, (omega arith, tt))))
 later-below S K G (name-action a b) = (omega arith, (omega arith, (omega arith, tt)))
 later-below S K G end-model = (omega arith, (omega arith, tt))

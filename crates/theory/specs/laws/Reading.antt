@@ -8,25 +8,25 @@ use native.Mathlib.Omega.{arith}
 use native.Mathlib.Nat.{le-refl, le-antisymm, eq-or-lt-of-le, max-le, le-max-left, le-max-right}
 use borrow.Author.Tests.{eq-eqb, ne-eqb}
 use lib.Dec.{T, isEq, eqb, ltb}
-use lib.IntN.{ℤ, pos, negsuc, natAbs, _+ℤ_, _*ℤ_}
+use lib.IntN.{ℤ, pos, negsuc, natAbs, _+ℤ_, _*ℤ_, zero-*ℤ}
 use lib.ListN.{length, getD, take, drop, replicate, length-append, length-replicate, length-map}
 use lib.Signed.{leZ}
 use Rattle.whole.specs.Cases.{if, by-test, both, is-true}
 use Rattle.whole.specs.Int.{up, ring}
 use Rattle.whole.specs.Numerator.{words}
 use Rattle.theory.specs.Widths.{steps-most}
-use Rattle.theory.specs.Diagram.{Linear, Test, now, later, linear, Leaf, Tree, leaf, branch, cmpZ, zeros, padded}
+use Rattle.theory.specs.Diagram.{Linear, Test, now, later, linear, Leaf, some, forbidden, lin-of, act-of, no-coeffs, zero-linear, Tree, leaf, branch, cmpZ, zeros, padded}
 use Rattle.theory.specs.Computation.{member}
 use Rattle.theory.specs.Rules.{zero-leaf}
-use Rattle.theory.specs.Meaning.{Env, nth, env, dot, value, holds, at, worth-at}
+use Rattle.theory.specs.Meaning.{Env, nth, env, dot, value, holds, at, leaf-worth, worth-at}
 use Rattle.theory.specs.Valid.{all, all-nodes, good-test, stage-leaf}
 use Rattle.theory.specs.Verdict.{Verdict}
 use Rattle.theory.specs.Load.{site-at}
-use Rattle.theory.specs.Solve.{number-of, rows, row, test-words, table-of, solved-nodes, solved-stages, early}
-use Rattle.theory.specs.Value.{Asked, accepted, bits, state-of, node-word, node-linear, high-of, good-row, numerator-of, taken, walk, ValueOut, refused-value, value-at, value-of}
+use Rattle.theory.specs.Solve.{number-of, leaf-kind, rows, row, test-words, table-of, solved-nodes, solved-stages, early}
+use Rattle.theory.specs.Value.{Asked, accepted, bits, state-of, node-word, node-linear, high-of, good-row, numerator-of, taken, ends, walk, ValueOut, refused-value, answered, value-at, value-of}
 use Rattle.theory.specs.Listing.{greatest-root}
 use Rattle.theory.specs.laws.Comps.{cmpZ-eq}
-use Rattle.theory.specs.laws.Values.{if-ap}
+use Rattle.theory.specs.laws.Values.{if-ap, value-constant}
 use Rattle.theory.specs.laws.Nodes.{parts}
 use Rattle.theory.specs.laws.Valid.{stage-wide}
 use Rattle.theory.specs.laws.Expectation.{at-good}
@@ -107,11 +107,16 @@ module _ (m n : ℕ) (q : Asked) (ok : T (accepted m n q)) where
         ∙ (if-ap natAbs (leZ (numerator-of q p) (pos 0)) (pos (number-of h X)) (pos (number-of l X))
         ∙ ap (λ (z : ℤ). if (leZ z (pos 0)) (number-of h X) (number-of l X)) (value-asked p))
 
-    branch-kind : (t : Test) (h l : Tree) → member (branch t h l) X ≡ true → T (good-test n false t) → eqb (natAbs (node-word W (number-of (branch t h l) X) 0)) 0 ≡ false
-    unfolding good-test
-    branch-kind (now k) h l m g = ap (λ (z : ℤ). eqb (natAbs z) 0) (condition-shows X tail k h l m .kind)
+    branch-kind : (t : Test) (h l : Tree) → member (branch t h l) X ≡ true → T (good-test n false t) → ends (natAbs (node-word W (number-of (branch t h l) X) 0)) ≡ false
+    unfolding good-test ends
+    branch-kind (now k) h l m g = ap (λ (z : ℤ). ends (natAbs z)) (condition-shows X tail k h l m .kind)
     branch-kind (later k) h l m g = absurd g
-    branch-kind (linear p) h l m g = ap (λ (z : ℤ). eqb (natAbs z) 0) (test-shows X tail p h l m g .kind)
+    branch-kind (linear p) h l m g = ap (λ (z : ℤ). ends (natAbs z)) (test-shows X tail p h l m g .kind)
+
+    leaf-ends : (f : Leaf) → ends (natAbs (leaf-kind f)) ≡ true
+    unfolding leaf-kind ends
+    leaf-ends (some p a) = refl
+    leaf-ends forbidden = refl
 
     -- a step of the walk, from whether the node is good and whether it is a leaf
     abbrev turn : ℕ → ℕ → Bool → Bool → ℕ
@@ -126,7 +131,7 @@ module _ (m n : ℕ) (q : Asked) (ok : T (accepted m n q)) where
     walk-at t zero h m g = absurd (omega (arith, number-above t X m))
     walk-at (leaf f) (suc k) h m g =
         ap₂ (turn k (number-of (leaf f) X)) (is-true (good-row n A W (number-of (leaf f) X)) (node-good X tail x n A (leaf f) m g))
-        (ap (λ (z : ℤ). eqb (natAbs z) 0) (leaf-shows X tail f m (stage-wide A f g) .kind))
+        (ap (λ (z : ℤ). ends (natAbs z)) (leaf-shows X tail f m (stage-wide A f g) .kind) ∙ leaf-ends f)
     walk-at (branch t a b) (suc k) h m g =
         let d = parts (good-test n false) (stage-leaf A) t a b g in
         let c = (x .closed) t a b m in
@@ -138,10 +143,15 @@ module _ (m n : ℕ) (q : Asked) (ok : T (accepted m n q)) where
 
     -- what is read: the action and the worth of the leaf that a diagram comes to
     abbrev pub answer : Tree → ValueOut
-    answer t = record { number = 0; place = 0; action = at asked-env t .act; numerator = words (worth-at asked-env t) }
+    answer t = answered (worth-at asked-env t) (act-of (at asked-env t))
 
-    leaf-read : (f : Leaf) → member (leaf f) X ≡ true → T (stage-leaf A f)
-        → value-at q W (number-of (leaf f) X) ≡ record { number = 0; place = 0; action = f .act; numerator = words (value asked-env (f .lin)) }
+    -- the words of a leaf "none" read as none
+    leaf-answer : (f : Leaf) → record { number = 0; place = 0; action = act-of f; numerator = words (value asked-env (lin-of f)) } ≡ answered (leaf-worth asked-env f) (act-of f)
+    unfolding answered leaf-worth lin-of act-of no-coeffs zeros
+    leaf-answer (some p a) = refl
+    leaf-answer forbidden = ap (λ (z : ℤ). record { number = 0; place = 0; action = 0; numerator = words z }) (value-constant asked-env zero-linear tt ∙ zero-*ℤ (pos (asked-env .den)))
+
+    leaf-read : (f : Leaf) → member (leaf f) X ≡ true → T (stage-leaf A f) → value-at q W (number-of (leaf f) X) ≡ answered (leaf-worth asked-env f) (act-of f)
     unfolding value-at
     leaf-read f m g =
         let s = leaf-shows X tail f m (stage-wide A f g) in
@@ -152,7 +162,8 @@ module _ (m n : ℕ) (q : Asked) (ok : T (accepted m n q)) where
           action = natAbs (high-of W (number-of (leaf f) X));
           numerator = words (numerator-of q (node-linear W (number-of (leaf f) X)));
         })) (ne-eqb (number-of (leaf f) X) 0 (λ e. omega arith))
-        ∙ (λ i. record { number = 0; place = 0; action = natAbs (s .high i); numerator = words ((ap (numerator-of q) (s .numbers) ∙ value-asked (f .lin)) i) })
+        ∙ (λ i. record { number = 0; place = 0; action = natAbs (s .high i); numerator = words ((ap (numerator-of q) (s .numbers) ∙ value-asked (lin-of f)) i) })
+        ∙ leaf-answer f
 
     pub value-read : (t : Tree) → member t X ≡ true → Stage-good n A t → value-at q W (walk n A q W (number-of t X) (number-of t X)) ≡ answer t
     unfolding worth-at
@@ -218,7 +229,7 @@ all-at p d (t ∷ S) (suc i) h g = all-at p d S i (omega arith) (both (p t) (all
 -- the words that solving leaves, read at a stage
 pub stage-read : (m n : ℕ) (q : Asked) (ok : T (accepted m n q)) (A size : ℕ) (S : List Tree) (t : Tree) → member t (table-of S) ≡ true → Stage-good n A t
     → value-at q (solved-nodes size S) (walk n A q (solved-nodes size S) (number-of t (table-of S)) (number-of t (table-of S)))
-    ≡ record { number = 0; place = 0; action = at (asked-env m n q ok) t .act; numerator = words (worth-at (asked-env m n q ok) t) }
+    ≡ answered (worth-at (asked-env m n q ok) t) (act-of (at (asked-env m n q ok) t))
 unfolding solved-nodes
 stage-read m n q ok A size S t i g =
     value-read m n q ok (table-of S) (replicate (size - length (rows (table-of S) (table-of S))) (pos 0)) (table-of-table S) A t i g
@@ -236,19 +247,15 @@ pub reading-exact : (B : List ℕ) (size h : ℕ) (S : List Tree) (q : Asked) (o
     → early B h steps-most .number ≡ 0 → length S ≤ steps-most → 1 ≤ h → h ≤ length S
     → T (all (all-nodes (good-test (site-at B .conditions) false) (stage-leaf (site-at B .actions))) S)
     → value-of B (solved-nodes size S) (solved-stages S) h q
-    ≡ record {
-      number = 0;
-      place = 0;
-      action = at (env (state-of (site-at B .levels) (site-at B .conditions) q ok) []) (getD S (h - 1) zero-leaf) .act;
-      numerator = words (worth-at (env (state-of (site-at B .levels) (site-at B .conditions) q ok) []) (getD S (h - 1) zero-leaf));
-    }
+    ≡ answered (worth-at (env (state-of (site-at B .levels) (site-at B .conditions) q ok) []) (getD S (h - 1) zero-leaf))
+    (act-of (at (env (state-of (site-at B .levels) (site-at B .conditions) q ok) []) (getD S (h - 1) zero-leaf)))
 unfolding value-of
 reading-exact B size h S q ok e w a b g =
     let v = early B h (length (solved-stages S)) in
     let root = getD (solved-stages S) (h - 1) 0 in
     let is0 = eq-eqb (v .number) 0 (ap (λ (k : ℕ). early B h k .number) (stages-length S w) ∙ e) in
     let acc = is-true (accepted (site-at B .levels) (site-at B .conditions) q) ok in
-    let some = stage-nonzero S h a b in
+    let above = stage-nonzero S h a b in
     let non0 = ne-eqb root 0 (λ z. omega arith) in
     (λ i. value-of-by B (solved-nodes size S) q v (is0 i) (acc i) (non0 i) (stage-number S h a b i))
     ∙ stage-read (site-at B .levels) (site-at B .conditions) q ok (site-at B .actions) size S (getD S (h - 1) zero-leaf) (stage-in S h a b)

@@ -2,13 +2,13 @@
 use mathlib.Core.Path.{_≡_, refl, sym, ap, ap₂, _∙_, subst}
 use mathlib.Core.Logic.{_⊎_, inl, inr, ⊎-elim}
 use mathlib.Core.Bool.{Bool, true, false, not, _&&_}
-use mathlib.Core.List.{List, [], _∷_, _++_}
+use mathlib.Core.List.{List, [], _∷_, _++_, List·Memᴰ, List·Memᴰ·cases-cons, List·Memᴰ·not-nil}
 use Prim.Native.Nat.{ℕ, zero, suc, _+_, _-_, _*_, _/_, _≤_, _<_, min}
 use native.Mathlib.Nat.{le-refl, min-le-left, min-le-right, le-min, le-div-iff-mul-le, div-mul-le-self}
 use native.Mathlib.Omega.{arith}
 use borrow.Author.Tests.{ne-eqb}
 use lib.Dec.{T, T-not, eqb, ltb, leb, eqb→eq, eqb-refl, leb→le, nleb→lt, ltb→lt, lt→ltb, nltb→le}
-use lib.IntN.{ℤ, pos, negsuc, natAbs}
+use lib.IntN.{ℤ, pos, negsuc, natAbs, _+ℤ_, _*ℤ_, zero-*ℤ}
 use lib.ListN.{length, getD, take, drop, replicate, length-append, length-replicate, length-drop, take-append-drop}
 use lib.Seq.{length-take-le, take-at, drop-at, drop-drop, take-append-seam, drop-append-seam}
 use lib.Signed.{leZ}
@@ -17,24 +17,28 @@ use Rattle.whole.specs.Numerator.{words}
 use Rattle.theory.specs.Widths.{levels-most, steps-most, bytes-most, node-words, work-words, nodes-most}
 use Rattle.theory.specs.Diagram.{Tree, zeros}
 use Rattle.theory.specs.Computation.{Out, done, stopped, result, run, Solved, solved, refused, run-all}
+use Rattle.theory.specs.Total.{num}
+use Rattle.theory.specs.Total.{none as no-total}
 use Rattle.theory.specs.Process.{lowest-best}
-use Rattle.theory.specs.Meaning.{Action, Model, State, nth, process}
+use Rattle.theory.specs.Meaning.{Model, State, nth, dot, numbers-from, process}
 use Rattle.theory.specs.Stage.{all-stages}
-use Rattle.theory.specs.Valid.{all, among, small-linear}
+use Rattle.theory.specs.Valid.{all, among, small-linear, valid}
 use Rattle.theory.specs.Form.{Form, new-form}
-use Rattle.theory.specs.Command.{Command, site, push-leaf, push-condition, push-test, name-action, end-model, Read, whole, unknown, short, byte-at, width, command-at, read-at, goes-on, readings-from, readings, give, width-in, command-in, read-in, readings-from-in, readings-in}
+use Rattle.theory.specs.Command.{Command, site, push-leaf, push-condition, push-test, push-forbidden, name-action, end-model, Read, whole, unknown, short, byte-at, width, command-at, read-at, goes-on, readings-from, readings, give, width-in, command-in, read-in, readings-from-in, readings-in}
 use Rattle.theory.specs.Verdict.{Verdict, Site, refusal, Progress, first-broken, rules-of, after, ended, judged, at-start, verdict, from-to, or, rules-in, judged-in, verdict-in}
 use Rattle.theory.specs.Load.{site-at, load, model, model-in}
 use Rattle.theory.specs.Solve.{room, solve-in, table-of, rows, SolveOut, solved-nodes, solve-left, early, solve}
-use Rattle.theory.specs.Value.{Asked, accepted, bits, numerator-of, state-of, node-word, node-linear, high-of, low-of, amongZ, good-branches, good-leaf-row, good-condition-row, good-test-row, good-row, taken, walk, ValueOut, refused-value, value-at, value-of}
-use Rattle.theory.specs.Plain.{Worth, is, over, better, try-actions, numbered, action-worth, state-worth, worth-out, if-true, plain-of}
+use Rattle.theory.specs.Value.{Asked, accepted, bits, numerator-of, state-of, node-word, node-linear, high-of, low-of, amongZ, good-branches, good-leaf-row, good-condition-row, good-test-row, good-row, taken, ends, walk, ValueOut, refused-value, answered, value-at, value-of}
+use Rattle.theory.specs.Plain.{Worth, is, nothing, over, state-worth, worth-out, if-true, plain-of}
+use Rattle.theory.specs.Staying.{Stays}
 use Rattle.theory.specs.Name.{name-refusal}
 use Rattle.theory.specs.Listing.{greatest-root, text, written, ListingOut, listing-refusal, listing}
-use Rattle.theory.specs.Rows.{Keeps, Range, asks-in, asks-of, Whole-in, Whole, Comes-in, comes-first, comes-next, EndsAt-in, VerdictRow-in, VerdictRow, verdict-0, verdict-3, verdict-2, verdict-2-end, verdict-1-7, verdict-8, Admitted, EarlyRow, early-10, early-9, early-1-8, Room, SolveRow, solve-0, solve-1-10, solve-11-12, OnWalk, first-met, then-met, Stated, ValueRow, value-0, value-1-10, value-13, value-14, value-15, PlainRow, plain-0, plain-1-10, plain-13, plain-11, NameRow, name-0, name-1-10, name-16, Rooted, Tabled, ListingRow, listing-0, listing-1-10, listing-14, listing-15, listing-17}
-use Rattle.theory.specs.laws.Plain.{plain-exact, plain-action}
-use Rattle.theory.specs.laws.Staying.{answers-stay, over-leaves, stays-some}
+use Rattle.theory.specs.Rows.{Keeps, Range, asks-in, asks-of, Whole-in, Whole, Comes-in, comes-first, comes-next, EndsAt-in, VerdictRow-in, VerdictRow, verdict-0, verdict-3, verdict-2, verdict-2-end, verdict-1-7, verdict-8, Admitted, EarlyRow, early-10, early-9, early-1-8, Room, SolveRow, solve-0, solve-1-10, solve-11-12, Among, KindFits, fits-leaf, fits-condition, fits-test, fits-none, OnWalk, first-met, then-met, Stated, ValueRow, value-0, value-none, value-1-10, value-13, value-14, value-15, PlainRow, plain-0, plain-1-10, plain-13, plain-11, NameRow, name-0, name-1-10, name-16, Rooted, Tabled, ListingRow, listing-0, listing-1-10, listing-14, listing-15, listing-17}
+use Rattle.theory.specs.laws.Plain.{worth-exact}
+use Rattle.theory.specs.laws.Process.{lowest-best-action}
+use Rattle.theory.specs.laws.Staying.{Fine, answers-stay, stays-answers, over-leaves}
 use Rattle.theory.specs.laws.Rules.{by-rules, kept-zero, broken-number, rules-agree-in, rules-agree}
-use Rattle.theory.specs.laws.Fits.{state-fits, state-accepted, state-refused, node-fits, fits-good, misfits, misfits-bad, kind-zero, zero-kind, kind-other}
+use Rattle.theory.specs.laws.Fits.{state-fits, state-accepted, state-refused, node-fits, fits-good, misfits, misfits-bad, part-each, zero-ends, three-ends, ends-kind, kind-other}
 use Rattle.theory.specs.laws.Comps.{run-result, run-all-final}
 use Rattle.theory.specs.laws.Stages.{all-stages-length}
 use Rattle.theory.specs.laws.Refusals.{refused-number, refused-place}
@@ -42,7 +46,7 @@ use Rattle.theory.specs.laws.Chain.{peak-fits, table-fits}
 use Rattle.theory.specs.laws.Words.{rows-length, by-kind}
 use Rattle.theory.specs.laws.Reading.{stages-length}
 use Rattle.theory.specs.laws.Valid.{among-in, among-out, other-above}
-use Rattle.theory.specs.laws.Loading.{positive, behind-in, behind, accepted-site}
+use Rattle.theory.specs.laws.Loading.{positive, behind-in, behind, accepted-site, accepted-valid}
 
 -- ---- tests
 
@@ -77,6 +81,7 @@ not-end-going (site m n a w) f = tt
 not-end-going (push-leaf p) f = tt
 not-end-going (push-condition k) f = tt
 not-end-going (push-test p) f = tt
+not-end-going push-forbidden f = tt
 not-end-going (give g) f = tt
 not-end-going (name-action a b) f = tt
 not-end-going end-model f = absurd (f refl)
@@ -111,6 +116,7 @@ module _ (F : Form) (B : List ℕ) where
   ended-row k at s m w (push-leaf p) e f ih = ih (λ z. going-not-end (push-leaf p) tt (sym e ∙ z))
   ended-row k at s m w (push-condition c) e f ih = ih (λ z. going-not-end (push-condition c) tt (sym e ∙ z))
   ended-row k at s m w (push-test p) e f ih = ih (λ z. going-not-end (push-test p) tt (sym e ∙ z))
+  ended-row k at s m w push-forbidden e f ih = ih (λ z. going-not-end push-forbidden tt (sym e ∙ z))
   ended-row k at s m w (give g) e f ih = ih (λ z. going-not-end (give g) tt (sym e ∙ z))
   ended-row k at s m w (name-action a b) e f ih = ih (λ z. going-not-end (name-action a b) tt (sym e ∙ z))
 
@@ -158,6 +164,7 @@ module _ (F : Form) (B : List ℕ) where
   ended-going-in k at s (push-leaf p) t = refl
   ended-going-in k at s (push-condition c) t = refl
   ended-going-in k at s (push-test p) t = refl
+  ended-going-in k at s push-forbidden t = refl
   ended-going-in k at s (give g) t = refl
   ended-going-in k at s (name-action a b) t = refl
   ended-going-in k at s end-model t = absurd t
@@ -438,22 +445,14 @@ pick-first : (b x y : Bool) → T (if b x y) → T b → T x
 pick-first true x y t u = t
 pick-first false x y t u = absurd u
 
-pick-rest : (b x c y d z : Bool) {A : Type 0} → (T y → A) → (T z → A) → T (if b x (if c y (if d z false))) → T (not b) → A
-pick-rest true x c y d z f g t u = absurd u
-pick-rest false x true y d z f g t u = f t
-pick-rest false x false y true z f g t u = g t
-pick-rest false x false y false z f g t u = absurd t
+pick-rest : (b x c y d z e w : Bool) {A : Type 0} → (T y → A) → (T z → A) → T (if b x (if c y (if d z (if e w false)))) → T (not (or b e)) → A
+pick-rest true x c y d z e w f g t u = absurd u
+pick-rest false x true y d z e w f g t u = f t
+pick-rest false x false y true z e w f g t u = g t
+pick-rest false x false y false z true w f g t u = absurd u
+pick-rest false x false y false z false w f g t u = absurd t
 
 module _ (n A : ℕ) (q : Asked) (W : List ℤ) where
-  -- what a good row is by its kind
-  good-leaf : (r : ℕ) → T (good-row n A W r) → T (eqb (natAbs (node-word W r 0)) 0) → T (good-leaf-row A W r)
-  unfolding good-row
-  good-leaf r t = go (node-word W r 0) (both (leb (r * node-words) (length W)) _ t .1)
-    where
-      go : (z : ℤ) → T (by-kind n A W r z) → T (eqb (natAbs z) 0) → T (good-leaf-row A W r)
-      go (pos k) t u = pick-first (eqb k 0) _ _ t u
-      go (negsuc k) t u = absurd t
-
   condition-branches : (r : ℕ) → T (good-condition-row n W r) → T (good-branches W r)
   unfolding good-condition-row
   condition-branches r t =
@@ -463,16 +462,16 @@ module _ (n A : ℕ) (q : Asked) (W : List ℤ) where
   unfolding good-test-row
   test-branches r t = both (small-linear (node-linear W r)) (good-branches W r) t .1
 
-  good-inner : (r : ℕ) → T (good-row n A W r) → T (not (eqb (natAbs (node-word W r 0)) 0)) → T (good-branches W r)
-  unfolding good-row
+  good-inner : (r : ℕ) → T (good-row n A W r) → T (not (ends (natAbs (node-word W r 0)))) → T (good-branches W r)
+  unfolding good-row ends
   good-inner r t = go (node-word W r 0) (both (leb (r * node-words) (length W)) _ t .1)
     where
-      go : (z : ℤ) → T (by-kind n A W r z) → T (not (eqb (natAbs z) 0)) → T (good-branches W r)
-      go (pos k) t u = pick-rest (eqb k 0) _ (eqb k 1) _ (eqb k 2) _ (condition-branches r) (test-branches r) t u
+      go : (z : ℤ) → T (by-kind n A W r z) → T (not (ends (natAbs z))) → T (good-branches W r)
+      go (pos k) t u = pick-rest (eqb k 0) _ (eqb k 1) _ (eqb k 2) _ (eqb k 3) _ (condition-branches r) (test-branches r) t u
       go (negsuc k) t u = absurd t
 
   -- the branch taken lies from 1 to below its node
-  taken-below : (r : ℕ) → 1 ≤ r → T (good-row n A W r) → T (not (eqb (natAbs (node-word W r 0)) 0)) → (1 ≤ taken n q W r) × (taken n q W r < r)
+  taken-below : (r : ℕ) → 1 ≤ r → T (good-row n A W r) → T (not (ends (natAbs (node-word W r 0)))) → (1 ≤ taken n q W r) × (taken n q W r < r)
   unfolding taken good-branches
   taken-below r a t u =
       let d = both (amongZ (r - 1) (high-of W r)) (amongZ (r - 1) (low-of W r)) (good-inner r t u) in
@@ -485,32 +484,33 @@ module _ (n A : ℕ) (q : Asked) (W : List ℤ) where
   module _ (root : ℕ) where
     -- at a node that is refused, or at a leaf that is not
     abbrev Ends : ℕ → Type 0
-    Ends w = ((w ≡ 0) × ((r : ℕ) × (OnWalk n A q W root r × T (not (good-row n A W r))))) ⊎ ((1 ≤ w) × (T (good-leaf-row A W w) × (OnWalk n A q W root w × (T (good-row n A W w) × T (eqb (natAbs (node-word W w 0)) 0)))))
+    Ends w = ((w ≡ 0) × ((r : ℕ) × (OnWalk n A q W root r × T (not (good-row n A W r))))) ⊎ ((1 ≤ w) × (OnWalk n A q W root w × (T (good-row n A W w) × T (ends (natAbs (node-word W w 0))))))
 
     walk-ends : (k r : ℕ) → OnWalk n A q W root r → 1 ≤ r → r ≤ k → Ends (walk n A q W k r)
     unfolding walk
     walk-ends zero r m a b = absurd (omega arith)
-    walk-ends (suc k) r m a b = by-test (good-row n A W r) (λ z. Ends (elim z [ true ↦ if (eqb (natAbs (node-word W r 0)) 0) r (walk n A q W k (taken n q W r)) | false ↦ 0 ]))
-        (λ g. by-test (eqb (natAbs (node-word W r 0)) 0) (λ z. Ends (if z r (walk n A q W k (taken n q W r))))
-        (λ e. inr (a, (good-leaf r g e, (m, (g, e)))))
-        (λ e. let i = taken-below r a g e in walk-ends k (taken n q W r) (then-met m (node-fits n A W r g) (λ z. T-not (eqb (natAbs (node-word W r 0)) 0) e (zero-kind (node-word W r 0) z))) (i .0) (omega (arith, i .1))))
+    walk-ends (suc k) r m a b = by-test (good-row n A W r) (λ z. Ends (elim z [ true ↦ if (ends (natAbs (node-word W r 0))) r (walk n A q W k (taken n q W r)) | false ↦ 0 ]))
+        (λ g. by-test (ends (natAbs (node-word W r 0))) (λ z. Ends (if z r (walk n A q W k (taken n q W r))))
+        (λ e. inr (a, (m, (g, e))))
+        (λ e. let i = taken-below r a g e in walk-ends k (taken n q W r) (then-met m (node-fits n A W r g) (λ z. T-not (ends (natAbs (node-word W r 0))) e (zero-ends (node-word W r 0) z))
+        (λ z. T-not (ends (natAbs (node-word W r 0))) e (three-ends (node-word W r 0) z))) (i .0) (omega (arith, i .1))))
         (λ g. inl (refl, (r, (m, g))))
 
     -- ---- the walk goes through the nodes that are met
 
-    walk-on : (k r : ℕ) → T (good-row n A W r) → T (not (eqb (natAbs (node-word W r 0)) 0)) → walk n A q W (suc k) r ≡ walk n A q W k (taken n q W r)
+    walk-on : (k r : ℕ) → T (good-row n A W r) → T (not (ends (natAbs (node-word W r 0)))) → walk n A q W (suc k) r ≡ walk n A q W k (taken n q W r)
     unfolding walk
-    walk-on k r g z = by-test (good-row n A W r) (λ b. elim b [ true ↦ if (eqb (natAbs (node-word W r 0)) 0) r (walk n A q W k (taken n q W r)) | false ↦ 0 ] ≡ walk n A q W k (taken n q W r))
-        (λ _. if-no (eqb (natAbs (node-word W r 0)) 0) r _ z) (λ t. absurd (T-not (good-row n A W r) t g))
+    walk-on k r g z = by-test (good-row n A W r) (λ b. elim b [ true ↦ if (ends (natAbs (node-word W r 0))) r (walk n A q W k (taken n q W r)) | false ↦ 0 ] ≡ walk n A q W k (taken n q W r))
+        (λ _. if-no (ends (natAbs (node-word W r 0))) r _ z) (λ t. absurd (T-not (good-row n A W r) t g))
 
-    walk-leaf : (k r : ℕ) → T (good-row n A W r) → T (eqb (natAbs (node-word W r 0)) 0) → walk n A q W (suc k) r ≡ r
+    walk-leaf : (k r : ℕ) → T (good-row n A W r) → T (ends (natAbs (node-word W r 0))) → walk n A q W (suc k) r ≡ r
     unfolding walk
-    walk-leaf k r g z = by-test (good-row n A W r) (λ b. elim b [ true ↦ if (eqb (natAbs (node-word W r 0)) 0) r (walk n A q W k (taken n q W r)) | false ↦ 0 ] ≡ r)
-        (λ _. if-yes (eqb (natAbs (node-word W r 0)) 0) r _ z) (λ t. absurd (T-not (good-row n A W r) t g))
+    walk-leaf k r g z = by-test (good-row n A W r) (λ b. elim b [ true ↦ if (ends (natAbs (node-word W r 0))) r (walk n A q W k (taken n q W r)) | false ↦ 0 ] ≡ r)
+        (λ _. if-yes (ends (natAbs (node-word W r 0))) r _ z) (λ t. absurd (T-not (good-row n A W r) t g))
 
     walk-bad : (k r : ℕ) → T (not (good-row n A W r)) → walk n A q W (suc k) r ≡ 0
     unfolding walk
-    walk-bad k r g = by-test (good-row n A W r) (λ b. _≡_ {A = ℕ} (elim b [ true ↦ if (eqb (natAbs (node-word W r 0)) 0) r (walk n A q W k (taken n q W r)) | false ↦ 0 ]) 0)
+    walk-bad k r g = by-test (good-row n A W r) (λ b. _≡_ {A = ℕ} (elim b [ true ↦ if (ends (natAbs (node-word W r 0))) r (walk n A q W k (taken n q W r)) | false ↦ 0 ]) 0)
         (λ t. absurd (T-not (good-row n A W r) g t)) (λ _. refl)
 
     -- what is left of the walk at a node that is met
@@ -523,23 +523,47 @@ module _ (n A : ℕ) (q : Asked) (W : List ℤ) where
         at-root : (x : ℕ) → 1 ≤ x → x ≡ root → Left root
         at-root zero l e = absurd (omega arith)
         at-root (suc k) l e = (k, (h, (omega arith, ap (λ (j : ℕ). walk n A q W j root) (sym e))))
-    walk-left h (then-met {r = r} m f o) = let d = walk-left h m in next (d .0) (d .1 .0) (d .1 .1 .0) (d .1 .1 .1)
+    walk-left h (then-met {r = r} m f o p) = let d = walk-left h m in next (d .0) (d .1 .0) (d .1 .1 .0) (d .1 .1 .1)
       where
         g : T (good-row n A W r)
         g = fits-good n A W r f
 
-        z : T (not (eqb (natAbs (node-word W r 0)) 0))
-        z = kind-other (node-word W r 0) o
+        z : T (not (ends (natAbs (node-word W r 0))))
+        z = kind-other n A W r f o p
 
         next : (k : ℕ) → 1 ≤ r → r ≤ suc k → walk n A q W root root ≡ walk n A q W (suc k) r → Left (taken n q W r)
         next zero a b e = let i = taken-below r a g z in absurd (omega (arith, i .0, i .1))
         next (suc k) a b e = let i = taken-below r a g z in (k, (i .0, (omega (arith, i .1), e ∙ walk-on (suc k) r g z)))
 
-    walk-read : {r : ℕ} → 1 ≤ root → OnWalk n A q W root r → T (good-row n A W r) → T (eqb (natAbs (node-word W r 0)) 0) → (walk n A q W root root ≡ r) × (1 ≤ r)
+    walk-read : {r : ℕ} → 1 ≤ root → OnWalk n A q W root r → T (good-row n A W r) → T (ends (natAbs (node-word W r 0))) → (walk n A q W root root ≡ r) × (1 ≤ r)
     walk-read {r} h m g z = let d = walk-left h m in (d .1 .1 .1 ∙ walk-leaf (d .0) r g z, d .1 .0)
 
     walk-refused : {r : ℕ} → 1 ≤ root → OnWalk n A q W root r → T (not (good-row n A W r)) → walk n A q W root root ≡ 0
     walk-refused {r} h m g = let d = walk-left h m in d .1 .1 .1 ∙ walk-bad (d .0) r g
+
+other-kind : (a b : ℕ) → pos a ≡ pos b → (a ≡ b → ⊥) → ⊥
+other-kind a b e n = n (ap natAbs e)
+
+among-range : (n : ℕ) (z : ℤ) → Among n z → Range 1 n (natAbs z)
+unfolding amongZ
+among-range n z d = let h = amongZ-out n z (and-in (leZ (pos 1) z) (leZ z (pos n)) (d .0 .le) (d .1 .le)) in (h .0, h .1)
+
+dot-zeros-left : (c x : List ℤ) → ((i : ℕ) → getD c i (pos 0) ≡ pos 0) → dot c x ≡ pos 0
+unfolding dot
+dot-zeros-left [] x f = refl
+dot-zeros-left (c ∷ cs) [] f = refl
+dot-zeros-left (c ∷ cs) (y ∷ x) f = ap₂ _+ℤ_ (ap (λ (z : ℤ). z *ℤ y) (f 0) ∙ zero-*ℤ y) (dot-zeros-left cs x (λ i. f (suc i)))
+
+-- a row of zeros has the numerator 0
+numerator-zero : (q : Asked) (W : List ℤ) (r : ℕ) → ((i : ℕ) → Range 1 11 i → node-word W r i ≡ pos 0) → numerator-of q (node-linear W r) ≡ pos 0
+unfolding numerator-of node-linear
+numerator-zero q W r f =
+    let b = (r - 1) * node-words in
+    ap₂ _+ℤ_ (dot-zeros-left _ (q .nums) (part-each (λ z. z ≡ pos 0) refl levels-most (b + 1) W (λ i h. ap (λ (j : ℕ). getD W j (pos 0)) (next b i) ∙ f (suc i) (omega arith, omega arith))))
+    (ap (λ (z : ℤ). z *ℤ (q .den)) (f (levels-most + 1) (omega arith, omega arith)) ∙ zero-*ℤ (q .den))
+  where
+    next : (b i : ℕ) → b + 1 + i ≡ b + suc i
+    next b i = omega arith
 
 module _ (B : List ℕ) (nodes : List ℤ) (stages : List ℕ) (steps : ℕ) (q : Asked) where
   abbrev S : Site
@@ -548,14 +572,32 @@ module _ (B : List ℕ) (nodes : List ℤ) (stages : List ℕ) (steps : ℕ) (q 
   abbrev root : ℕ
   root = getD stages (steps - 1) 0
 
+  leaf-action : (r : ℕ) → node-word nodes r 0 ≡ pos 0 → KindFits (S .conditions) (S .actions) nodes r → Range 1 (S .actions) (natAbs (high-of nodes r))
+  leaf-action r e (fits-leaf _ _ a _) = among-range (S .actions) (high-of nodes r) a
+  leaf-action r e (fits-condition k _ _ _) = absurd (other-kind 0 1 (sym e ∙ k) (omega arith))
+  leaf-action r e (fits-test k _ _) = absurd (other-kind 0 2 (sym e ∙ k) (omega arith))
+  leaf-action r e (fits-none k _) = absurd (other-kind 0 3 (sym e ∙ k) (omega arith))
+
+  none-zeros : (r : ℕ) → node-word nodes r 0 ≡ pos 3 → KindFits (S .conditions) (S .actions) nodes r → (i : ℕ) → Range 1 11 i → node-word nodes r i ≡ pos 0
+  none-zeros r e (fits-none _ f) = f
+  none-zeros r e (fits-leaf k _ _ _) = absurd (other-kind 3 0 (sym e ∙ k) (omega arith))
+  none-zeros r e (fits-condition k _ _ _) = absurd (other-kind 3 1 (sym e ∙ k) (omega arith))
+  none-zeros r e (fits-test k _ _) = absurd (other-kind 3 2 (sym e ∙ k) (omega arith))
+
+  -- the words of a leaf "none" read as none
+  none-words : (r : ℕ) → ((i : ℕ) → Range 1 11 i → node-word nodes r i ≡ pos 0)
+      → record { number = 0; place = 0; action = natAbs (high-of nodes r); numerator = words (numerator-of q (node-linear nodes r)) } ≡ answered no-total 0
+  unfolding answered
+  none-words r f = (λ i. record { number = 0; place = 0; action = natAbs (f 10 (omega arith, omega arith) i); numerator = words (numerator-zero q nodes r f i) })
+
   read-row : Stated B nodes stages steps q → 1 ≤ root → (w : ℕ) → Ends (S .conditions) (S .actions) q nodes root w → ValueRow B nodes stages steps q (value-at q nodes w)
-  unfolding value-at good-leaf-row
+  unfolding value-at
   read-row st l w (inl d) = subst (λ (w : ℕ). ValueRow B nodes stages steps q (value-at q nodes w)) (sym (d .0)) (value-14 st l (d .1 .1 .0) (misfits _ _ nodes _ (d .1 .1 .1)))
   read-row st l w (inr d) =
-      let a = amongZ-out (S .actions) (high-of nodes w) (both (amongZ (S .actions) (high-of nodes w)) _ (both (small-linear (node-linear nodes w)) _ (d .1 .0) .1) .0) in
-      by-test (eqb w 0)
-      (λ b. ValueRow B nodes stages steps q (if b (refused-value 14 0) (record { number = 0; place = 0; action = natAbs (high-of nodes w); numerator = words (numerator-of q (node-linear nodes w)) })))
-      (λ t. absurd (omega (arith, eqb→eq w 0 t, d .0))) (λ _. value-0 st l (d .1 .1 .0) (node-fits _ _ nodes w (d .1 .1 .1 .0)) (kind-zero (node-word nodes w 0) (d .1 .1 .1 .1)) a)
+      let f = node-fits _ _ nodes w (d .1 .1 .0) in
+      subst (ValueRow B nodes stages steps q) (sym (if-no (eqb w 0) (refused-value 14 0) _ (some-not w (d .0))))
+      (⊎-elim (λ e. value-0 st l (d .1 .0) f e (leaf-action w e (f .kind))) (λ e. subst (ValueRow B nodes stages steps q) (sym (none-words w (none-zeros w e (f .kind)))) (value-none st l (d .1 .0) f e))
+      (ends-kind _ _ nodes w f (d .1 .1 .1)))
 
   stated : Passed B steps (length stages) → T (accepted (S .levels) (S .conditions) q) → Stated B nodes stages steps q
   stated p u = record { early = admitted p; state = state-fits (S .levels) (S .conditions) q u }
@@ -586,8 +628,12 @@ module _ (B : List ℕ) (nodes : List ℤ) (stages : List ℕ) (steps : ℕ) (q 
   pub value-is : {o : ValueOut} → ValueRow B nodes stages steps q o → value-of B nodes stages steps q ≡ o
   unfolding value-of on-from value-at
   value-is (value-0 {r = r} d l m g z a) =
-      let w = walk-read (S .conditions) (S .actions) q nodes root l m (fits-good _ _ nodes r g) (zero-kind (node-word nodes r 0) z) in
+      let w = walk-read (S .conditions) (S .actions) q nodes root l m (fits-good _ _ nodes r g) (zero-ends (node-word nodes r 0) z) in
       stated-is d ∙ if-no (eqb root 0) (refused-value 15 0) _ (some-not root l) ∙ ap (value-at q nodes) (w .0) ∙ if-no (eqb r 0) (refused-value 14 0) _ (some-not r (w .1))
+  value-is (value-none {r = r} d l m g z) =
+      let w = walk-read (S .conditions) (S .actions) q nodes root l m (fits-good _ _ nodes r g) (three-ends (node-word nodes r 0) z) in
+      stated-is d ∙ if-no (eqb root 0) (refused-value 15 0) _ (some-not root l) ∙ ap (value-at q nodes) (w .0) ∙ if-no (eqb r 0) (refused-value 14 0) _ (some-not r (w .1))
+      ∙ none-words r (none-zeros r z (g .kind))
   value-is (value-1-10 {k = k} r) = ap on-from (early-is r) ∙ if-no (eqb k 0) _ _ (some-not k (early-some r))
   value-is (value-13 d t) = ap on-from (admitted-is d) ∙ if-no (accepted (S .levels) (S .conditions) q) _ (refused-value 13 0) (state-refused (S .levels) (S .conditions) q t)
   value-is (value-15 d e) = stated-is d ∙ if-yes (eqb root 0) (refused-value 15 0) _ (zero-is root e)
@@ -596,37 +642,24 @@ module _ (B : List ℕ) (nodes : List ℤ) (stages : List ℕ) (steps : ℕ) (q 
 
 -- ---- plain working
 
--- an action from 1 to n, where there is one
-abbrev Picks : ℕ → Worth → Type 0
-Picks n (is v c) = (1 ≤ c) × (c ≤ n)
-Picks n over = Unit {0}
+-- the numbers from a on, one for each of a list
+numbers-range : {X : Type 0} (a : ℕ) (l : List X) (b : ℕ) → List·Memᴰ b (numbers-from a l) → (a ≤ b) × (b < a + length l)
+unfolding numbers-from
+numbers-range a [] b m = absurd (List·Memᴰ·not-nil m)
+numbers-range a (x ∷ l) b m = ⊎-elim (λ e. (omega arith, omega arith)) (λ i. let d = numbers-range (suc a) l b i in (omega (arith, d .0), omega (arith, d .1))) (List·Memᴰ·cases-cons m)
 
-picks-more : (n k : ℕ) → n ≤ k → (o : Worth) → Picks n o → Picks k o
-picks-more n k h (is v c) d = (d .0, omega (arith, d .1))
-picks-more n k h over d = tt
+-- the lowest of the best actions is one of the model's
+lowest-range : (M : Model) (h : ℕ) (s : State) → Range 1 (suc (length (M .others))) (lowest-best (process M) h s)
+unfolding process
+lowest-range M h s = ⊎-elim (λ e. (omega arith, omega arith)) (λ i. let d = numbers-range 2 (M .others) _ i in (omega (arith, d .0), omega (arith, d .1)))
+    (List·Memᴰ·cases-cons (lowest-best-action (process M) h s))
 
-better-picks : (v : ℤ) (b a : ℕ) (o : Worth) → 1 ≤ b → b ≤ a → Picks (suc a) (better v b (suc a) o)
-unfolding better
-better-picks v b a (is u c) h l = by-test (leZ u v) (λ z. Picks (suc a) (if z (is v b) (is u (suc a)))) (λ _. (h, omega arith)) (λ _. (omega arith, omega arith))
-better-picks v b a over h l = tt
-
-tried-picks : (f : Action → Worth) (n a : ℕ) (l : List Action) (o : Worth) → a + length l ≤ n → Picks a o → Picks n (try-actions f (suc a) l o)
-unfolding try-actions
-tried-picks f n a [] o h d = picks-more a n (omega arith) o d
-tried-picks f n a (x ∷ l) over h d = tt
-tried-picks f n a (x ∷ l) (is v b) h d = tried-picks f n (suc a) l (better v b (suc a) (f x)) (omega arith) (better-picks v b a (f x) (d .0) (d .1))
-
-state-picks : (M : Model) (h : ℕ) (s : State) → Picks (suc (length (M .others))) (state-worth M (suc h) s)
-unfolding state-worth numbered
-state-picks M h s = tried-picks (λ x. action-worth M (suc h) (state-worth M h) x s) _ 1 (M .others) _ (omega arith) (first (action-worth M (suc h) (state-worth M h) (M .first) s))
-  where
-    first : (o : Worth) → Picks 1 (numbered o)
-    first (is v a) = (omega arith, omega arith)
-    first over = tt
-
-plain-lowest : (M : Model) (h : ℕ) (s : State) (v : ℤ) (a : ℕ) → 1 ≤ h → state-worth M h s ≡ is v a → a ≡ lowest-best (process M) h s
-plain-lowest M zero s v a l e = absurd (omega arith)
-plain-lowest M (suc h) s v a l e = plain-action M h s v a e
+-- a worth that did not leave its limits is answered
+fine-number : (o : Worth) → Fine o → worth-out o .number ≡ 0
+unfolding worth-out answered
+fine-number (is v a) f = refl
+fine-number nothing f = refl
+fine-number over f = absurd f
 
 module _ (B : List ℕ) (steps : ℕ) (q : Asked) where
   abbrev Answer : ValueOut → Type 0
@@ -636,22 +669,24 @@ module _ (B : List ℕ) (steps : ℕ) (q : Asked) where
   sited = site-at B
 
   worth-row : Passed B steps steps-most → (t : T (accepted (sited .levels) (sited .conditions) q)) (o : Worth) → state-worth (model B) steps (state-of (sited .levels) (sited .conditions) q t) ≡ o
-      → Picks (sited .actions) o → Answer (worth-out o)
+      → Answer (worth-out o)
   unfolding worth-out
-  worth-row p t (is v a) e d =
-      let s = state-of (sited .levels) (sited .conditions) q t in
-      let i = plain-lowest (model B) steps s v a (p .least) e in
-      subst (λ (c : ℕ). Answer (record { number = 0; place = 0; action = c; numerator = words v })) (sym i)
-      (subst (λ (z : ℤ). Answer (record { number = 0; place = 0; action = lowest-best (process (model B)) steps s; numerator = words z })) (sym (plain-exact (model B) steps s v a e))
-      (plain-0 (admitted p) t (answers-stay (model B) steps s v a e) (subst (Range 1 (sited .actions)) i d)))
-  worth-row p t over e d = plain-11 (admitted p) t (over-leaves (model B) steps (state-of (sited .levels) (sited .conditions) q t) e)
-
-  picks : Passed B steps steps-most → (s : State) → Picks (sited .actions) (state-worth (model B) steps s)
-  picks p s = go steps (p .least)
+  worth-row p t o e = go o e
     where
-      go : (h : ℕ) → 1 ≤ h → Picks (sited .actions) (state-worth (model B) h s)
-      go zero l = absurd (omega arith)
-      go (suc h) l = subst (λ (n : ℕ). Picks n (state-worth (model B) (suc h) s)) (accepted-site B (p .own) .1 .same-actions) (state-picks (model B) h s)
+      s : State
+      s = state-of (sited .levels) (sited .conditions) q t
+
+      ok : T (valid (model B))
+      ok = accepted-valid B (p .own)
+
+      answer : Fine (state-worth (model B) steps s) → Answer (worth-out (state-worth (model B) steps s))
+      answer f = subst Answer (sym (worth-exact (model B) ok steps s (p .least) (fine-number (state-worth (model B) steps s) f)))
+          (plain-0 (admitted p) t (answers-stay (model B) ok steps s f) (subst (λ (n : ℕ). Range 1 n (lowest-best (process (model B)) steps s)) (accepted-site B (p .own) .1 .same-actions) (lowest-range (model B) steps s)))
+
+      go : (o : Worth) → state-worth (model B) steps s ≡ o → Answer (worth-out o)
+      go (is v a) e = subst (λ (o : Worth). Answer (worth-out o)) e (answer (subst Fine (sym e) tt))
+      go nothing e = subst (λ (o : Worth). Answer (worth-out o)) e (answer (subst Fine (sym e) tt))
+      go over e = plain-11 (admitted p) t (over-leaves (model B) ok steps s e)
 
   state-row : (b : Bool) (f : T b → ValueOut) → ((t : T b) → Answer (f t)) → (T (not b) → Answer (refused-value 13 0)) → Answer (if-true b f (refused-value 13 0))
   unfolding if-true
@@ -664,7 +699,7 @@ module _ (B : List ℕ) (steps : ℕ) (q : Asked) where
       let out : T (accepted (sited .levels) (sited .conditions) q) → ValueOut = λ t. worth-out (state-worth (model B) steps (state-of (sited .levels) (sited .conditions) q t)) in
       by-early B steps steps-most
       (λ v b. Answer (if b (if-true (accepted (sited .levels) (sited .conditions) q) out (refused-value 13 0)) (refused-value (v .number) (v .place))))
-      (λ p. state-row (accepted (sited .levels) (sited .conditions) q) out (λ t. worth-row p t _ refl (picks p _)) (λ t. plain-13 (admitted p) (λ f. T-not (accepted (sited .levels) (sited .conditions) q) t (state-accepted (sited .levels) (sited .conditions) q f))))
+      (λ p. state-row (accepted (sited .levels) (sited .conditions) q) out (λ t. worth-row p t _ refl) (λ t. plain-13 (admitted p) (λ f. T-not (accepted (sited .levels) (sited .conditions) q) t (state-accepted (sited .levels) (sited .conditions) q f))))
       (λ k p r. plain-1-10 r)
 
   abbrev plain-out : T (accepted (sited .levels) (sited .conditions) q) → ValueOut
@@ -688,20 +723,18 @@ module _ (B : List ℕ) (steps : ℕ) (q : Asked) where
   unfolding plain-of plain-from worth-out
   plain-is (plain-0 d t s a) =
       let r = state-of (sited .levels) (sited .conditions) q t in
-      let i = stays-some (model B) steps r s in
-      ap plain-from (admitted-is d) ∙ accepted-out _ plain-out t ∙ ap worth-out (i .1 .1)
-      ∙ (λ j. record {
-        number = 0;
-        place = 0;
-        action = plain-lowest (model B) steps r (i .0) (i .1 .0) (d .horizon .0) (i .1 .1) j;
-        numerator = words (plain-exact (model B) steps r (i .0) (i .1 .0) (i .1 .1) j);
-      })
+      let ok = accepted-valid B (ap (λ (v : Verdict). v .number) (verdict-is B (d .own))) in
+      ap plain-from (admitted-is d) ∙ accepted-out _ plain-out t ∙ worth-exact (model B) ok steps r (d .horizon .0) (fine-number (state-worth (model B) steps r) (stays-answers (model B) ok steps r s))
   plain-is (plain-1-10 {k = k} r) = ap plain-from (early-is r) ∙ if-no (eqb k 0) _ _ (some-not k (early-some r))
   plain-is (plain-13 d t) = ap plain-from (admitted-is d) ∙ refused-out _ plain-out (state-refused (sited .levels) (sited .conditions) q t)
   plain-is (plain-11 d t f) = ap plain-from (admitted-is d) ∙ accepted-out _ plain-out t ∙ leaves (state-worth (model B) steps (state-of (sited .levels) (sited .conditions) q t)) refl
     where
+      stays : Fine (state-worth (model B) steps (state-of (sited .levels) (sited .conditions) q t)) → Stays (model B) steps (state-of (sited .levels) (sited .conditions) q t)
+      stays = answers-stay (model B) (accepted-valid B (ap (λ (v : Verdict). v .number) (verdict-is B (d .own)))) steps (state-of (sited .levels) (sited .conditions) q t)
+
       leaves : (o : Worth) → state-worth (model B) steps (state-of (sited .levels) (sited .conditions) q t) ≡ o → worth-out o ≡ refused-value 11 0
-      leaves (is v a) e = absurd (f (answers-stay (model B) steps (state-of (sited .levels) (sited .conditions) q t) v a e))
+      leaves (is v a) e = absurd (f (stays (subst Fine (sym e) tt)))
+      leaves nothing e = absurd (f (stays (subst Fine (sym e) tt)))
       leaves over e = refl
 
 -- ---- name

@@ -11,7 +11,7 @@ use Rattle.whole.specs.Cases.{if, by-test, both, and-in, not-not}
 use Rattle.theory.specs.Diagram.{Linear, zeros}
 use Rattle.theory.specs.Valid.{all, among}
 use Rattle.theory.specs.Form.{Form, new-form, levels-in, actions-in}
-use Rattle.theory.specs.Command.{Command, site, push-leaf, push-condition, push-test, give, name-action, end-model, Slot}
+use Rattle.theory.specs.Command.{Command, site, push-leaf, push-condition, push-test, push-forbidden, give, name-action, end-model, Slot}
 use Rattle.theory.specs.Verdict.{Site, Facts, Progress, Rule, rule, first-broken, same-slot, has-slot, reward-slot, chance-slot, level-slot, end-slot, from-to, wanted-by, or, beyond, next-condition, printable, of-site, may-be, top, wanted, site-rules, first-rules, later-rules, rules-of, rules-in}
 use Rattle.theory.specs.Rows.{Rules, AllGiven, OfSite, MayBe, none, asks, Keeps, Breaks, Range, first-asks-in, later-asks, asks-in, asks-of}
 use Rattle.theory.specs.laws.Loading.{from-all, wanted-each}
@@ -250,12 +250,14 @@ of-site-out S g t = says-of-site S g .kept (twice (of-site S g) t)
 
 says-may-be : (g : Slot) (f : Facts) → Says (not (may-be g f)) (MayBe g f)
 unfolding may-be
-says-may-be g f = pair (or (eqb (g .command) 0x22) (not (f .next-step))) _ _ _ (level (g .command)) (only (g .command) 0x21 (f .weights) _ (says-true (f .weights)))
+says-may-be g f = pair (or (eqb (g .command) 0x22) (not (f .next-step))) _ _ _ (stands-in (g .command) 0x22 (f .next-step))
+    (pair (or (not (eqb (g .command) 0x21)) (f .weights)) _ _ _ (only (g .command) 0x21 (f .weights) _ (says-true (f .weights))) (stands-in (g .command) 0x20 (f .forbids)))
   where
-    level : (c : ℕ) → Says (not (or (eqb c 0x22) (not (f .next-step)))) (T (f .next-step) → c ≡ 0x22)
-    level c = by-test (eqb c 0x22) (λ z. Says (not (or z (not (f .next-step)))) (T (f .next-step) → c ≡ 0x22))
-        (λ t. record { broken = λ u h. absurd u; kept = λ u _. eqb→eq c 0x22 t })
-        (λ n. record { broken = λ u h. T-not (eqb c 0x22) n (rw (h (not-not (f .next-step) u)) (eqb-refl 0x22)); kept = λ u x. absurd (T-not (f .next-step) (not-not (not (f .next-step)) u) x) })
+    -- what only one command may give
+    stands-in : (c k : ℕ) (b : Bool) → Says (not (or (eqb c k) (not b))) (T b → c ≡ k)
+    stands-in c k b = by-test (eqb c k) (λ z. Says (not (or z (not b))) (T b → c ≡ k))
+        (λ t. record { broken = λ u h. absurd u; kept = λ u _. eqb→eq c k t })
+        (λ n. record { broken = λ u h. T-not (eqb c k) n (rw (h (not-not b u)) (eqb-refl k)); kept = λ u x. absurd (T-not b (not-not (not b) u) x) })
 
 says-beyond : (m : ℕ) (p : Linear) → Says (beyond m p) (T (zeros (drop m (p .coeffs))))
 unfolding beyond
@@ -287,6 +289,7 @@ first-agree F (site m n a w) = (refl, (n4, (says-among (levels-in F) m, (refl, (
 first-agree F (push-leaf p) = only-first
 first-agree F (push-condition k) = only-first
 first-agree F (push-test p) = only-first
+first-agree F push-forbidden = only-first
 first-agree F (give g) = only-first
 first-agree F (name-action a b) = only-first
 first-agree F end-model = only-first
@@ -297,6 +300,7 @@ later-agree S K G (site m n a w) = only-first
 later-agree S K G (push-leaf p) = (refl, (n4, (says-beyond (S .levels) p, (refl, (n5, (says-from 32 (length K), tt))))))
 later-agree S K G (push-condition k) = (refl, (n4, (says-condition (S .conditions) k, (refl, (n5, (says-below (length K) 2, tt))))))
 later-agree S K G (push-test p) = (refl, (n4, (says-beyond (S .levels) p, (refl, (n4, (says-not (zeros (p .coeffs)), (refl, (n5, (says-below (length K) 2, tt)))))))))
+later-agree S K G push-forbidden = (refl, (n5, (says-from 32 (length K), tt)))
 later-agree S K G (give g) = (refl, (n4, (says-of-site S g, (refl, (n5, (says-below (length K) 1, (refl, (n6, (says-once g G, (refl, (n4, (says-may-be g (top K), tt))))))))))))
 later-agree S K G (name-action a b) = (refl, (n4, (says-among (S .actions) a, (refl, (n4, (says-printable b, (refl, (n6, (says-once _ G, tt)))))))))
 later-agree S K G end-model = (refl, (n7, (says-given S G, (refl, (n7, (says-empty (length K), tt))))))

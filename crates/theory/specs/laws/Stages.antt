@@ -7,39 +7,39 @@ use Prim.Native.Nat.{ℕ, zero, suc, _+_, _-_, _≤_, _<_}
 use native.Mathlib.Omega.{arith}
 use native.Mathlib.Nat.{add-zero}
 use lib.Dec.{T, eqb, eqb→eq}
-use lib.IntN.{ℤ, pos, _+ℤ_, _*ℤ_, +ℤ-comm}
+use lib.IntN.{pos}
 use lib.ListN.{length, getD, take}
-use lib.Signed.{_≤ℤ_, leZ}
 use Rattle.whole.specs.Cases.{if, by-test, both}
-use Rattle.theory.specs.Diagram.{Leaf, Tree, test-of}
+use Rattle.theory.specs.Diagram.{Leaf, act-of, permitted, Tree, test-of}
 use Rattle.theory.specs.Computation.{make, result, operation, final}
 use Rattle.theory.specs.Rules.{sum, scale, number, best, zero-leaf, substitute, add-reward}
-use Rattle.theory.specs.Process.{mean, first-best, total, optimum, lowest-best}
+use Rattle.theory.specs.Total.{Total, num, leT, _⊏_, _⊕_, weigh, mean, first-best}
+use Rattle.theory.specs.Process.{total, optimum, lowest-best}
 use Rattle.theory.specs.Process as P
-use Rattle.theory.specs.Meaning.{Action, Model, nth-action, action-at, numbers-from, State, Env, env, value, at, worth-at, end-at, settings, chance-at, weight, moved, power, process}
+use Rattle.theory.specs.Meaning.{Action, Model, nth-action, action-at, numbers-from, State, Env, env, at, leaf-worth, worth-at, end-at, settings, chance-at, weight, moved, power, process}
 use Rattle.theory.specs.Stage.{model-diagrams, sum-out, action-total, best-on, stage-over, stages-on, stages-over-end, all-stages}
-use Rattle.theory.specs.Valid.{all, all-nodes, among, good-test, good-leaf, valid-action, valid}
+use Rattle.theory.specs.Valid.{all, all-nodes, among, good-test, good-leaf, level-leaf, valid-action, valid}
+use Rattle.theory.specs.laws.Total.{⊕-comm}
 use Rattle.theory.specs.laws.Process.{lowest-best-action, lowest-best-total, lowest-best-lowest}
 use Rattle.theory.specs.laws.Comps.{result-bind, final-and-then}
-use Rattle.theory.specs.laws.Values.{sum-at, scale-at, number-at, best-at, if-ap}
+use Rattle.theory.specs.laws.Values.{zero-at, permitted-at, sum-at, scale-at, number-at, number-act, best-at, if-ap}
 use Rattle.theory.specs.laws.Safe.{any, sure}
 use Rattle.theory.specs.laws.Nodes.{Tests, widen, all-widen, any-closed, best-safe, reward-safe, substitute-safe}
-use Rattle.theory.specs.laws.Valid.{other-above, open-test, open-all, Accepted, accepted, valid-actions, valid-end}
-use Rattle.theory.specs.laws.Expectation.{zero-at, now-test, substitute-at, good-now, sum-out-at, sum-out-tests, env-given}
+use Rattle.theory.specs.laws.Valid.{level-permitted, other-above, open-test, open-all, Accepted, accepted, valid-actions, valid-end}
+use Rattle.theory.specs.laws.Expectation.{at-good, levels-permitted, now-test, substitute-at, good-now, sum-out-at, sum-out-tests, env-given}
 
 -- ---- an action's total
 
 module _ (e : Env) (power : ℕ) (reward : Tree) (a : ℕ) (F : Tree) where
-  add-reward-leaf : at e (result (add-reward power reward a F)) ≡ record { lin = at e (result (sum F (result (scale (pos power) reward)))) .lin; act = a }
+  add-reward-result : result (add-reward power reward a F) ≡ result (number a (result (sum F (result (scale (pos power) reward)))))
   unfolding add-reward result
-  add-reward-leaf = ap (at e) (result-bind (scale (pos power) reward) _ ∙ result-bind (sum F _) (number a)) ∙ number-at e a _
+  add-reward-result = result-bind (scale (pos power) reward) _ ∙ result-bind (sum F _) (number a)
 
-  pub add-reward-at : worth-at e (result (add-reward power reward a F)) ≡ pos power *ℤ worth-at e reward +ℤ worth-at e F
-  unfolding worth-at
-  add-reward-at = ap (λ (f : Leaf). value e (f .lin)) add-reward-leaf ∙ sum-at e F _ ∙ +ℤ-comm (worth-at e F) _ ∙ ap (λ z. z +ℤ worth-at e F) (scale-at e (pos power) reward)
+  pub add-reward-at : worth-at e (result (add-reward power reward a F)) ≡ weigh power (worth-at e reward) ⊕ worth-at e F
+  add-reward-at = ap (worth-at e) add-reward-result ∙ number-at e a _ ∙ sum-at e F _ ∙ ⊕-comm (worth-at e F) _ ∙ ap (λ z. z ⊕ worth-at e F) (scale-at e power reward)
 
-  pub add-reward-act : at e (result (add-reward power reward a F)) .act ≡ a
-  add-reward-act = ap (λ (f : Leaf). f .act) add-reward-leaf
+  pub add-reward-act : T (permitted (at e (result (add-reward power reward a F)))) → act-of (at e (result (add-reward power reward a F))) ≡ a
+  add-reward-act = subst (λ (G : Tree). T (permitted (at e G)) → act-of (at e G) ≡ a) (sym add-reward-result) (number-act e a _)
 
 pub action-total-final : (M : Model) (h : ℕ) (kept : List Tree) (P : Tree) (a : ℕ) (x : Action) → final (action-total M h kept P a x)
     ≡ result (add-reward (power M h) (x .reward) a (final (sum-out (M .weights) h kept 1 (x .chances) (result (substitute (x .levels) P)))))
@@ -51,11 +51,15 @@ data Listed (M : Model) : ℕ → List Action → Type 0 where
   none : {a : ℕ} → Listed M a []
   one : {a : ℕ} {x : Action} {l : List Action} → action-at M a ≡ x → Accepted (M .conditions) (M .weights) x → Listed M (suc a) l → Listed M a (x ∷ l)
 
+-- F names c at s where it is not none
+abbrev pub Names : Tree → State → ℕ → Type 0
+Names F s c = T (permitted (at (env s []) F)) → act-of (at (env s []) F) ≡ c
+
 -- F comes to what g is at c, and names c; and has no next-step conditions
-record Holds (M : Model) (g : State → ℕ → ℤ) (F : Tree) (c : State → ℕ) : Type 0 where
+record Holds (M : Model) (g : State → ℕ → Total) (F : Tree) (c : State → ℕ) : Type 0 where
   tests : Tests (now-test (M .conditions)) F
   worth : (s : State) → worth-at (env s []) F ≡ g s (c s)
-  act : (s : State) → at (env s []) F .act ≡ c s
+  act : (s : State) → Names F s (c s)
 
 -- what the next stage stands on: F comes to the optimum with h steps left
 record Below (M : Model) (h : ℕ) (F : Tree) : Type 0 where
@@ -66,10 +70,10 @@ record Below (M : Model) (h : ℕ) (F : Tree) : Type 0 where
 pub record Stage (M : Model) (h : ℕ) (F : Tree) : Type 0 where
   pub tests : Tests (now-test (M .conditions)) F
   pub worth : (s : State) → worth-at (env s []) F ≡ optimum (process M) h s
-  pub act : (s : State) → at (env s []) F .act ≡ lowest-best (process M) h s
+  pub act : (s : State) → Names F s (lowest-best (process M) h s)
 
 module _ (M : Model) (h : ℕ) (P : Tree) (below : Below M h P) where
-  abbrev totals : State → ℕ → ℤ
+  abbrev totals : State → ℕ → Total
   totals s a = total (process M) (optimum (process M) h) h a s
 
   module _ (kept : List Tree) (a : ℕ) (ok : Accepted (M .conditions) (M .weights) (action-at M a)) where
@@ -86,24 +90,24 @@ module _ (M : Model) (h : ℕ) (P : Tree) (below : Below M h P) where
     unfolding now-test open-test among test-of
     summed-tests = sum-out-tests (M .conditions) (M .weights) (suc h) kept 1 (taken .chances) moves (omega (arith, ok .count)) (ok .chances)
         (sure (substitute (taken .levels) P) (substitute-safe any-closed (open-test any (M .conditions) 1) (λ _ _. tt) (taken .levels)
-        (all-widen (all-nodes (good-test (M .conditions) true) good-leaf) (all-nodes (open-test any (M .conditions) 1) any)
-        (widen (good-test (M .conditions) true) (open-test any (M .conditions) 1) good-leaf any (open-all any (M .conditions) (λ _ _. tt)) (λ _ _. tt)) (taken .levels) (ok .levels))
+        (all-widen (all-nodes (good-test (M .conditions) true) level-leaf) (all-nodes (open-test any (M .conditions) 1) any)
+        (widen (good-test (M .conditions) true) (open-test any (M .conditions) 1) level-leaf any (open-all any (M .conditions) (λ _ _. tt)) (λ _ _. tt)) (taken .levels) (ok .levels))
         (now-test (M .conditions)) any (λ k q. q) (λ k q. absurd q) P (below .tests)))
 
     summed-at : (s : State) → worth-at (env s []) summed
         ≡ mean (weight (M .weights) (map (chance-at (env s [])) (taken .chances))) (λ r. optimum (process M) h (moved s (taken .levels) r)) (settings (M .conditions))
     unfolding env
     summed-at s = sum-out-at (M .conditions) (M .weights) (suc h) kept 1 (taken .chances) moves (ok .chances) (env s [])
-        ∙ ap₂ (λ (f : List Bool → ℤ) (k : ℕ). mean (weight (M .weights) (map (chance-at (env s [])) (taken .chances))) f (settings k))
-        (fun-ext (λ r. ap (λ (e : Env). worth-at e moves) (env-given s r) ∙ substitute-at (M .conditions) s r (taken .levels) P (below .tests) ∙ (below .worth) (moved s (taken .levels) r)))
+        ∙ ap₂ (λ (f : List Bool → Total) (k : ℕ). mean (weight (M .weights) (map (chance-at (env s [])) (taken .chances))) f (settings k))
+        (fun-ext (λ r. ap (λ (e : Env). worth-at e moves) (env-given s r) ∙ substitute-at (M .conditions) s r (taken .levels) (levels-permitted (env s r) (good-test (M .conditions) true) (taken .levels) (ok .levels)) P (below .tests) ∙ (below .worth) (moved s (taken .levels) r)))
         (ok .count)
 
     total-holds : Holds M totals (final (action-total M (suc h) kept P a taken)) (λ _. a)
     unfolding total process
     total-holds = rw (action-total-final M (suc h) kept P a taken) (record {
-      tests = sure (add-reward (power M (suc h)) (taken .reward) a summed) (reward-safe any-closed (now-test (M .conditions)) any (power M (suc h)) (taken .reward) a summed (λ _ _. tt)
+      tests = sure (add-reward (power M (suc h)) (taken .reward) a summed) (reward-safe any-closed (now-test (M .conditions)) any (power M (suc h)) (taken .reward) a summed (λ _ _ _. tt) tt
           (widen (good-test (M .conditions) false) (now-test (M .conditions)) good-leaf any (good-now (M .conditions)) (λ _ _. tt) (taken .reward) (ok .reward)) summed-tests);
-      worth = λ s. add-reward-at (env s []) (power M (suc h)) (taken .reward) a summed ∙ ap (λ z. pos (power M (suc h)) *ℤ worth-at (env s []) (taken .reward) +ℤ z) (summed-at s);
+      worth = λ s. add-reward-at (env s []) (power M (suc h)) (taken .reward) a summed ∙ ap (λ z. weigh (power M (suc h)) (worth-at (env s []) (taken .reward)) ⊕ z) (summed-at s);
       act = λ s. add-reward-act (env s []) (power M (suc h)) (taken .reward) a summed;
     })
 
@@ -112,20 +116,22 @@ module _ (M : Model) (h : ℕ) (P : Tree) (below : Below M h P) where
 
   -- ---- the best of the actions
 
-  best-holds : (F G : Tree) (c d : State → ℕ) → Holds M totals F c → Holds M totals G d → Holds M totals (result (best F G)) (λ s. if (leZ (totals s (d s)) (totals s (c s))) (c s) (d s))
+  best-holds : (F G : Tree) (c d : State → ℕ) → Holds M totals F c → Holds M totals G d → Holds M totals (result (best F G)) (λ s. if (leT (totals s (d s)) (totals s (c s))) (c s) (d s))
   unfolding now-test worth-at test-of
   best-holds F G c d p q = record {
     tests = sure (best F G) (best-safe any-closed (now-test (M .conditions)) (λ _ _. tt) any (λ _ _. tt) F G (p .tests) (q .tests));
-    worth = λ s. ap (λ (f : Leaf). value (env s []) (f .lin)) (picked s) ∙ if-ap (λ (f : Leaf). value (env s []) (f .lin)) (second s) _ _
+    worth = λ s. ap (leaf-worth (env s [])) (picked s) ∙ if-ap (leaf-worth (env s [])) (second s) _ _
         ∙ ap₂ (if (second s)) ((p .worth) s) ((q .worth) s) ∙ sym (if-ap (totals s) (second s) (c s) (d s));
-    act = λ s. ap (λ (f : Leaf). f .act) (picked s) ∙ if-ap (λ (f : Leaf). f .act) (second s) _ _ ∙ ap₂ (if (second s)) ((p .act) s) ((q .act) s);
+    act = λ s. subst (λ (f : Leaf). T (permitted f) → act-of f ≡ if (second s) (c s) (d s)) (sym (picked s))
+        (by-test (second s) (λ b. T (permitted (if b (at (env s []) F) (at (env s []) G))) → act-of (if b (at (env s []) F) (at (env s []) G)) ≡ if b (c s) (d s))
+        (λ _. (p .act) s) (λ _. (q .act) s));
   }
     where
       second : State → Bool
-      second s = leZ (totals s (d s)) (totals s (c s))
+      second s = leT (totals s (d s)) (totals s (c s))
 
       picked : (s : State) → at (env s []) (result (best F G)) ≡ if (second s) (at (env s []) F) (at (env s []) G)
-      picked s = best-at (env s []) F G ∙ ap₂ (λ y z. if (leZ y z) (at (env s []) F) (at (env s []) G)) ((q .worth) s) ((p .worth) s)
+      picked s = best-at (env s []) F G ∙ ap₂ (λ y z. if (leT y z) (at (env s []) F) (at (env s []) G)) ((q .worth) s) ((p .worth) s)
 
   best-on-holds : (kept : List Tree) (a : ℕ) (l : List Action) (F : Tree) (c : State → ℕ) → Listed M a l → Holds M totals F c
       → Holds M totals (final (best-on M (suc h) kept P a l F)) (λ s. first-best (totals s) (c s) (numbers-from a l))
@@ -134,7 +140,7 @@ module _ (M : Model) (h : ℕ) (P : Tree) (below : Below M h P) where
   best-on-holds kept a (x ∷ l) F c (one q ok r) p =
       let G = final (action-total M (suc h) (F ∷ kept) P a x) in
       rw (final-and-then (action-total M (suc h) (F ∷ kept) P a x) (λ G. operation (suc h) (G ∷ F ∷ kept) (best F G) (best-on M (suc h) kept P (suc a) l)))
-      (best-on-holds kept (suc a) l (result (best F G)) (λ s. if (leZ (totals s a) (totals s (c s))) (c s) a) r (best-holds F G c (λ _. a) p (listed-holds (F ∷ kept) a x q ok)))
+      (best-on-holds kept (suc a) l (result (best F G)) (λ s. if (leT (totals s a) (totals s (c s))) (c s) a) r (best-holds F G c (λ _. a) p (listed-holds (F ∷ kept) a x q ok)))
 
   stage-holds : (kept : List Tree) → Listed M 1 (M .first ∷ M .others) → Holds M totals (final (stage-over M (suc h) kept P)) (lowest-best (process M) (suc h))
   unfolding stage-over lowest-best process
@@ -220,14 +226,17 @@ module _ (M : Model) where
     over : (finished : List Tree) (F : Tree) → Below M 0 F → (H i : ℕ) → i < H → Stage M (suc i) (getD (final (stages-on M H 1 finished F)) i zero-leaf)
     over finished F b H i q = subst (λ (j : ℕ). Stage M (suc j) (getD (final (stages-on M H 1 finished F)) i zero-leaf)) (omega arith) (stages-on-at H 0 finished F b i q)
 
-    over-end : (l : List Tree) → M .end ≡ l → T (all (all-nodes (good-test (M .conditions) false) good-leaf) l)
+    over-end : (l : List Tree) → M .end ≡ l → T (all (all-nodes (good-test (M .conditions) false) level-leaf) l)
         → (H i : ℕ) → i < H → Stage M (suc i) (getD (final (stages-over-end M H l)) i zero-leaf)
     unfolding stages-over-end final make result optimum process end-at all zero-leaf all-nodes
-    over-end [] e t = over _ zero-leaf (record { tests = tt; worth = λ s. zero-at (env s []) ∙ sym (ap (end-at (env s [])) e) })
-    over-end (E ∷ l) e t = over _ E (record {
-      tests = widen (good-test (M .conditions) false) (now-test (M .conditions)) good-leaf any (good-now (M .conditions)) (λ _ _. tt) E (both (all-nodes (good-test (M .conditions) false) good-leaf E) _ t .0);
-      worth = λ s. sym (ap (end-at (env s [])) e);
-    })
+    over-end [] e t = over _ zero-leaf (record { tests = tt; worth = λ s. zero-at (env s []) ∙ ap num (sym (ap (end-at (env s [])) e)) })
+    over-end (E ∷ l) e t =
+        let n = M .conditions in
+        let g = both (all-nodes (good-test n false) level-leaf E) _ t .0 in
+        over _ E (record {
+          tests = widen (good-test n false) (now-test n) level-leaf any (good-now n) (λ _ _. tt) E g;
+          worth = λ s. permitted-at (env s []) E (level-permitted _ (at-good (env s []) (good-test n false) level-leaf E g)) ∙ ap num (sym (ap (end-at (env s [])) e));
+        })
 
     -- "V_h(s)" and the action of stage h
     pub stages-at : (H h : ℕ) → 1 ≤ h → h ≤ H → Stage M h (stage-of H h)
@@ -275,7 +284,7 @@ module _ (M : Model) where
 
   -- no action with a lower number reaches it
   pub lowest-numbered : (h : ℕ) (s : State) (b : ℕ) → 1 ≤ b → b < lowest-best (process M) (suc h) s
-      → total (process M) (optimum (process M) h) h (lowest-best (process M) (suc h) s) s ≤ℤ total (process M) (optimum (process M) h) h b s → ⊥
+      → total (process M) (optimum (process M) h) h b s ⊏ total (process M) (optimum (process M) h) h (lowest-best (process M) (suc h) s) s
   lowest-numbered h s b p q =
       let low = lowest-best-lowest (process M) h s in
       let d = action-numbers (lowest-best (process M) (suc h) s) .0 (lowest-best-action (process M) (suc h) s) in

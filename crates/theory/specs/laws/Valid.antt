@@ -12,10 +12,10 @@ use lib.Signed.{quotZ}
 use Rattle.whole.specs.Cases.{by-test, both, and-in}
 use Rattle.whole.specs.Within.{limit, small}
 use Rattle.theory.specs.Widths.{levels-most, conditions-most, actions-most, weights-most}
-use Rattle.theory.specs.Diagram.{Linear, Test, now, later, linear, Leaf, plain, addL, scaleL, _⊞_, _⊠_, quotL, quotient}
-use Rattle.theory.specs.Rules.{no-coeffs, is-later}
+use Rattle.theory.specs.Diagram.{Linear, Test, now, later, linear, Leaf, some, forbidden, lin-of, act-of, permitted, no-coeffs, zero-linear, plain, addL, scaleL, _⊞_, _⊠_, quotL, quotient}
+use Rattle.theory.specs.Rules.{is-later}
 use Rattle.theory.specs.Meaning.{Action, Model}
-use Rattle.theory.specs.Valid.{all, all-nodes, among, small-linear, wide, good-test, good-leaf, stage-leaf, weight-leaf, valid-action, valid}
+use Rattle.theory.specs.Valid.{all, all-nodes, among, small-linear, wide, good-test, good-leaf, level-leaf, stage-leaf, weight-leaf, valid-action, valid}
 use Rattle.theory.specs.laws.Nodes.{Closed, Good}
 
 -- ---- 1 to n
@@ -107,39 +107,57 @@ scale-long k p a = scaleL-length k (p .coeffs) ∙ a
 
 -- ---- leaves
 
-pub leaf-wide : (f : Leaf) → T (good-leaf f) → T (wide (f .lin))
+pub leaf-wide : (f : Leaf) → T (good-leaf f) → T (wide (lin-of f))
 unfolding good-leaf
-leaf-wide f t = both (wide (f .lin)) (eqb (f .act) 0) t .0
+leaf-wide f t = both (wide (lin-of f)) (eqb (act-of f) 0) t .0
+
+pub level-good : (f : Leaf) → T (level-leaf f) → T (good-leaf f)
+unfolding level-leaf
+level-good f t = both (permitted f) (good-leaf f) t .1
+
+pub level-permitted : (f : Leaf) → T (level-leaf f) → T (permitted f)
+unfolding level-leaf
+level-permitted f t = both (permitted f) (good-leaf f) t .0
+
+pub weight-level : (W : ℕ) (f : Leaf) → T (weight-leaf W f) → T (level-leaf f)
+unfolding weight-leaf
+weight-level W f t = both (level-leaf f) _ t .0
 
 pub weight-good : (W : ℕ) (f : Leaf) → T (weight-leaf W f) → T (good-leaf f)
-unfolding weight-leaf
-weight-good W f t = both (good-leaf f) _ t .0
-
-pub stage-wide : (A : ℕ) (f : Leaf) → T (stage-leaf A f) → T (wide (f .lin))
-unfolding stage-leaf
-stage-wide A f t = both (wide (f .lin)) (among A (f .act)) t .0
+weight-good W f t = level-good f (weight-level W f t)
 
 -- any action
 abbrev pub wide-leaf : Leaf → Bool
-wide-leaf f = wide (f .lin)
+wide-leaf f = wide (lin-of f)
 
-pub zero-wide : T (wide (record { coeffs = no-coeffs levels-most; const = pos 0 }))
+pub zero-wide : T (wide zero-linear)
 unfolding wide no-coeffs all small small-linear
 zero-wide = tt
 
+pub stage-wide : (A : ℕ) (f : Leaf) → T (stage-leaf A f) → T (wide (lin-of f))
+unfolding stage-leaf lin-of
+stage-wide A (some p a) t = both (wide p) (among A a) t .0
+stage-wide A forbidden t = zero-wide
+
+-- a forbidden leaf is one of a reward
+pub none-good : T (good-leaf forbidden)
+unfolding good-leaf lin-of act-of
+none-good = and-in (wide zero-linear) true zero-wide tt
+
 pub plain-good : (p : Linear) → T (wide p) → T (good-leaf (plain p))
-unfolding good-leaf
+unfolding good-leaf lin-of act-of
 plain-good p t = and-in (wide p) true t tt
 
 -- what the rules make of good leaves, judged, is good
 pub good-closed : Closed small good-leaf Long
 unfolding small-linear
 good-closed = record {
-  long = λ f a. wide-long (f .lin) (leaf-wide f a);
+  long = λ f a. wide-long (lin-of f) (leaf-wide f a);
   add = add-long;
   times = scale-long;
   constant = λ p k a. a;
   zero = plain-good _ zero-wide;
+  none = none-good;
   judged = λ p l a b. plain-good p (wide-in p l (and-in (all small (p .coeffs)) (small (p .const)) a b));
 }
 
@@ -187,7 +205,7 @@ pub record Accepted (n W : ℕ) (x : Action) : Type 0 where
   pub reward : Good (good-test n false) good-leaf (x .reward)
   pub count : length (x .chances) ≡ n
   pub chances : T (all (all-nodes (good-test n false) (weight-leaf W)) (x .chances))
-  pub levels : T (all (all-nodes (good-test n true) good-leaf) (x .levels))
+  pub levels : T (all (all-nodes (good-test n true) level-leaf) (x .levels))
 
 pub accepted : (m n W : ℕ) (x : Action) → T (valid-action m n W x) → Accepted n W x
 unfolding valid-action
@@ -195,7 +213,7 @@ accepted m n W x t =
     let a = both (all-nodes (good-test n false) good-leaf (x .reward)) _ t in
     let b = both (eqb (length (x .chances)) n) _ (a .1) in
     let c = both (all (all-nodes (good-test n false) (weight-leaf W)) (x .chances)) _ (b .1) in
-    let d = both (eqb (length (x .levels)) m) (all (all-nodes (good-test n true) good-leaf) (x .levels)) (c .1) in
+    let d = both (eqb (length (x .levels)) m) (all (all-nodes (good-test n true) level-leaf) (x .levels)) (c .1) in
     record { reward = a .0; count = eqb→eq (length (x .chances)) n (b .0); chances = c .0; levels = d .1 }
 
 -- each action is valid
@@ -208,7 +226,7 @@ valid-actions M t =
     both (all (valid-action (M .levels) (M .conditions) (M .weights)) (M .first ∷ M .others)) _ (both (leb (length (M .others)) (actions-most - 1)) _ (c .1) .1) .0
 
 -- and so is an end worth
-pub valid-end : (M : Model) → T (valid M) → T (all (all-nodes (good-test (M .conditions) false) good-leaf) (M .end))
+pub valid-end : (M : Model) → T (valid M) → T (all (all-nodes (good-test (M .conditions) false) level-leaf) (M .end))
 unfolding valid
 valid-end M t =
     let a = both (among levels-most (M .levels)) _ t in

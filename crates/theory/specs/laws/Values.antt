@@ -1,23 +1,24 @@
 -- What each rule's result comes to where it is judged: exactness of the rules, with no word of limits or tables.
-use mathlib.Core.Path.{_≡_, refl, sym, ap, ap₂, _∙_}
+use mathlib.Core.Path.{_≡_, refl, sym, ap, ap₂, _∙_, subst}
 use mathlib.Core.Bool.{Bool, true, false}
 use mathlib.Core.List.{List, [], _∷_}
-use Prim.Native.Nat.{ℕ, _<_, Ordering·lt, Ordering·eq, Ordering·gt}
+use Prim.Native.Nat.{ℕ, zero, suc, _<_, Ordering·lt, Ordering·eq, Ordering·gt}
 use native.Mathlib.Omega.{arith}
 use native.Mathlib.Nat.{mul-le-mul-right, le-of-mul-le-mul-right}
 use lib.Dec.{T, isEq}
-use lib.IntN.{ℤ, pos, negsuc, _+ℤ_, _-ℤ_, _*ℤ_, +ℤ-idl, *ℤ-comm, natAbs}
+use lib.IntN.{ℤ, pos, negsuc, _+ℤ_, _-ℤ_, _*ℤ_, +ℤ-idl, *ℤ-comm, zero-*ℤ, natAbs}
 use lib.Signed.{_≤ℤ_, leZ, leZ-yes, ltZ, ltZ-yes, clashℤ}
 use Rattle.whole.specs.Cases.{if, by-test, by-eq, by-order, both, same-bool, is-true, clash}
 use Rattle.whole.specs.Int.{atom, up, down, diff, ring, le-in, minus-one, not-le}
 use Rattle.whole.specs.Divisor.{gcdOf, gcd-all, at-least-one, Divides, gcd-left, gcd-right, divides-trans, least-divides, least-positive, quot-exact}
-use Rattle.theory.specs.Diagram.{Linear, Test, now, later, linear, Leaf, Tree, leaf, branch, plain, cmpZ, cmpList, cmp, same, addL, scaleL, _⊞_, _⊠_, _⊟_, plus-constant, zeros, quotL, quotient, divisor, test-of}
+use Rattle.theory.specs.Diagram.{Linear, Test, now, later, linear, Leaf, some, forbidden, lin-of, act-of, permitted, no-coeffs, zero-linear, Tree, leaf, branch, plain, cmpZ, cmpList, cmp, same, addL, scaleL, _⊞_, _⊠_, _⊟_, plus-constant, zeros, quotL, quotient, divisor, test-of}
 use Rattle.theory.specs.Computation.{Comp, ret, make, result}
 use Rattle.theory.specs.Computation as C
 use Rattle.theory.specs.Rules.{parallel, narrowed, node, step, choose, over, merge, make-leaf, leaf-sum, leaf-product, leaf-scale, leaf-shift, leaf-complement, leaf-number, decide, leaf-best, sum}
-use Rattle.theory.specs.Rules.{product, scale, shift, complement, number, best}
-use Rattle.theory.specs.Meaning.{Env, dot, value, holds, at, worth-at}
-use Rattle.theory.specs.Process.{maxZ}
+use Rattle.theory.specs.Rules.{zero-leaf, none-leaf, product, scale, shift, complement, number, best}
+use Rattle.theory.specs.Total.{Total, num, none, leT, _⊕_, weigh, maxT}
+use Rattle.theory.specs.Meaning.{Env, dot, value, holds, at, leaf-worth, worth-at, level-at}
+use Rattle.theory.specs.laws.Total.{has-not-none, weigh-num}
 use Rattle.theory.specs.laws.Comps.{cmpZ-eq, cmpList-eq, cmp-eq, same-eq, result-both, result-judge}
 
 -- ---- numbers
@@ -235,35 +236,109 @@ module _ (e : Env) where
       ap (value e) (sym (quotient-exact p)) ∙ value-scale (pos (divisor p)) (quotient (divisor p) p) ∙ *ℤ-comm (pos (divisor p)) (value e (quotient (divisor p) p)) in
       sym (ap (λ z. leZ z (pos 0)) q ∙ scale-sign (value e (quotient (divisor p) p)) (divisor p) (least-positive _))
 
+  -- ---- what leaves come to
+
+  abbrev of : Leaf → Total
+  of f = leaf-worth e f
+
+  pub zero-at : worth-at e zero-leaf ≡ num (pos 0)
+  unfolding worth-at leaf-worth at zero-leaf no-coeffs zeros
+  zero-at = ap num (value-constant zero-linear tt ∙ zero-*ℤ (pos (e .den)))
+
+  -- a leaf that is permitted comes to its linear
+  permitted-worth : (f : Leaf) → T (permitted f) → of f ≡ num (value e (lin-of f))
+  unfolding leaf-worth lin-of permitted
+  permitted-worth (some p a) t = refl
+  permitted-worth forbidden t = absurd t
+
+  pub permitted-at : (F : Tree) → T (permitted (at e F)) → worth-at e F ≡ num (level-at e F)
+  unfolding worth-at level-at
+  permitted-at F t = permitted-worth (at e F) t
+
+  -- what comes to a number is permitted
+  number-linear : (f : Leaf) (z : ℤ) → of f ≡ num z → value e (lin-of f) ≡ z
+  unfolding leaf-worth lin-of
+  number-linear (some p a) z q = cc
+  number-linear forbidden z q = absurd (has-not-none (num z) tt (sym q))
+
+  pub number-level : (F : Tree) (z : ℤ) → worth-at e F ≡ num z → level-at e F ≡ z
+  unfolding worth-at level-at
+  number-level F z q = number-linear (at e F) z q
+
+  pub zero-level : level-at e zero-leaf ≡ pos 0
+  zero-level = number-level zero-leaf (pos 0) zero-at
+
+  leaf-sum-at : (f g : Leaf) → of (At (leaf-sum f g)) ≡ of f ⊕ of g
+  unfolding leaf-sum leaf-worth _⊕_ make result at
+  leaf-sum-at forbidden g = refl
+  leaf-sum-at (some p a) forbidden = refl
+  leaf-sum-at (some p a) (some q b) = ap of (leaf-at (p ⊞ q)) ∙ ap num (value-add p q)
+
+  -- "or a product not by 0, is it"
+  leaf-scale-at : (k : ℕ) (g : Leaf) → of (At (leaf-scale (pos k) g)) ≡ weigh k (of g)
+  unfolding leaf-scale leaf-worth weigh make result at worth-at
+  leaf-scale-at k (some q b) = ap of (leaf-at (pos k ⊠ q)) ∙ ap num (value-scale (pos k) q) ∙ sym (weigh-num k (value e q))
+  leaf-scale-at zero forbidden = zero-at
+  leaf-scale-at (suc k) forbidden = by-test (isEq (cmpZ (pos (suc k)) (pos 0))) (λ b. of (at e (if b zero-leaf none-leaf)) ≡ none)
+      (λ t. absurd (let q = ap natAbs (cmpZ-eq (pos (suc k)) (pos 0) t) in omega arith)) (λ _. refl)
+
+  leaf-scale-level : (c : ℤ) (g : Leaf) → T (permitted g) → of (At (leaf-scale c g)) ≡ num (c *ℤ value e (lin-of g))
+  unfolding leaf-scale leaf-worth lin-of permitted
+  leaf-scale-level c (some q b) t = ap of (leaf-at (c ⊠ q)) ∙ ap num (value-scale c q)
+  leaf-scale-level c forbidden t = absurd t
+
+  leaf-shift-at : (c : ℤ) (g : Leaf) → of (At (leaf-shift c g)) ≡ num (value e (lin-of g) +ℤ c *ℤ pos (e .den))
+  unfolding leaf-shift leaf-worth
+  leaf-shift-at c g = ap of (leaf-at (plus-constant c (lin-of g))) ∙ ap num (value-plus c (lin-of g))
+
+  leaf-number-at : (a : ℕ) (g : Leaf) → of (At (leaf-number a g)) ≡ of g
+  unfolding leaf-number leaf-worth make result at
+  leaf-number-at a (some p b) = refl
+  leaf-number-at a forbidden = refl
+
+  leaf-number-act : (a : ℕ) (g : Leaf) → T (permitted (At (leaf-number a g))) → act-of (At (leaf-number a g)) ≡ a
+  unfolding leaf-number act-of permitted make result at
+  leaf-number-act a (some p b) t = refl
+  leaf-number-act a forbidden t = absurd t
+
   -- ---- the rules
 
-  abbrev of : Leaf → ℤ
-  of f = value e (f .lin)
+  pub sum-at : (F G : Tree) → worth-at e (result (sum F G)) ≡ worth-at e F ⊕ worth-at e G
+  unfolding sum worth-at
+  sum-at F G = ap of (merge-at node node-at leaf-sum (λ f g. At (leaf-sum f g)) (λ f g. refl) F G) ∙ leaf-sum-at (at e F) (at e G)
 
-  pub sum-at : (F G : Tree) → worth-at e (result (sum F G)) ≡ worth-at e F +ℤ worth-at e G
-  unfolding sum leaf-sum worth-at
-  sum-at F G = ap of (merge-at node node-at leaf-sum (λ f g. plain ((f .lin) ⊞ (g .lin))) (λ f g. leaf-at _) F G) ∙ value-add _ _
-
-  pub product-at : (F G : Tree) → worth-at e (result (product F G)) ≡ (at e F .lin .const) *ℤ worth-at e G
+  -- k is the weight that F comes to
+  pub product-at : (k : ℕ) (F G : Tree) → lin-of (at e F) .const ≡ pos k → worth-at e (result (product F G)) ≡ weigh k (worth-at e G)
   unfolding product leaf-product worth-at
-  product-at F G = ap of (merge-at node node-at leaf-product (λ f g. plain ((f .lin .const) ⊠ (g .lin))) (λ f g. leaf-at _) F G) ∙ value-scale _ _
+  product-at k F G q = ap of (merge-at node node-at leaf-product (λ f g. At (leaf-scale (lin-of f .const) g)) (λ f g. refl) F G)
+      ∙ ap (λ c. of (At (leaf-scale c (at e G)))) q ∙ leaf-scale-at k (at e G)
 
-  pub scale-at : (c : ℤ) (G : Tree) → worth-at e (result (scale c G)) ≡ c *ℤ worth-at e G
-  unfolding scale leaf-scale worth-at
-  scale-at c G = ap of (over-at node node-at (leaf-scale c) (λ g. plain (c ⊠ (g .lin))) (λ g. leaf-at _) G) ∙ value-scale _ _
+  pub scale-at : (k : ℕ) (G : Tree) → worth-at e (result (scale (pos k) G)) ≡ weigh k (worth-at e G)
+  unfolding scale worth-at
+  scale-at k G = ap of (over-at node node-at (leaf-scale (pos k)) (λ g. At (leaf-scale (pos k) g)) (λ g. refl) G) ∙ leaf-scale-at k (at e G)
 
-  pub shift-at : (c : ℤ) (G : Tree) → worth-at e (result (shift c G)) ≡ worth-at e G +ℤ c *ℤ pos (e .den)
-  unfolding shift leaf-shift worth-at
-  shift-at c G = ap of (over-at node node-at (leaf-shift c) (λ g. plain (plus-constant c (g .lin))) (λ g. leaf-at _) G) ∙ value-plus _ _
+  -- any number times a diagram that is permitted there
+  pub scale-level : (c : ℤ) (G : Tree) → T (permitted (at e G)) → worth-at e (result (scale c G)) ≡ num (c *ℤ level-at e G)
+  unfolding scale worth-at level-at
+  scale-level c G t = ap of (over-at node node-at (leaf-scale c) (λ g. At (leaf-scale c g)) (λ g. refl) G) ∙ leaf-scale-level c (at e G) t
 
-  pub complement-at : (W : ℕ) (G : Tree) → At (complement W G) .lin .const ≡ pos W -ℤ (at e G .lin .const)
-  unfolding complement leaf-complement
-  complement-at W G = ap (λ (f : Leaf). f .lin .const)
-      (over-at node node-at (leaf-complement W) (λ g. plain (record { coeffs = g .lin .coeffs; const = pos W -ℤ (g .lin .const) })) (λ g. leaf-at _) G)
+  pub shift-at : (c : ℤ) (G : Tree) → worth-at e (result (shift c G)) ≡ num (level-at e G +ℤ c *ℤ pos (e .den))
+  unfolding shift worth-at level-at
+  shift-at c G = ap of (over-at node node-at (leaf-shift c) (λ g. At (leaf-shift c g)) (λ g. refl) G) ∙ leaf-shift-at c (at e G)
 
-  pub number-at : (a : ℕ) (G : Tree) → At (number a G) ≡ record { lin = at e G .lin; act = a }
-  unfolding number leaf-number make result at
-  number-at a G = over-at node node-at (leaf-number a) (λ g. record { lin = g .lin; act = a }) (λ g. refl) G
+  pub complement-at : (W : ℕ) (G : Tree) → lin-of (At (complement W G)) .const ≡ pos W -ℤ (lin-of (at e G) .const)
+  unfolding complement leaf-complement lin-of
+  complement-at W G = ap (λ (f : Leaf). lin-of f .const)
+      (over-at node node-at (leaf-complement W) (λ g. plain (record { coeffs = lin-of g .coeffs; const = pos W -ℤ (lin-of g .const) })) (λ g. leaf-at _) G)
+
+  pub number-at : (a : ℕ) (G : Tree) → worth-at e (result (number a G)) ≡ worth-at e G
+  unfolding number worth-at
+  number-at a G = ap of (over-at node node-at (leaf-number a) (λ g. At (leaf-number a g)) (λ g. refl) G) ∙ leaf-number-at a (at e G)
+
+  -- it is numbered where it is not none
+  pub number-act : (a : ℕ) (G : Tree) → T (permitted (At (number a G))) → act-of (At (number a G)) ≡ a
+  unfolding number
+  number-act a G = subst (λ (f : Leaf). T (permitted f) → act-of f ≡ a) (sym (over-at node node-at (leaf-number a) (λ g. At (leaf-number a g)) (λ g. refl) G)) (leaf-number-act a (at e G))
 
   pub decide-at : (p : Linear) (H L : Tree) → At (decide p H L) ≡ if (leZ (value e p) (pos 0)) (at e H) (at e L)
   unfolding decide result
@@ -272,17 +347,21 @@ module _ (e : Env) where
       (λ t. rw (value-constant p t, scale-sign (p .const) (e .den) (e .D>0)) (if-ap (λ m. At m) (leZ (p .const) (pos 0)) (ret H) (ret L)))
       (λ t. choose-at (test-of p) H L ∙ ap (λ b. if b (at e H) (at e L)) (test-holds p))
 
-  leaf-best-at : (f g : Leaf) → At (leaf-best f g) ≡ if (leZ (value e (g .lin)) (value e (f .lin))) f g
-  unfolding leaf-best at
-  leaf-best-at f g =
-      ap (at e) (result-judge ((g .lin) ⊟ (f .lin)) (decide ((g .lin) ⊟ (f .lin)) (leaf f) (leaf g)))
-      ∙ (decide-at ((g .lin) ⊟ (f .lin)) (leaf f) (leaf g) ∙ ap (λ b. if b f g) (ap (λ z. leZ z (pos 0)) (value-sub (g .lin) (f .lin)) ∙ less-sub (value e (g .lin)) (value e (f .lin))))
+  -- "it loses to any other leaf"
+  leaf-best-at : (f g : Leaf) → At (leaf-best f g) ≡ if (leT (of g) (of f)) f g
+  unfolding leaf-best at leT leaf-worth result
+  leaf-best-at forbidden (some q b) = refl
+  leaf-best-at forbidden forbidden = refl
+  leaf-best-at (some p a) forbidden = refl
+  leaf-best-at (some p a) (some q b) =
+      ap (at e) (result-judge (q ⊟ p) (decide (q ⊟ p) (leaf (some p a)) (leaf (some q b))))
+      ∙ (decide-at (q ⊟ p) (leaf (some p a)) (leaf (some q b)) ∙ ap (λ b′. if b′ (some p a) (some q b)) (ap (λ z. leZ z (pos 0)) (value-sub q p) ∙ less-sub (value e q) (value e p)))
 
   -- the greater of two, F where they are equal
-  pub best-at : (F G : Tree) → At (best F G) ≡ if (leZ (worth-at e G) (worth-at e F)) (at e F) (at e G)
+  pub best-at : (F G : Tree) → At (best F G) ≡ if (leT (worth-at e G) (worth-at e F)) (at e F) (at e G)
   unfolding best worth-at
-  best-at F G = merge-at choose choose-at leaf-best (λ f g. if (leZ (value e (g .lin)) (value e (f .lin))) f g) leaf-best-at F G
+  best-at F G = merge-at choose choose-at leaf-best (λ f g. if (leT (of g) (of f)) f g) leaf-best-at F G
 
-  pub best-worth : (F G : Tree) → worth-at e (result (best F G)) ≡ maxZ (worth-at e F) (worth-at e G)
-  unfolding worth-at maxZ
-  best-worth F G = ap of (best-at F G) ∙ if-ap of (leZ (worth-at e G) (worth-at e F)) (at e F) (at e G)
+  pub best-worth : (F G : Tree) → worth-at e (result (best F G)) ≡ maxT (worth-at e F) (worth-at e G)
+  unfolding worth-at maxT
+  best-worth F G = ap of (best-at F G) ∙ if-ap of (leT (worth-at e G) (worth-at e F)) (at e F) (at e G)

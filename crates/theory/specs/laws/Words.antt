@@ -10,14 +10,14 @@ use lib.ListN.{length, getD, take, drop, length-append, length-drop, List·getD-
 use lib.Seq.{getD-drop, drop-drop, drop-append-le, drop-append-add, take-append-le, take-length, getD-append-add}
 use Rattle.whole.specs.Cases.{if, both, and-in}
 use Rattle.theory.specs.Widths.{levels-most, node-words}
-use Rattle.theory.specs.Diagram.{Linear, Test, now, later, linear, Leaf, Tree, leaf, branch, zeros, padded}
+use Rattle.theory.specs.Diagram.{Linear, Test, now, later, linear, Leaf, some, forbidden, lin-of, act-of, no-coeffs, zero-linear, Tree, leaf, branch, zeros, padded}
 use Rattle.theory.specs.Computation.{member}
-use Rattle.theory.specs.Rules.{zero-leaf}
+use Rattle.theory.specs.Rules.{zero-leaf, none-leaf}
 use Rattle.theory.specs.Valid.{all-nodes, among, small-linear, wide, good-test, stage-leaf}
-use Rattle.theory.specs.Solve.{number-of, test-words, row, rows}
-use Rattle.theory.specs.Value.{node-word, node-linear, high-of, low-of, amongZ, good-branches, good-leaf-row, good-condition-row, good-test-row, good-row}
+use Rattle.theory.specs.Solve.{number-of, test-words, leaf-kind, row, rows}
+use Rattle.theory.specs.Value.{node-word, node-linear, high-of, low-of, amongZ, good-branches, good-leaf-row, good-condition-row, good-test-row, good-none-row, good-row}
 use Rattle.theory.specs.laws.Nodes.{parts}
-use Rattle.theory.specs.laws.Valid.{among-in, wide-long, wide-small}
+use Rattle.theory.specs.laws.Valid.{among-in, wide-long, wide-small, zero-wide}
 use Rattle.theory.specs.laws.Table.{number-below, number-above, number-entry, Table}
 
 -- all the nodes of a stage are such, with n conditions and A actions
@@ -139,7 +139,7 @@ amongZ-in n k h l = among-amongZ n k (among-in n k h l)
 -- what good-row asks of a node by its kind
 abbrev pub by-kind : ℕ → ℕ → List ℤ → ℕ → ℤ → Bool
 by-kind n A W r z = elim z [
-  | pos k ↦ if (eqb k 0) (good-leaf-row A W r) (if (eqb k 1) (good-condition-row n W r) (if (eqb k 2) (good-test-row W r) false))
+  | pos k ↦ if (eqb k 0) (good-leaf-row A W r) (if (eqb k 1) (good-condition-row n W r) (if (eqb k 2) (good-test-row W r) (if (eqb k 3) (good-none-row W r) false)))
   | negsuc k ↦ false
 ]
 
@@ -161,10 +161,10 @@ module _ (X : List Tree) (tail : List ℤ) where
   pub node-inside : (t : Tree) → number-of t X * node-words ≤ length laid
   node-inside t = rw (length-append (rows X X) tail, rows-length X X) (omega (arith, number-below t X))
 
-  pub leaf-shows : (f : Leaf) → member (leaf f) X ≡ true → T (wide (f .lin)) → Shows laid (number-of (leaf f) X) (pos 0) (f .lin) (pos (f .act)) (pos 0)
+  pub leaf-shows : (f : Leaf) → member (leaf f) X ≡ true → T (wide (lin-of f)) → Shows laid (number-of (leaf f) X) (leaf-kind f) (lin-of f) (pos (act-of f)) (pos 0)
   unfolding row
-  leaf-shows f m g = rw (wide-as (f .lin) g) at
-      (shows laid (number-of (leaf f) X) (pos 0) (f .lin .const) (pos (f .act)) (pos 0) (padded levels-most (f .lin .coeffs)) (length-padded levels-most (f .lin .coeffs)) (node-has (leaf f) m))
+  leaf-shows f m g = rw (wide-as (lin-of f) g) at
+      (shows laid (number-of (leaf f) X) (leaf-kind f) (lin-of f .const) (pos (act-of f)) (pos 0) (padded levels-most (lin-of f .coeffs)) (length-padded levels-most (lin-of f .coeffs)) (node-has (leaf f) m))
 
   abbrev number-in : Tree → ℤ
   number-in t = pos (number-of t X)
@@ -204,15 +204,18 @@ module _ (X : List Tree) (tail : List ℤ) where
     small-shows r k h l p s g = rw (s .numbers) (wide-small p g)
 
     leaf-good : (f : Leaf) → member (leaf f) X ≡ true → T (stage-leaf A f) → T (good-row n A laid (number-of (leaf f) X))
-    unfolding stage-leaf good-leaf-row zeros
-    leaf-good f m g =
-        let d = both (wide (f .lin)) (among A (f .act)) g in
+    unfolding stage-leaf good-leaf-row good-none-row zeros leaf-kind lin-of act-of row padded no-coeffs
+    leaf-good forbidden m g = kind-good none-leaf (pos 3) (leaf-shows forbidden m zero-wide .kind)
+        (subst (λ (z : List ℤ). T (zeros z)) (sym (has-part laid (number-of none-leaf X) (row X none-leaf) (node-has none-leaf m) 1 (node-words - 1) (omega arith) (omega arith))) tt)
+    leaf-good (some p a) m g =
+        let f = some p a in
+        let d = both (wide p) (among A a) g in
         let s = leaf-shows f m (d .0) in
         let r = number-of (leaf f) X in
         kind-good (leaf f) (pos 0) (s .kind) (and-in (small-linear (node-linear laid r)) (amongZ A (high-of laid r) && zeros (low-of laid r ∷ []))
-        (small-shows r _ _ _ (f .lin) s (d .0))
+        (small-shows r _ _ _ p s (d .0))
         (and-in (amongZ A (high-of laid r)) (zeros (low-of laid r ∷ []))
-        (subst (λ (z : ℤ). T (amongZ A z)) (sym (s .high)) (among-amongZ A (f .act) (d .1)))
+        (subst (λ (z : ℤ). T (amongZ A z)) (sym (s .high)) (among-amongZ A a (d .1)))
         (subst (λ (z : ℤ). T (zeros (z ∷ []))) (sym (s .low)) tt)))
 
     condition-good : (k : ℕ) (h l : Tree) → member (branch (now k) h l) X ≡ true → T (among n k) → T (good-row n A laid (number-of (branch (now k) h l) X))
