@@ -1,17 +1,17 @@
--- Demands 2 and 3, said of one answer at one state.
+-- Demands 2 and 3, and K8's none, said of one answer at one state.
 use mathlib.Core.Path.{_≡_}
 use mathlib.Core.Logic.{_↔_}
 use mathlib.Core.List.{List}
 use Prim.Native.Nat.{ℕ, _≤_}
 use lib.Dec.{T}
 use lib.IntN.{ℤ}
-use lib.Signed.{_<ℤ_}
-use Rattle.whole.specs.Numerator.{number, words}
-use Rattle.theory.specs.Process.{Policy, optimum, lowest-best, expected, Sound}
+use Rattle.whole.specs.Numerator.{number}
+use Rattle.theory.specs.Total.{num, none, _⊏_, Has}
+use Rattle.theory.specs.Process.{Policy, optimum, lowest-best, expected, Sound, Stopped}
 use Rattle.theory.specs.Meaning.{State, process}
 use Rattle.theory.specs.Load.{model, site-at}
 use Rattle.theory.specs.Solve.{SolveOut, solve}
-use Rattle.theory.specs.Value.{Asked, accepted, state-of, ValueOut, refused-value, value-of}
+use Rattle.theory.specs.Value.{Asked, accepted, state-of, ValueOut, refused-value, answered, value-of}
 
 -- the lent words, as a solve leaves them
 pub record Left (o : SolveOut) (nodes : List ℤ) (stages work : List ℕ) : Type 0 where
@@ -28,18 +28,22 @@ module _ (B : List ℕ) (h : ℕ) (q : Asked) (v : ValueOut) where
   abbrev pub start : Accepted → State
   start t = state-of (site-at B .levels) (site-at B .conditions) q t
 
-  -- "the value read is exactly the best expected total", times D × W^(n×h), "and the action the lowest-numbered one that reaches it"
+  -- "the value read is exactly the best expected total", times D × W^(n×h), "and the action the lowest-numbered one that reaches it"; ""None" reads as numerator 0, action 0"
   pub record Exact : Type 0 where
     pub no-refusal : Accepted → (v .number ≡ 0) × (v .place ≡ 0)
-    pub value : (t : Accepted) → v .numerator ≡ words (optimum (process (model B)) h (start t))
-    pub action : (t : Accepted) → v .action ≡ lowest-best (process (model B)) h (start t)
+    pub value : (t : Accepted) → v .numerator ≡ answered (optimum (process (model B)) h (start t)) 0 .numerator
+    pub action : (t : Accepted) → v .action ≡ answered (optimum (process (model B)) h (start t)) (lowest-best (process (model B)) h (start t)) .action
 
-  -- "the value read equals the policy's expected total .. exactly when the policy picks, at every state it reaches .. and a step left, an action that no other betters there; in every other case the policy's total is lower"
+  -- "the value read equals the policy's expected total .. exactly when the policy picks, at every state it reaches .. and a step left, an action that no other betters there; in every other case the policy's total is lower", or none; "claimed for states whose value is not none"
   pub record Optimal : Type 0 where
-    pub equal : (t : Accepted) (π : Policy (process (model B)))
-        → (number (v .numerator) ≡ expected (process (model B)) π h (start t)) ↔ Sound (process (model B)) π h (start t)
-    pub lower : (t : Accepted) (π : Policy (process (model B)))
-        → (Sound (process (model B)) π h (start t) → ⊥) → expected (process (model B)) π h (start t) <ℤ number (v .numerator)
+    pub equal : (t : Accepted) → Has (optimum (process (model B)) h (start t)) → (π : Policy (process (model B)))
+        → (num (number (v .numerator)) ≡ expected (process (model B)) π h (start t)) ↔ Sound (process (model B)) π h (start t)
+    pub lower : (t : Accepted) → Has (optimum (process (model B)) h (start t)) → (π : Policy (process (model B)))
+        → (Sound (process (model B)) π h (start t) → ⊥) → expected (process (model B)) π h (start t) ⊏ num (number (v .numerator))
+
+  -- "A state has the value "none" exactly when no policy gets from it through its steps without a chance above zero of a forbidden action."
+  pub record ReadsNone : Type 0 where
+    pub exactly : (t : Accepted) → (v ≡ answered none 0) ↔ ((π : Policy (process (model B))) → Stopped (process (model B)) π h (start t))
 
 -- a call that solves B for the horizon H in lent tables, then reads at q with h steps left, and leaves the tables as nodes′, stages′ and work′
 pub record Advises (B : List ℕ) (H : ℕ) (nodes : List ℤ) (stages work : List ℕ) (h : ℕ) (q : Asked) (nodes′ : List ℤ) (stages′ work′ : List ℕ) (v : ValueOut) : Type 0 where
@@ -53,3 +57,5 @@ pub record Advises (B : List ℕ) (H : ℕ) (nodes : List ℤ) (stages work : Li
   pub exact : solve B H nodes stages work .number ≡ 0 → 1 ≤ h → h ≤ H → Exact B h q v
   -- demand 3
   pub optimal : solve B H nodes stages work .number ≡ 0 → 1 ≤ h → h ≤ H → Optimal B h q v
+  -- K8
+  pub reads-none : solve B H nodes stages work .number ≡ 0 → 1 ≤ h → h ≤ H → ReadsNone B h q v

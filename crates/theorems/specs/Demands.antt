@@ -8,19 +8,20 @@ use native.Mathlib.Nat.{mul-pos, one-le-pow}
 use lib.Dec.{T}
 use lib.IntN.{ℤ, pos, natAbs, _*ℤ_}
 use lib.ListN.{length}
-use lib.Signed.{_<ℤ_}
 use Rattle.whole.specs.Divisor.{Divides}
-use Rattle.whole.specs.Numerator.{number, words}
+use Rattle.whole.specs.Numerator.{number}
 use Rattle.theory.specs.Diagram.{Linear, linear, Tree, scaleL, _⊠_, zeros, test-of}
 use Rattle.theory.specs.Computation.{solved, refused, enter-all, result}
 use Rattle.theory.specs.Rules.{side}
-use Rattle.theory.specs.Process.{Process, Policy, Action, mean, optimum, lowest-best, expected, Sound}
+use Rattle.theory.specs.Total.{num, _⊏_, Has}
+use Rattle.theory.specs.Process.{Process, Policy, Action, optimum, lowest-best, expected, Sound}
+use Rattle.theory.specs.Loss.{sum}
 use Rattle.theory.specs.Meaning.{Model, State, action-at, env, worth-at, end-at, chance-at, weight, settings, moved, power, process}
 use Rattle.theory.specs.Stage.{all-stages}
 use Rattle.theory.specs.Verdict.{Progress, Verdict, verdict}
 use Rattle.theory.specs.Load.{Loaded, load, model, spelled, site-at}
 use Rattle.theory.specs.Solve.{solve-in, table-of, solved-stages, SolveOut, solve}
-use Rattle.theory.specs.Value.{Asked, accepted, state-of, ValueOut, value-of}
+use Rattle.theory.specs.Value.{Asked, accepted, state-of, ValueOut, answered, value-of}
 use Rattle.theory.specs.Plain.{plain-of}
 use Rattle.theory.specs.Name.{Part, name-refusal, name-part}
 use Rattle.theory.specs.Listing.{greatest-root, ListingOut, listing}
@@ -99,34 +100,29 @@ ListingRows = (B : List ℕ) (H : ℕ) (nodes : List ℤ) (stages buffer : List 
 
 -- ---- demands 2 and 3
 
--- Demand 2, exact: the value read is the best expected total, times D × W^(n×h), and the action the lowest that reaches it.
+-- Demand 2, exact: the value read is the best expected total, times D × W^(n×h), and the action the lowest that reaches it; "None" reads as numerator 0, action 0.
 abbrev pub Exact : Type 0
 Exact = (g : Solving) (h : ℕ) → 1 ≤ h → h ≤ g .horizon → (q : Asked) (t : Accepted g q)
-    → reading g h q ≡ record {
-      number = 0;
-      place = 0;
-      action = lowest-best (site g) h (start g q t);
-      numerator = words (optimum (site g) h (start g q t));
-    }
+    → reading g h q ≡ answered (optimum (site g) h (start g q t)) (lowest-best (site g) h (start g q t))
 
--- Demand 3, optimal: the value read equals a policy's expected total exactly when the policy never picks a bettered action where it can get to with a step left; else the policy's is lower.
+-- Demand 3, optimal, "claimed for states whose value is not none": the value read equals a policy's expected total exactly when the policy never picks a bettered action where it can get to with a step left; else the policy's is lower, or none, "which counts as lower".
 abbrev pub Optimal : Type 0
-Optimal = (g : Solving) (h : ℕ) → 1 ≤ h → h ≤ g .horizon → (q : Asked) (t : Accepted g q) (π : Policy (site g))
-    → ((number (reading g h q .numerator) ≡ expected (site g) π h (start g q t)) ↔ Sound (site g) π h (start g q t))
-    × ((Sound (site g) π h (start g q t) → ⊥) → expected (site g) π h (start g q t) <ℤ number (reading g h q .numerator))
+Optimal = (g : Solving) (h : ℕ) → 1 ≤ h → h ≤ g .horizon → (q : Asked) (t : Accepted g q) → Has (optimum (site g) h (start g q t)) → (π : Policy (site g))
+    → ((num (number (reading g h q .numerator)) ≡ expected (site g) π h (start g q t)) ↔ Sound (site g) π h (start g q t))
+    × ((Sound (site g) π h (start g q t) → ⊥) → expected (site g) π h (start g q t) ⊏ num (number (reading g h q .numerator)))
 
 -- ---- "The value that is meant"
 
 -- "weight total W (1 to 100)"
 module _ (M : Model) (W>0 : 1 ≤ M .weights) where
-  -- "V_h(s)": the best expected total, over D × W^(n×h)
+  -- "V_h(s)": the best expected total, over D × W^(n×h), or none
   abbrev pub meant : ℕ → State → Fraction
-  meant h s = record { num = optimum (process M) h s; den = s .den * power M h; den>0 = mul-pos (s .D>0) (one-le-pow ((M .conditions) * h) (M .weights) W>0) }
+  meant h s = record { numerator = optimum (process M) h s; den = s .den * power M h; den>0 = mul-pos (s .D>0) (one-le-pow ((M .conditions) * h) (M .weights) W>0) }
 
   -- "reward at s plus the sum, over all settings of the next conditions, of the setting's weight × V_(h−1) of the next state, divided by Wⁿ"
   abbrev pub formula : ℕ → State → ℕ → Fraction
   formula h s a = plus
-      (record { num = worth-at (env s []) (action-at M a .reward); den = s .den; den>0 = s .D>0 })
+      (record { numerator = worth-at (env s []) (action-at M a .reward); den = s .den; den>0 = s .D>0 })
       (divided
       (weighed (weight (M .weights) (map (chance-at (env s [])) (action-at M a .chances))) (λ r. meant h (moved s (action-at M a .levels) r)) (settings (M .conditions)))
       ((M .weights) ^ (M .conditions))
@@ -134,7 +130,7 @@ module _ (M : Model) (W>0 : 1 ≤ M .weights) where
 
 -- "V₀ is that diagram; without the command it is 0"
 abbrev pub end-worth : Model → State → Fraction
-end-worth M s = record { num = end-at (env s []) (M .end); den = s .den; den>0 = s .D>0 }
+end-worth M s = record { numerator = num (end-at (env s []) (M .end)); den = s .den; den>0 = s .D>0 }
 
 -- "V₀ is that diagram"; "V_h(s) is the largest over the actions of" the formula: none is larger, and one is equal
 abbrev pub Formula : Type 0
@@ -145,12 +141,12 @@ Formula = (M : Model) (w : 1 ≤ M .weights) (s : State) → Equal (meant M w 0 
 -- "The leaves of a chance are constants 0 to W": of an accepted model, at every state
 abbrev pub ChancesWithin : Type 0
 ChancesWithin = (B : List ℕ) → verdict B .number ≡ 0 → (a : ℕ) → Action (process (model B)) a → (C : Tree) → List·Memᴰ C (action-at (model B) a .chances)
-    → (s : State) → (worth-at (env s []) C ≡ pos (chance-at (env s []) C * s .den)) × (chance-at (env s []) C ≤ model B .weights)
+    → (s : State) → (worth-at (env s []) C ≡ num (pos (chance-at (env s []) C * s .den))) × (chance-at (env s []) C ≤ model B .weights)
 
 -- "all weights of a state sum to Wⁿ"
 abbrev pub WeightsSum : Type 0
 WeightsSum = (B : List ℕ) → verdict B .number ≡ 0 → (a : ℕ) → Action (process (model B)) a
-    → (s : State) → mean ((process (model B) .weight) a s) (λ _. pos 1) (process (model B) .settings) ≡ pos ((model B .weights) ^ (model B .conditions))
+    → (s : State) → sum ((process (model B) .weight) a s) (process (model B) .settings) ≡ (model B .weights) ^ (model B .conditions)
 
 -- what is loaded means what the bytes spell: one decision process
 abbrev pub SpelledSame : Type 0

@@ -17,6 +17,7 @@ use Rattle.theory.specs.Meaning as Meaning
 use Rattle.theory.specs.Stage as Stage
 use Rattle.theory.specs.Valid as Valid
 use Rattle.theory.specs.Command as Command
+use Rattle.theory.specs.Total as Total
 use Rattle.theory.specs.Verdict as Verdict
 use Rattle.theory.specs.Load as Load
 use Rattle.theory.specs.Solve as Solve
@@ -27,7 +28,7 @@ use Rattle.theory.specs.Listing as Listing
 
 -- one name that unfolds all that the cases compute with
 unfoldable definitions : Unit {0}
-unfolding Divisor.gcdBy Divisor.gcdOf Divisor.gcd-all Divisor.at-least-one Within.small Numerator.number Numerator.words Diagram.cmpList Diagram.cmpLinear Diagram.cmp Diagram.same-leaf Diagram.same Diagram.addL Diagram.scaleL Diagram._⊞_ Diagram._⊠_ Diagram._⊟_ Diagram.plus-constant Diagram.zeros Diagram.quotL Diagram.quotient Diagram.divisor Diagram.test-of Computation.bind Computation.result Computation.make Computation.names Computation.judge Computation.both Computation.member Computation.run Computation.enter Computation.enter-all Computation.and-then Computation.final Computation.run-all Rules.parallel Rules.narrowed Rules.node Rules.step Rules.choose Rules.over Rules.merge Rules.make-leaf Rules.leaf-sum Rules.leaf-product Rules.leaf-scale Rules.leaf-shift Rules.leaf-complement Rules.leaf-number Rules.decide Rules.leaf-best Rules.sum Rules.product Rules.scale Rules.shift Rules.complement Rules.number Rules.best Rules.no-coeffs Rules.zero-leaf Rules.sum-on Rules.levels-sum Rules.linear-diagram Rules.substitute Rules.is-later Rules.side Rules.expectation Rules.add-reward Process.mean Process.maxZ Process.greatest-from Process.first-best Process.total Process.optimum Process.lowest-best Meaning.nth-action Meaning.action-at Meaning.numbers-from Meaning.nth Meaning.env Meaning.dot Meaning.value Meaning.holds Meaning.at Meaning.worth-at Meaning.end-at Meaning.doubled Meaning.settings Meaning.chance-at Meaning.weight Meaning.moved Meaning.process Stage.all-diagrams Stage.model-diagrams Stage.sum-out Stage.action-total Stage.best-on Stage.stage-over Stage.stages-on Stage.stages-over-end Stage.all-stages Valid.all Valid.among Valid.small-linear Command.width-in Command.word-at Command.signed Command.signed-from Command.linear-in Command.bytes-at Command.command-in Command.read-in Command.goes-on Command.readings-from-in Command.readings-in Verdict.same-slot Verdict.has-slot Verdict.first-broken Verdict.beyond Verdict.next-condition Verdict.printable Verdict.is-weight Verdict.of-site Verdict.may-be Verdict.joined Verdict.from-to Verdict.wanted-by Verdict.wanted Verdict.site-rules Verdict.first-rules Verdict.later-rules Verdict.rules-in Verdict.after Verdict.ended Verdict.judged-in Verdict.verdict-in Load.condition-test Load.load-choice-with Load.load-entry Load.load-one-with Load.load-on-with Load.find-slot Load.found Load.action-of Load.model-of Load.site-in Load.load-in Load.model-in Solve.room Solve.solve-in Solve.number-of Diagram.padded Solve.test-words Solve.row Solve.rows Solve.table-of Solve.solved-nodes Solve.solved-stages Solve.solve-left Solve.early Solve.solve Value.accepted Value.bits Value.state-of Value.node-linear Value.amongZ Value.good-branches Value.good-leaf-row Value.good-condition-row Value.good-test-row Value.good-row Value.numerator-of Value.taken Value.walk Value.value-at Value.value-of Plain.judged Plain.in-32-bits Plain.sum-settings Plain.action-worth Plain.better Plain.try-actions Plain.numbered Plain.state-worth Plain.worth-out Plain.if-true Plain.plain-of Name.names-action Name.trimmed Name.named-part Name.name-refusal Name.name-part Name.name Listing.digits Listing.spaced Listing.spaced-all Listing.first-line Listing.node-line Listing.stage-line Listing.lines Listing.greatest-root Listing.text Listing.refusal-line Listing.written Listing.listing-refusal Listing.listing
+unfolding Divisor.gcdBy Divisor.gcdOf Divisor.gcd-all Divisor.at-least-one Within.small Numerator.number Numerator.words Diagram.cmpList Diagram.cmpLinear Diagram.cmp Diagram.no-coeffs Diagram.lin-of Diagram.act-of Diagram.same-leaf Diagram.same Diagram.addL Diagram.scaleL Diagram._⊞_ Diagram._⊠_ Diagram._⊟_ Diagram.plus-constant Diagram.zeros Diagram.quotL Diagram.quotient Diagram.divisor Diagram.test-of Computation.bind Computation.result Computation.make Computation.names Computation.judge Computation.both Computation.member Computation.run Computation.enter Computation.enter-all Computation.and-then Computation.final Computation.run-all Rules.parallel Rules.narrowed Rules.node Rules.step Rules.choose Rules.over Rules.merge Rules.make-leaf Rules.leaf-sum Rules.leaf-product Rules.leaf-scale Rules.leaf-shift Rules.leaf-complement Rules.leaf-number Rules.decide Rules.leaf-best Rules.sum Rules.product Rules.scale Rules.shift Rules.complement Rules.number Rules.best Rules.zero-leaf Rules.sum-on Rules.levels-sum Rules.linear-diagram Rules.substitute Rules.is-later Rules.side Rules.expectation Rules.add-reward Total.leT Total._⊕_ Total.weigh Total.maxT Total.mean Total.greatest-from Total.first-best Process.total Process.optimum Process.lowest-best Meaning.nth-action Meaning.action-at Meaning.numbers-from Meaning.nth Meaning.env Meaning.dot Meaning.value Meaning.holds Meaning.at Meaning.leaf-worth Meaning.worth-at Meaning.level-at Meaning.end-at Meaning.doubled Meaning.settings Meaning.chance-at Meaning.weight Meaning.moved Meaning.process Stage.all-diagrams Stage.model-diagrams Stage.sum-out Stage.action-total Stage.best-on Stage.stage-over Stage.stages-on Stage.stages-over-end Stage.all-stages Valid.all Valid.among Valid.small-linear Command.width-in Command.word-at Command.signed Command.signed-from Command.linear-in Command.bytes-at Command.command-in Command.read-in Command.goes-on Command.readings-from-in Command.readings-in Verdict.same-slot Verdict.has-slot Verdict.first-broken Verdict.beyond Verdict.next-condition Verdict.printable Verdict.is-weight Verdict.of-site Verdict.may-be Verdict.joined Verdict.from-to Verdict.wanted-by Verdict.wanted Verdict.site-rules Verdict.first-rules Verdict.later-rules Verdict.rules-in Verdict.after Verdict.ended Verdict.judged-in Verdict.verdict-in Load.condition-test Load.load-choice-with Load.load-entry Load.load-one-with Load.load-on-with Load.find-slot Load.found Load.action-of Load.model-of Load.site-in Load.load-in Load.model-in Solve.room Solve.solve-in Solve.number-of Diagram.padded Solve.test-words Solve.leaf-kind Solve.row Solve.rows Solve.table-of Solve.solved-nodes Solve.solved-stages Solve.solve-left Solve.early Solve.solve Value.accepted Value.bits Value.state-of Value.node-linear Value.amongZ Value.good-branches Value.good-leaf-row Value.good-condition-row Value.good-test-row Value.good-none-row Value.good-row Value.numerator-of Value.taken Value.ends Value.walk Value.answered Value.value-at Value.value-of Plain.judged Plain.in-32-bits Plain.sum-settings Plain.rewarded Plain.action-worth Plain.better Plain.try-actions Plain.numbered Plain.state-worth Plain.worth-out Plain.if-true Plain.plain-of Name.names-action Name.trimmed Name.named-part Name.name-refusal Name.name-part Name.name Listing.digits Listing.spaced Listing.spaced-all Listing.first-line Listing.node-line Listing.stage-line Listing.lines Listing.greatest-root Listing.text Listing.refusal-line Listing.written Listing.listing-refusal Listing.listing
 definitions = tt
 
 -- ---- models as bytes
@@ -71,6 +72,11 @@ asked x d = record { mask = 0; nums = x ∷ replicate 7 (pos 0); den = pos d }
 abbrev reads : Value.ValueOut → ℕ → ℕ → Bool
 reads o v a = eqb (o .number) 0 && (eqb (o .action) a && (eqb (o .numerator .low) v && isEq (Diagram.cmpZ (o .numerator .high) (pos 0))))
 
+-- a total that is a number
+abbrev is-number : Total.Total → ℕ → Bool
+is-number (Total.num z) v = isEq (Diagram.cmpZ z (pos v))
+is-number Total.none v = false
+
 -- the same diagram
 abbrev is-stage : List Diagram.Tree → ℕ → Diagram.Tree → Bool
 is-stage [] h t = false
@@ -86,11 +92,11 @@ abbrev row : List ℕ → Solve.SolveOut → ℕ → ℤ → (d : ℕ) → 0 < d
 row B o h x d p v a =
     let s = state (Load.site-at B .conditions) x d p in
     eqb (o .number) 0 && (reads (Value.value-of B (o .nodes) (o .stages) h (asked x d)) v a && (reads (Plain.plain-of B h (asked x d)) v a
-    && (isEq (Diagram.cmpZ (Process.optimum (Meaning.process (Load.model B)) h s) (pos v)) && eqb (Process.lowest-best (Meaning.process (Load.model B)) h s) a)))
+    && (is-number (Process.optimum (Meaning.process (Load.model B)) h s) v && eqb (Process.lowest-best (Meaning.process (Load.model B)) h s) a)))
 
 -- a × L1 + c, numbered with action 1
 abbrev rain-leaf : ℤ → ℤ → Diagram.Tree
-rain-leaf a c = Diagram.leaf (record { lin = record { coeffs = a ∷ replicate 7 (pos 0); const = c }; act = 1 })
+rain-leaf a c = Diagram.leaf (Diagram.some (record { coeffs = a ∷ replicate 7 (pos 0); const = c }) 1)
 
 -- the pond's peak at horizon 2
 pub pond-peak : T (eqb (solved pond 2 21 .peak) 21 && eqb (solved pond 2 20 .number) 12)
@@ -121,7 +127,7 @@ pond-end = take (length pond - 1) pond ++ ((0x10 ∷ linear₁ (pos 1) (pos 0)) 
 pub pond-ended : T (let o = solved pond-end 2 24 in
     eqb (o .peak) 24 && (eqb (solved pond-end 2 23 .number) 12
     && (row pond-end o 1 (pos 10) 1 one 50 2 && (row pond-end o 1 (pos 9) 1 one 9 1 && (row pond-end o 1 (pos 39) 2 two 119 2 && (row pond-end o 2 (pos 20) 1 one 100 2
-    && (isEq (Diagram.cmpZ (Process.optimum (Meaning.process (Load.model pond-end)) 0 (state 0 (pos 7) 1 one)) (pos 7))
+    && (is-number (Process.optimum (Meaning.process (Load.model pond-end)) 0 (state 0 (pos 7) 1 one)) 7
     && eqb (Verdict.verdict (take (length pond-end - 1) pond-end ++ ((0x10 ∷ linear₁ (pos 1) (pos 0)) ++ (0x23 ∷ 0xff ∷ []))) .number) 6)))))))
 unfolding definitions
 pond-ended = tt
@@ -199,3 +205,35 @@ pub dropped-counted : T (let o = solved steps 1 10 in
     eqb (o .number) 0 && (eqb (o .peak) 10 && (same-bytes (o .stages) (3 ∷ replicate 7 0) && (eqb (r .number) 12 && eqb (r .place) 0))))
 unfolding definitions same-bytes
 dropped-counted = tt
+
+-- K8: m 1, n 1, A 1, W 10, a pump that is forbidden below 0 (L1 ≥ 0 : 1 ; else : forbidden), chance (C1 : 0 ; else : 5), next level (N1 : -1 ; else : L1)
+abbrev pub pump : List ℕ
+pump =
+    (0x02 ∷ 1 ∷ 1 ∷ 1 ∷ 0 ∷ 10 ∷ [])
+    ++ ((0x10 ∷ linear₁ (pos 0) (pos 1)) ++ ((0x13 ∷ []) ++ ((0x12 ∷ linear₁ (negsuc 0) (pos 0)) ++ ((0x20 ∷ 1 ∷ 0 ∷ [])
+    ++ ((0x10 ∷ linear₁ (pos 0) (pos 0)) ++ ((0x10 ∷ linear₁ (pos 0) (pos 5)) ++ ((0x11 ∷ 1 ∷ 0x21 ∷ 1 ∷ 0 ∷ 1 ∷ [])
+    ++ ((0x10 ∷ linear₁ (pos 0) (negsuc 0)) ++ ((0x10 ∷ linear₁ (pos 1) (pos 0)) ++ (0x11 ∷ 5 ∷ 0x22 ∷ 1 ∷ 0 ∷ 1 ∷ 0xff ∷ []))))))))))
+
+-- two steps left at level 0, with condition 1 or without
+abbrev pump-asked : ℕ → Value.Asked
+pump-asked mask = record { mask = mask; nums = replicate 8 (pos 0); den = pos 1 }
+
+abbrev pump-state : Bool → Meaning.State
+pump-state c = record { conditions = c ∷ []; nums = pos 0 ∷ []; den = 1; D>0 = one }
+
+-- "A next state of weight 0 never makes a value none": with condition 1 the pump gets through, 200 with action 1; without it there is a chance of 5 in 10 that it does not, and the value is none, "numerator 0, action 0"; six nodes
+pub forbids : T (let o = solved pump 2 40 in
+    eqb (o .number) 0 && (eqb (Listing.greatest-root 2 (o .stages)) 6
+    && (reads (Value.value-of pump (o .nodes) (o .stages) 2 (pump-asked 1)) 200 1 && (reads (Value.value-of pump (o .nodes) (o .stages) 2 (pump-asked 0)) 0 0
+    && (reads (Plain.plain-of pump 2 (pump-asked 1)) 200 1 && (reads (Plain.plain-of pump 2 (pump-asked 0)) 0 0
+    && (is-number (Process.optimum (Meaning.process (Load.model pump)) 2 (pump-state true)) 200
+    && Total.leT (Process.optimum (Meaning.process (Load.model pump)) 2 (pump-state false)) Total.none)))))))
+unfolding definitions
+forbids = tt
+
+-- "allowed in rewards only, not in an end worth": diagram 4 at 21, 22 and 23
+pub rewards-only : T (let begins : List ℕ = 0x02 ∷ 1 ∷ 1 ∷ 1 ∷ 0 ∷ 10 ∷ 0x13 ∷ [] in
+    eqb (Verdict.verdict (begins ++ (0x21 ∷ 1 ∷ 0 ∷ 1 ∷ [])) .number) 4 && (eqb (Verdict.verdict (begins ++ (0x22 ∷ 1 ∷ 0 ∷ 1 ∷ [])) .number) 4
+    && (eqb (Verdict.verdict (begins ++ (0x23 ∷ [])) .number) 4 && eqb (Verdict.verdict (begins ++ (0x20 ∷ 1 ∷ 0 ∷ [])) .number) 2)))
+unfolding definitions
+rewards-only = tt

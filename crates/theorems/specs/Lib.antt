@@ -13,6 +13,8 @@ pub mod Demands
 pub mod Advice
 -- K4, parallel tests
 pub mod Parallel
+-- K8, actions that are not permitted
+pub mod Forbidden
 -- ---- examples
 
 -- the pond, rain, and what is marked ★

@@ -6,7 +6,6 @@ use mathlib.Core.List.{List}
 use Prim.Native.Nat.{ℕ, _≤_}
 use lib.Dec.{T}
 use Rattle.whole.specs.Cases.{if}
-use Rattle.whole.specs.Numerator.{words}
 use Rattle.theory.specs.Diagram.{Test, Tree, leaf, branch}
 use Rattle.theory.specs.Computation.{ret, result}
 use Rattle.theory.specs.Rules.{parallel, node, over}
@@ -14,7 +13,7 @@ use Rattle.theory.specs.Process.{optimum, lowest-best}
 use Rattle.theory.specs.Meaning.{State, Env, holds, at, process}
 use Rattle.theory.specs.Load.{spelled}
 use Rattle.theory.specs.Valid.{all-nodes}
-use Rattle.theory.specs.Value.{Asked, ValueOut}
+use Rattle.theory.specs.Value.{Asked, ValueOut, answered}
 use Rattle.theorems.specs.Ordered.{Ordered}
 use Rattle.theorems.specs.Demands.{Solving, Accepted, start, reading}
 
@@ -38,12 +37,7 @@ MadeAnew = (F : Tree) → Ordered F → result (over node (λ f. ret (leaf f)) F
 
 -- the value and the action of a model as its bytes spell it, each test over its branches as they stand: neither *node* nor *choose* is in it, nor any table
 abbrev pub meant-by : List ℕ → ℕ → State → ValueOut
-meant-by B h s = record {
-  number = 0;
-  place = 0;
-  action = lowest-best (process (spelled B)) h s;
-  numerator = words (optimum (process (spelled B)) h s);
-}
+meant-by B h s = answered (optimum (process (spelled B)) h s) (lowest-best (process (spelled B)) h s)
 
 -- it is what is read from the tables of a solve: the way taken here. Nothing of what nodes are made, shared or dropped can show in it.
 abbrev pub Unmoved : Type 0

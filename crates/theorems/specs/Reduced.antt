@@ -19,9 +19,9 @@ Smaller (a ∷ l) (b ∷ m) = (a <ℤ b) ⊎ ((a ≡ b) × Smaller l m)
 abbrev pub test-part : List ℤ → ℕ → List ℤ
 test-part W r = take 10 (drop ((r - 1) * 12) W)
 
--- node r is no leaf
+-- node r is no leaf, nor a leaf "none"
 abbrev pub Inner : List ℤ → ℕ → Type 0
-Inner W r = node-word W r 0 ≡ pos 0 → ⊥
+Inner W r = (node-word W r 0 ≡ pos 0) ⊎ (node-word W r 0 ≡ pos 3) → ⊥
 
 -- node r is a linear test
 abbrev pub IsTest : List ℤ → ℕ → Type 0

@@ -1,4 +1,4 @@
--- "These rules judge each leaf and condition as written, also one that loading would drop.": the two facts that a diagram is judged by, of the diagram as it is written.
+-- "These rules judge each leaf and condition as written, also one that loading would drop.": the three facts that a diagram is judged by, of the diagram as it is written.
 use mathlib.Core.Path.{_≡_}
 use mathlib.Core.Logic.{_↔_, _⊎_}
 use mathlib.Core.List.{List, [], _∷_}
@@ -7,7 +7,7 @@ use lib.Dec.{T}
 use lib.IntN.{ℤ, pos}
 use lib.ListN.{getD}
 use lib.Signed.{_≤ℤ_}
-use Rattle.theory.specs.Diagram.{Test, now, later, linear, Tree, leaf, branch}
+use Rattle.theory.specs.Diagram.{Test, now, later, linear, some, forbidden, Tree, leaf, branch}
 use Rattle.theory.specs.Computation.{Comp, ret, result}
 use Rattle.theory.specs.Command.{byte-at, width, command-at}
 use Rattle.theory.specs.Verdict.{Facts}
@@ -26,13 +26,21 @@ HasLater (branch t h l) = IsLater t ⊎ (HasLater h ⊎ HasLater l)
 
 -- "The leaves of a chance are constants 0 to W"
 abbrev pub AllWeights : ℕ → Tree → Type 0
-AllWeights W (leaf f) = ((i : ℕ) → getD (f .lin .coeffs) i (pos 0) ≡ pos 0) × ((pos 0 ≤ℤ (f .lin .const)) × ((f .lin .const) ≤ℤ pos W))
+AllWeights W (leaf (some p a)) = ((i : ℕ) → getD (p .coeffs) i (pos 0) ≡ pos 0) × ((pos 0 ≤ℤ (p .const)) × ((p .const) ≤ℤ pos W))
+AllWeights W (leaf forbidden) = ⊥
 AllWeights W (branch t h l) = AllWeights W h × AllWeights W l
+
+-- "a leaf "forbidden", allowed in rewards only": one stands in a diagram
+abbrev pub HasForbidden : Tree → Type 0
+HasForbidden (leaf (some p a)) = ⊥
+HasForbidden (leaf forbidden) = Unit {0}
+HasForbidden (branch t h l) = HasForbidden h ⊎ HasForbidden l
 
 -- the facts are the diagram's
 pub record Judges (W : ℕ) (f : Facts) (t : Tree) : Type 0 where
   pub next-step : T (f .next-step) ↔ HasLater t
   pub weights : T (f .weights) ↔ AllWeights W t
+  pub forbids : T (f .forbids) ↔ HasForbidden t
 
 -- .. one by one
 abbrev pub JudgesAll : ℕ → List Facts → List Tree → Type 0

@@ -17,9 +17,12 @@ pub mod Ordered
 pub mod OrderedStages
 pub mod Reduced
 -- equal fractions
+pub mod Scaling
 pub mod SameValue
 -- the demands
 pub mod Demands
 pub mod Advice
 -- K4
 pub mod Parallel
+-- K8
+pub mod Forbidden

@@ -1,14 +1,31 @@
 -- The demands' theorems, at the answer read from the tables that a solve left.
-use mathlib.Core.Path.{_≡_, sym, ap, _∙_, subst}
+use mathlib.Core.Path.{_≡_, refl, sym, ap, _∙_, subst}
 use mathlib.Core.List.{List}
 use Prim.Native.Nat.{ℕ, _≤_}
 use lib.IntN.{ℤ, pos}
 use Rattle.whole.specs.Numerator.{words}
+use Rattle.theory.specs.Total.{Total, num, none}
+use Rattle.theory.specs.Process.{optimum, lowest-best}
+use Rattle.theory.specs.Meaning.{process}
+use Rattle.theory.specs.Load.{model}
 use Rattle.theory.specs.Solve.{SolveOut, solve}
-use Rattle.theory.specs.Value.{Asked, ValueOut, refused-value, value-of}
+use Rattle.theory.specs.Value.{Asked, ValueOut, refused-value, answered, value-of}
 use Rattle.theorems.specs.Demands.{Solving}
 use Rattle.theorems.specs.laws.Demands as demands
-use Rattle.theorems.specs.Advice.{Left, Exact, Optimal, Advises}
+use Rattle.theorems.specs.laws.Forbidden as forbidden
+use Rattle.theorems.specs.Advice.{Left, start, Exact, Optimal, ReadsNone, Advises}
+
+-- the numerator is that of the total, whatever the action
+any-action : (x : Total) (a : ℕ) → answered x a .numerator ≡ answered x 0 .numerator
+unfolding answered
+any-action (num z) a = refl
+any-action none a = refl
+
+-- no total is refused
+no-refusal-answered : (x : Total) (a : ℕ) → (answered x a .number ≡ 0) × (answered x a .place ≡ 0)
+unfolding answered
+no-refusal-answered (num z) a = (refl, refl)
+no-refusal-answered none a = (refl, refl)
 
 -- solved
 module _ (B : List ℕ) (H : ℕ) (nodes : List ℤ) (stages work : List ℕ) (is : solve B H nodes stages work .number ≡ 0) (h : ℕ) (low : 1 ≤ h) (high : h ≤ H) (q : Asked) where
@@ -20,16 +37,21 @@ module _ (B : List ℕ) (H : ℕ) (nodes : List ℤ) (stages work : List ℕ) (i
 
   read-exact : Exact B h q read
   read-exact = record {
-    no-refusal = λ t. (ap (λ (v : ValueOut). v .number) (demands.exact solving h low high q t), ap (λ (v : ValueOut). v .place) (demands.exact solving h low high q t));
-    value = λ t. ap (λ (v : ValueOut). v .numerator) (demands.exact solving h low high q t);
+    no-refusal = λ t.
+        let n = no-refusal-answered (optimum (process (model B)) h (start B h q read t)) (lowest-best (process (model B)) h (start B h q read t)) in
+        (ap (λ (v : ValueOut). v .number) (demands.exact solving h low high q t) ∙ n .0, ap (λ (v : ValueOut). v .place) (demands.exact solving h low high q t) ∙ n .1);
+    value = λ t. ap (λ (v : ValueOut). v .numerator) (demands.exact solving h low high q t) ∙ any-action _ _;
     action = λ t. ap (λ (v : ValueOut). v .action) (demands.exact solving h low high q t);
   }
 
   read-optimal : Optimal B h q read
   read-optimal = record {
-    equal = λ t π. demands.optimal solving h low high q t π .0;
-    lower = λ t π. demands.optimal solving h low high q t π .1;
+    equal = λ t has π. demands.optimal solving h low high q t has π .0;
+    lower = λ t has π. demands.optimal solving h low high q t has π .1;
   }
+
+  read-none : ReadsNone B h q read
+  read-none = record { exactly = λ t. forbidden.none-read solving h low high q t .1 }
 
   module _ {l : List ℤ} {s w : List ℕ} (L : Left (solve B H nodes stages work) l s w) (v : ValueOut) (e : v ≡ value-of B l s h q) where
     same-read : read ≡ v
@@ -40,6 +62,9 @@ module _ (B : List ℕ) (H : ℕ) (nodes : List ℤ) (stages work : List ℕ) (i
 
     advised-optimal : Optimal B h q v
     advised-optimal = subst (Optimal B h q) same-read read-optimal
+
+    advised-none : ReadsNone B h q v
+    advised-none = subst (ReadsNone B h q) same-read read-none
 
 -- what a solve answered with and left
 module _ (B : List ℕ) (H : ℕ) (nodes : List ℤ) (stages work : List ℕ) {k p peak : ℕ} {l : List ℤ} {s w : List ℕ} (e : record { number = k; place = p; peak = peak; nodes = l; stages = s; work = w } ≡ solve B H nodes stages work) where
@@ -58,6 +83,7 @@ module _ (B : List ℕ) (H : ℕ) (nodes : List ℤ) (stages work : List ℕ) {k
     read = λ z. absurd (n (number-left ∙ z));
     exact = λ z. absurd (n (number-left ∙ z));
     optimal = λ z. absurd (n (number-left ∙ z));
+    reads-none = λ z. absurd (n (number-left ∙ z));
   }
 
   -- the value read from the tables that it left
@@ -68,4 +94,5 @@ module _ (B : List ℕ) (H : ℕ) (nodes : List ℤ) (stages work : List ℕ) {k
     read = λ _. r;
     exact = λ y a b. advised-exact B H nodes stages work y h a b q left v r;
     optimal = λ y a b. advised-optimal B H nodes stages work y h a b q left v r;
+    reads-none = λ y a b. advised-none B H nodes stages work y h a b q left v r;
   }

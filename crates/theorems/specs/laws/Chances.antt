@@ -10,15 +10,17 @@ use lib.ListN.{length, length-map}
 use lib.Signed.{leZ}
 use Rattle.whole.specs.Cases.{both}
 use Rattle.whole.specs.Int.{up}
-use Rattle.theory.specs.Diagram.{Leaf, Tree, zeros}
-use Rattle.theory.specs.Process.{Action, mean}
-use Rattle.theory.specs.Meaning.{Model, State, action-at, numbers-from, Env, env, at, worth-at, chance-at, weight, settings, process}
-use Rattle.theory.specs.Valid.{all-nodes, good-test, good-leaf, weight-leaf, valid-action, valid}
+use Rattle.theory.specs.Diagram.{Leaf, lin-of, permitted, Tree, zeros}
+use Rattle.theory.specs.Total.{num}
+use Rattle.theory.specs.Process.{Action}
+use Rattle.theory.specs.Loss.{sum}
+use Rattle.theory.specs.Meaning.{Model, State, action-at, numbers-from, Env, env, at, worth-at, level-at, chance-at, weight, settings, process}
+use Rattle.theory.specs.Valid.{all-nodes, good-test, level-leaf, weight-leaf, valid-action, valid}
 use Rattle.theory.specs.Load.{model}
 use Rattle.theory.specs.laws.Rules.{all-each}
-use Rattle.theory.specs.laws.Valid.{Accepted, accepted, valid-actions}
+use Rattle.theory.specs.laws.Valid.{level-permitted, weight-level, Accepted, accepted, valid-actions}
 use Rattle.theory.specs.laws.Loading.{accepted-valid}
-use Rattle.theory.specs.laws.Values.{value-constant}
+use Rattle.theory.specs.laws.Values.{value-constant, permitted-at}
 use Rattle.theory.specs.laws.Expectation.{at-good}
 use Rattle.theory.specs.laws.Plain.{actions-in-order, first-action}
 use Rattle.theorems.specs.Demands.{ChancesWithin, WeightsSum}
@@ -28,9 +30,10 @@ use Rattle.theorems.specs.laws.Weights.{weights-sum}
 
 -- what a weight from 0 to W is
 record Weighs (W : ℕ) (f : Leaf) : Type 0 where
-  constant : T (zeros (f .lin .coeffs))
-  least : f .lin .const ≡ pos (up (f .lin .const))
-  most : up (f .lin .const) ≤ W
+  allowed : T (permitted f)
+  constant : T (zeros (lin-of f .coeffs))
+  least : lin-of f .const ≡ pos (up (lin-of f .const))
+  most : up (lin-of f .const) ≤ W
 
 from-zero : (z : ℤ) → T (leZ (pos 0) z) → z ≡ pos (up z)
 from-zero (pos n) t = refl
@@ -43,10 +46,10 @@ to-most W (negsuc n) t u = absurd t
 weighs : (W : ℕ) (f : Leaf) → T (weight-leaf W f) → Weighs W f
 unfolding weight-leaf
 weighs W f t =
-    let c = f .lin .const in
-    let d = both (zeros (f .lin .coeffs)) (leZ (pos 0) c && leZ c (pos W)) (both (good-leaf f) _ t .1) in
+    let c = lin-of f .const in
+    let d = both (zeros (lin-of f .coeffs)) (leZ (pos 0) c && leZ c (pos W)) (both (level-leaf f) _ t .1) in
     let e = both (leZ (pos 0) c) (leZ c (pos W)) (d .1) in
-    record { constant = d .0; least = from-zero c (e .0); most = to-most W c (e .0) (e .1) }
+    record { allowed = level-permitted f (weight-level W f t); constant = d .0; least = from-zero c (e .0); most = to-most W c (e .0) (e .1) }
 
 -- ---- the actions of a model
 
@@ -74,18 +77,18 @@ module _ (M : Model) (v : T (valid M)) where
         (all-each (all-nodes (good-test (M .conditions) false) (weight-leaf (M .weights))) (action-at M a .chances) (action-accepted a i .chances) C m))
 
     chance-within : (C : Tree) → List·Memᴰ C (action-at M a .chances) → (s : State)
-        → (worth-at (env s []) C ≡ pos (chance-at (env s []) C * s .den)) × (chance-at (env s []) C ≤ M .weights)
-    unfolding worth-at chance-at env
+        → (worth-at (env s []) C ≡ num (pos (chance-at (env s []) C * s .den))) × (chance-at (env s []) C ≤ M .weights)
+    unfolding level-at chance-at env
     chance-within C m s =
         let w = chance-weighs C m (env s []) in
-        (value-constant (env s []) (at (env s []) C .lin) (w .constant) ∙ ap (λ (z : ℤ). z *ℤ pos (s .den)) (w .least), w .most)
+        (permitted-at (env s []) C (w .allowed) ∙ ap num (value-constant (env s []) (lin-of (at (env s []) C)) (w .constant) ∙ ap (λ (z : ℤ). z *ℤ pos (s .den)) (w .least)), w .most)
 
-    state-weights : (s : State) → mean ((process M .weight) a s) (λ _. pos 1) (process M .settings) ≡ pos ((M .weights) ^ (M .conditions))
+    state-weights : (s : State) → sum ((process M .weight) a s) (process M .settings) ≡ (M .weights) ^ (M .conditions)
     unfolding process
     state-weights s =
         let ws = map (chance-at (env s [])) (action-at M a .chances) in
         let n : length ws ≡ M .conditions = length-map (action-at M a .chances) (chance-at (env s [])) ∙ action-accepted a i .count in
-        subst (λ (n : ℕ). mean (weight (M .weights) ws) (λ _. pos 1) (settings n) ≡ pos ((M .weights) ^ n)) n
+        subst (λ (n : ℕ). sum (weight (M .weights) ws) (settings n) ≡ (M .weights) ^ n) n
         (weights-sum (M .weights) ws (member-map (chance-at (env s [])) (λ w. w ≤ M .weights) (action-at M a .chances) (λ C m. chance-within C m s .1)))
 
 pub chances-within : ChancesWithin

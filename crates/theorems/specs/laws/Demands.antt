@@ -3,28 +3,27 @@ use mathlib.Core.Path.{_≡_, refl, sym, ap, ap₂, _∙_, subst}
 use mathlib.Core.Logic.{_↔_, ⊎-elim}
 use mathlib.Core.Bool.{Bool, false}
 use mathlib.Core.List.{List, []}
-use Prim.Native.Nat.{ℕ, suc, _-_, _≤_, _<_}
-use native.Mathlib.Nat.{eq-or-lt-of-le}
+use Prim.Native.Nat.{ℕ, suc, _-_, _≤_}
 use native.Mathlib.Omega.{arith}
-use lib.Dec.{T, leb→le, lt→ltb}
-use lib.IntN.{ℤ, pos, negsuc}
+use lib.Dec.{T}
+use lib.IntN.{ℤ}
 use lib.ListN.{length, getD}
-use lib.Signed.{_≤ℤ_, _<ℤ_}
 use Rattle.whole.specs.Cases.{if}
-use Rattle.whole.specs.Numerator.{number, words}
+use Rattle.whole.specs.Numerator.{number}
 use Rattle.whole.specs.NumeratorLaws.{number-words}
 use Rattle.theory.specs.Widths.{steps-most}
-use Rattle.theory.specs.Diagram.{Tree}
+use Rattle.theory.specs.Diagram.{Leaf, some, forbidden, act-of, permitted, Tree}
 use Rattle.theory.specs.Computation.{Solved, solved, refused, final}
-use Rattle.theory.specs.Process.{optimum, expected}
-use Rattle.theory.specs.Meaning.{env, worth-at, at}
+use Rattle.theory.specs.Total.{Total, num, none, Has}
+use Rattle.theory.specs.Process.{optimum, lowest-best}
+use Rattle.theory.specs.Meaning.{Model, State, env, leaf-worth, worth-at, at, process}
 use Rattle.theory.specs.Rules.{zero-leaf}
 use Rattle.theory.specs.Stage.{all-stages}
 use Rattle.theory.specs.Valid.{all, all-nodes, good-test, stage-leaf}
 use Rattle.theory.specs.Verdict.{Verdict, verdict}
 use Rattle.theory.specs.Load.{model}
 use Rattle.theory.specs.Solve.{room, solve-in, SolveOut, solve-left, early, solve, solved-nodes, solved-stages}
-use Rattle.theory.specs.Value.{value-of}
+use Rattle.theory.specs.Value.{answered, value-of}
 use Rattle.theory.specs.Plain.{plain-of}
 use Rattle.theory.specs.Name.{name-refusal, name-part}
 use Rattle.theory.specs.Listing.{greatest-root, listing}
@@ -33,7 +32,7 @@ use Rattle.theorems.specs.Reduced.{Reduced}
 use Rattle.theory.specs.Rows.{VerdictRow, SolveRow, ValueRow, PlainRow, NameRow, NamePartRow, ListingRow}
 use Rattle.theory.specs.laws.Loading.{accepted-valid, accepted-site}
 use Rattle.theory.specs.laws.Good.{stages-good}
-use Rattle.theory.specs.laws.Stages.{stages-at, stage-of}
+use Rattle.theory.specs.laws.Stages.{Stage, stages-at, stage-of}
 use Rattle.theory.specs.laws.Reading.{reading-exact, root-last}
 use Rattle.theory.specs.laws.Rows.{Passed, by-early, early-some, passed-not, solve-runs}
 use Rattle.theory.specs.laws.Fits as Fits
@@ -47,7 +46,7 @@ use Rattle.theorems.specs.laws.Divided as Divided
 use Rattle.theorems.specs.laws.Ordered as Ordered
 use Rattle.theorems.specs.laws.OrderedStages as OrderedStages
 use Rattle.theorems.specs.laws.Reduced.{stages-reduced}
-use Rattle.theory.specs.laws.Process.{policy-theorem}
+use Rattle.theory.specs.laws.Process.{policy-equal, policy-lower}
 use Rattle.theory.specs.laws.Plain.{plain-of-exact}
 use Rattle.theorems.specs.laws.SameValue as SameValue
 use Rattle.theory.specs.laws.Refusals.{refused-number}
@@ -100,15 +99,21 @@ all-good g w =
 
 -- ---- the demands
 
-apart : (a b : ℕ) → a ≤ b → (a ≡ b → ⊥) → a < b
-apart a b h n = ⊎-elim (λ e. absurd (n e)) (λ l. l) (eq-or-lt-of-le h)
+-- a stage's worth and action, and the optimum's, are answered alike
+stage-answer : (M : Model) (h : ℕ) (F : Tree) → Stage M h F → (s : State)
+    → answered (worth-at (env s []) F) (act-of (at (env s []) F)) ≡ answered (optimum (process M) h s) (lowest-best (process M) h s)
+unfolding worth-at
+stage-answer M h F S s = go (at (env s []) F) ((S .act) s) ∙ ap (λ (x : Total). answered x (lowest-best (process M) h s)) ((S .worth) s)
+  where
+    go : (f : Leaf) → (T (permitted f) → act-of f ≡ lowest-best (process M) h s) → answered (leaf-worth (env s []) f) (act-of f) ≡ answered (leaf-worth (env s []) f) (lowest-best (process M) h s)
+    go (some p a) k = ap (answered (leaf-worth (env s []) (some p a))) (k (unfold permitted in tt))
+    go forbidden k = unfold leaf-worth answered in refl
 
--- at most and not equal is less
-below : (a b : ℤ) → a ≤ℤ b → (a ≡ b → ⊥) → a <ℤ b
-below (pos a) (pos b) h n = record { lt = lt→ltb a b (apart a b (leb→le a b (h .le)) (λ e. n (ap pos e))) }
-below (pos a) (negsuc b) h n = absurd (h .le)
-below (negsuc a) (pos b) h n = record { lt = tt }
-below (negsuc a) (negsuc b) h n = record { lt = lt→ltb b a (apart b a (leb→le b a (h .le)) (λ e. n (ap negsuc (sym e)))) }
+-- a total that is not none is read as its number
+has-number : (x : Total) (a : ℕ) → Has x → num (number (answered x a .numerator)) ≡ x
+unfolding answered
+has-number (num z) a p = ap num (number-words z)
+has-number none a p = absurd p
 
 pub exact : Exact
 unfolding stage-of
@@ -128,20 +133,16 @@ exact g h a b q t =
     ∙ reading-exact B (length (g .nodes)) h (w .trees) q t (early-within B (g .horizon) (length (g .stages)) h (w .before) a b)
     (omega (arith, d .1, w .before .most)) a (omega (arith, d .1))
     (rw (← site .same-conditions, ← site .same-actions) (d .0))
-    ∙ (λ i. record {
-      number = 0;
-      place = 0;
-      action = (ap (λ F. at (env s []) F .act) (sym same) ∙ S .act s) i;
-      numerator = words ((ap (worth-at (env s [])) (sym same) ∙ S .worth s) i);
-    })
+    ∙ stage-answer (model B) h F (subst (Stage (model B) h) same S) s
 
 pub optimal : Optimal
-optimal g h a b q t π =
+optimal g h a b q t has π =
     let s = start g q t in
-    let v : number (reading g h q .numerator) ≡ optimum (site g) h s = ap (λ o. number (o .numerator)) (exact g h a b q t) ∙ number-words (optimum (site g) h s) in
-    let p = policy-theorem (site g) π h s in (
-      (λ e. p .1 .0 (sym e ∙ v), λ k. v ∙ sym (p .1 .1 k)),
-      λ n. rw v (below (expected (site g) π h s) (optimum (site g) h s) (p .0) (λ e. n (p .1 .0 e))),
+    let v : num (number (reading g h q .numerator)) ≡ optimum (site g) h s =
+    ap (λ o. num (number (o .numerator))) (exact g h a b q t) ∙ has-number (optimum (site g) h s) (lowest-best (site g) h s) has in
+    let p = policy-equal (site g) π h s has in (
+      (λ e. p .0 (sym e ∙ v), λ k. v ∙ sym (p .1 k)),
+      λ n. rw v (policy-lower (site g) π h s has n),
     )
 
 pub state-accepted : StateAccepted

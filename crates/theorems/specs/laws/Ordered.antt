@@ -3,14 +3,14 @@ use mathlib.Core.Path.{_≡_, refl, sym, ap, ap₂, _∙_, subst}
 use mathlib.Core.Bool.{Bool, true, false, not}
 use mathlib.Core.List.{List, [], _∷_}
 use Prim.Native.Nat.{ℕ, Ordering·lt, Ordering·eq, Ordering·gt}
-use lib.Dec.{T, T-not, eqb→eq}
+use lib.Dec.{T, T-not, isEq, eqb→eq}
 use lib.IntN.{ℤ, pos}
 use lib.Signed.{leZ}
 use Rattle.whole.specs.Cases.{if, by-test, both, from-true}
-use Rattle.theory.specs.Diagram.{Linear, Test, now, later, linear, Leaf, Tree, leaf, branch, plain, cmp, same, _⊟_, zeros, test-of}
+use Rattle.theory.specs.Diagram.{Linear, Test, now, later, linear, Leaf, some, forbidden, lin-of, Tree, leaf, branch, plain, cmpZ, cmp, same, _⊟_, zeros, test-of}
 use Rattle.theory.specs.Computation.{Comp, ret, named, made, make, result}
 use Rattle.theory.specs.Computation as C
-use Rattle.theory.specs.Rules.{narrowed, node, step, choose, over, merge, make-leaf, leaf-sum, leaf-product, leaf-scale, leaf-shift, leaf-complement, leaf-number, decide, leaf-best, sum, product, scale, shift, complement, number, best, zero-leaf, sum-on, levels-sum, linear-diagram, substitute, is-later, side, expectation, add-reward}
+use Rattle.theory.specs.Rules.{narrowed, node, step, choose, over, merge, make-leaf, leaf-sum, leaf-product, leaf-scale, leaf-shift, leaf-complement, leaf-number, decide, leaf-best, sum, product, scale, shift, complement, number, best, zero-leaf, none-leaf, sum-on, levels-sum, linear-diagram, substitute, is-later, side, expectation, add-reward}
 use Rattle.theorems.specs.Ordered.{before, Above, Ordered, AllOrdered, replaced}
 use Rattle.theory.specs.laws.Comps.{cmp-eq, cmp-refl, same-refl, result-both}
 use Rattle.theory.specs.laws.Safe.{Safe, safe-ret, safe-named, safe-made, safe-make, safe-bind, safe-both, safe-weaken, safe-judge, any}
@@ -181,17 +181,36 @@ module _ (s? : ℤ → Bool) where
   unfolding make-leaf
   made-leaf p = safe-judge p _ (λ _ _. safe-make (leaf (plain p)) tt)
 
+  made-none : Safe s? IsLeaf (make none-leaf)
+  made-none = safe-make none-leaf tt
+
+  summed-leaf : (f g : Leaf) → Safe s? IsLeaf (leaf-sum f g)
+  unfolding leaf-sum
+  summed-leaf forbidden g = made-none
+  summed-leaf (some p a) forbidden = made-none
+  summed-leaf (some p a) (some q b) = made-leaf _
+
+  scaled-leaf : (k : ℤ) (g : Leaf) → Safe s? IsLeaf (leaf-scale k g)
+  unfolding leaf-scale zero-leaf
+  scaled-leaf k (some q b) = made-leaf _
+  scaled-leaf k forbidden = by-test (isEq (cmpZ k (pos 0))) (λ z. Safe s? IsLeaf (make (if z zero-leaf none-leaf))) (λ _. safe-make zero-leaf tt) (λ _. made-none)
+
+  numbered-leaf : (a : ℕ) (g : Leaf) → Safe s? IsLeaf (leaf-number a g)
+  unfolding leaf-number
+  numbered-leaf a (some p b) = safe-make (leaf (some p a)) tt
+  numbered-leaf a forbidden = made-none
+
   pub sum-ordered : (F G : Tree) → Ordered F → Ordered G → Makes (sum F G)
-  unfolding sum leaf-sum
-  sum-ordered = merge-node leaf-sum (λ f g. made-leaf _)
+  unfolding sum
+  sum-ordered = merge-node leaf-sum summed-leaf
 
   pub product-ordered : (F G : Tree) → Ordered F → Ordered G → Makes (product F G)
   unfolding product leaf-product
-  product-ordered = merge-node leaf-product (λ f g. made-leaf _)
+  product-ordered = merge-node leaf-product (λ f g. scaled-leaf _ g)
 
   pub scale-ordered : (k : ℤ) (F : Tree) → Ordered F → Makes (scale k F)
-  unfolding scale leaf-scale
-  scale-ordered k = over-node (leaf-scale k) (λ g. made-leaf _)
+  unfolding scale
+  scale-ordered k = over-node (leaf-scale k) (scaled-leaf k)
 
   pub shift-ordered : (k : ℤ) (F : Tree) → Ordered F → Makes (shift k F)
   unfolding shift leaf-shift
@@ -202,8 +221,8 @@ module _ (s? : ℤ → Bool) where
   complement-ordered W = over-node (leaf-complement W) (λ g. made-leaf _)
 
   pub number-ordered : (a : ℕ) (F : Tree) → Ordered F → Makes (number a F)
-  unfolding number leaf-number
-  number-ordered a = over-node (leaf-number a) (λ g. safe-make (leaf (record { lin = g .lin; act = a })) tt)
+  unfolding number
+  number-ordered a = over-node (leaf-number a) (numbered-leaf a)
 
   decide-ordered : (p : Linear) (H L : Tree) → Ordered H → Ordered L → Makes (decide p H L)
   unfolding decide
@@ -211,9 +230,15 @@ module _ (s? : ℤ → Bool) where
       (λ _. by-test (leZ (p .const) (pos 0)) (λ z. Makes (if z (ret H) (ret L))) (λ _. safe-ret a) (λ _. safe-ret b))
       (λ _. choose-ordered (test-of p) H L a b)
 
+  best-leaf : (f g : Leaf) → Makes (leaf-best f g)
+  unfolding leaf-best
+  best-leaf forbidden g = safe-ret tt
+  best-leaf (some p a) forbidden = safe-ret tt
+  best-leaf (some p a) (some q b) = safe-judge (q ⊟ p) _ (λ _ _. decide-ordered _ (leaf (some p a)) (leaf (some q b)) tt tt)
+
   pub best-ordered : (F G : Tree) → Makes (best F G)
-  unfolding best leaf-best
-  best-ordered = merge-choose leaf-best (λ f g. safe-judge ((g .lin) ⊟ (f .lin)) _ (λ _ _. decide-ordered _ (leaf f) (leaf g) tt tt))
+  unfolding best
+  best-ordered = merge-choose leaf-best best-leaf
 
   pub zero-ordered : Ordered zero-leaf
   unfolding zero-leaf
@@ -239,7 +264,8 @@ module _ (s? : ℤ → Bool) where
   -- "Substitute"
   pub substitute-ordered : (Ds : List Tree) → AllOrdered Ds → (F : Tree) → Makes (substitute Ds F)
   unfolding substitute
-  substitute-ordered Ds b (leaf f) = linear-ordered Ds (f .lin) b
+  substitute-ordered Ds b (leaf (some p a)) = linear-ordered Ds p b
+  substitute-ordered Ds b (leaf forbidden) = safe-weaken _ leaf-ordered made-none
   substitute-ordered Ds b (branch (now k) h l) = safe-both (choose (later k)) _ _ (substitute-ordered Ds b h) (substitute-ordered Ds b l) (λ x y p q. choose-ordered (later k) x y p q)
   substitute-ordered Ds b (branch (later k) h l) = safe-both (choose (later k)) _ _ (substitute-ordered Ds b h) (substitute-ordered Ds b l) (λ x y p q. choose-ordered (later k) x y p q)
   substitute-ordered Ds b (branch (linear z) h l) =
@@ -248,7 +274,7 @@ module _ (s? : ℤ → Bool) where
       safe-bind (linear-diagram Ds z) _ (linear-ordered Ds z b)
       (λ P p. safe-bind (substitute Ds h) _ hs
       (λ H x. safe-bind (substitute Ds l) _ ls
-      (λ L y. over-choose (λ f. decide (f .lin) H L) (λ f. decide-ordered (f .lin) H L x y) P)))
+      (λ L y. over-choose (λ f. decide (lin-of f) H L) (λ f. decide-ordered (lin-of f) H L x y) P)))
 
   -- a side
   pub side-ordered : (b : Bool) (k : ℕ) (F : Tree) → Ordered F → Makes (side b k F)

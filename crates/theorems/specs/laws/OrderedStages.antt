@@ -6,10 +6,10 @@ use Rattle.whole.specs.Cases.{if, by-test}
 use Rattle.whole.specs.Within.{small}
 use Rattle.theory.specs.Diagram.{Test, Tree, leaf, plain, test-of}
 use Rattle.theory.specs.Computation.{Comp, ret, bind, make, end, solved}
-use Rattle.theory.specs.Rules.{choose, best, zero-leaf, substitute, expectation, add-reward}
+use Rattle.theory.specs.Rules.{choose, best, zero-leaf, substitute, expectation, add-reward, none-leaf}
 use Rattle.theory.specs.Meaning.{Action, Model, power}
 use Rattle.theory.specs.Stage.{model-diagrams, sum-out, action-total, best-on, stage-over, stages-on, stages-over-end, all-stages}
-use Rattle.theory.specs.Command.{Command, site, push-leaf, push-condition, push-test, name-action, end-model, Read, whole, unknown, short, Placed, readings, give, Slot}
+use Rattle.theory.specs.Command.{Command, site, push-leaf, push-condition, push-test, push-forbidden, name-action, end-model, Read, whole, unknown, short, Placed, readings, give, Slot}
 use Rattle.theory.specs.Verdict.{Site, same-slot, reward-slot, chance-slot, level-slot, end-slot, from-to}
 use Rattle.theory.specs.Load.{Entry, Loaded, condition-test, load-choice, load-choice-with, load-entry, load-one, load-one-with, load-on, load-on-with, find-slot, found, action-of, model-of, site-at, model}
 use Rattle.theory.specs.Solve.{solve-in}
@@ -48,6 +48,7 @@ one-ordered (site m n a w) s d = safe-ret d
 one-ordered (push-leaf p) s d = safe-bind (make (leaf (plain p))) _ (safe-make {R = Ordered} (leaf (plain p)) tt) (λ t o. safe-ret ((o, d .0), d .1))
 one-ordered (push-condition k) s d = choice-ordered (condition-test k) (s .stack) (s .entries) (d .0) (d .1)
 one-ordered (push-test p) s d = choice-ordered (test-of p) (s .stack) (s .entries) (d .0) (d .1)
+one-ordered push-forbidden s d = safe-bind (make none-leaf) _ (safe-make {R = Ordered} none-leaf tt) (λ t o. safe-ret ((o, d .0), d .1))
 one-ordered (give g) s d = entry-ordered g (s .stack) (s .entries) (d .0) (d .1)
 one-ordered (name-action a b) s d = safe-ret d
 one-ordered end-model s d = safe-ret d

@@ -1,8 +1,8 @@
 -- K4's statements, proved.
 use mathlib.Core.Path.{sym, ap, _∙_}
-use Rattle.whole.specs.Numerator.{words}
 use Rattle.theory.specs.Process.{optimum, lowest-best}
 use Rattle.theory.specs.laws.Values.{parallel-fails, node-at}
+use Rattle.theory.specs.Value.{answered}
 use Rattle.theorems.specs.Demands.{start}
 use Rattle.theorems.specs.Parallel.{NeverTrue, NodePicks, LowSideApart, MadeAnew, Unmoved, NoneDiffers}
 use Rattle.theorems.specs.laws.Narrowed as Narrowed
@@ -22,7 +22,7 @@ made-anew = Narrowed.made-anew
 
 pub unmoved : Unmoved
 unmoved g h a b q t = exact g h a b q t
-    ∙ ap (λ P. record { number = 0; place = 0; action = lowest-best P h (start g q t); numerator = words (optimum P h (start g q t)) }) (spelled-same (g .bytes))
+    ∙ ap (λ P. answered (optimum P h (start g q t)) (lowest-best P h (start g q t))) (spelled-same (g .bytes))
 
 pub none-differs : NoneDiffers
 none-differs g h a b q t before e = unmoved g h a b q t ∙ sym e

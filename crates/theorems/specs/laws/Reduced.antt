@@ -1,5 +1,5 @@
 -- The words of a solved table are ordered and reduced: each row is a node of the stages, and those are.
-use mathlib.Core.Path.{_≡_, refl, sym, ap, _∙_, subst}
+use mathlib.Core.Path.{_≡_, refl, sym, ap, ap₂, _∙_, subst}
 use mathlib.Core.Logic.{_⊎_, inl, inr, ⊎-elim}
 use mathlib.Core.Bool.{true, false}
 use mathlib.Core.List.{List, [], _∷_, _++_, List·Memᴰ, List·Memᴰ·head, List·Memᴰ·tail, List·Memᴰ·cases-cons, List·Memᴰ·not-nil}
@@ -12,11 +12,11 @@ use lib.Seq.{take-at, take-append-le, getD-take, getD-drop, ext-getD}
 use lib.Signed.{_<ℤ_, ltZ}
 use Rattle.whole.specs.Cases.{if, by-test, clash, and-in}
 use Rattle.theory.specs.Widths.{levels-most, node-words}
-use Rattle.theory.specs.Diagram.{Linear, Test, now, later, linear, Leaf, Tree, leaf, branch, then, cmpZ, cmpList, cmpLinear, cmp, padded}
+use Rattle.theory.specs.Diagram.{Linear, Test, now, later, linear, Leaf, some, forbidden, lin-of, act-of, Tree, leaf, branch, then, cmpZ, cmpList, cmpLinear, cmp, padded}
 use Rattle.theory.specs.Computation.{member, enter, enter-all}
 use Rattle.theory.specs.Rules.{parallel, zero-leaf}
 use Rattle.theory.specs.Valid.{all, all-nodes, good-test, stage-leaf}
-use Rattle.theory.specs.Solve.{number-of, test-words, row, rows, table-of, solved-nodes}
+use Rattle.theory.specs.Solve.{number-of, test-words, leaf-kind, row, rows, table-of, solved-nodes}
 use Rattle.theory.specs.Value.{node-word, node-linear, high-of, low-of}
 use Rattle.theory.specs.Rows.{Range}
 use Rattle.theory.specs.laws.Comps.{cmpZ-eq, cmpList-refl, member-cases, member-in}
@@ -26,7 +26,7 @@ use Rattle.theory.specs.laws.Valid.{Long, wide-long, stage-wide}
 use Rattle.theory.specs.laws.Table.{number-below, number-above, number-entry, Table, table-of-table}
 use Rattle.theory.specs.laws.Words.{Stage-good, padded-full, test-length, row-length, Shows, laid, node-has, leaf-shows, condition-shows, test-shows}
 use Rattle.theorems.specs.Ordered.{before, Above, Apart, Ordered, AllOrdered}
-use Rattle.theorems.specs.Reduced.{Smaller, test-part, Inner, Parallel, Reduced}
+use Rattle.theorems.specs.Reduced.{Smaller, test-part, Inner, Parallel, Reduced, IsTest}
 use Rattle.theorems.specs.laws.Order.{lt, gt-lt, lt-of, lt-is, below, is-eq}
 
 -- ---- the order of tests, by their words
@@ -101,27 +101,32 @@ module _ (n A : ℕ) (X : List Tree) (tail : List ℤ) (x : Table X) (nice : (u 
       ap (take (levels-most + 2)) (a .is) ∙ (take-append-le (levels-most + 2) (row X (branch t h l)) (a .rest) (omega (arith, row-length X (branch t h l)))
       ∙ take-at (test-words t) (pos (num h) ∷ pos (num l) ∷ []) (levels-most + 2) (test-length t))
 
-  not-zero : (k : ℕ) (z : ℤ) → z ≡ pos (suc k) → z ≡ pos 0 → ⊥
-  not-zero k z e f = let i : suc k ≡ 0 = ap natAbs (sym e ∙ f) in omega arith
+  no-leaf : (k : ℕ) (z : ℤ) → (k ≡ 1) ⊎ (k ≡ 2) → z ≡ pos k → (z ≡ pos 0) ⊎ (z ≡ pos 3) → ⊥
+  no-leaf k z a e = ⊎-elim (λ f. let i : k ≡ 0 = ap natAbs (sym e ∙ f) in ⊎-elim (λ b. omega arith) (λ b. omega arith) a) (λ f. let i : k ≡ 3 = ap natAbs (sym e ∙ f) in ⊎-elim (λ b. omega arith) (λ b. omega arith) a)
 
   branch-row : (t : Test) (h l : Tree) → member (branch t h l) X ≡ true → T (good-test n false t) → Branch t h l
   unfolding good-test
-  branch-row (now k) h l m g = let s = condition-shows X tail k h l m in record { inner = not-zero 0 _ (s .kind); high = s .high; low = s .low; test = row-test (now k) h l m }
+  branch-row (now k) h l m g = let s = condition-shows X tail k h l m in record { inner = no-leaf 1 _ (inl refl) (s .kind); high = s .high; low = s .low; test = row-test (now k) h l m }
   branch-row (later k) h l m g = absurd g
-  branch-row (linear p) h l m g = let s = test-shows X tail p h l m g in record { inner = not-zero 1 _ (s .kind); high = s .high; low = s .low; test = row-test (linear p) h l m }
+  branch-row (linear p) h l m g = let s = test-shows X tail p h l m g in record { inner = no-leaf 2 _ (inr refl) (s .kind); high = s .high; low = s .low; test = row-test (linear p) h l m }
 
-  leaf-row : (f : Leaf) → member (leaf f) X ≡ true → Shows W (num (leaf f)) (pos 0) (f .lin) (pos (f .act)) (pos 0)
+  leaf-row : (f : Leaf) → member (leaf f) X ≡ true → Shows W (num (leaf f)) (leaf-kind f) (lin-of f) (pos (act-of f)) (pos 0)
   leaf-row f m = leaf-shows X tail f m (stage-wide A f (leaf-of (good-test n false) (stage-leaf A) f (nice (leaf f) m .1)))
+
+  leaf-is : (f : Leaf) → member (leaf f) X ≡ true → (node-word W (num (leaf f)) 0 ≡ pos 0) ⊎ (node-word W (num (leaf f)) 0 ≡ pos 3)
+  unfolding leaf-kind
+  leaf-is (some p a) m = inl (leaf-row (some p a) m .kind)
+  leaf-is forbidden m = inr (leaf-row forbidden m .kind)
 
   -- ---- "Down a path the order rises strictly."
 
   under : (t : Test) (h l : Tree) → member (branch t h l) X ≡ true → (c : Tree) → member c X ≡ true → Above t c → Inner W (num c) → Smaller (test-part W (num (branch t h l))) (test-part W (num c))
-  under t h l m (leaf f) k a i = absurd (i (leaf-row f k .kind))
+  under t h l m (leaf f) k a i = absurd (i (leaf-is f k))
   under t h l m (branch u p q) k a i = rw (row-test t h l m, row-test u p q k)
       (words-rise n t u (test-good t h l m) (test-good u p q k) (parts (before t) (λ _. true) u p q a .0))
 
   rises-at : (u : Tree) → member u X ≡ true → (b : ℕ) → Inner W (num u) → (high-of W (num u) ≡ pos b) ⊎ (low-of W (num u) ≡ pos b) → Inner W b → Smaller (test-part W (num u)) (test-part W b)
-  rises-at (leaf f) m b i d k = absurd (i (leaf-row f m .kind))
+  rises-at (leaf f) m b i d k = absurd (i (leaf-is f m))
   rises-at (branch t h l) m b i d k =
       let r = branch-row t h l m (test-good t h l m) in
       let c = (x .closed) t h l m in
@@ -134,13 +139,16 @@ module _ (n A : ℕ) (X : List Tree) (tail : List ℤ) (x : Table X) (nice : (u 
   -- ---- "A node whose branches are equal is that branch."
 
   differ-at : (u : Tree) → member u X ≡ true → Inner W (num u) → high-of W (num u) ≡ low-of W (num u) → ⊥
-  differ-at (leaf f) m i e = i (leaf-row f m .kind)
+  differ-at (leaf f) m i e = i (leaf-is f m)
   differ-at (branch t h l) m i e =
       let r = branch-row t h l m (test-good t h l m) in
       let c = (x .closed) t h l m in
       (nice (branch t h l) m .0 .1 .1 .0 .0) (number-one h l (c .high-in) (c .low-in) (pos-same (num h) (num l) (sym (r .high) ∙ e ∙ r .low)))
 
   -- ---- no low branch is parallel to its node
+
+  leaf-no-test : (f : Leaf) → member (leaf f) X ≡ true → IsTest W (num (leaf f)) → ⊥
+  leaf-no-test f m e = no-leaf 2 _ (inr refl) e (leaf-is f m)
 
   other-kind : (i j : ℕ) (z : ℤ) → (i ≡ j → ⊥) → z ≡ pos i → z ≡ pos j → ⊥
   other-kind i j z n e f = n (pos-same i j (sym e ∙ f))
@@ -160,11 +168,11 @@ module _ (n A : ℕ) (X : List Tree) (tail : List ℤ) (x : Table X) (nice : (u 
       (subst (λ (x : Linear). T (ltZ (x .const) (z .const))) e (subst (λ (x : Linear). T (ltZ (node-linear W (num (branch (linear y) h l)) .const) (x .const))) f (d .larger .lt)))
 
   low-at : (t : Test) (h l : Tree) → member (branch t h l) X ≡ true → (c : Tree) → member c X ≡ true → Apart t c → Parallel W (num (branch t h l)) (num c) → ⊥
-  low-at t h l m (leaf f) k a d = other-kind 0 2 _ (λ e. omega arith) (leaf-row f k .kind) (d .tests .1)
+  low-at t h l m (leaf f) k a d = leaf-no-test f k (d .tests .1)
   low-at t h l m (branch u p q) k a d = a (parallel-in t u h l p q m k (test-good t h l m) (test-good u p q k) d)
 
   apart-at : (u : Tree) → member u X ≡ true → (b : ℕ) → low-of W (num u) ≡ pos b → Parallel W (num u) b → ⊥
-  apart-at (leaf f) m b e d = other-kind 0 2 _ (λ e. omega arith) (leaf-row f m .kind) (d .tests .0)
+  apart-at (leaf f) m b e d = leaf-no-test f m (d .tests .0)
   apart-at (branch t h l) m b e d =
       let r = branch-row t h l m (test-good t h l m) in
       let c = (x .closed) t h l m in
@@ -212,18 +220,21 @@ module _ (n A : ℕ) (X : List Tree) (tail : List ℤ) (x : Table X) (nice : (u 
   test-same (now i) (later j) h l p q m k a b d = absurd b
   test-same (linear y) (later j) h l p q m k a b d = absurd b
 
-  long-leaf : (f : Leaf) → member (leaf f) X ≡ true → Long (f .lin)
-  long-leaf f m = wide-long (f .lin) (stage-wide A f (leaf-of (good-test n false) (stage-leaf A) f (nice (leaf f) m .1)))
+  long-leaf : (f : Leaf) → member (leaf f) X ≡ true → Long (lin-of f)
+  long-leaf f m = wide-long (lin-of f) (stage-wide A f (leaf-of (good-test n false) (stage-leaf A) f (nice (leaf f) m .1)))
 
   once-at : (u v : Tree) → member u X ≡ true → member v X ≡ true → Same (num u) (num v) → u ≡ v
-  once-at (leaf f) (leaf g) m k d =
-      let a = leaf-row f m in
-      let b = leaf-row g k in
-      let lin = linear-same _ _ (f .lin) (g .lin) (long-leaf f m) (long-leaf g k) (a .numbers) (b .numbers) d in
-      let act = pos-same (f .act) (g .act) (sym (a .high) ∙ (d (levels-most + 2) (omega arith) ∙ b .high)) in
-      λ i. leaf (record { lin = lin i; act = act i })
-  once-at (leaf f) (branch u p q) m k d = absurd ((branch-row u p q k (test-good u p q k) .inner) (sym (d 0 (omega arith)) ∙ leaf-row f m .kind))
-  once-at (branch t h l) (leaf g) m k d = absurd ((branch-row t h l m (test-good t h l m) .inner) (d 0 (omega arith) ∙ leaf-row g k .kind))
+  unfolding leaf-kind lin-of act-of
+  once-at (leaf (some p i)) (leaf (some q j)) m k d =
+      let a = leaf-row (some p i) m in
+      let b = leaf-row (some q j) k in
+      ap leaf (ap₂ some (linear-same _ _ p q (long-leaf (some p i) m) (long-leaf (some q j) k) (a .numbers) (b .numbers) d)
+      (pos-same i j (sym (a .high) ∙ (d (levels-most + 2) (omega arith) ∙ b .high))))
+  once-at (leaf forbidden) (leaf forbidden) m k d = refl
+  once-at (leaf (some p i)) (leaf forbidden) m k d = absurd (let z = kinds _ _ 0 3 (leaf-row (some p i) m .kind) (leaf-row forbidden k .kind) d in omega arith)
+  once-at (leaf forbidden) (leaf (some q j)) m k d = absurd (let z = kinds _ _ 3 0 (leaf-row forbidden m .kind) (leaf-row (some q j) k .kind) d in omega arith)
+  once-at (leaf f) (branch u p q) m k d = absurd ((branch-row u p q k (test-good u p q k) .inner) (⊎-elim (λ e. inl (sym (d 0 (omega arith)) ∙ e)) (λ e. inr (sym (d 0 (omega arith)) ∙ e)) (leaf-is f m)))
+  once-at (branch t h l) (leaf g) m k d = absurd ((branch-row t h l m (test-good t h l m) .inner) (⊎-elim (λ e. inl (d 0 (omega arith) ∙ e)) (λ e. inr (d 0 (omega arith) ∙ e)) (leaf-is g k)))
   once-at (branch t h l) (branch u p q) m k d =
       let a = branch-row t h l m (test-good t h l m) in
       let b = branch-row u p q k (test-good u p q k) in

@@ -4,90 +4,24 @@ use mathlib.Core.Bool.{Bool, _&&_}
 use mathlib.Core.List.{List, [], _∷_, map}
 use Prim.Native.Nat.{ℕ, zero, suc, _*_, _^_, _<_}
 use native.Mathlib.Omega.{arith}
-use native.Mathlib.Nat.{mul-le-mul-left, le-of-mul-le-mul-left, mul-comm}
+use native.Mathlib.Nat.{mul-le-mul-left, mul-comm}
 use native.Mathlib.Bridge.{le-prop}
 use lib.Dec.{T, ltb}
-use lib.IntN.{ℤ, pos, negsuc, _+ℤ_, _*ℤ_, *ℤ-comm, *ℤ-zero}
+use lib.IntN.{ℤ, pos, negsuc, _+ℤ_, _*ℤ_, *ℤ-comm, *ℤ-zero, zero-*ℤ}
 use lib.ListN.{take, drop}
-use lib.Signed.{_≤ℤ_, leZ, leZ-yes}
-use Rattle.whole.specs.Cases.{if, by-test, both, same-bool}
-use Rattle.whole.specs.Int.{atom, up, diff, ring, mul-mono, distrib, mul-left-comm}
+use lib.Signed.{leZ}
+use Rattle.whole.specs.Cases.{if, both}
+use Rattle.whole.specs.Int.{up, ring}
 use Rattle.whole.specs.Numerator.{number, words}
-use Rattle.theory.specs.Diagram.{Linear, Test, now, later, linear, Leaf, Tree, leaf, branch, scaleL, zeros}
-use Rattle.theory.specs.Process.{Process, mean, maxZ, greatest-from, first-best, total, optimum, lowest-best}
-use Rattle.theory.specs.Meaning.{Model, State, env, dot, value, holds, at, worth-at, end-at, action-at, chance-at, weight, settings, moved, power, process}
+use Rattle.theory.specs.Diagram.{Linear, Test, now, later, linear, Leaf, some, forbidden, lin-of, Tree, leaf, branch, scaleL, zeros}
+use Rattle.theory.specs.Total.{Total, num, none, weigh}
+use Rattle.theory.specs.Process.{optimum, lowest-best}
+use Rattle.theory.specs.Meaning.{Model, State, env, dot, value, holds, at, leaf-worth, worth-at, level-at, end-at, action-at, chance-at, weight, moved, power, process}
 use Rattle.theory.specs.Load.{model, site-at}
-use Rattle.theory.specs.Value.{Asked, accepted, bits, state-of, ValueOut}
+use Rattle.theory.specs.Value.{Asked, accepted, bits, state-of, ValueOut, answered}
+use Rattle.theory.specs.laws.Total.{has-not-none, weigh-num, weigh-none, weigh-swap}
 use Rattle.theorems.specs.Demands.{Exact, SameValue}
-
--- ---- processes: states scaled by one number above 0
-
--- a positive factor keeps the order
-pub scale-order : (k : ℕ) → 0 < k → (a b : ℤ) → leZ (pos k *ℤ a) (pos k *ℤ b) ≡ leZ a b
-scale-order k h a b = same-bool _ _ (λ t. there (leZ-yes t) .le) (λ t. mul-mono k a b (leZ-yes t) .le)
-  where
-    there : (pos k *ℤ a) ≤ℤ (pos k *ℤ b) → a ≤ℤ b
-    there t = rw (← atom a, ← atom b) (simp diff (le-of-mul-le-mul-left {k = k} (omega (arith, simp diff at (rw (← atom a, ← atom b) at t))) h))
-
-max-scale : (k : ℕ) → 0 < k → (x y : ℤ) → maxZ (pos k *ℤ x) (pos k *ℤ y) ≡ pos k *ℤ maxZ x y
-unfolding maxZ
-max-scale k h x y = rw (scale-order k h y x) (by-test (leZ y x) (λ b. if b (pos k *ℤ x) (pos k *ℤ y) ≡ pos k *ℤ if b x y) (λ _. refl) (λ _. refl))
-
-module _ {A : Type 0} (k : ℕ) (k>0 : 0 < k) (f g : A → ℤ) (fg : (a : A) → f a ≡ pos k *ℤ g a) where
-  same-order : (a b : A) → leZ (f a) (f b) ≡ leZ (g a) (g b)
-  same-order a b = ap₂ leZ (fg a) (fg b) ∙ scale-order k k>0 (g a) (g b)
-
-  pub greatest-scale : (x y : ℤ) → x ≡ pos k *ℤ y → (l : List A) → greatest-from f x l ≡ pos k *ℤ greatest-from g y l
-  unfolding greatest-from
-  greatest-scale x y e [] = e
-  greatest-scale x y e (b ∷ l) = greatest-scale (maxZ x (f b)) (maxZ y (g b)) (ap₂ maxZ e (fg b) ∙ max-scale k k>0 y (g b)) l
-
-  pub first-best-scale : (a : A) (l : List A) → first-best f a l ≡ first-best g a l
-  unfolding first-best
-  first-best-scale a [] = refl
-  first-best-scale a (b ∷ l) = ap (λ t. first-best f (if t a b) l) (same-order b a) ∙ first-best-scale (if (leZ (g b) (g a)) a b) l
-
-mean-step : (k : ℤ) (w x y m n : ℤ) → x ≡ k *ℤ y → m ≡ k *ℤ n → w *ℤ x +ℤ m ≡ k *ℤ (w *ℤ y +ℤ n)
-mean-step k w x y m n p q = rw (p, q) (simp ring)
-
-add-step : (k : ℤ) (x y m n : ℤ) → x ≡ k *ℤ y → m ≡ k *ℤ n → x +ℤ m ≡ k *ℤ (y +ℤ n)
-add-step k x y m n p q = rw (p, q, ← distrib k y n)
-
-mean-scale : {E : Type 0} (k : ℕ) (w v : E → ℕ) (f g : E → ℤ) → ((e : E) → w e ≡ v e) → ((e : E) → f e ≡ pos k *ℤ g e) → (l : List E) → mean w f l ≡ pos k *ℤ mean v g l
-unfolding mean
-mean-scale k w v f g wv fg [] = sym (*ℤ-zero (pos k))
-mean-scale k w v f g wv fg (e ∷ l) =
-    ap (λ n. pos n *ℤ f e +ℤ mean w f l) (wv e) ∙ mean-step (pos k) (pos (v e)) (f e) (g e) (mean w f l) (mean v g l) (fg e) (mean-scale k w v f g wv fg l)
-
--- a map of states that multiplies rewards and ends by k, and keeps weights and steps
-pub record Scales {S A E : Type 0} (P : Process S A E) (k : ℕ) (φ : S → S) : Type 0 where
-  pub positive : 0 < k
-  pub rewards : (h : ℕ) (a : A) (s : S) → (P .reward) h a (φ s) ≡ pos k *ℤ (P .reward) h a s
-  pub weights : (a : A) (s : S) (e : E) → (P .weight) a (φ s) e ≡ (P .weight) a s e
-  pub steps : (a : A) (s : S) (e : E) → (P .next) a (φ s) e ≡ φ ((P .next) a s e)
-  pub ends : (s : S) → (P .end) (φ s) ≡ pos k *ℤ (P .end) s
-
-module _ {S A E : Type 0} (P : Process S A E) (k : ℕ) (φ : S → S) (c : Scales P k φ) where
-  total-scale : (f : S → ℤ) → ((s : S) → f (φ s) ≡ pos k *ℤ f s) → (h : ℕ) (a : A) (s : S) → total P f h a (φ s) ≡ pos k *ℤ total P f h a s
-  unfolding total
-  total-scale f fs h a s =
-      add-step (pos k) ((P .reward) h a (φ s)) ((P .reward) h a s) _ _ ((c .rewards) h a s)
-      (mean-scale k ((P .weight) a (φ s)) ((P .weight) a s) (λ e. f ((P .next) a (φ s) e)) (λ e. f ((P .next) a s e))
-      ((c .weights) a s) (λ e. ap f ((c .steps) a s e) ∙ fs ((P .next) a s e)) (P .settings))
-
-  pub optimum-scale : (h : ℕ) (s : S) → optimum P h (φ s) ≡ pos k *ℤ optimum P h s
-  unfolding optimum
-  optimum-scale zero s = (c .ends) s
-  optimum-scale (suc h) s =
-      let t : (a : A) → total P (optimum P h) h a (φ s) ≡ pos k *ℤ total P (optimum P h) h a s = λ a. total-scale (optimum P h) (optimum-scale h) h a s in
-      greatest-scale k (c .positive) (λ a. total P (optimum P h) h a (φ s)) (λ a. total P (optimum P h) h a s) t _ _ (t (P .first)) (P .others)
-
-  pub lowest-best-scale : (h : ℕ) (s : S) → lowest-best P h (φ s) ≡ lowest-best P h s
-  unfolding lowest-best
-  lowest-best-scale zero s = refl
-  lowest-best-scale (suc h) s =
-      first-best-scale k (c .positive) (λ a. total P (optimum P h) h a (φ s)) (λ a. total P (optimum P h) h a s)
-      (λ a. total-scale (optimum P h) (optimum-scale h) h a s) (P .first) (P .others)
+use Rattle.theorems.specs.laws.Scaling.{number-order, Scales, optimum-scale, lowest-best-scale}
 
 -- ---- states: numerators and denominator times k
 
@@ -123,7 +57,7 @@ module _ (k : ℕ) (k>0 : 0 < k) (s : State) where
     holds-scaled (now i) = refl
     holds-scaled (later i) = refl
     holds-scaled (linear p) =
-        ap (λ z. leZ z (pos 0)) (value-scaled p) ∙ ap (leZ (pos k *ℤ value (env s r) p)) (sym (*ℤ-zero (pos k))) ∙ scale-order k k>0 (value (env s r) p) (pos 0)
+        ap (λ z. leZ z (pos 0)) (value-scaled p) ∙ ap (leZ (pos k *ℤ value (env s r) p)) (sym (*ℤ-zero (pos k))) ∙ number-order k k>0 (value (env s r) p) (pos 0)
 
     -- the same leaf
     pub at-scaled : (F : Tree) → at (env t r) F ≡ at (env s r) F
@@ -132,14 +66,23 @@ module _ (k : ℕ) (k>0 : 0 < k) (s : State) where
     at-scaled (branch u h l) =
         ap (λ b. if b (at (env t r) h) (at (env t r) l)) (holds-scaled u) ∙ ap₂ (if (holds (env s r) u)) (at-scaled h) (at-scaled l)
 
-    pub worth-scaled : (F : Tree) → worth-at (env t r) F ≡ pos k *ℤ worth-at (env s r) F
-    unfolding worth-at
-    worth-scaled F = ap (λ (f : Leaf). value (env t r) (f .lin)) (at-scaled F) ∙ value-scaled (at (env s r) F .lin)
+    leaf-scaled : (f : Leaf) → leaf-worth (env t r) f ≡ weigh k (leaf-worth (env s r) f)
+    unfolding leaf-worth
+    leaf-scaled (some p a) = ap num (value-scaled p) ∙ sym (weigh-num k (value (env s r) p))
+    leaf-scaled forbidden = sym (weigh-none k k>0)
 
-    levels-scaled : (Ds : List Tree) → map (worth-at (env t r)) Ds ≡ scaleL (pos k) (map (worth-at (env s r)) Ds)
+    pub worth-scaled : (F : Tree) → worth-at (env t r) F ≡ weigh k (worth-at (env s r) F)
+    unfolding worth-at
+    worth-scaled F = ap (leaf-worth (env t r)) (at-scaled F) ∙ leaf-scaled (at (env s r) F)
+
+    pub level-scaled : (F : Tree) → level-at (env t r) F ≡ pos k *ℤ level-at (env s r) F
+    unfolding level-at
+    level-scaled F = ap (λ (f : Leaf). value (env t r) (lin-of f)) (at-scaled F) ∙ value-scaled (lin-of (at (env s r) F))
+
+    levels-scaled : (Ds : List Tree) → map (level-at (env t r)) Ds ≡ scaleL (pos k) (map (level-at (env s r)) Ds)
     unfolding scaleL
     levels-scaled [] = refl
-    levels-scaled (D ∷ Ds) = ap₂ _∷_ (worth-scaled D) (levels-scaled Ds)
+    levels-scaled (D ∷ Ds) = ap₂ _∷_ (level-scaled D) (levels-scaled Ds)
 
     moved-scaled : (Ds : List Tree) → moved t Ds r ≡ scaled k k>0 (moved s Ds r)
     unfolding moved scaled
@@ -148,26 +91,25 @@ module _ (k : ℕ) (k>0 : 0 < k) (s : State) where
   chances-scaled : (Cs : List Tree) → map (chance-at (env t [])) Cs ≡ map (chance-at (env s [])) Cs
   unfolding chance-at
   chances-scaled [] = refl
-  chances-scaled (C ∷ Cs) = ap₂ _∷_ (ap (λ (f : Leaf). up (f .lin .const)) (at-scaled [] C)) (chances-scaled Cs)
+  chances-scaled (C ∷ Cs) = ap₂ _∷_ (ap (λ (f : Leaf). up (lin-of f .const)) (at-scaled [] C)) (chances-scaled Cs)
 
 ends-scaled : (k : ℕ) (h : 0 < k) (s : State) (l : List Tree) → end-at (env (scaled k h s) []) l ≡ pos k *ℤ end-at (env s []) l
 unfolding end-at
 ends-scaled k h s [] = sym (*ℤ-zero (pos k))
-ends-scaled k h s (F ∷ l) = worth-scaled k h s [] F
+ends-scaled k h s (F ∷ l) = level-scaled k h s [] F
 
 module _ (M : Model) (k : ℕ) (k>0 : 0 < k) where
   scales : Scales (process M) k (scaled k k>0)
   unfolding process
   scales = record {
     positive = k>0;
-    rewards = λ h a s. ap (λ z. pos (power M (suc h)) *ℤ z) (worth-scaled k k>0 s [] (action-at M a .reward))
-        ∙ mul-left-comm (pos (power M (suc h))) (pos k) (worth-at (env s []) (action-at M a .reward));
-    weights = λ a s r. ap (λ ws. weight (M .weights) ws r) (chances-scaled k k>0 s (action-at M a .chances));
+    rewards = λ h a s. ap (weigh (power M (suc h))) (worth-scaled k k>0 s [] (action-at M a .reward)) ∙ weigh-swap (power M (suc h)) k (worth-at (env s []) (action-at M a .reward));
+    weights = λ a s. ap (weight (M .weights)) (chances-scaled k k>0 s (action-at M a .chances));
     steps = λ a s r. moved-scaled k k>0 s r (action-at M a .levels);
     ends = λ s. ends-scaled k k>0 s (M .end);
   }
 
-  pub optimum-scaled : (h : ℕ) (s : State) → optimum (process M) h (scaled k k>0 s) ≡ pos k *ℤ optimum (process M) h s
+  pub optimum-scaled : (h : ℕ) (s : State) → optimum (process M) h (scaled k k>0 s) ≡ weigh k (optimum (process M) h s)
   optimum-scaled = optimum-scale (process M) k (scaled k k>0) scales
 
   pub lowest-best-scaled : (h : ℕ) (s : State) → lowest-best (process M) h (scaled k k>0 s) ≡ lowest-best (process M) h s
@@ -187,10 +129,8 @@ module _ (s t : State) (p : s .conditions ≡ t .conditions) (q : scaleL (pos (t
   unfolding scaled
   meet = same-state _ _ p q (mul-comm (t .den) (s .den))
 
-  pub same-value : (M : Model) (h : ℕ) → optimum (process M) h s *ℤ pos (t .den) ≡ optimum (process M) h t *ℤ pos (s .den)
-  same-value M h =
-      *ℤ-comm (optimum (process M) h s) (pos (t .den))
-      ∙ (sym (optimum-scaled M (t .den) (t .D>0) h s) ∙ (ap (optimum (process M) h) meet ∙ (optimum-scaled M (s .den) (s .D>0) h t ∙ *ℤ-comm (pos (s .den)) (optimum (process M) h t))))
+  pub same-value : (M : Model) (h : ℕ) → weigh (t .den) (optimum (process M) h s) ≡ weigh (s .den) (optimum (process M) h t)
+  same-value M h = sym (optimum-scaled M (t .den) (t .D>0) h s) ∙ ap (optimum (process M) h) meet ∙ optimum-scaled M (s .den) (s .D>0) h t
 
   pub same-action : (M : Model) (h : ℕ) → lowest-best (process M) h s ≡ lowest-best (process M) h t
   same-action M h = sym (lowest-best-scaled M (t .den) (t .D>0) h s) ∙ (ap (lowest-best (process M) h) meet ∙ lowest-best-scaled M (s .den) (s .D>0) h t)
@@ -228,22 +168,55 @@ module _ (m n : ℕ) where
     unfolding state-of
     asked-nums = rw (asked-den r u, asked-den q t) (sym (take-scale (r .den) m (q .nums)) ∙ (ap (take m) e ∙ take-scale (q .den) m (r .nums)))
 
-    pub same-value-asked : (M : Model) (h : ℕ) → optimum (process M) h S *ℤ (r .den) ≡ optimum (process M) h R *ℤ (q .den)
-    same-value-asked M h = rw (asked-den r u, asked-den q t) at (same-value S R asked-conditions asked-nums M h)
+    pub same-value-asked : (M : Model) (h : ℕ) → weigh (R .den) (optimum (process M) h S) ≡ weigh (S .den) (optimum (process M) h R)
+    same-value-asked M h = same-value S R asked-conditions asked-nums M h
 
     pub same-action-asked : (M : Model) (h : ℕ) → lowest-best (process M) h S ≡ lowest-best (process M) h R
     same-action-asked M h = same-action S R asked-conditions asked-nums M h
 
--- values that are read, where they are exact
+-- ---- values that are read
+
+-- the number that a total reads as
+unfoldable reads : Total → ℤ
+reads (num z) = z
+reads none = pos 0
+
+answered-number : ((z : ℤ) → number (words z) ≡ z) → (x : Total) (a : ℕ) → number (answered x a .numerator) ≡ reads x
+unfolding answered reads
+answered-number back (num z) a = back z
+answered-number back none a = back (pos 0)
+
+-- equal fractions read as such, with one action
+same-reads : (d k : ℕ) → 0 < d → 0 < k → (x y : Total) → weigh d x ≡ weigh k y → reads x *ℤ pos d ≡ reads y *ℤ pos k
+unfolding reads
+same-reads d k p q (num z) (num y) e = *ℤ-comm z (pos d) ∙ ap reads (sym (weigh-num d z) ∙ e ∙ weigh-num k y) ∙ *ℤ-comm (pos k) y
+same-reads d k p q (num z) none e = absurd (has-not-none (num (pos d *ℤ z)) tt (sym (weigh-num d z) ∙ e ∙ weigh-none k q))
+same-reads d k p q none (num y) e = absurd (has-not-none (num (pos k *ℤ y)) tt (sym (weigh-num k y) ∙ sym e ∙ weigh-none d p))
+same-reads d k p q none none e = zero-*ℤ (pos d) ∙ sym (zero-*ℤ (pos k))
+
+same-acts : (d k : ℕ) → 0 < d → 0 < k → (x y : Total) (a : ℕ) → weigh d x ≡ weigh k y → answered x a .action ≡ answered y a .action
+unfolding answered
+same-acts d k p q (num z) (num y) a e = refl
+same-acts d k p q (num z) none a e = absurd (has-not-none (num (pos d *ℤ z)) tt (sym (weigh-num d z) ∙ e ∙ weigh-none k q))
+same-acts d k p q none (num y) a e = absurd (has-not-none (num (pos k *ℤ y)) tt (sym (weigh-num k y) ∙ sym e ∙ weigh-none d p))
+same-acts d k p q none none a e = refl
+
+-- where they are exact
 pub same-values : ((z : ℤ) → number (words z) ≡ z) → Exact → SameValue
 same-values back exact g h low high q r t u p e =
     let m = site-at (g .bytes) .levels in
     let n = site-at (g .bytes) .conditions in
     let M = model (g .bytes) in
+    let s = state-of m n q t in
+    let s′ = state-of m n r u in
+    let x = optimum (process M) h s in
+    let y = optimum (process M) h s′ in
     let a = exact g h low high q t in
     let b = exact g h low high r u in
-    let va = ap (λ (o : ValueOut). number (o .numerator)) a ∙ back (optimum (process M) h (state-of m n q t)) in
-    let vb = ap (λ (o : ValueOut). number (o .numerator)) b ∙ back (optimum (process M) h (state-of m n r u)) in (
-      ap (λ z. z *ℤ (r .den)) va ∙ (same-value-asked m n q r t u p e M h ∙ sym (ap (λ z. z *ℤ (q .den)) vb)),
-      ap (λ (o : ValueOut). o .action) a ∙ (same-action-asked m n q r t u p e M h ∙ sym (ap (λ (o : ValueOut). o .action) b)),
+    let va = ap (λ (o : ValueOut). number (o .numerator)) a ∙ answered-number back x (lowest-best (process M) h s) in
+    let vb = ap (λ (o : ValueOut). number (o .numerator)) b ∙ answered-number back y (lowest-best (process M) h s′) in
+    let same = same-value-asked m n q r t u p e M h in (
+      ap₂ _*ℤ_ va (sym (asked-den m n r u)) ∙ same-reads (s′ .den) (s .den) (s′ .D>0) (s .D>0) x y same ∙ sym (ap₂ _*ℤ_ vb (sym (asked-den m n q t))),
+      ap (λ (o : ValueOut). o .action) a ∙ same-acts (s′ .den) (s .den) (s′ .D>0) (s .D>0) x y (lowest-best (process M) h s) same
+          ∙ ap (λ (c : ℕ). answered y c .action) (same-action-asked m n q r t u p e M h) ∙ sym (ap (λ (o : ValueOut). o .action) b),
     )

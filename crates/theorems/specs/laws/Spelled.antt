@@ -2,14 +2,14 @@
 use mathlib.Core.Path.{_≡_, refl, sym, ap, ap₂, _∙_, subst}
 use mathlib.Core.List.{List, [], _∷_, map}
 use Prim.Native.Nat.{ℕ, zero, suc, _-_}
-use lib.IntN.{ℤ, pos, _*ℤ_}
 use Rattle.whole.specs.Cases.{if, by-test}
 use Rattle.whole.specs.Int.{up}
-use Rattle.theory.specs.Diagram.{Test, Leaf, Tree, branch, test-of}
+use Rattle.theory.specs.Diagram.{Test, Leaf, lin-of, Tree, branch, test-of}
 use Rattle.theory.specs.Computation.{Comp, ret, bind, make, result}
 use Rattle.theory.specs.Rules.{choose}
-use Rattle.theory.specs.Meaning.{Action, nth-action, action-at, numbers-from, Env, env, value, holds, at, worth-at, end-at, chance-at, weight, moved, settings, power, process}
-use Rattle.theory.specs.Command.{Command, site, push-leaf, push-condition, push-test, give, name-action, end-model, Read, whole, unknown, short, Placed, readings, Slot}
+use Rattle.theory.specs.Total.{weigh}
+use Rattle.theory.specs.Meaning.{Action, nth-action, action-at, numbers-from, Env, env, value, holds, at, leaf-worth, worth-at, level-at, end-at, chance-at, weight, moved, settings, power, process}
+use Rattle.theory.specs.Command.{Command, site, push-leaf, push-condition, push-test, push-forbidden, give, name-action, end-model, Read, whole, unknown, short, Placed, readings, Slot}
 use Rattle.theory.specs.Verdict.{Site, same-slot, reward-slot, chance-slot, level-slot, end-slot, from-to}
 use Rattle.theory.specs.Load.{Entry, Loaded, condition-test, load-entry, load-choice-with, load-one-with, load-on-with, find-slot, found, action-of, model-of, site-at, load-with, model, spelled, load-in, model-in}
 use Rattle.theory.specs.laws.Comps.{result-bind}
@@ -72,6 +72,7 @@ module _ (by : Test → Tree → Tree → Comp Tree) (ok : (e : Env) → Makes e
   one-like (push-leaf p) s u d = ((λ e. refl, d .0), d .1)
   one-like (push-condition k) s u d = choice-like (condition-test k) (s .stack) (u .stack) (s .entries) (u .entries) (d .0) (d .1)
   one-like (push-test p) s u d = choice-like (test-of p) (s .stack) (u .stack) (s .entries) (u .entries) (d .0) (d .1)
+  one-like push-forbidden s u d = ((λ e. refl, d .0), d .1)
   one-like (give g) s u d = entry-like g (s .stack) (u .stack) (s .entries) (u .entries) (d .0) (d .1)
   one-like (name-action a b) s u d = d
   one-like end-model s u d = d
@@ -135,11 +136,11 @@ map-like h e (F ∷ K) [] d = absurd d
 map-like h e (F ∷ K) (G ∷ L) d = ap₂ _∷_ (ap h (d .0 e)) (map-like h e K L (d .1))
 
 end-at-like : (e : Env) (K L : List Tree) → LikeAll K L → end-at e K ≡ end-at e L
-unfolding end-at worth-at
+unfolding end-at level-at
 end-at-like e [] [] d = refl
 end-at-like e [] (G ∷ L) d = absurd d
 end-at-like e (F ∷ K) [] d = absurd d
-end-at-like e (F ∷ K) (G ∷ L) d = ap (λ (f : Leaf). value e (f .lin)) (d .0 e)
+end-at-like e (F ∷ K) (G ∷ L) d = ap (λ (f : Leaf). value e (lin-of f)) (d .0 e)
 
 module _ (S : Site) (E D : List Entry) (d : LikeGiven E D) where
   action-like : (a : ℕ) → LikeAction (action-of S E a) (action-of S D a)
@@ -157,14 +158,14 @@ module _ (S : Site) (E D : List Entry) (d : LikeGiven E D) where
   at-like a = nth-like (action-of S E) (action-of S D) action-like 1 (from-to 2 (S .actions - 1)) (a - 1)
 
   process-like : process (model-of S E) ≡ process (model-of S D)
-  unfolding process model-of moved worth-at chance-at
+  unfolding process model-of moved worth-at level-at chance-at
   process-like = λ i. record {
     first = 1;
     others = numbers-like (action-of S E) (action-of S D) 2 (from-to 2 (S .actions - 1)) i;
     settings = settings (S .conditions);
-    reward = λ h a s. pos (power (model-of S E) (suc h)) *ℤ value (env s []) (at-like a .0 (env s []) i .lin);
-    weight = λ a s r. weight (S .weights) (map-like (λ (f : Leaf). up (f .lin .const)) (env s []) (action-at (model-of S E) a .chances) (action-at (model-of S D) a .chances) (at-like a .1 .0) i) r;
-    next = λ a s r. record { conditions = r; nums = map-like (λ (f : Leaf). value (env s r) (f .lin)) (env s r) (action-at (model-of S E) a .levels) (action-at (model-of S D) a .levels) (at-like a .1 .1) i; den = s .den; D>0 = s .D>0 };
+    reward = λ h a s. weigh (power (model-of S E) (suc h)) (leaf-worth (env s []) (at-like a .0 (env s []) i));
+    weight = λ a s r. weight (S .weights) (map-like (λ (f : Leaf). up (lin-of f .const)) (env s []) (action-at (model-of S E) a .chances) (action-at (model-of S D) a .chances) (at-like a .1 .0) i) r;
+    next = λ a s r. record { conditions = r; nums = map-like (λ (f : Leaf). value (env s r) (lin-of f)) (env s r) (action-at (model-of S E) a .levels) (action-at (model-of S D) a .levels) (at-like a .1 .1) i; den = s .den; D>0 = s .D>0 };
     end = λ s. end-at-like (env s []) (found end-slot E) (found end-slot D) (end-like end-slot E D d) i;
   }
 

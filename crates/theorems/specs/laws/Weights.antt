@@ -5,27 +5,23 @@ use mathlib.Core.List.{List, [], _∷_, List·Memᴰ, List·Memᴰ·head, List·
 use Prim.Native.Nat.{ℕ, zero, suc, _+_, _-_, _*_, _^_, _≤_}
 use native.Mathlib.Omega.{arith}
 use native.Mathlib.Nat.{pow-zero, pow-succ'}
-use lib.IntN.{ℤ, pos, _+ℤ_, _*ℤ_}
 use lib.ListN.{length}
-use Rattle.whole.specs.Int.{atom, diff, up, down}
-use Rattle.theory.specs.Process.{mean}
+use Rattle.theory.specs.Loss.{sum}
 use Rattle.theory.specs.Meaning.{doubled, settings, weight}
 
-doubled-sum : (W w : ℕ) (ws : List ℕ) → w ≤ W → (l : List (List Bool)) → mean (weight W (w ∷ ws)) (λ _. pos 1) (doubled l) ≡ pos W *ℤ mean (weight W ws) (λ _. pos 1) l
-unfolding doubled weight mean
-doubled-sum W w ws h [] = ap pos (omega arith)
-doubled-sum W w ws h (r ∷ l) = shares w (W - w) W (weight W ws r) (pos 1) (mean (weight W ws) (λ _. pos 1) l) _ (omega arith) (doubled-sum W w ws h l)
+doubled-sum : (W w : ℕ) (ws : List ℕ) → w ≤ W → (l : List (List Bool)) → sum (weight W (w ∷ ws)) (doubled l) ≡ W * sum (weight W ws) l
+unfolding doubled weight sum
+doubled-sum W w ws h [] = omega arith
+doubled-sum W w ws h (r ∷ l) = shares w (W - w) W (weight W ws r) (sum (weight W ws) l) _ (omega arith) (doubled-sum W w ws h l)
   where
-    shares : (w k W x : ℕ) (o y z : ℤ) → W ≡ w + k → z ≡ pos W *ℤ y → pos (k * x) *ℤ o +ℤ (pos (w * x) *ℤ o +ℤ z) ≡ pos W *ℤ (pos x *ℤ o +ℤ y)
-    shares w k W x o y z e q = rw (q, ← atom o, ← atom y) (simp diff (omega (arith, ap (λ (n : ℕ). n * x * up o) e, ap (λ (n : ℕ). n * x * down o) e)))
+    shares : (w k W x y z : ℕ) → W ≡ w + k → z ≡ W * y → k * x + (w * x + z) ≡ W * (x + y)
+    shares w k W x y z e q = rw (q, e) (omega arith)
 
 -- chances that are at most W give the settings weights that sum to W^n
-pub weights-sum : (W : ℕ) (ws : List ℕ) → ((w : ℕ) → List·Memᴰ w ws → w ≤ W) → mean (weight W ws) (λ _. pos 1) (settings (length ws)) ≡ pos (W ^ length ws)
-unfolding settings weight mean
-weights-sum W [] h = ap pos (sym (pow-zero W))
-weights-sum W (w ∷ ws) h = doubled-sum W w ws (h w (List·Memᴰ·head refl)) (settings (length ws))
-    ∙ ap (λ z. pos W *ℤ z) (weights-sum W ws (λ v m. h v (List·Memᴰ·tail m)))
-    ∙ ap pos (sym (pow-succ' W (length ws)))
+pub weights-sum : (W : ℕ) (ws : List ℕ) → ((w : ℕ) → List·Memᴰ w ws → w ≤ W) → sum (weight W ws) (settings (length ws)) ≡ W ^ length ws
+unfolding settings weight sum
+weights-sum W [] h = sym (pow-zero W)
+weights-sum W (w ∷ ws) h = doubled-sum W w ws (h w (List·Memᴰ·head refl)) (settings (length ws)) ∙ ap (λ z. W * z) (weights-sum W ws (λ v m. h v (List·Memᴰ·tail m))) ∙ sym (pow-succ' W (length ws))
 
 -- W^(n+k)
 pub power-plus : (W n k : ℕ) → W ^ (n + k) ≡ W ^ n * W ^ k

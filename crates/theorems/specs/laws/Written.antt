@@ -11,14 +11,15 @@ use lib.ListN.{drop}
 use lib.Signed.{leZ}
 use Rattle.whole.specs.Cases.{if, by-test, both, and-in}
 use Rattle.theory.specs.Diagram.{Linear, Test, now, later, Tree, leaf, branch, plain, zeros, test-of}
+use Rattle.theory.specs.Rules.{none-leaf}
 use Rattle.theory.specs.Computation.{bind, make, result}
-use Rattle.theory.specs.Command.{Command, site, push-leaf, push-condition, push-test, give, name-action, end-model, command-at, Slot}
+use Rattle.theory.specs.Command.{Command, site, push-leaf, push-condition, push-test, push-forbidden, give, name-action, end-model, command-at, Slot}
 use Rattle.theory.specs.Verdict.{Facts, Progress, or, is-weight, joined, after}
 use Rattle.theory.specs.Load.{Entry, Loaded, condition-test, load-entry, load-choice-with, load-one-with}
 use Rattle.theory.specs.Rows.{Keeps, first-asks, later-asks, asks-of, Comes, comes-first, comes-next}
 use Rattle.theory.specs.laws.Rules.{or-left, or-right}
 use Rattle.theory.specs.laws.Fits.{zeros-each, each-zeros}
-use Rattle.theorems.specs.Written.{IsLater, HasLater, AllWeights, Judges, JudgesAll, as-written, Writes, writes-none, writes-one}
+use Rattle.theorems.specs.Written.{IsLater, HasLater, AllWeights, HasForbidden, Judges, JudgesAll, as-written, Writes, writes-none, writes-one}
 use Rattle.theorems.specs.Demands.{AsWritten}
 
 -- ---- facts
@@ -35,14 +36,15 @@ each a b P Q p q = (λ t. let d = both a b t in (p .0 (d .0), q .0 (d .1)), λ d
 
 -- a choice's facts
 choice-judged : (W : ℕ) (b : Bool) (t : Test) → (T b ↔ IsLater t) → (f g : Facts) (h l : Tree) → Judges W f h → Judges W g l
-    → Judges W (record { next-step = or b (or (f .next-step) (g .next-step)); weights = f .weights && g .weights }) (branch t h l)
+    → Judges W (record { next-step = or b (or (f .next-step) (g .next-step)); weights = f .weights && g .weights; forbids = or (f .forbids) (g .forbids) }) (branch t h l)
 choice-judged W b t p f g h l a c = record {
   next-step = either b (or (f .next-step) (g .next-step)) (IsLater t) (HasLater h ⊎ HasLater l) p (either (f .next-step) (g .next-step) (HasLater h) (HasLater l) (a .next-step) (c .next-step));
   weights = each (f .weights) (g .weights) (AllWeights W h) (AllWeights W l) (a .weights) (c .weights);
+  forbids = either (f .forbids) (g .forbids) (HasForbidden h) (HasForbidden l) (a .forbids) (c .forbids);
 }
 
 -- a leaf's
-leaf-judged : (W : ℕ) (p : Linear) → Judges W (record { next-step = false; weights = is-weight W p }) (leaf (plain p))
+leaf-judged : (W : ℕ) (p : Linear) → Judges W (record { next-step = false; weights = is-weight W p; forbids = false }) (leaf (plain p))
 unfolding is-weight
 leaf-judged W p = record {
   next-step = (λ t. t, λ t. t);
@@ -54,7 +56,12 @@ leaf-judged W p = record {
     λ d. and-in (zeros (p .coeffs)) (leZ (pos 0) (p .const) && leZ (p .const) (pos W)) (each-zeros (p .coeffs) (d .0))
         (and-in (leZ (pos 0) (p .const)) (leZ (p .const) (pos W)) (d .1 .0 .le) (d .1 .1 .le)),
   );
+  forbids = (λ t. t, λ t. t);
 }
+
+-- a forbidden leaf's
+none-judged : (W : ℕ) → Judges W (record { next-step = false; weights = false; forbids = true }) none-leaf
+none-judged W = record { next-step = (λ t. t, λ t. t); weights = (λ t. t, λ t. t); forbids = (λ _. tt, λ _. tt) }
 
 condition-later : (k : ℕ) → T (ltb 4 k) ↔ IsLater (condition-test k)
 unfolding condition-test
@@ -116,6 +123,7 @@ one-judged (push-test p) s u k d = (
   joined-judged (s .site .weights) false (test-of p) (linear-not-later p) (s .stack) (u .stack) (u .entries) (d .0),
   λ t. absurd (not-first s (push-test p) (λ z. z .0) k t),
 )
+one-judged push-forbidden s u k d = ((none-judged (s .site .weights), d .0), λ t. absurd (not-first s push-forbidden (λ z. z .0) k t))
 one-judged (give g) s u k d = (entry-judged (s .site .weights) g (s .stack) (u .stack) (u .entries) (d .0), λ t. absurd (not-first s (give g) (λ z. z .0) k t))
 one-judged (name-action a b) s u k d = (d .0, λ t. absurd (not-first s (name-action a b) (λ z. z .0) k t))
 one-judged end-model s u k d = (d .0, λ t. absurd (not-first s end-model (λ z. z .0) k t))
