@@ -22,6 +22,7 @@ weaken h v = record {
   nums = v .nums;
   high-nat = v .high-nat;
   low-nat = v .low-nat;
+  none = v .none;
   leaf-low = v .leaf-low;
   tested = v .tested;
   high-below = λ e. let q = v .high-below e in omega arith;

@@ -24,6 +24,12 @@ use Rattle.theory.specs.laws.Comps.{member-in, member-out}
 use Rattle.diagrams.specs.Nodes.{treeOf, trees, treeAt, blank, Valid, Good}
 use Rattle.diagrams.specs.Table.{Bare, Grew, outOf}
 use Rattle.diagrams.proofs.Trees.{trees-length, trees-same, tree-at, inj, weaken}
+use Rattle.diagrams.proofs.Outcomes.{grew-like, grew-ret}
+
+-- a tree that is there is not made again
+pub grew-there : {cap : ℕ} {l : List ℤ} {w : List ℕ} {n : ℕ} → Bare cap l w n → (h : ℕ) → h < n → Grew cap l w n (make (treeAt l n h)) l w (record { stop = 0; at = h; count = n })
+unfolding run make
+grew-there {cap} {l} {n = n} A h q = grew-like (sym (ap (λ (b : Bool). if b (done (treeAt l n h) (trees l n)) (if (ltb (length (trees l n)) cap) (done (treeAt l n h) (trees l n ++ (treeAt l n h ∷ []))) (stopped 12))) (member-in blank (treeAt l n h) (trees l n) h (let e = trees-length l n in omega arith) refl))) (grew-ret A h q)
 
 module _ {cap : ℕ} {l : List ℤ} {w : List ℕ} {n : ℕ} (A : Bare cap l w n) (x : Node) (vx : Valid x n) where
   abbrev pub tree : Tree

@@ -19,13 +19,13 @@ use Rattle.table.proofs.Leaf.{condition-as, test-as}
 use Rattle.table.specs.Table.{nodeAt, eqZ, isLeaf}
 use Rattle.table.specs.declared.Node.{Node}
 use Rattle.theory.specs.Widths.{levels-most, conditions-most}
-use Rattle.theory.specs.Diagram.{Test, later, linear, Leaf, Tree, leaf, branch, quotL, quotient, divisor, test-of}
+use Rattle.theory.specs.Diagram.{Test, later, linear, Leaf, lin-of, Tree, leaf, branch, quotL, quotient, divisor, test-of}
 use Rattle.theory.specs.Rules.{choose, over, decide, sum, product, best, scale, shift, complement, number, side, substitute}
 use Rattle.diagrams.specs.Nodes.{linOf, leafOf, testOf, treeAt, Nums, Good, Proper, Grown, Root}
 use Rattle.diagrams.specs.Table.{Lasting, Bare, Table}
 use Rattle.diagrams.specs.Meaning.{cOf, testIn, testBy, Names, indexes, packed, ruleBy, ruleOf}
 use Rattle.diagrams.specs.Roots.{laterNode, linearNode, namedNode, testNode, Readable}
-use Rattle.diagrams.proofs.Trees.{trees-kept, later-is, at-leaf, at-branch}
+use Rattle.diagrams.proofs.Trees.{trees-kept, later-is, leaf-lin, at-leaf, at-branch}
 
 -- ---- the rules, each by its number
 
@@ -72,7 +72,7 @@ module _ (l : List ℤ) (n f g p q : ℕ) where
   unfolding ruleOf ruleBy
   rule-no = refl
 
-  pub rule-walk : ruleOf l n 9 f g p q ≡ over choose (λ x. decide (x .lin) G (treeAt l n p)) F
+  pub rule-walk : ruleOf l n 9 f g p q ≡ over choose (λ x. decide (lin-of x) G (treeAt l n p)) F
   unfolding ruleOf ruleBy
   rule-walk = refl
 
@@ -178,7 +178,7 @@ pub divided-test : (x : Node) → length (x .n) ≡ numbers → testOf (linearNo
 unfolding testOf linearNode eqZ divisorL linOf test-of quotient divisor
 divided-test x n = λ i. linear (record { coeffs = quot-take levels-most (divisorL (x .n)) (x .n) i; const = quot-at (divisorL (x .n)) (x .n) levels-most (omega arith) i })
 
-in-leaf : (f : Leaf) → testIn (leaf f) ≡ test-of (f .lin)
+in-leaf : (f : Leaf) → testIn (leaf f) ≡ test-of (lin-of f)
 unfolding testIn
 in-leaf f = refl
 
@@ -194,17 +194,13 @@ named-branch : (x : Node) → isLeaf (x .kind) ≡ false → namedNode x ≡ x
 unfolding namedNode
 named-branch x e = ap (λ (b : Bool). if b (linearNode (quotL (divisorL (x .n)) (x .n))) x) e
 
-leaf-lin : (x : Node) → leafOf x .lin ≡ linOf x
-unfolding leafOf
-leaf-lin x = refl
-
 stood-named : {l : List ℤ} {n : ℕ} → Good l n → (p : ℕ) → p < n → Stood (namedNode (nodeAt l p)) (testIn (treeAt l n p))
 stood-named {l} {n} D p h = go (isLeaf (nodeAt l p .kind)) refl
   where
     go : (b : Bool) → isLeaf (nodeAt l p .kind) ≡ b → Stood (namedNode (nodeAt l p)) (testIn (treeAt l n p))
     go true e = subst (λ (x : Node). Stood x (testIn (treeAt l n p))) (sym (named-leaf (nodeAt l p) e)) (record {
       proper = proper-linear _ (quot-smalls _ _ (D .valid p h .nums));
-      test = divided-test (nodeAt l p) (D .valid p h .nums .long) ∙ (ap test-of (sym (leaf-lin (nodeAt l p))) ∙ (sym (in-leaf _) ∙ ap testIn (sym (at-leaf D p h e))));
+      test = divided-test (nodeAt l p) (D .valid p h .nums .long) ∙ (ap test-of (sym (leaf-lin (nodeAt l p) (D .valid p h))) ∙ (sym (in-leaf _) ∙ ap testIn (sym (at-leaf D p h e))));
     })
     go false e = subst (λ (x : Node). Stood x (testIn (treeAt l n p))) (sym (named-branch (nodeAt l p) e)) (record {
       proper = record { branches = e; nums = D .valid p h .nums; tested = D .valid p h .tested e };
@@ -265,7 +261,7 @@ module _ (l : List ℤ) (n f : ℕ) (hf : f < n) where
 
     pub lasts-walk : (p q : ℕ) → p < n → Lasting ruleOf l n 9 f g p q
     unfolding ruleOf ruleBy
-    lasts-walk p q hp l′ n′ D = λ i. over choose (λ x. decide (x .lin) (trees-kept D g hg i) (trees-kept D p hp i)) (trees-kept D f hf i)
+    lasts-walk p q hp l′ n′ D = λ i. over choose (λ x. decide (lin-of x) (trees-kept D g hg i) (trees-kept D p hp i)) (trees-kept D f hf i)
 
     pub lasts-choose : (op p q : ℕ) → Names n op p → Lasting ruleOf l n op f g p q
     lasts-choose op p q N l′ n′ D =

@@ -14,7 +14,7 @@ use Rattle.whole.specs.Linears.{numbers, eqL}
 use Rattle.whole.specs.LinearsLaws.{eqZ-refl}
 use Rattle.table.proofs.Words.{R, back}
 use Rattle.table.proofs.Look.{eqZ-true}
-use Rattle.table.proofs.Leaf.{leaf-kind}
+use Rattle.table.proofs.Leaf.{leaf-untested}
 use Rattle.table.specs.Table.{nodeAt, eqZ, isLeaf}
 use Rattle.table.specs.declared.Node.{Node}
 use Rattle.theory.specs.Widths.{levels-most}
@@ -133,16 +133,12 @@ module _ (t x : Node) (v : Tested t) where
   not-two : (y : Node) (i : ℕ) → (eqZ (pos i) (pos 2) ≡ false) → eqZ (y .kind) (pos i) ≡ true → eqZ (y .kind) (pos 2) ≡ false
   not-two y i n e = ap (λ (z : ℤ). eqZ z (pos 2)) (eqZ-true (y .kind) (pos i) e) ∙ n
 
-  zero-two : eqZ (pos 0) (pos 2) ≡ false
-  unfolding eqZ
-  zero-two = refl
-
   one-two : eqZ (pos 1) (pos 2) ≡ false
   unfolding eqZ
   one-two = refl
 
   pub parallel-leaf : isLeaf (x .kind) ≡ true → parallelOf t x ≡ false
-  parallel-leaf q = sym (second-not t x (ap (λ (z : ℤ). eqZ z (pos 2)) (leaf-kind (x .kind) q) ∙ zero-two))
+  parallel-leaf q = sym (second-not t x (leaf-untested (x .kind) q))
 
   pub parallel-tests : Tested x → parallelOf t x ≡ parallel (testOf t) (testOf x)
   parallel-tests w = go (eqZ (t .kind) (pos 1)) (eqZ (x .kind) (pos 1)) refl refl

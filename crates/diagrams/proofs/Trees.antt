@@ -15,12 +15,12 @@ use lib.Seq.{getD-at, take-suc, take-all, ext-getD}
 use Rattle.whole.specs.Cases.{if}
 use Rattle.whole.specs.Linears.{numbers}
 use Rattle.table.proofs.Look.{split, eqZ-true}
-use Rattle.table.proofs.Leaf.{leaf-kind}
-use Rattle.table.specs.Table.{nodeAt, eqZ, isLeaf}
+use Rattle.table.proofs.Leaf.{some-kind}
+use Rattle.table.specs.Table.{nodeAt, eqZ, isLeaf, isNone}
 use Rattle.table.specs.declared.Node.{Node}
 use Rattle.theory.specs.Widths.{levels-most, conditions-most}
-use Rattle.theory.specs.Diagram.{Linear, now, later, linear, Leaf, Tree, leaf, branch}
-use Rattle.diagrams.specs.Nodes.{linOf, leafOf, firstOf, conditionOf, testOf, treeOf, trees, treeAt, blank, Tested, Valid, Good, Grown}
+use Rattle.theory.specs.Diagram.{Linear, now, later, linear, some, forbidden, lin-of, zero-linear, no-coeffs, Tree, leaf, branch}
+use Rattle.diagrams.specs.Nodes.{linOf, noneNode, leafOf, firstOf, conditionOf, testOf, treeOf, trees, treeAt, blank, Tested, Valid, Good, Grown}
 
 -- ---- lists of trees
 
@@ -172,12 +172,52 @@ same-test x y vx vy e = go (eqZ (x .kind) (pos 1)) (eqZ (y .kind) (pos 1)) refl 
         let s : linear (linOf x) ≡ linear (linOf y) = sym (test-lin x p) ∙ (e ∙ test-lin y q) in
         record { kind = vx .kind p ∙ sym (vy .kind q); n = lin x y (vx .long) (vy .long) (cc) }
 
-same-leaf : (x y : Node) → length (x .n) ≡ numbers → length (y .n) ≡ numbers → leafOf x ≡ leafOf y → x .kind ≡ y .kind → SameTest x y × (natAbs (x .high) ≡ natAbs (y .high))
-unfolding leafOf
-same-leaf x y n m e k = (record { kind = k; n = lin x y n m (ap (λ (p : Leaf). p .lin) e) }, ap (λ (p : Leaf). p .act) e)
-
 same-node : (x y : Node) → SameTest x y → x .high ≡ y .high → x .low ≡ y .low → x ≡ y
 same-node x y t h l = λ i. record { kind = t .kind i; n = t .n i; high = h i; low = l i }
+
+-- ---- a leaf: that of a linear, or "none"
+
+pub leaf-none : (x : Node) → isNone (x .kind) ≡ true → leafOf x ≡ forbidden
+unfolding leafOf
+leaf-none x e = ap (λ (b : Bool). if b forbidden (some (linOf x) (natAbs (x .high)))) e
+
+pub leaf-some : (x : Node) → isNone (x .kind) ≡ false → leafOf x ≡ some (linOf x) (natAbs (x .high))
+unfolding leafOf
+leaf-some x e = ap (λ (b : Bool). if b forbidden (some (linOf x) (natAbs (x .high)))) e
+
+none-lin : linOf noneNode ≡ zero-linear
+unfolding linOf no-coeffs
+none-lin = refl
+
+-- its linear is that of its words
+pub leaf-lin : (x : Node) {n : ℕ} → Valid x n → lin-of (leafOf x) ≡ linOf x
+unfolding lin-of
+leaf-lin x v = go (isNone (x .kind)) refl
+  where
+    go : (b : Bool) → isNone (x .kind) ≡ b → lin-of (leafOf x) ≡ linOf x
+    go true e = ap lin-of (leaf-none x e) ∙ (sym none-lin ∙ ap linOf (sym (v .none e)))
+    go false e = ap lin-of (leaf-some x e)
+
+some-none : {A : Type 0} {p : Linear} {a : ℕ} → some p a ≡ forbidden → A
+some-none e = absurd (let z : _≡_ {A = ℕ} 0 1 = cc in omega arith)
+
+some-lin : {p q : Linear} {a b : ℕ} → some p a ≡ some q b → p ≡ q
+some-lin e = cc
+
+some-act : {p q : Linear} {a b : ℕ} → some p a ≡ some q b → a ≡ b
+some-act e = cc
+
+same-leaf : (x y : Node) {n : ℕ} → Valid x n → Valid y n → isLeaf (x .kind) ≡ true → isLeaf (y .kind) ≡ true → leafOf x ≡ leafOf y → x ≡ y
+same-leaf x y vx vy p q e = go (isNone (x .kind)) (isNone (y .kind)) refl refl
+  where
+    go : (a b : Bool) → isNone (x .kind) ≡ a → isNone (y .kind) ≡ b → x ≡ y
+    go true true a b = vx .none a ∙ sym (vy .none b)
+    go true false a b = some-none (sym (leaf-some y b) ∙ (sym e ∙ leaf-none x a))
+    go false true a b = some-none (sym (leaf-some x a) ∙ (e ∙ leaf-none y b))
+    go false false a b =
+        let s : some (linOf x) (natAbs (x .high)) ≡ some (linOf y) (natAbs (y .high)) = sym (leaf-some x a) ∙ (e ∙ leaf-some y b) in
+        same-node x y (record { kind = some-kind (x .kind) p a ∙ sym (some-kind (y .kind) q b); n = lin x y (vx .nums .long) (vy .nums .long) (some-lin s) })
+        (nat-eq (x .high) (y .high) (vx .high-nat) (vy .high-nat) (some-act s)) (vx .leaf-low p ∙ sym (vy .leaf-low q))
 
 -- a node that can stand lower can stand here
 pub weaken : {x : Node} {i n : ℕ} → i ≤ n → Valid x i → Valid x n
@@ -185,6 +225,7 @@ weaken h v = record {
   nums = v .nums;
   high-nat = v .high-nat;
   low-nat = v .low-nat;
+  none = v .none;
   leaf-low = v .leaf-low;
   tested = v .tested;
   high-below = λ e. let q = v .high-below e in omega arith;
@@ -216,8 +257,7 @@ module _ {l : List ℤ} {n : ℕ} (G : Good l n) where
       go : (a b : Bool) → isLeaf (x .kind) ≡ a → isLeaf (y .kind) ≡ b → x ≡ y
       go true true p q =
           let s : leaf (leafOf x) ≡ leaf (leafOf y) = sym (tree-leaf x (trees l n) p) ∙ (e ∙ tree-leaf y (trees l n) q) in
-          let u = same-leaf x y (vx .nums .long) (vy .nums .long) (cc) (leaf-kind (x .kind) p ∙ sym (leaf-kind (y .kind) q)) in
-          same-node x y (u .0) (nat-eq (x .high) (y .high) (vx .high-nat) (vy .high-nat) (u .1)) (vx .leaf-low p ∙ sym (vy .leaf-low q))
+          same-leaf x y vx vy p q (cc)
       go true false p q =
           let s : leaf (leafOf x) ≡ branchOf y (trees l n) = sym (tree-leaf x (trees l n) p) ∙ (e ∙ tree-branch y (trees l n) q) in
           absurd (let z : _≡_ {A = ℕ} 0 1 = cc in omega arith)

@@ -11,7 +11,7 @@ use mir.Syntax.{w64}
 use mir.Val.{toZ}
 use Rattle.whole.specs.Cases.{if}
 use Rattle.theory.specs.Widths.{conditions-most}
-use Rattle.theory.specs.Diagram.{Test, later, Tree, leaf, branch, test-of}
+use Rattle.theory.specs.Diagram.{Test, later, lin-of, Tree, leaf, branch, test-of}
 use Rattle.theory.specs.Computation.{Comp, ret}
 use Rattle.theory.specs.Rules.{choose, over, decide, sum, product, best, scale, shift, complement, number, side, substitute}
 use Rattle.diagrams.specs.Nodes.{blank, treeAt}
@@ -22,7 +22,7 @@ cOf p q = toZ w64 (q * 4294967296 + p)
 
 -- the test that a diagram names: a branch its own, a leaf its linear's
 unfoldable pub testIn : Tree → Test
-testIn (leaf f) = test-of (f .lin)
+testIn (leaf f) = test-of (lin-of f)
 testIn (branch t h l) = t
 
 -- the test that a choice is given: 10 the next step's condition p, 11 the one that the node at p names
@@ -58,7 +58,7 @@ ruleBy c l n op f g p q =
     (if (eqb c 6) (number p (treeAt l n f))
     (if (eqb c 7) (side true p (treeAt l n f))
     (if (eqb c 8) (side false p (treeAt l n f))
-    (if (eqb c 9) (over choose (λ x. decide (x .lin) (treeAt l n g) (treeAt l n p)) (treeAt l n f))
+    (if (eqb c 9) (over choose (λ x. decide (lin-of x) (treeAt l n g) (treeAt l n p)) (treeAt l n f))
     (if (eqb c 10) (choose (testBy l n 10 p) (treeAt l n f) (treeAt l n g))
     (if (eqb c 11) (choose (testBy l n 11 p) (treeAt l n f) (treeAt l n g))
     (if (eqb c 12) (substitute (packed l n op f g p q) (treeAt l n (f % 65536)))

@@ -6,13 +6,13 @@ use Prim.Native.Nat.{ℕ, zero, suc, _+_, _-_, _*_, _≤_, _<_}
 use lib.Dec.{T, ltb}
 use lib.IntN.{ℤ, pos, natAbs}
 use lib.Signed.{nonNeg}
-use lib.ListN.{length, getD, take}
+use lib.ListN.{length, getD, take, replicate}
 use Rattle.whole.specs.Cases.{if}
 use Rattle.whole.specs.Linears.{numbers, Smalls}
-use Rattle.table.specs.Table.{node-words, nodeAt, eqZ, isLeaf}
+use Rattle.table.specs.Table.{node-words, nodeAt, eqZ, isLeaf, isNone}
 use Rattle.table.specs.declared.Node.{Node}
 use Rattle.theory.specs.Widths.{levels-most, conditions-most}
-use Rattle.theory.specs.Diagram.{Linear, Test, now, later, linear, Leaf, Tree, leaf, branch}
+use Rattle.theory.specs.Diagram.{Linear, Test, now, later, linear, Leaf, some, forbidden, Tree, leaf, branch, plain}
 
 -- ---- a node's words
 
@@ -23,8 +23,12 @@ linOf x = record { coeffs = take levels-most (x .n); const = getD (x .n) levels-
 abbrev pub constantOf : Node → ℤ
 constantOf x = getD (x .n) levels-most (pos 0)
 
+-- the leaf "none": "all other words zero"
+abbrev pub noneNode : Node
+noneNode = record { kind = pos 3; n = replicate numbers (pos 0); high = pos 0; low = pos 0 }
+
 unfoldable pub leafOf : Node → Leaf
-leafOf x = record { lin = linOf x; act = natAbs (x .high) }
+leafOf x = if (isNone (x .kind)) forbidden (some (linOf x) (natAbs (x .high)))
 
 -- "1 to n for a condition now, 5 to 4+n for the next step's"
 unfoldable pub conditionOf : ℕ → Test
@@ -39,7 +43,7 @@ testOf x = if (eqZ (x .kind) (pos 1)) (conditionOf (natAbs (firstOf x))) (linear
 
 -- what stands where nothing is
 unfoldable pub blank : Tree
-blank = leaf (record { lin = record { coeffs = []; const = pos 0 }; act = 0 })
+blank = leaf (plain (record { coeffs = []; const = pos 0 }))
 
 -- the tree of a node over the trees of those below it
 unfoldable pub treeOf : Node → List Tree → Tree
@@ -73,6 +77,7 @@ pub record Valid (x : Node) (n : ℕ) : Type 0 where
   pub nums : Nums x
   pub high-nat : T (nonNeg (x .high))
   pub low-nat : T (nonNeg (x .low))
+  pub none : isNone (x .kind) ≡ true → x ≡ noneNode
   pub leaf-low : isLeaf (x .kind) ≡ true → x .low ≡ pos 0
   pub tested : isLeaf (x .kind) ≡ false → Tested x
   pub high-below : isLeaf (x .kind) ≡ false → natAbs (x .high) < n
@@ -107,7 +112,7 @@ pub record Root (l : List ℤ) (n t : ℕ) : Type 0 where
   pub below : t < n
   pub branches : isLeaf (nodeAt l t .kind) ≡ false
 
--- a leaf without action, as it stands in words
+-- a leaf of a linear without action, as it stands in words
 pub record Plain (s : Node) : Type 0 where
   pub kind : s .kind ≡ pos 0
   pub high : s .high ≡ pos 0

@@ -3,13 +3,15 @@ ghost use mathlib.Core.Path.{_≡_};
 ghost use Prim.Native.Nat.{_<_};
 ghost use Rattle.table.specs.Table.{nodeAt};
 ghost use Rattle.theory.specs.Computation.{make};
-ghost use Rattle.theory.specs.Rules.{node, make-leaf};
+ghost use Rattle.theory.specs.Rules.{node, make-leaf, none-leaf};
 ghost use Rattle.theory.specs.Valid.{small-linear};
 ghost use Rattle.diagrams.specs.Nodes.{linOf, testOf, treeOf, trees, treeAt, Valid, Proper, Root, Plain};
 ghost use Rattle.diagrams.specs.Table.{Bare, Grew};
 use super::narrowing::narrowed;
 use table::Made;
+use table::NONE;
 use table::Node;
+use whole::NUMBERS;
 
 // Looks a node up or makes it.
 pub fn intern(nodes: &mut [i64], work: &mut [u32], cap: usize, count: usize, x: Node) -> Made
@@ -65,6 +67,21 @@ pub fn join(
 {
     let x = table::get(nodes, t);
     join_test(nodes, work, cap, count, x, h, l)
+}
+
+// The leaf "none".
+pub fn make_none(nodes: &mut [i64], work: &mut [u32], cap: usize, count: usize) -> Made
+    requires { ⌜ Bare cap (now nodes) (now work) count ⌝ }
+    ensures { λ r. ⌜ Grew cap (now (nodes .entry)) (now (work .entry)) count (make none-leaf) (now (nodes .exit)) (now (work .exit)) r ⌝ }
+{
+    let n = [0i64; NUMBERS];
+    let x = Node {
+        kind: NONE,
+        n,
+        high: 0,
+        low: 0,
+    };
+    intern(nodes, work, cap, count, x)
 }
 
 // Whether a linear's numbers all lie within the limits.

@@ -14,14 +14,14 @@ use lib.Seq.{take-add, drop-cons, drop-drop, length-take-le}
 use Rattle.whole.specs.Cases.{if}
 use Rattle.whole.specs.Linears.{numbers}
 use Rattle.table.proofs.Look.{eqZ-true}
-use Rattle.table.proofs.Leaf.{leaf-kind}
-use Rattle.table.specs.Table.{high-word, low-word, nodeAt, eqZ, isLeaf}
+use Rattle.table.proofs.Leaf.{some-kind}
+use Rattle.table.specs.Table.{high-word, low-word, nodeAt, eqZ, isLeaf, isNone}
 use Rattle.table.specs.declared.Node.{Node}
 use Rattle.theory.specs.Widths.{levels-most, conditions-most, node-words}
-use Rattle.theory.specs.Diagram.{now, later, linear, Tree, leaf, branch, padded}
-use Rattle.theory.specs.Solve.{number-of, linear-words, test-words, row, rows}
-use Rattle.diagrams.specs.Nodes.{linOf, leafOf, firstOf, conditionOf, testOf, blank, Tested, Valid}
-use Rattle.diagrams.proofs.Trees.{split-last, same-firsts}
+use Rattle.theory.specs.Diagram.{now, later, linear, Leaf, some, forbidden, lin-of, act-of, no-coeffs, Tree, leaf, branch, padded}
+use Rattle.theory.specs.Solve.{number-of, linear-words, test-words, leaf-kind, row, rows}
+use Rattle.diagrams.specs.Nodes.{linOf, noneNode, leafOf, firstOf, conditionOf, testOf, blank, Tested, Valid}
+use Rattle.diagrams.proofs.Trees.{split-last, same-firsts, leaf-none, leaf-some}
 use Rattle.diagrams.proofs.Meanings.{zeros-behind}
 use Rattle.numbering.specs.Number.{listOf}
 
@@ -48,14 +48,23 @@ linear-word x e =
     ap (λ (t : List ℤ). t ++ (getD (x .n) levels-most (pos 0) ∷ [])) (padded-all levels-most (take levels-most (x .n)) (length-take-le levels-most (x .n) (omega arith)))
     ∙ split-last levels-most (x .n) e
 
-pub row-leaf : (Y : List Tree) (x : Node) (n : ℕ) → Valid x n → isLeaf (x .kind) ≡ true → words-of x ≡ row Y (leaf (leafOf x))
-unfolding words-of row leafOf
-row-leaf Y x n v e =
-    let k = leaf-kind (x .kind) e in
+some-row : (Y : List Tree) (x : Node) (n : ℕ) → Valid x n → x .kind ≡ pos 0 → x .low ≡ pos 0 → words-of x ≡ row Y (leaf (some (linOf x) (natAbs (x .high))))
+unfolding words-of row leaf-kind lin-of act-of
+some-row Y x n v k l =
     let a = sym (linear-word x (v .nums .long)) in
     let h = sym (pos-natAbs (x .high) (v .high-nat)) in
-    let l = v .leaf-low e in
     λ t. k t ∷ (a t ++ (h t ∷ l t ∷ []))
+
+none-row : (Y : List Tree) → words-of noneNode ≡ row Y (leaf forbidden)
+unfolding words-of row leaf-kind lin-of act-of padded no-coeffs
+none-row Y = refl
+
+pub row-leaf : (Y : List Tree) (x : Node) (n : ℕ) → Valid x n → isLeaf (x .kind) ≡ true → words-of x ≡ row Y (leaf (leafOf x))
+row-leaf Y x n v e = go (isNone (x .kind)) refl
+  where
+    go : (b : Bool) → isNone (x .kind) ≡ b → words-of x ≡ row Y (leaf (leafOf x))
+    go true d = ap words-of (v .none d) ∙ (none-row Y ∙ ap (λ (f : Leaf). row Y (leaf f)) (sym (leaf-none x d)))
+    go false d = some-row Y x n v (some-kind (x .kind) e d) (v .leaf-low e) ∙ ap (λ (f : Leaf). row Y (leaf f)) (sym (leaf-some x d))
 
 -- a condition's number is the word that it came from
 condition-word : (k : ℕ) → 0 < k → test-words (conditionOf k) ≡ pos 1 ∷ pos k ∷ replicate levels-most (pos 0)

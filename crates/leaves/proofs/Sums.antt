@@ -19,15 +19,17 @@ use Rattle.whole.specs.Within.{small}
 use Rattle.whole.proofs.Clipped.{small-clipped, clipped-in}
 use Rattle.whole.proofs.Signed.{R, back}
 use Rattle.table.proofs.Words.{same-bits}
+use Rattle.table.specs.Table.{isNone}
 use Rattle.table.specs.declared.Node.{Node}
 use Rattle.theory.specs.Widths.{levels-most}
 use Rattle.theory.specs.laws.Comps.{run-judge, cmpZ-eq, cmpZ-refl}
-use Rattle.theory.specs.Diagram.{Linear, Tree, leaf, plain, cmpZ, zeros, test-of, addL, scaleL, _⊞_, _⊠_, _⊟_}
-use Rattle.theory.specs.Computation.{ret, make, stopped, run}
-use Rattle.theory.specs.Rules.{choose, decide, make-leaf}
+use Rattle.theory.specs.Diagram.{Linear, lin-of, zero-linear, no-coeffs, Tree, leaf, plain, cmpZ, zeros, test-of, addL, scaleL, _⊞_, _⊠_, _⊟_}
+use Rattle.theory.specs.Computation.{Comp, ret, make, stopped, run}
+use Rattle.theory.specs.Rules.{choose, decide, make-leaf, zero-leaf, none-leaf, leaf-scale}
 use Rattle.theory.specs.Valid.{all, small-linear}
-use Rattle.diagrams.specs.Nodes.{linOf, constantOf, Nums}
-use Rattle.leaves.specs.Leaves.{leafNode, sumNode, lessNode, productNode}
+use Rattle.diagrams.specs.Nodes.{linOf, constantOf, leafOf, Nums, Valid}
+use Rattle.diagrams.proofs.Trees.{leaf-none, leaf-some, leaf-lin}
+use Rattle.leaves.specs.Leaves.{leafNode, sumNode, lessNode, productNode, staysNone}
 
 -- ---- the linear of a result
 
@@ -102,6 +104,74 @@ product-run cap k z n X = go (small-linear (k ⊠ linOf z)) refl
     go : (b : Bool) → small-linear (k ⊠ linOf z) ≡ b → run cap (make-leaf (linOf (productNode k z))) X ≡ run cap (make-leaf (k ⊠ linOf z)) X
     go true e = ap (λ (p : Linear). run cap (make-leaf p) X) (product-lin k z n e)
     go false e = over-stops cap (linOf (productNode k z)) X (product-all k z n ∙ e) ∙ sym (over-stops cap (k ⊠ linOf z) X e)
+
+-- ---- a number times a leaf, which may be "none"
+
+module _ (k : ℤ) (x : Node) where
+  pub stays-zero : isEq (cmpZ k (pos 0)) ≡ true → false ≡ staysNone k x
+  unfolding staysNone
+  stays-zero e = ap (λ (b : Bool). if b false (isNone (x .kind))) (sym e)
+
+  pub stays-other : isEq (cmpZ k (pos 0)) ≡ false → isNone (x .kind) ≡ staysNone k x
+  unfolding staysNone
+  stays-other e = ap (λ (b : Bool). if b false (isNone (x .kind))) (sym e)
+
+  -- not by 0
+  pub stays-none : staysNone k x ≡ true → isNone (x .kind) ≡ true
+  stays-none e = go (isEq (cmpZ k (pos 0))) refl
+    where
+      go : (b : Bool) → isEq (cmpZ k (pos 0)) ≡ b → isNone (x .kind) ≡ true
+      go true z = absurd (let y = stays-zero z ∙ e in let z : _≡_ {A = ℕ} 0 1 = cc in omega arith)
+      go false z = stays-other z ∙ e
+
+  scale-none : (b : Bool) → isEq (cmpZ k (pos 0)) ≡ b → isNone (x .kind) ≡ true → leaf-scale k (leafOf x) ≡ make (if b zero-leaf none-leaf)
+  unfolding leaf-scale
+  scale-none b z e = ap (leaf-scale k) (leaf-none x e) ∙ ap (λ (b : Bool). make (if b zero-leaf none-leaf)) z
+
+  pub scale-some : isNone (x .kind) ≡ false → leaf-scale k (leafOf x) ≡ make-leaf (k ⊠ linOf x)
+  unfolding leaf-scale
+  scale-some e = ap (leaf-scale k) (leaf-some x e)
+
+  none-linear : isNone (x .kind) ≡ true → lin-of (leafOf x) ≡ zero-linear
+  unfolding lin-of
+  none-linear e = ap lin-of (leaf-none x e)
+
+  pub scale-stays : staysNone k x ≡ true → leaf-scale k (leafOf x) ≡ make none-leaf
+  scale-stays e = go (isEq (cmpZ k (pos 0))) refl
+    where
+      go : (b : Bool) → isEq (cmpZ k (pos 0)) ≡ b → leaf-scale k (leafOf x) ≡ make none-leaf
+      go true z = absurd (let y = stays-zero z ∙ e in let z : _≡_ {A = ℕ} 0 1 = cc in omega arith)
+      go false z = scale-none false z (stays-none e)
+
+zero-product : pos 0 ⊠ zero-linear ≡ zero-linear
+unfolding _⊠_ scaleL no-coeffs
+zero-product = refl
+
+zero-small : small-linear zero-linear ≡ true
+unfolding small-linear all small no-coeffs
+zero-small = refl
+
+-- 0 × none is the leaf 0, and its numbers need no judging
+zero-run : (cap : ℕ) (X : List Tree) → run cap (make-leaf zero-linear) X ≡ run cap (make zero-leaf) X
+unfolding make-leaf zero-leaf
+zero-run cap X = run-judge cap zero-linear _ X ∙ ap (λ (b : Bool). if b (run cap (make (leaf (plain zero-linear))) X) (stopped 11)) zero-small
+
+-- the leaf of the product's words is what the rule makes, where it does not stay
+pub scale-run : (cap : ℕ) (k : ℤ) (x : Node) {n : ℕ} → Valid x n → staysNone k x ≡ false → (X : List Tree) → run cap (make-leaf (linOf (productNode k x))) X ≡ run cap (leaf-scale k (leafOf x)) X
+scale-run cap k x v s X = product-run cap k x (v .nums .long) X ∙ go (isNone (x .kind)) refl
+  where
+    at-none : isNone (x .kind) ≡ true → isEq (cmpZ k (pos 0)) ≡ true → run cap (make-leaf (k ⊠ linOf x)) X ≡ run cap (leaf-scale k (leafOf x)) X
+    at-none e z =
+        ap₂ (λ (k : ℤ) (p : Linear). run cap (make-leaf (k ⊠ p)) X) (cmpZ-eq k (pos 0) (from-true z)) (sym (leaf-lin x v) ∙ none-linear k x e)
+        ∙ (ap (λ (p : Linear). run cap (make-leaf p) X) zero-product ∙ (zero-run cap X ∙ ap (λ (m : Comp Tree). run cap m X) (sym (scale-none k x true z e))))
+
+    go : (b : Bool) → isNone (x .kind) ≡ b → run cap (make-leaf (k ⊠ linOf x)) X ≡ run cap (leaf-scale k (leafOf x)) X
+    go true e = split (isEq (cmpZ k (pos 0))) refl
+      where
+        split : (b : Bool) → isEq (cmpZ k (pos 0)) ≡ b → run cap (make-leaf (k ⊠ linOf x)) X ≡ run cap (leaf-scale k (leafOf x)) X
+        split true z = at-none e z
+        split false z = absurd (let y = sym e ∙ (stays-other k x z ∙ s) in let z : _≡_ {A = ℕ} 0 1 = cc in omega arith)
+    go false e = sym (ap (λ (m : Comp Tree). run cap m X) (scale-some k x e))
 
 -- ---- a constant
 

@@ -1,20 +1,32 @@
 -- Leaves of the table, and what rules make of leaves, as a leaf's words.
 use mathlib.Core.Path.{_≡_}
-use mathlib.Core.Bool.{true}
+use mathlib.Core.Bool.{Bool, true, false}
 use mathlib.Core.List.{List}
 use Prim.Native.Nat.{ℕ, _<_}
+use lib.Dec.{isEq}
 use lib.IntN.{ℤ, pos, _+ℤ_, _-ℤ_}
 use lib.ListN.{set}
+use Rattle.whole.specs.Cases.{if}
 use Rattle.whole.specs.Linears.{addL, subL, clipL}
-use Rattle.table.specs.Table.{nodeAt, isLeaf}
+use Rattle.table.specs.Table.{nodeAt, isLeaf, isNone}
 use Rattle.table.specs.declared.Node.{Node}
 use Rattle.theory.specs.Widths.{levels-most}
+use Rattle.theory.specs.Diagram.{cmpZ}
 use Rattle.diagrams.specs.Nodes.{constantOf}
 
 -- a leaf of the table
 pub record AtLeaf (l : List ℤ) (n f : ℕ) : Type 0 where
   pub below : f < n
   pub ends : isLeaf (nodeAt l f .kind) ≡ true
+
+-- one that is not "none"
+pub record AtLinear (l : List ℤ) (n f : ℕ) : Type 0 where
+  pub leaf : AtLeaf l n f
+  pub linear : isNone (nodeAt l f .kind) ≡ false
+
+-- "a product not by 0, is it": k times this leaf is the leaf "none"
+unfoldable pub staysNone : ℤ → Node → Bool
+staysNone k x = if (isEq (cmpZ k (pos 0))) false (isNone (x .kind))
 
 -- a leaf of these numbers, without action
 abbrev pub leafNode : List ℤ → Node

@@ -1,11 +1,14 @@
 // The linears of two leaves added, subtracted and multiplied, each as the leaf that it would be. Nothing is judged here.
 ghost use mathlib.Core.Path.{_≡_};
+ghost use Prim.Native.Nat.{_+_, _*_, _≤_};
 ghost use lib.IntN.{pos};
+ghost use lib.ListN.{length};
 ghost use lib.Signed.{leZ};
 ghost use Rattle.whole.specs.Cases.{if};
+ghost use Rattle.table.specs.Table.{node-words, nodeAt};
 ghost use Rattle.theory.specs.Diagram.{zeros};
 ghost use Rattle.diagrams.specs.Nodes.{linOf, constantOf, Nums};
-ghost use Rattle.leaves.specs.Leaves.{sumNode, lessNode, productNode};
+ghost use Rattle.leaves.specs.Leaves.{sumNode, lessNode, productNode, staysNone};
 use linears::add;
 use linears::sub;
 use linears::times;
@@ -56,6 +59,17 @@ pub fn product(k: i64, y: Node) -> Node
         high: 0,
         low: 0,
     }
+}
+
+// Whether k times the leaf at index g is the leaf "none".
+pub fn stays_none(nodes: &[i64], k: i64, g: usize) -> bool
+    requires { ⌜ g * node-words + node-words ≤ length (now nodes) ⌝ }
+    ensures { λ r. ⌜ r ≡ staysNone k (nodeAt (now (nodes .entry)) g) ⌝ }
+{
+    if k == 0 {
+        return false;
+    }
+    table::none_at(nodes, g)
 }
 
 // A linear's constant.

@@ -5,7 +5,7 @@ use mathlib.Core.List.{List}
 use Prim.Native.Nat.{ℕ}
 use borrow.Author.Tests.{eq-eqb, ne-eqb}
 use lib.Dec.{eqb}
-use lib.IntN.{ℤ, pos}
+use lib.IntN.{ℤ, pos, natAbs}
 use lib.ListN.{length}
 use lib.Signed.{leZ}
 use Rattle.whole.specs.Cases.{if}
@@ -13,24 +13,25 @@ use Rattle.whole.specs.Linears.{numbers, quotL, divisorL}
 use Rattle.whole.specs.LinearsLaws.{quot-smalls}
 use Rattle.whole.proofs.Signed.{R, small-back}
 use Rattle.table.proofs.Leaf.{leaf-as}
-use Rattle.table.specs.Table.{nodeAt, isLeaf}
+use Rattle.table.specs.Table.{nodeAt, isLeaf, isNone}
 use Rattle.table.specs.declared.Node.{Node}
 use Rattle.table.specs.declared.Made.{Made}
 use Rattle.theory.specs.Widths.{levels-most}
-use Rattle.theory.specs.Diagram.{Test, Leaf, Tree, leaf, zeros, test-of, _⊞_, _⊟_}
-use Rattle.theory.specs.Computation.{Comp, ret, judge}
+use Rattle.theory.specs.Diagram.{Linear, Test, Leaf, some, forbidden, Tree, leaf, zeros, test-of, _⊞_, _⊟_}
+use Rattle.theory.specs.Computation.{Comp, ret, make, judge}
 use Rattle.theory.specs.Valid.{small-linear}
-use Rattle.theory.specs.Rules.{node, choose, decide, make-leaf, leaf-sum, leaf-product, leaf-best}
+use Rattle.theory.specs.Rules.{node, choose, decide, make-leaf, none-leaf, leaf-sum, leaf-scale, leaf-product, leaf-best}
 use Rattle.diagrams.specs.Nodes.{linOf, constantOf, leafOf, testOf, trees, treeAt, Nums, Plain, Proper}
 use Rattle.diagrams.specs.Table.{Bare, Grew}
 use Rattle.diagrams.specs.Roots.{linearNode, namedNode}
-use Rattle.diagrams.proofs.Trees.{at-leaf}
+use Rattle.diagrams.proofs.Trees.{leaf-none, leaf-some, leaf-lin, at-leaf}
+use Rattle.diagrams.proofs.Interning.{grew-there}
 use Rattle.diagrams.proofs.Outcomes.{grew-as, grew-like, grew-ret, grew-over, grew-judged}
-use Rattle.diagrams.proofs.Judging.{nums-of}
+use Rattle.diagrams.proofs.Judging.{nums-of, nums-at}
 use Rattle.diagrams.proofs.Meanings.{proper-linear, divided-test, named-leaf}
 use Rattle.diagrams.proofs.Stepping.{choose-leaf, step-leaf, both-ret}
-use Rattle.leaves.specs.Leaves.{AtLeaf, sumNode, lessNode, productNode}
-use Rattle.leaves.proofs.Sums.{sum-lin, less-lin, less-long, product-run, decide-constant, decide-test}
+use Rattle.leaves.specs.Leaves.{AtLeaf, AtLinear, staysNone, sumNode, lessNode, productNode}
+use Rattle.leaves.proofs.Sums.{sum-lin, less-lin, less-long, stays-none, scale-stays, scale-run, decide-constant, decide-test}
 use Rattle.merge_leaves.specs.Combined.{leafRule}
 
 -- ---- the leaves that are made have no action
@@ -45,39 +46,115 @@ plain-product k y e = subst Plain (sym e) (record { kind = refl; high = refl; lo
 
 -- ---- sum and product
 
-module _ {cap : ℕ} {l l₁ : List ℤ} {w w₁ : List ℕ} {n : ℕ} {r : Made} (f g : ℕ) {x y : Node} (s : Node) (ex : x ≡ nodeAt l f) (ey : y ≡ nodeAt l g) (px : Nums x) (py : Nums y) (Q : Grew cap l w n (make-leaf (linOf s)) l₁ w₁ r) where
-  pub sum-made : s ≡ sumNode x y → Grew cap l w n (leaf-sum (leafOf (nodeAt l f)) (leafOf (nodeAt l g))) l₁ w₁ r
-  unfolding leaf-sum leafOf
-  sum-made e = grew-as (ap make-leaf (ap linOf e ∙ (sum-lin x y px py ∙ ap₂ (λ (x y : Node). linOf x ⊞ linOf y) ex ey))) Q
+sum-none : (f : Leaf) → leaf-sum f forbidden ≡ make none-leaf
+unfolding leaf-sum
+sum-none (some p a) = refl
+sum-none forbidden = refl
 
-  pub product-made : {k : ℤ} → k ≡ constantOf x → s ≡ productNode (R k) y → Grew cap l w n (leaf-product (leafOf (nodeAt l f)) (leafOf (nodeAt l g))) l₁ w₁ r
-  unfolding leaf-product leafOf linOf
-  product-made ek e =
-      grew-like (product-run cap (constantOf (nodeAt l f)) (nodeAt l g) (ap (λ (z : Node). length (z .n)) (sym ey) ∙ py .long) (trees l n))
-      (grew-as (ap (λ (s : Node). make-leaf (linOf s)) (e ∙ (ap (λ (k : ℤ). productNode k y) (ap R ek ∙ small-back (constantOf x) (px .each levels-most)) ∙ ap₂ (λ (x y : Node). productNode (constantOf x) y) ex ey))) Q)
+none-sum : (g : Leaf) → leaf-sum forbidden g ≡ make none-leaf
+unfolding leaf-sum
+none-sum g = refl
 
--- ---- best
+sum-some : (p q : Linear) (a b : ℕ) → leaf-sum (some p a) (some q b) ≡ make-leaf (p ⊞ q)
+unfolding leaf-sum
+sum-some p q a b = refl
+
+module _ {cap : ℕ} {l : List ℤ} {w : List ℕ} {n : ℕ} (A : Bare cap l w n) (f g : ℕ) (F : AtLeaf l n f) (G : AtLeaf l n g) where
+  abbrev x₀ : Node
+  x₀ = nodeAt l f
+
+  abbrev y₀ : Node
+  y₀ = nodeAt l g
+
+  -- the leaf "none" stays where it is
+  none-there : (i : ℕ) → AtLeaf l n i → isNone (nodeAt l i .kind) ≡ true → Grew cap l w n (make none-leaf) l w (record { stop = 0; at = i; count = n })
+  none-there i E e = grew-as (ap make (at-leaf (A .good) i (E .below) (E .ends) ∙ ap leaf (leaf-none (nodeAt l i) e))) (grew-there A i (E .below))
+
+  pub sum-first : {b : Bool} → b ≡ isNone (x₀ .kind) → b ≡ true → Grew cap l w n (leaf-sum (leafOf x₀) (leafOf y₀)) l w (record { stop = 0; at = f; count = n })
+  sum-first e t = grew-as (sym (ap (λ (z : Leaf). leaf-sum z (leafOf y₀)) (leaf-none x₀ (sym e ∙ t)) ∙ none-sum (leafOf y₀))) (none-there f F (sym e ∙ t))
+
+  pub sum-second : {b : Bool} → b ≡ isNone (y₀ .kind) → b ≡ true → Grew cap l w n (leaf-sum (leafOf x₀) (leafOf y₀)) l w (record { stop = 0; at = g; count = n })
+  sum-second e t = grew-as (sym (ap (leaf-sum (leafOf x₀)) (leaf-none y₀ (sym e ∙ t)) ∙ sum-none (leafOf x₀))) (none-there g G (sym e ∙ t))
+
+  module _ {x y : Node} {l₁ : List ℤ} {w₁ : List ℕ} {r : Made} (s : Node) (ex : x ≡ x₀) (ey : y ≡ y₀) (Q : Grew cap l w n (make-leaf (linOf s)) l₁ w₁ r) where
+    pub sum-made : {b c : Bool} → b ≡ isNone (x₀ .kind) → b ≡ false → c ≡ isNone (y₀ .kind) → c ≡ false → s ≡ sumNode x y → Grew cap l w n (leaf-sum (leafOf x₀) (leafOf y₀)) l₁ w₁ r
+    sum-made eb b ec c e = grew-as (ap make-leaf lin ∙ (sym (sum-some _ _ _ _) ∙ ap₂ leaf-sum (sym (leaf-some x₀ (sym eb ∙ b))) (sym (leaf-some y₀ (sym ec ∙ c))))) Q
+      where
+        lin : linOf s ≡ linOf x₀ ⊞ linOf y₀
+        lin = ap linOf e ∙ (sum-lin x y (nums-at A f (F .below) ex) (nums-at A g (G .below) ey) ∙ ap₂ (λ (x y : Node). linOf x ⊞ linOf y) ex ey)
+
+  module _ {x : Node} (ex : x ≡ x₀) {k : ℤ} (ek : k ≡ constantOf x) where
+    k-is : R k ≡ constantOf x₀
+    k-is = ap R ek ∙ (small-back (constantOf x) (nums-at A f (F .below) ex .each levels-most) ∙ ap constantOf ex)
+
+    by-constant : leaf-scale (constantOf x₀) (leafOf y₀) ≡ leaf-product (leafOf x₀) (leafOf y₀)
+    unfolding leaf-product linOf
+    by-constant = ap (λ (p : Linear). leaf-scale (p .const) (leafOf y₀)) (sym (leaf-lin x₀ (A .good .valid f (F .below))))
+
+    module _ {b : Bool} (eb : b ≡ staysNone (R k) y₀) where
+      stays-is : staysNone (constantOf x₀) y₀ ≡ b
+      stays-is = sym (eb ∙ ap (λ (z : ℤ). staysNone z y₀) k-is)
+
+      pub product-stays : b ≡ true → Grew cap l w n (leaf-product (leafOf x₀) (leafOf y₀)) l w (record { stop = 0; at = g; count = n })
+      product-stays t = grew-as (sym (scale-stays (constantOf x₀) y₀ (stays-is ∙ t)) ∙ by-constant) (none-there g G (stays-none (constantOf x₀) y₀ (stays-is ∙ t)))
+
+      pub product-made : b ≡ false → {y : Node} {l₁ : List ℤ} {w₁ : List ℕ} {r : Made} (s : Node) → y ≡ y₀ → Grew cap l w n (make-leaf (linOf s)) l₁ w₁ r → s ≡ productNode (R k) y → Grew cap l w n (leaf-product (leafOf x₀) (leafOf y₀)) l₁ w₁ r
+      product-made t s ey Q e =
+          grew-as by-constant
+          (grew-like (scale-run cap (constantOf x₀) y₀ (A .good .valid g (G .below)) (stays-is ∙ t) (trees l n))
+          (grew-as (ap (λ (s : Node). make-leaf (linOf s)) (e ∙ ap₂ productNode k-is ey)) Q))
+
+  -- ---- best with "none"
+
+  none-best : (z : Leaf) → leaf-best forbidden z ≡ ret (leaf z)
+  unfolding leaf-best
+  none-best z = refl
+
+  pub best-second : {b : Bool} → b ≡ isNone (x₀ .kind) → b ≡ true → Grew cap l w n (leaf-best (leafOf x₀) (leafOf y₀)) l w (record { stop = 0; at = g; count = n })
+  best-second e t = grew-as (ap ret (at-leaf (A .good) g (G .below) (G .ends)) ∙ sym (ap (λ (z : Leaf). leaf-best z (leafOf y₀)) (leaf-none x₀ (sym e ∙ t)) ∙ none-best (leafOf y₀))) (grew-ret A g (G .below))
+
+  some-best : (z : Leaf) → leaf-best z forbidden ≡ ret (leaf z)
+  unfolding leaf-best
+  some-best (some p a) = refl
+  some-best forbidden = refl
+
+  pub best-first : {b : Bool} → b ≡ isNone (y₀ .kind) → b ≡ true → Grew cap l w n (leaf-best (leafOf x₀) (leafOf y₀)) l w (record { stop = 0; at = f; count = n })
+  best-first e t = grew-as (ap ret (at-leaf (A .good) f (F .below) (F .ends)) ∙ sym (ap (leaf-best (leafOf x₀)) (leaf-none y₀ (sym e ∙ t)) ∙ some-best (leafOf x₀))) (grew-ret A f (F .below))
+
+-- ---- best of two linears
 
 -- a choice between two leaves is one node
 choose-leaves : (t : Test) (f g : Leaf) → choose t (leaf f) (leaf g) ≡ node t (leaf f) (leaf g)
 choose-leaves t f g = choose-leaf t f (leaf g) ∙ (step-leaf node t _ _ g ∙ both-ret (node t) (leaf f) (leaf g))
 
-module _ {cap : ℕ} {l : List ℤ} {w : List ℕ} {n : ℕ} (A : Bare cap l w n) (f g : ℕ) (F : AtLeaf l n f) (G : AtLeaf l n g) {x y d : Node} (ex : x ≡ nodeAt l f) (ey : y ≡ nodeAt l g) (ed : d ≡ lessNode y x) where
+module _ {cap : ℕ} {l : List ℤ} {w : List ℕ} {n : ℕ} (A : Bare cap l w n) (f g : ℕ) (F₀ : AtLinear l n f) (G₀ : AtLinear l n g) {x y d : Node} (ex : x ≡ nodeAt l f) (ey : y ≡ nodeAt l g) (ed : d ≡ lessNode y x) where
   abbrev Best : List ℤ → List ℕ → Made → Type 0
   Best = Grew cap l w n (leaf-best (leafOf (nodeAt l f)) (leafOf (nodeAt l g)))
 
-  tree-f : treeAt l n f ≡ leaf (leafOf (nodeAt l f))
-  tree-f = at-leaf (A .good) f (F .below) (F .ends)
+  F : AtLeaf l n f
+  F = F₀ .leaf
 
-  tree-g : treeAt l n g ≡ leaf (leafOf (nodeAt l g))
-  tree-g = at-leaf (A .good) g (G .below) (G .ends)
+  G : AtLeaf l n g
+  G = G₀ .leaf
+
+  abbrev linear-leaf : ℕ → Leaf
+  linear-leaf i = some (linOf (nodeAt l i)) (natAbs (nodeAt l i .high))
+
+  tree-f : treeAt l n f ≡ leaf (linear-leaf f)
+  tree-f = at-leaf (A .good) f (F .below) (F .ends) ∙ ap leaf (leaf-some (nodeAt l f) (F₀ .linear))
+
+  tree-g : treeAt l n g ≡ leaf (linear-leaf g)
+  tree-g = at-leaf (A .good) g (G .below) (G .ends) ∙ ap leaf (leaf-some (nodeAt l g) (G₀ .linear))
 
   abbrev decided : Comp Tree
   decided = decide (linOf d) (treeAt l n f) (treeAt l n g)
 
+  linears-best : judge (linOf (nodeAt l g) ⊟ linOf (nodeAt l f)) (decide (linOf (nodeAt l g) ⊟ linOf (nodeAt l f)) (leaf (linear-leaf f)) (leaf (linear-leaf g))) ≡ leaf-best (linear-leaf f) (linear-leaf g)
+  unfolding leaf-best
+  linears-best = refl
+
   rule-is : judge (linOf d) decided ≡ leaf-best (leafOf (nodeAt l f)) (leafOf (nodeAt l g))
-  unfolding leaf-best leafOf
-  rule-is = λ i. judge (lin-d i) (decide (lin-d i) (tree-f i) (tree-g i))
+  rule-is = (λ i. judge (lin-d i) (decide (lin-d i) (tree-f i) (tree-g i))) ∙ (linears-best ∙ ap₂ leaf-best (sym (leaf-some (nodeAt l f) (F₀ .linear))) (sym (leaf-some (nodeAt l g) (G₀ .linear))))
     where
       lin-d : linOf d ≡ linOf (nodeAt l g) ⊟ linOf (nodeAt l f)
       lin-d = ap linOf (ed ∙ ap₂ lessNode ey ex) ∙ less-lin (nodeAt l g) (nodeAt l f) (A .good .valid g (G .below) .nums) (A .good .valid f (F .below) .nums)

@@ -3,7 +3,7 @@ ghost use Rattle.table.specs.Table.{nodeAt};
 ghost use Rattle.theory.specs.Rules.{leaf-sum, leaf-product, leaf-best};
 ghost use Rattle.diagrams.specs.Nodes.{leafOf};
 ghost use Rattle.diagrams.specs.Table.{Bare, Grew};
-ghost use Rattle.leaves.specs.Leaves.{AtLeaf};
+ghost use Rattle.leaves.specs.Leaves.{AtLeaf, AtLinear};
 ghost use Rattle.merge_leaves.specs.Combined.{leafRule};
 use diagrams::codes::PRODUCT;
 use diagrams::codes::SUM;
@@ -17,9 +17,11 @@ use leaves::numbers::is_constant;
 use leaves::numbers::less;
 use leaves::numbers::plus;
 use leaves::numbers::product;
+use leaves::numbers::stays_none;
 use table::Made;
+use table::none_at;
 
-// The sum.
+// The sum; with the leaf "none" it is that leaf.
 fn sum_leaves(
     nodes: &mut [i64],
     work: &mut [u32],
@@ -31,11 +33,25 @@ fn sum_leaves(
     requires { ⌜ Bare cap (now nodes) (now work) count × AtLeaf (now nodes) count f × AtLeaf (now nodes) count g ⌝ }
     ensures { λ r. ⌜ Grew cap (now (nodes .entry)) (now (work .entry)) count (leaf-sum (leafOf (nodeAt (now (nodes .entry)) f)) (leafOf (nodeAt (now (nodes .entry)) g))) (now (nodes .exit)) (now (work .exit)) r ⌝ }
 {
+    if none_at(nodes, f) {
+        return Made {
+            stop: 0,
+            at: f,
+            count,
+        };
+    }
+    if none_at(nodes, g) {
+        return Made {
+            stop: 0,
+            at: g,
+            count,
+        };
+    }
     let s = plus(table::get(nodes, f), table::get(nodes, g));
     make_leaf(nodes, work, cap, count, s)
 }
 
-// The first leaf's constant times the second leaf.
+// The first leaf's constant times the second leaf, which stays where it is "none" and the constant is not 0.
 fn product_leaves(
     nodes: &mut [i64],
     work: &mut [u32],
@@ -48,12 +64,19 @@ fn product_leaves(
     ensures { λ r. ⌜ Grew cap (now (nodes .entry)) (now (work .entry)) count (leaf-product (leafOf (nodeAt (now (nodes .entry)) f)) (leafOf (nodeAt (now (nodes .entry)) g))) (now (nodes .exit)) (now (work .exit)) r ⌝ }
 {
     let k = constant(table::get(nodes, f));
+    if stays_none(nodes, k, g) {
+        return Made {
+            stop: 0,
+            at: g,
+            count,
+        };
+    }
     let s = product(k, table::get(nodes, g));
     make_leaf(nodes, work, cap, count, s)
 }
 
-// The better leaf, the first where they are equal; a test of the difference where neither always is.
-fn best_leaves(
+// The better leaf of two linears, the first where they are equal; a test of the difference where neither always is.
+fn best_linears(
     nodes: &mut [i64],
     work: &mut [u32],
     cap: usize,
@@ -61,7 +84,7 @@ fn best_leaves(
     f: usize,
     g: usize,
 ) -> Made
-    requires { ⌜ Bare cap (now nodes) (now work) count × AtLeaf (now nodes) count f × AtLeaf (now nodes) count g ⌝ }
+    requires { ⌜ Bare cap (now nodes) (now work) count × AtLinear (now nodes) count f × AtLinear (now nodes) count g ⌝ }
     ensures { λ r. ⌜ Grew cap (now (nodes .entry)) (now (work .entry)) count (leaf-best (leafOf (nodeAt (now (nodes .entry)) f)) (leafOf (nodeAt (now (nodes .entry)) g))) (now (nodes .exit)) (now (work .exit)) r ⌝ }
 {
     let d = less(table::get(nodes, g), table::get(nodes, f));
@@ -81,6 +104,37 @@ fn best_leaves(
         at: 0,
         count,
     }
+}
+
+// The better leaf: "none" loses to any other, and no difference is worked out.
+fn best_leaves(
+    nodes: &mut [i64],
+    work: &mut [u32],
+    cap: usize,
+    count: usize,
+    f: usize,
+    g: usize,
+) -> Made
+    requires { ⌜ Bare cap (now nodes) (now work) count × AtLeaf (now nodes) count f × AtLeaf (now nodes) count g ⌝ }
+    ensures { λ r. ⌜ Grew cap (now (nodes .entry)) (now (work .entry)) count (leaf-best (leafOf (nodeAt (now (nodes .entry)) f)) (leafOf (nodeAt (now (nodes .entry)) g))) (now (nodes .exit)) (now (work .exit)) r ⌝ }
+{
+    let first_loses = none_at(nodes, f);
+    if first_loses {
+        return Made {
+            stop: 0,
+            at: g,
+            count,
+        };
+    }
+    let second_loses = none_at(nodes, g);
+    if second_loses {
+        return Made {
+            stop: 0,
+            at: f,
+            count,
+        };
+    }
+    best_linears(nodes, work, cap, count, f, g)
 }
 
 // By the rule's number.

@@ -10,9 +10,9 @@ use Rattle.whole.specs.Within.{small}
 use Rattle.table.specs.declared.Node.{Node}
 use Rattle.table.specs.declared.Made.{Made}
 use Rattle.theory.specs.Widths.{conditions-most, actions-most, weights-most}
-use Rattle.theory.specs.Diagram.{Tree, leaf, plain}
+use Rattle.theory.specs.Diagram.{Tree, leaf, plain, no-coeffs}
 use Rattle.theory.specs.Computation.{Comp, run, stopped, make}
-use Rattle.theory.specs.Rules.{best, no-coeffs, zero-leaf, make-leaf, expectation, add-reward}
+use Rattle.theory.specs.Rules.{best, zero-leaf, make-leaf, expectation, add-reward}
 use Rattle.theory.specs.Valid.{small-linear, all}
 use Rattle.theory.specs.laws.Comps.{run-judge}
 use Rattle.diagrams.specs.Nodes.{trees, treeAt, linOf, Plain}

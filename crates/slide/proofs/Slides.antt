@@ -12,6 +12,7 @@ use lib.ListN.{length, getD, set, length-set}
 use lib.Seq.{getD-set-same, getD-set-other}
 use Rattle.table.proofs.Look.{split}
 use Rattle.table.proofs.Store.{put-length, put-other, put-above, put-same}
+use Rattle.table.proofs.Leaf.{branch-not}
 use Rattle.table.specs.Table.{node-words, nodeAt, putAt, isLeaf}
 use Rattle.table.specs.declared.Node.{Node}
 use Rattle.theory.specs.Diagram.{Tree, branch}
@@ -185,6 +186,7 @@ module _ {cap : ℕ} {l : List ℤ} {w : List ℕ} {n : ℕ} (Z : Space cap l w 
             nums = v .nums;
             high-nat = v .high-nat;
             low-nat = v .low-nat;
+            none = v .none;
             leaf-low = v .leaf-low;
             tested = v .tested;
             high-below = λ f. never d f;
@@ -198,6 +200,7 @@ module _ {cap : ℕ} {l : List ℤ} {w : List ℕ} {n : ℕ} (Z : Space cap l w 
                 nums = nums-z (v .nums);
                 high-nat = tt;
                 low-nat = tt;
+                none = λ f. branch-not (x .kind) d f;
                 leaf-low = λ f. never f d;
                 tested = λ f. tested-z (v .tested d);
                 high-below = λ f. omega arith;

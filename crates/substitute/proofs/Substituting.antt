@@ -14,21 +14,22 @@ use lib.ListN.{length, getD, take}
 use mir.Syntax.{w64}
 use mir.Val.{ofZ}
 use Rattle.whole.specs.Cases.{if}
-use Rattle.table.specs.Table.{nodeAt, eqZ, isLeaf}
+use Rattle.table.specs.Table.{nodeAt, eqZ, isLeaf, isNone}
 use Rattle.table.specs.declared.Node.{Node}
 use Rattle.table.specs.declared.Made.{Made}
 use Rattle.theory.specs.Widths.{levels-most, conditions-most}
-use Rattle.theory.specs.Diagram.{Linear, Test, now, later, linear, Tree, branch}
-use Rattle.theory.specs.Computation.{Comp, ret, bind, both}
+use Rattle.theory.specs.Diagram.{Linear, Test, now, later, linear, forbidden, lin-of, Tree, leaf, branch}
+use Rattle.theory.specs.Computation.{Comp, ret, make, bind, both}
 use Rattle.theory.specs.Rules.{over, choose, decide, linear-diagram, substitute}
 use Rattle.diagrams.specs.declared.Down.{Down}
-use Rattle.diagrams.specs.Nodes.{firstOf, linOf, leafOf, conditionOf, testOf, treeAt, Tested, Grown}
+use Rattle.diagrams.specs.Nodes.{firstOf, linOf, conditionOf, testOf, treeAt, Tested, Grown}
 use Rattle.diagrams.specs.Table.{Rule, Lasting, Table, Ran}
 use Rattle.computed_cache.specs.Cache.{Room, Key}
 use Rattle.diagrams.specs.Meaning.{testBy, Names, halves, indexes, ruleOf}
 use Rattle.diagrams.specs.Roots.{downOf}
-use Rattle.diagrams.proofs.Trees.{trees-kept, grown-on, at-leaf, at-branch}
-use Rattle.diagrams.proofs.Outcomes.{grown, stop, seq, ran-as, both-high-stops, both-low-stops, both-made}
+use Rattle.diagrams.proofs.Trees.{trees-kept, grown-on, leaf-none, leaf-some, at-leaf, at-branch}
+use Rattle.diagrams.proofs.Interning.{grew-there}
+use Rattle.diagrams.proofs.Outcomes.{lifted, grown, stop, seq, ran-as, both-high-stops, both-low-stops, both-made}
 use Rattle.diagrams.proofs.Caching.{room-in, answered, kept-run}
 use Rattle.diagrams.proofs.Meanings.{rule-substitute, rule-walk, lasts-substitute}
 use Rattle.diagrams.proofs.Going.{index-small}
@@ -189,7 +190,7 @@ module _ (Ds : List Tree) (p : Linear) (F H L : Tree) where
   Parts k = bind (headOf k Ds p F) (λ P. both (overTest k P) (substitute Ds H) (substitute Ds L))
 
   abbrev parts : ℕ → Bool → Comp Tree
-  parts k b = bind (if b (linear-diagram Ds p) (ret F)) (λ P. both (λ X Y. if b (over choose (λ x. decide (x .lin) X Y) P) (choose (later k) X Y)) (substitute Ds H) (substitute Ds L))
+  parts k b = bind (if b (linear-diagram Ds p) (ret F)) (λ P. both (λ X Y. if b (over choose (λ x. decide (lin-of x) X Y) P) (choose (later k) X Y)) (substitute Ds H) (substitute Ds L))
 
   parts-later : (k : ℕ) → (k ≡ 0 → ⊥) → substitute Ds (branch (later k) H L) ≡ Parts k
   unfolding substitute headOf overTest bind
@@ -282,6 +283,18 @@ module _ {cap : ℕ} {l : List ℤ} {w : List ℕ} {n : ℕ} (A : Table ruleOf c
   abbrev x : Node
   x = nodeAt l f
 
+  -- a leaf: "none" stays, the linear of another is built over the levels
+  module _ (e : isLeaf (x .kind) ≡ true) {b : Bool} (eb : b ≡ isNone (x .kind)) where
+    pub sub-none : b ≡ true → Ran ruleOf cap l w n (Sub l n f L) l w (record { stop = 0; at = f; count = n })
+    unfolding substitute
+    sub-none t =
+        let q : treeAt l n f ≡ leaf forbidden = at-leaf (A .bare .good) f hf e ∙ ap leaf (leaf-none x (sym eb ∙ t)) in
+        ran-as (ap make q ∙ ap (substitute (levelsAt l n L)) (sym q)) (lifted A (grew-there (A .bare) f hf))
+
+    pub sub-leaf : b ≡ false → {l₁ : List ℤ} {w₁ : List ℕ} {r : Made} → Ran ruleOf cap l w n (linear-diagram (levelsAt l n L) (linOf x)) l₁ w₁ r → Ran ruleOf cap l w n (Sub l n f L) l₁ w₁ r
+    unfolding substitute
+    sub-leaf t Q = ran-as (ap (substitute (levelsAt l n L)) (sym (at-leaf (A .bare .good) f hf e ∙ ap leaf (leaf-some x (sym eb ∙ t))))) Q
+
   module _ {s : Down} (es : s ≡ downOf x) where
     kind-of : isLeaf (x .kind) ≡ s .ends
     unfolding downOf
@@ -295,10 +308,8 @@ module _ {cap : ℕ} {l : List ℤ} {w : List ℕ} {n : ℕ} (A : Table ruleOf c
     unfolding downOf
     low-of = ap (λ (s : Down). s .low) es
 
-    -- a leaf
-    pub sub-leaf : s .ends ≡ true → {l₁ : List ℤ} {w₁ : List ℕ} {r : Made} → Ran ruleOf cap l w n (linear-diagram (levelsAt l n L) (linOf x)) l₁ w₁ r → Ran ruleOf cap l w n (Sub l n f L) l₁ w₁ r
-    unfolding substitute leafOf
-    sub-leaf e Q = ran-as (ap (substitute (levelsAt l n L)) (sym (at-leaf (A .bare .good) f hf (kind-of ∙ e)))) Q
+    pub sub-ends : s .ends ≡ true → isLeaf (x .kind) ≡ true
+    sub-ends e = kind-of ∙ e
 
     -- a branch
     module _ (e : s .ends ≡ false) where
@@ -368,11 +379,11 @@ module _ (k : ℕ) (Ds : List Tree) (p : Linear) (F : Tree) where
 module _ (k : ℕ) (l : List ℤ) (n p h t : ℕ) where
   pub over-walk : k ≡ 0 → ruleOf l n 9 p h t 0 ≡ overTest k (treeAt l n p) (treeAt l n h) (treeAt l n t)
   unfolding overTest
-  over-walk e = rule-walk l n p h t 0 ∙ ap (λ (b : Bool). if b (over choose (λ x. decide (x .lin) (treeAt l n h) (treeAt l n t)) (treeAt l n p)) (choose (later k) (treeAt l n h) (treeAt l n t))) (sym (eq-eqb k 0 e))
+  over-walk e = rule-walk l n p h t 0 ∙ ap (λ (b : Bool). if b (over choose (λ x. decide (lin-of x) (treeAt l n h) (treeAt l n t)) (treeAt l n p)) (choose (later k) (treeAt l n h) (treeAt l n t))) (sym (eq-eqb k 0 e))
 
   pub over-choice : (k ≡ 0 → ⊥) → choose (testBy l n 10 k) (treeAt l n h) (treeAt l n t) ≡ overTest k (treeAt l n p) (treeAt l n h) (treeAt l n t)
   unfolding overTest testBy
-  over-choice e = ap (λ (b : Bool). if b (over choose (λ x. decide (x .lin) (treeAt l n h) (treeAt l n t)) (treeAt l n p)) (choose (later k) (treeAt l n h) (treeAt l n t))) (sym (ne-eqb k 0 e))
+  over-choice e = ap (λ (b : Bool). if b (over choose (λ x. decide (lin-of x) (treeAt l n h) (treeAt l n t)) (treeAt l n p)) (choose (later k) (treeAt l n h) (treeAt l n t))) (sym (ne-eqb k 0 e))
 
 pub names-later : {n k : ℕ} → k ≤ conditions-most → (k ≡ 0 → ⊥) → Names n 10 k
 names-later h e = inl (refl, omega arith, h)

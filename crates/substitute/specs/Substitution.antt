@@ -11,7 +11,7 @@ use Rattle.whole.specs.Cases.{if}
 use Rattle.table.specs.Table.{eqZ}
 use Rattle.table.specs.declared.Node.{Node}
 use Rattle.theory.specs.Widths.{conditions-most}
-use Rattle.theory.specs.Diagram.{Linear, Tree, later}
+use Rattle.theory.specs.Diagram.{Linear, lin-of, Tree, later}
 use Rattle.theory.specs.Computation.{Comp, ret}
 use Rattle.theory.specs.Rules.{over, choose, decide, linear-diagram}
 
@@ -52,4 +52,4 @@ headOf k Ds p F = if (eqb k 0) (linear-diagram Ds p) (ret F)
 
 -- what is made of the branches
 unfoldable pub overTest : ℕ → Tree → Tree → Tree → Comp Tree
-overTest k P H L = if (eqb k 0) (over choose (λ x. decide (x .lin) H L) P) (choose (later k) H L)
+overTest k P H L = if (eqb k 0) (over choose (λ x. decide (lin-of x) H L) P) (choose (later k) H L)

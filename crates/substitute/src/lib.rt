@@ -6,7 +6,7 @@ ghost use lib.Dec.{T};
 ghost use lib.IntN.{pos};
 ghost use lib.ListN.{getD};
 ghost use lib.Signed.{nonNeg};
-ghost use Rattle.table.specs.Table.{nodeAt, eqZ};
+ghost use Rattle.table.specs.Table.{nodeAt, eqZ, isLeaf};
 ghost use Rattle.theory.specs.Widths.{levels-most, conditions-most};
 ghost use Rattle.theory.specs.Rules as R;
 ghost use Rattle.diagrams.specs.Nodes.{firstOf, linOf, treeAt, At};
@@ -169,6 +169,28 @@ fn over_test(
     choose(nodes, work, cap, count, CHOOSE_LATER, k, h, l)
 }
 
+// At the leaf f: the linear diagram of its linear; the leaf "none" stays as it is.
+fn at_leaf(
+    nodes: &mut [i64],
+    work: &mut [u32],
+    cap: usize,
+    count: usize,
+    f: usize,
+    levels: &[u32],
+) -> Made
+    requires { ⌜ Table ruleOf cap (now nodes) (now work) count × (f < count) × Levels count (now levels) × (isLeaf (nodeAt (now nodes) f .kind) ≡ true) ⌝ }
+    ensures { λ r. ⌜ Ran ruleOf cap (now (nodes .entry)) (now (work .entry)) count (R.substitute (levelsAt (now (nodes .entry)) count (now (levels .entry))) (treeAt (now (nodes .entry)) count f)) (now (nodes .exit)) (now (work .exit)) r ⌝ }
+{
+    if table::none_at(nodes, f) {
+        return Made {
+            stop: 0,
+            at: f,
+            count,
+        };
+    }
+    linear_diagram(nodes, work, cap, count, f, levels)
+}
+
 // Rule 12: the diagram at f with those of the levels in the place of levels. Only indexes live over the calls.
 pub fn substitute(
     nodes: &mut [i64],
@@ -183,7 +205,7 @@ pub fn substitute(
 {
     let s = down_at(nodes, f);
     if s.ends {
-        return linear_diagram(nodes, work, cap, count, f, levels);
+        return at_leaf(nodes, work, cap, count, f, levels);
     }
     let c = recall(work, cap, f, levels);
     if c != 0 {

@@ -1,6 +1,6 @@
 -- A table of nodes in a list of words.
 use mathlib.Core.Path.{_≡_}
-use mathlib.Core.Bool.{Bool, true, false, cond, _&&_}
+use mathlib.Core.Bool.{Bool, true, false, cond, _&&_, _||_}
 use mathlib.Core.List.{List, [], _∷_, _++_}
 use Prim.Native.Nat.{ℕ, zero, suc, _+_, _*_}
 use lib.Dec.{ltb}
@@ -30,9 +30,13 @@ nodeAt l i = record {
   low = getD l (i * node-words + low-word) (pos 0);
 }
 
--- "kind (0 leaf ..)": a node of this kind ends a diagram
+-- "A leaf "none" has kind 3"
+unfoldable pub isNone : ℤ → Bool
+isNone k = eqZ k (pos 3)
+
+-- "kind (0 leaf ..)", or the leaf "none": a node of this kind ends a diagram
 unfoldable pub isLeaf : ℤ → Bool
-isLeaf k = eqZ k (pos 0)
+isLeaf k = eqZ k (pos 0) || isNone k
 
 -- the words with s stored from index `at` on
 unfoldable pub storeL : List ℤ → ℕ → List ℤ → List ℤ

@@ -4,7 +4,7 @@ ghost use mathlib.Core.Bool.{Bool};
 ghost use Prim.Native.Nat.{ℕ, _+_, _*_, _≤_};
 ghost use lib.IntN.{ℤ};
 ghost use lib.ListN.{length};
-ghost use Rattle.table.specs.Table.{node-words, nodeAt, putAt, SameNode, isLeaf};
+ghost use Rattle.table.specs.Table.{node-words, nodeAt, putAt, SameNode, isLeaf, isNone};
 use whole::COEFFICIENTS;
 use whole::NUMBERS;
 
@@ -15,8 +15,12 @@ pub const HIGH: usize = NUMBERS + 1;
 
 pub const LOW: usize = NUMBERS + 2;
 
+// The kind of the leaf "none".
+pub const NONE: i64 = 3;
+
 // Kind 0 is a leaf: its linear, the constant as the last number, its action as high, 0 as low. Kind 1 is a condition,
-// its number as the first and zeros after; kind 2 is a test, its linear; both with the indexes of their branches.
+// its number as the first and zeros after; kind 2 is a test, its linear; both with the indexes of their branches. Kind 3
+// is the leaf "none", zeros after.
 pub struct Node {
     pub kind: i64,
     pub n: [i64; NUMBERS],
@@ -36,7 +40,19 @@ pub struct Made {
 pub fn is_leaf(kind: i64) -> bool
     ensures { λ r. ⌜ r ≡ isLeaf kind ⌝ }
 {
-    if kind == 0 { true } else { false }
+    if kind == 0 {
+        return true;
+    }
+    kind == NONE
+}
+
+// Whether the node at index i is the leaf "none".
+pub fn none_at(nodes: &[i64], i: usize) -> bool
+    requires { ⌜ i * node-words + node-words ≤ length (now nodes) ⌝ }
+    ensures { λ r. ⌜ r ≡ isNone (nodeAt (now (nodes .entry)) i .kind) ⌝ }
+{
+    let kind = nodes[i * NODE_WORDS];
+    kind == NONE
 }
 
 // The node at index i.

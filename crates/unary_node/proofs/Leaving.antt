@@ -1,31 +1,33 @@
 -- What the rules make of a leaf, in words and as trees.
 use mathlib.Core.Path.{_≡_, refl, sym, ap, _∙_, subst}
-use mathlib.Core.Bool.{true, false}
+use mathlib.Core.Bool.{Bool, true, false}
 use mathlib.Core.List.{List}
 use Prim.Native.Nat.{ℕ, _^_, _≤_, _<_}
 use native.Mathlib.Omega.{arith}
-use lib.IntN.{ℤ, pos, _+ℤ_, _-ℤ_}
+use borrow.Author.Tests.{lt-ltb, le-ltb, ltb-false, eq-eqb, ne-eqb}
+use lib.Dec.{eqb, ltb}
+use lib.IntN.{ℤ, pos, natAbs, _+ℤ_, _-ℤ_}
 use lib.Signed.{mag}
 use Rattle.whole.proofs.Signed.{R, back}
-use Rattle.table.proofs.Leaf.{leaf-as, leaf-not}
-use Rattle.table.specs.Table.{nodeAt, isLeaf}
+use Rattle.table.proofs.Leaf.{leaf-as, leaf-not, some-as, some-not}
+use Rattle.table.specs.Table.{nodeAt, isLeaf, isNone}
 use Rattle.table.specs.declared.Node.{Node}
 use Rattle.table.specs.declared.Made.{Made}
-use Rattle.theory.specs.Diagram.{Linear, Tree, leaf, plus-constant}
+use Rattle.theory.specs.Diagram.{Linear, Leaf, some, Tree, leaf, plus-constant}
 use Rattle.theory.specs.Computation.{Comp, ret, make, run}
-use Rattle.theory.specs.Rules.{make-leaf, over, scale, shift, complement, number, leaf-scale, leaf-shift, leaf-complement, leaf-number}
+use Rattle.theory.specs.Rules.{make-leaf, none-leaf, over, scale, shift, complement, number, leaf-shift, leaf-complement, leaf-number}
 use Rattle.diagrams.specs.Nodes.{linOf, constantOf, leafOf, treeOf, trees, treeAt, Nums, Valid, Plain}
 use Rattle.diagrams.specs.Table.{Bare, Grew}
 use Rattle.diagrams.specs.Meaning.{cOf}
-use Rattle.diagrams.proofs.Trees.{tree-leaf, at-leaf}
+use Rattle.diagrams.proofs.Trees.{leaf-none, leaf-some, leaf-lin, tree-leaf, at-leaf}
+use Rattle.diagrams.proofs.Interning.{grew-there}
 use Rattle.diagrams.proofs.Outcomes.{grew-as, grew-like, grew-ret}
 use Rattle.diagrams.proofs.Judging.{nums-at}
-use Rattle.leaves.specs.Leaves.{AtLeaf, productNode, shiftNode, complementNode, numberNode}
-use Rattle.leaves.proofs.Sums.{product-run}
+use Rattle.leaves.specs.Leaves.{AtLeaf, staysNone, productNode, shiftNode, complementNode, numberNode}
+use Rattle.leaves.proofs.Sums.{stays-none, scale-stays, scale-run}
 use Rattle.leaves.proofs.Figures.{with-lin}
-use Rattle.whole.specs.Linears.{numbers}
-use lib.ListN.{length}
-use Rattle.unary_node.specs.Acts.{actOf, Acts, actedNode}
+use Rattle.whole.specs.Cases.{if}
+use Rattle.unary_node.specs.Acts.{actOf, Acts, actedNode, staysBy}
 use Rattle.unary_node.proofs.Acting.{by-op, side-leaf}
 
 no : {A : Type 0} → true ≡ false → A
@@ -82,25 +84,30 @@ module _ (p q : ℕ) (x : Node) where
       (λ _. subst Plain (sym (acted-complement p q x refl)) plain-5)
       (λ h. absurd (omega arith)) (λ h. absurd (omega arith)) (λ h. absurd (omega arith))
 
-  module _ (long : length (x .n) ≡ numbers) (N : ℕ) (X : List Tree) where
-    run-3 : run N (make-leaf (linOf (productNode (cOf p q) x))) X ≡ run N (actOf 3 p q (leaf (leafOf x))) X
-    unfolding leafOf actOf scale over leaf-scale
-    run-3 = product-run N (cOf p q) x long X
+  module _ {m : ℕ} (v : Valid x m) (N : ℕ) (X : List Tree) where
+    run-3 : staysNone (cOf p q) x ≡ false → run N (make-leaf (linOf (productNode (cOf p q) x))) X ≡ run N (actOf 3 p q (leaf (leafOf x))) X
+    unfolding actOf scale over
+    run-3 s = scale-run N (cOf p q) x v s X
 
     run-4 : run N (make-leaf (linOf (shiftNode (cOf p q) x))) X ≡ run N (actOf 4 p q (leaf (leafOf x))) X
-    unfolding shiftNode linOf leafOf actOf shift over leaf-shift plus-constant
-    run-4 = ap (λ (p : Linear). run N (make-leaf p) X) (with-lin x (constantOf x +ℤ cOf p q) long)
+    unfolding shiftNode linOf actOf shift over leaf-shift plus-constant
+    run-4 =
+        ap (λ (p : Linear). run N (make-leaf p) X) (with-lin x (constantOf x +ℤ cOf p q) (v .nums .long))
+        ∙ ap (λ (z : Linear). run N (make-leaf (plus-constant (cOf p q) z)) X) (sym (leaf-lin x v))
 
     run-5 : run N (make-leaf (linOf (complementNode p x))) X ≡ run N (actOf 5 p q (leaf (leafOf x))) X
-    unfolding complementNode linOf leafOf actOf complement over leaf-complement
-    run-5 = ap (λ (p : Linear). run N (make-leaf p) X) (with-lin x (pos p -ℤ constantOf x) long)
+    unfolding complementNode linOf actOf complement over leaf-complement
+    run-5 =
+        ap (λ (p : Linear). run N (make-leaf p) X) (with-lin x (pos p -ℤ constantOf x) (v .nums .long))
+        ∙ ap (λ (z : Linear). run N (make-leaf (record { coeffs = z .coeffs; const = pos p -ℤ (z .const) })) X) (sym (leaf-lin x v))
 
-    acted-run : {op : ℕ} → 3 ≤ op → op ≤ 8 → op ≤ 5 → run N (make-leaf (linOf (actedNode op p q x))) X ≡ run N (actOf op p q (leaf (leafOf x))) X
-    acted-run = by-op (λ (op : ℕ). op ≤ 5 → run N (make-leaf (linOf (actedNode op p q x))) X ≡ run N (actOf op p q (leaf (leafOf x))) X)
-        (λ _. ap (λ (y : Node). run N (make-leaf (linOf y)) X) (acted-scale p q x refl) ∙ run-3)
-        (λ _. ap (λ (y : Node). run N (make-leaf (linOf y)) X) (acted-shift p q x refl) ∙ run-4)
-        (λ _. ap (λ (y : Node). run N (make-leaf (linOf y)) X) (acted-complement p q x refl) ∙ run-5)
-        (λ h. absurd (omega arith)) (λ h. absurd (omega arith)) (λ h. absurd (omega arith))
+    acted-run : {op : ℕ} → 3 ≤ op → op ≤ 8 → op ≤ 5 → staysBy op p q x ≡ false → run N (make-leaf (linOf (actedNode op p q x))) X ≡ run N (actOf op p q (leaf (leafOf x))) X
+    unfolding staysBy
+    acted-run = by-op (λ (op : ℕ). op ≤ 5 → staysBy op p q x ≡ false → run N (make-leaf (linOf (actedNode op p q x))) X ≡ run N (actOf op p q (leaf (leafOf x))) X)
+        (λ _ s. ap (λ (y : Node). run N (make-leaf (linOf y)) X) (acted-scale p q x refl) ∙ run-3 s)
+        (λ _ s. ap (λ (y : Node). run N (make-leaf (linOf y)) X) (acted-shift p q x refl) ∙ run-4)
+        (λ _ s. ap (λ (y : Node). run N (make-leaf (linOf y)) X) (acted-complement p q x refl) ∙ run-5)
+        (λ h s. absurd (omega arith)) (λ h s. absurd (omega arith)) (λ h s. absurd (omega arith))
 
   number-valid : (n : ℕ) → Nums x → Valid (numberNode p x) n
   unfolding numberNode
@@ -108,6 +115,7 @@ module _ (p q : ℕ) (x : Node) where
     nums = s;
     high-nat = tt;
     low-nat = tt;
+    none = λ e. some-not refl e;
     leaf-low = λ _. refl;
     tested = λ e. leaf-not refl e;
     high-below = λ e. leaf-not refl e;
@@ -118,9 +126,62 @@ module _ (p q : ℕ) (x : Node) where
   unfolding numberNode
   number-kind = leaf-as refl
 
-  number-leaf : make (leaf (leafOf (numberNode p x))) ≡ actOf 6 p q (leaf (leafOf x))
-  unfolding numberNode linOf leafOf actOf number over leaf-number
-  number-leaf = refl
+  numbered : leafOf (numberNode p x) ≡ some (linOf x) p
+  unfolding numberNode linOf
+  numbered = leaf-some (numberNode p x) (some-as refl)
+
+  number-some : actOf 6 p q (leaf (some (linOf x) (natAbs (x .high)))) ≡ make (leaf (some (linOf x) p))
+  unfolding actOf number over leaf-number
+  number-some = refl
+
+  number-leaf : isNone (x .kind) ≡ false → make (leaf (leafOf (numberNode p x))) ≡ actOf 6 p q (leaf (leafOf x))
+  number-leaf e = ap (λ (f : Leaf). make (leaf f)) numbered ∙ sym (ap (λ (f : Leaf). actOf 6 p q (leaf f)) (leaf-some x e) ∙ number-some)
+
+  -- where it stays
+  stays-6 : isNone (x .kind) ≡ true → actOf 6 p q (leaf (leafOf x)) ≡ make none-leaf
+  unfolding actOf number over leaf-number
+  stays-6 e = ap (λ (f : Leaf). leaf-number p f) (leaf-none x e)
+
+  stays-3 : staysNone (cOf p q) x ≡ true → actOf 3 p q (leaf (leafOf x)) ≡ make none-leaf
+  unfolding actOf scale over
+  stays-3 e = scale-stays (cOf p q) x e
+
+-- what stays is a side's leaf, or "none" made again
+data Stays (op p q : ℕ) (x : Node) : Type 0 where
+  side : actOf op p q (leaf (leafOf x)) ≡ ret (leaf (leafOf x)) → Stays op p q x
+  none : isNone (x .kind) ≡ true → actOf op p q (leaf (leafOf x)) ≡ make none-leaf → Stays op p q x
+
+never : {A : Type 0} → false ≡ true → A
+never e = absurd (let z : _≡_ {A = ℕ} 0 1 = cc in omega arith)
+
+stays-is : (p q : ℕ) (x : Node) {op : ℕ} → 3 ≤ op → op ≤ 8 → staysBy op p q x ≡ true → Stays op p q x
+unfolding staysBy
+stays-is p q x = by-op (λ (op : ℕ). staysBy op p q x ≡ true → Stays op p q x)
+    (λ e. none (stays-none (cOf p q) x e) (stays-3 p q x e))
+    (λ e. never e)
+    (λ e. never e)
+    (λ e. none e (stays-6 p q x e))
+    (λ e. side (side-leaf p q (leafOf x) (omega arith) (omega arith)))
+    (λ e. side (side-leaf p q (leafOf x) (omega arith) (omega arith)))
+
+-- ---- the code's tests
+
+module _ (op p q : ℕ) (x : Node) where
+  by-tests : (a b c : Bool) → ltb 6 op ≡ a → eqb op 6 ≡ b → eqb op 3 ≡ c → if a true (if b (isNone (x .kind)) (if c (staysNone (cOf p q) x) false)) ≡ staysBy op p q x
+  unfolding staysBy
+  by-tests a b c e₁ e₂ e₃ = λ i. if (sym e₁ i) true (if (sym e₂ i) (isNone (x .kind)) (if (sym e₃ i) (staysNone (cOf p q) x) false))
+
+  pub stays-side : 6 < op → true ≡ staysBy op p q x
+  stays-side h = by-tests true (eqb op 6) (eqb op 3) (lt-ltb 6 op h) refl refl
+
+  pub stays-number : op ≤ 6 → 6 ≤ op → isNone (x .kind) ≡ staysBy op p q x
+  stays-number a b = by-tests false true (eqb op 3) (le-ltb 6 op a) (eq-eqb op 6 (omega arith)) refl
+
+  pub stays-scale : (c : ℤ) → mag c < 2 ^ 63 → c ≡ cOf p q → op ≡ 3 → {r : Bool} → r ≡ staysNone (R c) x → r ≡ staysBy op p q x
+  stays-scale c f ec e er = er ∙ (ap (λ (z : ℤ). staysNone z x) (back c (record { sfits = f }) ∙ ec) ∙ by-tests false false true (le-ltb 6 op (omega arith)) (ne-eqb op 6 (λ z. absurd (omega arith))) (eq-eqb op 3 e))
+
+  pub stays-not : op < 6 → (op ≡ 3 → ⊥) → false ≡ staysBy op p q x
+  stays-not h a = by-tests false false false (le-ltb 6 op (omega arith)) (ne-eqb op 6 (λ z. absurd (omega arith))) (ne-eqb op 3 a)
 
 -- ---- at a leaf of the table
 
@@ -128,9 +189,27 @@ module _ {cap : ℕ} {l : List ℤ} {w : List ℕ} {n : ℕ} (B : Bare cap l w n
   is-leaf : treeAt l n f ≡ leaf (leafOf (nodeAt l f))
   is-leaf = at-leaf (B .good) f (E .below) (E .ends)
 
-  -- a side leaves it
-  pub leaf-kept : 6 < op → Grew cap l w n (actOf op p q (treeAt l n f)) l w (record { stop = 0; at = f; count = n })
-  leaf-kept h = grew-as (sym (ap (actOf op p q) is-leaf ∙ (side-leaf p q _ (omega arith) (A .to) ∙ ap ret (sym is-leaf)))) (grew-ret B f (E .below))
+  -- it stays
+  pub leaf-kept : {b : Bool} → b ≡ staysBy op p q (nodeAt l f) → b ≡ true → Grew cap l w n (actOf op p q (treeAt l n f)) l w (record { stop = 0; at = f; count = n })
+  leaf-kept eb t = go (stays-is p q (nodeAt l f) (A .from) (A .to) (sym eb ∙ t))
+    where
+      go : Stays op p q (nodeAt l f) → Grew cap l w n (actOf op p q (treeAt l n f)) l w (record { stop = 0; at = f; count = n })
+      go (side e) = grew-as (sym (ap (actOf op p q) is-leaf ∙ (e ∙ ap ret (sym is-leaf)))) (grew-ret B f (E .below))
+      go (none k e) = grew-as (ap make (is-leaf ∙ ap leaf (leaf-none (nodeAt l f) k)) ∙ sym (ap (actOf op p q) is-leaf ∙ e)) (grew-there B f (E .below))
+
+  -- it does not stay: no side
+  acts : {b : Bool} → b ≡ staysBy op p q (nodeAt l f) → b ≡ false → op ≤ 6
+  unfolding staysBy
+  acts eb t = go (ltb 6 op) refl
+    where
+      go : (c : Bool) → ltb 6 op ≡ c → op ≤ 6
+      go true e = never (sym t ∙ (eb ∙ ap (λ (c : Bool). if c true (if (eqb op 6) (isNone (nodeAt l f .kind)) (if (eqb op 3) (staysNone (cOf p q) (nodeAt l f)) false))) e))
+      go false e = ltb-false 6 op e
+
+  -- nor "none", numbered
+  some-numbered : {b : Bool} → b ≡ staysBy op p q (nodeAt l f) → b ≡ false → op ≡ 6 → isNone (nodeAt l f .kind) ≡ false
+  unfolding staysBy
+  some-numbered eb t e = ap (λ (k : ℕ). staysBy k p q (nodeAt l f)) (sym e) ∙ (sym eb ∙ t)
 
   pub leaf-nums : {x : Node} → x ≡ nodeAt l f → Nums x
   leaf-nums e = nums-at B f (E .below) e
@@ -142,19 +221,25 @@ module _ {cap : ℕ} {l : List ℤ} {w : List ℕ} {n : ℕ} (B : Bare cap l w n
     pub leaf-plain : op ≤ 5 → Plain y
     leaf-plain h = subst Plain (sym ey) (acted-plain p q x (A .from) (A .to) h)
 
-    pub leaf-judged : op ≤ 5 → {l₁ : List ℤ} {w₁ : List ℕ} {r : Made} → Grew cap l w n (make-leaf (linOf y)) l₁ w₁ r → Grew cap l w n (actOf op p q (treeAt l n f)) l₁ w₁ r
-    leaf-judged h S =
-        grew-as (as-act refl) (grew-like (acted-run p q x (leaf-nums ex .long) cap (trees l n) (A .from) (A .to) h) (grew-as (ap (λ (z : Node). make-leaf (linOf z)) ey) S))
+    module _ {b : Bool} (eb : b ≡ staysBy op p q (nodeAt l f)) (t : b ≡ false) where
+      leaf-judged-by : op ≤ 5 → {l₁ : List ℤ} {w₁ : List ℕ} {r : Made} → Grew cap l w n (make-leaf (linOf y)) l₁ w₁ r → Grew cap l w n (actOf op p q (treeAt l n f)) l₁ w₁ r
+      leaf-judged-by h S =
+          grew-as (as-act refl)
+          (grew-like (acted-run p q x (subst (λ (z : Node). Valid z f) (sym ex) (B .good .valid f (E .below))) cap (trees l n) (A .from) (A .to) h (ap (staysBy op p q) ex ∙ (sym eb ∙ t)))
+          (grew-as (ap (λ (z : Node). make-leaf (linOf z)) ey) S))
 
-    six : op ≤ 6 → 5 < op → op ≡ 6
-    six a b = omega arith
+      six : 5 < op → op ≡ 6
+      six h = let a = acts eb t in omega arith
 
-    pub leaf-valid : op ≤ 6 → 5 < op → Valid y n
-    leaf-valid a b = subst (λ (z : Node). Valid z n) (sym (ey ∙ acted-number p q x (six a b))) (number-valid p q x n (leaf-nums ex))
+    pub leaf-judged : {b : Bool} → b ≡ staysBy op p q (nodeAt l f) → b ≡ false → op ≤ 5 → {l₁ : List ℤ} {w₁ : List ℕ} {r : Made} → Grew cap l w n (make-leaf (linOf y)) l₁ w₁ r → Grew cap l w n (actOf op p q (treeAt l n f)) l₁ w₁ r
+    leaf-judged eb t h S = leaf-judged-by eb t h S
 
-    pub leaf-numbered : op ≤ 6 → 5 < op → {l₁ : List ℤ} {w₁ : List ℕ} {r : Made} → Grew cap l w n (make (treeOf y (trees l n))) l₁ w₁ r → Grew cap l w n (actOf op p q (treeAt l n f)) l₁ w₁ r
-    leaf-numbered lo hi S =
-        let e = six lo hi in
+    pub leaf-valid : {b : Bool} → b ≡ staysBy op p q (nodeAt l f) → b ≡ false → 5 < op → Valid y n
+    leaf-valid eb t h = subst (λ (z : Node). Valid z n) (sym (ey ∙ acted-number p q x (six eb t h))) (number-valid p q x n (leaf-nums ex))
+
+    pub leaf-numbered : {b : Bool} → b ≡ staysBy op p q (nodeAt l f) → b ≡ false → 5 < op → {l₁ : List ℤ} {w₁ : List ℕ} {r : Made} → Grew cap l w n (make (treeOf y (trees l n))) l₁ w₁ r → Grew cap l w n (actOf op p q (treeAt l n f)) l₁ w₁ r
+    leaf-numbered eb t h S =
+        let e = six eb t h in
         let a : make (treeOf y (trees l n)) ≡ make (treeOf (numberNode p x) (trees l n)) = ap (λ (z : Node). make (treeOf z (trees l n))) (ey ∙ acted-number p q x e) in
-        let b : make (treeOf (numberNode p x) (trees l n)) ≡ actOf 6 p q (leaf (leafOf x)) = ap make (tree-leaf (numberNode p x) (trees l n) (number-kind p q x)) ∙ number-leaf p q x in
+        let b : make (treeOf (numberNode p x) (trees l n)) ≡ actOf 6 p q (leaf (leafOf x)) = ap make (tree-leaf (numberNode p x) (trees l n) (number-kind p q x)) ∙ number-leaf p q x (ap (λ (z : Node). isNone (z .kind)) ex ∙ some-numbered eb t e) in
         grew-as (a ∙ (as-act (b ∙ ap (λ (k : ℕ). actOf k p q (leaf (leafOf x))) (sym e)))) S

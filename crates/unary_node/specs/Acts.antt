@@ -1,6 +1,6 @@
 -- The rules of one diagram and a bare number, by their numbers in the cache: on leaves' words, and how they go on.
 use mathlib.Core.Path.{_≡_}
-use mathlib.Core.Bool.{true, false}
+use mathlib.Core.Bool.{Bool, true, false}
 use Prim.Native.Nat.{ℕ, _/_, _%_, _≤_, _<_}
 use lib.Dec.{ltb, eqb}
 use lib.IntN.{ℤ}
@@ -8,6 +8,7 @@ use mir.Syntax.{w64}
 use mir.Val.{ofZ}
 use Rattle.whole.specs.Cases.{if}
 use Rattle.whole.specs.Within.{Small}
+use Rattle.table.specs.Table.{isNone}
 use Rattle.table.specs.declared.Node.{Node}
 use Rattle.theory.specs.Widths.{conditions-most, weights-most, actions-most}
 use Rattle.theory.specs.Diagram.{Tree}
@@ -16,7 +17,7 @@ use Rattle.theory.specs.Rules.{scale, shift, complement, number, side}
 use Rattle.diagrams.specs.Meaning.{cOf}
 use Rattle.diagrams.specs.Roots.{downOf, ordNum, orderOf, laterNode}
 use Rattle.diagrams.specs.declared.Down.{Down}
-use Rattle.leaves.specs.Leaves.{productNode, shiftNode, complementNode, numberNode}
+use Rattle.leaves.specs.Leaves.{staysNone, productNode, shiftNode, complementNode, numberNode}
 use Rattle.unary_node.specs.declared.Way.{Way}
 
 -- ---- the rules
@@ -58,6 +59,10 @@ actedNode op p q x =
     (if (eqb op 4) (shiftNode (cOf p q) x)
     (if (eqb op 5) (complementNode p x)
     (if (eqb op 6) (numberNode p x) x)))
+
+-- the leaf stays as it is: a side does not change it, "none" is not numbered, and a number times it but 0 is it
+unfoldable pub staysBy : ℕ → ℕ → ℕ → Node → Bool
+staysBy op p q x = if (ltb 6 op) true (if (eqb op 6) (isNone (x .kind)) (if (eqb op 3) (staysNone (cOf p q) x) false))
 
 -- ---- the way on
 

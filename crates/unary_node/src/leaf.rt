@@ -1,9 +1,12 @@
 // What a rule makes of a leaf.
 ghost use mathlib.Core.Path.{_≡_};
+ghost use Prim.Native.Nat.{_+_, _*_, _≤_};
+ghost use lib.ListN.{length};
+ghost use Rattle.table.specs.Table.{node-words, nodeAt};
 ghost use Rattle.diagrams.specs.Nodes.{treeAt, Nums};
 ghost use Rattle.diagrams.specs.Table.{Bare, Grew};
 ghost use Rattle.leaves.specs.Leaves.{AtLeaf};
-ghost use Rattle.unary_node.specs.Acts.{actedNode, actOf, Acts};
+ghost use Rattle.unary_node.specs.Acts.{actedNode, staysBy, actOf, Acts};
 use super::halves::number_of;
 use diagrams::codes::COMPLEMENT;
 use diagrams::codes::NUMBER;
@@ -15,6 +18,7 @@ use leaves::changes::complemented;
 use leaves::changes::numbered;
 use leaves::changes::shifted;
 use leaves::numbers::product;
+use leaves::numbers::stays_none;
 use table::Made;
 use table::Node;
 
@@ -38,6 +42,23 @@ fn acted(x: Node, op: usize, p: usize, q: usize) -> Node
     x
 }
 
+// Whether the rule op leaves the leaf f as it is: a side does; "none" is not numbered, and a number times it but 0 is it.
+fn stays(nodes: &[i64], op: usize, f: usize, p: usize, q: usize) -> bool
+    requires { ⌜ Acts op p q × (f * node-words + node-words ≤ length (now nodes)) ⌝ }
+    ensures { λ r. ⌜ r ≡ staysBy op p q (nodeAt (now (nodes .entry)) f) ⌝ }
+{
+    if op > NUMBER {
+        return true;
+    }
+    if op == SCALE {
+        return stays_none(nodes, number_of(p, q), f);
+    }
+    if op < NUMBER {
+        return false;
+    }
+    table::none_at(nodes, f)
+}
+
 // What the rule op comes to at the leaf f. A number that acts is judged; an action is none.
 pub fn at_leaf(
     nodes: &mut [i64],
@@ -52,7 +73,7 @@ pub fn at_leaf(
     requires { ⌜ Bare cap (now nodes) (now work) count × Acts op p q × AtLeaf (now nodes) count f ⌝ }
     ensures { λ r. ⌜ Grew cap (now (nodes .entry)) (now (work .entry)) count (actOf op p q (treeAt (now (nodes .entry)) count f)) (now (nodes .exit)) (now (work .exit)) r ⌝ }
 {
-    if op > NUMBER {
+    if stays(nodes, op, f, p, q) {
         return Made {
             stop: 0,
             at: f,

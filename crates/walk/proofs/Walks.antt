@@ -14,17 +14,17 @@ use Rattle.table.specs.Table.{nodeAt, isLeaf}
 use Rattle.table.specs.declared.Node.{Node}
 use Rattle.table.specs.declared.Made.{Made}
 use Rattle.theory.specs.Widths.{levels-most}
-use Rattle.theory.specs.Diagram.{Test, Tree, leaf, zeros, test-of}
+use Rattle.theory.specs.Diagram.{Linear, Test, lin-of, Tree, leaf, zeros, test-of}
 use Rattle.theory.specs.Computation.{Comp, ret}
 use Rattle.theory.specs.Rules.{over, choose, decide}
 use Rattle.diagrams.specs.declared.Down.{Down}
 use Rattle.diagrams.specs.declared.Sides.{Sides}
-use Rattle.diagrams.specs.Nodes.{linOf, constantOf, leafOf, treeAt, Root}
+use Rattle.diagrams.specs.Nodes.{linOf, constantOf, leafOf, treeAt, Valid, Root}
 use Rattle.diagrams.specs.Table.{Table, Ran}
 use Rattle.computed_cache.specs.Cache.{Key}
 use Rattle.diagrams.specs.Meaning.{testIn, testBy, Names, ruleOf}
 use Rattle.diagrams.specs.Roots.{downOf, leftSides}
-use Rattle.diagrams.proofs.Trees.{at-leaf, trees-kept}
+use Rattle.diagrams.proofs.Trees.{leaf-lin, at-leaf, trees-kept}
 use Rattle.diagrams.proofs.Outcomes.{grown, ran-as, ran-ret}
 use Rattle.diagrams.proofs.Stepping.{On, left-on}
 use Rattle.diagrams.proofs.Meanings.{rule-walk, root-test}
@@ -35,9 +35,9 @@ use Rattle.leaves.proofs.Sums.{decide-constant, decide-test}
 -- ---- at a leaf
 
 -- the test that a leaf names
-leaf-test : (l : List ℤ) (n f : ℕ) (x : Node) → treeAt l n f ≡ leaf (leafOf x) → testBy l n 11 f ≡ test-of (linOf x)
-unfolding testBy testIn leafOf
-leaf-test l n f x e = ap testIn e
+leaf-test : (l : List ℤ) (n f : ℕ) (x : Node) → Valid x f → treeAt l n f ≡ leaf (leafOf x) → testBy l n 11 f ≡ test-of (linOf x)
+unfolding testBy testIn
+leaf-test l n f x v e = ap testIn e ∙ ap test-of (leaf-lin x v)
 
 module _ {cap : ℕ} {l : List ℤ} {w : List ℕ} {n : ℕ} (A : Table ruleOf cap l w n) (f g p : ℕ) (F : AtLeaf l n f) (hg : g < n) (hp : p < n) {x : Node} (ex : x ≡ nodeAt l f) {c : Bool} (ec : c ≡ zeros (linOf x .coeffs)) where
   abbrev Decided : List ℤ → List ℕ → Made → Type 0
@@ -58,7 +58,7 @@ module _ {cap : ℕ} {l : List ℤ} {w : List ℕ} {n : ℕ} (A : Table ruleOf c
 
   pub decided-test : c ≡ false → {l₁ : List ℤ} {w₁ : List ℕ} {r : Made} → Ran ruleOf cap l w n (choose (testBy l n 11 f) (treeAt l n g) (treeAt l n p)) l₁ w₁ r → Decided l₁ w₁ r
   decided-test q Q = ran-as
-      (ap (λ (t : Test). choose t (treeAt l n g) (treeAt l n p)) (leaf-test l n f y (at-leaf (A .bare .good) f (F .below) (F .ends)))
+      (ap (λ (t : Test). choose t (treeAt l n g) (treeAt l n p)) (leaf-test l n f y (A .bare .good .valid f (F .below)) (at-leaf (A .bare .good) f (F .below) (F .ends)))
       ∙ sym (decide-test (linOf y) (treeAt l n g) (treeAt l n p) (ap (λ (x : Node). zeros (linOf x .coeffs)) (sym ex) ∙ (sym ec ∙ q))))
       Q
 
@@ -66,7 +66,7 @@ module _ {cap : ℕ} {l : List ℤ} {w : List ℕ} {n : ℕ} (A : Table ruleOf c
 
 -- the leaves' low side first, so that the rest is a rule of two operands
 abbrev pub walked : Tree → Tree → Tree → Comp Tree
-walked P F G = over choose (λ x. decide (x .lin) G P) F
+walked P F G = over choose (λ x. decide (lin-of x) G P) F
 
 module _ {cap : ℕ} {l : List ℤ} {w : List ℕ} {n : ℕ} (A : Table ruleOf cap l w n) (f g p : ℕ) (hf : f < n) (hg : g < n) (hp : p < n) where
   -- the words fit an entry
@@ -83,13 +83,15 @@ module _ {cap : ℕ} {l : List ℤ} {w : List ℕ} {n : ℕ} (A : Table ruleOf c
 
     -- it is a leaf
     pub walk-ends : s .ends ≡ true → {l₁ : List ℤ} {w₁ : List ℕ} {r : Made} → Ran ruleOf cap l w n (decide (linOf (nodeAt l f)) (treeAt l n g) (treeAt l n p)) l₁ w₁ r → Ran ruleOf cap l w n (ruleOf l n 9 f g p 0) l₁ w₁ r
-    unfolding leafOf
-    walk-ends q Q = ran-as (sym (rule-walk l n f g p 0 ∙ over-leaf choose (λ x. decide (x .lin) (treeAt l n g) (treeAt l n p)) (A .bare .good) f hf (kind-of es ∙ q))) Q
+    walk-ends q Q = ran-as
+        (sym (rule-walk l n f g p 0 ∙ (over-leaf choose (λ x. decide (lin-of x) (treeAt l n g) (treeAt l n p)) (A .bare .good) f hf (kind-of es ∙ q)
+        ∙ ap (λ (z : Linear). decide z (treeAt l n g) (treeAt l n p)) (leaf-lin (nodeAt l f) (A .bare .good .valid f hf)))))
+        Q
 
     -- it is a branch
     pub walk-on : s .ends ≡ false → On l n (walked (treeAt l n p)) choose f g (leftSides s f g)
     walk-on q = subst (λ (s : Down). On l n (walked (treeAt l n p)) choose f g (leftSides s f g)) (sym es)
-        (left-on (A .bare .good) f g hf hg (walked (treeAt l n p)) choose (kind-of es ∙ q) (over-branch choose (λ x. decide (x .lin) (treeAt l n g) (treeAt l n p)) (A .bare .good) f hf (kind-of es ∙ q)))
+        (left-on (A .bare .good) f g hf hg (walked (treeAt l n p)) choose (kind-of es ∙ q) (over-branch choose (λ x. decide (lin-of x) (treeAt l n g) (treeAt l n p)) (A .bare .good) f hf (kind-of es ∙ q)))
 
 -- ---- gone on with
 

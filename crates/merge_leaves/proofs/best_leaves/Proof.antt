@@ -1,80 +1,51 @@
-use Rattle.diagrams.proofs.Judging.{nums-at}
-use Rattle.merge_leaves.proofs.Combining.{best-over, less-nums, best-constant, best-proper, best-test}
+use mathlib.Core.Path.{sym, _∙_}
+use Rattle.merge_leaves.proofs.Combining.{best-first, best-second}
 use borrow.Author.Needs.{needs}
 use Rattle.merge_leaves.proofs.best_leaves.Statement.{statement}
 use Rattle.merge_leaves.proofs.best_leaves.Tie as tie
 
-get-requires : tie.Need-get-requires
-get-requires c κs = search needs
-
-get-requires-2 : tie.Need-get-requires-2
-get-requires-2 c κs = search needs
-
-less-requires : tie.Need-less-requires
-less-requires c κs =
-    let s = (c .before .before .before .before .before) in (nums-at (s .pre .0) (s .args .g) (s .pre .2 .below) (c .before .before .get .ensures), nums-at (s .pre .0) (s .args .f) (s .pre .1 .below) (c .get2 .ensures))
-
-within-requires : tie.Need-within-requires
-within-requires c κs = search needs
-
-is-constant-requires : tie.Need-is-constant-requires
-is-constant-requires c κs = search needs
-
-constant-requires : tie.Need-constant-requires
-constant-requires c κs = search needs
-
-decided-requires : tie.Need-decided-requires
-decided-requires c κs = search needs
+none-at-requires : tie.Need-none-at-requires
+none-at-requires c κs = search needs
 
 same-length : tie.Need-same-length
 same-length c = search needs
 
 returns : tie.Need-returns
-returns c =
-    let s = (c .before .before .before .before .before .before .before .before .before .before .before .before) in best-constant (s .pre .0) (s .args .f) (s .args .g) (s .pre .1) (s .pre .2) (c .before .before .before .before .before .before .before .get2 .ensures) (c .before .before .before .before .before .before .before .before .before .get .ensures) (c .before .before .before .before .before .before .less .ensures) (c .before .before .before .before .before .within .ensures) (c .before .before .before .before .if1 .taken) (c .before .before .before .is-constant .ensures) (c .before .before .if2 .taken) (c .before .constant .ensures) (c .decided .ensures)
+returns c = let s = c .before .before .before .before in best-second (s .pre .0) (s .args .f) (s .args .g) (s .pre .1) (s .pre .2) (c .before .none-at .ensures) (c .if1 .taken)
 
-named-requires : tie.Need-named-requires
-named-requires c κs =
-    let s = (c .before .before .before .before .before .before .before .before .before .before .before .before) in less-nums (s .pre .0) (s .args .f) (s .args .g) (s .pre .1) (s .pre .2) (c .before .before .before .before .before .before .before .get2 .ensures) (c .before .before .before .before .before .before .before .before .before .get .ensures) (c .before .before .before .before .before .before .less .ensures) (c .before .before .before .before .before .within .ensures) (c .before .before .before .before .if1 .taken)
-
-join-test-requires : tie.Need-join-test-requires
-join-test-requires c κs =
-    let s = (c .before .before .before .before .before .before .before .before .before .before .before .before .before) in (s .pre .0, best-proper (s .pre .0) (s .args .f) (s .args .g) (s .pre .1) (s .pre .2) (c .before .before .before .before .before .before .before .before .get2 .ensures) (c .before .before .before .before .before .before .before .before .before .before .get .ensures) (c .before .before .before .before .before .before .before .less .ensures) (c .before .before .before .before .before .before .within .ensures) (c .before .before .before .before .before .if1 .taken) (c .before .before .before .before .is-constant .ensures) (c .named .ensures), s .pre .1 .below, s .pre .2 .below)
+none-at-requires-2 : tie.Need-none-at-requires-2
+none-at-requires-2 c κs = search needs
 
 same-length-2 : tie.Need-same-length-2
 same-length-2 c = search needs
 
+returns-2 : tie.Need-returns-2
+returns-2 c = let s = c .before .before .before .before .before .before .before in best-first (s .pre .0) (s .args .f) (s .args .g) (s .pre .1) (s .pre .2) (c .before .none-at2 .ensures) (c .if2 .taken)
+
+best-linears-requires : tie.Need-best-linears-requires
+best-linears-requires c κs =
+    let s = c .before .before .before .before .before .before .before .before .before in (s .pre .0, record { leaf = s .pre .1; linear = sym (c .before .before .before .before .before .before .none-at .ensures) ∙ c .before .before .before .before .before .if1 .left }, record { leaf = s .pre .2; linear = sym (c .before .before .before .none-at2 .ensures) ∙ c .before .before .if2 .left })
+
 same-length-3 : tie.Need-same-length-3
 same-length-3 c = search needs
-
-returns-2 : tie.Need-returns-2
-returns-2 c =
-    let s = (c .before .before .before .before .before .before .before .before .before .before .before .before .before .before .before .before .before) in best-test (s .pre .0) (s .args .f) (s .args .g) (s .pre .1) (s .pre .2) (c .before .before .before .before .before .before .before .before .before .before .before .before .get2 .ensures) (c .before .before .before .before .before .before .before .before .before .before .before .before .before .before .get .ensures) (c .before .before .before .before .before .before .before .before .before .before .before .less .ensures) (c .before .before .before .before .before .before .before .before .before .before .within .ensures) (c .before .before .before .before .before .before .before .before .before .if1 .taken) (c .before .before .before .before .before .before .before .before .is-constant .ensures) (c .before .before .before .before .named .ensures) (c .before .before .before .before .before .before .before .if2 .left) (c .before .before .before .join-test .ensures)
 
 same-length-4 : tie.Need-same-length-4
 same-length-4 c = search needs
 
 returns-3 : tie.Need-returns-3
-returns-3 c =
-    let s = (c .before .before .before .before .before .before .before .before) in best-over (s .pre .0) (s .args .f) (s .args .g) (s .pre .1) (s .pre .2) (c .before .before .before .get2 .ensures) (c .before .before .before .before .before .get .ensures) (c .before .before .less .ensures) (c .before .within .ensures) (c .if1 .left)
+returns-3 c = c .before .before .before .best-linears .ensures
 
 pub best-leaves-spec : {M : Type 1} → statement M
 best-leaves-spec =
     tie.close
     (tie.spec
-    get-requires
-    get-requires-2
-    less-requires
-    within-requires
-    is-constant-requires
-    constant-requires
-    decided-requires
+    none-at-requires
     same-length
     returns
-    named-requires
-    join-test-requires
+    none-at-requires-2
     same-length-2
-    same-length-3
     returns-2
+    best-linears-requires
+    same-length-3
     same-length-4
     returns-3)

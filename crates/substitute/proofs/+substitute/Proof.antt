@@ -1,7 +1,7 @@
 use native.Mathlib.Omega.{arith}
 use borrow.Author.Needs.{needs}
 use Rattle.diagrams.proofs.Going.{at-in}
-use Rattle.substitute.proofs.Substituting.{sub-asks, sub-answered, retain-asks, sub-stored, sub-leaf, sub-tested, sub-high, sub-low, sub-head-stops, high-asks, sub-high-stops, low-asks, sub-low-stops, over-asks, sub-made}
+use Rattle.substitute.proofs.Substituting.{sub-asks, sub-answered, retain-asks, sub-stored, sub-ends, sub-tested, sub-high, sub-low, sub-head-stops, high-asks, sub-high-stops, low-asks, sub-low-stops, over-asks, sub-made}
 use Prim.Native.Nat.{ℕ, _<_}
 use borrow.Fn.Kinds.{In}
 use borrow.Fn.PlainCycle.{Measures, is, falls, and}
@@ -13,7 +13,7 @@ use Rattle.substitute.proofs.retain.Reads as retain-reads
 use Rattle.substitute.proofs.condition_at.Reads as condition-at-reads
 use Rattle.substitute.proofs.head.Reads as head-reads
 use Rattle.substitute.proofs.over_test.Reads as over-test-reads
-use Rattle.linear_combination.proofs.linear_diagram.Reads as linear-diagram-reads
+use Rattle.substitute.proofs.at_leaf.Reads as at-leaf-reads
 use Rattle.walk.proofs.down_at.Reads as down-at-reads
 use Rattle.substitute.proofs.+substitute.{statement}
 use Rattle.substitute.proofs.+substitute.Tie.{close}
@@ -34,8 +34,8 @@ abbrev substitute-claims : ℕ → substitute-lts.Claims
 substitute-claims t = (
   down-at-reads.Asked,
   down-at-reads.Learnt,
-  linear-diagram-reads.Asked,
-  linear-diagram-reads.Learnt,
+  at-leaf-reads.Asked,
+  at-leaf-reads.Learnt,
   recall-reads.Asked,
   recall-reads.Learnt,
   condition-at-reads.Asked,
@@ -55,10 +55,10 @@ substitute-down-at-requires t c κs =
     let s = (c .before .before .before) in
     at-in (s .args .f) (s .pre .1 .0 .bare) (s .pre .1 .1)
 
-substitute-linear-diagram-requires : (t : ℕ) → substitute-lts.Need-linear-diagram-requires (substitute-claims t) (substitute-at t) substitute.Post
-substitute-linear-diagram-requires t c κs =
+substitute-at-leaf-requires : (t : ℕ) → substitute-lts.Need-at-leaf-requires (substitute-claims t) (substitute-at t) substitute.Post
+substitute-at-leaf-requires t c κs =
     let s = (c .before .before .before .before .before .before .before) in
-    (s .pre .1 .0, s .pre .1 .1, s .pre .1 .2)
+    (s .pre .1 .0, s .pre .1 .1, s .pre .1 .2, sub-ends (s .pre .1 .0) (s .args .f) (s .pre .1 .1) (s .pre .1 .2) (c .before .before .before .down-at .ensures) (c .before .before .if1 .taken))
 
 substitute-same-length : (t : ℕ) → substitute-lts.Need-same-length (substitute-claims t) (substitute-at t) substitute.Post
 substitute-same-length t c =
@@ -69,9 +69,7 @@ substitute-same-length-2 t c =
     search needs
 
 substitute-returns : (t : ℕ) → substitute-lts.Need-returns (substitute-claims t) (substitute-at t) substitute.Post
-substitute-returns t c =
-    let s = (c .before .before .before .before .before .before .before .before .before .before .before) in
-    sub-leaf (s .pre .1 .0) (s .args .f) (s .pre .1 .1) (s .pre .1 .2) (c .before .before .before .before .before .before .before .down-at .ensures) (c .before .before .before .before .before .before .if1 .taken) (c .before .before .before .linear-diagram .ensures)
+substitute-returns t c = c .before .before .before .at-leaf .ensures
 
 substitute-recall-requires : (t : ℕ) → substitute-lts.Need-recall-requires (substitute-claims t) (substitute-at t) substitute.Post
 substitute-recall-requires t c κs =
@@ -197,7 +195,7 @@ pub +substitute-spec : {M : Type 1} → statement M
     (substitute-at t)
     substitute.Post
     (substitute-down-at-requires t)
-    (substitute-linear-diagram-requires t)
+    (substitute-at-leaf-requires t)
     (substitute-same-length t)
     (substitute-same-length-2 t)
     (substitute-returns t)
