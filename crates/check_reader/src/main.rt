@@ -40,6 +40,7 @@ fn command_row(c: Command) -> Row {
         Command::Leaf => row_of(0x10, 0, 0, 0, 0),
         Command::Condition(k) => row_of(0x11, k as u16, 0, 0, 0),
         Command::Test => row_of(0x12, 0, 0, 0, 0),
+        Command::Forbidden => row_of(0x13, 0, 0, 0, 0),
         Command::Give(byte, action, index) => row_of(byte, action, index as u16, 0, 0),
         Command::Name(action) => row_of(0x30, action, 0, 0, 0),
         Command::End => row_of(0xff, 0, 0, 0, 0),

@@ -9,8 +9,8 @@ use lib.ListN.{length}
 use borrow.Author.Tests.{lt-leb, le-ltb, leb-false, ltb-false, eqb-false}
 use Rattle.whole.specs.Cases.{if}
 use Rattle.theory.specs.Widths.{name-bytes}
-use Rattle.theory.specs.Form.{Form, old-form, new-form, site-byte, action-bytes, linear-bytes, behind-action}
-use Rattle.theory.specs.Command.{Command, site, push-leaf, push-condition, push-test, give, name-action, end-model, whole, unknown, short, byte-at, width-in, command-in, read-in}
+use Rattle.theory.specs.Form.{Form, old-form, new-form, site-byte, action-bytes, forbidden-bytes, linear-bytes, behind-action}
+use Rattle.theory.specs.Command.{Command, site, push-leaf, push-condition, push-test, push-forbidden, give, name-action, end-model, whole, unknown, short, byte-at, width-in, command-in, read-in}
 use Rattle.command.specs.Reading.{next-in}
 
 -- the bytes of a command that is whole
@@ -25,6 +25,7 @@ has-linear (site m n a w) = false
 has-linear (push-leaf p) = true
 has-linear (push-condition k) = false
 has-linear (push-test p) = true
+has-linear push-forbidden = false
 has-linear (give g) = false
 has-linear (name-action a b) = false
 has-linear end-model = false
@@ -44,6 +45,7 @@ length-of F (site m n a w) = 4 + action-bytes F
 length-of F (push-leaf p) = 1 + linear-bytes F
 length-of F (push-condition k) = 2
 length-of F (push-test p) = 1 + linear-bytes F
+length-of F push-forbidden = forbidden-bytes F
 length-of F (give g) = width-in F (g .command)
 length-of F (name-action a b) = behind-action F + name-bytes
 length-of F end-model = 1
@@ -85,12 +87,13 @@ module _ (F : Form) (B : List ℕ) (at : ℕ) where
       (sized F (eqb (byte-at B at) 0x10) _ _ _ _ refl
       (sized F (eqb (byte-at B at) 0x11) _ _ _ _ refl
       (sized F (eqb (byte-at B at) 0x12) _ _ _ _ refl
+      (sized F (eqb (byte-at B at) 0x13) _ _ _ _ refl
       (sized F (eqb (byte-at B at) 0x20) _ _ _ _ (g .0)
       (sized F (eqb (byte-at B at) 0x21) _ _ _ _ (g .1)
       (sized F (eqb (byte-at B at) 0x22) _ _ _ _ (g .2)
       (sized F (eqb (byte-at B at) 0x23) _ _ _ _ (g .3)
       (sized F (eqb (byte-at B at) 0x30) _ _ _ _ refl
-      (last F (eqb (byte-at B at) 0xff)))))))))) k
+      (last F (eqb (byte-at B at) 0xff))))))))))) k
 
   linear-wide : T (has-linear (command-in F B at)) → width-in F (byte-at B at) ≡ 1 + linear-bytes F
   unfolding command-in width-in has-linear
@@ -99,12 +102,13 @@ module _ (F : Form) (B : List ℕ) (at : ℕ) where
       (found (eqb (byte-at B at) 0x10) _ _ _ _
       (skip (eqb (byte-at B at) 0x11) 2 _ _ _ _ tt
       (found (eqb (byte-at B at) 0x12) _ _ _ _
+      (skip (eqb (byte-at B at) 0x13) (forbidden-bytes F) _ _ _ _ tt
       (skip (eqb (byte-at B at) 0x20) (behind-action F) _ _ _ _ tt
       (skip (eqb (byte-at B at) 0x21) (behind-action F + 1) _ _ _ _ tt
       (skip (eqb (byte-at B at) 0x22) (behind-action F + 1) _ _ _ _ tt
       (skip (eqb (byte-at B at) 0x23) 1 _ _ _ _ tt
       (skip (eqb (byte-at B at) 0x30) (behind-action F + name-bytes) _ _ _ _ tt
-      (λ u. absurd u))))))))) t
+      (λ u. absurd u)))))))))) t
 
   -- the width of a command that is read
   pub length-whole : (c : Command) → whole c ≡ read-in F B at → width-in F (byte-at B at) ≡ length-of F c

@@ -9,9 +9,9 @@ use Rattle.theory.specs.Widths.{levels-most, name-bytes}
 use Rattle.theory.specs.Form.{Form, new-form, action-bytes, behind-action}
 use Rattle.theory.specs.Form.{linear-bytes as linear-bytes-in}
 use Rattle.theory.specs.Diagram.{Linear}
-use Rattle.theory.specs.Command.{Command, site, push-leaf, push-condition, push-test, give, name-action, end-model, Read, whole, unknown, short, byte-at, action-at, width-in, linear-in}
+use Rattle.theory.specs.Command.{Command, site, push-leaf, push-condition, push-test, push-forbidden, give, name-action, end-model, Read, whole, unknown, short, byte-at, action-at, width-in, linear-in}
 use Rattle.command.specs.declared.Command.{Command as CodeCommand}
-use Rattle.command.specs.declared.Command.the-variants.{Site, Leaf, Condition, Test, Give, Name, End}
+use Rattle.command.specs.declared.Command.the-variants.{Site, Leaf, Condition, Test, Forbidden, Give, Name, End}
 use Rattle.command.specs.declared.Read.{Read as CodeRead}
 use Rattle.command.specs.declared.Read.the-variants.{Whole, Unknown, Short}
 
@@ -21,6 +21,7 @@ command-of-in F B at (Site m n a w) = site m n a w
 command-of-in F B at Leaf = push-leaf (linear-in F B (at + 1))
 command-of-in F B at (Condition k) = push-condition k
 command-of-in F B at Test = push-test (linear-in F B (at + 1))
+command-of-in F B at Forbidden = push-forbidden
 command-of-in F B at (Give c a i) = give (record { command = c; action = a; index = i })
 command-of-in F B at (Name a) = name-action a (take name-bytes (drop (at + behind-action F) B))
 command-of-in F B at End = end-model

@@ -1,7 +1,7 @@
 // How a model is written: as the planner reads it, or as before K5. What differs is named here and nowhere else.
 ghost use mathlib.Core.Path.{_≡_};
 ghost use Prim.Native.Nat.{_<_};
-ghost use Rattle.theory.specs.Form.{site-byte, levels-in, actions-in, action-bytes, linear-bytes, behind-action};
+ghost use Rattle.theory.specs.Form.{site-byte, levels-in, actions-in, action-bytes, forbidden-bytes, linear-bytes, behind-action};
 ghost use Rattle.command.specs.Forms.{form-of};
 use whole::COEFFICIENTS;
 
@@ -53,6 +53,16 @@ pub fn action_bytes(form: Form) -> usize
     match form {
         Form::Old => 1,
         Form::New => 2,
+    }
+}
+
+// "Command 13 pushes a leaf "forbidden"", one byte; the old form has it not.
+pub fn forbidden_bytes(form: Form) -> usize
+    ensures { λ r. ⌜ (r ≡ forbidden-bytes (form-of form)) × (r < 16) ⌝ }
+{
+    match form {
+        Form::Old => 0,
+        Form::New => 1,
     }
 }
 

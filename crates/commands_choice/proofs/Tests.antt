@@ -28,7 +28,7 @@ use Rattle.command.proofs.Forward.{has-linear, linear-room}
 use Rattle.command.proofs.Command.{the-type as command-type}
 use Rattle.command.proofs.Read.{the-type as read-type}
 use Rattle.command.specs.declared.Command.{Command as CodeCommand}
-use Rattle.command.specs.declared.Command.the-variants.{Site, Leaf, Condition, Test as TestBy, Give, Name, End}
+use Rattle.command.specs.declared.Command.the-variants.{Site, Leaf, Condition, Test as TestBy, Forbidden, Give, Name, End}
 use Rattle.command.specs.declared.Read.{Read as CodeRead}
 use Rattle.command.specs.declared.Read.the-variants.{Whole, Unknown, Short}
 use Rattle.command.specs.Reading.{with-linear, linear-of, command-of-in, command-of, read-of-in, read-of}
@@ -94,12 +94,13 @@ not-whole B at (Whole c) k = absurd (miss (1 ∷ 2 ∷ []) 0 tt k)
 not-whole B at Unknown k = refl
 not-whole B at Short k = refl
 
-other-test : (B : List ℕ) (at : ℕ) (d : CodeCommand) → OneOf (0 ∷ 1 ∷ 4 ∷ 5 ∷ 6 ∷ []) (tagOf command-type d) → test-read (whole (command-of B at d)) ≡ condition-test 1
+other-test : (B : List ℕ) (at : ℕ) (d : CodeCommand) → OneOf (0 ∷ 1 ∷ 4 ∷ 5 ∷ 6 ∷ 7 ∷ []) (tagOf command-type d) → test-read (whole (command-of B at d)) ≡ condition-test 1
 unfolding test-read test-in command-of-in
 other-test B at (Site m n a w) k = refl
 other-test B at Leaf k = refl
-other-test B at (Condition i) k = absurd (miss (0 ∷ 1 ∷ 4 ∷ 5 ∷ 6 ∷ []) 2 tt k)
-other-test B at TestBy k = absurd (miss (0 ∷ 1 ∷ 4 ∷ 5 ∷ 6 ∷ []) 3 tt k)
+other-test B at (Condition i) k = absurd (miss (0 ∷ 1 ∷ 4 ∷ 5 ∷ 6 ∷ 7 ∷ []) 2 tt k)
+other-test B at TestBy k = absurd (miss (0 ∷ 1 ∷ 4 ∷ 5 ∷ 6 ∷ 7 ∷ []) 3 tt k)
+other-test B at Forbidden k = refl
 other-test B at (Give x a j) k = refl
 other-test B at (Name a) k = refl
 other-test B at End k = refl
@@ -115,7 +116,7 @@ module _ (B : List ℕ) (at : ℕ) (r : CodeRead) (e : read-of B at r ≡ read-a
 
   module _ {c : CodeCommand} (f : r ≡ Whole c) where
     -- a command of no test
-    pub other-stood : OneOf (0 ∷ 1 ∷ 4 ∷ 5 ∷ 6 ∷ []) (tagOf command-type c) → {x : Node} → Stood (condition-test 1) x → Stood (testAt B at) x
+    pub other-stood : OneOf (0 ∷ 1 ∷ 4 ∷ 5 ∷ 6 ∷ 7 ∷ []) (tagOf command-type c) → {x : Node} → Stood (condition-test 1) x → Stood (testAt B at) x
     other-stood k {x} s = subst (λ (t : Test). Stood t x) (sym (other-test B at c k) ∙ ap test-read (whole-is f)) s
 
     -- a condition

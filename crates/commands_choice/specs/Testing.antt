@@ -7,7 +7,7 @@ use Rattle.table.specs.declared.Node.{Node}
 use Rattle.theory.specs.Widths.{conditions-most}
 use Rattle.theory.specs.Diagram.{Test, test-of}
 use Rattle.theory.specs.Rules.{choose}
-use Rattle.theory.specs.Command.{Command, site, push-leaf, push-condition, push-test, give, name-action, end-model, Read, whole, unknown, short, read-at}
+use Rattle.theory.specs.Command.{Command, site, push-leaf, push-condition, push-test, push-forbidden, give, name-action, end-model, Read, whole, unknown, short, read-at}
 use Rattle.theory.specs.Load.{condition-test}
 use Rattle.diagrams.specs.Nodes.{testOf, treeAt, Proper}
 use Rattle.diagrams.specs.Table.{Rule}
@@ -27,6 +27,7 @@ condition-in (site m n a w) = 1
 condition-in (push-leaf p) = 1
 condition-in (push-condition k) = k
 condition-in (push-test p) = 1
+condition-in push-forbidden = 1
 condition-in (give g) = 1
 condition-in (name-action a b) = 1
 condition-in end-model = 1
@@ -42,6 +43,7 @@ test-in (site m n a w) = condition-test 1
 test-in (push-leaf p) = condition-test 1
 test-in (push-condition k) = condition-test k
 test-in (push-test p) = test-of p
+test-in push-forbidden = condition-test 1
 test-in (give g) = condition-test 1
 test-in (name-action a b) = condition-test 1
 test-in end-model = condition-test 1

@@ -18,7 +18,7 @@ use Rattle.model.specs.declared.Verdict.{Verdict as CodeVerdict}
 use Rattle.model.specs.Answers.{shown}
 use Rattle.conversion.specs.declared.Converted.{Converted}
 use Rattle.model_forms.specs.Forms.{model-as}
-use Rattle.conversion.specs.Conversion.{own-refusal, too-large, conversion-refusal, conversion}
+use Rattle.conversion.specs.Conversion.{own-refusal, too-large, unfit, conversion-refusal, conversion}
 use Rattle.conversion.specs.Statements.{refused-conversion, wrote}
 use Rattle.conversion.specs.Written.{outcome-as}
 
@@ -76,20 +76,20 @@ module _ (F G : Form) (B buffer : List ℕ) (v : CodeVerdict) (e : shown v ≡ o
 
   pub call-refused : (v .number ≡ 0 → ⊥) → refused-conversion buffer (v .number) (v .place) ≡ conversion F G B buffer
   unfolding conversion conversion-refusal
-  call-refused h = sym (ap (λ (o : Verdict). left-by (judged o (eqb (o .number) 0) (too-large G (site-in F B) (length C)) (ltb (length buffer) (length C)))) (sym e)
-      ∙ ap (λ (b : Bool). left-by (judged (shown v) b (too-large G (site-in F B) (length C)) (ltb (length buffer) (length C)))) (ne-eqb (v .number) 0 h)
+  call-refused h = sym (ap (λ (o : Verdict). left-by (judged o (eqb (o .number) 0) (unfit F G B (length C)) (ltb (length buffer) (length C)))) (sym e)
+      ∙ ap (λ (b : Bool). left-by (judged (shown v) b (unfit F G B (length C)) (ltb (length buffer) (length C)))) (ne-eqb (v .number) 0 h)
       ∙ ap (λ (b : Bool). if b (wrote buffer C) (refused-conversion buffer (v .number) (v .place))) (ne-eqb (v .number) 0 h))
 
   module _ (z : v .number ≡ 0) where
-    past-own : (a b : Bool) → too-large G (site-in F B) (length C) ≡ a → ltb (length buffer) (length C) ≡ b → conversion F G B buffer ≡ left-by (behind-own a b)
+    past-own : (a b : Bool) → unfit F G B (length C) ≡ a → ltb (length buffer) (length C) ≡ b → conversion F G B buffer ≡ left-by (behind-own a b)
     unfolding conversion conversion-refusal
     past-own a b f g =
         (λ i. left-by (judged (own-refusal F B) (eqb (own-refusal F B .number) 0) (f i) (g i)))
         ∙ ap (λ (c : Bool). left-by (judged (own-refusal F B) c a b)) (eq-eqb (own-refusal F B .number) 0 (sym (ap (λ (o : Verdict). o .number) e) ∙ z))
 
-    module _ (size : ℕ) (s : size ≡ length C) (a : Bool) (f : a ≡ too-large G (site-in F B) size) where
-      large : too-large G (site-in F B) (length C) ≡ a
-      large = sym (f ∙ ap (too-large G (site-in F B)) s)
+    module _ (size : ℕ) (s : size ≡ length C) (a : Bool) (f : a ≡ unfit F G B size) where
+      large : unfit F G B (length C) ≡ a
+      large = sym (f ∙ ap (unfit F G B) s)
 
       pub call-20 : a ≡ true → refused-conversion buffer 20 0 ≡ conversion F G B buffer
       call-20 t = sym (past-own true (ltb (length buffer) (length C)) (large ∙ t) refl)

@@ -16,7 +16,7 @@ use Rattle.conversion.specs.Conversion as Conversion
 
 -- one name that unfolds all that the cases compute with
 unfoldable definitions : Unit {0}
-unfolding Diagram.zeros Diagram.padded Valid.all Valid.among Command.width-in Command.word-at Command.signed Command.signed-from Command.bytes-at Command.linear-in Command.command-in Command.read-in Command.goes-on Command.readings-from-in Command.readings-in Verdict.same-slot Verdict.has-slot Verdict.first-broken Verdict.beyond Verdict.next-condition Verdict.printable Verdict.is-weight Verdict.of-site Verdict.may-be Verdict.joined Verdict.from-to Verdict.wanted-by Verdict.wanted Verdict.site-rules Verdict.first-rules Verdict.later-rules Verdict.rules-in Verdict.after Verdict.ended Verdict.judged-in Verdict.verdict-in Load.site-in Listing.written Forms.layout-in Forms.byte-in Forms.copied Forms.fitted Forms.converted Forms.converted-all Forms.model-as Conversion.own-refusal Conversion.too-large Conversion.conversion-refusal Conversion.conversion
+unfolding Diagram.zeros Diagram.padded Valid.all Valid.among Command.width-in Command.word-at Command.signed Command.signed-from Command.bytes-at Command.linear-in Command.command-in Command.read-in Command.goes-on Command.readings-from-in Command.readings-in Verdict.same-slot Verdict.has-slot Verdict.first-broken Verdict.beyond Verdict.next-condition Verdict.printable Verdict.is-weight Verdict.of-site Verdict.may-be Verdict.joined Verdict.from-to Verdict.wanted-by Verdict.wanted Verdict.site-rules Verdict.first-rules Verdict.later-rules Verdict.rules-in Verdict.after Verdict.ended Verdict.judged-in Verdict.verdict-in Load.site-in Listing.written Forms.layout-in Forms.byte-in Forms.copied Forms.fitted Forms.converted Forms.converted-all Forms.model-as Conversion.own-refusal Conversion.too-large Conversion.is-forbidden Conversion.forbids Conversion.unfit Conversion.conversion-refusal Conversion.conversion
 definitions = tt
 
 -- a number of four bytes
@@ -69,11 +69,17 @@ levels-five =
     ++ ((0x10 ∷ new-linear 0 0 0) ++ ((0x22 ∷ 1 ∷ 0 ∷ 2 ∷ []) ++ ((0x10 ∷ new-linear 0 0 0) ++ ((0x22 ∷ 1 ∷ 0 ∷ 3 ∷ [])
     ++ ((0x10 ∷ new-linear 0 0 0) ++ ((0x22 ∷ 1 ∷ 0 ∷ 4 ∷ []) ++ ((0x10 ∷ new-linear 0 0 0) ++ ((0x22 ∷ 1 ∷ 0 ∷ 5 ∷ []) ++ (0xff ∷ [])))))))))))))
 
+-- a reward that is forbidden where level 1 is above 0
+abbrev forbidding : List ℕ
+forbidding =
+    (0x02 ∷ 1 ∷ 0 ∷ 1 ∷ 0 ∷ 1 ∷ []) ++ ((0x10 ∷ new-linear 0 0 0) ++ ((0x13 ∷ []) ++ ((0x12 ∷ new-linear 1 0 0) ++ ((0x20 ∷ 1 ∷ 0 ∷ [])
+    ++ ((0x10 ∷ new-linear 0 0 0) ++ ((0x22 ∷ 1 ∷ 0 ∷ 1 ∷ []) ++ (0xff ∷ [])))))))
+
 -- number, place and length, the buffer as it was
 abbrev refuses : List ℕ → ℕ → ℕ → ℕ → Bool
 refuses B room k p = let o = Conversion.to-old B (replicate room 7) in eqb (o .number) k && (eqb (o .place) p && eqb (o .size) 0)
 
--- 20 before 17; 17 by one byte; an old model is no new one: 3 at its first byte
-pub back-refused : T (refuses levels-five 0 20 0 && (refuses new-model 0 17 0 && refuses old-model 0 3 0))
+-- 20 before 17, also for a 13; 17 by one byte; an old model is no new one: 3 at its first byte
+pub back-refused : T (refuses levels-five 0 20 0 && (refuses forbidding 0 20 0 && (refuses new-model 0 17 0 && refuses old-model 0 3 0)))
 unfolding definitions
 back-refused = tt

@@ -1,13 +1,14 @@
 -- What is claimed of the converters, as types: each is proved in laws/Statements.
 use mathlib.Core.Path.{_≡_}
 use mathlib.Core.Logic.{_↔_}
-use mathlib.Core.List.{List}
+use mathlib.Core.List.{List, List·Memᴰ}
 use Prim.Native.Nat.{ℕ, _≤_, _<_}
 use lib.ListN.{length, take, drop}
-use Rattle.theory.specs.Form.{Form, old-form, new-form, levels-in, actions-in, bytes-in}
+use Rattle.theory.specs.Form.{Form, old-form, new-form, levels-in, actions-in, bytes-in, forbidden-bytes}
+use Rattle.theory.specs.Command.{push-forbidden, whole, readings-in}
 use Rattle.theory.specs.Process.{optimum, lowest-best}
 use Rattle.theory.specs.Meaning.{State, process}
-use Rattle.theory.specs.Verdict.{Site, refusal}
+use Rattle.theory.specs.Verdict.{refusal}
 use Rattle.theory.specs.Load.{site-in, model-in, model}
 use Rattle.theory.specs.Listing.{written, ListingOut}
 use Rattle.theory.specs.Rows.{VerdictRow-in}
@@ -20,10 +21,12 @@ pub record AdmittedIn (F : Form) (B : List ℕ) : Type 0 where
   pub own : VerdictRow-in F B (refusal 0 0)
 
 -- not "a model that does not fit the old one (m above 4, A above 8, or too many bytes once written)"
-pub record FitsIn (G : Form) (S : Site) (size : ℕ) : Type 0 where
-  pub levels : S .levels ≤ levels-in G
-  pub actions : S .actions ≤ actions-in G
-  pub bytes : size ≤ bytes-in G
+pub record FitsIn (F G : Form) (B : List ℕ) : Type 0 where
+  pub levels : site-in F B .levels ≤ levels-in G
+  pub actions : site-in F B .actions ≤ actions-in G
+  pub bytes : length (model-as F G B) ≤ bytes-in G
+  -- "A model with 13 does not fit the old form"
+  pub commands : {at : ℕ} → List·Memᴰ (record { at = at; read = whole push-forbidden }) (readings-in F B) → 1 ≤ forbidden-bytes G
 
 -- ---- the rows
 
@@ -36,15 +39,15 @@ abbrev pub wrote : List ℕ → List ℕ → ListingOut
 wrote buffer C = record { number = 0; place = 0; size = length C; buffer = written buffer 0 C }
 
 pub data ConversionRow (F G : Form) (B buffer : List ℕ) : ListingOut → Type 0 where
-  conversion-0 : AdmittedIn F B → FitsIn G (site-in F B) (length (model-as F G B)) → length (model-as F G B) ≤ length buffer → ConversionRow F G B buffer (wrote buffer (model-as F G B))
+  conversion-0 : AdmittedIn F B → FitsIn F G B → length (model-as F G B) ≤ length buffer → ConversionRow F G B buffer (wrote buffer (model-as F G B))
   -- "10: .. model above .. bytes"; "Old models keep their limit of 65,535 bytes."
   conversion-10 : bytes-in F < length B → ConversionRow F G B buffer (refused-conversion buffer 10 0)
   -- "the model's own refusals", at its own offsets
   conversion-1-8 : {k p : ℕ} → length B ≤ bytes-in F → VerdictRow-in F B (refusal k p) → 1 ≤ k → ConversionRow F G B buffer (refused-conversion buffer k p)
   -- "refuses a model that does not fit the old one .. with 20 after the model's own refusals"
-  conversion-20 : AdmittedIn F B → (FitsIn G (site-in F B) (length (model-as F G B)) → ⊥) → ConversionRow F G B buffer (refused-conversion buffer 20 0)
+  conversion-20 : AdmittedIn F B → (FitsIn F G B → ⊥) → ConversionRow F G B buffer (refused-conversion buffer 20 0)
   -- "and a short one is 17, last"
-  conversion-17 : AdmittedIn F B → FitsIn G (site-in F B) (length (model-as F G B)) → length buffer < length (model-as F G B) → ConversionRow F G B buffer (refused-conversion buffer 17 0)
+  conversion-17 : AdmittedIn F B → FitsIn F G B → length buffer < length (model-as F G B) → ConversionRow F G B buffer (refused-conversion buffer 17 0)
 
 -- every outcome is one of them, and no two are rows of the same call
 abbrev pub ConversionRows : Type 0

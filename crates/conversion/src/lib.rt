@@ -7,14 +7,18 @@ ghost use Rattle.command.specs.Forms.{form-of};
 ghost use Rattle.model.specs.Answers.{shown};
 ghost use Rattle.conversion.specs.Conversion.{own-refusal, conversion, to-new, to-old};
 ghost use Rattle.conversion.specs.Conversion.{too-large as larger};
+ghost use Rattle.conversion.specs.Conversion.{unfit as unfit-in};
 ghost use Rattle.conversion.specs.Written.{outcome-as};
 use command::action_in;
 use command::byte_at;
 use command::forms::Form;
 use command::forms::actions;
+use command::forms::forbidden_bytes;
 use command::forms::levels;
 use model::Verdict;
 use progress::refusals::SIZES;
+
+mod forbidding; // forbidding.rt: whether a model has a command that the old form has not
 
 // "17: buffer too short"
 const SHORT_BUFFER: u32 = 17;
@@ -65,6 +69,20 @@ fn too_large(from: Form, to: Form, model: &[u8], size: usize) -> bool
     bytes_most(to) < size
 }
 
+// What does not fit: "A model with 13 does not fit the old form".
+fn unfit(from: Form, to: Form, model: &[u8], size: usize) -> bool
+    ensures { λ r. ⌜ r ≡ unfit-in (form-of from) (form-of to) (now (model .entry)) size ⌝ }
+{
+    if too_large(from, to, model, size) {
+        return true;
+    }
+    if forbidden_bytes(to) == 0 {
+        forbidding::forbids(from, model)
+    } else {
+        false
+    }
+}
+
 fn refused(number: u32, place: usize) -> Converted
     ensures { λ r. ⌜ (r .number ≡ number) × (r .place ≡ place) × (r .size ≡ 0) ⌝ }
 {
@@ -84,7 +102,7 @@ fn convert(from: Form, to: Form, model: &[u8], buffer: &mut [u8]) -> Converted
         return refused(v.number, v.place);
     }
     let size = model_forms::writing::model_len(from, to, model);
-    if too_large(from, to, model, size) {
+    if unfit(from, to, model, size) {
         return refused(NO_FIT, 0);
     }
     if buffer.len() < size {

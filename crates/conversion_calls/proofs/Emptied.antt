@@ -11,10 +11,9 @@ use Rattle.whole.specs.Cases.{if, by-test}
 use Rattle.theory.specs.Form.{Form}
 use Rattle.theory.specs.Command.{readings-from-in, readings-in}
 use Rattle.theory.specs.Verdict.{Verdict, refusal}
-use Rattle.theory.specs.Load.{site-in}
 use Rattle.theory.specs.Listing.{ListingOut}
 use Rattle.model_forms.specs.Forms.{converted, converted-all, model-as}
-use Rattle.conversion.specs.Conversion.{own-refusal, too-large, conversion-refusal, conversion}
+use Rattle.conversion.specs.Conversion.{own-refusal, unfit, conversion-refusal, conversion}
 use Rattle.conversion.specs.Statements.{wrote, refused-conversion}
 use Rattle.answers.specs.Answers.{short}
 use Rattle.answers.specs.Texts.{listed, listing-answer}
@@ -41,7 +40,7 @@ module _ (F G : Form) (B : List ℕ) where
       let v = own-refusal F B in
       let size = length (model-as F G B) in
       let t = eqb (v .number) 0 in
-      let a = too-large G (site-in F B) size in
+      let a = unfit F G B size in
       ap (λ (b : Bool). short (if (not t) v (if a (refusal 20 0) (if b (refusal 17 0) (refusal 0 0))) .number)) (lt-ltb 0 size model-some)
       ∙ alike v t a (ltb room size)
 

@@ -1,4 +1,4 @@
-// "These rules judge each leaf and condition as written": two facts of each diagram on the stack.
+// "These rules judge each leaf and condition as written": three facts of each diagram on the stack.
 ghost use mathlib.Core.Path.{_≡_};
 ghost use mathlib.Core.List.{[], _∷_};
 ghost use Prim.Native.Nat.{ℕ, _+_, _*_, _%_, _≤_, _<_};
@@ -12,11 +12,12 @@ ghost use Rattle.theory.specs.Verdict.{joined as joined-facts};
 ghost use Rattle.theory.specs.Verdict.{may-be as may-be-given};
 ghost use Rattle.facts.specs.Seen.{seen-in, seen};
 
-// The two facts of each diagram on the stack, a word of bits for each fact, the top's lowest.
+// The three facts of each diagram on the stack, a word of bits for each fact, the top's lowest.
 pub struct Seen {
     pub len: usize,
     pub later: u32,
     pub weights: u32,
+    pub forbids: u32,
 }
 
 pub fn either(a: bool, b: bool) -> bool
@@ -38,6 +39,7 @@ pub fn none() -> Seen
         len: 0,
         later: 0,
         weights: 0,
+        forbids: 0,
     }
 }
 
@@ -57,16 +59,18 @@ fn below(word: u32, b: bool) -> u32
 }
 
 // A full stack stays as it is.
-pub fn pushed(t: Seen, next_step: bool, weights: bool) -> Seen
-    ensures { λ r. ⌜ (t .len < stack-most → seen r ≡ record { next-step = «next_step»; weights = weights } ∷ seen t) ⌝ }
+pub fn pushed(t: Seen, next_step: bool, weights: bool, forbids: bool) -> Seen
+    ensures { λ r. ⌜ (t .len < stack-most → seen r ≡ record { next-step = «next_step»; weights = weights; forbids = forbids } ∷ seen t) ⌝ }
 {
     let later = t.later;
     let weighed = t.weights;
+    let barred = t.forbids;
     if t.len < 32 {
         Seen {
             len: t.len + 1,
             later: below(later, next_step),
             weights: below(weighed, weights),
+            forbids: below(barred, forbids),
         }
     } else {
         t
@@ -78,24 +82,29 @@ pub fn popped(t: Seen) -> Seen
 {
     let later = t.later;
     let weighed = t.weights;
+    let barred = t.forbids;
     if 0 < t.len {
         Seen {
             len: t.len - 1,
             later: later / 2,
             weights: weighed / 2,
+            forbids: barred / 2,
         }
     } else {
         t
     }
 }
 
-// What is given: "Next-step conditions stand only in next levels"; "The leaves of a chance are constants 0 to W".
+// What is given: "Next-step conditions stand only in next levels"; "The leaves of a chance are constants 0 to W"; a forbidden leaf is "allowed in rewards only".
 pub fn may_be(command: u8, t: Seen) -> bool
     ensures { λ r. ⌜ (0 < t .len → (a i : ℕ) → r ≡ may-be-given (record { command = command; action = a; index = i }) (top (seen t))) ⌝ }
 {
     both(
         either(command == 0x22, !low(t.later)),
-        either(command != 0x21, low(t.weights)),
+        both(
+            either(command != 0x21, low(t.weights)),
+            either(command == 0x20, !low(t.forbids)),
+        ),
     )
 }
 
@@ -107,5 +116,6 @@ pub fn joined(t: Seen, later: bool) -> Seen
     let under = popped(high);
     let next = either(later, either(low(high.later), low(t.later)));
     let weights = both(low(high.weights), low(t.weights));
-    pushed(under, next, weights)
+    let forbids = either(low(high.forbids), low(t.forbids));
+    pushed(under, next, weights, forbids)
 }

@@ -7,7 +7,7 @@ use native.Mathlib.Omega.{arith}
 use lib.Dec.{T-not}
 use lib.ListN.{length}
 use Rattle.whole.specs.Cases.{if, by-test}
-use Rattle.theory.specs.Command.{site, push-leaf, push-condition, push-test, give, name-action, end-model, Read, whole, unknown, short, Placed, byte-at, width, read-at, goes-on, readings-from, readings-from-in, readings, readings-in}
+use Rattle.theory.specs.Command.{site, push-leaf, push-condition, push-test, push-forbidden, give, name-action, end-model, Read, whole, unknown, short, Placed, byte-at, width, read-at, goes-on, readings-from, readings-from-in, readings, readings-in}
 use Rattle.theory.specs.Verdict.{from-to}
 use Rattle.theory.specs.Load.{site-at}
 use Rattle.theory.specs.Rows.{Admitted}
@@ -27,6 +27,7 @@ met-by x (whole (site m n a w)) = []
 met-by x (whole (push-leaf p)) = []
 met-by x (whole (push-condition k)) = []
 met-by x (whole (push-test p)) = []
+met-by x (whole push-forbidden) = []
 met-by x (whole (give g)) = []
 met-by x (whole (name-action a t)) = if (same-name (trim t) x) (a ∷ []) []
 met-by x (whole end-model) = []
@@ -58,6 +59,7 @@ one-reading x s (whole (site m n a w)) k = refl
 one-reading x s (whole (push-leaf p)) k = refl
 one-reading x s (whole (push-condition i)) k = refl
 one-reading x s (whole (push-test p)) k = refl
+one-reading x s (whole push-forbidden) k = refl
 one-reading x s (whole (give g)) k = refl
 one-reading x s (whole (name-action a t)) k = by-test (same-name (trim t) x) (λ b. with-met (if b (joined s a) s) k ≡ with-met s (if b (a ∷ []) [] ++ k)) (λ _. one-more s a k) (λ _. refl)
 one-reading x s (whole end-model) k = refl
@@ -89,6 +91,7 @@ module _ (x : List ℕ) (a : ℕ) where
   met-reading (whole (push-leaf p)) m = absurd (List·Memᴰ·not-nil m)
   met-reading (whole (push-condition k)) m = absurd (List·Memᴰ·not-nil m)
   met-reading (whole (push-test p)) m = absurd (List·Memᴰ·not-nil m)
+  met-reading (whole push-forbidden) m = absurd (List·Memᴰ·not-nil m)
   met-reading (whole (give g)) m = absurd (List·Memᴰ·not-nil m)
   met-reading (whole (name-action b t)) m = by-test (same-name (trim t) x)
       (λ c. List·Memᴰ a (if c (b ∷ []) []) → (if c (b ∷ []) [] ≡ a ∷ []) × ((u : List ℕ) × ((whole (name-action b t) ≡ whole (name-action a u)) × (trim u ≡ x))))

@@ -17,7 +17,7 @@ use Rattle.theory.specs.laws.Name.{name-bytes-at}
 use Rattle.command.proofs.Command.{the-type as command-type}
 use Rattle.command.proofs.Read.{the-type as read-type}
 use Rattle.command.specs.declared.Command.{Command as CodeCommand}
-use Rattle.command.specs.declared.Command.the-variants.{Site, Leaf, Condition, Test, Give, Name, End}
+use Rattle.command.specs.declared.Command.the-variants.{Site, Leaf, Condition, Test, Forbidden, Give, Name, End}
 use Rattle.command.specs.declared.Read.{Read as CodeRead}
 use Rattle.command.specs.declared.Read.the-variants.{Whole, Unknown, Short}
 use Rattle.command.specs.Reading.{command-of, command-of-in, read-of, read-of-in, next-at}
@@ -63,15 +63,16 @@ module _ (B : List ℕ) (at : ℕ) {c : CodeCommand} (a : ℕ) (e : c ≡ Name a
     unfolding with-reading
     passes t = sym (ap (λ (d : Command). with-reading x s (whole d)) named ∙ ap (λ (b : Bool). if b (joined s a) s) (sym f ∙ t))
 
-pub others : (B : List ℕ) (at : ℕ) (x : List ℕ) (s : Bearers) (c : CodeCommand) → OneOf (0 ∷ 1 ∷ 2 ∷ 3 ∷ 4 ∷ 6 ∷ []) (tagOf command-type c)
+pub others : (B : List ℕ) (at : ℕ) (x : List ℕ) (s : Bearers) (c : CodeCommand) → OneOf (0 ∷ 1 ∷ 2 ∷ 3 ∷ 4 ∷ 5 ∷ 7 ∷ []) (tagOf command-type c)
     → s ≡ with-reading x s (whole (command-of B at c))
 unfolding with-reading command-of-in
 others B at x s (Site m n b w) k = refl
 others B at x s Leaf k = refl
 others B at x s (Condition i) k = refl
 others B at x s Test k = refl
+others B at x s Forbidden k = refl
 others B at x s (Give g b j) k = refl
-others B at x s (Name b) k = absurd (miss (0 ∷ 1 ∷ 2 ∷ 3 ∷ 4 ∷ 6 ∷ []) 5 tt k)
+others B at x s (Name b) k = absurd (miss (0 ∷ 1 ∷ 2 ∷ 3 ∷ 4 ∷ 5 ∷ 7 ∷ []) 6 tt k)
 others B at x s End k = refl
 
 -- ---- one turn

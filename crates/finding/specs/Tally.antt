@@ -2,7 +2,7 @@
 use mathlib.Core.List.{List, [], _∷_}
 use Prim.Native.Nat.{ℕ}
 use Rattle.whole.specs.Cases.{if}
-use Rattle.theory.specs.Command.{site, push-leaf, push-condition, push-test, give, name-action, end-model, Read, whole, unknown, short, Placed}
+use Rattle.theory.specs.Command.{site, push-leaf, push-condition, push-test, push-forbidden, give, name-action, end-model, Read, whole, unknown, short, Placed}
 use Rattle.finding.specs.declared.Bearers.{Bearers}
 use Rattle.finding.specs.declared.Bearers.the-variants.{Nobody, One, Several}
 use Rattle.finding.specs.declared.Found.{Found}
@@ -24,6 +24,7 @@ with-reading x s (whole (site m n a w)) = s
 with-reading x s (whole (push-leaf p)) = s
 with-reading x s (whole (push-condition k)) = s
 with-reading x s (whole (push-test p)) = s
+with-reading x s (whole push-forbidden) = s
 with-reading x s (whole (give g)) = s
 with-reading x s (whole (name-action a t)) = if (same-name (trim t) x) (joined s a) s
 with-reading x s (whole end-model) = s

@@ -16,7 +16,7 @@ use Rattle.theory.specs.Diagram.{Tree}
 use Rattle.theory.specs.Valid.{all}
 use Rattle.theory.specs.Meaning.{Model}
 use Rattle.theory.specs.Computation.{Comp, ret, bind, Out, done, stopped, run}
-use Rattle.theory.specs.Command.{Command, site, push-leaf, push-condition, push-test, name-action, end-model, Read, whole, Placed, byte-at, width, command-in, command-at, goes-on, readings-from-in, readings-from, readings-in, readings, give, Slot}
+use Rattle.theory.specs.Command.{Command, site, push-leaf, push-condition, push-test, push-forbidden, name-action, end-model, Read, whole, Placed, byte-at, width, command-in, command-at, goes-on, readings-from-in, readings-from, readings-in, readings, give, Slot}
 use Rattle.theory.specs.Verdict.{Site, site-of, Progress, reward-slot, chance-slot, level-slot, end-slot, has-slot, first-broken, from-to, wanted-by, wanted, site-rules, first-rules, rules-in, after, ended, judged-in, judged, at-start, verdict-in, verdict}
 use Rattle.theory.specs.Load.{Entry, Loaded as Loading, load-one-with, load-on, load-on-with, find-slot, found, action-of, model-of, site-in, site-at, load-in, load, model-in, model}
 use Rattle.theory.specs.Stage.{all-diagrams, model-diagrams}
@@ -46,6 +46,7 @@ site-fits B (site m n a w) = site-of m n a w ≡ site-at B
 site-fits B (push-leaf p) = T true
 site-fits B (push-condition k) = T true
 site-fits B (push-test p) = T true
+site-fits B push-forbidden = T true
 site-fits B (give g) = T true
 site-fits B (name-action a b) = T true
 site-fits B end-model = T true
@@ -58,8 +59,8 @@ first-fits : (B : List ℕ) → site-fits B (command-at B 0)
 unfolding command-in site-fits site-in
 first-fits B =
     one-of B (eqb (byte-at B 0) (site-byte new-form)) _ _ refl (one-of B (eqb (byte-at B 0) 0x10) _ _ tt (one-of B (eqb (byte-at B 0) 0x11) _ _ tt
-    (one-of B (eqb (byte-at B 0) 0x12) _ _ tt (one-of B (eqb (byte-at B 0) 0x20) _ _ tt (one-of B (eqb (byte-at B 0) 0x21) _ _ tt
-    (one-of B (eqb (byte-at B 0) 0x22) _ _ tt (one-of B (eqb (byte-at B 0) 0x23) _ _ tt (one-of B (eqb (byte-at B 0) 0x30) _ _ tt tt))))))))
+    (one-of B (eqb (byte-at B 0) 0x12) _ _ tt (one-of B (eqb (byte-at B 0) 0x13) _ _ tt (one-of B (eqb (byte-at B 0) 0x20) _ _ tt (one-of B (eqb (byte-at B 0) 0x21) _ _ tt
+    (one-of B (eqb (byte-at B 0) 0x22) _ _ tt (one-of B (eqb (byte-at B 0) 0x23) _ _ tt (one-of B (eqb (byte-at B 0) 0x30) _ _ tt tt)))))))))
 
 abbrev begun : Site → Progress
 begun S = record { begun = true; site = S; stack = []; given = [] }
@@ -82,6 +83,7 @@ first-command B w h (site m n a v) f e = record {
 first-command B w h (push-leaf p) f e = absurd (let z : _≡_ {A = ℕ} 1 0 = e in omega arith)
 first-command B w h (push-condition k) f e = absurd (let z : _≡_ {A = ℕ} 1 0 = e in omega arith)
 first-command B w h (push-test p) f e = absurd (let z : _≡_ {A = ℕ} 1 0 = e in omega arith)
+first-command B w h push-forbidden f e = absurd (let z : _≡_ {A = ℕ} 1 0 = e in omega arith)
 first-command B w h (give g) f e = absurd (let z : _≡_ {A = ℕ} 1 0 = e in omega arith)
 first-command B w h (name-action a b) f e = absurd (let z : _≡_ {A = ℕ} 1 0 = e in omega arith)
 first-command B w h end-model f e = absurd (let z : _≡_ {A = ℕ} 1 0 = e in omega arith)

@@ -24,7 +24,7 @@ use Rattle.diagrams.specs.Nodes.{treeAt, Grown}
 use Rattle.diagrams.proofs.Trees.{trees-kept}
 use Rattle.command.proofs.Command.{the-type as command-type}
 use Rattle.command.specs.declared.Command.{Command as CodeCommand}
-use Rattle.command.specs.declared.Command.the-variants.{Site as SiteBy, Leaf, Condition, Test, Give, Name, End}
+use Rattle.command.specs.declared.Command.the-variants.{Site as SiteBy, Leaf, Condition, Test, Forbidden, Give, Name, End}
 use Rattle.command.specs.Reading.{command-of-in, command-of}
 use Rattle.loading.specs.Rooting.{rows-above, offset-of, place-of, ended-by, storedIn}
 
@@ -258,13 +258,14 @@ unfolding storedIn
 stored-no R i x h = ap (λ (b : Bool). if b (set R i x) R) (sym (le-ltb i loaded-roots-most h))
 
 -- nothing is given
-pub other-command : (B : List ℕ) (at : ℕ) (d : CodeCommand) → OneOf (0 ∷ 1 ∷ 2 ∷ 3 ∷ 5 ∷ 6 ∷ []) (tagOf command-type d)
+pub other-command : (B : List ℕ) (at : ℕ) (d : CodeCommand) → OneOf (0 ∷ 1 ∷ 2 ∷ 3 ∷ 4 ∷ 6 ∷ 7 ∷ []) (tagOf command-type d)
     → ((m n A : ℕ) → loaded-roots-most ≡ place-of m n A (command-of B at d)) × ((b : Bool) → b ≡ ended-by b (command-of B at d))
 unfolding place-of ended-by command-of-in
 other-command B at (SiteBy x y a w) k = (λ m n A. refl, λ b. refl)
 other-command B at Leaf k = (λ m n A. refl, λ b. refl)
 other-command B at (Condition i) k = (λ m n A. refl, λ b. refl)
 other-command B at Test k = (λ m n A. refl, λ b. refl)
-other-command B at (Give x a j) k = absurd (miss (0 ∷ 1 ∷ 2 ∷ 3 ∷ 5 ∷ 6 ∷ []) 4 tt k)
+other-command B at Forbidden k = (λ m n A. refl, λ b. refl)
+other-command B at (Give x a j) k = absurd (miss (0 ∷ 1 ∷ 2 ∷ 3 ∷ 4 ∷ 6 ∷ 7 ∷ []) 5 tt k)
 other-command B at (Name a) k = (λ m n A. refl, λ b. refl)
 other-command B at End k = (λ m n A. refl, λ b. refl)

@@ -15,7 +15,7 @@ use Rattle.theory.specs.Form.{new-form}
 use Rattle.theory.specs.Diagram.{Tree}
 use Rattle.theory.specs.Valid.{all, among}
 use Rattle.theory.specs.Computation.{Comp, bind, Out, done, stopped, run}
-use Rattle.theory.specs.Command.{Command, site, push-leaf, push-condition, push-test, name-action, end-model, Read, whole, unknown, short, Placed, byte-at, width, read-at, goes-on, readings-from-in, readings-from, readings, give, Slot}
+use Rattle.theory.specs.Command.{Command, site, push-leaf, push-condition, push-test, push-forbidden, name-action, end-model, Read, whole, unknown, short, Placed, byte-at, width, read-at, goes-on, readings-from-in, readings-from, readings, give, Slot}
 use Rattle.theory.specs.Verdict.{Site, Facts, Progress, end-slot, name-slot, has-slot, same-slot, or, Rule, rule, first-broken, next-condition, joined, wanted, later-rules, rules-in, after, Verdict, refusal, ended, judged-in, judged}
 use Rattle.theory.specs.Load.{Entry, Loaded as Loading, load-one, load-one-with, load-on, load-on-with, site-at}
 use Rattle.theory.specs.laws.Comps.{run-bind}
@@ -95,6 +95,9 @@ module _ (S : Site) (few : S .conditions ≤ conditions-most) (K : List Facts) (
       let h = nltb→le (length K) 2 (unbroken 4 _ _ (unbroken 3 _ _ (u .1) .1) .0) in
       let j = joined-less false K h in
       record { same = refl; high = j; most = λ m. omega arith; able = λ m. (h, m) }
+  checked push-forbidden e =
+      let h = nleb→lt stack-most (length K) (unbroken 4 _ _ e .0) in
+      record { same = refl; high = refl; most = λ _. omega arith; able = λ _. h }
   checked (give g) e = let j = drop-less K in record { same = refl; high = j; most = λ m. omega arith; able = λ m. tt }
   checked (name-action a b) e = record { same = refl; high = refl; most = λ m. m; able = λ m. tt }
   checked end-model e = record { same = refl; high = refl; most = λ m. m; able = λ m. tt }
@@ -116,6 +119,7 @@ module _ (S : Site) (A : S .actions ≤ actions-most) (N : S .conditions ≤ con
   given-roots (push-leaf p) e = subst (λ (R : List ℕ). Rooted S l n R G E) (sym (stored-none R (getD H 0 0))) r
   given-roots (push-condition k) e = subst (λ (R : List ℕ). Rooted S l n R G E) (sym (stored-none R (getD H 0 0))) r
   given-roots (push-test p) e = subst (λ (R : List ℕ). Rooted S l n R G E) (sym (stored-none R (getD H 0 0))) r
+  given-roots push-forbidden e = subst (λ (R : List ℕ). Rooted S l n R G E) (sym (stored-none R (getD H 0 0))) r
   given-roots (give g) e =
       let u = unbroken 3 _ _ e in
       took g _ (placed-given S g (says-of-site S g .kept (u .0))) (nltb→le (length K) 1 (unbroken 4 _ _ (u .1) .0))
@@ -129,6 +133,7 @@ given-ends S K G e (site m n a w) f = absurd (unbroken 0 true _ f .0)
 given-ends S K G e (push-leaf p) f = e
 given-ends S K G e (push-condition k) f = e
 given-ends S K G e (push-test p) f = e
+given-ends S K G e push-forbidden f = e
 given-ends S K G e (give g) f = ends-given S G (says-of-site S g .kept (unbroken 3 _ _ f .0)) e
 given-ends S K G e (name-action a b) f = e
 given-ends S K G e end-model f = e

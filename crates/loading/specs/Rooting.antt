@@ -9,7 +9,7 @@ use lib.ListN.{getD, set}
 use Rattle.whole.specs.Cases.{if}
 use Rattle.theory.specs.Widths.{loaded-roots-most}
 use Rattle.theory.specs.Computation.{done, stopped, run}
-use Rattle.theory.specs.Command.{Command, site, push-leaf, push-condition, push-test, give, name-action, end-model, Slot}
+use Rattle.theory.specs.Command.{Command, site, push-leaf, push-condition, push-test, push-forbidden, give, name-action, end-model, Slot}
 use Rattle.theory.specs.Verdict.{Site, or, from-to}
 use Rattle.theory.specs.Load.{site-at, load, model}
 use Rattle.theory.specs.Stage.{model-diagrams}
@@ -35,6 +35,7 @@ place-of m n A (site b c a w) = loaded-roots-most
 place-of m n A (push-leaf p) = loaded-roots-most
 place-of m n A (push-condition k) = loaded-roots-most
 place-of m n A (push-test p) = loaded-roots-most
+place-of m n A push-forbidden = loaded-roots-most
 place-of m n A (give g) = rows-above A g * (1 + n + m) + offset-of n g
 place-of m n A (name-action a b) = loaded-roots-most
 place-of m n A end-model = loaded-roots-most
@@ -45,6 +46,7 @@ ended-by b (site m n a w) = b
 ended-by b (push-leaf p) = b
 ended-by b (push-condition k) = b
 ended-by b (push-test p) = b
+ended-by b push-forbidden = b
 ended-by b (give g) = or (eqb (g .command) 0x23) b
 ended-by b (name-action a t) = b
 ended-by b end-model = b

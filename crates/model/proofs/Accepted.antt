@@ -11,7 +11,7 @@ use Rattle.whole.specs.Cases.{if}
 use Rattle.theory.specs.Widths.{conditions-most, weights-most, bytes-most, steps-most}
 use Rattle.theory.specs.Form.{Form, old-form, new-form, site-byte, levels-in, actions-in, action-bytes}
 use Rattle.theory.specs.Valid.{among}
-use Rattle.theory.specs.Command.{Command, site, push-leaf, push-condition, push-test, give, name-action, end-model, Read, whole, unknown, short, byte-at, action-at, width-in, command-in, read-in, goes-on, readings-from-in, readings-in}
+use Rattle.theory.specs.Command.{Command, site, push-leaf, push-condition, push-test, push-forbidden, give, name-action, end-model, Read, whole, unknown, short, byte-at, action-at, width-in, command-in, read-in, goes-on, readings-from-in, readings-in}
 use Rattle.theory.specs.Verdict.{or, Site, site-of, Verdict, refusal, verdict, verdict-in, judged-in, at-start, rule, Rule, first-broken, first-rules, site-rules, rules-in, ended, after}
 use Rattle.theory.specs.Load.{site-at, site-in}
 use Rattle.theory.specs.Solve.{early}
@@ -93,6 +93,7 @@ is-site (site m n a w) = true
 is-site (push-leaf p) = false
 is-site (push-condition k) = false
 is-site (push-test p) = false
+is-site push-forbidden = false
 is-site (give g) = false
 is-site (name-action a b) = false
 is-site end-model = false
@@ -115,11 +116,12 @@ operands form B at m n a w e =
     (neither-site (eqb (byte-at B at) 0x10) _ _ refl
     (neither-site (eqb (byte-at B at) 0x11) _ _ refl
     (neither-site (eqb (byte-at B at) 0x12) _ _ refl
+    (neither-site (eqb (byte-at B at) 0x13) _ _ refl
     (neither-site (eqb (byte-at B at) 0x20) _ _ refl
     (neither-site (eqb (byte-at B at) 0x21) _ _ refl
     (neither-site (eqb (byte-at B at) 0x22) _ _ refl
     (neither-site (eqb (byte-at B at) 0x23) _ _ refl
-    (neither-site (eqb (byte-at B at) 0x30) _ _ refl refl)))))))) e
+    (neither-site (eqb (byte-at B at) 0x30) _ _ refl refl))))))))) e
 
 -- a first command that breaks no rule is a site
 no-site : first-broken (rule 1 true ∷ []) ≡ 0 → ⊥
@@ -137,6 +139,7 @@ first-site form B (site m n a w) e u = subst (Sited-in form) (operands form B 0 
 first-site form B (push-leaf p) e u = absurd (no-site u)
 first-site form B (push-condition k) e u = absurd (no-site u)
 first-site form B (push-test p) e u = absurd (no-site u)
+first-site form B push-forbidden e u = absurd (no-site u)
 first-site form B (give g) e u = absurd (no-site u)
 first-site form B (name-action a b) e u = absurd (no-site u)
 first-site form B end-model e u = absurd (no-site u)

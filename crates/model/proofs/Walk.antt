@@ -11,11 +11,11 @@ use denote.Enum.Declared.{tagOf}
 use Rattle.whole.specs.Cases.{if}
 use Rattle.theory.specs.Widths.{flags-most}
 use Rattle.theory.specs.Form.{Form, new-form}
-use Rattle.theory.specs.Command.{Command, site, push-leaf, push-condition, push-test, give, name-action, end-model, Read, whole, unknown, short, Placed, byte-at, width, width-in, read-in, read-at, goes-on, readings-from, readings-from-in, readings-in}
+use Rattle.theory.specs.Command.{Command, site, push-leaf, push-condition, push-test, push-forbidden, give, name-action, end-model, Read, whole, unknown, short, Placed, byte-at, width, width-in, read-in, read-at, goes-on, readings-from, readings-from-in, readings-in}
 use Rattle.theory.specs.Verdict.{Progress, at-start, rule, first-broken, first-rules, later-rules, rules-in, after, Verdict, refusal, ended, judged-in, verdict-in}
 use Rattle.command.proofs.Command.{the-type}
 use Rattle.command.specs.declared.Command.{Command as CodeCommand}
-use Rattle.command.specs.declared.Command.the-variants.{Site, Leaf, Condition, Test, Give, Name, End}
+use Rattle.command.specs.declared.Command.the-variants.{Site, Leaf, Condition, Test, Forbidden, Give, Name, End}
 use Rattle.command.specs.declared.Read.{Read as CodeRead}
 use Rattle.command.specs.declared.Read.the-variants.{Whole, Unknown, Short}
 use Rattle.command.specs.Reading.{command-of, command-of-in, read-of, read-of-in, next-in, next-at}
@@ -43,15 +43,16 @@ module _ (form : Form) (B : List ℕ) (at : ℕ) {r : CodeRead} (e : read-of-in 
   unfolding read-of-in
   short-is f = ap (read-of-in form B at) (sym f) ∙ e
 
-pub not-end : (c : CodeCommand) → OneOf (0 ∷ 1 ∷ 2 ∷ 3 ∷ 4 ∷ 5 ∷ []) (tagOf the-type c) → false ≡ is-end c
+pub not-end : (c : CodeCommand) → OneOf (0 ∷ 1 ∷ 2 ∷ 3 ∷ 4 ∷ 5 ∷ 6 ∷ []) (tagOf the-type c) → false ≡ is-end c
 unfolding is-end
 not-end (Site m n a w) k = refl
 not-end Leaf k = refl
 not-end (Condition i) k = refl
 not-end Test k = refl
+not-end Forbidden k = refl
 not-end (Give x a j) k = refl
 not-end (Name a) k = refl
-not-end End k = absurd (miss (0 ∷ 1 ∷ 2 ∷ 3 ∷ 4 ∷ 5 ∷ []) 6 tt k)
+not-end End k = absurd (miss (0 ∷ 1 ∷ 2 ∷ 3 ∷ 4 ∷ 5 ∷ 6 ∷ []) 7 tt k)
 
 module _ (form : Form) (B : List ℕ) (at : ℕ) where
   pub at-end-in : (c : CodeCommand) → is-end c ≡ true → command-of-in form B at c ≡ end-model
@@ -60,6 +61,7 @@ module _ (form : Form) (B : List ℕ) (at : ℕ) where
   at-end-in Leaf e = absurd (let z : _≡_ {A = ℕ} 0 1 = cc in omega arith)
   at-end-in (Condition i) e = absurd (let z : _≡_ {A = ℕ} 0 1 = cc in omega arith)
   at-end-in Test e = absurd (let z : _≡_ {A = ℕ} 0 1 = cc in omega arith)
+  at-end-in Forbidden e = absurd (let z : _≡_ {A = ℕ} 0 1 = cc in omega arith)
   at-end-in (Give x a j) e = absurd (let z : _≡_ {A = ℕ} 0 1 = cc in omega arith)
   at-end-in (Name a) e = absurd (let z : _≡_ {A = ℕ} 0 1 = cc in omega arith)
   at-end-in End e = refl
@@ -71,6 +73,7 @@ module _ (form : Form) (B : List ℕ) (at : ℕ) where
   going-in Leaf e = (refl, λ n v. refl)
   going-in (Condition i) e = (refl, λ n v. refl)
   going-in Test e = (refl, λ n v. refl)
+  going-in Forbidden e = (refl, λ n v. refl)
   going-in (Give x a j) e = (refl, λ n v. refl)
   going-in (Name a) e = (refl, λ n v. refl)
   going-in End e = absurd (let z : _≡_ {A = ℕ} 0 1 = cc in omega arith)
@@ -92,7 +95,7 @@ module _ (form : Form) (B : List ℕ) (at : ℕ) where
 
 -- nothing is known before the first command
 abbrev fresh : CodeProgress
-fresh = record { begun = false; site = record { levels = 0; conditions = 0; actions = 0; weights = 0 }; seen = record { len = 0; later = 0; weights = 0 } }
+fresh = record { begun = false; site = record { levels = 0; conditions = 0; actions = 0; weights = 0 }; seen = record { len = 0; later = 0; weights = 0; forbids = 0 } }
 
 unfoldable pub walk-starts : (form : Form) (B : List ℕ) → Walk form B 0 fresh (replicate flags-most false)
 unfolding verdict-in readings-in seen-in
@@ -120,6 +123,7 @@ later-keeps form p (site m n a w) b u = not-none 0 (rw b at u)
 later-keeps form p (push-leaf q) b u = (b, refl)
 later-keeps form p (push-condition k) b u = (b, refl)
 later-keeps form p (push-test q) b u = (b, refl)
+later-keeps form p push-forbidden b u = (b, refl)
 later-keeps form p (give g) b u = (b, refl)
 later-keeps form p (name-action a t) b u = (b, refl)
 later-keeps form p end-model b u = (b, refl)
@@ -148,6 +152,7 @@ first-goes form B (Site m n a w) u = refl
 first-goes form B Leaf u = refl
 first-goes form B (Condition i) u = refl
 first-goes form B Test u = refl
+first-goes form B Forbidden u = refl
 first-goes form B (Give x a j) u = refl
 first-goes form B (Name a) u = refl
 first-goes form B End u = not-none 0 u

@@ -2,7 +2,7 @@
 use mathlib.Core.Bool.{Bool, true, false}
 use Rattle.theory.specs.Verdict.{Verdict, refusal}
 use Rattle.command.specs.declared.Command.{Command as CodeCommand}
-use Rattle.command.specs.declared.Command.the-variants.{Site, Leaf, Condition, Test, Give, Name, End}
+use Rattle.command.specs.declared.Command.the-variants.{Site, Leaf, Condition, Test, Forbidden, Give, Name, End}
 use Rattle.model.specs.declared.Verdict.{Verdict as CodeVerdict}
 
 abbrev pub shown : CodeVerdict → Verdict
@@ -13,6 +13,7 @@ is-end (Site m n a w) = false
 is-end Leaf = false
 is-end (Condition k) = false
 is-end Test = false
+is-end Forbidden = false
 is-end (Give x a j) = false
 is-end (Name a) = false
 is-end End = true

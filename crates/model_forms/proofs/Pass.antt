@@ -33,11 +33,11 @@ unfolding model-as readings-in
 pass-starts F G B = record { fuel = suc (length B); enough = omega arith; inside = omega arith; whole-is = refl }
 
 -- a reading that goes on is whole, and the next offset is behind it
-going-whole : (F : Form) (B : List ℕ) (at : ℕ) → goes-on (read-in F B at) ≡ true → Whole-in F B at
+pub going-whole : (F : Form) (B : List ℕ) (at : ℕ) → goes-on (read-in F B at) ≡ true → Whole-in F B at
 unfolding goes-on
 going-whole F B at = by-read-in F B at (λ r. goes-on r ≡ true → Whole-in F B at) (λ _ e. clash (sym e)) (λ _ _ e. clash (sym e)) (λ _ _ _ e. clash (sym e)) (λ w _. w)
 
-next-is : (F : Form) (B : List ℕ) (at : ℕ) → Whole-in F B at → next-in F B at ≡ at + width-in F (byte-at B at)
+pub next-is : (F : Form) (B : List ℕ) (at : ℕ) → Whole-in F B at → next-in F B at ≡ at + width-in F (byte-at B at)
 unfolding next-in
 next-is F B at w =
     let n = at + width-in F (byte-at B at) in

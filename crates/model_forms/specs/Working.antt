@@ -4,7 +4,7 @@ use Prim.Native.Nat.{ℕ, _+_}
 use Rattle.theory.specs.Form.{Form}
 use Rattle.command.specs.declared.Read.{Read as CodeRead}
 use Rattle.command.specs.declared.Read.the-variants.{Whole, Unknown, Short}
-use Rattle.command.specs.declared.Command.the-variants.{Site, Leaf, Condition, Test, Give, Name, End}
+use Rattle.command.specs.declared.Command.the-variants.{Site, Leaf, Condition, Test, Forbidden, Give, Name, End}
 use Rattle.model_forms.specs.declared.layouts.Layout.{Layout as CodeLayout}
 use Rattle.model_forms.specs.Forms.{Layout, layout-in, byte-in}
 
@@ -22,6 +22,7 @@ reads-on (Whole (Site m n a w)) = true
 reads-on (Whole Leaf) = true
 reads-on (Whole (Condition k)) = true
 reads-on (Whole Test) = true
+reads-on (Whole Forbidden) = true
 reads-on (Whole (Give c a i)) = true
 reads-on (Whole (Name a)) = true
 reads-on (Whole End) = false

@@ -18,7 +18,7 @@ use command::byte_at;
 use command::forms::Form;
 
 // A whole command that is not the end.
-fn goes_on(read: Read) -> bool
+pub fn goes_on(read: Read) -> bool
     ensures { λ r. ⌜ r ≡ reads-on read ⌝ }
 {
     if let Read::Whole(c) = read {

@@ -11,7 +11,7 @@ use lib.Seq.{getD-drop}
 use types.Run.{OneOf, miss}
 use denote.Enum.Declared.{tagOf}
 use Rattle.whole.specs.Cases.{if}
-use Rattle.theory.specs.Command.{Command, site, push-leaf, push-condition, push-test, give, name-action, end-model, Read, whole, unknown, short, read-at, byte-at, width, goes-on, readings-from, readings, readings-in}
+use Rattle.theory.specs.Command.{Command, site, push-leaf, push-condition, push-test, push-forbidden, give, name-action, end-model, Read, whole, unknown, short, read-at, byte-at, width, goes-on, readings-from, readings, readings-in}
 use Rattle.theory.specs.Widths.{name-bytes, steps-most}
 use Rattle.theory.specs.Form.{new-form, behind-action}
 use Rattle.theory.specs.Valid.{among}
@@ -22,7 +22,7 @@ use Rattle.theory.specs.Name.{names-action, Part, no-part, trimmed, named-part,
 use Rattle.command.proofs.Command.{the-type as command-type}
 use Rattle.command.proofs.Read.{the-type as read-type}
 use Rattle.command.specs.declared.Command.{Command as CodeCommand}
-use Rattle.command.specs.declared.Command.the-variants.{Site, Leaf, Condition, Test, Give, Name, End}
+use Rattle.command.specs.declared.Command.the-variants.{Site, Leaf, Condition, Test, Forbidden, Give, Name, End}
 use Rattle.command.specs.declared.Read.{Read as CodeRead}
 use Rattle.command.specs.declared.Read.the-variants.{Whole, Unknown, Short}
 use Rattle.command.specs.Reading.{command-of, command-of-in, read-of, read-of-in, next-at}
@@ -53,14 +53,15 @@ module _ (l : List ℕ) (at : ℕ) where
 
 -- ---- the command that names an action
 
-pub names-other : (a : ℕ) (B : List ℕ) (at : ℕ) (c : CodeCommand) → OneOf (0 ∷ 1 ∷ 2 ∷ 3 ∷ 4 ∷ 6 ∷ []) (tagOf command-type c) → false ≡ names-action a (whole (command-of B at c))
+pub names-other : (a : ℕ) (B : List ℕ) (at : ℕ) (c : CodeCommand) → OneOf (0 ∷ 1 ∷ 2 ∷ 3 ∷ 4 ∷ 5 ∷ 7 ∷ []) (tagOf command-type c) → false ≡ names-action a (whole (command-of B at c))
 unfolding names-action command-of-in
 names-other a B at (Site m n b w) k = refl
 names-other a B at Leaf k = refl
 names-other a B at (Condition i) k = refl
 names-other a B at Test k = refl
+names-other a B at Forbidden k = refl
 names-other a B at (Give x b j) k = refl
-names-other a B at (Name b) k = absurd (miss (0 ∷ 1 ∷ 2 ∷ 3 ∷ 4 ∷ 6 ∷ []) 5 tt k)
+names-other a B at (Name b) k = absurd (miss (0 ∷ 1 ∷ 2 ∷ 3 ∷ 4 ∷ 5 ∷ 7 ∷ []) 6 tt k)
 names-other a B at End k = refl
 
 -- how many bytes a command that names an action has
@@ -70,6 +71,7 @@ name-length a (site m n b w) e = absurd (let z : _≡_ {A = ℕ} 0 1 = cc in ome
 name-length a (push-leaf p) e = absurd (let z : _≡_ {A = ℕ} 0 1 = cc in omega arith)
 name-length a (push-condition k) e = absurd (let z : _≡_ {A = ℕ} 0 1 = cc in omega arith)
 name-length a (push-test p) e = absurd (let z : _≡_ {A = ℕ} 0 1 = cc in omega arith)
+name-length a push-forbidden e = absurd (let z : _≡_ {A = ℕ} 0 1 = cc in omega arith)
 name-length a (give g) e = absurd (let z : _≡_ {A = ℕ} 0 1 = cc in omega arith)
 name-length a (name-action b t) e = refl
 name-length a end-model e = absurd (let z : _≡_ {A = ℕ} 0 1 = cc in omega arith)

@@ -20,7 +20,7 @@ use types.Run.{OneOf, miss}
 use denote.Enum.Declared.{tagOf}
 use Rattle.command.proofs.Command.{the-type}
 use Rattle.command.specs.declared.Command.{Command as CodeCommand}
-use Rattle.command.specs.declared.Command.the-variants.{Site as SiteBy, Leaf, Condition, Test, Give, Name, End}
+use Rattle.command.specs.declared.Command.the-variants.{Site as SiteBy, Leaf, Condition, Test, Forbidden, Give, Name, End}
 use Rattle.progress.specs.Standing.{noted, place, names-row, base-of, flag-of, Slotted, for-reward, for-chance, for-level, for-name, for-end}
 use Rattle.progress.proofs.Numbers.{bounds, is-among}
 
@@ -119,12 +119,13 @@ flag-more G F {g} {h} {i} {j} n p q e =
     go false x = sym (getD-set-other F i j true false (eqb-false j i x))
 
 -- a command that gives nothing
-pub noted-other : (c : CodeCommand) (F : List Bool) → OneOf (0 ∷ 1 ∷ 2 ∷ 3 ∷ 6 ∷ []) (tagOf the-type c) → F ≡ noted c F
+pub noted-other : (c : CodeCommand) (F : List Bool) → OneOf (0 ∷ 1 ∷ 2 ∷ 3 ∷ 4 ∷ 7 ∷ []) (tagOf the-type c) → F ≡ noted c F
 unfolding noted
 noted-other (SiteBy m n a w) F k = refl
 noted-other Leaf F k = refl
 noted-other (Condition i) F k = refl
 noted-other Test F k = refl
-noted-other (Give x a j) F k = absurd (miss (0 ∷ 1 ∷ 2 ∷ 3 ∷ 6 ∷ []) 4 tt k)
-noted-other (Name a) F k = absurd (miss (0 ∷ 1 ∷ 2 ∷ 3 ∷ 6 ∷ []) 5 tt k)
+noted-other Forbidden F k = refl
+noted-other (Give x a j) F k = absurd (miss (0 ∷ 1 ∷ 2 ∷ 3 ∷ 4 ∷ 7 ∷ []) 5 tt k)
+noted-other (Name a) F k = absurd (miss (0 ∷ 1 ∷ 2 ∷ 3 ∷ 4 ∷ 7 ∷ []) 6 tt k)
 noted-other End F k = refl

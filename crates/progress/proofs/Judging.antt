@@ -11,7 +11,7 @@ use Rattle.theory.specs.Widths.{levels-most, conditions-most, actions-most, sta
 use Rattle.theory.specs.Form.{Form}
 use Rattle.theory.specs.Diagram.{Linear, zeros}
 use Rattle.theory.specs.Valid.{all, among}
-use Rattle.theory.specs.Command.{Command, push-leaf, push-condition, push-test, give, name-action, end-model, Slot}
+use Rattle.theory.specs.Command.{Command, push-leaf, push-condition, push-test, push-forbidden, give, name-action, end-model, Slot}
 use Rattle.theory.specs.Verdict.{or, Facts, Site, reward-slot, chance-slot, level-slot, name-slot, has-slot, Progress, Rule, rule, first-broken, first-rules, later-rules, rules-in, beyond, next-condition, printable, of-site, may-be, top, from-to, wanted, wanted-by}
 use Rattle.progress.specs.declared.Progress.{Progress as CodeProgress}
 use Rattle.progress.specs.Standing.{site-as, place, names-row, flag-of, for-reward, for-chance, for-level, for-name, Stands, in-order, row-given, action-given, all-given}
@@ -34,6 +34,11 @@ unfolding first-broken
 stack-only true k = refl
 stack-only false true = refl
 stack-only false false = refl
+
+only-stack : (k : Bool) → first-broken (in-order false k false false) ≡ first-broken (rule 5 k ∷ [])
+unfolding first-broken
+only-stack true = refl
+only-stack false = refl
 
 no-stack : (o t : Bool) → first-broken (in-order o false t false) ≡ first-broken (rule 4 o ∷ rule 6 t ∷ [])
 unfolding first-broken
@@ -62,7 +67,7 @@ diagram-alike false false t d e f = ap (λ (b : Bool). first-broken (in-order fa
 
 module _ {s : CodeProgress} {F : List Bool} {p : Progress} (st : Stands s F p) where
   pub depth : s .seen .len ≡ length (p .stack)
-  depth = sym (seen-length (s .seen .later) (s .seen .weights) (s .seen .len)) ∙ ap length (st .stack)
+  depth = sym (seen-length (s .seen .later) (s .seen .weights) (s .seen .forbids) (s .seen .len)) ∙ ap length (st .stack)
 
   -- an operand that is good for the site is good for the widths
   act : (a : ℕ) → not (among (s .site .actions) a) ≡ false → T (among actions-most a)
@@ -86,6 +91,10 @@ module _ {s : CodeProgress} {F : List Bool} {p : Progress} (st : Stands s F p) w
   later-test P =
       stack-only _ _ ∙ two-operands _ _ _
       ∙ ap₂ (λ (S : Site) (n : ℕ). first-broken (rule 4 (beyond (S .levels) P) ∷ rule 4 (zeros (P .coeffs)) ∷ rule 5 (ltb n 2) ∷ [])) (st .site) depth
+
+  pub later-forbidden : first-broken (in-order false (leb stack-most (s .seen .len)) false false) ≡ first-broken (later-rules (p .site) (p .stack) (p .given) push-forbidden)
+  unfolding later-rules
+  later-forbidden = only-stack _ ∙ ap (λ (n : ℕ). first-broken (rule 5 (leb stack-most n) ∷ [])) depth
 
   pub later-give : (g : Slot) (m : Bool) → (0 < s .seen .len → m ≡ may-be g (top (seen (s .seen))))
       → first-broken (in-order (not (of-site (site-as (s .site)) g)) (ltb (s .seen .len) 1) (getD F (flag-of g) false) (not m))

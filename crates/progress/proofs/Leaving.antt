@@ -12,13 +12,13 @@ use Rattle.theory.specs.Widths.{levels-most, conditions-most, actions-most, sta
 use Rattle.theory.specs.Form.{Form, old-form, new-form, levels-in, actions-in, linear-bytes}
 use Rattle.theory.specs.Diagram.{Linear}
 use Rattle.theory.specs.Valid.{among}
-use Rattle.theory.specs.Command.{Command, site, push-leaf, push-condition, push-test, give, name-action, end-model, Slot, whole, read-in}
+use Rattle.theory.specs.Command.{Command, site, push-leaf, push-condition, push-test, push-forbidden, give, name-action, end-model, Slot, whole, read-in}
 use Rattle.theory.specs.Verdict.{or, Facts, Site, site-of, has-slot, Progress, with-stack, with-slot, at-start, Rule, rule, first-broken, first-rules, later-rules, site-rules, rules-in, after, joined, is-weight, of-site}
 use Rattle.command.specs.declared.Command.{Command as CodeCommand}
 use Rattle.command.proofs.Command.{the-type}
 use types.Run.{OneOf, miss}
 use denote.Enum.Declared.{tagOf}
-use Rattle.command.specs.declared.Command.the-variants.{Site as SiteBy, Leaf, Condition, Test, Give, Name, End}
+use Rattle.command.specs.declared.Command.the-variants.{Site as SiteBy, Leaf, Condition, Test, Forbidden, Give, Name, End}
 use Rattle.command.proofs.Forward.{has-linear, linear-room}
 use Rattle.facts.specs.declared.Seen.{Seen}
 use Rattle.command.specs.Reading.{command-of-in}
@@ -120,7 +120,7 @@ module _ {s : CodeProgress} {F : List Bool} {p : Progress} (st : Stands s F p) w
   }
 
   depth : s .seen .len ≡ length (p .stack)
-  depth = sym (seen-length (s .seen .later) (s .seen .weights) (s .seen .len)) ∙ ap length (st .stack)
+  depth = sym (seen-length (s .seen .later) (s .seen .weights) (s .seen .forbids) (s .seen .len)) ∙ ap length (st .stack)
 
   joined-keeps : (later : Bool) (t : Seen) → (2 ≤ s .seen .len → s .seen .len ≤ stack-most → seen t ≡ joined later (seen (s .seen)))
       → ltb (length (p .stack)) 2 ≡ false → Stands (record { begun = s .begun; site = s .site; seen = t }) F (with-stack p (joined later (p .stack)))
@@ -131,14 +131,14 @@ module _ {s : CodeProgress} {F : List Bool} {p : Progress} (st : Stands s F p) w
       keep-stack t _ (f (omega arith) (omega arith) ∙ ap (joined later) (st .stack)) (omega (arith, length-joined later (p .stack)))
 
 module _ (form : Form) {s : CodeProgress} {F : List Bool} {p : Progress} (st : Stands s F p) where
-  pub after-leaf : (P : Linear) (w : Bool) (t : Seen) → w ≡ is-weight (s .site .weights) P → (s .seen .len < stack-most → seen t ≡ record { next-step = false; weights = w } ∷ seen (s .seen))
+  pub after-leaf : (P : Linear) (w : Bool) (t : Seen) → w ≡ is-weight (s .site .weights) P → (s .seen .len < stack-most → seen t ≡ record { next-step = false; weights = w; forbids = false } ∷ seen (s .seen))
       → first-broken (rules-in form p (push-leaf P)) ≡ 0 → Stands (record { begun = s .begun; site = s .site; seen = t }) F (after p (push-leaf P))
   unfolding after first-rules later-rules
   after-leaf P w t f h u =
       let v = passes 4 _ _ (passes 3 _ _ (later-unbroken form p (push-leaf P) (one-rule 1) u) .1) in
       let n : length (p .stack) < stack-most = leb-false stack-most (length (p .stack)) (v .0) in
       let d = depth st in
-      keep-stack st t _ (h (omega arith) ∙ ap₂ (λ (x : Bool) (K : List Facts). record { next-step = false; weights = x } ∷ K) (f ∙ ap (λ (S : Site). is-weight (S .weights) P) (st .site)) (st .stack)) n
+      keep-stack st t _ (h (omega arith) ∙ ap₂ (λ (x : Bool) (K : List Facts). record { next-step = false; weights = x; forbids = false } ∷ K) (f ∙ ap (λ (S : Site). is-weight (S .weights) P) (st .site)) (st .stack)) n
 
   pub after-condition : (k : ℕ) (t : Seen) → (2 ≤ s .seen .len → s .seen .len ≤ stack-most → seen t ≡ joined (ltb conditions-most k) (seen (s .seen)))
       → first-broken (rules-in form p (push-condition k)) ≡ 0 → Stands (record { begun = s .begun; site = s .site; seen = t }) F (after p (push-condition k))
@@ -149,6 +149,15 @@ module _ (form : Form) {s : CodeProgress} {F : List Bool} {p : Progress} (st : S
       → first-broken (rules-in form p (push-test P)) ≡ 0 → Stands (record { begun = s .begun; site = s .site; seen = t }) F (after p (push-test P))
   unfolding after first-rules later-rules
   after-test P t f u = joined-keeps st false t f (passes 4 _ _ (passes 3 _ _ (passes 3 _ _ (later-unbroken form p (push-test P) (one-rule 1) u) .1) .1) .0)
+
+  pub after-forbidden : (t : Seen) → (s .seen .len < stack-most → seen t ≡ record { next-step = false; weights = false; forbids = true } ∷ seen (s .seen))
+      → first-broken (rules-in form p push-forbidden) ≡ 0 → Stands (record { begun = s .begun; site = s .site; seen = t }) F (after p push-forbidden)
+  unfolding after first-rules later-rules
+  after-forbidden t h u =
+      let v = passes 4 _ _ (later-unbroken form p push-forbidden (one-rule 1) u) in
+      let n : length (p .stack) < stack-most = leb-false stack-most (length (p .stack)) (v .0) in
+      let d = depth st in
+      keep-stack st t _ (h (omega arith) ∙ ap (λ (K : List Facts). record { next-step = false; weights = false; forbids = true } ∷ K) (st .stack)) n
 
   pub after-give : (g : Slot) (t : Seen) → seen t ≡ drop 1 (seen (s .seen)) → first-broken (rules-in form p (give g)) ≡ 0
       → Stands (record { begun = s .begun; site = s .site; seen = t }) (set F (flag-of g) true) (after p (give g))
@@ -214,12 +223,13 @@ stands-start t e = record {
 -- ---- the first command
 
 -- any but a site breaks the first rule
-pub not-first : (form : Form) (B : List ℕ) (at : ℕ) (c : CodeCommand) → OneOf (1 ∷ 2 ∷ 3 ∷ 4 ∷ 5 ∷ 6 ∷ []) (tagOf the-type c) → 1 ≡ first-broken (first-rules form (command-of-in form B at c))
+pub not-first : (form : Form) (B : List ℕ) (at : ℕ) (c : CodeCommand) → OneOf (1 ∷ 2 ∷ 3 ∷ 4 ∷ 5 ∷ 6 ∷ 7 ∷ []) (tagOf the-type c) → 1 ≡ first-broken (first-rules form (command-of-in form B at c))
 unfolding command-of-in first-rules first-broken
-not-first form B at (SiteBy m n a w) k = absurd (miss (1 ∷ 2 ∷ 3 ∷ 4 ∷ 5 ∷ 6 ∷ []) 0 tt k)
+not-first form B at (SiteBy m n a w) k = absurd (miss (1 ∷ 2 ∷ 3 ∷ 4 ∷ 5 ∷ 6 ∷ 7 ∷ []) 0 tt k)
 not-first form B at Leaf k = refl
 not-first form B at (Condition i) k = refl
 not-first form B at Test k = refl
+not-first form B at Forbidden k = refl
 not-first form B at (Give x a j) k = refl
 not-first form B at (Name a) k = refl
 not-first form B at End k = refl
@@ -231,9 +241,9 @@ module _ (form : Form) (B : List ℕ) (at : ℕ) (c : CodeCommand) (r : CodeProg
   pub first-site : {m n a w : ℕ} → c ≡ SiteBy m n a w → r .begun ≡ true → site-as (r .site) ≡ site-of m n a w → seen (r .seen) ≡ [] → First
   unfolding rules-in command-of-in seen-in
   first-site {m} {n} {a} {w} e b i k = subst (λ (d : CodeCommand). first-broken (first-rules form (command-of-in form B at d)) ≡ 0 → (r .begun ≡ true) × Stands r (replicate flags-most false) (after at-start (command-of-in form B at d))) (sym e)
-      (λ u. (b, after-site form (stands-start (record { len = 0; later = 0; weights = 0 }) refl) m n a w r b i k u))
+      (λ u. (b, after-site form (stands-start (record { len = 0; later = 0; weights = 0; forbids = 0 }) refl) m n a w r b i k u))
 
-  pub first-other : OneOf (1 ∷ 2 ∷ 3 ∷ 4 ∷ 5 ∷ 6 ∷ []) (tagOf the-type c) → First
+  pub first-other : OneOf (1 ∷ 2 ∷ 3 ∷ 4 ∷ 5 ∷ 6 ∷ 7 ∷ []) (tagOf the-type c) → First
   first-other k u = absurd (let z : _≡_ {A = ℕ} 0 1 = sym (not-first form B at c k ∙ u) in omega arith)
 
 -- ---- a command that is known by its case

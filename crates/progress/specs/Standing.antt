@@ -11,7 +11,7 @@ use Rattle.theory.specs.Valid.{all, among}
 use Rattle.theory.specs.Command.{Command, Slot}
 use Rattle.theory.specs.Verdict.{Site, site-of, reward-slot, chance-slot, level-slot, end-slot, name-slot, has-slot, Progress, rule, Rule, first-broken, rules-in, later-rules, after, from-to}
 use Rattle.command.specs.declared.Command.{Command as CodeCommand}
-use Rattle.command.specs.declared.Command.the-variants.{Site as SiteBy, Leaf, Condition, Test, Give, Name, End}
+use Rattle.command.specs.declared.Command.the-variants.{Site as SiteBy, Leaf, Condition, Test, Forbidden, Give, Name, End}
 use Rattle.theory.specs.Form.{Form}
 use Rattle.facts.specs.Seen.{seen}
 use Rattle.command.specs.Reading.{command-of-in}
@@ -61,6 +61,7 @@ noted (SiteBy m n a w) F = F
 noted Leaf F = F
 noted (Condition k) F = F
 noted Test F = F
+noted Forbidden F = F
 noted (Give c a i) F = set F (flag-of (record { command = c; action = a; index = i })) true
 noted (Name a) F = set F (place names-row 0 a) true
 noted End F = F

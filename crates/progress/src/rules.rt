@@ -4,7 +4,7 @@ ghost use Prim.Native.Nat.{ℕ, _+_, _≤_};
 ghost use lib.ListN.{length};
 ghost use mathlib.Core.Bool.{Bool};
 ghost use mathlib.Core.List.{List};
-ghost use Rattle.theory.specs.Command.{push-leaf, push-condition, push-test, name-action, end-model, whole, read-in, linear-in};
+ghost use Rattle.theory.specs.Command.{push-leaf, push-condition, push-test, push-forbidden, name-action, end-model, whole, read-in, linear-in};
 ghost use Rattle.theory.specs.Command.{give as given-to};
 ghost use Rattle.theory.specs.Valid.{all};
 ghost use Rattle.theory.specs.Verdict.{printable, first-broken, first-rules};
@@ -80,6 +80,13 @@ fn test(form: Form, model: &[u8], from: usize, s: Progress) -> u32
     ordered(operand, short, false, false)
 }
 
+fn forbidden(s: Progress) -> u32
+    ensures { λ r. ⌜ ((F : List Bool) → Later s F push-forbidden r) ⌝ }
+{
+    let full = STACK_MOST <= s.seen.len;
+    ordered(false, full, false, false)
+}
+
 fn give(flags: &[bool], s: Progress, c: u8, a: u16, i: u8) -> u32
     ensures { λ r. ⌜ Later s (now (flags .entry)) (given-to (record { command = c; action = a; index = i })) r ⌝ }
 {
@@ -134,6 +141,7 @@ fn later(form: Form, model: &[u8], at: usize, c: Command, flags: &[bool], s: Pro
         Command::Leaf => leaf(form, model, at + 1, s),
         Command::Condition(k) => condition(s, k),
         Command::Test => test(form, model, at + 1, s),
+        Command::Forbidden => forbidden(s),
         Command::Give(c, a, i) => give(flags, s, c, a, i),
         Command::Name(a) => name(
             flags,

@@ -82,10 +82,11 @@ pub fn after(form: Form, model: &[u8], at: usize, c: Command, s: Progress) -> Pr
         Command::Site(m, n, a, w) => begun(m, n, a, w),
         Command::Leaf => {
             let weight = operands::weight(form, model, at + 1, s.site.weights);
-            with_seen(s, facts::pushed(seen, false, weight))
+            with_seen(s, facts::pushed(seen, false, weight, false))
         }
         Command::Condition(k) => with_seen(s, facts::joined(seen, CONDITIONS < k as usize)),
         Command::Test => with_seen(s, facts::joined(seen, false)),
+        Command::Forbidden => with_seen(s, facts::pushed(seen, false, false, true)),
         Command::Give(_, _, _) => with_seen(s, facts::popped(seen)),
         Command::Name(_) => s,
         Command::End => s,

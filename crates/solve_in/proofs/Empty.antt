@@ -6,7 +6,7 @@ use Prim.Native.Nat.{ℕ}
 use native.Mathlib.Omega.{arith}
 use Rattle.theory.specs.Widths.{actions-most}
 use Rattle.theory.specs.Computation.{Comp, ret, bind, make, result, Out, stopped, run, member, refused}
-use Rattle.theory.specs.Command.{Command, site, push-leaf, push-condition, push-test, give, name-action, end-model, Read, whole, unknown, short, Placed, readings}
+use Rattle.theory.specs.Command.{Command, site, push-leaf, push-condition, push-test, push-forbidden, give, name-action, end-model, Read, whole, unknown, short, Placed, readings}
 use Rattle.theory.specs.Verdict.{verdict, reward-slot}
 use Rattle.theory.specs.Load.{Loaded, load-choice-with, load-entry, load-one, load-one-with, load-on, load-on-with, find-slot, model-of, site-at, load, load-in}
 use Rattle.theory.specs.Solve.{solve-in}
@@ -28,6 +28,7 @@ one-idle (site m n a w) k h = h
 one-idle (push-leaf p) k h = inl refl
 one-idle (push-condition j) k h = h
 one-idle (push-test p) k h = h
+one-idle push-forbidden k h = inl refl
 one-idle (give g) k h = h
 one-idle (name-action a b) k h = h
 one-idle end-model k h = h

@@ -11,7 +11,7 @@ use lib.ListN.{length, getD, drop}
 use types.Run.{OneOf, miss}
 use denote.Enum.Declared.{tagOf}
 use Rattle.whole.specs.Cases.{if}
-use Rattle.table.proofs.Leaf.{leaf-as, leaf-not}
+use Rattle.table.proofs.Leaf.{leaf-as, some-as, leaf-not, some-not}
 use Rattle.table.specs.declared.Node.{Node}
 use Rattle.table.specs.declared.Made.{Made}
 use Rattle.whole.specs.Linears.{Smalls}
@@ -19,19 +19,19 @@ use Rattle.theory.specs.Widths.{stack-most, conditions-most}
 use Rattle.theory.specs.Form.{new-form}
 use Rattle.theory.specs.Diagram.{Linear, Test, Tree, leaf, plain, test-of}
 use Rattle.theory.specs.Computation.{Comp, ret, bind, make, Out, done, stopped, run}
-use Rattle.theory.specs.Rules.{choose}
-use Rattle.theory.specs.Command.{Command, site, push-leaf, push-condition, push-test, name-action, end-model, whole, read-at, give, Slot}
+use Rattle.theory.specs.Rules.{choose, none-leaf}
+use Rattle.theory.specs.Command.{Command, site, push-leaf, push-condition, push-test, push-forbidden, name-action, end-model, whole, read-at, give, Slot}
 use Rattle.theory.specs.Load.{Entry, Loaded as Loading, condition-test, load-choice, load-choice-with, load-entry, load-one, load-one-with}
 use Rattle.theory.specs.laws.Comps.{after, run-bind}
 use Rattle.command.proofs.Forward.{has-linear, linear-room}
 use Rattle.command.proofs.Command.{the-type as command-type}
 use Rattle.command.specs.declared.Command.{Command as CodeCommand}
-use Rattle.command.specs.declared.Command.the-variants.{Site, Leaf, Condition, Test as TestBy, Give, Name, End}
+use Rattle.command.specs.declared.Command.the-variants.{Site, Leaf, Condition, Test as TestBy, Forbidden, Give, Name, End}
 use Rattle.command.specs.Held.{held, pushed}
 use Rattle.command.specs.Reading.{with-linear, linear-of, command-of-in, command-of}
-use Rattle.diagrams.specs.Nodes.{blank, linOf, leafOf, treeOf, trees, treeAt, Nums, Valid, Grown}
+use Rattle.diagrams.specs.Nodes.{blank, linOf, treeOf, trees, treeAt, Nums, Valid, Grown}
 use Rattle.diagrams.specs.Table.{Rule, Bare, Table, Ran, Grew}
-use Rattle.diagrams.proofs.Trees.{trees-kept, grown-not, tree-leaf}
+use Rattle.diagrams.proofs.Trees.{trees-kept, grown-not, tree-leaf, leaf-some}
 use Rattle.diagrams.proofs.Outcomes.{out-ok, out-no, grown, ran-as, grew-as, lifted}
 use Rattle.diagrams.proofs.Going.{index-small}
 use Rattle.commands_choice.proofs.Tests.{words-nums}
@@ -138,6 +138,7 @@ leaf-valid p n e s = subst (λ (x : Node). Valid x n) (sym e) (record {
   nums = s;
   high-nat = tt;
   low-nat = tt;
+  none = λ e. some-not refl e;
   leaf-low = λ _. refl;
   tested = λ d. leaf-not refl d;
   high-below = λ d. leaf-not refl d;
@@ -145,8 +146,8 @@ leaf-valid p n e s = subst (λ (x : Node). Valid x n) (sym e) (record {
 })
 
 leaf-tree : (p : List ℤ) (X : List Tree) → treeOf (wordsOf p) X ≡ leaf (plain (linear-of p))
-unfolding wordsOf leafOf linOf
-leaf-tree p X = tree-leaf (wordsOf p) X (leaf-as refl)
+unfolding wordsOf linOf
+leaf-tree p X = tree-leaf (wordsOf p) X (leaf-as refl) ∙ ap leaf (leaf-some (wordsOf p) (some-as refl))
 
 pub leaf-grew : {cap : ℕ} {l : List ℤ} {w : List ℕ} {n : ℕ} (p : List ℤ) {x : Node} {l′ : List ℤ} {w′ : List ℕ} {k : Made} → x ≡ wordsOf p → Grew cap l w n (make (treeOf x (trees l n))) l′ w′ k → Grew cap l w n (make (leaf (plain (linear-of p)))) l′ w′ k
 leaf-grew {l = l} {n = n} p e Q = grew-as (ap make (ap (λ (x : Node). treeOf x (trees l n)) e ∙ leaf-tree p (trees l n))) Q
@@ -162,6 +163,10 @@ small-ran {k = k} Q ok = index-small (k .at) (Q .table .bare) (Q .within ok)
 leaf-one : (p : Linear) (X : List Tree) (E : List Entry) → load-one (push-leaf p) (loading X E) ≡ bind (make (leaf (plain p))) (λ t. ret (loading (t ∷ X) E))
 unfolding load-one-with
 leaf-one p X E = refl
+
+forbidden-one : (X : List Tree) (E : List Entry) → load-one push-forbidden (loading X E) ≡ bind (make none-leaf) (λ t. ret (loading (t ∷ X) E))
+unfolding load-one-with
+forbidden-one X E = refl
 
 -- a choice of a stack of two at least
 choice-one : (l : List ℤ) (t : Test) (n : ℕ) (H : List ℕ) → 2 ≤ length H → (E : List Entry) → load-choice t (standing l n H) E ≡ bind (choose t (treeAt l n (getD (drop 1 H) 0 0)) (treeAt l n (getD H 0 0))) (λ x. ret (loading (x ∷ standing l n (drop 1 (drop 1 H))) E))
@@ -214,6 +219,10 @@ module _ (B : List ℕ) (at : ℕ) {cap : ℕ} {l : List ℤ} {w : List ℕ} {s 
   pub leaf-step : (p : Linear) → Ready B cap l w at (push-leaf p) s → Grown-on cap l w (s .count) (make (leaf (plain p))) (held (s .stack)) l′ w′ r → Stepped B cap l w (push-leaf p) (s .count) (held (s .stack)) l′ w′ r
   unfolding Able height entered
   leaf-step p y G = made-step B (held (s .stack)) (push-leaf p) (held (s .stack)) (lifted (y .table) (G .grew)) (G .put) (y .below) (y .able) refl (leaf-one p (standing l (s .count) (held (s .stack)))) (λ E. refl)
+
+  pub forbidden-step : Ready B cap l w at push-forbidden s → Grown-on cap l w (s .count) (make none-leaf) (held (s .stack)) l′ w′ r → Stepped B cap l w push-forbidden (s .count) (held (s .stack)) l′ w′ r
+  unfolding Able height entered
+  forbidden-step y G = made-step B (held (s .stack)) push-forbidden (held (s .stack)) (lifted (y .table) (G .grew)) (G .put) (y .below) (y .able) refl (forbidden-one (standing l (s .count) (held (s .stack)))) (λ E. refl)
 
   pub condition-step : (k : ℕ) → Ready B cap l w at (push-condition k) s → Chose B cap l w at s l′ w′ r → Stepped B cap l w (push-condition k) (s .count) (held (s .stack)) l′ w′ r
   unfolding Able height entered load-one-with
@@ -280,13 +289,14 @@ module _ {B : List ℕ} {cap : ℕ} {l : List ℤ} {w : List ℕ} {at : ℕ} {s 
 
 -- a command that leaves all as it is
 module _ {B : List ℕ} {cap : ℕ} {l : List ℤ} {w : List ℕ} {at : ℕ} {s : Loaded} where
-  pub other-step : (d : CodeCommand) → OneOf (0 ∷ 5 ∷ 6 ∷ []) (tagOf command-type d) → Ready B cap l w at (command-of B at d) s → Stepped B cap l w (command-of B at d) (s .count) (held (s .stack)) l w s
+  pub other-step : (d : CodeCommand) → OneOf (0 ∷ 6 ∷ 7 ∷ []) (tagOf command-type d) → Ready B cap l w at (command-of B at d) s → Stepped B cap l w (command-of B at d) (s .count) (held (s .stack)) l w s
   unfolding command-of-in height entered load-one-with
   other-step (Site m n a v) k y = still-step (site m n a v) y refl refl (held (s .stack)) refl (y .below) refl (λ E. refl)
-  other-step Leaf k y = absurd (miss (0 ∷ 5 ∷ 6 ∷ []) 1 tt k)
-  other-step (Condition i) k y = absurd (miss (0 ∷ 5 ∷ 6 ∷ []) 2 tt k)
-  other-step TestBy k y = absurd (miss (0 ∷ 5 ∷ 6 ∷ []) 3 tt k)
-  other-step (Give x a j) k y = absurd (miss (0 ∷ 5 ∷ 6 ∷ []) 4 tt k)
+  other-step Leaf k y = absurd (miss (0 ∷ 6 ∷ 7 ∷ []) 1 tt k)
+  other-step (Condition i) k y = absurd (miss (0 ∷ 6 ∷ 7 ∷ []) 2 tt k)
+  other-step TestBy k y = absurd (miss (0 ∷ 6 ∷ 7 ∷ []) 3 tt k)
+  other-step Forbidden k y = absurd (miss (0 ∷ 6 ∷ 7 ∷ []) 4 tt k)
+  other-step (Give x a j) k y = absurd (miss (0 ∷ 6 ∷ 7 ∷ []) 5 tt k)
   other-step (Name a) k y = still-step (name-action a _) y refl refl (held (s .stack)) refl (y .below) refl (λ E. refl)
   other-step End k y = still-step end-model y refl refl (held (s .stack)) refl (y .below) refl (λ E. refl)
 

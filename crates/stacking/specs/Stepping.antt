@@ -10,7 +10,7 @@ use Rattle.table.specs.declared.Made.{Made}
 use Rattle.theory.specs.Widths.{stack-most, conditions-most}
 use Rattle.theory.specs.Diagram.{Tree}
 use Rattle.theory.specs.Computation.{Comp, done, stopped, run}
-use Rattle.theory.specs.Command.{Command, site, push-leaf, push-condition, push-test, give, name-action, end-model, whole, read-at, Slot}
+use Rattle.theory.specs.Command.{Command, site, push-leaf, push-condition, push-test, push-forbidden, give, name-action, end-model, whole, read-at, Slot}
 use Rattle.theory.specs.Load.{Entry, Loaded as Loading, load-one}
 use Rattle.command.specs.Held.{held, pushed}
 use Rattle.diagrams.specs.Nodes.{trees, treeAt, Grown}
@@ -58,6 +58,7 @@ Able (site m n a w) h = T true
 Able (push-leaf p) h = h < stack-most
 Able (push-condition k) h = (2 ≤ h) × (h ≤ stack-most) × (0 < k) × (k ≤ conditions-most + conditions-most)
 Able (push-test p) h = (2 ≤ h) × (h ≤ stack-most)
+Able push-forbidden h = h < stack-most
 Able (give g) h = T true
 Able (name-action a b) h = T true
 Able end-model h = T true
@@ -68,6 +69,7 @@ height (site m n a w) h = h
 height (push-leaf p) h = suc h
 height (push-condition k) h = h - 1
 height (push-test p) h = h - 1
+height push-forbidden h = suc h
 height (give g) h = h - 1
 height (name-action a b) h = h
 height end-model h = h
@@ -82,6 +84,7 @@ entered (site m n a w) X E = E
 entered (push-leaf p) X E = E
 entered (push-condition k) X E = E
 entered (push-test p) X E = E
+entered push-forbidden X E = E
 entered (give g) X E = given-to g X E
 entered (name-action a b) X E = E
 entered end-model X E = E

@@ -3,7 +3,7 @@ ghost use mathlib.Core.Path.{_≡_};
 ghost use Prim.Native.Nat.{_<_};
 ghost use lib.ListN.{drop, getD};
 ghost use Rattle.theory.specs.Diagram.{leaf as leafed, plain};
-ghost use Rattle.theory.specs.Rules.{choose};
+ghost use Rattle.theory.specs.Rules.{choose, none-leaf};
 ghost use Rattle.theory.specs.Computation.{make};
 ghost use Rattle.command.specs.Held.{held};
 ghost use Rattle.command.specs.Reading.{linear-of, command-of};
@@ -16,6 +16,7 @@ use command::stack::Stack;
 use commands_choice::choose_command;
 use commands_choice::words;
 use diagrams::making::intern;
+use diagrams::making::make_none;
 use table::Made;
 use whole::NUMBERS;
 
@@ -53,6 +54,16 @@ fn leaf(nodes: &mut [i64], work: &mut [u32], cap: usize, s: Loaded, p: [i64; NUM
 {
     let stack = s.stack;
     let m = intern(nodes, work, cap, s.count, words(p));
+    put(stack, m)
+}
+
+// "Command 13 pushes a leaf "forbidden""
+fn forbidden(nodes: &mut [i64], work: &mut [u32], cap: usize, s: Loaded) -> Loaded
+    requires { ⌜ Bare cap (now nodes) (now work) (s .count) ⌝ }
+    ensures { λ r. ⌜ Grown-on cap (now (nodes .entry)) (now (work .entry)) (s .count) (make none-leaf) (held (s .stack)) (now (nodes .exit)) (now (work .exit)) r ⌝ }
+{
+    let stack = s.stack;
+    let m = make_none(nodes, work, cap, s.count);
     put(stack, m)
 }
 
@@ -114,6 +125,7 @@ pub fn step(
         Command::Leaf => leaf(nodes, work, cap, s, command::linear_at(model, at + 1)),
         Command::Condition(_) => choice(model, nodes, work, cap, at, s),
         Command::Test => choice(model, nodes, work, cap, at, s),
+        Command::Forbidden => forbidden(nodes, work, cap, s),
         Command::Give(_, _, _) => taken(s),
         _ => s,
     }

@@ -38,14 +38,20 @@ linear-bytes-requires-2 c κs = search needs
 add-result-3 : tie.Need-add-result-3
 add-result-3 c = search needs
 
+enum-told-5 : tie.Need-enum-told-5
+enum-told-5 c = search needs
+
+forbidden-bytes-requires : tie.Need-forbidden-bytes-requires
+forbidden-bytes-requires c κs = search needs
+
 enum-known-c : tie.Need-enum-known-c
 enum-known-c c = search needs
 
 width-in-requires : tie.Need-width-in-requires
 width-in-requires c κs = search needs
 
-enum-told-5 : tie.Need-enum-told-5
-enum-told-5 c = search needs
+enum-told-6 : tie.Need-enum-told-6
+enum-told-6 c = search needs
 
 behind-action-requires : tie.Need-behind-action-requires
 behind-action-requires c κs = search needs
@@ -53,8 +59,8 @@ behind-action-requires c κs = search needs
 add-result-4 : tie.Need-add-result-4
 add-result-4 c = search needs
 
-enum-told-6 : tie.Need-enum-told-6
-enum-told-6 c = search needs
+enum-told-7 : tie.Need-enum-told-7
+enum-told-7 c = search needs
 
 returns : tie.Need-returns
 unfolding command-of-in length-of
@@ -79,17 +85,22 @@ returns-4 c =
 returns-5 : tie.Need-returns-5
 unfolding command-of-in length-of
 returns-5 c =
-    by-case _ _ (c .before .before .c .given .1) (λ B at. c .width-in .ensures .0)
+    by-case _ _ (c .before .enum-told5 .given .1) (λ B at. c .forbidden-bytes .ensures .0)
 
 returns-6 : tie.Need-returns-6
 unfolding command-of-in length-of
 returns-6 c =
-    by-case _ _ (c .before .enum-told5 .given .1) (λ B at. ap (λ (n : ℕ). n + 16) (c .behind-action .ensures .0))
+    by-case _ _ (c .before .before .c .given .1) (λ B at. c .width-in .ensures .0)
 
 returns-7 : tie.Need-returns-7
 unfolding command-of-in length-of
 returns-7 c =
-    by-case _ _ (c .enum-told6 .given .1) (λ B at. refl)
+    by-case _ _ (c .before .enum-told6 .given .1) (λ B at. ap (λ (n : ℕ). n + 16) (c .behind-action .ensures .0))
+
+returns-8 : tie.Need-returns-8
+unfolding command-of-in length-of
+returns-8 c =
+    by-case _ _ (c .enum-told7 .given .1) (λ B at. refl)
 
 pub size-in-spec : {M : Type 1} → statement M
 size-in-spec =
@@ -105,16 +116,19 @@ size-in-spec =
     enum-told-4
     linear-bytes-requires-2
     add-result-3
+    enum-told-5
+    forbidden-bytes-requires
     enum-known-c
     width-in-requires
-    enum-told-5
+    enum-told-6
     behind-action-requires
     add-result-4
-    enum-told-6
+    enum-told-7
     returns
     returns-2
     returns-3
     returns-4
     returns-5
     returns-6
-    returns-7)
+    returns-7
+    returns-8)

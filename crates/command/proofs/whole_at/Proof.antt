@@ -79,33 +79,38 @@ returns-4 c =
 returns-5 : tie.Need-returns-5
 unfolding command-of-in command-in
 returns-5 c =
-    rw (← (c .before .before .before .before .before .before) .pre .0, ne-eqb _ _ (λ e. c .before .before .before .if1 .left (e ∙ sym (c .before .before .before .before .site-byte .ensures))), c .before .match .keys4) (simp (c .action-in .ensures))
+    rw (← (c .before .before .before .before .before) .pre .0, ne-eqb _ _ (λ e. c .before .before .if1 .left (e ∙ sym (c .before .before .before .site-byte .ensures))), c .match .keys4) refl
 
 returns-6 : tie.Need-returns-6
 unfolding command-of-in command-in
 returns-6 c =
-    rw (← (c .before .before .before .before .before .before .before) .pre .0, ne-eqb _ _ (λ e. c .before .before .before .before .if1 .left (e ∙ sym (c .before .before .before .before .before .site-byte .ensures))), c .before .before .match .keys5) (simp (c .before .action-in2 .ensures, c .byte-at2 .ensures, c .before .before .before .behind-action .ensures .0))
+    rw (← (c .before .before .before .before .before .before) .pre .0, ne-eqb _ _ (λ e. c .before .before .before .if1 .left (e ∙ sym (c .before .before .before .before .site-byte .ensures))), c .before .match .keys5) (simp (c .action-in .ensures))
 
 returns-7 : tie.Need-returns-7
 unfolding command-of-in command-in
 returns-7 c =
-    rw (← (c .before .before .before .before .before .before .before) .pre .0, ne-eqb _ _ (λ e. c .before .before .before .before .if1 .left (e ∙ sym (c .before .before .before .before .before .site-byte .ensures))), c .before .before .match .keys6) (simp (c .before .action-in3 .ensures, c .byte-at3 .ensures, c .before .before .before .behind-action .ensures .0))
+    rw (← (c .before .before .before .before .before .before .before) .pre .0, ne-eqb _ _ (λ e. c .before .before .before .before .if1 .left (e ∙ sym (c .before .before .before .before .before .site-byte .ensures))), c .before .before .match .keys6) (simp (c .before .action-in2 .ensures, c .byte-at2 .ensures, c .before .before .before .behind-action .ensures .0))
 
 returns-8 : tie.Need-returns-8
 unfolding command-of-in command-in
 returns-8 c =
-    rw (← (c .before .before .before .before .before) .pre .0, ne-eqb _ _ (λ e. c .before .before .if1 .left (e ∙ sym (c .before .before .before .site-byte .ensures))), c .match .keys7) refl
+    rw (← (c .before .before .before .before .before .before .before) .pre .0, ne-eqb _ _ (λ e. c .before .before .before .before .if1 .left (e ∙ sym (c .before .before .before .before .before .site-byte .ensures))), c .before .before .match .keys7) (simp (c .before .action-in3 .ensures, c .byte-at3 .ensures, c .before .before .before .behind-action .ensures .0))
 
 returns-9 : tie.Need-returns-9
 unfolding command-of-in command-in
 returns-9 c =
-    rw (← (c .before .before .before .before .before .before) .pre .0, ne-eqb _ _ (λ e. c .before .before .before .if1 .left (e ∙ sym (c .before .before .before .before .site-byte .ensures))), c .before .match .keys8) (simp (c .action-in4 .ensures))
+    rw (← (c .before .before .before .before .before) .pre .0, ne-eqb _ _ (λ e. c .before .before .if1 .left (e ∙ sym (c .before .before .before .site-byte .ensures))), c .match .keys8) refl
 
 returns-10 : tie.Need-returns-10
 unfolding command-of-in command-in
 returns-10 c =
+    rw (← (c .before .before .before .before .before .before) .pre .0, ne-eqb _ _ (λ e. c .before .before .before .if1 .left (e ∙ sym (c .before .before .before .before .site-byte .ensures))), c .before .match .keys9) (simp (c .action-in4 .ensures))
+
+returns-11 : tie.Need-returns-11
+unfolding command-of-in command-in
+returns-11 c =
     let r = c .match .rest in
-    simp (← (c .before .before .before .before .before) .pre .0, ne-eqb _ _ (λ e. c .before .before .if1 .left (e ∙ sym (c .before .before .before .site-byte .ensures))), ne-eqb _ _ (r .0 .0 .0 .0 .0 .0 .0 .1), ne-eqb _ _ (r .0 .0 .0 .0 .0 .0 .1), ne-eqb _ _ (r .0 .0 .0 .0 .0 .1), ne-eqb _ _ (r .0 .0 .0 .0 .1), ne-eqb _ _ (r .0 .0 .0 .1), ne-eqb _ _ (r .0 .0 .1), ne-eqb _ _ (r .0 .1), ne-eqb _ _ (r .1))
+    simp (← (c .before .before .before .before .before) .pre .0, ne-eqb _ _ (λ e. c .before .before .if1 .left (e ∙ sym (c .before .before .before .site-byte .ensures))), ne-eqb _ _ (r .0 .0 .0 .0 .0 .0 .0 .0 .1), ne-eqb _ _ (r .0 .0 .0 .0 .0 .0 .0 .1), ne-eqb _ _ (r .0 .0 .0 .0 .0 .0 .1), ne-eqb _ _ (r .0 .0 .0 .0 .0 .1), ne-eqb _ _ (r .0 .0 .0 .0 .1), ne-eqb _ _ (r .0 .0 .0 .1), ne-eqb _ _ (r .0 .0 .1), ne-eqb _ _ (r .0 .1), ne-eqb _ _ (r .1))
 
 pub whole-at-spec : {M : Type 1} → statement M
 whole-at-spec =
@@ -136,4 +141,5 @@ whole-at-spec =
     returns-7
     returns-8
     returns-9
-    returns-10)
+    returns-10
+    returns-11)

@@ -34,6 +34,9 @@ linear-bytes-requires-2 c κs = search needs
 add-result-3 : tie.Need-add-result-3
 add-result-3 c = search needs
 
+forbidden-bytes-requires : tie.Need-forbidden-bytes-requires
+forbidden-bytes-requires c κs = search needs
+
 behind-action-requires : tie.Need-behind-action-requires
 behind-action-requires c κs = search needs
 
@@ -73,38 +76,43 @@ returns-4 c =
 returns-5 : tie.Need-returns-5
 unfolding width-in
 returns-5 c =
-    (rw (ne-eqb _ _ (λ e. c .before .before .if1 .left (e ∙ sym (c .before .before .before .site-byte .ensures))), c .before .match .keys4) (c .behind-action .ensures .0), omega (arith, c .behind-action .ensures .1))
+    (rw (ne-eqb _ _ (λ e. c .before .before .if1 .left (e ∙ sym (c .before .before .before .site-byte .ensures))), c .before .match .keys4) (c .forbidden-bytes .ensures .0), omega (arith, c .forbidden-bytes .ensures .1))
 
 returns-6 : tie.Need-returns-6
 unfolding width-in
 returns-6 c =
-    (rw (ne-eqb _ _ (λ e. c .before .before .if1 .left (e ∙ sym (c .before .before .before .site-byte .ensures))), c .before .match .keys5) (ap (λ (n : ℕ). n + 1) (c .behind-action2 .ensures .0)), omega (arith, c .behind-action2 .ensures .1))
+    (rw (ne-eqb _ _ (λ e. c .before .before .if1 .left (e ∙ sym (c .before .before .before .site-byte .ensures))), c .before .match .keys5) (c .behind-action .ensures .0), omega (arith, c .behind-action .ensures .1))
 
 returns-7 : tie.Need-returns-7
 unfolding width-in
 returns-7 c =
-    (rw (ne-eqb _ _ (λ e. c .before .before .if1 .left (e ∙ sym (c .before .before .before .site-byte .ensures))), c .before .match .keys6) (ap (λ (n : ℕ). n + 1) (c .behind-action3 .ensures .0)), omega (arith, c .behind-action3 .ensures .1))
+    (rw (ne-eqb _ _ (λ e. c .before .before .if1 .left (e ∙ sym (c .before .before .before .site-byte .ensures))), c .before .match .keys6) (ap (λ (n : ℕ). n + 1) (c .behind-action2 .ensures .0)), omega (arith, c .behind-action2 .ensures .1))
 
 returns-8 : tie.Need-returns-8
 unfolding width-in
 returns-8 c =
-    (rw (ne-eqb _ _ (λ e. c .before .if1 .left (e ∙ sym (c .before .before .site-byte .ensures))), c .match .keys7), omega arith)
+    (rw (ne-eqb _ _ (λ e. c .before .before .if1 .left (e ∙ sym (c .before .before .before .site-byte .ensures))), c .before .match .keys7) (ap (λ (n : ℕ). n + 1) (c .behind-action3 .ensures .0)), omega (arith, c .behind-action3 .ensures .1))
 
 returns-9 : tie.Need-returns-9
 unfolding width-in
 returns-9 c =
-    (rw (ne-eqb _ _ (λ e. c .before .before .if1 .left (e ∙ sym (c .before .before .before .site-byte .ensures))), c .before .match .keys8) (ap (λ (n : ℕ). n + 16) (c .behind-action4 .ensures .0)), omega (arith, c .behind-action4 .ensures .1))
+    (rw (ne-eqb _ _ (λ e. c .before .if1 .left (e ∙ sym (c .before .before .site-byte .ensures))), c .match .keys8), omega arith)
 
 returns-10 : tie.Need-returns-10
 unfolding width-in
 returns-10 c =
-    (rw (ne-eqb _ _ (λ e. c .before .if1 .left (e ∙ sym (c .before .before .site-byte .ensures))), c .match .keys9), omega arith)
+    (rw (ne-eqb _ _ (λ e. c .before .before .if1 .left (e ∙ sym (c .before .before .before .site-byte .ensures))), c .before .match .keys9) (ap (λ (n : ℕ). n + 16) (c .behind-action4 .ensures .0)), omega (arith, c .behind-action4 .ensures .1))
 
 returns-11 : tie.Need-returns-11
 unfolding width-in
 returns-11 c =
+    (rw (ne-eqb _ _ (λ e. c .before .if1 .left (e ∙ sym (c .before .before .site-byte .ensures))), c .match .keys10), omega arith)
+
+returns-12 : tie.Need-returns-12
+unfolding width-in
+returns-12 c =
     let r = c .match .rest in
-    (simp (ne-eqb _ _ (λ e. c .before .if1 .left (e ∙ sym (c .before .before .site-byte .ensures))), ne-eqb _ _ (r .0 .0 .0 .0 .0 .0 .0 .0 .1), ne-eqb _ _ (r .0 .0 .0 .0 .0 .0 .0 .1), ne-eqb _ _ (r .0 .0 .0 .0 .0 .0 .1), ne-eqb _ _ (r .0 .0 .0 .0 .0 .1), ne-eqb _ _ (r .0 .0 .0 .0 .1), ne-eqb _ _ (r .0 .0 .0 .1), ne-eqb _ _ (r .0 .0 .1), ne-eqb _ _ (r .0 .1), ne-eqb _ _ (r .1)), omega arith)
+    (simp (ne-eqb _ _ (λ e. c .before .if1 .left (e ∙ sym (c .before .before .site-byte .ensures))), ne-eqb _ _ (r .0 .0 .0 .0 .0 .0 .0 .0 .0 .1), ne-eqb _ _ (r .0 .0 .0 .0 .0 .0 .0 .0 .1), ne-eqb _ _ (r .0 .0 .0 .0 .0 .0 .0 .1), ne-eqb _ _ (r .0 .0 .0 .0 .0 .0 .1), ne-eqb _ _ (r .0 .0 .0 .0 .0 .1), ne-eqb _ _ (r .0 .0 .0 .0 .1), ne-eqb _ _ (r .0 .0 .0 .1), ne-eqb _ _ (r .0 .0 .1), ne-eqb _ _ (r .0 .1), ne-eqb _ _ (r .1)), omega arith)
 
 pub width-in-spec : {M : Type 1} → statement M
 width-in-spec =
@@ -118,6 +126,7 @@ width-in-spec =
     add-result-2
     linear-bytes-requires-2
     add-result-3
+    forbidden-bytes-requires
     behind-action-requires
     behind-action-requires-2
     add-result-4
@@ -134,4 +143,5 @@ width-in-spec =
     returns-8
     returns-9
     returns-10
-    returns-11)
+    returns-11
+    returns-12)

@@ -19,20 +19,20 @@ returns c = refused-as (c .refused .result) _ _ (c .before .before .before .befo
 model-len-requires : tie.Need-model-len-requires
 model-len-requires c κs = omega (arith, own-bytes (form-of (c .before .before .before .before .before .args .from)) (c .before .before .before .before .before .args .model .now) (c .before .before .own .result) (c .before .before .own .ensures) (c .if1 .left), form-most (form-of (c .before .before .before .before .before .args .from)))
 
-too-large-requires : tie.Need-too-large-requires
-too-large-requires c κs = search needs
+unfit-requires : tie.Need-unfit-requires
+unfit-requires c κs = search needs
 
 refused-requires-2 : tie.Need-refused-requires-2
 refused-requires-2 c κs = search needs
 
 returns-2 : tie.Need-returns-2
-returns-2 c = refused-as (c .refused2 .result) _ _ (c .before .before .before .before .before .before .before .before .before .args .buffer .now) (c .refused2 .ensures) ∙ call-20 (form-of (c .before .before .before .before .before .before .before .before .before .args .from)) (form-of (c .before .before .before .before .before .before .before .before .before .args .to)) (c .before .before .before .before .before .before .before .before .before .args .model .now) (c .before .before .before .before .before .before .before .before .before .args .buffer .now) (c .before .before .before .before .before .before .own .result) (c .before .before .before .before .before .before .own .ensures) (c .before .before .before .before .if1 .left) (c .before .before .before .model-len .result) (c .before .before .before .model-len .ensures) (c .before .before .too-large .result) (c .before .before .too-large .ensures) (c .before .if2 .taken)
+returns-2 c = refused-as (c .refused2 .result) _ _ (c .before .before .before .before .before .before .before .before .before .args .buffer .now) (c .refused2 .ensures) ∙ call-20 (form-of (c .before .before .before .before .before .before .before .before .before .args .from)) (form-of (c .before .before .before .before .before .before .before .before .before .args .to)) (c .before .before .before .before .before .before .before .before .before .args .model .now) (c .before .before .before .before .before .before .before .before .before .args .buffer .now) (c .before .before .before .before .before .before .own .result) (c .before .before .before .before .before .before .own .ensures) (c .before .before .before .before .if1 .left) (c .before .before .before .model-len .result) (c .before .before .before .model-len .ensures) (c .before .before .unfit .result) (c .before .before .unfit .ensures) (c .before .if2 .taken)
 
 refused-requires-3 : tie.Need-refused-requires-3
 refused-requires-3 c κs = search needs
 
 returns-3 : tie.Need-returns-3
-returns-3 c = refused-as (c .refused3 .result) _ _ (c .before .before .before .before .before .before .before .before .before .before .args .buffer .now) (c .refused3 .ensures) ∙ call-17 (form-of (c .before .before .before .before .before .before .before .before .before .before .args .from)) (form-of (c .before .before .before .before .before .before .before .before .before .before .args .to)) (c .before .before .before .before .before .before .before .before .before .before .args .model .now) (c .before .before .before .before .before .before .before .before .before .before .args .buffer .now) (c .before .before .before .before .before .before .before .own .result) (c .before .before .before .before .before .before .before .own .ensures) (c .before .before .before .before .before .if1 .left) (c .before .before .before .before .model-len .result) (c .before .before .before .before .model-len .ensures) (c .before .before .before .too-large .result) (c .before .before .before .too-large .ensures) (c .before .before .if2 .left) (c .before .if3 .taken)
+returns-3 c = refused-as (c .refused3 .result) _ _ (c .before .before .before .before .before .before .before .before .before .before .args .buffer .now) (c .refused3 .ensures) ∙ call-17 (form-of (c .before .before .before .before .before .before .before .before .before .before .args .from)) (form-of (c .before .before .before .before .before .before .before .before .before .before .args .to)) (c .before .before .before .before .before .before .before .before .before .before .args .model .now) (c .before .before .before .before .before .before .before .before .before .before .args .buffer .now) (c .before .before .before .before .before .before .before .own .result) (c .before .before .before .before .before .before .before .own .ensures) (c .before .before .before .before .before .if1 .left) (c .before .before .before .before .model-len .result) (c .before .before .before .before .model-len .ensures) (c .before .before .before .unfit .result) (c .before .before .before .unfit .ensures) (c .before .before .if2 .left) (c .before .if3 .taken)
 
 put-model-requires : tie.Need-put-model-requires
 put-model-requires c κs = (omega (arith, c .before .if3 .left, c .before .before .before .before .model-len .ensures), omega (arith, own-bytes (form-of (c .before .before .before .before .before .before .before .before .before .before .args .from)) (c .before .before .before .before .before .before .before .before .before .before .args .model .now) (c .before .before .before .before .before .before .before .own .result) (c .before .before .before .before .before .before .before .own .ensures) (c .before .before .before .before .before .if1 .left), form-most (form-of (c .before .before .before .before .before .before .before .before .before .before .args .from))))
@@ -41,7 +41,7 @@ same-length : tie.Need-same-length
 same-length c = search needs
 
 returns-4 : tie.Need-returns-4
-returns-4 c = call-0 (form-of (c .before .before .before .before .before .before .before .before .before .before .before .before .before .args .from)) (form-of (c .before .before .before .before .before .before .before .before .before .before .before .before .before .args .to)) (c .before .before .before .before .before .before .before .before .before .before .before .before .before .args .model .now) (c .before .before .before .before .before .before .before .before .before .before .before .before .before .args .buffer .now) (c .before .before .before .before .before .before .before .before .before .before .own .result) (c .before .before .before .before .before .before .before .before .before .before .own .ensures) (c .before .before .before .before .before .before .before .before .if1 .left) (c .before .before .before .before .before .before .before .model-len .result) (c .before .before .before .before .before .before .before .model-len .ensures) (c .before .before .before .before .before .before .too-large .result) (c .before .before .before .before .before .before .too-large .ensures) (c .before .before .before .before .before .if2 .left) (c .before .before .before .before .if3 .left) (c .before .before .put-model .ensures)
+returns-4 c = call-0 (form-of (c .before .before .before .before .before .before .before .before .before .before .before .before .before .args .from)) (form-of (c .before .before .before .before .before .before .before .before .before .before .before .before .before .args .to)) (c .before .before .before .before .before .before .before .before .before .before .before .before .before .args .model .now) (c .before .before .before .before .before .before .before .before .before .before .before .before .before .args .buffer .now) (c .before .before .before .before .before .before .before .before .before .before .own .result) (c .before .before .before .before .before .before .before .before .before .before .own .ensures) (c .before .before .before .before .before .before .before .before .if1 .left) (c .before .before .before .before .before .before .before .model-len .result) (c .before .before .before .before .before .before .before .model-len .ensures) (c .before .before .before .before .before .before .unfit .result) (c .before .before .before .before .before .before .unfit .ensures) (c .before .before .before .before .before .if2 .left) (c .before .before .before .before .if3 .left) (c .before .before .put-model .ensures)
 
 pub convert-spec : {M : Type 1} → statement M
 convert-spec =
@@ -51,7 +51,7 @@ convert-spec =
     refused-requires
     returns
     model-len-requires
-    too-large-requires
+    unfit-requires
     refused-requires-2
     returns-2
     refused-requires-3

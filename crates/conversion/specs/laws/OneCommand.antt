@@ -9,9 +9,9 @@ use lib.ListN.{length, getD, take, drop}
 use lib.Seq.{getD-drop, drop-cons, drop-drop}
 use Rattle.whole.specs.Cases.{if, by-test}
 use Rattle.theory.specs.Widths.{name-bytes}
-use Rattle.theory.specs.Form.{Form, old-form, new-form, site-byte, levels-in, actions-in}
+use Rattle.theory.specs.Form.{Form, old-form, new-form, site-byte, levels-in, actions-in, forbidden-bytes}
 use Rattle.theory.specs.Diagram.{Linear, padded, zeros}
-use Rattle.theory.specs.Command.{Command, site, push-leaf, push-condition, push-test, give, name-action, end-model, byte-at, word-at, signed, signed-from, bytes-at, linear-in, width-in, command-in}
+use Rattle.theory.specs.Command.{Command, site, push-leaf, push-condition, push-test, push-forbidden, give, name-action, end-model, byte-at, word-at, signed, signed-from, bytes-at, linear-in, width-in, command-in}
 use Rattle.theory.specs.laws.Fits.{zeros-each}
 use Rattle.model_forms.specs.Forms.{layout-in, byte-in, copied, fitted, converted}
 
@@ -23,6 +23,7 @@ pub data Known (F : Form) : ℕ → Type 0 where
   known-leaf : Known F 0x10
   known-condition : Known F 0x11
   known-test : Known F 0x12
+  known-forbidden : 1 ≤ forbidden-bytes F → Known F 0x13
   known-reward : Known F 0x20
   known-chance : Known F 0x21
   known-level : Known F 0x22
@@ -30,14 +31,17 @@ pub data Known (F : Form) : ℕ → Type 0 where
   known-name : Known F 0x30
   known-end : Known F 0xff
 
+known-where : (F : Form) (op b w v : ℕ) → (1 ≤ w → Known F b) → (1 ≤ v → Known F op) → 1 ≤ if (eqb op b) w v → Known F op
+known-where F op b w v k f = by-test (eqb op b) (λ t. 1 ≤ if t w v → Known F op) (λ t h. subst (Known F) (sym (eqb→eq op b t)) (k h)) (λ _ h. f h)
+
 known-as : (F : Form) (op b w v : ℕ) → Known F b → (1 ≤ v → Known F op) → 1 ≤ if (eqb op b) w v → Known F op
-known-as F op b w v k f = by-test (eqb op b) (λ t. 1 ≤ if t w v → Known F op) (λ t _. subst (Known F) (sym (eqb→eq op b t)) k) (λ _ h. f h)
+known-as F op b w v k f = known-where F op b w v (λ _. k) f
 
 pub known : (F : Form) (op : ℕ) → 1 ≤ width-in F op → Known F op
 unfolding width-in
 known F op = known-as F op (site-byte F) _ _ known-site (known-as F op 0x10 _ _ known-leaf (known-as F op 0x11 _ _ known-condition (known-as F op 0x12 _ _ known-test
-    (known-as F op 0x20 _ _ known-reward (known-as F op 0x21 _ _ known-chance (known-as F op 0x22 _ _ known-level (known-as F op 0x23 _ _ known-worth
-    (known-as F op 0x30 _ _ known-name (known-as F op 0xff _ _ known-end (λ h. absurd (omega arith)))))))))))
+    (known-where F op 0x13 _ _ known-forbidden (known-as F op 0x20 _ _ known-reward (known-as F op 0x21 _ _ known-chance (known-as F op 0x22 _ _ known-level (known-as F op 0x23 _ _ known-worth
+    (known-as F op 0x30 _ _ known-name (known-as F op 0xff _ _ known-end (λ h. absurd (omega arith))))))))))))
 
 -- ---- bytes from an offset on are those behind it
 
@@ -89,12 +93,13 @@ module _ (B : List ℕ) (at : ℕ) where
       (if (eqb op 0x10) (push-leaf p)
       (if (eqb op 0x11) (push-condition b)
       (if (eqb op 0x12) (push-test p)
+      (if (eqb op 0x13) push-forbidden
       (if (eqb op 0x20) (give (record { command = 0x20; action = a; index = 0 }))
       (if (eqb op 0x21) (give (record { command = 0x21; action = a; index = k }))
       (if (eqb op 0x22) (give (record { command = 0x22; action = a; index = k }))
       (if (eqb op 0x23) (give (record { command = 0x23; action = 0; index = 0 }))
       (if (eqb op 0x30) (name-action a t)
-      end-model))))))))
+      end-model)))))))))
 
   pub first-byte : byte-at B at ≡ byte-at R 0
   first-byte = ap (byte-at B) (let n : at ≡ at + 0 = omega arith in n) ∙ byte-drop 0
@@ -137,6 +142,7 @@ Fits G (site m n a w) = a ≤ actions-in G
 Fits G (push-leaf p) = T (zeros (drop (levels-in G) (p .coeffs)))
 Fits G (push-condition k) = Unit {0}
 Fits G (push-test p) = T (zeros (drop (levels-in G) (p .coeffs)))
+Fits G push-forbidden = 1 ≤ forbidden-bytes G
 Fits G (give g) = g .action ≤ actions-in G
 Fits G (name-action a t) = a ≤ actions-in G
 Fits G end-model = Unit {0}
@@ -207,6 +213,7 @@ one-known turn-new op U Q known-site h f = record { size = refl; some = omega ar
 one-known turn-new op U Q known-leaf h f = record { size = refl; some = omega arith; most = omega arith; command = refl; home = refl }
 one-known turn-new op U Q known-condition h f = record { size = refl; some = omega arith; most = omega arith; command = refl; home = refl }
 one-known turn-new op U Q known-test h f = record { size = refl; some = omega arith; most = omega arith; command = refl; home = refl }
+one-known turn-new op U Q (known-forbidden k) h f = absurd (omega (arith, k))
 one-known turn-new op U Q known-reward h f = record { size = refl; some = omega arith; most = omega arith; command = refl; home = refl }
 one-known turn-new op U Q known-chance h f = record { size = refl; some = omega arith; most = omega arith; command = refl; home = refl }
 one-known turn-new op U Q known-level h f = record { size = refl; some = omega arith; most = omega arith; command = refl; home = refl }
@@ -227,6 +234,7 @@ one-known turn-old op U Q known-leaf h f =
 one-known turn-old op U Q known-condition h f = record { size = refl; some = omega arith; most = omega arith; command = refl; home = refl }
 one-known turn-old op U Q known-test h f =
     record { size = refl; some = omega arith; most = omega arith; command = ap push-test (linear-kept U f); home = ap (λ (l : List ℕ). 0x12 ∷ l) (bytes-kept U f) }
+one-known turn-old op U Q (known-forbidden k) h f = absurd (omega (arith, f))
 one-known turn-old op U Q known-reward h f =
     let e = sym (high-zero (getD U 0 0) (getD U 1 0) f) in
     record {

@@ -19,8 +19,8 @@ use Rattle.conversion.specs.Conversion.{conversion}
 use Rattle.conversion.specs.Statements.{AdmittedIn, FitsIn, wrote, ConversionRow, conversion-0, conversion-10, conversion-1-8, conversion-20, conversion-17, bytes-of, OnlyItsOwn, NothingElse, NewAccepted, OldAccepted, SameBest, SameBack, BackAndForward, ForwardAndBack, NeverTwenty}
 use Rattle.conversion.specs.laws.OneCommand.{Turn, turn-new, turn-old}
 use Rattle.conversion.specs.laws.Commands.{Room}
-use Rattle.conversion.specs.laws.Models.{Carried, carried, same-model, own-room}
-use Rattle.conversion.specs.laws.Rows.{conversion-rows}
+use Rattle.conversion.specs.laws.Models.{Carried, carried, same-model, own-room, own-permits, permits-as}
+use Rattle.conversion.specs.laws.Rows.{permits, fits-commands, conversion-rows}
 
 -- ---- the bytes that are written
 
@@ -56,7 +56,7 @@ nothing-else F G B buffer = row-only (row-of F G B buffer)
 
 record Done (F G : Form) (B : List ℕ) (o : ListingOut) : Type 0 where
   admitted : AdmittedIn F B
-  fits : FitsIn G (site-in F B) (length (model-as F G B))
+  fits : FitsIn F G B
   bytes : bytes-of o ≡ model-as F G B
 
 row-done : {F G : Form} {B buffer : List ℕ} {o : ListingOut} → ConversionRow F G B buffer o → o .number ≡ 0 → Done F G B o
@@ -79,7 +79,7 @@ accepted-row F B e = subst (VerdictRow-in F B) e (verdict-row-in F B)
 carried-by : {F G : Form} → Turn F G → (B buffer : List ℕ) → conversion F G B buffer .number ≡ 0 → Carried F G B (bytes-of (conversion F G B buffer))
 carried-by {F} {G} t B buffer e =
     let d = done F G B buffer e in
-    subst (Carried F G B) (sym (d .bytes)) (carried t B (own-zero (d .admitted)) (record { levels = d .fits .levels; actions = d .fits .actions }))
+    subst (Carried F G B) (sym (d .bytes)) (carried t B (own-zero (d .admitted)) (record { levels = d .fits .levels; actions = d .fits .actions }) (permits (d .fits)))
 
 accepted-by : {F G : Form} → Turn F G → (B buffer : List ℕ) → conversion F G B buffer .number ≡ 0 → AdmittedIn G (bytes-of (conversion F G B buffer))
 accepted-by {F} {G} t B buffer e =
@@ -94,7 +94,7 @@ home-by {F} {G} t B buffer other e h =
     let r : Room F (site-in G C) = subst (Room F) (sym (c .same-site)) (own-room t B (own-zero (d .admitted))) in
     let n : length (model-as G F C) ≡ length B = ap length (c .home) in
     conversion-rows G F C other (wrote other (model-as G F C)) .0
-    (conversion-0 (accepted-by t B buffer e) (record { levels = r .levels; actions = r .actions; bytes = omega (arith, n, d .admitted .bytes) }) (omega (arith, n, h)))
+    (conversion-0 (accepted-by t B buffer e) (record { levels = r .levels; actions = r .actions; bytes = omega (arith, n, d .admitted .bytes); commands = fits-commands G F C (permits-as c F (own-permits F B)) }) (omega (arith, n, h)))
     ∙ ap (wrote other) (c .home)
 
 pub new-accepted : NewAccepted
@@ -119,14 +119,14 @@ forward-and-back = home-by turn-new
 
 -- ---- going forward, nothing is too large
 
-forward-fits : (B : List ℕ) → AdmittedIn old-form B → FitsIn new-form (site-in old-form B) (length (model-as old-form new-form B)) × (length (model-as old-form new-form B) < 115500)
+forward-fits : (B : List ℕ) → AdmittedIn old-form B → FitsIn old-form new-form B × (length (model-as old-form new-form B) < 115500)
 forward-fits B d =
     let r = own-room turn-new B (own-zero d) in
     let l : site-in old-form B .levels ≤ levels-in new-form = omega (arith, r .levels) in
     let a : site-in old-form B .actions ≤ actions-in new-form = omega (arith, r .actions) in
-    let c = carried turn-new B (own-zero d) (record { levels = l; actions = a }) in
+    let c = carried turn-new B (own-zero d) (record { levels = l; actions = a }) (λ _. omega arith) in
     let n : length (model-as old-form new-form B) < 115500 = omega (arith, c .most, d .bytes) in
-    (record { levels = l; actions = a; bytes = omega (arith, n) }, n)
+    (record { levels = l; actions = a; bytes = omega (arith, n); commands = λ _. omega arith }, n)
 
 row-few : {B buffer : List ℕ} {o : ListingOut} → ConversionRow old-form new-form B buffer o → (o .number ≡ 20 → ⊥) × (o .size < 115500)
 row-few {B} (conversion-0 d f h) = (λ e. absurd (omega (arith, e)), forward-fits B d .1)

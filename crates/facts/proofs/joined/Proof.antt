@@ -38,15 +38,22 @@ both-requires c κs = search needs
 pushed-requires : tie.Need-pushed-requires
 pushed-requires c κs = search needs
 
+low-requires-5 : tie.Need-low-requires-5
+low-requires-5 c κs = search needs
+
+low-requires-6 : tie.Need-low-requires-6
+low-requires-6 c κs = search needs
+
+either-requires-3 : tie.Need-either-requires-3
+either-requires-3 c κs = search needs
+
 returns : tie.Need-returns
 returns c =
-    let t = c .before .before .before .before .before .before .before .before .before .before .args .t in
-    let h = c .before .before .before .before .before .before .before .before .before .popped .result in
-    let u = c .before .before .before .before .before .before .before .before .popped2 .result in
-    let x = c .before .before .before .before .either2 .ensures ∙ ap (or (c .before .before .before .before .before .before .before .before .before .before .args .later)) (c .before .before .before .before .before .either .ensures ∙ ap₂ or (c .before .before .before .before .before .before .before .low .ensures) (c .before .before .before .before .before .before .low2 .ensures)) in
-    let y = c .before .both .ensures ∙ ap₂ _&&_ (c .before .before .before .low3 .ensures) (c .before .before .low4 .ensures) in
-    seen-joined (c .before .before .before .before .before .before .before .before .before .before .args .later) (t .later) (t .weights) (t .len) (h .later) (h .weights) (h .len) (u .later) (u .weights) (u .len) (c .before .before .before .before .before .before .before .before .before .popped .ensures .1 .1) (c .before .before .before .before .before .before .before .before .popped2 .ensures .1 .1)
-    (c .before .before .before .before .either2 .result) (c .before .both .result) (seen (c .pushed .result)) x y (c .pushed .ensures)
+    let x = c .before .before .before .before .before .before .before .either2 .ensures ∙ ap (or (c .before .before .before .before .before .before .before .before .before .before .before .before .before .args .later)) (c .before .before .before .before .before .before .before .before .either .ensures ∙ ap₂ or (c .before .before .before .before .before .before .before .before .before .before .low .ensures) (c .before .before .before .before .before .before .before .before .before .low2 .ensures)) in
+    let y = c .before .before .before .before .both .ensures ∙ ap₂ _&&_ (c .before .before .before .before .before .before .low3 .ensures) (c .before .before .before .before .before .low4 .ensures) in
+    let z = c .before .either3 .ensures ∙ ap₂ or (c .before .before .before .low5 .ensures) (c .before .before .low6 .ensures) in
+    seen-joined (c .before .before .before .before .before .before .before .before .before .before .before .before .before .args .later) (c .before .before .before .before .before .before .before .before .before .before .before .before .before .args .t) (c .before .before .before .before .before .before .before .before .before .before .before .before .popped .result) (c .before .before .before .before .before .before .before .before .before .before .before .popped2 .result) (c .before .before .before .before .before .before .before .before .before .before .before .before .popped .ensures .1 .1) (c .before .before .before .before .before .before .before .before .before .before .before .popped2 .ensures .1 .1)
+    (c .before .before .before .before .before .before .before .either2 .result) (c .before .before .before .before .both .result) (c .before .either3 .result) (seen (c .pushed .result)) x y z (c .pushed .ensures)
 
 pub joined-spec : {M : Type 1} → statement M
 joined-spec =
@@ -61,5 +68,8 @@ joined-spec =
     low-requires-3
     low-requires-4
     both-requires
+    low-requires-5
+    low-requires-6
+    either-requires-3
     pushed-requires
     returns)

@@ -1,8 +1,8 @@
 -- `facts::may_be` meets its contract.
-use mathlib.Core.Path.{_∙_, sym, ap}
+use mathlib.Core.Path.{_∙_, sym, ap, ap₂}
 use mathlib.Core.Bool.{not, _&&_}
 use lib.Dec.{eqb}
-use Rattle.theory.specs.Verdict.{or, Facts, may-be}
+use Rattle.theory.specs.Verdict.{or, may-be}
 use Rattle.facts.proofs.Bits.{seen-top}
 use borrow.Author.Needs.{needs}
 use Rattle.facts.proofs.may_be.Statement.{statement}
@@ -20,18 +20,41 @@ low-requires-2 c κs = search needs
 either-requires-2 : tie.Need-either-requires-2
 either-requires-2 c κs = search needs
 
+low-requires-3 : tie.Need-low-requires-3
+low-requires-3 c κs = search needs
+
+either-requires-3 : tie.Need-either-requires-3
+either-requires-3 c κs = search needs
+
 both-requires : tie.Need-both-requires
 both-requires c κs = search needs
+
+both-requires-2 : tie.Need-both-requires-2
+both-requires-2 c κs = search needs
 
 returns : tie.Need-returns
 unfolding may-be
 returns c =
     λ h a i.
-    c .both .ensures
-    ∙ (λ j. (c .before .before .before .either .ensures ∙ (λ k. or (eqb (c .before .before .before .before .before .args .command) 0x22) (not (c .before .before .before .before .low .ensures k)))) j && (c .before .either2 .ensures ∙ (λ k. or (not (eqb (c .before .before .before .before .before .args .command) 0x21)) (c .before .before .low2 .ensures k))) j)
-    ∙ ap (λ (f : Facts). or (eqb (c .before .before .before .before .before .args .command) 0x22) (not (f .next-step)) && or (not (eqb (c .before .before .before .before .before .args .command) 0x21)) (f .weights)) (sym (seen-top (c .before .before .before .before .before .args .t .later) (c .before .before .before .before .before .args .t .weights) (c .before .before .before .before .before .args .t .len) h))
+    let op = c .before .before .before .before .before .before .before .before .args .command in
+    let t = c .before .before .before .before .before .before .before .before .args .t in
+    let x = c .before .before .before .before .before .before .either .ensures ∙ (λ k. or (eqb op 0x22) (not (c .before .before .before .before .before .before .before .low .ensures k))) in
+    let y = c .before .before .before .before .either2 .ensures ∙ (λ k. or (not (eqb op 0x21)) (c .before .before .before .before .before .low2 .ensures k)) in
+    let z = c .before .before .either3 .ensures ∙ (λ k. or (eqb op 0x20) (not (c .before .before .before .low3 .ensures k))) in
+    c .both2 .ensures
+    ∙ ap₂ _&&_ x (c .before .both .ensures ∙ ap₂ _&&_ y z)
+    ∙ ap (may-be (record { command = op; action = a; index = i })) (sym (seen-top (t .later) (t .weights) (t .forbids) (t .len) h))
 
 pub may-be-spec : {M : Type 1} → statement M
 may-be-spec =
     tie.close
-    (tie.spec low-requires either-requires low-requires-2 either-requires-2 both-requires returns)
+    (tie.spec
+    low-requires
+    either-requires
+    low-requires-2
+    either-requires-2
+    low-requires-3
+    either-requires-3
+    both-requires
+    both-requires-2
+    returns)

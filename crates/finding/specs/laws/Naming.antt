@@ -11,7 +11,7 @@ use Rattle.whole.specs.Cases.{if, by-test, not-not}
 use Rattle.theory.specs.Widths.{name-bytes}
 use Rattle.theory.specs.Form.{new-form, site-byte, behind-action}
 use Rattle.theory.specs.Valid.{among}
-use Rattle.theory.specs.Command.{Command, site, push-leaf, push-condition, push-test, give, name-action, end-model, Read, whole, unknown, short, Placed, byte-at, width, command-at, command-in, read-at, goes-on, readings-from, readings-from-in, readings, readings-in}
+use Rattle.theory.specs.Command.{Command, site, push-leaf, push-condition, push-test, push-forbidden, give, name-action, end-model, Read, whole, unknown, short, Placed, byte-at, width, command-at, command-in, read-at, goes-on, readings-from, readings-from-in, readings, readings-in}
 use Rattle.theory.specs.Verdict.{Site, Progress, Verdict, first-broken, first-rules, later-rules, rules-of, rules-in, after, judged, judged-in, at-start, verdict, verdict-in}
 use Rattle.theory.specs.Load.{site-at, site-in}
 use Rattle.theory.specs.Name.{Part, trimmed, name-part, name}
@@ -88,6 +88,7 @@ site-stays s (site m n a w) b e = broken 0 _ (later s (site m n a w) b e)
 site-stays s (push-leaf p) b e = (b, refl)
 site-stays s (push-condition k) b e = (b, refl)
 site-stays s (push-test p) b e = (b, refl)
+site-stays s push-forbidden b e = (b, refl)
 site-stays s (give g) b e = (b, refl)
 site-stays s (name-action a t) b e = (b, refl)
 site-stays s end-model b e = (b, refl)
@@ -127,9 +128,9 @@ begins : (B : List ℕ) → Begins B (command-at B 0)
 unfolding command-in Begins rules-in first-rules after site-in
 begins B =
     begins-if B (eqb (byte-at B 0) (site-byte new-form)) _ _ (λ _. (tt, refl)) (begins-if B (eqb (byte-at B 0) 0x10) _ _ (λ e. broken 0 _ e) (begins-if B (eqb (byte-at B 0) 0x11) _ _ (λ e. broken 0 _ e)
-    (begins-if B (eqb (byte-at B 0) 0x12) _ _ (λ e. broken 0 _ e) (begins-if B (eqb (byte-at B 0) 0x20) _ _ (λ e. broken 0 _ e) (begins-if B (eqb (byte-at B 0) 0x21) _ _ (λ e. broken 0 _ e)
+    (begins-if B (eqb (byte-at B 0) 0x12) _ _ (λ e. broken 0 _ e) (begins-if B (eqb (byte-at B 0) 0x13) _ _ (λ e. broken 0 _ e) (begins-if B (eqb (byte-at B 0) 0x20) _ _ (λ e. broken 0 _ e) (begins-if B (eqb (byte-at B 0) 0x21) _ _ (λ e. broken 0 _ e)
     (begins-if B (eqb (byte-at B 0) 0x22) _ _ (λ e. broken 0 _ e) (begins-if B (eqb (byte-at B 0) 0x23) _ _ (λ e. broken 0 _ e)
-    (begins-if B (eqb (byte-at B 0) 0x30) _ _ (λ e. broken 0 _ e) (λ e. broken 0 _ e)))))))))
+    (begins-if B (eqb (byte-at B 0) 0x30) _ _ (λ e. broken 0 _ e) (λ e. broken 0 _ e))))))))))
 
 -- a command that is read is the one that stands there
 whole-command : (B : List ℕ) (at : ℕ) (c : Command) → whole c ≡ read-at B at → c ≡ command-at B at

@@ -1,7 +1,7 @@
 -- `stacking::step` meets its contract.
 use native.Mathlib.Omega.{arith}
 use Rattle.command.specs.Reading.{command-of-in}
-use Rattle.stacking.proofs.Steps.{leaf-there, leaf-read, leaf-loaded, condition-asks, test-asks, condition-step, test-step, give-step, other-step, ready-as, step-as}
+use Rattle.stacking.proofs.Steps.{leaf-there, leaf-read, leaf-loaded, condition-asks, test-asks, condition-step, test-step, forbidden-step, give-step, other-step, ready-as, step-as}
 use borrow.Author.Needs.{needs}
 use Rattle.stacking.proofs.step.Statement.{statement}
 use Rattle.stacking.proofs.step.Tie as tie
@@ -43,6 +43,14 @@ choice-requires-2 c κs =
 enum-told-4 : tie.Need-enum-told-4
 enum-told-4 c = search needs
 
+forbidden-requires : tie.Need-forbidden-requires
+unfolding command-of-in
+forbidden-requires c κs =
+    ready-as _ _ (c .before .before .enum-told4 .given .1) ((c .before .before .before .before .before .before) .pre) .table .bare
+
+enum-told-5 : tie.Need-enum-told-5
+enum-told-5 c = search needs
+
 taken-requires : tie.Need-taken-requires
 taken-requires c κs = search needs
 
@@ -79,14 +87,25 @@ unfolding command-of-in
 returns-3 c =
     step-as _ _ (c .before .before .before .before .before .before .enum-told3 .given .1) (c .before .before .before .before .before .before .before .before .before .before .pre) (λ y. test-step _ _ _ y (c .before .before .before .choice2 .ensures))
 
+same-length-7 : tie.Need-same-length-7
+same-length-7 c = search needs
+
+same-length-8 : tie.Need-same-length-8
+same-length-8 c = search needs
+
 returns-4 : tie.Need-returns-4
 unfolding command-of-in
 returns-4 c =
-    step-as _ _ (c .before .enum-told4 .given .1) (c .before .before .before .before .before .pre) (λ y. give-step _ y (c .taken .ensures))
+    step-as _ _ (c .before .before .before .before .before .before .enum-told4 .given .1) ((c .before .before .before .before .before .before .before .before .before .before) .pre) (λ y. forbidden-step _ _ y (c .before .before .before .forbidden .ensures))
 
 returns-5 : tie.Need-returns-5
+unfolding command-of-in
 returns-5 c =
-    other-step (c .before .before .before .args .c) (c .match .keys5) (c .before .before .before .pre)
+    step-as _ _ (c .before .enum-told5 .given .1) (c .before .before .before .before .before .pre) (λ y. give-step _ y (c .taken .ensures))
+
+returns-6 : tie.Need-returns-6
+returns-6 c =
+    other-step (c .before .before .before .args .c) (c .match .keys6) (c .before .before .before .pre)
 
 pub step-spec : {M : Type 1} → statement M
 step-spec =
@@ -101,6 +120,8 @@ step-spec =
     enum-told-3
     choice-requires-2
     enum-told-4
+    forbidden-requires
+    enum-told-5
     taken-requires
     same-length
     same-length-2
@@ -111,5 +132,8 @@ step-spec =
     same-length-5
     same-length-6
     returns-3
+    same-length-7
+    same-length-8
     returns-4
-    returns-5)
+    returns-5
+    returns-6)

@@ -46,6 +46,12 @@ test-requires : tie.Need-test-requires
 test-requires c κs =
     let h = test-there (form-of ((c .before .before .before .before) .args .form)) ((c .before .before .before .before) .args .model .now) ((c .before .before .before .before) .args .at) (c .enum-told3 .given .1) ((c .before .before .before .before) .pre) in omega arith
 
+enum-told-4 : tie.Need-enum-told-4
+enum-told-4 c = search needs
+
+forbidden-requires : tie.Need-forbidden-requires
+forbidden-requires c κs = search needs
+
 enum-known-c-2 : tie.Need-enum-known-c-2
 enum-known-c-2 c = search needs
 
@@ -68,8 +74,8 @@ text-requires c κs = search needs
 name-requires : tie.Need-name-requires
 name-requires c κs = search needs
 
-enum-told-4 : tie.Need-enum-told-4
-enum-told-4 c = search needs
+enum-told-5 : tie.Need-enum-told-5
+enum-told-5 c = search needs
 
 end-requires : tie.Need-end-requires
 end-requires c κs = search needs
@@ -97,17 +103,22 @@ returns-4 c =
 returns-5 : tie.Need-returns-5
 unfolding command-of-in
 returns-5 c =
-    known-command (form-of ((c .before .before .before .before .before .before) .args .form)) ((c .before .before .before .before .before .before) .args .s) ((c .before .before .before .before .before .before) .args .flags .now) ((c .before .before .before .before .before .before) .args .model .now) ((c .before .before .before .before .before .before) .args .at) _ (c .before .before .c2 .given .1) (c .give .ensures)
+    known-command (form-of ((c .before .before .before .before .before) .args .form)) ((c .before .before .before .before .before) .args .s) ((c .before .before .before .before .before) .args .flags .now) ((c .before .before .before .before .before) .args .model .now) ((c .before .before .before .before .before) .args .at) _ (c .before .enum-told4 .given .1) (c .forbidden .ensures ((c .before .before .before .before .before) .args .flags .now))
 
 returns-6 : tie.Need-returns-6
 unfolding command-of-in
 returns-6 c =
-    known-command (form-of ((c .before .before .before .before .before .before .before .before) .args .form)) ((c .before .before .before .before .before .before .before .before) .args .s) ((c .before .before .before .before .before .before .before .before) .args .flags .now) ((c .before .before .before .before .before .before .before .before) .args .model .now) ((c .before .before .before .before .before .before .before .before) .args .at) _ (c .before .before .before .before .c3 .given .1) (c .name .ensures (take name-bytes (drop ((c .before .before .before .before .before .before .before .before) .args .at + behind-action (form-of ((c .before .before .before .before .before .before .before .before) .args .form))) ((c .before .before .before .before .before .before .before .before) .args .model .now))) (c .before .text .ensures ∙ ap (λ (k : ℕ). all printable (take name-bytes (drop ((c .before .before .before .before .before .before .before .before) .args .at + k) ((c .before .before .before .before .before .before .before .before) .args .model .now)))) (c .before .before .behind-action .ensures .0)))
+    known-command (form-of ((c .before .before .before .before .before .before) .args .form)) ((c .before .before .before .before .before .before) .args .s) ((c .before .before .before .before .before .before) .args .flags .now) ((c .before .before .before .before .before .before) .args .model .now) ((c .before .before .before .before .before .before) .args .at) _ (c .before .before .c2 .given .1) (c .give .ensures)
 
 returns-7 : tie.Need-returns-7
 unfolding command-of-in
 returns-7 c =
-    known-command (form-of ((c .before .before .before .before .before) .args .form)) ((c .before .before .before .before .before) .args .s) ((c .before .before .before .before .before) .args .flags .now) ((c .before .before .before .before .before) .args .model .now) ((c .before .before .before .before .before) .args .at) _ (c .before .enum-told4 .given .1) (c .end .ensures)
+    known-command (form-of ((c .before .before .before .before .before .before .before .before) .args .form)) ((c .before .before .before .before .before .before .before .before) .args .s) ((c .before .before .before .before .before .before .before .before) .args .flags .now) ((c .before .before .before .before .before .before .before .before) .args .model .now) ((c .before .before .before .before .before .before .before .before) .args .at) _ (c .before .before .before .before .c3 .given .1) (c .name .ensures (take name-bytes (drop ((c .before .before .before .before .before .before .before .before) .args .at + behind-action (form-of ((c .before .before .before .before .before .before .before .before) .args .form))) ((c .before .before .before .before .before .before .before .before) .args .model .now))) (c .before .text .ensures ∙ ap (λ (k : ℕ). all printable (take name-bytes (drop ((c .before .before .before .before .before .before .before .before) .args .at + k) ((c .before .before .before .before .before .before .before .before) .args .model .now)))) (c .before .before .behind-action .ensures .0)))
+
+returns-8 : tie.Need-returns-8
+unfolding command-of-in
+returns-8 c =
+    known-command (form-of ((c .before .before .before .before .before) .args .form)) ((c .before .before .before .before .before) .args .s) ((c .before .before .before .before .before) .args .flags .now) ((c .before .before .before .before .before) .args .model .now) ((c .before .before .before .before .before) .args .at) _ (c .before .enum-told5 .given .1) (c .end .ensures)
 
 pub later-spec : {M : Type 1} → statement M
 later-spec =
@@ -122,6 +133,8 @@ later-spec =
     enum-told-3
     add-test
     test-requires
+    enum-told-4
+    forbidden-requires
     enum-known-c-2
     give-requires
     enum-known-c-3
@@ -129,7 +142,7 @@ later-spec =
     add-text
     text-requires
     name-requires
-    enum-told-4
+    enum-told-5
     end-requires
     returns
     returns-2
@@ -137,4 +150,5 @@ later-spec =
     returns-4
     returns-5
     returns-6
-    returns-7)
+    returns-7
+    returns-8)

@@ -4,7 +4,7 @@ use mathlib.Core.Path.{refl}
 use native.Mathlib.Omega.{arith}
 use Rattle.command.specs.Reading.{command-of-in}
 use Rattle.progress.specs.Standing.{noted}
-use Rattle.progress.proofs.Leaving.{by-command, leaf-there, after-site, after-leaf, after-condition, after-test, after-give, after-name, after-end}
+use Rattle.progress.proofs.Leaving.{by-command, leaf-there, after-site, after-leaf, after-condition, after-test, after-forbidden, after-give, after-name, after-end}
 use borrow.Author.Needs.{needs}
 use Rattle.progress.proofs.states.after.Statement.{statement}
 use Rattle.progress.proofs.states.after.Tie as tie
@@ -56,8 +56,8 @@ with-seen-requires-3 c κs = search needs
 enum-told-3 : tie.Need-enum-told-3
 enum-told-3 c = search needs
 
-popped-requires : tie.Need-popped-requires
-popped-requires c κs = search needs
+pushed-requires-2 : tie.Need-pushed-requires-2
+pushed-requires-2 c κs = search needs
 
 with-seen-requires-4 : tie.Need-with-seen-requires-4
 with-seen-requires-4 c κs = search needs
@@ -65,8 +65,17 @@ with-seen-requires-4 c κs = search needs
 enum-told-4 : tie.Need-enum-told-4
 enum-told-4 c = search needs
 
+popped-requires : tie.Need-popped-requires
+popped-requires c κs = search needs
+
+with-seen-requires-5 : tie.Need-with-seen-requires-5
+with-seen-requires-5 c κs = search needs
+
 enum-told-5 : tie.Need-enum-told-5
 enum-told-5 c = search needs
+
+enum-told-6 : tie.Need-enum-told-6
+enum-told-6 c = search needs
 
 returns : tie.Need-returns
 unfolding command-of-in noted
@@ -91,17 +100,22 @@ returns-4 c =
 returns-5 : tie.Need-returns-5
 unfolding command-of-in noted
 returns-5 c =
-    by-command (form-of ((c .before .before .before .before .before .before) .args .form)) ((c .before .before .before .before .before .before) .args .model .now) ((c .before .before .before .before .before .before) .args .at) ((c .before .before .before .before .before .before) .args .s) (c .before .before .enum-told3 .given .1) (c .with-seen4 .ensures) (λ F p st u. after-give (form-of ((c .before .before .before .before .before .before) .args .form)) st _ (c .before .popped .result) (c .before .popped .ensures .1 .1) u)
+    by-command (form-of ((c .before .before .before .before .before .before) .args .form)) ((c .before .before .before .before .before .before) .args .model .now) ((c .before .before .before .before .before .before) .args .at) ((c .before .before .before .before .before .before) .args .s) (c .before .before .enum-told3 .given .1) (c .with-seen4 .ensures) (λ F p st u. after-forbidden (form-of ((c .before .before .before .before .before .before) .args .form)) st (c .before .pushed2 .result) (c .before .pushed2 .ensures) u)
 
 returns-6 : tie.Need-returns-6
 unfolding command-of-in noted
 returns-6 c =
-    by-command (form-of ((c .before .before .before .before) .args .form)) ((c .before .before .before .before) .args .model .now) ((c .before .before .before .before) .args .at) ((c .before .before .before .before) .args .s) (c .enum-told4 .given .1) refl (λ F p st u. after-name (form-of ((c .before .before .before .before) .args .form)) st _ _ u)
+    by-command (form-of ((c .before .before .before .before .before .before) .args .form)) ((c .before .before .before .before .before .before) .args .model .now) ((c .before .before .before .before .before .before) .args .at) ((c .before .before .before .before .before .before) .args .s) (c .before .before .enum-told4 .given .1) (c .with-seen5 .ensures) (λ F p st u. after-give (form-of ((c .before .before .before .before .before .before) .args .form)) st _ (c .before .popped .result) (c .before .popped .ensures .1 .1) u)
 
 returns-7 : tie.Need-returns-7
 unfolding command-of-in noted
 returns-7 c =
-    by-command (form-of ((c .before .before .before .before) .args .form)) ((c .before .before .before .before) .args .model .now) ((c .before .before .before .before) .args .at) ((c .before .before .before .before) .args .s) (c .enum-told5 .given .1) refl (λ F p st u. after-end st)
+    by-command (form-of ((c .before .before .before .before) .args .form)) ((c .before .before .before .before) .args .model .now) ((c .before .before .before .before) .args .at) ((c .before .before .before .before) .args .s) (c .enum-told5 .given .1) refl (λ F p st u. after-name (form-of ((c .before .before .before .before) .args .form)) st _ _ u)
+
+returns-8 : tie.Need-returns-8
+unfolding command-of-in noted
+returns-8 c =
+    by-command (form-of ((c .before .before .before .before) .args .form)) ((c .before .before .before .before) .args .model .now) ((c .before .before .before .before) .args .at) ((c .before .before .before .before) .args .s) (c .enum-told6 .given .1) refl (λ F p st u. after-end st)
 
 pub after-spec : {M : Type 1} → statement M
 after-spec =
@@ -122,14 +136,18 @@ after-spec =
     joined-requires-2
     with-seen-requires-3
     enum-told-3
-    popped-requires
+    pushed-requires-2
     with-seen-requires-4
     enum-told-4
+    popped-requires
+    with-seen-requires-5
     enum-told-5
+    enum-told-6
     returns
     returns-2
     returns-3
     returns-4
     returns-5
     returns-6
-    returns-7)
+    returns-7
+    returns-8)
