@@ -150,21 +150,21 @@ fn refusals() {
     );
 }
 
-fn other_nodes() {
+// A listing of a table of one node.
+fn of_one(name: &[u8], kind: i64, first: i64, high: i64, low: i64) {
     let mut model = [0u8; POND];
     pond(&mut model);
     let mut nodes = [0i64; NODE_WORDS];
-    row(&mut nodes, 0, 1, 1, 0, 1, 1);
+    row(&mut nodes, 0, kind, first, 0, high, low);
     let stages: [u32; 8] = [1, 0, 0, 0, 0, 0, 0, 0];
-    list(
-        b"a condition that is none",
-        &model,
-        1,
-        &nodes,
-        &stages,
-        ROOM,
-        0,
-    );
+    list(name, &model, 1, &nodes, &stages, ROOM, 0);
+}
+
+fn other_nodes() {
+    of_one(b"a condition that is none", 1, 1, 1, 1);
+    of_one(b"a leaf none", 3, 0, 0, 0);
+    of_one(b"a leaf none with an action", 3, 0, 1, 0);
+    of_one(b"kind 4", 4, 0, 0, 0);
 }
 
 fn main() {

@@ -18,7 +18,7 @@ use Rattle.theory.specs.Verdict.{Site}
 use Rattle.theory.specs.Listing.{greatest-root}
 use Rattle.rows.proofs.Kind.{the-type}
 use Rattle.rows.specs.declared.Kind.{Kind}
-use Rattle.rows.specs.declared.Kind.the-variants.{Leaf, Condition, Test, Bad}
+use Rattle.rows.specs.declared.Kind.the-variants.{Leaf, Condition, Test, None, Bad}
 use Rattle.rows.specs.Row.{kind-of, row-kind}
 use Rattle.plan_text.specs.Plan.{Ready}
 use Rattle.listing.specs.Refusal.{rooted, rows-good, plan-refusal}
@@ -65,6 +65,7 @@ abbrev is-bad : Kind → Bool
 is-bad Leaf = false
 is-bad Condition = false
 is-bad Test = false
+is-bad None = false
 is-bad Bad = true
 
 -- a row is good where it has a kind
@@ -73,22 +74,24 @@ module _ (n A : ℕ) (W : List ℤ) (r : ℕ) (h : 1 ≤ r) where
   unfolding row-kind kind-of
   kind-bad =
       let z : eqb r 0 ≡ false = ne-eqb r 0 (λ (e : r ≡ 0). omega arith) in
-      rw z (go (good-row n A W r) (eqb (natAbs (node-word W r 0)) 0) (eqb (natAbs (node-word W r 0)) 1))
+      rw z (go (good-row n A W r) (eqb (natAbs (node-word W r 0)) 0) (eqb (natAbs (node-word W r 0)) 1) (eqb (natAbs (node-word W r 0)) 2))
     where
-      go : (g a b : Bool) → is-bad (if g (if a Leaf (if b Condition Test)) Bad) ≡ not g
-      go false a b = refl
-      go true true b = refl
-      go true false true = refl
-      go true false false = refl
+      go : (g a b d : Bool) → is-bad (if g (if a Leaf (if b Condition (if d Test None))) Bad) ≡ not g
+      go false a b d = refl
+      go true true b d = refl
+      go true false true d = refl
+      go true false false true = refl
+      go true false false false = refl
 
   pub row-bad : {k : Kind} → k ≡ row-kind n A W r → k ≡ Bad → false ≡ good-row n A W r
   row-bad e b = sym (not-true (good-row n A W r) (sym kind-bad ∙ ap is-bad (sym e ∙ b)))
 
-  pub row-good : (k : Kind) → k ≡ row-kind n A W r → OneOf (0 ∷ 1 ∷ 2 ∷ []) (tagOf the-type k) → true ≡ good-row n A W r
+  pub row-good : (k : Kind) → k ≡ row-kind n A W r → OneOf (0 ∷ 1 ∷ 2 ∷ 3 ∷ []) (tagOf the-type k) → true ≡ good-row n A W r
   row-good Leaf e t = sym (not-false (good-row n A W r) (sym kind-bad ∙ ap is-bad (sym e)))
   row-good Condition e t = sym (not-false (good-row n A W r) (sym kind-bad ∙ ap is-bad (sym e)))
   row-good Test e t = sym (not-false (good-row n A W r) (sym kind-bad ∙ ap is-bad (sym e)))
-  row-good Bad e t = absurd (miss (0 ∷ 1 ∷ 2 ∷ []) 3 tt t)
+  row-good None e t = sym (not-false (good-row n A W r) (sym kind-bad ∙ ap is-bad (sym e)))
+  row-good Bad e t = absurd (miss (0 ∷ 1 ∷ 2 ∷ 3 ∷ []) 4 tt t)
 
 -- ---- 15, then 14
 

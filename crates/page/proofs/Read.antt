@@ -164,6 +164,9 @@ module _ {B : List ℕ} {S : Site} {nodes : List ℤ} {stages : List ℕ} {q : A
     unfolding whole-part
     part-is e p = p ∙ (λ i. floor-by (number (reads i .numerator)) (e i * (w .site i .weights) ^ ((w .site i .conditions) * h)))
 
+    pub action-as : v .action ≡ value-of B nodes stages h q .action
+    action-as = ap (λ (v : ValueOut). v .action) reads
+
     pub name-as : {t : List ℕ} → t ≡ name B (v .action) → t ≡ name B (value-of B nodes stages h q .action)
     name-as p = p ∙ ap (λ (v : ValueOut). name B (v .action)) reads
 
@@ -174,9 +177,9 @@ module _ {B : List ℕ} {S : Site} {nodes : List ℤ} {stages : List ℕ} {q : A
     pub room : {size : ℕ} → length (line-at B nodes stages q h) ≤ size → 51 ≤ size
     room l = let k = shown-steps in omega (arith, line-bytes B nodes stages q f h (omega arith))
 
-    pub line-is : page-line h z t ≡ line-at B nodes stages q h
+    pub line-is : {a : ℕ} → a ≡ value-of B nodes stages h q .action → page-line h a z t ≡ line-at B nodes stages q h
     unfolding line-at
-    line-is = λ i. page-line h (p i) (n i)
+    line-is k = λ i. page-line h (k i) (p i) (n i)
 
 -- a denominator as it is read from an array
 module _ (z : ℤ) (f : mag z < 2 ^ 31) where

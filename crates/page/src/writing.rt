@@ -58,7 +58,7 @@ fn write_line(
     );
     let numbers = q.n;
     let x = part(site, numbers[COEFFICIENTS], h, v.numerator);
-    put_line(text, 0, h, x, names::name(model, v.action))
+    put_line(text, 0, h, v.action, x, names::name(model, v.action))
 }
 
 // The lines of stages 1 to the horizon, from a place on.

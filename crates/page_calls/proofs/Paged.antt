@@ -14,7 +14,7 @@ use Rattle.theory.specs.Solve.{early}
 use Rattle.theory.specs.Value.{Asked, value-of}
 use Rattle.theory.specs.Name.{name}
 use Rattle.theory.specs.Listing.{lines, written, ListingOut}
-use Rattle.page_text.specs.Page.{in-decimal, right, left, page-line, whole-part, line-at, page-text, meets, page-refusal, page}
+use Rattle.page_text.specs.Page.{in-decimal, right, left, value-text, page-line, whole-part, line-at, page-text, meets, page-refusal, page}
 use Rattle.page.proofs.Early.{passed}
 use Rattle.answers.specs.Answers.{short}
 use Rattle.answers.specs.Texts.{listed, listing-answer}
@@ -42,7 +42,7 @@ module _ (B : List ℕ) (H : ℕ) (nodes : List ℤ) (stages : List ℕ) (q : As
   line-some h =
       let a = right 2 (in-decimal (pos h)) in
       let v = value-of B nodes stages h q in
-      let b = (right 30 (in-decimal (whole-part B q h (v .numerator))) ++ (32 ∷ [])) ++ (left 16 (name B (v .action)) ++ (10 ∷ [])) in
+      let b = (right 30 (value-text (v .action) (whole-part B q h (v .numerator))) ++ (32 ∷ [])) ++ (left 16 (name B (v .action)) ++ (10 ∷ [])) in
       omega (arith, length-append (a ++ (32 ∷ [])) b, length-append a (32 ∷ []))
 
   -- there is a line for stage 1

@@ -15,7 +15,7 @@ use Rattle.theory.specs.Listing.{digits}
 use Rattle.long_division.specs.declared.Quotient.{Quotient}
 use Rattle.long_division.specs.declared.Whole.{Whole}
 use Rattle.long_division.specs.Words.{two-words, whole-as, Divided}
-use Rattle.page_text.specs.Page.{in-decimal, right}
+use Rattle.page_text.specs.Page.{in-decimal, right, value-text}
 use Rattle.page_text.specs.Columns.{front, digits-split, tenth-below}
 
 -- ---- the magnitude
@@ -120,6 +120,21 @@ module _ (x : Whole) {out : List ℕ} {at y : ℕ} {more : Bool} (w : Filled (na
       let d = below-decimal (x .below) (two-words (x .high) (x .low)) e in
       let s : 45 ∷ w .tail ≡ in-decimal (whole-as x) ++ (32 ∷ []) = ap (λ (l : List ℕ). 45 ∷ l) tail-is ∙ ap (λ (l : List ℕ). l ++ (32 ∷ [])) d in
       set-column at out (w .tail) 45 (w .room) (w .is) ∙ ap (λ (l : List ℕ). replicate (at - 1) 32 ++ l) s ∙ right-is (at - 1) (in-decimal (whole-as x)) (omega (arith, w .long, w .room, ap length s))
+
+-- ---- a value with its action
+
+pub none-are : {out : List ℕ} → out ≡ replicate 31 32 → set (set (set (set out 26 110) 27 111) 28 110) 29 101 ≡ right 30 (110 ∷ 111 ∷ 110 ∷ 101 ∷ []) ++ (32 ∷ [])
+unfolding right
+none-are e = ap (λ (l : List ℕ). set (set (set (set l 26 110) 27 111) 28 110) 29 101) e
+
+module _ (a : ℕ) (z : ℤ) {out : List ℕ} where
+  pub as-none : a ≡ 0 → out ≡ right 30 (110 ∷ 111 ∷ 110 ∷ 101 ∷ []) ++ (32 ∷ []) → out ≡ right 30 (value-text a z) ++ (32 ∷ [])
+  unfolding value-text
+  as-none e p = rw (eq-eqb a 0 e) p
+
+  pub as-number : (a ≡ 0 → ⊥) → out ≡ right 30 (in-decimal z) ++ (32 ∷ []) → out ≡ right 30 (value-text a z) ++ (32 ∷ [])
+  unfolding value-text
+  as-number e p = rw (ne-eqb a 0 e) p
 
 -- ---- steps
 

@@ -8,7 +8,7 @@ use lib.ListN.{length, take, drop, replicate, length-append, length-drop, length
 use lib.Seq.{take-all, drop-append-le}
 use Rattle.decimal.specs.Put.{PutAt}
 use Rattle.decimal.proofs.Puts.{then, rename}
-use Rattle.page_text.specs.Page.{in-decimal, right, left, page-line}
+use Rattle.page_text.specs.Page.{in-decimal, right, left, value-text, page-line}
 
 fewer : (k n : ℕ) → k ≤ n → drop {A = ℕ} k (replicate n 32) ≡ replicate (n - k) 32
 fewer zero n h = let e : n ≡ n - 0 = omega arith in ap (λ (j : ℕ). replicate {A = ℕ} j 32) e
@@ -29,10 +29,10 @@ pub name-put : {b b₁ b₂ t end : List ℕ} {at n m : ℕ} → at ≤ length b
 unfolding left
 name-put {t = t} h k e p q = rename (sym (append-assoc t (replicate (16 - length t) 32) (10 ∷ []))) (then h p (rename (rest-is (length t) k e) q))
 
-pub line-put : (h : ℕ) (z : ℤ) (t : List ℕ) {b b₁ b₂ b₃ steps value : List ℕ} {at n m r : ℕ} → at ≤ length b
-    → steps ≡ right 2 (in-decimal (pos h)) ++ (32 ∷ []) → value ≡ right 30 (in-decimal z) ++ (32 ∷ [])
-    → PutAt b at steps n b₁ → PutAt b₁ n value m b₂ → PutAt b₂ m (left 16 t ++ (10 ∷ [])) r b₃ → PutAt b at (page-line h z t) r b₃
+pub line-put : (h a : ℕ) (z : ℤ) (t : List ℕ) {b b₁ b₂ b₃ steps value : List ℕ} {at n m r : ℕ} → at ≤ length b
+    → steps ≡ right 2 (in-decimal (pos h)) ++ (32 ∷ []) → value ≡ right 30 (value-text a z) ++ (32 ∷ [])
+    → PutAt b at steps n b₁ → PutAt b₁ n value m b₂ → PutAt b₂ m (left 16 t ++ (10 ∷ [])) r b₃ → PutAt b at (page-line h a z t) r b₃
 unfolding page-line
-line-put h z t l e f p q s =
-    rename (append-assoc (right 2 (in-decimal (pos h)) ++ (32 ∷ [])) (right 30 (in-decimal z) ++ (32 ∷ [])) (left 16 t ++ (10 ∷ [])))
+line-put h a z t l e f p q s =
+    rename (append-assoc (right 2 (in-decimal (pos h)) ++ (32 ∷ [])) (right 30 (value-text a z) ++ (32 ∷ [])) (left 16 t ++ (10 ∷ [])))
     (then l (then l (rename e p) (rename f q)) s)

@@ -12,7 +12,7 @@ use lib.ListN.{length, replicate, length-append, length-replicate}
 use Rattle.whole.specs.Cases.{if, by-test}
 use Rattle.theory.specs.Widths.{name-bytes}
 use Rattle.theory.specs.Listing.{digits}
-use Rattle.page_text.specs.Page.{in-decimal, right, left, page-line}
+use Rattle.page_text.specs.Page.{in-decimal, right, left, value-text, page-line}
 
 -- what a line can hold: steps of one digit, a value of 29 digits, a name of 16 bytes
 pub record Fitting (h : ℕ) (z : ℤ) (t : List ℕ) : Type 0 where
@@ -67,6 +67,11 @@ unfolding in-decimal
 decimal-most (pos n) h = omega (arith, digits-most 28 n h)
 decimal-most (negsuc n) h = omega (arith, digits-most 28 (suc n) h)
 
+-- nor is what stands for a value longer
+pub text-most : (a : ℕ) (z : ℤ) → natAbs z < 10 ^ 29 → length (value-text a z) ≤ 30
+unfolding value-text
+text-most a z h = by-test (eqb a 0) (λ b. length (if b (110 ∷ 111 ∷ 110 ∷ 101 ∷ []) (in-decimal z)) ≤ 30) (λ _. omega arith) (λ _. decimal-most z h)
+
 -- ---- columns
 
 pub right-length : (k : ℕ) (s : List ℕ) → length s ≤ k → length (right k s) ≡ k
@@ -78,11 +83,11 @@ unfolding left
 left-length k s h = omega (arith, length-append s (replicate (k - length s) 32), length-replicate {A = ℕ} (k - length s) 32)
 
 -- "exactly 50 columns and a line end"
-pub line-length : {h : ℕ} {z : ℤ} {t : List ℕ} → Fitting h z t → length (page-line h z t) ≡ 51
+pub line-length : (n : ℕ) {h : ℕ} {z : ℤ} {t : List ℕ} → Fitting h z t → length (page-line h n z t) ≡ 51
 unfolding page-line in-decimal
-line-length {h} {z} {t} f =
+line-length n {h} {z} {t} f =
     let a = right 2 (in-decimal (pos h)) in
-    let b = right 30 (in-decimal z) in
+    let b = right 30 (value-text n z) in
     let c = left 16 t in
     omega (
       arith,
@@ -92,6 +97,6 @@ line-length {h} {z} {t} f =
       length-append b (32 ∷ []),
       length-append c (10 ∷ []),
       right-length 2 (in-decimal (pos h)) (omega (arith, digits-most 0 h (omega (arith, f .steps, pow-suc 10 0, pow-zero 10)))),
-      right-length 30 (in-decimal z) (decimal-most z (f .value)),
+      right-length 30 (value-text n z) (text-most n z (f .value)),
       left-length 16 t (f .name),
     )

@@ -4,3 +4,4 @@ pub mod Columns
 pub mod Uncut
 pub mod Touched
 pub mod PageRows
+pub mod NoneLine

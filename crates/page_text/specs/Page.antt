@@ -41,9 +41,13 @@ right k s = replicate (k - length s) 32 ++ s
 unfoldable pub left : ℕ → List ℕ → List ℕ
 left k s = s ++ replicate (k - length s) 32
 
+-- what stands for a value: its whole part, and "`none` .. on the page" for "none", the only one that is read with action 0
+unfoldable pub value-text : ℕ → ℤ → List ℕ
+value-text a z = if (eqb a 0) (110 ∷ 111 ∷ 110 ∷ 101 ∷ []) (in-decimal z)
+
 -- "steps in 2 columns right-aligned, a space, the value's whole part .. in 30 columns right-aligned, a space, the action's name padded to 16", and "a line end"
-unfoldable pub page-line : ℕ → ℤ → List ℕ → List ℕ
-page-line h z t = (right steps-columns (in-decimal (pos h)) ++ (32 ∷ [])) ++ ((right value-columns (in-decimal z) ++ (32 ∷ [])) ++ (left name-bytes t ++ (10 ∷ [])))
+unfoldable pub page-line : ℕ → ℕ → ℤ → List ℕ → List ℕ
+page-line h a z t = (right steps-columns (in-decimal (pos h)) ++ (32 ∷ [])) ++ ((right value-columns (value-text a z) ++ (32 ∷ [])) ++ (left name-bytes t ++ (10 ∷ [])))
 
 -- ---- the lines of a state
 
@@ -55,7 +59,7 @@ whole-part B q h x = floor-by (number x) (up (q .den) * (site-at B .weights) ^ (
 unfoldable pub line-at : List ℕ → List ℤ → List ℕ → Asked → ℕ → List ℕ
 line-at B nodes stages q h =
     let v = value-of B nodes stages h q in
-    page-line h (whole-part B q h (v .numerator)) (name B (v .action))
+    page-line h (v .action) (whole-part B q h (v .numerator)) (name B (v .action))
 
 -- "For one state the page has a line per stage, from 1 to the given horizon H."
 unfoldable pub page-text : List ℕ → ℕ → List ℤ → List ℕ → Asked → List ℕ

@@ -25,8 +25,9 @@ use Rattle.theory.specs.Valid.{all, small-linear}
 use Rattle.theory.specs.Verdict.{from-to}
 use Rattle.theory.specs.Load.{site-at}
 use Rattle.theory.specs.Solve.{early}
-use Rattle.theory.specs.Value.{Asked, accepted, node-word, node-linear, high-of, good-leaf-row, good-condition-row, good-test-row, good-row, numerator-of, taken, walk, ValueOut, refused-value, value-at, value-of}
+use Rattle.theory.specs.Value.{Asked, accepted, node-word, node-linear, high-of, good-row, numerator-of, taken, ends, walk, ValueOut, refused-value, value-at, value-of}
 use Rattle.theory.specs.Name.{names-action, no-part, trimmed, named-part, name-refusal, name-part, name}
+use Rattle.theory.specs.laws.Fits.{node-fits, leaf-small}
 use Rattle.theory.specs.laws.Name.{trimmed-most}
 use Rattle.theory.specs.Listing.{lines}
 use Rattle.long_division.specs.Floor.{floor-abs}
@@ -74,31 +75,17 @@ numerator-most q p s l t =
 -- ---- a reading
 
 module _ (n A : ℕ) (q : Asked) (W : List ℤ) where
-  leaf-small : (r : ℕ) → T (good-row n A W r) → natAbs (node-word W r 0) ≡ 0 → T (small-linear (node-linear W r))
-  unfolding good-row good-leaf-row
-  leaf-small r t e = go (node-word W r 0) e (both (leb (r * node-words) (length W)) _ t .1)
-    where
-      go : (z : ℤ) → natAbs z ≡ 0
-          → T (elim z [
-            | pos k ↦ if (eqb k 0) (good-leaf-row A W r) (if (eqb k 1) (good-condition-row n W r) (if (eqb k 2) (good-test-row W r) false))
-            | negsuc k ↦ false
-          ])
-          → T (small-linear (node-linear W r))
-      go (pos zero) e t = both (small-linear (node-linear W r)) _ t .0
-      go (pos (suc k)) e t = absurd (omega arith)
-      go (negsuc k) e t = absurd t
-
   abbrev step : Bool → Bool → ℕ → ℕ → ℕ
   step good leaf r below = elim good [ true ↦ if leaf r below | false ↦ 0 ]
 
   walk-small : (k r : ℕ) → (walk n A q W k r ≡ 0 → ⊥) → T (small-linear (node-linear W (walk n A q W k r)))
   unfolding walk
   walk-small zero r = λ z. absurd (z refl)
-  walk-small (suc k) r = go (good-row n A W r) refl (eqb (natAbs (node-word W r 0)) 0) refl (walk n A q W k (taken n q W r)) (walk-small k (taken n q W r))
+  walk-small (suc k) r = go (good-row n A W r) refl (ends (natAbs (node-word W r 0))) refl (walk n A q W k (taken n q W r)) (walk-small k (taken n q W r))
     where
-      go : (g : Bool) → good-row n A W r ≡ g → (l : Bool) → eqb (natAbs (node-word W r 0)) 0 ≡ l → (w : ℕ) → ((w ≡ 0 → ⊥) → T (small-linear (node-linear W w)))
+      go : (g : Bool) → good-row n A W r ≡ g → (l : Bool) → ends (natAbs (node-word W r 0)) ≡ l → (w : ℕ) → ((w ≡ 0 → ⊥) → T (small-linear (node-linear W w)))
           → (step g l r w ≡ 0 → ⊥) → T (small-linear (node-linear W (step g l r w)))
-      go true g true l w f z = leaf-small r (from-true g) (eqb-true (natAbs (node-word W r 0)) 0 l)
+      go true g true l w f z = leaf-small n A W r (node-fits n A W r (from-true g)) (from-true l)
       go true g false l w f z = f z
       go false g l e w f z = absurd (z refl)
 
@@ -168,7 +155,7 @@ module _ (B : List ℕ) (nodes : List ℤ) (stages : List ℕ) (q : Asked) (s : 
   -- "Each line is exactly 50 columns and a line end"
   pub line-bytes : (h : ℕ) → h < 10 → length (line-at B nodes stages q h) ≡ 51
   unfolding line-at
-  line-bytes h k = line-length (line-fits h k)
+  line-bytes h k = line-length (value-of B nodes stages h q .action) (line-fits h k)
 
   lines-bytes : (a k : ℕ) → a + k ≤ 10 → length (lines (line-at B nodes stages q) (from-to a k)) ≡ 51 * k
   unfolding lines from-to

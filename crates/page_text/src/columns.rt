@@ -7,7 +7,7 @@ ghost use lib.Dec.{eqb};
 ghost use lib.IntN.{pos, natAbs};
 ghost use lib.ListN.{replicate};
 ghost use Rattle.long_division.specs.Words.{two-words, whole-as};
-ghost use Rattle.page_text.specs.Page.{steps-columns, value-columns, in-decimal, right};
+ghost use Rattle.page_text.specs.Page.{steps-columns, value-columns, in-decimal, right, value-text};
 use long_division::Whole;
 use long_division::divide;
 
@@ -50,7 +50,7 @@ fn blank() -> [u8; 31]
 }
 
 // A whole number, its digits from the last to the first, then its sign.
-pub(crate) fn value_column(x: Whole) -> [u8; 31]
+fn value_column(x: Whole) -> [u8; 31]
     requires { ⌜ natAbs (whole-as x) < 10 ^ 29 ⌝ }
     ensures { λ r. ⌜ r ≡ right value-columns (in-decimal (whole-as x)) ++ (32 ∷ []) ⌝ }
 {
@@ -72,6 +72,29 @@ pub(crate) fn value_column(x: Whole) -> [u8; 31]
         out[at - 1] = 45;
     }
     out
+}
+
+// "none", which is no number.
+fn none_column() -> [u8; 31]
+    ensures { λ r. ⌜ r ≡ right value-columns (110 ∷ 111 ∷ 110 ∷ 101 ∷ []) ++ (32 ∷ []) ⌝ }
+{
+    let mut out = blank();
+    out[26] = 110;
+    out[27] = 111;
+    out[28] = 110;
+    out[29] = 101;
+    out
+}
+
+// A value with the action read: none has action 0.
+pub(crate) fn text_column(a: u32, x: Whole) -> [u8; 31]
+    requires { ⌜ natAbs (whole-as x) < 10 ^ 29 ⌝ }
+    ensures { λ r. ⌜ r ≡ right value-columns (value-text a (whole-as x)) ++ (32 ∷ []) ⌝ }
+{
+    if a == 0 {
+        return none_column();
+    }
+    value_column(x)
 }
 
 // Steps have one digit.

@@ -9,7 +9,7 @@ ghost use Rattle.long_division.specs.Words.{whole-as};
 ghost use Rattle.page_text.specs.Page.{left, page-line};
 ghost use Rattle.page_text.specs.Columns.{Fitting};
 use super::columns::steps_column;
-use super::columns::value_column;
+use super::columns::text_column;
 use decimal::put_bytes;
 use long_division::Whole;
 
@@ -33,12 +33,13 @@ fn put_name(out: &mut [u8], at: usize, name: &[u8]) -> usize
     put_bytes(out, n, &end[from..])
 }
 
-pub fn put_line(out: &mut [u8], at: usize, h: u32, x: Whole, name: &[u8]) -> usize
+// The line of h steps: an action, its value and its name.
+pub fn put_line(out: &mut [u8], at: usize, h: u32, a: u32, x: Whole, name: &[u8]) -> usize
     requires { ⌜ Fitting h (whole-as x) (now name) × (at + 51 ≤ length (now out)) ⌝ }
-    ensures { λ r. ⌜ PutAt (now (out .entry)) at (page-line h (whole-as x) (now (name .entry))) r (now (out .exit)) ⌝ }
+    ensures { λ r. ⌜ PutAt (now (out .entry)) at (page-line h a (whole-as x) (now (name .entry))) r (now (out .exit)) ⌝ }
 {
     let steps = steps_column(h);
-    let value = value_column(x);
+    let value = text_column(a, x);
     let n = put_bytes(out, at, &steps);
     let m = put_bytes(out, n, &value);
     put_name(out, m, name)

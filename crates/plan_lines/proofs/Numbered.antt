@@ -36,16 +36,17 @@ refusal-is number place = refl
 
 -- ---- nodes
 
--- a line whose start has a part before it, whichever of three it is
+-- a line whose start has a part before it, whichever of four it is
 behind :
-    (s x y z : List ℕ) (l₀ l₁ l₂ m₀ m₂ : List ℤ) →
+    (s x y u z : List ℕ) (l₀ l₁ l₂ m₀ m₂ : List ℤ) →
     l₀ ≡ m₀ →
     l₂ ≡ m₂ →
-    (a b : Bool) →
-    if a (line (s ++ x) l₀) (if b (line (s ++ y) l₁) (line (s ++ z) l₂)) ≡ s ++ if a (line x m₀) (if b (line y l₁) (line z m₂))
-behind s x y z l₀ l₁ l₂ m₀ m₂ p q true b = append-assoc s x (spaced-all l₀ ++ (10 ∷ [])) ∙ ap (λ (l : List ℤ). s ++ line x l) p
-behind s x y z l₀ l₁ l₂ m₀ m₂ p q false true = append-assoc s y (spaced-all l₁ ++ (10 ∷ []))
-behind s x y z l₀ l₁ l₂ m₀ m₂ p q false false = append-assoc s z (spaced-all l₂ ++ (10 ∷ [])) ∙ ap (λ (l : List ℤ). s ++ line z l) q
+    (a b d : Bool) →
+    if a (line (s ++ x) l₀) (if b (line (s ++ y) l₁) (if d (line (s ++ u) []) (line (s ++ z) l₂))) ≡ s ++ if a (line x m₀) (if b (line y l₁) (if d (line u []) (line z m₂)))
+behind s x y u z l₀ l₁ l₂ m₀ m₂ p q true b d = append-assoc s x (spaced-all l₀ ++ (10 ∷ [])) ∙ ap (λ (l : List ℤ). s ++ line x l) p
+behind s x y u z l₀ l₁ l₂ m₀ m₂ p q false true d = append-assoc s y (spaced-all l₁ ++ (10 ∷ []))
+behind s x y u z l₀ l₁ l₂ m₀ m₂ p q false false true = append-assoc s u (spaced-all [] ++ (10 ∷ []))
+behind s x y u z l₀ l₁ l₂ m₀ m₂ p q false false false = append-assoc s z (spaced-all l₂ ++ (10 ∷ [])) ∙ ap (λ (l : List ℤ). s ++ line z l) q
 
 first-of : (a : Bool) (x y : List ℕ) → a ≡ true → x ≡ if a x y
 first-of true x y e = refl
@@ -82,7 +83,7 @@ module _ (W : List ℤ) (r : ℕ) (h : Inside W r) where
 
   pub node-is : node-line W r ≡ (78 ∷ spaced (pos r)) ++ node-rest W r
   unfolding node-line node-rest
-  node-is = behind (78 ∷ spaced (pos r)) (32 ∷ 86 ∷ []) (32 ∷ 66 ∷ []) (32 ∷ 76 ∷ [])
+  node-is = behind (78 ∷ spaced (pos r)) (32 ∷ 86 ∷ []) (32 ∷ 66 ∷ []) (32 ∷ 88 ∷ []) (32 ∷ 76 ∷ [])
       (numbers-of (node-linear W r) ++ (high-of W r ∷ []))
       (node-word W r 1 ∷ high-of W r ∷ low-of W r ∷ [])
       (numbers-of (node-linear W r) ++ (high-of W r ∷ low-of W r ∷ []))
@@ -92,6 +93,7 @@ module _ (W : List ℤ) (r : ℕ) (h : Inside W r) where
       up-to-low
       (eqb (natAbs (node-word W r 0)) 0)
       (eqb (natAbs (node-word W r 0)) 1)
+      (eqb (natAbs (node-word W r 0)) 3)
 
   pub node-length : length (node-line W r) ≡ 1 + (length (spaced (pos r)) + length (node-rest W r))
   node-length = ap length node-is ∙ omega (arith, length-append (spaced (pos r)) (node-rest W r))
@@ -117,10 +119,18 @@ module _ (W : List ℤ) (r k : ℕ) (e : k ≡ natAbs (node-word W r 0)) where
       ∙ first-of (eqb (natAbs (node-word W r 0)) 1) _ _ (is 1 z)
       ∙ second-of (eqb (natAbs (node-word W r 0)) 0) _ _ (is-not 0 (λ (o : k ≡ 0). omega arith))
 
-  pub rest-test : (k ≡ 1 → ⊥) → (k ≡ 0 → ⊥) → line (32 ∷ 76 ∷ []) (take (from r + (levels-most + 3) - from r) (drop (from r) W)) ≡ node-rest W r
+  pub rest-none : (k ≡ 1 → ⊥) → k ≡ 3 → 32 ∷ 88 ∷ 10 ∷ [] ≡ node-rest W r
+  unfolding node-rest spaced-all
+  rest-none o z =
+      first-of (eqb (natAbs (node-word W r 0)) 3) _ _ (is 3 z)
+      ∙ second-of (eqb (natAbs (node-word W r 0)) 1) _ _ (is-not 1 o)
+      ∙ second-of (eqb (natAbs (node-word W r 0)) 0) _ _ (is-not 0 (λ (o : k ≡ 0). omega arith))
+
+  pub rest-test : (k ≡ 1 → ⊥) → (k ≡ 3 → ⊥) → (k ≡ 0 → ⊥) → line (32 ∷ 76 ∷ []) (take (from r + (levels-most + 3) - from r) (drop (from r) W)) ≡ node-rest W r
   unfolding node-rest
-  rest-test o z =
+  rest-test o x z =
       let n : from r + (levels-most + 3) - from r ≡ levels-most + 3 = omega arith in
       ap (λ (i : ℕ). line (32 ∷ 76 ∷ []) (take i (drop (from r) W))) n
+      ∙ second-of (eqb (natAbs (node-word W r 0)) 3) _ _ (is-not 3 x)
       ∙ second-of (eqb (natAbs (node-word W r 0)) 1) _ _ (is-not 1 o)
       ∙ second-of (eqb (natAbs (node-word W r 0)) 0) _ _ (is-not 0 z)

@@ -16,7 +16,8 @@ node-rest W r =
     let numbers : List ℤ = drop ((r - 1) * node-words + 1) W in
     if (eqb (natAbs (node-word W r 0)) 0) (line (32 ∷ 86 ∷ []) (take (levels-most + 2) numbers))
     (if (eqb (natAbs (node-word W r 0)) 1) (line (32 ∷ 66 ∷ []) (node-word W r 1 ∷ high-of W r ∷ low-of W r ∷ []))
-    (line (32 ∷ 76 ∷ []) (take (levels-most + 3) numbers)))
+    (if (eqb (natAbs (node-word W r 0)) 3) (line (32 ∷ 88 ∷ []) [])
+    (line (32 ∷ 76 ∷ []) (take (levels-most + 3) numbers))))
 
 -- no line is longer, but for a node's own number: the letters of "PLAN", and the numbers of a test with its branches
 abbrev pub line-most : ℕ

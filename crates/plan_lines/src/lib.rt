@@ -59,7 +59,7 @@ fn condition_numbers(nodes: &[i64], r: usize) -> [i64; 3]
     [word(nodes, r, 1), word(nodes, r, HIGH), word(nodes, r, LOW)]
 }
 
-// Behind a node's number: the letter of its kind, and the numbers that the kind has.
+// Behind a node's number: the letter of its kind, and the numbers that the kind has. A leaf "none" has none.
 fn node_rest(out: &mut [u8], at: usize, nodes: &[i64], r: usize) -> usize
     requires { ⌜ Inside (now nodes) r × (at + length (node-rest (now nodes) r) ≤ length (now out)) ⌝ }
     ensures { λ n. ⌜ PutAt (now (out .entry)) at (node-rest (now (nodes .entry)) r) n (now (out .exit)) ⌝ }
@@ -68,6 +68,9 @@ fn node_rest(out: &mut [u8], at: usize, nodes: &[i64], r: usize) -> usize
     if kind == 1 {
         let xs = condition_numbers(nodes, r);
         return put_words_line(out, at, b" B", &xs);
+    }
+    if kind == 3 {
+        return put_bytes(out, at, b" X\n");
     }
     let first = (r - 1) * NODE_WORDS + 1;
     if kind == 0 {
@@ -86,6 +89,9 @@ fn node_rest_len(nodes: &[i64], r: usize) -> usize
     if kind == 1 {
         let xs = condition_numbers(nodes, r);
         return words_line_len(b" B", &xs);
+    }
+    if kind == 3 {
+        return 3;
     }
     let first = (r - 1) * NODE_WORDS + 1;
     if kind == 0 {

@@ -51,7 +51,7 @@ unfolding kind-number
 kind-by (pos v) k e t = e
 kind-by (negsuc v) k e t = clash (sym t)
 
-none : (v : ℤ) → ltZ v (pos 0) ≡ true → 3 ≡ kind-number v
+none : (v : ℤ) → ltZ v (pos 0) ≡ true → 4 ≡ kind-number v
 unfolding kind-number
 none (pos v) t = absurd (omega (arith, ltb-true v 0 t))
 none (negsuc v) t = refl
@@ -81,5 +81,5 @@ module _ {z v : ℤ} (e : z ≡ v) (f : mag z < 2 ^ 63) where
   pub among-below : (n : ℕ) → ltZ (R z) (pos 1) ≡ true → false ≡ amongZ n v
   among-below n t = below n v (ap (λ (y : ℤ). ltZ y (pos 1)) (sym (read-is e f)) ∙ t)
 
-  pub kind-below : ltZ (R z) (pos 0) ≡ true → 3 ≡ kind-number v
+  pub kind-below : ltZ (R z) (pos 0) ≡ true → 4 ≡ kind-number v
   kind-below t = none v (ap (λ (y : ℤ). ltZ y (pos 0)) (sym (read-is e f)) ∙ t)

@@ -16,10 +16,10 @@ use Rattle.whole.specs.Within.{small}
 use Rattle.theory.specs.Widths.{node-words, levels-most}
 use Rattle.theory.specs.Diagram.{zeros, cmpZ}
 use Rattle.theory.specs.Valid.{all, small-linear}
-use Rattle.theory.specs.Value.{node-word, node-linear, good-leaf-row, good-condition-row, good-test-row, good-row}
+use Rattle.theory.specs.Value.{node-word, node-linear, good-leaf-row, good-condition-row, good-test-row, good-none-row, good-row}
 use Rattle.rows.proofs.Judged.{and-assoc, and-true}
 use Rattle.rows.specs.declared.Kind.{Kind}
-use Rattle.rows.specs.declared.Kind.the-variants.{Leaf, Condition, Test, Bad}
+use Rattle.rows.specs.declared.Kind.the-variants.{Leaf, Condition, Test, None, Bad}
 use Rattle.rows.specs.Row.{Inside, row-numbers, kind-number, kind-of, row-kind}
 
 -- ---- words in a row, judged one after another
@@ -112,25 +112,26 @@ module _ (W : List ℤ) (r : ℕ) (h : Inside W r) where
 -- ---- the kind
 
 -- by the number in the first word, and what the row of each kind says
-abbrev by-number : ℕ → Bool → Bool → Bool → Kind
-by-number k l c t = if (eqb k 0) (if l Leaf Bad) (if (eqb k 1) (if c Condition Bad) (if (eqb k 2) (if t Test Bad) Bad))
+abbrev by-number : ℕ → Bool → Bool → Bool → Bool → Kind
+by-number k l c t o = if (eqb k 0) (if l Leaf Bad) (if (eqb k 1) (if c Condition Bad) (if (eqb k 2) (if t Test Bad) (if (eqb k 3) (if o None Bad) Bad)))
 
-abbrev judge : ℤ → Bool → Bool → Bool → Bool
-judge z l c t = elim z [
-  | pos k ↦ if (eqb k 0) l (if (eqb k 1) c (if (eqb k 2) t false))
+abbrev judge : ℤ → Bool → Bool → Bool → Bool → Bool
+judge z l c t o = elim z [
+  | pos k ↦ if (eqb k 0) l (if (eqb k 1) c (if (eqb k 2) t (if (eqb k 3) o false)))
   | negsuc k ↦ false
 ]
 
-judge-is : (z : ℤ) (l c t : Bool) → if (judge z l c t) (kind-of (natAbs z)) Bad ≡ by-number (kind-number z) l c t
+judge-is : (z : ℤ) (l c t o : Bool) → if (judge z l c t o) (kind-of (natAbs z)) Bad ≡ by-number (kind-number z) l c t o
 unfolding kind-number kind-of
-judge-is (pos k) l c t = go (eqb k 0) (eqb k 1) (eqb k 2)
+judge-is (pos k) l c t o = go (eqb k 0) (eqb k 1) (eqb k 2) (eqb k 3)
   where
-    go : (p q s : Bool) → if (if p l (if q c (if s t false))) (if p Leaf (if q Condition Test)) Bad ≡ if p (if l Leaf Bad) (if q (if c Condition Bad) (if s (if t Test Bad) Bad))
-    go true q s = refl
-    go false true s = refl
-    go false false true = refl
-    go false false false = refl
-judge-is (negsuc k) l c t = refl
+    go : (p q s u : Bool) → if (if p l (if q c (if s t (if u o false)))) (if p Leaf (if q Condition (if s Test None))) Bad ≡ if p (if l Leaf Bad) (if q (if c Condition Bad) (if s (if t Test Bad) (if u (if o None Bad) Bad)))
+    go true q s u = refl
+    go false true s u = refl
+    go false false true u = refl
+    go false false false true = refl
+    go false false false false = refl
+judge-is (negsuc k) l c t o = refl
 
 module _ (n A : ℕ) (W : List ℤ) (r : ℕ) where
   pub none-at-zero : r ≡ 0 → Bad ≡ row-kind n A W r
@@ -141,23 +142,31 @@ module _ (n A : ℕ) (W : List ℤ) (r : ℕ) where
   unfolding row-kind good-row
   none-outside z h = rw (ne-eqb r 0 z, lt-leb (r * node-words) (length W) (omega arith))
 
-  pub kind-inside : Inside W r → row-kind n A W r ≡ by-number (kind-number (node-word W r 0)) (good-leaf-row A W r) (good-condition-row n W r) (good-test-row W r)
+  -- by a number, with what the row says as each kind
+  abbrev by-rows : ℕ → Kind
+  by-rows k = by-number k (good-leaf-row A W r) (good-condition-row n W r) (good-test-row W r) (good-none-row W r)
+
+  pub kind-inside : Inside W r → row-kind n A W r ≡ by-rows (kind-number (node-word W r 0))
   unfolding row-kind good-row
-  kind-inside h = rw (ne-eqb r 0 (λ e. omega (arith, h .above)), le-leb (r * node-words) (length W) (h .within)) (judge-is (node-word W r 0) (good-leaf-row A W r) (good-condition-row n W r) (good-test-row W r))
+  kind-inside h = rw (ne-eqb r 0 (λ e. omega (arith, h .above)), le-leb (r * node-words) (length W) (h .within))
+      (judge-is (node-word W r 0) (good-leaf-row A W r) (good-condition-row n W r) (good-test-row W r) (good-none-row W r))
 
   -- what the code finds: inside the table, the number in the first word, and the row of its kind
   module _ (z : r ≡ 0 → ⊥) (b : r ≤ length W / node-words) {k : ℕ} (e : k ≡ kind-number (node-word W r 0)) where
-    by-kind : by-number k (good-leaf-row A W r) (good-condition-row n W r) (good-test-row W r) ≡ row-kind n A W r
-    by-kind = ap (λ (j : ℕ). by-number j (good-leaf-row A W r) (good-condition-row n W r) (good-test-row W r)) e ∙ sym (kind-inside (record { above = omega arith; within = omega arith }))
+    by-kind : by-rows k ≡ row-kind n A W r
+    by-kind = ap by-rows e ∙ sym (kind-inside (record { above = omega arith; within = omega arith }))
 
-    pub as-leaf : k ≡ 0 → {g x : Bool} → g ≡ good-leaf-row A W r → g ≡ x → if x Leaf Bad ≡ row-kind n A W r
-    as-leaf p q s = rw (← s, q, ← by-kind, eq-eqb k 0 p)
+    pub as-leaf : k ≡ 0 → {g : Bool} {j : Kind} → g ≡ good-leaf-row A W r → j ≡ if g Leaf Bad → j ≡ row-kind n A W r
+    as-leaf p q s = s ∙ rw (q, ← by-kind, eq-eqb k 0 p)
 
-    pub as-condition : (k ≡ 0 → ⊥) → k ≡ 1 → {g x : Bool} → g ≡ good-condition-row n W r → g ≡ x → if x Condition Bad ≡ row-kind n A W r
-    as-condition p₀ p q s = rw (← s, q, ← by-kind, ne-eqb k 0 p₀, eq-eqb k 1 p)
+    pub as-condition : (k ≡ 0 → ⊥) → k ≡ 1 → {g : Bool} {j : Kind} → g ≡ good-condition-row n W r → j ≡ if g Condition Bad → j ≡ row-kind n A W r
+    as-condition p₀ p q s = s ∙ rw (q, ← by-kind, ne-eqb k 0 p₀, eq-eqb k 1 p)
 
-    pub as-test : (k ≡ 0 → ⊥) → (k ≡ 1 → ⊥) → k ≡ 2 → {g x : Bool} → g ≡ good-test-row W r → g ≡ x → if x Test Bad ≡ row-kind n A W r
-    as-test p₀ p₁ p q s = rw (← s, q, ← by-kind, ne-eqb k 0 p₀, ne-eqb k 1 p₁, eq-eqb k 2 p)
+    pub as-test : (k ≡ 0 → ⊥) → (k ≡ 1 → ⊥) → k ≡ 2 → {g : Bool} {j : Kind} → g ≡ good-test-row W r → j ≡ if g Test Bad → j ≡ row-kind n A W r
+    as-test p₀ p₁ p q s = s ∙ rw (q, ← by-kind, ne-eqb k 0 p₀, ne-eqb k 1 p₁, eq-eqb k 2 p)
 
-    pub as-none : (k ≡ 0 → ⊥) → (k ≡ 1 → ⊥) → (k ≡ 2 → ⊥) → Bad ≡ row-kind n A W r
-    as-none p₀ p₁ p₂ = rw (← by-kind, ne-eqb k 0 p₀, ne-eqb k 1 p₁, ne-eqb k 2 p₂)
+    pub as-none : (k ≡ 0 → ⊥) → (k ≡ 1 → ⊥) → (k ≡ 2 → ⊥) → k ≡ 3 → {g : Bool} {j : Kind} → g ≡ good-none-row W r → j ≡ if g None Bad → j ≡ row-kind n A W r
+    as-none p₀ p₁ p₂ p q s = s ∙ rw (q, ← by-kind, ne-eqb k 0 p₀, ne-eqb k 1 p₁, ne-eqb k 2 p₂, eq-eqb k 3 p)
+
+    pub as-bad : (k ≡ 0 → ⊥) → (k ≡ 1 → ⊥) → (k ≡ 2 → ⊥) → (k ≡ 3 → ⊥) → Bad ≡ row-kind n A W r
+    as-bad p₀ p₁ p₂ p₃ = rw (← by-kind, ne-eqb k 0 p₀, ne-eqb k 1 p₁, ne-eqb k 2 p₂, ne-eqb k 3 p₃)

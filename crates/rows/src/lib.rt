@@ -2,13 +2,15 @@
 pub mod words; // words.rt: a node's words, judged as they are read
 
 ghost use mathlib.Core.Path.{_≡_};
-ghost use Prim.Native.Nat.{_+_, _-_, _*_};
+ghost use Prim.Native.Nat.{_+_, _-_, _*_, _≤_};
 ghost use lib.ListN.{take, drop};
-ghost use Rattle.theory.specs.Widths.{node-words, levels-most};
+ghost use Rattle.whole.specs.Cases.{if};
+ghost use Rattle.theory.specs.Widths.{node-words};
 ghost use Rattle.theory.specs.Diagram.{zeros};
-ghost use Rattle.theory.specs.Value.{node-linear, good-branches, good-leaf-row, good-condition-row, good-test-row};
+ghost use Rattle.theory.specs.Value.{node-linear, good-branches, good-leaf-row, good-condition-row, good-test-row, good-none-row};
 ghost use Rattle.theory.specs.Valid.{small-linear};
 ghost use Rattle.rows.specs.Row.{Inside, row-kind};
+ghost use Rattle.rows.specs.declared.Kind.the-variants.{Bad};
 use self::words::is_among;
 use self::words::is_small;
 use self::words::is_zero;
@@ -19,11 +21,12 @@ use table::NODE_WORDS;
 use whole::COEFFICIENTS;
 use whole::NUMBERS;
 
-// What a node's words say that it is.
+// What a node's words say that it is. A leaf "none" has no numbers and no action.
 pub enum Kind {
     Leaf,
     Condition,
     Test,
+    None,
     Bad,
 }
 
@@ -41,15 +44,15 @@ fn small_linear(nodes: &[i64], r: usize) -> bool
     good
 }
 
-// Behind a condition's number all is 0.
-fn zeros_behind(nodes: &[i64], r: usize) -> bool
-    requires { ⌜ Inside (now nodes) r ⌝ }
-    ensures { λ b. ⌜ b ≡ zeros (take levels-most (drop ((r - 1) * node-words + 2) (now (nodes .entry)))) ⌝ }
+// So many words of node r, from one on, are all 0.
+fn zeros_from(nodes: &[i64], r: usize, first: usize, count: usize) -> bool
+    requires { ⌜ Inside (now nodes) r × (first + count ≤ node-words) ⌝ }
+    ensures { λ b. ⌜ b ≡ zeros (take count (drop ((r - 1) * node-words + first) (now (nodes .entry)))) ⌝ }
 {
     let mut good = true;
     let mut i: usize = 0;
-    while i < COEFFICIENTS {
-        good = good & is_zero(nodes, r, i + 2);
+    while i < count {
+        good = good & is_zero(nodes, r, first + i);
         i += 1;
     }
     good
@@ -74,7 +77,9 @@ fn good_condition(n: u32, nodes: &[i64], r: usize) -> bool
     requires { ⌜ Inside (now nodes) r ⌝ }
     ensures { λ b. ⌜ b ≡ good-condition-row n (now (nodes .entry)) r ⌝ }
 {
-    is_among(n as usize, nodes, r, 1) & zeros_behind(nodes, r) & good_branches(nodes, r)
+    is_among(n as usize, nodes, r, 1)
+        & zeros_from(nodes, r, 2, COEFFICIENTS)
+        & good_branches(nodes, r)
 }
 
 fn good_test(nodes: &[i64], r: usize) -> bool
@@ -82,6 +87,20 @@ fn good_test(nodes: &[i64], r: usize) -> bool
     ensures { λ b. ⌜ b ≡ good-test-row (now (nodes .entry)) r ⌝ }
 {
     small_linear(nodes, r) & good_branches(nodes, r)
+}
+
+// Behind its kind all is 0.
+fn good_none(nodes: &[i64], r: usize) -> bool
+    requires { ⌜ Inside (now nodes) r ⌝ }
+    ensures { λ b. ⌜ b ≡ good-none-row (now (nodes .entry)) r ⌝ }
+{
+    zeros_from(nodes, r, 1, NODE_WORDS - 1)
+}
+
+fn kind_if(good: bool, kind: Kind) -> Kind
+    ensures { λ k. ⌜ k ≡ if good kind Bad ⌝ }
+{
+    if good { kind } else { Kind::Bad }
 }
 
 // The kind of node r, judged whole.
@@ -96,25 +115,16 @@ pub fn row_kind(n: u32, a: u32, nodes: &[i64], r: usize) -> Kind
     }
     let k = kind(nodes, r);
     if k == 0 {
-        return if good_leaf(a, nodes, r) {
-            Kind::Leaf
-        } else {
-            Kind::Bad
-        };
+        return kind_if(good_leaf(a, nodes, r), Kind::Leaf);
     }
     if k == 1 {
-        return if good_condition(n, nodes, r) {
-            Kind::Condition
-        } else {
-            Kind::Bad
-        };
+        return kind_if(good_condition(n, nodes, r), Kind::Condition);
     }
     if k == 2 {
-        return if good_test(nodes, r) {
-            Kind::Test
-        } else {
-            Kind::Bad
-        };
+        return kind_if(good_test(nodes, r), Kind::Test);
+    }
+    if k == 3 {
+        return kind_if(good_none(nodes, r), Kind::None);
     }
     Kind::Bad
 }

@@ -56,14 +56,14 @@ pub(crate) fn is_among(n: usize, nodes: &[i64], r: usize, i: usize) -> bool
     mag(z) as usize <= n
 }
 
-// The kind in node r's first word; none is below 0.
+// The kind in node r's first word; there is none below 0, and 4 is none.
 pub(crate) fn kind(nodes: &[i64], r: usize) -> usize
     requires { ⌜ Inside (now nodes) r ⌝ }
     ensures { λ k. ⌜ k ≡ kind-number (node-word (now (nodes .entry)) r 0) ⌝ }
 {
     let z = word(nodes, r, 0);
     if z < 0 {
-        return 3;
+        return 4;
     }
     mag(z) as usize
 }

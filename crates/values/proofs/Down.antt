@@ -4,19 +4,20 @@ use mathlib.Core.Bool.{Bool, true, false, not, _&&_}
 use mathlib.Core.List.{List}
 use Prim.Native.Nat.{ℕ, zero, suc, _+_, _-_, _*_, _≤_, _<_}
 use native.Mathlib.Omega.{arith}
-use borrow.Author.Tests.{eq-eqb, ne-eqb, eqb-true, eqb-false}
+use borrow.Author.Tests.{eq-eqb, ne-eqb, eqb-false}
 use lib.Dec.{T, eqb, leb, leb→le, eqb→eq}
 use lib.IntN.{ℤ, pos, negsuc, natAbs}
 use lib.ListN.{length, take, drop}
 use lib.Signed.{leZ}
-use Rattle.whole.specs.Cases.{if, by-test, both}
+use Rattle.whole.specs.Cases.{if, by-test, both, from-true}
 use Rattle.theory.specs.Widths.{levels-most, node-words}
 use Rattle.theory.specs.Diagram.{zeros}
 use Rattle.theory.specs.Meaning.{nth}
-use Rattle.theory.specs.Value.{Asked, bits, node-word, node-linear, high-of, low-of, amongZ, good-branches, good-leaf-row, good-condition-row, good-test-row, good-row, numerator-of, taken, walk}
+use Rattle.theory.specs.Value.{Asked, bits, node-word, node-linear, high-of, low-of, amongZ, good-branches, good-leaf-row, good-condition-row, good-test-row, good-none-row, good-row, numerator-of, taken, ends as of-leaf, walk}
+use Rattle.theory.specs.laws.Fits.{node-fits, leaf-small, leaf-most}
 use Rattle.theory.specs.Valid.{small-linear}
 use Rattle.rows.specs.declared.Kind.{Kind}
-use Rattle.rows.specs.declared.Kind.the-variants.{Leaf, Condition, Test, Bad}
+use Rattle.rows.specs.declared.Kind.the-variants.{Leaf, Condition, Test, None, Bad}
 use Rattle.rows.specs.Row.{Inside, kind-of, row-kind}
 use Rattle.values.specs.Step.{step-by, step-of, Ends}
 
@@ -42,11 +43,12 @@ module _ (n A : ℕ) (W : List ℤ) (r : ℕ) where
   Told Leaf = Good 0 (good-leaf-row A W r)
   Told Condition = Good 1 (good-condition-row n W r)
   Told Test = Good 2 (good-test-row W r)
+  Told None = Good 3 (good-none-row W r)
   Told Bad = (r ≡ 0 → ⊥) → good-row n A W r ≡ false
 
   abbrev judge : ℤ → Bool
   judge z = elim z [
-    | pos k ↦ if (eqb k 0) (good-leaf-row A W r) (if (eqb k 1) (good-condition-row n W r) (if (eqb k 2) (good-test-row W r) false))
+    | pos k ↦ if (eqb k 0) (good-leaf-row A W r) (if (eqb k 1) (good-condition-row n W r) (if (eqb k 2) (good-test-row W r) (if (eqb k 3) (good-none-row W r) false)))
     | negsuc k ↦ false
   ]
 
@@ -54,13 +56,15 @@ module _ (n A : ℕ) (W : List ℤ) (r : ℕ) where
   by-first : (z : ℤ) → node-word W r 0 ≡ z → Inside W r → good-row n A W r ≡ true → T (judge z) → Told (kind-of (natAbs z))
   unfolding kind-of
   by-first (negsuc k) e h g = λ t. absurd t
-  by-first (pos k) e h g = by-test (eqb k 0) (λ b. T (if b (good-leaf-row A W r) (if (eqb k 1) (good-condition-row n W r) (if (eqb k 2) (good-test-row W r) false))) → Told (if b Leaf (if (eqb k 1) Condition Test)))
+  by-first (pos k) e h g = by-test (eqb k 0) (λ b. T (if b (good-leaf-row A W r) (if (eqb k 1) (good-condition-row n W r) (if (eqb k 2) (good-test-row W r) (if (eqb k 3) (good-none-row W r) false)))) → Told (if b Leaf (if (eqb k 1) Condition (if (eqb k 2) Test None))))
       (λ t₀ t. record { inside = h; good = g; kind = ap natAbs e ∙ eqb→eq k 0 t₀; keeps = t })
-      (λ _. by-test (eqb k 1) (λ b. T (if b (good-condition-row n W r) (if (eqb k 2) (good-test-row W r) false)) → Told (if b Condition Test))
+      (λ _. by-test (eqb k 1) (λ b. T (if b (good-condition-row n W r) (if (eqb k 2) (good-test-row W r) (if (eqb k 3) (good-none-row W r) false))) → Told (if b Condition (if (eqb k 2) Test None)))
       (λ t₁ t. record { inside = h; good = g; kind = ap natAbs e ∙ eqb→eq k 1 t₁; keeps = t })
-      (λ _. by-test (eqb k 2) (λ b. T (if b (good-test-row W r) false) → Told Test)
+      (λ _. by-test (eqb k 2) (λ b. T (if b (good-test-row W r) (if (eqb k 3) (good-none-row W r) false)) → Told (if b Test None))
       (λ t₂ t. record { inside = h; good = g; kind = ap natAbs e ∙ eqb→eq k 2 t₂; keeps = t })
-      (λ _ t. absurd t)))
+      (λ _. by-test (eqb k 3) (λ b. T (if b (good-none-row W r) false) → Told None)
+      (λ t₃ t. record { inside = h; good = g; kind = ap natAbs e ∙ eqb→eq k 3 t₃; keeps = t })
+      (λ _ t. absurd t))))
 
   parts : T (good-row n A W r) → T (leb (r * node-words) (length W)) × T (judge (node-word W r 0))
   unfolding good-row
@@ -78,10 +82,6 @@ module _ (n A : ℕ) (W : List ℤ) (r : ℕ) where
       (λ t₀. by-test (good-row n A W r) (λ b. Told (if b (kind-of (natAbs (node-word W r 0))) Bad))
       (λ t. told-good (λ e. eqb-false r 0 (is-false (eqb r 0) t₀) e) t)
       (λ t z. is-false (good-row n A W r) t))
-
-  leaf-kind : (r ≡ 0 → ⊥) → good-row n A W r ≡ true → natAbs (node-word W r 0) ≡ 0 → row-kind n A W r ≡ Leaf
-  unfolding row-kind kind-of
-  leaf-kind z g k = rw (ne-eqb r 0 z, g, eq-eqb (natAbs (node-word W r 0)) 0 k)
 
   -- what the code's answer tells
   pub tells : {k : Kind} → k ≡ row-kind n A W r → (o : Kind) → k ≡ o → Told o
@@ -145,7 +145,7 @@ module _ (n A : ℕ) (q : Asked) (W : List ℤ) where
   abbrev one : ℕ → ℕ → Bool → Bool → ℕ
   one k r good leaf = elim good [ true ↦ if leaf r (walk n A q W k (taken n q W r)) | false ↦ 0 ]
 
-  walk-by : (k r : ℕ) {good leaf : Bool} → good-row n A W r ≡ good → eqb (natAbs (node-word W r 0)) 0 ≡ leaf → walk n A q W (suc k) r ≡ one k r good leaf
+  walk-by : (k r : ℕ) {good leaf : Bool} → good-row n A W r ≡ good → of-leaf (natAbs (node-word W r 0)) ≡ leaf → walk n A q W (suc k) r ≡ one k r good leaf
   unfolding walk
   walk-by k r g e = ap₂ (one k r) g e
 
@@ -174,7 +174,7 @@ module _ (n A : ℕ) (q : Asked) (W : List ℤ) where
     goes o e = w .follows ∙ ap (λ (k : Kind). step-by k r (taken n q W r)) e
 
     -- through a good node that is no leaf
-    through : (k : ℕ) → (k ≡ 0 → ⊥) → {row : Bool} → Good n A W r k row → T (good-branches W r) → below ≡ taken n q W r → (below < r) × ((next : ℕ) → next ≡ step-of n A q W below → Along root below next)
+    through : (k : ℕ) → of-leaf k ≡ false → {row : Bool} → Good n A W r k row → T (good-branches W r) → below ≡ taken n q W r → (below < r) × ((next : ℕ) → next ≡ step-of n A q W below → Along root below next)
     through k z g t e =
         let b = taken-below n q W r t in
         let h = g .inside .above in (
@@ -184,14 +184,16 @@ module _ (n A : ℕ) (q : Asked) (W : List ℤ) where
             left = w .left - 1;
             enough = omega (arith, w .enough);
             none = λ y. absurd (omega arith);
-            same = ap (walk n A q W (w .left - 1)) e ∙ sym (walk-by (w .left - 1) r (g .good) (ne-eqb _ 0 (λ y. z (sym (g .kind) ∙ y)))) ∙ ap (λ (j : ℕ). walk n A q W j r) (omega (arith, w .enough)) ∙ w .same;
+            same = ap (walk n A q W (w .left - 1)) e ∙ sym (walk-by (w .left - 1) r (g .good) (ap of-leaf (g .kind) ∙ z)) ∙ ap (λ (j : ℕ). walk n A q W j r) (omega (arith, w .enough)) ∙ w .same;
           },
         )
 
     by-kind : (o : Kind) → row-kind n A W r ≡ o → Told n A W r o → (below ≡ r → ⊥) → (below < r) × ((next : ℕ) → next ≡ step-of n A q W below → Along root below next)
+    unfolding of-leaf
     by-kind Leaf e t z = absurd (z (goes Leaf e))
-    by-kind Condition e t z = through 1 (λ y. omega arith) t (condition-branches n W r (t .keeps) .1) (goes Condition e)
-    by-kind Test e t z = through 2 (λ y. omega arith) t (test-branches W r (t .keeps) .1) (goes Test e)
+    by-kind Condition e t z = through 1 refl t (condition-branches n W r (t .keeps) .1) (goes Condition e)
+    by-kind Test e t z = through 2 refl t (test-branches W r (t .keeps) .1) (goes Test e)
+    by-kind None e t z = absurd (z (goes None e))
     by-kind Bad e t z =
         let b : below ≡ 0 = goes Bad e in
         let g : good-row n A W r ≡ false = t (λ y. z (b ∙ sym y)) in
@@ -215,11 +217,17 @@ module _ (n A : ℕ) (q : Asked) (W : List ℤ) where
     pub goes-on : (below ≡ r → ⊥) → {next : ℕ} → next ≡ step-of n A q W below → Along root below next
     goes-on z {next} e = by-kind (row-kind n A W r) refl (told n A W r) z .1 next e
 
+    -- at a good node that is a leaf
+    stays : (k : ℕ) → of-leaf k ≡ true → {row : Bool} → Good n A W r k row → r ≡ walk n A q W root root
+    stays k z g =
+        let h = g .inside .above in
+        let m : suc (w .left - 1) ≡ w .left = omega (arith, w .enough) in
+        sym (walk-by (w .left - 1) r (g .good) (ap of-leaf (g .kind) ∙ z)) ∙ ap (λ (j : ℕ). walk n A q W j r) m ∙ w .same
+
     end-by : (o : Kind) → row-kind n A W r ≡ o → Told n A W r o → below ≡ r → r ≡ walk n A q W root root
-    end-by Leaf e t z =
-        let h = t .inside .above in
-        let k : suc (w .left - 1) ≡ w .left = omega (arith, w .enough) in
-        sym (walk-by (w .left - 1) r (t .good) (eq-eqb _ 0 (t .kind))) ∙ ap (λ (j : ℕ). walk n A q W j r) k ∙ w .same
+    unfolding of-leaf
+    end-by Leaf e t z = stays 0 refl t
+    end-by None e t z = stays 3 refl t
     end-by Condition e t z = absurd (let b = taken-below n q W r (condition-branches n W r (t .keeps) .1) in let h = t .inside .above in let g = goes Condition e in omega arith)
     end-by Test e t z = absurd (let b = taken-below n q W r (test-branches W r (t .keeps) .1) in let h = t .inside .above in let g = goes Test e in omega arith)
     end-by Bad e t z =
@@ -231,22 +239,21 @@ module _ (n A : ℕ) (q : Asked) (W : List ℤ) where
 
   -- ---- where a walk ends
 
-  leaf-ends : (r : ℕ) → good-row n A W r ≡ true → natAbs (node-word W r 0) ≡ 0 → Ends A W r
-  leaf-ends r g k = record { inside = λ z. found z .inside; leaf = λ z. found z .keeps }
-    where
-      found : (r ≡ 0 → ⊥) → Good n A W r 0 (good-leaf-row A W r)
-      found z = subst (Told n A W r) (leaf-kind n A W r z g k) (told n A W r)
+  leaf-ends : (r : ℕ) → good-row n A W r ≡ true → of-leaf (natAbs (node-word W r 0)) ≡ true → Ends A W r
+  leaf-ends r g k =
+      let f = node-fits n A W r (from-true g) in
+      record { inside = λ z. record { above = omega arith; within = f .inside }; small = λ _. leaf-small n A W r f (from-true k); action = λ _. leaf-most n A W r f (from-true k) }
 
   zero-ends : Ends A W 0
-  zero-ends = record { inside = λ z. absurd (z refl); leaf = λ z. absurd (z refl) }
+  zero-ends = record { inside = λ z. absurd (z refl); small = λ z. absurd (z refl); action = λ z. absurd (z refl) }
 
   walk-ends : (k r : ℕ) → Ends A W (walk n A q W k r)
   unfolding walk
   walk-ends zero r = zero-ends
-  walk-ends (suc k) r = go (good-row n A W r) refl (eqb (natAbs (node-word W r 0)) 0) refl (walk-ends k (taken n q W r))
+  walk-ends (suc k) r = go (good-row n A W r) refl (of-leaf (natAbs (node-word W r 0))) refl (walk-ends k (taken n q W r))
     where
-      go : (b : Bool) → good-row n A W r ≡ b → (d : Bool) → eqb (natAbs (node-word W r 0)) 0 ≡ d → Ends A W (walk n A q W k (taken n q W r)) → Ends A W (one k r b d)
-      go true g true e h = leaf-ends r g (eqb-true (natAbs (node-word W r 0)) 0 e)
+      go : (b : Bool) → good-row n A W r ≡ b → (d : Bool) → of-leaf (natAbs (node-word W r 0)) ≡ d → Ends A W (walk n A q W k (taken n q W r)) → Ends A W (one k r b d)
+      go true g true e h = leaf-ends r g e
       go true g false e h = h
       go false g d e h = zero-ends
 

@@ -2,25 +2,13 @@
 use mathlib.Core.Path.{_≡_, ap, _∙_}
 use mathlib.Core.Bool.{Bool, true, false}
 use mathlib.Core.List.{List}
-use Prim.Native.Nat.{ℕ, _≤_}
+use Prim.Native.Nat.{ℕ}
 use borrow.Author.Tests.{eq-eqb, ne-eqb}
-use lib.Dec.{T}
 use lib.IntN.{ℤ, natAbs}
-use Rattle.whole.specs.Cases.{both}
 use Rattle.whole.specs.declared.Numerator.{Numerator}
 use Rattle.whole.specs.Numerator.{words}
-use Rattle.theory.specs.Value.{Asked, node-linear, high-of, amongZ, good-leaf-row, accepted, numerator-of, walk, ValueOut, refused-value, value-at}
-use Rattle.theory.specs.Valid.{small-linear}
+use Rattle.theory.specs.Value.{Asked, node-linear, high-of, accepted, numerator-of, walk, ValueOut, refused-value, value-at}
 use Rattle.values.specs.Out.{value-after}
-use Rattle.values.proofs.Down.{among-abs}
-
-pub leaf-small : (A : ℕ) (W : List ℤ) (r : ℕ) → T (good-leaf-row A W r) → T (small-linear (node-linear W r))
-unfolding good-leaf-row
-leaf-small A W r t = both (small-linear (node-linear W r)) _ t .0
-
-pub leaf-action : (A : ℕ) (W : List ℤ) (r : ℕ) → T (good-leaf-row A W r) → (1 ≤ natAbs (high-of W r)) × (natAbs (high-of W r) ≤ A)
-unfolding good-leaf-row
-leaf-action A W r t = among-abs A (high-of W r) (both (amongZ A (high-of W r)) _ (both (small-linear (node-linear W r)) _ t .1) .0)
 
 module _ (q : Asked) (W : List ℤ) (r : ℕ) where
   pub at-none : r ≡ 0 → {v : ValueOut} → v ≡ refused-value 14 0 → v ≡ value-at q W r

@@ -47,7 +47,7 @@ fn branch(high: bool, nodes: &[i64], r: usize) -> usize
     }
 }
 
-// One step down: a leaf stays where it is, and a refused node goes to 0.
+// One step down: a leaf, "none" too, stays where it is, and a refused node goes to 0.
 fn step(n: u32, a: u32, q: Asked, nodes: &[i64], r: usize) -> usize
     ensures { λ s. ⌜ s ≡ step-of n a (asked q) (now (nodes .entry)) r ⌝ }
 {
@@ -56,6 +56,7 @@ fn step(n: u32, a: u32, q: Asked, nodes: &[i64], r: usize) -> usize
         Kind::Leaf => r,
         Kind::Condition => branch(is_yes(n, q, nodes, r), nodes, r),
         Kind::Test => branch(holds(q, nodes, r), nodes, r),
+        Kind::None => r,
         Kind::Bad => 0,
     }
 }

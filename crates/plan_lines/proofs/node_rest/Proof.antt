@@ -3,7 +3,7 @@ use native.Mathlib.Omega.{arith}
 use mathlib.Core.Path.{ap}
 use lib.ListN.{length}
 use Rattle.decimal.proofs.Puts.{rename}
-use Rattle.plan_lines.proofs.Numbered.{rest-leaf, rest-condition, rest-test}
+use Rattle.plan_lines.proofs.Numbered.{rest-leaf, rest-condition, rest-none, rest-test}
 use borrow.Author.Needs.{needs}
 use Rattle.plan_lines.proofs.node_rest.Statement.{statement}
 use Rattle.plan_lines.proofs.node_rest.Tie as tie
@@ -22,16 +22,32 @@ slice-aggregate-put-words-line-2 c = search needs
 
 put-words-line-requires : tie.Need-put-words-line-requires
 put-words-line-requires c κs =
-    let e = rest-condition ((c .before .before .before .before .before .before .before) .args .nodes .now) ((c .before .before .before .before .before .before .before) .args .r) (c .before .before .before .before .before .magnitude .result) (c .before .before .before .before .before .magnitude .ensures) (c .before .before .before .before .if1 .taken) (c .before .before .before .condition-numbers .ensures) in
-    omega (arith, (c .before .before .before .before .before .before .before) .pre .1, ap length e)
+    let e = rest-condition (c .before .before .before .before .before .before .before .args .nodes .now) (c .before .before .before .before .before .before .before .args .r) (c .before .before .before .before .before .magnitude .result) (c .before .before .before .before .before .magnitude .ensures) (c .before .before .before .before .if1 .taken) (c .before .before .before .condition-numbers .ensures) in
+    omega (arith, c .before .before .before .before .before .before .before .pre .1, ap length e)
 
 same-length : tie.Need-same-length
 same-length c = search needs
 
 returns : tie.Need-returns
 returns c =
-    let e = rest-condition ((c .before .before .before .before .before .before .before .before .before .before) .args .nodes .now) ((c .before .before .before .before .before .before .before .before .before .before) .args .r) (c .before .before .before .before .before .before .before .before .magnitude .result) (c .before .before .before .before .before .before .before .before .magnitude .ensures) (c .before .before .before .before .before .before .before .if1 .taken) (c .before .before .before .before .before .before .condition-numbers .ensures) in
+    let e = rest-condition (c .before .before .before .before .before .before .before .before .before .before .args .nodes .now) (c .before .before .before .before .before .before .before .before .before .before .args .r) (c .before .before .before .before .before .before .before .before .magnitude .result) (c .before .before .before .before .before .before .before .before .magnitude .ensures) (c .before .before .before .before .before .before .before .if1 .taken) (c .before .before .before .before .before .before .condition-numbers .ensures) in
     rename e (c .before .before .put-words-line .ensures)
+
+slice-aggregate-put-bytes : tie.Need-slice-aggregate-put-bytes
+slice-aggregate-put-bytes c = search needs
+
+put-bytes-requires : tie.Need-put-bytes-requires
+put-bytes-requires c κs =
+    let e = rest-none (c .before .before .before .before .before .before .args .nodes .now) (c .before .before .before .before .before .before .args .r) (c .before .before .before .before .magnitude .result) (c .before .before .before .before .magnitude .ensures) (c .before .before .before .if1 .left) (c .before .before .if2 .taken) in
+    omega (arith, c .before .before .before .before .before .before .pre .1, ap length e)
+
+same-length-2 : tie.Need-same-length-2
+same-length-2 c = search needs
+
+returns-2 : tie.Need-returns-2
+returns-2 c =
+    let e = rest-none (c .before .before .before .before .before .before .before .before .before .args .nodes .now) (c .before .before .before .before .before .before .before .before .before .args .r) (c .before .before .before .before .before .before .before .magnitude .result) (c .before .before .before .before .before .before .before .magnitude .ensures) (c .before .before .before .before .before .before .if1 .left) (c .before .before .before .before .before .if2 .taken) in
+    rename e (c .before .before .put-bytes .ensures)
 
 sub-first : tie.Need-sub-first
 sub-first c = search needs
@@ -62,15 +78,15 @@ part-put-words-line-end c = search needs
 
 put-words-line-requires-2 : tie.Need-put-words-line-requires-2
 put-words-line-requires-2 c κs =
-    let e = rest-leaf ((c .before .before .before .before .before .before .before) .args .nodes .now) ((c .before .before .before .before .before .before .before) .args .r) (c .before .before .before .before .before .magnitude .result) (c .before .before .before .before .before .magnitude .ensures) (c .before .before .before .if2 .taken) in
-    omega (arith, (c .before .before .before .before .before .before .before) .pre .1, ap length e)
+    let e = rest-leaf (c .before .before .before .before .before .before .before .before .args .nodes .now) (c .before .before .before .before .before .before .before .before .args .r) (c .before .before .before .before .before .before .magnitude .result) (c .before .before .before .before .before .before .magnitude .ensures) (c .before .before .before .if3 .taken) in
+    omega (arith, c .before .before .before .before .before .before .before .before .pre .1, ap length e)
 
-same-length-2 : tie.Need-same-length-2
-same-length-2 c = search needs
+same-length-3 : tie.Need-same-length-3
+same-length-3 c = search needs
 
-returns-2 : tie.Need-returns-2
-returns-2 c =
-    let e = rest-leaf ((c .before .before .before .before .before .before .before .before .before .before) .args .nodes .now) ((c .before .before .before .before .before .before .before .before .before .before) .args .r) (c .before .before .before .before .before .before .before .before .magnitude .result) (c .before .before .before .before .before .before .before .before .magnitude .ensures) (c .before .before .before .before .before .before .if2 .taken) in
+returns-3 : tie.Need-returns-3
+returns-3 c =
+    let e = rest-leaf (c .before .before .before .before .before .before .before .before .before .before .before .args .nodes .now) (c .before .before .before .before .before .before .before .before .before .before .before .args .r) (c .before .before .before .before .before .before .before .before .before .magnitude .result) (c .before .before .before .before .before .before .before .before .before .magnitude .ensures) (c .before .before .before .before .before .before .if3 .taken) in
     rename e (c .before .before .put-words-line2 .ensures)
 
 add-end-2 : tie.Need-add-end-2
@@ -93,15 +109,15 @@ part-put-words-line-end-2 c = search needs
 
 put-words-line-requires-3 : tie.Need-put-words-line-requires-3
 put-words-line-requires-3 c κs =
-    let e = rest-test ((c .before .before .before .before .before .before .before) .args .nodes .now) ((c .before .before .before .before .before .before .before) .args .r) (c .before .before .before .before .before .magnitude .result) (c .before .before .before .before .before .magnitude .ensures) (c .before .before .before .before .if1 .left) (c .before .before .before .if2 .left) in
-    omega (arith, (c .before .before .before .before .before .before .before) .pre .1, ap length e)
+    let e = rest-test (c .before .before .before .before .before .before .before .before .args .nodes .now) (c .before .before .before .before .before .before .before .before .args .r) (c .before .before .before .before .before .before .magnitude .result) (c .before .before .before .before .before .before .magnitude .ensures) (c .before .before .before .before .before .if1 .left) (c .before .before .before .before .if2 .left) (c .before .before .before .if3 .left) in
+    omega (arith, c .before .before .before .before .before .before .before .before .pre .1, ap length e)
 
-same-length-3 : tie.Need-same-length-3
-same-length-3 c = search needs
+same-length-4 : tie.Need-same-length-4
+same-length-4 c = search needs
 
-returns-3 : tie.Need-returns-3
-returns-3 c =
-    let e = rest-test ((c .before .before .before .before .before .before .before .before .before .before) .args .nodes .now) ((c .before .before .before .before .before .before .before .before .before .before) .args .r) (c .before .before .before .before .before .before .before .before .magnitude .result) (c .before .before .before .before .before .before .before .before .magnitude .ensures) (c .before .before .before .before .before .before .before .if1 .left) (c .before .before .before .before .before .before .if2 .left) in
+returns-4 : tie.Need-returns-4
+returns-4 c =
+    let e = rest-test (c .before .before .before .before .before .before .before .before .before .before .before .args .nodes .now) (c .before .before .before .before .before .before .before .before .before .before .before .args .r) (c .before .before .before .before .before .before .before .before .before .magnitude .result) (c .before .before .before .before .before .before .before .before .before .magnitude .ensures) (c .before .before .before .before .before .before .before .before .if1 .left) (c .before .before .before .before .before .before .before .if2 .left) (c .before .before .before .before .before .before .if3 .left) in
     rename e (c .before .before .put-words-line3 .ensures)
 
 pub node-rest-spec : {M : Type 1} → statement M
@@ -115,6 +131,10 @@ node-rest-spec =
     put-words-line-requires
     same-length
     returns
+    slice-aggregate-put-bytes
+    put-bytes-requires
+    same-length-2
+    returns-2
     sub-first
     mul-first
     add-first
@@ -125,8 +145,8 @@ node-rest-spec =
     part-put-words-line-start
     part-put-words-line-end
     put-words-line-requires-2
-    same-length-2
-    returns-2
+    same-length-3
+    returns-3
     add-end-2
     slice-aggregate-put-words-line-4
     mul-put-words-line-2
@@ -134,5 +154,5 @@ node-rest-spec =
     part-put-words-line-start-2
     part-put-words-line-end-2
     put-words-line-requires-3
-    same-length-3
-    returns-3)
+    same-length-4
+    returns-4)

@@ -4,7 +4,7 @@ use Prim.Native.Nat.{_+_}
 use native.Mathlib.Omega.{arith}
 use lib.ListN.{length}
 use Rattle.theory.specs.Widths.{levels-most}
-use Rattle.plan_lines.proofs.Numbered.{from, part-few, rest-leaf, rest-condition, rest-test}
+use Rattle.plan_lines.proofs.Numbered.{from, part-few, rest-leaf, rest-condition, rest-none, rest-test}
 use borrow.Author.Needs.{needs}
 use Rattle.plan_lines.proofs.node_rest_len.Statement.{statement}
 use Rattle.plan_lines.proofs.node_rest_len.Tie as tie
@@ -26,8 +26,13 @@ words-line-len-requires c κs = search needs
 
 returns : tie.Need-returns
 returns c =
-    let e = rest-condition ((c .before .before .before .before .before .before) .args .nodes .now) ((c .before .before .before .before .before .before) .args .r) (c .before .before .before .before .before .magnitude .result) (c .before .before .before .before .before .magnitude .ensures) (c .before .before .before .before .if1 .taken) (c .before .before .before .condition-numbers .ensures) in
+    let e = rest-condition (c .before .before .before .before .before .before .args .nodes .now) (c .before .before .before .before .before .before .args .r) (c .before .before .before .before .before .magnitude .result) (c .before .before .before .before .before .magnitude .ensures) (c .before .before .before .before .if1 .taken) (c .before .before .before .condition-numbers .ensures) in
     (c .words-line-len .ensures .0 ∙ ap length e, omega (arith, c .words-line-len .ensures .1, ap length (c .before .before .before .condition-numbers .ensures)))
+
+returns-2 : tie.Need-returns-2
+returns-2 c =
+    let e = rest-none (c .before .before .before .args .nodes .now) (c .before .before .before .args .r) (c .before .before .magnitude .result) (c .before .before .magnitude .ensures) (c .before .if1 .left) (c .if2 .taken) in
+    (ap length e, omega arith)
 
 sub-first : tie.Need-sub-first
 sub-first c = search needs
@@ -59,10 +64,10 @@ part-words-line-len-end c = search needs
 words-line-len-requires-2 : tie.Need-words-line-len-requires-2
 words-line-len-requires-2 c κs = search needs
 
-returns-2 : tie.Need-returns-2
-returns-2 c =
-    let e = rest-leaf ((c .before .before .before .before .before .before) .args .nodes .now) ((c .before .before .before .before .before .before) .args .r) (c .before .before .before .before .before .magnitude .result) (c .before .before .before .before .before .magnitude .ensures) (c .before .before .before .if2 .taken) in
-    (c .words-line-len2 .ensures .0 ∙ ap length e, omega (arith, c .words-line-len2 .ensures .1, part-few ((c .before .before .before .before .before .before) .args .nodes .now) (from ((c .before .before .before .before .before .before) .args .r)) (levels-most + 2)))
+returns-3 : tie.Need-returns-3
+returns-3 c =
+    let e = rest-leaf (c .before .before .before .before .before .before .before .args .nodes .now) (c .before .before .before .before .before .before .before .args .r) (c .before .before .before .before .before .before .magnitude .result) (c .before .before .before .before .before .before .magnitude .ensures) (c .before .before .before .if3 .taken) in
+    (c .words-line-len2 .ensures .0 ∙ ap length e, omega (arith, c .words-line-len2 .ensures .1, part-few (c .before .before .before .before .before .before .before .args .nodes .now) (from (c .before .before .before .before .before .before .before .args .r)) (levels-most + 2)))
 
 add-end-2 : tie.Need-add-end-2
 add-end-2 c = search needs
@@ -85,10 +90,10 @@ part-words-line-len-end-2 c = search needs
 words-line-len-requires-3 : tie.Need-words-line-len-requires-3
 words-line-len-requires-3 c κs = search needs
 
-returns-3 : tie.Need-returns-3
-returns-3 c =
-    let e = rest-test ((c .before .before .before .before .before .before) .args .nodes .now) ((c .before .before .before .before .before .before) .args .r) (c .before .before .before .before .before .magnitude .result) (c .before .before .before .before .before .magnitude .ensures) (c .before .before .before .before .if1 .left) (c .before .before .before .if2 .left) in
-    (c .words-line-len3 .ensures .0 ∙ ap length e, omega (arith, c .words-line-len3 .ensures .1, part-few ((c .before .before .before .before .before .before) .args .nodes .now) (from ((c .before .before .before .before .before .before) .args .r)) (levels-most + 3)))
+returns-4 : tie.Need-returns-4
+returns-4 c =
+    let e = rest-test (c .before .before .before .before .before .before .before .args .nodes .now) (c .before .before .before .before .before .before .before .args .r) (c .before .before .before .before .before .before .magnitude .result) (c .before .before .before .before .before .before .magnitude .ensures) (c .before .before .before .before .before .if1 .left) (c .before .before .before .before .if2 .left) (c .before .before .before .if3 .left) in
+    (c .words-line-len3 .ensures .0 ∙ ap length e, omega (arith, c .words-line-len3 .ensures .1, part-few (c .before .before .before .before .before .before .before .args .nodes .now) (from (c .before .before .before .before .before .before .before .args .r)) (levels-most + 3)))
 
 pub node-rest-len-spec : {M : Type 1} → statement M
 node-rest-len-spec =
@@ -100,6 +105,7 @@ node-rest-len-spec =
     slice-aggregate-words-line-len-2
     words-line-len-requires
     returns
+    returns-2
     sub-first
     mul-first
     add-first
@@ -110,7 +116,7 @@ node-rest-len-spec =
     part-words-line-len-start
     part-words-line-len-end
     words-line-len-requires-2
-    returns-2
+    returns-3
     add-end-2
     slice-aggregate-words-line-len-4
     mul-words-line-len-2
@@ -118,4 +124,4 @@ node-rest-len-spec =
     part-words-line-len-start-2
     part-words-line-len-end-2
     words-line-len-requires-3
-    returns-3)
+    returns-4)

@@ -4,7 +4,7 @@ use lib.IntN.{pos}
 use lib.ListN.{getD}
 use Rattle.theory.specs.Widths.{levels-most}
 use Rattle.decimal.proofs.Puts.{rename}
-use Rattle.page.proofs.Read.{narrow-state, divisor-read, den-read, shown-steps, shown-divisor, part-is, name-as, holds, room, line-is}
+use Rattle.page.proofs.Read.{narrow-state, divisor-read, den-read, shown-steps, shown-divisor, part-is, action-as, name-as, holds, room, line-is}
 use borrow.Author.Needs.{needs}
 use Rattle.page.proofs.writing.write_line.Statement.{statement}
 use Rattle.page.proofs.writing.write_line.Tie as tie
@@ -62,7 +62,7 @@ returns c =
     let w = c .before .before .before .before .before .before .before .before .before .before .before .before .before .before .before .before .pre .0 in
     let e = c .before .before .before .before .before .before .before .before .value-after .ensures in
     let z = part-is w e (den-read (getD (c .before .before .before .before .before .before .before .before .before .before .before .before .before .before .before .before .args .q .n) levels-most (pos 0)) (c .before .before .before .before .before .before .part-arg .given)) (c .before .before .before .before .before .part .ensures) in
-    rename (line-is w f z (name-as w e (c .before .before .before .name .ensures .0))) (c .before .before .put-line .ensures)
+    rename (line-is w f z (name-as w e (c .before .before .before .name .ensures .0)) (action-as w e)) (c .before .before .put-line .ensures)
 
 pub write-line-spec : {M : Type 1} → statement M
 write-line-spec =

@@ -1,7 +1,7 @@
 -- `values::reading::value_at` meets its contract.
 use native.Mathlib.Omega.{arith}
 use borrow.Author.Needs.{needs}
-use Rattle.values.proofs.Outcome.{at-none, at-leaf, leaf-action, leaf-small}
+use Rattle.values.proofs.Outcome.{at-none, at-leaf}
 use Rattle.values.proofs.reading.value_at.Statement.{statement}
 use Rattle.values.proofs.reading.value_at.Tie as tie
 
@@ -18,11 +18,11 @@ magnitude-requires c κs =
 
 cast-action : tie.Need-cast-action
 cast-action c =
-    let p = leaf-action _ _ _ ((c .before .before) .pre .leaf (c .before .if1 .left)) in omega (arith, c .magnitude .ensures)
+    omega (arith, (c .before .before) .pre .action (c .before .if1 .left), c .magnitude .ensures)
 
 numerator-requires : tie.Need-numerator-requires
 numerator-requires c κs =
-    ((c .before .before) .pre .inside (c .before .if1 .left), leaf-small _ _ _ ((c .before .before) .pre .leaf (c .before .if1 .left)))
+    ((c .before .before) .pre .inside (c .before .if1 .left), (c .before .before) .pre .small (c .before .if1 .left))
 
 returns-2 : tie.Need-returns-2
 returns-2 c =

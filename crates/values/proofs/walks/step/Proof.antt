@@ -1,7 +1,7 @@
 -- `values::walks::step` meets its contract.
 use mathlib.Core.Path.{_∙_}
 use borrow.Author.Needs.{needs}
-use Rattle.rows.specs.declared.Kind.the-variants.{Leaf, Condition, Test, Bad}
+use Rattle.rows.specs.declared.Kind.the-variants.{Leaf, Condition, Test, None, Bad}
 use Rattle.values.proofs.Down.{tells, condition-branches, test-branches, taken-condition, taken-test, step-is}
 use Rattle.values.proofs.walks.step.Statement.{statement}
 use Rattle.values.proofs.walks.step.Tie as tie
@@ -39,6 +39,9 @@ branch-requires-2 c κs =
 enum-told-4 : tie.Need-enum-told-4
 enum-told-4 c = search needs
 
+enum-told-5 : tie.Need-enum-told-5
+enum-told-5 c = search needs
+
 returns : tie.Need-returns
 returns c =
     step-is _ _ _ _ _ (c .before .before .row-kind .ensures) Leaf (c .enum-told .given .1)
@@ -55,7 +58,11 @@ returns-3 c =
 
 returns-4 : tie.Need-returns-4
 returns-4 c =
-    step-is _ _ _ _ _ (c .before .before .row-kind .ensures) Bad (c .enum-told4 .given .1)
+    step-is _ _ _ _ _ (c .before .before .row-kind .ensures) None (c .enum-told4 .given .1)
+
+returns-5 : tie.Need-returns-5
+returns-5 c =
+    step-is _ _ _ _ _ (c .before .before .row-kind .ensures) Bad (c .enum-told5 .given .1)
 
 pub step-spec : {M : Type 1} → statement M
 step-spec =
@@ -70,7 +77,9 @@ step-spec =
     holds-requires
     branch-requires-2
     enum-told-4
+    enum-told-5
     returns
     returns-2
     returns-3
-    returns-4)
+    returns-4
+    returns-5)
