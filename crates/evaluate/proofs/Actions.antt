@@ -9,9 +9,9 @@ use lib.IntN.{ℤ, pos, negsuc}
 use lib.Signed.{leZ}
 use Rattle.whole.specs.Cases.{both}
 use Rattle.whole.specs.Int.{up}
-use Rattle.theory.specs.Diagram.{Tree, Leaf, zeros}
+use Rattle.theory.specs.Diagram.{Tree, Leaf, lin-of, zeros}
 use Rattle.theory.specs.Meaning.{Action, Model, Env, nth-action, action-at, at, chance-at}
-use Rattle.theory.specs.Valid.{good-test, good-leaf, weight-leaf}
+use Rattle.theory.specs.Valid.{good-test, level-leaf, weight-leaf}
 use Rattle.theory.specs.Verdict.{chance-slot, from-to, verdict}
 use Rattle.theory.specs.Load.{action-of, find-slot, model, model-of, site-at}
 use Rattle.theory.specs.laws.Expectation.{at-good}
@@ -43,6 +43,6 @@ chance-within B v a k u l h n e =
     let S = site-at B in
     let F : Tree = find-slot (chance-slot a k) (loaded-entries B) in
     let f : Leaf = at e F in
-    let d = both (good-leaf f) _ (at-good e (good-test (S .conditions) false) (weight-leaf (S .weights)) F (accepted B v .1 .chances a k u l h n .good)) .1 in
-    let c = both (zeros (f .lin .coeffs)) (leZ (pos 0) (f .lin .const) && leZ (f .lin .const) (pos (S .weights))) d .1 in
-    up-within (f .lin .const) (S .weights) (both (leZ (pos 0) (f .lin .const)) (leZ (f .lin .const) (pos (S .weights))) c .1)
+    let d = both (level-leaf f) _ (at-good e (good-test (S .conditions) false) (weight-leaf (S .weights)) F (accepted B v .1 .chances a k u l h n .good)) .1 in
+    let c = both (zeros (lin-of f .coeffs)) (leZ (pos 0) (lin-of f .const) && leZ (lin-of f .const) (pos (S .weights))) d .1 in
+    up-within (lin-of f .const) (S .weights) (both (leZ (pos 0) (lin-of f .const)) (leZ (lin-of f .const) (pos (S .weights))) c .1)

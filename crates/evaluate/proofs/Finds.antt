@@ -11,13 +11,13 @@ use types.Run.{OneOf, miss}
 use denote.Enum.Declared.{tagOf}
 use Rattle.whole.specs.Cases.{if, by-eq, by-test, from-true}
 use Rattle.theory.specs.Widths.{stack-most}
-use Rattle.theory.specs.Command.{Command, site, push-leaf, push-condition, push-test, give, name-action, end-model, whole, Placed, byte-at, width, command-at, read-at, goes-on, Slot, readings, readings-in, readings-from-in}
+use Rattle.theory.specs.Command.{Command, site, push-leaf, push-condition, push-test, push-forbidden, give, name-action, end-model, whole, Placed, byte-at, width, command-at, read-at, goes-on, Slot, readings, readings-in, readings-from-in}
 use Rattle.theory.specs.Verdict.{same-slot, verdict, judged, at-start, rule, first-broken, first-rules, judged-in, rules-in, verdict-in}
 use Rattle.theory.specs.laws.Loading.{by-reading, behind}
 use Rattle.command.proofs.Command.{the-type as command-type}
 use Rattle.command.proofs.Read.{the-type as read-type}
 use Rattle.command.specs.declared.Command.{Command as CodeCommand}
-use Rattle.command.specs.declared.Command.the-variants.{Site, Leaf, Condition, Test, Give, Name, End}
+use Rattle.command.specs.declared.Command.the-variants.{Site, Leaf, Condition, Test, Forbidden, Give, Name, End}
 use Rattle.command.specs.Held.{pushed}
 use Rattle.command.specs.declared.Read.{Read as CodeRead}
 use Rattle.command.specs.Reading.{command-of, read-of, next-at, command-of-in}
@@ -45,6 +45,7 @@ first-is B (site m n a w) ys o j = record { m = m; n = n; a = a; w = w; reads = 
 first-is B (push-leaf p) ys o j = broken 0 _ (judged-whole (first-broken (rule 1 true ∷ [])) 0 _ j .0)
 first-is B (push-condition k) ys o j = broken 0 _ (judged-whole (first-broken (rule 1 true ∷ [])) 0 _ j .0)
 first-is B (push-test p) ys o j = broken 0 _ (judged-whole (first-broken (rule 1 true ∷ [])) 0 _ j .0)
+first-is B push-forbidden ys o j = broken 0 _ (judged-whole (first-broken (rule 1 true ∷ [])) 0 _ j .0)
 first-is B (give g) ys o j = broken 0 _ (judged-whole (first-broken (rule 1 true ∷ [])) 0 _ j .0)
 first-is B (name-action a b) ys o j = broken 0 _ (judged-whole (first-broken (rule 1 true ∷ [])) 0 _ j .0)
 first-is B end-model ys o j = broken 0 _ (judged-whole (first-broken (rule 1 true ∷ [])) 0 _ j .0)
@@ -72,6 +73,7 @@ stepped-deep x i (site m n a w) l = refl
 stepped-deep x i (push-leaf p) l = pushed-deep i l
 stepped-deep x i (push-condition k) l = chosen-deep _ l
 stepped-deep x i (push-test p) l = chosen-deep _ l
+stepped-deep x i push-forbidden l = pushed-deep i l
 stepped-deep x i (give g) l = drop-one l
 stepped-deep x i (name-action a b) l = refl
 stepped-deep x i end-model l = refl
@@ -85,17 +87,19 @@ by-given (site m n a w) b t P none gives = none (λ g. refl) refl
 by-given (push-leaf p) b t P none gives = none (λ g. refl) refl
 by-given (push-condition k) b t P none gives = none (λ g. refl) refl
 by-given (push-test p) b t P none gives = none (λ g. refl) refl
+by-given push-forbidden b t P none gives = none (λ g. refl) refl
 by-given (give h) b t P none gives = gives h (λ g. refl) refl
 by-given (name-action a b′) b t P none gives = none (λ g. refl) refl
 by-given end-model b t P none gives = none (λ g. refl) refl
 
-pub noted-other : (B : List ℕ) (i : ℕ) (c : CodeCommand) (b : ℕ) (t : List ℕ) → OneOf (0 ∷ 1 ∷ 2 ∷ 3 ∷ 5 ∷ 6 ∷ []) (tagOf command-type c) → t ≡ noted (command-of B i c) b t
+pub noted-other : (B : List ℕ) (i : ℕ) (c : CodeCommand) (b : ℕ) (t : List ℕ) → OneOf (0 ∷ 1 ∷ 2 ∷ 3 ∷ 4 ∷ 6 ∷ 7 ∷ []) (tagOf command-type c) → t ≡ noted (command-of B i c) b t
 unfolding noted command-of-in
 noted-other B i (Site m n a w) b t k = refl
 noted-other B i Leaf b t k = refl
 noted-other B i (Condition j) b t k = refl
 noted-other B i Test b t k = refl
-noted-other B i (Give x a j) b t k = absurd (miss (0 ∷ 1 ∷ 2 ∷ 3 ∷ 5 ∷ 6 ∷ []) 4 tt k)
+noted-other B i Forbidden b t k = refl
+noted-other B i (Give x a j) b t k = absurd (miss (0 ∷ 1 ∷ 2 ∷ 3 ∷ 4 ∷ 6 ∷ 7 ∷ []) 5 tt k)
 noted-other B i (Name a) b t k = refl
 noted-other B i End b t k = refl
 

@@ -12,19 +12,19 @@ use lib.Signed.{leZ}
 use Rattle.whole.specs.Cases.{if, by-test, by-eq, both, not-not, is-true, from-true, clash}
 use Rattle.theory.specs.Widths.{stack-most, conditions-most}
 use Rattle.theory.specs.Form.{new-form, site-byte, action-bytes}
-use Rattle.theory.specs.Diagram.{Test, Leaf, Tree, leaf, plain, cmpZ, zeros, test-of}
+use Rattle.theory.specs.Diagram.{Test, no-coeffs, zero-linear, Leaf, plain, lin-of, Tree, leaf, cmpZ, zeros, test-of}
 use Rattle.theory.specs.Computation.{ret, bind, make, result}
-use Rattle.theory.specs.Rules.{choose, no-coeffs, zero-leaf}
+use Rattle.theory.specs.Rules.{choose, zero-leaf, none-leaf}
 use Rattle.theory.specs.Meaning.{State, Env, env, at}
 use Rattle.theory.specs.Valid.{among, wide}
-use Rattle.theory.specs.Command.{Command, site, push-leaf, push-condition, push-test, name-action, end-model, Read, whole, Placed, byte-at, width, command-at, read-at, goes-on, readings-from, readings, give, Slot, command-in, readings-from-in, readings-in, action-at}
+use Rattle.theory.specs.Command.{Command, site, push-leaf, push-condition, push-test, push-forbidden, name-action, end-model, Read, whole, Placed, byte-at, width, command-at, read-at, goes-on, readings-from, readings, give, Slot, command-in, readings-from-in, readings-in, action-at}
 use Rattle.theory.specs.Verdict.{Site, site-of, Facts, Progress, name-slot, same-slot, has-slot, or, Rule, rule, first-broken, beyond, next-condition, joined, site-rules, first-rules, later-rules, after, Verdict, refusal, ended, judged, at-start, verdict, judged-in, rules-in, verdict-in}
 use Rattle.theory.specs.Load.{Entry, Loaded, condition-test, load-choice, load-choice-with, load-entry, load-one, load-one-with, load-on, load-on-with, find-slot, site-at, site-in}
 use Rattle.theory.specs.laws.Comps.{result-bind}
 use Rattle.theory.specs.laws.Loading.{by-reading, behind, loaded-entries, accepted, linear-wide}
 use Rattle.command.specs.Held.{pushed}
 use Rattle.evaluate.specs.declared.Point.{Point}
-use Rattle.evaluate.specs.Pass.{no-name, no-linear, leaf-of, numerator, condition-holds, chosen, stepped, takes, pass, Stands, Leaf-at, Comes}
+use Rattle.evaluate.specs.Pass.{no-name, leaf-of, numerator, condition-holds, chosen, stepped, takes, pass, Stands, Leaf-at, Comes}
 use Rattle.evaluate.proofs.Points.{Sides, condition-sides, test-sides}
 
 -- ---- what a command of the bytes has for operands
@@ -34,6 +34,7 @@ Fit B i (site m n a w) = site-of m n a w ≡ site-of (byte-at B (i + 1)) (byte-a
 Fit B i (push-leaf p) = T (wide p)
 Fit B i (push-condition k) = T true
 Fit B i (push-test p) = T (wide p)
+Fit B i push-forbidden = T true
 Fit B i (give h) = T true
 Fit B i (name-action a b) = T true
 Fit B i end-model = T true
@@ -46,8 +47,8 @@ pub fit : (B : List ℕ) (i : ℕ) → Fit B i (command-at B i)
 unfolding command-in Fit
 fit B i =
     fit-if B i (eqb (byte-at B i) (site-byte new-form)) _ _ refl (fit-if B i (eqb (byte-at B i) 0x10) _ _ (linear-wide B (i + 1)) (fit-if B i (eqb (byte-at B i) 0x11) _ _ tt
-    (fit-if B i (eqb (byte-at B i) 0x12) _ _ (linear-wide B (i + 1)) (fit-if B i (eqb (byte-at B i) 0x20) _ _ tt (fit-if B i (eqb (byte-at B i) 0x21) _ _ tt
-    (fit-if B i (eqb (byte-at B i) 0x22) _ _ tt (fit-if B i (eqb (byte-at B i) 0x23) _ _ tt (fit-if B i (eqb (byte-at B i) 0x30) _ _ tt tt))))))))
+    (fit-if B i (eqb (byte-at B i) 0x12) _ _ (linear-wide B (i + 1)) (fit-if B i (eqb (byte-at B i) 0x13) _ _ tt (fit-if B i (eqb (byte-at B i) 0x20) _ _ tt (fit-if B i (eqb (byte-at B i) 0x21) _ _ tt
+    (fit-if B i (eqb (byte-at B i) 0x22) _ _ tt (fit-if B i (eqb (byte-at B i) 0x23) _ _ tt (fit-if B i (eqb (byte-at B i) 0x30) _ _ tt tt)))))))))
 
 -- ---- slots
 
@@ -109,12 +110,12 @@ drop-zeros zero l t = t
 drop-zeros (suc m) [] t = tt
 drop-zeros (suc m) (z ∷ l) t = drop-zeros m l (both (isEq (cmpZ z (pos 0))) (zeros l) t .1)
 
-no-beyond : (m : ℕ) → T (not (beyond m no-linear))
+no-beyond : (m : ℕ) → T (not (beyond m zero-linear))
 unfolding beyond zeros no-coeffs
-no-beyond m = let z = is-true (zeros (drop m (no-linear .coeffs))) (drop-zeros m (no-linear .coeffs) tt) in rw z tt
+no-beyond m = let z = is-true (zeros (drop m (zero-linear .coeffs))) (drop-zeros m (zero-linear .coeffs) tt) in rw z tt
 
 module _ (B : List ℕ) (S : Site) (x : Point) (g : Slot) (s : State) (r : List Bool) (st : Stands (S .levels) (S .conditions) x s r) (few : S .conditions ≤ 4) (given : T (no-name g))
-    (first : leaf-of (read-at B 0) ≡ no-linear) where
+    (first : leaf-of (read-at B 0) ≡ plain zero-linear) where
   abbrev m : ℕ
   m = S .levels
 
@@ -153,6 +154,7 @@ module _ (B : List ℕ) (S : Site) (x : Point) (g : Slot) (s : State) (r : List 
         stays-on (push-condition k) _ G X E q (judged-whole (first-broken (later-rules S K G (push-condition k))) i _ j .1) (ap (find-slot g) (choice-entries (condition-test k) X E)) X E refl
     stays-step (push-test p) w K G X E q j =
         stays-on (push-test p) _ G X E q (judged-whole (first-broken (later-rules S K G (push-test p))) i _ j .1) (ap (find-slot g) (choice-entries (test-of p) X E)) X E refl
+    stays-step push-forbidden w K G X E q j = ih _ G _ E q (judged-whole (first-broken (later-rules S K G push-forbidden)) i _ j .1)
     stays-step (give h) w K G X E q j =
         let d = judged-whole (first-broken (later-rules S K G (give h))) i _ j in
         let u = unbroken 3 _ _ (d .0) in
@@ -171,9 +173,9 @@ module _ (B : List ℕ) (S : Site) (x : Point) (g : Slot) (s : State) (r : List 
   Agree [] [] = T true
   Agree [] (t ∷ X) = T false
   Agree (o ∷ l) [] = T false
-  Agree (o ∷ l) (t ∷ X) = Leaf-at B m o (at e t .lin) × Agree l X
+  Agree (o ∷ l) (t ∷ X) = Leaf-at B m o (at e t) × Agree l X
 
-  pick : (b : Bool) (high low : ℕ) (H L : Leaf) → Leaf-at B m high (H .lin) → Leaf-at B m low (L .lin) → Leaf-at B m (if b high low) ((if b H L) .lin)
+  pick : (b : Bool) (high low : ℕ) (H L : Leaf) → Leaf-at B m high H → Leaf-at B m low L → Leaf-at B m (if b high low) (if b H L)
   pick true high low H L u v = u
   pick false high low H L u v = v
 
@@ -187,30 +189,30 @@ module _ (B : List ℕ) (S : Site) (x : Point) (g : Slot) (s : State) (r : List 
   agree-chosen t b E y (o ∷ o′ ∷ l) (L ∷ H ∷ X) h a =
       let q = result-bind (choose t H L) (λ r. ret (loaded (r ∷ X) E)) in (
         subst (λ (z : Loaded). Agree (if b o′ o ∷ l) (z .stack)) (sym q)
-            (subst (λ (z : Leaf). Leaf-at B m (if b o′ o) (z .lin)) (sym (y H L)) (pick b o′ o (at e H) (at e L) (a .1 .0) (a .0)), a .1 .1),
+            (subst (λ (z : Leaf). Leaf-at B m (if b o′ o) z) (sym (y H L)) (pick b o′ o (at e H) (at e L) (a .1 .0) (a .0)), a .1 .1),
         refl,
       )
 
   abbrev Reach : List Placed → Type 0
   Reach ys = (K : List Facts) (G : List Slot) (X : List Tree) (E : List Entry) (l : List ℕ) → Agree l X → length K ≡ length l → length K ≤ stack-most → has-slot g G ≡ false → find-slot g E ≡ zero-leaf
-      → judged (length B) (state S K G) ys .number ≡ 0 → Leaf-at B m (pass x g ys l) (at e (find-slot g (result (load-on ys (loaded X E)) .entries)) .lin)
+      → judged (length B) (state S K G) ys .number ≡ 0 → Leaf-at B m (pass x g ys l) (at e (find-slot g (result (load-on ys (loaded X E)) .entries)))
 
   module _ (i : ℕ) (ys : List Placed) (ih : Reach ys) (keeps : Stays ys) where
     took : (h : Slot) (K : List Facts) (G : List Slot) (X : List Tree) (E : List Entry) (l : List ℕ) → Agree l X → length K ≡ length l → length K ≤ stack-most → 1 ≤ length K → has-slot g G ≡ false → find-slot g E ≡ zero-leaf
         → judged (length B) (state S (drop 1 K) (h ∷ G)) ys .number ≡ 0
-        → Leaf-at B m (if (same-slot g h) (getD l 0 0) (pass x g ys (drop 1 l))) (at e (find-slot g (result (load-on ys (result (load-entry h X E))) .entries)) .lin)
+        → Leaf-at B m (if (same-slot g h) (getD l 0 0) (pass x g ys (drop 1 l))) (at e (find-slot g (result (load-on ys (result (load-entry h X E))) .entries)))
     unfolding Agree load-entry result has-slot find-slot
     took h K G X E [] a q z n f v j = absurd (omega arith)
     took h K G [] E (o ∷ l) a q z n f v j = absurd a
     took h K G (t ∷ X) E (o ∷ l) a q z n f v j = by-eq (same-slot g h)
-        (λ b. Leaf-at B m (if b o (pass x g ys l)) (at e (find-slot g (result (load-on ys (loaded X (record { slot = h; tree = t } ∷ E))) .entries)) .lin))
-        (λ y. subst (λ (F : Tree). Leaf-at B m o (at e F .lin))
+        (λ b. Leaf-at B m (if b o (pass x g ys l)) (at e (find-slot g (result (load-on ys (loaded X (record { slot = h; tree = t } ∷ E))) .entries))))
+        (λ y. subst (λ (F : Tree). Leaf-at B m o (at e F))
         (sym (keeps (drop 1 K) (h ∷ G) X (record { slot = h; tree = t } ∷ E) (ap (λ (b : Bool). or b (has-slot g G)) y) j ∙ ap (λ (b : Bool). if b t (find-slot g E)) y)) (a .0))
         (λ y. ih (drop 1 K) (h ∷ G) X (record { slot = h; tree = t } ∷ E) l (a .1) (omega (arith, drop-one K)) (omega (arith, drop-one K)) (ap (λ (b : Bool). or b (has-slot g G)) y ∙ f) (ap (λ (b : Bool). if b t (find-slot g E)) y ∙ v) j)
 
     choose-on : (t : Test) (b : Bool) (K K′ : List Facts) (G : List Slot) (X : List Tree) (E : List Entry) (l : List ℕ) → Sides st t b → Agree l X → length K ≡ length l → length K ≤ stack-most → 2 ≤ length K
         → suc (length K′) ≡ length K → has-slot g G ≡ false → find-slot g E ≡ zero-leaf → judged (length B) (state S K′ G) ys .number ≡ 0
-        → Leaf-at B m (pass x g ys (chosen b l)) (at e (find-slot g (result (bind (load-choice t X E) (load-on ys)) .entries)) .lin)
+        → Leaf-at B m (pass x g ys (chosen b l)) (at e (find-slot g (result (bind (load-choice t X E) (load-on ys)) .entries)))
     choose-on t b K K′ G X E l y a q z n n′ f v j =
         let d = agree-chosen t b E y l X (omega arith) a in
         let c = result (load-choice t X E) in
@@ -218,13 +220,17 @@ module _ (B : List ℕ) (S : Site) (x : Point) (g : Slot) (s : State) (r : List 
         rw (result-bind (load-choice t X E) (load-on ys)) (ih K′ G (c .stack) (c .entries) (chosen b l) (d .0) (omega arith) (omega arith) f (ap (find-slot g) (choice-entries t X E) ∙ v) j)
 
     reach-step : (c : Command) → read-at B i ≡ whole c → goes-on (whole c) ≡ true → Reach (placed i (whole c) ∷ ys)
-    unfolding Agree judged-in load-on-with rules-in later-rules ended after goes-on load-one-with make bind result pass takes stepped at has-slot leaf-of
+    unfolding Agree judged-in load-on-with rules-in later-rules ended after goes-on load-one-with make bind result pass takes stepped at has-slot leaf-of lin-of
     reach-step (site m n a w) o w′ K G X E l y q z f e₀ j = broken 0 _ (judged-whole (first-broken (rule 1 true ∷ [])) i _ j .0)
     reach-step (push-leaf p) o w K G X E l y q z f e₀ j =
         let d = judged-whole (first-broken (later-rules S K G (push-leaf p))) i _ j in
         let u = unbroken 3 _ _ (d .0) in
         let v = nleb→lt stack-most (length K) (unbroken 4 _ _ (u .1) .0) in
         rw (pushed-room i l (omega arith)) (ih _ G (leaf (plain p) ∷ X) E (i ∷ l) (record { reads = ap leaf-of o; within = u .0 }, y) (ap suc q) v f e₀ (d .1))
+    reach-step push-forbidden o w K G X E l y q z f e₀ j =
+        let d = judged-whole (first-broken (later-rules S K G push-forbidden)) i _ j in
+        let v = nleb→lt stack-most (length K) (unbroken 4 _ _ (d .0) .0) in
+        rw (pushed-room i l (omega arith)) (ih _ G (none-leaf ∷ X) E (i ∷ l) (record { reads = ap leaf-of o; within = no-beyond m }, y) (ap suc q) v f e₀ (d .1))
     reach-step (push-condition k) o w K G X E l y q z f e₀ j =
         let d = judged-whole (first-broken (later-rules S K G (push-condition k))) i _ j in
         let u = unbroken 3 _ _ (d .0) in
@@ -252,8 +258,8 @@ module _ (B : List ℕ) (S : Site) (x : Point) (g : Slot) (s : State) (r : List 
 
   -- a slot that is not given: the site, which stands first, is no leaf
   reach-end : (i : ℕ) → Reach (placed i (whole end-model) ∷ [])
-  unfolding load-on-with load-one-with bind result pass takes at zero-leaf
-  reach-end i K G X E l y q z f e₀ j = subst (λ (F : Tree). Leaf-at B m 0 (at e F .lin)) (sym e₀) (record { reads = first; within = no-beyond m })
+  unfolding load-on-with load-one-with bind result pass takes at zero-leaf lin-of
+  reach-end i K G X E l y q z f e₀ j = subst (λ (F : Tree). Leaf-at B m 0 (at e F)) (sym e₀) (record { reads = first; within = no-beyond m })
 
   -- ---- all commands, by offset
 
@@ -269,6 +275,7 @@ module _ (B : List ℕ) (S : Site) (x : Point) (g : Slot) (s : State) (r : List 
   ends i (push-leaf p) q = clash q
   ends i (push-condition k) q = clash q
   ends i (push-test p) q = clash q
+  ends i push-forbidden q = clash q
   ends i (give h) q = clash q
   ends i (name-action a b) q = clash q
   ends i end-model q = (reach-end i, stays-end i)
@@ -289,7 +296,7 @@ module _ (B : List ℕ) (S : Site) (x : Point) (g : Slot) (s : State) (r : List 
 
 module _ (B : List ℕ) (x : Point) (g : Slot) (s : State) (r : List Bool) (st : Stands (site-at B .levels) (site-at B .conditions) x s r) (few : site-at B .conditions ≤ 4) (given : T (no-name g)) where
   abbrev Begins : List Placed → Type 0
-  Begins ys = judged (length B) at-start ys .number ≡ 0 → Leaf-at B (site-at B .levels) (pass x g ys []) (at (env s r) (find-slot g (result (load-on ys (loaded [] [])) .entries)) .lin)
+  Begins ys = judged (length B) at-start ys .number ≡ 0 → Leaf-at B (site-at B .levels) (pass x g ys []) (at (env s r) (find-slot g (result (load-on ys (loaded [] [])) .entries)))
 
   first-command : 0 + width (byte-at B 0) ≤ length B → 1 ≤ width (byte-at B 0) → (c : Command) → read-at B 0 ≡ whole c → Fit B 0 c → Begins (placed 0 (whole c) ∷ behind B (length B) 0 (goes-on (whole c)))
   unfolding judged-in load-on-with goes-on rules-in first-rules ended load-one-with bind result after Fit Agree pass takes stepped has-slot find-slot leaf-of site-in
@@ -300,11 +307,12 @@ module _ (B : List ℕ) (x : Point) (g : Slot) (s : State) (r : List Bool) (st :
   first-command h n (push-leaf p) o f j = broken 0 _ (judged-whole (first-broken (rule 1 true ∷ [])) 0 _ j .0)
   first-command h n (push-condition k) o f j = broken 0 _ (judged-whole (first-broken (rule 1 true ∷ [])) 0 _ j .0)
   first-command h n (push-test p) o f j = broken 0 _ (judged-whole (first-broken (rule 1 true ∷ [])) 0 _ j .0)
+  first-command h n push-forbidden o f j = broken 0 _ (judged-whole (first-broken (rule 1 true ∷ [])) 0 _ j .0)
   first-command h n (give c) o f j = broken 0 _ (judged-whole (first-broken (rule 1 true ∷ [])) 0 _ j .0)
   first-command h n (name-action a b) o f j = broken 0 _ (judged-whole (first-broken (rule 1 true ∷ [])) 0 _ j .0)
   first-command h n end-model o f j = broken 0 _ (judged-whole (first-broken (rule 1 true ∷ [])) 0 _ j .0)
 
-  reached : verdict B .number ≡ 0 → Leaf-at B (site-at B .levels) (pass x g (readings B) []) (at (env s r) (find-slot g (loaded-entries B)) .lin)
+  reached : verdict B .number ≡ 0 → Leaf-at B (site-at B .levels) (pass x g (readings B) []) (at (env s r) (find-slot g (loaded-entries B)))
   unfolding verdict-in readings-in readings-from-in judged-in
   reached = by-reading B 0 (λ r. read-at B 0 ≡ r → Begins (placed 0 r ∷ behind B (length B) 0 (goes-on r)))
       (λ _ j. absurd (let z : _≡_ {A = ℕ} 2 0 = j in omega arith)) (λ _ _ j. absurd (let z : _≡_ {A = ℕ} 3 0 = j in omega arith)) (λ w h o. first-command h w (command-at B 0) o (fit B 0)) refl
@@ -312,6 +320,6 @@ module _ (B : List ℕ) (x : Point) (g : Slot) (s : State) (r : List Bool) (st :
 -- the pass over an accepted model
 pub pass-comes : (B : List ℕ) (x : Point) (g : Slot) (i : ℕ) → verdict B .number ≡ 0 → T (no-name g) → i ≡ pass x g (readings B) [] → Comes B g x i
 pass-comes B x g i v w q = record {
-  comes = λ s r st. subst (λ (o : ℕ). Leaf-at B (site-at B .levels) o (at (env s r) (find-slot g (loaded-entries B)) .lin)) (sym q)
+  comes = λ s r st. subst (λ (o : ℕ). Leaf-at B (site-at B .levels) o (at (env s r) (find-slot g (loaded-entries B)))) (sym q)
       (reached B x g s r st (leb→le (site-at B .conditions) conditions-most (accepted B v .0 .conditions-in)) w v);
 }

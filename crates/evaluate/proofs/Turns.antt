@@ -1,5 +1,5 @@
 -- One turn of the pass, with fuel enough for the rest; and what the code's numbers are.
-use mathlib.Core.Path.{_≡_, refl, sym, ap, ap₂, _∙_, subst}
+use mathlib.Core.Path.{_≡_, refl, sym, ap, _∙_, subst}
 use mathlib.Core.Bool.{Bool, true, false}
 use mathlib.Core.List.{List, [], _∷_}
 use Prim.Native.Nat.{ℕ, zero, suc, _+_, _-_, _*_, _≤_, _<_}
@@ -11,24 +11,25 @@ use lib.ListN.{length, getD, take, replicate}
 use lib.Signed.{leZ}
 use types.Run.{OneOf, miss}
 use denote.Enum.Declared.{tagOf}
-use Rattle.whole.specs.Cases.{if, by-test, from-true, clash}
+use Rattle.whole.specs.Cases.{if, from-true, clash}
 use Rattle.whole.specs.Int.{up}
 use Rattle.whole.specs.Linears.{numbers, Smalls, dotL}
 use Rattle.whole.specs.LinearsLaws.{dot-last}
 use Rattle.whole.specs.Within.{Small}
 use Rattle.theory.specs.Widths.{levels-most}
 use Rattle.theory.specs.Form.{new-form, site-byte}
-use Rattle.theory.specs.Diagram.{Linear, Tree}
-use Rattle.theory.specs.Meaning.{State, env, nth, dot, at, worth-at, chance-at}
+use Rattle.theory.specs.Diagram.{Linear, zero-linear, Leaf, some, forbidden, permitted, lin-of, Tree}
+use Rattle.theory.specs.Total.{num, none}
+use Rattle.theory.specs.Meaning.{State, Env, env, nth, dot, value, at, leaf-worth, worth-at, level-at, chance-at}
 use Rattle.theory.specs.Value.{bits}
-use Rattle.theory.specs.Command.{Command, give, end-model, Read, whole, unknown, short, byte-at, width, read-at, goes-on, readings-from, readings, Slot, linear-at, linear-in, word-at, signed, action-at, readings-in, command-at, command-in, read-in, width-in}
+use Rattle.theory.specs.Command.{Command, push-forbidden, give, end-model, Read, whole, unknown, short, byte-at, width, read-at, goes-on, readings-from, readings, Slot, linear-at, linear-in, word-at, signed, action-at, readings-in, command-at, command-in, read-in, width-in}
 use Rattle.theory.specs.Verdict.{same-slot}
 use Rattle.theory.specs.Load.{find-slot, site-at}
 use Rattle.theory.specs.laws.Loading.{loaded-entries}
 use Rattle.command.proofs.Command.{the-type as command-type}
 use Rattle.command.proofs.Read.{the-type as read-type}
 use Rattle.command.specs.declared.Command.{Command as CodeCommand}
-use Rattle.command.specs.declared.Command.the-variants.{Site, Leaf, Condition, Test, Give, Name, End}
+use Rattle.command.specs.declared.Command.the-variants.{Site, Leaf as LeafBy, Condition, Test, Forbidden, Give, Name, End}
 use Rattle.command.specs.declared.Read.{Read as CodeRead}
 use Rattle.command.specs.declared.Read.the-variants.{Whole, Unknown, Short}
 use Rattle.command.specs.Reading.{with-linear, linear-of, command-of, read-of, next-at, command-of-in, read-of-in}
@@ -37,7 +38,7 @@ use Rattle.command.specs.Held.{pushed}
 use Rattle.model.specs.Answers.{is-end}
 use Rattle.model.proofs.Walk.{opened, from-first, at-end, going, forward}
 use Rattle.evaluate.specs.declared.Point.{Point}
-use Rattle.evaluate.specs.Pass.{no-linear, leaf-of, code-at, pushes, push-of, push-width, index-at, numerator, condition-holds, chosen, stepped, takes, pass, Stands, Comes}
+use Rattle.evaluate.specs.Pass.{leaf-of, reward-of, code-at, pushes, push-of, push-width, index-at, numerator, condition-holds, chosen, stepped, takes, pass, Stands, Comes}
 use Rattle.evaluate.specs.Parts.{Seek}
 use Rattle.evaluate.proofs.Points.{value-is}
 use Rattle.evaluate.proofs.Reach.{same-is}
@@ -68,13 +69,14 @@ bit-past m (suc (suc (suc (suc (suc k))))) a b c d = refl
 
 -- ---- a command that gives nothing
 
-pub takes-other : (g : Slot) (B : List ℕ) (i : ℕ) (c : CodeCommand) → OneOf (0 ∷ 1 ∷ 2 ∷ 3 ∷ 5 ∷ 6 ∷ []) (tagOf command-type c) → false ≡ takes g (command-of B i c)
+pub takes-other : (g : Slot) (B : List ℕ) (i : ℕ) (c : CodeCommand) → OneOf (0 ∷ 1 ∷ 2 ∷ 3 ∷ 4 ∷ 6 ∷ 7 ∷ []) (tagOf command-type c) → false ≡ takes g (command-of B i c)
 unfolding takes command-of-in
 takes-other g B i (Site m n a w) k = refl
-takes-other g B i Leaf k = refl
+takes-other g B i LeafBy k = refl
 takes-other g B i (Condition j) k = refl
 takes-other g B i Test k = refl
-takes-other g B i (Give x a j) k = absurd (miss (0 ∷ 1 ∷ 2 ∷ 3 ∷ 5 ∷ 6 ∷ []) 4 tt k)
+takes-other g B i Forbidden k = refl
+takes-other g B i (Give x a j) k = absurd (miss (0 ∷ 1 ∷ 2 ∷ 3 ∷ 4 ∷ 6 ∷ 7 ∷ []) 5 tt k)
 takes-other g B i (Name a) k = refl
 takes-other g B i End k = refl
 
@@ -84,7 +86,7 @@ takes-own g = rw (eq-eqb (g .command) (g .command) refl, eq-eqb (g .action) (g .
 
 -- ---- a command of the bytes
 
-pub leaf-there : (B : List ℕ) (i : ℕ) {c : CodeCommand} → c ≡ Leaf → whole (command-of B i c) ≡ read-at B i → i + with-linear ≤ length B
+pub leaf-there : (B : List ℕ) (i : ℕ) {c : CodeCommand} → c ≡ LeafBy → whole (command-of B i c) ≡ read-at B i → i + with-linear ≤ length B
 unfolding command-of-in has-linear
 leaf-there B i {c} e w = linear-room new-form B i _ (subst (λ (d : CodeCommand). T (has-linear (command-of B i d))) (sym e) tt) w
 
@@ -92,25 +94,40 @@ pub test-there : (B : List ℕ) (i : ℕ) {c : CodeCommand} → c ≡ Test → w
 unfolding command-of-in has-linear
 test-there B i {c} e w = linear-room new-form B i _ (subst (λ (d : CodeCommand). T (has-linear (command-of B i d))) (sym e) tt) w
 
+pub whole-there : (B : List ℕ) (i : ℕ) (c : Command) → whole c ≡ read-at B i → i < length B
+whole-there B i c w = let f = forward B i c (next-at B i) w refl in omega (arith, f .1, f .2)
+
+-- a byte that is not 0 stands in the model
+inside : (B : List ℕ) (i k : ℕ) → byte-at B i ≡ suc k → i < length B
+inside [] i k e = absurd (omega (arith, e))
+inside (b ∷ B) zero k e = omega arith
+inside (b ∷ B) (suc i) k e = let r = inside B i k e in omega arith
+
 -- ---- commands told by their bytes
 
--- a push is a leaf, a condition or a test
-push-cases : (P : ℕ → Type 0) → P 16 → P 17 → P 18 → (op : ℕ) → pushes op ≡ true → P op
+-- a push is a leaf, a condition, a test or forbidden
+push-cases : (P : ℕ → Type 0) → P 16 → P 17 → P 18 → P 19 → (op : ℕ) → pushes op ≡ true → P op
 unfolding pushes
-push-cases P l k t op e = go (ltb op 16) (eqb op 16) (eqb op 17) refl refl refl e
+push-cases P l k t n op e = go (ltb op 16) (eqb op 16) (eqb op 17) (eqb op 18) refl refl refl refl e
   where
-    go : (b₁ b₂ b₃ : Bool) → ltb op 16 ≡ b₁ → eqb op 16 ≡ b₂ → eqb op 17 ≡ b₃ → if b₁ false (leb op 18) ≡ true → P op
-    go true b₂ b₃ e₁ e₂ e₃ e = clash (sym e)
-    go false true b₃ e₁ e₂ e₃ e = subst P (sym (eqb-true op 16 e₂)) l
-    go false false true e₁ e₂ e₃ e = subst P (sym (eqb-true op 17 e₃)) k
-    go false false false e₁ e₂ e₃ e = subst P (let q : 18 ≡ op = omega (arith, ltb-false op 16 e₁, eqb-false op 16 e₂, eqb-false op 17 e₃, leb-true op 18 e) in q) t
+    go : (b₁ b₂ b₃ b₄ : Bool) → ltb op 16 ≡ b₁ → eqb op 16 ≡ b₂ → eqb op 17 ≡ b₃ → eqb op 18 ≡ b₄ → if b₁ false (leb op 19) ≡ true → P op
+    go true b₂ b₃ b₄ e₁ e₂ e₃ e₄ e = clash (sym e)
+    go false true b₃ b₄ e₁ e₂ e₃ e₄ e = subst P (sym (eqb-true op 16 e₂)) l
+    go false false true b₄ e₁ e₂ e₃ e₄ e = subst P (sym (eqb-true op 17 e₃)) k
+    go false false false true e₁ e₂ e₃ e₄ e = subst P (sym (eqb-true op 18 e₄)) t
+    go false false false false e₁ e₂ e₃ e₄ e = subst P (let q : 19 ≡ op = omega (arith, ltb-false op 16 e₁, eqb-false op 16 e₂, eqb-false op 17 e₃, eqb-false op 18 e₄, leb-true op 19 e) in q) n
 
 pub push-least : (op : ℕ) → pushes op ≡ true → 1 ≤ op
-push-least = push-cases (λ (k : ℕ). 1 ≤ k) (omega arith) (omega arith) (omega arith)
+push-least = push-cases (λ (k : ℕ). 1 ≤ k) (omega arith) (omega arith) (omega arith) (omega arith)
 
-pub push-wide : (op : ℕ) → (2 ≤ push-width op) × (push-width op ≤ with-linear)
+pub push-wide : (op : ℕ) → (1 ≤ push-width op) × (push-width op ≤ with-linear)
 unfolding push-width
-push-wide op = by-test (eqb op 17) (λ b. (2 ≤ if b 2 with-linear) × (if b 2 with-linear ≤ with-linear)) (λ _. (omega arith, omega arith)) (λ _. (omega arith, omega arith))
+push-wide op = go (eqb op 17) (eqb op 19)
+  where
+    go : (b c : Bool) → (1 ≤ if b 2 (if c 1 with-linear)) × (if b 2 (if c 1 with-linear) ≤ with-linear)
+    go true c = (omega arith, omega arith)
+    go false true = (omega arith, omega arith)
+    go false false = (omega arith, omega arith)
 
 module _ (B : List ℕ) (i : ℕ) where
   pub code-room : (op : ℕ) → 1 ≤ op → op ≡ code-at B i → (i + with-linear ≤ length B) × (byte-at B i ≡ op)
@@ -128,7 +145,7 @@ module _ (B : List ℕ) (i : ℕ) where
     whole-is : whole (command-of B i (push-of B i op)) ≡ read-at B i
 
   module _ (op : ℕ) (h : 1 ≤ op) (e : op ≡ code-at B i) where
-    bytes-of : (w : ℕ) → 2 ≤ w → w ≤ with-linear → width (byte-at B i) ≡ w → Bytes new-form B i
+    bytes-of : (w : ℕ) → 1 ≤ w → w ≤ with-linear → width (byte-at B i) ≡ w → Bytes new-form B i
     bytes-of w u v q =
         let r = code-room op h e in
         record { starts = omega (arith, r .0); known = λ z. omega (arith, q, z); ends = omega (arith, r .0, q) }
@@ -158,8 +175,17 @@ module _ (B : List ℕ) (i : ℕ) where
       let b = bytes-of 18 (omega arith) e with-linear (omega arith) (omega arith) w in
       record { bytes = b; wide = w; whole-is = sym (simp (lt-leb _ _ (b .starts), r .1, le-ltb _ _ (r .0))) }
 
+  told-forbidden : 19 ≡ code-at B i → Told 19
+  unfolding command-of-in read-in command-in width-in push-width push-of
+  told-forbidden e =
+      let r = code-room 19 (omega arith) e in
+      let w : width (byte-at B i) ≡ 1 = ap width (r .1) in
+      let b = bytes-of 19 (omega arith) e 1 (omega arith) (omega arith) w in
+      let f : i + 1 ≤ length B = omega (arith, r .0) in
+      record { bytes = b; wide = w; whole-is = sym (simp (lt-leb _ _ (b .starts), r .1, le-ltb _ _ f)) }
+
   told : (op : ℕ) → pushes op ≡ true → op ≡ code-at B i → Told op
-  told op t = push-cases (λ (k : ℕ). k ≡ code-at B i → Told k) told-leaf told-condition told-test op t
+  told op t = push-cases (λ (k : ℕ). k ≡ code-at B i → Told k) told-leaf told-condition told-test told-forbidden op t
 
   -- a give of an action
   abbrev slot-at : ℕ → Slot
@@ -201,32 +227,33 @@ module _ (B : List ℕ) (i : ℕ) where
       ap (λ (h : Slot). whole (give h)) (same-is g _ (from-true t) ∙ (λ k. record { command = op; action = p k; index = q k })) ∙ given-of op u v e
 
   -- the leaf's linear
-  pub leaf-reads : 16 ≡ code-at B i → linear-at B (i + 1) ≡ leaf-of (read-at B i)
-  unfolding command-of-in leaf-of push-of
-  leaf-reads e = ap leaf-of (told-leaf e .whole-is)
+  pub leaf-reads : 16 ≡ code-at B i → linear-at B (i + 1) ≡ lin-of (leaf-of (read-at B i))
+  unfolding command-of-in leaf-of lin-of push-of
+  leaf-reads e = ap (λ (r : Read). lin-of (leaf-of r)) (told-leaf e .whole-is)
 
-  pub leaf-constant : 16 ≡ code-at B i → signed (word-at B (i + 1 + levels-most * 4)) ≡ leaf-of (read-at B i) .const
+  pub leaf-constant : 16 ≡ code-at B i → signed (word-at B (i + 1 + levels-most * 4)) ≡ lin-of (leaf-of (read-at B i)) .const
   unfolding linear-in
   leaf-constant e = ap (λ (p : Linear). p .const) (leaf-reads e)
 
-  skip : (b : Bool) (c d : Command) → no-linear ≡ leaf-of (whole c) → no-linear ≡ leaf-of (whole d) → no-linear ≡ leaf-of (whole (if b c d))
+  skip : (b : Bool) (c d : Command) → zero-linear ≡ lin-of (leaf-of (whole c)) → zero-linear ≡ lin-of (leaf-of (whole d)) → zero-linear ≡ lin-of (leaf-of (whole (if b c d)))
   skip true c d e f = e
   skip false c d e f = f
 
-  other-command : eqb (byte-at B i) 0x10 ≡ false → no-linear ≡ leaf-of (whole (command-at B i))
-  unfolding command-in leaf-of
+  other-command : eqb (byte-at B i) 0x10 ≡ false → zero-linear ≡ lin-of (leaf-of (whole (command-at B i)))
+  unfolding command-in leaf-of lin-of
   other-command n =
       skip (eqb (byte-at B i) (site-byte new-form)) _ _ refl
       (rw n
       (skip (eqb (byte-at B i) 0x11) _ _ refl
       (skip (eqb (byte-at B i) 0x12) _ _ refl
+      (skip (eqb (byte-at B i) 0x13) _ _ refl
       (skip (eqb (byte-at B i) 0x20) _ _ refl
       (skip (eqb (byte-at B i) 0x21) _ _ refl
       (skip (eqb (byte-at B i) 0x22) _ _ refl
       (skip (eqb (byte-at B i) 0x23) _ _ refl
-      (skip (eqb (byte-at B i) 0x30) _ _ refl refl))))))))
+      (skip (eqb (byte-at B i) 0x30) _ _ refl refl)))))))))
 
-  other-byte : (code-at B i ≡ 16 → ⊥) → ltb (length B) (i + width (byte-at B i)) ≡ false → (b : Bool) → eqb (byte-at B i) 0x10 ≡ b → no-linear ≡ leaf-of (whole (command-at B i))
+  other-byte : (code-at B i ≡ 16 → ⊥) → ltb (length B) (i + width (byte-at B i)) ≡ false → (b : Bool) → eqb (byte-at B i) 0x10 ≡ b → zero-linear ≡ lin-of (leaf-of (whole (command-at B i)))
   unfolding code-at width-in
   other-byte t f true e =
       let k : byte-at B i ≡ 16 = eqb-true (byte-at B i) 16 e in
@@ -235,15 +262,55 @@ module _ (B : List ℕ) (i : ℕ) where
       absurd (t (ap (λ (a : Bool). if a 0 (byte-at B i)) g ∙ k))
   other-byte t f false e = other-command e
 
-  pub no-leaf : (code-at B i ≡ 16 → ⊥) → no-linear ≡ leaf-of (read-at B i)
-  unfolding leaf-of read-in
+  pub no-leaf : (code-at B i ≡ 16 → ⊥) → zero-linear ≡ lin-of (leaf-of (read-at B i))
+  unfolding leaf-of lin-of read-in
   no-leaf t = go (leb (length B) i) (eqb (width (byte-at B i)) 0) (ltb (length B) (i + width (byte-at B i))) refl
     where
-      go : (b₁ b₂ b₃ : Bool) → ltb (length B) (i + width (byte-at B i)) ≡ b₃ → no-linear ≡ leaf-of (if b₁ short (if b₂ unknown (if b₃ short (whole (command-at B i)))))
+      go : (b₁ b₂ b₃ : Bool) → ltb (length B) (i + width (byte-at B i)) ≡ b₃ → zero-linear ≡ lin-of (leaf-of (if b₁ short (if b₂ unknown (if b₃ short (whole (command-at B i))))))
       go true b₂ b₃ e = refl
       go false true b₃ e = refl
       go false false true e = refl
       go false false false e = other-byte t e (eqb (byte-at B i) 0x10) refl
+
+  -- the leaf is forbidden exactly where the byte says so
+  forbidden-read : byte-at B i ≡ 0x13 → whole push-forbidden ≡ read-at B i
+  unfolding read-in command-in width-in
+  forbidden-read e =
+      let h = inside B i 18 e in
+      let f : i + 1 ≤ length B = omega arith in
+      sym (simp (lt-leb _ _ h, e, le-ltb _ _ f))
+
+  pub forbidden-there : byte-at B i ≡ 0x13 → leaf-of (read-at B i) ≡ forbidden
+  unfolding leaf-of
+  forbidden-there e = sym (ap leaf-of (forbidden-read e))
+
+  allowed : (b : Bool) (c d : Command) → T (permitted (leaf-of (whole c))) → T (permitted (leaf-of (whole d))) → T (permitted (leaf-of (whole (if b c d))))
+  allowed true c d e f = e
+  allowed false c d e f = f
+
+  allowed-command : eqb (byte-at B i) 0x13 ≡ false → T (permitted (leaf-of (whole (command-at B i))))
+  unfolding command-in leaf-of permitted
+  allowed-command n =
+      allowed (eqb (byte-at B i) (site-byte new-form)) _ _ tt
+      (allowed (eqb (byte-at B i) 0x10) _ _ tt
+      (allowed (eqb (byte-at B i) 0x11) _ _ tt
+      (allowed (eqb (byte-at B i) 0x12) _ _ tt
+      (rw n
+      (allowed (eqb (byte-at B i) 0x20) _ _ tt
+      (allowed (eqb (byte-at B i) 0x21) _ _ tt
+      (allowed (eqb (byte-at B i) 0x22) _ _ tt
+      (allowed (eqb (byte-at B i) 0x23) _ _ tt
+      (allowed (eqb (byte-at B i) 0x30) _ _ tt tt)))))))))
+
+  pub permitted-there : (byte-at B i ≡ 0x13 → ⊥) → T (permitted (leaf-of (read-at B i)))
+  unfolding leaf-of permitted read-in
+  permitted-there t = go (leb (length B) i) (eqb (width (byte-at B i)) 0) (ltb (length B) (i + width (byte-at B i)))
+    where
+      go : (b₁ b₂ b₃ : Bool) → T (permitted (leaf-of (if b₁ short (if b₂ unknown (if b₃ short (whole (command-at B i)))))))
+      go true b₂ b₃ = tt
+      go false true b₃ = tt
+      go false false true = tt
+      go false false false = allowed-command (ne-eqb (byte-at B i) 0x13 t)
 
 -- what a push leaves, case by case
 module _ (B : List ℕ) (x : Point) (i op : ℕ) (l : List ℕ) where
@@ -258,9 +325,13 @@ module _ (B : List ℕ) (x : Point) (i op : ℕ) (l : List ℕ) where
   unfolding push-of stepped command-of-in
   condition-left n e b q = rw (ne-eqb op 16 n, eq-eqb op 17 e) (ap (λ (a : Bool). chosen a l) q)
 
-  pub test-left : (op ≡ 16 → ⊥) → (op ≡ 17 → ⊥) → (b : Bool) → b ≡ leZ (numerator x (linear-at B (i + 1))) (pos 0) → chosen b l ≡ Left
+  pub forbidden-left : (op ≡ 16 → ⊥) → (op ≡ 17 → ⊥) → op ≡ 19 → pushed i l ≡ Left
   unfolding push-of stepped command-of-in
-  test-left n e b q = rw (ne-eqb op 16 n, ne-eqb op 17 e) (ap (λ (a : Bool). chosen a l) q)
+  forbidden-left n m e = rw (ne-eqb op 16 n, ne-eqb op 17 m, eq-eqb op 19 e) refl
+
+  pub test-left : (op ≡ 16 → ⊥) → (op ≡ 17 → ⊥) → (op ≡ 19 → ⊥) → (b : Bool) → b ≡ leZ (numerator x (linear-at B (i + 1))) (pos 0) → chosen b l ≡ Left
+  unfolding push-of stepped command-of-in
+  test-left n m e b q = rw (ne-eqb op 16 n, ne-eqb op 17 m, ne-eqb op 19 e) (ap (λ (a : Bool). chosen a l) q)
 
 -- ---- one turn
 
@@ -302,18 +373,19 @@ module _ {B : List ℕ} {x : Point} {g : Slot} {i : ℕ} {l : List ℕ} (w : See
       → l′ ≡ stepped x i (command-of B i c) l → Seek B x g next l′
   seek-on c next l′ e f q n s = subst (Seek B x g next) (sym s) (seek-next (command-of B i c) next e f (going B i c q .0) n)
 
-  push-takes : (b c : Bool) (k : ℕ) → (takes g (command-of B i (if b Leaf (if c (Condition k) Test))) ≡ false) × (is-end (if b Leaf (if c (Condition k) Test)) ≡ false)
+  push-takes : (b c d : Bool) (k : ℕ) → (takes g (command-of B i (if b LeafBy (if c (Condition k) (if d Forbidden Test)))) ≡ false) × (is-end (if b LeafBy (if c (Condition k) (if d Forbidden Test))) ≡ false)
   unfolding command-of-in takes is-end
-  push-takes true c k = (refl, refl)
-  push-takes false true k = (refl, refl)
-  push-takes false false k = (refl, refl)
+  push-takes true c d k = (refl, refl)
+  push-takes false true d k = (refl, refl)
+  push-takes false false true k = (refl, refl)
+  push-takes false false false k = (refl, refl)
 
   -- a push, told by its byte
   pub seek-push : (op w : ℕ) (l′ : List ℕ) → op ≡ code-at B i → pushes op ≡ true → w ≡ push-width op → l′ ≡ stepped x i (command-of B i (push-of B i op)) l → Seek B x g (i + w) l′
   unfolding push-of
   seek-push op w l′ e t q s =
       let d = told B i op t e in
-      let f = push-takes (eqb op 16) (eqb op 17) (byte-at B (i + 1)) in
+      let f = push-takes (eqb op 16) (eqb op 17) (eqb op 19) (byte-at B (i + 1)) in
       seek-on (push-of B i op) (i + w) l′ (d .whole-is) (f .0) (f .1) (sym (next-whole new-form B i (d .bytes) ∙ ap (λ (k : ℕ). i + k) (d .wide ∙ sym q))) s
 
 -- ---- the leaf's linear
@@ -329,18 +401,34 @@ none-small = record { long = refl; each = λ k. subst Small (sym (zeros-at numbe
 
 -- ---- what the leaf comes to
 
-module _ (B : List ℕ) (g : Slot) (x : Point) (i : ℕ) (c : Comes B g x i) (q : Linear) (reads : q ≡ leaf-of (read-at B i))
-    (s : State) (r : List Bool) (st : Stands (site-at B .levels) (site-at B .conditions) x s r) where
+module _ (B : List ℕ) (g : Slot) (x : Point) (i : ℕ) (c : Comes B g x i) (s : State) (r : List Bool) (st : Stands (site-at B .levels) (site-at B .conditions) x s r) where
   abbrev F : Tree
   F = find-slot g (loaded-entries B)
 
-  is : q ≡ at (env s r) F .lin
-  is = reads ∙ c .comes s r st .reads
+  is : leaf-of (read-at B i) ≡ at (env s r) F
+  is = c .comes s r st .reads
 
-  pub worth-is : numerator x q ≡ worth-at (env s r) F
-  unfolding worth-at
-  worth-is = ap (numerator x) is ∙ sym (value-is st (at (env s r) F .lin) (c .comes s r st .within))
+  module _ (q : Linear) (reads : q ≡ lin-of (leaf-of (read-at B i))) where
+    linear-is : q ≡ lin-of (at (env s r) F)
+    linear-is = reads ∙ ap lin-of is
 
-  pub chance-is : up (q .const) ≡ chance-at (env s r) F
-  unfolding chance-at
-  chance-is = ap (λ (p : Linear). up (p .const)) is
+    pub level-is : numerator x q ≡ level-at (env s r) F
+    unfolding level-at
+    level-is = ap (numerator x) linear-is ∙ sym (value-is st (lin-of (at (env s r) F)) (c .comes s r st .within))
+
+    pub chance-is : up (q .const) ≡ chance-at (env s r) F
+    unfolding chance-at
+    chance-is = ap (λ (p : Linear). up (p .const)) linear-is
+
+  pub reward-forbidden : byte-at B i ≡ 0x13 → reward-of none ≡ reward-of (worth-at (env s r) F)
+  unfolding worth-at leaf-worth
+  reward-forbidden e = ap (λ (f : Leaf). reward-of (leaf-worth (env s r) f)) (sym (forbidden-there B i e) ∙ is)
+
+  permitted-worth : (e : Env) (f : Leaf) → T (permitted f) → num (value e (lin-of f)) ≡ leaf-worth e f
+  unfolding leaf-worth permitted lin-of
+  permitted-worth e (some p a) t = refl
+  permitted-worth e forbidden t = absurd t
+
+  pub reward-is : (byte-at B i ≡ 0x13 → ⊥) → reward-of (num (numerator x (lin-of (leaf-of (read-at B i))))) ≡ reward-of (worth-at (env s r) F)
+  unfolding worth-at level-at
+  reward-is n = ap reward-of (ap num (level-is (lin-of (leaf-of (read-at B i))) refl) ∙ permitted-worth (env s r) (at (env s r) F) (subst (λ (f : Leaf). T (permitted f)) is (permitted-there B i n)))

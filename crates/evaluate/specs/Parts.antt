@@ -6,7 +6,7 @@ use lib.Dec.{eqb, ltb}
 use lib.ListN.{length, getD, set}
 use Rattle.whole.specs.Cases.{if}
 use Rattle.theory.specs.Widths.{levels-most, conditions-most, actions-most, stack-most}
-use Rattle.theory.specs.Command.{Command, site, push-leaf, push-condition, push-test, give, name-action, end-model, Slot, readings-from, readings}
+use Rattle.theory.specs.Command.{Command, site, push-leaf, push-condition, push-test, push-forbidden, give, name-action, end-model, Slot, readings-from, readings}
 use Rattle.command.specs.Held.{last-first}
 use Rattle.evaluate.specs.declared.Point.{Point}
 use Rattle.evaluate.specs.Pass.{pass}
@@ -65,6 +65,7 @@ noted (site m n a w) b t = t
 noted (push-leaf p) b t = t
 noted (push-condition k) b t = t
 noted (push-test p) b t = t
+noted push-forbidden b t = t
 noted (give g) b t = put g b t
 noted (name-action a b′) b t = t
 noted end-model b t = t
@@ -75,6 +76,7 @@ depth-after (site m k a w) n = n
 depth-after (push-leaf p) n = if (ltb n stack-most) (n + 1) n
 depth-after (push-condition k) n = if (ltb n 2) n (n - 1)
 depth-after (push-test p) n = if (ltb n 2) n (n - 1)
+depth-after push-forbidden n = if (ltb n stack-most) (n + 1) n
 depth-after (give g) n = n - 1
 depth-after (name-action a b) n = n
 depth-after end-model n = n

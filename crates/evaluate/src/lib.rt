@@ -13,7 +13,9 @@ ghost use Rattle.whole.specs.Linears.{Smalls};
 ghost use Rattle.whole.specs.Numerator.{words};
 ghost use Rattle.theory.specs.Command.{whole, give, byte-at, width, read-at};
 ghost use Rattle.theory.specs.Meaning.{State, env, nth};
+ghost use Rattle.theory.specs.Diagram.{lin-of};
 ghost use Rattle.theory.specs.Meaning.{worth-at as worth-of};
+ghost use Rattle.theory.specs.Meaning.{level-at as level-of};
 ghost use Rattle.theory.specs.Meaning.{end-at as end-of};
 ghost use Rattle.theory.specs.Meaning.{chance-at as chance-of};
 ghost use Rattle.theory.specs.Load.{find-slot, found, site-at};
@@ -22,7 +24,7 @@ ghost use Rattle.theory.specs.Verdict.{verdict, end-slot, same-slot};
 ghost use Rattle.theory.specs.laws.Loading.{loaded-entries};
 ghost use Rattle.command.specs.Reading.{with-linear, linear-of, command-of};
 ghost use Rattle.command.specs.Held.{last-first};
-ghost use Rattle.evaluate.specs.Pass.{slot-of, no-name, Flat, condition-holds, stepped, leaf-of, code-at, pushes, push-width, push-of, index-at, Stands, Comes};
+ghost use Rattle.evaluate.specs.Pass.{slot-of, no-name, Flat, condition-holds, stepped, leaf-of, reward-of, code-at, pushes, push-width, push-of, index-at, Stands, Comes};
 ghost use Rattle.evaluate.specs.Pass.{takes as takes-slot};
 ghost use Rattle.evaluate.specs.Pass.{numerator as numerator-at};
 ghost use Rattle.evaluate.specs.Parts.{Room, Holds, Seek, Parts};
@@ -57,6 +59,12 @@ pub struct Point {
     pub setting: u32,
     pub n: [i32; NUMBERS],
     pub levels: usize,
+}
+
+// What a reward comes to; the number is 0 where it is forbidden.
+pub struct Reward {
+    pub forbidden: bool,
+    pub worth: Numerator,
 }
 
 // Condition k of four.
@@ -113,6 +121,7 @@ fn after(model: &[u8], at: usize, c: Command, items: &mut [u32], len: usize, x: 
         Command::Site(_, _, _, _) => len,
         Command::Name(_) => len,
         Command::End => len,
+        Command::Forbidden => offsets::push(items, len, at as u32),
     }
 }
 
@@ -167,17 +176,20 @@ fn is_push(op: u8) -> bool
     if op < 0x10 {
         return false;
     }
-    op <= 0x12
+    op <= 0x13
 }
 
 // The bytes of a push.
 fn push_size(op: u8) -> usize
     ensures { λ r. ⌜ r ≡ push-width op ⌝ }
 {
-    if op == 0x11 { 2 } else { WITH_LINEAR }
+    if op == 0x11 {
+        return 2;
+    }
+    if op == 0x13 { 1 } else { WITH_LINEAR }
 }
 
-// What a leaf, a condition or a test leaves of the stack, told by its byte.
+// What a push leaves of the stack, told by its byte.
 fn push_by(model: &[u8], at: usize, op: u8, items: &mut [u32], len: usize, x: Point) -> usize
     requires { ⌜ Room (now items) len × (at + with-linear ≤ length (now model)) × (length (now model) < 4294967296) × Flat x ⌝ }
     ensures { λ r. ⌜ Holds (now (items .exit)) r (stepped x at (command-of (now (model .entry)) at (push-of (now (model .entry)) at op)) (last-first (now (items .entry)) len)) ⌝ }
@@ -187,6 +199,9 @@ fn push_by(model: &[u8], at: usize, op: u8, items: &mut [u32], len: usize, x: Po
     }
     if op == 0x11 {
         return offsets::choose(items, len, condition(model[at + 1], x));
+    }
+    if op == 0x13 {
+        return offsets::push(items, len, at as u32);
     }
     offsets::choose(items, len, numerators::test_at(model, at + 1, x))
 }
@@ -260,10 +275,10 @@ fn leaf_at(model: &[u8], parts: &[u32], g: Slot, x: Point) -> usize
     pass_from(model, begin, g, x, &mut items)
 }
 
-// The leaf at an offset, at a point, times d; 0 where no leaf stands there.
+// The linear of the leaf at an offset, at a point, times d; 0 where there is none.
 fn leaf_numerator(model: &[u8], at: usize, x: Point) -> Numerator
     requires { ⌜ Flat x ⌝ }
-    ensures { λ r. ⌜ r ≡ words (numerator-at x (leaf-of (read-at (now (model .entry)) at))) ⌝ }
+    ensures { λ r. ⌜ r ≡ words (numerator-at x (lin-of (leaf-of (read-at (now (model .entry)) at)))) ⌝ }
 {
     if code(model, at) == 0x10 {
         return numerators::numerator_at(model, at + 1, x);
@@ -271,9 +286,9 @@ fn leaf_numerator(model: &[u8], at: usize, x: Point) -> Numerator
     numerator([0i64; NUMBERS], x)
 }
 
-// The constant of the leaf at an offset; 0 where no leaf stands there.
+// The constant of the leaf at an offset; 0 where there is none.
 fn leaf_constant(model: &[u8], at: usize) -> i64
-    ensures { λ r. ⌜ r ≡ leaf-of (read-at (now (model .entry)) at) .const ⌝ }
+    ensures { λ r. ⌜ r ≡ lin-of (leaf-of (read-at (now (model .entry)) at)) .const ⌝ }
 {
     if code(model, at) == 0x10 {
         return numerators::number(model, at + 1 + COEFFICIENTS * 4);
@@ -281,11 +296,31 @@ fn leaf_constant(model: &[u8], at: usize) -> i64
     0
 }
 
-// What a slot's diagram comes to, times d: a reward, or a next level.
-pub fn worth_at(model: &[u8], parts: &[u32], g: Slot, x: Point) -> Numerator
+// What a reward comes to, times d: a number, or forbidden.
+pub fn reward_at(model: &[u8], parts: &[u32], g: Slot, x: Point) -> Reward
     requires { ⌜ (verdict (now model) .number ≡ 0) × (length (now model) < 4294967296) × T (no-name (slot-of g)) × Parts (now model) (now parts) × Flat x ⌝ }
     ensures { λ r. ⌜ ((s : State) (z : List Bool) → Stands (site-at (now (model .entry)) .levels) (site-at (now (model .entry)) .conditions) x s z
-        → r ≡ words (worth-of (env s z) (find-slot (slot-of g) (loaded-entries (now (model .entry)))))) ⌝ }
+        → r ≡ reward-of (worth-of (env s z) (find-slot (slot-of g) (loaded-entries (now (model .entry)))))) ⌝ }
+{
+    let at = leaf_at(model, parts, g, x);
+    if command::byte_at(model, at) == 0x13 {
+        return Reward {
+            forbidden: true,
+            worth: Numerator { low: 0, high: 0 },
+        };
+    }
+    let worth = leaf_numerator(model, at, x);
+    Reward {
+        forbidden: false,
+        worth,
+    }
+}
+
+// What a next level or an end worth comes to, times d.
+pub fn level_at(model: &[u8], parts: &[u32], g: Slot, x: Point) -> Numerator
+    requires { ⌜ (verdict (now model) .number ≡ 0) × (length (now model) < 4294967296) × T (no-name (slot-of g)) × Parts (now model) (now parts) × Flat x ⌝ }
+    ensures { λ r. ⌜ ((s : State) (z : List Bool) → Stands (site-at (now (model .entry)) .levels) (site-at (now (model .entry)) .conditions) x s z
+        → r ≡ words (level-of (env s z) (find-slot (slot-of g) (loaded-entries (now (model .entry)))))) ⌝ }
 {
     let at = leaf_at(model, parts, g, x);
     leaf_numerator(model, at, x)
@@ -305,7 +340,7 @@ pub fn end_at(model: &[u8], parts: &[u32], x: Point) -> Numerator
     if parts::begin(parts, g) == 0 {
         return Numerator { low: 0, high: 0 };
     }
-    worth_at(model, parts, g, x)
+    level_at(model, parts, g, x)
 }
 
 // The weight, out of W, that a slot's diagram comes to.

@@ -138,6 +138,7 @@ fn depth(c: Command, n: usize) -> usize
         Command::Site(_, _, _, _) => n,
         Command::Name(_) => n,
         Command::End => n,
+        Command::Forbidden => pushed(n),
     }
 }
 

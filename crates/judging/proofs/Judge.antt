@@ -1,12 +1,16 @@
 -- Numbers judged: two words and 32 bits, sums and products, the best so far.
-use mathlib.Core.Path.{_≡_, refl, sym, ap, ap₂, _∙_}
+use mathlib.Core.Path.{_≡_, refl, sym, ap, ap₂, _∙_, subst}
 use mathlib.Core.Bool.{Bool, true, false, not, _&&_}
+use mathlib.Core.List.{[], _∷_}
 use Prim.Native.Nat.{ℕ, suc, _+_, _-_, _*_, _≤_, _<_}
 use native.Mathlib.Nat.{mul-le-mul}
 use native.Mathlib.Omega.{arith}
 use borrow.Author.Tests.{ltb-true, ltb-false, le-leb, lt-leb}
+use lib.Dec.{T}
 use lib.IntN.{ℤ, pos, negsuc, natAbs, _+ℤ_, _-ℤ_, _*ℤ_}
 use lib.Signed.{leZ, ltZ}
+use types.Run.{OneOf, miss}
+use denote.Enum.Declared.{tagOf}
 use mir.Syntax.{w32, w64}
 use mir.Val.{SFits, toZ}
 use Rattle.whole.specs.Cases.{if, clash}
@@ -19,13 +23,14 @@ use Rattle.whole.specs.declared.Within.{Within}
 use Rattle.whole.specs.declared.Within.the-variants as within
 use Rattle.whole.specs.Magnitude.{abs-mul}
 use Rattle.whole.proofs.Signed.{R, R32, back, back32, plain, by-abs, abs-back}
-use Rattle.theory.specs.Plain.{Worth, is, over, in-32-bits, better, numbered}
+use Rattle.theory.specs.Plain.{Worth, is, nothing, over, in-32-bits, better, numbered}
 use Rattle.theory.specs.Verdict.{or}
+use Rattle.judging.proofs.Total.{the-type}
 use Rattle.judging.specs.declared.Total.{Total}
 use Rattle.judging.specs.declared.Total.the-variants as total
 use Rattle.judging.specs.declared.Level.{Level}
 use Rattle.judging.specs.declared.Level.the-variants as level
-use Rattle.judging.specs.Totals.{total-of, judged-32, level-by, times-of, plus-of, added-of, summed, tried, Kept, is-over, none-left}
+use Rattle.judging.specs.Totals.{total-of, judged-32, level-by, times-of, plus-of, added-of, summed, tried, Kept, stopped, is-over}
 
 -- ---- products
 
@@ -178,66 +183,36 @@ module _ (p z : Within) (a : ℤ) (e : p ≡ within.Is a) (f : SFits w64 a) wher
 pub small-of : (z : ℤ) (q : ℤ) → limited z ≡ within.Is q → Small q
 small-of z q e = let d = limited-gives z q e in record { small = omega (arith, d .1, ap natAbs (d .0)) }
 
-pub kept-small : (w : Within) (z : ℤ) → w ≡ within.Is z → Kept w → Small z
-unfolding Kept
-kept-small (within.Is y) z e k = record { small = let q : y ≡ z = cc in omega (arith, k .small, ap natAbs q) }
-kept-small within.Over z e k = absurd (let q : _≡_ {A = ℕ} 0 1 = cc in omega arith)
+pub kept-small : (t : Total) (z : ℤ) (a : ℕ) → t ≡ total.Is z a → Kept (total-of t) → Small z
+unfolding Kept total-of
+kept-small t z a e k = subst (λ (u : Total). Kept (total-of u)) e k .0
 
-pub limited-kept : (z : ℤ) → Kept (limited z)
-unfolding Kept
-limited-kept z = go (limited z) refl
+summed-kept : (z : ℤ) → Kept (summed (limited z))
+unfolding Kept summed
+summed-kept z = go (limited z) refl
   where
-    go : (w : Within) → limited z ≡ w → Kept w
-    go (within.Is q) e = small-of z q e
+    go : (w : Within) → limited z ≡ w → Kept (summed w)
+    go (within.Is q) e = (small-of z q e, refl)
     go within.Over e = tt
 
-plus-kept : (s : ℤ) (w : Within) → Kept (plus-of s w)
-unfolding plus-of Kept
-plus-kept s (within.Is p) = limited-kept (s +ℤ p)
+plus-kept : (s : ℤ) (w : Within) → Kept (summed (plus-of s w))
+unfolding plus-of Kept summed
+plus-kept s (within.Is p) = summed-kept (s +ℤ p)
 plus-kept s within.Over = tt
 
-pub added-kept : (sum : Within) (w : ℕ) (t : Worth) → Kept (added-of sum w t)
+pub added-kept : (sum : Worth) (w : ℕ) (t : Worth) → Kept (added-of sum w t)
 unfolding added-of Kept
-added-kept (within.Is s) w (is v a) = plus-kept s (limited (pos w *ℤ v))
-added-kept (within.Is s) w over = tt
-added-kept within.Over w t = tt
+added-kept (is s b) w (is v a) = plus-kept s (limited (pos w *ℤ v))
+added-kept (is s b) w nothing = tt
+added-kept (is s b) w over = tt
+added-kept nothing w t = tt
+added-kept over w t = tt
 
-pub times-kept : (p z : Within) → Kept (times-of p z)
-unfolding times-of Kept
-times-kept (within.Is p) (within.Is z) = limited-kept (p *ℤ z)
+pub times-kept : (p z : Within) → Kept (summed (times-of p z))
+unfolding times-of Kept summed
+times-kept (within.Is p) (within.Is z) = summed-kept (p *ℤ z)
 times-kept (within.Is p) within.Over = tt
 times-kept within.Over z = tt
-
-pub added-over : (sum : Within) (w : ℕ) (t : Total) → sum ≡ within.Over → within.Over ≡ added-of sum w (total-of t)
-unfolding added-of
-added-over sum w t e = sym (ap (λ (q : Within). added-of q w (total-of t)) e)
-
-module _ (sum : Within) (w : ℕ) (t : Total) (s : ℤ) (e : sum ≡ within.Is s) where
-  pub added-none : t ≡ total.Over → within.Over ≡ added-of sum w (total-of t)
-  unfolding added-of total-of
-  added-none g = sym (ap₂ (λ (q : Within) (u : Total). added-of q w (total-of u)) e g)
-
-  module _ (v : ℤ) (a : ℕ) (g : t ≡ total.Is v a) (f : SFits w64 v) (h : w ≤ limit) (m : Within) (k : m ≡ limited (toZ w64 w *ℤ R v)) where
-    product : m ≡ limited (pos w *ℤ v)
-    product = k ∙ ap₂ (λ (x y : ℤ). limited (x *ℤ y)) (plain w (omega arith)) (back v f)
-
-    sum-is : plus-of s m ≡ added-of sum w (total-of t)
-    unfolding added-of total-of
-    sum-is = ap (plus-of s) product ∙ sym (ap₂ (λ (q : Within) (u : Total). added-of q w (total-of u)) e g)
-
-    pub added-much : m ≡ within.Over → within.Over ≡ added-of sum w (total-of t)
-    unfolding plus-of
-    added-much n = sym (ap (plus-of s) n) ∙ sum-is
-
-    module _ (p : ℤ) (n : m ≡ within.Is p) (c : Kept sum) (fs : SFits w64 s) (fp : SFits w64 p) where
-      pub addends-small : Small (R s) × Small (R p)
-      addends-small = (rw (back s fs) (kept-small sum s e c), rw (back p fp) (small-of _ p (sym k ∙ n)))
-
-      pub added-is : {r : Within} → r ≡ limited (R s +ℤ R p) → r ≡ added-of sum w (total-of t)
-      unfolding plus-of
-      added-is u = u ∙ ap₂ (λ (x y : ℤ). limited (x +ℤ y)) (back s fs) (back p fp) ∙ sym (ap (plus-of s) n) ∙ sum-is
-
--- ---- totals
 
 pub summed-over : (w : Within) → w ≡ within.Over → total-of total.Over ≡ summed w
 unfolding summed total-of
@@ -247,52 +222,117 @@ pub summed-is : (w : Within) (z : ℤ) → w ≡ within.Is z → SFits w64 z →
 unfolding summed total-of
 summed-is w z e f = ap (λ (y : ℤ). is y 0) (back z f) ∙ sym (ap summed e)
 
-pub numbered-over : (t : Total) → t ≡ total.Over → total-of total.Over ≡ numbered (total-of t)
+-- a total that is no number
+pub no-number : (t : Total) → OneOf (1 ∷ 2 ∷ []) (tagOf the-type t) → T (stopped (total-of t))
+unfolding stopped total-of
+no-number (total.Is v a) k = absurd (miss (1 ∷ 2 ∷ []) 0 tt k)
+no-number total.None k = tt
+no-number total.Over k = tt
+
+pub sum-stays : (sum : Worth) (w : ℕ) (t : Worth) → T (stopped sum) → sum ≡ added-of sum w t
+unfolding added-of stopped
+sum-stays (is s b) w t k = absurd k
+sum-stays nothing w t k = refl
+sum-stays over w t k = refl
+
+pub numbered-stays : (a : ℕ) (t : Worth) → T (stopped t) → t ≡ numbered a t
+unfolding numbered stopped
+numbered-stays a (is s b) k = absurd k
+numbered-stays a nothing k = refl
+numbered-stays a over k = refl
+
+module _ (sum : Total) (w : ℕ) (t : Total) (s : ℤ) (b : ℕ) (e : sum ≡ total.Is s b) where
+  worth-stays : (x : Worth) → T (stopped x) → x ≡ added-of (is s b) w x
+  unfolding added-of stopped
+  worth-stays (is v a) k = absurd k
+  worth-stays nothing k = refl
+  worth-stays over k = refl
+
+  pub added-stays : T (stopped (total-of t)) → total-of t ≡ added-of (total-of sum) w (total-of t)
+  unfolding total-of
+  added-stays k = worth-stays (total-of t) k ∙ sym (ap (λ (q : Total). added-of (total-of q) w (total-of t)) e)
+
+  module _ (v : ℤ) (a : ℕ) (g : t ≡ total.Is v a) (f : SFits w64 v) (h : w ≤ limit) (m : Within) (k : m ≡ limited (toZ w64 w *ℤ R v)) where
+    product : m ≡ limited (pos w *ℤ v)
+    product = k ∙ ap₂ (λ (x y : ℤ). limited (x *ℤ y)) (plain w (omega arith)) (back v f)
+
+    sum-is : summed (plus-of s m) ≡ added-of (total-of sum) w (total-of t)
+    unfolding added-of total-of
+    sum-is = ap (λ (q : Within). summed (plus-of s q)) product ∙ sym (ap₂ (λ (q u : Total). added-of (total-of q) w (total-of u)) e g)
+
+    pub added-much : m ≡ within.Over → total-of total.Over ≡ added-of (total-of sum) w (total-of t)
+    unfolding plus-of summed total-of
+    added-much n = sym (ap (λ (q : Within). summed (plus-of s q)) n) ∙ sum-is
+
+    module _ (p : ℤ) (n : m ≡ within.Is p) (c : Kept (total-of sum)) (fs : SFits w64 s) (fp : SFits w64 p) where
+      pub addends-small : Small (R s) × Small (R p)
+      addends-small = (rw (back s fs) (kept-small sum s b e c), rw (back p fp) (small-of _ p (sym k ∙ n)))
+
+      pub added-is : {q : Within} → q ≡ limited (R s +ℤ R p) → {r : Worth} → r ≡ summed q → r ≡ added-of (total-of sum) w (total-of t)
+      unfolding plus-of
+      added-is u o = o ∙ ap summed (u ∙ ap₂ (λ (x y : ℤ). limited (x +ℤ y)) (back s fs) (back p fp)) ∙ sym (ap (λ (q : Within). summed (plus-of s q)) n) ∙ sum-is
+
+-- ---- totals
+
+pub numbered-is : (a : ℕ) (t : Total) (z : ℤ) (b : ℕ) → t ≡ total.Is z b → SFits w64 z → total-of (total.Is (R z) a) ≡ numbered a (total-of t)
 unfolding numbered total-of
-numbered-over t e = sym (ap (λ (u : Total). numbered (total-of u)) e)
+numbered-is a t z b e f = ap (λ (y : ℤ). is y a) (back z f) ∙ sym (ap (λ (u : Total). numbered a (total-of u)) e)
 
-pub numbered-is : (t : Total) (z : ℤ) (a : ℕ) → t ≡ total.Is z a → SFits w64 z → total-of (total.Is (R z) 1) ≡ numbered (total-of t)
-unfolding numbered total-of
-numbered-is t z a e f = ap (λ (y : ℤ). is y 1) (back z f) ∙ sym (ap (λ (u : Total). numbered (total-of u)) e)
+module _ (v : ℤ) (b a : ℕ) (t : Total) where
+  pub larger-none : SFits w64 v → t ≡ total.None → total-of (total.Is (R v) b) ≡ better v b a (total-of t)
+  unfolding total-of better
+  larger-none f g = ap (λ (y : ℤ). is y b) (back v f) ∙ sym (ap (λ (u : Total). better v b a (total-of u)) g)
 
-pub best-over : (b : Total) (a : ℕ) (t : Total) → b ≡ total.Over → total-of total.Over ≡ tried (total-of b) a (total-of t)
-unfolding tried total-of
-best-over b a t e = sym (ap (λ (u : Total). tried (total-of u) a (total-of t)) e)
-
-module _ (b : Total) (a : ℕ) (t : Total) (v : ℤ) (k : ℕ) (e : b ≡ total.Is v k) where
-  pub best-none : t ≡ total.Over → total-of total.Over ≡ tried (total-of b) a (total-of t)
-  unfolding tried total-of better
-  best-none g = sym (ap₂ (λ (x y : Total). tried (total-of x) a (total-of y)) e g)
+  pub larger-over : t ≡ total.Over → total-of t ≡ better v b a (total-of t)
+  unfolding total-of better
+  larger-over g = ap total-of g ∙ sym (ap (λ (u : Total). better v b a (total-of u)) g)
 
   module _ (u : ℤ) (j : ℕ) (g : t ≡ total.Is u j) (fv : SFits w64 v) (fu : SFits w64 u) where
-    compared : (c : Bool) → leZ (R u) (R v) ≡ c → if c (is v k) (is u a) ≡ tried (total-of b) a (total-of t)
-    unfolding tried total-of better
+    compared : (c : Bool) → leZ (R u) (R v) ≡ c → if c (is v b) (is u a) ≡ better v b a (total-of t)
+    unfolding total-of better
     compared c q =
-        ap (λ (d : Bool). if d (is v k) (is u a)) (sym q ∙ ap₂ leZ (back u fu) (back v fv))
-        ∙ sym (ap₂ (λ (x y : Total). tried (total-of x) a (total-of y)) e g)
+        ap (λ (d : Bool). if d (is v b) (is u a)) (sym q ∙ ap₂ leZ (back u fu) (back v fv))
+        ∙ sym (ap (λ (x : Total). better v b a (total-of x)) g)
 
-    pub best-stays : leZ (R u) (R v) ≡ true → total-of (total.Is v k) ≡ tried (total-of b) a (total-of t)
+    pub larger-stays : leZ (R u) (R v) ≡ true → total-of (total.Is (R v) b) ≡ better v b a (total-of t)
     unfolding total-of
-    best-stays q = compared true q
+    larger-stays q = ap (λ (y : ℤ). is y b) (back v fv) ∙ compared true q
 
-    pub best-moves : leZ (R u) (R v) ≡ false → total-of (total.Is (R u) a) ≡ tried (total-of b) a (total-of t)
+    pub larger-moves : leZ (R u) (R v) ≡ false → total-of (total.Is (R u) a) ≡ better v b a (total-of t)
     unfolding total-of
-    best-moves q = ap (λ (y : ℤ). is y a) (back u fu) ∙ compared false q
+    larger-moves q = ap (λ (y : ℤ). is y a) (back u fu) ∙ compared false q
+
+module _ (best : Total) (a : ℕ) (t : Worth) where
+  pub best-is : (v : ℤ) (b : ℕ) → best ≡ total.Is v b → SFits w64 v → {r : Worth} → r ≡ better (R v) b a t → r ≡ tried (total-of best) a t
+  unfolding tried total-of
+  best-is v b e f o = o ∙ ap (λ (y : ℤ). better y b a t) (back v f) ∙ sym (ap (λ (u : Total). tried (total-of u) a t) e)
+
+  pub best-none : best ≡ total.None → {r : Worth} → r ≡ numbered a t → r ≡ tried (total-of best) a t
+  unfolding tried total-of
+  best-none e o = o ∙ sym (ap (λ (u : Total). tried (total-of u) a t) e)
+
+  pub best-over : best ≡ total.Over → total-of best ≡ tried (total-of best) a t
+  unfolding tried total-of
+  best-over e = ap total-of e ∙ sym (ap (λ (u : Total). tried (total-of u) a t) e)
 
 -- ---- whether something is left
 
-pub sum-ends : (w : Within) (b : Bool) → w ≡ within.Over → true ≡ or (is-over w) b
-unfolding is-over
-sum-ends w b e = sym (ap (λ (x : Within). or (is-over x) b) e)
+pub sum-ends : (t : Worth) (b : Bool) → T (stopped t) → true ≡ or (stopped t) b
+unfolding stopped
+sum-ends (is v a) b k = absurd k
+sum-ends nothing b k = refl
+sum-ends over b k = refl
 
-pub best-ends : (t : Total) (b : Bool) → t ≡ total.Over → true ≡ or (none-left (total-of t)) b
-unfolding none-left total-of
-best-ends t b e = sym (ap (λ (x : Total). or (none-left (total-of x)) b) e)
+pub sum-goes : (t : Total) (z : ℤ) (a : ℕ) (b : Bool) → t ≡ total.Is z a → b ≡ or (stopped (total-of t)) b
+unfolding stopped total-of
+sum-goes t z a b e = sym (ap (λ (x : Total). or (stopped (total-of x)) b) e)
 
-pub sum-goes : (w : Within) (z : ℤ) (b : Bool) → w ≡ within.Is z → b ≡ or (is-over w) b
-unfolding is-over
-sum-goes w z b e = sym (ap (λ (x : Within). or (is-over x) b) e)
+pub best-ends : (t : Total) (b : Bool) → t ≡ total.Over → true ≡ or (is-over (total-of t)) b
+unfolding is-over total-of
+best-ends t b e = sym (ap (λ (x : Total). or (is-over (total-of x)) b) e)
 
-pub best-goes : (t : Total) (z : ℤ) (a : ℕ) (b : Bool) → t ≡ total.Is z a → b ≡ or (none-left (total-of t)) b
-unfolding none-left total-of
-best-goes t z a b e = sym (ap (λ (x : Total). or (none-left (total-of x)) b) e)
+pub best-goes : (t : Total) (b : Bool) → OneOf (0 ∷ 1 ∷ []) (tagOf the-type t) → b ≡ or (is-over (total-of t)) b
+unfolding is-over total-of
+best-goes (total.Is v a) b k = refl
+best-goes total.None b k = refl
+best-goes total.Over b k = absurd (miss (0 ∷ 1 ∷ []) 2 tt k)

@@ -6,8 +6,8 @@ ghost use lib.IntN.{pos, negsuc, _*ℤ_};
 ghost use Rattle.whole.specs.Within.{limit, limited};
 ghost use Rattle.whole.specs.Numerator.{number};
 ghost use Rattle.theory.specs.Verdict.{or};
-ghost use Rattle.theory.specs.Plain.{numbered as numbered-of};
-ghost use Rattle.judging.specs.Totals.{total-of, level-by, times-of, added-of, tried, summed, Kept, is-over, none-left};
+ghost use Rattle.theory.specs.Plain.{numbered as numbered-of, better as better-of};
+ghost use Rattle.judging.specs.Totals.{total-of, level-by, times-of, added-of, tried, summed, Kept, stopped, is-over};
 use whole::Numerator;
 use whole::Within;
 use whole::limits::LIMIT;
@@ -15,9 +15,10 @@ use whole::limits::add_within;
 use whole::limits::mag;
 use whole::limits::mul_within;
 
-// A worth and the action that has it, or a number left its limits.
+// A worth and the action that has it, none, or a number left its limits.
 pub enum Total {
     Is(i64, u16),
+    None,
     Over,
 }
 
@@ -111,69 +112,84 @@ pub fn times(p: Within, z: Within) -> Within
     product(a, b)
 }
 
-// The running sum with weight × worth.
-pub fn added(sum: Within, w: u64, t: Total) -> Within
-    requires { ⌜ Kept sum × (w ≤ limit) ⌝ }
-    ensures { λ r. ⌜ r ≡ added-of sum w (total-of t) ⌝ }
+// A number as a worth; the action is numbered later.
+pub fn worth_of(z: Within) -> Total
+    ensures { λ r. ⌜ total-of r ≡ summed z ⌝ }
 {
-    let Within::Is(s) = sum else {
-        return Within::Over;
+    let Within::Is(v) = z else {
+        return Total::Over;
+    };
+    Total::Is(v, 0)
+}
+
+// The running sum with weight × worth; none stays none.
+pub fn added(sum: Total, w: u64, t: Total) -> Total
+    requires { ⌜ Kept (total-of sum) × (w ≤ limit) ⌝ }
+    ensures { λ r. ⌜ total-of r ≡ added-of (total-of sum) w (total-of t) ⌝ }
+{
+    let Total::Is(s, _) = sum else {
+        return sum;
     };
     let Total::Is(v, _) = t else {
-        return Within::Over;
+        return t;
     };
     let Within::Is(p) = product(w as i64, v) else {
-        return Within::Over;
-    };
-    add_within(s, p)
-}
-
-// The sum as a worth; the action is numbered later.
-pub fn worth_of(sum: Within) -> Total
-    ensures { λ r. ⌜ total-of r ≡ summed sum ⌝ }
-{
-    let Within::Is(z) = sum else {
         return Total::Over;
     };
-    Total::Is(z, 0)
+    worth_of(add_within(s, p))
 }
 
-// The worth of the first action.
-pub fn numbered(t: Total) -> Total
-    ensures { λ r. ⌜ total-of r ≡ numbered-of (total-of t) ⌝ }
+// The worth, as that of action a.
+pub fn numbered(a: u16, t: Total) -> Total
+    ensures { λ r. ⌜ total-of r ≡ numbered-of a (total-of t) ⌝ }
 {
     let Total::Is(z, _) = t else {
-        return Total::Over;
+        return t;
     };
-    Total::Is(z, 1)
+    Total::Is(z, a)
 }
 
-// The better of the best so far and action a's worth, the earlier where they are equal.
+// The larger of v, the worth of action b, and action a's worth, the earlier where they are equal; none loses.
+fn larger(v: i64, b: u16, a: u16, t: Total) -> Total
+    ensures { λ r. ⌜ total-of r ≡ better-of v b a (total-of t) ⌝ }
+{
+    match t {
+        Total::Is(u, _) => {
+            if u <= v {
+                Total::Is(v, b)
+            } else {
+                Total::Is(u, a)
+            }
+        }
+        Total::None => Total::Is(v, b),
+        Total::Over => t,
+    }
+}
+
+// The better of the best so far and action a's worth.
 pub fn better(best: Total, a: u16, t: Total) -> Total
     ensures { λ r. ⌜ total-of r ≡ tried (total-of best) a (total-of t) ⌝ }
 {
-    let Total::Is(v, _) = best else {
-        return Total::Over;
-    };
-    let Total::Is(u, _) = t else {
-        return Total::Over;
-    };
-    if u <= v { best } else { Total::Is(u, a) }
+    match best {
+        Total::Is(v, b) => larger(v, b, a, t),
+        Total::None => numbered(a, t),
+        Total::Over => best,
+    }
 }
 
-// No setting is left, or the sum is over.
-pub fn settings_done(sum: Within, r: u32, count: u32) -> bool
-    ensures { λ b. ⌜ b ≡ or (is-over sum) (leb count r) ⌝ }
+// No setting is left, or the sum is none or over.
+pub fn settings_done(sum: Total, r: u32, count: u32) -> bool
+    ensures { λ b. ⌜ b ≡ or (stopped (total-of sum)) (leb count r) ⌝ }
 {
-    if let Within::Over = sum {
+    let Total::Is(_, _) = sum else {
         return true;
-    }
+    };
     count <= r
 }
 
 // No action is left, or the best so far is over.
 pub fn actions_done(best: Total, a: u16, last: u16) -> bool
-    ensures { λ b. ⌜ b ≡ or (none-left (total-of best)) (ltb last a) ⌝ }
+    ensures { λ b. ⌜ b ≡ or (is-over (total-of best)) (ltb last a) ⌝ }
 {
     if let Total::Over = best {
         return true;

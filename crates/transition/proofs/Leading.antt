@@ -21,7 +21,7 @@ use Rattle.whole.specs.NumeratorLaws.{number-words}
 use Rattle.whole.specs.declared.Numerator.{Numerator}
 use Rattle.whole.specs.declared.Within.{Within}
 use Rattle.theory.specs.Widths.{levels-most}
-use Rattle.theory.specs.Meaning.{State, env, worth-at, moved}
+use Rattle.theory.specs.Meaning.{State, env, level-at, moved}
 use Rattle.theory.specs.Valid.{all}
 use Rattle.theory.specs.Verdict.{Site, level-slot, from-to}
 use Rattle.theory.specs.Load.{find-slot, action-of, site-at}
@@ -55,11 +55,11 @@ level-judged z = by-test (leb (natAbs z) limit) (λ _. level-by (limited z) ≡ 
     large h = by-test (in-32-bits z) (λ b. level.Over ≡ if b (level.Is z) level.Over) (λ t. absurd (omega (arith, bits-small z t))) (λ _. refl)
 
 pub level-found : (B : List ℕ) (a i : ℕ) (x : Point) (v : Numerator)
-    → ((s : State) (r : List Bool) → Stands (site-at B .levels) (site-at B .conditions) x s r → v ≡ words (worth-at (env s r) (find-slot (level-slot a i) (loaded-entries B))))
+    → ((s : State) (r : List Bool) → Stands (site-at B .levels) (site-at B .conditions) x s r → v ≡ words (level-at (env s r) (find-slot (level-slot a i) (loaded-entries B))))
     → {w : Within} → w ≡ limited (number v) → {z : Level} → z ≡ level-by w → Level-is B a i x z
 level-found B a i x v f p q = record {
   is = λ s r st.
-      let l : ℤ = worth-at (env s r) (find-slot (level-slot a i) (loaded-entries B)) in
+      let l : ℤ = level-at (env s r) (find-slot (level-slot a i) (loaded-entries B)) in
       q ∙ ap level-by (p ∙ ap (λ (u : Numerator). limited (number u)) (f s r st) ∙ ap limited (number-words l)) ∙ level-judged l;
 }
 
@@ -88,7 +88,7 @@ flat-under f e = rw e (record { few = f .few; rest = f .rest })
 
 -- next level i under a setting
 abbrev level-on : List ℕ → ℕ → ℕ → State → ℕ → ℤ
-level-on B a r s i = worth-at (env s (bits (site-at B .conditions) r)) (find-slot (level-slot a i) (loaded-entries B))
+level-on B a r s i = level-at (env s (bits (site-at B .conditions) r)) (find-slot (level-slot a i) (loaded-entries B))
 
 -- the first i levels are there, and the denominator
 pub record Moved (B : List ℕ) (a : ℕ) (x : Point) (r i : ℕ) (n : List ℤ) : Type 0 where
@@ -107,7 +107,7 @@ module _ (B : List ℕ) (a : ℕ) (x : Point) (r : ℕ) (ok : Ready B) {y : Poin
 
   nums-after : (s : State) → after B a s r .nums ≡ map (level-of s) (from-to 1 (S .levels))
   unfolding moved action-of
-  nums-after s = map-twice (worth-at (env s (bits (S .conditions) r))) (λ i. find-slot (level-slot a i) (loaded-entries B)) (from-to 1 (S .levels))
+  nums-after s = map-twice (level-at (env s (bits (S .conditions) r))) (λ i. find-slot (level-slot a i) (loaded-entries B)) (from-to 1 (S .levels))
 
   level-says : (s : State) → Spells S x s → (i : ℕ) {z : Level} → Level-is B a i y z → z ≡ judged-32 (level-of s i)
   level-says s p i h = h .is s (bits (S .conditions) r) (rw under-is (set B x s ok p r))

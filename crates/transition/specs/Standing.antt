@@ -8,7 +8,7 @@ use lib.IntN.{pos}
 use lib.ListN.{length, take}
 use Rattle.whole.specs.Cases.{if}
 use Rattle.whole.specs.Within.{limit}
-use Rattle.theory.specs.Meaning.{Action, State, env, worth-at, chance-at, weight, moved}
+use Rattle.theory.specs.Meaning.{Action, State, env, level-at, chance-at, weight, moved}
 use Rattle.theory.specs.Valid.{all}
 use Rattle.theory.specs.Verdict.{Site, verdict, chance-slot, level-slot}
 use Rattle.theory.specs.Load.{find-slot, action-of, site-at}
@@ -89,7 +89,7 @@ pub record Weighs (S : Site) (c : Chances) (r w : ℕ) : Type 0 where
 -- next level i
 pub record Level-is (B : List ℕ) (a i : ℕ) (x : Point) (z : Level) : Type 0 where
   pub is : (s : State) (r : List Bool) → Stands (site-at B .levels) (site-at B .conditions) x s r
-      → z ≡ judged-32 (worth-at (env s r) (find-slot (level-slot a i) (loaded-entries B)))
+      → z ≡ judged-32 (level-at (env s r) (find-slot (level-slot a i) (loaded-entries B)))
 
 -- the state after action a, with the setting that a mask spells
 abbrev pub after : List ℕ → ℕ → State → ℕ → State

@@ -5,25 +5,34 @@ use Prim.Native.Nat.{ℕ, _-_, _*_, _^_}
 use lib.IntN.{pos}
 use Rattle.whole.specs.Within.{limited}
 use Rattle.whole.specs.declared.Within.{Within}
+use Rattle.whole.specs.declared.Within.the-variants as within
+use Rattle.theory.specs.Total.{num, none}
+use Rattle.theory.specs.Total.{Total as Reward}
 use Rattle.theory.specs.Meaning.{State, env, worth-at, action-at}
 use Rattle.theory.specs.Verdict.{reward-slot}
 use Rattle.theory.specs.Load.{find-slot, site-at, model}
-use Rattle.theory.specs.Plain.{state-worth, action-worth}
+use Rattle.theory.specs.Plain.{Worth, nothing, over, state-worth, action-worth}
 use Rattle.theory.specs.laws.Loading.{loaded-entries}
 use Rattle.values.specs.declared.Asked.{Asked}
 use Rattle.evaluate.specs.declared.Point.{Point}
 use Rattle.judging.specs.declared.Total.{Total}
-use Rattle.judging.specs.Totals.{total-of, times-of}
+use Rattle.judging.specs.Totals.{total-of, times-of, summed}
 use Rattle.transition.specs.Standing.{Spells}
 
 -- the point that a state of m levels asked for stands at, with no setting
 abbrev pub point-of : ℕ → Asked → Point
 point-of m q = record { mask = q .mask; setting = 0; n = q .n; levels = m }
 
--- W^(n×h) × reward, each judged
-pub record Earned (B : List ℕ) (h a : ℕ) (x : Point) (r : Within) : Type 0 where
+-- W^(n×h) × reward, each judged, "W^(n×h) first"; none where the reward is forbidden
+unfoldable pub earned-of : Within → Reward → Worth
+earned-of (within.Is p) (num z) = summed (times-of (within.Is p) (limited z))
+earned-of (within.Is p) none = nothing
+earned-of within.Over (num z) = over
+earned-of within.Over none = over
+
+pub record Earned (B : List ℕ) (h a : ℕ) (x : Point) (r : Total) : Type 0 where
   pub is : (s : State) → Spells (site-at B) x s
-      → r ≡ times-of (limited (pos ((site-at B .weights) ^ ((site-at B .conditions) * h)))) (limited (worth-at (env s []) (find-slot (reward-slot a) (loaded-entries B))))
+      → total-of r ≡ earned-of (limited (pos ((site-at B .weights) ^ ((site-at B .conditions) * h)))) (worth-at (env s []) (find-slot (reward-slot a) (loaded-entries B)))
 
 -- the worth of the state with h steps left
 pub record State-worth (B : List ℕ) (h : ℕ) (x : Point) (r : Total) : Type 0 where

@@ -27,19 +27,25 @@ fn refused(number: u32, place: usize) -> Value
     }
 }
 
-// The answer, or 11 at place 0.
-fn answer(t: Total) -> Value
-    ensures { λ v. ⌜ out v ≡ worth-out (total-of t) ⌝ }
+fn answered(a: u16, numerator: Numerator) -> Value
+    ensures { λ v. ⌜ out v ≡ record { number = 0; place = 0; action = a; numerator = numerator } ⌝ }
 {
-    let Total::Is(z, a) = t else {
-        return refused(11, 0);
-    };
-    let x = from_word(z);
     Value {
         number: 0,
         place: 0,
         action: a as u32,
-        numerator: x,
+        numerator,
+    }
+}
+
+// The answer, which reads as 0 where it is none, or 11 at place 0.
+fn answer(t: Total) -> Value
+    ensures { λ v. ⌜ out v ≡ worth-out (total-of t) ⌝ }
+{
+    match t {
+        Total::Is(z, a) => answered(a, from_word(z)),
+        Total::None => answered(0, Numerator { low: 0, high: 0 }),
+        Total::Over => refused(11, 0),
     }
 }
 

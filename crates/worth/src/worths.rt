@@ -14,20 +14,26 @@ use transition::weighing;
 use whole::Within;
 use whole::limits::power_within;
 
-// "W^(n×h), a reward, W^(n×h) × reward"
-fn earned(model: &[u8], parts: &[u32], steps: u32, a: u16, x: Point) -> Within
+// "W^(n×h), a reward, W^(n×h) × reward"; none where the reward is forbidden, "W^(n×h) first".
+fn earned(model: &[u8], parts: &[u32], steps: u32, a: u16, x: Point) -> Total
     requires { ⌜ Standing (now model) x × Acts (now model) a × (steps ≤ 8) × Parts (now model) (now parts) ⌝ }
     ensures { λ r. ⌜ Earned (now (model .entry)) steps a x r ⌝ }
 {
     let n = sites::conditions(model) as u32;
     let p = power_within(sites::weights(model) as u32, n * steps);
+    if let Within::Over = p {
+        return Total::Over;
+    }
     let g = Slot {
         command: 0x20,
         action: a,
         index: 0,
     };
-    let z = judging::narrow(evaluate::worth_at(model, parts, g, x));
-    judging::times(p, z)
+    let r = evaluate::reward_at(model, parts, g, x);
+    if r.forbidden {
+        return Total::None;
+    }
+    judging::worth_of(judging::times(p, judging::narrow(r.worth)))
 }
 
 // With no step left, "an end worth times D beyond ±(2⁶² − 1) is 11".
@@ -48,7 +54,7 @@ fn state_worth(model: &[u8], parts: &[u32], steps: u32, x: Point) -> Total
         return ended(model, parts, x);
     }
     let last = sites::actions(model);
-    let mut best = judging::numbered(action_worth(model, parts, steps, 1, x));
+    let mut best = judging::numbered(1, action_worth(model, parts, steps, 1, x));
     let mut a: u16 = 2;
     loop {
         if judging::actions_done(best, a, last) {
@@ -59,7 +65,7 @@ fn state_worth(model: &[u8], parts: &[u32], steps: u32, x: Point) -> Total
     }
 }
 
-// "an action's worth sums the worth of its next states; those of weight 0 are skipped"
+// "an action's worth sums the worth of its next states; those of weight 0 are skipped"; it is left at the first none.
 fn action_worth(model: &[u8], parts: &[u32], steps: u32, a: u16, x: Point) -> Total
     requires { ⌜ Standing (now model) x × Acts (now model) a × (1 ≤ steps) × (steps ≤ 8) × Parts (now model) (now parts) ⌝ }
     ensures { λ r. ⌜ Action-worth (now (model .entry)) steps a x r ⌝ }
@@ -70,7 +76,7 @@ fn action_worth(model: &[u8], parts: &[u32], steps: u32, a: u16, x: Point) -> To
     let mut r: u32 = 0;
     loop {
         if judging::settings_done(sum, r, count) {
-            return judging::worth_of(sum);
+            return sum;
         }
         let w = weighing::weight(model, c, r);
         if w == 0 {

@@ -20,7 +20,7 @@ weight-requires c κs = search needs
 
 returns : tie.Need-returns
 returns c =
-    λ s z st. c .weight .ensures ∙ (ap up (toZ-ofZ w64 _ (record { sfits = c .before .leaf-constant .ok }) ∙ c .before .leaf-constant .ensures) ∙ chance-is (c .before .before .before .before .before .args .model .now) (slot-of (c .before .before .before .before .before .args .g)) (c .before .before .before .before .before .args .x) _ (c .before .before .leaf-at .ensures) _ refl s z st)
+    λ s z st. c .weight .ensures ∙ (ap up (toZ-ofZ w64 _ (record { sfits = c .before .leaf-constant .ok }) ∙ c .before .leaf-constant .ensures) ∙ chance-is (c .before .before .before .before .before .args .model .now) (slot-of (c .before .before .before .before .before .args .g)) (c .before .before .before .before .before .args .x) _ (c .before .before .leaf-at .ensures) s z st _ refl)
 
 pub chance-at-spec : {M : Type 1} → statement M
 chance-at-spec = tie.close (tie.spec leaf-at-requires leaf-constant-requires weight-requires returns)

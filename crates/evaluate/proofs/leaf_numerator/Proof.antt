@@ -2,8 +2,7 @@
 use mathlib.Core.Path.{sym, ap, _∙_}
 use native.Mathlib.Omega.{arith}
 use Rattle.whole.specs.Numerator.{words}
-use Rattle.theory.specs.Diagram.{Linear}
-use Rattle.theory.specs.Rules.{no-coeffs}
+use Rattle.theory.specs.Diagram.{Linear, no-coeffs}
 use Rattle.evaluate.specs.Pass.{numerator}
 use Rattle.evaluate.proofs.Turns.{none-small, code-room, leaf-reads, no-leaf}
 use Rattle.evaluate.proofs.leaf_numerator.Statement.{statement}

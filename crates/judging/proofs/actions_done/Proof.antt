@@ -11,12 +11,9 @@ returns : tie.Need-returns
 returns c =
     best-ends ((c .before .before) .args .best) _ (c .enum-told .given .1)
 
-enum-told-2 : tie.Need-enum-told-2
-enum-told-2 c = search needs
-
 returns-2 : tie.Need-returns-2
 returns-2 c =
-    best-goes ((c .before .before) .args .best) _ _ _ (c .enum-told2 .given .1)
+    best-goes ((c .before) .args .best) _ (c .match .keys2)
 
 pub actions-done-spec : {M : Type 1} → statement M
-actions-done-spec = tie.close (tie.spec enum-told returns enum-told-2 returns-2)
+actions-done-spec = tie.close (tie.spec enum-told returns returns-2)

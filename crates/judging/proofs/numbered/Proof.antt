@@ -1,5 +1,5 @@
 -- `judging::numbered` meets its contract.
-use Rattle.judging.proofs.Judge.{numbered-over, numbered-is}
+use Rattle.judging.proofs.Judge.{no-number, numbered-stays, numbered-is}
 use borrow.Author.Needs.{needs}
 use Rattle.judging.proofs.numbered.Statement.{statement}
 use Rattle.judging.proofs.numbered.Tie as tie
@@ -7,16 +7,13 @@ use Rattle.judging.proofs.numbered.Tie as tie
 enum-known-t : tie.Need-enum-known-t
 enum-known-t c = search needs
 
-enum-told : tie.Need-enum-told
-enum-told c = search needs
-
 returns : tie.Need-returns
 returns c =
-    numbered-over ((c .before .before) .args .t) (c .enum-told .given .1)
+    numbered-stays _ _ (no-number ((c .before) .args .t) (c .match .keys2))
 
 returns-2 : tie.Need-returns-2
 returns-2 c =
-    numbered-is ((c .before .before .before) .args .t) _ _ (c .before .t .given .1) (record { sfits = c .known-told .given .0 .1 })
+    numbered-is _ ((c .before .before .before) .args .t) _ _ (c .before .t .given .1) (record { sfits = c .known-told .given .0 .1 })
 
 pub numbered-spec : {M : Type 1} → statement M
-numbered-spec = tie.close (tie.spec enum-known-t enum-told returns returns-2)
+numbered-spec = tie.close (tie.spec enum-known-t returns returns-2)

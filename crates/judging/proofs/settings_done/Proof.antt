@@ -1,5 +1,5 @@
 -- `judging::settings_done` meets its contract.
-use Rattle.judging.proofs.Judge.{sum-ends, sum-goes}
+use Rattle.judging.proofs.Judge.{no-number, sum-ends, sum-goes}
 use borrow.Author.Needs.{needs}
 use Rattle.judging.proofs.settings_done.Statement.{statement}
 use Rattle.judging.proofs.settings_done.Tie as tie
@@ -9,14 +9,11 @@ enum-told c = search needs
 
 returns : tie.Need-returns
 returns c =
-    sum-ends ((c .before .before) .args .sum) _ (c .enum-told .given .1)
-
-enum-told-2 : tie.Need-enum-told-2
-enum-told-2 c = search needs
+    sum-ends _ _ (no-number ((c .before) .args .sum) (c .match .keys2))
 
 returns-2 : tie.Need-returns-2
 returns-2 c =
-    sum-goes ((c .before .before) .args .sum) _ _ (c .enum-told2 .given .1)
+    sum-goes ((c .before .before) .args .sum) _ _ _ (c .enum-told .given .1)
 
 pub settings-done-spec : {M : Type 1} → statement M
-settings-done-spec = tie.close (tie.spec enum-told returns enum-told-2 returns-2)
+settings-done-spec = tie.close (tie.spec enum-told returns returns-2)

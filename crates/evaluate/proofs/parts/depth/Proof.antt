@@ -40,6 +40,12 @@ enum-told-6 c = search needs
 enum-told-7 : tie.Need-enum-told-7
 enum-told-7 c = search needs
 
+enum-told-8 : tie.Need-enum-told-8
+enum-told-8 c = search needs
+
+pushed-requires-2 : tie.Need-pushed-requires-2
+pushed-requires-2 c κs = search needs
+
 returns : tie.Need-returns
 unfolding depth-after command-of-in
 returns c =
@@ -75,6 +81,11 @@ unfolding depth-after command-of-in
 returns-7 c =
     λ B i. ap (λ (d : CodeCommand). depth-after (command-of B i d) (c .before .before .args .n)) (sym (c .enum-told7 .given .1))
 
+returns-8 : tie.Need-returns-8
+unfolding depth-after command-of-in
+returns-8 c =
+    λ B i. c .pushed2 .ensures ∙ ap (λ (d : CodeCommand). depth-after (command-of B i d) (c .before .before .before .args .n)) (sym (c .before .enum-told8 .given .1))
+
 pub depth-spec : {M : Type 1} → statement M
 depth-spec =
     tie.close
@@ -90,10 +101,13 @@ depth-spec =
     enum-told-5
     enum-told-6
     enum-told-7
+    enum-told-8
+    pushed-requires-2
     returns
     returns-2
     returns-3
     returns-4
     returns-5
     returns-6
-    returns-7)
+    returns-7
+    returns-8)

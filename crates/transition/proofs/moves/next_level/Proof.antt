@@ -4,8 +4,8 @@ use borrow.Author.Needs.{needs}
 use Rattle.transition.proofs.moves.next_level.Statement.{statement}
 use Rattle.transition.proofs.moves.next_level.Tie as tie
 
-worth-at-requires : tie.Need-worth-at-requires
-worth-at-requires c κs =
+level-at-requires : tie.Need-level-at-requires
+level-at-requires c κs =
     let s = c .before .before in
     (s .pre .0 .accepted, s .pre .0 .short, tt, s .pre .2, s .pre .3)
 
@@ -18,7 +18,7 @@ in-32-bits-requires c κs = search needs
 returns : tie.Need-returns
 returns c =
     let s = c .before .before .before .before .before in
-    level-found (s .args .model .now) (s .args .a) (s .args .i) (s .args .x) _ (c .before .before .worth-at .ensures) (c .before .narrow .ensures) (c .in-32-bits .ensures)
+    level-found (s .args .model .now) (s .args .a) (s .args .i) (s .args .x) _ (c .before .before .level-at .ensures) (c .before .narrow .ensures) (c .in-32-bits .ensures)
 
 pub next-level-spec : {M : Type 1} → statement M
-next-level-spec = tie.close (tie.spec worth-at-requires narrow-requires in-32-bits-requires returns)
+next-level-spec = tie.close (tie.spec level-at-requires narrow-requires in-32-bits-requires returns)

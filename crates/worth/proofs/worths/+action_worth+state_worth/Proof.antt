@@ -1,8 +1,8 @@
 -- `worth::worths::action_worth` and `worth::worths::state_worth`, which call each other, meet their contracts.
 use native.Mathlib.Omega.{arith}
 use Rattle.model.proofs.Accepted.{site-accepted}
-use Rattle.judging.specs.Totals.{total-of, is-over, none-left}
-use Rattle.worth.proofs.Runs.{goes-on, not-last}
+use Rattle.judging.specs.Totals.{total-of, stopped, is-over}
+use Rattle.worth.proofs.Runs.{goes-on, not-stopped, not-last}
 use Rattle.worth.proofs.Turns.{Sums, Tries, sums-start, sums-end, sums-skip, sums-over, sums-add, next-stands, tries-start, tries-end, tries-on}
 use Prim.Native.Nat.{ℕ, _+_, _-_, _*_, _≤_, _<_}
 use mathlib.Core.Path.{_≡_, sym, subst}
@@ -19,7 +19,6 @@ use Rattle.judging.proofs.added.Reads as added-reads
 use Rattle.judging.proofs.better.Reads as better-reads
 use Rattle.judging.proofs.numbered.Reads as numbered-reads
 use Rattle.judging.proofs.settings_done.Reads as settings-done-reads
-use Rattle.judging.proofs.worth_of.Reads as worth-of-reads
 use Rattle.transition.proofs.moves.next_state.Reads as next-state-reads
 use Rattle.transition.proofs.sites.actions.Reads as actions-reads
 use Rattle.transition.proofs.sites.settings.Reads as settings-reads
@@ -81,8 +80,6 @@ action-worth-claims t = (
   earned-reads.Learnt,
   settings-done-reads.Asked,
   settings-done-reads.Learnt,
-  worth-of-reads.Asked,
-  worth-of-reads.Learnt,
   weight-reads.Asked,
   weight-reads.Learnt,
   next-state-reads.Asked,
@@ -131,14 +128,10 @@ action-worth-settings-done-requires : (t : ℕ) → action-worth-lts.Need-settin
 action-worth-settings-done-requires t c κs =
     tt
 
-action-worth-worth-of-requires : (t : ℕ) → action-worth-lts.Need-worth-of-requires (action-worth-claims t) (action-worth-at t) action-worth.Post action-worth-Inv-loop action-worth-μ-loop
-action-worth-worth-of-requires t c κs =
-    tt
-
 action-worth-returns : (t : ℕ) → action-worth-lts.Need-returns (action-worth-claims t) (action-worth-at t) action-worth.Post action-worth-Inv-loop action-worth-μ-loop
 action-worth-returns t c =
-    let s = (c .before .before .before .before .before .before .before .before .before) in
-    sums-end (s .args .model .now) (s .args .steps) (s .args .a) (s .args .x) _ _ _ (c .before .before .before .loop .inv) (c .before .before .settings-done .ensures) (c .before .if1 .taken) (c .worth-of .ensures)
+    let s = (c .before .before .before .before .before .before .before .before) in
+    sums-end (s .args .model .now) (s .args .steps) (s .args .a) (s .args .x) _ _ _ (c .before .before .loop .inv) (c .before .settings-done .ensures) (c .if1 .taken)
 
 action-worth-weight-requires : (t : ℕ) → action-worth-lts.Need-weight-requires (action-worth-claims t) (action-worth-at t) action-worth.Post action-worth-Inv-loop action-worth-μ-loop
 action-worth-weight-requires t c κs =
@@ -146,16 +139,16 @@ action-worth-weight-requires t c κs =
 
 action-worth-add-r : (t : ℕ) → action-worth-lts.Need-add-r (action-worth-claims t) (action-worth-at t) action-worth.Post action-worth-Inv-loop action-worth-μ-loop
 action-worth-add-r t c =
-    omega (arith, goes-on (is-over (c .before .before .before .before .loop .sum)) (c .before .before .before .before .before .before .settings .result) (c .before .before .before .before .loop .r) _ (c .before .before .before .settings-done .ensures) (c .before .before .if1 .left))
+    omega (arith, goes-on (stopped (total-of (c .before .before .before .before .loop .sum))) (c .before .before .before .before .before .before .settings .result) (c .before .before .before .before .loop .r) _ (c .before .before .before .settings-done .ensures) (c .before .before .if1 .left))
 
 action-worth-loop-less : (t : ℕ) → action-worth-lts.Need-loop-less (action-worth-claims t) (action-worth-at t) action-worth.Post action-worth-Inv-loop action-worth-μ-loop
 action-worth-loop-less t c =
-    omega (arith, goes-on (is-over (c .before .before .before .before .loop .sum)) (c .before .before .before .before .before .before .settings .result) (c .before .before .before .before .loop .r) _ (c .before .before .before .settings-done .ensures) (c .before .before .if1 .left))
+    omega (arith, goes-on (stopped (total-of (c .before .before .before .before .loop .sum))) (c .before .before .before .before .before .before .settings .result) (c .before .before .before .before .loop .r) _ (c .before .before .before .settings-done .ensures) (c .before .before .if1 .left))
 
 action-worth-loop-again : (t : ℕ) → action-worth-lts.Need-loop-again (action-worth-claims t) (action-worth-at t) action-worth.Post action-worth-Inv-loop action-worth-μ-loop
 action-worth-loop-again t c =
     let s = (c .before .before .before .before .before .before .before .before .before .before) in
-    sums-skip (s .args .model .now) (s .args .steps) (s .args .a) (s .args .x) _ _ _ (c .before .before .before .before .loop .inv) _ (c .before .before .before .before .before .before .before .chances .ensures) _ (c .before .weight .ensures) (goes-on (is-over (c .before .before .before .before .loop .sum)) (c .before .before .before .before .before .before .settings .result) (c .before .before .before .before .loop .r) _ (c .before .before .before .settings-done .ensures) (c .before .before .if1 .left)) (c .if2 .taken)
+    sums-skip (s .args .model .now) (s .args .steps) (s .args .a) (s .args .x) _ _ _ (c .before .before .before .before .loop .inv) _ (c .before .before .before .before .before .before .before .chances .ensures) _ (c .before .weight .ensures) (goes-on (stopped (total-of (c .before .before .before .before .loop .sum))) (c .before .before .before .before .before .before .settings .result) (c .before .before .before .before .loop .r) _ (c .before .before .before .settings-done .ensures) (c .before .before .if1 .left)) (c .if2 .taken)
 
 action-worth-next-state-requires : (t : ℕ) → action-worth-lts.Need-next-state-requires (action-worth-claims t) (action-worth-at t) action-worth.Post action-worth-Inv-loop action-worth-μ-loop
 action-worth-next-state-requires t c κs =
@@ -164,7 +157,7 @@ action-worth-next-state-requires t c κs =
 action-worth-returns-2 : (t : ℕ) → action-worth-lts.Need-returns-2 (action-worth-claims t) (action-worth-at t) action-worth.Post action-worth-Inv-loop action-worth-μ-loop
 action-worth-returns-2 t c =
     let s = (c .before .before .before .before .before .before .before .before .before .before .before .before) in
-    sums-over (s .args .model .now) (s .args .steps) (s .args .a) (s .args .x) _ _ _ (c .before .before .before .before .before .before .loop .inv) _ (c .before .before .before .before .before .before .before .before .before .chances .ensures) _ (c .before .before .before .weight .ensures) (goes-on (is-over (c .before .before .before .before .before .before .loop .sum)) (c .before .before .before .before .before .before .before .before .settings .result) (c .before .before .before .before .before .before .loop .r) _ (c .before .before .before .before .before .settings-done .ensures) (c .before .before .before .before .if1 .left)) (c .before .before .if2 .left) _ (c .before .next-state .ensures) (c .if3 .taken)
+    sums-over (s .args .model .now) (s .args .steps) (s .args .a) (s .args .x) _ _ _ (c .before .before .before .before .before .before .loop .inv) _ (c .before .before .before .before .before .before .before .before .before .chances .ensures) _ (c .before .before .before .weight .ensures) (goes-on (stopped (total-of (c .before .before .before .before .before .before .loop .sum))) (c .before .before .before .before .before .before .before .before .settings .result) (c .before .before .before .before .before .before .loop .r) _ (c .before .before .before .before .before .settings-done .ensures) (c .before .before .before .before .if1 .left)) (c .before .before .if2 .left) _ (c .before .next-state .ensures) (not-stopped (stopped (total-of (c .before .before .before .before .before .before .loop .sum))) (c .before .before .before .before .before .before .before .before .settings .result) (c .before .before .before .before .before .before .loop .r) _ (c .before .before .before .before .before .settings-done .ensures) (c .before .before .before .before .if1 .left)) (c .if3 .taken)
 
 action-worth-sub-state-worth : (t : ℕ) → action-worth-lts.Need-sub-state-worth (action-worth-claims t) (action-worth-at t) action-worth.Post action-worth-Inv-loop action-worth-μ-loop
 action-worth-sub-state-worth t c =
@@ -181,16 +174,16 @@ action-worth-added-requires t c κs =
 
 action-worth-add-r-2 : (t : ℕ) → action-worth-lts.Need-add-r-2 (action-worth-claims t) (action-worth-at t) action-worth.Post action-worth-Inv-loop action-worth-μ-loop
 action-worth-add-r-2 t c =
-    omega (arith, goes-on (is-over (c .before .before .before .before .before .before .before .before .loop .sum)) (c .before .before .before .before .before .before .before .before .before .before .settings .result) (c .before .before .before .before .before .before .before .before .loop .r) _ (c .before .before .before .before .before .before .before .settings-done .ensures) (c .before .before .before .before .before .before .if1 .left))
+    omega (arith, goes-on (stopped (total-of (c .before .before .before .before .before .before .before .before .loop .sum))) (c .before .before .before .before .before .before .before .before .before .before .settings .result) (c .before .before .before .before .before .before .before .before .loop .r) _ (c .before .before .before .before .before .before .before .settings-done .ensures) (c .before .before .before .before .before .before .if1 .left))
 
 action-worth-loop-less-2 : (t : ℕ) → action-worth-lts.Need-loop-less-2 (action-worth-claims t) (action-worth-at t) action-worth.Post action-worth-Inv-loop action-worth-μ-loop
 action-worth-loop-less-2 t c =
-    omega (arith, goes-on (is-over (c .before .before .before .before .before .before .before .before .loop .sum)) (c .before .before .before .before .before .before .before .before .before .before .settings .result) (c .before .before .before .before .before .before .before .before .loop .r) _ (c .before .before .before .before .before .before .before .settings-done .ensures) (c .before .before .before .before .before .before .if1 .left))
+    omega (arith, goes-on (stopped (total-of (c .before .before .before .before .before .before .before .before .loop .sum))) (c .before .before .before .before .before .before .before .before .before .before .settings .result) (c .before .before .before .before .before .before .before .before .loop .r) _ (c .before .before .before .before .before .before .before .settings-done .ensures) (c .before .before .before .before .before .before .if1 .left))
 
 action-worth-loop-again-2 : (t : ℕ) → action-worth-lts.Need-loop-again-2 (action-worth-claims t) (action-worth-at t) action-worth.Post action-worth-Inv-loop action-worth-μ-loop
 action-worth-loop-again-2 t c =
     let s = (c .before .before .before .before .before .before .before .before .before .before .before .before .before .before) in
-    sums-add (s .args .model .now) (s .args .steps) (s .args .a) (s .args .x) _ _ _ (c .before .before .before .before .before .before .before .before .loop .inv) _ (c .before .before .before .before .before .before .before .before .before .before .before .chances .ensures) _ (c .before .before .before .before .before .weight .ensures) (goes-on (is-over (c .before .before .before .before .before .before .before .before .loop .sum)) (c .before .before .before .before .before .before .before .before .before .before .settings .result) (c .before .before .before .before .before .before .before .before .loop .r) _ (c .before .before .before .before .before .before .before .settings-done .ensures) (c .before .before .before .before .before .before .if1 .left)) (c .before .before .before .before .if2 .left) _ (c .before .before .before .next-state .ensures) (c .before .before .if3 .left) _ (c .before .state-worth .ensures) _ (c .added .ensures)
+    sums-add (s .args .model .now) (s .args .steps) (s .args .a) (s .args .x) _ _ _ (c .before .before .before .before .before .before .before .before .loop .inv) _ (c .before .before .before .before .before .before .before .before .before .before .before .chances .ensures) _ (c .before .before .before .before .before .weight .ensures) (goes-on (stopped (total-of (c .before .before .before .before .before .before .before .before .loop .sum))) (c .before .before .before .before .before .before .before .before .before .before .settings .result) (c .before .before .before .before .before .before .before .before .loop .r) _ (c .before .before .before .before .before .before .before .settings-done .ensures) (c .before .before .before .before .before .before .if1 .left)) (c .before .before .before .before .if2 .left) _ (c .before .before .before .next-state .ensures) (c .before .before .if3 .left) _ (c .before .state-worth .ensures) _ (c .added .ensures)
 
 abbrev state-worth-Inv-loop : state-worth-lts.InvT-loop
 state-worth-Inv-loop model parts steps x last best₀ a₀ best a = Tries model steps x last best a
@@ -238,7 +231,7 @@ state-worth-returns-2 t c =
 state-worth-action-worth-requires-2 : (t : ℕ) → state-worth-lts.Need-action-worth-requires-2 (state-worth-claims t) (state-worth-at t) state-worth.Post state-worth-Inv-loop state-worth-μ-loop
 state-worth-action-worth-requires-2 t c κs =
     let s = (c .before .before .before .before .before .before .before .before .before) in
-    let h = not-last (none-left (total-of (c .before .before .loop .best))) (c .before .before .before .before .before .actions .result) (c .before .before .loop .a) _ (c .before .actions-done .ensures) (c .if2 .left) in
+    let h = not-last (is-over (total-of (c .before .before .loop .best))) (c .before .before .before .before .before .actions .result) (c .before .before .loop .a) _ (c .before .actions-done .ensures) (c .if2 .left) in
     (to-action (s .args .steps) t (s .pre .0), (s .pre .1 .0, (omega (arith, c .before .before .loop .inv .low), omega (arith, h, c .before .before .before .before .before .actions .ensures)), omega (arith, c .before .before .before .before .before .before .if1 .left), s .pre .1 .1, s .pre .1 .2))
 
 state-worth-better-requires : (t : ℕ) → state-worth-lts.Need-better-requires (state-worth-claims t) (state-worth-at t) state-worth.Post state-worth-Inv-loop state-worth-μ-loop
@@ -248,16 +241,16 @@ state-worth-better-requires t c κs =
 state-worth-add-a : (t : ℕ) → state-worth-lts.Need-add-a (state-worth-claims t) (state-worth-at t) state-worth.Post state-worth-Inv-loop state-worth-μ-loop
 state-worth-add-a t c =
     let s = (c .before .before .before .before .before .before .before .before .before .before .before) in
-    omega (arith, not-last (none-left (total-of (c .before .before .before .before .loop .best))) (c .before .before .before .before .before .before .before .actions .result) (c .before .before .before .before .loop .a) _ (c .before .before .before .actions-done .ensures) (c .before .before .if2 .left), c .before .before .before .before .before .before .before .actions .ensures, site-accepted (s .args .model .now) (s .pre .1 .0 .ready .accepted) .actions .1)
+    omega (arith, not-last (is-over (total-of (c .before .before .before .before .loop .best))) (c .before .before .before .before .before .before .before .actions .result) (c .before .before .before .before .loop .a) _ (c .before .before .before .actions-done .ensures) (c .before .before .if2 .left), c .before .before .before .before .before .before .before .actions .ensures, site-accepted (s .args .model .now) (s .pre .1 .0 .ready .accepted) .actions .1)
 
 state-worth-loop-less : (t : ℕ) → state-worth-lts.Need-loop-less (state-worth-claims t) (state-worth-at t) state-worth.Post state-worth-Inv-loop state-worth-μ-loop
 state-worth-loop-less t c =
-    omega (arith, not-last (none-left (total-of (c .before .before .before .before .loop .best))) (c .before .before .before .before .before .before .before .actions .result) (c .before .before .before .before .loop .a) _ (c .before .before .before .actions-done .ensures) (c .before .before .if2 .left))
+    omega (arith, not-last (is-over (total-of (c .before .before .before .before .loop .best))) (c .before .before .before .before .before .before .before .actions .result) (c .before .before .before .before .loop .a) _ (c .before .before .before .actions-done .ensures) (c .before .before .if2 .left))
 
 state-worth-loop-again : (t : ℕ) → state-worth-lts.Need-loop-again (state-worth-claims t) (state-worth-at t) state-worth.Post state-worth-Inv-loop state-worth-μ-loop
 state-worth-loop-again t c =
     let s = (c .before .before .before .before .before .before .before .before .before .before .before) in
-    tries-on (s .args .model .now) (s .args .steps) (s .args .x) _ (c .before .before .before .before .before .before .before .actions .ensures) _ _ (c .before .before .before .before .loop .inv) (not-last (none-left (total-of (c .before .before .before .before .loop .best))) (c .before .before .before .before .before .before .before .actions .result) (c .before .before .before .before .loop .a) _ (c .before .before .before .actions-done .ensures) (c .before .before .if2 .left)) _ (c .before .action-worth2 .ensures) _ (c .better .ensures)
+    tries-on (s .args .model .now) (s .args .steps) (s .args .x) _ (c .before .before .before .before .before .before .before .actions .ensures) _ _ (c .before .before .before .before .loop .inv) (not-last (is-over (total-of (c .before .before .before .before .loop .best))) (c .before .before .before .before .before .before .before .actions .result) (c .before .before .before .before .loop .a) _ (c .before .before .before .actions-done .ensures) (c .before .before .if2 .left)) _ (c .before .action-worth2 .ensures) _ (c .better .ensures)
 
 pub +action-worth+state-worth-spec : {M : Type 1} → statement M
 +action-worth+state-worth-spec = close μ-action-worth μ-state-worth (λ t. action-worth-lts.spec (action-worth-claims t)
@@ -270,7 +263,6 @@ pub +action-worth+state-worth-spec : {M : Type 1} → statement M
     (action-worth-earned-requires t)
     (action-worth-loop-holds t)
     (action-worth-settings-done-requires t)
-    (action-worth-worth-of-requires t)
     (action-worth-returns t)
     (action-worth-weight-requires t)
     (action-worth-add-r t)

@@ -1,6 +1,6 @@
 -- `worth::worths::earned` meets its contract.
 use native.Mathlib.Omega.{arith}
-use Rattle.worth.proofs.Answers.{exponent-fits, earned-is}
+use Rattle.worth.proofs.Answers.{exponent-fits, earned-over, earned-none, earned-is}
 use borrow.Author.Needs.{needs}
 use Rattle.worth.proofs.worths.earned.Statement.{statement}
 use Rattle.worth.proofs.worths.earned.Tie as tie
@@ -25,10 +25,26 @@ mul-power-within c =
 power-within-requires : tie.Need-power-within-requires
 power-within-requires c κs = search needs
 
-worth-at-requires : tie.Need-worth-at-requires
-worth-at-requires c κs =
-    let s = (c .before .before .before .before .before) in
+enum-told : tie.Need-enum-told
+enum-told c = search needs
+
+returns : tie.Need-returns
+returns c =
+    let s = (c .before .before .before .before .before .before .before) in
+    earned-over (s .args .model .now) (s .args .steps) (s .args .a) (s .args .x) (s .pre .0) (c .before .before .before .before .conditions .ensures) (c .before .before .before .weights .ensures) (c .before .before .power-within .ensures) (c .enum-told .given .1)
+
+enum-told-2 : tie.Need-enum-told-2
+enum-told-2 c = search needs
+
+reward-at-requires : tie.Need-reward-at-requires
+reward-at-requires c κs =
+    let s = (c .before .before .before .before .before .before .before) in
     (s .pre .0 .ready .accepted, s .pre .0 .ready .short, tt, s .pre .3, s .pre .0 .fits .flat)
+
+returns-2 : tie.Need-returns-2
+returns-2 c =
+    let s = (c .before .before .before .before .before .before .before .before .before) in
+    earned-none (s .args .model .now) (s .args .steps) (s .args .a) (s .args .x) (s .pre .0) (c .before .before .before .before .before .before .conditions .ensures) (c .before .before .before .before .before .weights .ensures) (c .before .before .before .before .power-within .ensures) (c .before .reward-at .ensures) _ (c .before .before .enum-told2 .given .1) (c .if1 .taken)
 
 narrow-requires : tie.Need-narrow-requires
 narrow-requires c κs = search needs
@@ -36,10 +52,13 @@ narrow-requires c κs = search needs
 times-requires : tie.Need-times-requires
 times-requires c κs = search needs
 
-returns : tie.Need-returns
-returns c =
-    let s = (c .before .before .before .before .before .before .before .before) in
-    earned-is (s .args .model .now) (s .args .steps) (s .args .a) (s .args .x) (s .pre .0) (c .before .before .before .before .before .conditions .ensures) (c .before .before .before .before .weights .ensures) (c .before .before .before .power-within .ensures) (c .before .before .worth-at .ensures) (c .before .narrow .ensures) (c .times .ensures)
+worth-of-requires : tie.Need-worth-of-requires
+worth-of-requires c κs = search needs
+
+returns-3 : tie.Need-returns-3
+returns-3 c =
+    let s = (c .before .before .before .before .before .before .before .before .before .before .before .before) in
+    earned-is (s .args .model .now) (s .args .steps) (s .args .a) (s .args .x) (s .pre .0) (c .before .before .before .before .before .before .before .before .before .conditions .ensures) (c .before .before .before .before .before .before .before .before .weights .ensures) (c .before .before .before .before .before .before .before .power-within .ensures) (c .before .before .before .before .reward-at .ensures) (c .before .before .before .if1 .left) (c .before .before .narrow .ensures) (c .before .times .ensures) _ (c .worth-of .ensures)
 
 pub earned-spec : {M : Type 1} → statement M
 earned-spec =
@@ -51,7 +70,12 @@ earned-spec =
     cast-power-within
     mul-power-within
     power-within-requires
-    worth-at-requires
+    enum-told
+    returns
+    enum-told-2
+    reward-at-requires
+    returns-2
     narrow-requires
     times-requires
-    returns)
+    worth-of-requires
+    returns-3)
