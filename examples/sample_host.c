@@ -3,8 +3,8 @@
  *   sample_host MODEL HORIZON NODES [--page] MASK L1 .. D
  *
  * L1 .. are the numerators of one level or more; those that are left out are 0. Prints the value and the action with HORIZON
- * steps left, the action that its name leads back to, then the listing; with --page the state's page and nothing else; a
- * refusal as `R number place`.
+ * steps left, or that it is none, the action that its name leads back to, then the listing; with --page the state's page and
+ * nothing else; a refusal as `R number place`.
  */
 #define _POSIX_C_SOURCE 200809L
 
@@ -167,11 +167,16 @@ static void print_value(const plan *p, const struct planner_state *state)
                                        PLANNER_STAGE_WORDS, p->horizon, state, out, sizeof out);
     if (number != 0)
         refused(number, out);
+    uint32_t action = (uint32_t)number_at(out + 4, 4);
+    if (action == 0) {
+        printf("value none\n");
+        return;
+    }
     /* An accepted model begins with 02, m, n, A in two bytes, W. */
     printf("value ");
     print_words(number_at(out + 8, 8), number_at(out + 16, 8));
     printf(" / (%" PRId32 " * %d^%" PRIu32 ")\n", state->denominator, p->model[5], p->model[2] * p->horizon);
-    print_name(p, (uint32_t)number_at(out + 4, 4));
+    print_name(p, action);
 }
 
 static void print_plan(const plan *p)

@@ -20,7 +20,7 @@
  * 17       `out`, `text` or `buffer` is too short, or `place` past the end of `text`
  * 18       no action carries the name
  * 19       several actions carry the name
- * 20       the model does not fit the old form: above 4 levels, 8 actions or 65,535 bytes once written
+ * 20       the model does not fit the old form: above 4 levels, 8 actions or 65,535 bytes once written, or a command 13
  */
 #ifndef PLANNER_H
 #define PLANNER_H
@@ -33,7 +33,8 @@ extern "C" {
 #endif
 
 /* What the tables are made of, for a table of so many nodes; more than PLANNER_NODES_MOST are never used. A node is twelve
- * words: kind, eight coefficients, constant, high, low. Its work words are eight of 32 bits. */
+ * words: kind (0 leaf, 1 condition, 2 test, 3 the leaf "none"), eight coefficients, constant, high, low; behind kind 3 all are
+ * zero. Its work words are eight of 32 bits. */
 #define PLANNER_NODES_MOST 65535u
 #define PLANNER_NODE_WORDS(nodes) ((size_t)12 * (nodes))
 #define PLANNER_WORK_WORDS(nodes) ((size_t)8 * (nodes))
@@ -88,7 +89,9 @@ uint32_t planner_solve(const uint8_t *model, size_t model_len, uint32_t horizon,
 /* The value and the best action at a state, with 1 to horizon steps left, from tables that planner_solve filled.
  * Bit i - 1 of mask is condition i; l1 to l8 are the levels' numerators, d their denominator.
  * Answer: place u32, action u32, low word u64, high word i64. The value is
- * (high * 2^64 + low) / (d * W^(n * steps)), with the model's W and n. */
+ * (high * 2^64 + low) / (d * W^(n * steps)), with the model's W and n.
+ * The value is none where whatever is done has a chance above zero of a forbidden action within the steps: the number, both
+ * words and the action are then 0. A value of 0 has an action from 1 on. */
 uint32_t planner_value(const uint8_t *model, size_t model_len, const int64_t *nodes, size_t node_words,
                        const uint32_t *stages, size_t stage_words, uint32_t steps, uint32_t mask,
                        int32_t l1, int32_t l2, int32_t l3, int32_t l4, int32_t l5, int32_t l6, int32_t l7, int32_t l8,
@@ -116,7 +119,7 @@ static inline uint32_t planner_worth_at(const uint8_t *model, size_t model_len, 
                          state->denominator, out, out_len);
 }
 
-/* An action's name without its trailing spaces, empty where it has none.
+/* An action's name without its trailing spaces, empty where it has none. Action 0, that of a value none, is refused with 16.
  * Answer: place u32, length u32, the name's bytes, zeros up to 16. */
 uint32_t planner_name(const uint8_t *model, size_t model_len, uint32_t action, uint8_t *out, size_t out_len);
 
@@ -133,7 +136,8 @@ uint32_t planner_listing(const uint8_t *model, size_t model_len, uint32_t horizo
                          uint8_t *text, size_t text_len, size_t place, uint8_t *out, size_t out_len);
 
 /* The page of a state, written to `text` from `place` on: a line for each of 1 to horizon steps left, with the steps in 2
- * columns, the value's whole part rounded downward in 30 and the action's name in 16. The state is planner_value's.
+ * columns, the value's whole part rounded downward in 30 and the action's name in 16; where there is no value `none` at the
+ * right end of the 30 and no name. The state is planner_value's.
  * Answer: place u32 of a refusal, length u32 of what was written. A refusal leaves `text` as it is; 15 of any stage comes
  * before 14 of any. */
 uint32_t planner_page(const uint8_t *model, size_t model_len, uint32_t horizon, const int64_t *nodes, size_t node_words,

@@ -22,6 +22,7 @@ HORIZON is the number of steps, 1 to 8.
   --nodes N           tables of N nodes; if not given, sizes from 1,024 to 65,535 are tried in turn
   --raw               a refusal as 'R number place' on standard output, as the listing program has it
 
+A value is 'none' where whatever is done has a chance of a forbidden action within the steps.
 Exit status: 0 done; 1 refused, with the reason on standard error; 2 a fault in the call, as a file that is not there.
 A model whose file has a verb's name is given with a path, as ./show.
 ";
@@ -38,7 +39,8 @@ usage: ./plan show MODEL [--raw]
 
 Prints the model in words, one command to a line with its offset in the file. Below each reward, chance, next level and
 end worth stands its diagram: 'if' a test or condition, 'then' the branch for yes, 'else' the other. C1 is a condition now, N1
-one of the next step. A refused model is shown as far as it can be read, and then its refusal.
+one of the next step; 'forbidden' is where an action must not be taken. A refused model is shown as far as it can be read,
+and then its refusal.
 ";
 
 pub const FIND: &str = "\
@@ -60,8 +62,8 @@ pub const TO_OLD: &str = "\
 usage: ./plan --to-old NEW OLD [--raw]
 
 Writes the model of the file NEW to the file OLD in the old form, for a unit that reads no other. Refused with 20 if the
-model does not fit that form: more than 4 levels, more than 8 actions, or more than 65,535 bytes once written. A file OLD
-that is there already stays as it is.
+model does not fit that form: more than 4 levels, more than 8 actions, more than 65,535 bytes once written, or a forbidden
+leaf (13). A file OLD that is there already stays as it is.
 ";
 
 pub const PICTURE: &str = "\

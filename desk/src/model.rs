@@ -70,6 +70,7 @@ pub enum Command {
     Leaf(Linear),
     Condition(usize),
     Test(Linear),
+    Forbidden,
     Reward(usize),
     Chance(usize, usize),
     Next(usize, usize),
@@ -98,6 +99,7 @@ pub fn command_bytes(form: &Form, first: u8) -> Option<usize> {
         code::CHANCE | code::NEXT => form.action_bytes + 1,
         code::NAME => form.action_bytes + LETTERS,
         code::END_WORTH | code::END => 0,
+        code::FORBIDDEN if form.forbids => 0,
         _ => return None,
     };
     Some(1 + operands)
@@ -132,6 +134,7 @@ pub fn command_at(model: Model, offset: usize) -> Result<(Command, usize), Unrea
         code::LEAF => Command::Leaf(linear(&whole[1..])),
         code::TEST => Command::Test(linear(&whole[1..])),
         code::CONDITION => Command::Condition(whole[1].into()),
+        code::FORBIDDEN => Command::Forbidden,
         code::REWARD => Command::Reward(action),
         code::CHANCE => Command::Chance(action, last()),
         code::NEXT => Command::Next(action, last()),
@@ -210,7 +213,7 @@ impl Written {
     fn take(&mut self, command: Command) -> bool {
         let offset = self.stop;
         match command {
-            Command::Leaf(_) => self.left.push(Diagram { offset, command, branches: None }),
+            Command::Leaf(_) | Command::Forbidden => self.left.push(Diagram { offset, command, branches: None }),
             Command::Condition(_) | Command::Test(_) => {
                 let Some(under) = self.left.len().checked_sub(2) else { return false };
                 let (low, high) = (self.left.remove(under + 1), self.left.remove(under));
@@ -272,5 +275,14 @@ mod tests {
         assert_eq!([old.bytes_in(&OLD), old.bytes_in(&NEW)], [OLD_POND.len(), POND.len()]);
         // Neither is read in the other form.
         assert_eq!([commands(Model::old(POND)), commands(Model::new(OLD_POND))], [vec![], vec![]]);
+    }
+
+    #[test]
+    fn the_old_form_forbids_nothing() {
+        let bytes = [code::FORBIDDEN];
+        assert_eq!(command_at(Model::new(&bytes), 0), Ok((Command::Forbidden, 1)));
+        assert_eq!(command_at(Model::old(&bytes), 0), Err(Unread::Unknown(code::FORBIDDEN)));
+        let codes = [NEW.codes().collect::<Vec<_>>(), OLD.codes().collect()];
+        assert_eq!(codes.map(|codes| (codes[0], codes.contains(&code::FORBIDDEN))), [(2, true), (1, false)]);
     }
 }

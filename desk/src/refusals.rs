@@ -86,8 +86,9 @@ fn short(model: Model, offset: usize) -> Told {
 
 fn unknown(model: Model, offset: usize) -> Told {
     let before = Written::read(model.before(offset));
-    let [first @ .., last] = code::SHARED.map(|code| format!("{code:02X}"));
-    let commands = format!("a command begins with {:02X}, {} or {last}", model.form.site, first.join(", "));
+    let codes: Vec<String> = model.form.codes().map(|code| format!("{code:02X}")).collect();
+    let (last, first) = codes.split_last().expect("a form has commands");
+    let commands = format!("a command begins with {} or {last}", first.join(", "));
     if offset == 0 {
         let advice = match (model.is_old(), model.byte(0)) {
             (false, Some(code::OLD_SITE)) => {
@@ -162,7 +163,7 @@ fn operand_broken(command: &Command, site: Site, form: &Form) -> Option<Told> {
             let rule = format!("a name has {LETTERS} bytes, each 20 to 7E");
             Some(told(rule, format!("its byte {} is {:02X}; fill up with spaces (20)", bad + 1, letters[bad])))
         }),
-        Command::EndWorth | Command::End => None,
+        Command::Forbidden | Command::EndWorth | Command::End => None,
     }
 }
 
@@ -192,13 +193,18 @@ fn condition(number: usize, site: Site) -> Option<Told> {
     (!good).then(|| told(rule, advice))
 }
 
-/// The rule on diagrams that a reward, a chance or an end worth breaks.
+/// The rule on diagrams that what takes this one breaks.
 fn diagram_broken(item: &Item, model: Model, site: Site) -> Option<Told> {
     let diagram = item.diagram.as_ref()?;
     let next_step = |command: &Command| matches!(command, Command::Condition(number) if *number > CONDITIONS);
     if let Some(place) = first(diagram, &next_step).filter(|_| !matches!(item.command, Command::Next(..))) {
         let rule = "next-step conditions stand in next levels only";
         return Some(told(rule, format!("one is at byte {place}: ask for the condition now instead")));
+    }
+    let forbidden = |command: &Command| *command == Command::Forbidden;
+    if let Some(place) = first(diagram, &forbidden).filter(|_| !matches!(item.command, Command::Reward(_))) {
+        let rule = "forbidden leaves stand in rewards only";
+        return Some(told(rule, format!("one is at byte {place}: forbid the action in its reward instead")));
     }
     let weight = |command: &Command| match command {
         Command::Leaf(linear) => {
@@ -221,7 +227,7 @@ fn first(diagram: &Diagram, asked: &dyn Fn(&Command) -> bool) -> Option<usize> {
 
 fn stack(model: Model, offset: usize) -> Told {
     let held = Written::read(model.before(offset)).left.len();
-    if model.byte(offset) == Some(code::LEAF) {
+    if matches!(model.byte(offset), Some(code::LEAF | code::FORBIDDEN)) {
         let rule = format!("the stack holds at most {STACK_MOST} diagrams");
         return told(rule, "combine branches sooner: a test or condition right behind its high and low");
     }
@@ -342,7 +348,7 @@ fn of_size(model: Model) -> Told {
     told(rule, "is the file a model? Else write its diagrams shorter")
 }
 
-/// Why a model has no old form, in the order of the request: levels, actions, bytes.
+/// Why a model has no old form: levels, actions, a forbidden leaf, bytes.
 fn of_fit(model: Model) -> Told {
     let site = Written::read(model).site();
     let fewer = |what: &str, most: usize, number: usize| {
@@ -352,11 +358,28 @@ fn of_fit(model: Model) -> Told {
         })
     };
     site.and_then(|site| fewer("level", OLD.levels, site.levels).or_else(|| fewer("action", OLD.actions, site.actions)))
+        .or_else(|| {
+            let place = forbidden_at(model)?;
+            let rule = format!("the old form has no forbidden leaf ({:02X})", code::FORBIDDEN);
+            Some(told(rule, format!("one is at byte {place}: keep the model as it is, or give a loss in its place")))
+        })
         .unwrap_or_else(|| {
             let rule = format!("a model of the old form has at most {} bytes", OLD.model_bytes);
             let bytes = words::count(model.bytes_in(&OLD), "byte");
             told(rule, format!("it would have {bytes}: keep the model as it is, or write its diagrams shorter"))
         })
+}
+
+/// The offset of the first forbidden leaf.
+fn forbidden_at(model: Model) -> Option<usize> {
+    let mut offset = 0;
+    while let Ok((command, behind)) = command_at(model, offset) {
+        if command == Command::Forbidden {
+            return Some(offset);
+        }
+        offset = behind;
+    }
+    None
 }
 
 fn of_call(number: u32) -> Told {

@@ -31,6 +31,7 @@ fn line(text: &mut String, offset: usize, depth: usize, words: &str) {
 fn show_diagram(text: &mut String, diagram: &Diagram, depth: usize, before: &str) {
     let words = match &diagram.command {
         Command::Leaf(leaf) => words::linear(leaf),
+        Command::Forbidden => "forbidden".to_string(),
         Command::Test(test) => format!("if {}", words::test(test)),
         Command::Condition(number) => format!("if {}", words::condition(*number)),
         other => format!("{other:?}"),

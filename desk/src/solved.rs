@@ -41,7 +41,7 @@ impl<'a> Solved<'a> {
         solve_with(model, horizon, sizes[sizes.len() - 1])
     }
 
-    /// The value with so many steps left, and the action.
+    /// The value with so many steps left, and the action: 0 and `NO_ACTION` where it is none.
     pub fn value(&self, steps: usize, state: &State) -> Result<(Fraction, u32), Refusal> {
         let reading = library::value(self.model, &self.nodes, &self.stages, steps as u32, state)?;
         let denominator = &Whole::from(i64::from(state.denominator)) * &self.scale(steps);
@@ -66,8 +66,11 @@ impl<'a> Solved<'a> {
         library::page(self.model, self.horizon as u32, &self.nodes, &self.stages, state, room)
     }
 
-    /// An action with its name.
+    /// An action with its name; a dash where there is none.
     pub fn action(&self, number: u32) -> Result<String, Refusal> {
+        if number == NO_ACTION {
+            return Ok("-".to_string());
+        }
         let name = library::name(self.model, number)?;
         Ok(format!("{number} {name}").trim_end().to_string())
     }

@@ -1,8 +1,8 @@
 //! Models written as words, one command to a line, for tests: rules are not judged, so that broken models can be spelled too.
 //!
 //!     site LEVELS CONDITIONS ACTIONS WEIGHT     leaf 2*L1 -L2 40      condition C1 (or N1, or a number)
-//!     test -L1 10     reward ACTION     chance ACTION CONDITION     next ACTION LEVEL     end_worth
-//!     name ACTION LETTERS     end     bytes FF 00     cut COUNT     repeat COUNT LINE
+//!     test -L1 10     forbidden     reward ACTION     chance ACTION CONDITION     next ACTION LEVEL
+//!     end_worth     name ACTION LETTERS     end     bytes FF 00     cut COUNT     repeat COUNT LINE
 //!
 //! `cut` takes bytes off the end of what is written so far.
 
@@ -64,6 +64,7 @@ fn line(model: &mut Vec<u8>, words: &[&str]) -> Result<(), String> {
         ["site", m, n, a, w] => vec![vec![code::SITE], byte(m)?, byte(n)?, action(a)?, byte(w)?],
         ["leaf", rest @ ..] => vec![vec![code::LEAF], linear(rest)?],
         ["test", rest @ ..] => vec![vec![code::TEST], linear(rest)?],
+        ["forbidden"] => vec![vec![code::FORBIDDEN]],
         ["condition", c] => vec![vec![code::CONDITION], byte(c)?],
         ["reward", a] => vec![vec![code::REWARD], action(a)?],
         ["chance", a, c] => vec![vec![code::CHANCE], action(a)?, byte(c)?],

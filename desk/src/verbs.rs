@@ -7,7 +7,7 @@ use crate::picture::{Picture, Stopped};
 use crate::refusals::{explain, Subject};
 use crate::solved::{Solved, Unsolved};
 use crate::state::{Given, State};
-use crate::widths::{LEVELS, MODEL_BYTES_MOST, NODES_MOST};
+use crate::widths::{LEVELS, MODEL_BYTES_MOST, NODES_MOST, NO_ACTION};
 use crate::{help, show, words, Failure};
 use std::io::{Read, Write};
 
@@ -246,12 +246,16 @@ fn page(_: &Solved, _: &State) -> Result<Result<Vec<u8>, Refusal>, Failure> {
 /// Places of a decimal.
 const PLACES: usize = 6;
 
-/// For each number of steps the value, exactly and as a decimal, and the action.
+/// For each number of steps the value, exactly and as a decimal, and the action; or that it is none.
 fn values(solved: &Solved, state: &State) -> Result<Vec<u8>, Refusal> {
     let mut rows = vec![["steps", "value", "decimal", "action"].map(str::to_string)];
     for steps in 1..=solved.horizon {
         let (value, action) = solved.value(steps, state)?;
-        rows.push([steps.to_string(), value.to_string(), value.decimal(PLACES), solved.action(action)?]);
+        let [exact, decimal] = match action {
+            NO_ACTION => ["none", "-"].map(str::to_string),
+            _ => [value.to_string(), value.decimal(PLACES)],
+        };
+        rows.push([steps.to_string(), exact, decimal, solved.action(action)?]);
     }
     let width = |column: usize| rows.iter().map(|row| row[column].len()).max().unwrap_or(0);
     let (value, decimal) = (width(1), width(2));

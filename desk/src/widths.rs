@@ -31,12 +31,34 @@ pub struct Form {
     /// Bytes of an action, as an operand and in the site, low byte first.
     pub action_bytes: usize,
     pub model_bytes: usize,
+    /// Whether it has the forbidden leaf; else that is an unknown byte.
+    pub forbids: bool,
 }
 
-pub static NEW: Form =
-    Form { site: code::SITE, levels: LEVELS, actions: ACTIONS, action_bytes: 2, model_bytes: MODEL_BYTES_MOST };
-pub static OLD: Form =
-    Form { site: code::OLD_SITE, levels: 4, actions: 8, action_bytes: 1, model_bytes: OLD_MODEL_BYTES_MOST };
+impl Form {
+    /// The bytes that its commands begin with.
+    pub fn codes(&self) -> impl Iterator<Item = u8> + '_ {
+        let known = |&code: &u8| self.forbids || code != code::FORBIDDEN;
+        [self.site].into_iter().chain(code::BUT_SITE.into_iter().filter(known))
+    }
+}
+
+pub static NEW: Form = Form {
+    site: code::SITE,
+    levels: LEVELS,
+    actions: ACTIONS,
+    action_bytes: 2,
+    model_bytes: MODEL_BYTES_MOST,
+    forbids: true,
+};
+pub static OLD: Form = Form {
+    site: code::OLD_SITE,
+    levels: 4,
+    actions: 8,
+    action_bytes: 1,
+    model_bytes: OLD_MODEL_BYTES_MOST,
+    forbids: false,
+};
 
 /// Words of a node: kind, a coefficient for each level, constant, high, low. A condition has its number first, a leaf its
 /// action in place of high.
@@ -47,11 +69,15 @@ pub const HIGH: usize = CONSTANT + 1;
 pub const LOW: usize = HIGH + 1;
 const _: () = assert!(LOW + 1 == NODE_WORDS);
 
-/// Kinds of nodes; any other is a test.
+/// Kinds of nodes; any other is a test. None is a leaf without a value, its other words zero.
 pub mod kind {
     pub const LEAF: i64 = 0;
     pub const CONDITION: i64 = 1;
+    pub const NONE: i64 = 3;
 }
+
+/// What a value that is none has for an action; its number is 0.
+pub const NO_ACTION: u32 = 0;
 
 /// Bytes of the answers: place and one number; the same with a name behind it.
 pub const PAIR_BYTES: usize = 8;
@@ -72,6 +98,7 @@ pub mod code {
     pub const LEAF: u8 = 0x10;
     pub const CONDITION: u8 = 0x11;
     pub const TEST: u8 = 0x12;
+    pub const FORBIDDEN: u8 = 0x13;
     pub const REWARD: u8 = 0x20;
     pub const CHANCE: u8 = 0x21;
     pub const NEXT: u8 = 0x22;
@@ -79,7 +106,7 @@ pub mod code {
     pub const NAME: u8 = 0x30;
     pub const END: u8 = 0xFF;
     /// All but the site, which the forms differ in.
-    pub const SHARED: [u8; 9] = [LEAF, CONDITION, TEST, REWARD, CHANCE, NEXT, END_WORTH, NAME, END];
+    pub const BUT_SITE: [u8; 10] = [LEAF, CONDITION, TEST, FORBIDDEN, REWARD, CHANCE, NEXT, END_WORTH, NAME, END];
 }
 
 /// The numbers of refusals.

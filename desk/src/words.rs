@@ -91,6 +91,7 @@ pub fn command(command: &Command, written: &Written) -> String {
         Command::Leaf(given) => format!("leaf {}", linear(given)),
         Command::Condition(number) => format!("condition {}", condition(*number).replace("condition ", "")),
         Command::Test(given) => format!("test {}", test(given)),
+        Command::Forbidden => "forbidden leaf".to_string(),
         Command::Reward(number) => format!("reward of {}", action(*number)),
         Command::Chance(number, chosen) => format!("chance of {} after {}", condition(*chosen), action(*number)),
         Command::Next(number, level) => format!("next L{level} after {}", action(*number)),

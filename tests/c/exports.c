@@ -306,11 +306,10 @@ static void values_early_refused(void)
 
 /* ---- plain working */
 
-static void worth_is(const model *m, uint32_t steps, int32_t level, int32_t d, uint32_t number, uint32_t place,
+static void worth_at(const model *m, uint32_t steps, struct planner_state state, uint32_t number, uint32_t place,
                      uint32_t action, uint64_t low, int64_t high)
 {
     model kept = *m;
-    struct planner_state state = {0, {level}, d};
     lent out;
     uint8_t answer[PLANNER_WORTH_BYTES];
     put(answer, place, 4);
@@ -327,6 +326,13 @@ static void worth_is(const model *m, uint32_t steps, int32_t level, int32_t d, u
         expect(!fits || holds_bytes(&out, 0, answer, sizeof answer), "a worth's answer");
         expect(memcmp(&kept, m, sizeof kept) == 0, "a worth leaves the model as it is");
     }
+}
+
+static void worth_is(const model *m, uint32_t steps, int32_t level, int32_t d, uint32_t number, uint32_t place,
+                     uint32_t action, uint64_t low, int64_t high)
+{
+    struct planner_state state = {0, {level}, d};
+    worth_at(m, steps, state, number, place, action, low, high);
 }
 
 static void worths(void)
@@ -591,12 +597,12 @@ static uint32_t list(const call *c, uint8_t *text, size_t text_len, size_t place
 }
 
 /* The plan from `place` of a text of `text_len` bytes on, with every length of `out`. */
-static void listing_at(const call *given, size_t text_len, size_t place, uint32_t number, uint32_t at)
+static void lines_at(const call *given, size_t text_len, size_t place, uint32_t number, uint32_t at, const char *lines)
 {
     call c = *given;
     lent out, text;
     uint8_t answer[PLANNER_LISTING_BYTES];
-    size_t size = number == 0 ? LISTING_BYTES : 0;
+    size_t size = number == 0 ? strlen(lines) : 0;
     put(answer, at, 4);
     put(answer + 4, size, 4);
     for (size_t len = 0; len <= PLANNER_LISTING_BYTES + 3; len++) {
@@ -607,9 +613,14 @@ static void listing_at(const call *given, size_t text_len, size_t place, uint32_
         expect(marked_beside(&out, 0, fits ? sizeof answer : 0), "no byte beside a listing's answer is written");
         expect(!fits || holds_bytes(&out, 0, answer, sizeof answer), "a listing's answer");
         expect(marked_beside(&text, number == 0 ? place : 0, fits ? size : 0), "no byte beside the text is written");
-        expect(!fits || number != 0 || holds_bytes(&text, place, LISTING, size), "the text");
+        expect(!fits || number != 0 || holds_bytes(&text, place, lines, size), "the text");
         expect(memcmp(&c, given, sizeof c) == 0, "a listing leaves model and tables as they are");
     }
+}
+
+static void listing_at(const call *given, size_t text_len, size_t place, uint32_t number, uint32_t at)
+{
+    lines_at(given, text_len, place, number, at, LISTING);
 }
 
 static void listing_is(const call *given, uint32_t number, uint32_t place)
@@ -1038,6 +1049,123 @@ static void long_conversions(void)
     free(buffer);
 }
 
+/* ---- actions that are not permitted */
+
+/* A pump that earns 1 and must not run below 0. The level is -1 next if condition 1 is yes, with weight 5 out of 10, but never
+ * while it is yes. */
+static model pump(void)
+{
+    model m = {{0}, 0};
+    command(&m, "\x02\x01\x01\x01\x00\x0a", SITE_BYTES);
+    linear(&m, 0x10, 0, 1);
+    command(&m, "\x13", 1);
+    linear(&m, 0x12, -1, 0);
+    command(&m, "\x20\x01\x00", 3);
+    linear(&m, 0x10, 0, 0);
+    linear(&m, 0x10, 0, 5);
+    command(&m, "\x11\x01\x21\x01\x00\x01", 6);
+    linear(&m, 0x10, 0, -1);
+    linear(&m, 0x10, 1, 0);
+    command(&m, "\x11\x05\x22\x01\x00\x01\xff", 7);
+    return m;
+}
+
+static const int64_t PUMP_NODES[] = {
+    0, 0,  0, 0, 0, 0, 0, 0, 0, 10,  1, 0, /* 1 */
+    3, 0,  0, 0, 0, 0, 0, 0, 0, 0,   0, 0, /* 2 */
+    2, -1, 0, 0, 0, 0, 0, 0, 0, 0,   1, 2, /* 3 */
+    0, 0,  0, 0, 0, 0, 0, 0, 0, 200, 1, 0, /* 4 */
+    2, -1, 0, 0, 0, 0, 0, 0, 0, 0,   4, 2, /* 5 */
+    1, 1,  0, 0, 0, 0, 0, 0, 0, 0,   5, 2, /* 6 */
+};
+#define PUMP_WORDS (sizeof PUMP_NODES / sizeof *PUMP_NODES)
+static const char PUMP_LISTING[] = "PLAN 1 1 1 10 2\n"
+                                   "N 1 V 0 0 0 0 0 0 0 0 10 1\nN 2 X\nN 3 L -1 0 0 0 0 0 0 0 0 1 2\n"
+                                   "N 4 V 0 0 0 0 0 0 0 0 200 1\nN 5 L -1 0 0 0 0 0 0 0 0 4 2\nN 6 B 1 5 2\n"
+                                   "S 1 3\nS 2 6\n";
+
+static call pumping(uint32_t steps, uint32_t mask, int32_t level)
+{
+    call c = {pump(), {0}, PUMP_WORDS, {3, 6}, 8, steps, {mask, {level}, 1}};
+    memcpy(c.nodes, PUMP_NODES, sizeof PUMP_NODES);
+    return c;
+}
+
+/* From the tables and by plain working. */
+static void pump_is(uint32_t steps, uint32_t mask, int32_t level, uint32_t action, uint64_t low)
+{
+    call c = pumping(steps, mask, level);
+    value_is(&c, 0, 0, action, low, 0);
+    worth_at(&c.m, steps, c.state, 0, 0, action, low, 0);
+}
+
+static void none_read(void)
+{
+    pump_is(1, 0, 0, 1, 10);
+    pump_is(2, 1, 0, 1, 200);
+    pump_is(2, 0, 0, 0, 0);
+    pump_is(1, 0, -1, 0, 0);
+    pump_is(2, 1, -1, 0, 0);
+    call c = pumping(2, 0, 0);
+    name_is(&c.m, 0, 16, 0, "");
+    lines_at(&c, ROOM, 0, 0, 0, PUMP_LISTING);
+    lines_at(&c, sizeof PUMP_LISTING + 4, 5, 0, 0, PUMP_LISTING);
+    lines_at(&c, sizeof PUMP_LISTING - 2, 0, 17, 0, "");
+    page_at(&c, ROOM, 7, 0, 0, two_lines("1", "", "none", ""));
+    c.state.level[0] = -1;
+    page_at(&c, PLANNER_PAGE_TEXT_BYTES(2), 0, 0, 0, two_lines("none", "", "none", ""));
+    c.state.level[0] = 0;
+    c.state.mask = 1;
+    page_at(&c, ROOM, 0, 0, 0, two_lines("1", "", "2", ""));
+}
+
+/* A word of its row that is not zero, or a kind beyond; where no walk meets it, only the listing does. */
+static void none_refused(void)
+{
+    for (int i = 0; i < NODE; i++) {
+        call c = pumping(2, 0, 0);
+        c.nodes[1 * NODE + i] = i == 0 ? 4 : 1;
+        value_refused(&c, 14, 0);
+        listing_is(&c, 14, 0);
+        page_is(&c, 14, 0);
+        c.nodes[1 * NODE + i] = i == 0 ? -1 : INT64_MIN;
+        value_refused(&c, 14, 0);
+        c.state.mask = 1;
+        value_is(&c, 0, 0, 1, 200, 0);
+        listing_is(&c, 14, 0);
+    }
+}
+
+/* Allowed in rewards only, 5 at the 33rd entry, and no part of the old form. */
+static void forbidding_refused(void)
+{
+    static const char *const taken[] = {"\x21\x01\x00\x01", "\x22\x01\x00\x01", "\x23"};
+    static const size_t bytes[] = {4, 4, 1};
+    model m = pump();
+    to_old_refused(&m, 20, 0);
+    command(&m, "\xff", 1);
+    model_refused(&m, 8, (uint32_t)m.len - 1);
+    for (int i = 0; i < 3; i++) {
+        m.len = 0;
+        command(&m, "\x02\x01\x01\x01\x00\x0a\x13", SITE_BYTES + 1);
+        command(&m, taken[i], bytes[i]);
+        command(&m, "\xff", 1);
+        model_refused(&m, 4, SITE_BYTES + 1);
+    }
+    m.len = SITE_BYTES + 1;
+    command(&m, "\x20\x01\x00\xff", 4);
+    model_refused(&m, 7, SITE_BYTES + 4);
+    m.bytes[0] = 0x13;
+    model_refused(&m, 1, 0);
+    m.bytes[0] = 0x02;
+    m.len = SITE_BYTES;
+    for (int i = 0; i < 33; i++)
+        command(&m, "\x13", 1);
+    model_refused(&m, 5, SITE_BYTES + 32);
+    m.len--;
+    model_refused(&m, 2, SITE_BYTES + 32);
+}
+
 int main(void)
 {
     values_read();
@@ -1058,6 +1186,9 @@ int main(void)
     conversions();
     conversions_refused();
     long_conversions();
+    none_read();
+    none_refused();
+    forbidding_refused();
     printf("exports: %u checks\n", checks);
     return 0;
 }

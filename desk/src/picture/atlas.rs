@@ -37,7 +37,8 @@ pub fn draw(frame: &Frame, maps: &[Map], range: &[(Fraction, Fraction); 2]) -> S
     let columns = maps.len().clamp(1, 3);
     let wide = (LEFT + ACROSS * columns as f64).max(560.0);
     let mut body = text(LEFT, 30.0, "start", "font-size=\"15\" font-weight=\"bold\"", &frame.heading());
-    let (legend, high) = legend(&frame.actions, LEFT, 46.0, wide - 24.0);
+    let has_none = maps.iter().any(|map| map.regions.iter().any(Region::is_none));
+    let (legend, high) = legend(&frame.legend(has_none), LEFT, 46.0, wide - 24.0);
     body += &legend;
     let begin = 46.0 + high + 34.0;
     for (i, map) in maps.iter().enumerate() {
@@ -81,7 +82,7 @@ fn draw_region(frame: &Frame, map: &Map, region: &Region, sheet: &Sheet) -> Stri
     }
     let mean = |part: fn(&(f64, f64)) -> f64| points.iter().map(part).sum::<f64>() / points.len() as f64;
     let style = format!("font-size=\"12\" fill=\"{}\" pointer-events=\"none\"", on_colour(region.action));
-    let number = region.action.to_string();
+    let number = if region.is_none() { "none".to_string() } else { region.action.to_string() };
     body + &text(mean(|point| point.0), mean(|point| point.1) + 4.0, "middle", &style, &number)
 }
 

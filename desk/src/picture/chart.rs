@@ -37,9 +37,10 @@ impl Panel<'_> {
     }
 }
 
-/// The least and the greatest value at the ends of the pieces, apart at least by one.
+/// The least and the greatest value at the ends of the pieces that have one, apart at least by one.
 fn values(line: &Line) -> (Fraction, Fraction) {
-    let ends = line.pieces.iter().flat_map(|piece| [piece.value(&piece.from.at), piece.value(&piece.to.at)]);
+    let valued = line.pieces.iter().filter(|piece| !piece.is_none());
+    let ends = valued.flat_map(|piece| [piece.value(&piece.from.at), piece.value(&piece.to.at)]);
     let values: Vec<Fraction> = ends.collect();
     let (least, most) = (values.iter().min().cloned(), values.iter().max().cloned());
     let (least, most) = (least.unwrap_or(Fraction::from(0)), most.unwrap_or(Fraction::from(1)));
@@ -52,7 +53,8 @@ fn values(line: &Line) -> (Fraction, Fraction) {
 
 pub fn draw(frame: &Frame, lines: &[Line], range: &(Fraction, Fraction)) -> String {
     let mut body = text(LEFT, 30.0, "start", "font-size=\"15\" font-weight=\"bold\"", &frame.heading());
-    let (legend, high) = legend(&frame.actions, LEFT, 46.0, RIGHT);
+    let has_none = lines.iter().any(|line| line.pieces.iter().any(Piece::is_none));
+    let (legend, high) = legend(&frame.legend(has_none), LEFT, 46.0, RIGHT);
     body += &legend;
     let (mut top, mut crowded) = (46.0 + high + 12.0, false);
     for line in lines {
@@ -143,9 +145,12 @@ fn draw_piece(frame: &Frame, level: usize, piece: &Piece, panel: &Panel) -> Stri
     let shade = format!("fill=\"{fill}\" fill-opacity=\"0.10\"");
     body += &format!("<rect x=\"{x}\" y=\"{}\" width=\"{wide}\" height=\"{PLOT}\" {shade}/>\n", px(panel.top));
     body += &format!("<rect x=\"{x}\" y=\"{}\" width=\"{wide}\" height=\"{STRIP}\" fill=\"{fill}\"/>\n", px(strip));
-    body += &segment((from, begin), (to, end), &fill, 2.6);
+    if !piece.is_none() {
+        body += &segment((from, begin), (to, end), &fill, 2.6);
+    }
     let number = piece.action.to_string();
-    let fitting = [action.as_str(), &number].into_iter().find(|words| width(words, 11.0) + 12.0 < to - from);
+    let labels = if piece.is_none() { ["none", "-"] } else { [action.as_str(), &number] };
+    let fitting = labels.into_iter().find(|words| width(words, 11.0) + 12.0 < to - from);
     if let Some(words) = fitting {
         let style = format!("font-size=\"11\" fill=\"{}\"", on_colour(piece.action));
         body += &text((from + to) / 2.0, strip + 14.0, "middle", &style, words);
@@ -153,7 +158,8 @@ fn draw_piece(frame: &Frame, level: usize, piece: &Piece, panel: &Panel) -> Stri
     body + "</g>\n"
 }
 
-/// At a break point: a full dot where it belongs, an open one at the other side's limit if that differs, and a bracket.
+/// At a break point: a full dot where it belongs, an open one at the other side's limit if that differs, and a bracket. None
+/// has no dot.
 fn dots(left: &Piece, right: &Piece, panel: &Panel) -> String {
     let at = &right.from.at;
     let (x, owner, other) = if right.from.closed { (panel.x(at), right, left) } else { (panel.x(at), left, right) };
@@ -163,10 +169,12 @@ fn dots(left: &Piece, right: &Piece, panel: &Panel) -> String {
         format!("<circle cx=\"{x}\" cy=\"{y}\" r=\"3.6\" fill=\"{fill}\" stroke=\"{stroke}\" stroke-width=\"1.6\"/>\n")
     };
     let mut body = String::new();
-    if limit != mine {
+    if !other.is_none() && (owner.is_none() || limit != mine) {
         body += &circle(&limit, other.action, "#FFFFFF");
     }
-    body += &circle(&mine, owner.action, &colour(owner.action));
+    if !owner.is_none() {
+        body += &circle(&mine, owner.action, &colour(owner.action));
+    }
     let (top, bottom) = (px(panel.strip() - 2.0), px(panel.strip() + STRIP + 2.0));
     let tip = px(if right.from.closed { x + 5.0 } else { x - 5.0 });
     let x = px(x);

@@ -5,6 +5,7 @@ use crate::fraction::Fraction;
 use crate::library::Refusal;
 use crate::solved::Solved;
 use crate::state::State;
+use crate::widths::NO_ACTION;
 
 /// An end of a piece, and whether it belongs to the piece.
 #[derive(Clone, Debug, PartialEq, Eq)]
@@ -13,7 +14,7 @@ pub struct End {
     pub closed: bool,
 }
 
-/// One action and one formula for the value: slope * level + constant.
+/// One action and one formula for the value: slope * level + constant. None has no action, and zeros.
 #[derive(Clone, Debug, PartialEq, Eq)]
 pub struct Piece {
     pub from: End,
@@ -36,7 +37,14 @@ impl Piece {
         format!("{} {} L{} {} {}", self.from.at, sign(&self.from), level + 1, sign(&self.to), self.to.at)
     }
 
+    pub fn is_none(&self) -> bool {
+        self.action == NO_ACTION
+    }
+
     pub fn formula(&self, level: usize) -> String {
+        if self.is_none() {
+            return "none".to_string();
+        }
         formula(&[(&self.slope, level)], &self.constant)
     }
 

@@ -5,6 +5,7 @@ use crate::fraction::Fraction;
 use crate::solved::Solved;
 use crate::state::State;
 use crate::whole::Whole;
+use crate::widths::NO_ACTION;
 use std::cmp::Ordering;
 
 /// The line a*x + b*y + c = 0, in whole numbers.
@@ -112,7 +113,7 @@ impl Polygon {
     }
 }
 
-/// A part of the map with one action and one formula for the value.
+/// A part of the map with one action and one formula for the value; none has no action, and zeros.
 pub struct Region {
     pub corners: Vec<[Fraction; 2]>,
     pub action: u32,
@@ -174,7 +175,14 @@ impl Region {
         &(&(&self.slopes[0] * &at[0]) + &(&self.slopes[1] * &at[1])) + &self.constant
     }
 
+    pub fn is_none(&self) -> bool {
+        self.action == NO_ACTION
+    }
+
     pub fn formula(&self, levels: [usize; 2]) -> String {
+        if self.is_none() {
+            return "none".to_string();
+        }
         formula(&[(&self.slopes[0], levels[0]), (&self.slopes[1], levels[1])], &self.constant)
     }
 }

@@ -14,7 +14,7 @@ use crate::model::Site;
 use crate::solved::Solved;
 use crate::state::Given;
 use crate::whole::Whole;
-use crate::widths::{CONDITIONS, LEVELS};
+use crate::widths::{CONDITIONS, LEVELS, NO_ACTION};
 use crate::words::count;
 use line::Line;
 use map::Map;
@@ -34,8 +34,17 @@ impl Frame {
     }
 
     fn name(&self, action: u32) -> String {
+        if action == NO_ACTION {
+            return "-".to_string();
+        }
         let named = self.actions.iter().find(|(number, _)| *number == action);
         named.map_or(action.to_string(), |(_, name)| name.clone())
+    }
+
+    /// What the colours stand for: the actions, and none where some of the drawing is.
+    fn legend(&self, has_none: bool) -> Vec<(u32, String)> {
+        let none = has_none.then(|| (NO_ACTION, "no value".to_string()));
+        self.actions.iter().cloned().chain(none).collect()
     }
 }
 

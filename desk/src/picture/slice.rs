@@ -34,7 +34,8 @@ impl Fixed {
         let words = &solved.nodes[NODE_WORDS * (number as usize - 1)..][..NODE_WORDS];
         let (high, low) = (words[HIGH] as u32, words[LOW] as u32);
         match words[KIND] {
-            kind::LEAF => Node::Leaf { action: high, words },
+            // None has zeros alone, and so `NO_ACTION`.
+            kind::LEAF | kind::NONE => Node::Leaf { action: high, words },
             kind::CONDITION if self.mask >> (words[COEFFICIENTS] - 1) & 1 == 1 => Node::Decided(high),
             kind::CONDITION => Node::Decided(low),
             _ => Node::Test { words, high, low },

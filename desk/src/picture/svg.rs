@@ -2,6 +2,7 @@
 
 use crate::fraction::Fraction;
 use crate::whole::Whole;
+use crate::widths::NO_ACTION;
 
 /// Colours that stay apart for every common kind of colour blindness (Okabe and Ito's, black last as grey), and whether
 /// white can be read on them.
@@ -20,6 +21,9 @@ pub const INK: &str = "#222222";
 pub const FAINT: &str = "#DDDDDD";
 
 fn of(action: u32) -> (String, bool) {
+    if action == NO_ACTION {
+        return (FAINT.to_string(), false);
+    }
     let place = (action as usize).saturating_sub(1);
     COLOURS.get(place).map_or_else(|| further(place), |&(colour, dark)| (colour.to_string(), dark))
 }
@@ -143,5 +147,6 @@ mod tests {
         let colours: BTreeSet<String> = (1..=ACTIONS as u32).map(colour).collect();
         assert_eq!(colours.len(), ACTIONS);
         assert!(colours.iter().all(|colour| colour.len() == 7));
+        assert!(!colours.contains(&colour(NO_ACTION)));
     }
 }

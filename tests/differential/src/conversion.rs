@@ -3,7 +3,7 @@
 
 use crate::{bytes, cost, expected, out, planner, state, Calls};
 use models::{
-    chain, damaged_in, deep, mixed, near_limit, of_length, of_old_length, old_form, pond, pond_kept, rain,
+    chain, damaged_in, deep, dry_inlet, mixed, near_limit, of_length, of_old_length, old_form, pond, pond_kept, rain,
     rain_tanks_kept, settings, staircases, steep_end, Rng, MODEL_BYTES, OLD, OLD_BYTES,
 };
 use reference::widths::{NODE_WORDS, STAGES, WORK_WORDS};
@@ -164,6 +164,7 @@ pub fn large(calls: &mut Calls, rng: &mut Rng) {
         pond_kept(),
         rain(),
         steep_end(),
+        dry_inlet(),
         staircases(),
         near_limit(),
         rain_tanks_kept(),

@@ -12,8 +12,8 @@ mod planner;
 mod speed;
 
 use models::{
-    chain, damaged, deep, mixed, near_limit, of_length, pond, pond_kept, rain, rain_tanks_kept, random, releases,
-    reservoirs, settings, staircases, steep_end, Rng, MODEL_BYTES,
+    chain, damaged, deep, dry_inlet, mixed, near_limit, of_length, pond, pond_kept, rain, rain_tanks_kept, random,
+    releases, reservoirs, settings, staircases, steep_end, wet_reservoirs, Rng, MODEL_BYTES,
 };
 use reference::widths::{CONDITIONS, LEVELS, NODES_MOST, NODE_WORDS, NUMBERS, STAGES, WORK_WORDS};
 use reference::{solve_with_room, validate, with_deep_stack, Outcome, State};
@@ -29,6 +29,8 @@ differential time MODEL HORIZON         the time of both to solve the model of a
 /// What a call was made with, kept for the report of a difference.
 struct Calls {
     by_number: [u64; 21],
+    /// Values and worths that were none.
+    none: u64,
     model: Vec<u8>,
     round: u64,
 }
@@ -54,6 +56,12 @@ impl Calls {
 
     fn count(&mut self, number: u32) {
         self.by_number[number as usize] += 1;
+    }
+
+    /// The same of a value or a worth; one without an action is none.
+    fn count_reading(&mut self, number: u32, out: &[u8]) {
+        self.count(number);
+        self.none += u64::from(number == 0 && out[4..8] == [0; 4]);
     }
 }
 
@@ -117,7 +125,7 @@ fn compare_state(calls: &mut Calls, rng: &mut Rng, tables: &Tables, steps: u32, 
     let our_number = expected::valued(&model, &tables.nodes, &tables.stages, steps, state, &mut ours);
     calls.check("value", "number", &number, &our_number, &arguments);
     calls.check("value", "answer", &from_tables, &ours, &arguments);
-    calls.count(number);
+    calls.count_reading(number, &from_tables);
     if cost(&model, steps) > 20_000 {
         return;
     }
@@ -127,7 +135,7 @@ fn compare_state(calls: &mut Calls, rng: &mut Rng, tables: &Tables, steps: u32, 
     let our_number = expected::worked(&model, steps, state, &mut ours);
     calls.check("worth", "number", &other_number, &our_number, &arguments);
     calls.check("worth", "answer", &from_model, &ours, &arguments);
-    calls.count(other_number);
+    calls.count_reading(other_number, &from_model);
     if is_solved && number == 0 && other_number == 0 {
         calls.check("value and worth", "answer", &from_tables[..24].to_vec(), &from_model[..24].to_vec(), &arguments);
     }
@@ -263,7 +271,7 @@ fn compare_page(calls: &mut Calls, rng: &mut Rng, tables: &Tables, horizon: u32)
 }
 
 /// Tables that no solve left: a leaf with the largest numbers, and states with the largest numerators; values of -1/2,
-/// 0 and whole ones.
+/// 0 and whole ones; none.
 fn compare_foreign_pages(calls: &mut Calls, rng: &mut Rng) {
     let (m, n) = site(&calls.model);
     let limit: i64 = (1 << 62) - 1;
@@ -274,6 +282,9 @@ fn compare_foreign_pages(calls: &mut Calls, rng: &mut Rng) {
         let mut row = [0; NODE_WORDS];
         row[1..=NUMBERS].fill_with(&mut number);
         row[NUMBERS + 1] = 1;
+        if rng.once_in(4) {
+            row = none_row(rng);
+        }
         let tables = Tables { nodes: row.to_vec(), stages: vec![1; STAGES], work: Vec::new() };
         let mut numerator = || rng.pick(&[i32::MIN, i32::MAX, i32::MIN, i32::MAX, 0, 1, -1, 7]);
         let nums = std::array::from_fn(|i| if i < m { numerator() } else { 0 });
@@ -302,6 +313,16 @@ fn any_horizon(rng: &mut Rng) -> u32 {
     }
 }
 
+/// The row of none: zeros behind its kind. Half of them have another word too, which is a cause for 14.
+fn none_row(rng: &mut Rng) -> [i64; NODE_WORDS] {
+    let mut row = [0; NODE_WORDS];
+    row[0] = 3;
+    if rng.once_in(2) {
+        row[1 + rng.below(NODE_WORDS - 1)] = rng.pick(&[1, 1, -1, 2, i64::MIN, i64::MAX]);
+    }
+    row
+}
+
 /// Changes a few words of solved tables, mostly to what row 14 or 15 is about.
 fn damage(rng: &mut Rng, tables: &mut Tables) {
     let rows = tables.stages.iter().max().map_or(1, |&rows| rows.max(1)) as usize;
@@ -317,6 +338,12 @@ fn damage(rng: &mut Rng, tables: &mut Tables) {
                 tables.stages[stage] = rng.pick(&[0, 1, rows as u32, rows as u32 + 1, u32::MAX]);
             }
             1 => tables.nodes.truncate(NODE_WORDS * rows - rng.below(NODE_WORDS + 1)),
+            2 | 3 => {
+                let words = none_row(rng);
+                if let Some(row) = tables.nodes.get_mut(NODE_WORDS * row..NODE_WORDS * (row + 1)) {
+                    row.copy_from_slice(&words);
+                }
+            }
             _ => {
                 if let Some(place) = tables.nodes.get_mut(NODE_WORDS * row + rng.below(NODE_WORDS)) {
                     *place = word;
@@ -449,6 +476,8 @@ fn large(calls: &mut Calls) {
         ("near_limit", near_limit(), 7),
         ("releases", releases(&[10, 15, 20, 25]), 8),
         ("reservoirs", reservoirs(), 8),
+        ("dry_inlet", dry_inlet(), 8),
+        ("wet_reservoirs", wet_reservoirs(), 8),
         ("deep", deep(), 4),
         ("seven tanks", chain(7), 8),
         ("eight tanks", chain(8), 6),
@@ -510,7 +539,7 @@ fn rounds(calls: &mut Calls, count: u64, seed: u64, mut round: impl FnMut(&mut C
 }
 
 fn compare(mode: &str, count: u64, seed: u64) {
-    let mut calls = Calls { by_number: [0; 21], model: Vec::new(), round: 0 };
+    let mut calls = Calls { by_number: [0; 21], none: 0, model: Vec::new(), round: 0 };
     let start = Instant::now();
     let (node_words, work_words) = (NODE_WORDS * 2_000 + 3, WORK_WORDS * 2_000 + 5);
     let mut lent = Tables::full_of_anything(&mut Rng(seed), node_words, STAGES, work_words);
@@ -532,7 +561,7 @@ fn compare(mode: &str, count: u64, seed: u64) {
     println!("{mode}: {total} calls of {library}, all as expected, seed {seed}, {time:.1} s");
     let numbers: Vec<String> =
         calls.by_number.iter().enumerate().map(|(number, count)| format!("{number}:{count}")).collect();
-    println!("by number {}", numbers.join(" "));
+    println!("by number {}; none was read {} times", numbers.join(" "), calls.none);
 }
 
 fn run(args: &[String]) {

@@ -1,9 +1,15 @@
 //! Domains of the papers, as far as whole numbers express them, and ponds and chains of tanks of any size. A loss of a
-//! million stands for what the papers forbid.
+//! million stands for what the papers forbid, but in `wet_reservoirs`.
 
 use crate::{Writer, LEVELS};
 
-const FORBIDDEN: i32 = -1_000_000;
+fn loss(w: &mut Writer) {
+    w.leaf([], -1_000_000);
+}
+
+fn nothing(w: &mut Writer) {
+    w.leaf([], 0);
+}
 
 /// The pond with several releases: each pays a little less for its water than the one before.
 pub fn releases(amounts: &[i32]) -> Vec<u8> {
@@ -25,12 +31,13 @@ fn between<const N: usize>(
     w: &mut Writer,
     level: [i32; N],
     [least, most]: [i32; 2],
-    elsewhere: i32,
+    elsewhere: fn(&mut Writer),
     inside: impl FnOnce(&mut Writer),
 ) {
-    w.leaf([], elsewhere);
+    elsewhere(w);
     inside(w);
-    w.leaf([], elsewhere).test(level, -most).test(level, -least);
+    elsewhere(w);
+    w.test(level, -most).test(level, -least);
 }
 
 /// Inventory control of one item (document 001), twenty times its rewards: nothing is ordered, or a multiple of an equal
@@ -51,7 +58,7 @@ pub fn inventory(orders: u16, known: bool) -> Vec<u8> {
         }
         by_demand(&mut w, &|w, demand| _ = w.leaf([1], amount - demand));
         w.next(action, 1);
-        between(&mut w, [1], [0, 500], FORBIDDEN, |w| {
+        between(&mut w, [1], [0, 500], loss, |w| {
             by_demand(w, &|w, demand| {
                 w.leaf([19], -2 * amount).leaf([-1], 20 * demand - 2 * amount);
                 w.test([1], -demand);
@@ -68,9 +75,9 @@ pub fn rover() -> Vec<u8> {
     let mut w = Writer::site(1, 1, 2, 1);
     for (action, distance) in [(1, -10), (2, 10)] {
         w.leaf([1], distance).next(action, 1).leaf([], 1);
-        between(&mut w, [1], [-2, 2], 0, |w| _ = w.leaf([], 1));
+        between(&mut w, [1], [-2, 2], nothing, |w| _ = w.leaf([], 1));
         w.condition(1).chance(action, 1).leaf([], 0);
-        between(&mut w, [1], [-2, 2], 0, |w| {
+        between(&mut w, [1], [-2, 2], nothing, |w| {
             w.leaf([2], 4).leaf([-2], 4).test([1], 0);
         });
         w.condition(1).reward(action);
@@ -80,12 +87,21 @@ pub fn rover() -> Vec<u8> {
 
 /// Two reservoirs (document 001): no drain for one unit of time, or a drain of the second into the first for one or two.
 pub fn reservoirs() -> Vec<u8> {
+    reservoirs_that(loss)
+}
+
+/// The same, where what the paper forbids is forbidden.
+pub fn wet_reservoirs() -> Vec<u8> {
+    reservoirs_that(|w| _ = w.forbidden())
+}
+
+fn reservoirs_that(forbid: fn(&mut Writer)) -> Vec<u8> {
     let mut w = Writer::site(2, 0, 3, 1);
     for (action, time, drains) in [(1, 1, 0), (2, 1, 1), (3, 2, 1)] {
         let (first, second) = ((-300 + 500 * drains) * time, (400 - 500 * drains) * time);
         w.leaf([1], first).next(action, 1).leaf([0, 1], second).next(action, 2);
-        between(&mut w, [1], [50 - first, 4500 - first], FORBIDDEN, |w| {
-            between(w, [0, 1], [50 - second, 4500 - second], FORBIDDEN, |w| _ = w.leaf([], time * drains));
+        between(&mut w, [1], [50 - first, 4500 - first], forbid, |w| {
+            between(w, [0, 1], [50 - second, 4500 - second], forbid, |w| _ = w.leaf([], time * drains));
         });
         w.reward(action);
     }

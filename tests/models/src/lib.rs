@@ -1,11 +1,13 @@
 //! Models for the tests, as bytes.
 
 mod domains;
+mod forbidding;
 mod large;
 mod old;
 mod random;
 
-pub use domains::{chain, inventory, releases, reservoirs, rover};
+pub use domains::{chain, inventory, releases, reservoirs, rover, wet_reservoirs};
+pub use forbidding::forbidding;
 pub use large::{
     deep, long_listing, mixed, near_limit, of_length, of_old_length, rain_tanks_kept, settings, staircases,
 };
@@ -54,6 +56,10 @@ impl Writer {
 
     pub fn test<const N: usize>(&mut self, coefficients: [i32; N], constant: i32) -> &mut Self {
         self.linear(0x12, coefficients, constant)
+    }
+
+    pub fn forbidden(&mut self) -> &mut Self {
+        self.command(&[0x13])
     }
 
     pub fn reward(&mut self, action: u16) -> &mut Self {
@@ -134,6 +140,19 @@ fn pond_commands() -> Writer {
     w.leaf([1], -10).leaf([1], 0).test([-1], 10).next(2, 1);
     w.name(1, "Hold").name(2, "Release");
     w
+}
+
+/// Two pumps, one of which runs in each step, and neither on a dry inlet: it is forbidden to pump more than there is. An
+/// inflow of 10 comes with a chance of one half, and goes on for sure. At 10 two steps have no value without it.
+pub fn dry_inlet() -> Vec<u8> {
+    let mut w = Writer::site(1, 1, 2, 2);
+    for (action, amount, earned) in [(1, 10, 20), (2, 20, 50)] {
+        w.leaf([], earned).forbidden().test([-1], amount).reward(action);
+        w.leaf([], 2).leaf([], 1).condition(1).chance(action, 1);
+        w.leaf([1], 10 - amount).leaf([1], -amount).condition(5).next(action, 1);
+    }
+    w.name(1, "Slow").name(2, "Fast");
+    w.end()
 }
 
 pub fn rain() -> Vec<u8> {

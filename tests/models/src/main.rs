@@ -1,8 +1,9 @@
 //! Writes the models to a folder, and some random ones: `models FOLDER [COUNT [SEED]]`.
 
 use models::{
-    chain, damaged, deep, long_listing, mixed, near_limit, of_length, of_old_length, old_form, pond, pond_kept, rain,
-    rain_tanks_kept, random, settings, staircases, steep_end, Rng, MODEL_BYTES, OLD_BYTES,
+    chain, damaged, deep, dry_inlet, long_listing, mixed, near_limit, of_length, of_old_length, old_form, pond,
+    pond_kept, rain, rain_tanks_kept, random, settings, staircases, steep_end, wet_reservoirs, Rng, MODEL_BYTES,
+    OLD_BYTES,
 };
 use std::path::Path;
 
@@ -19,6 +20,8 @@ fn main() -> std::io::Result<()> {
         ("pond_kept", pond_kept()),
         ("rain", rain()),
         ("steep_end", steep_end()),
+        ("dry_inlet", dry_inlet()),
+        ("wet_reservoirs", wet_reservoirs()),
         ("staircases", staircases()),
         ("near_limit", near_limit()),
         ("rain_tanks_kept", rain_tanks_kept()),

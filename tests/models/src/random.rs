@@ -1,5 +1,6 @@
 //! Random models from a seed, valid and damaged.
 
+use crate::forbidding::forbidding;
 use crate::{Form, Writer, ACTIONS, LEVELS, NEW, SITE_BYTES};
 
 /// A source of numbers: splitmix64.
@@ -90,10 +91,21 @@ fn at_limits(rng: &mut Rng) -> Vec<u8> {
     writer.end()
 }
 
-/// A valid model, except that now and then a long chain of leaves outgrows the stack and that one end worth in eight is
-/// at fault. A third of the models have an end worth. It comes from a source of its own: the rest of the model is what
-/// the seed gives without it.
+/// A valid model, except that now and then a long chain of leaves outgrows the stack, that one end worth in eight is at
+/// fault, and one model in eight that forbids. A third of the models have an end worth, a quarter forbid something. Both
+/// come from sources of their own: the rest of the model is what the seed gives without them.
 pub fn random(rng: &mut Rng) -> Vec<u8> {
+    let mut own = Rng(Rng(rng.0 ^ 0x13).word());
+    let model = permitting(rng);
+    if own.once_in(4) {
+        forbidding(&mut own, &model)
+    } else {
+        model
+    }
+}
+
+/// A model without command 13.
+fn permitting(rng: &mut Rng) -> Vec<u8> {
     let mut own = Rng(Rng(rng.0 ^ 0x23).word());
     if own.once_in(12) {
         rng.word();
@@ -310,7 +322,7 @@ fn width(form: &Form, code: u8) -> usize {
         0x20 => 1 + form.action,
         0x21 | 0x22 => 2 + form.action,
         0x30 => 17 + form.action,
-        _ => 1, // 23 and FF, and unknown bytes
+        _ => 1, // 13, 23 and FF, and unknown bytes
     }
 }
 
@@ -329,7 +341,7 @@ fn commands_in(form: &Form, model: &[u8]) -> Vec<usize> {
     offsets
 }
 
-/// The commands' bytes, and four that no command has, the other form's site among them.
+/// The commands' bytes, and three that no command has, the other form's site among them.
 const CODES: [u8; 14] = [0x00, 0x01, 0x02, 0x10, 0x11, 0x12, 0x13, 0x20, 0x21, 0x22, 0x23, 0x24, 0x30, 0xFF];
 
 /// Another action, which needs its high byte, if it has one: none, beyond the site's or beyond all, or the same low byte.

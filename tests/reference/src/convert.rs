@@ -31,7 +31,8 @@ fn written<F: Form, T: Form>(bytes: &[u8]) -> Vec<u8> {
 fn converted<F: Form, T: Form>(bytes: &[u8], room: usize) -> Result<Vec<u8>, Refusal> {
     let model: Model<NoTrees> = open_as::<F, NoTrees>(bytes)?;
     let written = written::<F, T>(bytes);
-    if model.site.m > T::LEVELS || model.site.a > T::ACTIONS || written.len() > T::MODEL_BYTES {
+    let fits = model.site.m <= T::LEVELS && model.site.a <= T::ACTIONS && (T::FORBIDS || !model.forbids);
+    if !fits || written.len() > T::MODEL_BYTES {
         return Refusal::of(20);
     }
     if written.len() > room {

@@ -20,6 +20,8 @@ pub enum Kind {
     /// The condition's number is the first of the label's.
     Condition = 1,
     Test,
+    /// A leaf that is forbidden, or without a value (K8): its numbers are zero.
+    None,
     Leaf,
 }
 
@@ -30,7 +32,7 @@ pub struct Label {
     pub nums: Numbers,
 }
 
-/// A node; equal labels are one label, so that it is three numbers. A leaf has its action in place of `high`.
+/// A node; equal labels are one label, so that it is three numbers. A leaf has its action in place of `high`, or none.
 #[derive(Clone, Copy, Debug, PartialEq, Eq)]
 pub struct Node {
     label: LabelId,
@@ -102,6 +104,8 @@ impl Effort {
 
 /// A leaf's `low`.
 const NO_BRANCH: Id = Id::MAX;
+/// The `high` of the leaf none, which is never numbered and equals no other one (K8.2).
+const NO_ACTION: Id = Id::MAX;
 /// Where a node goes that is not needed.
 const GONE: Id = Id::MAX;
 /// Labels that no node has are dropped once there are so many for each node, and some.
@@ -165,6 +169,10 @@ impl Label {
 impl Node {
     fn is_leaf(&self) -> bool {
         self.low == NO_BRANCH
+    }
+
+    fn is_none(&self) -> bool {
+        self.high == NO_ACTION
     }
 
     fn hash(&self) -> u32 {
@@ -310,6 +318,11 @@ impl Store {
         self.make(Node { label, high: action, low: NO_BRANCH })
     }
 
+    pub fn none(&mut self) -> Result<Id, Fault> {
+        let label = self.label_id(Label { kind: Kind::None, nums: [0; NUMBERS] });
+        self.make(Node { label, high: NO_ACTION, low: NO_BRANCH })
+    }
+
     /// The low branch of a test, or its own low side while it begins with a parallel test.
     fn replaced(&self, label: LabelId, mut low: Id) -> Id {
         let test = &self.labels[label as usize];
@@ -392,7 +405,11 @@ impl Store {
         self.once(rule, [f, g, 0], |s| {
             let (x, y) = (s.node(f), s.node(g));
             if x.is_leaf() && y.is_leaf() {
-                return s.pair_of_leaves(rule, f, g);
+                return if x.is_none() || y.is_none() {
+                    s.pair_with_none(rule, f, g)
+                } else {
+                    s.pair_of_leaves(rule, f, g)
+                };
             }
             let root = s.first(x.label, y.label);
             let (f, g) = (s.sides(f, root), s.sides(g, root));
@@ -411,6 +428,14 @@ impl Store {
         self.leaf(nums, 0)
     }
 
+    /// A sum with none is none, and so is a product, unless the weight is 0: that is the leaf 0 (K8.3).
+    fn pair_with_none(&mut self, rule: Rule, f: Id, g: Id) -> Result<Id, Fault> {
+        match rule {
+            Rule::Product if !self.node(f).is_none() && self.label(f).nums[CONSTANT] == 0 => self.leaf([0; NUMBERS], 0),
+            _ => Ok(if self.node(f).is_none() { f } else { g }),
+        }
+    }
+
     pub fn sum(&mut self, f: Id, g: Id) -> Result<Id, Fault> {
         self.pair(Rule::Sum, f, g)
     }
@@ -423,7 +448,10 @@ impl Store {
     pub fn best(&mut self, f: Id, g: Id) -> Result<Id, Fault> {
         let (x, y) = (self.node(f), self.node(g));
         if x.is_leaf() && y.is_leaf() {
-            return self.best_of_leaves(f, g);
+            return match (x.is_none(), y.is_none()) {
+                (false, false) => self.best_of_leaves(f, g),
+                (is_none, _) => Ok(if is_none { g } else { f }), // no d is worked out
+            };
         }
         self.once(Rule::Best, [f, g, 0], |s| {
             let root = s.first(x.label, y.label);
@@ -450,7 +478,7 @@ impl Store {
         self.once(rule, [f, number as u32, (number >> 32) as u32], |s| {
             let node = s.node(f);
             if node.is_leaf() {
-                return s.act_on_leaf(rule, number, f);
+                return if node.is_none() { s.act_on_none(rule, number, f) } else { s.act_on_leaf(rule, number, f) };
             }
             let high = s.act(rule, number, node.high)?;
             let low = s.act(rule, number, node.low)?;
@@ -467,6 +495,14 @@ impl Store {
             _ => return self.leaf(nums, number as Id),
         }
         self.leaf(nums, 0)
+    }
+
+    /// None stays, but 0 × none is 0.
+    fn act_on_none(&mut self, rule: Rule, number: i64, f: Id) -> Result<Id, Fault> {
+        match rule {
+            Rule::Scale if number == 0 => self.leaf([0; NUMBERS], 0),
+            _ => Ok(f),
+        }
     }
 
     pub fn scale(&mut self, number: i64, f: Id) -> Result<Id, Fault> {
@@ -519,6 +555,9 @@ impl Store {
             let (node, Label { kind, nums }) = (s.node(f), *s.label(f));
             if kind == Kind::Leaf {
                 return s.linear(&nums, nexts);
+            }
+            if kind == Kind::None {
+                return Ok(f);
             }
             if kind == Kind::Condition {
                 let high = s.substitute(node.high, nexts)?;

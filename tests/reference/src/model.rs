@@ -20,6 +20,7 @@ impl Refusal {
 pub const LEAF: u8 = 0x10;
 const CONDITION: u8 = 0x11;
 pub const TEST: u8 = 0x12;
+const FORBIDDEN: u8 = 0x13;
 const REWARD: u8 = 0x20;
 const CHANCE: u8 = 0x21;
 const NEXT: u8 = 0x22;
@@ -40,6 +41,7 @@ pub struct Site {
 #[derive(Clone, Copy, Debug)]
 pub enum Tree {
     Leaf([i64; NUMBERS]),
+    Forbidden,
     Condition { number: u8, high: u32, low: u32 },
     Test { linear: [i64; NUMBERS], high: u32, low: u32 },
 }
@@ -81,6 +83,8 @@ pub struct Model<T = Vec<Tree>> {
     pub trees: T,
     given: Vec<[u32; NAMES + 1]>,
     end_worth: u32,
+    /// Has it a forbidden leaf, also one that loading would drop?
+    pub forbids: bool,
 }
 
 impl<T> Model<T> {
@@ -112,12 +116,28 @@ impl<T> Model<T> {
     }
 }
 
-/// A stack entry, with the two facts of the written tree (11).
+/// The three facts of a written tree (11), as bits: one holds of a tree if it holds of a part.
+mod fact {
+    pub const NEXT_STEP: u8 = 1;
+    pub const NO_WEIGHT: u8 = 2;
+    pub const FORBIDDEN: u8 = 4;
+}
+
 #[derive(Clone, Copy, Default)]
 struct Entry {
     tree: u32,
-    has_next: bool,
-    is_weight: bool,
+    facts: u8,
+}
+
+impl Entry {
+    /// The rule on diagrams, by the facts that are refused.
+    fn without(self, refused: u8) -> Result<(), u32> {
+        if self.facts & refused == 0 {
+            Ok(())
+        } else {
+            Err(4)
+        }
+    }
 }
 
 /// The operands of a leaf or a test. An old one has no words for the upper half of the coefficients, which are zero.
@@ -190,6 +210,7 @@ pub fn command<F: Form>(bytes: &[u8], offset: usize) -> Result<(u8, &[u8]), u32>
         CHANCE | NEXT => F::ACTION_BYTES + 1,
         NAME => F::ACTION_BYTES + LETTERS,
         END_WORTH | END => 0,
+        FORBIDDEN if F::FORBIDS => 0,
         code if code == F::SITE => 3 + F::ACTION_BYTES,
         _ => return Err(3),
     };
@@ -224,7 +245,7 @@ struct Reader<F, T> {
 impl<F: Form, T: Trees> Reader<F, T> {
     fn new(site: Site) -> Reader<F, T> {
         let given = vec![[MISSING; NAMES + 1]; site.a];
-        let model = Model { site, trees: T::default(), given, end_worth: MISSING };
+        let model = Model { site, trees: T::default(), given, end_worth: MISSING, forbids: false };
         let stack = [Entry::default(); STACK_MOST];
         Reader { model, beyond: beyond(site.m), stack, height: 0, form: PhantomData }
     }
@@ -234,6 +255,7 @@ impl<F: Form, T: Trees> Reader<F, T> {
             LEAF => self.leaf(Linear(operands, PhantomData)),
             TEST => self.test(Linear(operands, PhantomData)),
             CONDITION => self.condition(operands[0]),
+            FORBIDDEN => self.forbidden(),
             REWARD | CHANCE | NEXT => self.give(code, operands),
             END_WORTH => self.end_worth(),
             NAME => self.name(operands, offset),
@@ -250,12 +272,20 @@ impl<F: Form, T: Trees> Reader<F, T> {
         if !self.is_within(coefficients) {
             return Err(4);
         }
+        let is_weight = coefficients == [0; 2] && (0..=self.model.site.w).contains(&linear.constant());
+        self.push(|| Tree::Leaf(linear.numbers()), if is_weight { 0 } else { fact::NO_WEIGHT })
+    }
+
+    fn forbidden(&mut self) -> Result<(), u32> {
+        self.model.forbids = true;
+        self.push(|| Tree::Forbidden, fact::FORBIDDEN)
+    }
+
+    fn push(&mut self, tree: impl FnOnce() -> Tree, facts: u8) -> Result<(), u32> {
         if self.height == STACK_MOST {
             return Err(5);
         }
-        let is_weight = coefficients == [0; 2] && (0..=self.model.site.w).contains(&linear.constant());
-        let tree = self.model.trees.add(|| Tree::Leaf(linear.numbers()));
-        self.stack[self.height] = Entry { tree, has_next: false, is_weight };
+        self.stack[self.height] = Entry { tree: self.model.trees.add(tree), facts };
         self.height += 1;
         Ok(())
     }
@@ -265,7 +295,7 @@ impl<F: Form, T: Trees> Reader<F, T> {
         if !self.is_within(coefficients) || coefficients == [0; 2] {
             return Err(4);
         }
-        self.branch(false, |high, low| Tree::Test { linear: linear.numbers(), high, low })
+        self.branch(0, |high, low| Tree::Test { linear: linear.numbers(), high, low })
     }
 
     fn condition(&mut self, number: u8) -> Result<(), u32> {
@@ -275,20 +305,18 @@ impl<F: Form, T: Trees> Reader<F, T> {
         if !within(condition.into(), self.model.site.n) {
             return Err(4);
         }
-        self.branch(is_next, |high, low| Tree::Condition { number, high, low })
+        let facts = if is_next { fact::NEXT_STEP } else { 0 };
+        self.branch(facts, |high, low| Tree::Condition { number, high, low })
     }
 
-    fn branch(&mut self, is_next: bool, tree: impl FnOnce(u32, u32) -> Tree) -> Result<(), u32> {
+    fn branch(&mut self, facts: u8, tree: impl FnOnce(u32, u32) -> Tree) -> Result<(), u32> {
         if self.height < 2 {
             return Err(5);
         }
         let [high, low] = [self.stack[self.height - 2], self.stack[self.height - 1]];
         self.height -= 1;
-        self.stack[self.height - 1] = Entry {
-            tree: self.model.trees.add(|| tree(high.tree, low.tree)),
-            has_next: is_next || high.has_next || low.has_next,
-            is_weight: high.is_weight && low.is_weight,
-        };
+        let facts = facts | high.facts | low.facts;
+        self.stack[self.height - 1] = Entry { tree: self.model.trees.add(|| tree(high.tree, low.tree)), facts };
         Ok(())
     }
 
@@ -304,9 +332,10 @@ impl<F: Form, T: Trees> Reader<F, T> {
 
     fn give(&mut self, code: u8, operands: &[u8]) -> Result<(), u32> {
         let action = self.action(operands)?;
-        let (most, first) = match code {
-            CHANCE => (self.model.site.n, CHANCES),
-            _ => (self.model.site.m, NEXTS),
+        let (most, first, refused) = match code {
+            REWARD => (0, 0, fact::NEXT_STEP),
+            CHANCE => (self.model.site.n, CHANCES, fact::NEXT_STEP | fact::NO_WEIGHT | fact::FORBIDDEN),
+            _ => (self.model.site.m, NEXTS, fact::FORBIDDEN),
         };
         let what = match operands.get(F::ACTION_BYTES) {
             None => 0,
@@ -315,20 +344,14 @@ impl<F: Form, T: Trees> Reader<F, T> {
         };
         let entry = self.pop()?;
         put(&mut self.model.given[action][what], entry.tree)?;
-        if code != NEXT && entry.has_next || code == CHANCE && !entry.is_weight {
-            return Err(4);
-        }
-        Ok(())
+        entry.without(refused)
     }
 
-    /// Under the rules for a reward: any leaf, and no next-step condition.
+    /// Any linear, as in a reward, but no forbidden leaf; and no next-step condition.
     fn end_worth(&mut self) -> Result<(), u32> {
         let entry = self.pop()?;
         put(&mut self.model.end_worth, entry.tree)?;
-        if entry.has_next {
-            return Err(4);
-        }
-        Ok(())
+        entry.without(fact::NEXT_STEP | fact::FORBIDDEN)
     }
 
     fn pop(&mut self) -> Result<Entry, u32> {

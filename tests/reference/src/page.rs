@@ -32,9 +32,15 @@ pub fn page(
     let mut text = Vec::new();
     for steps in 1..=horizon {
         let reading = value_of_site(&model.site, nodes, stages, steps, &state)?;
-        let name = String::from_utf8_lossy(name_in(&model, bytes, reading.action as usize - 1));
-        let whole = whole_part(&reading, &model.site, state.d, steps);
-        text.extend(format!("{steps:>2} {whole:>30} {name:<16}\n").bytes());
+        let (value, name) = match reading.action {
+            0 => ("none".to_string(), &[][..]),
+            action => (
+                whole_part(&reading, &model.site, state.d, steps).to_string(),
+                name_in(&model, bytes, action as usize - 1),
+            ),
+        };
+        let name = String::from_utf8_lossy(name);
+        text.extend(format!("{steps:>2} {value:>30} {name:<16}\n").bytes());
     }
     if text_length < place || text_length - place < text.len() {
         return Refusal::of(17);

@@ -18,39 +18,57 @@ pub fn worth_old(bytes: &[u8], steps: u32, state: State) -> Reading {
 
 fn try_worth(model: Model, steps: u32, state: State) -> Result<Reading, Refusal> {
     state.judge(&model.site)?;
-    let (worth, action) = worth_of_state(&model, steps, &state).ok_or(Refusal { number: 11, place: 0 })?;
+    // None reads as number 0 and action 0 (K8.6).
+    let (worth, action) = worth_of_state(&model, steps, &state).or_else(|without| match without {
+        Without::None => Ok((0, 0)),
+        Without::Limits => Refusal::of(11),
+    })?;
     Ok(Reading::new(worth, action))
 }
 
-/// Nothing if a number leaves its limits. With no step left it is the end worth, 0 where none is given (K1.5).
-fn worth_of_state(model: &Model, h: u32, state: &State) -> Option<(i128, u32)> {
+/// Why a state or an action has no worth.
+enum Without {
+    /// A number leaves its limits.
+    Limits,
+    /// No action is permitted on the way (K8.8, K8.9).
+    None,
+}
+
+/// With no step left it is the end worth, 0 where none is given (K1.5).
+fn worth_of_state(model: &Model, h: u32, state: &State) -> Result<(i128, u32), Without> {
     if h == 0 {
         let worth = model.end_worth().map_or(0, |tree| evaluate(model, tree, state, 0));
-        return Some((judged(worth)?, 0));
+        return Ok((judged(worth)?, 0));
     }
-    // The first number that an action names, the same for all.
-    let power = power(model.site.w, model.site.n as u32 * h)?;
+    // The first number that an action names, the same for all, also where its reward is forbidden.
+    let power = power(model.site.w, model.site.n as u32 * h).ok_or(Without::Limits)?;
     let mut best = None;
     for action in 0..model.site.a {
-        let worth = worth_of_action(model, h, action, state, power)?;
-        if best.is_none_or(|(most, _)| worth > most) {
-            best = Some((worth, action as u32 + 1));
+        match worth_of_action(model, h, action, state, power) {
+            Ok(worth) if best.is_none_or(|(most, _)| worth > most) => best = Some((worth, action as u32 + 1)),
+            Ok(_) | Err(Without::None) => {}
+            Err(Without::Limits) => return Err(Without::Limits),
         }
     }
-    best
+    best.ok_or(Without::None)
 }
 
-fn judged(number: i128) -> Option<i128> {
-    (number.abs() <= i128::from(LIMIT)).then_some(number)
+fn judged(number: i128) -> Result<i128, Without> {
+    if number.abs() <= i128::from(LIMIT) {
+        Ok(number)
+    } else {
+        Err(Without::Limits)
+    }
 }
 
-/// The steps are those of decision 73, in its order.
-fn worth_of_action(model: &Model, h: u32, action: usize, state: &State, power: i64) -> Option<i128> {
-    let reward = judged(evaluate(model, model.reward(action), state, 0))?;
+/// The steps are those of decision 73, in its order. The first none ends it: what stands behind that is not worked.
+fn worth_of_action(model: &Model, h: u32, action: usize, state: &State, power: i64) -> Result<i128, Without> {
+    let reward = leaf(model, model.reward(action), state, 0).ok_or(Without::None)?;
+    let reward = judged(at(reward, &state.nums[..model.site.m], state.d))?;
     let mut sum = judged(i128::from(power) * reward)?;
     let mut chances = [0; CONDITIONS];
     for (yes, &chance) in chances.iter_mut().zip(model.chances(action)) {
-        *yes = leaf(model, chance, state, 0)[CONSTANT];
+        *yes = linear(model, chance, state, 0)[CONSTANT];
     }
     for setting in 0..1u32 << model.site.n {
         let weight = weight(model, &chances, setting);
@@ -59,12 +77,12 @@ fn worth_of_action(model: &Model, h: u32, action: usize, state: &State, power: i
         }
         let mut next = State { mask: setting, nums: [0; LEVELS], d: state.d };
         for (num, &level) in next.nums.iter_mut().zip(model.nexts(action)) {
-            *num = i32::try_from(evaluate(model, level, state, setting)).ok()?;
+            *num = i32::try_from(evaluate(model, level, state, setting)).map_err(|_| Without::Limits)?;
         }
         let (worth, _) = worth_of_state(model, h - 1, &next)?;
         sum = judged(sum + judged(i128::from(weight) * worth)?)?;
     }
-    Some(sum)
+    Ok(sum)
 }
 
 /// A setting's weight, of the weights for yes.
@@ -73,12 +91,13 @@ fn weight(model: &Model, chances: &[i64; CONDITIONS], setting: u32) -> i64 {
     chances[..model.site.n].iter().enumerate().map(one).product()
 }
 
-/// The leaf of a written diagram for a state and a setting of the next conditions.
-fn leaf<'a>(model: &'a Model, mut tree: u32, state: &State, setting: u32) -> &'a [i64; NUMBERS] {
+/// The leaf of a written diagram for a state and a setting of the next conditions; nothing where it is forbidden.
+fn leaf<'a>(model: &'a Model, mut tree: u32, state: &State, setting: u32) -> Option<&'a [i64; NUMBERS]> {
     let nums = &state.nums[..model.site.m];
     loop {
         let (holds, high, low) = match &model.trees[tree as usize] {
-            Tree::Leaf(linear) => return linear,
+            Tree::Leaf(linear) => return Some(linear),
+            Tree::Forbidden => return None,
             Tree::Condition { number, high, low } => {
                 let bits = state.mask | setting << CONDITIONS;
                 (bits >> (number - 1) & 1 == 1, high, low)
@@ -89,7 +108,12 @@ fn leaf<'a>(model: &'a Model, mut tree: u32, state: &State, setting: u32) -> &'a
     }
 }
 
+/// That of a chance, a next level or an end worth, which has no forbidden one.
+fn linear<'a>(model: &'a Model, tree: u32, state: &State, setting: u32) -> &'a [i64; NUMBERS] {
+    leaf(model, tree, state, setting).expect("forbidden leaves stand in rewards only")
+}
+
 /// Its value, times D.
 fn evaluate(model: &Model, tree: u32, state: &State, setting: u32) -> i128 {
-    at(leaf(model, tree, state, setting), &state.nums[..model.site.m], state.d)
+    at(linear(model, tree, state, setting), &state.nums[..model.site.m], state.d)
 }

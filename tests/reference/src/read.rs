@@ -48,6 +48,7 @@ fn row<'a>(site: &Site, nodes: &'a [i64], number: i64) -> Result<Row<'a>, Refusa
         0 => in_limits && (1..=site.a as i64).contains(&high) && low == 0,
         1 => (1..=site.n as i64).contains(&nums[0]) && nums[1..] == [0; NUMBERS - 1] && branches,
         2 => in_limits && branches,
+        3 => words[1..] == [0; NODE_WORDS - 1],
         _ => false,
     };
     if good {
@@ -85,6 +86,7 @@ pub fn value_of_site(
         let holds = match kind {
             0 => return Ok(Reading::new(at(linear, nums, state.d), high as u32)),
             1 => state.mask >> (linear[0] - 1) & 1 == 1,
+            3 => return Ok(Reading::new(0, 0)), // none
             _ => at(linear, nums, state.d) <= 0,
         };
         place = if holds { high } else { low };
@@ -138,6 +140,7 @@ pub fn listing(
         match kind {
             0 => line(&[&nums[..], &[high]].concat(), &format!("N {number} V")),
             1 => line(&[nums[0], high, low], &format!("N {number} B")),
+            3 => line(&[], &format!("N {number} X")),
             _ => line(&[&nums[..], &[high, low]].concat(), &format!("N {number} L")),
         }
     }

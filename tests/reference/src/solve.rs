@@ -129,6 +129,7 @@ impl Solver<'_> {
         for tree in &self.model.trees {
             made.push(match *tree {
                 Tree::Leaf(nums) => self.store.leaf(nums, 0)?,
+                Tree::Forbidden => self.store.none()?,
                 Tree::Condition { number, high, low } => {
                     self.store.choose(condition(number.into()), made[high as usize], made[low as usize])?
                 }
@@ -216,6 +217,7 @@ impl Solver<'_> {
             let (node, &Label { kind, nums }) = (self.store.node(id), self.store.label(id));
             let (kind, high, low) = match kind {
                 Kind::Leaf => (0, node.high, 0),
+                Kind::None => (3, 0, 0),
                 kind => {
                     let high = self.write_diagram(node.high, numbers, rows);
                     (kind as i64, high, self.write_diagram(node.low, numbers, rows))

@@ -35,6 +35,8 @@ pub trait Form {
     /// Bytes of an action, as an operand and in the site; low byte first.
     const ACTION_BYTES: usize;
     const MODEL_BYTES: usize;
+    /// Has it the forbidden leaf, or is its byte unknown?
+    const FORBIDS: bool;
 }
 
 #[derive(Debug)]
@@ -46,6 +48,7 @@ impl Form for New {
     const ACTIONS: usize = 400;
     const ACTION_BYTES: usize = 2;
     const MODEL_BYTES: usize = 262_144;
+    const FORBIDS: bool = true;
 }
 
 #[derive(Debug)]
@@ -57,4 +60,5 @@ impl Form for Old {
     const ACTIONS: usize = 8;
     const ACTION_BYTES: usize = 1;
     const MODEL_BYTES: usize = 65_535;
+    const FORBIDS: bool = false;
 }

@@ -18,6 +18,7 @@ fn load(model: &Model, store: &mut Store) -> Vec<Id> {
     for tree in &model.trees {
         let id = match *tree {
             Tree::Leaf(nums) => store.leaf(nums, 0),
+            Tree::Forbidden => store.none(),
             Tree::Condition { number, high, low } => {
                 store.choose(condition(number.into()), made[high as usize], made[low as usize])
             }
