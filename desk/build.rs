@@ -7,7 +7,7 @@ use std::{env, fs, path::Path};
 const LATER: [&str; 2] = ["planner_find", "planner_page"];
 
 /// Numbers that the header gives names to, without their PLANNER_.
-const NUMBERS: [&str; 13] = [
+const NUMBERS: [&str; 14] = [
     "LEVELS_MOST",
     "ACTIONS_MOST",
     "OLD_MODEL_BYTES_MOST",
@@ -16,6 +16,7 @@ const NUMBERS: [&str; 13] = [
     "NODE_WORDS",
     "WORK_WORDS",
     "STAGE_WORDS",
+    "PEAK_WORDS",
     "MODEL_BYTES_MOST",
     "NAME_LETTERS_MOST",
     "STACK_BYTES_A_NODE",

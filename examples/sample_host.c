@@ -2,9 +2,9 @@
  *
  *   sample_host MODEL HORIZON NODES [--page] MASK L1 .. D
  *
- * L1 .. are the numerators of one level or more; those that are left out are 0. Prints the value and the action with HORIZON
- * steps left, or that it is none, the action that its name leads back to, then the listing; with --page the state's page and
- * nothing else; a refusal as `R number place`.
+ * L1 .. are the numerators of one level or more; those that are left out are 0. Prints the peak, the value and the action with
+ * HORIZON steps left, or that it is none, the action that its name leads back to, then the listing; with --page the state's
+ * page and nothing else; a refusal as `R number place`.
  */
 #define _POSIX_C_SOURCE 200809L
 
@@ -28,6 +28,7 @@ typedef struct plan {
     int64_t *nodes;
     uint32_t stages[PLANNER_STAGE_WORDS];
     uint32_t *work;
+    uint32_t peaks[PLANNER_PEAK_WORDS];
     uint32_t number;
     uint8_t out[PLANNER_SOLVE_BYTES];
 } plan;
@@ -91,7 +92,8 @@ static void *solve_here(void *argument)
 {
     plan *p = argument;
     p->number = planner_solve(p->model, p->model_len, p->horizon, p->nodes, PLANNER_NODE_WORDS(p->capacity), p->stages,
-                              PLANNER_STAGE_WORDS, p->work, PLANNER_WORK_WORDS(p->capacity), p->out, sizeof p->out);
+                              PLANNER_STAGE_WORDS, p->work, PLANNER_WORK_WORDS(p->capacity), p->peaks,
+                              PLANNER_PEAK_WORDS, p->out, sizeof p->out);
     return NULL;
 }
 
@@ -109,6 +111,20 @@ static void solve(plan *p)
     pthread_attr_destroy(&attributes);
     if (p->number != 0)
         refused(p->number, p->out);
+}
+
+/* The peak, which is the largest word of the peaks, and who needs so many nodes: loading, or the first action that does. */
+static void print_peak(const plan *p)
+{
+    uint64_t peak = number_at(p->out + 4, 4);
+    size_t at = 0;
+    while (at < PLANNER_PEAK_WORDS - 1 && p->peaks[at] != peak)
+        at++;
+    printf("solved, peak %" PRIu64 " in ", peak);
+    if (at == 0)
+        printf("loading\n");
+    else
+        printf("action %zu\n", at);
 }
 
 /* A number in two 64-bit words, the high one signed, in decimal. */
@@ -240,7 +256,7 @@ int main(int count, char **arguments)
     if (page) {
         print_page(&p, &state);
     } else {
-        printf("solved, peak %" PRIu64 "\n", number_at(p.out + 4, 4));
+        print_peak(&p);
         print_value(&p, &state);
         print_plan(&p);
     }

@@ -10,7 +10,7 @@
  *
  *  1 to 8  the model is refused; place is an offset in it
  *  9       horizon or steps not 1 to 8
- * 10       stage words not eight, a model above 262,144 bytes, or an old one above 65,535
+ * 10       stage words not eight, peaks not 401, a model above 262,144 bytes, or an old one above 65,535
  * 11       a number leaves its limits; place is the stage, 0 while loading
  * 12       the tables are too small; place is the stage, 0 while loading
  * 13       the state is not one of the model's
@@ -39,6 +39,9 @@ extern "C" {
 #define PLANNER_NODE_WORDS(nodes) ((size_t)12 * (nodes))
 #define PLANNER_WORK_WORDS(nodes) ((size_t)8 * (nodes))
 #define PLANNER_STAGE_WORDS ((size_t)8)
+
+/* The words of the peaks: loading's, and one for each of PLANNER_ACTIONS_MOST actions. */
+#define PLANNER_PEAK_WORDS ((size_t)401)
 
 /* A site has at most so many levels and actions; a model is at most so long, and a name in it. */
 #define PLANNER_LEVELS_MOST 8
@@ -80,11 +83,14 @@ struct planner_state {
     int32_t denominator;
 };
 
-/* Solves the model into the lent tables. Answer: place u32, peak u32.
+/* Solves the model into the lent tables. Answer: place u32, peak u32, the largest count of needed nodes.
+ * `peaks` has exactly PLANNER_PEAK_WORDS words. The first becomes the peak of loading, word a that of action a: the largest
+ * count over the operations of the action in all stages; zeros after the last action. The largest of them is the answer's.
  * A refusal 1 to 10 or 17 leaves all words as they are; 11 and 12 leave them zero. */
 uint32_t planner_solve(const uint8_t *model, size_t model_len, uint32_t horizon,
                        int64_t *nodes, size_t node_words, uint32_t *stages, size_t stage_words,
-                       uint32_t *work, size_t work_words, uint8_t *out, size_t out_len);
+                       uint32_t *work, size_t work_words, uint32_t *peaks, size_t peak_words,
+                       uint8_t *out, size_t out_len);
 
 /* The value and the best action at a state, with 1 to horizon steps left, from tables that planner_solve filled.
  * Bit i - 1 of mask is condition i; l1 to l8 are the levels' numerators, d their denominator.

@@ -9,6 +9,7 @@ usage: ./plan MODEL HORIZON [--nodes N]                   the plan of a site, as
        ./plan find MODEL NAME                             the action that carries a name
        ./plan picture MODEL HORIZON --along LEVEL .. -o FILE
                                                           values and actions drawn over one level or two
+       ./plan --peaks MODEL HORIZON                       the nodes that loading and each action need
        ./plan --to-new OLD NEW                            a model of the old form, which begins with 01, made new
        ./plan --to-old NEW OLD                            and the way back
        ./plan VERB --help                                 more about a verb
@@ -48,6 +49,13 @@ usage: ./plan find MODEL NAME [--raw]
 
 Prints the number of the action that carries the name. Trailing spaces do not count. Refused with 18 if no action carries
 it, with 19 if several do.
+";
+
+pub const PEAKS: &str = "\
+usage: ./plan --peaks MODEL HORIZON [--nodes N] [--raw]
+
+Prints how many nodes the tables have to hold: while the model is loaded, and at most over the operations of each action in
+all stages, each with its share of the largest. Tables of the largest are just enough to solve the model.
 ";
 
 pub const TO_NEW: &str = "\

@@ -2,7 +2,7 @@
 
 use crate::state::State;
 use crate::widths::{
-    refusal, NAME_BYTES, OLD_MODEL_BYTES_MOST, PAIR_BYTES, STAGE_WORDS, TO_NEW_MODEL_BYTES, VALUE_BYTES,
+    refusal, NAME_BYTES, OLD_MODEL_BYTES_MOST, PAIR_BYTES, PEAK_WORDS, STAGE_WORDS, TO_NEW_MODEL_BYTES, VALUE_BYTES,
 };
 
 /// A refusal: its number and its place.
@@ -32,7 +32,8 @@ extern "C" {
     fn planner_validate(model: Bytes, model_len: usize) -> Judged;
     fn planner_solve(
         model: Bytes, model_len: usize, horizon: u32, nodes: *mut i64, node_words: usize,
-        stages: *mut u32, stage_words: usize, work: *mut u32, work_words: usize, out: Answer, out_len: usize,
+        stages: *mut u32, stage_words: usize, work: *mut u32, work_words: usize, peaks: *mut u32, peak_words: usize,
+        out: Answer, out_len: usize,
     ) -> u32;
     fn planner_value(
         model: Bytes, model_len: usize, nodes: *const i64, node_words: usize, stages: *const u32, stage_words: usize,
@@ -86,17 +87,18 @@ pub fn validate(model: &[u8]) -> Result<(), Refusal> {
     }
 }
 
-/// Fills the tables; gives the peak.
+/// Fills the tables and the peaks; gives the largest of these.
 #[rustfmt::skip]
 pub fn solve(
     m: &[u8], horizon: u32, nodes: &mut [i64], stages: &mut [u32; STAGE_WORDS], work: &mut [u32],
+    peaks: &mut [u32; PEAK_WORDS],
 ) -> Result<u32, Refusal> {
     let mut out = [0; PAIR_BYTES];
     // SAFETY: as said above.
     let number = unsafe {
         planner_solve(
             m.as_ptr(), m.len(), horizon, nodes.as_mut_ptr(), nodes.len(), stages.as_mut_ptr(), stages.len(),
-            work.as_mut_ptr(), work.len(), out.as_mut_ptr(), out.len(),
+            work.as_mut_ptr(), work.len(), peaks.as_mut_ptr(), peaks.len(), out.as_mut_ptr(), out.len(),
         )
     };
     judged(number, out).map(|out| number_at(&out, 4, 4) as u32)

@@ -14,6 +14,9 @@ pub struct Solved<'a> {
     pub horizon: usize,
     pub nodes: Vec<i64>,
     pub stages: [u32; STAGE_WORDS],
+    /// The needed nodes: at most, while loading, and of each action.
+    pub peak: u32,
+    pub peaks: [u32; PEAK_WORDS],
 }
 
 /// Why there are no tables: refused with tables of so many nodes, or no thread for them.
@@ -26,6 +29,7 @@ struct Tables {
     nodes: Vec<i64>,
     stages: [u32; STAGE_WORDS],
     work: Vec<u32>,
+    peaks: [u32; PEAK_WORDS],
 }
 
 impl<'a> Solved<'a> {
@@ -79,16 +83,17 @@ impl<'a> Solved<'a> {
 /// Solves on a thread with the stack that so many nodes need.
 fn solve_with(model: &[u8], horizon: u32, size: usize) -> Result<Solved<'_>, Unsolved> {
     let (nodes, work) = (vec![0; NODE_WORDS * size], vec![0; WORK_WORDS * size]);
-    let mut tables = Tables { nodes, stages: [0; STAGE_WORDS], work };
+    let mut tables = Tables { nodes, stages: [0; STAGE_WORDS], work, peaks: [0; PEAK_WORDS] };
     let stack = STACK_BYTES_BESIDE + STACK_BYTES_A_NODE * size;
-    let number = std::thread::scope(|scope| {
-        let Tables { nodes, stages, work } = &mut tables;
-        let job = move || library::solve(model, horizon, nodes, stages, work);
+    let solved = std::thread::scope(|scope| {
+        let Tables { nodes, stages, work, peaks } = &mut tables;
+        let job = move || library::solve(model, horizon, nodes, stages, work, peaks);
         let thread =
             std::thread::Builder::new().stack_size(stack).spawn_scoped(scope, job).map_err(Unsolved::NoThread)?;
         Ok(thread.join().expect("solving does not panic"))
     })?;
-    number.map_err(|refused| Unsolved::Refused(refused, size))?;
+    let peak = solved.map_err(|refused| Unsolved::Refused(refused, size))?;
     let site = Written::read(Model::new(model)).site().expect("a solved model has a site");
-    Ok(Solved { model, site, horizon: horizon as usize, nodes: tables.nodes, stages: tables.stages })
+    let Tables { nodes, stages, peaks, .. } = tables;
+    Ok(Solved { model, site, horizon: horizon as usize, nodes, stages, peak, peaks })
 }

@@ -7,7 +7,7 @@ use crate::picture::{Picture, Stopped};
 use crate::refusals::{explain, Subject};
 use crate::solved::{Solved, Unsolved};
 use crate::state::{Given, State};
-use crate::widths::{LEVELS, MODEL_BYTES_MOST, NODES_MOST, NO_ACTION};
+use crate::widths::{LEVELS, LOADING, MODEL_BYTES_MOST, NODES_MOST, NO_ACTION};
 use crate::{help, show, words, Failure};
 use std::io::{Read, Write};
 
@@ -25,6 +25,7 @@ pub fn run(given: &[String], out: &mut Vec<u8>) -> Done {
         "picture" => verb(rest, &PICTURE_OPTIONS, help::PICTURE, out, picture),
         "--to-new" => verb(rest, &["--raw"], help::TO_NEW, out, to_new),
         "--to-old" => verb(rest, &["--raw"], help::TO_OLD, out, to_old),
+        "--peaks" => verb(rest, &["--nodes", "--raw"], help::PEAKS, out, peaks),
         "help" => helped(rest, out),
         _ => verb(given, &["--at", "--nodes", "--raw", "--page"], help::PLAN, out, plan),
     }
@@ -264,6 +265,30 @@ fn values(solved: &Solved, state: &State) -> Result<Vec<u8>, Refusal> {
         text += &format!("{:>5}  {:>value$}  {:>decimal$}  {}\n", row[0], row[1], row[2], row[3]);
     }
     Ok(text.into_bytes())
+}
+
+/// The needed nodes of loading and of each action, and their share of the largest of these, to the nearest percent.
+fn peaks(arguments: &Arguments, out: &mut Vec<u8>) -> Done {
+    let asked = Asked::read(arguments)?;
+    if arguments.words.len() > 2 {
+        return Err(usage("peaks are those of a model and a horizon: there is a word too many"));
+    }
+    let solved = asked.solve(None, out)?;
+    let text = peak_lines(&solved).map_err(|refused| asked.refuse(refused, None, None, out))?;
+    out.extend(text.bytes());
+    Ok(())
+}
+
+fn peak_lines(solved: &Solved) -> Result<String, Refusal> {
+    let largest = u64::from(solved.peak);
+    let width = largest.to_string().len().max("peak".len());
+    let mut text = format!("{:>width$}  share  of\n", "peak");
+    for (word, &peak) in (0..).zip(&solved.peaks[..=solved.site.actions]) {
+        let of = if word == LOADING { "loading".to_string() } else { solved.action(word)? };
+        let share = (200 * u64::from(peak) + largest) / (2 * largest);
+        text += &format!("{peak:>width$}  {share:>3} %  {of}\n");
+    }
+    Ok(text)
 }
 
 fn picture(arguments: &Arguments, out: &mut Vec<u8>) -> Done {

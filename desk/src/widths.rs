@@ -79,6 +79,9 @@ pub mod kind {
 /// What a value that is none has for an action; its number is 0.
 pub const NO_ACTION: u32 = 0;
 
+/// The word of the peaks that is loading's; word a is that of action a.
+pub const LOADING: u32 = 0;
+
 /// Bytes of the answers: place and one number; the same with a name behind it.
 pub const PAIR_BYTES: usize = 8;
 pub const NAME_BYTES: usize = PAIR_BYTES + LETTERS;

@@ -1,5 +1,5 @@
-/* The exports that need no solving, called as a host calls them: every refusal, lent bytes and words with guards around
- * them, NULL with 0, answers that do not fit. The tables are the pond's of document 01, written down by hand.
+/* The exports, called as a host calls them: every refusal, lent bytes and words with guards around them, NULL with 0,
+ * answers that do not fit. The tables are the pond's of document 01, written down by hand.
  */
 #include "planner.h"
 
@@ -365,6 +365,7 @@ static void listing_is(const call *given, uint32_t number, uint32_t place);
 static void find_is(const model *m, const char *name, uint32_t number, uint32_t place, uint32_t action);
 static void page_is(const call *given, uint32_t number, uint32_t place);
 static void to_old_refused(const model *m, uint32_t number, uint32_t place);
+static void model_unsolved(const model *m, uint32_t number, uint32_t place);
 
 static void model_refused(const model *m, uint32_t number, uint32_t place)
 {
@@ -380,6 +381,7 @@ static void model_refused(const model *m, uint32_t number, uint32_t place)
     listing_is(&c, number, place);
     page_is(&c, number, place);
     to_old_refused(m, number, place);
+    model_unsolved(m, number, place);
 }
 
 static void models_refused(void)
@@ -477,6 +479,7 @@ static void long_models_refused(void)
     expect(planner_page_at(bytes, longer, 0, c.nodes, WORDS, c.stages, 8, &none, NULL, 0, 1, out, sizeof out) == 10,
            "a long model's page");
     expect(planner_to_old(bytes, longer, NULL, 0, out, sizeof out) == 10, "a long model in the old form");
+    expect(planner_solve(bytes, longer, 0, NULL, 0, NULL, 0, NULL, 0, NULL, 0, out, sizeof out) == 10, "a long model solved");
     planner_judged judged = planner_validate(bytes, longer);
     expect(judged.number == 10 && judged.place == 0, "a long model judged");
     expect(planner_name(bytes, most, 1, out, sizeof out) == 3, "a model of the greatest length");
@@ -1166,6 +1169,142 @@ static void forbidding_refused(void)
     model_refused(&m, 2, SITE_BYTES + 32);
 }
 
+/* ---- solving */
+
+/* The nodes that the pond needs while it is loaded and in its actions, with two steps. */
+enum { POND_LOADED = 7, POND_HOLD = 13, POND_PEAK = 21 };
+
+/* All that a solve is lent, in the middle of marks: a word more than the peaks are. */
+typedef struct lent_tables {
+    int64_t nodes[GUARD + PLANNER_NODE_WORDS(POND_PEAK) + GUARD];
+    uint32_t stages[GUARD + PLANNER_STAGE_WORDS + GUARD];
+    uint32_t work[GUARD + PLANNER_WORK_WORDS(POND_PEAK) + GUARD];
+    uint32_t peaks[GUARD + PLANNER_PEAK_WORDS + 1 + GUARD];
+    uint8_t out[GUARD + PLANNER_SOLVE_BYTES + GUARD];
+} lent_tables;
+
+/* What a solve is given; a test changes one thing of the pond's. */
+typedef struct solving {
+    model m;
+    uint32_t horizon;
+    size_t capacity, stage_words, peak_words;
+} solving;
+
+static solving usual_solving(void)
+{
+    solving s = {pond("Hold            "), 2, POND_PEAK, PLANNER_STAGE_WORDS, PLANNER_PEAK_WORDS};
+    return s;
+}
+
+static uint32_t solve(const solving *s, lent_tables *t, size_t out_len)
+{
+    return planner_solve(s->m.len == 0 ? NULL : s->m.bytes, s->m.len, s->horizon, t->nodes + GUARD,
+                         PLANNER_NODE_WORDS(s->capacity), t->stages + GUARD, s->stage_words, t->work + GUARD,
+                         PLANNER_WORK_WORDS(s->capacity), s->peak_words == 0 ? NULL : t->peaks + GUARD, s->peak_words,
+                         out_len == 0 ? NULL : t->out + GUARD, out_len);
+}
+
+/* All lent words are zero after 11 and 12; then there are the pond's, where it is solved. */
+static void leave(lent_tables *t, size_t capacity, uint32_t number)
+{
+    static const uint32_t peaks[] = {POND_LOADED, POND_HOLD, POND_PEAK};
+    memset(t->nodes + GUARD, 0, PLANNER_NODE_WORDS(capacity) * sizeof *t->nodes);
+    memset(t->stages + GUARD, 0, PLANNER_STAGE_WORDS * sizeof *t->stages);
+    memset(t->work + GUARD, 0, PLANNER_WORK_WORDS(capacity) * sizeof *t->work);
+    memset(t->peaks + GUARD, 0, PLANNER_PEAK_WORDS * sizeof *t->peaks);
+    if (number == 0) {
+        memcpy(t->nodes + GUARD, NODES, sizeof NODES);
+        memcpy(t->stages + GUARD, STAGES, sizeof STAGES);
+        memcpy(t->peaks + GUARD, peaks, sizeof peaks);
+    }
+}
+
+/* With every length of `out`: a short one leaves everything untouched, as every refusal but 11 and 12 does. */
+static void solve_is(const solving *given, uint32_t number, uint32_t place)
+{
+    solving s = *given;
+    int yields = number == 0 || number == 11 || number == 12;
+    for (size_t len = 0; len <= PLANNER_SOLVE_BYTES + 3; len++) {
+        lent_tables made, left;
+        int fits = len >= PLANNER_SOLVE_BYTES;
+        memset(&made, MARK, sizeof made);
+        memset(&left, MARK, sizeof left);
+        if (fits && yields)
+            leave(&left, s.capacity, number);
+        if (fits) {
+            put(left.out + GUARD, place, 4);
+            put(left.out + GUARD + 4, number == 0 ? POND_PEAK : 0, 4);
+        }
+        uint32_t r = solve(&s, &made, len);
+        expect(r == (fits || !yields ? number : 17), "number of a solve");
+        expect(memcmp(made.peaks, left.peaks, sizeof made.peaks) == 0, "the peaks, and what is beside them");
+        expect(memcmp(&made, &left, sizeof made) == 0, "what a solve is lent, and what is beside it");
+        expect(memcmp(&s, given, sizeof s) == 0, "a solve leaves the model as it is");
+    }
+}
+
+static void model_unsolved(const model *m, uint32_t number, uint32_t place)
+{
+    solving s = usual_solving();
+    s.m = *m;
+    solve_is(&s, number, place);
+}
+
+/* A reward of 2^31 - 1 in a site with W = 100: in stage 5 it leaves the limits. */
+static model dear(void)
+{
+    model m = {{0}, 0};
+    command(&m, "\x02\x01\x01\x01\x00\x64", SITE_BYTES);
+    linear(&m, 0x10, 0, INT32_MAX);
+    command(&m, "\x20\x01\x00", 3);
+    linear(&m, 0x10, 0, 0);
+    command(&m, "\x21\x01\x00\x01", 4);
+    linear(&m, 0x10, 1, 0);
+    command(&m, "\x22\x01\x00\x01\xff", 5);
+    return m;
+}
+
+static void solves(void)
+{
+    solving s = usual_solving();
+    solve_is(&s, 0, 0);
+    s.capacity = POND_PEAK - 1;
+    solve_is(&s, 12, 2);
+    s.capacity = POND_LOADED;
+    solve_is(&s, 12, 1);
+    s.capacity = POND_LOADED - 1;
+    solve_is(&s, 12, 0);
+    s.capacity = 0;
+    solve_is(&s, 12, 0);
+    s = usual_solving();
+    s.m = dear();
+    s.horizon = 5;
+    solve_is(&s, 11, 5);
+}
+
+/* 10 comes before 9 and the model's own. */
+static void solves_refused(void)
+{
+    static const size_t lengths[] = {0, 1, 3, 8, PLANNER_PEAK_WORDS - 1, PLANNER_PEAK_WORDS + 1};
+    for (size_t i = 0; i < sizeof lengths / sizeof *lengths; i++) {
+        solving s = usual_solving();
+        s.peak_words = lengths[i];
+        solve_is(&s, 10, 0);
+        s.horizon = 9;
+        s.m.len = 0;
+        solve_is(&s, 10, 0);
+    }
+    solving s = usual_solving();
+    s.stage_words = 7;
+    solve_is(&s, 10, 0);
+    s = usual_solving();
+    s.horizon = 0;
+    s.m.len = 0;
+    solve_is(&s, 9, 0);
+    s.horizon = 9;
+    solve_is(&s, 9, 0);
+}
+
 int main(void)
 {
     values_read();
@@ -1189,6 +1328,8 @@ int main(void)
     none_read();
     none_refused();
     forbidding_refused();
+    solves();
+    solves_refused();
     printf("exports: %u checks\n", checks);
     return 0;
 }

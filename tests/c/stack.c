@@ -19,7 +19,7 @@ static uint8_t model[PLANNER_MODEL_BYTES_MOST + 1];
 static size_t model_len, capacity;
 static uint32_t horizon, number;
 static int64_t *nodes;
-static uint32_t *work, stages[8];
+static uint32_t *work, stages[PLANNER_STAGE_WORDS], peaks[PLANNER_PEAK_WORDS];
 static uint8_t out[PLANNER_SOLVE_BYTES];
 
 static void fail(const char *what)
@@ -32,7 +32,7 @@ static void *solve(void *unused)
 {
     (void)unused;
     number = planner_solve(model, model_len, horizon, nodes, PLANNER_NODE_WORDS(capacity), stages, PLANNER_STAGE_WORDS,
-                           work, PLANNER_WORK_WORDS(capacity), out, sizeof out);
+                           work, PLANNER_WORK_WORDS(capacity), peaks, PLANNER_PEAK_WORDS, out, sizeof out);
     return NULL;
 }
 

@@ -1,16 +1,19 @@
 -- What a solve leaves: an early refusal, a later one, or the tables.
 use mathlib.Core.Path.{_≡_, sym, ap, _∙_}
 use mathlib.Core.Logic.{⊎-elim}
+use mathlib.Core.Bool.{Bool}
 use mathlib.Core.List.{List, []}
+use borrow.Author.Tests.{eq-eqb, ne-eqb}
+use Rattle.whole.specs.Cases.{if}
 use Prim.Native.Nat.{ℕ, _*_, _/_, min, _≤_, _<_}
 use native.Mathlib.Nat.{min-le-left, min-le-right, div-mul-le-self}
 use native.Mathlib.Omega.{arith}
 use lib.IntN.{ℤ, pos}
 use lib.ListN.{length, replicate}
-use Rattle.theory.specs.Widths.{nodes-most, node-words, work-words}
-use Rattle.theory.specs.Verdict.{Verdict, verdict}
+use Rattle.theory.specs.Widths.{nodes-most, node-words, work-words, peak-words}
+use Rattle.theory.specs.Verdict.{Verdict, verdict, refusal}
 use Rattle.theory.specs.Computation.{refused}
-use Rattle.theory.specs.Solve.{room, solve-in, early, solve}
+use Rattle.theory.specs.Solve.{room, solve-in, early, early-with-peaks, solve}
 use Rattle.theory.specs.laws.Refusals.{refused-number}
 use Rattle.theory.specs.laws.Rows.{Passed, by-early, early-some}
 use Rattle.finish.specs.Finish.{Cleared}
@@ -49,12 +52,30 @@ fitting nodes work e =
 
 -- ---- the outcome
 
-module _ (B : List ℕ) (H : ℕ) (l : List ℤ) (s w : List ℕ) where
-  pub refused-early : (u : CodeVerdict) → shown u ≡ early B H (length s) → (u .number ≡ 0 → ⊥) → outcome (record { number = u .number; place = u .place; peak = 0 }) l s w ≡ solve B H l s w
-  refused-early u e off = sym (solve-early B H l s w (λ z. off (ap (λ (x : Verdict). x .number) e ∙ z))
-      ∙ ap (λ (x : Verdict). record { number = x .number; place = x .place; peak = 0; nodes = l; stages = s; work = w }) (sym e))
+-- the peaks' words are judged first
+words-early : (B : List ℕ) (H size : ℕ) {n : ℕ} → n ≡ peak-words → early-with-peaks B H size n ≡ early B H size
+unfolding early-with-peaks
+words-early B H size {n} e = ap (λ (b : Bool). if b (early B H size) (refusal 10 0)) (eq-eqb n peak-words e)
 
-  module _ {cap : ℕ} (e : early B H (length s) .number ≡ 0) (c : cap ≡ room (length l) (length w)) {l₁ : List ℤ} {s₁ w₁ : List ℕ} {r : Planned} (S : Solves B H cap l l₁ s₁ w w₁ r) where
+other-words : (B : List ℕ) (H size : ℕ) {n : ℕ} → (n ≡ peak-words → ⊥) → early-with-peaks B H size n ≡ refusal 10 0
+unfolding early-with-peaks
+other-words B H size {n} e = ap (λ (b : Bool). if b (early B H size) (refusal 10 0)) (ne-eqb n peak-words e)
+
+pub refused-words : (B : List ℕ) (H : ℕ) (l : List ℤ) (s w p : List ℕ) → (length p ≡ peak-words → ⊥) → outcome (record { number = 10; place = 0; peak = 0 }) l s w p ≡ solve B H l s w p
+refused-words B H l s w p off =
+    let e = other-words B H (length s) off in
+    sym (solve-early B H l s w p (λ z. absurd (let y : 10 ≡ 0 = sym (ap (λ (x : Verdict). x .number) e) ∙ z in omega arith))
+    ∙ ap (λ (x : Verdict). record { number = x .number; place = x .place; peak = 0; nodes = l; stages = s; work = w; peaks = p }) e)
+
+module _ (B : List ℕ) (H : ℕ) (l : List ℤ) (s w p : List ℕ) (n : length p ≡ peak-words) where
+  pub refused-early : (u : CodeVerdict) → shown u ≡ early B H (length s) → (u .number ≡ 0 → ⊥) → outcome (record { number = u .number; place = u .place; peak = 0 }) l s w p ≡ solve B H l s w p
+  refused-early u e₀ off = let e = e₀ ∙ sym (words-early B H (length s) n) in sym (solve-early B H l s w p (λ z. off (ap (λ (x : Verdict). x .number) e ∙ z))
+      ∙ ap (λ (x : Verdict). record { number = x .number; place = x .place; peak = 0; nodes = l; stages = s; work = w; peaks = p }) (sym e))
+
+  module _ {cap : ℕ} (e₀ : early B H (length s) .number ≡ 0) (c : cap ≡ room (length l) (length w)) {l₁ : List ℤ} {s₁ w₁ p₁ : List ℕ} {r : Planned} (S : Solves B H cap l l₁ s₁ w w₁ p₁ r) where
+    e : early-with-peaks B H (length s) (length p) .number ≡ 0
+    e = ap (λ (x : Verdict). x .number) (words-early B H (length s) n) ∙ e₀
+
     in-room : solve-in cap B H ≡ solve-in (room (length l) (length w)) B H
     in-room = ap (λ (N : ℕ). solve-in N B H) c
 
@@ -64,9 +85,9 @@ module _ (B : List ℕ) (H : ℕ) (l : List ℤ) (s w : List ℕ) where
     pub stop-small : (r .stop ≡ 0 → ⊥) → r .stop < 4294967296
     stop-small off = ⊎-elim (λ z. omega arith) (λ z. omega arith) (refused-number cap B H (r .stop) (r .place) (refused-in off))
 
-    pub refused-late : (r .stop ≡ 0 → ⊥) → {l₂ : List ℤ} {s₂ w₂ : List ℕ} → Cleared l₁ l₂ s₁ s₂ w₁ w₂ → length l₁ ≡ length l → length s₁ ≡ length s → length w₁ ≡ length w
-        → outcome (record { number = r .stop; place = r .place; peak = 0 }) l₂ s₂ w₂ ≡ solve B H l s w
-    refused-late off C nl ns nw = sym (solve-refused B H l s w e (r .stop) (r .place) (sym in-room ∙ refused-in off)
+    pub refused-late : (r .stop ≡ 0 → ⊥) → {l₂ : List ℤ} {s₂ w₂ p₂ : List ℕ} → Cleared l₁ l₂ s₁ s₂ w₁ w₂ → p₂ ≡ replicate (length p₁) 0 → length p₁ ≡ length p → length l₁ ≡ length l → length s₁ ≡ length s → length w₁ ≡ length w
+        → outcome (record { number = r .stop; place = r .place; peak = 0 }) l₂ s₂ w₂ p₂ ≡ solve B H l s w p
+    refused-late off C cp np nl ns nw = sym (solve-refused B H l s w p e (r .stop) (r .place) (sym in-room ∙ refused-in off)
         ∙ (λ i. record {
           number = r .stop;
           place = r .place;
@@ -74,8 +95,9 @@ module _ (B : List ℕ) (H : ℕ) (l : List ℤ) (s w : List ℕ) where
           nodes = (ap (λ (n : ℕ). replicate n (pos 0)) (sym nl) ∙ sym (C .nodes)) i;
           stages = (ap (λ (n : ℕ). replicate n 0) (sym ns) ∙ sym (C .stages)) i;
           work = (ap (λ (n : ℕ). replicate n 0) (sym nw) ∙ sym (C .work)) i;
+          peaks = (ap (λ (n : ℕ). replicate n 0) (sym np) ∙ sym cp) i;
         }))
 
-    pub solved-out : r .stop ≡ 0 → outcome (record { number = 0; place = 0; peak = r .peak }) l₁ s₁ w₁ ≡ solve B H l s w
-    solved-out ok = sym (solve-solved B H l s w e (S .stages) (r .peak) (sym in-room ∙ (S .outcome ∙ answered-ok (r .stop) (r .place) (S .stages) (r .peak) ok))
-        ∙ (λ i. record { number = 0; place = 0; peak = r .peak; nodes = sym (S .nodes ok) i; stages = sym (S .roots ok) i; work = sym (S .work ok) i }))
+    pub solved-out : r .stop ≡ 0 → outcome (record { number = 0; place = 0; peak = r .peak }) l₁ s₁ w₁ p₁ ≡ solve B H l s w p
+    solved-out ok = sym (solve-solved B H l s w p e (S .stages) (r .peak) (sym in-room ∙ (S .outcome ∙ answered-ok (r .stop) (r .place) (S .stages) (r .peak) ok))
+        ∙ (λ i. record { number = 0; place = 0; peak = r .peak; nodes = sym (S .nodes ok) i; stages = sym (S .roots ok) i; work = sym (S .work ok) i; peaks = sym (S .peaks ok) i }))

@@ -1,12 +1,18 @@
 // "solve": refused early with all untouched, or run to the tables of the stages, or refused on the way with all zero.
 ghost use mathlib.Core.Path.{_≡_};
 ghost use Prim.Native.Nat.{min};
+ghost use lib.ListN.{length};
+ghost use Rattle.theory.specs.Widths.{peak-words};
 ghost use Rattle.theory.specs.Solve.{room as room-of};
 ghost use Rattle.theory.specs.Solve.{solve as solve-of};
 ghost use Rattle.solver.specs.Solving.{outcome};
+use action_peaks::clear_peaks;
 use solve_in::solve_in;
 use table::NODE_WORDS;
 use unique::WORK_WORDS;
+
+// "a lent slice of 401 32-bit words"
+pub const PEAK_WORDS: usize = 401;
 
 // A refusal's number and place, both 0 where there is none; then the peak.
 pub struct Solved {
@@ -28,15 +34,17 @@ fn room(nodes: usize, work: usize) -> usize
     least(nodes / NODE_WORDS, least(work / WORK_WORDS, 65535))
 }
 
-// A site model, a horizon and lent tables: the peak and the tables, or a refusal.
-pub fn solve(
+// With as many words for the peaks as there are actions, and one for loading.
+fn solve_counted(
     model: &[u8],
     horizon: u32,
     nodes: &mut [i64],
     stages: &mut [u32],
     work: &mut [u32],
+    peaks: &mut [u32],
 ) -> Solved
-    ensures { λ r. ⌜ outcome r (now (nodes .exit)) (now (stages .exit)) (now (work .exit)) ≡ solve-of (now (model .entry)) horizon (now (nodes .entry)) (now (stages .entry)) (now (work .entry)) ⌝ }
+    requires { ⌜ length (now peaks) ≡ peak-words ⌝ }
+    ensures { λ r. ⌜ outcome r (now (nodes .exit)) (now (stages .exit)) (now (work .exit)) (now (peaks .exit)) ≡ solve-of (now (model .entry)) horizon (now (nodes .entry)) (now (stages .entry)) (now (work .entry)) (now (peaks .entry)) ⌝ }
 {
     let v = model::early(model, horizon, stages.len());
     if v.number != 0 {
@@ -47,9 +55,10 @@ pub fn solve(
         };
     }
     let cap = room(nodes.len(), work.len());
-    let r = solve_in(model, horizon as usize, nodes, stages, work, cap);
+    let r = solve_in(model, horizon as usize, nodes, stages, work, peaks, cap);
     if r.stop != 0 {
         finish::clear_all(nodes, stages, work);
+        clear_peaks(peaks);
         return Solved {
             number: r.stop as u32,
             place: r.place,
@@ -61,4 +70,25 @@ pub fn solve(
         place: 0,
         peak: r.peak,
     }
+}
+
+// A site model, a horizon and lent tables: the peaks and the tables, or a refusal.
+pub fn solve(
+    model: &[u8],
+    horizon: u32,
+    nodes: &mut [i64],
+    stages: &mut [u32],
+    work: &mut [u32],
+    peaks: &mut [u32],
+) -> Solved
+    ensures { λ r. ⌜ outcome r (now (nodes .exit)) (now (stages .exit)) (now (work .exit)) (now (peaks .exit)) ≡ solve-of (now (model .entry)) horizon (now (nodes .entry)) (now (stages .entry)) (now (work .entry)) (now (peaks .entry)) ⌝ }
+{
+    if peaks.len() != PEAK_WORDS {
+        return Solved {
+            number: 10,
+            place: 0,
+            peak: 0,
+        };
+    }
+    solve_counted(model, horizon, nodes, stages, work, peaks)
 }

@@ -5,4 +5,5 @@ pub mod Operated
 pub mod Roots
 pub mod Steps
 pub mod Loops
+pub mod Peaks
 pub mod Outcome

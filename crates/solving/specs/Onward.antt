@@ -8,7 +8,7 @@ use lib.Dec.{eqb}
 use lib.ListN.{length}
 use Rattle.whole.specs.Cases.{if}
 use Rattle.theory.specs.Diagram.{Tree}
-use Rattle.theory.specs.Computation.{Comp, Out, done, stopped, run, enter-all, Ops, end, operation, and-then, Solved, solved, refused, run-all}
+use Rattle.theory.specs.Computation.{Comp, Out, done, stopped, run, enter-all, Moment, Ops, end, operation, and-then, Solved, solved, refused, run-all}
 
 -- what follows from a result and its peak; a refusal stays
 unfoldable pub onward : {A B : Type 0} → Solved A → (A → ℕ → Solved B) → Solved B
@@ -52,8 +52,8 @@ run-all-then N p (end a) k = refl
 run-all-then {A} {B} N p (operation h roots c f) k = go (run N c (enter-all roots [])) (λ t q. run-all-then N q (f t) k)
   where
     go : (o : Out Tree) → ((t : Tree) (q : ℕ) → run-all N q (and-then (f t) k) ≡ onward (run-all N q (f t)) (λ a q. run-all N q (k a)))
-        → elim o [ done t X ↦ run-all N (max p (length X)) (and-then (f t) k) | stopped r ↦ refused r h ]
-        ≡ onward (elim o [ done t X ↦ run-all N (max p (length X)) (f t) | stopped r ↦ refused r h ]) (λ a q. run-all N q (k a))
+        → elim o [ done t X ↦ run-all N (max p (length X)) (and-then (f t) k) | stopped r ↦ refused r (h .stage) ]
+        ≡ onward (elim o [ done t X ↦ run-all N (max p (length X)) (f t) | stopped r ↦ refused r (h .stage) ]) (λ a q. run-all N q (k a))
     go (done t X) rec = rec t (max p (length X))
     go (stopped r) rec = refl
 
@@ -67,18 +67,18 @@ pub record Works (N : ℕ) (roots : List Tree) (c : Comp Tree) (t : Tree) (k : �
 pub record Stops (N : ℕ) (roots : List Tree) (c : Comp Tree) (r : ℕ) : Type 0 where
   pub refuses : run N c (enter-all roots []) ≡ stopped r
 
-module _ {A : Type 0} {N : ℕ} {roots : List Tree} {c : Comp Tree} (p h : ℕ) (f : Tree → Ops A) where
+module _ {A : Type 0} {N : ℕ} {roots : List Tree} {c : Comp Tree} (p : ℕ) (h : Moment) (f : Tree → Ops A) where
   -- what follows from the result is left to run
   pub works-run : {t : Tree} {k : ℕ} → Works N roots c t k → run-all N p (operation h roots c f) ≡ run-all N (max p k) (f t)
   unfolding run-all
   works-run {t} e =
-      ap (λ (o : Out Tree). elim o [ done t X ↦ run-all N (max p (length X)) (f t) | stopped r ↦ refused r h ]) (e .comes)
+      ap (λ (o : Out Tree). elim o [ done t X ↦ run-all N (max p (length X)) (f t) | stopped r ↦ refused r (h .stage) ]) (e .comes)
       ∙ ap (λ (k : ℕ). run-all N (max p k) (f t)) (e .count)
 
   -- all is refused, at the operation's place
-  pub stops-run : {r : ℕ} → Stops N roots c r → run-all N p (operation h roots c f) ≡ refused r h
+  pub stops-run : {r : ℕ} → Stops N roots c r → run-all N p (operation h roots c f) ≡ refused r (h .stage)
   unfolding run-all
-  stops-run e = ap (λ (o : Out Tree). elim o [ done t X ↦ run-all N (max p (length X)) (f t) | stopped r ↦ refused r h ]) (e .refuses)
+  stops-run e = ap (λ (o : Out Tree). elim o [ done t X ↦ run-all N (max p (length X)) (f t) | stopped r ↦ refused r (h .stage) ]) (e .refuses)
 
 -- ---- an answer in words: a stop's number, 0 where there is none
 

@@ -12,7 +12,7 @@ use Rattle.whole.specs.Cases.{by-eq, from-true, clash}
 use Rattle.table.specs.declared.Made.{Made}
 use Rattle.table.specs.Table.{nodeAt}
 use Rattle.theory.specs.Diagram.{Tree}
-use Rattle.theory.specs.Computation.{Comp, Out, done, stopped, run, enter-all, Ops, operation, refused, run-all}
+use Rattle.theory.specs.Computation.{Comp, Out, done, stopped, run, enter-all, Moment, Ops, operation, refused, run-all}
 use Rattle.diagrams.specs.Nodes.{blank, trees, treeAt, Good, Grown}
 use Rattle.diagrams.specs.Table.{outOf}
 use Rattle.diagrams.proofs.Trees.{trees-length, trees-kept}
@@ -120,20 +120,20 @@ module _ {cap n n₁ : ℕ} {l l₁ : List ℤ} {w w₁ : List ℕ} {ρ ρ₁ : 
         let o : run cap c (trees l₁ n₁) ≡ stopped (r .stop) = sym (S .ran) ∙ out-no r (trees l₂ (r .count)) off in
         record { refuses = stopped-as (subst (λ (q : Out Tree). SameOut q (run cap c (enter-all R []))) o (collected-run cap c)) }
 
-    module _ {A : Type 0} (p h : ℕ) (f : Tree → Ops A) where
+    module _ {A : Type 0} (p : ℕ) (h : Moment) (f : Tree → Ops A) where
       -- done: what is left to run is what follows from its result, with the table's count in the peak
       pub operated : r .stop ≡ 0 → run-all cap p (operation h R c f) ≡ run-all cap (max p (r .count)) (f (treeAt l₂ (r .count) (r .at)))
       operated ok = works-run p h f (worked ok)
 
       -- stopped: the whole is refused, at the operation's place
-      pub operation-refused : (r .stop ≡ 0 → ⊥) → run-all cap p (operation h R c f) ≡ refused (r .stop) h
+      pub operation-refused : (r .stop ≡ 0 → ⊥) → run-all cap p (operation h R c f) ≡ refused (r .stop) (h .stage)
       operation-refused off = stops-run p h f (stops off)
 
       -- both at once
-      pub operation-run : run-all cap p (operation h R c f) ≡ onward (answered (r .stop) h (treeAt l₂ (r .count) (r .at)) (max p (r .count))) (λ t q. run-all cap q (f t))
-      operation-run = by-eq (eqb (r .stop) 0) (λ b. run-all cap p (operation h R c f) ≡ onward (answered (r .stop) h (treeAt l₂ (r .count) (r .at)) (max p (r .count))) (λ t q. run-all cap q (f t)))
-          (λ e. let z = eqb→eq (r .stop) 0 (from-true e) in operated z ∙ sym (onward-ok (r .stop) h (treeAt l₂ (r .count) (r .at)) (max p (r .count)) refl (λ t q. run-all cap q (f t)) z))
-          (λ e. let z : r .stop ≡ 0 → ⊥ = λ q. clash (sym (eq-eqb (r .stop) 0 q) ∙ e) in operation-refused z ∙ sym (onward-no (r .stop) h (treeAt l₂ (r .count) (r .at)) (max p (r .count)) refl (λ t q. run-all cap q (f t)) z))
+      pub operation-run : run-all cap p (operation h R c f) ≡ onward (answered (r .stop) (h .stage) (treeAt l₂ (r .count) (r .at)) (max p (r .count))) (λ t q. run-all cap q (f t))
+      operation-run = by-eq (eqb (r .stop) 0) (λ b. run-all cap p (operation h R c f) ≡ onward (answered (r .stop) (h .stage) (treeAt l₂ (r .count) (r .at)) (max p (r .count))) (λ t q. run-all cap q (f t)))
+          (λ e. let z = eqb→eq (r .stop) 0 (from-true e) in operated z ∙ sym (onward-ok (r .stop) (h .stage) (treeAt l₂ (r .count) (r .at)) (max p (r .count)) refl (λ t q. run-all cap q (f t)) z))
+          (λ e. let z : r .stop ≡ 0 → ⊥ = λ q. clash (sym (eq-eqb (r .stop) 0 q) ∙ e) in operation-refused z ∙ sym (onward-no (r .stop) (h .stage) (treeAt l₂ (r .count) (r .at)) (max p (r .count)) refl (λ t q. run-all cap q (f t)) z))
 
     -- the table afterwards holds the same diagrams at the same indexes
     pub ran-below : Below ρ₁ (r .count)

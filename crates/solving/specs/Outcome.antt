@@ -10,9 +10,11 @@ use Rattle.whole.specs.Cases.{if}
 use Rattle.theory.specs.Diagram.{Tree}
 use Rattle.theory.specs.Computation.{Out, done, stopped, run, solved, refused, run-all}
 use Rattle.theory.specs.Meaning.{Model}
+use Rattle.theory.specs.Verdict.{Verdict}
 use Rattle.theory.specs.Load.{load}
 use Rattle.theory.specs.Stage.{all-stages}
-use Rattle.theory.specs.Solve.{room, solve-in, solved-nodes, solved-stages, solve-left, early, solve}
+use Rattle.theory.specs.Peaks.{solved-peaks}
+use Rattle.theory.specs.Solve.{room, solve-in, solved-nodes, solved-stages, solve-left, early-with-peaks, solve}
 
 -- ---- in a table with room for N
 
@@ -29,28 +31,31 @@ module _ (N : ℕ) (B : List ℕ) (H : ℕ) where
 
 -- ---- the outcome
 
-module _ (B : List ℕ) (H : ℕ) (nodes : List ℤ) (stages work : List ℕ) where
+module _ (B : List ℕ) (H : ℕ) (nodes : List ℤ) (stages work peaks : List ℕ) where
+  abbrev v : Verdict
+  v = early-with-peaks B H (length stages) (length peaks)
+
   -- refused early: all untouched
-  pub solve-early : (early B H (length stages) .number ≡ 0 → ⊥) → solve B H nodes stages work
-      ≡ record { number = early B H (length stages) .number; place = early B H (length stages) .place; peak = 0; nodes = nodes; stages = stages; work = work }
+  pub solve-early : (v .number ≡ 0 → ⊥) → solve B H nodes stages work peaks
+      ≡ record { number = v .number; place = v .place; peak = 0; nodes = nodes; stages = stages; work = work; peaks = peaks }
   unfolding solve
-  solve-early e = ap (λ (b : Bool). if b (solve-left nodes stages work (solve-in (room (length nodes) (length work)) B H))
-      (record { number = early B H (length stages) .number; place = early B H (length stages) .place; peak = 0; nodes = nodes; stages = stages; work = work })) (ne-eqb (early B H (length stages) .number) 0 e)
+  solve-early e = ap (λ (b : Bool). if b (solve-left B H nodes stages work peaks (solve-in (room (length nodes) (length work)) B H))
+      (record { number = v .number; place = v .place; peak = 0; nodes = nodes; stages = stages; work = work; peaks = peaks })) (ne-eqb (v .number) 0 e)
 
-  module _ (e : early B H (length stages) .number ≡ 0) where
-    pub solve-passed : solve B H nodes stages work ≡ solve-left nodes stages work (solve-in (room (length nodes) (length work)) B H)
+  module _ (e : v .number ≡ 0) where
+    pub solve-passed : solve B H nodes stages work peaks ≡ solve-left B H nodes stages work peaks (solve-in (room (length nodes) (length work)) B H)
     unfolding solve
-    solve-passed = ap (λ (b : Bool). if b (solve-left nodes stages work (solve-in (room (length nodes) (length work)) B H))
-        (record { number = early B H (length stages) .number; place = early B H (length stages) .place; peak = 0; nodes = nodes; stages = stages; work = work })) (eq-eqb (early B H (length stages) .number) 0 e)
+    solve-passed = ap (λ (b : Bool). if b (solve-left B H nodes stages work peaks (solve-in (room (length nodes) (length work)) B H))
+        (record { number = v .number; place = v .place; peak = 0; nodes = nodes; stages = stages; work = work; peaks = peaks })) (eq-eqb (v .number) 0 e)
 
-    -- solved: the tables
-    pub solve-solved : (S : List Tree) (peak : ℕ) → solve-in (room (length nodes) (length work)) B H ≡ solved S peak → solve B H nodes stages work
-        ≡ record { number = 0; place = 0; peak = peak; nodes = solved-nodes (length nodes) S; stages = solved-stages S; work = replicate (length work) 0 }
+    -- solved: the tables and the peaks
+    pub solve-solved : (S : List Tree) (peak : ℕ) → solve-in (room (length nodes) (length work)) B H ≡ solved S peak → solve B H nodes stages work peaks
+        ≡ record { number = 0; place = 0; peak = peak; nodes = solved-nodes (length nodes) S; stages = solved-stages S; work = replicate (length work) 0; peaks = solved-peaks B H }
     unfolding solve-left
-    solve-solved S peak q = solve-passed ∙ ap (solve-left nodes stages work) q
+    solve-solved S peak q = solve-passed ∙ ap (solve-left B H nodes stages work peaks) q
 
     -- refused while it runs: all zero
-    pub solve-refused : (r h : ℕ) → solve-in (room (length nodes) (length work)) B H ≡ refused r h → solve B H nodes stages work
-        ≡ record { number = r; place = h; peak = 0; nodes = replicate (length nodes) (pos 0); stages = replicate (length stages) 0; work = replicate (length work) 0 }
+    pub solve-refused : (r h : ℕ) → solve-in (room (length nodes) (length work)) B H ≡ refused r h → solve B H nodes stages work peaks
+        ≡ record { number = r; place = h; peak = 0; nodes = replicate (length nodes) (pos 0); stages = replicate (length stages) 0; work = replicate (length work) 0; peaks = replicate (length peaks) 0 }
     unfolding solve-left
-    solve-refused r h q = solve-passed ∙ ap (solve-left nodes stages work) q
+    solve-refused r h q = solve-passed ∙ ap (solve-left B H nodes stages work peaks) q

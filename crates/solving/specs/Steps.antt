@@ -5,15 +5,15 @@ use Prim.Native.Nat.{ℕ, zero, suc, _≤_, _<_}
 use lib.ListN.{length, getD, drop, drop-of-length-le}
 use lib.Seq.{drop-cons}
 use Rattle.theory.specs.Diagram.{Tree}
-use Rattle.theory.specs.Computation.{make, Ops, end, operation, and-then, Solved, solved, refused, run-all}
+use Rattle.theory.specs.Computation.{make, Moment, Ops, end, operation, and-then, Solved, solved, refused, run-all}
 use Rattle.theory.specs.Rules.{best, zero-leaf, substitute, expectation, add-reward}
 use Rattle.theory.specs.Meaning.{Action, Model, power}
-use Rattle.theory.specs.Stage.{model-diagrams, sum-out, action-total, best-on, stage-over, stages-on, stages-over-end, all-stages}
+use Rattle.theory.specs.Stage.{model-diagrams, moment, sum-out, action-total, best-on, stage-over, stages-on, stages-over-end, all-stages}
 use Rattle.solving.specs.Onward.{onward, onward-refused, onward-onward, onward-same, onward-end, run-all-then}
 
 -- ---- conditions
 
-module _ (W h : ℕ) (kept : List Tree) (ws : List Tree) where
+module _ (W : ℕ) (h : Moment) (kept : List Tree) (ws : List Tree) where
   -- the condition at i is next
   pub sum-out-step : (d : Tree) (k i : ℕ) (F : Tree) → i < length ws
       → sum-out W h kept k (drop i ws) F ≡ operation h (F ∷ kept) (expectation W (getD ws i d) k F) (sum-out W h kept (suc k) (drop (suc i) ws))
@@ -30,28 +30,28 @@ module _ (W h : ℕ) (kept : List Tree) (ws : List Tree) where
 -- what follows its substitution, which came to F
 unfoldable pub after-levels : Model → ℕ → List Tree → ℕ → Action → Tree → Ops Tree
 after-levels M h kept a x F =
-    and-then (sum-out (M .weights) h kept 1 (x .chances) F)
-    (λ G. operation h (G ∷ kept) (add-reward (power M h) (x .reward) a G) end)
+    and-then (sum-out (M .weights) (moment h a) kept 1 (x .chances) F)
+    (λ G. operation (moment h a) (G ∷ kept) (add-reward (power M h) (x .reward) a G) end)
 
 module _ (M : Model) (h : ℕ) (kept : List Tree) (a : ℕ) (x : Action) where
-  pub action-total-is : (P : Tree) → action-total M h kept P a x ≡ operation h kept (substitute (x .levels) P) (after-levels M h kept a x)
+  pub action-total-is : (P : Tree) → action-total M h kept P a x ≡ operation (moment h a) kept (substitute (x .levels) P) (after-levels M h kept a x)
   unfolding action-total after-levels
   action-total-is P = refl
 
   pub after-levels-run : (N p : ℕ) (F : Tree) → run-all N p (after-levels M h kept a x F)
-      ≡ onward (run-all N p (sum-out (M .weights) h kept 1 (x .chances) F)) (λ G q. run-all N q (operation h (G ∷ kept) (add-reward (power M h) (x .reward) a G) end))
+      ≡ onward (run-all N p (sum-out (M .weights) (moment h a) kept 1 (x .chances) F)) (λ G q. run-all N q (operation (moment h a) (G ∷ kept) (add-reward (power M h) (x .reward) a G) end))
   unfolding after-levels
-  after-levels-run N p F = run-all-then N p (sum-out (M .weights) h kept 1 (x .chances) F) (λ G. operation h (G ∷ kept) (add-reward (power M h) (x .reward) a G) end)
+  after-levels-run N p F = run-all-then N p (sum-out (M .weights) (moment h a) kept 1 (x .chances) F) (λ G. operation (moment h a) (G ∷ kept) (add-reward (power M h) (x .reward) a G) end)
 
 -- ---- actions
 
 module _ (M : Model) (h : ℕ) (kept : List Tree) (P : Tree) where
   -- the action at i of l, number a, is next
   pub best-on-step : (d : Action) (N p a i : ℕ) (l : List Action) (F : Tree) → i < length l → run-all N p (best-on M h kept P a (drop i l) F)
-      ≡ onward (run-all N p (action-total M h (F ∷ kept) P a (getD l i d))) (λ G q. run-all N q (operation h (G ∷ F ∷ kept) (best F G) (best-on M h kept P (suc a) (drop (suc i) l))))
+      ≡ onward (run-all N p (action-total M h (F ∷ kept) P a (getD l i d))) (λ G q. run-all N q (operation (moment h a) (G ∷ F ∷ kept) (best F G) (best-on M h kept P (suc a) (drop (suc i) l))))
   unfolding best-on
   best-on-step d N p a i l F q = ap (λ (z : List Action). run-all N p (best-on M h kept P a z F)) (drop-cons l i d q)
-      ∙ run-all-then N p (action-total M h (F ∷ kept) P a (getD l i d)) (λ G. operation h (G ∷ F ∷ kept) (best F G) (best-on M h kept P (suc a) (drop (suc i) l)))
+      ∙ run-all-then N p (action-total M h (F ∷ kept) P a (getD l i d)) (λ G. operation (moment h a) (G ∷ F ∷ kept) (best F G) (best-on M h kept P (suc a) (drop (suc i) l)))
 
   -- none is left
   pub best-on-done : (N p a i : ℕ) (l : List Action) (F : Tree) → length l ≤ i → run-all N p (best-on M h kept P a (drop i l) F) ≡ solved F p
@@ -104,7 +104,7 @@ module _ (M : Model) (N p h : ℕ) (finished : List Tree) (P : Tree) (L : List T
   stages-done = ap (λ (z : List Tree). solved z p) (append-nil L)
 
 -- without an end worth: stage 0, then stages 1 to H
-pub all-stages-is : (M : Model) (H : ℕ) → M .end ≡ [] → all-stages M H ≡ operation 1 (model-diagrams M) (make zero-leaf) (λ Z. stages-on M H 1 (Z ∷ []) Z)
+pub all-stages-is : (M : Model) (H : ℕ) → M .end ≡ [] → all-stages M H ≡ operation (moment 1 1) (model-diagrams M) (make zero-leaf) (λ Z. stages-on M H 1 (Z ∷ []) Z)
 unfolding all-stages stages-over-end
 all-stages-is M H e = ap (stages-over-end M H) e
 

@@ -2,4 +2,5 @@
 pub mod StagesHeld
 pub mod StagesBetter
 pub mod StagesOthers
+pub mod StagesCounted
 pub mod StagesAll

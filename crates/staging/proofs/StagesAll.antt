@@ -11,6 +11,7 @@ use Rattle.theory.specs.Diagram.{Tree}
 use Rattle.theory.specs.Computation.{solved, run-all}
 use Rattle.theory.specs.Load.{model}
 use Rattle.theory.specs.Stage.{model-diagrams, stage-over, stages-on}
+use Rattle.theory.specs.Peaks.{peaks-of}
 use Rattle.diagrams.specs.Nodes.{blank, trees}
 use Rattle.mark.specs.Mark.{rootsOf}
 use Rattle.solving.specs.Alike.{Alike, alike-trans, alike-eq, alike-turn}
@@ -18,9 +19,10 @@ use Rattle.solving.specs.Onward.{answered, answered-ok, answered-no}
 use Rattle.solving.specs.Roots.{roots-length, roots-append}
 use Rattle.solving.specs.Steps.{behind, behind-none, stages-done}
 use Rattle.solving.specs.Loops.{stage-done, stage-refused}
+use Rattle.solving.specs.Peaks.{stages-peaks}
 use Rattle.operate.specs.Operation.{heldTrees, Standing}
 use Rattle.totals.specs.Planning.{modelSize, Ready, rootAt, Ran}
-use Rattle.staging.specs.Stages.{Staged}
+use Rattle.staging.specs.Stages.{Counted, Staged}
 use Rattle.operate.specs.declared.Run.{Run}
 use Rattle.totals.proofs.Roots.{held-length}
 use Rattle.staging.proofs.StagesHeld.{held-more, held-take, ready-next}
@@ -33,8 +35,13 @@ model-length {B} {l = l} {n = n} {R = R} {held = held} D =
     let f = D .first in
     ap length (sym (D .models)) ∙ length-take-le (modelSize B) (heldTrees l n R held) (omega arith)
 
+-- no stage is left: no more peaks
+stages-counted-all : (B : List ℕ) (h : ℕ) (finished : List Tree) (P : Tree) (Q : List ℕ) → peaks-of Q (stages-on (model B) 0 h finished P) ≡ Q
+unfolding stages-on peaks-of
+stages-counted-all B h finished P Q = refl
+
 -- stages 1 to h are there, Z stage 0
-pub record Staging (B : List ℕ) (cap H : ℕ) (l₀ : List ℤ) (R₀ : List ℕ) (held : ℕ) (r₀ : Run) (l : List ℤ) (w R : List ℕ) (r : Run) (h : ℕ) : Type 0 where
+pub record Staging (B : List ℕ) (cap H : ℕ) (l₀ : List ℤ) (R₀ : List ℕ) (held : ℕ) (r₀ : Run) (P₀ : List ℕ) (l : List ℤ) (w R : List ℕ) (r : Run) (P : List ℕ) (h : ℕ) : Type 0 where
   pub stages : List Tree
   pub finished : List Tree
   pub before : Tree
@@ -47,6 +54,7 @@ pub record Staging (B : List ℕ) (cap H : ℕ) (l₀ : List ℤ) (R₀ : List �
   pub last : getD (heldTrees l (r .count) R (held + h)) (held + h - 1) blank ≡ before
   pub left : run-all cap (r₀ .peak) (stages-on (model B) H 1 (rootAt l₀ (r₀ .count) R₀ (modelSize B) ∷ []) (rootAt l₀ (r₀ .count) R₀ (modelSize B)))
       ≡ behind stages (run-all cap (r .peak) (stages-on (model B) (H - h) (suc h) finished before))
+  pub counts : peaks-of P₀ (stages-on (model B) H 1 (rootAt l₀ (r₀ .count) R₀ (modelSize B) ∷ []) (rootAt l₀ (r₀ .count) R₀ (modelSize B))) ≡ peaks-of P (stages-on (model B) (H - h) (suc h) finished before)
 
 -- stage 0 is the last root that is held
 module _ {B : List ℕ} {cap : ℕ} (H : ℕ) {l : List ℤ} {w R : List ℕ} {held : ℕ} (r : Run) (D : Ready B cap l w (r .count) R held) (e : held ≡ modelSize B + 1) where
@@ -65,8 +73,8 @@ module _ {B : List ℕ} {cap : ℕ} (H : ℕ) {l : List ℤ} {w R : List ℕ} {h
       ap (λ (k : ℕ). heldTrees l (r .count) R k) (let z : held + 0 ≡ modelSize B + 1 = omega arith in z)
       ∙ (held-more l (r .count) R (modelSize B) few ∙ ap (λ (X : List Tree). X ++ (rootAt l (r .count) R (modelSize B) ∷ [])) models)
 
-  pub staging-starts : r .stop ≡ 0 → Staging B cap H l R held r l w R r 0
-  staging-starts ok =
+  pub staging-starts : (P : List ℕ) → r .stop ≡ 0 → Staging B cap H l R held r P l w R r P 0
+  staging-starts P ok =
       let Z = rootAt l (r .count) R (modelSize B) in
       record {
         stages = [];
@@ -81,12 +89,16 @@ module _ {B : List ℕ} {cap : ℕ} (H : ℕ) {l : List ℤ} {w R : List ℕ} {h
         last = ap (λ (X : List Tree). getD X (held + 0 - 1) blank) zeroth ∙ getD-at (model-diagrams (model B)) Z [] blank (held + 0 - 1) (model-length D ∙ (let z : modelSize B ≡ held + 0 - 1 = omega arith in z));
         left = sym (behind-none (run-all cap (r .peak) (stages-on (model B) H 1 (Z ∷ []) Z)))
             ∙ ap (λ (k : ℕ). behind [] (run-all cap (r .peak) (stages-on (model B) k 1 (Z ∷ []) Z))) (let z : H ≡ H - 0 = omega arith in z);
+        counts = ap (λ (k : ℕ). peaks-of P (stages-on (model B) k 1 (Z ∷ []) Z)) (let z : H ≡ H - 0 = omega arith in z);
       }
 
-module _ {B : List ℕ} {cap H : ℕ} {l₀ : List ℤ} {R₀ : List ℕ} {held : ℕ} {r₀ : Run} {l : List ℤ} {w R : List ℕ} {r : Run} {h : ℕ} (Y : Staging B cap H l₀ R₀ held r₀ l w R r h) where
+module _ {B : List ℕ} {cap H : ℕ} {l₀ : List ℤ} {R₀ : List ℕ} {held : ℕ} {r₀ : Run} {P₀ : List ℕ} {l : List ℤ} {w R : List ℕ} {r : Run} {P : List ℕ} {h : ℕ} (Y : Staging B cap H l₀ R₀ held r₀ P₀ l w R r P h) where
   -- the next stage
-  module _ (q : h < H) {l′ : List ℤ} {w′ R′ : List ℕ} {r′ : Run}
-      (T : Ran cap (r .peak) l (r .count) R (held + h) (h + 1) (λ K. stage-over (model B) (h + 1) K (getD (heldTrees l (r .count) R (held + h)) (held + h - 1) blank)) l′ w′ R′ r′) where
+  module _ (q : h < H) {l′ : List ℤ} {w′ R′ P′ : List ℕ} {r′ : Run}
+      (C : Counted cap (r .peak) l (r .count) R (held + h) (h + 1) (λ K. stage-over (model B) (h + 1) K (getD (heldTrees l (r .count) R (held + h)) (held + h - 1) blank)) P l′ w′ R′ P′ r′) where
+    abbrev T : Ran cap (r .peak) l (r .count) R (held + h) (h + 1) (λ K. stage-over (model B) (h + 1) K (getD (heldTrees l (r .count) R (held + h)) (held + h - 1) blank)) l′ w′ R′ r′
+    T = C .ran
+
     step : run-all cap (r .peak) (stage-over (model B) (suc h) (Y .finished ++ model-diagrams (model B)) (Y .before)) ≡ answered (r′ .stop) (h + 1) (rootAt l′ (r′ .count) R′ (held + h)) (r′ .peak)
     step =
         ap₂ (λ (i : ℕ) (P : Tree). run-all cap (r .peak) (stage-over (model B) i (Y .finished ++ model-diagrams (model B)) P)) (sym (add-one h)) (sym (Y .last))
@@ -96,19 +108,26 @@ module _ {B : List ℕ} {cap H : ℕ} {l₀ : List ℤ} {R₀ : List ℕ} {held 
         ≡ behind (Y .stages) (run-all cap (r .peak) (stages-on (model B) (suc (H - (h + 1))) (suc h) (Y .finished) (Y .before)))
     more = Y .left ∙ ap (λ (k : ℕ). behind (Y .stages) (run-all cap (r .peak) (stages-on (model B) k (suc h) (Y .finished) (Y .before)))) (let z : H - h ≡ suc (H - (h + 1)) = omega arith in z)
 
-    pub staging-stops : (r′ .stop ≡ 0 → ⊥) → Staged B cap (r₀ .peak) H l₀ (r₀ .count) R₀ l′ w′ R′ (record { stop = r′ .stop; place = h + 1; count = r′ .count; peak = r′ .peak })
+    pub staging-stops : (r′ .stop ≡ 0 → ⊥) → Staged B cap (r₀ .peak) H l₀ (r₀ .count) R₀ P₀ l′ w′ R′ P′ (record { stop = r′ .stop; place = h + 1; count = r′ .count; peak = r′ .peak })
     staging-stops off = record {
       outcome = more
           ∙ (stage-refused (model B) cap (r .peak) (suc h) (Y .finished) (Y .before) (Y .stages) (H - (h + 1)) (step ∙ answered-no (r′ .stop) (h + 1) (rootAt l′ (r′ .count) R′ (held + h)) (r′ .peak) off)
           ∙ sym (answered-no (r′ .stop) (h + 1) (rootsOf (trees l′ (r′ .count)) (take H (drop (suc (modelSize B)) R′))) (r′ .peak) off));
       standing = λ ok. absurd (off ok);
+      peaks = λ ok. absurd (off ok);
     }
 
     module _ (ok : r′ .stop ≡ 0) (few : held + h < length R′) where
       grown : heldTrees l′ (r′ .count) R′ (held + (h + 1)) ≡ heldTrees l (r .count) R (held + h) ++ (rootAt l′ (r′ .count) R′ (held + h) ∷ [])
       grown = ap (λ (k : ℕ). heldTrees l′ (r′ .count) R′ k) (let z : held + (h + 1) ≡ suc (held + h) = omega arith in z) ∙ T .rooted ok .roots
 
-      pub staging-on : Staging B cap H l₀ R₀ held r₀ l′ w′ R′ r′ (h + 1)
+      -- the words are those of the stage's operations
+      raised : P′ ≡ peaks-of P (stage-over (model B) (suc h) (Y .finished ++ model-diagrams (model B)) (Y .before))
+      raised =
+          C .peaks ok (Y .finished ++ model-diagrams (model B)) (alike-trans (alike-eq (Y .roots)) (Y .alike))
+          ∙ ap₂ (λ (i : ℕ) (Z : Tree). peaks-of P (stage-over (model B) i (Y .finished ++ model-diagrams (model B)) Z)) (add-one h) (Y .last)
+
+      pub staging-on : Staging B cap H l₀ R₀ held r₀ P₀ l′ w′ R′ r′ P′ (h + 1)
       staging-on =
           let S = rootAt l′ (r′ .count) R′ (held + h) in
           let Z = rootAt l₀ (r₀ .count) R₀ (modelSize B) in
@@ -130,6 +149,10 @@ module _ {B : List ℕ} {cap H : ℕ} {l₀ : List ℤ} {R₀ : List ℕ} {held 
             left = more
                 ∙ (stage-done (model B) cap (r .peak) (suc h) (Y .finished) (Y .before) (Y .stages) (H - (h + 1)) (step ∙ answered-ok (r′ .stop) (h + 1) S (r′ .peak) ok)
                 ∙ ap (λ (i : ℕ). behind (Y .stages ++ (S ∷ [])) (run-all cap (r′ .peak) (stages-on (model B) (H - (h + 1)) (suc i) (S ∷ Y .finished) S))) (sym (add-one h)));
+            counts = Y .counts
+                ∙ (ap (λ (k : ℕ). peaks-of P (stages-on (model B) k (suc h) (Y .finished) (Y .before))) (let z : H - h ≡ suc (H - (h + 1)) = omega arith in z)
+                ∙ (stages-peaks (model B) (H - (h + 1)) (suc h) (Y .finished) (Y .before) cap (r .peak) P (step ∙ answered-ok (r′ .stop) (h + 1) S (r′ .peak) ok)
+                ∙ ap₂ (λ (Q : List ℕ) (i : ℕ). peaks-of Q (stages-on (model B) (H - (h + 1)) (suc i) (S ∷ Y .finished) S)) (sym raised) (sym (add-one h))));
           }
 
   -- none is left
@@ -152,7 +175,7 @@ module _ {B : List ℕ} {cap H : ℕ} {l₀ : List ℤ} {R₀ : List ℕ} {held 
         sym (drop-at p (rootsOf X (take H (drop m R))) m (roots-length X (take m R) ∙ length-take-le m R (omega (arith, all))))
         ∙ (ap (drop m) e ∙ drop-at (M ++ (Z ∷ [])) (Y .stages) m (length-append M (Z ∷ []) ∙ (ap (λ (k : ℕ). k + 1) size ∙ add-one (modelSize B))))
 
-    pub staging-ends : Staged B cap (r₀ .peak) H l₀ (r₀ .count) R₀ l w R (record { stop = 0; place = 0; count = r .count; peak = r .peak })
+    pub staging-ends : Staged B cap (r₀ .peak) H l₀ (r₀ .count) R₀ P₀ l w R P (record { stop = 0; place = 0; count = r .count; peak = r .peak })
     staging-ends =
         let L = rootsOf (trees l (r .count)) (take H (drop (suc (modelSize B)) R)) in
         record {
@@ -161,4 +184,7 @@ module _ {B : List ℕ} {cap H : ℕ} {l₀ : List ℤ} {R₀ : List ℕ} {held 
               ∙ (stages-done (model B) cap (r .peak) (suc h) (Y .finished) (Y .before) (Y .stages)
               ∙ (ap (λ (X : List Tree). solved X (r .peak)) (sym behind-zero) ∙ sym (answered-ok 0 0 L (r .peak) refl))));
           standing = λ ok. subst (Standing cap l w (r .count) R) all (Y .ready .standing);
+          peaks = λ ok. sym (Y .counts
+              ∙ (ap (λ (k : ℕ). peaks-of P (stages-on (model B) k (suc h) (Y .finished) (Y .before))) (let z : H - h ≡ 0 = omega arith in z)
+              ∙ stages-counted-all B (suc h) (Y .finished) (Y .before) P));
         }

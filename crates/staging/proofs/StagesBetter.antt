@@ -10,7 +10,7 @@ use Rattle.theory.specs.Diagram.{Tree}
 use Rattle.theory.specs.Computation.{Comp, end, operation, solved, run-all}
 use Rattle.theory.specs.Rules.{best}
 use Rattle.theory.specs.Load.{model}
-use Rattle.theory.specs.Stage.{action-total}
+use Rattle.theory.specs.Stage.{moment, action-total}
 use Rattle.diagrams.specs.Nodes.{blank}
 use Rattle.solving.specs.Alike.{Alike, alike-refl, alike-trans, alike-eq, alike-append, alike-turn}
 use Rattle.solving.specs.Onward.{onward, run-all-end, run-all-then, Works, Stops, works-run, stops-run, answered, answered-no, onward-ok, onward-no}
@@ -20,14 +20,14 @@ use Rattle.totals.specs.Planning.{Ready, actionOf, rootAt, Ran}
 use Rattle.staging.specs.Stages.{bettered}
 use Rattle.operate.specs.declared.Rule.the-variants.{Best}
 use Rattle.operate.specs.declared.Run.{Run}
-use Rattle.totals.proofs.Roots.{held-length}
+use Rattle.totals.proofs.Roots.{held-length, operated-fits}
 use Rattle.staging.proofs.StagesHeld.{answers, held-more, held-before}
 
 -- the total, then the better of the two
 pub bettered-run : (B : List ℕ) (N p h : ℕ) (P : Tree) (a : ℕ) (F : Tree) (K : List Tree) → run-all N p (bettered B h P a F K)
-    ≡ onward (run-all N p (action-total (model B) h (F ∷ K) P a (actionOf B a))) (λ G q. run-all N q (operation h (G ∷ F ∷ K) (best F G) end))
+    ≡ onward (run-all N p (action-total (model B) h (F ∷ K) P a (actionOf B a))) (λ G q. run-all N q (operation (moment h a) (G ∷ F ∷ K) (best F G) end))
 unfolding bettered
-bettered-run B N p h P a F K = run-all-then N p (action-total (model B) h (F ∷ K) P a (actionOf B a)) (λ G. operation h (G ∷ F ∷ K) (best F G) end)
+bettered-run B N p h P a F K = run-all-then N p (action-total (model B) h (F ∷ K) P a (actionOf B a)) (λ G. operation (moment h a) (G ∷ F ∷ K) (best F G) end)
 
 -- F behind Q, or before what is like Q
 pub alike-front : (F : Tree) {Q K : List Tree} → Alike Q K → Alike (Q ++ (F ∷ [])) (F ∷ K)
@@ -57,6 +57,7 @@ module _ {B : List ℕ} {cap p : ℕ} {l : List ℤ} {w : List ℕ} {n : ℕ} {R
   better-stopped off = record {
     outcome = λ K al. bettered-run B cap p h _ a (rootAt l n R held) K ∙ (onward-no (t .stop) h _ (t .peak) (totalled K al) _ off ∙ sym (answered-no (t .stop) h _ (t .peak) off));
     rooted = λ ok. absurd (off ok);
+    fits = λ ok. absurd (off ok);
   }
 
   -- or stands behind the best so far
@@ -83,14 +84,14 @@ module _ {B : List ℕ} {cap p : ℕ} {l : List ℤ} {w : List ℕ} {n : ℕ} {R
       roots K al = alike-trans (alike-eq stand) (alike-front (rootAt l′ (t .count) R′ (held + 1)) (alike-front (rootAt l n R held) al))
 
       bests : (K : List Tree) → Alike (heldTrees l n R held) K
-          → run-all cap (t .peak) (operation h (rootAt l′ (t .count) R′ (held + 1) ∷ rootAt l n R held ∷ K) (best (rootAt l n R held) (rootAt l′ (t .count) R′ (held + 1))) end)
+          → run-all cap (t .peak) (operation (moment h a) (rootAt l′ (t .count) R′ (held + 1) ∷ rootAt l n R held ∷ K) (best (rootAt l n R held) (rootAt l′ (t .count) R′ (held + 1))) end)
           ≡ answered (r .stop) h (rootAt l″ (r .count) R″ held) (r .peak)
       bests K al =
           let Y = rootAt l′ (t .count) R′ (held + 1) ∷ rootAt l n R held ∷ K in
           let b = rootAt l″ (r .count) R″ held in
           answers (r .stop) h b (r .peak)
-          (λ z. works-run (t .peak) h end (subst (λ (c : Comp Tree). Works cap Y c b (r .count)) comes (S .works z Y (roots K al))) ∙ (run-all-end cap (max (t .peak) (r .count)) b ∙ ap (solved b) (sym (S .peak))))
-          (λ z. stops-run (t .peak) h end (subst (λ (c : Comp Tree). Stops cap Y c (r .stop)) comes (S .stops z Y (roots K al))))
+          (λ z. works-run (t .peak) (moment h a) end (subst (λ (c : Comp Tree). Works cap Y c b (r .count)) comes (S .works z Y (roots K al))) ∙ (run-all-end cap (max (t .peak) (r .count)) b ∙ ap (solved b) (sym (S .peak))))
+          (λ z. stops-run (t .peak) (moment h a) end (subst (λ (c : Comp Tree). Stops cap Y c (r .stop)) comes (S .stops z Y (roots K al))))
 
       kept : take held (heldTrees l′ (t .count) R′ (held + 2)) ≡ heldTrees l n R held
       kept =
@@ -103,4 +104,5 @@ module _ {B : List ℕ} {cap p : ℕ} {l : List ℤ} {w : List ℕ} {n : ℕ} {R
       better-done = record {
         outcome = λ K al. bettered-run B cap p h _ a (rootAt l n R held) K ∙ (onward-ok (t .stop) h _ (t .peak) (totalled K al) _ ok ∙ bests K al);
         rooted = λ z. subst (λ (X : List Tree). Rooted cap l″ w″ (r .count) (take (suc held) R″) (X ++ (rootAt l″ (r .count) R″ held ∷ []))) kept (S .rooted z);
+        fits = λ z q. operated-fits S z (T .fits ok q);
       }

@@ -1,20 +1,23 @@
 -- The actions of a stage: the loop from the second on, and action 1 before it.
 use mathlib.Core.Path.{_≡_, refl, sym, ap, ap₂, _∙_, subst}
 use mathlib.Core.List.{List, [], _∷_, _++_}
-use Prim.Native.Nat.{ℕ, suc, _+_, _-_, _≤_, _<_}
+use Prim.Native.Nat.{ℕ, suc, _+_, _-_, _≤_, _<_, max}
 use native.Mathlib.Numerals.{add-one}
 use native.Mathlib.Omega.{arith}
 use lib.IntN.{ℤ}
-use lib.ListN.{length, getD, take, drop}
+use lib.ListN.{length, getD, take, drop, drop-of-length-le}
+use lib.Seq.{drop-cons}
+use Rattle.theory.specs.Widths.{actions-most, peak-words}
 use Rattle.theory.specs.Diagram.{Tree}
-use Rattle.theory.specs.Computation.{Comp, Ops, end, operation, and-then, Solved, run-all}
+use Rattle.theory.specs.Computation.{Comp, Moment, Ops, end, operation, and-then, Solved, solved, run-all}
 use Rattle.theory.specs.Rules.{best}
 use Rattle.theory.specs.Meaning.{Action}
 use Rattle.theory.specs.Verdict.{Site, verdict}
 use Rattle.theory.specs.Load.{site-at, model}
 use Rattle.progress.specs.declared.Site.{Site as CodeSite}
 use Rattle.progress.specs.Standing.{site-as}
-use Rattle.theory.specs.Stage.{action-total, best-on, stage-over}
+use Rattle.theory.specs.Stage.{moment, action-total, best-on, stage-over}
+use Rattle.theory.specs.Peaks.{peaks-of}
 use Rattle.theory.specs.laws.Loading.{accepted-site}
 use Rattle.diagrams.specs.Nodes.{blank}
 use Rattle.solving.specs.Alike.{Alike, alike-trans, alike-eq}
@@ -22,18 +25,20 @@ use Rattle.solving.specs.Onward.{onward, onward-onward, onward-same, onward-ok,
 use Rattle.solving.specs.Roots.{Rooted}
 use Rattle.solving.specs.Steps.{best-on-step, best-on-done}
 use Rattle.solving.specs.Loops.{first-done, first-refused}
+use Rattle.solving.specs.Peaks.{peaks-alone-on, stage-peaks}
 use Rattle.operate.specs.Operation.{heldTrees, Standing}
 use Rattle.totals.specs.Planning.{modelSize, Ready, actionOf, rootAt, Ran}
-use Rattle.staging.specs.Stages.{bettered}
+use Rattle.staging.specs.Stages.{bettered, Counted}
 use Rattle.operate.specs.declared.Run.{Run}
 use Rattle.totals.proofs.Roots.{held-length, held-suc}
+use Rattle.totals.proofs.Model.{sited}
 use Rattle.staging.proofs.StagesHeld.{held-take, held-is, ready-next}
 use Rattle.staging.proofs.StagesBetter.{bettered-run}
 
 -- ---- one action more
 
 -- an operation, then what follows from its result
-operation-run : {A : Type 0} (N q h : ℕ) (Y : List Tree) (c : Comp Tree) (f : Tree → Ops A) → run-all N q (operation h Y c f) ≡ onward (run-all N q (operation h Y c end)) (λ t s. run-all N s (f t))
+operation-run : {A : Type 0} (N q : ℕ) (h : Moment) (Y : List Tree) (c : Comp Tree) (f : Tree → Ops A) → run-all N q (operation h Y c f) ≡ onward (run-all N q (operation h Y c end)) (λ t s. run-all N s (f t))
 unfolding and-then
 operation-run N q h Y c f = run-all-then N q (operation h Y c end) f
 
@@ -46,13 +51,28 @@ module _ (B : List ℕ) (N p h : ℕ) (K : List Tree) (P : Tree) (a i : ℕ) (F 
   best-on-bettered =
       let M = model B in
       let f : Tree → Ops Tree = best-on M h K P (suc a) (drop (suc i) (M .others)) in
-      let j : Tree → ℕ → Solved Tree = λ G s. run-all N s (operation h (G ∷ F ∷ K) (best F G) end) in
+      let j : Tree → ℕ → Solved Tree = λ G s. run-all N s (operation (moment h a) (G ∷ F ∷ K) (best F G) end) in
       let k : Tree → ℕ → Solved Tree = λ t s. run-all N s (f t) in
       let o : Action → Solved Tree = λ x. run-all N p (action-total M h (F ∷ K) P a x) in
       best-on-step M h K P (M .first) N p a i (M .others) F q
-      ∙ (onward-same (o (getD (M .others) i (M .first))) (λ G s. run-all N s (operation h (G ∷ F ∷ K) (best F G) f)) (λ G s. onward (j G s) k) (λ G s. operation-run N s h (G ∷ F ∷ K) (best F G) f)
+      ∙ (onward-same (o (getD (M .others) i (M .first))) (λ G s. run-all N s (operation (moment h a) (G ∷ F ∷ K) (best F G) f)) (λ G s. onward (j G s) k) (λ G s. operation-run N s (moment h a) (G ∷ F ∷ K) (best F G) f)
       ∙ (sym (onward-onward (o (getD (M .others) i (M .first))) j k)
       ∙ ap (λ (z : Solved Tree). onward z k) (ap (λ (x : Action). onward (o x) j) (sym (action-at B a i e)) ∙ sym (bettered-run B N p h P a F K))))
+
+  -- and the peaks: those of the action, then those of the others
+  best-on-counted : (Q : List ℕ) {t : Tree} {s : ℕ} → run-all N p (bettered B h P a F K) ≡ solved t s
+      → peaks-of Q (best-on (model B) h K P a (drop i (model B .others)) F) ≡ peaks-of (peaks-of Q (bettered B h P a F K)) (best-on (model B) h K P (suc a) (drop (suc i) (model B .others)) t)
+  unfolding bettered best-on
+  best-on-counted Q r =
+      let M = model B in
+      ap (λ (z : List Action). peaks-of Q (best-on M h K P a z F)) (drop-cons (M .others) i (M .first) q)
+      ∙ (ap (λ (x : Action). peaks-of Q (best-on M h K P a (x ∷ drop (suc i) (M .others)) F)) (sym (action-at B a i e))
+      ∙ peaks-alone-on (moment h a) (λ G. G ∷ F ∷ K) (λ G. best F G) (best-on M h K P (suc a) (drop (suc i) (M .others))) N p Q (action-total M h (F ∷ K) P a (actionOf B a)) r)
+
+-- none is left: no more peaks
+best-on-counted-all : (B : List ℕ) (h : ℕ) (K : List Tree) (P : Tree) (a i : ℕ) (F : Tree) (Q : List ℕ) → length (model B .others) ≤ i → peaks-of Q (best-on (model B) h K P a (drop i (model B .others)) F) ≡ Q
+unfolding best-on peaks-of
+best-on-counted-all B h K P a i F Q q = ap (λ (z : List Action). peaks-of Q (best-on (model B) h K P a z F)) (drop-of-length-le (model B .others) q)
 
 -- ---- how many actions
 
@@ -62,7 +82,7 @@ others-count B e = accepted-site B e .1 .same-actions
 -- ---- the loop
 
 -- actions 2 to a − 1 are tried: the best so far stands behind what is held
-pub record Trying (B : List ℕ) (cap : ℕ) (l₀ : List ℤ) (R₀ : List ℕ) (held before h actions : ℕ) (r₀ : Run) (l : List ℤ) (w R : List ℕ) (r : Run) (a : ℕ) : Type 0 where
+pub record Trying (B : List ℕ) (cap : ℕ) (l₀ : List ℤ) (R₀ : List ℕ) (held before h actions : ℕ) (r₀ : Run) (P₀ : List ℕ) (l : List ℤ) (w R : List ℕ) (r : Run) (P : List ℕ) (a : ℕ) : Type 0 where
   pub ok : r .stop ≡ 0
   pub low : 2 ≤ a
   pub count : actions ≡ site-at B .actions
@@ -72,18 +92,29 @@ pub record Trying (B : List ℕ) (cap : ℕ) (l₀ : List ℤ) (R₀ : List ℕ)
   pub left : (K : List Tree) → Alike (heldTrees l₀ (r₀ .count) R₀ held) K
       → run-all cap (r₀ .peak) (best-on (model B) h K (getD (heldTrees l₀ (r₀ .count) R₀ held) before blank) 2 (model B .others) (rootAt l₀ (r₀ .count) R₀ held))
       ≡ run-all cap (r .peak) (best-on (model B) h K (getD (heldTrees l₀ (r₀ .count) R₀ held) before blank) a (drop (a - 2) (model B .others)) (rootAt l (r .count) R held))
+  pub fits : r₀ .peak ≤ cap → r .peak ≤ cap
+  pub counts : (K : List Tree) → Alike (heldTrees l₀ (r₀ .count) R₀ held) K
+      → peaks-of P₀ (best-on (model B) h K (getD (heldTrees l₀ (r₀ .count) R₀ held) before blank) 2 (model B .others) (rootAt l₀ (r₀ .count) R₀ held))
+      ≡ peaks-of P (best-on (model B) h K (getD (heldTrees l₀ (r₀ .count) R₀ held) before blank) a (drop (a - 2) (model B .others)) (rootAt l (r .count) R held))
 
-pub trying-starts : {B : List ℕ} {cap : ℕ} {l : List ℤ} {w R : List ℕ} {held before h actions : ℕ} {r : Run} → Ready B cap l w (r .count) R (held + 1) → r .stop ≡ 0 → modelSize B ≤ held → {s : CodeSite} → site-as s ≡ site-at B → actions ≡ s .actions
-    → Trying B cap l R held before h actions r l w R r 2
-trying-starts {B} D ok f es e = record { ok = ok; low = omega arith; count = e ∙ ap (λ (S : Site). S .actions) es; ready = D; first = f; same = refl; left = λ K al. refl }
+pub trying-starts : {B : List ℕ} {cap : ℕ} {l : List ℤ} {w R P : List ℕ} {held before h actions : ℕ} {r : Run} → Ready B cap l w (r .count) R (held + 1) → r .stop ≡ 0 → modelSize B ≤ held → {s : CodeSite} → site-as s ≡ site-at B → actions ≡ s .actions
+    → Trying B cap l R held before h actions r P l w R r P 2
+trying-starts {B} D ok f es e = record { ok = ok; low = omega arith; count = e ∙ ap (λ (S : Site). S .actions) es; ready = D; first = f; same = refl; left = λ K al. refl; fits = λ q. q; counts = λ K al. refl }
 
-module _ {B : List ℕ} {cap : ℕ} {l₀ : List ℤ} {R₀ : List ℕ} {held before h actions : ℕ} {r₀ : Run} {l : List ℤ} {w R : List ℕ} {r : Run} {a : ℕ} (Y : Trying B cap l₀ R₀ held before h actions r₀ l w R r a) where
+module _ {B : List ℕ} {cap : ℕ} {l₀ : List ℤ} {R₀ : List ℕ} {held before h actions : ℕ} {r₀ : Run} {P₀ : List ℕ} {l : List ℤ} {w R : List ℕ} {r : Run} {P : List ℕ} {a : ℕ} (Y : Trying B cap l₀ R₀ held before h actions r₀ P₀ l w R r P a) where
   pub trying-action : a ≤ actions → a ≤ site-at B .actions
   trying-action q = omega (arith, Y .count)
 
+  -- it has a word
+  pub trying-word : a ≤ actions → length P ≡ peak-words → a < length P
+  trying-word q e = let z = sited B (Y .ready .accepted) .few-actions in let n = Y .count in omega (arith, z, n, q, e)
+
   -- the next action
-  module _ (q : a ≤ actions) {l′ : List ℤ} {w′ R′ : List ℕ} {r′ : Run}
-      (T : Ran cap (r .peak) l (r .count) R held h (bettered B h (getD (heldTrees l (r .count) R held) before blank) a (rootAt l (r .count) R held)) l′ w′ R′ r′) where
+  module _ (q : a ≤ actions) {l′ : List ℤ} {w′ R′ P′ : List ℕ} {r′ : Run}
+      (C : Counted cap (r .peak) l (r .count) R held h (bettered B h (getD (heldTrees l (r .count) R held) before blank) a (rootAt l (r .count) R held)) P l′ w′ R′ P′ r′) where
+    abbrev T : Ran cap (r .peak) l (r .count) R held h (bettered B h (getD (heldTrees l (r .count) R held) before blank) a (rootAt l (r .count) R held)) l′ w′ R′ r′
+    T = C .ran
+
     step : (K : List Tree) → Alike (heldTrees l₀ (r₀ .count) R₀ held) K
         → run-all cap (r .peak) (bettered B h (getD (heldTrees l₀ (r₀ .count) R₀ held) before blank) a (rootAt l (r .count) R held) K) ≡ answered (r′ .stop) h (rootAt l′ (r′ .count) R′ held) (r′ .peak)
     step K al = ap (λ (X : List Tree). run-all cap (r .peak) (bettered B h (getD X before blank) a (rootAt l (r .count) R held) K)) (sym (Y .same)) ∙ T .outcome K (alike-trans (alike-eq (Y .same)) al)
@@ -97,14 +128,18 @@ module _ {B : List ℕ} {cap : ℕ} {l₀ : List ℤ} {R₀ : List ℕ} {held be
         let count = Y .count in
         best-on-bettered B cap (r .peak) h K (getD (heldTrees l₀ (r₀ .count) R₀ held) before blank) a (a - 2) (rootAt l (r .count) R held) (omega arith) (omega arith)
 
-    pub trying-stops : (r′ .stop ≡ 0 → ⊥) → Ran cap (r₀ .peak) l₀ (r₀ .count) R₀ held h (λ K. best-on (model B) h K (getD (heldTrees l₀ (r₀ .count) R₀ held) before blank) 2 (model B .others) (rootAt l₀ (r₀ .count) R₀ held)) l′ w′ R′ r′
+    pub trying-stops : (r′ .stop ≡ 0 → ⊥) → Counted cap (r₀ .peak) l₀ (r₀ .count) R₀ held h (λ K. best-on (model B) h K (getD (heldTrees l₀ (r₀ .count) R₀ held) before blank) 2 (model B .others) (rootAt l₀ (r₀ .count) R₀ held)) P₀ l′ w′ R′ P′ r′
     trying-stops off = record {
-      outcome = λ K al. Y .left K al ∙ (run K ∙ (onward-no (r′ .stop) h (rootAt l′ (r′ .count) R′ held) (r′ .peak) (step K al) (λ t s. run-all cap s (best-on (model B) h K (getD (heldTrees l₀ (r₀ .count) R₀ held) before blank) (suc a) (drop (suc (a - 2)) (model B .others)) t)) off
-          ∙ sym (answered-no (r′ .stop) h (rootAt l′ (r′ .count) R′ held) (r′ .peak) off)));
-      rooted = λ ok. absurd (off ok);
+      peaks = λ ok. absurd (off ok);
+      ran = record {
+        outcome = λ K al. Y .left K al ∙ (run K ∙ (onward-no (r′ .stop) h (rootAt l′ (r′ .count) R′ held) (r′ .peak) (step K al) (λ t s. run-all cap s (best-on (model B) h K (getD (heldTrees l₀ (r₀ .count) R₀ held) before blank) (suc a) (drop (suc (a - 2)) (model B .others)) t)) off
+            ∙ sym (answered-no (r′ .stop) h (rootAt l′ (r′ .count) R′ held) (r′ .peak) off)));
+        rooted = λ ok. absurd (off ok);
+        fits = λ ok. absurd (off ok);
+      };
     }
 
-    pub trying-on : r′ .stop ≡ 0 → held < length R′ → Trying B cap l₀ R₀ held before h actions r₀ l′ w′ R′ r′ (a + 1)
+    pub trying-on : r′ .stop ≡ 0 → held < length R′ → Trying B cap l₀ R₀ held before h actions r₀ P₀ l′ w′ R′ r′ P′ (a + 1)
     trying-on ok few = record {
       ok = ok;
       low = let low = Y .low in omega arith;
@@ -114,8 +149,28 @@ module _ {B : List ℕ} {cap : ℕ} {l₀ : List ℤ} {R₀ : List ℕ} {held be
       same = held-is l′ (r′ .count) R′ held (heldTrees l (r .count) R held) (rootAt l′ (r′ .count) R′ held) (T .rooted ok) long few ∙ Y .same;
       left = λ K al. Y .left K al ∙ (run K ∙ (onward-ok (r′ .stop) h (rootAt l′ (r′ .count) R′ held) (r′ .peak) (step K al) (λ t s. run-all cap s (best-on (model B) h K (getD (heldTrees l₀ (r₀ .count) R₀ held) before blank) (suc a) (drop (suc (a - 2)) (model B .others)) t)) ok
           ∙ ap₂ (λ (i k : ℕ). run-all cap (r′ .peak) (best-on (model B) h K (getD (heldTrees l₀ (r₀ .count) R₀ held) before blank) i (drop k (model B .others)) (rootAt l′ (r′ .count) R′ held))) (sym (add-one a)) shift));
+      fits = λ q. T .fits ok (Y .fits q);
+      counts = λ K al.
+          let Z = getD (heldTrees l₀ (r₀ .count) R₀ held) before blank in
+          let F = rootAt l (r .count) R held in
+          let G = rootAt l′ (r′ .count) R′ held in
+          Y .counts K al
+          ∙ (best-on-counted B cap (r .peak) h K Z a (a - 2) F here-in next P (step K al ∙ answered-ok (r′ .stop) h G (r′ .peak) ok)
+          ∙ (ap (λ (Q : List ℕ). peaks-of Q (best-on (model B) h K Z (suc a) (drop (suc (a - 2)) (model B .others)) G)) (sym (raised K al))
+          ∙ ap₂ (λ (i k : ℕ). peaks-of P′ (best-on (model B) h K Z i (drop k (model B .others)) G)) (sym (add-one a)) shift));
     }
       where
+        here-in : a - 2 < length (model B .others)
+        here-in = let n = others-count B (Y .ready .accepted) in let low = Y .low in let count = Y .count in omega arith
+
+        next : a ≡ suc (suc (a - 2))
+        next = let low = Y .low in omega arith
+
+        -- the words are those of the action's operations
+        raised : (K : List Tree) → Alike (heldTrees l₀ (r₀ .count) R₀ held) K → P′ ≡ peaks-of P (bettered B h (getD (heldTrees l₀ (r₀ .count) R₀ held) before blank) a (rootAt l (r .count) R held) K)
+        raised K al = C .peaks ok K (alike-trans (alike-eq (Y .same)) al)
+            ∙ ap (λ (X : List Tree). peaks-of P (bettered B h (getD X before blank) a (rootAt l (r .count) R held) K)) (Y .same)
+
         here : held < length R
         here = let z = Y .ready .standing .few in omega arith
 
@@ -126,15 +181,19 @@ module _ {B : List ℕ} {cap : ℕ} {l₀ : List ℤ} {R₀ : List ℕ} {held be
         shift = let low = Y .low in omega arith
 
   -- none is left
-  pub trying-ends : actions < a → Ran cap (r₀ .peak) l₀ (r₀ .count) R₀ held h (λ K. best-on (model B) h K (getD (heldTrees l₀ (r₀ .count) R₀ held) before blank) 2 (model B .others) (rootAt l₀ (r₀ .count) R₀ held)) l w R r
+  pub trying-ends : actions < a → Counted cap (r₀ .peak) l₀ (r₀ .count) R₀ held h (λ K. best-on (model B) h K (getD (heldTrees l₀ (r₀ .count) R₀ held) before blank) 2 (model B .others) (rootAt l₀ (r₀ .count) R₀ held)) P₀ l w R P r
   trying-ends q = record {
-    outcome = λ K al. Y .left K al ∙ (best-on-done (model B) h K (getD (heldTrees l₀ (r₀ .count) R₀ held) before blank) cap (r .peak) a (a - 2) (model B .others) (rootAt l (r .count) R held) all
-        ∙ sym (answered-ok (r .stop) h (rootAt l (r .count) R held) (r .peak) (Y .ok)));
-    rooted = λ ok. record {
-      good = S .good;
-      space = S .space;
-      below = S .below;
-      roots = held-suc l (r .count) R held (let z = S .few in omega arith) ∙ ap (λ (X : List Tree). X ++ (rootAt l (r .count) R held ∷ [])) (Y .same);
+    peaks = λ ok K al. sym (Y .counts K al ∙ best-on-counted-all B h K (getD (heldTrees l₀ (r₀ .count) R₀ held) before blank) a (a - 2) (rootAt l (r .count) R held) P all);
+    ran = record {
+      outcome = λ K al. Y .left K al ∙ (best-on-done (model B) h K (getD (heldTrees l₀ (r₀ .count) R₀ held) before blank) cap (r .peak) a (a - 2) (model B .others) (rootAt l (r .count) R held) all
+          ∙ sym (answered-ok (r .stop) h (rootAt l (r .count) R held) (r .peak) (Y .ok)));
+      rooted = λ ok. record {
+        good = S .good;
+        space = S .space;
+        below = S .below;
+        roots = held-suc l (r .count) R held (let z = S .few in omega arith) ∙ ap (λ (X : List Tree). X ++ (rootAt l (r .count) R held ∷ [])) (Y .same);
+      };
+      fits = λ ok. Y .fits;
     };
   }
     where
@@ -149,28 +208,43 @@ module _ {B : List ℕ} {cap : ℕ} {l₀ : List ℤ} {R₀ : List ℕ} {held be
 pub stage-first : {B : List ℕ} {cap : ℕ} {l : List ℤ} {w : List ℕ} {n : ℕ} {R : List ℕ} {held : ℕ} → Ready B cap l w n R held → 1 ≤ site-at B .actions
 stage-first {B} D = omega (arith, others-count B (D .accepted))
 
-module _ {B : List ℕ} {cap p : ℕ} {l : List ℤ} {w : List ℕ} {n : ℕ} {R : List ℕ} {held : ℕ} (before : ℕ) {h : ℕ} {l′ : List ℤ} {w′ R′ : List ℕ} {t : Run} (D : Ready B cap l w n R held)
-    (T : Ran cap p l n R held h (λ K. action-total (model B) h K (getD (heldTrees l n R held) before blank) 1 (actionOf B 1)) l′ w′ R′ t) where
-  pub first-stops : (t .stop ≡ 0 → ⊥) → Ran cap p l n R held h (λ K. stage-over (model B) h K (getD (heldTrees l n R held) before blank)) l′ w′ R′ t
+module _ {B : List ℕ} {cap p : ℕ} {l : List ℤ} {w : List ℕ} {n : ℕ} {R : List ℕ} {held : ℕ} (before : ℕ) {h : ℕ} {P : List ℕ} {l′ : List ℤ} {w′ R′ P′ : List ℕ} {t : Run} (D : Ready B cap l w n R held)
+    (C : Counted cap p l n R held h (λ K. action-total (model B) h K (getD (heldTrees l n R held) before blank) 1 (actionOf B 1)) P l′ w′ R′ P′ t) where
+  abbrev first-ran : Ran cap p l n R held h (λ K. action-total (model B) h K (getD (heldTrees l n R held) before blank) 1 (actionOf B 1)) l′ w′ R′ t
+  first-ran = C .ran
+
+  pub first-stops : (t .stop ≡ 0 → ⊥) → Counted cap p l n R held h (λ K. stage-over (model B) h K (getD (heldTrees l n R held) before blank)) P l′ w′ R′ P′ t
   first-stops off = record {
-    outcome = λ K al. first-refused (model B) cap p h K (getD (heldTrees l n R held) before blank) (T .outcome K al ∙ answered-no (t .stop) h (rootAt l′ (t .count) R′ held) (t .peak) off)
-        ∙ sym (answered-no (t .stop) h (rootAt l′ (t .count) R′ held) (t .peak) off);
-    rooted = λ ok. absurd (off ok);
+    peaks = λ ok. absurd (off ok);
+    ran = record {
+      outcome = λ K al. first-refused (model B) cap p h K (getD (heldTrees l n R held) before blank) (first-ran .outcome K al ∙ answered-no (t .stop) h (rootAt l′ (t .count) R′ held) (t .peak) off)
+          ∙ sym (answered-no (t .stop) h (rootAt l′ (t .count) R′ held) (t .peak) off);
+      rooted = λ ok. absurd (off ok);
+      fits = λ ok. absurd (off ok);
+    };
   }
 
   module _ (ok : t .stop ≡ 0) (few : held < length R′) where
     pub first-stands : Ready B cap l′ w′ (t .count) R′ (held + 1)
-    first-stands = ready-next (heldTrees l n R held) (rootAt l′ (t .count) R′ held) D (D .models) (D .first) (held-length l n R held (D .standing .few)) (T .rooted ok) few
+    first-stands = ready-next (heldTrees l n R held) (rootAt l′ (t .count) R′ held) D (D .models) (D .first) (held-length l n R held (D .standing .few)) (first-ran .rooted ok) few
 
     same : heldTrees l′ (t .count) R′ held ≡ heldTrees l n R held
-    same = held-is l′ (t .count) R′ held (heldTrees l n R held) (rootAt l′ (t .count) R′ held) (T .rooted ok) (held-length l n R held (D .standing .few)) few
+    same = held-is l′ (t .count) R′ held (heldTrees l n R held) (rootAt l′ (t .count) R′ held) (first-ran .rooted ok) (held-length l n R held (D .standing .few)) few
 
-    pub stage-ends : {l″ : List ℤ} {w″ R″ : List ℕ} {r : Run}
-        → Ran cap (t .peak) l′ (t .count) R′ held h (λ K. best-on (model B) h K (getD (heldTrees l′ (t .count) R′ held) before blank) 2 (model B .others) (rootAt l′ (t .count) R′ held)) l″ w″ R″ r
-        → Ran cap p l n R held h (λ K. stage-over (model B) h K (getD (heldTrees l n R held) before blank)) l″ w″ R″ r
-    stage-ends {l″} {w″} {R″} {r} O = record {
-      outcome = λ K al. first-done (model B) cap p h K (getD (heldTrees l n R held) before blank) (T .outcome K al ∙ answered-ok (t .stop) h (rootAt l′ (t .count) R′ held) (t .peak) ok)
-          ∙ (ap (λ (X : List Tree). run-all cap (t .peak) (best-on (model B) h K (getD X before blank) 2 (model B .others) (rootAt l′ (t .count) R′ held))) (sym same)
-          ∙ O .outcome K (alike-trans (alike-eq same) al));
-      rooted = λ z. subst (λ (X : List Tree). Rooted cap l″ w″ (r .count) (take (suc held) R″) (X ++ (rootAt l″ (r .count) R″ held ∷ []))) same (O .rooted z);
+    pub stage-ends : {l″ : List ℤ} {w″ R″ P″ : List ℕ} {r : Run}
+        → Counted cap (t .peak) l′ (t .count) R′ held h (λ K. best-on (model B) h K (getD (heldTrees l′ (t .count) R′ held) before blank) 2 (model B .others) (rootAt l′ (t .count) R′ held)) P′ l″ w″ R″ P″ r
+        → Counted cap p l n R held h (λ K. stage-over (model B) h K (getD (heldTrees l n R held) before blank)) P l″ w″ R″ P″ r
+    stage-ends {l″} {w″} {R″} {P″} {r} E = let O = E .ran in record {
+      peaks = λ z K al.
+          let F = rootAt l′ (t .count) R′ held in
+          E .peaks z K (alike-trans (alike-eq same) al)
+          ∙ (ap₂ (λ (X : List Tree) (Q : List ℕ). peaks-of Q (best-on (model B) h K (getD X before blank) 2 (model B .others) F)) same (C .peaks ok K al)
+          ∙ sym (stage-peaks (model B) h K (getD (heldTrees l n R held) before blank) cap p P (first-ran .outcome K al ∙ answered-ok (t .stop) h F (t .peak) ok)));
+      ran = record {
+        outcome = λ K al. first-done (model B) cap p h K (getD (heldTrees l n R held) before blank) (first-ran .outcome K al ∙ answered-ok (t .stop) h (rootAt l′ (t .count) R′ held) (t .peak) ok)
+            ∙ (ap (λ (X : List Tree). run-all cap (t .peak) (best-on (model B) h K (getD X before blank) 2 (model B .others) (rootAt l′ (t .count) R′ held))) (sym same)
+            ∙ O .outcome K (alike-trans (alike-eq same) al));
+        rooted = λ z. subst (λ (X : List Tree). Rooted cap l″ w″ (r .count) (take (suc held) R″) (X ++ (rootAt l″ (r .count) R″ held ∷ []))) same (O .rooted z);
+        fits = λ z q. O .fits z (first-ran .fits ok q);
+      };
     }

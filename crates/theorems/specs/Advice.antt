@@ -14,10 +14,11 @@ use Rattle.theory.specs.Solve.{SolveOut, solve}
 use Rattle.theory.specs.Value.{Asked, accepted, state-of, ValueOut, refused-value, answered, value-of}
 
 -- the lent words, as a solve leaves them
-pub record Left (o : SolveOut) (nodes : List ℤ) (stages work : List ℕ) : Type 0 where
+pub record Left (o : SolveOut) (nodes : List ℤ) (stages work peaks : List ℕ) : Type 0 where
   pub nodes-left : nodes ≡ o .nodes
   pub stages-left : stages ≡ o .stages
   pub work-left : work ≡ o .work
+  pub peaks-left : peaks ≡ o .peaks
 
 module _ (B : List ℕ) (h : ℕ) (q : Asked) (v : ValueOut) where
   -- "A state is accepted when 13 does not apply"
@@ -45,17 +46,17 @@ module _ (B : List ℕ) (h : ℕ) (q : Asked) (v : ValueOut) where
   pub record ReadsNone : Type 0 where
     pub exactly : (t : Accepted) → (v ≡ answered none 0) ↔ ((π : Policy (process (model B))) → Stopped (process (model B)) π h (start t))
 
--- a call that solves B for the horizon H in lent tables, then reads at q with h steps left, and leaves the tables as nodes′, stages′ and work′
-pub record Advises (B : List ℕ) (H : ℕ) (nodes : List ℤ) (stages work : List ℕ) (h : ℕ) (q : Asked) (nodes′ : List ℤ) (stages′ work′ : List ℕ) (v : ValueOut) : Type 0 where
+-- a call that solves B for the horizon H in lent tables, then reads at q with h steps left, and leaves the tables as nodes′, stages′, work′ and peaks′
+pub record Advises (B : List ℕ) (H : ℕ) (nodes : List ℤ) (stages work peaks : List ℕ) (h : ℕ) (q : Asked) (nodes′ : List ℤ) (stages′ work′ peaks′ : List ℕ) (v : ValueOut) : Type 0 where
   -- every lent word is as solving leaves it
-  pub tables : Left (solve B H nodes stages work) nodes′ stages′ work′
+  pub tables : Left (solve B H nodes stages work peaks) nodes′ stages′ work′ peaks′
   -- a refusal of solving is given on
-  pub refused : (solve B H nodes stages work .number ≡ 0 → ⊥) → v ≡ refused-value (solve B H nodes stages work .number) (solve B H nodes stages work .place)
+  pub refused : (solve B H nodes stages work peaks .number ≡ 0 → ⊥) → v ≡ refused-value (solve B H nodes stages work peaks .number) (solve B H nodes stages work peaks .place)
   -- "a model is solved when solve's number is 0": the value is read from the tables that solving wrote
-  pub read : solve B H nodes stages work .number ≡ 0 → v ≡ value-of B nodes′ stages′ h q
+  pub read : solve B H nodes stages work peaks .number ≡ 0 → v ≡ value-of B nodes′ stages′ h q
   -- demand 2
-  pub exact : solve B H nodes stages work .number ≡ 0 → 1 ≤ h → h ≤ H → Exact B h q v
+  pub exact : solve B H nodes stages work peaks .number ≡ 0 → 1 ≤ h → h ≤ H → Exact B h q v
   -- demand 3
-  pub optimal : solve B H nodes stages work .number ≡ 0 → 1 ≤ h → h ≤ H → Optimal B h q v
+  pub optimal : solve B H nodes stages work peaks .number ≡ 0 → 1 ≤ h → h ≤ H → Optimal B h q v
   -- K8
-  pub reads-none : solve B H nodes stages work .number ≡ 0 → 1 ≤ h → h ≤ H → ReadsNone B h q v
+  pub reads-none : solve B H nodes stages work peaks .number ≡ 0 → 1 ≤ h → h ≤ H → ReadsNone B h q v

@@ -39,12 +39,13 @@ pub record Solving : Type 0 where
   pub nodes : List ℤ
   pub stages : List ℕ
   pub work : List ℕ
-  pub is : solve bytes horizon nodes stages work .number ≡ 0
+  pub peaks : List ℕ
+  pub is : solve bytes horizon nodes stages work peaks .number ≡ 0
 
 module _ (g : Solving) where
   -- what solve leaves
   abbrev pub left : SolveOut
-  left = solve (g .bytes) (g .horizon) (g .nodes) (g .stages) (g .work)
+  left = solve (g .bytes) (g .horizon) (g .nodes) (g .stages) (g .work) (g .peaks)
 
   -- "A state is accepted when 13 does not apply"
   abbrev pub Accepted : Asked → Type 0
@@ -75,7 +76,7 @@ AsWritten = (B : List ℕ) (at : ℕ) (s : Progress) → Comes B at s → (u : L
 
 -- solve
 abbrev pub SolveRows : Type 0
-SolveRows = (B : List ℕ) (H : ℕ) (nodes : List ℤ) (stages work : List ℕ) (o : SolveOut) → SolveRow B H nodes stages work o ↔ (solve B H nodes stages work ≡ o)
+SolveRows = (B : List ℕ) (H : ℕ) (nodes : List ℤ) (stages work peaks : List ℕ) (o : SolveOut) → SolveRow B H nodes stages work peaks o ↔ (solve B H nodes stages work peaks ≡ o)
 
 -- value
 abbrev pub ValueRows : Type 0

@@ -15,6 +15,7 @@ pub mod Advice
 pub mod Parallel
 -- K8, actions that are not permitted
 pub mod Forbidden
+pub mod Peaks
 -- ---- examples
 
 -- the pond, rain, and what is marked ★

@@ -26,3 +26,4 @@ pub mod Advice
 pub mod Parallel
 -- K8
 pub mod Forbidden
+pub mod Peaks

@@ -74,10 +74,15 @@ enter-all (t ∷ ts) X = enter-all ts (enter t X)
 
 -- ---- operations: each with its place and the diagrams that are needed as it begins
 
+-- an operation's stage, which is its place, and the action that it is of: "a peak for loading and one per action"
+pub record Moment : Type 0 where
+  pub stage : ℕ
+  pub action : ℕ
+
 -- operations one after another, each on what the one before it came to
 pub data Ops (A : Type 0) : Type 0 where
   end : A → Ops A
-  operation : ℕ → List Tree → Comp Tree → (Tree → Ops A) → Ops A
+  operation : Moment → List Tree → Comp Tree → (Tree → Ops A) → Ops A
 
 -- some operations, then those that follow from what they come to
 unfoldable pub and-then : {A B : Type 0} → Ops A → (A → Ops B) → Ops B
@@ -99,5 +104,5 @@ unfoldable pub run-all : {A : Type 0} → ℕ → ℕ → Ops A → Solved A
 run-all N peak (end a) = solved a peak
 run-all N peak (operation h roots c f) = elim (run N c (enter-all roots [])) [
   | done t X ↦ run-all N (max peak (length X)) (f t)
-  | stopped r ↦ refused r h
+  | stopped r ↦ refused r (h .stage)
 ]

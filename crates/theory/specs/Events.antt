@@ -9,7 +9,7 @@ use lib.ListN.{length, getD}
 use Rattle.whole.specs.Cases.{if}
 use Rattle.whole.specs.Within.{small}
 use Rattle.theory.specs.Diagram.{Tree, leaf, branch}
-use Rattle.theory.specs.Computation.{Comp, ret, named, made, result, member, enter-all, Ops, end, operation}
+use Rattle.theory.specs.Computation.{Comp, ret, named, made, result, member, enter-all, Moment, Ops, end, operation}
 use Rattle.theory.specs.Rules.{zero-leaf}
 
 -- a number is named, or a node is made
@@ -54,9 +54,9 @@ Passes N X l = T (within l) × (length (needed X l) ≤ N)
 
 -- an operation is refused, all before it having passed: number and place
 pub data RefusedAt {A : Type 0} (N : ℕ) : Ops A → ℕ → ℕ → Type 0 where
-  here : {h : ℕ} {roots : List Tree} {c : Comp Tree} {f : Tree → Ops A} {r : ℕ}
-      → Refused N (enter-all roots []) (events c) r → RefusedAt N (operation h roots c f) r h
-  later : {h : ℕ} {roots : List Tree} {c : Comp Tree} {f : Tree → Ops A} {r p : ℕ}
+  here : {h : Moment} {roots : List Tree} {c : Comp Tree} {f : Tree → Ops A} {r : ℕ}
+      → Refused N (enter-all roots []) (events c) r → RefusedAt N (operation h roots c f) r (h .stage)
+  later : {h : Moment} {roots : List Tree} {c : Comp Tree} {f : Tree → Ops A} {r p : ℕ}
       → Passes N (enter-all roots []) (events c) → RefusedAt N (f (result c)) r p → RefusedAt N (operation h roots c f) r p
 
 -- every operation passes

@@ -21,6 +21,7 @@ pub mod Computation
 pub mod Rules
 pub mod Stage
 -- "Tables after solving"
+pub mod Peaks
 pub mod Solve
 -- "States and values"
 pub mod Value

@@ -16,6 +16,7 @@ use Rattle.theory.specs.Form.{Form, new-form, levels-in, actions-in}
 use Rattle.theory.specs.Command.{Command, site, push-leaf, push-condition, push-test, push-forbidden, name-action, end-model, whole, readings, byte-at, width-in, command-in, give, Slot}
 use Rattle.theory.specs.Verdict.{Verdict, refusal, Site, Facts, Progress, at-start, after, top, reward-slot, chance-slot, level-slot, end-slot, name-slot}
 use Rattle.theory.specs.Load.{site-at, model}
+use Rattle.theory.specs.Peaks.{solved-peaks}
 use Rattle.theory.specs.Solve.{solve-in, SolveOut, solved-nodes, solved-stages}
 use Rattle.theory.specs.Value.{Asked, accepted, state-of, node-word, node-linear, high-of, low-of, numerator-of, taken, ValueOut, refused-value, answered}
 use Rattle.theory.specs.Total.{none as no-total}
@@ -178,31 +179,42 @@ pub record Room (nodes work N : ℕ) : Type 0 where
   pub most : N ≤ 65535
   pub no-more : (k : ℕ) → k * 12 ≤ nodes → k * 8 ≤ work → k ≤ 65535 → k ≤ N
 
--- the tables and the peak after solving; "last 11 or 12": what is met first is FirstMet of Demands
-pub data SolveRow (B : List ℕ) (H : ℕ) (nodes : List ℤ) (stages work : List ℕ) : SolveOut → Type 0 where
+-- "It refuses another length with 10": beside the other 10s
+pub record AdmittedToSolve (B : List ℕ) (H size peaks : ℕ) : Type 0 where
+  pub admitted : Admitted B H size
+  pub words : peaks ≡ 401
+
+pub data EarlySolveRow (B : List ℕ) (H size peaks : ℕ) : ℕ → ℕ → Type 0 where
+  peaks-10 : (peaks ≡ 401 → ⊥) → EarlySolveRow B H size peaks 10 0
+  early-as : {k p : ℕ} → peaks ≡ 401 → EarlyRow B H size k p → EarlySolveRow B H size peaks k p
+
+-- the tables and the peaks after solving; "last 11 or 12": what is met first is FirstMet of Demands
+pub data SolveRow (B : List ℕ) (H : ℕ) (nodes : List ℤ) (stages work peaks : List ℕ) : SolveOut → Type 0 where
   -- solved: every lent word is settled, and as many are left as were lent
-  solve-0 : {N : ℕ} {S : List Tree} {peak : ℕ} → Admitted B H (length stages) → Room (length nodes) (length work) N → solve-in N B H ≡ solved S peak
-      → length (solved-nodes (length nodes) S) ≡ length nodes → length (solved-stages S) ≡ length stages
-      → SolveRow B H nodes stages work (record {
+  solve-0 : {N : ℕ} {S : List Tree} {peak : ℕ} → AdmittedToSolve B H (length stages) (length peaks) → Room (length nodes) (length work) N → solve-in N B H ≡ solved S peak
+      → length (solved-nodes (length nodes) S) ≡ length nodes → length (solved-stages S) ≡ length stages → length (solved-peaks B H) ≡ length peaks
+      → SolveRow B H nodes stages work peaks (record {
         number = 0;
         place = 0;
         peak = peak;
         nodes = solved-nodes (length nodes) S;
         stages = solved-stages S;
         work = replicate (length work) 0;
+        peaks = solved-peaks B H;
       })
   -- 1 to 10: "all untouched"; "All else that a refused call returns is zero."
-  solve-1-10 : {k p : ℕ} → EarlyRow B H (length stages) k p
-      → SolveRow B H nodes stages work (record { number = k; place = p; peak = 0; nodes = nodes; stages = stages; work = work })
-  -- "stage, 0 while loading": 11 or 12, "tables, stages, work all zero"
-  solve-11-12 : {N k h : ℕ} → Admitted B H (length stages) → Room (length nodes) (length work) N → solve-in N B H ≡ refused k h → (k ≡ 11) ⊎ (k ≡ 12) → h ≤ H
-      → SolveRow B H nodes stages work (record {
+  solve-1-10 : {k p : ℕ} → EarlySolveRow B H (length stages) (length peaks) k p
+      → SolveRow B H nodes stages work peaks (record { number = k; place = p; peak = 0; nodes = nodes; stages = stages; work = work; peaks = peaks })
+  -- "stage, 0 while loading": 11 or 12, "tables, stages, work all zero", and the peaks
+  solve-11-12 : {N k h : ℕ} → AdmittedToSolve B H (length stages) (length peaks) → Room (length nodes) (length work) N → solve-in N B H ≡ refused k h → (k ≡ 11) ⊎ (k ≡ 12) → h ≤ H
+      → SolveRow B H nodes stages work peaks (record {
         number = k;
         place = h;
         peak = 0;
         nodes = replicate (length nodes) (pos 0);
         stages = replicate (length stages) 0;
         work = replicate (length work) 0;
+        peaks = replicate (length peaks) 0;
       })
 
 -- ---- value

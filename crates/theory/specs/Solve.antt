@@ -6,13 +6,14 @@ use lib.Dec.{eqb, ltb}
 use lib.IntN.{ℤ, pos}
 use lib.ListN.{length, replicate}
 use Rattle.whole.specs.Cases.{if}
-use Rattle.theory.specs.Widths.{bytes-most, steps-most, nodes-most, node-words, work-words, conditions-most, levels-most}
+use Rattle.theory.specs.Widths.{bytes-most, steps-most, nodes-most, node-words, work-words, peak-words, conditions-most, levels-most}
 use Rattle.theory.specs.Diagram.{Linear, Test, now, later, linear, Leaf, some, forbidden, lin-of, act-of, Tree, leaf, branch, same, padded}
 use Rattle.theory.specs.Computation.{done, stopped, run, enter-all, Solved, solved, refused, run-all}
 use Rattle.theory.specs.Stage.{all-stages}
 use Rattle.theory.specs.Valid.{among}
 use Rattle.theory.specs.Verdict.{Verdict, refusal, verdict, or}
 use Rattle.theory.specs.Load.{load}
+use Rattle.theory.specs.Peaks.{solved-peaks}
 
 -- "What the tables hold, N, is the least of node words ÷ 12, work words ÷ 8 and 65,535, rounded down."
 unfoldable pub room : ℕ → ℕ → ℕ
@@ -67,6 +68,7 @@ pub record SolveOut : Type 0 where
   pub nodes : List ℤ
   pub stages : List ℕ
   pub work : List ℕ
+  pub peaks : List ℕ
 
 -- "The table holds the nodes of stages 1 to H and no others, numbered from 1: stage by stage, high before low, a node after its branches."
 unfoldable pub table-of : List Tree → List Tree
@@ -80,23 +82,25 @@ solved-nodes size S = rows (table-of S) (table-of S) ++ replicate (size - length
 unfoldable pub solved-stages : List Tree → List ℕ
 solved-stages S = map (λ t. number-of t (table-of S)) S ++ replicate (steps-most - length S) 0
 
--- what a solve leaves: the tables, or "tables, stages, work all zero"
-unfoldable pub solve-left : List ℤ → List ℕ → List ℕ → Solved (List Tree) → SolveOut
-solve-left nodes stages work (solved S peak) = record {
+-- what a solve leaves: the tables, or "tables, stages, work all zero"; peaks "are zero after 11 or 12"
+unfoldable pub solve-left : List ℕ → ℕ → List ℤ → List ℕ → List ℕ → List ℕ → Solved (List Tree) → SolveOut
+solve-left B H nodes stages work peaks (solved S peak) = record {
   number = 0;
   place = 0;
   peak = peak;
   nodes = solved-nodes (length nodes) S;
   stages = solved-stages S;
   work = replicate (length work) 0;
+  peaks = solved-peaks B H;
 }
-solve-left nodes stages work (refused r h) = record {
+solve-left B H nodes stages work peaks (refused r h) = record {
   number = r;
   place = h;
   peak = 0;
   nodes = replicate (length nodes) (pos 0);
   stages = replicate (length stages) 0;
   work = replicate (length work) 0;
+  peaks = replicate (length peaks) 0;
 }
 
 -- "10: stage words not eight, or model above 262,144 bytes", "9: horizon or steps not 1 to 8", then the model's own: "Order: 10, 9, the model by offset"
@@ -106,10 +110,14 @@ early B steps words =
     (if (not (among steps-most steps)) (refusal 9 0)
     (verdict B))
 
+-- the same with the peaks' words: "It refuses another length with 10."
+unfoldable pub early-with-peaks : List ℕ → ℕ → ℕ → ℕ → Verdict
+early-with-peaks B H words peaks = if (eqb peaks peak-words) (early B H words) (refusal 10 0)
+
 -- solve: refused early with "all untouched", or run
-unfoldable pub solve : List ℕ → ℕ → List ℤ → List ℕ → List ℕ → SolveOut
-solve B H nodes stages work =
-    let v = early B H (length stages) in
+unfoldable pub solve : List ℕ → ℕ → List ℤ → List ℕ → List ℕ → List ℕ → SolveOut
+solve B H nodes stages work peaks =
+    let v = early-with-peaks B H (length stages) (length peaks) in
     if (eqb (v .number) 0)
-    (solve-left nodes stages work (solve-in (room (length nodes) (length work)) B H))
-    (record { number = v .number; place = v .place; peak = 0; nodes = nodes; stages = stages; work = work })
+    (solve-left B H nodes stages work peaks (solve-in (room (length nodes) (length work)) B H))
+    (record { number = v .number; place = v .place; peak = 0; nodes = nodes; stages = stages; work = work; peaks = peaks })

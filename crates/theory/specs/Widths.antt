@@ -57,6 +57,10 @@ node-words = 12
 abbrev pub work-words : ℕ
 work-words = 8
 
+-- "a lent slice of 401 32-bit words: loading, then actions 1 to A"
+abbrev pub peak-words : ℕ
+peak-words = actions-most + 1
+
 -- "30 name: action, 16 bytes"
 abbrev pub name-bytes : ℕ
 name-bytes = 16

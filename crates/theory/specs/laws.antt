@@ -20,6 +20,7 @@ pub mod Stages
 -- tables: nodes and their numbers, counts, words, readings
 pub mod Table
 pub mod Counting
+pub mod Peaks
 pub mod Words
 pub mod Reading
 -- refusals, peak and rows

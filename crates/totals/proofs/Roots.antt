@@ -11,7 +11,9 @@ use Rattle.diagrams.specs.Nodes.{blank, trees}
 use Rattle.mark.specs.Mark.{rootsOf, Below}
 use Rattle.solving.specs.Alike.{Alike, alike-sym, alike-trans, alike-eq, alike-cons, alike-last}
 use Rattle.solving.specs.Roots.{Rooted, rooted-front, roots-append, roots-length}
-use Rattle.operate.specs.Operation.{heldTrees, Standing}
+use Rattle.operate.specs.Operation.{heldTrees, Standing, Operated}
+use Rattle.operate.specs.declared.Rule.{Rule}
+use Rattle.operate.specs.declared.Run.{Run}
 use Rattle.totals.specs.Planning.{rootAt}
 
 -- as many diagrams as roots
@@ -85,3 +87,7 @@ module _ {cap : ℕ} {l : List ℤ} {w : List ℕ} {n : ℕ} {R : List ℕ} {hel
   -- they are those that an operation names
   pub on-alike : {K : List Tree} → Alike Q K → Alike X (F ∷ K)
   on-alike a = alike-trans (alike-eq on-held) (alike-trans (alike-sym (alike-last F Q)) (alike-cons F a))
+
+-- the peak of an operation that worked is within the room
+pub operated-fits : {cap p : ℕ} {l : List ℤ} {n : ℕ} {R : List ℕ} {held to : ℕ} {rule : Rule} {l′ : List ℤ} {w′ R′ : List ℕ} {r : Run} → Operated cap p l n R held to rule l′ w′ R′ r → r .stop ≡ 0 → p ≤ cap → r .peak ≤ cap
+operated-fits O ok q = let e = O .peak in let z = O .rooted ok .space .room in omega (arith, e, z, q)

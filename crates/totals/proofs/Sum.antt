@@ -8,7 +8,7 @@ use lib.ListN.{length, getD, take, drop, length-drop}
 use lib.Seq.{length-take-le, getD-take, getD-drop}
 use Rattle.theory.specs.Widths.{conditions-most, weights-most}
 use Rattle.theory.specs.Diagram.{Tree}
-use Rattle.theory.specs.Computation.{Comp, run-all}
+use Rattle.theory.specs.Computation.{Comp, Moment, run-all}
 use Rattle.theory.specs.Rules.{expectation}
 use Rattle.theory.specs.Stage.{sum-out}
 use Rattle.diagrams.specs.Nodes.{blank}
@@ -21,7 +21,7 @@ use Rattle.operate.specs.Operation.{compOf, Fits, heldTrees, Standing, Operated
 use Rattle.totals.specs.Planning.{rootAt, Ran}
 use Rattle.operate.specs.declared.Rule.the-variants.{Expect}
 use Rattle.operate.specs.declared.Run.{Run}
-use Rattle.totals.proofs.Roots.{On, standing-on, on-one, on-last, on-front-of, on-alike}
+use Rattle.totals.proofs.Roots.{On, standing-on, on-one, on-last, on-front-of, on-alike, operated-fits}
 
 -- the chances from a place on
 abbrev chances-of : ℕ → ℕ → List Tree → List Tree
@@ -41,13 +41,14 @@ pub record Summing (cap : ℕ) (l₀ : List ℤ) (w₀ R₀ : List ℕ) (held fi
   pub none-yet : r .stop ≡ 0
   pub few : k ≤ conditions
   pub on : On cap l w (r .count) R held (heldTrees l₀ (r₀ .count) R₀ held)
-  pub left : (h : ℕ) (K : List Tree) → Alike (heldTrees l₀ (r₀ .count) R₀ held) K
+  pub fits : r₀ .peak ≤ cap → r .peak ≤ cap
+  pub left : (h : Moment) (K : List Tree) → Alike (heldTrees l₀ (r₀ .count) R₀ held) K
       → run-all cap (r₀ .peak) (sum-out weights h K 1 (chances-of first conditions (heldTrees l₀ (r₀ .count) R₀ held)) (rootAt l₀ (r₀ .count) R₀ held))
       ≡ run-all cap (r .peak) (sum-out weights h K (suc k) (drop k (chances-of first conditions (heldTrees l₀ (r₀ .count) R₀ held))) (rootAt l (r .count) R held))
 
 pub summing-starts : {cap : ℕ} {l₀ : List ℤ} {w₀ R₀ : List ℕ} {held first conditions weights : ℕ} {r₀ : Run} → Sums cap l₀ w₀ R₀ held first conditions weights r₀
     → Summing cap l₀ w₀ R₀ held first conditions weights r₀ l₀ w₀ R₀ r₀ 0
-summing-starts {cap} {l₀} {w₀} {R₀} {held} {r₀ = r₀} s = record { from = s; none-yet = s .none-yet; few = omega arith; on = standing-on cap l₀ w₀ (r₀ .count) R₀ held (s .standing); left = λ h K a. refl }
+summing-starts {cap} {l₀} {w₀} {R₀} {held} {r₀ = r₀} s = record { from = s; none-yet = s .none-yet; few = omega arith; on = standing-on cap l₀ w₀ (r₀ .count) R₀ held (s .standing); fits = λ q. q; left = λ h K a. refl }
 
 module _ {cap : ℕ} {l₀ : List ℤ} {w₀ R₀ : List ℕ} {held first conditions weights : ℕ} {r₀ : Run} {l : List ℤ} {w R : List ℕ} {r : Run} {k : ℕ}
     (I : Summing cap l₀ w₀ R₀ held first conditions weights r₀ l w R r k) where
@@ -68,10 +69,11 @@ module _ {cap : ℕ} {l₀ : List ℤ} {w₀ R₀ : List ℕ} {held first condit
   summing-fits h = let x = I .from .ends in let y = I .from .few-conditions in (omega (arith, x, h), omega arith, omega (arith, h, y), omega arith, I .from .few-weights)
 
   -- none is left
-  pub summing-done : conditions ≤ k → (h : ℕ) → Ran cap (r₀ .peak) l₀ (r₀ .count) R₀ held h (λ K. sum-out weights h K 1 ws (rootAt l₀ (r₀ .count) R₀ held)) l w R r
+  pub summing-done : conditions ≤ k → (h : Moment) → Ran cap (r₀ .peak) l₀ (r₀ .count) R₀ held (h .stage) (λ K. sum-out weights h K 1 ws (rootAt l₀ (r₀ .count) R₀ held)) l w R r
   summing-done q h = record {
-    outcome = λ K a. I .left h K a ∙ (sum-out-done weights h K ws cap (r .peak) (suc k) k F (let z = ws-length in omega (arith, z, q)) ∙ sym (answered-ok (r .stop) h F (r .peak) (I .none-yet)));
+    outcome = λ K a. I .left h K a ∙ (sum-out-done weights h K ws cap (r .peak) (suc k) k F (let z = ws-length in omega (arith, z, q)) ∙ sym (answered-ok (r .stop) (h .stage) F (r .peak) (I .none-yet)));
     rooted = λ _. I .on .rooted;
+    fits = λ _. I .fits;
   }
 
   -- the next operation
@@ -103,6 +105,7 @@ module _ {cap : ℕ} {l₀ : List ℤ} {w₀ R₀ : List ℕ} {held first condit
           room = let z = I .on .room in omega (arith, z, size);
           rooted = subst (λ (X : List Tree). Rooted cap l′ w′ (r′ .count) (take (suc held) R′) (X ++ (G ∷ []))) (on-front-of (I .on)) (O .rooted ok);
         };
+        fits = λ q. operated-fits O ok (I .fits q);
         left = λ s K a.
             I .left s K a
             ∙ (condition-done cap (r .peak) weights s K ws blank (suc k) k F k-in (subst (λ (c : Comp Tree). Works cap (F ∷ K) c G (r′ .count)) comp-is (O .works ok (F ∷ K) (on-alike (I .on) a)))
@@ -110,11 +113,12 @@ module _ {cap : ℕ} {l₀ : List ℤ} {w₀ R₀ : List ℕ} {held first condit
             ∙ ap (λ (j : ℕ). run-all cap (r′ .peak) (sum-out weights s K (suc j) (drop j ws) G)) (let z : suc k ≡ k + 1 = omega arith in z)));
       }
 
-      pub summing-stops : (r′ .stop ≡ 0 → ⊥) → (s : ℕ) → Ran cap (r₀ .peak) l₀ (r₀ .count) R₀ held s (λ K. sum-out weights s K 1 ws (rootAt l₀ (r₀ .count) R₀ held)) l′ w′ R′ r′
+      pub summing-stops : (r′ .stop ≡ 0 → ⊥) → (s : Moment) → Ran cap (r₀ .peak) l₀ (r₀ .count) R₀ held (s .stage) (λ K. sum-out weights s K 1 ws (rootAt l₀ (r₀ .count) R₀ held)) l′ w′ R′ r′
       summing-stops off s = record {
         outcome = λ K a.
             I .left s K a
             ∙ (condition-refused cap (r .peak) weights s K ws blank (suc k) k F k-in (subst (λ (c : Comp Tree). Stops cap (F ∷ K) c (r′ .stop)) comp-is (O .stops off (F ∷ K) (on-alike (I .on) a)))
-            ∙ sym (answered-no (r′ .stop) s G (r′ .peak) off));
+            ∙ sym (answered-no (r′ .stop) (s .stage) G (r′ .peak) off));
         rooted = λ e. absurd (off e);
+        fits = λ e. absurd (off e);
       }

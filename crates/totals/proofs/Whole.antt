@@ -11,12 +11,12 @@ use lib.Seq.{take-all}
 use Rattle.whole.specs.Cases.{by-eq, from-true, clash}
 use Rattle.theory.specs.Widths.{levels-most, conditions-most, actions-most, weights-most, steps-most}
 use Rattle.theory.specs.Diagram.{Tree}
-use Rattle.theory.specs.Computation.{Comp, end, operation, solved, run-all}
+use Rattle.theory.specs.Computation.{Comp, Moment, end, operation, solved, run-all}
 use Rattle.theory.specs.Rules.{substitute, add-reward}
 use Rattle.theory.specs.Meaning.{Action, power}
 use Rattle.theory.specs.Verdict.{Site}
 use Rattle.theory.specs.Load.{model, site-at}
-use Rattle.theory.specs.Stage.{sum-out, action-total}
+use Rattle.theory.specs.Stage.{moment, sum-out, action-total}
 use Rattle.diagrams.specs.Nodes.{blank}
 use Rattle.progress.specs.declared.Site.{Site as CodeSite}
 use Rattle.progress.specs.Standing.{site-as}
@@ -31,7 +31,7 @@ use Rattle.totals.specs.Planning.{Ready, actionOf, rootAt, Ran}
 use Rattle.operate.specs.declared.Rule.the-variants.{Levels, Reward}
 use Rattle.operate.specs.declared.Run.{Run}
 use Rattle.totals.proofs.Model.{Sited, sited, Row, row-of}
-use Rattle.totals.proofs.Roots.{held-length, On, on-before, on-one, on-last, on-front-of, on-alike}
+use Rattle.totals.proofs.Roots.{held-length, On, on-before, on-one, on-last, on-front-of, on-alike, operated-fits}
 
 -- at the entry, the site's numbers read
 pub record Totals (B : List ℕ) (cap : ℕ) (l : List ℤ) (w R : List ℕ) (r : Run) (held before stage action m n weights : ℕ) : Type 0 where
@@ -124,6 +124,7 @@ module _ {B : List ℕ} {cap : ℕ} {l : List ℤ} {w R : List ℕ} {r : Run} {h
 -- they are replaced: the roots, and what is left to run
 pub record Replaced (B : List ℕ) (cap : ℕ) (l : List ℤ) (R : List ℕ) (r : Run) (held before stage action : ℕ) (l₁ : List ℤ) (w₁ R₁ : List ℕ) (s : Run) : Type 0 where
   pub on : On cap l₁ w₁ (s .count) R₁ held (heldTrees l (r .count) R held)
+  pub fits : r .peak ≤ cap → s .peak ≤ cap
   pub left : (K : List Tree) → Alike (heldTrees l (r .count) R held) K
       → run-all cap (r .peak) (action-total (model B) stage K (getD (heldTrees l (r .count) R held) before blank) action (actionOf B action))
       ≡ run-all cap (s .peak) (after-levels (model B) stage K action (actionOf B action) (rootAt l₁ (s .count) R₁ held))
@@ -131,9 +132,10 @@ pub record Replaced (B : List ℕ) (cap : ℕ) (l : List ℤ) (R : List ℕ) (r 
 -- the conditions are summed out
 pub record Summed (B : List ℕ) (cap : ℕ) (l : List ℤ) (R : List ℕ) (r : Run) (held before stage action : ℕ) (l₂ : List ℤ) (w₂ R₂ : List ℕ) (e : Run) : Type 0 where
   pub on : On cap l₂ w₂ (e .count) R₂ held (heldTrees l (r .count) R held)
+  pub fits : r .peak ≤ cap → e .peak ≤ cap
   pub left : (K : List Tree) → Alike (heldTrees l (r .count) R held) K
       → run-all cap (r .peak) (action-total (model B) stage K (getD (heldTrees l (r .count) R held) before blank) action (actionOf B action))
-      ≡ run-all cap (e .peak) (operation stage (rootAt l₂ (e .count) R₂ held ∷ K) (add-reward (power (model B) stage) (actionOf B action .reward) action (rootAt l₂ (e .count) R₂ held)) end)
+      ≡ run-all cap (e .peak) (operation (moment stage action) (rootAt l₂ (e .count) R₂ held ∷ K) (add-reward (power (model B) stage) (actionOf B action .reward) action (rootAt l₂ (e .count) R₂ held)) end)
 
 -- the total's outcome
 abbrev pub Total : List ℕ → ℕ → List ℤ → List ℕ → Run → ℕ → ℕ → ℕ → ℕ → List ℤ → List ℕ → List ℕ → Run → Type 0
@@ -152,6 +154,7 @@ module _ {B : List ℕ} {cap : ℕ} {l : List ℤ} {w R : List ℕ} {r : Run} {h
         room = let z = t .room in omega (arith, z, size);
         rooted = subst (λ (X : List Tree). Rooted cap l₁ w₁ (s .count) (take (suc held) R₁) (X ++ (F₁ ∷ []))) (take-all held (Q t) (let z = Q-length t in omega (arith, z))) (O .rooted ok);
       };
+      fits = operated-fits O ok;
       left = λ K a.
           substituted (model B) cap (r .peak) stage K action (x t) (P t) (subst (λ (c : Comp Tree). Works cap K c F₁ (s .count)) (levels-comp t) (O .works ok K a))
           ∙ ap (λ (p : ℕ). run-all cap p (after-levels (model B) stage K action (x t) F₁)) (sym (O .peak));
@@ -163,13 +166,14 @@ module _ {B : List ℕ} {cap : ℕ} {l : List ℤ} {w R : List ℕ} {r : Run} {h
           substitute-refused (model B) cap (r .peak) stage K action (x t) (P t) (subst (λ (c : Comp Tree). Stops cap K c (s .stop)) (levels-comp t) (O .stops off K a))
           ∙ sym (answered-no (s .stop) stage F₁ (s .peak) off);
       rooted = λ e. absurd (off e);
+      fits = λ e. absurd (off e);
     }
 
   -- ---- the conditions
 
   module _ {l₁ : List ℤ} {w₁ R₁ : List ℕ} {s : Run} (D : Replaced B cap l R r held before stage action l₁ w₁ R₁ s)
       {l₂ : List ℤ} {w₂ R₂ : List ℕ} {e : Run}
-      (E : (h : ℕ) → Ran cap (s .peak) l₁ (s .count) R₁ held h (λ K. sum-out weights h K 1 (take n (drop (row-at action n m + 1) (heldTrees l₁ (s .count) R₁ held))) (rootAt l₁ (s .count) R₁ held)) l₂ w₂ R₂ e) where
+      (E : (h : Moment) → Ran cap (s .peak) l₁ (s .count) R₁ held (h .stage) (λ K. sum-out weights h K 1 (take n (drop (row-at action n m + 1) (heldTrees l₁ (s .count) R₁ held))) (rootAt l₁ (s .count) R₁ held)) l₂ w₂ R₂ e) where
     abbrev F : Tree
     F = rootAt l₁ (s .count) R₁ held
 
@@ -182,18 +186,19 @@ module _ {B : List ℕ} {cap : ℕ} {l : List ℤ} {w R : List ℕ} {r : Run} {h
     weights-are : weights ≡ model B .weights
     weights-are = t .weigh ∙ sym (site t .same .same-weights)
 
-    outcome-is : (K : List Tree) → Alike (Q t) K → run-all cap (s .peak) (sum-out (model B .weights) stage K 1 (x t .chances) F) ≡ answered (e .stop) stage G (e .peak)
+    outcome-is : (K : List Tree) → Alike (Q t) K → run-all cap (s .peak) (sum-out (model B .weights) (moment stage action) K 1 (x t .chances) F) ≡ answered (e .stop) stage G (e .peak)
     outcome-is K a =
-        sym (ap₂ (λ (W : ℕ) (C : List Tree). run-all cap (s .peak) (sum-out W stage K 1 C F)) weights-are chances-are)
-        ∙ E stage .outcome K (subst (λ (X : List Tree). Alike X K) (sym (on-before (D .on))) a)
+        sym (ap₂ (λ (W : ℕ) (C : List Tree). run-all cap (s .peak) (sum-out W (moment stage action) K 1 C F)) weights-are chances-are)
+        ∙ E (moment stage action) .outcome K (subst (λ (X : List Tree). Alike X K) (sym (on-before (D .on))) a)
 
     pub conditions-summed : e .stop ≡ 0 → length R₂ ≡ length R₁ → Summed B cap l R r held before stage action l₂ w₂ R₂ e
     conditions-summed ok size = record {
       on = record {
         size = Q-length t;
         room = let z = D .on .room in omega (arith, z, size);
-        rooted = subst (λ (X : List Tree). Rooted cap l₂ w₂ (e .count) (take (suc held) R₂) (X ++ (G ∷ []))) (on-before (D .on)) (E stage .rooted ok);
+        rooted = subst (λ (X : List Tree). Rooted cap l₂ w₂ (e .count) (take (suc held) R₂) (X ++ (G ∷ []))) (on-before (D .on)) (E (moment stage action) .rooted ok);
       };
+      fits = λ q. E (moment stage action) .fits ok (D .fits q);
       left = λ K a. D .left K a ∙ (after-levels-run (model B) stage K action (x t) cap (s .peak) F ∙ onward-ok (e .stop) stage G (e .peak) (outcome-is K a) _ ok);
     }
 
@@ -204,6 +209,7 @@ module _ {B : List ℕ} {cap : ℕ} {l : List ℤ} {w R : List ℕ} {r : Run} {h
           ∙ (after-levels-run (model B) stage K action (x t) cap (s .peak) F
           ∙ (onward-no (e .stop) stage G (e .peak) (outcome-is K a) _ off ∙ sym (answered-no (e .stop) stage G (e .peak) off)));
       rooted = λ q. absurd (off q);
+      fits = λ q. absurd (off q);
     }
 
   -- ---- the reward
@@ -237,13 +243,13 @@ module _ {B : List ℕ} {cap : ℕ} {l : List ℤ} {w R : List ℕ} {r : Run} {h
       added : v .stop ≡ 0 → (K : List Tree) → Alike (Q t) K → run-all cap (r .peak) (action-total (model B) stage K (P t) action (x t)) ≡ answered (v .stop) stage T (v .peak)
       added ok K a =
           D .left K a
-          ∙ (works-run (e .peak) stage end (subst (λ (c : Comp Tree). Works cap (H ∷ K) c T (v .count)) reward-comp (O .works ok (H ∷ K) (on-alike (D .on) a)))
+          ∙ (works-run (e .peak) (moment stage action) end (subst (λ (c : Comp Tree). Works cap (H ∷ K) c T (v .count)) reward-comp (O .works ok (H ∷ K) (on-alike (D .on) a)))
           ∙ (run-all-end cap _ T ∙ (ap (λ (p : ℕ). solved T p) (sym (O .peak)) ∙ sym (answered-ok (v .stop) stage T (v .peak) ok))))
 
       not-added : (v .stop ≡ 0 → ⊥) → (K : List Tree) → Alike (Q t) K → run-all cap (r .peak) (action-total (model B) stage K (P t) action (x t)) ≡ answered (v .stop) stage T (v .peak)
       not-added off K a =
           D .left K a
-          ∙ (stops-run (e .peak) stage end (subst (λ (c : Comp Tree). Stops cap (H ∷ K) c (v .stop)) reward-comp (O .stops off (H ∷ K) (on-alike (D .on) a)))
+          ∙ (stops-run (e .peak) (moment stage action) end (subst (λ (c : Comp Tree). Stops cap (H ∷ K) c (v .stop)) reward-comp (O .stops off (H ∷ K) (on-alike (D .on) a)))
           ∙ sym (answered-no (v .stop) stage T (v .peak) off))
 
       pub reward-added : Total B cap l R r held before stage action l₃ w₃ R₃ v
@@ -251,4 +257,5 @@ module _ {B : List ℕ} {cap : ℕ} {l : List ℤ} {w R : List ℕ} {r : Run} {h
         outcome = λ K a. by-eq (eqb (v .stop) 0) (λ b. run-all cap (r .peak) (action-total (model B) stage K (P t) action (x t)) ≡ answered (v .stop) stage T (v .peak))
             (λ e. added (eqb→eq (v .stop) 0 (from-true e)) K a) (λ e. not-added (λ q. clash (sym (eq-eqb (v .stop) 0 q) ∙ e)) K a);
         rooted = λ ok. subst (λ (X : List Tree). Rooted cap l₃ w₃ (v .count) (take (suc held) R₃) (X ++ (T ∷ []))) (on-front-of (D .on)) (O .rooted ok);
+        fits = λ ok q. operated-fits O ok (D .fits q);
       }

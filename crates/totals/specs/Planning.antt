@@ -46,3 +46,4 @@ rootAt l n R i = treeAt l n (getD R i 0)
 pub record Ran (cap p : ℕ) (l : List ℤ) (n : ℕ) (R : List ℕ) (held h : ℕ) (ops : List Tree → Ops Tree) (l′ : List ℤ) (w′ R′ : List ℕ) (r : Run) : Type 0 where
   pub outcome : (K : List Tree) → Alike (heldTrees l n R held) K → run-all cap p (ops K) ≡ answered (r .stop) h (rootAt l′ (r .count) R′ held) (r .peak)
   pub rooted : r .stop ≡ 0 → Rooted cap l′ w′ (r .count) (take (suc held) R′) (heldTrees l n R held ++ (rootAt l′ (r .count) R′ held ∷ []))
+  pub fits : r .stop ≡ 0 → p ≤ cap → r .peak ≤ cap

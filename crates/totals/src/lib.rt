@@ -1,8 +1,9 @@
 // An action's total in a stage: the next levels replaced, each condition summed out, the reward added.
 ghost use mathlib.Core.Path.{_≡_};
-ghost use Prim.Native.Nat.{ℕ, _+_, _≤_, _<_};
+ghost use Prim.Native.Nat.{_+_, _≤_, _<_};
 ghost use lib.ListN.{length, take, drop};
 ghost use Rattle.theory.specs.Widths.{conditions-most, weights-most, steps-most};
+ghost use Rattle.theory.specs.Computation.{Moment};
 ghost use Rattle.theory.specs.Load.{site-at};
 ghost use Rattle.theory.specs.Load.{model as model-of};
 ghost use Rattle.theory.specs.Stage.{action-total};
@@ -30,7 +31,7 @@ fn sum_out(
     weights: u32,
 ) -> Run
     requires { ⌜ Standing cap (now nodes) (now work) (run .count) (now roots) (held + 1) × (run .stop ≡ 0) × (first + conditions ≤ held) × (conditions ≤ conditions-most) × (weights ≤ weights-most) ⌝ }
-    ensures { λ r. ⌜ ((h : ℕ) → Ran cap (run .peak) (now (nodes .entry)) (run .count) (now (roots .entry)) held h
+    ensures { λ r. ⌜ ((h : Moment) → Ran cap (run .peak) (now (nodes .entry)) (run .count) (now (roots .entry)) held (h .stage)
         (λ K. summed weights h K 1 (take conditions (drop first (heldTrees (now (nodes .entry)) (run .count) (now (roots .entry)) held))) (rootAt (now (nodes .entry)) (run .count) (now (roots .entry)) held))
         (now (nodes .exit)) (now (work .exit)) (now (roots .exit)) r) ⌝ }
 {

@@ -1,4 +1,5 @@
 -- Laws that the proofs cite.
 pub mod Start
 pub mod Parts
+pub mod Counting
 pub mod Runs

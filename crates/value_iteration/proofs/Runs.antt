@@ -6,14 +6,15 @@ use Prim.Native.Nat.{ℕ, suc, _+_, max, _≤_, _<_}
 use native.Mathlib.Numerals.{add-one}
 use native.Mathlib.Omega.{arith}
 use lib.IntN.{ℤ}
-use lib.ListN.{length, getD, take}
+use lib.ListN.{length, getD, take, replicate}
 use lib.Seq.{length-take-le, take-suc, take-all, take-at}
-use Rattle.theory.specs.Widths.{bytes-most, steps-most, roots-most}
+use Rattle.theory.specs.Widths.{bytes-most, steps-most, roots-most, nodes-most, peak-words}
 use Rattle.theory.specs.Diagram.{Tree}
 use Rattle.theory.specs.Computation.{run-all}
 use Rattle.theory.specs.Verdict.{verdict}
 use Rattle.theory.specs.Load.{site-at, model}
 use Rattle.theory.specs.Stage.{model-diagrams, stages-on, all-stages}
+use Rattle.theory.specs.Peaks.{raise, peaks-of}
 use Rattle.theory.specs.Solve.{solve-in}
 use Rattle.diagrams.specs.Nodes.{trees}
 use Rattle.diagrams.proofs.Trees.{trees-length}
@@ -28,6 +29,7 @@ use Rattle.solving.specs.Roots.{roots-length, roots-append, below-append, below
 use Rattle.solving.specs.Steps.{behind-none, all-stages-ended}
 use Rattle.solving.specs.Loops.{zero-done, zero-refused}
 use Rattle.solving.specs.Outcome.{solve-loaded, solve-unloaded}
+use Rattle.value_iteration.proofs.Counting.{zero-counted, loaded-counted}
 use Rattle.operate.specs.declared.Rule.the-variants.{Zero}
 use Rattle.operate.specs.declared.Run.{Run}
 use Rattle.staging.specs.declared.Planned.{Planned}
@@ -38,11 +40,16 @@ use Rattle.value_iteration.specs.Iteration.{stageTrees, Brought, Grounde
 use Rattle.value_iteration.proofs.Start.{size-few, loaded-models, loaded-standing}
 
 -- loading is refused
-pub unloaded : (B : List ℕ) (H : ℕ) {cap : ℕ} {l : List ℤ} {w R : List ℕ} {r : Done} → Brought B cap l w R r → (r .stop ≡ 0 → ⊥) → Plans B H cap l w R (record { stop = r .stop; place = 0; count = 0; peak = 0 })
-unloaded B H {cap} {l} {w} {R} {r} L off = record {
+pub unloaded : (B : List ℕ) (H : ℕ) {cap : ℕ} {l : List ℤ} {w R : List ℕ} {P : List ℕ} {r : Done} → Brought B cap l w R r → (r .stop ≡ 0 → ⊥) → Plans B H cap l w R P (record { stop = r .stop; place = 0; count = 0; peak = 0 })
+unloaded B H {cap} {l} {w} {R} {P} {r} L off = record {
   outcome = solve-unloaded cap B H (r .stop) (L .stops off) ∙ sym (answered-no (r .stop) 0 (stageTrees B H l 0 R) 0 off);
   standing = λ z. absurd (off z);
+  peaks = λ z. absurd (off z);
 }
+
+-- its count fits a word
+pub loaded-fits : {B : List ℕ} {cap : ℕ} {l : List ℤ} {w R : List ℕ} {r : Done} → Brought B cap l w R r → r .count ≤ nodes-most
+loaded-fits L = let a = L .space .few in let b = L .space .room in omega (arith, a, b)
 
 -- the model is loaded, its roots the first of roots-most
 module _ (B : List ℕ) (v : verdict B .number ≡ 0) {cap : ℕ} {l : List ℤ} {w R : List ℕ} {r : Done} (L : Brought B cap l w R r) (go : r .stop ≡ 0) (size : length R ≡ roots-most) where
@@ -92,10 +99,11 @@ module _ (B : List ℕ) (v : verdict B .number ≡ 0) {cap : ℕ} {l : List ℤ}
           first = omega arith;
         }
 
-    pub end-grounded : Grounded B cap (r .count) l w R (record { stop = 0; count = r .count; peak = r .count })
-    end-grounded = record {
+    pub end-grounded : {P : List ℕ} → Grounded B cap (r .count) P l w R P (record { stop = 0; count = r .count; peak = r .count })
+    end-grounded {P} = record {
       ready = λ _. end-ready;
       left = λ _ H. ap (run-all cap (r .count)) (all-stages-ended (model B) H end-is);
+      counts = λ _ H. ap (peaks-of P) (all-stages-ended (model B) H end-is);
       stops = λ off. absurd (off refl);
     }
 
@@ -115,9 +123,12 @@ module _ (B : List ℕ) (v : verdict B .number ≡ 0) {cap : ℕ} {l : List ℤ}
     alike : Alike (heldTrees l (r .count) R (modelSize B)) (model-diagrams (model B))
     alike = alike-eq (loaded-models L go few)
 
-    pub zero-grounded : Grounded B cap (r .count) l′ w′ R′ z
+    pub zero-fits : z .stop ≡ 0 → z .count ≤ nodes-most
+    zero-fits ok = let a = there .rooted ok .space .few in let b = there .rooted ok .space .room in omega (arith, a, b)
+
+    pub zero-grounded : {P P′ : List ℕ} → (z .stop ≡ 0 → P′ ≡ raise 1 (z .count) P) → Grounded B cap (r .count) P l′ w′ R′ P′ z
     unfolding compOf held
-    zero-grounded = record {
+    zero-grounded {P} {P′} f = record {
       ready = λ ok. record {
         accepted = v;
         bytes = bytes;
@@ -129,28 +140,36 @@ module _ (B : List ℕ) (v : verdict B .number ≡ 0) {cap : ℕ} {l : List ℤ}
           let Z = rootAt l′ (z .count) R′ (modelSize B) in
           zero-done (model B) cap (r .count) H none (there .works ok (model-diagrams (model B)) alike)
           ∙ (behind-none (run-all cap (max (r .count) (z .count)) (stages-on (model B) H 1 (Z ∷ []) Z)) ∙ ap (λ (p : ℕ). run-all cap p (stages-on (model B) H 1 (Z ∷ []) Z)) (sym (there .peak)));
+      counts = λ ok H.
+          let Z = rootAt l′ (z .count) R′ (modelSize B) in
+          zero-counted (model B) H none P (there .works ok (model-diagrams (model B)) alike) ∙ ap (λ (Q : List ℕ). peaks-of Q (stages-on (model B) H 1 (Z ∷ []) Z)) (sym (f ok));
       stops = λ off H. zero-refused (model B) cap (r .count) H none (there .stops off (model-diagrams (model B)) alike);
     }
 
 -- ---- the stages over it
 
-module _ (B : List ℕ) (H : ℕ) {cap : ℕ} {l : List ℤ} {w R : List ℕ} {r : Done} (L : Brought B cap l w R r) (go : r .stop ≡ 0) {l′ : List ℤ} {w′ R′ : List ℕ} {z : Run}
-    (G : Grounded B cap (r .count) l′ w′ R′ z) where
+module _ (B : List ℕ) (H : ℕ) {cap : ℕ} {l : List ℤ} {w R : List ℕ} {r : Done} (L : Brought B cap l w R r) (go : r .stop ≡ 0) {P : List ℕ} {l′ : List ℤ} {w′ R′ P′ : List ℕ} {z : Run}
+    (G : Grounded B cap (r .count) P l′ w′ R′ P′ z) where
   solved-by : solve-in cap B H ≡ run-all cap (r .count) (all-stages (model B) H)
   solved-by = solve-loaded cap B H (model B) (trees l (r .count)) (L .ran go) ∙ ap (λ (p : ℕ). run-all cap p (all-stages (model B) H)) (trees-length l (r .count))
 
-  pub zero-off : (z .stop ≡ 0 → ⊥) → Plans B H cap l′ w′ R′ (record { stop = z .stop; place = 1; count = 0; peak = 0 })
+  pub zero-off : (z .stop ≡ 0 → ⊥) → Plans B H cap l′ w′ R′ P′ (record { stop = z .stop; place = 1; count = 0; peak = 0 })
   zero-off off = record {
     outcome = solved-by ∙ (G .stops off H ∙ sym (answered-no (z .stop) 1 (stageTrees B H l′ 0 R′) 0 off));
     standing = λ e. absurd (off e);
+    peaks = λ e. absurd (off e);
   }
 
-  pub stages-run : z .stop ≡ 0 → {l″ : List ℤ} {w″ R″ : List ℕ} {s : Planned} → Staged B cap (z .peak) H l′ (z .count) R′ l″ w″ R″ s → Plans B H cap l″ w″ R″ s
-  stages-run ok S = record { outcome = solved-by ∙ (G .left ok H ∙ S .outcome); standing = S .standing }
+  pub stages-run : z .stop ≡ 0 → {Q : List ℕ} → Q ≡ replicate peak-words 0 → P ≡ raise 0 (r .count) Q → {l″ : List ℤ} {w″ R″ P″ : List ℕ} {s : Planned} → Staged B cap (z .peak) H l′ (z .count) R′ P′ l″ w″ R″ P″ s → Plans B H cap l″ w″ R″ P″ s
+  stages-run ok e f S = record {
+    outcome = solved-by ∙ (G .left ok H ∙ S .outcome);
+    standing = S .standing;
+    peaks = λ z. S .peaks z ∙ (sym (G .counts ok H) ∙ loaded-counted B H cap (trees l (r .count)) (L .ran go) (trees-length l (r .count)) (f ∙ ap (raise 0 (r .count)) e));
+  }
 
 -- the stages' roots, behind stage 0's
-pub stages-ready : {B : List ℕ} {cap n first : ℕ} {l : List ℤ} {w R : List ℕ} {z : Run} → first ≡ modelSize B → Grounded B cap n l w R z → z .stop ≡ 0 → Ready B cap l w (z .count) R (first + 1)
-stages-ready {B} {cap} {first = first} {l} {w} {R} {z} at G ok = subst (Ready B cap l w (z .count) R) (sym (add-one first ∙ ap suc at)) (G .ready ok)
+pub stages-ready : {B : List ℕ} {cap n first : ℕ} {P : List ℕ} {l : List ℤ} {w R P′ : List ℕ} {z : Run} → first ≡ modelSize B → Grounded B cap n P l w R P′ z → z .stop ≡ 0 → Ready B cap l w (z .count) R (first + 1)
+stages-ready {B} {cap} {first = first} {l = l} {w = w} {R = R} {z = z} at G ok = subst (Ready B cap l w (z .count) R) (sym (add-one first ∙ ap suc at)) (G .ready ok)
 
 pub stages-fit : (B : List ℕ) (H : ℕ) {first n : ℕ} → verdict B .number ≡ 0 → first ≡ modelSize B → H ≤ steps-most → n ≡ roots-most → first + 1 + H + 1 ≤ n
 stages-fit B H v at h e = let q = size-few B v in omega arith

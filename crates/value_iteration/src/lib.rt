@@ -1,12 +1,13 @@
 // Value iteration on tables of a given room: the model loaded, stage 0, the stages.
 ghost use mathlib.Core.Path.{_≡_};
 ghost use Prim.Native.Nat.{_*_, _≤_, _<_};
-ghost use lib.ListN.{length};
-ghost use Rattle.theory.specs.Widths.{bytes-most, steps-most, loaded-roots-most, roots-most};
+ghost use lib.ListN.{length, replicate};
+ghost use Rattle.theory.specs.Widths.{bytes-most, steps-most, loaded-roots-most, roots-most, peak-words};
 ghost use Rattle.theory.specs.Verdict.{verdict};
 ghost use Rattle.mark.specs.Mark.{Space};
 ghost use Rattle.value_iteration.specs.Iteration.{Brought, Grounded, Plans};
 ghost use Rattle.totals.specs.Planning.{modelSize};
+use action_peaks::raise_peak;
 use loading::Done;
 use loading::LOADED_ROOTS;
 use loading::wide;
@@ -88,9 +89,10 @@ fn stage_zero(
     cap: usize,
     loaded: Done,
     roots: &mut [u32],
+    peaks: &mut [u32],
 ) -> Run
-    requires { ⌜ (verdict (now model) .number ≡ 0) × (length (now model) ≤ bytes-most) × Brought (now model) cap (now nodes) (now work) (now roots) loaded × (loaded .stop ≡ 0) × (length (now roots) ≡ roots-most) ⌝ }
-    ensures { λ r. ⌜ Grounded (now (model .entry)) cap (loaded .count) (now (nodes .exit)) (now (work .exit)) (now (roots .exit)) r ⌝ }
+    requires { ⌜ (verdict (now model) .number ≡ 0) × (length (now model) ≤ bytes-most) × Brought (now model) cap (now nodes) (now work) (now roots) loaded × (loaded .stop ≡ 0) × (length (now roots) ≡ roots-most) × (length (now peaks) ≡ peak-words) ⌝ }
+    ensures { λ r. ⌜ Grounded (now (model .entry)) cap (loaded .count) (now (peaks .entry)) (now (nodes .exit)) (now (work .exit)) (now (roots .exit)) (now (peaks .exit)) r ⌝ }
 {
     let start = Run {
         stop: 0,
@@ -101,7 +103,11 @@ fn stage_zero(
         return start;
     }
     let first = model_size(model);
-    operate(nodes, work, cap, start, roots, first, first, Rule::Zero)
+    let zero = operate(nodes, work, cap, start, roots, first, first, Rule::Zero);
+    if zero.stop == 0 {
+        raise_peak(peaks, 1, zero.count);
+    }
+    zero
 }
 
 // The model loaded and the stages run, in tables of any words: the stages' roots stand from one behind the model's on.
@@ -112,10 +118,11 @@ pub fn run_stages(
     work: &mut [u32],
     cap: usize,
     roots: &mut [u32],
+    peaks: &mut [u32],
     first: usize,
 ) -> Planned
-    requires { ⌜ (verdict (now model) .number ≡ 0) × (length (now model) ≤ bytes-most) × (horizon ≤ steps-most) × Space cap (now nodes) (now work) 0 × (length (now roots) ≡ roots-most) × (first ≡ modelSize (now model)) ⌝ }
-    ensures { λ r. ⌜ Plans (now (model .entry)) horizon cap (now (nodes .exit)) (now (work .exit)) (now (roots .exit)) r ⌝ }
+    requires { ⌜ (verdict (now model) .number ≡ 0) × (length (now model) ≤ bytes-most) × (horizon ≤ steps-most) × Space cap (now nodes) (now work) 0 × (length (now roots) ≡ roots-most) × (first ≡ modelSize (now model)) × (now peaks ≡ replicate peak-words 0) ⌝ }
+    ensures { λ r. ⌜ Plans (now (model .entry)) horizon cap (now (nodes .exit)) (now (work .exit)) (now (roots .exit)) (now (peaks .exit)) r ⌝ }
 {
     let loaded = load_in_parts(model, nodes, work, cap, roots);
     if loaded.stop != 0 {
@@ -126,7 +133,8 @@ pub fn run_stages(
             peak: 0,
         };
     }
-    let zero = stage_zero(model, nodes, work, cap, loaded, roots);
+    raise_peak(peaks, 0, loaded.count);
+    let zero = stage_zero(model, nodes, work, cap, loaded, roots, peaks);
     if zero.stop != 0 {
         return Planned {
             stop: zero.stop,
@@ -135,5 +143,15 @@ pub fn run_stages(
             peak: 0,
         };
     }
-    stages(model, horizon, nodes, work, cap, zero, roots, first + 1)
+    stages(
+        model,
+        horizon,
+        nodes,
+        work,
+        cap,
+        zero,
+        roots,
+        peaks,
+        first + 1,
+    )
 }

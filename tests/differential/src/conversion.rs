@@ -6,7 +6,7 @@ use models::{
     chain, damaged_in, deep, dry_inlet, mixed, near_limit, of_length, of_old_length, old_form, pond, pond_kept, rain,
     rain_tanks_kept, settings, staircases, steep_end, Rng, MODEL_BYTES, OLD, OLD_BYTES,
 };
-use reference::widths::{NODE_WORDS, STAGES, WORK_WORDS};
+use reference::widths::{NODE_WORDS, PEAK_WORDS, STAGES, WORK_WORDS};
 use reference::{solve_old, worth_old};
 
 #[derive(Clone, Copy, PartialEq)]
@@ -117,11 +117,12 @@ fn same_plan(calls: &mut Calls, rng: &mut Rng, old: &[u8], horizon: u32) {
     calls.model = model.clone();
     let ours = solve_old(old, horizon, 600);
     let (mut nodes, mut work) = (vec![0; NODE_WORDS * 600], vec![0; WORK_WORDS * 600]);
-    let (mut stages, mut out) = ([0; STAGES], [0; 8]);
-    let number = planner::solve(&model, horizon, &mut nodes, &mut stages, &mut work, &mut out);
+    let (mut stages, mut peaks, mut out) = ([0; STAGES], [0; PEAK_WORDS], [0; 8]);
+    let number = planner::solve(&model, horizon, &mut nodes, &mut stages, &mut work, &mut peaks, &mut out);
     let answer = [ours.place.to_le_bytes(), ours.peak.to_le_bytes()].concat();
     calls.check("plan of an old model", "number", &number, &ours.number, &horizon);
     calls.check("plan of an old model", "place, peak", &out[..], &answer[..], &horizon);
+    calls.check("plan of an old model", "peaks", &peaks[..], &ours.peaks[..], &horizon);
     for _ in 0..3 {
         let (state, steps) = (state(rng, &model), rng.between(1, horizon as i32) as u32);
         let (mut read, mut our_read) = ([0; 24], [0; 24]);

@@ -23,12 +23,13 @@ pub fn reading(reading: Reading, out: &mut [u8]) -> u32 {
 }
 
 /// Leaves the outcome of a solve in lent words.
-pub fn leave(done: &Outcome, nodes: &mut [i64], stages: &mut [u32], work: &mut [u32]) {
+pub fn leave(done: &Outcome, nodes: &mut [i64], stages: &mut [u32], work: &mut [u32], peaks: &mut [u32]) {
     if !done.is_untouched() {
         nodes.fill(0);
         nodes[..done.nodes.len()].copy_from_slice(&done.nodes);
         stages.copy_from_slice(&done.stages);
         work.fill(0);
+        peaks.copy_from_slice(&done.peaks);
     }
 }
 
@@ -38,12 +39,13 @@ pub fn solved(
     nodes: &mut [i64],
     stages: &mut [u32],
     work: &mut [u32],
+    peaks: &mut [u32],
     out: &mut [u8],
 ) -> u32 {
-    let done = solve(model, horizon, nodes.len(), stages.len(), work.len());
+    let done = solve(model, horizon, nodes.len(), stages.len(), work.len(), peaks.len());
     let number = answer(done.number, words(&[done.place, done.peak]), out);
     if number == done.number && out.len() >= 8 {
-        leave(&done, nodes, stages, work);
+        leave(&done, nodes, stages, work, peaks);
     }
     number
 }

@@ -1,4 +1,4 @@
-//! Compares every outcome of libplanner.a with the second program: numbers, places, peaks, all lent words, values,
+//! Compares every outcome of libplanner.a with the second program: numbers, places, all lent words, peaks too, values,
 //! names and actions found by them, listings, pages, models of the other form, plain working. See tests/README.md for the link line.
 
 mod conversion;
@@ -15,7 +15,7 @@ use models::{
     chain, damaged, deep, dry_inlet, mixed, near_limit, of_length, pond, pond_kept, rain, rain_tanks_kept, random,
     releases, reservoirs, settings, staircases, steep_end, wet_reservoirs, Rng, MODEL_BYTES,
 };
-use reference::widths::{CONDITIONS, LEVELS, NODES_MOST, NODE_WORDS, NUMBERS, STAGES, WORK_WORDS};
+use reference::widths::{CONDITIONS, LEVELS, NODES_MOST, NODE_WORDS, NUMBERS, PEAK_WORDS, STAGES, WORK_WORDS};
 use reference::{solve_with_room, validate, with_deep_stack, Outcome, State};
 use std::fmt::Debug;
 use std::time::Instant;
@@ -75,14 +75,19 @@ struct Tables {
     nodes: Vec<i64>,
     stages: Vec<u32>,
     work: Vec<u32>,
+    peaks: Vec<u32>,
 }
 
 impl Tables {
-    fn full_of_anything(rng: &mut Rng, node_words: usize, stage_words: usize, work_words: usize) -> Tables {
+    /// The lengths are those of nodes, stages, work and peaks.
+    fn full_of_anything(rng: &mut Rng, lengths: [usize; 4]) -> Tables {
+        let [nodes, stages, work, peaks] = lengths.map(|length| (0..length).map(|_| rng.word()).collect::<Vec<u64>>());
+        let narrow = |words: Vec<u64>| words.into_iter().map(|word| word as u32).collect();
         Tables {
-            nodes: (0..node_words).map(|_| rng.word() as i64).collect(),
-            stages: (0..stage_words).map(|_| rng.word() as u32).collect(),
-            work: (0..work_words).map(|_| rng.word() as u32).collect(),
+            nodes: nodes.into_iter().map(|word| word as i64).collect(),
+            stages: narrow(stages),
+            work: narrow(work),
+            peaks: narrow(peaks),
         }
     }
 }
@@ -102,13 +107,14 @@ fn compare_solve(calls: &mut Calls, rng: &mut Rng, horizon: u32, mut tables: Tab
     let mut ours = tables.clone();
     let mut out = out(rng, 8);
     let mut our_out = out.clone();
-    let arguments = (horizon, tables.nodes.len(), tables.stages.len(), tables.work.len(), out.len());
-    let Tables { nodes, stages, work } = &mut tables;
-    let number = planner::solve(&model, horizon, nodes, stages, work, &mut out);
-    let Tables { nodes, stages, work } = &mut ours;
-    let our_number = expected::solved(&model, horizon, nodes, stages, work, &mut our_out);
+    let Tables { nodes, stages, work, peaks } = &mut tables;
+    let arguments = (horizon, nodes.len(), stages.len(), work.len(), peaks.len(), out.len());
+    let number = planner::solve(&model, horizon, nodes, stages, work, peaks, &mut out);
+    let Tables { nodes, stages, work, peaks } = &mut ours;
+    let our_number = expected::solved(&model, horizon, nodes, stages, work, peaks, &mut our_out);
     calls.check("solve", "number", &number, &our_number, &arguments);
     calls.check("solve", "place, peak", &out, &our_out, &arguments);
+    calls.check("solve", "peaks", &tables.peaks, &ours.peaks, &arguments);
     calls.check("solve", "tables", &tables, &ours, &arguments);
     calls.count(number);
     (number, tables)
@@ -285,7 +291,7 @@ fn compare_foreign_pages(calls: &mut Calls, rng: &mut Rng) {
         if rng.once_in(4) {
             row = none_row(rng);
         }
-        let tables = Tables { nodes: row.to_vec(), stages: vec![1; STAGES], work: Vec::new() };
+        let tables = Tables { nodes: row.to_vec(), stages: vec![1; STAGES], work: Vec::new(), peaks: Vec::new() };
         let mut numerator = || rng.pick(&[i32::MIN, i32::MAX, i32::MIN, i32::MAX, 0, 1, -1, 7]);
         let nums = std::array::from_fn(|i| if i < m { numerator() } else { 0 });
         let state = State { mask: rng.word() as u32 & ((1 << n) - 1), nums, d: rng.pick(&[1, 1, 2, 3, i32::MAX]) };
@@ -382,7 +388,8 @@ fn solve_around_peak(calls: &mut Calls, rng: &mut Rng, horizon: u32) -> Option<T
     for size in [peak, peak.saturating_sub(1), peak + 1, below] {
         let (node_words, work_words) = words(rng, size);
         let stage_words = if rng.once_in(40) { rng.pick(&[0, 7, 9]) } else { STAGES };
-        let tables = Tables::full_of_anything(rng, node_words, stage_words, work_words);
+        let peak_words = if rng.once_in(40) { rng.pick(&[0, 1, 8, 400, 402, 802]) } else { PEAK_WORDS };
+        let tables = Tables::full_of_anything(rng, [node_words, stage_words, work_words, peak_words]);
         let (number, tables) = compare_solve(calls, rng, horizon, tables);
         if number == 0 {
             solved = Some(tables);
@@ -411,7 +418,7 @@ fn one_round(calls: &mut Calls, rng: &mut Rng) {
         compare_find(calls, rng);
     }
     let is_solved = solved.is_some();
-    let mut tables = solved.unwrap_or_else(|| Tables::full_of_anything(rng, 10 * NODE_WORDS, STAGES, 0));
+    let mut tables = solved.unwrap_or_else(|| Tables::full_of_anything(rng, [10 * NODE_WORDS, STAGES, 0, 0]));
     for _ in 0..if is_solved { 6 } else { 2 } {
         let steps = any_horizon(rng).min(if rng.once_in(9) { u32::MAX } else { horizon });
         compare_state(calls, rng, &tables, steps, is_solved);
@@ -440,24 +447,35 @@ fn endurance_round(calls: &mut Calls, rng: &mut Rng, lent: &mut Tables, buffer: 
     calls.model = any_model(rng);
     let horizon = any_horizon(rng);
     let (node_words, work_words) = (rng.below(lent.nodes.len() + 1), rng.below(lent.work.len() + 1));
+    // Fewer words than the peaks are, or one more.
+    let peak_words = if rng.once_in(40) { rng.below(lent.peaks.len() + 1) } else { PEAK_WORDS };
     let (mut out, mut fresh_out, mut our_out) = ([0; 8], [0; 8], [0; 8]);
-    let mut fresh = Tables { nodes: vec![0; node_words], stages: vec![0; STAGES], work: vec![0; work_words] };
+    let mut fresh = Tables {
+        nodes: vec![0; node_words],
+        stages: vec![0; STAGES],
+        work: vec![0; work_words],
+        peaks: vec![0; peak_words],
+    };
     let mut ours = lent.clone();
-    let (nodes, work) = (&mut lent.nodes[..node_words], &mut lent.work[..work_words]);
-    let number = planner::solve(&calls.model, horizon, nodes, &mut lent.stages, work, &mut out);
-    let Tables { nodes, stages, work } = &mut fresh;
-    let fresh_number = planner::solve(&calls.model, horizon, nodes, stages, work, &mut fresh_out);
-    let (nodes, work) = (&mut ours.nodes[..node_words], &mut ours.work[..work_words]);
-    let our_number = expected::solved(&calls.model, horizon, nodes, &mut ours.stages, work, &mut our_out);
-    let arguments = (horizon, node_words, work_words);
+    let Tables { nodes, stages, work, peaks } = &mut *lent;
+    let (nodes, work, peaks) = (&mut nodes[..node_words], &mut work[..work_words], &mut peaks[..peak_words]);
+    let number = planner::solve(&calls.model, horizon, nodes, stages, work, peaks, &mut out);
+    let Tables { nodes, stages, work, peaks } = &mut fresh;
+    let fresh_number = planner::solve(&calls.model, horizon, nodes, stages, work, peaks, &mut fresh_out);
+    let Tables { nodes, stages, work, peaks } = &mut ours;
+    let (nodes, work, peaks) = (&mut nodes[..node_words], &mut work[..work_words], &mut peaks[..peak_words]);
+    let our_number = expected::solved(&calls.model, horizon, nodes, stages, work, peaks, &mut our_out);
+    let arguments = (horizon, node_words, work_words, peak_words);
     calls.check("solve", "number, fresh and lent", &fresh_number, &number, &arguments);
     calls.check("solve", "answer, fresh and lent", &fresh_out, &out, &arguments);
     calls.check("solve", "number", &number, &our_number, &arguments);
     calls.check("solve", "place, peak", &out, &our_out, &arguments);
+    calls.check("solve", "peaks, and the words not lent", &lent.peaks, &ours.peaks, &arguments);
     calls.check("solve", "tables, and the words not lent", lent, &ours, &arguments);
     if matches!(number, 0 | 11 | 12) {
         calls.check("solve", "fresh nodes", &fresh.nodes[..], &lent.nodes[..node_words], &arguments);
         calls.check("solve", "fresh stages", &fresh.stages, &lent.stages, &arguments);
+        calls.check("solve", "fresh peaks", &fresh.peaks[..], &lent.peaks[..peak_words], &arguments);
     }
     calls.count(number);
     compare_state(calls, rng, lent, horizon, number == 0);
@@ -492,20 +510,22 @@ fn large(calls: &mut Calls) {
         calls.model = model;
         for size in [NODES_MOST, whole.peak as usize, whole.peak.saturating_sub(1) as usize] {
             let (nodes, work) = (vec![-1; NODE_WORDS * size], vec![9; WORK_WORDS * size]);
-            let mut tables = Tables { nodes, stages: vec![7; STAGES], work };
+            let mut tables = Tables { nodes, stages: vec![7; STAGES], work, peaks: vec![5; PEAK_WORDS] };
             let mut ours = tables.clone();
             let mut out = [0; 8];
             let start = Instant::now();
-            let Tables { nodes, stages, work } = &mut tables;
-            let number = planner::solve(&calls.model, horizon, nodes, stages, work, &mut out);
+            let Tables { nodes, stages, work, peaks } = &mut tables;
+            let number = planner::solve(&calls.model, horizon, nodes, stages, work, peaks, &mut out);
             let time = start.elapsed().as_secs_f64();
             let start = Instant::now();
             let done: Outcome = solve_with_room(&calls.model, horizon, size);
             let our_time = start.elapsed().as_secs_f64();
-            expected::leave(&done, &mut ours.nodes, &mut ours.stages, &mut ours.work);
+            let Tables { nodes, stages, work, peaks } = &mut ours;
+            expected::leave(&done, nodes, stages, work, peaks);
             let our_out = [done.place.to_le_bytes(), done.peak.to_le_bytes()].concat();
             calls.check(name, "number", &number, &done.number, &size);
             calls.check(name, "place, peak", &out.to_vec(), &our_out, &size);
+            calls.check(name, "peaks", &tables.peaks, &ours.peaks, &size);
             calls.check(name, "tables", &tables, &ours, &size);
             calls.count(number);
             let (bytes, rows, peak) = (calls.model.len(), done.nodes.len() / NODE_WORDS, done.peak);
@@ -541,8 +561,8 @@ fn rounds(calls: &mut Calls, count: u64, seed: u64, mut round: impl FnMut(&mut C
 fn compare(mode: &str, count: u64, seed: u64) {
     let mut calls = Calls { by_number: [0; 21], none: 0, model: Vec::new(), round: 0 };
     let start = Instant::now();
-    let (node_words, work_words) = (NODE_WORDS * 2_000 + 3, WORK_WORDS * 2_000 + 5);
-    let mut lent = Tables::full_of_anything(&mut Rng(seed), node_words, STAGES, work_words);
+    let lengths = [NODE_WORDS * 2_000 + 3, STAGES, WORK_WORDS * 2_000 + 5, PEAK_WORDS + 1];
+    let mut lent = Tables::full_of_anything(&mut Rng(seed), lengths);
     let mut buffer = bytes(&mut Rng(seed), 20_000);
     match mode {
         "large" => {

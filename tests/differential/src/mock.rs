@@ -1,9 +1,11 @@
 //! Stands in for the library, so that the comparison can be built and tried without it. A fault can be asked for with
 //! PLANNER_FAULT=function (solve, value, name, worth, listing, find, page, to_new or to_old; to_new_buffer and
-//! to_old_buffer spoil the last byte of the lent buffer); the comparison has to find it.
+//! to_old_buffer spoil the last byte of the lent buffer, solve_peaks the last word of the peaks); the comparison has to
+//! find it.
 
 use crate::expected;
 use reference::State;
+use std::ops::BitXorAssign;
 use std::sync::atomic::{AtomicU32, Ordering};
 
 /// Says once in 50 times yes, if that fault is asked for.
@@ -21,10 +23,10 @@ fn spoil(function: &str, number: u32, out: &mut [u8]) -> u32 {
     number
 }
 
-/// Spoils the last byte of a lent buffer instead.
-fn spoil_buffer(fault: &str, buffer: &mut [u8]) {
-    if !buffer.is_empty() && is_due(fault) {
-        buffer[buffer.len() - 1] ^= 1;
+/// Spoils the last byte or word of what was lent instead.
+fn spoil_last<T: From<u8> + BitXorAssign>(fault: &str, lent: &mut [T]) {
+    if let Some(last) = lent.last_mut().filter(|_| is_due(fault)) {
+        *last ^= T::from(1);
     }
 }
 
@@ -33,8 +35,18 @@ pub fn validate(model: &[u8]) -> (u32, usize) {
     (number, place as usize)
 }
 
-pub fn solve(m: &[u8], horizon: u32, nodes: &mut [i64], stages: &mut [u32], work: &mut [u32], out: &mut [u8]) -> u32 {
-    spoil("solve", expected::solved(m, horizon, nodes, stages, work, out), out)
+pub fn solve(
+    m: &[u8],
+    horizon: u32,
+    nodes: &mut [i64],
+    stages: &mut [u32],
+    work: &mut [u32],
+    peaks: &mut [u32],
+    out: &mut [u8],
+) -> u32 {
+    let number = spoil("solve", expected::solved(m, horizon, nodes, stages, work, peaks, out), out);
+    spoil_last("solve_peaks", peaks);
+    number
 }
 
 pub fn value(model: &[u8], nodes: &[i64], stages: &[u32], steps: u32, state: State, out: &mut [u8]) -> u32 {
@@ -81,12 +93,12 @@ pub fn page(
 
 pub fn to_new(old: &[u8], buffer: &mut [u8], out: &mut [u8]) -> u32 {
     let number = spoil("to_new", expected::to_new(old, buffer, out), out);
-    spoil_buffer("to_new_buffer", buffer);
+    spoil_last("to_new_buffer", buffer);
     number
 }
 
 pub fn to_old(model: &[u8], buffer: &mut [u8], out: &mut [u8]) -> u32 {
     let number = spoil("to_old", expected::to_old(model, buffer, out), out);
-    spoil_buffer("to_old_buffer", buffer);
+    spoil_last("to_old_buffer", buffer);
     number
 }

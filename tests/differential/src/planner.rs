@@ -21,6 +21,8 @@ extern "C" {
         stage_words: usize,
         work: *mut u32,
         work_words: usize,
+        peaks: *mut u32,
+        peak_words: usize,
         out: *mut u8,
         out_len: usize,
     ) -> u32;
@@ -137,12 +139,14 @@ pub fn validate(model: &[u8]) -> (u32, usize) {
 }
 
 #[rustfmt::skip]
-pub fn solve(m: &[u8], horizon: u32, nodes: &mut [i64], stages: &mut [u32], work: &mut [u32], out: &mut [u8]) -> u32 {
+pub fn solve(
+    m: &[u8], horizon: u32, nodes: &mut [i64], stages: &mut [u32], work: &mut [u32], peaks: &mut [u32], out: &mut [u8],
+) -> u32 {
     // SAFETY: as said above.
     unsafe {
         planner_solve(
             m.as_ptr(), m.len(), horizon, nodes.as_mut_ptr(), nodes.len(), stages.as_mut_ptr(), stages.len(),
-            work.as_mut_ptr(), work.len(), out.as_mut_ptr(), out.len(),
+            work.as_mut_ptr(), work.len(), peaks.as_mut_ptr(), peaks.len(), out.as_mut_ptr(), out.len(),
         )
     }
 }

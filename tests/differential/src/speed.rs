@@ -4,7 +4,7 @@ use crate::meter::{by_callgrind, counted, keep_memory, least_time, Counter};
 use crate::{planner, Tables};
 use models::{chain, commands, deep, near_limit, pond, rain, releases, reservoirs, settings, staircases};
 use reference::diagram::Store;
-use reference::widths::{NODES_MOST, NODE_WORDS, STAGES, WORK_WORDS};
+use reference::widths::{NODES_MOST, NODE_WORDS, PEAK_WORDS, STAGES, WORK_WORDS};
 use reference::{solve_with_room, validate, value, worth, State};
 use std::hint::black_box;
 
@@ -72,7 +72,7 @@ impl Lent {
     fn new() -> Lent {
         keep_memory();
         let (nodes, work) = (vec![1; NODE_WORDS * NODES_MOST], vec![1; WORK_WORDS * NODES_MOST]);
-        let tables = Tables { nodes, stages: vec![1; STAGES], work };
+        let tables = Tables { nodes, stages: vec![1; STAGES], work, peaks: vec![1; PEAK_WORDS] };
         Lent { tables, out: [0; 24] }
     }
 
@@ -84,7 +84,7 @@ impl Lent {
     }
 
     fn library(&mut self, row: &Row) -> u32 {
-        let (Tables { nodes, stages, work }, out) = (&mut self.tables, &mut self.out);
+        let (Tables { nodes, stages, work, peaks }, out) = (&mut self.tables, &mut self.out);
         match row.job {
             Job::Floor => {
                 black_box(&mut *nodes).fill(0);
@@ -93,7 +93,7 @@ impl Lent {
             }
             Job::Solve(horizon, room) => {
                 let (nodes, work) = (&mut nodes[..NODE_WORDS * room], &mut work[..WORK_WORDS * room]);
-                planner::solve(&row.model, horizon, nodes, stages, work, out)
+                planner::solve(&row.model, horizon, nodes, stages, work, peaks, out)
             }
             Job::Value => planner::value(&row.model, nodes, stages, 8, STATE, out),
             Job::Worth(steps) => planner::worth(&row.model, steps, STATE, out),

@@ -52,6 +52,10 @@ fn show_solve(model: &[u8], horizon: u32, nodes: usize) {
     let done = solve_with_room(model, horizon, nodes);
     let time = start.elapsed().as_secs_f64();
     println!("{} {} {}", done.number, done.place, done.peak);
+    if let [loading, actions @ ..] = &done.peaks[..] {
+        let last = actions.iter().rposition(|&peak| peak > 0).map_or(0, |place| place + 1);
+        eprintln!("peaks: loading {loading}, actions {:?}", &actions[..last]);
+    }
     eprintln!("roots {:?}, {} rule calls, {} deep, {time:.3} s", done.stages, done.calls, done.deepest);
 }
 

@@ -2,11 +2,11 @@
 
 use crate::diagram::{condition, divided, Effort, Fault, Id, Kind, Label, Store};
 use crate::model::{open, open_as, Model, Refusal, Site, Tree};
-use crate::widths::{Old, CONDITIONS, NODES_MOST, NODE_WORDS, NUMBERS, STAGES, WORK_WORDS};
+use crate::widths::{Old, CONDITIONS, NODES_MOST, NODE_WORDS, NUMBERS, PEAK_WORDS, STAGES, WORK_WORDS};
 use crate::LIMIT;
 
 /// What a solve returns and leaves. `nodes` has the rows in use; every node word after them is zero, and so is every
-/// work word. After 11 and 12 all words are zero; after another refusal nothing is touched.
+/// work word. After 11 and 12 all words are zero; after another refusal nothing is touched, and `peaks` is empty.
 #[derive(Clone, Debug, Default, PartialEq, Eq)]
 pub struct Outcome {
     pub number: u32,
@@ -14,6 +14,8 @@ pub struct Outcome {
     pub peak: u32,
     pub nodes: Vec<i64>,
     pub stages: [u32; STAGES],
+    /// The needed nodes of loading, and of each action over all stages (K9.1).
+    pub peaks: Vec<u32>,
     /// Rule calls worked out and their greatest depth: figures of this program, not of 01.
     pub calls: u64,
     pub deepest: u32,
@@ -39,6 +41,23 @@ impl Action {
     }
 }
 
+/// The largest counts of needed nodes.
+struct Peaks {
+    /// Of all operations, loading included (51).
+    one: usize,
+    /// Of loading, and of each action's own operations (K9.2, K9.3).
+    each: Vec<u32>,
+    /// The action at work, 0 while loading.
+    action: usize,
+}
+
+impl Peaks {
+    fn count(&mut self, needed: usize) {
+        self.one = self.one.max(needed);
+        self.each[self.action] = self.each[self.action].max(needed as u32);
+    }
+}
+
 struct Solver<'a> {
     model: &'a Model,
     store: Store,
@@ -46,15 +65,26 @@ struct Solver<'a> {
     stages: Vec<Id>,
     best: Option<Id>,
     last: Option<Id>,
-    peak: usize,
+    peaks: Peaks,
     /// The stage at work.
     stage: u32,
 }
 
 /// Solves a model for tables of so many words; a large model asks for `with_deep_stack`.
-pub fn solve(bytes: &[u8], horizon: u32, node_words: usize, stage_words: usize, work_words: usize) -> Outcome {
+pub fn solve(
+    bytes: &[u8],
+    horizon: u32,
+    node_words: usize,
+    stage_words: usize,
+    work_words: usize,
+    peak_words: usize,
+) -> Outcome {
     let most = (node_words / NODE_WORDS).min(work_words / WORK_WORDS).min(NODES_MOST);
-    run(open(bytes, Some(stage_words), Some(horizon)), horizon, most)
+    let model = match peak_words {
+        PEAK_WORDS => open(bytes, Some(stage_words), Some(horizon)),
+        _ => Refusal::of(10),
+    };
+    run(model, horizon, most)
 }
 
 /// A model of the old form, for a horizon of 1 to 8 and tables of so many nodes.
@@ -71,7 +101,7 @@ fn run(model: Result<Model, Refusal>, horizon: u32, most: usize) -> Outcome {
 
 /// Solves a model in tables of so many nodes.
 pub fn solve_with_room(bytes: &[u8], horizon: u32, nodes: usize) -> Outcome {
-    solve(bytes, horizon, NODE_WORDS * nodes, STAGES, WORK_WORDS * nodes)
+    solve(bytes, horizon, NODE_WORDS * nodes, STAGES, WORK_WORDS * nodes, PEAK_WORDS)
 }
 
 impl Solver<'_> {
@@ -83,7 +113,7 @@ impl Solver<'_> {
             stages: Vec::new(),
             best: None,
             last: None,
-            peak: 0,
+            peaks: Peaks { one: 0, each: vec![0; PEAK_WORDS], action: 0 },
             stage: 0,
         }
     }
@@ -94,11 +124,15 @@ impl Solver<'_> {
         let mut outcome = Outcome { calls, deepest, ..Outcome::default() };
         match done {
             Ok(()) => {
-                outcome.peak = self.peak as u32;
+                outcome.peak = self.peaks.one as u32;
                 self.write(&mut outcome);
             }
-            Err(number) => (outcome.number, outcome.place) = (number, self.stage),
+            Err(number) => {
+                (outcome.number, outcome.place) = (number, self.stage);
+                self.peaks.each.fill(0);
+            }
         }
+        outcome.peaks = self.peaks.each;
         outcome
     }
 
@@ -116,11 +150,11 @@ impl Solver<'_> {
         self.store.fix();
     }
 
-    /// One operation: its result is the last one, and its count goes into the peak (51).
+    /// One operation: its result is the last one, and its count goes into the peaks.
     fn operation(&mut self, rule: impl FnOnce(&mut Self) -> Result<Id, Fault>) -> Result<(), Fault> {
         self.begin();
         self.last = Some(rule(self)?);
-        self.peak = self.peak.max(self.store.count());
+        self.peaks.count(self.store.count());
         Ok(())
     }
 
@@ -138,7 +172,7 @@ impl Solver<'_> {
                 }
             });
         }
-        self.peak = self.store.count();
+        self.peaks.count(self.store.count());
         let of = |trees: &[u32]| -> Vec<Id> { trees.iter().map(|&tree| made[tree as usize]).collect() };
         let action = |i| Action {
             reward: made[self.model.reward(i) as usize],
@@ -161,6 +195,7 @@ impl Solver<'_> {
                 self.fix();
             }
             for action in 0..self.model.site.a {
+                self.peaks.action = action + 1;
                 self.try_action(h, action)?;
             }
             self.stages.extend(self.best.take());

@@ -17,6 +17,8 @@ pub const WORK_WORDS: usize = 8;
 pub const NODES_MOST: usize = 65_535;
 /// Stage words, and the steps of the longest horizon.
 pub const STAGES: usize = 8;
+/// Words of the peaks: loading's, and one for each action that a site may have.
+pub const PEAK_WORDS: usize = 1 + New::ACTIONS;
 
 /// What the listing program takes and has.
 pub mod program {

@@ -34,7 +34,7 @@ fn pond_peak_and_listing() {
     input.extend(pond());
     assert_eq!(program(&input), POND_LISTING);
     assert_eq!(solve_with_room(&pond(), 2, 21).number, 0);
-    let refused = solve(&pond(), 2, 12 * 20 + 11, 8, 8 * 21);
+    let refused = solve(&pond(), 2, 12 * 20 + 11, 8, 8 * 21, 401);
     assert_eq!((refused.number, refused.place, refused.peak), (12, 2, 0));
     assert_eq!(program(&[]), "R 9 0\n");
 }

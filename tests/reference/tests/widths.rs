@@ -86,7 +86,7 @@ fn actions_have_two_bytes() {
 #[test]
 fn tables_of_so_many_words() {
     // The pond needs 21 nodes: 252 node words and 168 work words.
-    let number = |node_words, work_words| solve(&pond(), 2, node_words, 8, work_words).number;
+    let number = |node_words, work_words| solve(&pond(), 2, node_words, 8, work_words, 401).number;
     assert_eq!([number(252, 168), number(251, 168), number(252, 167), number(1_000, 1_000)], [0, 12, 12, 0]);
     assert_eq!([number(168, 168), number(168, 252), number(263, 175)], [12, 12, 0]);
 }

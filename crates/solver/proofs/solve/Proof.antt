@@ -1,74 +1,40 @@
-use mathlib.Core.Path.{_∙_}
-use native.Mathlib.Omega.{arith}
-use lib.ListN.{length}
-use Rattle.solver.proofs.Ends.{passed, goes-on, fitting, refused-early, stop-small, refused-late, solved-out}
+use borrow.Author.Needs.{needs}
+use Rattle.solver.proofs.Ends.{refused-words}
 use Rattle.solver.proofs.solve.Statement.{statement}
 use Rattle.solver.proofs.solve.Tie as tie
-
-early-requires : tie.Need-early-requires
-early-requires c κs = tt
+use Rattle.solver.proofs.solve.Reads as reads
+use Rattle.solver.proofs.solve.Lts as lts
+use Rattle.solver.proofs.solve_counted.Reads as solve-counted-reads
 
 returns : tie.Need-returns
-returns c = refused-early (c .before .before .before .before .before .before .args .model .now) (c .before .before .before .before .before .before .args .horizon) (c .before .before .before .before .before .before .args .nodes .now) (c .before .before .before .before .before .before .args .stages .now) (c .before .before .before .before .before .before .args .work .now) (c .before .before .early .result) (c .before .before .early .ensures) (c .if1 .taken)
+returns c = refused-words (c .before .before .before .before .before .args .model .now) (c .before .before .before .before .before .args .horizon) (c .before .before .before .before .before .args .nodes .now) (c .before .before .before .before .before .args .stages .now) (c .before .before .before .before .before .args .work .now) (c .before .before .before .before .before .args .peaks .now) (c .if1 .taken)
 
-room-requires : tie.Need-room-requires
-room-requires c κs = tt
-
-solve-in-requires : tie.Need-solve-in-requires
-solve-in-requires c κs =
-    let p = passed (c .before .before .before .before .before .before .before .before .before .before .args .model .now) (c .before .before .before .before .before .before .before .before .before .before .args .horizon) (length (c .before .before .before .before .before .before .before .before .before .before .args .stages .now)) (goes-on (c .before .before .before .before .before .before .before .before .before .before .args .model .now) (c .before .before .before .before .before .before .before .before .before .before .args .horizon) (length (c .before .before .before .before .before .before .before .before .before .before .args .stages .now)) (c .before .before .before .before .before .before .early .result) (c .before .before .before .before .before .before .early .ensures) (c .before .before .before .before .if1 .left)) in
-    let f = fitting (length (c .before .before .before .before .before .before .before .before .before .before .args .nodes .now)) (length (c .before .before .before .before .before .before .before .before .before .before .args .work .now)) (c .before .before .before .room .ensures) in
-    (p .own, p .bytes, p .most, p .least, f .few, f .words, f .works, p .eight)
-
-clear-all-requires : tie.Need-clear-all-requires
-clear-all-requires c κs = tt
-
-cast-t25 : tie.Need-cast-t25
-cast-t25 c =
-    omega (arith, stop-small (c .before .before .before .before .before .before .before .before .before .before .before .before .before .before .before .before .before .before .before .before .before .before .before .before .before .before .before .before .args .model .now) (c .before .before .before .before .before .before .before .before .before .before .before .before .before .before .before .before .before .before .before .before .before .before .before .before .before .before .before .before .args .horizon) (c .before .before .before .before .before .before .before .before .before .before .before .before .before .before .before .before .before .before .before .before .before .before .before .before .before .before .before .before .args .nodes .now) (c .before .before .before .before .before .before .before .before .before .before .before .before .before .before .before .before .before .before .before .before .before .before .before .before .before .before .before .before .args .stages .now) (c .before .before .before .before .before .before .before .before .before .before .before .before .before .before .before .before .before .before .before .before .before .before .before .before .before .before .before .before .args .work .now) (goes-on (c .before .before .before .before .before .before .before .before .before .before .before .before .before .before .before .before .before .before .before .before .before .before .before .before .before .before .before .before .args .model .now) (c .before .before .before .before .before .before .before .before .before .before .before .before .before .before .before .before .before .before .before .before .before .before .before .before .before .before .before .before .args .horizon) (length (c .before .before .before .before .before .before .before .before .before .before .before .before .before .before .before .before .before .before .before .before .before .before .before .before .before .before .before .before .args .stages .now)) (c .before .before .before .before .before .before .before .before .before .before .before .before .before .before .before .before .before .before .before .before .before .before .before .before .early .result) (c .before .before .before .before .before .before .before .before .before .before .before .before .before .before .before .before .before .before .before .before .before .before .before .before .early .ensures) (c .before .before .before .before .before .before .before .before .before .before .before .before .before .before .before .before .before .before .before .before .before .before .if1 .left)) (c .before .before .before .before .before .before .before .before .before .before .before .before .before .before .before .before .before .before .before .before .before .room .ensures) (c .before .before .before .before .before .before .before .before .before .before .before .before .before .before .before .before .before .solve-in .ensures) (c .before .before .before .before .before .before .before .before .before .before .if2 .taken))
+solve-counted-requires : tie.Need-solve-counted-requires
+solve-counted-requires c κs = search needs
 
 same-length : tie.Need-same-length
-same-length c = c .before .before .before .before .before .before .clear-all .kept .0 ∙ c .before .before .before .before .before .before .before .before .before .before .before .before .before .before .before .before .before .solve-in .kept .1 .1 .0
+same-length c = search needs
 
 same-length-2 : tie.Need-same-length-2
-same-length-2 c = c .before .before .before .before .before .before .clear-all .kept .1 .0 ∙ c .before .before .before .before .before .before .before .before .before .before .before .before .before .before .before .before .before .solve-in .kept .1 .1 .1 .0
+same-length-2 c = search needs
 
 same-length-3 : tie.Need-same-length-3
-same-length-3 c = c .before .before .before .before .before .before .clear-all .kept .1 .1 .0 ∙ c .before .before .before .before .before .before .before .before .before .before .before .before .before .before .before .before .before .solve-in .kept .1 .1 .1 .1 .0
-
-returns-2 : tie.Need-returns-2
-returns-2 c =
-    refused-late (c .before .before .before .before .before .before .before .before .before .before .before .before .before .before .before .before .before .before .before .before .before .before .before .before .before .before .before .before .args .model .now) (c .before .before .before .before .before .before .before .before .before .before .before .before .before .before .before .before .before .before .before .before .before .before .before .before .before .before .before .before .args .horizon) (c .before .before .before .before .before .before .before .before .before .before .before .before .before .before .before .before .before .before .before .before .before .before .before .before .before .before .before .before .args .nodes .now) (c .before .before .before .before .before .before .before .before .before .before .before .before .before .before .before .before .before .before .before .before .before .before .before .before .before .before .before .before .args .stages .now) (c .before .before .before .before .before .before .before .before .before .before .before .before .before .before .before .before .before .before .before .before .before .before .before .before .before .before .before .before .args .work .now) (goes-on (c .before .before .before .before .before .before .before .before .before .before .before .before .before .before .before .before .before .before .before .before .before .before .before .before .before .before .before .before .args .model .now) (c .before .before .before .before .before .before .before .before .before .before .before .before .before .before .before .before .before .before .before .before .before .before .before .before .before .before .before .before .args .horizon) (length (c .before .before .before .before .before .before .before .before .before .before .before .before .before .before .before .before .before .before .before .before .before .before .before .before .before .before .before .before .args .stages .now)) (c .before .before .before .before .before .before .before .before .before .before .before .before .before .before .before .before .before .before .before .before .before .before .before .before .early .result) (c .before .before .before .before .before .before .before .before .before .before .before .before .before .before .before .before .before .before .before .before .before .before .before .before .early .ensures) (c .before .before .before .before .before .before .before .before .before .before .before .before .before .before .before .before .before .before .before .before .before .before .if1 .left)) (c .before .before .before .before .before .before .before .before .before .before .before .before .before .before .before .before .before .before .before .before .before .room .ensures) (c .before .before .before .before .before .before .before .before .before .before .before .before .before .before .before .before .before .solve-in .ensures) (c .before .before .before .before .before .before .before .before .before .before .if2 .taken)
-    (c .before .before .before .before .before .before .clear-all .ensures) (c .before .before .before .before .before .before .before .before .before .before .before .before .before .before .before .before .before .solve-in .kept .1 .1 .0) (c .before .before .before .before .before .before .before .before .before .before .before .before .before .before .before .before .before .solve-in .kept .1 .1 .1 .0) (c .before .before .before .before .before .before .before .before .before .before .before .before .before .before .before .before .before .solve-in .kept .1 .1 .1 .1 .0)
+same-length-3 c = search needs
 
 same-length-4 : tie.Need-same-length-4
-same-length-4 c = c .before .before .before .before .before .before .before .solve-in .kept .1 .1 .0
+same-length-4 c = search needs
 
-same-length-5 : tie.Need-same-length-5
-same-length-5 c = c .before .before .before .before .before .before .before .solve-in .kept .1 .1 .1 .0
-
-same-length-6 : tie.Need-same-length-6
-same-length-6 c = c .before .before .before .before .before .before .before .solve-in .kept .1 .1 .1 .1 .0
-
-returns-3 : tie.Need-returns-3
-returns-3 c =
-    solved-out (c .before .before .before .before .before .before .before .before .before .before .before .before .before .before .before .before .before .before .args .model .now) (c .before .before .before .before .before .before .before .before .before .before .before .before .before .before .before .before .before .before .args .horizon) (c .before .before .before .before .before .before .before .before .before .before .before .before .before .before .before .before .before .before .args .nodes .now) (c .before .before .before .before .before .before .before .before .before .before .before .before .before .before .before .before .before .before .args .stages .now) (c .before .before .before .before .before .before .before .before .before .before .before .before .before .before .before .before .before .before .args .work .now) (goes-on (c .before .before .before .before .before .before .before .before .before .before .before .before .before .before .before .before .before .before .args .model .now) (c .before .before .before .before .before .before .before .before .before .before .before .before .before .before .before .before .before .before .args .horizon) (length (c .before .before .before .before .before .before .before .before .before .before .before .before .before .before .before .before .before .before .args .stages .now)) (c .before .before .before .before .before .before .before .before .before .before .before .before .before .before .early .result) (c .before .before .before .before .before .before .before .before .before .before .before .before .before .before .early .ensures) (c .before .before .before .before .before .before .before .before .before .before .before .before .if1 .left)) (c .before .before .before .before .before .before .before .before .before .before .before .room .ensures) (c .before .before .before .before .before .before .before .solve-in .ensures) (c .if2 .left)
+returns-2 : tie.Need-returns-2
+returns-2 c = search needs
 
 pub solve-spec : {M : Type 1} → statement M
 solve-spec =
     tie.close
     (tie.spec
-    early-requires
     returns
-    room-requires
-    solve-in-requires
-    clear-all-requires
-    cast-t25
+    solve-counted-requires
     same-length
     same-length-2
     same-length-3
-    returns-2
     same-length-4
-    same-length-5
-    same-length-6
-    returns-3)
+    returns-2)

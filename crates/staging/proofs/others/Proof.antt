@@ -3,16 +3,16 @@ use mathlib.Core.Path.{_≡_, refl, _∙_}
 use Prim.Native.Nat.{_+_, _-_}
 use native.Mathlib.Omega.{arith}
 use lib.ListN.{length}
-use Rattle.staging.proofs.StagesOthers.{Trying, trying-starts, trying-action, trying-stops, trying-on, trying-ends}
+use Rattle.staging.proofs.StagesOthers.{Trying, trying-starts, trying-action, trying-word, trying-stops, trying-on, trying-ends}
 use Rattle.staging.proofs.others.Statement.{statement}
 use Rattle.staging.proofs.others.Tie as tie
 
 abbrev Inv-loop : tie.InvT-loop
-Inv-loop model nodes₀ work₀ cap roots₀ held before stage actions r₀ a₀ nodes work roots r a =
-    Trying model cap nodes₀ roots₀ held before stage actions r₀ nodes work roots r a × (length nodes ≡ length nodes₀) × (length work ≡ length work₀) × (length roots ≡ length roots₀)
+Inv-loop model nodes₀ work₀ cap roots₀ peaks₀ held before stage actions r₀ a₀ nodes work roots peaks r a =
+    Trying model cap nodes₀ roots₀ held before stage actions r₀ peaks₀ nodes work roots r peaks a × (length nodes ≡ length nodes₀) × (length work ≡ length work₀) × (length roots ≡ length roots₀) × (length peaks ≡ length peaks₀)
 
 abbrev μ-loop : tie.MeasureT-loop
-μ-loop model nodes₀ work₀ cap roots₀ held before stage actions r₀ a₀ nodes work roots r a =
+μ-loop model nodes₀ work₀ cap roots₀ peaks₀ held before stage actions r₀ a₀ nodes work roots peaks r a =
     actions + 1 - a
 
 site-requires : tie.Need-site-requires Inv-loop μ-loop
@@ -25,55 +25,64 @@ wide-action-requires c κs =
 
 loop-holds : tie.Need-loop-holds Inv-loop μ-loop
 loop-holds c =
-    (trying-starts (c .before .before .before .before .before .pre .0) (c .before .before .before .before .before .pre .1) (c .before .before .before .before .before .pre .3) (c .before .site .ensures) (c .wide-action .ensures .0), refl, refl, refl)
+    (trying-starts (c .before .before .before .before .before .before .pre .0) (c .before .before .before .before .before .before .pre .1) (c .before .before .before .before .before .before .pre .3) (c .before .site .ensures) (c .wide-action .ensures .0), refl, refl, refl, refl)
 
-better-requires : tie.Need-better-requires Inv-loop μ-loop
-better-requires c κs =
-    (c .before .before .before .before .loop .inv .0 .ready, c .before .before .before .before .loop .inv .0 .ok, omega (arith, c .before .before .before .before .before .before .before .before .before .before .pre .2, c .before .before .before .before .loop .inv .3), c .before .before .before .before .before .before .before .before .before .before .pre .4, c .before .before .before .before .before .before .before .before .before .before .pre .5, omega (arith, c .before .before .before .before .loop .inv .0 .low), trying-action (c .before .before .before .before .loop .inv .0) (omega (arith, c .before .before .before .loop-test .taken)))
+next-action-requires : tie.Need-next-action-requires Inv-loop μ-loop
+next-action-requires c κs =
+    (c .before .before .before .before .before .loop .inv .0 .ready, omega (arith, c .before .before .before .before .before .before .before .before .before .before .before .before .pre .2, c .before .before .before .before .before .loop .inv .3), c .before .before .before .before .before .before .before .before .before .before .before .before .pre .4, c .before .before .before .before .before .before .before .before .before .before .before .before .pre .5, omega (arith, c .before .before .before .before .before .loop .inv .0 .low), trying-action (c .before .before .before .before .before .loop .inv .0) (omega (arith, c .before .before .before .before .loop-test .taken)), trying-word (c .before .before .before .before .before .loop .inv .0) (omega (arith, c .before .before .before .before .loop-test .taken)) (c .before .before .before .before .before .loop .inv .4 ∙ c .before .before .before .before .before .before .before .before .before .before .before .before .pre .6))
 
 same-length : tie.Need-same-length Inv-loop μ-loop
 same-length c =
-    c .before .before .before .before .before .before .before .better .kept .1 .0 ∙ c .before .before .before .before .before .before .before .before .before .before .before .before .loop .inv .1
+    c .before .before .before .before .before .before .before .before .before .next-action .kept .1 .0 ∙ c .before .before .before .before .before .before .before .before .before .before .before .before .before .before .before .loop .inv .1
 
 same-length-2 : tie.Need-same-length-2 Inv-loop μ-loop
 same-length-2 c =
-    c .before .before .before .before .before .before .before .better .kept .1 .1 .0 ∙ c .before .before .before .before .before .before .before .before .before .before .before .before .loop .inv .2
+    c .before .before .before .before .before .before .before .before .before .next-action .kept .1 .1 .0 ∙ c .before .before .before .before .before .before .before .before .before .before .before .before .before .before .before .loop .inv .2
 
 same-length-3 : tie.Need-same-length-3 Inv-loop μ-loop
 same-length-3 c =
-    c .before .before .before .before .before .before .before .better .kept .1 .1 .1 .1 .1 .0 ∙ c .before .before .before .before .before .before .before .before .before .before .before .before .loop .inv .3
-
-returns : tie.Need-returns Inv-loop μ-loop
-returns c =
-    trying-stops (c .before .before .before .before .before .before .before .before .before .before .before .before .loop .inv .0) (omega (arith, c .before .before .before .before .before .before .before .before .before .before .before .loop-test .taken)) (c .before .before .before .before .before .before .before .better .ensures) (c .if1 .taken)
-
-add-a : tie.Need-add-a Inv-loop μ-loop
-add-a c =
-    omega (arith, c .before .before .before .before .before .before .before .before .before .before .before .loop-test .taken, c .before .before .before .before .before .before .before .before .before .before .before .before .before .wide-action .ensures .1)
-
-loop-less : tie.Need-loop-less Inv-loop μ-loop
-loop-less c =
-    omega (arith, c .before .before .before .before .before .before .before .before .before .before .before .loop-test .taken)
-
-loop-again : tie.Need-loop-again Inv-loop μ-loop
-loop-again c = (
-  trying-on (c .before .before .before .before .before .before .before .before .before .before .before .before .loop .inv .0) (omega (arith, c .before .before .before .before .before .before .before .before .before .before .before .loop-test .taken)) (c .before .before .before .before .before .before .before .better .ensures) (c .if1 .left) (omega (arith, c .before .before .before .before .before .before .before .before .before .before .before .before .before .before .before .before .before .before .pre .2, c .before .before .before .before .before .before .before .before .before .before .before .before .loop .inv .3, c .before .before .before .before .before .before .before .better .kept .1 .1 .1 .1 .1 .0)),
-  c .before .before .before .before .before .before .before .better .kept .1 .0 ∙ c .before .before .before .before .before .before .before .before .before .before .before .before .loop .inv .1,
-  c .before .before .before .before .before .before .before .better .kept .1 .1 .0 ∙ c .before .before .before .before .before .before .before .before .before .before .before .before .loop .inv .2,
-  c .before .before .before .before .before .before .before .better .kept .1 .1 .1 .1 .1 .0 ∙ c .before .before .before .before .before .before .before .before .before .before .before .before .loop .inv .3,
-)
+    c .before .before .before .before .before .before .before .before .before .next-action .kept .1 .1 .1 .1 .1 .0 ∙ c .before .before .before .before .before .before .before .before .before .before .before .before .before .before .before .loop .inv .3
 
 same-length-4 : tie.Need-same-length-4 Inv-loop μ-loop
 same-length-4 c =
-    c .before .loop .inv .1
+    c .before .before .before .before .before .before .before .before .before .next-action .kept .1 .1 .1 .1 .1 .1 .0 ∙ c .before .before .before .before .before .before .before .before .before .before .before .before .before .before .before .loop .inv .4
+
+returns : tie.Need-returns Inv-loop μ-loop
+returns c =
+    trying-stops (c .before .before .before .before .before .before .before .before .before .before .before .before .before .before .before .loop .inv .0) (omega (arith, c .before .before .before .before .before .before .before .before .before .before .before .before .before .before .loop-test .taken)) (c .before .before .before .before .before .before .before .before .before .next-action .ensures) (c .if1 .taken)
+
+add-a : tie.Need-add-a Inv-loop μ-loop
+add-a c =
+    omega (arith, c .before .before .before .before .before .before .before .before .before .before .before .before .before .before .loop-test .taken, c .before .before .before .before .before .before .before .before .before .before .before .before .before .before .before .before .wide-action .ensures .1)
+
+loop-less : tie.Need-loop-less Inv-loop μ-loop
+loop-less c =
+    omega (arith, c .before .before .before .before .before .before .before .before .before .before .before .before .before .before .loop-test .taken)
+
+loop-again : tie.Need-loop-again Inv-loop μ-loop
+loop-again c = (
+  trying-on (c .before .before .before .before .before .before .before .before .before .before .before .before .before .before .before .loop .inv .0) (omega (arith, c .before .before .before .before .before .before .before .before .before .before .before .before .before .before .loop-test .taken)) (c .before .before .before .before .before .before .before .before .before .next-action .ensures) (c .if1 .left) (omega (arith, c .before .before .before .before .before .before .before .before .before .before .before .before .before .before .before .before .before .before .before .before .before .before .pre .2, c .before .before .before .before .before .before .before .before .before .before .before .before .before .before .before .loop .inv .3, c .before .before .before .before .before .before .before .before .before .next-action .kept .1 .1 .1 .1 .1 .0)),
+  c .before .before .before .before .before .before .before .before .before .next-action .kept .1 .0 ∙ c .before .before .before .before .before .before .before .before .before .before .before .before .before .before .before .loop .inv .1,
+  c .before .before .before .before .before .before .before .before .before .next-action .kept .1 .1 .0 ∙ c .before .before .before .before .before .before .before .before .before .before .before .before .before .before .before .loop .inv .2,
+  c .before .before .before .before .before .before .before .before .before .next-action .kept .1 .1 .1 .1 .1 .0 ∙ c .before .before .before .before .before .before .before .before .before .before .before .before .before .before .before .loop .inv .3,
+  c .before .before .before .before .before .before .before .before .before .next-action .kept .1 .1 .1 .1 .1 .1 .0 ∙ c .before .before .before .before .before .before .before .before .before .before .before .before .before .before .before .loop .inv .4,
+)
 
 same-length-5 : tie.Need-same-length-5 Inv-loop μ-loop
 same-length-5 c =
-    c .before .loop .inv .2
+    c .before .loop .inv .1
 
 same-length-6 : tie.Need-same-length-6 Inv-loop μ-loop
 same-length-6 c =
+    c .before .loop .inv .2
+
+same-length-7 : tie.Need-same-length-7 Inv-loop μ-loop
+same-length-7 c =
     c .before .loop .inv .3
+
+same-length-8 : tie.Need-same-length-8 Inv-loop μ-loop
+same-length-8 c =
+    c .before .loop .inv .4
 
 returns-2 : tie.Need-returns-2 Inv-loop μ-loop
 returns-2 c =
@@ -88,15 +97,17 @@ others-spec =
     site-requires
     wide-action-requires
     loop-holds
-    better-requires
+    next-action-requires
     same-length
     same-length-2
     same-length-3
+    same-length-4
     returns
     add-a
     loop-less
     loop-again
-    same-length-4
     same-length-5
     same-length-6
+    same-length-7
+    same-length-8
     returns-2)

@@ -8,81 +8,91 @@ use Rattle.staging.proofs.stages.Statement.{statement}
 use Rattle.staging.proofs.stages.Tie as tie
 
 abbrev Inv-loop : tie.InvT-loop
-Inv-loop model horizon nodes₀ work₀ cap roots₀ held r₀ h₀ nodes work roots r h =
-    Staging model cap horizon nodes₀ roots₀ held r₀ nodes work roots r h × (length nodes ≡ length nodes₀) × (length work ≡ length work₀) × (length roots ≡ length roots₀)
+Inv-loop model horizon nodes₀ work₀ cap roots₀ peaks₀ held r₀ h₀ nodes work roots peaks r h =
+    Staging model cap horizon nodes₀ roots₀ held r₀ peaks₀ nodes work roots r peaks h × (length nodes ≡ length nodes₀) × (length work ≡ length work₀) × (length roots ≡ length roots₀) × (length peaks ≡ length peaks₀)
 
 abbrev μ-loop : tie.MeasureT-loop
-μ-loop model horizon nodes₀ work₀ cap roots₀ held r₀ h₀ nodes work roots r h =
+μ-loop model horizon nodes₀ work₀ cap roots₀ peaks₀ held r₀ h₀ nodes work roots peaks r h =
     horizon - h
 
 loop-holds : tie.Need-loop-holds Inv-loop μ-loop
 loop-holds c =
-    (staging-starts (c .before .before .before .args .horizon) (c .before .before .before .args .run) (c .before .before .before .pre .0) (c .before .before .before .pre .2) (c .before .before .before .pre .1), refl, refl, refl)
+    (staging-starts (c .before .before .before .before .args .horizon) (c .before .before .before .before .args .run) (c .before .before .before .before .pre .0) (c .before .before .before .before .pre .2) (c .before .before .before .before .args .peaks .now) (c .before .before .before .before .pre .1), refl, refl, refl, refl)
 
 add-stage : tie.Need-add-stage Inv-loop μ-loop
 add-stage c =
-    omega (arith, c .before .before .before .loop-test .taken, c .before .before .before .before .before .before .before .before .pre .4)
+    omega (arith, c .before .before .before .before .loop-test .taken, c .before .before .before .before .before .before .before .before .before .before .pre .4)
 
 add-stage-2 : tie.Need-add-stage-2 Inv-loop μ-loop
 add-stage-2 c =
-    omega (arith, c .before .before .before .loop-test .taken, c .before .before .before .before .before .before .before .before .pre .4)
+    omega (arith, c .before .before .before .before .loop-test .taken, c .before .before .before .before .before .before .before .before .before .before .pre .4)
 
 stage-requires : tie.Need-stage-requires Inv-loop μ-loop
 stage-requires c κs = (
-  c .before .before .before .before .loop .inv .0 .ready,
-  c .before .before .before .before .loop .inv .0 .ok,
-  omega (arith, c .before .before .before .loop-test .taken, c .before .before .before .before .before .before .before .before .pre .4, c .before .before .before .before .loop .inv .3),
-  omega (arith, c .before .before .before .before .before .before .before .before .pre .2),
-  omega (arith, c .before .before .before .loop-test .taken, c .before .before .before .before .before .before .before .before .pre .3),
+  c .before .before .before .before .before .loop .inv .0 .ready,
+  c .before .before .before .before .before .loop .inv .0 .ok,
+  omega (arith, c .before .before .before .before .loop-test .taken, c .before .before .before .before .before .before .before .before .before .before .pre .4, c .before .before .before .before .before .loop .inv .3),
+  omega (arith, c .before .before .before .before .before .before .before .before .before .before .pre .2),
+  omega (arith, c .before .before .before .before .loop-test .taken, c .before .before .before .before .before .before .before .before .before .before .pre .3),
+  c .before .before .before .before .before .loop .inv .4 ∙ c .before .before .before .before .before .before .before .before .before .before .pre .5,
 )
 
-add-t20 : tie.Need-add-t20 Inv-loop μ-loop
-add-t20 c =
-    omega (arith, c .before .before .before .before .before .before .before .before .before .before .before .loop-test .taken, c .before .before .before .before .before .before .before .before .before .before .before .before .before .before .before .before .pre .4)
+add-t23 : tie.Need-add-t23 Inv-loop μ-loop
+add-t23 c =
+    omega (arith, c .before .before .before .before .before .before .before .before .before .before .before .before .before .before .loop-test .taken, c .before .before .before .before .before .before .before .before .before .before .before .before .before .before .before .before .before .before .before .before .pre .4)
 
 same-length : tie.Need-same-length Inv-loop μ-loop
 same-length c =
-    c .before .before .before .before .before .before .before .stage .kept .1 .0 ∙ c .before .before .before .before .before .before .before .before .before .before .before .before .loop .inv .1
+    c .before .before .before .before .before .before .before .before .before .stage .kept .1 .0 ∙ c .before .before .before .before .before .before .before .before .before .before .before .before .before .before .before .loop .inv .1
 
 same-length-2 : tie.Need-same-length-2 Inv-loop μ-loop
 same-length-2 c =
-    c .before .before .before .before .before .before .before .stage .kept .1 .1 .0 ∙ c .before .before .before .before .before .before .before .before .before .before .before .before .loop .inv .2
+    c .before .before .before .before .before .before .before .before .before .stage .kept .1 .1 .0 ∙ c .before .before .before .before .before .before .before .before .before .before .before .before .before .before .before .loop .inv .2
 
 same-length-3 : tie.Need-same-length-3 Inv-loop μ-loop
 same-length-3 c =
-    c .before .before .before .before .before .before .before .stage .kept .1 .1 .1 .1 .1 .0 ∙ c .before .before .before .before .before .before .before .before .before .before .before .before .loop .inv .3
-
-returns : tie.Need-returns Inv-loop μ-loop
-returns c =
-    staging-stops (c .before .before .before .before .before .before .before .before .before .before .before .before .loop .inv .0) (omega (arith, c .before .before .before .before .before .before .before .before .before .before .before .loop-test .taken)) (c .before .before .before .before .before .before .before .stage .ensures) (c .if1 .taken)
-
-add-h : tie.Need-add-h Inv-loop μ-loop
-add-h c =
-    omega (arith, c .before .before .before .before .before .before .before .before .before .before .before .loop-test .taken, c .before .before .before .before .before .before .before .before .before .before .before .before .before .before .before .before .pre .4)
-
-loop-less : tie.Need-loop-less Inv-loop μ-loop
-loop-less c =
-    omega (arith, c .before .before .before .before .before .before .before .before .before .before .before .loop-test .taken)
-
-loop-again : tie.Need-loop-again Inv-loop μ-loop
-loop-again c = (
-  staging-on (c .before .before .before .before .before .before .before .before .before .before .before .before .loop .inv .0) (omega (arith, c .before .before .before .before .before .before .before .before .before .before .before .loop-test .taken)) (c .before .before .before .before .before .before .before .stage .ensures) (c .if1 .left) (omega (arith, c .before .before .before .before .before .before .before .before .before .before .before .loop-test .taken, c .before .before .before .before .before .before .before .before .before .before .before .before .before .before .before .before .pre .4, c .before .before .before .before .before .before .before .before .before .before .before .before .loop .inv .3, c .before .before .before .before .before .before .before .stage .kept .1 .1 .1 .1 .1 .0)),
-  c .before .before .before .before .before .before .before .stage .kept .1 .0 ∙ c .before .before .before .before .before .before .before .before .before .before .before .before .loop .inv .1,
-  c .before .before .before .before .before .before .before .stage .kept .1 .1 .0 ∙ c .before .before .before .before .before .before .before .before .before .before .before .before .loop .inv .2,
-  c .before .before .before .before .before .before .before .stage .kept .1 .1 .1 .1 .1 .0 ∙ c .before .before .before .before .before .before .before .before .before .before .before .before .loop .inv .3,
-)
+    c .before .before .before .before .before .before .before .before .before .stage .kept .1 .1 .1 .1 .1 .0 ∙ c .before .before .before .before .before .before .before .before .before .before .before .before .before .before .before .loop .inv .3
 
 same-length-4 : tie.Need-same-length-4 Inv-loop μ-loop
 same-length-4 c =
-    c .before .loop .inv .1
+    c .before .before .before .before .before .before .before .before .before .stage .kept .1 .1 .1 .1 .1 .1 .0 ∙ c .before .before .before .before .before .before .before .before .before .before .before .before .before .before .before .loop .inv .4
+
+returns : tie.Need-returns Inv-loop μ-loop
+returns c =
+    staging-stops (c .before .before .before .before .before .before .before .before .before .before .before .before .before .before .before .loop .inv .0) (omega (arith, c .before .before .before .before .before .before .before .before .before .before .before .before .before .before .loop-test .taken)) (c .before .before .before .before .before .before .before .before .before .stage .ensures) (c .if1 .taken)
+
+add-h : tie.Need-add-h Inv-loop μ-loop
+add-h c =
+    omega (arith, c .before .before .before .before .before .before .before .before .before .before .before .before .before .before .loop-test .taken, c .before .before .before .before .before .before .before .before .before .before .before .before .before .before .before .before .before .before .before .before .pre .4)
+
+loop-less : tie.Need-loop-less Inv-loop μ-loop
+loop-less c =
+    omega (arith, c .before .before .before .before .before .before .before .before .before .before .before .before .before .before .loop-test .taken)
+
+loop-again : tie.Need-loop-again Inv-loop μ-loop
+loop-again c = (
+  staging-on (c .before .before .before .before .before .before .before .before .before .before .before .before .before .before .before .loop .inv .0) (omega (arith, c .before .before .before .before .before .before .before .before .before .before .before .before .before .before .loop-test .taken)) (c .before .before .before .before .before .before .before .before .before .stage .ensures) (c .if1 .left) (omega (arith, c .before .before .before .before .before .before .before .before .before .before .before .before .before .before .loop-test .taken, c .before .before .before .before .before .before .before .before .before .before .before .before .before .before .before .before .before .before .before .before .pre .4, c .before .before .before .before .before .before .before .before .before .before .before .before .before .before .before .loop .inv .3, c .before .before .before .before .before .before .before .before .before .stage .kept .1 .1 .1 .1 .1 .0)),
+  c .before .before .before .before .before .before .before .before .before .stage .kept .1 .0 ∙ c .before .before .before .before .before .before .before .before .before .before .before .before .before .before .before .loop .inv .1,
+  c .before .before .before .before .before .before .before .before .before .stage .kept .1 .1 .0 ∙ c .before .before .before .before .before .before .before .before .before .before .before .before .before .before .before .loop .inv .2,
+  c .before .before .before .before .before .before .before .before .before .stage .kept .1 .1 .1 .1 .1 .0 ∙ c .before .before .before .before .before .before .before .before .before .before .before .before .before .before .before .loop .inv .3,
+  c .before .before .before .before .before .before .before .before .before .stage .kept .1 .1 .1 .1 .1 .1 .0 ∙ c .before .before .before .before .before .before .before .before .before .before .before .before .before .before .before .loop .inv .4,
+)
 
 same-length-5 : tie.Need-same-length-5 Inv-loop μ-loop
 same-length-5 c =
-    c .before .loop .inv .2
+    c .before .loop .inv .1
 
 same-length-6 : tie.Need-same-length-6 Inv-loop μ-loop
 same-length-6 c =
+    c .before .loop .inv .2
+
+same-length-7 : tie.Need-same-length-7 Inv-loop μ-loop
+same-length-7 c =
     c .before .loop .inv .3
+
+same-length-8 : tie.Need-same-length-8 Inv-loop μ-loop
+same-length-8 c =
+    c .before .loop .inv .4
 
 returns-2 : tie.Need-returns-2 Inv-loop μ-loop
 returns-2 c =
@@ -98,15 +108,17 @@ stages-spec =
     add-stage
     add-stage-2
     stage-requires
-    add-t20
+    add-t23
     same-length
     same-length-2
     same-length-3
+    same-length-4
     returns
     add-h
     loop-less
     loop-again
-    same-length-4
     same-length-5
     same-length-6
+    same-length-7
+    same-length-8
     returns-2)

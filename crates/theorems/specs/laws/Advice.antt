@@ -28,12 +28,12 @@ no-refusal-answered (num z) a = (refl, refl)
 no-refusal-answered none a = (refl, refl)
 
 -- solved
-module _ (B : List ℕ) (H : ℕ) (nodes : List ℤ) (stages work : List ℕ) (is : solve B H nodes stages work .number ≡ 0) (h : ℕ) (low : 1 ≤ h) (high : h ≤ H) (q : Asked) where
+module _ (B : List ℕ) (H : ℕ) (nodes : List ℤ) (stages work peaks : List ℕ) (is : solve B H nodes stages work peaks .number ≡ 0) (h : ℕ) (low : 1 ≤ h) (high : h ≤ H) (q : Asked) where
   abbrev solving : Solving
-  solving = record { bytes = B; horizon = H; nodes = nodes; stages = stages; work = work; is = is }
+  solving = record { bytes = B; horizon = H; nodes = nodes; stages = stages; work = work; peaks = peaks; is = is }
 
   abbrev read : ValueOut
-  read = value-of B (solve B H nodes stages work .nodes) (solve B H nodes stages work .stages) h q
+  read = value-of B (solve B H nodes stages work peaks .nodes) (solve B H nodes stages work peaks .stages) h q
 
   read-exact : Exact B h q read
   read-exact = record {
@@ -53,9 +53,9 @@ module _ (B : List ℕ) (H : ℕ) (nodes : List ℤ) (stages work : List ℕ) (i
   read-none : ReadsNone B h q read
   read-none = record { exactly = λ t. forbidden.none-read solving h low high q t .1 }
 
-  module _ {l : List ℤ} {s w : List ℕ} (L : Left (solve B H nodes stages work) l s w) (v : ValueOut) (e : v ≡ value-of B l s h q) where
+  module _ {l : List ℤ} {s w k : List ℕ} (L : Left (solve B H nodes stages work peaks) l s w k) (v : ValueOut) (e : v ≡ value-of B l s h q) where
     same-read : read ≡ v
-    same-read = (ap (λ (x : List ℤ). value-of B x (solve B H nodes stages work .stages) h q) (sym (L .nodes-left)) ∙ ap (λ (x : List ℕ). value-of B l x h q) (sym (L .stages-left))) ∙ sym e
+    same-read = (ap (λ (x : List ℤ). value-of B x (solve B H nodes stages work peaks .stages) h q) (sym (L .nodes-left)) ∙ ap (λ (x : List ℕ). value-of B l x h q) (sym (L .stages-left))) ∙ sym e
 
     advised-exact : Exact B h q v
     advised-exact = subst (Exact B h q) same-read read-exact
@@ -67,15 +67,15 @@ module _ (B : List ℕ) (H : ℕ) (nodes : List ℤ) (stages work : List ℕ) (i
     advised-none = subst (ReadsNone B h q) same-read read-none
 
 -- what a solve answered with and left
-module _ (B : List ℕ) (H : ℕ) (nodes : List ℤ) (stages work : List ℕ) {k p peak : ℕ} {l : List ℤ} {s w : List ℕ} (e : record { number = k; place = p; peak = peak; nodes = l; stages = s; work = w } ≡ solve B H nodes stages work) where
-  left : Left (solve B H nodes stages work) l s w
-  left = record { nodes-left = ap (λ (o : SolveOut). o .nodes) e; stages-left = ap (λ (o : SolveOut). o .stages) e; work-left = ap (λ (o : SolveOut). o .work) e }
+module _ (B : List ℕ) (H : ℕ) (nodes : List ℤ) (stages work peaks : List ℕ) {k p peak : ℕ} {l : List ℤ} {s w m : List ℕ} (e : record { number = k; place = p; peak = peak; nodes = l; stages = s; work = w; peaks = m } ≡ solve B H nodes stages work peaks) where
+  left : Left (solve B H nodes stages work peaks) l s w m
+  left = record { nodes-left = ap (λ (o : SolveOut). o .nodes) e; stages-left = ap (λ (o : SolveOut). o .stages) e; work-left = ap (λ (o : SolveOut). o .work) e; peaks-left = ap (λ (o : SolveOut). o .peaks) e }
 
-  number-left : k ≡ solve B H nodes stages work .number
+  number-left : k ≡ solve B H nodes stages work peaks .number
   number-left = ap (λ (o : SolveOut). o .number) e
 
   -- its refusal, given on
-  pub refusal-given : (h : ℕ) (q : Asked) → (k ≡ 0 → ⊥) → Advises B H nodes stages work h q l s w (record { number = k; place = p; action = 0; numerator = record { low = 0; high = pos 0 } })
+  pub refusal-given : (h : ℕ) (q : Asked) → (k ≡ 0 → ⊥) → Advises B H nodes stages work peaks h q l s w m (record { number = k; place = p; action = 0; numerator = record { low = 0; high = pos 0 } })
   unfolding words
   refusal-given h q n = record {
     tables = left;
@@ -87,12 +87,12 @@ module _ (B : List ℕ) (H : ℕ) (nodes : List ℤ) (stages work : List ℕ) {k
   }
 
   -- the value read from the tables that it left
-  pub value-given : (h : ℕ) (q q′ : Asked) (v : ValueOut) → k ≡ 0 → q′ ≡ q → v ≡ value-of B l s h q′ → Advises B H nodes stages work h q l s w v
+  pub value-given : (h : ℕ) (q q′ : Asked) (v : ValueOut) → k ≡ 0 → q′ ≡ q → v ≡ value-of B l s h q′ → Advises B H nodes stages work peaks h q l s w m v
   value-given h q q′ v z f r′ = let r = r′ ∙ ap (value-of B l s h) f in record {
     tables = left;
     refused = λ n. absurd (n (sym number-left ∙ z));
     read = λ _. r;
-    exact = λ y a b. advised-exact B H nodes stages work y h a b q left v r;
-    optimal = λ y a b. advised-optimal B H nodes stages work y h a b q left v r;
-    reads-none = λ y a b. advised-none B H nodes stages work y h a b q left v r;
+    exact = λ y a b. advised-exact B H nodes stages work peaks y h a b q left v r;
+    optimal = λ y a b. advised-optimal B H nodes stages work peaks y h a b q left v r;
+    reads-none = λ y a b. advised-none B H nodes stages work peaks y h a b q left v r;
   }

@@ -5,13 +5,13 @@ use mathlib.Core.Bool.{Bool, false}
 use mathlib.Core.List.{List, []}
 use Prim.Native.Nat.{ℕ, suc, _-_, _≤_}
 use native.Mathlib.Omega.{arith}
-use lib.Dec.{T}
+use lib.Dec.{T, eqb}
 use lib.IntN.{ℤ}
 use lib.ListN.{length, getD}
-use Rattle.whole.specs.Cases.{if}
+use Rattle.whole.specs.Cases.{if, by-test}
 use Rattle.whole.specs.Numerator.{number}
 use Rattle.whole.specs.NumeratorLaws.{number-words}
-use Rattle.theory.specs.Widths.{steps-most}
+use Rattle.theory.specs.Widths.{steps-most, peak-words}
 use Rattle.theory.specs.Diagram.{Leaf, some, forbidden, act-of, permitted, Tree}
 use Rattle.theory.specs.Computation.{Solved, solved, refused, final}
 use Rattle.theory.specs.Total.{Total, num, none, Has}
@@ -20,9 +20,9 @@ use Rattle.theory.specs.Meaning.{Model, State, env, leaf-worth, worth-at, at, p
 use Rattle.theory.specs.Rules.{zero-leaf}
 use Rattle.theory.specs.Stage.{all-stages}
 use Rattle.theory.specs.Valid.{all, all-nodes, good-test, stage-leaf}
-use Rattle.theory.specs.Verdict.{Verdict, verdict}
+use Rattle.theory.specs.Verdict.{Verdict, verdict, refusal}
 use Rattle.theory.specs.Load.{model}
-use Rattle.theory.specs.Solve.{room, solve-in, SolveOut, solve-left, early, solve, solved-nodes, solved-stages}
+use Rattle.theory.specs.Solve.{room, solve-in, SolveOut, solve-left, early, early-with-peaks, solve, solved-nodes, solved-stages}
 use Rattle.theory.specs.Value.{answered, value-of}
 use Rattle.theory.specs.Plain.{plain-of}
 use Rattle.theory.specs.Name.{name-refusal, name-part}
@@ -67,7 +67,7 @@ pub record Went (g : Solving) (o : SolveOut) : Type 0 where
 
 module _ (g : Solving) where
   abbrev out : Solved (List Tree) → SolveOut
-  out = solve-left (g .nodes) (g .stages) (g .work)
+  out = solve-left (g .bytes) (g .horizon) (g .nodes) (g .stages) (g .work) (g .peaks)
 
   abbrev N : ℕ
   N = room (length (g .nodes)) (length (g .work))
@@ -78,12 +78,15 @@ module _ (g : Solving) where
   solved-went p (refused r h) e z = absurd (⊎-elim (λ q. omega arith) (λ q. omega arith) (refused-number N (g .bytes) (g .horizon) r h e))
 
   pub went : Went g (left g)
-  unfolding solve
+  unfolding solve early-with-peaks
   went =
       let o : Verdict → Bool → SolveOut =
-      λ v b. if b (out (solve-in N (g .bytes) (g .horizon))) (record { number = v .number; place = v .place; peak = 0; nodes = g .nodes; stages = g .stages; work = g .work }) in
-      by-early (g .bytes) (g .horizon) (length (g .stages)) (λ v b. o v b .number ≡ 0 → Went g (o v b))
-      (λ p. solved-went p (solve-in N (g .bytes) (g .horizon)) refl) (λ k p r z. absurd (omega (arith, early-some r))) (g .is)
+      λ v b. if b (out (solve-in N (g .bytes) (g .horizon))) (record { number = v .number; place = v .place; peak = 0; nodes = g .nodes; stages = g .stages; work = g .work; peaks = g .peaks }) in
+      by-test (eqb (length (g .peaks)) peak-words)
+      (λ c. let v = if c (early (g .bytes) (g .horizon) (length (g .stages))) (refusal 10 0) in o v (eqb (v .number) 0) .number ≡ 0 → Went g (o v (eqb (v .number) 0)))
+      (λ _. by-early (g .bytes) (g .horizon) (length (g .stages)) (λ v b. o v b .number ≡ 0 → Went g (o v b))
+      (λ p. solved-went p (solve-in N (g .bytes) (g .horizon)) refl) (λ k p r z. absurd (omega (arith, early-some r))))
+      (λ _ z. absurd (omega arith)) (g .is)
 
 -- steps that are asked within the horizon pass too
 pub early-within : (B : List ℕ) (H size h : ℕ) → Passed B H size → 1 ≤ h → h ≤ H → early B h steps-most .number ≡ 0
@@ -179,7 +182,7 @@ pub judged-as-written : AsWritten
 judged-as-written = Written.judged-as-written
 
 pub solve-rows : SolveRows
-solve-rows B H nodes stages work = decides (SolveRow B H nodes stages work) (solve B H nodes stages work) (Rows.solve-row B H nodes stages work) (λ _ r. Rows.solve-is B H nodes stages work r)
+solve-rows B H nodes stages work peaks = decides (SolveRow B H nodes stages work peaks) (solve B H nodes stages work peaks) (Rows.solve-row B H nodes stages work peaks) (λ _ r. Rows.solve-is B H nodes stages work peaks r)
 
 pub value-rows : ValueRows
 value-rows B nodes stages steps q =

@@ -5,10 +5,10 @@ use Prim.Native.Nat.{ℕ, zero, suc, _-_}
 use Rattle.whole.specs.Cases.{if, by-test}
 use Rattle.whole.specs.Within.{small}
 use Rattle.theory.specs.Diagram.{Test, Tree, leaf, plain, test-of}
-use Rattle.theory.specs.Computation.{Comp, ret, bind, make, end, solved}
+use Rattle.theory.specs.Computation.{Comp, ret, bind, make, end, solved, Moment}
 use Rattle.theory.specs.Rules.{choose, best, zero-leaf, substitute, expectation, add-reward, none-leaf}
 use Rattle.theory.specs.Meaning.{Action, Model, power}
-use Rattle.theory.specs.Stage.{model-diagrams, sum-out, action-total, best-on, stage-over, stages-on, stages-over-end, all-stages}
+use Rattle.theory.specs.Stage.{model-diagrams, sum-out, action-total, best-on, stage-over, stages-on, stages-over-end, all-stages, moment}
 use Rattle.theory.specs.Command.{Command, site, push-leaf, push-condition, push-test, push-forbidden, name-action, end-model, Read, whole, unknown, short, Placed, readings, give, Slot}
 use Rattle.theory.specs.Verdict.{Site, same-slot, reward-slot, chance-slot, level-slot, end-slot, from-to}
 use Rattle.theory.specs.Load.{Entry, Loaded, condition-test, load-choice, load-choice-with, load-entry, load-one, load-one-with, load-on, load-on-with, find-slot, found, action-of, model-of, site-at, model}
@@ -106,7 +106,7 @@ loaded-ordered B =
 
 -- ---- stages
 
-sum-out-ordered : (W h : ℕ) (kept : List Tree) (k : ℕ) (ws : List Tree) (F : Tree) → AllOrdered ws → Ordered F → SafeOps Ordered (sum-out W h kept k ws F)
+sum-out-ordered : (W : ℕ) (h : Moment) (kept : List Tree) (k : ℕ) (ws : List Tree) (F : Tree) → AllOrdered ws → Ordered F → SafeOps Ordered (sum-out W h kept k ws F)
 unfolding sum-out
 sum-out-ordered W h kept k [] F a o = safe-end Ordered F o
 sum-out-ordered W h kept k (w ∷ ws) F a o = safe-operation Ordered h (F ∷ kept) (expectation W w k F) (sum-out W h kept (suc k) ws)
@@ -115,15 +115,15 @@ sum-out-ordered W h kept k (w ∷ ws) F a o = safe-operation Ordered h (F ∷ ke
 module _ (M : Model) (h : ℕ) (P : Tree) where
   total-ordered : (kept : List Tree) (a : ℕ) (x : Action) → ActionOrdered x → SafeOps Ordered (action-total M h kept P a x)
   unfolding action-total
-  total-ordered kept a x o = safe-operation Ordered h kept (substitute (x .levels) P) _ (substitute-ordered small (x .levels) (o .1 .1) P)
-      (λ F f. safe-then Ordered (sum-out (M .weights) h kept 1 (x .chances) F) _ (sum-out-ordered (M .weights) h kept 1 (x .chances) F (o .1 .0) f)
-      (λ G g. safe-operation Ordered h (G ∷ kept) (add-reward (power M h) (x .reward) a G) end (reward-ordered small (power M h) (x .reward) a G (o .0) g) (safe-end Ordered)))
+  total-ordered kept a x o = safe-operation Ordered (moment h a) kept (substitute (x .levels) P) _ (substitute-ordered small (x .levels) (o .1 .1) P)
+      (λ F f. safe-then Ordered (sum-out (M .weights) (moment h a) kept 1 (x .chances) F) _ (sum-out-ordered (M .weights) (moment h a) kept 1 (x .chances) F (o .1 .0) f)
+      (λ G g. safe-operation Ordered (moment h a) (G ∷ kept) (add-reward (power M h) (x .reward) a G) end (reward-ordered small (power M h) (x .reward) a G (o .0) g) (safe-end Ordered)))
 
   best-on-ordered : (kept : List Tree) (a : ℕ) (l : List Action) (F : Tree) → ActionsOrdered l → Ordered F → SafeOps Ordered (best-on M h kept P a l F)
   unfolding best-on
   best-on-ordered kept a [] F o p = safe-end Ordered F p
   best-on-ordered kept a (x ∷ l) F o p = safe-then Ordered (action-total M h (F ∷ kept) P a x) _ (total-ordered (F ∷ kept) a x (o .0))
-      (λ G g. safe-operation Ordered h (G ∷ F ∷ kept) (best F G) (best-on M h kept P (suc a) l) (best-ordered small F G) (λ S s. best-on-ordered kept (suc a) l S (o .1) s))
+      (λ G g. safe-operation Ordered (moment h a) (G ∷ F ∷ kept) (best F G) (best-on M h kept P (suc a) l) (best-ordered small F G) (λ S s. best-on-ordered kept (suc a) l S (o .1) s))
 
   stage-ordered : (kept : List Tree) → ModelOrdered M → SafeOps Ordered (stage-over M h kept P)
   unfolding stage-over
@@ -138,7 +138,7 @@ module _ (M : Model) (o : ModelOrdered M) where
 
   over-end-ordered : (H : ℕ) (l : List Tree) → SafeOps AllOrdered (stages-over-end M H l)
   unfolding stages-over-end
-  over-end-ordered H [] = safe-operation AllOrdered 1 (model-diagrams M) (make zero-leaf) _ (safe-make {R = Ordered} zero-leaf (zero-ordered small)) (λ Z z. stages-on-ordered H 1 (Z ∷ []) Z)
+  over-end-ordered H [] = safe-operation AllOrdered (moment 1 1) (model-diagrams M) (make zero-leaf) _ (safe-make {R = Ordered} zero-leaf (zero-ordered small)) (λ Z z. stages-on-ordered H 1 (Z ∷ []) Z)
   over-end-ordered H (E ∷ l) = stages-on-ordered H 1 (E ∷ []) E
 
   all-stages-ordered : (H : ℕ) → SafeOps AllOrdered (all-stages M H)

@@ -7,10 +7,10 @@ use native.Mathlib.Omega.{arith}
 use lib.Dec.{T}
 use lib.ListN.{length}
 use Rattle.theory.specs.Diagram.{Test, Tree, leaf, plain, test-of}
-use Rattle.theory.specs.Computation.{Comp, ret, bind, result, make, Out, done, stopped, run, enter-all, Ops, end, operation, and-then, final, solved, refused, run-all}
+use Rattle.theory.specs.Computation.{Comp, ret, bind, result, make, Out, done, stopped, run, enter-all, Ops, end, operation, and-then, final, solved, refused, run-all, Moment}
 use Rattle.theory.specs.Rules.{choose, zero-leaf, none-leaf, expectation}
 use Rattle.theory.specs.Meaning.{Action, Model, power}
-use Rattle.theory.specs.Stage.{action-diagrams, all-diagrams, model-diagrams, sum-out, action-total, best-on, stage-over, stages-on, stages-over-end, all-stages}
+use Rattle.theory.specs.Stage.{action-diagrams, all-diagrams, model-diagrams, sum-out, action-total, best-on, stage-over, stages-on, stages-over-end, all-stages, moment}
 use Rattle.theory.specs.Command.{Command, site, push-leaf, push-condition, push-test, push-forbidden, name-action, end-model, Read, whole, unknown, short, Placed, readings, give, Slot}
 use Rattle.theory.specs.Verdict.{verdict}
 use Rattle.theory.specs.Load.{Entry, Loaded, condition-test, load-choice, load-choice-with, load-entry, load-one, load-one-with, load-on, load-on-with, model-of, site-at, load, load-with, model, load-in, model-in}
@@ -47,7 +47,7 @@ and-then-leads Q R X (operation h roots c f) k l g =
     let r = and-then-leads Q R (needed (enter-all roots []) (events c)) (f (result c)) k (record { chain = l .chain .1; last = l .last }) g in
     record { chain = (l .chain .0, r .chain); last = r .last }
 
-pub operation-leads : {A : Type 0} (Q : A → List Tree → Type 0) (X : List Tree) (h : ℕ) (roots : List Tree) (c : Comp Tree) (f : Tree → Ops A) → T (all-inside roots X)
+pub operation-leads : {A : Type 0} (Q : A → List Tree → Type 0) (X : List Tree) (h : Moment) (roots : List Tree) (c : Comp Tree) (f : Tree → Ops A) → T (all-inside roots X)
     → ((Y : List Tree) → T (all-inside roots Y) → Built Y c) → ((Y : List Tree) → T (all-inside (result c ∷ roots) Y) → Leads Q Y (f (result c))) → Leads Q X (operation h roots c f)
 unfolding Chained final ends
 operation-leads Q X h roots c f a b g =
@@ -66,7 +66,7 @@ Among l k = (Y : List Tree) → T (all-inside k Y) → T (all-inside l Y)
 abbrev With : List Tree → Tree → List Tree → Type 0
 With kept t Y = T (all-inside (t ∷ kept) Y)
 
-sum-out-leads : (W h : ℕ) (kept : List Tree) (k : ℕ) (ws : List Tree) (F : Tree) (X : List Tree) → Among ws kept → T (all-inside (F ∷ kept) X) → Leads (With kept) X (sum-out W h kept k ws F)
+sum-out-leads : (W : ℕ) (h : Moment) (kept : List Tree) (k : ℕ) (ws : List Tree) (F : Tree) (X : List Tree) → Among ws kept → T (all-inside (F ∷ kept) X) → Leads (With kept) X (sum-out W h kept k ws F)
 unfolding sum-out
 sum-out-leads W h kept k [] F X a i = end-leads (With kept) X F i
 sum-out-leads W h kept k (w ∷ ws) F X a i = operation-leads (With kept) X h (F ∷ kept) (expectation W w k F) (sum-out W h kept (suc k) ws) i
@@ -79,9 +79,9 @@ action-total-leads : (M : Model) (h : ℕ) (kept : List Tree) (P : Tree) (a : �
     → Leads (With kept) X (action-total M h kept P a x)
 unfolding action-total
 action-total-leads M h kept P a x X m i =
-    operation-leads (With kept) X h kept _ _ i (λ Y j. substitute-built Y (x .levels) P (all-right (x .chances) (x .levels) Y (own Y j .1)))
-    (λ Y j. and-then-leads (With kept) (With kept) Y _ _ (sum-out-leads (M .weights) h kept 1 (x .chances) _ Y (λ Z q. all-left (x .chances) (x .levels) Z (own Z q .1)) j)
-    (λ Z q. operation-leads (With kept) Z h _ _ end q
+    operation-leads (With kept) X (moment h a) kept _ _ i (λ Y j. substitute-built Y (x .levels) P (all-right (x .chances) (x .levels) Y (own Y j .1)))
+    (λ Y j. and-then-leads (With kept) (With kept) Y _ _ (sum-out-leads (M .weights) (moment h a) kept 1 (x .chances) _ Y (λ Z q. all-left (x .chances) (x .levels) Z (own Z q .1)) j)
+    (λ Z q. operation-leads (With kept) Z (moment h a) _ _ end q
     (λ U r. let d = all-parts _ kept U r in reward-built (power M h) (x .reward) a _ U (own U (d .1) .0) (d .0))
     (λ U r. let d = all-parts _ _ U r in end-leads (With kept) U _ (all-cons _ kept U (d .0) (all-parts _ kept U (d .1) .1)))))
   where
@@ -95,7 +95,7 @@ best-on-leads M h kept P a [] F X m i = end-leads (With kept) X F i
 best-on-leads M h kept P a (x ∷ l) F X m i =
     and-then-leads (With (F ∷ kept)) (With kept) X (action-total M h (F ∷ kept) P a x) _
     (action-total-leads M h (F ∷ kept) P a x X (λ Y j. all-left (action-diagrams x) (all-diagrams l) Y (m Y (all-parts F kept Y j .1))) i)
-    (λ Y j. operation-leads (With kept) Y h _ _ (best-on M h kept P (suc a) l) j
+    (λ Y j. operation-leads (With kept) Y (moment h a) _ _ (best-on M h kept P (suc a) l) j
     (λ Z q. let d = all-parts _ (F ∷ kept) Z q in best-built Z F _ (all-parts F kept Z (d .1) .0) (d .0))
     (λ Z q.
     let d = all-parts _ _ Z q in
@@ -132,7 +132,7 @@ and-only finished X m l = record { chain = l .chain; last = l .last .0 }
 over-end-leads : (M : Model) (H : ℕ) (E X : List Tree) → T (all-inside E X) → T (all-inside (model-diagrams M) X) → Leads (λ l Y. T (all-inside l Y)) X (stages-over-end M H E)
 unfolding stages-over-end result make
 over-end-leads M H [] X e i =
-    operation-leads _ X 1 (model-diagrams M) (make zero-leaf) (λ Z. stages-on M H 1 (Z ∷ []) Z) i (λ Y _. zero-built Y)
+    operation-leads _ X (moment 1 1) (model-diagrams M) (make zero-leaf) (λ Z. stages-on M H 1 (Z ∷ []) Z) i (λ Y _. zero-built Y)
     (λ Y j. and-only _ _ _ (stages-on-leads M H 1 (zero-leaf ∷ []) zero-leaf Y j))
 over-end-leads M H (E ∷ F) X e i =
     and-only _ _ _ (stages-on-leads M H 1 _ E X (all-cons E (model-diagrams M) X (all-parts E F X e .0) i))
@@ -241,7 +241,7 @@ unfolding run-all ends
 ends-fit N p (end b) a q X e i = let z : p ≡ q = cc in omega arith
 ends-fit N p (operation h roots c f) a q X e i = go (run N c (enter-all roots [])) refl e (λ r t. ends-fit N r (f t) a q)
   where
-    go : (o : Out Tree) → run N c (enter-all roots []) ≡ o → elim o [ done t Y ↦ run-all N (max p (length Y)) (f t) | stopped r ↦ refused r h ] ≡ solved a q
+    go : (o : Out Tree) → run N c (enter-all roots []) ≡ o → elim o [ done t Y ↦ run-all N (max p (length Y)) (f t) | stopped r ↦ refused r (h .stage) ] ≡ solved a q
         → ((r : ℕ) (t : Tree) (Y : List Tree) → run-all N r (f t) ≡ solved a q → length Y ≤ r → length (ends Y (f t)) ≤ q)
         → length (ends (needed (enter-all roots []) (events c)) (f (result c))) ≤ q
     go (done t Y) r e ih = (let d = run-done N c (enter-all roots []) Y t r in rw (← d .1, ← d .0) (ih (max p (length Y)) t Y e (omega arith)))

@@ -314,7 +314,7 @@ unfolding run-all final
 run-all-final N p (end b) a q e = cc
 run-all-final N p (operation h roots c f) a q e = go (run N c (enter-all roots [])) refl e (λ r t. run-all-final N r (f t) a q)
   where
-    go : (o : Out Tree) → run N c (enter-all roots []) ≡ o → elim o [ done t X ↦ run-all N (max p (length X)) (f t) | stopped r ↦ refused r h ] ≡ solved a q
+    go : (o : Out Tree) → run N c (enter-all roots []) ≡ o → elim o [ done t X ↦ run-all N (max p (length X)) (f t) | stopped r ↦ refused r (h .stage) ] ≡ solved a q
         → ((r : ℕ) (t : Tree) → run-all N r (f t) ≡ solved a q → a ≡ final (f t)) → a ≡ final (f (result c))
     go (done t X) r e ih = ih (max p (length X)) t e ∙ ap (λ (t : Tree). final (f t)) (run-result N c (enter-all roots []) X t r)
     go (stopped r) s e ih = absurd (let z : _≡_ {A = ℕ} 0 1 = cc in omega arith)

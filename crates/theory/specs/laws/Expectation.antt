@@ -241,7 +241,7 @@ module _ (n W : ℕ) where
   Chances ws = T (all (all-nodes (good-test n false) (weight-leaf W)) ws)
 
   -- the mean over the settings of the conditions from k on
-  pub sum-out-at : (h : ℕ) (kept : List Tree) (k : ℕ) (ws : List Tree) (F : Tree) → Chances ws → (e : Env)
+  pub sum-out-at : (h : C.Moment) (kept : List Tree) (k : ℕ) (ws : List Tree) (F : Tree) → Chances ws → (e : Env)
       → worth-at e (final (sum-out W h kept k ws F))
       ≡ mean (weight W (map (chance-at e) ws)) (λ r. worth-at (with-later e (given-all k r (e .is-later))) F) (settings (length ws))
   unfolding sum-out final settings given-all mean weight all
@@ -257,7 +257,7 @@ module _ (n W : ℕ) where
       one ok g = expectation-at n W w ok (with-later e g) k F
           ∙ ap (λ (c : ℕ). weigh c (worth-at (with-later e (given k true g)) F) ⊕ weigh (W - c) (worth-at (with-later e (given k false g)) F)) (chance-free n W w ok e g)
 
-  pub sum-out-tests : (h : ℕ) (kept : List Tree) (k : ℕ) (ws : List Tree) (F : Tree) → k + length ws ≡ suc n → Chances ws → Tests (open-test any n k) F
+  pub sum-out-tests : (h : C.Moment) (kept : List Tree) (k : ℕ) (ws : List Tree) (F : Tree) → k + length ws ≡ suc n → Chances ws → Tests (open-test any n k) F
       → Tests (now-test n) (final (sum-out W h kept k ws F))
   unfolding sum-out final all now-test
   sum-out-tests h kept k [] F q a b = widen (open-test any n k) (now-test n) any any (open-none any n (now-test n) (λ j a. a) (λ p a. tt) k (omega arith)) (λ _ t. t) F b

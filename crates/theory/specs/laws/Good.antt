@@ -8,10 +8,10 @@ use lib.Dec.{T}
 use lib.ListN.{length}
 use Rattle.whole.specs.Cases.{both, and-in}
 use Rattle.theory.specs.Diagram.{Linear, Test, now, later, Leaf, some, forbidden, lin-of, Tree, divisor, test-of}
-use Rattle.theory.specs.Computation.{make, end, solved, run-all}
+use Rattle.theory.specs.Computation.{make, end, solved, run-all, Moment}
 use Rattle.theory.specs.Rules.{best, zero-leaf, substitute, expectation}
 use Rattle.theory.specs.Meaning.{Action, Model, power}
-use Rattle.theory.specs.Stage.{model-diagrams, sum-out, action-total, best-on, stage-over, stages-on, stages-over-end, all-stages}
+use Rattle.theory.specs.Stage.{model-diagrams, sum-out, action-total, best-on, stage-over, stages-on, stages-over-end, all-stages, moment}
 use Rattle.theory.specs.Valid.{all, all-nodes, among, wide, good-test, good-leaf, level-leaf, stage-leaf, weight-leaf, valid-action, valid}
 use Rattle.theory.specs.laws.Safe.{SafeOps, safe-make, safe-end, safe-operation, safe-then, run-all-safe}
 use Rattle.theory.specs.laws.Nodes.{Good, widen, all-widen, expectation-safe, zero-good, best-safe, substitute-safe, reward-safe}
@@ -31,7 +31,7 @@ unfolding good-test
 closed n = open-none wide n (good-test n false) (λ j a. a) (λ p a. a)
 
 -- after the last condition no next-step one is left
-pub sum-out-safe : (n W h : ℕ) (kept : List Tree) (k : ℕ) (ws : List Tree) (F : Tree) → k + length ws ≡ suc n → T (all (all-nodes (good-test n false) (weight-leaf W)) ws)
+pub sum-out-safe : (n W : ℕ) (h : Moment) (kept : List Tree) (k : ℕ) (ws : List Tree) (F : Tree) → k + length ws ≡ suc n → T (all (all-nodes (good-test n false) (weight-leaf W)) ws)
     → Good (open-test wide n k) good-leaf F → SafeOps (Good (good-test n false) good-leaf) (sum-out W h kept k ws F)
 unfolding sum-out all
 sum-out-safe n W h kept k [] F e c a =
@@ -98,10 +98,10 @@ module _ (M : Model) where
     total-safe kept a x i v =
         let n = M .conditions in
         let f = accepted (M .levels) n (M .weights) x v in
-        safe-operation _ h kept (substitute (x .levels) P) _
+        safe-operation _ (moment h a) kept (substitute (x .levels) P) _
         (substitute-safe good-closed (open-test wide n 1) (open-linear n 1) (x .levels) (levels-left n (x .levels) (f .levels)) (good-test n false) wide-leaf (good-open n) (λ k t. none-later n k t) P good)
-        (λ F a₁. safe-then _ (sum-out (M .weights) h kept 1 (x .chances) F) _ (sum-out-safe n (M .weights) h kept 1 (x .chances) F (let c = f .count in omega arith) (f .chances) a₁)
-        (λ G a₂. safe-operation _ h (G ∷ kept) _ end
+        (λ F a₁. safe-then _ (sum-out (M .weights) (moment h a) kept 1 (x .chances) F) _ (sum-out-safe n (M .weights) (moment h a) kept 1 (x .chances) F (let c = f .count in omega arith) (f .chances) a₁)
+        (λ G a₂. safe-operation _ (moment h a) (G ∷ kept) _ end
         (reward-safe good-closed (good-test n false) (stage-leaf acts) (power M h) (x .reward) a G (numbered acts a i) (none-staged acts) (f .reward) a₂) (safe-end _)))
 
     best-on-safe : (kept : List Tree) (a : ℕ) (l : List Action) (F : Tree) → 1 ≤ a → a + length l ≡ suc acts → T (all fits l) → StageGood F → SafeOps StageGood (best-on M h kept P a l F)
@@ -110,7 +110,7 @@ module _ (M : Model) where
     best-on-safe kept a (x ∷ l) F i e v b =
         let d = both (fits x) (all fits l) v in
         safe-then _ (action-total M h (F ∷ kept) P a x) _ (total-safe (F ∷ kept) a x (among-in _ a i (omega arith)) (d .0))
-        (λ G c. safe-operation _ h (G ∷ F ∷ kept) (best F G) (best-on M h kept P (suc a) l)
+        (λ G c. safe-operation _ (moment h a) (G ∷ F ∷ kept) (best F G) (best-on M h kept P (suc a) l)
         (best-safe good-closed now? (good-linear (M .conditions)) stage? (λ f t. wide-long (lin-of f) (stage-wide acts f t)) F G b c)
         (λ S s. best-on-safe kept (suc a) l S (omega arith) (omega arith) (d .1) s))
 
@@ -144,7 +144,7 @@ module _ (M : Model) where
       as-good = widen now? now? level-leaf good-leaf (λ _ t. t) level-good
 
       over-end : (l : List Tree) → T (all (all-nodes now? level-leaf) l) → SafeOps (StagesGood H) (stages-over-end M H l)
-      over-end [] t = safe-operation _ 1 (model-diagrams M) (make zero-leaf) _ (safe-make zero-leaf (as-wide zero-leaf (zero-good good-closed now?)))
+      over-end [] t = safe-operation _ (moment 1 1) (model-diagrams M) (make zero-leaf) _ (safe-make zero-leaf (as-wide zero-leaf (zero-good good-closed now?)))
           (λ Z z. stages-safe (valid-actions M v) H 1 (Z ∷ []) Z z)
       over-end (E ∷ l) t = stages-safe (valid-actions M v) H 1 _ E (as-wide E (as-good E (both (all-nodes now? level-leaf E) _ t .0)))
 

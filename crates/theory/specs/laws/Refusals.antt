@@ -8,9 +8,9 @@ use lib.Dec.{leb, leb→le, nleb→lt}
 use lib.ListN.{length}
 use Rattle.whole.specs.Cases.{by-test}
 use Rattle.theory.specs.Diagram.{Tree}
-use Rattle.theory.specs.Computation.{Comp, result, Out, done, stopped, run, enter-all, Ops, end, operation, and-then, final, Solved, solved, refused, run-all}
+use Rattle.theory.specs.Computation.{Comp, result, Out, done, stopped, run, enter-all, Ops, end, operation, and-then, final, Solved, solved, refused, run-all, Moment}
 use Rattle.theory.specs.Meaning.{Action, Model}
-use Rattle.theory.specs.Stage.{sum-out, action-total, best-on, stage-over, stages-on, stages-over-end, all-stages, model-diagrams}
+use Rattle.theory.specs.Stage.{sum-out, action-total, best-on, stage-over, stages-on, stages-over-end, all-stages, model-diagrams, moment}
 use Rattle.theory.specs.Load.{load, model, model-in}
 use Rattle.theory.specs.Solve.{solve-in}
 use Rattle.theory.specs.Events.{events, needed, Refused, Passes, RefusedAt, here, later, PassesAll, peak-of, Chained}
@@ -26,14 +26,14 @@ loaded B = needed [] (events (load B))
 
 -- ---- operations
 
-module _ {A : Type 0} (N p h : ℕ) (roots : List Tree) (c : Comp Tree) (f : Tree → Ops A) where
+module _ {A : Type 0} (N p : ℕ) (h : Moment) (roots : List Tree) (c : Comp Tree) (f : Tree → Ops A) where
   run-all-done : (t : Tree) (Y : List Tree) → run N c (enter-all roots []) ≡ done t Y → run-all N p (operation h roots c f) ≡ run-all N (max p (length Y)) (f t)
   unfolding run-all
-  run-all-done t Y e = ap (λ (o : Out Tree). elim o [ done t X ↦ run-all N (max p (length X)) (f t) | stopped r ↦ refused r h ]) e
+  run-all-done t Y e = ap (λ (o : Out Tree). elim o [ done t X ↦ run-all N (max p (length X)) (f t) | stopped r ↦ refused r (h .stage) ]) e
 
-  run-all-stopped : (r : ℕ) → run N c (enter-all roots []) ≡ stopped r → run-all N p (operation h roots c f) ≡ refused r h
+  run-all-stopped : (r : ℕ) → run N c (enter-all roots []) ≡ stopped r → run-all N p (operation h roots c f) ≡ refused r (h .stage)
   unfolding run-all
-  run-all-stopped r e = ap (λ (o : Out Tree). elim o [ done t X ↦ run-all N (max p (length X)) (f t) | stopped r ↦ refused r h ]) e
+  run-all-stopped r e = ap (λ (o : Out Tree). elim o [ done t X ↦ run-all N (max p (length X)) (f t) | stopped r ↦ refused r (h .stage) ]) e
 
 -- refused with 11 or 12
 pub run-all-number : {A : Type 0} (N p : ℕ) (m : Ops A) (r q : ℕ) → run-all N p m ≡ refused r q → (r ≡ 11) ⊎ (r ≡ 12)
@@ -41,16 +41,16 @@ unfolding run-all
 run-all-number N p (end a) r q e = absurd (let z : _≡_ {A = ℕ} 0 1 = cc in omega arith)
 run-all-number {A} N p (operation h roots c f) r q e = go (run N c (enter-all roots [])) refl e (λ k t. run-all-number N k (f t) r q)
   where
-    go : (o : Out Tree) → run N c (enter-all roots []) ≡ o → _≡_ {A = Solved A} (elim o [ done t X ↦ run-all N (max p (length X)) (f t) | stopped r ↦ refused r h ]) (refused r q)
+    go : (o : Out Tree) → run N c (enter-all roots []) ≡ o → _≡_ {A = Solved A} (elim o [ done t X ↦ run-all N (max p (length X)) (f t) | stopped r ↦ refused r (h .stage) ]) (refused r q)
         → ((k : ℕ) (t : Tree) → run-all N k (f t) ≡ refused r q → (r ≡ 11) ⊎ (r ≡ 12)) → (r ≡ 11) ⊎ (r ≡ 12)
     go (done t X) i e ih = ih (max p (length X)) t e
     go (stopped k) i e ih = stopped-number N c (enter-all roots []) r (cc)
 
-here-at : {A : Type 0} (N h : ℕ) (roots : List Tree) (c : Comp Tree) (f : Tree → Ops A) (k r q : ℕ) → _≡_ {A = Solved A} (refused k h) (refused r q)
+here-at : {A : Type 0} (N : ℕ) (h : Moment) (roots : List Tree) (c : Comp Tree) (f : Tree → Ops A) (k r q : ℕ) → _≡_ {A = Solved A} (refused k (h .stage)) (refused r q)
     → Refused N (enter-all roots []) (events c) k → RefusedAt N (operation h roots c f) r q
 here-at N h roots c f k r q e d =
     let i : k ≡ r = cc in
-    let j : h ≡ q = cc in
+    let j : h .stage ≡ q = cc in
     rw (← i, ← j) (here d)
 
 refused-at : {A : Type 0} (N p : ℕ) (X : List Tree) (m : Ops A) (r q : ℕ) → Chained X m → length X ≤ N → run-all N p m ≡ refused r q → RefusedAt N m r q
@@ -133,7 +133,7 @@ below-peak N K p X (operation h roots c f) g l i d s =
     let o = leb→le (length (left-by roots c)) K t in
     let r = below-peak N K (max p (length (left-by roots c))) (left-by roots c) (f (result c)) (g .1) o (omega arith) (d .1) s in
     (r .0, later (d .0 .0, o) (r .1)))
-    (λ t. (h, here (exceeds K (enter-all roots []) (events c) (omega arith) (d .0 .0) (nleb→lt (length (left-by roots c)) K t))))
+    (λ t. (h .stage, here (exceeds K (enter-all roots []) (events c) (omega arith) (d .0 .0) (nleb→lt (length (left-by roots c)) K t))))
 
 -- room for the peak solves, with the same result; less is refused with 12
 pub run-all-peak : {A : Type 0} (N p : ℕ) (X : List Tree) (m : Ops A) (a : A) (peak : ℕ) → Chained X m → length X ≤ p → p ≤ N → run-all N p m ≡ solved a peak
@@ -180,17 +180,17 @@ module _ (N : ℕ) (B : List ℕ) (H : ℕ) where
 -- every operation's place is at most H, whatever those before it come to
 unfoldable pub Places : {A : Type 0} → ℕ → Ops A → Type 0
 Places H (end a) = Unit {0}
-Places H (operation h roots c f) = (h ≤ H) × ((t : Tree) → Places H (f t))
+Places H (operation h roots c f) = (h .stage ≤ H) × ((t : Tree) → Places H (f t))
 
 run-all-place : {A : Type 0} (H N p : ℕ) (m : Ops A) (r q : ℕ) → Places H m → run-all N p m ≡ refused r q → q ≤ H
 unfolding run-all Places
 run-all-place H N p (end a) r q d e = absurd (let z : _≡_ {A = ℕ} 0 1 = cc in omega arith)
 run-all-place {A} H N p (operation h roots c f) r q d e = go (run N c (enter-all roots [])) e (λ k t. run-all-place H N k (f t) r q (d .1 t))
   where
-    go : (o : Out Tree) → _≡_ {A = Solved A} (elim o [ done t X ↦ run-all N (max p (length X)) (f t) | stopped r ↦ refused r h ]) (refused r q)
+    go : (o : Out Tree) → _≡_ {A = Solved A} (elim o [ done t X ↦ run-all N (max p (length X)) (f t) | stopped r ↦ refused r (h .stage) ]) (refused r q)
         → ((k : ℕ) (t : Tree) → run-all N k (f t) ≡ refused r q → q ≤ H) → q ≤ H
     go (done t X) e ih = ih (max p (length X)) t e
-    go (stopped k) e ih = let i : h ≡ q = cc in subst (λ (q : ℕ). q ≤ H) i (d .0)
+    go (stopped k) e ih = let i : h .stage ≡ q = cc in subst (λ (q : ℕ). q ≤ H) i (d .0)
 
 places-then : {A B : Type 0} (H : ℕ) (m : Ops A) (k : A → Ops B) → Places H m → ((a : A) → Places H (k a)) → Places H (and-then m k)
 unfolding Places and-then
@@ -198,14 +198,14 @@ places-then H (end a) k d g = g a
 places-then H (operation h roots c f) k d g = (d .0, λ t. places-then H (f t) k (d .1 t) g)
 
 module _ (H h : ℕ) (low : h ≤ H) where
-  sum-out-places : (W : ℕ) (kept : List Tree) (k : ℕ) (ws : List Tree) (F : Tree) → Places H (sum-out W h kept k ws F)
+  sum-out-places : (W a : ℕ) (kept : List Tree) (k : ℕ) (ws : List Tree) (F : Tree) → Places H (sum-out W (moment h a) kept k ws F)
   unfolding sum-out Places
-  sum-out-places W kept k [] F = tt
-  sum-out-places W kept k (w ∷ ws) F = (low, λ t. sum-out-places W kept (suc k) ws t)
+  sum-out-places W a kept k [] F = tt
+  sum-out-places W a kept k (w ∷ ws) F = (low, λ t. sum-out-places W a kept (suc k) ws t)
 
   action-places : (M : Model) (kept : List Tree) (P : Tree) (a : ℕ) (x : Action) → Places H (action-total M h kept P a x)
   unfolding action-total Places
-  action-places M kept P a x = (low, λ F. places-then H _ _ (sum-out-places (M .weights) kept 1 (x .chances) F) (λ G. (low, λ t. tt)))
+  action-places M kept P a x = (low, λ F. places-then H _ _ (sum-out-places (M .weights) a kept 1 (x .chances) F) (λ G. (low, λ t. tt)))
 
   best-places : (M : Model) (kept : List Tree) (P : Tree) (a : ℕ) (l : List Action) (F : Tree) → Places H (best-on M h kept P a l F)
   unfolding best-on Places

@@ -14,7 +14,7 @@ use lib.Seq.{length-take-le, take-at, drop-at, drop-drop, take-append-seam, drop
 use lib.Signed.{leZ}
 use Rattle.whole.specs.Cases.{if, by-test, both, and-in, not-not}
 use Rattle.whole.specs.Numerator.{words}
-use Rattle.theory.specs.Widths.{levels-most, steps-most, bytes-most, node-words, work-words, nodes-most}
+use Rattle.theory.specs.Widths.{levels-most, steps-most, bytes-most, node-words, work-words, peak-words, nodes-most}
 use Rattle.theory.specs.Diagram.{Tree, zeros}
 use Rattle.theory.specs.Computation.{Out, done, stopped, result, run, Solved, solved, refused, run-all}
 use Rattle.theory.specs.Total.{num}
@@ -27,13 +27,13 @@ use Rattle.theory.specs.Form.{Form, new-form}
 use Rattle.theory.specs.Command.{Command, site, push-leaf, push-condition, push-test, push-forbidden, name-action, end-model, Read, whole, unknown, short, byte-at, width, command-at, read-at, goes-on, readings-from, readings, give, width-in, command-in, read-in, readings-from-in, readings-in}
 use Rattle.theory.specs.Verdict.{Verdict, Site, refusal, Progress, first-broken, rules-of, after, ended, judged, at-start, verdict, from-to, or, rules-in, judged-in, verdict-in}
 use Rattle.theory.specs.Load.{site-at, load, model, model-in}
-use Rattle.theory.specs.Solve.{room, solve-in, table-of, rows, SolveOut, solved-nodes, solve-left, early, solve}
+use Rattle.theory.specs.Solve.{room, solve-in, table-of, rows, SolveOut, solved-nodes, solve-left, early, early-with-peaks, solve}
 use Rattle.theory.specs.Value.{Asked, accepted, bits, numerator-of, state-of, node-word, node-linear, high-of, low-of, amongZ, good-branches, good-leaf-row, good-condition-row, good-test-row, good-row, taken, ends, walk, ValueOut, refused-value, answered, value-at, value-of}
 use Rattle.theory.specs.Plain.{Worth, is, nothing, over, state-worth, worth-out, if-true, plain-of}
 use Rattle.theory.specs.Staying.{Stays}
 use Rattle.theory.specs.Name.{name-refusal}
 use Rattle.theory.specs.Listing.{greatest-root, text, written, ListingOut, listing-refusal, listing}
-use Rattle.theory.specs.Rows.{Keeps, Range, asks-in, asks-of, Whole-in, Whole, Comes-in, comes-first, comes-next, EndsAt-in, VerdictRow-in, VerdictRow, verdict-0, verdict-3, verdict-2, verdict-2-end, verdict-1-7, verdict-8, Admitted, EarlyRow, early-10, early-9, early-1-8, Room, SolveRow, solve-0, solve-1-10, solve-11-12, Among, KindFits, fits-leaf, fits-condition, fits-test, fits-none, OnWalk, first-met, then-met, Stated, ValueRow, value-0, value-none, value-1-10, value-13, value-14, value-15, PlainRow, plain-0, plain-1-10, plain-13, plain-11, NameRow, name-0, name-1-10, name-16, Rooted, Tabled, ListingRow, listing-0, listing-1-10, listing-14, listing-15, listing-17}
+use Rattle.theory.specs.Rows.{Keeps, Range, asks-in, asks-of, Whole-in, Whole, Comes-in, comes-first, comes-next, EndsAt-in, VerdictRow-in, VerdictRow, verdict-0, verdict-3, verdict-2, verdict-2-end, verdict-1-7, verdict-8, Admitted, EarlyRow, early-10, early-9, early-1-8, Room, AdmittedToSolve, EarlySolveRow, peaks-10, early-as, SolveRow, solve-0, solve-1-10, solve-11-12, Among, KindFits, fits-leaf, fits-condition, fits-test, fits-none, OnWalk, first-met, then-met, Stated, ValueRow, value-0, value-none, value-1-10, value-13, value-14, value-15, PlainRow, plain-0, plain-1-10, plain-13, plain-11, NameRow, name-0, name-1-10, name-16, Rooted, Tabled, ListingRow, listing-0, listing-1-10, listing-14, listing-15, listing-17}
 use Rattle.theory.specs.laws.Plain.{worth-exact}
 use Rattle.theory.specs.laws.Process.{lowest-best-action}
 use Rattle.theory.specs.laws.Staying.{Fine, answers-stay, stays-answers, over-leaves}
@@ -43,6 +43,7 @@ use Rattle.theory.specs.laws.Comps.{run-result, run-all-final}
 use Rattle.theory.specs.laws.Stages.{all-stages-length}
 use Rattle.theory.specs.laws.Refusals.{refused-number, refused-place}
 use Rattle.theory.specs.laws.Chain.{peak-fits, table-fits}
+use Rattle.theory.specs.laws.Peaks.{solved-peaks-length}
 use Rattle.theory.specs.laws.Words.{rows-length, by-kind}
 use Rattle.theory.specs.laws.Reading.{stages-length}
 use Rattle.theory.specs.laws.Valid.{among-in, among-out, other-above}
@@ -405,34 +406,46 @@ solved-length N B H S peak e =
     let r = solve-runs N B H S peak e in
     ap length (run-all-final N (r .0) (all-stages (model B) H) S peak (r .1)) ∙ all-stages-length (model B) H
 
-module _ (B : List ℕ) (H : ℕ) (nodes : List ℤ) (stages work : List ℕ) where
+module _ (B : List ℕ) (H : ℕ) (nodes : List ℤ) (stages work peaks : List ℕ) where
   abbrev N : ℕ
   N = room (length nodes) (length work)
 
-  left-row : Passed B H (length stages) → (o : Solved (List Tree)) → solve-in N B H ≡ o → SolveRow B H nodes stages work (solve-left nodes stages work o)
+  left-row : length peaks ≡ peak-words → Passed B H (length stages) → (o : Solved (List Tree)) → solve-in N B H ≡ o → SolveRow B H nodes stages work peaks (solve-left B H nodes stages work peaks o)
   unfolding solve-left
-  left-row p (solved S peak) e =
+  left-row w p (solved S peak) e =
       let f = table-fits N B H (p .own) S peak e in
       let d = peak-fits N B H S peak (p .own) e in
       let r = room-nodes (length nodes) (length work) in
-      solve-0 (admitted p) (room-holds (length nodes) (length work)) e (nodes-length (length nodes) S (omega arith)) (stages-length S (omega (arith, solved-length N B H S peak e, p .most)) ∙ sym (p .eight))
-  left-row p (refused r h) e = solve-11-12 (admitted p) (room-holds (length nodes) (length work)) e (refused-number N B H r h e) (refused-place N B H r h (p .least) e)
-
-  pub solve-row : SolveRow B H nodes stages work (solve B H nodes stages work)
-  unfolding solve
-  solve-row = by-early B H (length stages)
-      (λ v b. SolveRow B H nodes stages work (if b (solve-left nodes stages work (solve-in N B H)) (record { number = v .number; place = v .place; peak = 0; nodes = nodes; stages = stages; work = work })))
-      (λ p. left-row p (solve-in N B H) refl) (λ k p r. solve-1-10 r)
+      solve-0 (record { admitted = admitted p; words = w }) (room-holds (length nodes) (length work)) e (nodes-length (length nodes) S (omega arith))
+      (stages-length S (omega (arith, solved-length N B H S peak e, p .most)) ∙ sym (p .eight)) (solved-peaks-length B H ∙ sym w)
+  left-row w p (refused r h) e =
+      solve-11-12 (record { admitted = admitted p; words = w }) (room-holds (length nodes) (length work)) e (refused-number N B H r h e) (refused-place N B H r h (p .least) e)
 
   from-early : Verdict → SolveOut
-  from-early v = if (eqb (v .number) 0) (solve-left nodes stages work (solve-in N B H)) (record { number = v .number; place = v .place; peak = 0; nodes = nodes; stages = stages; work = work })
+  from-early v = if (eqb (v .number) 0) (solve-left B H nodes stages work peaks (solve-in N B H)) (record { number = v .number; place = v .place; peak = 0; nodes = nodes; stages = stages; work = work; peaks = peaks })
+
+  pub solve-row : SolveRow B H nodes stages work peaks (solve B H nodes stages work peaks)
+  unfolding solve early-with-peaks from-early
+  solve-row = by-test (eqb (length peaks) peak-words) (λ b. SolveRow B H nodes stages work peaks (from-early (if b (early B H (length stages)) (refusal 10 0))))
+      (λ t. let w = eqb→eq (length peaks) peak-words t in by-early B H (length stages)
+      (λ v b. SolveRow B H nodes stages work peaks (if b (solve-left B H nodes stages work peaks (solve-in N B H)) (record { number = v .number; place = v .place; peak = 0; nodes = nodes; stages = stages; work = work; peaks = peaks })))
+      (λ p. left-row w p (solve-in N B H) refl) (λ k p r. solve-1-10 (early-as w r)))
+      (λ t. solve-1-10 (peaks-10 (λ w. T-not (eqb (length peaks) peak-words) t (rw w (eqb-refl peak-words)))))
+
+  counted : length peaks ≡ peak-words → solve B H nodes stages work peaks ≡ from-early (early B H (length stages))
+  unfolding solve early-with-peaks from-early
+  counted w = ap from-early (if-yes (eqb (length peaks) peak-words) (early B H (length stages)) (refusal 10 0) (rw w (eqb-refl peak-words)))
 
   -- solve is each of its rows
-  pub solve-is : {o : SolveOut} → SolveRow B H nodes stages work o → solve B H nodes stages work ≡ o
-  unfolding solve from-early solve-left
-  solve-is (solve-0 a r e _ _) = ap from-early (admitted-is a) ∙ ap (λ (n : ℕ). solve-left nodes stages work (solve-in n B H)) (room-is r) ∙ ap (solve-left nodes stages work) e
-  solve-is (solve-11-12 a r e _ _) = ap from-early (admitted-is a) ∙ ap (λ (n : ℕ). solve-left nodes stages work (solve-in n B H)) (room-is r) ∙ ap (solve-left nodes stages work) e
-  solve-is (solve-1-10 {k = k} r) = ap from-early (early-is r) ∙ if-no (eqb k 0) _ _ (some-not k (early-some r))
+  pub solve-is : {o : SolveOut} → SolveRow B H nodes stages work peaks o → solve B H nodes stages work peaks ≡ o
+  unfolding solve early-with-peaks from-early solve-left
+  solve-is (solve-0 a r e _ _ _) = counted (a .words) ∙ ap from-early (admitted-is (a .admitted)) ∙ ap (λ (n : ℕ). solve-left B H nodes stages work peaks (solve-in n B H)) (room-is r) ∙ ap (solve-left B H nodes stages work peaks) e
+  solve-is (solve-11-12 a r e _ _) = counted (a .words) ∙ ap from-early (admitted-is (a .admitted)) ∙ ap (λ (n : ℕ). solve-left B H nodes stages work peaks (solve-in n B H)) (room-is r) ∙ ap (solve-left B H nodes stages work peaks) e
+  solve-is (solve-1-10 (early-as {k = k} w r)) = counted w ∙ ap from-early (early-is r) ∙ if-no (eqb k 0) _ _ (some-not k (early-some r))
+  solve-is (solve-1-10 (peaks-10 f)) = ap from-early (if-no (eqb (length peaks) peak-words) (early B H (length stages)) (refusal 10 0) (no-test (length peaks) f))
+    where
+      no-test : (n : ℕ) → (n ≡ 401 → ⊥) → T (not (eqb n peak-words))
+      no-test n f = by-test (eqb n peak-words) (λ b. T (not b)) (λ t. absurd (f (eqb→eq n peak-words t))) (λ _. tt)
 
 -- ---- value
 

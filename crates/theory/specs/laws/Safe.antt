@@ -10,7 +10,7 @@ use lib.ListN.{length}
 use Rattle.whole.specs.Cases.{and-in, from-true}
 use Rattle.whole.specs.Within.{small}
 use Rattle.theory.specs.Diagram.{Linear, Tree}
-use Rattle.theory.specs.Computation.{Comp, ret, named, made, bind, result, make, names, judge, Out, done, stopped, run, enter-all, Ops, end, operation, and-then, solved, refused, run-all}
+use Rattle.theory.specs.Computation.{Comp, ret, named, made, bind, result, make, names, judge, Out, done, stopped, run, enter-all, Ops, end, operation, and-then, solved, refused, run-all, Moment}
 use Rattle.theory.specs.Computation as C
 use Rattle.theory.specs.Valid.{all}
 use Rattle.theory.specs.laws.Comps.{ret-done, named-done, with-made, made-done}
@@ -79,7 +79,7 @@ pub safe-end : {A : Type 0} (R : A → Type 0) (a : A) → R a → SafeOps R (en
 unfolding SafeOps
 safe-end R a r = r
 
-pub safe-operation : {A : Type 0} {R : Tree → Type 0} (Q : A → Type 0) (h : ℕ) (roots : List Tree) (c : Comp Tree) (f : Tree → Ops A)
+pub safe-operation : {A : Type 0} {R : Tree → Type 0} (Q : A → Type 0) (h : Moment) (roots : List Tree) (c : Comp Tree) (f : Tree → Ops A)
     → Safe small R c → ((t : Tree) → R t → SafeOps Q (f t)) → SafeOps Q (operation h roots c f)
 unfolding SafeOps
 safe-operation Q h roots c f s g = safe-weaken c g s
@@ -94,7 +94,7 @@ unfolding run-all SafeOps
 run-all-safe R N p (end b) a q e s = let d : b ≡ a = cc in subst R d s
 run-all-safe R N p (operation h roots c f) a q e s = go (run N c (enter-all roots [])) refl e (λ r t. run-all-safe R N r (f t) a q)
   where
-    go : (o : Out Tree) → run N c (enter-all roots []) ≡ o → elim o [ done t X ↦ run-all N (max p (length X)) (f t) | stopped r ↦ refused r h ] ≡ solved a q
+    go : (o : Out Tree) → run N c (enter-all roots []) ≡ o → elim o [ done t X ↦ run-all N (max p (length X)) (f t) | stopped r ↦ refused r (h .stage) ] ≡ solved a q
         → ((r : ℕ) (t : Tree) → run-all N r (f t) ≡ solved a q → SafeOps R (f t) → R a) → R a
     go (done t X) r e ih = ih (max p (length X)) t e (run-safe _ N c (enter-all roots []) X t r s)
     go (stopped r) s e ih = absurd (let z : _≡_ {A = ℕ} 0 1 = cc in omega arith)

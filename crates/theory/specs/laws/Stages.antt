@@ -17,7 +17,7 @@ use Rattle.theory.specs.Total.{Total, num, leT, _⊏_, _⊕_, weigh, mea
 use Rattle.theory.specs.Process.{total, optimum, lowest-best}
 use Rattle.theory.specs.Process as P
 use Rattle.theory.specs.Meaning.{Action, Model, nth-action, action-at, numbers-from, State, Env, env, at, leaf-worth, worth-at, end-at, settings, chance-at, weight, moved, power, process}
-use Rattle.theory.specs.Stage.{model-diagrams, sum-out, action-total, best-on, stage-over, stages-on, stages-over-end, all-stages}
+use Rattle.theory.specs.Stage.{model-diagrams, sum-out, action-total, best-on, stage-over, stages-on, stages-over-end, all-stages, moment}
 use Rattle.theory.specs.Valid.{all, all-nodes, among, good-test, good-leaf, level-leaf, valid-action, valid}
 use Rattle.theory.specs.laws.Total.{⊕-comm}
 use Rattle.theory.specs.laws.Process.{lowest-best-action, lowest-best-total, lowest-best-lowest}
@@ -42,9 +42,9 @@ module _ (e : Env) (power : ℕ) (reward : Tree) (a : ℕ) (F : Tree) where
   add-reward-act = subst (λ (G : Tree). T (permitted (at e G)) → act-of (at e G) ≡ a) (sym add-reward-result) (number-act e a _)
 
 pub action-total-final : (M : Model) (h : ℕ) (kept : List Tree) (P : Tree) (a : ℕ) (x : Action) → final (action-total M h kept P a x)
-    ≡ result (add-reward (power M h) (x .reward) a (final (sum-out (M .weights) h kept 1 (x .chances) (result (substitute (x .levels) P)))))
+    ≡ result (add-reward (power M h) (x .reward) a (final (sum-out (M .weights) (moment h a) kept 1 (x .chances) (result (substitute (x .levels) P)))))
 unfolding action-total final
-action-total-final M h kept P a x = final-and-then (sum-out (M .weights) h kept 1 (x .chances) (result (substitute (x .levels) P))) _
+action-total-final M h kept P a x = final-and-then (sum-out (M .weights) (moment h a) kept 1 (x .chances) (result (substitute (x .levels) P))) _
 
 -- the actions of a list are a model's, numbered from a on, and accepted
 data Listed (M : Model) : ℕ → List Action → Type 0 where
@@ -84,11 +84,11 @@ module _ (M : Model) (h : ℕ) (P : Tree) (below : Below M h P) where
     moves = result (substitute (taken .levels) P)
 
     abbrev summed : Tree
-    summed = final (sum-out (M .weights) (suc h) kept 1 (taken .chances) moves)
+    summed = final (sum-out (M .weights) (moment (suc h) a) kept 1 (taken .chances) moves)
 
     summed-tests : Tests (now-test (M .conditions)) summed
     unfolding now-test open-test among test-of
-    summed-tests = sum-out-tests (M .conditions) (M .weights) (suc h) kept 1 (taken .chances) moves (omega (arith, ok .count)) (ok .chances)
+    summed-tests = sum-out-tests (M .conditions) (M .weights) (moment (suc h) a) kept 1 (taken .chances) moves (omega (arith, ok .count)) (ok .chances)
         (sure (substitute (taken .levels) P) (substitute-safe any-closed (open-test any (M .conditions) 1) (λ _ _. tt) (taken .levels)
         (all-widen (all-nodes (good-test (M .conditions) true) level-leaf) (all-nodes (open-test any (M .conditions) 1) any)
         (widen (good-test (M .conditions) true) (open-test any (M .conditions) 1) level-leaf any (open-all any (M .conditions) (λ _ _. tt)) (λ _ _. tt)) (taken .levels) (ok .levels))
@@ -97,7 +97,7 @@ module _ (M : Model) (h : ℕ) (P : Tree) (below : Below M h P) where
     summed-at : (s : State) → worth-at (env s []) summed
         ≡ mean (weight (M .weights) (map (chance-at (env s [])) (taken .chances))) (λ r. optimum (process M) h (moved s (taken .levels) r)) (settings (M .conditions))
     unfolding env
-    summed-at s = sum-out-at (M .conditions) (M .weights) (suc h) kept 1 (taken .chances) moves (ok .chances) (env s [])
+    summed-at s = sum-out-at (M .conditions) (M .weights) (moment (suc h) a) kept 1 (taken .chances) moves (ok .chances) (env s [])
         ∙ ap₂ (λ (f : List Bool → Total) (k : ℕ). mean (weight (M .weights) (map (chance-at (env s [])) (taken .chances))) f (settings k))
         (fun-ext (λ r. ap (λ (e : Env). worth-at e moves) (env-given s r) ∙ substitute-at (M .conditions) s r (taken .levels) (levels-permitted (env s r) (good-test (M .conditions) true) (taken .levels) (ok .levels)) P (below .tests) ∙ (below .worth) (moved s (taken .levels) r)))
         (ok .count)
@@ -139,7 +139,7 @@ module _ (M : Model) (h : ℕ) (P : Tree) (below : Below M h P) where
   best-on-holds kept a [] F c none p = p
   best-on-holds kept a (x ∷ l) F c (one q ok r) p =
       let G = final (action-total M (suc h) (F ∷ kept) P a x) in
-      rw (final-and-then (action-total M (suc h) (F ∷ kept) P a x) (λ G. operation (suc h) (G ∷ F ∷ kept) (best F G) (best-on M (suc h) kept P (suc a) l)))
+      rw (final-and-then (action-total M (suc h) (F ∷ kept) P a x) (λ G. operation (moment (suc h) a) (G ∷ F ∷ kept) (best F G) (best-on M (suc h) kept P (suc a) l)))
       (best-on-holds kept (suc a) l (result (best F G)) (λ s. if (leT (totals s a) (totals s (c s))) (c s) a) r (best-holds F G c (λ _. a) p (listed-holds (F ∷ kept) a x q ok)))
 
   stage-holds : (kept : List Tree) → Listed M 1 (M .first ∷ M .others) → Holds M totals (final (stage-over M (suc h) kept P)) (lowest-best (process M) (suc h))

@@ -1,7 +1,7 @@
 //! What `crates/check_solve` has to print, worked out by the second program.
 
 use reference::hex_text::bytes;
-use reference::widths::{Form, New, LEVELS, NODE_WORDS, STAGES, WORK_WORDS};
+use reference::widths::{Form, New, LEVELS, NODE_WORDS, PEAK_WORDS, STAGES, WORK_WORDS};
 use reference::{solve, value, Reading, State};
 
 /// Nodes that the lent tables have room for.
@@ -19,7 +19,7 @@ struct Tables {
 
 impl Tables {
     fn solved(&mut self, label: &str, model: &[u8], horizon: u32, n: usize, words: usize) -> usize {
-        let done = solve(model, horizon, NODE_WORDS * n, words, WORK_WORDS * n);
+        let done = solve(model, horizon, NODE_WORDS * n, words, WORK_WORDS * n, PEAK_WORDS);
         if !done.is_untouched() {
             self.nodes[..NODE_WORDS * n].fill(0);
             self.nodes[..done.nodes.len()].copy_from_slice(&done.nodes);

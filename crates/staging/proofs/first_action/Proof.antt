@@ -1,0 +1,43 @@
+-- `staging::first_action` meets its contract.
+use borrow.Author.Needs.{needs}
+use Rattle.solving.specs.Peaks.{total-own}
+use Rattle.staging.proofs.StagesCounted.{own-fits, action-counted}
+use Rattle.staging.proofs.first_action.Statement.{statement}
+use Rattle.staging.proofs.first_action.Tie as tie
+use Rattle.staging.proofs.first_action.Reads as reads
+use Rattle.staging.proofs.first_action.Lts as lts
+use Rattle.staging.proofs.counted.Reads as counted-reads
+use Rattle.totals.proofs.total.Reads as total-reads
+
+total-requires : tie.Need-total-requires
+total-requires c κs = search needs
+
+counted-requires : tie.Need-counted-requires
+counted-requires c κs = (c .before .before .before .before .before .before .before .before .before .before .before .before .before .before .pre .5, own-fits (c .before .before .before .before .before .before .total .ensures))
+
+same-length : tie.Need-same-length
+same-length c = search needs
+
+same-length-2 : tie.Need-same-length-2
+same-length-2 c = search needs
+
+same-length-3 : tie.Need-same-length-3
+same-length-3 c = search needs
+
+same-length-4 : tie.Need-same-length-4
+same-length-4 c = search needs
+
+returns : tie.Need-returns
+returns c = action-counted (c .before .before .before .before .before .before .before .before .before .total .ensures) 1 (c .before .before .before .before .before .before .before .before .before .before .before .before .before .before .before .before .before .args .run) (λ K. total-own _ _ K _ 1 _) (c .before .before .counted .ensures .0) (c .before .before .counted .ensures .1)
+
+pub first-action-spec : {M : Type 1} → statement M
+first-action-spec =
+    tie.close
+    (tie.spec
+    total-requires
+    counted-requires
+    same-length
+    same-length-2
+    same-length-3
+    same-length-4
+    returns)
