@@ -13,12 +13,13 @@ pub fn advise(
     nodes: &mut [i64],
     stages: &mut [u32],
     work: &mut [u32],
+    peaks: &mut [u32],
     steps: u32,
     q: Asked,
 ) -> Value
-    ensures { λ v. ⌜ Advises (now (model .entry)) horizon (now (nodes .entry)) (now (stages .entry)) (now (work .entry)) steps (asked q) (now (nodes .exit)) (now (stages .exit)) (now (work .exit)) (out v) ⌝ }
+    ensures { λ v. ⌜ Advises (now (model .entry)) horizon (now (nodes .entry)) (now (stages .entry)) (now (work .entry)) (now (peaks .entry)) steps (asked q) (now (nodes .exit)) (now (stages .exit)) (now (work .exit)) (now (peaks .exit)) (out v) ⌝ }
 {
-    let s = solver::solve(model, horizon, nodes, stages, work);
+    let s = solver::solve(model, horizon, nodes, stages, work, peaks);
     if s.number != 0 {
         return Value {
             number: s.number,

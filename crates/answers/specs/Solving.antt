@@ -14,18 +14,19 @@ use Rattle.answers.specs.Answers.{pair-bytes, pair-size, short}
 unfoldable pub model-verdict : List ℕ → Verdict
 model-verdict B = if (ltb bytes-most (length B)) (refusal 10 0) (verdict B)
 
--- a solve also has its tables; with too short an `out` they too are left as they are
+-- a solve also has its tables and its peaks; with too short an `out` they too are left as they are
 pub record SolveAnswer : Type 0 where
   pub number : ℕ
   pub out : List ℕ
   pub nodes : List ℤ
   pub stages : List ℕ
   pub work : List ℕ
+  pub peaks : List ℕ
 
-abbrev pub solved : ℕ → List ℕ → List ℤ → List ℕ → List ℕ → SolveAnswer
-solved number out nodes stages work = record { number = number; out = out; nodes = nodes; stages = stages; work = work }
+abbrev pub solved : ℕ → List ℕ → List ℤ → List ℕ → List ℕ → List ℕ → SolveAnswer
+solved number out nodes stages work peaks = record { number = number; out = out; nodes = nodes; stages = stages; work = work; peaks = peaks }
 
-unfoldable pub solve-answer : SolveOut → List ℤ → List ℕ → List ℕ → List ℕ → SolveAnswer
-solve-answer v nodes stages work out =
-    if (ltb (length out) pair-size) (solved (short (v .number)) out nodes stages work)
-    (solved (v .number) (pair-bytes (v .place) (v .peak) ++ drop pair-size out) (v .nodes) (v .stages) (v .work))
+unfoldable pub solve-answer : SolveOut → List ℤ → List ℕ → List ℕ → List ℕ → List ℕ → SolveAnswer
+solve-answer v nodes stages work peaks out =
+    if (ltb (length out) pair-size) (solved (short (v .number)) out nodes stages work peaks)
+    (solved (v .number) (pair-bytes (v .place) (v .peak) ++ drop pair-size out) (v .nodes) (v .stages) (v .work) (v .peaks))

@@ -3,6 +3,7 @@
 ghost use Prim.Native.Nat.{_≤_};
 ghost use lib.ListN.{length};
 use libc::STDOUT_FILENO;
+use solver::PEAK_WORDS;
 use solver::Solved;
 use solver::solve;
 use values::Asked;
@@ -177,10 +178,22 @@ fn work_words(room: usize) -> usize
     if room < ROOM { room * 8 } else { WORK }
 }
 
+// The peaks are lent, and not looked at.
+fn solve_lent(
+    model: &[u8],
+    horizon: u32,
+    nodes: &mut [i64],
+    stages: &mut [u32],
+    work: &mut [u32],
+) -> Solved {
+    let mut peaks = [5u32; PEAK_WORDS];
+    solve(model, horizon, nodes, stages, work, &mut peaks)
+}
+
 // A model that is too long, all zeros.
 fn solve_too_long(horizon: u32, nodes: &mut [i64], stages: &mut [u32], work: &mut [u32]) -> Solved {
     let model = [0u8; TOO_LONG];
-    solve(&model, horizon, nodes, stages, work)
+    solve_lent(&model, horizon, nodes, stages, work)
 }
 
 // A number up to a most.
@@ -209,7 +222,7 @@ fn solve_case(
     let n = node_words(c.room);
     let w = work_words(c.room);
     let roots = least(c.roots, 8);
-    solve(
+    solve_lent(
         &models[from..to],
         c.horizon,
         &mut nodes[..n],

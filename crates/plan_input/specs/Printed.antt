@@ -5,7 +5,7 @@ use lib.Dec.{eqb, ltb}
 use lib.IntN.{ℤ, pos}
 use lib.ListN.{length, replicate}
 use Rattle.whole.specs.Cases.{if}
-use Rattle.theory.specs.Widths.{node-words, work-words, steps-most}
+use Rattle.theory.specs.Widths.{node-words, work-words, steps-most, peak-words}
 use Rattle.theory.specs.Verdict.{Verdict, refusal}
 use Rattle.theory.specs.Load.{site-at}
 use Rattle.theory.specs.Solve.{SolveOut, solve}
@@ -18,9 +18,9 @@ listed B H nodes stages room =
     if (eqb (v .number) 0) (text (site-at B) H nodes stages) (refusal-line v)
 
 -- the listing from the start of a buffer of so many bytes, or the refusal of solving
-unfoldable pub printed : List ℕ → ℕ → List ℤ → List ℕ → List ℕ → ℕ → List ℕ
-printed B H nodes stages work room =
-    let o = solve B H nodes stages work in
+unfoldable pub printed : List ℕ → ℕ → List ℤ → List ℕ → List ℕ → List ℕ → ℕ → List ℕ
+printed B H nodes stages work peaks room =
+    let o = solve B H nodes stages work peaks in
     if (eqb (o .number) 0) (listed B H (o .nodes) (o .stages) room) (refusal-line (refusal (o .number) (o .place)))
 
 -- "It takes 65,535 bytes"
@@ -37,7 +37,7 @@ nodes-held = 512
 
 -- in tables of zeros, "from the start of its 65,536-byte buffer"
 unfoldable pub tables-printed : List ℕ → ℕ → List ℕ
-tables-printed B H = printed B H (replicate (nodes-held * node-words) (pos 0)) (replicate steps-most 0) (replicate (nodes-held * work-words) 0) text-bytes
+tables-printed B H = printed B H (replicate (nodes-held * node-words) (pos 0)) (replicate steps-most 0) (replicate (nodes-held * work-words) 0) (replicate peak-words 0) text-bytes
 
 -- a longer model is 10, before all else
 unfoldable pub plan-printed : List ℕ → ℕ → List ℕ

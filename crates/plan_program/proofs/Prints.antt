@@ -10,7 +10,7 @@ use lib.IntN.{ℤ, pos}
 use lib.ListN.{length, getD, take, drop, replicate, length-append}
 use lib.Seq.{take-at}
 use Rattle.whole.specs.Cases.{if}
-use Rattle.theory.specs.Widths.{node-words, work-words, steps-most}
+use Rattle.theory.specs.Widths.{node-words, work-words, steps-most, peak-words}
 use Rattle.theory.specs.Valid.{all}
 use Rattle.theory.specs.Verdict.{Verdict, refusal, from-to}
 use Rattle.theory.specs.Load.{site-at}
@@ -119,28 +119,28 @@ module _ (B : List ℕ) (H : ℕ) (nodes : List ℤ) (stages buffer : List ℕ) 
 -- ---- what is printed
 
 -- a solve's answer and tables
-module _ (B : List ℕ) (H : ℕ) (nodes : List ℤ) (stages work : List ℕ) (room : ℕ) {k q peak : ℕ} {l : List ℤ} {s w : List ℕ} (e : record { number = k; place = q; peak = peak; nodes = l; stages = s; work = w } ≡ solve B H nodes stages work) where
+module _ (B : List ℕ) (H : ℕ) (nodes : List ℤ) (stages work peaks : List ℕ) (room : ℕ) {k q peak : ℕ} {l : List ℤ} {s w m : List ℕ} (e : record { number = k; place = q; peak = peak; nodes = l; stages = s; work = w; peaks = m } ≡ solve B H nodes stages work peaks) where
   abbrev by-solve : SolveOut → List ℕ
   by-solve o = if (eqb (o .number) 0) (listed B H (o .nodes) (o .stages) room) (refusal-line (refusal (o .number) (o .place)))
 
-  pub refused-printed : (k ≡ 0 → ⊥) → refusal-line (refusal k q) ≡ printed B H nodes stages work room
+  pub refused-printed : (k ≡ 0 → ⊥) → refusal-line (refusal k q) ≡ printed B H nodes stages work peaks room
   unfolding printed
   refused-printed n = sym (ap (λ (b : Bool). if b (listed B H l s room) (refusal-line (refusal k q))) (ne-eqb k 0 n)) ∙ ap by-solve e
 
-  pub solved-printed : k ≡ 0 → listed B H l s room ≡ printed B H nodes stages work room
+  pub solved-printed : k ≡ 0 → listed B H l s room ≡ printed B H nodes stages work peaks room
   unfolding printed
   solved-printed z = sym (ap (λ (b : Bool). if b (listed B H l s room) (refusal-line (refusal k q))) (eq-eqb k 0 z)) ∙ ap by-solve e
 
 -- the listing's answer, from the tables that the solve left
-module _ (B : List ℕ) (H : ℕ) (nodes : List ℤ) (stages work buffer : List ℕ) {k q peak : ℕ} {l : List ℤ} {s w : List ℕ} (e : record { number = k; place = q; peak = peak; nodes = l; stages = s; work = w } ≡ solve B H nodes stages work) (z : k ≡ 0)
+module _ (B : List ℕ) (H : ℕ) (nodes : List ℤ) (stages work peaks buffer : List ℕ) {k q peak : ℕ} {l : List ℤ} {s w m : List ℕ} (e : record { number = k; place = q; peak = peak; nodes = l; stages = s; work = w; peaks = m } ≡ solve B H nodes stages work peaks) (z : k ≡ 0)
     {n p size : ℕ} {after : List ℕ} (f : record { number = n; place = p; size = size; buffer = after } ≡ listing B H l s buffer 0) where
-  pub listing-refused-printed : (n ≡ 0 → ⊥) → refusal-line (refusal n p) ≡ printed B H nodes stages work (length buffer)
-  listing-refused-printed m = listed-refused B H l s buffer f m ∙ solved-printed B H nodes stages work (length buffer) e z
+  pub listing-refused-printed : (n ≡ 0 → ⊥) → refusal-line (refusal n p) ≡ printed B H nodes stages work peaks (length buffer)
+  listing-refused-printed m = listed-refused B H l s buffer f m ∙ solved-printed B H nodes stages work peaks (length buffer) e z
 
-  pub listing-printed : n ≡ 0 → (size ≤ length buffer) × (take size after ≡ printed B H nodes stages work (length buffer))
-  listing-printed m = let r = listed-front B H l s buffer f m in (r .0, r .1 ∙ solved-printed B H nodes stages work (length buffer) e z)
+  pub listing-printed : n ≡ 0 → (size ≤ length buffer) × (take size after ≡ printed B H nodes stages work peaks (length buffer))
+  listing-printed m = let r = listed-front B H l s buffer f m in (r .0, r .1 ∙ solved-printed B H nodes stages work peaks (length buffer) e z)
 
 -- in the program's own tables
-pub tables-are : (B : List ℕ) (H : ℕ) {room : ℕ} {t : List ℕ} → room ≡ text-bytes → t ≡ printed B H (replicate (nodes-held * node-words) (pos 0)) (replicate steps-most 0) (replicate (nodes-held * work-words) 0) room → t ≡ tables-printed B H
+pub tables-are : (B : List ℕ) (H : ℕ) {room : ℕ} {t : List ℕ} → room ≡ text-bytes → t ≡ printed B H (replicate (nodes-held * node-words) (pos 0)) (replicate steps-most 0) (replicate (nodes-held * work-words) 0) (replicate peak-words 0) room → t ≡ tables-printed B H
 unfolding tables-printed
-tables-are B H e f = f ∙ ap (printed B H (replicate (nodes-held * node-words) (pos 0)) (replicate steps-most 0) (replicate (nodes-held * work-words) 0)) e
+tables-are B H e f = f ∙ ap (printed B H (replicate (nodes-held * node-words) (pos 0)) (replicate steps-most 0) (replicate (nodes-held * work-words) 0) (replicate peak-words 0)) e

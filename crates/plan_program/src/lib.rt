@@ -6,6 +6,7 @@ ghost use Rattle.theory.specs.Verdict.{refusal as refusal-of};
 ghost use Rattle.theory.specs.Listing.{refusal-line};
 ghost use Rattle.plan_lines.specs.Lines.{line-most};
 ghost use Rattle.plan_input.specs.Printed.{printed, text-bytes, tables-printed, plan-printed, program};
+use solver::PEAK_WORDS;
 use solver::solve;
 use table::NODE_WORDS;
 use unique::WORK_WORDS;
@@ -34,12 +35,13 @@ fn print(
     nodes: &mut [i64],
     stages: &mut [u32],
     work: &mut [u32],
+    peaks: &mut [u32],
     text: &mut [u8],
 ) -> usize
     requires { ⌜ line-most ≤ length (now text) ⌝ }
-    ensures { λ r. ⌜ (r ≤ length (now (text .entry))) × (take r (now (text .exit)) ≡ printed (now (model .entry)) horizon (now (nodes .entry)) (now (stages .entry)) (now (work .entry)) (length (now (text .entry)))) ⌝ }
+    ensures { λ r. ⌜ (r ≤ length (now (text .entry))) × (take r (now (text .exit)) ≡ printed (now (model .entry)) horizon (now (nodes .entry)) (now (stages .entry)) (now (work .entry)) (now (peaks .entry)) (length (now (text .entry)))) ⌝ }
 {
-    let s = solve(model, horizon, nodes, stages, work);
+    let s = solve(model, horizon, nodes, stages, work, peaks);
     if s.number != 0 {
         return refusal(text, s.number, s.place);
     }
@@ -58,7 +60,16 @@ fn tabled(model: &[u8], horizon: u32, text: &mut [u8]) -> usize
     let mut nodes = [0i64; NODES_WORDS];
     let mut stages = [0u32; STAGE_WORDS];
     let mut work = [0u32; NODES_WORK];
-    print(model, horizon, &mut nodes, &mut stages, &mut work, text)
+    let mut peaks = [0u32; PEAK_WORDS];
+    print(
+        model,
+        horizon,
+        &mut nodes,
+        &mut stages,
+        &mut work,
+        &mut peaks,
+        text,
+    )
 }
 
 // A longer model is refused whatever the horizon.

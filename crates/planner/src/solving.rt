@@ -22,7 +22,8 @@ pub extern "C" fn planner_validate(bytes: &[u8]) -> Judged
     }
 }
 
-// Answer, 8 bytes: place, peak. Where `out` has no room for it nothing runs: the early refusals alone decide.
+// Answer, 8 bytes: place, peak; `peaks` has those of loading and of each action. Where `out` has no room for it nothing runs:
+// the early refusals alone decide.
 #[no_mangle]
 pub extern "C" fn planner_solve(
     bytes: &[u8],
@@ -30,15 +31,16 @@ pub extern "C" fn planner_solve(
     nodes: &mut [i64],
     stages: &mut [u32],
     work: &mut [u32],
+    peaks: &mut [u32],
     out: &mut [u8],
 ) -> u32
-    ensures { λ r. ⌜ solved r (now (out .exit)) (now (nodes .exit)) (now (stages .exit)) (now (work .exit)) ≡ solve-answer (solve-of (now (bytes .entry)) horizon (now (nodes .entry)) (now (stages .entry)) (now (work .entry))) (now (nodes .entry)) (now (stages .entry)) (now (work .entry)) (now (out .entry)) ⌝ }
+    ensures { λ r. ⌜ solved r (now (out .exit)) (now (nodes .exit)) (now (stages .exit)) (now (work .exit)) (now (peaks .exit)) ≡ solve-answer (solve-of (now (bytes .entry)) horizon (now (nodes .entry)) (now (stages .entry)) (now (work .entry)) (now (peaks .entry))) (now (nodes .entry)) (now (stages .entry)) (now (work .entry)) (now (peaks .entry)) (now (out .entry)) ⌝ }
 {
     if out.len() < 8 {
-        let early = model::early(bytes, horizon, stages.len());
+        let early = solver::early(bytes, horizon, stages.len(), peaks.len());
         return answers::short(early.number);
     }
-    let v = solver::solve(bytes, horizon, nodes, stages, work);
+    let v = solver::solve(bytes, horizon, nodes, stages, work, peaks);
     answers::put_pair(out, v.place, v.peak);
     v.number
 }

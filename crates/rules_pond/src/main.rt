@@ -232,7 +232,7 @@ fn loaded(model: &[u8], nodes: &mut [i64], work: &mut [u32], roots: &mut [u32]) 
 {
     finish::zeros::words_from(work, 0);
     let done = loading::load(model, nodes, work, 32, roots);
-    let held = value_iteration::model_size(model);
+    let held = totals::model_size(model);
     pair(done.stop as u64, done.count as u64);
     ending(b"loaded, roots ", held as u64);
     Stand {

@@ -8,8 +8,8 @@ ghost use Rattle.value_iteration.specs.Iteration.{Room};
 ghost use Rattle.solve_in.specs.Solves.{Solves};
 use action_peaks::clear_peaks;
 use staging::Planned;
+use totals::model_size;
 use value_iteration::ROOTS;
-use value_iteration::model_size;
 use value_iteration::run_stages;
 
 // All of it with the roots of the run: the tables of the stages where it is solved, whatever words else.
@@ -27,7 +27,7 @@ fn fill(
     ensures { λ r. ⌜ Solves (now (model .entry)) horizon cap (now (nodes .entry)) (now (nodes .exit)) (now (stages .exit)) (now (work .entry)) (now (work .exit)) (now (peaks .exit)) r ⌝ }
 {
     let first = model_size(model);
-    let r = run_stages(model, horizon, nodes, work, cap, roots, peaks, first);
+    let r = run_stages(model, horizon, nodes, work, cap, roots, peaks);
     if r.stop == 0 {
         finish::finish(
             nodes,

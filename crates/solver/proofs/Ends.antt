@@ -1,9 +1,10 @@
 -- What a solve leaves: an early refusal, a later one, or the tables.
-use mathlib.Core.Path.{_≡_, sym, ap, _∙_}
+use mathlib.Core.Path.{_≡_, refl, sym, ap, _∙_}
 use mathlib.Core.Logic.{⊎-elim}
-use mathlib.Core.Bool.{Bool}
+use mathlib.Core.Bool.{Bool, true, false}
 use mathlib.Core.List.{List, []}
-use borrow.Author.Tests.{eq-eqb, ne-eqb}
+use borrow.Author.Tests.{eqb-true}
+use lib.Dec.{eqb}
 use Rattle.whole.specs.Cases.{if}
 use Prim.Native.Nat.{ℕ, _*_, _/_, min, _≤_, _<_}
 use native.Mathlib.Nat.{min-le-left, min-le-right, div-mul-le-self}
@@ -28,11 +29,20 @@ use Rattle.solver.specs.Solving.{outcome}
 -- ---- before it runs
 
 -- the code's verdict is early's
-pub goes-on : (B : List ℕ) (H size : ℕ) (u : CodeVerdict) → shown u ≡ early B H size → u .number ≡ 0 → early B H size .number ≡ 0
-goes-on B H size u e z = sym (ap (λ (x : Verdict). x .number) e) ∙ z
+pub goes-on : (v : Verdict) (u : CodeVerdict) → shown u ≡ v → u .number ≡ 0 → v .number ≡ 0
+goes-on v u e z = sym (ap (λ (x : Verdict). x .number) e) ∙ z
 
-pub passed : (B : List ℕ) (H size : ℕ) → early B H size .number ≡ 0 → Passed B H size
-passed B H size = by-early B H size (λ u _. u .number ≡ 0 → Passed B H size) (λ p _. p) (λ k p r z. absurd (omega (arith, early-some r)))
+-- the peaks' words are judged first
+counted : (v : Verdict) (n : ℕ) (b : Bool) → eqb n peak-words ≡ b → if b v (refusal 10 0) .number ≡ 0 → (n ≡ peak-words) × (v .number ≡ 0)
+counted v n true e z = (eqb-true n peak-words e, z)
+counted v n false e z = absurd (omega arith)
+
+early-passed : (B : List ℕ) (H size : ℕ) → early B H size .number ≡ 0 → Passed B H size
+early-passed B H size = by-early B H size (λ u _. u .number ≡ 0 → Passed B H size) (λ p _. p) (λ k p r z. absurd (omega (arith, early-some r)))
+
+pub passed : (B : List ℕ) (H size n : ℕ) → early-with-peaks B H size n .number ≡ 0 → (n ≡ peak-words) × Passed B H size
+unfolding early-with-peaks
+passed B H size n z = let j = counted (early B H size) n (eqb n peak-words) refl z in (j .0, early-passed B H size (j .1))
 
 pub record Fitting (cap nodes work : ℕ) : Type 0 where
   pub few : cap ≤ nodes-most
@@ -52,30 +62,12 @@ fitting nodes work e =
 
 -- ---- the outcome
 
--- the peaks' words are judged first
-words-early : (B : List ℕ) (H size : ℕ) {n : ℕ} → n ≡ peak-words → early-with-peaks B H size n ≡ early B H size
-unfolding early-with-peaks
-words-early B H size {n} e = ap (λ (b : Bool). if b (early B H size) (refusal 10 0)) (eq-eqb n peak-words e)
-
-other-words : (B : List ℕ) (H size : ℕ) {n : ℕ} → (n ≡ peak-words → ⊥) → early-with-peaks B H size n ≡ refusal 10 0
-unfolding early-with-peaks
-other-words B H size {n} e = ap (λ (b : Bool). if b (early B H size) (refusal 10 0)) (ne-eqb n peak-words e)
-
-pub refused-words : (B : List ℕ) (H : ℕ) (l : List ℤ) (s w p : List ℕ) → (length p ≡ peak-words → ⊥) → outcome (record { number = 10; place = 0; peak = 0 }) l s w p ≡ solve B H l s w p
-refused-words B H l s w p off =
-    let e = other-words B H (length s) off in
-    sym (solve-early B H l s w p (λ z. absurd (let y : 10 ≡ 0 = sym (ap (λ (x : Verdict). x .number) e) ∙ z in omega arith))
-    ∙ ap (λ (x : Verdict). record { number = x .number; place = x .place; peak = 0; nodes = l; stages = s; work = w; peaks = p }) e)
-
-module _ (B : List ℕ) (H : ℕ) (l : List ℤ) (s w p : List ℕ) (n : length p ≡ peak-words) where
-  pub refused-early : (u : CodeVerdict) → shown u ≡ early B H (length s) → (u .number ≡ 0 → ⊥) → outcome (record { number = u .number; place = u .place; peak = 0 }) l s w p ≡ solve B H l s w p
-  refused-early u e₀ off = let e = e₀ ∙ sym (words-early B H (length s) n) in sym (solve-early B H l s w p (λ z. off (ap (λ (x : Verdict). x .number) e ∙ z))
+module _ (B : List ℕ) (H : ℕ) (l : List ℤ) (s w p : List ℕ) where
+  pub refused-early : (u : CodeVerdict) → shown u ≡ early-with-peaks B H (length s) (length p) → (u .number ≡ 0 → ⊥) → outcome (record { number = u .number; place = u .place; peak = 0 }) l s w p ≡ solve B H l s w p
+  refused-early u e off = sym (solve-early B H l s w p (λ z. off (ap (λ (x : Verdict). x .number) e ∙ z))
       ∙ ap (λ (x : Verdict). record { number = x .number; place = x .place; peak = 0; nodes = l; stages = s; work = w; peaks = p }) (sym e))
 
-  module _ {cap : ℕ} (e₀ : early B H (length s) .number ≡ 0) (c : cap ≡ room (length l) (length w)) {l₁ : List ℤ} {s₁ w₁ p₁ : List ℕ} {r : Planned} (S : Solves B H cap l l₁ s₁ w w₁ p₁ r) where
-    e : early-with-peaks B H (length s) (length p) .number ≡ 0
-    e = ap (λ (x : Verdict). x .number) (words-early B H (length s) n) ∙ e₀
-
+  module _ {cap : ℕ} (e : early-with-peaks B H (length s) (length p) .number ≡ 0) (c : cap ≡ room (length l) (length w)) {l₁ : List ℤ} {s₁ w₁ p₁ : List ℕ} {r : Planned} (S : Solves B H cap l l₁ s₁ w w₁ p₁ r) where
     in-room : solve-in cap B H ≡ solve-in (room (length l) (length w)) B H
     in-room = ap (λ (N : ℕ). solve-in N B H) c
 

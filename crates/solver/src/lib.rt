@@ -1,12 +1,14 @@
 // "solve": refused early with all untouched, or run to the tables of the stages, or refused on the way with all zero.
 ghost use mathlib.Core.Path.{_≡_};
 ghost use Prim.Native.Nat.{min};
-ghost use lib.ListN.{length};
-ghost use Rattle.theory.specs.Widths.{peak-words};
+ghost use Rattle.theory.specs.Solve.{early-with-peaks};
 ghost use Rattle.theory.specs.Solve.{room as room-of};
 ghost use Rattle.theory.specs.Solve.{solve as solve-of};
+ghost use Rattle.model.specs.Answers.{shown};
 ghost use Rattle.solver.specs.Solving.{outcome};
 use action_peaks::clear_peaks;
+use model::Verdict;
+use progress::refusals::SIZES;
 use solve_in::solve_in;
 use table::NODE_WORDS;
 use unique::WORK_WORDS;
@@ -34,8 +36,21 @@ fn room(nodes: usize, work: usize) -> usize
     least(nodes / NODE_WORDS, least(work / WORK_WORDS, 65535))
 }
 
-// With as many words for the peaks as there are actions, and one for loading.
-fn solve_counted(
+// "10: stage words not eight", or peaks not 401, "or model above 262,144 bytes"; then 9 and the model's own.
+pub fn early(model: &[u8], horizon: u32, stage_words: usize, peak_words: usize) -> Verdict
+    ensures { λ r. ⌜ shown r ≡ early-with-peaks (now (model .entry)) horizon «stage_words» «peak_words» ⌝ }
+{
+    if peak_words != PEAK_WORDS {
+        return Verdict {
+            number: SIZES,
+            place: 0,
+        };
+    }
+    model::early(model, horizon, stage_words)
+}
+
+// A site model, a horizon and lent tables: the peaks and the tables, or a refusal.
+pub fn solve(
     model: &[u8],
     horizon: u32,
     nodes: &mut [i64],
@@ -43,10 +58,9 @@ fn solve_counted(
     work: &mut [u32],
     peaks: &mut [u32],
 ) -> Solved
-    requires { ⌜ length (now peaks) ≡ peak-words ⌝ }
     ensures { λ r. ⌜ outcome r (now (nodes .exit)) (now (stages .exit)) (now (work .exit)) (now (peaks .exit)) ≡ solve-of (now (model .entry)) horizon (now (nodes .entry)) (now (stages .entry)) (now (work .entry)) (now (peaks .entry)) ⌝ }
 {
-    let v = model::early(model, horizon, stages.len());
+    let v = early(model, horizon, stages.len(), peaks.len());
     if v.number != 0 {
         return Solved {
             number: v.number,
@@ -70,25 +84,4 @@ fn solve_counted(
         place: 0,
         peak: r.peak,
     }
-}
-
-// A site model, a horizon and lent tables: the peaks and the tables, or a refusal.
-pub fn solve(
-    model: &[u8],
-    horizon: u32,
-    nodes: &mut [i64],
-    stages: &mut [u32],
-    work: &mut [u32],
-    peaks: &mut [u32],
-) -> Solved
-    ensures { λ r. ⌜ outcome r (now (nodes .exit)) (now (stages .exit)) (now (work .exit)) (now (peaks .exit)) ≡ solve-of (now (model .entry)) horizon (now (nodes .entry)) (now (stages .entry)) (now (work .entry)) (now (peaks .entry)) ⌝ }
-{
-    if peaks.len() != PEAK_WORDS {
-        return Solved {
-            number: 10,
-            place: 0,
-            peak: 0,
-        };
-    }
-    solve_counted(model, horizon, nodes, stages, work, peaks)
 }

@@ -7,6 +7,7 @@ use native.Mathlib.Omega.{arith}
 use lib.IntN.{ℤ}
 use lib.ListN.{length, getD, take, drop, length-append}
 use lib.Seq.{length-take-le, take-all, take-add, drop-at, getD-at}
+use Rattle.theory.specs.Widths.{steps-most}
 use Rattle.theory.specs.Diagram.{Tree}
 use Rattle.theory.specs.Computation.{solved, run-all}
 use Rattle.theory.specs.Load.{model}
@@ -21,12 +22,13 @@ use Rattle.solving.specs.Steps.{behind, behind-none, stages-done}
 use Rattle.solving.specs.Loops.{stage-done, stage-refused}
 use Rattle.solving.specs.Peaks.{stages-peaks}
 use Rattle.operate.specs.Operation.{heldTrees, Standing}
-use Rattle.totals.specs.Planning.{modelSize, Ready, rootAt, Ran}
+use Rattle.totals.specs.Planning.{modelSize, Ready, Due, rootAt, Ran}
 use Rattle.staging.specs.Stages.{Counted, Staged}
 use Rattle.operate.specs.declared.Run.{Run}
 use Rattle.totals.proofs.Roots.{held-length}
 use Rattle.staging.proofs.StagesHeld.{held-more, held-take, ready-next}
 use Rattle.staging.proofs.StagesBetter.{alike-front}
+use Rattle.staging.proofs.StagesOthers.{stage-first}
 
 -- the model's diagrams are as many as its roots
 model-length : {B : List ℕ} {cap : ℕ} {l : List ℤ} {w : List ℕ} {n : ℕ} {R : List ℕ} {held : ℕ} → Ready B cap l w n R held → length (model-diagrams (model B)) ≡ modelSize B
@@ -41,39 +43,42 @@ unfolding stages-on peaks-of
 stages-counted-all B h finished P Q = refl
 
 -- stages 1 to h are there, Z stage 0
-pub record Staging (B : List ℕ) (cap H : ℕ) (l₀ : List ℤ) (R₀ : List ℕ) (held : ℕ) (r₀ : Run) (P₀ : List ℕ) (l : List ℤ) (w R : List ℕ) (r : Run) (P : List ℕ) (h : ℕ) : Type 0 where
+pub record Staging (B : List ℕ) (cap H : ℕ) (l₀ : List ℤ) (R₀ : List ℕ) (size : ℕ) (r₀ : Run) (P₀ : List ℕ) (l : List ℤ) (w R : List ℕ) (r : Run) (P : List ℕ) (h : ℕ) : Type 0 where
   pub stages : List Tree
   pub finished : List Tree
   pub before : Tree
   pub ok : r .stop ≡ 0
   pub high : h ≤ H
-  pub place : held ≡ modelSize B + 1
-  pub ready : Ready B cap l w (r .count) R (held + h)
-  pub roots : heldTrees l (r .count) R (held + h) ≡ model-diagrams (model B) ++ (rootAt l₀ (r₀ .count) R₀ (modelSize B) ∷ stages)
+  pub place : size ≡ modelSize B
+  pub ready : Ready B cap l w (r .count) R (size + h + 1)
+  pub roots : heldTrees l (r .count) R (size + h + 1) ≡ model-diagrams (model B) ++ (rootAt l₀ (r₀ .count) R₀ (modelSize B) ∷ stages)
   pub alike : Alike (model-diagrams (model B) ++ (rootAt l₀ (r₀ .count) R₀ (modelSize B) ∷ stages)) (finished ++ model-diagrams (model B))
-  pub last : getD (heldTrees l (r .count) R (held + h)) (held + h - 1) blank ≡ before
+  pub last : getD (heldTrees l (r .count) R (size + h + 1)) (size + h) blank ≡ before
   pub left : run-all cap (r₀ .peak) (stages-on (model B) H 1 (rootAt l₀ (r₀ .count) R₀ (modelSize B) ∷ []) (rootAt l₀ (r₀ .count) R₀ (modelSize B)))
       ≡ behind stages (run-all cap (r .peak) (stages-on (model B) (H - h) (suc h) finished before))
   pub counts : peaks-of P₀ (stages-on (model B) H 1 (rootAt l₀ (r₀ .count) R₀ (modelSize B) ∷ []) (rootAt l₀ (r₀ .count) R₀ (modelSize B))) ≡ peaks-of P (stages-on (model B) (H - h) (suc h) finished before)
 
--- stage 0 is the last root that is held
-module _ {B : List ℕ} {cap : ℕ} (H : ℕ) {l : List ℤ} {w R : List ℕ} {held : ℕ} (r : Run) (D : Ready B cap l w (r .count) R held) (e : held ≡ modelSize B + 1) where
+-- stage 0 is the root behind the model's
+module _ {B : List ℕ} {cap : ℕ} (H : ℕ) {l : List ℤ} {w R : List ℕ} {size : ℕ} (r : Run) (D : Ready B cap l w (r .count) R (suc (modelSize B))) (e : size ≡ modelSize B) where
   few : modelSize B < length R
-  few = let z = D .standing .few in omega arith
+  few = D .standing .few
 
   models : heldTrees l (r .count) R (modelSize B) ≡ model-diagrams (model B)
   models =
       let z : length (heldTrees l (r .count) R (modelSize B)) ≡ modelSize B = held-length l (r .count) R (modelSize B) (let q = few in omega arith) in
       sym (take-all (modelSize B) (heldTrees l (r .count) R (modelSize B)) (omega arith))
       ∙ (sym (held-take l (r .count) R (modelSize B) (modelSize B) few (omega arith))
-      ∙ (ap (λ (k : ℕ). take (modelSize B) (heldTrees l (r .count) R k)) (sym e) ∙ D .models))
+      ∙ (ap (λ (k : ℕ). take (modelSize B) (heldTrees l (r .count) R k)) (add-one (modelSize B)) ∙ D .models))
 
-  zeroth : heldTrees l (r .count) R (held + 0) ≡ model-diagrams (model B) ++ (rootAt l (r .count) R (modelSize B) ∷ [])
+  held : suc (modelSize B) ≡ size + 0 + 1
+  held = omega arith
+
+  zeroth : heldTrees l (r .count) R (size + 0 + 1) ≡ model-diagrams (model B) ++ (rootAt l (r .count) R (modelSize B) ∷ [])
   zeroth =
-      ap (λ (k : ℕ). heldTrees l (r .count) R k) (let z : held + 0 ≡ modelSize B + 1 = omega arith in z)
+      ap (λ (k : ℕ). heldTrees l (r .count) R k) (sym held ∙ sym (add-one (modelSize B)))
       ∙ (held-more l (r .count) R (modelSize B) few ∙ ap (λ (X : List Tree). X ++ (rootAt l (r .count) R (modelSize B) ∷ [])) models)
 
-  pub staging-starts : (P : List ℕ) → r .stop ≡ 0 → Staging B cap H l R held r P l w R r P 0
+  pub staging-starts : (P : List ℕ) → r .stop ≡ 0 → Staging B cap H l R size r P l w R r P 0
   staging-starts P ok =
       let Z = rootAt l (r .count) R (modelSize B) in
       record {
@@ -83,23 +88,34 @@ module _ {B : List ℕ} {cap : ℕ} (H : ℕ) {l : List ℤ} {w R : List ℕ} {h
         ok = ok;
         high = omega arith;
         place = e;
-        ready = subst (Ready B cap l w (r .count) R) (let z : held ≡ held + 0 = omega arith in z) D;
+        ready = subst (Ready B cap l w (r .count) R) held D;
         roots = zeroth;
         alike = alike-turn (model-diagrams (model B)) (Z ∷ []);
-        last = ap (λ (X : List Tree). getD X (held + 0 - 1) blank) zeroth ∙ getD-at (model-diagrams (model B)) Z [] blank (held + 0 - 1) (model-length D ∙ (let z : modelSize B ≡ held + 0 - 1 = omega arith in z));
+        last = ap (λ (X : List Tree). getD X (size + 0) blank) zeroth ∙ getD-at (model-diagrams (model B)) Z [] blank (size + 0) (model-length D ∙ (let z : modelSize B ≡ size + 0 = omega arith in z));
         left = sym (behind-none (run-all cap (r .peak) (stages-on (model B) H 1 (Z ∷ []) Z)))
             ∙ ap (λ (k : ℕ). behind [] (run-all cap (r .peak) (stages-on (model B) k 1 (Z ∷ []) Z))) (let z : H ≡ H - 0 = omega arith in z);
         counts = ap (λ (k : ℕ). peaks-of P (stages-on (model B) k 1 (Z ∷ []) Z)) (let z : H ≡ H - 0 = omega arith in z);
       }
 
-module _ {B : List ℕ} {cap H : ℕ} {l₀ : List ℤ} {R₀ : List ℕ} {held : ℕ} {r₀ : Run} {P₀ : List ℕ} {l : List ℤ} {w R : List ℕ} {r : Run} {P : List ℕ} {h : ℕ} (Y : Staging B cap H l₀ R₀ held r₀ P₀ l w R r P h) where
+module _ {B : List ℕ} {cap H : ℕ} {l₀ : List ℤ} {R₀ : List ℕ} {size : ℕ} {r₀ : Run} {P₀ : List ℕ} {l : List ℤ} {w R : List ℕ} {r : Run} {P : List ℕ} {h : ℕ} (Y : Staging B cap H l₀ R₀ size r₀ P₀ l w R r P h) where
+  -- the first action's backup in the next stage
+  pub staging-due : {k : ℕ} → k ≤ size + h → h < H → H ≤ steps-most → modelSize B + H + 2 ≤ length R → Due B cap l w (r .count) R (size + h + 1) (record { held = size + h + 1; before = k; stage = h + 1; action = 1 })
+  staging-due p q few room = record {
+    ready = Y .ready;
+    room = let z = Y .place in omega arith;
+    earlier = omega arith;
+    few-stages = omega arith;
+    some-action = omega arith;
+    an-action = stage-first (Y .ready);
+  }
+
   -- the next stage
   module _ (q : h < H) {l′ : List ℤ} {w′ R′ P′ : List ℕ} {r′ : Run}
-      (C : Counted cap (r .peak) l (r .count) R (held + h) (h + 1) (λ K. stage-over (model B) (h + 1) K (getD (heldTrees l (r .count) R (held + h)) (held + h - 1) blank)) P l′ w′ R′ P′ r′) where
-    abbrev T : Ran cap (r .peak) l (r .count) R (held + h) (h + 1) (λ K. stage-over (model B) (h + 1) K (getD (heldTrees l (r .count) R (held + h)) (held + h - 1) blank)) l′ w′ R′ r′
+      (C : Counted cap (r .peak) l (r .count) R (size + h + 1) (h + 1) (λ K. stage-over (model B) (h + 1) K (getD (heldTrees l (r .count) R (size + h + 1)) (size + h) blank)) P l′ w′ R′ P′ r′) where
+    abbrev T : Ran cap (r .peak) l (r .count) R (size + h + 1) (h + 1) (λ K. stage-over (model B) (h + 1) K (getD (heldTrees l (r .count) R (size + h + 1)) (size + h) blank)) l′ w′ R′ r′
     T = C .ran
 
-    step : run-all cap (r .peak) (stage-over (model B) (suc h) (Y .finished ++ model-diagrams (model B)) (Y .before)) ≡ answered (r′ .stop) (h + 1) (rootAt l′ (r′ .count) R′ (held + h)) (r′ .peak)
+    step : run-all cap (r .peak) (stage-over (model B) (suc h) (Y .finished ++ model-diagrams (model B)) (Y .before)) ≡ answered (r′ .stop) (h + 1) (rootAt l′ (r′ .count) R′ (size + h + 1)) (r′ .peak)
     step =
         ap₂ (λ (i : ℕ) (P : Tree). run-all cap (r .peak) (stage-over (model B) i (Y .finished ++ model-diagrams (model B)) P)) (sym (add-one h)) (sym (Y .last))
         ∙ T .outcome (Y .finished ++ model-diagrams (model B)) (alike-trans (alike-eq (Y .roots)) (Y .alike))
@@ -111,15 +127,15 @@ module _ {B : List ℕ} {cap H : ℕ} {l₀ : List ℤ} {R₀ : List ℕ} {held 
     pub staging-stops : (r′ .stop ≡ 0 → ⊥) → Staged B cap (r₀ .peak) H l₀ (r₀ .count) R₀ P₀ l′ w′ R′ P′ (record { stop = r′ .stop; place = h + 1; count = r′ .count; peak = r′ .peak })
     staging-stops off = record {
       outcome = more
-          ∙ (stage-refused (model B) cap (r .peak) (suc h) (Y .finished) (Y .before) (Y .stages) (H - (h + 1)) (step ∙ answered-no (r′ .stop) (h + 1) (rootAt l′ (r′ .count) R′ (held + h)) (r′ .peak) off)
+          ∙ (stage-refused (model B) cap (r .peak) (suc h) (Y .finished) (Y .before) (Y .stages) (H - (h + 1)) (step ∙ answered-no (r′ .stop) (h + 1) (rootAt l′ (r′ .count) R′ (size + h + 1)) (r′ .peak) off)
           ∙ sym (answered-no (r′ .stop) (h + 1) (rootsOf (trees l′ (r′ .count)) (take H (drop (suc (modelSize B)) R′))) (r′ .peak) off));
       standing = λ ok. absurd (off ok);
       peaks = λ ok. absurd (off ok);
     }
 
-    module _ (ok : r′ .stop ≡ 0) (few : held + h < length R′) where
-      grown : heldTrees l′ (r′ .count) R′ (held + (h + 1)) ≡ heldTrees l (r .count) R (held + h) ++ (rootAt l′ (r′ .count) R′ (held + h) ∷ [])
-      grown = ap (λ (k : ℕ). heldTrees l′ (r′ .count) R′ k) (let z : held + (h + 1) ≡ suc (held + h) = omega arith in z) ∙ T .rooted ok .roots
+    module _ (ok : r′ .stop ≡ 0) (few : size + h + 1 < length R′) where
+      grown : heldTrees l′ (r′ .count) R′ (size + (h + 1) + 1) ≡ heldTrees l (r .count) R (size + h + 1) ++ (rootAt l′ (r′ .count) R′ (size + h + 1) ∷ [])
+      grown = ap (λ (k : ℕ). heldTrees l′ (r′ .count) R′ k) (let z : size + (h + 1) + 1 ≡ suc (size + h + 1) = omega arith in z) ∙ T .rooted ok .roots
 
       -- the words are those of the stage's operations
       raised : P′ ≡ peaks-of P (stage-over (model B) (suc h) (Y .finished ++ model-diagrams (model B)) (Y .before))
@@ -127,13 +143,13 @@ module _ {B : List ℕ} {cap H : ℕ} {l₀ : List ℤ} {R₀ : List ℕ} {held 
           C .peaks ok (Y .finished ++ model-diagrams (model B)) (alike-trans (alike-eq (Y .roots)) (Y .alike))
           ∙ ap₂ (λ (i : ℕ) (Z : Tree). peaks-of P (stage-over (model B) i (Y .finished ++ model-diagrams (model B)) Z)) (add-one h) (Y .last)
 
-      pub staging-on : Staging B cap H l₀ R₀ held r₀ P₀ l′ w′ R′ r′ P′ (h + 1)
+      pub staging-on : Staging B cap H l₀ R₀ size r₀ P₀ l′ w′ R′ r′ P′ (h + 1)
       staging-on =
-          let S = rootAt l′ (r′ .count) R′ (held + h) in
+          let S = rootAt l′ (r′ .count) R′ (size + h + 1) in
           let Z = rootAt l₀ (r₀ .count) R₀ (modelSize B) in
-          let Q = heldTrees l (r .count) R (held + h) in
+          let Q = heldTrees l (r .count) R (size + h + 1) in
           let D = Y .ready in
-          let long : length Q ≡ held + h = held-length l (r .count) R (held + h) (D .standing .few) in
+          let long : length Q ≡ size + h + 1 = held-length l (r .count) R (size + h + 1) (D .standing .few) in
           let assoc = append-assoc (model-diagrams (model B)) (Z ∷ Y .stages) (S ∷ []) in
           record {
             stages = Y .stages ++ (S ∷ []);
@@ -142,10 +158,10 @@ module _ {B : List ℕ} {cap H : ℕ} {l₀ : List ℤ} {R₀ : List ℕ} {held 
             ok = ok;
             high = omega arith;
             place = Y .place;
-            ready = subst (Ready B cap l′ w′ (r′ .count) R′) (let z : held + h + 1 ≡ held + (h + 1) = omega arith in z) (ready-next Q S D (D .models) (D .first) long (T .rooted ok) few);
+            ready = subst (Ready B cap l′ w′ (r′ .count) R′) (let z : size + h + 1 + 1 ≡ size + (h + 1) + 1 = omega arith in z) (ready-next Q S D (D .models) (D .first) long (T .rooted ok) few);
             roots = grown ∙ (ap (λ (X : List Tree). X ++ (S ∷ [])) (Y .roots) ∙ assoc);
             alike = alike-trans (alike-eq (sym assoc)) (alike-front S (Y .alike));
-            last = ap (λ (X : List Tree). getD X (held + (h + 1) - 1) blank) grown ∙ getD-at Q S [] blank (held + (h + 1) - 1) (long ∙ (let z : held + h ≡ held + (h + 1) - 1 = omega arith in z));
+            last = ap (λ (X : List Tree). getD X (size + (h + 1)) blank) grown ∙ getD-at Q S [] blank (size + (h + 1)) (long ∙ (let z : size + h + 1 ≡ size + (h + 1) = omega arith in z));
             left = more
                 ∙ (stage-done (model B) cap (r .peak) (suc h) (Y .finished) (Y .before) (Y .stages) (H - (h + 1)) (step ∙ answered-ok (r′ .stop) (h + 1) S (r′ .peak) ok)
                 ∙ ap (λ (i : ℕ). behind (Y .stages ++ (S ∷ [])) (run-all cap (r′ .peak) (stages-on (model B) (H - (h + 1)) (suc i) (S ∷ Y .finished) S))) (sym (add-one h)));
@@ -157,7 +173,7 @@ module _ {B : List ℕ} {cap H : ℕ} {l₀ : List ℤ} {R₀ : List ℕ} {held 
 
   -- none is left
   module _ (q : h < H → ⊥) where
-    all : held + h ≡ suc (modelSize B) + H
+    all : size + h + 1 ≡ suc (modelSize B) + H
     all = let p = Y .place in let z = Y .high in omega arith
 
     -- the roots behind stage 0's are the stages

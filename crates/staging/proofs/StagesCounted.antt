@@ -1,15 +1,14 @@
 -- An action's own run, from peak 0: its word and the one peak.
 use mathlib.Core.Path.{_≡_, sym, _∙_, subst}
 use mathlib.Core.List.{List}
-use Prim.Native.Nat.{ℕ, zero, max, _≤_}
+use Prim.Native.Nat.{ℕ, max, _≤_}
 use native.Mathlib.Omega.{arith}
 use lib.IntN.{ℤ}
 use Rattle.theory.specs.Diagram.{Tree}
 use Rattle.theory.specs.Computation.{Ops}
 use Rattle.theory.specs.Rules.{best}
 use Rattle.theory.specs.Load.{model}
-use Rattle.theory.specs.Stage.{action-total}
-use Rattle.theory.specs.Peaks.{raise, peaks-of}
+use Rattle.theory.specs.Peaks.{raise}
 use Rattle.theory.specs.Widths.{nodes-most}
 use Rattle.solving.specs.Onward.{answered-ok}
 use Rattle.solving.specs.Peaks.{Own, own-then, own-operation, total-own, own-peaks, own-answered}

@@ -9,16 +9,15 @@ use borrow.Author.Tests.{eq-eqb}
 use lib.Dec.{eqb, eqb→eq}
 use lib.IntN.{ℤ}
 use lib.ListN.{length, getD, take, List·getD-append}
-use lib.Seq.{length-take-le, take-suc, take-at, take-append-le}
+use lib.Seq.{take-at, take-append-le}
 use Rattle.whole.specs.Cases.{if, by-eq, from-true, clash}
 use Rattle.theory.specs.Diagram.{Tree}
 use Rattle.theory.specs.Computation.{Solved, solved, refused}
 use Rattle.theory.specs.Load.{model}
 use Rattle.theory.specs.Stage.{model-diagrams}
-use Rattle.diagrams.specs.Nodes.{blank, trees}
-use Rattle.mark.specs.Mark.{rootsOf}
+use Rattle.diagrams.specs.Nodes.{blank}
 use Rattle.solving.specs.Onward.{answered}
-use Rattle.solving.specs.Roots.{Rooted, roots-length, roots-append}
+use Rattle.solving.specs.Roots.{Rooted}
 use Rattle.operate.specs.Operation.{heldTrees, Standing}
 use Rattle.totals.specs.Planning.{modelSize, Ready, rootAt}
 use Rattle.totals.proofs.Roots.{held-length, held-suc}

@@ -1,15 +1,12 @@
 // The actions of a stage, the best so far kept; then the stages.
 ghost use mathlib.Core.Path.{_≡_};
-ghost use Prim.Native.Nat.{_+_, _-_, _≤_, _<_};
-ghost use lib.ListN.{length, getD};
+ghost use Prim.Native.Nat.{suc, _+_, _≤_, _<_};
+ghost use lib.ListN.{length};
 ghost use Rattle.theory.specs.Widths.{steps-most, nodes-most, peak-words};
-ghost use Rattle.theory.specs.Load.{site-at};
 ghost use Rattle.theory.specs.Load.{model as model-of};
-ghost use Rattle.theory.specs.Stage.{action-total, best-on, stage-over};
+ghost use Rattle.theory.specs.Stage.{best-on, stage-over};
 ghost use Rattle.theory.specs.Peaks.{raise};
-ghost use Rattle.diagrams.specs.Nodes.{blank};
-ghost use Rattle.operate.specs.Operation.{heldTrees};
-ghost use Rattle.totals.specs.Planning.{modelSize, Ready, actionOf, rootAt, Ran};
+ghost use Rattle.totals.specs.Planning.{modelSize, Ready, Due, beforeOf, totalOf, rootAt, Ran};
 ghost use Rattle.staging.specs.Stages.{bettered, joined, Counted, Staged};
 use action_peaks::raise_peak;
 use loading::wide_action;
@@ -18,6 +15,8 @@ use operate::Rule;
 use operate::Run;
 use operate::larger;
 use operate::operate;
+use totals::Backup;
+use totals::model_size;
 use totals::total;
 
 // What stopped a run, or 0, and where: a stage, 0 while loading; how many nodes the table has; the largest count at an operation's end.
@@ -36,28 +35,20 @@ fn better(
     cap: usize,
     run: Run,
     roots: &mut [u32],
-    held: usize,
-    before: usize,
-    stage: usize,
-    action: usize,
+    backup: Backup,
 ) -> Run
-    requires { ⌜ Ready (now model) cap (now nodes) (now work) (run .count) (now roots) (held + 1) × (run .stop ≡ 0) × (held + 2 ≤ length (now roots)) × (before < held) × (stage ≤ steps-most) × (1 ≤ action) × (action ≤ site-at (now model) .actions) ⌝ }
-    ensures { λ r. ⌜ Ran cap (run .peak) (now (nodes .entry)) (run .count) (now (roots .entry)) held stage
-        (bettered (now (model .entry)) stage (getD (heldTrees (now (nodes .entry)) (run .count) (now (roots .entry)) held) before blank) action (rootAt (now (nodes .entry)) (run .count) (now (roots .entry)) held))
+    requires { ⌜ Due (now model) cap (now nodes) (now work) (run .count) (now roots) (backup .held + 1) backup ⌝ }
+    ensures { λ r. ⌜ Ran cap (run .peak) (now (nodes .entry)) (run .count) (now (roots .entry)) (backup .held) (backup .stage)
+        (bettered (now (model .entry)) (backup .stage) (beforeOf (now (nodes .entry)) (run .count) (now (roots .entry)) backup) (backup .action) (rootAt (now (nodes .entry)) (run .count) (now (roots .entry)) (backup .held)))
         (now (nodes .exit)) (now (work .exit)) (now (roots .exit)) r ⌝ }
 {
-    let t = total(
-        model,
-        nodes,
-        work,
-        cap,
-        run,
-        roots,
-        held + 1,
-        before,
-        stage,
-        action,
-    );
+    let behind = Backup {
+        held: backup.held + 1,
+        before: backup.before,
+        stage: backup.stage,
+        action: backup.action,
+    };
+    let t = total(model, nodes, work, cap, run, roots, behind);
     if t.stop != 0 {
         return t;
     }
@@ -67,9 +58,9 @@ fn better(
         cap,
         t,
         roots,
-        held + 2,
-        held,
-        Rule::Best(held, held + 1),
+        backup.held + 2,
+        backup.held,
+        Rule::Best(backup.held, backup.held + 1),
     )
 }
 
@@ -98,14 +89,11 @@ fn next_action(
     run: Run,
     roots: &mut [u32],
     peaks: &mut [u32],
-    held: usize,
-    before: usize,
-    stage: usize,
-    action: usize,
+    backup: Backup,
 ) -> Run
-    requires { ⌜ Ready (now model) cap (now nodes) (now work) (run .count) (now roots) (held + 1) × (held + 2 ≤ length (now roots)) × (before < held) × (stage ≤ steps-most) × (1 ≤ action) × (action ≤ site-at (now model) .actions) × (action < length (now peaks)) ⌝ }
-    ensures { λ r. ⌜ Counted cap (run .peak) (now (nodes .entry)) (run .count) (now (roots .entry)) held stage
-        (bettered (now (model .entry)) stage (getD (heldTrees (now (nodes .entry)) (run .count) (now (roots .entry)) held) before blank) action (rootAt (now (nodes .entry)) (run .count) (now (roots .entry)) held))
+    requires { ⌜ Due (now model) cap (now nodes) (now work) (run .count) (now roots) (backup .held + 1) backup × (backup .action < length (now peaks)) ⌝ }
+    ensures { λ r. ⌜ Counted cap (run .peak) (now (nodes .entry)) (run .count) (now (roots .entry)) (backup .held) (backup .stage)
+        (bettered (now (model .entry)) (backup .stage) (beforeOf (now (nodes .entry)) (run .count) (now (roots .entry)) backup) (backup .action) (rootAt (now (nodes .entry)) (run .count) (now (roots .entry)) (backup .held)))
         (now (peaks .entry)) (now (nodes .exit)) (now (work .exit)) (now (roots .exit)) (now (peaks .exit)) r ⌝ }
 {
     let start = Run {
@@ -113,22 +101,11 @@ fn next_action(
         count: run.count,
         peak: 0,
     };
-    let own = better(
-        model,
-        nodes,
-        work,
-        cap,
-        start,
-        roots,
-        held,
-        before,
-        stage,
-        action,
-    );
-    counted(run, own, peaks, action)
+    let own = better(model, nodes, work, cap, start, roots, backup);
+    counted(run, own, peaks, backup.action)
 }
 
-// Action 1 alone, and its peak.
+// An action alone, as the first is, and its peak.
 fn first_action(
     model: &[u8],
     nodes: &mut [i64],
@@ -137,13 +114,11 @@ fn first_action(
     run: Run,
     roots: &mut [u32],
     peaks: &mut [u32],
-    held: usize,
-    before: usize,
-    stage: usize,
+    backup: Backup,
 ) -> Run
-    requires { ⌜ Ready (now model) cap (now nodes) (now work) (run .count) (now roots) held × (held + 1 ≤ length (now roots)) × (before < held) × (stage ≤ steps-most) × (1 ≤ site-at (now model) .actions) × (1 < length (now peaks)) ⌝ }
-    ensures { λ r. ⌜ Counted cap (run .peak) (now (nodes .entry)) (run .count) (now (roots .entry)) held stage
-        (λ K. action-total (model-of (now (model .entry))) stage K (getD (heldTrees (now (nodes .entry)) (run .count) (now (roots .entry)) held) before blank) 1 (actionOf (now (model .entry)) 1))
+    requires { ⌜ Due (now model) cap (now nodes) (now work) (run .count) (now roots) (backup .held) backup × (backup .action < length (now peaks)) ⌝ }
+    ensures { λ r. ⌜ Counted cap (run .peak) (now (nodes .entry)) (run .count) (now (roots .entry)) (backup .held) (backup .stage)
+        (totalOf (now (model .entry)) backup (beforeOf (now (nodes .entry)) (run .count) (now (roots .entry)) backup))
         (now (peaks .entry)) (now (nodes .exit)) (now (work .exit)) (now (roots .exit)) (now (peaks .exit)) r ⌝ }
 {
     let start = Run {
@@ -151,22 +126,11 @@ fn first_action(
         count: run.count,
         peak: 0,
     };
-    let own = total(
-        model,
-        nodes,
-        work,
-        cap,
-        start,
-        roots,
-        held,
-        before,
-        stage,
-        1,
-    );
-    counted(run, own, peaks, 1)
+    let own = total(model, nodes, work, cap, start, roots, backup);
+    counted(run, own, peaks, backup.action)
 }
 
-// The actions from the second on.
+// The actions from the second on; the backup is the first's.
 fn others(
     model: &[u8],
     nodes: &mut [i64],
@@ -175,13 +139,11 @@ fn others(
     run: Run,
     roots: &mut [u32],
     peaks: &mut [u32],
-    held: usize,
-    before: usize,
-    stage: usize,
+    backup: Backup,
 ) -> Run
-    requires { ⌜ Ready (now model) cap (now nodes) (now work) (run .count) (now roots) (held + 1) × (run .stop ≡ 0) × (held + 2 ≤ length (now roots)) × (modelSize (now model) ≤ held) × (before < held) × (stage ≤ steps-most) × (length (now peaks) ≡ peak-words) ⌝ }
-    ensures { λ r. ⌜ Counted cap (run .peak) (now (nodes .entry)) (run .count) (now (roots .entry)) held stage
-        (λ K. best-on (model-of (now (model .entry))) stage K (getD (heldTrees (now (nodes .entry)) (run .count) (now (roots .entry)) held) before blank) 2 (model-of (now (model .entry)) .others) (rootAt (now (nodes .entry)) (run .count) (now (roots .entry)) held))
+    requires { ⌜ Due (now model) cap (now nodes) (now work) (run .count) (now roots) (backup .held + 1) backup × (run .stop ≡ 0) × (modelSize (now model) ≤ backup .held) × (length (now peaks) ≡ peak-words) ⌝ }
+    ensures { λ r. ⌜ Counted cap (run .peak) (now (nodes .entry)) (run .count) (now (roots .entry)) (backup .held) (backup .stage)
+        (λ K. best-on (model-of (now (model .entry))) (backup .stage) K (beforeOf (now (nodes .entry)) (run .count) (now (roots .entry)) backup) 2 (model-of (now (model .entry)) .others) (rootAt (now (nodes .entry)) (run .count) (now (roots .entry)) (backup .held)))
         (now (peaks .entry)) (now (nodes .exit)) (now (work .exit)) (now (roots .exit)) (now (peaks .exit)) r ⌝ }
 {
     let operands = site(model);
@@ -189,19 +151,13 @@ fn others(
     let mut r = run;
     let mut a: usize = 2;
     while a <= actions {
-        r = next_action(
-            model,
-            nodes,
-            work,
-            cap,
-            r,
-            roots,
-            peaks,
-            held,
-            before,
-            stage,
-            a,
-        );
+        let next = Backup {
+            held: backup.held,
+            before: backup.before,
+            stage: backup.stage,
+            action: a,
+        };
+        r = next_action(model, nodes, work, cap, r, roots, peaks, next);
         if r.stop != 0 {
             return r;
         }
@@ -210,7 +166,7 @@ fn others(
     r
 }
 
-// A stage, over the one before it: the last root that is held.
+// A stage; the backup is its first action's.
 fn stage(
     model: &[u8],
     nodes: &mut [i64],
@@ -219,45 +175,21 @@ fn stage(
     run: Run,
     roots: &mut [u32],
     peaks: &mut [u32],
-    held: usize,
-    stage: usize,
+    backup: Backup,
 ) -> Run
-    requires { ⌜ Ready (now model) cap (now nodes) (now work) (run .count) (now roots) held × (run .stop ≡ 0) × (held + 2 ≤ length (now roots)) × (modelSize (now model) < held) × (stage ≤ steps-most) × (length (now peaks) ≡ peak-words) ⌝ }
-    ensures { λ r. ⌜ Counted cap (run .peak) (now (nodes .entry)) (run .count) (now (roots .entry)) held stage
-        (λ K. stage-over (model-of (now (model .entry))) stage K (getD (heldTrees (now (nodes .entry)) (run .count) (now (roots .entry)) held) (held - 1) blank))
+    requires { ⌜ Due (now model) cap (now nodes) (now work) (run .count) (now roots) (backup .held) backup × (backup .action ≡ 1) × (backup .held + 2 ≤ length (now roots)) × (length (now peaks) ≡ peak-words) ⌝ }
+    ensures { λ r. ⌜ Counted cap (run .peak) (now (nodes .entry)) (run .count) (now (roots .entry)) (backup .held) (backup .stage)
+        (λ K. stage-over (model-of (now (model .entry))) (backup .stage) K (beforeOf (now (nodes .entry)) (run .count) (now (roots .entry)) backup))
         (now (peaks .entry)) (now (nodes .exit)) (now (work .exit)) (now (roots .exit)) (now (peaks .exit)) r ⌝ }
 {
-    let before = held - 1;
-    let f = first_action(
-        model,
-        nodes,
-        work,
-        cap,
-        run,
-        roots,
-        peaks,
-        held,
-        before,
-        stage,
-    );
+    let f = first_action(model, nodes, work, cap, run, roots, peaks, backup);
     if f.stop != 0 {
         return f;
     }
-    others(
-        model,
-        nodes,
-        work,
-        cap,
-        f,
-        roots,
-        peaks,
-        held,
-        before,
-        stage,
-    )
+    others(model, nodes, work, cap, f, roots, peaks, backup)
 }
 
-// Stages 1 to the horizon, stage 0 the last root that is held.
+// Stages 1 to the horizon, stage 0 the root behind the model's.
 pub fn stages(
     model: &[u8],
     horizon: usize,
@@ -267,15 +199,21 @@ pub fn stages(
     run: Run,
     roots: &mut [u32],
     peaks: &mut [u32],
-    held: usize,
 ) -> Planned
-    requires { ⌜ Ready (now model) cap (now nodes) (now work) (run .count) (now roots) held × (run .stop ≡ 0) × (held ≡ modelSize (now model) + 1) × (horizon ≤ steps-most) × (held + horizon + 1 ≤ length (now roots)) × (length (now peaks) ≡ peak-words) ⌝ }
+    requires { ⌜ Ready (now model) cap (now nodes) (now work) (run .count) (now roots) (suc (modelSize (now model))) × (run .stop ≡ 0) × (horizon ≤ steps-most) × (modelSize (now model) + horizon + 2 ≤ length (now roots)) × (length (now peaks) ≡ peak-words) ⌝ }
     ensures { λ r. ⌜ Staged (now (model .entry)) cap (run .peak) horizon (now (nodes .entry)) (run .count) (now (roots .entry)) (now (peaks .entry)) (now (nodes .exit)) (now (work .exit)) (now (roots .exit)) (now (peaks .exit)) r ⌝ }
 {
+    let size = model_size(model);
     let mut r = run;
     let mut h: usize = 0;
     while h < horizon {
-        r = stage(model, nodes, work, cap, r, roots, peaks, held + h, h + 1);
+        let first = Backup {
+            held: size + h + 1,
+            before: size + h,
+            stage: h + 1,
+            action: 1,
+        };
+        r = stage(model, nodes, work, cap, r, roots, peaks, first);
         if r.stop != 0 {
             return Planned {
                 stop: r.stop,

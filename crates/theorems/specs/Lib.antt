@@ -15,6 +15,7 @@ pub mod Advice
 pub mod Parallel
 -- K8, actions that are not permitted
 pub mod Forbidden
+-- K9, a peak for each action
 pub mod Peaks
 -- ---- examples
 

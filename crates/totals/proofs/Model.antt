@@ -1,5 +1,5 @@
 -- An accepted model's diagrams stand in rows, one for each action: its reward, its chances, its next levels.
-use mathlib.Core.Path.{_≡_, refl, sym, ap, _∙_, subst}
+use mathlib.Core.Path.{_≡_, refl, sym, ap, ap₂, _∙_, subst}
 use mathlib.Core.List.{List, [], _∷_, _++_, map, append-assoc}
 use Prim.Native.Nat.{ℕ, zero, suc, _+_, _-_, _*_, _≤_, _<_}
 use native.Mathlib.Nat.{suc-mul, mul-le-mul-right}
@@ -16,6 +16,9 @@ use Rattle.theory.specs.Stage.{action-diagrams, all-diagrams, model-diagrams}
 use Rattle.theory.specs.laws.Valid.{among-out}
 use Rattle.theory.specs.laws.Loading.{Of-site, accepted-site, loaded-entries, model-loaded}
 use Rattle.diagrams.specs.Nodes.{blank}
+use Rattle.progress.specs.declared.Site.{Site as CodeSite}
+use Rattle.progress.specs.Standing.{site-as}
+use Rattle.loading.proofs.Places.{row-few}
 use Rattle.totals.specs.Planning.{actionSize, modelSize, actionOf}
 
 -- ---- the site
@@ -47,6 +50,13 @@ sited B ok =
       few-weights = w .1;
       same = s .1;
     }
+
+-- how many roots the model's diagrams have, as the code counts them
+pub size-of : (B : List ℕ) {s : CodeSite} {m n a : ℕ} → site-as s ≡ site-at B → m ≡ s .levels → n ≡ s .conditions → a ≡ s .actions → a * (1 + n + m) ≡ modelSize B
+size-of B es em en ea = ap₂ _*_ ea (ap₂ (λ (m n : ℕ). 1 + n + m) em en) ∙ ap (λ (S : Site). S .actions * (1 + S .conditions + S .levels)) es
+
+pub size-fits : (m n a : ℕ) → m < 256 → n < 256 → a < 65536 → a * (1 + n + m) < 33554432
+size-fits m n a h k j = row-few a (1 + n + m) j (omega arith)
 
 -- ---- rows
 

@@ -1,22 +1,24 @@
 -- Planning on a table: its roots are the model's diagrams, stages 0, 1, .., and what a stage has so far; what some operations come to.
 use mathlib.Core.Path.{_≡_}
 use mathlib.Core.List.{List, [], _∷_, _++_}
-use Prim.Native.Nat.{ℕ, suc, _+_, _-_, _*_, _≤_}
+use Prim.Native.Nat.{ℕ, suc, _+_, _-_, _*_, _≤_, _<_}
 use lib.IntN.{ℤ}
-use lib.ListN.{length, getD, take}
-use Rattle.theory.specs.Widths.{bytes-most}
+use lib.ListN.{length, getD, take, drop}
+use Rattle.theory.specs.Widths.{bytes-most, conditions-most, weights-most, steps-most}
 use Rattle.theory.specs.Diagram.{Tree}
 use Rattle.theory.specs.Computation.{Ops, run-all}
 use Rattle.theory.specs.Meaning.{Action}
 use Rattle.theory.specs.Verdict.{verdict}
 use Rattle.theory.specs.Load.{site-at, model}
-use Rattle.theory.specs.Stage.{model-diagrams}
-use Rattle.diagrams.specs.Nodes.{treeAt}
+use Rattle.theory.specs.Stage.{model-diagrams, action-total}
+use Rattle.diagrams.specs.Nodes.{blank, treeAt}
 use Rattle.solving.specs.Alike.{Alike}
 use Rattle.solving.specs.Onward.{answered}
 use Rattle.solving.specs.Roots.{Rooted}
 use Rattle.operate.specs.Operation.{heldTrees, Standing}
 use Rattle.operate.specs.declared.Run.{Run}
+use Rattle.totals.specs.declared.Backup.{Backup}
+use Rattle.totals.specs.declared.Chances.{Chances}
 
 -- how many diagrams an action has: a reward, the conditions' chances, the next levels
 abbrev pub actionSize : List ℕ → ℕ
@@ -41,6 +43,35 @@ actionOf B a = getD (model B .first ∷ model B .others) (a - 1) (model B .first
 -- the tree of the root at a place
 abbrev pub rootAt : List ℤ → ℕ → List ℕ → ℕ → Tree
 rootAt l n R i = treeAt l n (getD R i 0)
+
+-- a backup whose stage before is among the roots that are held; the first k are the model's diagrams and more, and there is one behind them
+pub record Due (B : List ℕ) (cap : ℕ) (l : List ℤ) (w : List ℕ) (n : ℕ) (R : List ℕ) (k : ℕ) (b : Backup) : Type 0 where
+  pub ready : Ready B cap l w n R k
+  pub room : k < length R
+  pub earlier : b .before < b .held
+  pub few-stages : b .stage ≤ steps-most
+  pub some-action : 1 ≤ b .action
+  pub an-action : b .action ≤ site-at B .actions
+
+-- the stage before
+abbrev pub beforeOf : List ℤ → ℕ → List ℕ → Backup → Tree
+beforeOf l n R b = getD (heldTrees l n R (b .held)) (b .before) blank
+
+-- the action's total over it, P
+abbrev pub totalOf : List ℕ → Backup → Tree → List Tree → Ops Tree
+totalOf B b P K = action-total (model B) (b .stage) K P (b .action) (actionOf B (b .action))
+
+-- chances among the roots that are held, and the root behind those, of which the conditions are summed out
+pub record Sums (cap : ℕ) (l : List ℤ) (w : List ℕ) (r : Run) (R : List ℕ) (held : ℕ) (c : Chances) : Type 0 where
+  pub standing : Standing cap l w (r .count) R (held + 1)
+  pub none-yet : r .stop ≡ 0
+  pub ends : c .first + c .count ≤ held
+  pub few-conditions : c .count ≤ conditions-most
+  pub few-weights : c .weights ≤ weights-most
+
+-- those chances
+abbrev pub chancesOf : List ℤ → ℕ → List ℕ → ℕ → Chances → List Tree
+chancesOf l n R held c = take (c .count) (drop (c .first) (heldTrees l n R held))
 
 -- some operations on a table whose first roots are held, the diagrams K being needed besides: what they come to stands as the root behind those, or they are refused at stage h
 pub record Ran (cap p : ℕ) (l : List ℤ) (n : ℕ) (R : List ℕ) (held h : ℕ) (ops : List Tree → Ops Tree) (l′ : List ℤ) (w′ R′ : List ℕ) (r : Run) : Type 0 where

@@ -6,12 +6,11 @@ use native.Mathlib.Omega.{arith}
 use lib.ListN.{length, replicate, length-replicate}
 use Rattle.theory.specs.Widths.{actions-most, peak-words}
 use Rattle.theory.specs.Diagram.{Tree}
-use Rattle.theory.specs.Computation.{Comp, done, run, result, make, enter-all}
+use Rattle.theory.specs.Computation.{done, run, make, enter-all}
 use Rattle.theory.specs.Rules.{zero-leaf}
 use Rattle.theory.specs.Meaning.{Model}
 use Rattle.theory.specs.Load.{load, model}
 use Rattle.theory.specs.Stage.{model-diagrams, stages-on, all-stages}
-use Rattle.theory.specs.Events.{events, needed}
 use Rattle.theory.specs.Peaks.{raise, peaks-of, solved-peaks}
 use Rattle.theory.specs.laws.Events.{run-done}
 use Rattle.solving.specs.Onward.{Works}

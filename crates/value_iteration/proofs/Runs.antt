@@ -3,7 +3,6 @@ use mathlib.Core.Path.{_≡_, refl, sym, ap, _∙_, subst}
 use mathlib.Core.Bool.{Bool, true, false}
 use mathlib.Core.List.{List, [], _∷_, _++_}
 use Prim.Native.Nat.{ℕ, suc, _+_, max, _≤_, _<_}
-use native.Mathlib.Numerals.{add-one}
 use native.Mathlib.Omega.{arith}
 use lib.IntN.{ℤ}
 use lib.ListN.{length, getD, take, replicate}
@@ -167,9 +166,6 @@ module _ (B : List ℕ) (H : ℕ) {cap : ℕ} {l : List ℤ} {w R : List ℕ} {r
     peaks = λ z. S .peaks z ∙ (sym (G .counts ok H) ∙ loaded-counted B H cap (trees l (r .count)) (L .ran go) (trees-length l (r .count)) (f ∙ ap (raise 0 (r .count)) e));
   }
 
--- the stages' roots, behind stage 0's
-pub stages-ready : {B : List ℕ} {cap n first : ℕ} {P : List ℕ} {l : List ℤ} {w R P′ : List ℕ} {z : Run} → first ≡ modelSize B → Grounded B cap n P l w R P′ z → z .stop ≡ 0 → Ready B cap l w (z .count) R (first + 1)
-stages-ready {B} {cap} {first = first} {l = l} {w = w} {R = R} {z = z} at G ok = subst (Ready B cap l w (z .count) R) (sym (add-one first ∙ ap suc at)) (G .ready ok)
-
-pub stages-fit : (B : List ℕ) (H : ℕ) {first n : ℕ} → verdict B .number ≡ 0 → first ≡ modelSize B → H ≤ steps-most → n ≡ roots-most → first + 1 + H + 1 ≤ n
-stages-fit B H v at h e = let q = size-few B v in omega arith
+-- there is a root for each stage, and two for what a stage has so far
+pub stages-fit : (B : List ℕ) (H : ℕ) {n : ℕ} → verdict B .number ≡ 0 → H ≤ steps-most → n ≡ roots-most → modelSize B + H + 2 ≤ n
+stages-fit B H v h e = let q = size-few B v in omega arith

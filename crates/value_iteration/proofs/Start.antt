@@ -1,7 +1,7 @@
 -- The table that a run starts with, and the roots of a loaded model.
-use mathlib.Core.Path.{_≡_, refl, sym, ap, ap₂, _∙_, subst}
+use mathlib.Core.Path.{_≡_, refl, sym, ap, _∙_, subst}
 use mathlib.Core.List.{List, [], _∷_, _++_, map}
-use Prim.Native.Nat.{ℕ, zero, suc, _+_, _-_, _*_, _≤_, _<_}
+use Prim.Native.Nat.{ℕ, zero, suc, _+_, _-_, _≤_, _<_}
 use native.Mathlib.Nat.{mul-le-mul}
 use native.Mathlib.Omega.{arith}
 use lib.Dec.{leb→le}
@@ -10,10 +10,8 @@ use lib.ListN.{length, getD, take, drop, replicate, getD-replicate}
 use lib.Seq.{drop-cons}
 use Rattle.theory.specs.Widths.{levels-most, conditions-most, actions-most, model-roots-most}
 use Rattle.theory.specs.Diagram.{Tree}
-use Rattle.theory.specs.Verdict.{Site, verdict, from-to}
+use Rattle.theory.specs.Verdict.{verdict, from-to}
 use Rattle.theory.specs.Load.{site-at, model}
-use Rattle.progress.specs.declared.Site.{Site as CodeSite}
-use Rattle.progress.specs.Standing.{site-as}
 use Rattle.theory.specs.Stage.{model-diagrams}
 use Rattle.theory.specs.laws.Valid.{among-out}
 use Rattle.theory.specs.laws.Loading.{accepted-site}
@@ -26,7 +24,6 @@ use Rattle.mark.specs.Mark.{Below as Lower}
 use Rattle.finish.proofs.Fill.{all-wiped}
 use Rattle.stacking.specs.Stepping.{Below}
 use Rattle.loading.specs.declared.Done.{Done}
-use Rattle.loading.proofs.Places.{row-few}
 use Rattle.solving.specs.Operated.{below-cons}
 use Rattle.operate.specs.Operation.{heldTrees, Standing}
 use Rattle.totals.specs.Planning.{modelSize}
@@ -62,12 +59,6 @@ pub no-nodes : {cap : ℕ} {l : List ℤ} {w : List ℕ} → Room cap l w → Sp
 no-nodes S = record { some = S .some; few = S .few; room = omega arith; words = S .words; works = S .works }
 
 -- ---- how many roots a model has
-
-pub size-of : (B : List ℕ) {s : CodeSite} {m n a : ℕ} → site-as s ≡ site-at B → m ≡ s .levels → n ≡ s .conditions → a ≡ s .actions → a * (1 + n + m) ≡ modelSize B
-size-of B es em en ea = ap₂ _*_ ea (ap₂ (λ (m n : ℕ). 1 + n + m) em en) ∙ ap (λ (S : Site). S .actions * (1 + S .conditions + S .levels)) es
-
-pub size-fits : (m n a : ℕ) → m < 256 → n < 256 → a < 65536 → a * (1 + n + m) < 33554432
-size-fits m n a h k j = row-few a (1 + n + m) j (omega arith)
 
 pub size-few : (B : List ℕ) → verdict B .number ≡ 0 → modelSize B ≤ model-roots-most
 size-few B v =

@@ -1,18 +1,14 @@
 // Value iteration on tables of a given room: the model loaded, stage 0, the stages.
 ghost use mathlib.Core.Path.{_≡_};
-ghost use Prim.Native.Nat.{_*_, _≤_, _<_};
+ghost use Prim.Native.Nat.{_≤_, _<_};
 ghost use lib.ListN.{length, replicate};
 ghost use Rattle.theory.specs.Widths.{bytes-most, steps-most, loaded-roots-most, roots-most, peak-words};
 ghost use Rattle.theory.specs.Verdict.{verdict};
 ghost use Rattle.mark.specs.Mark.{Space};
 ghost use Rattle.value_iteration.specs.Iteration.{Brought, Grounded, Plans};
-ghost use Rattle.totals.specs.Planning.{modelSize};
 use action_peaks::raise_peak;
 use loading::Done;
 use loading::LOADED_ROOTS;
-use loading::wide;
-use loading::wide_action;
-use model::site;
 use operate::Rule;
 use operate::Run;
 use operate::larger;
@@ -21,20 +17,10 @@ use operate::operate;
 use operate::wider_part;
 use staging::Planned;
 use staging::stages;
+use totals::model_size;
 
 // The roots that a solve keeps: the model's, stage 0, the finished stages, the best so far and the last result.
 pub const ROOTS: usize = LOADED_ROOTS + 10;
-
-// How many roots the model's diagrams have.
-pub fn model_size(model: &[u8]) -> usize
-    ensures { λ r. ⌜ (r ≡ modelSize (now (model .entry))) × (r < 33554432) ⌝ }
-{
-    let operands = site(model);
-    let m = wide(operands.levels);
-    let n = wide(operands.conditions);
-    let a = wide_action(operands.actions);
-    a * (1 + n + m)
-}
 
 // The model loaded with room for a part: the table is made empty there.
 fn load_within(
@@ -119,9 +105,8 @@ pub fn run_stages(
     cap: usize,
     roots: &mut [u32],
     peaks: &mut [u32],
-    first: usize,
 ) -> Planned
-    requires { ⌜ (verdict (now model) .number ≡ 0) × (length (now model) ≤ bytes-most) × (horizon ≤ steps-most) × Space cap (now nodes) (now work) 0 × (length (now roots) ≡ roots-most) × (first ≡ modelSize (now model)) × (now peaks ≡ replicate peak-words 0) ⌝ }
+    requires { ⌜ (verdict (now model) .number ≡ 0) × (length (now model) ≤ bytes-most) × (horizon ≤ steps-most) × Space cap (now nodes) (now work) 0 × (length (now roots) ≡ roots-most) × (now peaks ≡ replicate peak-words 0) ⌝ }
     ensures { λ r. ⌜ Plans (now (model .entry)) horizon cap (now (nodes .exit)) (now (work .exit)) (now (roots .exit)) (now (peaks .exit)) r ⌝ }
 {
     let loaded = load_in_parts(model, nodes, work, cap, roots);
@@ -143,15 +128,5 @@ pub fn run_stages(
             peak: 0,
         };
     }
-    stages(
-        model,
-        horizon,
-        nodes,
-        work,
-        cap,
-        zero,
-        roots,
-        peaks,
-        first + 1,
-    )
+    stages(model, horizon, nodes, work, cap, zero, roots, peaks)
 }

@@ -33,38 +33,38 @@ work-words-requires c κs = search needs
 least-requires : tie.Need-least-requires
 least-requires c κs = search needs
 
-sub-solve : tie.Need-sub-solve
-sub-solve c = search needs
+sub-solve-lent : tie.Need-sub-solve-lent
+sub-solve-lent c = search needs
 
-part-solve-start : tie.Need-part-solve-start
-part-solve-start c = search needs
+part-solve-lent-start : tie.Need-part-solve-lent-start
+part-solve-lent-start c = search needs
 
-part-solve-end : tie.Need-part-solve-end
-part-solve-end c = search needs
+part-solve-lent-end : tie.Need-part-solve-lent-end
+part-solve-lent-end c = search needs
 
-slice-relend-prefix-solve : tie.Need-slice-relend-prefix-solve
-slice-relend-prefix-solve c = search needs
+slice-relend-prefix-solve-lent : tie.Need-slice-relend-prefix-solve-lent
+slice-relend-prefix-solve-lent c = search needs
 
-slice-aggregate-solve : tie.Need-slice-aggregate-solve
-slice-aggregate-solve c =
+slice-aggregate-solve-lent : tie.Need-slice-aggregate-solve-lent
+slice-aggregate-solve-lent c =
     sym (length-take-le (c .before .before .before .before .node-words .result) (c .before .before .before .before .before .before .before .before .before .before .before .args .nodes .now) (le-trans (c .before .before .before .before .node-words .ensures) (c .before .before .before .before .before .before .before .before .before .before .before .pre .1)))
 
-slice-relend-prefix-solve-2 : tie.Need-slice-relend-prefix-solve-2
-slice-relend-prefix-solve-2 c = search needs
+slice-relend-prefix-solve-lent-2 : tie.Need-slice-relend-prefix-solve-lent-2
+slice-relend-prefix-solve-lent-2 c = search needs
 
-slice-aggregate-solve-2 : tie.Need-slice-aggregate-solve-2
-slice-aggregate-solve-2 c =
+slice-aggregate-solve-lent-2 : tie.Need-slice-aggregate-solve-lent-2
+slice-aggregate-solve-lent-2 c =
     sym (length-take-le (c .before .before .before .least .result) (c .before .before .before .before .before .before .before .before .before .before .before .before .args .stages .now) (le-trans (c .before .before .before .least .ensures) (c .before .before .before .before .before .before .before .before .before .before .before .before .pre .2)))
 
-slice-relend-prefix-solve-3 : tie.Need-slice-relend-prefix-solve-3
-slice-relend-prefix-solve-3 c = search needs
+slice-relend-prefix-solve-lent-3 : tie.Need-slice-relend-prefix-solve-lent-3
+slice-relend-prefix-solve-lent-3 c = search needs
 
-slice-aggregate-solve-3 : tie.Need-slice-aggregate-solve-3
-slice-aggregate-solve-3 c =
+slice-aggregate-solve-lent-3 : tie.Need-slice-aggregate-solve-lent-3
+slice-aggregate-solve-lent-3 c =
     sym (length-take-le (c .before .before .before .before .before .work-words .result) (c .before .before .before .before .before .before .before .before .before .before .before .before .before .args .work .now) (le-trans (c .before .before .before .before .before .work-words .ensures) (c .before .before .before .before .before .before .before .before .before .before .before .before .before .pre .3)))
 
-solve-requires : tie.Need-solve-requires
-solve-requires c κs = search needs
+solve-lent-requires : tie.Need-solve-lent-requires
+solve-lent-requires c κs = search needs
 
 same-length-4 : tie.Need-same-length-4
 same-length-4 c = search needs
@@ -91,16 +91,16 @@ solve-case-spec =
     node-words-requires
     work-words-requires
     least-requires
-    sub-solve
-    part-solve-start
-    part-solve-end
-    slice-relend-prefix-solve
-    slice-aggregate-solve
-    slice-relend-prefix-solve-2
-    slice-aggregate-solve-2
-    slice-relend-prefix-solve-3
-    slice-aggregate-solve-3
-    solve-requires
+    sub-solve-lent
+    part-solve-lent-start
+    part-solve-lent-end
+    slice-relend-prefix-solve-lent
+    slice-aggregate-solve-lent
+    slice-relend-prefix-solve-lent-2
+    slice-aggregate-solve-lent-2
+    slice-relend-prefix-solve-lent-3
+    slice-aggregate-solve-lent-3
+    solve-lent-requires
     same-length-4
     same-length-5
     same-length-6

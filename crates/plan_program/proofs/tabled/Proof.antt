@@ -14,6 +14,9 @@ slice-aggregate-print-2 c = search needs
 slice-aggregate-print-3 : tie.Need-slice-aggregate-print-3
 slice-aggregate-print-3 c = search needs
 
+slice-aggregate-print-4 : tie.Need-slice-aggregate-print-4
+slice-aggregate-print-4 c = search needs
+
 print-requires : tie.Need-print-requires
 print-requires c κs = search needs
 
@@ -22,8 +25,8 @@ same-length c = search needs
 
 returns : tie.Need-returns
 returns c =
-    let p = c .before .before .before .before .before .print in
-    let s = c .before .before .before .before .before .before .before .before .before .before .before .before in
+    let p = c .before .before .before .before .before .before .print in
+    let s = c .before .before .before .before .before .before .before .before .before .before .before .before .before .before in
     (omega (arith, p .ensures .0, s .pre), tables-are (s .args .model .now) (s .args .horizon) (s .pre) (p .ensures .1))
 
 pub tabled-spec : {M : Type 1} → statement M
@@ -33,6 +36,7 @@ tabled-spec =
     slice-aggregate-print
     slice-aggregate-print-2
     slice-aggregate-print-3
+    slice-aggregate-print-4
     print-requires
     same-length
     returns)

@@ -3,16 +3,16 @@ use mathlib.Core.Path.{_≡_, refl, _∙_}
 use Prim.Native.Nat.{_+_, _-_}
 use native.Mathlib.Omega.{arith}
 use lib.ListN.{length}
-use Rattle.staging.proofs.StagesOthers.{Trying, trying-starts, trying-action, trying-word, trying-stops, trying-on, trying-ends}
+use Rattle.staging.proofs.StagesOthers.{Trying, trying-starts, trying-due, trying-word, trying-stops, trying-on, trying-ends}
 use Rattle.staging.proofs.others.Statement.{statement}
 use Rattle.staging.proofs.others.Tie as tie
 
 abbrev Inv-loop : tie.InvT-loop
-Inv-loop model nodes₀ work₀ cap roots₀ peaks₀ held before stage actions r₀ a₀ nodes work roots peaks r a =
-    Trying model cap nodes₀ roots₀ held before stage actions r₀ peaks₀ nodes work roots r peaks a × (length nodes ≡ length nodes₀) × (length work ≡ length work₀) × (length roots ≡ length roots₀) × (length peaks ≡ length peaks₀)
+Inv-loop model nodes₀ work₀ cap roots₀ peaks₀ backup actions r₀ a₀ nodes work roots peaks r a =
+    Trying model cap nodes₀ roots₀ backup actions r₀ peaks₀ nodes work roots r peaks a × (length nodes ≡ length nodes₀) × (length work ≡ length work₀) × (length roots ≡ length roots₀) × (length peaks ≡ length peaks₀)
 
 abbrev μ-loop : tie.MeasureT-loop
-μ-loop model nodes₀ work₀ cap roots₀ peaks₀ held before stage actions r₀ a₀ nodes work roots peaks r a =
+μ-loop model nodes₀ work₀ cap roots₀ peaks₀ backup actions r₀ a₀ nodes work roots peaks r a =
     actions + 1 - a
 
 site-requires : tie.Need-site-requires Inv-loop μ-loop
@@ -25,11 +25,11 @@ wide-action-requires c κs =
 
 loop-holds : tie.Need-loop-holds Inv-loop μ-loop
 loop-holds c =
-    (trying-starts (c .before .before .before .before .before .before .pre .0) (c .before .before .before .before .before .before .pre .1) (c .before .before .before .before .before .before .pre .3) (c .before .site .ensures) (c .wide-action .ensures .0), refl, refl, refl, refl)
+    (trying-starts (c .before .before .before .before .before .before .pre .0) (c .before .before .before .before .before .before .pre .1) (c .before .before .before .before .before .before .pre .2) (c .before .site .ensures) (c .wide-action .ensures .0), refl, refl, refl, refl)
 
 next-action-requires : tie.Need-next-action-requires Inv-loop μ-loop
 next-action-requires c κs =
-    (c .before .before .before .before .before .loop .inv .0 .ready, omega (arith, c .before .before .before .before .before .before .before .before .before .before .before .before .pre .2, c .before .before .before .before .before .loop .inv .3), c .before .before .before .before .before .before .before .before .before .before .before .before .pre .4, c .before .before .before .before .before .before .before .before .before .before .before .before .pre .5, omega (arith, c .before .before .before .before .before .loop .inv .0 .low), trying-action (c .before .before .before .before .before .loop .inv .0) (omega (arith, c .before .before .before .before .loop-test .taken)), trying-word (c .before .before .before .before .before .loop .inv .0) (omega (arith, c .before .before .before .before .loop-test .taken)) (c .before .before .before .before .before .loop .inv .4 ∙ c .before .before .before .before .before .before .before .before .before .before .before .before .pre .6))
+    (trying-due (c .before .before .before .before .before .loop .inv .0) (c .before .before .before .before .before .before .before .before .before .before .before .before .pre .0) (omega (arith, c .before .before .before .before .loop-test .taken)) (c .before .before .before .before .before .loop .inv .3), trying-word (c .before .before .before .before .before .loop .inv .0) (omega (arith, c .before .before .before .before .loop-test .taken)) (c .before .before .before .before .before .loop .inv .4 ∙ c .before .before .before .before .before .before .before .before .before .before .before .before .pre .3))
 
 same-length : tie.Need-same-length Inv-loop μ-loop
 same-length c =
@@ -61,7 +61,7 @@ loop-less c =
 
 loop-again : tie.Need-loop-again Inv-loop μ-loop
 loop-again c = (
-  trying-on (c .before .before .before .before .before .before .before .before .before .before .before .before .before .before .before .loop .inv .0) (omega (arith, c .before .before .before .before .before .before .before .before .before .before .before .before .before .before .loop-test .taken)) (c .before .before .before .before .before .before .before .before .before .next-action .ensures) (c .if1 .left) (omega (arith, c .before .before .before .before .before .before .before .before .before .before .before .before .before .before .before .before .before .before .before .before .before .before .pre .2, c .before .before .before .before .before .before .before .before .before .before .before .before .before .before .before .loop .inv .3, c .before .before .before .before .before .before .before .before .before .next-action .kept .1 .1 .1 .1 .1 .0)),
+  trying-on (c .before .before .before .before .before .before .before .before .before .before .before .before .before .before .before .loop .inv .0) (omega (arith, c .before .before .before .before .before .before .before .before .before .before .before .before .before .before .loop-test .taken)) (c .before .before .before .before .before .before .before .before .before .next-action .ensures) (c .if1 .left) (omega (arith, c .before .before .before .before .before .before .before .before .before .before .before .before .before .before .before .before .before .before .before .before .before .before .pre .0 .room, c .before .before .before .before .before .before .before .before .before .before .before .before .before .before .before .loop .inv .3, c .before .before .before .before .before .before .before .before .before .next-action .kept .1 .1 .1 .1 .1 .0)),
   c .before .before .before .before .before .before .before .before .before .next-action .kept .1 .0 ∙ c .before .before .before .before .before .before .before .before .before .before .before .before .before .before .before .loop .inv .1,
   c .before .before .before .before .before .before .before .before .before .next-action .kept .1 .1 .0 ∙ c .before .before .before .before .before .before .before .before .before .before .before .before .before .before .before .loop .inv .2,
   c .before .before .before .before .before .before .before .before .before .next-action .kept .1 .1 .1 .1 .1 .0 ∙ c .before .before .before .before .before .before .before .before .before .before .before .before .before .before .before .loop .inv .3,

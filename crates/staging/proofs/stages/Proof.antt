@@ -1,45 +1,55 @@
 -- `staging::stages` meets its contract.
 use mathlib.Core.Path.{_≡_, refl, _∙_}
-use Prim.Native.Nat.{_+_, _-_}
+use Prim.Native.Nat.{_-_}
 use native.Mathlib.Omega.{arith}
 use lib.ListN.{length}
-use Rattle.staging.proofs.StagesAll.{Staging, staging-starts, staging-stops, staging-on, staging-ends}
+use Rattle.staging.proofs.StagesAll.{Staging, staging-starts, staging-due, staging-stops, staging-on, staging-ends}
 use Rattle.staging.proofs.stages.Statement.{statement}
 use Rattle.staging.proofs.stages.Tie as tie
 
 abbrev Inv-loop : tie.InvT-loop
-Inv-loop model horizon nodes₀ work₀ cap roots₀ peaks₀ held r₀ h₀ nodes work roots peaks r h =
-    Staging model cap horizon nodes₀ roots₀ held r₀ peaks₀ nodes work roots r peaks h × (length nodes ≡ length nodes₀) × (length work ≡ length work₀) × (length roots ≡ length roots₀) × (length peaks ≡ length peaks₀)
+Inv-loop model horizon nodes₀ work₀ cap roots₀ peaks₀ size r₀ h₀ nodes work roots peaks r h =
+    Staging model cap horizon nodes₀ roots₀ size r₀ peaks₀ nodes work roots r peaks h × (length nodes ≡ length nodes₀) × (length work ≡ length work₀) × (length roots ≡ length roots₀) × (length peaks ≡ length peaks₀)
 
 abbrev μ-loop : tie.MeasureT-loop
-μ-loop model horizon nodes₀ work₀ cap roots₀ peaks₀ held r₀ h₀ nodes work roots peaks r h =
+μ-loop model horizon nodes₀ work₀ cap roots₀ peaks₀ size r₀ h₀ nodes work roots peaks r h =
     horizon - h
+
+model-size-requires : tie.Need-model-size-requires Inv-loop μ-loop
+model-size-requires c κs =
+    tt
 
 loop-holds : tie.Need-loop-holds Inv-loop μ-loop
 loop-holds c =
-    (staging-starts (c .before .before .before .before .args .horizon) (c .before .before .before .before .args .run) (c .before .before .before .before .pre .0) (c .before .before .before .before .pre .2) (c .before .before .before .before .args .peaks .now) (c .before .before .before .before .pre .1), refl, refl, refl, refl)
+    (staging-starts (c .before .before .before .before .before .args .horizon) (c .before .before .before .before .before .args .run) (c .before .before .before .before .before .pre .0) (c .model-size .ensures .0) (c .before .before .before .before .before .args .peaks .now) (c .before .before .before .before .before .pre .1), refl, refl, refl, refl)
 
-add-stage : tie.Need-add-stage Inv-loop μ-loop
-add-stage c =
-    omega (arith, c .before .before .before .before .loop-test .taken, c .before .before .before .before .before .before .before .before .before .before .pre .4)
+add-t14 : tie.Need-add-t14 Inv-loop μ-loop
+add-t14 c =
+    omega (arith, c .loop-test .taken, c .before .before .before .before .before .before .before .pre .2, c .before .before .model-size .ensures .1)
 
-add-stage-2 : tie.Need-add-stage-2 Inv-loop μ-loop
-add-stage-2 c =
-    omega (arith, c .before .before .before .before .loop-test .taken, c .before .before .before .before .before .before .before .before .before .before .pre .4)
+add-t15 : tie.Need-add-t15 Inv-loop μ-loop
+add-t15 c =
+    omega (arith, c .loop-test .taken, c .before .before .before .before .before .before .before .pre .2, c .before .before .model-size .ensures .1)
+
+add-t16 : tie.Need-add-t16 Inv-loop μ-loop
+add-t16 c =
+    omega (arith, c .loop-test .taken, c .before .before .before .before .before .before .before .pre .2, c .before .before .model-size .ensures .1)
+
+add-t17 : tie.Need-add-t17 Inv-loop μ-loop
+add-t17 c =
+    omega (arith, c .loop-test .taken, c .before .before .before .before .before .before .before .pre .2, c .before .before .model-size .ensures .1)
 
 stage-requires : tie.Need-stage-requires Inv-loop μ-loop
 stage-requires c κs = (
-  c .before .before .before .before .before .loop .inv .0 .ready,
-  c .before .before .before .before .before .loop .inv .0 .ok,
-  omega (arith, c .before .before .before .before .loop-test .taken, c .before .before .before .before .before .before .before .before .before .before .pre .4, c .before .before .before .before .before .loop .inv .3),
-  omega (arith, c .before .before .before .before .before .before .before .before .before .before .pre .2),
-  omega (arith, c .before .before .before .before .loop-test .taken, c .before .before .before .before .before .before .before .before .before .before .pre .3),
-  c .before .before .before .before .before .loop .inv .4 ∙ c .before .before .before .before .before .before .before .before .before .before .pre .5,
+  staging-due (c .before .before .before .before .before .loop .inv .0) (omega arith) (omega (arith, c .before .before .before .before .loop-test .taken)) (c .before .before .before .before .before .before .before .before .before .before .before .pre .2) (omega (arith, c .before .before .before .before .before .before .before .before .before .before .before .pre .3, c .before .before .before .before .before .loop .inv .3)),
+  refl,
+  omega (arith, c .before .before .before .before .loop-test .taken, c .before .before .before .before .before .before .before .before .before .before .before .pre .3, c .before .before .before .before .before .loop .inv .3, c .before .before .before .before .before .loop .inv .0 .place),
+  c .before .before .before .before .before .loop .inv .4 ∙ c .before .before .before .before .before .before .before .before .before .before .before .pre .4,
 )
 
-add-t23 : tie.Need-add-t23 Inv-loop μ-loop
-add-t23 c =
-    omega (arith, c .before .before .before .before .before .before .before .before .before .before .before .before .before .before .loop-test .taken, c .before .before .before .before .before .before .before .before .before .before .before .before .before .before .before .before .before .before .before .before .pre .4)
+add-t26 : tie.Need-add-t26 Inv-loop μ-loop
+add-t26 c =
+    omega (arith, c .before .before .before .before .before .before .before .before .before .before .before .before .before .before .loop-test .taken, c .before .before .before .before .before .before .before .before .before .before .before .before .before .before .before .before .before .before .before .before .before .pre .2, c .before .before .before .before .before .before .before .before .before .before .before .before .before .before .before .before .model-size .ensures .1)
 
 same-length : tie.Need-same-length Inv-loop μ-loop
 same-length c =
@@ -63,7 +73,7 @@ returns c =
 
 add-h : tie.Need-add-h Inv-loop μ-loop
 add-h c =
-    omega (arith, c .before .before .before .before .before .before .before .before .before .before .before .before .before .before .loop-test .taken, c .before .before .before .before .before .before .before .before .before .before .before .before .before .before .before .before .before .before .before .before .pre .4)
+    omega (arith, c .before .before .before .before .before .before .before .before .before .before .before .before .before .before .loop-test .taken, c .before .before .before .before .before .before .before .before .before .before .before .before .before .before .before .before .before .before .before .before .before .pre .2, c .before .before .before .before .before .before .before .before .before .before .before .before .before .before .before .before .model-size .ensures .1)
 
 loop-less : tie.Need-loop-less Inv-loop μ-loop
 loop-less c =
@@ -71,7 +81,7 @@ loop-less c =
 
 loop-again : tie.Need-loop-again Inv-loop μ-loop
 loop-again c = (
-  staging-on (c .before .before .before .before .before .before .before .before .before .before .before .before .before .before .before .loop .inv .0) (omega (arith, c .before .before .before .before .before .before .before .before .before .before .before .before .before .before .loop-test .taken)) (c .before .before .before .before .before .before .before .before .before .stage .ensures) (c .if1 .left) (omega (arith, c .before .before .before .before .before .before .before .before .before .before .before .before .before .before .loop-test .taken, c .before .before .before .before .before .before .before .before .before .before .before .before .before .before .before .before .before .before .before .before .pre .4, c .before .before .before .before .before .before .before .before .before .before .before .before .before .before .before .loop .inv .3, c .before .before .before .before .before .before .before .before .before .stage .kept .1 .1 .1 .1 .1 .0)),
+  staging-on (c .before .before .before .before .before .before .before .before .before .before .before .before .before .before .before .loop .inv .0) (omega (arith, c .before .before .before .before .before .before .before .before .before .before .before .before .before .before .loop-test .taken)) (c .before .before .before .before .before .before .before .before .before .stage .ensures) (c .if1 .left) (omega (arith, c .before .before .before .before .before .before .before .before .before .before .before .before .before .before .loop-test .taken, c .before .before .before .before .before .before .before .before .before .before .before .before .before .before .before .before .before .before .before .before .before .pre .3, c .before .before .before .before .before .before .before .before .before .before .before .before .before .before .before .loop .inv .3, c .before .before .before .before .before .before .before .before .before .before .before .before .before .before .before .loop .inv .0 .place, c .before .before .before .before .before .before .before .before .before .stage .kept .1 .1 .1 .1 .1 .0)),
   c .before .before .before .before .before .before .before .before .before .stage .kept .1 .0 ∙ c .before .before .before .before .before .before .before .before .before .before .before .before .before .before .before .loop .inv .1,
   c .before .before .before .before .before .before .before .before .before .stage .kept .1 .1 .0 ∙ c .before .before .before .before .before .before .before .before .before .before .before .before .before .before .before .loop .inv .2,
   c .before .before .before .before .before .before .before .before .before .stage .kept .1 .1 .1 .1 .1 .0 ∙ c .before .before .before .before .before .before .before .before .before .before .before .before .before .before .before .loop .inv .3,
@@ -104,11 +114,14 @@ stages-spec =
     (tie.spec
     Inv-loop
     μ-loop
+    model-size-requires
     loop-holds
-    add-stage
-    add-stage-2
+    add-t14
+    add-t15
+    add-t16
+    add-t17
     stage-requires
-    add-t23
+    add-t26
     same-length
     same-length-2
     same-length-3

@@ -9,75 +9,75 @@ use Rattle.totals.proofs.sum_out.Statement.{statement}
 use Rattle.totals.proofs.sum_out.Tie as tie
 
 abbrev Inv-loop : tie.InvT-loop
-Inv-loop nodes₀ work₀ cap roots₀ held first conditions weights r₀ k₀ nodes work roots r k =
-    Summing cap nodes₀ work₀ roots₀ held first conditions weights r₀ nodes work roots r k × (length nodes ≡ length nodes₀) × (length work ≡ length work₀) × (length roots ≡ length roots₀)
+Inv-loop nodes₀ work₀ cap roots₀ held chances r₀ k₀ nodes work roots r k =
+    Summing cap nodes₀ work₀ roots₀ held chances r₀ nodes work roots r k × (length nodes ≡ length nodes₀) × (length work ≡ length work₀) × (length roots ≡ length roots₀)
 
 abbrev μ-loop : tie.MeasureT-loop
-μ-loop nodes₀ work₀ cap roots₀ held first conditions weights r₀ k₀ nodes work roots r k = conditions - k
+μ-loop nodes₀ work₀ cap roots₀ held chances r₀ k₀ nodes work roots r k = chances .count - k
 
 loop-holds : tie.Need-loop-holds Inv-loop μ-loop
 loop-holds c =
-    (summing-starts (record { standing = c .before .before .pre .0; none-yet = c .before .before .pre .1; ends = c .before .before .pre .2; few-conditions = c .before .before .pre .3; few-weights = c .before .before .pre .4 }), refl, refl, refl)
+    (summing-starts (c .before .before .pre), refl, refl, refl)
 
 add-operate : tie.Need-add-operate Inv-loop μ-loop
 add-operate c =
-    omega (arith, c .before .before .before .before .loop .inv .0 .on .room)
+    omega (arith, c .before .before .before .before .before .loop .inv .0 .on .room)
 
-add-t20 : tie.Need-add-t20 Inv-loop μ-loop
-add-t20 c =
-    omega (arith, c .before .before .before .before .loop .inv .0 .on .room, c .before .before .before .before .loop .inv .0 .from .ends)
+add-t18 : tie.Need-add-t18 Inv-loop μ-loop
+add-t18 c =
+    omega (arith, c .before .before .before .before .before .before .loop .inv .0 .on .room, c .before .before .before .before .before .before .loop .inv .0 .from .ends)
 
-add-t21 : tie.Need-add-t21 Inv-loop μ-loop
-add-t21 c =
-    omega (arith, c .before .before .before .before .loop .inv .0 .from .few-conditions)
+add-t19 : tie.Need-add-t19 Inv-loop μ-loop
+add-t19 c =
+    omega (arith, c .before .before .before .before .before .before .loop .inv .0 .from .few-conditions)
 
 operate-requires : tie.Need-operate-requires Inv-loop μ-loop
 operate-requires c κs =
-    (on-standing (c .before .before .before .before .loop .inv .0 .on), omega arith, c .before .before .before .before .loop .inv .0 .on .room, summing-fits (c .before .before .before .before .loop .inv .0) (c .before .before .before .loop-test .taken))
+    (on-standing (c .before .before .before .before .before .before .loop .inv .0 .on), omega arith, c .before .before .before .before .before .before .loop .inv .0 .on .room, summing-fits (c .before .before .before .before .before .before .loop .inv .0) (c .before .before .before .before .if1 .taken))
 
 same-length : tie.Need-same-length Inv-loop μ-loop
 same-length c =
-    c .before .before .before .before .before .before .before .operate .kept .0 ∙ c .before .before .before .before .before .before .before .before .before .before .before .before .loop .inv .1
+    c .before .before .before .before .before .before .before .operate .kept .0 ∙ c .before .before .before .before .before .before .before .before .before .before .before .before .before .before .loop .inv .1
 
 same-length-2 : tie.Need-same-length-2 Inv-loop μ-loop
 same-length-2 c =
-    c .before .before .before .before .before .before .before .operate .kept .1 .0 ∙ c .before .before .before .before .before .before .before .before .before .before .before .before .loop .inv .2
+    c .before .before .before .before .before .before .before .operate .kept .1 .0 ∙ c .before .before .before .before .before .before .before .before .before .before .before .before .before .before .loop .inv .2
 
 same-length-3 : tie.Need-same-length-3 Inv-loop μ-loop
 same-length-3 c =
-    c .before .before .before .before .before .before .before .operate .kept .1 .1 .1 .1 .0 ∙ c .before .before .before .before .before .before .before .before .before .before .before .before .loop .inv .3
+    c .before .before .before .before .before .before .before .operate .kept .1 .1 .1 .1 .0 ∙ c .before .before .before .before .before .before .before .before .before .before .before .before .before .before .loop .inv .3
 
 returns : tie.Need-returns Inv-loop μ-loop
 returns c =
-    summing-stops (c .before .before .before .before .before .before .before .before .before .before .before .before .loop .inv .0) (c .before .before .before .before .before .before .before .before .before .before .before .loop-test .taken) (c .before .before .before .before .before .before .before .operate .ensures) (c .if1 .taken)
+    summing-stops (c .before .before .before .before .before .before .before .before .before .before .before .before .before .before .loop .inv .0) (c .before .before .before .before .before .before .before .before .before .before .before .before .if1 .taken) (c .before .before .before .before .before .before .before .operate .ensures) (c .if2 .taken)
 
 add-k : tie.Need-add-k Inv-loop μ-loop
 add-k c =
-    omega (arith, c .before .before .before .before .before .before .before .before .before .before .before .before .loop .inv .0 .from .few-conditions)
+    omega (arith, c .before .before .before .before .before .before .before .before .before .before .before .before .before .before .loop .inv .0 .from .few-conditions)
 
 loop-less : tie.Need-loop-less Inv-loop μ-loop
 loop-less c =
-    omega (arith, c .before .before .before .before .before .before .before .before .before .before .before .loop-test .taken)
+    omega (arith, c .before .before .before .before .before .before .before .before .before .before .before .before .if1 .taken)
 
 loop-again : tie.Need-loop-again Inv-loop μ-loop
 loop-again c =
-    (summing-again (c .before .before .before .before .before .before .before .before .before .before .before .before .loop .inv .0) (c .before .before .before .before .before .before .before .before .before .before .before .loop-test .taken) (c .before .before .before .before .before .before .before .operate .ensures) (c .if1 .left) (c .before .before .before .before .before .before .before .operate .kept .1 .1 .1 .1 .0), c .before .before .before .before .before .before .before .operate .kept .0 ∙ c .before .before .before .before .before .before .before .before .before .before .before .before .loop .inv .1, c .before .before .before .before .before .before .before .operate .kept .1 .0 ∙ c .before .before .before .before .before .before .before .before .before .before .before .before .loop .inv .2, c .before .before .before .before .before .before .before .operate .kept .1 .1 .1 .1 .0 ∙ c .before .before .before .before .before .before .before .before .before .before .before .before .loop .inv .3)
+    (summing-again (c .before .before .before .before .before .before .before .before .before .before .before .before .before .before .loop .inv .0) (c .before .before .before .before .before .before .before .before .before .before .before .before .if1 .taken) (c .before .before .before .before .before .before .before .operate .ensures) (c .if2 .left) (c .before .before .before .before .before .before .before .operate .kept .1 .1 .1 .1 .0), c .before .before .before .before .before .before .before .operate .kept .0 ∙ c .before .before .before .before .before .before .before .before .before .before .before .before .before .before .loop .inv .1, c .before .before .before .before .before .before .before .operate .kept .1 .0 ∙ c .before .before .before .before .before .before .before .before .before .before .before .before .before .before .loop .inv .2, c .before .before .before .before .before .before .before .operate .kept .1 .1 .1 .1 .0 ∙ c .before .before .before .before .before .before .before .before .before .before .before .before .before .before .loop .inv .3)
 
 same-length-4 : tie.Need-same-length-4 Inv-loop μ-loop
 same-length-4 c =
-    c .before .loop .inv .1
+    c .before .before .loop .inv .1
 
 same-length-5 : tie.Need-same-length-5 Inv-loop μ-loop
 same-length-5 c =
-    c .before .loop .inv .2
+    c .before .before .loop .inv .2
 
 same-length-6 : tie.Need-same-length-6 Inv-loop μ-loop
 same-length-6 c =
-    c .before .loop .inv .3
+    c .before .before .loop .inv .3
 
 returns-2 : tie.Need-returns-2 Inv-loop μ-loop
 returns-2 c =
-    summing-done (c .before .loop .inv .0) (omega (arith, c .loop-test .left))
+    summing-done (c .before .before .loop .inv .0) (omega (arith, c .if1 .left))
 
 pub sum-out-spec : {M : Type 1} → statement M
 sum-out-spec =
@@ -87,8 +87,8 @@ sum-out-spec =
     μ-loop
     loop-holds
     add-operate
-    add-t20
-    add-t21
+    add-t18
+    add-t19
     operate-requires
     same-length
     same-length-2

@@ -1,4 +1,3 @@
-use native.Mathlib.Omega.{arith}
 use borrow.Author.Needs.{needs}
 use Rattle.value_iteration.proofs.Parts.{emptied, brought}
 use Rattle.value_iteration.proofs.load_within.Statement.{statement}

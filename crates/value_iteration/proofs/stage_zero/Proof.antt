@@ -8,7 +8,7 @@ use Rattle.value_iteration.proofs.stage_zero.Reads as reads
 use Rattle.value_iteration.proofs.stage_zero.Lts as lts
 use Rattle.action_peaks.proofs.raise_peak.Reads as raise-peak-reads
 use Rattle.operate.proofs.operate.Reads as operate-reads
-use Rattle.value_iteration.proofs.model_size.Reads as model-size-reads
+use Rattle.totals.proofs.model_size.Reads as model-size-reads
 
 returns : tie.Need-returns
 returns c = end-grounded (c .before .before .before .before .before .args .model .now) (c .before .before .before .before .before .pre .0) (c .before .before .before .before .before .pre .2) (c .before .before .before .before .before .pre .3) (c .before .before .before .before .before .pre .4) (c .if1 .taken) (c .before .before .before .before .before .pre .1)

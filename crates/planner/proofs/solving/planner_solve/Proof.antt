@@ -13,8 +13,8 @@ short-requires c κs = search needs
 
 returns : tie.Need-returns
 returns c =
-    let a = c .before .before .before .before .before .before .before .args in
-    solve-short (a .bytes .now) (a .horizon) (a .nodes .now) (a .stages .now) (a .work .now) (c .before .before .if1 .taken) (c .before .early .ensures) (c .short .ensures)
+    let a = c .before .before .before .before .before .before .before .before .args in
+    solve-short (a .bytes .now) (a .horizon) (a .nodes .now) (a .stages .now) (a .work .now) (a .peaks .now) (c .before .before .if1 .taken) (c .before .early .ensures) (c .short .ensures)
 
 solve-requires : tie.Need-solve-requires
 solve-requires c κs = search needs
@@ -34,13 +34,16 @@ same-length-3 c = search needs
 same-length-4 : tie.Need-same-length-4
 same-length-4 c = search needs
 
+same-length-5 : tie.Need-same-length-5
+same-length-5 c = search needs
+
 returns-2 : tie.Need-returns-2
 returns-2 c =
-    let a = c .before .before .before .before .before .before .before .before .before .before .before .before .before .before .before .before .before .before .args in
-    let v = c .before .before .before .before .before .before .before .before .before .solve in
-    solve-whole (a .nodes .now) (a .stages .now) (a .work .now) (a .out .now)
-    {o = record { number = v .result .number; place = v .result .place; peak = v .result .peak; nodes = v .last .1 .1 .0; stages = v .last .1 .1 .1 .0; work = v .last .1 .1 .1 .1 .0 }}
-    {v = solve (a .bytes .now) (a .horizon) (a .nodes .now) (a .stages .now) (a .work .now)} (c .before .before .before .before .before .before .before .before .before .before .before .before .before .if1 .left) (v .ensures) (c .before .before .put-pair .ensures .0)
+    let a = c .before .before .before .before .before .before .before .before .before .before .before .before .before .before .before .before .before .before .before .before .before .before .args in
+    let v = c .before .before .before .before .before .before .before .before .before .before .before .solve in
+    solve-whole (a .nodes .now) (a .stages .now) (a .work .now) (a .peaks .now) (a .out .now)
+    {o = record { number = v .result .number; place = v .result .place; peak = v .result .peak; nodes = v .last .1 .1 .0; stages = v .last .1 .1 .1 .0; work = v .last .1 .1 .1 .1 .0; peaks = v .last .1 .1 .1 .1 .1 .0 }}
+    {v = solve (a .bytes .now) (a .horizon) (a .nodes .now) (a .stages .now) (a .work .now) (a .peaks .now)} (c .before .before .before .before .before .before .before .before .before .before .before .before .before .before .before .before .if1 .left) (v .ensures) (c .before .before .put-pair .ensures .0)
 
 pub planner-solve-spec : {M : Type 1} → statement M
 planner-solve-spec =
@@ -55,4 +58,5 @@ planner-solve-spec =
     same-length-2
     same-length-3
     same-length-4
+    same-length-5
     returns-2)

@@ -1,7 +1,8 @@
+-- `totals::model_size` meets its contract.
 use native.Mathlib.Omega.{arith}
-use Rattle.value_iteration.proofs.Start.{size-of, size-fits}
-use Rattle.value_iteration.proofs.model_size.Statement.{statement}
-use Rattle.value_iteration.proofs.model_size.Tie as tie
+use Rattle.totals.proofs.Model.{size-of, size-fits}
+use Rattle.totals.proofs.model_size.Statement.{statement}
+use Rattle.totals.proofs.model_size.Tie as tie
 
 site-requires : tie.Need-site-requires
 site-requires c κs = tt
