@@ -28,5 +28,5 @@ pub fn advise(
             numerator: Numerator { low: 0, high: 0 },
         };
     }
-    values::reading::value(model, nodes, stages, steps, q)
+    value_reading::value(model, nodes, stages, steps, q)
 }

@@ -7,7 +7,7 @@ ghost use Rattle.theory.specs.Widths.{nodes-most};
 ghost use Rattle.diagrams.specs.Nodes.{Valid};
 ghost use Rattle.numbering.specs.Number.{Held};
 ghost use Rattle.arrange.specs.Arrange.{renumber, swapN, swapW, Inverse, Arranged, Rewritten};
-use diagrams::tests::index;
+use diagrams::index;
 use table::Node;
 
 // A node with its branches' numbers.

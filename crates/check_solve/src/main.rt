@@ -6,9 +6,9 @@ use libc::STDOUT_FILENO;
 use solver::PEAK_WORDS;
 use solver::Solved;
 use solver::solve;
+use value_reading::value;
 use values::Asked;
 use values::Value;
-use values::reading::value;
 
 // Room for 256 nodes.
 const ROOM: usize = 256;

@@ -18,7 +18,7 @@ use Rattle.diagrams.specs.Roots.{orderOf, ordNum, downOf, rightSides}
 use Rattle.choice.specs.Choice.{splitOf, pickLow, pickOf, choiceOf, endSides}
 use Rattle.diagrams.proofs.Trees.{at-leaf, at-branch}
 use Rattle.choice.proofs.Splitting.{splitBy, split-as}
-use Rattle.diagrams.proofs.Ordered.{order-is}
+use Rattle.node_tests.proofs.Ordered.{order-is}
 use Rattle.diagrams.proofs.Stepping.{step-lt, step-eq, step-gt, step-leaf, choose-lt, choose-eq, choose-gt, choose-leaf, both-ret, On, left-on, right-on, both-on}
 
 -- t is first: a node of it over a high and a low side

@@ -17,7 +17,7 @@ use Rattle.diagrams.specs.Roots.{orderOf, ordNum, downOf}
 use Rattle.choice.specs.Choice.{sidesOf}
 use Rattle.diagrams.proofs.Trees.{at-leaf, at-branch}
 use Rattle.choice.proofs.Splitting.{splitBy, split-as}
-use Rattle.diagrams.proofs.Ordered.{order-is}
+use Rattle.node_tests.proofs.Ordered.{order-is}
 use Rattle.diagrams.proofs.Stepping.{merge-ll, merge-ln, merge-nl, merge-lt, merge-eq, merge-gt, On, left-on, right-on, both-on}
 
 -- both are leaves

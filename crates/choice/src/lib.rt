@@ -11,7 +11,7 @@ use computed_cache::keep;
 use computed_cache::look;
 use diagrams::making::join;
 use diagrams::making::join_test;
-use diagrams::tests::test_at;
+use node_tests::test_at;
 use table::Made;
 
 // The choice between the diagrams at f and g by the test that op and p give. Only indexes live over the calls.

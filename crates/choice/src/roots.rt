@@ -6,8 +6,8 @@ ghost use Rattle.diagrams.specs.Roots.{leftSides, rightSides, bothSides};
 ghost use Rattle.choice.specs.Choice.{endSides, splitOf, pickLow, pickOf, sidesOf, choiceOf};
 use diagrams::Down;
 use diagrams::Sides;
-use diagrams::tests::below;
-use diagrams::tests::order;
+use node_tests::below;
+use node_tests::order;
 use table::Node;
 
 // The left operand's sides, the right one whole.

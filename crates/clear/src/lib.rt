@@ -1,4 +1,6 @@
 // Parts of the work words filled with zeros.
+pub mod zeros; // zeros.rt: words filled with zeros to their end
+
 ghost use mathlib.Core.Path.{_≡_};
 ghost use Prim.Native.Nat.{_≤_};
 ghost use lib.ListN.{length};

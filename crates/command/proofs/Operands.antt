@@ -4,9 +4,9 @@ use mathlib.Core.List.{List}
 use Prim.Native.Nat.{ℕ, _+_, _*_}
 use native.Mathlib.Omega.{arith}
 use Rattle.theory.specs.Command.{bytes-at, byte-at, action-at}
-use Rattle.command.specs.declared.forms.Form.{Form as CodeForm}
-use Rattle.command.specs.declared.forms.Form.the-variants.{Old, New}
-use Rattle.command.specs.Forms.{form-of}
+use Rattle.forms.specs.declared.Form.{Form as CodeForm}
+use Rattle.forms.specs.declared.Form.the-variants.{Old, New}
+use Rattle.forms.specs.Forms.{form-of}
 
 module _ (B : List ℕ) (at : ℕ) (f : CodeForm) where
   pub one-byte : (x b : ℕ) → f ≡ Old → x ≡ b → b ≡ byte-at B at → x ≡ action-at (form-of f) B at

@@ -1,4 +1,2 @@
--- What the code's forms and readings are in the terms of the documents, and what a stack holds.
-pub mod Forms
+-- What the code's readings are in the terms of the documents.
 pub mod Reading
-pub mod Held

@@ -5,14 +5,11 @@ ghost use Prim.Native.Nat.{ℕ, _+_, _≤_, _<_};
 ghost use lib.ListN.{length};
 ghost use Rattle.theory.specs.Command.{whole, read-in, read-at, command-in, byte-at, word-at, action-at, linear-at, signed};
 ghost use Rattle.theory.specs.Command.{width-in as bytes-of};
-ghost use Rattle.command.specs.Forms.{form-of};
+ghost use Rattle.forms.specs.Forms.{form-of};
 ghost use Rattle.command.specs.Reading.{linear-bytes, linear-of, site-in, command-of-in, read-of-in, read-of, next-in, next-at};
 ghost use Rattle.whole.specs.Linears.{Smalls};
 use forms::Form;
 use whole::NUMBERS;
-
-pub mod forms;
-pub mod stack;
 
 // "30 name: action, 16 bytes"
 pub const NAME_BYTES: usize = 16;

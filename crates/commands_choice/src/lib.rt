@@ -15,7 +15,7 @@ use computed_cache::look;
 use diagrams::codes::CHOOSE_COMMAND;
 use diagrams::making::join;
 use diagrams::making::join_test;
-use diagrams::tests::named;
+use node_tests::named;
 use table::Made;
 use table::Node;
 use whole::NUMBERS;

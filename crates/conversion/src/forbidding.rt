@@ -1,12 +1,12 @@
 // "A model with 13 does not fit the old form": whether a model has it, wherever it stands.
 ghost use mathlib.Core.Path.{_≡_};
 ghost use Rattle.theory.specs.Command.{readings-in};
-ghost use Rattle.command.specs.Forms.{form-of};
+ghost use Rattle.forms.specs.Forms.{form-of};
 ghost use Rattle.conversion.specs.Conversion.{forbids as forbids-in};
 ghost use Rattle.conversion.specs.Written.{reads-forbidden};
 use command::Command;
 use command::Read;
-use command::forms::Form;
+use forms::Form;
 use model_forms::writing::goes_on;
 
 fn is_forbidden(read: Read) -> bool

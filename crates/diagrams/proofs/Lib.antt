@@ -1,11 +1,9 @@
 -- Laws of diagrams in a table, that several proofs and other crates cite.
 pub mod Trees
-pub mod Comparing
 pub mod Outcomes
 pub mod Interning
 pub mod Joining
 pub mod Caching
-pub mod Ordered
 pub mod Parallels
 pub mod Stepping
 pub mod Going

@@ -1,5 +1,9 @@
 // Diagrams in a node table: the unique table's nodes read as trees.
-pub mod tests; // tests.rt: numbers and tests compared, the test that a choice is given, what lies below a node
+ghost use mathlib.Core.Path.{_≡_};
+ghost use lib.Dec.{T};
+ghost use lib.Signed.{nonNeg};
+ghost use lib.IntN.{natAbs};
+
 pub mod narrowing; // narrowing.rt: what a low branch is replaced by
 pub mod making; // making.rt: nodes looked up or made
 pub mod codes; // codes.rt: the rules' numbers, the kinds of tests and their order
@@ -19,4 +23,12 @@ pub struct Sides {
     pub gh: usize,
     pub fl: usize,
     pub gl: usize,
+}
+
+// A branch word as an index.
+pub fn index(z: i64) -> usize
+    requires { ⌜ T (nonNeg z) ⌝ }
+    ensures { λ r. ⌜ r ≡ natAbs z ⌝ }
+{
+    z as usize
 }

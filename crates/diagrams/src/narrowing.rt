@@ -7,7 +7,7 @@ ghost use Rattle.table.specs.Table.{node-words};
 ghost use Rattle.theory.specs.Rules.{narrowed as narrowed-by};
 ghost use Rattle.diagrams.specs.Nodes.{testOf, treeAt, Good, Proper};
 ghost use Rattle.diagrams.specs.Roots.{parallelOf};
-use super::tests::index;
+use super::index;
 use table::Node;
 use whole::COEFFICIENTS;
 use whole::linears::equal;

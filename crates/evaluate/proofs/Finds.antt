@@ -18,7 +18,7 @@ use Rattle.command.proofs.Command.{the-type as command-type}
 use Rattle.command.proofs.Read.{the-type as read-type}
 use Rattle.command.specs.declared.Command.{Command as CodeCommand}
 use Rattle.command.specs.declared.Command.the-variants.{Site, Leaf, Condition, Test, Forbidden, Give, Name, End}
-use Rattle.command.specs.Held.{pushed}
+use Rattle.bounded_stack.specs.Held.{pushed}
 use Rattle.command.specs.declared.Read.{Read as CodeRead}
 use Rattle.command.specs.Reading.{command-of, read-of, next-at, command-of-in}
 use Rattle.model.specs.Answers.{is-end}

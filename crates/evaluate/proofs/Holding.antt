@@ -6,8 +6,8 @@ use Prim.Native.Nat.{ℕ, zero, suc, _+_, _-_, _≤_, _<_}
 use native.Mathlib.Omega.{arith}
 use lib.ListN.{length, getD, set, drop, length-set}
 use Rattle.theory.specs.Widths.{stack-most}
-use Rattle.command.specs.Held.{last-first, pushed}
-use Rattle.command.proofs.Stacked.{held-length, push-more, push-full, pop-more, pop-none}
+use Rattle.bounded_stack.specs.Held.{last-first, pushed}
+use Rattle.bounded_stack.proofs.Stacked.{held-length, push-more, push-full, pop-more, pop-none}
 use Rattle.evaluate.specs.Pass.{chosen}
 use Rattle.evaluate.specs.Parts.{Room, Holds}
 use Rattle.evaluate.proofs.Reach.{pushed-room}

@@ -22,7 +22,7 @@ use Rattle.theory.specs.Verdict.{Site, site-of, Facts, Progress, name-slot, sam
 use Rattle.theory.specs.Load.{Entry, Loaded, condition-test, load-choice, load-choice-with, load-entry, load-one, load-one-with, load-on, load-on-with, find-slot, site-at, site-in}
 use Rattle.theory.specs.laws.Comps.{result-bind}
 use Rattle.theory.specs.laws.Loading.{by-reading, behind, loaded-entries, accepted, linear-wide}
-use Rattle.command.specs.Held.{pushed}
+use Rattle.bounded_stack.specs.Held.{pushed}
 use Rattle.evaluate.specs.declared.Point.{Point}
 use Rattle.evaluate.specs.Pass.{no-name, leaf-of, numerator, condition-holds, chosen, stepped, takes, pass, Stands, Leaf-at, Comes}
 use Rattle.evaluate.proofs.Points.{Sides, condition-sides, test-sides}

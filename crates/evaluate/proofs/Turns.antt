@@ -34,7 +34,7 @@ use Rattle.command.specs.declared.Read.{Read as CodeRead}
 use Rattle.command.specs.declared.Read.the-variants.{Whole, Unknown, Short}
 use Rattle.command.specs.Reading.{with-linear, linear-of, command-of, read-of, next-at, command-of-in, read-of-in}
 use Rattle.command.proofs.Forward.{Bytes, has-linear, linear-room, next-whole}
-use Rattle.command.specs.Held.{pushed}
+use Rattle.bounded_stack.specs.Held.{pushed}
 use Rattle.model.specs.Answers.{is-end}
 use Rattle.model.proofs.Walk.{opened, from-first, at-end, going, forward}
 use Rattle.evaluate.specs.declared.Point.{Point}

@@ -7,7 +7,7 @@ use lib.ListN.{length, getD, set}
 use Rattle.whole.specs.Cases.{if}
 use Rattle.theory.specs.Widths.{levels-most, conditions-most, actions-most, stack-most}
 use Rattle.theory.specs.Command.{Command, site, push-leaf, push-condition, push-test, push-forbidden, give, name-action, end-model, Slot, readings-from, readings}
-use Rattle.command.specs.Held.{last-first}
+use Rattle.bounded_stack.specs.Held.{last-first}
 use Rattle.evaluate.specs.declared.Point.{Point}
 use Rattle.evaluate.specs.Pass.{pass}
 

@@ -21,7 +21,7 @@ use Rattle.theory.specs.laws.Loading.{loaded-entries}
 use Rattle.command.specs.declared.Command.{Command as CodeCommand}
 use Rattle.command.specs.declared.Command.the-variants.{Leaf as LeafBy, Condition, Test, Forbidden}
 use Rattle.command.specs.Reading.{with-linear}
-use Rattle.command.specs.Held.{pushed}
+use Rattle.bounded_stack.specs.Held.{pushed}
 use Rattle.evaluate.specs.declared.Point.{Point}
 use Rattle.evaluate.specs.declared.Reward.{Reward}
 use Rattle.evaluate.specs.declared.Slot.{Slot as CodeSlot}

@@ -1,7 +1,7 @@
 // The stack of a pass, in lent words: what is held are the first len of them, the top last.
 ghost use mathlib.Core.Path.{_≡_};
 ghost use lib.ListN.{getD, drop};
-ghost use Rattle.command.specs.Held.{last-first, pushed};
+ghost use Rattle.bounded_stack.specs.Held.{last-first, pushed};
 ghost use Rattle.evaluate.specs.Pass.{chosen};
 ghost use Rattle.evaluate.specs.Parts.{Room, Holds};
 

@@ -16,8 +16,8 @@ ghost use Rattle.evaluate.specs.Parts.{place as place-of};
 use super::Slot;
 use command::Command;
 use command::Read;
-use command::forms::ACTIONS;
-use command::forms::LEVELS;
+use forms::ACTIONS;
+use forms::LEVELS;
 
 // The conditions that a model can have.
 const CONDITIONS: usize = 4;

@@ -14,8 +14,7 @@ ghost use Rattle.finding.specs.Tally.{told as told-of};
 use command::Command;
 use command::NAME_BYTES;
 use command::Read;
-use command::forms;
-use command::forms::Form;
+use forms::Form;
 
 // "refuses a name that no action carries with 18, and one that several carry with 19"
 const NO_BEARER: u32 = 18;

@@ -1,5 +1,4 @@
 // The tables after solving: the nodes of the stages in canonical order, the stages' numbers, zeros elsewhere.
-pub mod zeros; // zeros.rt: words filled with zeros
 mod stages; // stages.rt: the stage words
 
 ghost use mathlib.Core.Path.{_≡_};
@@ -10,6 +9,7 @@ ghost use Rattle.theory.specs.Widths.{nodes-most};
 ghost use Rattle.numbering.specs.Number.{Held, Roots, Listed, treesOf};
 ghost use Rattle.arrange.specs.Arrange.{Inverse};
 ghost use Rattle.finish.specs.Finish.{Unfinished, Finished, LaidOut, Cleared};
+use clear::zeros;
 
 // The roots' nodes get their numbers, whatever the work words held; the answer is their count.
 fn number_stages(nodes: &[i64], work: &mut [u32], roots: &[u32], cap: usize, count: usize) -> usize

@@ -6,7 +6,7 @@ ghost use lib.ListN.{length, drop, replicate};
 ghost use Rattle.theory.specs.Widths.{nodes-most};
 ghost use Rattle.numbering.specs.Number.{Roots};
 ghost use Rattle.finish.specs.Finish.{numbersOf};
-use super::zeros;
+use clear::zeros;
 
 // Each root's number, stage by stage.
 fn root_numbers(work: &[u32], roots: &[u32], stages: &mut [u32], cap: usize)

@@ -23,7 +23,7 @@ use Rattle.theory.specs.Stage.{all-diagrams, model-diagrams}
 use Rattle.theory.specs.laws.Comps.{run-bind, run-result}
 use Rattle.theory.specs.laws.Comps.{after as after-out}
 use Rattle.theory.specs.laws.Loading.{accepted-site, by-reading, behind}
-use Rattle.command.specs.Held.{held}
+use Rattle.bounded_stack.specs.Held.{held}
 use Rattle.command.specs.Reading.{next-at}
 use Rattle.command.proofs.Forward.{Bytes, next-whole}
 use Rattle.diagrams.specs.Nodes.{trees}

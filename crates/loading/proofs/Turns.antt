@@ -27,7 +27,7 @@ use Rattle.command.proofs.Read.{the-type as read-type}
 use Rattle.command.specs.declared.Command.{Command as CodeCommand}
 use Rattle.command.specs.declared.Read.{Read as CodeRead}
 use Rattle.command.specs.declared.Read.the-variants.{Whole, Unknown, Short}
-use Rattle.command.specs.Held.{held}
+use Rattle.bounded_stack.specs.Held.{held}
 use Rattle.command.specs.Reading.{command-of, read-of-in, read-of, next-at}
 use Rattle.command.proofs.Forward.{whole-bytes}
 use Rattle.progress.specs.declared.Site.{Site as CodeSite}

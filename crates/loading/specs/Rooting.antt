@@ -13,7 +13,7 @@ use Rattle.theory.specs.Command.{Command, site, push-leaf, push-condition, push
 use Rattle.theory.specs.Verdict.{Site, or, from-to}
 use Rattle.theory.specs.Load.{site-at, load, model}
 use Rattle.theory.specs.Stage.{model-diagrams}
-use Rattle.command.specs.Held.{held}
+use Rattle.bounded_stack.specs.Held.{held}
 use Rattle.diagrams.specs.Nodes.{trees}
 use Rattle.diagrams.specs.Table.{Table}
 use Rattle.commands_choice.specs.Testing.{loadRule}

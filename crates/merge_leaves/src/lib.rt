@@ -10,7 +10,6 @@ use diagrams::codes::SUM;
 use diagrams::making::join_test;
 use diagrams::making::make_leaf;
 use diagrams::making::within;
-use diagrams::tests::named;
 use leaves::numbers::constant;
 use leaves::numbers::decided;
 use leaves::numbers::is_constant;
@@ -18,6 +17,7 @@ use leaves::numbers::less;
 use leaves::numbers::plus;
 use leaves::numbers::product;
 use leaves::numbers::stays_none;
+use node_tests::named;
 use table::Made;
 use table::none_at;
 

@@ -6,7 +6,7 @@ ghost use lib.ListN.{length, replicate};
 ghost use Rattle.theory.specs.Widths.{flags-most};
 ghost use Rattle.theory.specs.Command.{end-model};
 ghost use Rattle.theory.specs.Verdict.{verdict, verdict-in};
-ghost use Rattle.command.specs.Forms.{form-of};
+ghost use Rattle.forms.specs.Forms.{form-of};
 ghost use Rattle.theory.specs.Verdict.{refusal as refused};
 ghost use Rattle.theory.specs.Verdict.{ended as ended-at};
 ghost use Rattle.theory.specs.Verdict.{Verdict as Outcome};
@@ -18,8 +18,7 @@ ghost use Rattle.model.specs.Walk.{Walk};
 ghost use Rattle.model.specs.Answers.{is-end as ends};
 use command::Command;
 use command::Read;
-use command::forms;
-use command::forms::Form;
+use forms::Form;
 use progress::Progress;
 use progress::Site;
 use progress::given::FLAGS;
@@ -90,7 +89,7 @@ fn rest(form: Form, model: &[u8], flags: &mut [bool], from: usize, begun: Progre
                     site,
                     seen,
                 };
-                let k = progress::rules::broken(form, model, at, c, flags, s);
+                let k = command_rules::broken(form, model, at, c, flags, s);
                 if k != 0 {
                     return refusal(k, at);
                 }
@@ -116,7 +115,7 @@ fn judge(form: Form, model: &[u8], flags: &mut [bool]) -> Verdict
     let read = command::command_in(form, model, 0);
     match read {
         Read::Whole(c) => {
-            let k = progress::rules::first(form, c);
+            let k = command_rules::first(form, c);
             if k != 0 {
                 return refusal(k, 0);
             }

@@ -1,15 +1,15 @@
 // What differs between the forms of a command.
 ghost use mathlib.Core.Path.{_≡_};
-ghost use Rattle.command.specs.Forms.{form-of};
+ghost use Rattle.forms.specs.Forms.{form-of};
 ghost use Rattle.model_forms.specs.Forms.{layout};
 ghost use Rattle.model_forms.specs.Forms.{layout-in as layout-of};
 ghost use Rattle.model_forms.specs.Forms.{byte-in as byte-of};
 ghost use Rattle.model_forms.specs.Working.{layout-as, converted-length};
 use command::NAME_BYTES;
-use command::forms::Form;
-use command::forms::action_bytes;
-use command::forms::levels;
-use command::forms::site_byte;
+use forms::Form;
+use forms::action_bytes;
+use forms::levels;
+use forms::site_byte;
 
 // A command's operands: bytes that are the same in both forms, those that differ, and again some that are the same.
 pub struct Layout {

@@ -5,7 +5,7 @@ ghost use lib.Dec.{ltb};
 ghost use lib.ListN.{length};
 ghost use Rattle.whole.specs.Cases.{if};
 ghost use Rattle.theory.specs.Command.{byte-at};
-ghost use Rattle.command.specs.Forms.{form-of};
+ghost use Rattle.forms.specs.Forms.{form-of};
 ghost use Rattle.decimal.specs.Put.{PutAt};
 ghost use Rattle.model_forms.specs.Forms.{copied, fitted, converted, model-as};
 ghost use Rattle.model_forms.specs.Working.{reads-on};
@@ -15,7 +15,7 @@ use super::layouts::layout_in;
 use command::Command;
 use command::Read;
 use command::byte_at;
-use command::forms::Form;
+use forms::Form;
 
 // A whole command that is not the end.
 pub fn goes_on(read: Read) -> bool

@@ -14,8 +14,7 @@ ghost use Rattle.names.specs.Parts.{part-as};
 use command::Command;
 use command::NAME_BYTES;
 use command::Read;
-use command::forms;
-use command::forms::Form;
+use forms::Form;
 use model::Verdict;
 
 // A part of the model.

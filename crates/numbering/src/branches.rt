@@ -6,7 +6,7 @@ ghost use lib.IntN.{pos, natAbs};
 ghost use lib.ListN.{length, getD};
 ghost use lib.Signed.{nonNeg};
 ghost use Rattle.table.specs.Table.{node-words, nodeAt, isLeaf};
-use diagrams::tests::index;
+use diagrams::index;
 use table::NODE_WORDS;
 
 // The words of a node that hold its branches.

@@ -2,5 +2,4 @@
 pub mod Numbers
 pub mod Runs
 pub mod Flags
-pub mod Judging
 pub mod Leaving

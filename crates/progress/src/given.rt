@@ -8,8 +8,8 @@ ghost use Rattle.progress.specs.Standing.{place as place-of};
 use super::Site;
 use super::operands::CONDITIONS;
 use command::Command;
-use command::forms::ACTIONS;
-use command::forms::LEVELS;
+use forms::ACTIONS;
+use forms::LEVELS;
 
 // Flags in all: the end worth's, then rows of the actions from 1 on, for the reward, each chance, each next level and the name.
 pub const FLAGS: usize = (2 + CONDITIONS + LEVELS) * ACTIONS + 1;
@@ -30,7 +30,7 @@ fn wide_action(x: u16) -> usize
 }
 
 // The place of a flag: rewards have base 0 and i 0, chances base 0, next levels the conditions as their base, names their row and i 0; the end worth, of action 0, has all 0.
-pub(crate) fn place(base: usize, i: u8, a: u16) -> usize
+pub fn place(base: usize, i: u8, a: u16) -> usize
     requires { ⌜ base < 256 ⌝ }
     ensures { λ r. ⌜ r ≡ place-of base i a ⌝ }
 {

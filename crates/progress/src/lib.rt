@@ -1,8 +1,7 @@
 // "The site model": what is known after some commands, which rule the next one breaks, and what it leaves.
 pub mod given;
-mod operands;
+pub mod operands;
 pub mod refusals;
-pub mod rules;
 pub mod states;
 
 use facts::Seen;

@@ -9,7 +9,7 @@ ghost use lib.ListN.{length, take, drop};
 ghost use lib.Signed.{leZ};
 ghost use Rattle.theory.specs.Widths.{conditions-most, name-bytes};
 ghost use Rattle.theory.specs.Form.{linear-bytes};
-ghost use Rattle.command.specs.Forms.{form-of};
+ghost use Rattle.forms.specs.Forms.{form-of};
 ghost use Rattle.theory.specs.Diagram.{zeros as zeros-in};
 ghost use Rattle.theory.specs.Valid.{all};
 ghost use Rattle.theory.specs.Valid.{among as is-among};
@@ -22,10 +22,9 @@ ghost use Rattle.theory.specs.Command.{signed, signed-from, linear-in};
 use super::Site;
 use super::refusals::OPERAND;
 use command::NAME_BYTES;
-use command::forms;
-use command::forms::Form;
 use facts::both;
 use facts::either;
+use forms::Form;
 
 // "n conditions (0 to 4)"; "weight total W (1 to 100)".
 pub const CONDITIONS: usize = 4;

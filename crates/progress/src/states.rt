@@ -10,7 +10,7 @@ ghost use mathlib.Core.List.{List};
 ghost use Rattle.theory.specs.Verdict.{at-start, site-of, first-broken, first-rules};
 ghost use Rattle.theory.specs.Verdict.{after as after-command};
 ghost use Rattle.theory.specs.Form.{Form as Written};
-ghost use Rattle.command.specs.Forms.{form-of};
+ghost use Rattle.forms.specs.Forms.{form-of};
 ghost use Rattle.command.specs.Reading.{command-of-in};
 ghost use Rattle.progress.specs.Standing.{Stands, Leaves, site-as};
 ghost use Rattle.facts.specs.Seen.{seen as seen-of};
@@ -19,8 +19,8 @@ use super::Site;
 use super::operands;
 use super::operands::CONDITIONS;
 use command::Command;
-use command::forms::Form;
 use facts::Seen;
+use forms::Form;
 
 pub fn start() -> Progress
     ensures { λ r. ⌜ Stands r (replicate flags-most false) at-start ⌝ }

@@ -230,7 +230,7 @@ fn loaded(model: &[u8], nodes: &mut [i64], work: &mut [u32], roots: &mut [u32]) 
     requires { ⌜ (verdict (now model) .number ≡ 0) × (length (now model) ≤ bytes-most) × Room 32 (now nodes) (now work) × (length (now roots) ≡ roots-most) ⌝ }
     ensures { λ s. ⌜ (s .stop ≡ 0 → Standing 32 (now (nodes .exit)) (now (work .exit)) (s .count) (now (roots .exit)) (s .held)) ⌝ }
 {
-    finish::zeros::words_from(work, 0);
+    clear::zeros::words_from(work, 0);
     let done = loading::load(model, nodes, work, 32, roots);
     let held = totals::model_size(model);
     pair(done.stop as u64, done.count as u64);

@@ -1,17 +1,14 @@
 // "solve": refused early with all untouched, or run to the tables of the stages, or refused on the way with all zero.
 ghost use mathlib.Core.Path.{_≡_};
-ghost use Prim.Native.Nat.{min};
 ghost use Rattle.theory.specs.Solve.{early-with-peaks};
-ghost use Rattle.theory.specs.Solve.{room as room-of};
 ghost use Rattle.theory.specs.Solve.{solve as solve-of};
 ghost use Rattle.model.specs.Answers.{shown};
 ghost use Rattle.solver.specs.Solving.{outcome};
 use action_peaks::clear_peaks;
 use model::Verdict;
 use progress::refusals::SIZES;
+use room::room;
 use solve_in::solve_in;
-use table::NODE_WORDS;
-use unique::WORK_WORDS;
 
 // "a lent slice of 401 32-bit words"
 pub const PEAK_WORDS: usize = 401;
@@ -21,19 +18,6 @@ pub struct Solved {
     pub number: u32,
     pub place: usize,
     pub peak: usize,
-}
-
-fn least(a: usize, b: usize) -> usize
-    ensures { λ r. ⌜ r ≡ min a b ⌝ }
-{
-    if a < b { a } else { b }
-}
-
-// "the least of node words ÷ 12, work words ÷ 8 and 65,535"
-fn room(nodes: usize, work: usize) -> usize
-    ensures { λ r. ⌜ r ≡ room-of nodes work ⌝ }
-{
-    least(nodes / NODE_WORDS, least(work / WORK_WORDS, 65535))
 }
 
 // "10: stage words not eight", or peaks not 401, "or model above 262,144 bytes"; then 9 and the model's own.

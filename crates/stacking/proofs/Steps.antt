@@ -27,7 +27,7 @@ use Rattle.command.proofs.Forward.{has-linear, linear-room}
 use Rattle.command.proofs.Command.{the-type as command-type}
 use Rattle.command.specs.declared.Command.{Command as CodeCommand}
 use Rattle.command.specs.declared.Command.the-variants.{Site, Leaf, Condition, Test as TestBy, Forbidden, Give, Name, End}
-use Rattle.command.specs.Held.{held, pushed}
+use Rattle.bounded_stack.specs.Held.{held, pushed}
 use Rattle.command.specs.Reading.{with-linear, linear-of, command-of-in, command-of}
 use Rattle.diagrams.specs.Nodes.{blank, linOf, treeOf, trees, treeAt, Nums, Valid, Grown}
 use Rattle.diagrams.specs.Table.{Rule, Bare, Table, Ran, Grew}

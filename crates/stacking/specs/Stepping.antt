@@ -12,7 +12,7 @@ use Rattle.theory.specs.Diagram.{Tree}
 use Rattle.theory.specs.Computation.{Comp, done, stopped, run}
 use Rattle.theory.specs.Command.{Command, site, push-leaf, push-condition, push-test, push-forbidden, give, name-action, end-model, whole, read-at, Slot}
 use Rattle.theory.specs.Load.{Entry, Loaded as Loading, load-one}
-use Rattle.command.specs.Held.{held, pushed}
+use Rattle.bounded_stack.specs.Held.{held, pushed}
 use Rattle.diagrams.specs.Nodes.{trees, treeAt, Grown}
 use Rattle.diagrams.specs.Table.{Rule, Table, Ran, Grew}
 use Rattle.commands_choice.specs.Testing.{loadRule}

@@ -17,10 +17,6 @@ pub mod Parallel
 pub mod Forbidden
 -- K9, a peak for each action
 pub mod Peaks
--- ---- examples
-
--- the pond, rain, and what is marked ★
-pub mod Examples
 -- ---- laws
 
 pub mod laws

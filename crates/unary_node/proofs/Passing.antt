@@ -20,9 +20,9 @@ use Rattle.diagrams.specs.Roots.{downOf, ordNum, orderOf, laterNode}
 use Rattle.diagrams.specs.declared.Down.{Down}
 use Rattle.diagrams.specs.declared.Sides.{Sides}
 use Rattle.diagrams.proofs.Trees.{at-branch}
-use Rattle.diagrams.proofs.Ordered.{order-is}
+use Rattle.node_tests.proofs.Ordered.{order-is}
 use Rattle.diagrams.proofs.Meanings.{test-later, test-proper, test-is}
-use Rattle.diagrams.proofs.Comparing.{num-eq}
+use Rattle.node_tests.proofs.Comparing.{num-eq}
 use Rattle.diagrams.proofs.Stepping.{On}
 use Rattle.unary_node.specs.declared.Way.{Way}
 use Rattle.unary_node.specs.Acts.{actOf, Acts, wayBy, wayOf}

@@ -8,9 +8,9 @@ ghost use Rattle.unary_node.specs.Acts.{wayBy, wayOf};
 use super::Way;
 use diagrams::Down;
 use diagrams::codes::YES_SIDE;
-use diagrams::tests::below;
-use diagrams::tests::later;
-use diagrams::tests::order;
+use node_tests::below;
+use node_tests::later;
+use node_tests::order;
 
 // The way on from what lies below a node, o being the order of its test and the condition that is picked by.
 pub fn way(d: Down, op: usize, o: usize) -> Way

@@ -31,7 +31,7 @@ pub fn value(
         mask,
         n: [l1, l2, l3, l4, l5, l6, l7, l8, d],
     };
-    value_answers::value(out, values::reading::value(bytes, nodes, stages, steps, q))
+    value_answers::value(out, value_reading::value(bytes, nodes, stages, steps, q))
 }
 
 // Answer, 24 bytes, as value's: plain working.

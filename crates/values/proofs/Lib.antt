@@ -3,4 +3,3 @@ pub mod Accept
 pub mod Linears
 pub mod Down
 pub mod Outcome
-pub mod Entry

@@ -1,6 +1,6 @@
-// The value and the action at a state.
+// The value and the action at a state, with the numbers of its site and the root of a stage.
 ghost use mathlib.Core.Path.{_≡_};
-ghost use Rattle.theory.specs.Value.{refused-value, value-at, value-of};
+ghost use Rattle.theory.specs.Value.{refused-value, value-at};
 ghost use Rattle.values.specs.Step.{Ends};
 ghost use Rattle.values.specs.State.{asked};
 ghost use Rattle.values.specs.Out.{out, value-after};
@@ -13,7 +13,7 @@ use rows::words::magnitude;
 use table::HIGH;
 use whole::Numerator;
 
-fn refused(number: u32, place: usize) -> Value
+pub fn refused(number: u32, place: usize) -> Value
     ensures { λ v. ⌜ out v ≡ refused-value number place ⌝ }
 {
     Value {
@@ -53,24 +53,4 @@ pub fn value_after(m: u32, n: u32, a: u32, nodes: &[i64], root: u32, q: Asked) -
         return refused(15, 0);
     }
     value_at(a, q, nodes, walk(n, a, q, nodes, root as usize))
-}
-
-// "Order: 10, 9, the model by offset, .. then 16, 13, 15, 14": the value and the action of a state, with some steps left.
-pub fn value(bytes: &[u8], nodes: &[i64], stages: &[u32], steps: u32, q: Asked) -> Value
-    ensures { λ v. ⌜ out v ≡ value-of (now (bytes .entry)) (now (nodes .entry)) (now (stages .entry)) steps (asked q) ⌝ }
-{
-    let early = model::early(bytes, steps, stages.len());
-    if early.number != 0 {
-        return refused(early.number, early.place);
-    }
-    let site = model::site(bytes);
-    let root = stages[(steps - 1) as usize];
-    value_after(
-        site.levels as u32,
-        site.conditions as u32,
-        site.actions as u32,
-        nodes,
-        root,
-        q,
-    )
 }

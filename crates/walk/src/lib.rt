@@ -14,10 +14,10 @@ use computed_cache::look;
 use diagrams::Down;
 use diagrams::codes::CHOOSE_NAMED;
 use diagrams::codes::WALK;
-use diagrams::tests::below;
 use leaves::numbers::constant;
 use leaves::numbers::decided;
 use leaves::numbers::is_constant;
+use node_tests::below;
 use table::Made;
 
 // What lies below the node at f.

@@ -19,7 +19,7 @@ use Rattle.computed_cache.proofs.keep.Reads as keep-reads
 use Rattle.computed_cache.proofs.look.Reads as look-reads
 use Rattle.diagrams.proofs.making.join.Reads as join-reads
 use Rattle.diagrams.proofs.making.join_test.Reads as join-test-reads
-use Rattle.diagrams.proofs.tests.test_at.Reads as test-at-reads
+use Rattle.node_tests.proofs.test_at.Reads as test-at-reads
 use Rattle.choice.proofs.+choose.{statement}
 use Rattle.choice.proofs.+choose.Tie.{close}
 

@@ -1,5 +1,5 @@
 -- `command::command_at` meets its contract.
-use Rattle.command.specs.Forms.{form-of}
+use Rattle.forms.specs.Forms.{form-of}
 use borrow.Author.Needs.{needs}
 use Rattle.command.proofs.command_at.Statement.{statement}
 use Rattle.command.proofs.command_at.Tie as tie

@@ -1,5 +1,5 @@
 -- `command::next_after` meets its contract.
-use Rattle.command.specs.Forms.{form-of}
+use Rattle.forms.specs.Forms.{form-of}
 use borrow.Author.Needs.{needs}
 use Rattle.command.proofs.next_after.Statement.{statement}
 use Rattle.command.proofs.next_after.Tie as tie

@@ -2,8 +2,8 @@
 use mathlib.Core.Path.{sym, ap}
 use native.Mathlib.Omega.{arith}
 use Rattle.theory.specs.Form.{bytes-in}
-use Rattle.command.specs.declared.forms.Form.{Form as CodeForm}
-use Rattle.command.specs.Forms.{form-of}
+use Rattle.forms.specs.declared.Form.{Form as CodeForm}
+use Rattle.forms.specs.Forms.{form-of}
 use borrow.Author.Needs.{needs}
 use Rattle.conversion.proofs.bytes_most.Statement.{statement}
 use Rattle.conversion.proofs.bytes_most.Tie as tie

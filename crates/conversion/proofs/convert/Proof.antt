@@ -1,7 +1,7 @@
 -- `conversion::convert` meets its contract.
 use mathlib.Core.Path.{_∙_}
 use native.Mathlib.Omega.{arith}
-use Rattle.command.specs.Forms.{form-of}
+use Rattle.forms.specs.Forms.{form-of}
 use Rattle.conversion.proofs.Call.{own-bytes, form-most, refused-as, call-refused, call-20, call-17, call-0}
 use borrow.Author.Needs.{needs}
 use Rattle.conversion.proofs.convert.Statement.{statement}

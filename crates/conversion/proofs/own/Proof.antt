@@ -1,7 +1,7 @@
 -- `conversion::own` meets its contract.
 use mathlib.Core.Path.{_∙_}
 use native.Mathlib.Omega.{arith}
-use Rattle.command.specs.Forms.{form-of}
+use Rattle.forms.specs.Forms.{form-of}
 use Rattle.conversion.proofs.Call.{own-long, own-short}
 use borrow.Author.Needs.{needs}
 use Rattle.conversion.proofs.own.Statement.{statement}

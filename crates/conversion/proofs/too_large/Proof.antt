@@ -1,5 +1,5 @@
 -- `conversion::too_large` meets its contract.
-use Rattle.command.specs.Forms.{form-of}
+use Rattle.forms.specs.Forms.{form-of}
 use Rattle.conversion.proofs.Call.{large-levels, large-actions, large-bytes}
 use borrow.Author.Needs.{needs}
 use Rattle.conversion.proofs.too_large.Statement.{statement}

@@ -1,5 +1,5 @@
 -- `conversion::unfit` meets its contract.
-use Rattle.command.specs.Forms.{form-of}
+use Rattle.forms.specs.Forms.{form-of}
 use Rattle.conversion.proofs.Searching.{unfit-large, unfit-by, unfit-not}
 use borrow.Author.Needs.{needs}
 use Rattle.conversion.proofs.unfit.Statement.{statement}

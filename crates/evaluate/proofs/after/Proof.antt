@@ -7,7 +7,7 @@ use lib.Signed.{leZ}
 use Rattle.theory.specs.Diagram.{Linear}
 use Rattle.command.specs.declared.Command.{Command as CodeCommand}
 use Rattle.command.specs.Reading.{command-of, command-of-in}
-use Rattle.command.specs.Held.{last-first}
+use Rattle.bounded_stack.specs.Held.{last-first}
 use Rattle.evaluate.specs.Pass.{chosen, stepped, numerator}
 use Rattle.evaluate.proofs.Holding.{holds-as}
 use Rattle.evaluate.proofs.Turns.{leaf-there, test-there, whole-there}

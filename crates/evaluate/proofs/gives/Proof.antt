@@ -2,7 +2,7 @@
 use mathlib.Core.Path.{sym, ap, _∙_}
 use native.Mathlib.Omega.{arith}
 use Rattle.whole.specs.Cases.{clash}
-use Rattle.command.specs.Forms.{form-of}
+use Rattle.forms.specs.Forms.{form-of}
 use Rattle.evaluate.specs.Pass.{slot-of}
 use Rattle.evaluate.proofs.Turns.{code-room, given-whole}
 use borrow.Author.Needs.{needs}

@@ -4,7 +4,7 @@ use Prim.Native.Nat.{_-_}
 use native.Mathlib.Omega.{arith}
 use lib.ListN.{length}
 use Rattle.theory.specs.Form.{new-form}
-use Rattle.command.specs.Held.{last-first}
+use Rattle.bounded_stack.specs.Held.{last-first}
 use Rattle.model.proofs.Walk.{whole-is, forward, past}
 use Rattle.evaluate.specs.Pass.{slot-of}
 use Rattle.evaluate.specs.Parts.{Room, Seek}

@@ -1,7 +1,7 @@
 -- `evaluate::push_by` meets its contract.
 use native.Mathlib.Omega.{arith}
 use borrow.Author.Needs.{needs}
-use Rattle.command.specs.Held.{last-first}
+use Rattle.bounded_stack.specs.Held.{last-first}
 use Rattle.evaluate.proofs.Holding.{holds-as}
 use Rattle.evaluate.proofs.Turns.{leaf-left, condition-left, forbidden-left, test-left}
 use Rattle.evaluate.proofs.push_by.Statement.{statement}

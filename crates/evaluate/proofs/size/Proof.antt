@@ -1,5 +1,5 @@
 -- `evaluate::size` meets its contract.
-use Rattle.command.specs.Forms.{form-of}
+use Rattle.forms.specs.Forms.{form-of}
 use borrow.Author.Needs.{needs}
 use Rattle.evaluate.proofs.size.Statement.{statement}
 use Rattle.evaluate.proofs.size.Tie as tie

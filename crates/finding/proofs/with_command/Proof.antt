@@ -1,5 +1,5 @@
 -- `finding::with_command` meets its contract.
-use Rattle.command.specs.Forms.{form-of}
+use Rattle.forms.specs.Forms.{form-of}
 use mathlib.Core.Path.{_∙_, ap}
 use native.Mathlib.Omega.{arith}
 use Rattle.finding.specs.Tally.{joined}

@@ -5,7 +5,7 @@ use Prim.Native.Nat.{_-_}
 use native.Mathlib.Omega.{arith}
 use lib.ListN.{length}
 use Rattle.command.proofs.Forward.{whole-bytes}
-use Rattle.command.specs.Forms.{form-of}
+use Rattle.forms.specs.Forms.{form-of}
 use borrow.Author.Needs.{needs}
 use Rattle.model.specs.Walk.{Walk}
 use Rattle.model.proofs.Walk.{same-begun, whole-is-in, unknown-is, short-is, forward-in, past, turn-unknown, turn-short, turn-broken, turn-end, turn-on}

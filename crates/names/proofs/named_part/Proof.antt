@@ -1,6 +1,6 @@
 -- `names::named_part` meets its contract.
 use Rattle.theory.specs.Form.{new-form}
-use Rattle.command.specs.Forms.{form-of}
+use Rattle.forms.specs.Forms.{form-of}
 use mathlib.Core.Path.{sym, _∙_}
 use Prim.Native.Nat.{_-_}
 use native.Mathlib.Omega.{arith}

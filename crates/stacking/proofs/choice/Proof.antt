@@ -1,5 +1,5 @@
 -- `stacking::choice` meets its contract.
-use Rattle.command.specs.Held.{held}
+use Rattle.bounded_stack.specs.Held.{held}
 use Rattle.commands_choice.specs.Testing.{testAt}
 use Rattle.stacking.proofs.Steps.{chosen, low-fits, high-fits, small-ran}
 use borrow.Author.Needs.{needs}

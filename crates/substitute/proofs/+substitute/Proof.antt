@@ -8,9 +8,9 @@ use borrow.Fn.PlainCycle.{Measures, is, falls, and}
 use Rattle.substitute.proofs.substitute.Reads as substitute
 use Rattle.substitute.proofs.substitute.Kinds as substitute-kinds
 use Rattle.substitute.proofs.+substitute.Lts-substitute as substitute-lts
-use Rattle.substitute.proofs.recall.Reads as recall-reads
-use Rattle.substitute.proofs.retain.Reads as retain-reads
-use Rattle.substitute.proofs.condition_at.Reads as condition-at-reads
+use Rattle.substitution_entry.proofs.recall.Reads as recall-reads
+use Rattle.substitution_entry.proofs.retain.Reads as retain-reads
+use Rattle.substitution_entry.proofs.condition_at.Reads as condition-at-reads
 use Rattle.substitute.proofs.head.Reads as head-reads
 use Rattle.substitute.proofs.over_test.Reads as over-test-reads
 use Rattle.substitute.proofs.at_leaf.Reads as at-leaf-reads

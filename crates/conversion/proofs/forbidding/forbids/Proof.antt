@@ -3,7 +3,7 @@ use mathlib.Core.Bool.{true, false}
 use Prim.Native.Nat.{_-_}
 use native.Mathlib.Omega.{arith}
 use lib.ListN.{length}
-use Rattle.command.specs.Forms.{form-of}
+use Rattle.forms.specs.Forms.{form-of}
 use Rattle.model_forms.proofs.Pass.{goes}
 use Rattle.conversion.proofs.Searching.{Searched, search-starts, search-found, search-ends, search-on, met}
 use Rattle.conversion.proofs.forbidding.forbids.Statement.{statement}

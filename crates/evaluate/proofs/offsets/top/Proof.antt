@@ -1,5 +1,5 @@
 -- `evaluate::offsets::top` meets its contract.
-use Rattle.command.proofs.Stacked.{top-more, top-none}
+use Rattle.bounded_stack.proofs.Stacked.{top-more, top-none}
 use borrow.Author.Needs.{needs}
 use Rattle.evaluate.proofs.offsets.top.Statement.{statement}
 use Rattle.evaluate.proofs.offsets.top.Tie as tie

@@ -1,7 +1,7 @@
 -- `model_forms::layouts::command_len` meets its contract.
 use native.Mathlib.Omega.{arith}
 use borrow.Author.Needs.{needs}
-use Rattle.command.specs.Forms.{form-of}
+use Rattle.forms.specs.Forms.{form-of}
 use Rattle.model_forms.proofs.Operands.{few-as, parts-sum}
 use Rattle.model_forms.proofs.layouts.command_len.Statement.{statement}
 use Rattle.model_forms.proofs.layouts.command_len.Tie as tie

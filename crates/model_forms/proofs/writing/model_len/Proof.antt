@@ -3,7 +3,7 @@ use mathlib.Core.Bool.{true, false}
 use Prim.Native.Nat.{_-_}
 use native.Mathlib.Omega.{arith}
 use lib.ListN.{length}
-use Rattle.command.specs.Forms.{form-of}
+use Rattle.forms.specs.Forms.{form-of}
 use Rattle.model_forms.proofs.Pass.{Counted, count-starts, count-few, count-on, count-ends, goes}
 use Rattle.model_forms.proofs.writing.model_len.Statement.{statement}
 use Rattle.model_forms.proofs.writing.model_len.Tie as tie

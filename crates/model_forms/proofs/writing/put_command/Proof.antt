@@ -3,7 +3,7 @@ use mathlib.Core.Path.{_∙_}
 use Prim.Native.Nat.{_+_}
 use native.Mathlib.Omega.{arith}
 use lib.ListN.{length-set}
-use Rattle.command.specs.Forms.{form-of}
+use Rattle.forms.specs.Forms.{form-of}
 use Rattle.model_forms.specs.Forms.{copied}
 use Rattle.model_forms.proofs.Operands.{few-as, fitted-length}
 use Rattle.model_forms.proofs.Putting.{parts-long, command-put}

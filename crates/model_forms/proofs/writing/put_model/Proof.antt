@@ -4,7 +4,7 @@ use mathlib.Core.Bool.{true, false}
 use Prim.Native.Nat.{_-_}
 use native.Mathlib.Omega.{arith}
 use lib.ListN.{length}
-use Rattle.command.specs.Forms.{form-of}
+use Rattle.forms.specs.Forms.{form-of}
 use Rattle.model_forms.proofs.Pass.{Wrote, write-starts, write-room, write-on, write-ends, goes}
 use Rattle.model_forms.proofs.writing.put_model.Statement.{statement}
 use Rattle.model_forms.proofs.writing.put_model.Tie as tie

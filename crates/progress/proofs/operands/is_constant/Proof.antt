@@ -3,7 +3,7 @@ use mathlib.Core.Path.{ap, _∙_}
 use Prim.Native.Nat.{ℕ}
 use Rattle.theory.specs.Diagram.{zeros}
 use Rattle.theory.specs.Command.{signed-from}
-use Rattle.command.specs.Forms.{form-of}
+use Rattle.forms.specs.Forms.{form-of}
 use Rattle.progress.proofs.Numbers.{constant-from}
 use borrow.Author.Needs.{needs}
 use Rattle.progress.proofs.operands.is_constant.Statement.{statement}

@@ -1,5 +1,5 @@
 -- `progress::states::after` meets its contract.
-use Rattle.command.specs.Forms.{form-of}
+use Rattle.forms.specs.Forms.{form-of}
 use mathlib.Core.Path.{refl}
 use native.Mathlib.Omega.{arith}
 use Rattle.command.specs.Reading.{command-of-in}

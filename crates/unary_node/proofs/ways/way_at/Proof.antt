@@ -1,4 +1,4 @@
-use Rattle.diagrams.proofs.Comparing.{at-as}
+use Rattle.node_tests.proofs.Comparing.{at-as}
 use Rattle.unary_node.proofs.Passing.{way-other, way-side}
 use borrow.Author.Needs.{needs}
 use Rattle.unary_node.proofs.ways.way_at.Statement.{statement}

@@ -1,0 +1,2 @@
+-- What a stack holds.
+pub mod Held

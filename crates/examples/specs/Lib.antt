@@ -1,0 +1,2 @@
+-- the pond, rain, and what is marked ★
+pub mod Examples

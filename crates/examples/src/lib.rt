@@ -1,0 +1,1 @@
+// Cases computed from the bytes on: everything is in specs/.

@@ -1,0 +1,2 @@
+-- The form of a model in the terms of document 02.
+pub mod Forms

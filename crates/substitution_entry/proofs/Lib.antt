@@ -1,0 +1,2 @@
+-- Laws that several proofs cite, here and in `substitute`.
+pub mod Entries
