@@ -6,7 +6,7 @@ use Prim.Native.Nat.{ℕ, zero, suc, _+_, _-_, _≤_, _<_}
 use native.Mathlib.Omega.{arith}
 use borrow.Author.Tests.{eqb-true, le-ltb}
 use lib.Dec.{eqb, ltb}
-use lib.ListN.{length, getD, replicate, length-replicate}
+use lib.ListN.{length, getD, replicate}
 use types.Run.{OneOf, miss}
 use denote.Enum.Declared.{tagOf}
 use Rattle.whole.specs.Cases.{if, by-eq, by-test, from-true}
@@ -25,7 +25,7 @@ use Rattle.model.specs.Answers.{is-end}
 use Rattle.model.proofs.Walk.{forward}
 use Rattle.evaluate.specs.declared.Point.{Point}
 use Rattle.evaluate.specs.Pass.{chosen, stepped, takes, pass}
-use Rattle.evaluate.specs.Parts.{Seek, slots-most, place, put, noted, depth-after, Parts}
+use Rattle.evaluate.specs.Parts.{Seek, slots-most, place, put, noted, depth-after, Parts, slots-each, Blank}
 use Rattle.evaluate.proofs.Reach.{same-is, broken, judged-whole, drop-one, placed}
 use Rattle.evaluate.proofs.Turns.{seek-starts, seek-stops, seek-ends, seek-next}
 use Rattle.evaluate.proofs.Places.{put-long, put-open, put-is}
@@ -112,19 +112,21 @@ pub record Ahead (B : List ℕ) (x : Point) (g : Slot) (i b n : ℕ) : Type 0 wh
   pub here : Seek B x g i stack
   pub last : Seek B x g b []
 
-pub record Finds (B : List ℕ) (i b n : ℕ) (t : List ℕ) : Type 0 where
+pub record Finds (B : List ℕ) (N i b n : ℕ) (t : List ℕ) : Type 0 where
   pub past : 1 ≤ i
   pub some : 1 ≤ b
-  pub long : length t ≡ slots-most
+  pub long : length t ≡ N
+  pub least : slots-each ≤ N
+  pub most : N ≤ slots-most
   pub begins : (g : Slot) (x : Point) → Seek B x g (getD t (place g) 0) []
-  pub ahead : (g : Slot) → place g < slots-most → getD t (place g) 0 ≡ 0 → (x : Point) → Ahead B x g i b n
+  pub ahead : (g : Slot) → place g < N → getD t (place g) 0 ≡ 0 → (x : Point) → Ahead B x g i b n
 
 zero-at : (n j : ℕ) → _≡_ {A = ℕ} (getD (replicate n 0) j 0) 0
 zero-at zero j = refl
 zero-at (suc n) zero = refl
 zero-at (suc n) (suc j) = zero-at n j
 
-pub finds-starts : (B t : List ℕ) (i : ℕ) → verdict B .number ≡ 0 → t ≡ replicate slots-most 0 → i ≡ next-at B 0 → Finds B i i 0 t × (i ≤ length B)
+pub finds-starts : (B t : List ℕ) (i : ℕ) → verdict B .number ≡ 0 → Blank t → i ≡ next-at B 0 → Finds B (length t) i i 0 t × (i ≤ length B)
 unfolding takes stepped goes-on
 finds-starts B t i v e n =
     let f = first B v in
@@ -133,20 +135,19 @@ finds-starts B t i v e n =
       record {
         past = h .1;
         some = h .1;
-        long = ap length e ∙ length-replicate {A = ℕ} slots-most 0;
-        begins = λ g x. rw (e, zero-at slots-most (place g)) (seek-starts B x g [] refl);
+        long = refl;
+        least = e .some;
+        most = e .most;
+        begins = λ g x. subst (λ (k : ℕ). Seek B x g k []) (sym (ap (λ (l : List ℕ). getD l (place g) 0) (e .is) ∙ zero-at (length t) (place g))) (seek-starts B x g [] refl);
         ahead = λ g u z x. record { stack = []; deep = refl; here = on x g; last = on x g };
       },
       h .2,
     )
 
 -- where the commands end, what has no word is not given
-module _ {B : List ℕ} {i b n : ℕ} {t : List ℕ} (f : Finds B i b n t) where
-  pub finds-long : (u : List ℕ) → u ≡ replicate slots-most 0 → length t ≡ length u
-  finds-long u e = f .long ∙ sym (ap length e ∙ length-replicate {A = ℕ} slots-most 0)
-
+module _ {B : List ℕ} {N i b n : ℕ} {t : List ℕ} (f : Finds B N i b n t) where
   finds-all : ((x : Point) (g : Slot) (l : List ℕ) → Seek B x g i l → 0 ≡ pass x g (readings B) []) → Parts B t
-  finds-all stops = record { begins = f .begins; absent = λ g x u z. let o = f .ahead g u z x in stops x g (o .stack) (o .here) }
+  finds-all stops = record { begins = f .begins; some = omega (arith, f .long, f .least); absent = λ g x u z. let o = f .ahead g (omega (arith, u, f .long)) z x in stops x g (o .stack) (o .here) }
 
   pub finds-stop : (r : CodeRead) → OneOf (1 ∷ 2 ∷ []) (tagOf read-type r) → read-of B i r ≡ read-at B i → Parts B t
   finds-stop r k e = finds-all (λ x g l w. seek-stops w r k e)
@@ -154,7 +155,7 @@ module _ {B : List ℕ} {i b n : ℕ} {t : List ℕ} (f : Finds B i b n t) where
   pub finds-end : (c : CodeCommand) → whole (command-of B i c) ≡ read-at B i → is-end c ≡ true → Parts B t
   finds-end c e q = finds-all (λ x g l w. seek-ends w c e q)
 
-module _ {B : List ℕ} {i b n : ℕ} {t : List ℕ} (f : Finds B i b n t) (c : Command) (e : whole c ≡ read-at B i) (q : goes-on (whole c) ≡ true) {next : ℕ} (en : next ≡ next-at B i)
+module _ {B : List ℕ} {N i b n : ℕ} {t : List ℕ} (f : Finds B N i b n t) (c : Command) (e : whole c ≡ read-at B i) (q : goes-on (whole c) ≡ true) {next : ℕ} (en : next ≡ next-at B i)
     {b′ : ℕ} (eb : b′ ≡ if (eqb n 0) i b) where
   none-on : (l : List ℕ) → length l ≡ 0 → l ≡ []
   none-on [] h = refl
@@ -163,13 +164,13 @@ module _ {B : List ℕ} {i b n : ℕ} {t : List ℕ} (f : Finds B i b n t) (c : 
   some-on : 1 ≤ b′
   some-on = subst (λ (k : ℕ). 1 ≤ k) (sym eb) (by-test (eqb n 0) (λ a. 1 ≤ if a i b) (λ _. f .past) (λ _. f .some))
 
-  begun : (g : Slot) → place g < slots-most → getD t (place g) 0 ≡ 0 → (x : Point) → Seek B x g b′ []
+  begun : (g : Slot) → place g < N → getD t (place g) 0 ≡ 0 → (x : Point) → Seek B x g b′ []
   begun g u z x =
       let o = f .ahead g u z x in
       subst (λ (k : ℕ). Seek B x g k []) (sym eb) (by-eq (eqb n 0) (λ a. Seek B x g (if a i b) [])
       (λ y. subst (Seek B x g i) (none-on (o .stack) (o .deep ∙ eqb-true n 0 y)) (o .here)) (λ _. o .last))
 
-  ahead-on : (g : Slot) → place g < slots-most → getD t (place g) 0 ≡ 0 → takes g c ≡ false → {n′ : ℕ} → n′ ≡ depth-after c n → (x : Point) → Ahead B x g next b′ n′
+  ahead-on : (g : Slot) → place g < N → getD t (place g) 0 ≡ 0 → takes g c ≡ false → {n′ : ℕ} → n′ ≡ depth-after c n → (x : Point) → Ahead B x g next b′ n′
   ahead-on g u z y k x =
       let o = f .ahead g u z x in
       record { stack = stepped x i c (o .stack); deep = stepped-deep x i c (o .stack) ∙ ap (depth-after c) (o .deep) ∙ sym k; here = seek-next (o .here) c next e y q en; last = begun g u z x }
@@ -177,21 +178,25 @@ module _ {B : List ℕ} {i b n : ℕ} {t : List ℕ} (f : Finds B i b n t) (c : 
   other-slot : (g h : Slot) → (place h ≡ place g → ⊥) → same-slot g h ≡ false
   other-slot g h p = by-eq (same-slot g h) (λ a. a ≡ false) (λ y. absurd (p (ap place (sym (same-is g h (from-true y)))))) (λ _. refl)
 
-  pub finds-on : {n′ : ℕ} {t′ : List ℕ} → n′ ≡ depth-after c n → t′ ≡ noted c b′ t → Finds B next b′ n′ t′
-  finds-on {n′} {t′} k s = subst (Finds B next b′ n′) (sym s) (by-given c b′ t (Finds B next b′ n′ (noted c b′ t))
-      (λ none y. subst (Finds B next b′ n′) (sym y) (record {
+  pub finds-on : {n′ : ℕ} {t′ : List ℕ} → n′ ≡ depth-after c n → t′ ≡ noted c b′ t → Finds B N next b′ n′ t′
+  finds-on {n′} {t′} k s = subst (Finds B N next b′ n′) (sym s) (by-given c b′ t (Finds B N next b′ n′ (noted c b′ t))
+      (λ none y. subst (Finds B N next b′ n′) (sym y) (record {
         past = omega (arith, ahead .1);
         some = some-on;
         long = f .long;
+        least = f .least;
+        most = f .most;
         begins = f .begins;
         ahead = λ g u z. ahead-on g u z (none g) k;
       }))
-      (λ h gives y. subst (Finds B next b′ n′) (sym y) (record {
+      (λ h gives y. subst (Finds B N next b′ n′) (sym y) (record {
         past = omega (arith, ahead .1);
         some = some-on;
         long = put-long h b′ t ∙ f .long;
-        begins = λ g x. put-is (λ g j. Seek B x g j []) h b′ t (f .long) (λ g. f .begins g x) (λ u z. begun h u z x) g;
-        ahead = λ g u z. let d = put-open h g b′ t some-on (omega (arith, f .long)) z in ahead-on g u (d .0) (gives g ∙ other-slot g h (d .1)) k;
+        least = f .least;
+        most = f .most;
+        begins = λ g x. put-is (λ g j. Seek B x g j []) h b′ t (omega (arith, f .long, f .most)) (λ g. f .begins g x) (λ u z. begun h (omega (arith, u, f .long)) z x) g;
+        ahead = λ g u z. let d = put-open h g b′ t some-on (omega (arith, u, f .long)) z in ahead-on g u (d .0) (gives g ∙ other-slot g h (d .1)) k;
       })))
     where
       ahead : (next ≡ i + width (byte-at B i)) × (i < next) × (next ≤ length B)

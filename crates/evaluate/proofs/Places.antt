@@ -131,19 +131,19 @@ put-open g h b t u v e = go (eqb (getD t (place g) 0) 0) refl e
     go false f e = (e, λ p. eqb-false (getD t (place g) 0) 0 f (ap (λ (k : ℕ). getD t k 0) p ∙ e))
 
 -- what stands at a place was there, or is what was put
-pub put-is : (P : Slot → ℕ → Type 0) (g : Slot) (b : ℕ) (t : List ℕ) → length t ≡ slots-most → ((h : Slot) → P h (getD t (place h) 0)) → (place g < slots-most → getD t (place g) 0 ≡ 0 → P g b) → (h : Slot) → P h (getD (put g b t) (place h) 0)
+pub put-is : (P : Slot → ℕ → Type 0) (g : Slot) (b : ℕ) (t : List ℕ) → length t ≤ slots-most → ((h : Slot) → P h (getD t (place h) 0)) → (place g < length t → getD t (place g) 0 ≡ 0 → P g b) → (h : Slot) → P h (getD (put g b t) (place h) 0)
 unfolding put
-put-is P g b t long stands f h = go (eqb (getD t (place g) 0) 0) refl
+put-is P g b t few stands f h = go (eqb (getD t (place g) 0) 0) refl
   where
     go : (c : Bool) → eqb (getD t (place g) 0) 0 ≡ c → P h (getD (if c (set t (place g) b) t) (place h) 0)
     go false e = stands h
-    go true e = by-eq (ltb (place g) slots-most) (λ _. P h (getD (set t (place g) b) (place h) 0))
+    go true e = by-eq (ltb (place g) (length t)) (λ _. P h (getD (set t (place g) b) (place h) 0))
         (λ q. inside (ltb-true _ _ q)) (λ q. outside (ltb-false _ _ q))
       where
-        inside : place g < slots-most → P h (getD (set t (place g) b) (place h) 0)
+        inside : place g < length t → P h (getD (set t (place g) b) (place h) 0)
         inside u = by-eq (eqb (place g) (place h)) (λ _. P h (getD (set t (place g) b) (place h) 0))
-            (λ q. let p = eqb-true (place g) (place h) q in let s = one-place g h u p in rw (← s, getD-set-same t (place g) b 0 (omega (arith, long))) (f u (eqb-true _ 0 e)))
+            (λ q. let p = eqb-true (place g) (place h) q in let s = one-place g h (omega (arith, u, few)) p in rw (← s, getD-set-same t (place g) b 0 u) (f u (eqb-true _ 0 e)))
             (λ q. let p = eqb-false (place g) (place h) q in rw (getD-set-other t (place g) (place h) b 0 (λ k. p (sym k))) (stands h))
 
-        outside : slots-most ≤ place g → P h (getD (set t (place g) b) (place h) 0)
-        outside u = rw (set-out t (place g) b (omega (arith, long))) (stands h)
+        outside : length t ≤ place g → P h (getD (set t (place g) b) (place h) 0)
+        outside u = rw (set-out t (place g) b u) (stands h)

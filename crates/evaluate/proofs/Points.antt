@@ -6,11 +6,11 @@ use Prim.Native.Nat.{ℕ, zero, suc, _-_, _/_, _≤_}
 use native.Mathlib.Omega.{arith}
 use lib.Dec.{T, isEq, leb, ltb, leb→le, nleb→lt, ltb→lt}
 use lib.IntN.{ℤ, pos, _+ℤ_, _*ℤ_}
-use lib.ListN.{take, drop}
+use lib.ListN.{getD, take, drop}
 use lib.Signed.{leZ}
 use Rattle.whole.specs.Cases.{if, by-test, both, not-not, clash}
 use Rattle.whole.specs.Int.{ring}
-use Rattle.theory.specs.Widths.{conditions-most}
+use Rattle.theory.specs.Widths.{levels-most, conditions-most}
 use Rattle.theory.specs.Diagram.{Linear, Test, now, later, Tree, Leaf, cmpZ, zeros, test-of}
 use Rattle.theory.specs.Computation.{Comp, result}
 use Rattle.theory.specs.Rules.{choose, decide}
@@ -23,7 +23,7 @@ use Rattle.theory.specs.laws.Comps.{cmpZ-eq}
 use Rattle.theory.specs.laws.Valid.{among-out}
 use Rattle.theory.specs.laws.Values.{choose-at, decide-at}
 use Rattle.evaluate.specs.declared.Point.{Point}
-use Rattle.evaluate.specs.Pass.{nums-of, den-of, numerator, condition-holds, Stands}
+use Rattle.evaluate.specs.Pass.{nums-of, den-of, Flat, numerator, condition-holds, Stands}
 
 -- ---- bits
 
@@ -82,6 +82,14 @@ dot-within m [] x t = refl
 dot-within zero (c ∷ cs) x t = sym (dot-zeros (c ∷ cs) x t)
 dot-within (suc m) (c ∷ cs) [] t = refl
 dot-within (suc m) (c ∷ cs) (y ∷ x) t = ap (λ (z : ℤ). c *ℤ y +ℤ z) (dot-within m cs x t)
+
+-- a linear asks for the numbers alone
+pub numbers-alone : (x y : Point) → x .n ≡ y .n → (p : Linear) → numerator x p ≡ numerator y p
+unfolding numerator
+numbers-alone x y e p = ap (λ (l : List ℤ). dot (p .coeffs) (take levels-most l) +ℤ (p .const) *ℤ getD l levels-most (pos 0)) e
+
+pub flat-alone : (x y : Point) → x .levels ≡ y .levels → x .n ≡ y .n → Flat x → Flat y
+flat-alone x y e u f = record { few = rw (← e) (f .few); rest = λ k a b. ap (λ (l : List ℤ). getD l k (pos 0)) (sym u) ∙ f .rest k (rw e a) b }
 
 pub or-out : {C : Type 0} (a b : Bool) → T (or a b) → (T a → C) → (T b → C) → C
 or-out true b t f g = f tt

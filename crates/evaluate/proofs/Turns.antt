@@ -7,22 +7,21 @@ use native.Mathlib.Omega.{arith}
 use borrow.Author.Tests.{eq-eqb, ne-eqb, eqb-true, eqb-false, leb-true, ltb-false, lt-leb, le-ltb}
 use lib.Dec.{T, eqb, leb, ltb}
 use lib.IntN.{ℤ, pos, _+ℤ_, _*ℤ_}
-use lib.ListN.{length, getD, take, replicate}
+use lib.ListN.{length, getD, take}
 use lib.Signed.{leZ}
 use types.Run.{OneOf, miss}
 use denote.Enum.Declared.{tagOf}
 use Rattle.whole.specs.Cases.{if, from-true, clash}
 use Rattle.whole.specs.Int.{up}
-use Rattle.whole.specs.Linears.{numbers, Smalls, dotL}
+use Rattle.whole.specs.Linears.{numbers, dotL}
 use Rattle.whole.specs.LinearsLaws.{dot-last}
-use Rattle.whole.specs.Within.{Small}
 use Rattle.theory.specs.Widths.{levels-most}
 use Rattle.theory.specs.Form.{new-form, site-byte}
 use Rattle.theory.specs.Diagram.{Linear, zero-linear, Leaf, some, forbidden, permitted, lin-of, Tree}
 use Rattle.theory.specs.Total.{num, none}
 use Rattle.theory.specs.Meaning.{State, Env, env, nth, dot, value, at, leaf-worth, worth-at, level-at, chance-at}
 use Rattle.theory.specs.Value.{bits}
-use Rattle.theory.specs.Command.{Command, push-forbidden, give, end-model, Read, whole, unknown, short, byte-at, width, read-at, goes-on, readings-from, readings, Slot, linear-at, linear-in, word-at, signed, action-at, readings-in, command-at, command-in, read-in, width-in}
+use Rattle.theory.specs.Command.{Command, site, push-leaf, push-condition, push-test, push-forbidden, give, name-action, end-model, Read, whole, unknown, short, byte-at, width, read-at, goes-on, readings-from, readings, Slot, linear-at, linear-in, word-at, signed, action-at, readings-in, command-at, command-in, read-in, width-in}
 use Rattle.theory.specs.Verdict.{same-slot}
 use Rattle.theory.specs.Load.{find-slot, site-at}
 use Rattle.theory.specs.laws.Loading.{loaded-entries}
@@ -38,7 +37,7 @@ use Rattle.bounded_stack.specs.Held.{pushed}
 use Rattle.model.specs.Answers.{is-end}
 use Rattle.model.proofs.Walk.{opened, from-first, at-end, going, forward}
 use Rattle.evaluate.specs.declared.Point.{Point}
-use Rattle.evaluate.specs.Pass.{leaf-of, reward-of, code-at, pushes, push-of, push-width, index-at, numerator, condition-holds, chosen, stepped, takes, pass, Stands, Comes}
+use Rattle.evaluate.specs.Pass.{point-at, leaf-of, reward-of, code-at, pushes, push-of, push-width, index-at, numerator, condition-holds, chosen, stepped, takes, pass, Stands, Comes}
 use Rattle.evaluate.specs.Parts.{Seek}
 use Rattle.evaluate.proofs.Points.{value-is}
 use Rattle.evaluate.proofs.Reach.{same-is}
@@ -66,6 +65,18 @@ bit-past m (suc (suc zero)) a b c d = absurd (b refl)
 bit-past m (suc (suc (suc zero))) a b c d = absurd (c refl)
 bit-past m (suc (suc (suc (suc zero)))) a b c d = absurd (d refl)
 bit-past m (suc (suc (suc (suc (suc k))))) a b c d = refl
+
+-- a command's turn does not ask how many levels there are
+pub levels-apart : (a b m i : ℕ) (n : List ℤ) (c : Command) (l : List ℕ) → stepped (point-at a b n 0) i c l ≡ stepped (point-at a b n m) i c l
+unfolding stepped numerator condition-holds
+levels-apart a b m i n (site j k s w) l = refl
+levels-apart a b m i n (push-leaf p) l = refl
+levels-apart a b m i n (push-condition k) l = refl
+levels-apart a b m i n (push-test p) l = refl
+levels-apart a b m i n push-forbidden l = refl
+levels-apart a b m i n (give g) l = refl
+levels-apart a b m i n (name-action k s) l = refl
+levels-apart a b m i n end-model l = refl
 
 -- ---- a command that gives nothing
 
@@ -312,6 +323,19 @@ module _ (B : List ℕ) (i : ℕ) where
       go false false true = tt
       go false false false = allowed-command (ne-eqb (byte-at B i) 0x13 t)
 
+-- the bytes of a push, case by case
+pub condition-wide : (i op : ℕ) → op ≡ 17 → i + 2 ≡ i + push-width op
+unfolding push-width
+condition-wide i op e = rw (eq-eqb op 17 e) refl
+
+pub forbidden-wide : (i op : ℕ) → (op ≡ 17 → ⊥) → op ≡ 19 → i + 1 ≡ i + push-width op
+unfolding push-width
+forbidden-wide i op n e = rw (ne-eqb op 17 n, eq-eqb op 19 e) refl
+
+pub test-wide : (i op : ℕ) → (op ≡ 17 → ⊥) → (op ≡ 19 → ⊥) → i + with-linear ≡ i + push-width op
+unfolding push-width
+test-wide i op n m = rw (ne-eqb op 17 n, ne-eqb op 19 m) refl
+
 -- what a push leaves, case by case
 module _ (B : List ℕ) (x : Point) (i op : ℕ) (l : List ℕ) where
   abbrev Left : List ℕ
@@ -381,23 +405,16 @@ module _ {B : List ℕ} {x : Point} {g : Slot} {i : ℕ} {l : List ℕ} (w : See
   push-takes false false false k = (refl, refl)
 
   -- a push, told by its byte
-  pub seek-push : (op w : ℕ) (l′ : List ℕ) → op ≡ code-at B i → pushes op ≡ true → w ≡ push-width op → l′ ≡ stepped x i (command-of B i (push-of B i op)) l → Seek B x g (i + w) l′
+  pub seek-push : (op next : ℕ) (l′ : List ℕ) → op ≡ code-at B i → pushes op ≡ true → next ≡ i + push-width op → l′ ≡ stepped x i (command-of B i (push-of B i op)) l → Seek B x g next l′
   unfolding push-of
-  seek-push op w l′ e t q s =
+  seek-push op next l′ e t q s =
       let d = told B i op t e in
       let f = push-takes (eqb op 16) (eqb op 17) (eqb op 19) (byte-at B (i + 1)) in
-      seek-on (push-of B i op) (i + w) l′ (d .whole-is) (f .0) (f .1) (sym (next-whole new-form B i (d .bytes) ∙ ap (λ (k : ℕ). i + k) (d .wide ∙ sym q))) s
+      seek-on (push-of B i op) next l′ (d .whole-is) (f .0) (f .1) (q ∙ sym (next-whole new-form B i (d .bytes) ∙ ap (λ (k : ℕ). i + k) (d .wide))) s
 
--- ---- the leaf's linear
-
-zeros-at : (n k : ℕ) → getD (replicate n (pos 0)) k (pos 0) ≡ pos 0
-zeros-at zero k = refl
-zeros-at (suc n) zero = refl
-zeros-at (suc n) (suc k) = zeros-at n k
-
--- the linear 0
-pub none-small : Smalls (replicate numbers (pos 0))
-none-small = record { long = refl; each = λ k. subst Small (sym (zeros-at numbers k)) (record { small = omega arith }) }
+  pub seek-leaf : (l′ : List ℕ) → 16 ≡ code-at B i → l′ ≡ pushed i l → Seek B x g (i + with-linear) l′
+  unfolding pushes push-width
+  seek-leaf l′ e s = seek-push 16 (i + with-linear) l′ e refl refl (s ∙ leaf-left B x i 16 l refl)
 
 -- ---- what the leaf comes to
 

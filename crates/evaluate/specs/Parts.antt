@@ -2,14 +2,16 @@
 use mathlib.Core.Path.{_≡_}
 use mathlib.Core.List.{List, []}
 use Prim.Native.Nat.{ℕ, _+_, _-_, _*_, _≤_, _<_}
-use lib.Dec.{eqb, ltb}
-use lib.ListN.{length, getD, set}
+use lib.Dec.{T, eqb, ltb}
+use lib.ListN.{length, getD, set, replicate}
 use Rattle.whole.specs.Cases.{if}
+use Rattle.whole.specs.Linears.{numbers}
 use Rattle.theory.specs.Widths.{levels-most, conditions-most, actions-most, stack-most}
 use Rattle.theory.specs.Command.{Command, site, push-leaf, push-condition, push-test, push-forbidden, give, name-action, end-model, Slot, readings-from, readings}
+use Rattle.theory.specs.Verdict.{verdict}
 use Rattle.bounded_stack.specs.Held.{last-first}
 use Rattle.evaluate.specs.declared.Point.{Point}
-use Rattle.evaluate.specs.Pass.{pass}
+use Rattle.evaluate.specs.Pass.{pass, no-name, Flat}
 
 -- ---- the stack
 
@@ -30,6 +32,15 @@ pub record Seek (B : List ℕ) (x : Point) (g : Slot) (i : ℕ) (l : List ℕ) :
   pub fuel : ℕ
   pub enough : length B - i < fuel
   pub comes : pass x g (readings-from B fuel i) l ≡ pass x g (readings B) []
+
+-- what a pass to a slot's command asks for: an accepted model, an offset to begin at, and a point
+pub record Asks (B : List ℕ) (g : Slot) (begin : ℕ) (x : Point) : Type 0 where
+  pub accepted : verdict B .number ≡ 0
+  pub short : length B < 4294967296
+  pub diagram : T (no-name g)
+  pub seeks : Seek B x g begin []
+  pub flat : Flat x
+  pub long : length (x .n) ≡ numbers
 
 -- ---- a place for each slot
 
@@ -81,7 +92,14 @@ depth-after (give g) n = n - 1
 depth-after (name-action a b) n = n
 depth-after end-model n = n
 
+-- words without a note: those of action 0 at least, and of no more actions than a model can have
+pub record Blank (t : List ℕ) : Type 0 where
+  pub some : slots-each ≤ length t
+  pub most : length t ≤ slots-most
+  pub is : t ≡ replicate (length t) 0
+
 -- at each slot's place stands an offset from which the pass, with nothing on the stack, comes to what the whole pass comes to; 0 where it is not given
 pub record Parts (B t : List ℕ) : Type 0 where
   pub begins : (g : Slot) (x : Point) → Seek B x g (getD t (place g) 0) []
-  pub absent : (g : Slot) (x : Point) → place g < slots-most → getD t (place g) 0 ≡ 0 → 0 ≡ pass x g (readings B) []
+  pub some : slots-each ≤ length t
+  pub absent : (g : Slot) (x : Point) → place g < length t → getD t (place g) 0 ≡ 0 → 0 ≡ pass x g (readings B) []

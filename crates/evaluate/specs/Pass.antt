@@ -38,6 +38,14 @@ nums-of x = take levels-most (x .n)
 abbrev pub den-of : Point → ℤ
 den-of x = getD (x .n) levels-most (pos 0)
 
+-- a point by its parts
+abbrev pub point-at : ℕ → ℕ → List ℤ → ℕ → Point
+point-at mask setting n m = record { mask = mask; setting = setting; n = n; levels = m }
+
+-- numbers alone
+abbrev pub nums-at : List ℤ → Point
+nums-at n = point-at 0 0 n 0
+
 -- beyond a point's levels its numerators are 0
 pub record Flat (x : Point) : Type 0 where
   pub few : x .levels ≤ levels-most
@@ -80,6 +88,10 @@ takes g (name-action a b) = false
 takes g end-model = false
 
 -- ---- commands told by their bytes
+
+-- below this offset, bytes for a linear stand behind each byte
+abbrev pub codes-end : List ℕ → ℕ
+codes-end B = length B - (with-linear - 1)
 
 -- the byte at an offset, where bytes for a linear stand behind it; else 0
 unfoldable pub code-at : List ℕ → ℕ → ℕ

@@ -1,17 +1,18 @@
 // Plain evaluation: the leaf that an action's diagram comes to at a state, found in the model's own bytes.
 // A pass over the commands of that diagram; on the stack stands for each diagram the offset of the leaf that it comes to.
 ghost use mathlib.Core.Path.{_≡_};
-ghost use mathlib.Core.List.{List, []};
+ghost use mathlib.Core.List.{List};
 ghost use mathlib.Core.Bool.{Bool, true};
 ghost use Prim.Native.Nat.{ℕ, _+_, _≤_, _<_};
 ghost use lib.Dec.{T};
 ghost use lib.ListN.{length};
-ghost use lib.IntN.{pos};
+ghost use lib.IntN.{ℤ, pos};
 ghost use lib.Signed.{leZ};
 ghost use Rattle.whole.specs.Int.{up};
-ghost use Rattle.whole.specs.Linears.{Smalls};
+ghost use Rattle.whole.specs.Linears.{numbers, Smalls};
 ghost use Rattle.whole.specs.Numerator.{words};
-ghost use Rattle.theory.specs.Command.{whole, give, byte-at, width, read-at};
+ghost use Rattle.theory.specs.Form.{new-form};
+ghost use Rattle.theory.specs.Command.{whole, give, byte-at, width, read-at, action-at};
 ghost use Rattle.theory.specs.Meaning.{State, env, nth};
 ghost use Rattle.theory.specs.Diagram.{lin-of};
 ghost use Rattle.theory.specs.Meaning.{worth-at as worth-of};
@@ -24,10 +25,10 @@ ghost use Rattle.theory.specs.Verdict.{verdict, end-slot, same-slot};
 ghost use Rattle.theory.specs.laws.Loading.{loaded-entries};
 ghost use Rattle.command.specs.Reading.{with-linear, linear-of, command-of};
 ghost use Rattle.bounded_stack.specs.Held.{last-first};
-ghost use Rattle.evaluate.specs.Pass.{slot-of, no-name, Flat, condition-holds, stepped, leaf-of, reward-of, code-at, pushes, push-width, push-of, index-at, Stands, Comes};
+ghost use Rattle.evaluate.specs.Pass.{slot-of, no-name, point-at, nums-at, Flat, condition-holds, stepped, leaf-of, reward-of, codes-end, code-at, pushes, push-width, push-of, index-at, Stands, Comes};
 ghost use Rattle.evaluate.specs.Pass.{takes as takes-slot};
 ghost use Rattle.evaluate.specs.Pass.{numerator as numerator-at};
-ghost use Rattle.evaluate.specs.Parts.{Room, Holds, Seek, Parts};
+ghost use Rattle.evaluate.specs.Parts.{Room, Holds, Asks, Parts};
 use command::Command;
 use command::Read;
 use forms::Form;
@@ -61,6 +62,12 @@ pub struct Point {
     pub levels: usize,
 }
 
+// The stack's length behind a command, and the next command's offset.
+struct Turn {
+    len: usize,
+    next: usize,
+}
+
 // What a reward comes to; the number is 0 where it is forbidden.
 pub struct Reward {
     pub forbidden: bool,
@@ -81,42 +88,58 @@ fn bit(mask: u32, k: u8) -> bool
 }
 
 // "1 to n for a condition now, 5 to 4+n for the next step's"
-fn condition(k: u8, x: Point) -> bool
-    ensures { λ r. ⌜ r ≡ condition-holds x k ⌝ }
+fn condition(k: u8, mask: u32, setting: u32) -> bool
+    ensures { λ r. ⌜ ((l : List ℤ) (m : ℕ) → r ≡ condition-holds (point-at mask setting l m) k) ⌝ }
 {
     if k <= 4 {
-        bit(x.mask, k)
+        bit(mask, k)
     } else {
-        bit(x.setting, k - 4)
+        bit(setting, k - 4)
     }
 }
 
-// A linear at a point, times d.
-fn numerator(p: [i64; NUMBERS], x: Point) -> Numerator
-    requires { ⌜ Smalls p ⌝ }
-    ensures { λ r. ⌜ r ≡ words (numerator-at x (linear-of p)) ⌝ }
+// A point's numbers, as an array.
+fn nine(n: &[i32]) -> [i32; NUMBERS]
+    requires { ⌜ length (now n) ≡ numbers ⌝ }
+    ensures { λ r. ⌜ r ≡ now (n .entry) ⌝ }
 {
-    let n = x.n;
-    dot(p, n)
+    [n[0], n[1], n[2], n[3], n[4], n[5], n[6], n[7], n[8]]
+}
+
+// A linear at a point, times d.
+fn numerator(p: [i64; NUMBERS], n: &[i32]) -> Numerator
+    requires { ⌜ Smalls p × (length (now n) ≡ numbers) ⌝ }
+    ensures { λ r. ⌜ r ≡ words (numerator-at (nums-at (now (n .entry))) (linear-of p)) ⌝ }
+{
+    dot(p, nine(n))
 }
 
 // "high is taken when p ≤ 0"
-fn test(p: [i64; NUMBERS], x: Point) -> bool
-    requires { ⌜ Smalls p ⌝ }
-    ensures { λ r. ⌜ r ≡ leZ (numerator-at x (linear-of p)) (pos 0) ⌝ }
+fn test(p: [i64; NUMBERS], n: &[i32]) -> bool
+    requires { ⌜ Smalls p × (length (now n) ≡ numbers) ⌝ }
+    ensures { λ r. ⌜ r ≡ leZ (numerator-at (nums-at (now (n .entry))) (linear-of p)) (pos 0) ⌝ }
 {
-    two_words::not_positive(numerator(p, x))
+    two_words::not_positive(numerator(p, n))
 }
 
 // What the command at an offset leaves of the stack.
-fn after(model: &[u8], at: usize, c: Command, items: &mut [u32], len: usize, x: Point) -> usize
-    requires { ⌜ Room (now items) len × (whole (command-of (now model) at c) ≡ read-at (now model) at) × (length (now model) < 4294967296) ⌝ }
-    ensures { λ r. ⌜ Holds (now (items .exit)) r (stepped x at (command-of (now (model .entry)) at c) (last-first (now (items .entry)) len)) ⌝ }
+fn after(
+    model: &[u8],
+    at: usize,
+    c: Command,
+    items: &mut [u32],
+    len: usize,
+    mask: u32,
+    setting: u32,
+    n: &[i32],
+) -> usize
+    requires { ⌜ Room (now items) len × (whole (command-of (now model) at c) ≡ read-at (now model) at) × (length (now model) < 4294967296) × (length (now n) ≡ numbers) ⌝ }
+    ensures { λ r. ⌜ Holds (now (items .exit)) r (stepped (point-at mask setting (now (n .entry)) 0) at (command-of (now (model .entry)) at c) (last-first (now (items .entry)) len)) ⌝ }
 {
     match c {
         Command::Leaf => offsets::push(items, len, at as u32),
-        Command::Condition(k) => offsets::choose(items, len, condition(k, x)),
-        Command::Test => offsets::choose(items, len, test(command::linear_at(model, at + 1), x)),
+        Command::Condition(k) => offsets::choose(items, len, condition(k, mask, setting)),
+        Command::Test => offsets::choose(items, len, test(command::linear_at(model, at + 1), n)),
         Command::Give(_, _, _) => offsets::pop(items, len),
         Command::Site(_, _, _, _) => len,
         Command::Name(_) => len,
@@ -157,17 +180,22 @@ fn size(c: Command) -> usize
     command::size_in(Form::New, c)
 }
 
-// The byte at an offset, where bytes for a linear stand behind it; else 0.
-fn code(model: &[u8], at: usize) -> u8
-    ensures { λ r. ⌜ r ≡ code-at (now (model .entry)) at ⌝ }
+// Below this offset, bytes for a linear stand behind each byte.
+fn code_end(model: &[u8]) -> usize
+    ensures { λ r. ⌜ r ≡ codes-end (now (model .entry)) ⌝ }
 {
     if model.len() < WITH_LINEAR {
         return 0;
     }
-    if model.len() - WITH_LINEAR < at {
-        return 0;
-    }
-    model[at]
+    model.len() - (WITH_LINEAR - 1)
+}
+
+// The byte at an offset, where bytes for a linear stand behind it; else 0.
+fn code(model: &[u8], at: usize, end: usize) -> u8
+    requires { ⌜ end ≡ codes-end (now model) ⌝ }
+    ensures { λ r. ⌜ r ≡ code-at (now (model .entry)) at ⌝ }
+{
+    if at < end { model[at] } else { 0 }
 }
 
 fn is_push(op: u8) -> bool
@@ -179,31 +207,35 @@ fn is_push(op: u8) -> bool
     op <= 0x13
 }
 
-// The bytes of a push.
-fn push_size(op: u8) -> usize
-    ensures { λ r. ⌜ r ≡ push-width op ⌝ }
+// What a push other than a leaf leaves of the stack, told by its byte, and the offset behind it.
+fn push_by(
+    model: &[u8],
+    at: usize,
+    items: &mut [u32],
+    len: usize,
+    mask: u32,
+    setting: u32,
+    n: &[i32],
+    m: usize,
+) -> Turn
+    requires { ⌜ Room (now items) len × (at + with-linear ≤ length (now model)) × (length (now model) < 4294967296) × Flat (point-at mask setting (now n) m) × (length (now n) ≡ numbers) × (byte-at (now model) at ≡ 0x10 → ⊥) ⌝ }
+    ensures { λ r. ⌜ Holds (now (items .exit)) (r .len) (stepped (point-at mask setting (now (n .entry)) m) at (command-of (now (model .entry)) at (push-of (now (model .entry)) at (byte-at (now (model .entry)) at))) (last-first (now (items .entry)) len))
+        × (r .next ≡ at + push-width (byte-at (now (model .entry)) at)) ⌝ }
 {
+    let op = model[at];
     if op == 0x11 {
-        return 2;
-    }
-    if op == 0x13 { 1 } else { WITH_LINEAR }
-}
-
-// What a push leaves of the stack, told by its byte.
-fn push_by(model: &[u8], at: usize, op: u8, items: &mut [u32], len: usize, x: Point) -> usize
-    requires { ⌜ Room (now items) len × (at + with-linear ≤ length (now model)) × (length (now model) < 4294967296) × Flat x ⌝ }
-    ensures { λ r. ⌜ Holds (now (items .exit)) r (stepped x at (command-of (now (model .entry)) at (push-of (now (model .entry)) at op)) (last-first (now (items .entry)) len)) ⌝ }
-{
-    if op == 0x10 {
-        return offsets::push(items, len, at as u32);
-    }
-    if op == 0x11 {
-        return offsets::choose(items, len, condition(model[at + 1], x));
+        let len = offsets::choose(items, len, condition(model[at + 1], mask, setting));
+        return Turn { len, next: at + 2 };
     }
     if op == 0x13 {
-        return offsets::push(items, len, at as u32);
+        let len = offsets::push(items, len, at as u32);
+        return Turn { len, next: at + 1 };
     }
-    offsets::choose(items, len, numerators::test_at(model, at + 1, x))
+    let len = offsets::choose(items, len, numerators::test_at(model, at + 1, n, m));
+    Turn {
+        len,
+        next: at + WITH_LINEAR,
+    }
 }
 
 // The condition or level that a give of an action has.
@@ -212,6 +244,20 @@ fn index_at(model: &[u8], at: usize, op: u8) -> u8
     ensures { λ r. ⌜ r ≡ index-at (now (model .entry)) at op ⌝ }
 {
     if op == 0x20 { 0 } else { model[at + 3] }
+}
+
+fn wide(x: u8) -> u16
+    ensures { λ r. ⌜ (r ≡ x) × (r < 256) ⌝ }
+{
+    x as u16
+}
+
+// An action operand.
+fn action_at(model: &[u8], at: usize) -> u16
+    requires { ⌜ at + 2 ≤ length (now model) ⌝ }
+    ensures { λ r. ⌜ r ≡ action-at new-form (now (model .entry)) at ⌝ }
+{
+    wide(model[at]) + wide(model[at + 1]) * 256
 }
 
 // Whether the slot is given at an offset, told by the bytes; some gives are left to the general way.
@@ -225,26 +271,37 @@ fn gives(model: &[u8], at: usize, op: u8, g: Slot) -> bool
     if 0x22 < op {
         return false;
     }
-    same(
-        g,
-        op,
-        command::action_in(Form::New, model, at + 1),
-        index_at(model, at, op),
-    )
+    same(g, op, action_at(model, at + 1), index_at(model, at, op))
 }
 
 // From an offset on, with nothing on the stack there, to the command that gives the slot.
-fn pass_from(model: &[u8], begin: usize, g: Slot, x: Point, items: &mut [u32]) -> usize
-    requires { ⌜ (verdict (now model) .number ≡ 0) × (length (now model) < 4294967296) × T (no-name (slot-of g)) × Room (now items) 0 × Seek (now model) x (slot-of g) begin [] × Flat x ⌝ }
-    ensures { λ r. ⌜ Comes (now (model .entry)) (slot-of g) x r ⌝ }
+fn pass_from(
+    model: &[u8],
+    begin: usize,
+    g: Slot,
+    mask: u32,
+    setting: u32,
+    n: &[i32],
+    m: usize,
+    items: &mut [u32],
+) -> usize
+    requires { ⌜ Asks (now model) (slot-of g) begin (point-at mask setting (now n) m) × Room (now items) 0 ⌝ }
+    ensures { λ r. ⌜ Comes (now (model .entry)) (slot-of g) (point-at mask setting (now (n .entry)) m) r ⌝ }
 {
     let mut at = begin;
     let mut len: usize = 0;
+    let end = code_end(model);
     loop {
-        let op = code(model, at);
+        let op = code(model, at, end);
+        if op == 0x10 {
+            len = offsets::push(items, len, at as u32);
+            at += WITH_LINEAR;
+            continue;
+        }
         if is_push(op) {
-            len = push_by(model, at, op, items, len, x);
-            at += push_size(op);
+            let t = push_by(model, at, items, len, mask, setting, n, m);
+            len = t.len;
+            at = t.next;
             continue;
         }
         if gives(model, at, op, g) {
@@ -260,37 +317,44 @@ fn pass_from(model: &[u8], begin: usize, g: Slot, x: Point, items: &mut [u32]) -
         if model::is_end(c) {
             return 0;
         }
-        len = after(model, at, c, items, len, x);
+        len = after(model, at, c, items, len, mask, setting, n);
         at += size(c);
     }
 }
 
 // The offset of the leaf that a slot's diagram comes to, in an accepted model; 0 where none is given.
-fn leaf_at(model: &[u8], parts: &[u32], g: Slot, x: Point) -> usize
-    requires { ⌜ (verdict (now model) .number ≡ 0) × (length (now model) < 4294967296) × T (no-name (slot-of g)) × Parts (now model) (now parts) × Flat x ⌝ }
-    ensures { λ r. ⌜ Comes (now (model .entry)) (slot-of g) x r ⌝ }
+fn leaf_at(
+    model: &[u8],
+    begin: usize,
+    g: Slot,
+    mask: u32,
+    setting: u32,
+    n: &[i32],
+    m: usize,
+) -> usize
+    requires { ⌜ Asks (now model) (slot-of g) begin (point-at mask setting (now n) m) ⌝ }
+    ensures { λ r. ⌜ Comes (now (model .entry)) (slot-of g) (point-at mask setting (now (n .entry)) m) r ⌝ }
 {
-    let begin = parts::begin(parts, g);
     let mut items = [0u32; 32];
-    pass_from(model, begin, g, x, &mut items)
+    pass_from(model, begin, g, mask, setting, n, m, &mut items)
 }
 
-// The linear of the leaf at an offset, at a point, times d; 0 where there is none.
-fn leaf_numerator(model: &[u8], at: usize, x: Point) -> Numerator
-    requires { ⌜ Flat x ⌝ }
-    ensures { λ r. ⌜ r ≡ words (numerator-at x (lin-of (leaf-of (read-at (now (model .entry)) at)))) ⌝ }
+// The linear of the leaf at an offset, at a point's numbers, times d; 0 where there is none.
+fn leaf_numerator(model: &[u8], at: usize, n: &[i32], m: usize) -> Numerator
+    requires { ⌜ Flat (point-at 0 0 (now n) m) × (length (now n) ≡ numbers) ⌝ }
+    ensures { λ r. ⌜ r ≡ words (numerator-at (nums-at (now (n .entry))) (lin-of (leaf-of (read-at (now (model .entry)) at)))) ⌝ }
 {
-    if code(model, at) == 0x10 {
-        return numerators::numerator_at(model, at + 1, x);
+    if code(model, at, code_end(model)) == 0x10 {
+        return numerators::numerator_at(model, at + 1, n, m);
     }
-    numerator([0i64; NUMBERS], x)
+    Numerator { low: 0, high: 0 }
 }
 
 // The constant of the leaf at an offset; 0 where there is none.
 fn leaf_constant(model: &[u8], at: usize) -> i64
     ensures { λ r. ⌜ r ≡ lin-of (leaf-of (read-at (now (model .entry)) at)) .const ⌝ }
 {
-    if code(model, at) == 0x10 {
+    if code(model, at, code_end(model)) == 0x10 {
         return numerators::number(model, at + 1 + COEFFICIENTS * 4);
     }
     0
@@ -302,14 +366,23 @@ pub fn reward_at(model: &[u8], parts: &[u32], g: Slot, x: Point) -> Reward
     ensures { λ r. ⌜ ((s : State) (z : List Bool) → Stands (site-at (now (model .entry)) .levels) (site-at (now (model .entry)) .conditions) x s z
         → r ≡ reward-of (worth-of (env s z) (find-slot (slot-of g) (loaded-entries (now (model .entry)))))) ⌝ }
 {
-    let at = leaf_at(model, parts, g, x);
+    let n = x.n;
+    let at = leaf_at(
+        model,
+        parts::begin(parts, g),
+        g,
+        x.mask,
+        x.setting,
+        &n,
+        x.levels,
+    );
     if command::byte_at(model, at) == 0x13 {
         return Reward {
             forbidden: true,
             worth: Numerator { low: 0, high: 0 },
         };
     }
-    let worth = leaf_numerator(model, at, x);
+    let worth = leaf_numerator(model, at, &n, x.levels);
     Reward {
         forbidden: false,
         worth,
@@ -322,8 +395,17 @@ pub fn level_at(model: &[u8], parts: &[u32], g: Slot, x: Point) -> Numerator
     ensures { λ r. ⌜ ((s : State) (z : List Bool) → Stands (site-at (now (model .entry)) .levels) (site-at (now (model .entry)) .conditions) x s z
         → r ≡ words (level-of (env s z) (find-slot (slot-of g) (loaded-entries (now (model .entry)))))) ⌝ }
 {
-    let at = leaf_at(model, parts, g, x);
-    leaf_numerator(model, at, x)
+    let n = x.n;
+    let at = leaf_at(
+        model,
+        parts::begin(parts, g),
+        g,
+        x.mask,
+        x.setting,
+        &n,
+        x.levels,
+    );
+    leaf_numerator(model, at, &n, x.levels)
 }
 
 // What the end worth comes to, times d; 0 where none is given.
@@ -337,10 +419,13 @@ pub fn end_at(model: &[u8], parts: &[u32], x: Point) -> Numerator
         action: 0,
         index: 0,
     };
-    if parts::begin(parts, g) == 0 {
+    let begin = parts::begin(parts, g);
+    if begin == 0 {
         return Numerator { low: 0, high: 0 };
     }
-    level_at(model, parts, g, x)
+    let n = x.n;
+    let at = leaf_at(model, begin, g, x.mask, x.setting, &n, x.levels);
+    leaf_numerator(model, at, &n, x.levels)
 }
 
 // The weight, out of W, that a slot's diagram comes to.
@@ -349,7 +434,16 @@ pub fn chance_at(model: &[u8], parts: &[u32], g: Slot, x: Point) -> u64
     ensures { λ r. ⌜ ((s : State) (z : List Bool) → Stands (site-at (now (model .entry)) .levels) (site-at (now (model .entry)) .conditions) x s z
         → r ≡ chance-of (env s z) (find-slot (slot-of g) (loaded-entries (now (model .entry))))) ⌝ }
 {
-    let at = leaf_at(model, parts, g, x);
+    let n = x.n;
+    let at = leaf_at(
+        model,
+        parts::begin(parts, g),
+        g,
+        x.mask,
+        x.setting,
+        &n,
+        x.levels,
+    );
     weight(leaf_constant(model, at))
 }
 

@@ -32,11 +32,14 @@ pub fn choose(items: &mut [u32], len: usize, high: bool) -> usize
     requires { ⌜ Room (now items) len ⌝ }
     ensures { λ r. ⌜ Holds (now (items .exit)) r (chosen high (last-first (now (items .entry)) len)) ⌝ }
 {
+    if high {
+        if len < 2 {
+            return len;
+        }
+        return len - 1;
+    }
     if len < 2 {
         return len;
-    }
-    if high {
-        return len - 1;
     }
     items[len - 2] = items[len - 1];
     len - 1

@@ -4,16 +4,17 @@ ghost use mathlib.Core.Path.{_≡_};
 ghost use mathlib.Core.List.{List};
 ghost use Prim.Native.Nat.{ℕ, _+_, _-_, _<_};
 ghost use lib.Dec.{eqb, ltb};
-ghost use lib.ListN.{length, getD, replicate};
+ghost use lib.ListN.{length, getD};
 ghost use Rattle.whole.specs.Cases.{if};
 ghost use Rattle.theory.specs.Widths.{stack-most};
 ghost use Rattle.theory.specs.Verdict.{verdict};
 ghost use Rattle.command.specs.Reading.{command-of};
 ghost use Rattle.evaluate.specs.Pass.{slot-of};
-ghost use Rattle.evaluate.specs.Parts.{slots-most, depth-after, noted, put, Parts};
+ghost use Rattle.evaluate.specs.Parts.{depth-after, noted, put, Blank, Parts};
 ghost use Rattle.evaluate.specs.Parts.{row as row-of};
 ghost use Rattle.evaluate.specs.Parts.{place as place-of};
 use super::Slot;
+use super::size;
 use command::Command;
 use command::Read;
 use forms::ACTIONS;
@@ -29,6 +30,11 @@ pub const SLOTS_EACH: usize = END_ROW + 1;
 
 // For each action; action 0 has its words too, for the end worth.
 pub const SLOTS: usize = (ACTIONS + 1) * SLOTS_EACH;
+
+// A model of few actions needs no more words.
+pub const FEW_ACTIONS: usize = 20;
+
+pub const FEW_SLOTS: usize = (FEW_ACTIONS + 1) * SLOTS_EACH;
 
 // The place among an action's slots, SLOTS_EACH where there is no such slot.
 fn row(command: u8, index: u8) -> usize
@@ -151,7 +157,7 @@ fn last_empty(depth: usize, begin: u32, at: u32) -> u32
 
 // "one pass": of each slot the last offset before its command at which nothing was on the stack.
 pub fn find(model: &[u8], parts: &mut [u32])
-    requires { ⌜ (verdict (now model) .number ≡ 0) × (length (now model) < 4294967296) × (now parts ≡ replicate slots-most 0) ⌝ }
+    requires { ⌜ (verdict (now model) .number ≡ 0) × (length (now model) < 4294967296) × Blank (now parts) ⌝ }
     ensures { λ _. ⌜ Parts (now (model .entry)) (now (parts .exit)) ⌝ }
 {
     let mut at = command::next_after(model, 0);
@@ -168,6 +174,6 @@ pub fn find(model: &[u8], parts: &mut [u32])
         begin = last_empty(held, begin, at as u32);
         note(parts, c, begin);
         held = depth(c, held);
-        at = command::next_after(model, at);
+        at += size(c);
     }
 }

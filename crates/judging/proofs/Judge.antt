@@ -5,7 +5,7 @@ use mathlib.Core.List.{[], _∷_}
 use Prim.Native.Nat.{ℕ, suc, _+_, _-_, _*_, _≤_, _<_}
 use native.Mathlib.Nat.{mul-le-mul}
 use native.Mathlib.Omega.{arith}
-use borrow.Author.Tests.{ltb-true, ltb-false, le-leb, lt-leb}
+use borrow.Author.Tests.{ltb-true, ltb-false, le-leb, lt-leb, le-ltb, lt-ltb}
 use lib.Dec.{T}
 use lib.IntN.{ℤ, pos, negsuc, natAbs, _+ℤ_, _-ℤ_, _*ℤ_}
 use lib.Signed.{leZ, ltZ}
@@ -30,7 +30,7 @@ use Rattle.judging.specs.declared.Total.{Total}
 use Rattle.judging.specs.declared.Total.the-variants as total
 use Rattle.judging.specs.declared.Level.{Level}
 use Rattle.judging.specs.declared.Level.the-variants as level
-use Rattle.judging.specs.Totals.{total-of, judged-32, level-by, times-of, plus-of, added-of, summed, tried, Kept, stopped, is-over}
+use Rattle.judging.specs.Totals.{total-of, judged-32, times-of, plus-of, added-of, summed, tried, Kept, stopped, is-over}
 
 -- ---- products
 
@@ -83,25 +83,27 @@ below-over n h = sym (limited-over (negsuc n) (omega arith))
 abbrev held : ℤ → ℕ → ℤ
 held h l = h *ℤ pos word +ℤ pos l
 
-pub high-above : (h : ℤ) (l : ℕ) → ltZ (pos 0) h ≡ true → within.Over ≡ limited (held h l)
-high-above (pos k) l t = let u = ltb-true 0 k t in above-over (k * word + l) (omega arith)
-high-above (negsuc k) l t = clash (sym t)
+-- what a number comes to where it is told by its words: o beyond them
+module _ {A : Type 0} (F : ℤ → A) where
+  pub high-above : {o : A} → ((n : ℕ) → word ≤ n → o ≡ F (pos n)) → (h : ℤ) (l : ℕ) → ltZ (pos 0) h ≡ true → o ≡ F (held h l)
+  high-above f (pos k) l t = let u = ltb-true 0 k t in f (k * word + l) (omega arith)
+  high-above f (negsuc k) l t = clash (sym t)
 
-pub high-below : (h : ℤ) (l : ℕ) → l < word → ltZ h (negsuc 0) ≡ true → within.Over ≡ limited (held h l)
-high-below (pos k) l b t = clash (sym t)
-high-below (negsuc k) l b t =
-    let u = ltb-true 0 k t in
-    below-over (suc k * word - suc l) (omega arith) ∙ ap limited (sym (below (suc k * word) l (suc k * word - suc l) (omega arith)))
+  pub high-below : {o : A} → ((n : ℕ) → word ≤ n → o ≡ F (negsuc n)) → (h : ℤ) (l : ℕ) → l < word → ltZ h (negsuc 0) ≡ true → o ≡ F (held h l)
+  high-below f (pos k) l b t = clash (sym t)
+  high-below f (negsuc k) l b t =
+      let u = ltb-true 0 k t in
+      f (suc k * word - suc l) (omega arith) ∙ ap F (sym (below (suc k * word) l (suc k * word - suc l) (omega arith)))
 
-pub high-minus : (h : ℤ) (l : ℕ) → l < word → ltZ h (negsuc 0) ≡ false → ltZ h (pos 0) ≡ true → {r : Within} → r ≡ limited (negsuc (18446744073709551615 - l)) → r ≡ limited (held h l)
-high-minus (pos k) l b t u e = absurd (let v = ltb-true k 0 u in omega arith)
-high-minus (negsuc k) l b t u e =
-    let v = ltb-false 0 k t in
-    e ∙ ap limited (sym (below (suc k * word) l (18446744073709551615 - l) (omega arith)))
+  pub high-minus : (h : ℤ) (l : ℕ) → l < word → ltZ h (negsuc 0) ≡ false → ltZ h (pos 0) ≡ true → {r : A} → r ≡ F (negsuc (18446744073709551615 - l)) → r ≡ F (held h l)
+  high-minus (pos k) l b t u e = absurd (let v = ltb-true k 0 u in omega arith)
+  high-minus (negsuc k) l b t u e =
+      let v = ltb-false 0 k t in
+      e ∙ ap F (sym (below (suc k * word) l (18446744073709551615 - l) (omega arith)))
 
-pub high-none : (h : ℤ) (l : ℕ) → ltZ (pos 0) h ≡ false → ltZ h (pos 0) ≡ false → {r : Within} → r ≡ limited (pos l) → r ≡ limited (held h l)
-high-none (pos k) l t u e = let v = ltb-false 0 k t in e ∙ ap (λ (n : ℕ). limited (pos n)) (omega arith)
-high-none (negsuc k) l t u e = clash u
+  pub high-none : (h : ℤ) (l : ℕ) → ltZ (pos 0) h ≡ false → ltZ h (pos 0) ≡ false → {r : A} → r ≡ F (pos l) → r ≡ F (held h l)
+  high-none (pos k) l t u e = let v = ltb-false 0 k t in e ∙ ap (λ (n : ℕ). F (pos n)) (omega arith)
+  high-none (negsuc k) l t u e = clash u
 
 -- ---- 32 bits
 
@@ -141,29 +143,32 @@ module _ (z : ℤ) where
       fit (pos k) s t = record { sfits = let v = ltb-false 2147483647 k t in omega arith }
       fit (negsuc k) s t = record { sfits = let v = ltb-false 2147483647 k s in omega arith }
 
--- the same of a number that is read back from its bits
-module _ (w : Within) (z : ℤ) (e : w ≡ within.Is z) (f : SFits w64 z) where
-  told : judged-32 z ≡ level-by w
-  unfolding level-by
-  told = sym (ap level-by e)
+-- a number by its magnitude
+module _ (n : ℕ) where
+  pub half-over : 2147483647 < n → level.Over ≡ judged-32 (pos n)
+  half-over h = bits-above (pos n) refl (lt-ltb 2147483647 n h)
 
-  pub level-below : ltZ (R z) least ≡ true → level.Over ≡ level-by w
-  level-below t = bits-below z (rw (back z f) at t) ∙ told
+  pub minus-over : 2147483647 < n → level.Over ≡ judged-32 (negsuc n)
+  minus-over h = bits-below (negsuc n) (lt-ltb 2147483647 n h)
 
-  pub level-above : ltZ (R z) least ≡ false → ltZ most (R z) ≡ true → level.Over ≡ level-by w
-  level-above s t = bits-above z (rw (back z f) at s) (rw (back z f) at t) ∙ told
+  module _ (h : n ≤ 2147483647) where
+    half-plain : toZ w32 n ≡ pos n
+    half-plain = back32 (pos n) (record { sfits = omega arith })
 
-  pub level-fits : ltZ (R z) least ≡ false → ltZ most (R z) ≡ false → SFits w32 (R z)
-  level-fits s t = rw (back z f) (bits-fit z (rw (back z f) at s) (rw (back z f) at t) .0)
+    pub half-is : level.Is (toZ w32 n) ≡ judged-32 (pos n)
+    half-is = ap level.Is half-plain ∙ bits-fit (pos n) refl (le-ltb 2147483647 n h) .1
 
-  pub level-is : ltZ (R z) least ≡ false → ltZ most (R z) ≡ false → level.Is (R32 (R z)) ≡ level-by w
-  level-is s t =
-      let g = bits-fit z (rw (back z f) at s) (rw (back z f) at t) in
-      ap level.Is (ap R32 (back z f) ∙ back32 z (g .0)) ∙ g .1 ∙ told
+    minus-plain : negsuc 0 -ℤ toZ w32 n ≡ negsuc n
+    minus-plain = ap (λ (z : ℤ). negsuc 0 -ℤ z) half-plain ∙ less n
 
-pub level-over : (w : Within) → w ≡ within.Over → level.Over ≡ level-by w
-unfolding level-by
-level-over w e = sym (ap level-by e)
+    minus-fit : SFits w32 (negsuc n) × (level.Is (negsuc n) ≡ judged-32 (negsuc n))
+    minus-fit = bits-fit (negsuc n) (le-ltb 2147483647 n h) refl
+
+    pub minus-fits : SFits w32 (negsuc 0 -ℤ toZ w32 n)
+    minus-fits = rw minus-plain (minus-fit .0)
+
+    pub minus-is : level.Is (R32 (negsuc 0 -ℤ toZ w32 n)) ≡ judged-32 (negsuc n)
+    minus-is = ap level.Is (ap R32 minus-plain ∙ back32 (negsuc n) (minus-fit .0)) ∙ minus-fit .1
 
 -- ---- products and sums
 

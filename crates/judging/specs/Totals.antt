@@ -23,10 +23,6 @@ total-of total.Over = over
 unfoldable pub judged-32 : ℤ → Level
 judged-32 z = if (in-32-bits z) (level.Is z) level.Over
 
-unfoldable pub level-by : Within → Level
-level-by (within.Is z) = judged-32 z
-level-by within.Over = level.Over
-
 -- the product of two numbers, all three judged
 unfoldable pub times-of : Within → Within → Within
 times-of (within.Is p) (within.Is z) = limited (p *ℤ z)

@@ -7,7 +7,7 @@ ghost use Rattle.whole.specs.Within.{limit, limited};
 ghost use Rattle.whole.specs.Numerator.{number};
 ghost use Rattle.theory.specs.Verdict.{or};
 ghost use Rattle.theory.specs.Plain.{numbered as numbered-of, better as better-of};
-ghost use Rattle.judging.specs.Totals.{total-of, level-by, times-of, added-of, tried, summed, Kept, stopped, is-over};
+ghost use Rattle.judging.specs.Totals.{total-of, judged-32, times-of, added-of, tried, summed, Kept, stopped, is-over};
 use whole::Numerator;
 use whole::Within;
 use whole::limits::LIMIT;
@@ -67,20 +67,46 @@ pub fn narrow(x: Numerator) -> Within
     not_negative(low)
 }
 
-// "a next state's numerator .. leaves 32 bits"
-pub fn in_32_bits(w: Within) -> Level
-    ensures { λ r. ⌜ r ≡ level-by w ⌝ }
+// 2³¹ − 1: the most of 32 bits, and the most that −1 − n is turned from.
+const MOST: u64 = 2147483647;
+
+fn high_half(n: u64) -> Level
+    ensures { λ r. ⌜ r ≡ judged-32 (pos n) ⌝ }
 {
-    let Within::Is(z) = w else {
-        return Level::Over;
-    };
-    if z < -2147483648 {
+    if n <= MOST {
+        Level::Is(n as i32)
+    } else {
+        Level::Over
+    }
+}
+
+// −1 − n.
+fn low_half(n: u64) -> Level
+    ensures { λ r. ⌜ r ≡ judged-32 (negsuc n) ⌝ }
+{
+    if n <= MOST {
+        Level::Is(-1 - n as i32)
+    } else {
+        Level::Over
+    }
+}
+
+// "a next state's numerator .. leaves 32 bits"
+pub fn in_32_bits(x: Numerator) -> Level
+    ensures { λ r. ⌜ r ≡ judged-32 (number x) ⌝ }
+{
+    let low = x.low;
+    let high = x.high;
+    if 0 < high {
         return Level::Over;
     }
-    if 2147483647 < z {
+    if high < -1 {
         return Level::Over;
     }
-    Level::Is(z as i32)
+    if high < 0 {
+        return low_half(u64::MAX - low);
+    }
+    high_half(low)
 }
 
 // 2³¹ − 1: two such magnitudes have a product within the limits, which no division has to tell.

@@ -5,21 +5,18 @@ use mathlib.Core.List.{List, map}
 use Prim.Native.Nat.{ℕ, zero, suc, _+_, _≤_, _<_}
 use native.Mathlib.Omega.{arith}
 use borrow.Author.Tests.{eqb-true, eqb-false}
-use lib.Dec.{T, eqb, leb, leb→le, nleb→lt}
-use lib.IntN.{ℤ, pos, negsuc, natAbs}
+use lib.Dec.{eqb}
+use lib.IntN.{ℤ, pos}
 use lib.ListN.{length, getD, take, length-set}
 use lib.ListN.{set as store}
 use lib.Seq.{getD-set-same, getD-set-other, getD-take, length-take-le}
 use mir.Syntax.{w32}
 use mir.Val.{SFits}
-use Rattle.whole.specs.Cases.{if, by-test, both, clash}
+use Rattle.whole.specs.Cases.{if, clash}
 use Rattle.whole.specs.Linears.{numbers}
-use Rattle.whole.specs.Within.{limit, limited}
-use Rattle.whole.specs.WithinLaws.{limited-is, limited-over}
 use Rattle.whole.specs.Numerator.{number, words}
 use Rattle.whole.specs.NumeratorLaws.{number-words}
 use Rattle.whole.specs.declared.Numerator.{Numerator}
-use Rattle.whole.specs.declared.Within.{Within}
 use Rattle.theory.specs.Widths.{levels-most}
 use Rattle.theory.specs.Meaning.{State, env, level-at, moved}
 use Rattle.theory.specs.Valid.{all}
@@ -33,34 +30,19 @@ use Rattle.evaluate.specs.Pass.{den-of, Flat, Stands}
 use Rattle.judging.specs.declared.Level.{Level}
 use Rattle.judging.specs.declared.Level.the-variants as level
 use Rattle.transition.specs.declared.Next.{Next}
-use Rattle.judging.specs.Totals.{judged-32, level-by}
+use Rattle.judging.specs.Totals.{judged-32}
 use Rattle.transition.specs.Standing.{Ready, Spells, Fits, under, after, Level-is, Leads}
 use Rattle.transition.proofs.Lists.{map-twice, listed-from, some-fails, each-passes, within-widths, set}
 
 -- ---- a level
 
--- a number of 32 bits lies within the limits
-bits-small : (z : ℤ) → T (in-32-bits z) → natAbs z ≤ limit
-unfolding in-32-bits
-bits-small (pos n) t = let u = leb→le n 2147483647 t in omega arith
-bits-small (negsuc n) t = let u = leb→le n 2147483647 (both (leb n 2147483647) true t .0) in omega arith
-
-level-judged : (z : ℤ) → level-by (limited z) ≡ judged-32 z
-unfolding level-by judged-32
-level-judged z = by-test (leb (natAbs z) limit) (λ _. level-by (limited z) ≡ judged-32 z)
-    (λ t. ap level-by (limited-is z (leb→le (natAbs z) limit t)))
-    (λ t. let h = nleb→lt (natAbs z) limit t in ap level-by (limited-over z h) ∙ large h)
-  where
-    large : limit < natAbs z → level.Over ≡ if (in-32-bits z) (level.Is z) level.Over
-    large h = by-test (in-32-bits z) (λ b. level.Over ≡ if b (level.Is z) level.Over) (λ t. absurd (omega (arith, bits-small z t))) (λ _. refl)
-
 pub level-found : (B : List ℕ) (a i : ℕ) (x : Point) (v : Numerator)
     → ((s : State) (r : List Bool) → Stands (site-at B .levels) (site-at B .conditions) x s r → v ≡ words (level-at (env s r) (find-slot (level-slot a i) (loaded-entries B))))
-    → {w : Within} → w ≡ limited (number v) → {z : Level} → z ≡ level-by w → Level-is B a i x z
-level-found B a i x v f p q = record {
+    → {z : Level} → z ≡ judged-32 (number v) → Level-is B a i x z
+level-found B a i x v f q = record {
   is = λ s r st.
       let l : ℤ = level-at (env s r) (find-slot (level-slot a i) (loaded-entries B)) in
-      q ∙ ap level-by (p ∙ ap (λ (u : Numerator). limited (number u)) (f s r st) ∙ ap limited (number-words l)) ∙ level-judged l;
+      q ∙ ap (λ (u : Numerator). judged-32 (number u)) (f s r st) ∙ ap judged-32 (number-words l);
 }
 
 -- what a level says of its numerator

@@ -27,7 +27,7 @@ fn next_level(model: &[u8], parts: &[u32], a: u16, i: u8, x: Point) -> Level
         action: a,
         index: i,
     };
-    judging::in_32_bits(judging::narrow(evaluate::level_at(model, parts, g, x)))
+    judging::in_32_bits(evaluate::level_at(model, parts, g, x))
 }
 
 // The next state has the setting as its mask, and the same denominator.

@@ -1,7 +1,7 @@
 // The worth of a state and the worth of an action, which call each other, steps left falling.
 ghost use mathlib.Core.Path.{_≡_};
 ghost use Prim.Native.Nat.{_≤_};
-ghost use Rattle.evaluate.specs.Parts.{Parts};
+ghost use Rattle.evaluate.specs.Parts.{Blank, Parts};
 ghost use Rattle.transition.specs.Standing.{Standing, Acts};
 ghost use Rattle.worth.specs.Worths.{Earned, State-worth, Action-worth};
 use evaluate::Point;
@@ -87,17 +87,34 @@ fn action_worth(model: &[u8], parts: &[u32], steps: u32, a: u16, x: Point) -> To
         if y.over {
             return Total::Over;
         }
+        if steps == 1 {
+            sum = judging::added(sum, w, ended(model, parts, y.point));
+            r += 1;
+            continue;
+        }
         sum = judging::added(sum, w, state_worth(model, parts, steps - 1, y.point));
         r += 1;
     }
 }
 
-// The worth of a state, where the diagrams begin found first.
+// The worth of a state, where the diagrams begin noted first, in the words that are lent for it.
+fn noted(model: &[u8], parts: &mut [u32], steps: u32, x: Point) -> Total
+    requires { ⌜ Standing (now model) x × (steps ≤ 8) × Blank (now parts) ⌝ }
+    ensures { λ r. ⌜ State-worth (now (model .entry)) steps x r ⌝ }
+{
+    parts::find(model, parts);
+    state_worth(model, parts, steps, x)
+}
+
+// The worth of a state; words for all actions are cleared only where a model has many.
 pub fn worked(model: &[u8], steps: u32, x: Point) -> Total
     requires { ⌜ Standing (now model) x × (steps ≤ 8) ⌝ }
     ensures { λ r. ⌜ State-worth (now (model .entry)) steps x r ⌝ }
 {
-    let mut parts = [0u32; parts::SLOTS];
-    parts::find(model, &mut parts);
-    state_worth(model, &parts, steps, x)
+    if sites::actions(model) as usize <= parts::FEW_ACTIONS {
+        let mut few = [0u32; parts::FEW_SLOTS];
+        return noted(model, &mut few, steps, x);
+    }
+    let mut all = [0u32; parts::SLOTS];
+    noted(model, &mut all, steps, x)
 }

@@ -17,12 +17,12 @@ bit-requires-2 c κs = search needs
 returns : tie.Need-returns
 unfolding condition-holds
 returns c =
-    rw (le-leb _ _ (c .before .if1 .taken)) (c .bit .ensures)
+    λ l m. rw (le-leb _ _ (c .before .if1 .taken)) (c .bit .ensures)
 
 returns-2 : tie.Need-returns-2
 unfolding condition-holds
 returns-2 c =
-    rw (lt-leb _ _ (c .before .if1 .left)) (c .bit2 .ensures)
+    λ l m. rw (lt-leb _ _ (c .before .if1 .left)) (c .bit2 .ensures)
 
 pub condition-spec : {M : Type 1} → statement M
 condition-spec = tie.close (tie.spec bit-requires sub-bit bit-requires-2 returns returns-2)

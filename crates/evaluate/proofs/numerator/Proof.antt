@@ -1,20 +1,21 @@
 -- `evaluate::numerator` meets its contract.
 use mathlib.Core.Path.{ap, _∙_}
-use borrow.Author.Needs.{needs}
+use Rattle.whole.specs.Linears.{dotL}
 use Rattle.whole.specs.Numerator.{words}
-use Rattle.table.proofs.Words.{as-long}
+use Rattle.evaluate.specs.Pass.{nums-at}
 use Rattle.evaluate.proofs.Turns.{numerator-sum}
 use Rattle.evaluate.proofs.numerator.Statement.{statement}
 use Rattle.evaluate.proofs.numerator.Tie as tie
 
--- src/lib.rt:84:5
-dot-requires : tie.Need-dot-requires
-dot-requires c κs = search needs
+nine-requires : tie.Need-nine-requires
+nine-requires c κs = c .pre .1
 
--- src/lib.rt:79:1
+dot-requires : tie.Need-dot-requires
+dot-requires c κs = c .before .pre .0
+
 returns : tie.Need-returns
 returns c =
-    c .dot .ensures ∙ ap words (numerator-sum ((c .before .before) .args .p) ((c .before .before) .args .x) ((c .before .before) .pre .long) (as-long ((c .before .before) .args .x .n) ((c .before .before) .good .1 .0 .1 .1 .1 .1 .0 .1 .0 .1)))
+    c .dot .ensures ∙ ap words (ap (dotL (c .before .before .args .p)) (c .before .nine .ensures) ∙ numerator-sum (c .before .before .args .p) (nums-at (c .before .before .args .n .now)) (c .before .before .pre .0 .long) (c .before .before .pre .1))
 
 pub numerator-spec : {M : Type 1} → statement M
-numerator-spec = tie.close (tie.spec dot-requires returns)
+numerator-spec = tie.close (tie.spec nine-requires dot-requires returns)

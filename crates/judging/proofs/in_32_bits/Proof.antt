@@ -1,35 +1,56 @@
 -- `judging::in_32_bits` meets its contract.
-use Rattle.judging.proofs.Judge.{level-over, level-below, level-above, level-fits, level-is}
+use native.Mathlib.Omega.{arith}
+use Rattle.whole.specs.Numerator.{number}
+use Rattle.judging.specs.Totals.{judged-32}
+use Rattle.whole.proofs.TwoWords.{high-back}
+use Rattle.judging.proofs.Judge.{half-over, minus-over, high-above, high-below, high-minus, high-none}
 use borrow.Author.Needs.{needs}
 use Rattle.judging.proofs.in_32_bits.Statement.{statement}
 use Rattle.judging.proofs.in_32_bits.Tie as tie
 
-enum-known-w : tie.Need-enum-known-w
-enum-known-w c = search needs
-
-enum-told : tie.Need-enum-told
-enum-told c = search needs
-
 returns : tie.Need-returns
+unfolding number
 returns c =
-    level-over ((c .before .before) .args .w) (c .enum-told .given .1)
+    let x = (c .before .before) .args .x in
+    high-above judged-32 (λ n h. half-over n (omega (arith, h))) (x .high) (x .low) (rw (high-back (x .high) (c .before .struct-told .given .1 .0 .1)) at (c .if1 .taken))
 
 returns-2 : tie.Need-returns-2
+unfolding number
 returns-2 c =
-    level-below ((c .before .before .before .before) .args .w) _ (c .before .before .w .given .1) (record { sfits = c .before .known-told .given .0 .1 }) (c .if1 .taken)
+    let x = (c .before .before .before) .args .x in
+    high-below judged-32 (λ n h. minus-over n (omega (arith, h))) (x .high) (x .low) (omega arith) (rw (high-back (x .high) (c .before .before .struct-told .given .1 .0 .1)) at (c .if2 .taken))
+
+sub-low-half : tie.Need-sub-low-half
+sub-low-half c = search needs
+
+low-half-requires : tie.Need-low-half-requires
+low-half-requires c κs = search needs
 
 returns-3 : tie.Need-returns-3
+unfolding number
 returns-3 c =
-    level-above ((c .before .before .before .before .before) .args .w) _ (c .before .before .before .w .given .1) (record { sfits = c .before .before .known-told .given .0 .1 }) (c .before .if1 .left) (c .if2 .taken)
+    let x = (c .before .before .before .before .before) .args .x in
+    let b = high-back (x .high) (c .before .before .before .before .struct-told .given .1 .0 .1) in
+    high-minus judged-32 (x .high) (x .low) (omega arith) (rw b at (c .before .before .if2 .left)) (rw b at (c .before .if3 .taken)) (c .low-half .ensures)
 
-cast-t4 : tie.Need-cast-t4
-cast-t4 c =
-    level-fits ((c .before .before .before .before .before) .args .w) _ (c .before .before .before .w .given .1) (record { sfits = c .before .before .known-told .given .0 .1 }) (c .before .if1 .left) (c .if2 .left)
+high-half-requires : tie.Need-high-half-requires
+high-half-requires c κs = search needs
 
 returns-4 : tie.Need-returns-4
+unfolding number
 returns-4 c =
-    level-is ((c .before .before .before .before .before) .args .w) _ (c .before .before .before .w .given .1) (record { sfits = c .before .before .known-told .given .0 .1 }) (c .before .if1 .left) (c .if2 .left)
+    let x = (c .before .before .before .before .before) .args .x in
+    let b = high-back (x .high) (c .before .before .before .before .struct-told .given .1 .0 .1) in
+    high-none judged-32 (x .high) (x .low) (rw b at (c .before .before .before .if1 .left)) (rw b at (c .before .if3 .left)) (c .high-half .ensures)
 
 pub in-32-bits-spec : {M : Type 1} → statement M
 in-32-bits-spec =
-    tie.close (tie.spec enum-known-w enum-told returns returns-2 returns-3 cast-t4 returns-4)
+    tie.close
+    (tie.spec
+    returns
+    returns-2
+    sub-low-half
+    low-half-requires
+    returns-3
+    high-half-requires
+    returns-4)

@@ -1,8 +1,9 @@
 -- `judging::narrow` meets its contract.
 use native.Mathlib.Omega.{arith}
+use Rattle.whole.specs.Within.{limited}
 use Rattle.whole.specs.Numerator.{number}
 use Rattle.whole.proofs.TwoWords.{high-back}
-use Rattle.judging.proofs.Judge.{high-above, high-below, high-minus, high-none}
+use Rattle.judging.proofs.Judge.{above-over, below-over, high-above, high-below, high-minus, high-none}
 use borrow.Author.Needs.{needs}
 use Rattle.judging.proofs.narrow.Statement.{statement}
 use Rattle.judging.proofs.narrow.Tie as tie
@@ -11,13 +12,13 @@ returns : tie.Need-returns
 unfolding number
 returns c =
     let x = (c .before .before) .args .x in
-    high-above (x .high) (x .low) (rw (high-back (x .high) (c .before .struct-told .given .1 .0 .1)) at (c .if1 .taken))
+    high-above limited (λ n h. above-over n (omega (arith, h))) (x .high) (x .low) (rw (high-back (x .high) (c .before .struct-told .given .1 .0 .1)) at (c .if1 .taken))
 
 returns-2 : tie.Need-returns-2
 unfolding number
 returns-2 c =
     let x = (c .before .before .before) .args .x in
-    high-below (x .high) (x .low) (omega arith) (rw (high-back (x .high) (c .before .before .struct-told .given .1 .0 .1)) at (c .if2 .taken))
+    high-below limited (λ n h. below-over n (omega (arith, h))) (x .high) (x .low) (omega arith) (rw (high-back (x .high) (c .before .before .struct-told .given .1 .0 .1)) at (c .if2 .taken))
 
 sub-negative : tie.Need-sub-negative
 sub-negative c = search needs
@@ -30,7 +31,7 @@ unfolding number
 returns-3 c =
     let x = (c .before .before .before .before .before) .args .x in
     let b = high-back (x .high) (c .before .before .before .before .struct-told .given .1 .0 .1) in
-    high-minus (x .high) (x .low) (omega arith) (rw b at (c .before .before .if2 .left)) (rw b at (c .before .if3 .taken)) (c .negative .ensures)
+    high-minus limited (x .high) (x .low) (omega arith) (rw b at (c .before .before .if2 .left)) (rw b at (c .before .if3 .taken)) (c .negative .ensures)
 
 not-negative-requires : tie.Need-not-negative-requires
 not-negative-requires c κs = search needs
@@ -40,7 +41,7 @@ unfolding number
 returns-4 c =
     let x = (c .before .before .before .before .before) .args .x in
     let b = high-back (x .high) (c .before .before .before .before .struct-told .given .1 .0 .1) in
-    high-none (x .high) (x .low) (rw b at (c .before .before .before .if1 .left)) (rw b at (c .before .if3 .left)) (c .not-negative .ensures)
+    high-none limited (x .high) (x .low) (rw b at (c .before .before .before .if1 .left)) (rw b at (c .before .if3 .left)) (c .not-negative .ensures)
 
 pub narrow-spec : {M : Type 1} → statement M
 narrow-spec =

@@ -1,29 +1,20 @@
 -- `evaluate::numerators::signed` meets its contract.
-use Rattle.command.proofs.Signed.{high-half, rest-fits, low-half}
+use Rattle.evaluate.proofs.Halves.{moved-fits, moved-is}
 use borrow.Author.Needs.{needs}
 use Rattle.evaluate.proofs.numerators.signed.Statement.{statement}
 use Rattle.evaluate.proofs.numerators.signed.Tie as tie
 
+add-k : tie.Need-add-k
+add-k c = search needs
+
 cast-result : tie.Need-cast-result
 cast-result c = search needs
 
-sub-k : tie.Need-sub-k
-sub-k c = search needs
-
-cast-result-2 : tie.Need-cast-result-2
-cast-result-2 c = search needs
-
 sub-result : tie.Need-sub-result
-sub-result c =
-    rest-fits ((c .before) .args .n) (c .if1 .left)
+sub-result c = moved-fits (c .args .n) (c .fits .n .fits)
 
 returns : tie.Need-returns
-returns c =
-    high-half ((c .before) .args .n) (c .if1 .taken)
-
-returns-2 : tie.Need-returns-2
-returns-2 c =
-    low-half ((c .before) .args .n) (c .if1 .left)
+returns c = moved-is (c .args .n) (c .fits .n .fits)
 
 pub signed-spec : {M : Type 1} → statement M
-signed-spec = tie.close (tie.spec cast-result sub-k cast-result-2 sub-result returns returns-2)
+signed-spec = tie.close (tie.spec add-k cast-result sub-result returns)

@@ -4,20 +4,28 @@ use lib.IntN.{ℤ, pos}
 use lib.Signed.{leZ}
 use Rattle.whole.specs.Numerator.{number}
 use Rattle.whole.specs.NumeratorLaws.{number-words}
+use Rattle.whole.proofs.Signed.{back}
+use borrow.Author.Needs.{needs}
 use Rattle.evaluate.proofs.numerators.test_at.Statement.{statement}
 use Rattle.evaluate.proofs.numerators.test_at.Tie as tie
 
-numerator-at-requires : tie.Need-numerator-at-requires
-numerator-at-requires c κs =
-    c .before .pre
-
-not-positive-requires : tie.Need-not-positive-requires
-not-positive-requires c κs =
-    tt
+short-at-requires : tie.Need-short-at-requires
+short-at-requires c κs = search needs
 
 returns : tie.Need-returns
 returns c =
-    c .not-positive .ensures ∙ ap (λ (z : ℤ). leZ z (pos 0)) (ap number (c .before .numerator-at .ensures) ∙ number-words _)
+    ap (λ (z : ℤ). leZ z (pos 0)) (back _ (record { sfits = c .struct-told .given .1 .0 .1 }) ∙ c .before .before .before .short-at .ensures (c .before .before .if1 .taken))
+
+wide-at-requires : tie.Need-wide-at-requires
+wide-at-requires c κs = search needs
+
+not-positive-requires : tie.Need-not-positive-requires
+not-positive-requires c κs = search needs
+
+returns-2 : tie.Need-returns-2
+returns-2 c =
+    c .not-positive .ensures ∙ ap (λ (z : ℤ). leZ z (pos 0)) (ap number (c .before .wide-at .ensures) ∙ number-words _)
 
 pub test-at-spec : {M : Type 1} → statement M
-test-at-spec = tie.close (tie.spec numerator-at-requires not-positive-requires returns)
+test-at-spec =
+    tie.close (tie.spec short-at-requires returns wide-at-requires not-positive-requires returns-2)

@@ -6,14 +6,18 @@ use Rattle.evaluate.proofs.offsets.choose.Tie as tie
 
 returns : tie.Need-returns
 returns c =
-    too-few (c .before .args .items .now) (c .before .args .len) (c .before .pre) (c .before .args .high) (c .if1 .taken)
+    too-few (c .before .before .args .items .now) (c .before .before .args .len) (c .before .before .pre) (c .before .before .args .high) (c .if2 .taken)
 
 sub-result : tie.Need-sub-result
 sub-result c = search needs
 
 returns-2 : tie.Need-returns-2
 returns-2 c =
-    high-held (c .before .before .args .items .now) (c .before .before .args .len) (c .before .before .pre) (c .before .if1 .left) (c .before .before .args .high) (c .if2 .taken)
+    high-held (c .before .before .args .items .now) (c .before .before .args .len) (c .before .before .pre) (c .if2 .left) (c .before .before .args .high) (c .before .if1 .taken)
+
+returns-3 : tie.Need-returns-3
+returns-3 c =
+    too-few (c .before .before .args .items .now) (c .before .before .args .len) (c .before .before .pre) (c .before .before .args .high) (c .if3 .taken)
 
 sub-items : tie.Need-sub-items
 sub-items c = search needs
@@ -36,9 +40,9 @@ sub-result-2 c = search needs
 same-length : tie.Need-same-length
 same-length c = search needs
 
-returns-3 : tie.Need-returns-3
-returns-3 c =
-    low-held (c .before .before .before .args .items .now) (c .before .before .before .args .len) (c .before .before .before .pre) (c .before .before .if1 .left) (c .before .before .before .args .high) (c .before .if2 .left)
+returns-4 : tie.Need-returns-4
+returns-4 c =
+    low-held (c .before .before .before .args .items .now) (c .before .before .before .args .len) (c .before .before .before .pre) (c .before .if3 .left) (c .before .before .before .args .high) (c .before .before .if1 .left)
 
 pub choose-spec : {M : Type 1} → statement M
 choose-spec =
@@ -47,6 +51,7 @@ choose-spec =
     returns
     sub-result
     returns-2
+    returns-3
     sub-items
     mul-items
     slice-read-items
@@ -54,4 +59,4 @@ choose-spec =
     slice-write-items
     sub-result-2
     same-length
-    returns-3)
+    returns-4)

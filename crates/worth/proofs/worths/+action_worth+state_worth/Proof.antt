@@ -84,10 +84,12 @@ action-worth-claims t = (
   weight-reads.Learnt,
   next-state-reads.Asked,
   next-state-reads.Learnt,
-  state-worth-below t,
-  state-worth.Post,
+  ended-reads.Asked,
+  ended-reads.Learnt,
   added-reads.Asked,
   added-reads.Learnt,
+  state-worth-below t,
+  state-worth.Post,
 )
 
 -- the contracts that `state_worth` calls by, itself at a smaller measure
@@ -159,31 +161,53 @@ action-worth-returns-2 t c =
     let s = (c .before .before .before .before .before .before .before .before .before .before .before .before) in
     sums-over (s .args .model .now) (s .args .steps) (s .args .a) (s .args .x) _ _ _ (c .before .before .before .before .before .before .loop .inv) _ (c .before .before .before .before .before .before .before .before .before .chances .ensures) _ (c .before .before .before .weight .ensures) (goes-on (stopped (total-of (c .before .before .before .before .before .before .loop .sum))) (c .before .before .before .before .before .before .before .before .settings .result) (c .before .before .before .before .before .before .loop .r) _ (c .before .before .before .before .before .settings-done .ensures) (c .before .before .before .before .if1 .left)) (c .before .before .if2 .left) _ (c .before .next-state .ensures) (not-stopped (stopped (total-of (c .before .before .before .before .before .before .loop .sum))) (c .before .before .before .before .before .before .before .before .settings .result) (c .before .before .before .before .before .before .loop .r) _ (c .before .before .before .before .before .settings-done .ensures) (c .before .before .before .before .if1 .left)) (c .if3 .taken)
 
-action-worth-sub-state-worth : (t : ℕ) → action-worth-lts.Need-sub-state-worth (action-worth-claims t) (action-worth-at t) action-worth.Post action-worth-Inv-loop action-worth-μ-loop
-action-worth-sub-state-worth t c =
-    (c .before .before .before .before .before .before .before .before .before .before .before .before) .pre .1 .2
-
-action-worth-state-worth-requires : (t : ℕ) → action-worth-lts.Need-state-worth-requires (action-worth-claims t) (action-worth-at t) action-worth.Post action-worth-Inv-loop action-worth-μ-loop
-action-worth-state-worth-requires t c κs =
-    let s = (c .before .before .before .before .before .before .before .before .before .before .before .before) in
-    (to-state (s .args .steps) t (s .pre .1 .2) (s .pre .0), (next-stands (s .args .model .now) (s .args .a) (s .args .x) _ _ (s .pre .1 .0) (c .before .next-state .ensures) (c .if3 .left), omega (arith, s .pre .1 .3), s .pre .1 .4))
+action-worth-ended-requires : (t : ℕ) → action-worth-lts.Need-ended-requires (action-worth-claims t) (action-worth-at t) action-worth.Post action-worth-Inv-loop action-worth-μ-loop
+action-worth-ended-requires t c κs =
+    let s = (c .before .before .before .before .before .before .before .before .before .before .before .before .before) in
+    (next-stands (s .args .model .now) (s .args .a) (s .args .x) _ _ (s .pre .1 .0) (c .before .before .next-state .ensures) (c .before .if3 .left), s .pre .1 .4)
 
 action-worth-added-requires : (t : ℕ) → action-worth-lts.Need-added-requires (action-worth-claims t) (action-worth-at t) action-worth.Post action-worth-Inv-loop action-worth-μ-loop
 action-worth-added-requires t c κs =
-    (c .before .before .before .before .before .before .before .loop .inv .kept, c .before .before .before .before .weight .ensures .bounded)
+    (c .before .before .before .before .before .before .before .before .loop .inv .kept, c .before .before .before .before .before .weight .ensures .bounded)
 
 action-worth-add-r-2 : (t : ℕ) → action-worth-lts.Need-add-r-2 (action-worth-claims t) (action-worth-at t) action-worth.Post action-worth-Inv-loop action-worth-μ-loop
 action-worth-add-r-2 t c =
-    omega (arith, goes-on (stopped (total-of (c .before .before .before .before .before .before .before .before .loop .sum))) (c .before .before .before .before .before .before .before .before .before .before .settings .result) (c .before .before .before .before .before .before .before .before .loop .r) _ (c .before .before .before .before .before .before .before .settings-done .ensures) (c .before .before .before .before .before .before .if1 .left))
+    omega (arith, goes-on (stopped (total-of (c .before .before .before .before .before .before .before .before .before .loop .sum))) (c .before .before .before .before .before .before .before .before .before .before .before .settings .result) (c .before .before .before .before .before .before .before .before .before .loop .r) _ (c .before .before .before .before .before .before .before .before .settings-done .ensures) (c .before .before .before .before .before .before .before .if1 .left))
 
 action-worth-loop-less-2 : (t : ℕ) → action-worth-lts.Need-loop-less-2 (action-worth-claims t) (action-worth-at t) action-worth.Post action-worth-Inv-loop action-worth-μ-loop
 action-worth-loop-less-2 t c =
-    omega (arith, goes-on (stopped (total-of (c .before .before .before .before .before .before .before .before .loop .sum))) (c .before .before .before .before .before .before .before .before .before .before .settings .result) (c .before .before .before .before .before .before .before .before .loop .r) _ (c .before .before .before .before .before .before .before .settings-done .ensures) (c .before .before .before .before .before .before .if1 .left))
+    omega (arith, goes-on (stopped (total-of (c .before .before .before .before .before .before .before .before .before .loop .sum))) (c .before .before .before .before .before .before .before .before .before .before .before .settings .result) (c .before .before .before .before .before .before .before .before .before .loop .r) _ (c .before .before .before .before .before .before .before .before .settings-done .ensures) (c .before .before .before .before .before .before .before .if1 .left))
 
 action-worth-loop-again-2 : (t : ℕ) → action-worth-lts.Need-loop-again-2 (action-worth-claims t) (action-worth-at t) action-worth.Post action-worth-Inv-loop action-worth-μ-loop
 action-worth-loop-again-2 t c =
-    let s = (c .before .before .before .before .before .before .before .before .before .before .before .before .before .before) in
-    sums-add (s .args .model .now) (s .args .steps) (s .args .a) (s .args .x) _ _ _ (c .before .before .before .before .before .before .before .before .loop .inv) _ (c .before .before .before .before .before .before .before .before .before .before .before .chances .ensures) _ (c .before .before .before .before .before .weight .ensures) (goes-on (stopped (total-of (c .before .before .before .before .before .before .before .before .loop .sum))) (c .before .before .before .before .before .before .before .before .before .before .settings .result) (c .before .before .before .before .before .before .before .before .loop .r) _ (c .before .before .before .before .before .before .before .settings-done .ensures) (c .before .before .before .before .before .before .if1 .left)) (c .before .before .before .before .if2 .left) _ (c .before .before .before .next-state .ensures) (c .before .before .if3 .left) _ (c .before .state-worth .ensures) _ (c .added .ensures)
+    let s = (c .before .before .before .before .before .before .before .before .before .before .before .before .before .before .before) in
+    sums-add (s .args .model .now) (s .args .steps) (s .args .a) (s .args .x) _ _ _ (c .before .before .before .before .before .before .before .before .before .loop .inv) _ (c .before .before .before .before .before .before .before .before .before .before .before .before .chances .ensures) _ (c .before .before .before .before .before .before .weight .ensures) (goes-on (stopped (total-of (c .before .before .before .before .before .before .before .before .before .loop .sum))) (c .before .before .before .before .before .before .before .before .before .before .before .settings .result) (c .before .before .before .before .before .before .before .before .before .loop .r) _ (c .before .before .before .before .before .before .before .before .settings-done .ensures) (c .before .before .before .before .before .before .before .if1 .left)) (c .before .before .before .before .before .if2 .left) _ (c .before .before .before .before .next-state .ensures) (c .before .before .before .if3 .left) _ (subst (λ (h : ℕ). State-worth (s .args .model .now) h (c .before .before .before .before .next-state .result .point) (c .before .ended .result)) (let e = c .before .before .if4 .taken in let q : 0 ≡ s .args .steps - 1 = omega arith in q) (c .before .ended .ensures)) _ (c .added .ensures)
+
+action-worth-sub-state-worth : (t : ℕ) → action-worth-lts.Need-sub-state-worth (action-worth-claims t) (action-worth-at t) action-worth.Post action-worth-Inv-loop action-worth-μ-loop
+action-worth-sub-state-worth t c =
+    (c .before .before .before .before .before .before .before .before .before .before .before .before .before) .pre .1 .2
+
+action-worth-state-worth-requires : (t : ℕ) → action-worth-lts.Need-state-worth-requires (action-worth-claims t) (action-worth-at t) action-worth.Post action-worth-Inv-loop action-worth-μ-loop
+action-worth-state-worth-requires t c κs =
+    let s = (c .before .before .before .before .before .before .before .before .before .before .before .before .before) in
+    (to-state (s .args .steps) t (s .pre .1 .2) (s .pre .0), (next-stands (s .args .model .now) (s .args .a) (s .args .x) _ _ (s .pre .1 .0) (c .before .before .next-state .ensures) (c .before .if3 .left), omega (arith, s .pre .1 .3), s .pre .1 .4))
+
+action-worth-added-requires-2 : (t : ℕ) → action-worth-lts.Need-added-requires-2 (action-worth-claims t) (action-worth-at t) action-worth.Post action-worth-Inv-loop action-worth-μ-loop
+action-worth-added-requires-2 t c κs =
+    (c .before .before .before .before .before .before .before .before .loop .inv .kept, c .before .before .before .before .before .weight .ensures .bounded)
+
+action-worth-add-r-3 : (t : ℕ) → action-worth-lts.Need-add-r-3 (action-worth-claims t) (action-worth-at t) action-worth.Post action-worth-Inv-loop action-worth-μ-loop
+action-worth-add-r-3 t c =
+    omega (arith, goes-on (stopped (total-of (c .before .before .before .before .before .before .before .before .before .loop .sum))) (c .before .before .before .before .before .before .before .before .before .before .before .settings .result) (c .before .before .before .before .before .before .before .before .before .loop .r) _ (c .before .before .before .before .before .before .before .before .settings-done .ensures) (c .before .before .before .before .before .before .before .if1 .left))
+
+action-worth-loop-less-3 : (t : ℕ) → action-worth-lts.Need-loop-less-3 (action-worth-claims t) (action-worth-at t) action-worth.Post action-worth-Inv-loop action-worth-μ-loop
+action-worth-loop-less-3 t c =
+    omega (arith, goes-on (stopped (total-of (c .before .before .before .before .before .before .before .before .before .loop .sum))) (c .before .before .before .before .before .before .before .before .before .before .before .settings .result) (c .before .before .before .before .before .before .before .before .before .loop .r) _ (c .before .before .before .before .before .before .before .before .settings-done .ensures) (c .before .before .before .before .before .before .before .if1 .left))
+
+action-worth-loop-again-3 : (t : ℕ) → action-worth-lts.Need-loop-again-3 (action-worth-claims t) (action-worth-at t) action-worth.Post action-worth-Inv-loop action-worth-μ-loop
+action-worth-loop-again-3 t c =
+    let s = (c .before .before .before .before .before .before .before .before .before .before .before .before .before .before .before) in
+    sums-add (s .args .model .now) (s .args .steps) (s .args .a) (s .args .x) _ _ _ (c .before .before .before .before .before .before .before .before .before .loop .inv) _ (c .before .before .before .before .before .before .before .before .before .before .before .before .chances .ensures) _ (c .before .before .before .before .before .before .weight .ensures) (goes-on (stopped (total-of (c .before .before .before .before .before .before .before .before .before .loop .sum))) (c .before .before .before .before .before .before .before .before .before .before .before .settings .result) (c .before .before .before .before .before .before .before .before .before .loop .r) _ (c .before .before .before .before .before .before .before .before .settings-done .ensures) (c .before .before .before .before .before .before .before .if1 .left)) (c .before .before .before .before .before .if2 .left) _ (c .before .before .before .before .next-state .ensures) (c .before .before .before .if3 .left) _ (c .before .state-worth .ensures) _ (c .added2 .ensures)
 
 abbrev state-worth-Inv-loop : state-worth-lts.InvT-loop
 state-worth-Inv-loop model parts steps x last best₀ a₀ best a = Tries model steps x last best a
@@ -270,12 +294,17 @@ pub +action-worth+state-worth-spec : {M : Type 1} → statement M
     (action-worth-loop-again t)
     (action-worth-next-state-requires t)
     (action-worth-returns-2 t)
-    (action-worth-sub-state-worth t)
-    (action-worth-state-worth-requires t)
+    (action-worth-ended-requires t)
     (action-worth-added-requires t)
     (action-worth-add-r-2 t)
     (action-worth-loop-less-2 t)
-    (action-worth-loop-again-2 t))
+    (action-worth-loop-again-2 t)
+    (action-worth-sub-state-worth t)
+    (action-worth-state-worth-requires t)
+    (action-worth-added-requires-2 t)
+    (action-worth-add-r-3 t)
+    (action-worth-loop-less-3 t)
+    (action-worth-loop-again-3 t))
     λ t. state-worth-lts.spec (
       ended-reads.Asked,
       ended-reads.Learnt,
