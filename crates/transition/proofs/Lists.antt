@@ -16,9 +16,9 @@ use Rattle.theory.specs.Load.{site-at}
 use Rattle.theory.specs.Value.{bits}
 use Rattle.theory.specs.laws.Valid.{other-above}
 use Rattle.model.proofs.Accepted.{site-accepted}
-use Rattle.evaluate.specs.declared.Point.{Point}
-use Rattle.evaluate.specs.Pass.{Stands}
-use Rattle.evaluate.proofs.Points.{stands-alone, stands-bits}
+use Rattle.pass.specs.declared.Point.{Point}
+use Rattle.pass.specs.Pass.{Stands}
+use Rattle.pass.proofs.Points.{stands-alone, stands-bits}
 use Rattle.transition.specs.Standing.{Ready, Spells, under}
 
 pub map-twice : {A B C : Type 0} (f : B → C) (g : A → B) (l : List A) → map f (map g l) ≡ map (λ x. f (g x)) l

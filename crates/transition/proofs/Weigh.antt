@@ -16,9 +16,9 @@ use Rattle.theory.specs.Load.{find-slot, action-of, site-at}
 use Rattle.theory.specs.Value.{bits}
 use Rattle.theory.specs.laws.Loading.{loaded-entries}
 use Rattle.model.proofs.Accepted.{site-accepted}
-use Rattle.evaluate.specs.declared.Point.{Point}
-use Rattle.evaluate.specs.Pass.{Stands}
-use Rattle.evaluate.proofs.Actions.{chance-within}
+use Rattle.pass.specs.declared.Point.{Point}
+use Rattle.pass.specs.Pass.{Stands}
+use Rattle.pass.proofs.Actions.{chance-within}
 use Rattle.transition.specs.declared.Chances.{Chances}
 use Rattle.transition.specs.Standing.{Ready, Standing, Acts, Chance, Chances-are, Out-of, Weighs}
 use Rattle.transition.proofs.Lists.{map-twice, listed, within-widths, alone}

@@ -1,5 +1,5 @@
 // A step of a model: the weight of a setting of the next conditions, and the state after an action and a setting.
-use evaluate::Point;
+use pass::Point;
 
 pub mod sites; // sites.rt: the numbers of the model's site
 pub mod weighing; // weighing.rt: the weight of a setting

@@ -1,14 +1,14 @@
 // The state after an action and a setting of the next conditions.
 ghost use mathlib.Core.Path.{_≡_};
 ghost use Rattle.theory.specs.Load.{site-at};
-ghost use Rattle.evaluate.specs.Pass.{Flat};
-ghost use Rattle.evaluate.specs.Parts.{Parts};
+ghost use Rattle.pass.specs.Pass.{Flat};
+ghost use Rattle.pass.specs.Parts.{Parts};
 ghost use Rattle.transition.specs.Standing.{Ready, Fits, Acts, under, Level-is, Leads};
 use super::Next;
 use super::sites;
-use evaluate::Point;
-use evaluate::Slot;
 use judging::Level;
+use pass::Point;
+use pass::Slot;
 
 fn with_setting(mut x: Point, r: u32) -> Point
     ensures { λ y. ⌜ y ≡ under x r ⌝ }

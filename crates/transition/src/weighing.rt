@@ -7,12 +7,12 @@ ghost use Rattle.whole.specs.Cases.{if};
 ghost use Rattle.theory.specs.Load.{site-at};
 ghost use Rattle.theory.specs.Meaning.{nth};
 ghost use Rattle.theory.specs.Value.{bits};
-ghost use Rattle.evaluate.specs.Parts.{Parts};
+ghost use Rattle.pass.specs.Parts.{Parts};
 ghost use Rattle.transition.specs.Standing.{Ready, Standing, Acts, Chance, Chances-are, Out-of, Weighs};
 use super::Chances;
 use super::sites;
-use evaluate::Point;
-use evaluate::Slot;
+use pass::Point;
+use pass::Slot;
 use values::states::condition;
 
 fn chance(model: &[u8], parts: &[u32], a: u16, k: u8, x: Point) -> u64

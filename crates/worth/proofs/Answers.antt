@@ -25,9 +25,9 @@ use Rattle.theory.specs.Load.{find-slot, found, site-at}
 use Rattle.theory.specs.Value.{ValueOut, refused-value, answered}
 use Rattle.theory.specs.Plain.{is, nothing, over, judged, state-worth, worth-out}
 use Rattle.theory.specs.laws.Loading.{loaded-entries, end-found}
-use Rattle.evaluate.specs.declared.Point.{Point}
-use Rattle.evaluate.specs.declared.Reward.{Reward as CodeReward}
-use Rattle.evaluate.specs.Pass.{reward-of, Stands}
+use Rattle.pass.specs.declared.Point.{Point}
+use Rattle.pass.specs.declared.Reward.{Reward as CodeReward}
+use Rattle.pass.specs.Pass.{reward-of, Stands}
 use Rattle.judging.specs.declared.Total.{Total}
 use Rattle.judging.specs.declared.Total.the-variants as total
 use Rattle.judging.specs.Totals.{total-of, times-of, summed}

@@ -26,7 +26,7 @@ use Rattle.model.specs.Answers.{shown}
 use Rattle.model.proofs.Accepted.{Passed, early-passed}
 use Rattle.values.specs.State.{asked}
 use Rattle.values.specs.declared.Asked.{Asked as CodeAsked}
-use Rattle.evaluate.specs.declared.Point.{Point}
+use Rattle.pass.specs.declared.Point.{Point}
 use Rattle.judging.specs.declared.Total.{Total}
 use Rattle.judging.specs.Totals.{total-of}
 use Rattle.transition.specs.Standing.{Ready, Spells, Fits, Standing}

@@ -16,7 +16,7 @@ use Rattle.whole.specs.declared.Within.the-variants as within
 use Rattle.theory.specs.Meaning.{Action, State, settings, doubled}
 use Rattle.theory.specs.Valid.{all}
 use Rattle.theory.specs.Verdict.{from-to, or}
-use Rattle.evaluate.proofs.Points.{or-out}
+use Rattle.pass.proofs.Points.{or-out}
 use Rattle.theory.specs.Value.{bits}
 use Rattle.theory.specs.Plain.{Worth, is, nothing, over, judged, in-32-bits, sum-settings, try-actions}
 use Rattle.judging.specs.Totals.{plus-of, added-of, summed, tried, Kept, stopped, is-over}

@@ -19,8 +19,8 @@ use Rattle.theory.specs.Plain.{Worth, is, nothing, over, judged, sum-settings, 
 use Rattle.theory.specs.laws.Loading.{loaded-entries, model-loaded}
 use Rattle.theory.specs.laws.Plain.{first-action}
 use Rattle.model.proofs.Accepted.{site-accepted}
-use Rattle.evaluate.specs.declared.Point.{Point}
-use Rattle.evaluate.proofs.Actions.{action-is}
+use Rattle.pass.specs.declared.Point.{Point}
+use Rattle.pass.proofs.Actions.{action-is}
 use Rattle.judging.specs.declared.Total.{Total}
 use Rattle.judging.specs.declared.Total.the-variants as total
 use Rattle.transition.specs.declared.Chances.{Chances}

@@ -14,7 +14,7 @@ use Rattle.theory.specs.Load.{find-slot, site-at, model}
 use Rattle.theory.specs.Plain.{Worth, nothing, over, state-worth, action-worth}
 use Rattle.theory.specs.laws.Loading.{loaded-entries}
 use Rattle.values.specs.declared.Asked.{Asked}
-use Rattle.evaluate.specs.declared.Point.{Point}
+use Rattle.pass.specs.declared.Point.{Point}
 use Rattle.judging.specs.declared.Total.{Total}
 use Rattle.judging.specs.Totals.{total-of, times-of, summed}
 use Rattle.transition.specs.Standing.{Spells}

@@ -1,13 +1,12 @@
 // The worth of a state and the worth of an action, which call each other, steps left falling.
 ghost use mathlib.Core.Path.{_≡_};
 ghost use Prim.Native.Nat.{_≤_};
-ghost use Rattle.evaluate.specs.Parts.{Blank, Parts};
+ghost use Rattle.pass.specs.Parts.{Blank, Parts};
 ghost use Rattle.transition.specs.Standing.{Standing, Acts};
 ghost use Rattle.worth.specs.Worths.{Earned, State-worth, Action-worth};
-use evaluate::Point;
-use evaluate::Slot;
-use evaluate::parts;
 use judging::Total;
+use pass::Point;
+use pass::Slot;
 use transition::moves;
 use transition::sites;
 use transition::weighing;
@@ -102,7 +101,7 @@ fn noted(model: &[u8], parts: &mut [u32], steps: u32, x: Point) -> Total
     requires { ⌜ Standing (now model) x × (steps ≤ 8) × Blank (now parts) ⌝ }
     ensures { λ r. ⌜ State-worth (now (model .entry)) steps x r ⌝ }
 {
-    parts::find(model, parts);
+    diagram_parts::find(model, parts);
     state_worth(model, parts, steps, x)
 }
 
@@ -111,10 +110,10 @@ pub fn worked(model: &[u8], steps: u32, x: Point) -> Total
     requires { ⌜ Standing (now model) x × (steps ≤ 8) ⌝ }
     ensures { λ r. ⌜ State-worth (now (model .entry)) steps x r ⌝ }
 {
-    if sites::actions(model) as usize <= parts::FEW_ACTIONS {
-        let mut few = [0u32; parts::FEW_SLOTS];
+    if sites::actions(model) as usize <= diagram_parts::FEW_ACTIONS {
+        let mut few = [0u32; diagram_parts::FEW_SLOTS];
         return noted(model, &mut few, steps, x);
     }
-    let mut all = [0u32; parts::SLOTS];
+    let mut all = [0u32; diagram_parts::SLOTS];
     noted(model, &mut all, steps, x)
 }

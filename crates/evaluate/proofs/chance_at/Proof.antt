@@ -4,9 +4,9 @@ use mir.Syntax.{w64}
 use mir.ValLaws.{toZ-ofZ}
 use Rattle.whole.specs.Int.{up}
 use Rattle.table.proofs.Words.{as-long}
-use Rattle.evaluate.specs.Pass.{slot-of}
-use Rattle.evaluate.proofs.Turns.{chance-is}
-use Rattle.evaluate.proofs.Ends.{part-asks}
+use Rattle.pass.specs.Pass.{slot-of}
+use Rattle.pass.proofs.Turns.{chance-is}
+use Rattle.pass.proofs.Ends.{part-asks}
 use borrow.Author.Needs.{needs}
 use Rattle.evaluate.proofs.chance_at.Statement.{statement}
 use Rattle.evaluate.proofs.chance_at.Tie as tie

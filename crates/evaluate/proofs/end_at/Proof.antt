@@ -6,11 +6,11 @@ use Rattle.theory.specs.Verdict.{end-slot}
 use Rattle.theory.specs.Meaning.{env}
 use Rattle.theory.specs.laws.Loading.{loaded-entries}
 use Rattle.table.proofs.Words.{as-long}
-use Rattle.evaluate.specs.Pass.{nums-at}
-use Rattle.evaluate.specs.Parts.{row, place}
-use Rattle.evaluate.proofs.Points.{numbers-alone, flat-alone}
-use Rattle.evaluate.proofs.Turns.{level-is}
-use Rattle.evaluate.proofs.Ends.{found-worth, absent-worth, part-asks}
+use Rattle.pass.specs.Pass.{nums-at}
+use Rattle.pass.specs.Parts.{row, place}
+use Rattle.pass.proofs.Points.{numbers-alone, flat-alone}
+use Rattle.pass.proofs.Turns.{level-is}
+use Rattle.pass.proofs.Ends.{found-worth, absent-worth, part-asks}
 use borrow.Author.Needs.{needs}
 use Rattle.evaluate.proofs.end_at.Statement.{statement}
 use Rattle.evaluate.proofs.end_at.Tie as tie

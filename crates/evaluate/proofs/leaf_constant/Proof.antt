@@ -4,7 +4,7 @@ use native.Mathlib.Omega.{arith}
 use mir.Syntax.{w64}
 use mir.ValLaws.{toZ-ofZ}
 use Rattle.theory.specs.Diagram.{Linear}
-use Rattle.evaluate.proofs.Turns.{code-room, leaf-constant, no-leaf}
+use Rattle.pass.proofs.Turns.{code-room, leaf-constant, no-leaf}
 use borrow.Author.Needs.{needs}
 use Rattle.evaluate.proofs.leaf_constant.Statement.{statement}
 use Rattle.evaluate.proofs.leaf_constant.Tie as tie

@@ -3,9 +3,9 @@ use mathlib.Core.Path.{sym, ap, _∙_}
 use native.Mathlib.Omega.{arith}
 use Rattle.whole.specs.Numerator.{words}
 use Rattle.theory.specs.Diagram.{Linear}
-use Rattle.evaluate.specs.Pass.{nums-at, numerator}
-use Rattle.evaluate.proofs.Ends.{none-worth}
-use Rattle.evaluate.proofs.Turns.{code-room, leaf-reads, no-leaf}
+use Rattle.pass.specs.Pass.{nums-at, numerator}
+use Rattle.pass.proofs.Ends.{none-worth}
+use Rattle.pass.proofs.Turns.{code-room, leaf-reads, no-leaf}
 use Rattle.evaluate.proofs.leaf_numerator.Statement.{statement}
 use Rattle.evaluate.proofs.leaf_numerator.Tie as tie
 

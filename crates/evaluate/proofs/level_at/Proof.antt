@@ -2,10 +2,10 @@
 use mathlib.Core.Path.{refl, ap, _∙_}
 use Rattle.whole.specs.Numerator.{words}
 use Rattle.table.proofs.Words.{as-long}
-use Rattle.evaluate.specs.Pass.{slot-of, nums-at}
-use Rattle.evaluate.proofs.Points.{numbers-alone, flat-alone}
-use Rattle.evaluate.proofs.Turns.{level-is}
-use Rattle.evaluate.proofs.Ends.{part-asks}
+use Rattle.pass.specs.Pass.{slot-of, nums-at}
+use Rattle.pass.proofs.Points.{numbers-alone, flat-alone}
+use Rattle.pass.proofs.Turns.{level-is}
+use Rattle.pass.proofs.Ends.{part-asks}
 use borrow.Author.Needs.{needs}
 use Rattle.evaluate.proofs.level_at.Statement.{statement}
 use Rattle.evaluate.proofs.level_at.Tie as tie

@@ -4,10 +4,10 @@ use mathlib.Core.Bool.{false}
 use Rattle.whole.specs.Numerator.{words}
 use Rattle.whole.specs.declared.Numerator.{Numerator}
 use Rattle.table.proofs.Words.{as-long}
-use Rattle.evaluate.proofs.Points.{numbers-alone, flat-alone}
-use Rattle.evaluate.proofs.Ends.{part-asks}
-use Rattle.evaluate.specs.Pass.{slot-of, nums-at, reward-of}
-use Rattle.evaluate.proofs.Turns.{reward-forbidden, reward-is}
+use Rattle.pass.proofs.Points.{numbers-alone, flat-alone}
+use Rattle.pass.proofs.Ends.{part-asks}
+use Rattle.pass.specs.Pass.{slot-of, nums-at, reward-of}
+use Rattle.pass.proofs.Turns.{reward-forbidden, reward-is}
 use borrow.Author.Needs.{needs}
 use Rattle.evaluate.proofs.reward_at.Statement.{statement}
 use Rattle.evaluate.proofs.reward_at.Tie as tie

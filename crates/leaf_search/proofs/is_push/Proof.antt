@@ -1,0 +1,16 @@
+-- `leaf_search::is_push` meets its contract.
+use borrow.Author.Tests.{lt-ltb, le-ltb}
+use Rattle.pass.specs.Pass.{pushes}
+use Rattle.leaf_search.proofs.is_push.Statement.{statement}
+use Rattle.leaf_search.proofs.is_push.Tie as tie
+
+returns : tie.Need-returns
+unfolding pushes
+returns c = rw (lt-ltb _ _ (c .if1 .taken))
+
+returns-2 : tie.Need-returns-2
+unfolding pushes
+returns-2 c = rw (le-ltb _ _ (c .if1 .left))
+
+pub is-push-spec : {M : Type 1} → statement M
+is-push-spec = tie.close (tie.spec returns returns-2)
