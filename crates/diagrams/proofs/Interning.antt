@@ -13,7 +13,7 @@ use lib.ListN.{length, getD, List·getD-append}
 use lib.Seq.{getD-at}
 use Rattle.whole.specs.Cases.{if}
 use Rattle.table.proofs.Look.{split, eqN-true, eqN-refl, first-hit, first-out}
-use Rattle.table.proofs.Store.{put-other, put-same}
+use Rattle.table.proofs.Store.{put-other, put-above, put-same}
 use Rattle.table.specs.Table.{nodeAt, putAt, eqN, firstNode, internR, internW}
 use Rattle.table.specs.declared.Node.{Node}
 use Rattle.table.specs.declared.Made.{Made}
@@ -49,6 +49,7 @@ module _ {cap : ℕ} {l : List ℤ} {w : List ℕ} {n : ℕ} (A : Bare cap l w n
     within = λ t. h;
     more = omega arith;
     kept = λ j q. refl;
+    rest = λ j q. refl;
     beyond = F;
   }
 
@@ -67,6 +68,7 @@ module _ {cap : ℕ} {l : List ℤ} {w : List ℕ} {n : ℕ} (A : Bare cap l w n
       within = λ t. absurd (omega arith);
       more = omega arith;
       kept = λ j q. refl;
+      rest = λ j q. refl;
       beyond = F;
     }
 
@@ -116,6 +118,7 @@ module _ {cap : ℕ} {l : List ℤ} {w : List ℕ} {n : ℕ} (A : Bare cap l w n
         within = λ t. omega arith;
         more = omega arith;
         kept = put-other l n x;
+        rest = λ i q. put-above l n x (vx .nums .long) i (omega arith);
         beyond = F;
       }
 

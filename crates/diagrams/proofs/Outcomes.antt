@@ -118,14 +118,14 @@ pub grew-as : {cap : ℕ} {l l₁ : List ℤ} {w w₁ : List ℕ} {n : ℕ} {m m
 grew-as {cap} {l} {l₁} {w} {w₁} {n} {r = r} e S = subst (λ (z : Comp Tree). Grew cap l w n z l₁ w₁ r) e S
 
 pub grew-like : {cap : ℕ} {l l₁ : List ℤ} {w w₁ : List ℕ} {n : ℕ} {m m′ : Comp Tree} {r : Made} → run cap m (trees l n) ≡ run cap m′ (trees l n) → Grew cap l w n m l₁ w₁ r → Grew cap l w n m′ l₁ w₁ r
-grew-like e S = record { ran = S .ran ∙ e; bare = S .bare; within = S .within; more = S .more; kept = S .kept; beyond = S .beyond }
+grew-like e S = record { ran = S .ran ∙ e; bare = S .bare; within = S .within; more = S .more; kept = S .kept; rest = S .rest; beyond = S .beyond }
 
 -- ---- parts that make nothing
 
 -- a tree that is there
 pub grew-ret : {cap : ℕ} {l : List ℤ} {w : List ℕ} {n : ℕ} → Bare cap l w n → (h : ℕ) → h < n → Grew cap l w n (ret (treeAt l n h)) l w (record { stop = 0; at = h; count = n })
 unfolding run outOf
-grew-ret B h q = record { ran = refl; bare = B; within = λ t. q; more = omega arith; kept = λ i r. refl; beyond = λ j r. refl }
+grew-ret B h q = record { ran = refl; bare = B; within = λ t. q; more = omega arith; kept = λ i r. refl; rest = λ i r. refl; beyond = λ j r. refl }
 
 pub ran-ret : {R : Rule} {cap : ℕ} {l : List ℤ} {w : List ℕ} {n : ℕ} → Table R cap l w n → (h : ℕ) → h < n → Ran R cap l w n (ret (treeAt l n h)) l w (record { stop = 0; at = h; count = n })
 ran-ret A h q = lifted A (grew-ret (A .bare) h q)
@@ -144,6 +144,7 @@ module _ {cap : ℕ} {l : List ℤ} {w : List ℕ} {n : ℕ} (p : Linear) (m : C
     within = λ t. absurd (omega arith);
     more = omega arith;
     kept = λ i r. refl;
+    rest = λ i r. refl;
     beyond = λ j r. refl;
   }
 

@@ -55,11 +55,12 @@ pub record Ran (rule : Rule) (cap : ℕ) (l : List ℤ) (w : List ℕ) (n : ℕ)
   pub more : n ≤ r .count
   pub kept : (i : ℕ) → i < n → nodeAt l′ i ≡ nodeAt l i
 
--- the same of an operation that leaves the cache's words alone, whatever they mean
+-- the same of an operation that leaves the cache's words alone, whatever they mean, and all nodes behind those of the table
 pub record Grew (cap : ℕ) (l : List ℤ) (w : List ℕ) (n : ℕ) (m : Comp Tree) (l′ : List ℤ) (w′ : List ℕ) (r : Made) : Type 0 where
   pub ran : outOf r (trees l′ (r .count)) ≡ run cap m (trees l n)
   pub bare : Bare cap l′ w′ (r .count)
   pub within : r .stop ≡ 0 → r .at < r .count
   pub more : n ≤ r .count
   pub kept : (i : ℕ) → i < n → nodeAt l′ i ≡ nodeAt l i
+  pub rest : (i : ℕ) → r .count ≤ i → nodeAt l′ i ≡ nodeAt l i
   pub beyond : (j : ℕ) → cap * 2 ≤ j → getD w′ j 0 ≡ getD w j 0

@@ -57,7 +57,7 @@ fn good(conditions: u32, actions: u32, nodes: &[i64], r: usize) -> bool
 }
 
 // Nodes 1 to the last are good. A last one outside the table decides at once: it can be far outside.
-fn all_good(conditions: u32, actions: u32, nodes: &[i64], last: usize) -> bool
+pub fn all_good(conditions: u32, actions: u32, nodes: &[i64], last: usize) -> bool
     ensures { λ b. ⌜ b ≡ all (good-row conditions actions (now (nodes .entry))) (from-to 1 last) ⌝ }
 {
     if nodes.len() / NODE_WORDS < last {
@@ -74,7 +74,7 @@ fn all_good(conditions: u32, actions: u32, nodes: &[i64], last: usize) -> bool
 }
 
 // 15, 14, or 0 where neither applies.
-pub fn plan_refusal(site: Site, horizon: u32, nodes: &[i64], stages: &[u32]) -> u32
+pub(crate) fn plan_refusal(site: Site, horizon: u32, nodes: &[i64], stages: &[u32]) -> u32
     requires { ⌜ horizon ≤ length (now stages) ⌝ }
     ensures { λ n. ⌜ n ≡ plan-refusal (site-as site) horizon (now (nodes .entry)) (now (stages .entry)) ⌝ }
 {

@@ -10,7 +10,7 @@ ghost use Rattle.listing.specs.Answer.{outcome, refused-as};
 use model::early;
 use progress::Site;
 
-mod judging; // judging.rt: whether a plan can be listed
+pub mod judging; // judging.rt: whether a plan can be listed
 
 // A refusal's number and place, both 0 where there is none; then how many bytes were written.
 pub struct Listed {

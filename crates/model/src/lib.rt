@@ -34,7 +34,7 @@ const BYTES_MOST: usize = 262144;
 // "horizon or steps not 1 to 8", and the eight stage words.
 const STEPS_MOST: u32 = 8;
 
-const STAGE_WORDS: usize = 8;
+pub const STAGE_WORDS: usize = 8;
 
 // The number and the place of a refusal; 0 and 0 where there is none.
 pub struct Verdict {

@@ -21,7 +21,7 @@ pub record Times (p q : ℕ) (r : Numerator) : Type 0 where
 -- r is the product z of a number within the limits and an i32
 pub record Product (z : ℤ) (r : Numerator) : Type 0 where
   pub is : number r ≡ z
-  pub bounded : natAbs (r .high) ≤ 1073741824
+  pub bounded : natAbs (r .high) ≤ 536870914
 
 -- r is z, and its high word is at most one from that of x
 pub record Turned (z : ℤ) (x r : Numerator) : Type 0 where

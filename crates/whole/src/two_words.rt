@@ -62,7 +62,7 @@ pub fn product(a: i64, b: i32) -> Numerator
 }
 
 // x + y. The low words' sum wraps where it is below one of them, and is carried.
-pub(crate) fn sum(x: Numerator, y: Numerator) -> Numerator
+pub fn sum(x: Numerator, y: Numerator) -> Numerator
     requires { ⌜ Small (x .high) × Small (y .high) ⌝ }
     ensures { λ r. ⌜ Sum x y r ⌝ }
 {

@@ -64,6 +64,15 @@ words-rise n (linear p) (later j) a b e = absurd b
 pos-same : (a b : ℕ) → pos a ≡ pos b → a ≡ b
 pos-same a b e = ap natAbs e
 
+-- each number from 1 on is a node's
+pub node-numbered : (X : List Tree) → Table X → (r : ℕ) → Range 1 (length X) r → (u : Tree) × ((member u X ≡ true) × (number-of u X ≡ r))
+node-numbered X x r h =
+    let u = getD X (r - 1) zero-leaf in
+    let m = member-in zero-leaf u X (r - 1) (omega (arith, h .0, h .1)) refl in
+    let a = number-above u X m in
+    let e = (x .distinct) (number-of u X - 1) (r - 1) (omega (arith, number-below u X)) (omega (arith, h .0, h .1)) (number-entry zero-leaf u X m) in
+    (u, (m, omega (arith, h .0)))
+
 module _ (n A : ℕ) (X : List Tree) (tail : List ℤ) (x : Table X) (nice : (u : Tree) → member u X ≡ true → Ordered u × Stage-good n A u) where
   abbrev W : List ℤ
   W = laid X tail
@@ -71,14 +80,8 @@ module _ (n A : ℕ) (X : List Tree) (tail : List ℤ) (x : Table X) (nice : (u 
   abbrev num : Tree → ℕ
   num t = number-of t X
 
-  -- each number from 1 on is a node's
   node-at : (r : ℕ) → Range 1 (length X) r → (u : Tree) × ((member u X ≡ true) × (num u ≡ r))
-  node-at r h =
-      let u = getD X (r - 1) zero-leaf in
-      let m = member-in zero-leaf u X (r - 1) (omega (arith, h .0, h .1)) refl in
-      let a = number-above u X m in
-      let e = (x .distinct) (num u - 1) (r - 1) (omega (arith, number-below u X)) (omega (arith, h .0, h .1)) (number-entry zero-leaf u X m) in
-      (u, (m, omega (arith, h .0)))
+  node-at = node-numbered X x
 
   -- nodes with one number are one
   number-one : (u v : Tree) → member u X ≡ true → member v X ≡ true → num u ≡ num v → u ≡ v
@@ -260,7 +263,7 @@ module _ (n A : ℕ) (X : List Tree) (tail : List ℤ) (x : Table X) (nice : (u 
 -- ---- the nodes of a table are nodes of the stages
 
 module _ (P : Tree → Type 0) (down : (t : Test) (h l : Tree) → P (branch t h l) → P h × P l) where
-  abbrev Each : List Tree → Type 0
+  abbrev pub Each : List Tree → Type 0
   Each X = (u : Tree) → member u X ≡ true → P u
 
   last-each : (v : Tree) (X : List Tree) → P v → Each X → Each (X ++ (v ∷ []))
@@ -274,7 +277,7 @@ module _ (P : Tree → Type 0) (down : (t : Test) (h l : Tree) → P (branch t h
       by-test (member (branch t h l) X) (λ b. Each (if b X (enter l (enter h X) ++ (branch t h l ∷ [])))) (λ _. e)
       (λ _. last-each (branch t h l) (enter l (enter h X)) p (enter-each l (enter h X) (d .1) (enter-each h X (d .0) e)))
 
-  enter-all-each : (S X : List Tree) → ((u : Tree) → List·Memᴰ u S → P u) → Each X → Each (enter-all S X)
+  pub enter-all-each : (S X : List Tree) → ((u : Tree) → List·Memᴰ u S → P u) → Each X → Each (enter-all S X)
   unfolding enter-all
   enter-all-each [] X p e = e
   enter-all-each (F ∷ S) X p e = enter-all-each S (enter F X) (λ u m. p u (List·Memᴰ·tail m)) (enter-each F X (p F (List·Memᴰ·head refl)) e)

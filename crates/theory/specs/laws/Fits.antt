@@ -46,7 +46,7 @@ unfolding all
 each-small [] f = tt
 each-small (z ∷ l) f = and-in (small z) (all small l) (f 0) (each-small l (λ i. f (suc i)))
 
-part-word : (k j : ℕ) (W : List ℤ) (i : ℕ) → i < k → getD (take k (drop j W)) i (pos 0) ≡ getD W (j + i) (pos 0)
+pub part-word : (k j : ℕ) (W : List ℤ) (i : ℕ) → i < k → getD (take k (drop j W)) i (pos 0) ≡ getD W (j + i) (pos 0)
 part-word k j W i h = getD-take k (drop j W) i (pos 0) h ∙ getD-drop j W i (pos 0)
 
 beyond-part : (k : ℕ) (l : List ℤ) (i : ℕ) → k ≤ i → getD (take k l) i (pos 0) ≡ pos 0

@@ -242,7 +242,7 @@ judge-built p b = names-built (p .coeffs) (named-built (p .const) b)
 -- ---- by the first root
 
 -- what a low branch is replaced by stands below it
-narrowed-inside : (t : Test) (l : Tree) (X : List Tree) → T (inside l X) → T (inside (narrowed t l) X)
+pub narrowed-inside : (t : Test) (l : Tree) (X : List Tree) → T (inside l X) → T (inside (narrowed t l) X)
 unfolding narrowed
 narrowed-inside t (leaf f) X i = i
 narrowed-inside t (branch u h l) X i = by-test (parallel t u) (λ b. T (inside (if b (narrowed t l) (branch u h l)) X)) (λ _. narrowed-inside t l X (inside-parts u h l X i .1 .1)) (λ _. i)

@@ -195,12 +195,12 @@ stages-length S h =
     length-append (map (λ t. number-of t (table-of S)) S) (replicate (steps-most - length S) 0)
     ∙ omega (arith, length-map S (λ t. number-of t (table-of S)), length-replicate {A = ℕ} (steps-most - length S) 0)
 
-greatest-most : (H : ℕ) (stages : List ℕ) (n : ℕ) → ((i : ℕ) → i < H → getD stages i 0 ≤ n) → greatest-root H stages ≤ n
+pub greatest-most : (H : ℕ) (stages : List ℕ) (n : ℕ) → ((i : ℕ) → i < H → getD stages i 0 ≤ n) → greatest-root H stages ≤ n
 unfolding greatest-root
 greatest-most zero stages n f = omega arith
 greatest-most (suc H) stages n f = max-le (greatest-most H stages n (λ i h. f i (omega arith))) (f H (omega arith))
 
-greatest-least : (H : ℕ) (stages : List ℕ) (i : ℕ) → i < H → getD stages i 0 ≤ greatest-root H stages
+pub greatest-least : (H : ℕ) (stages : List ℕ) (i : ℕ) → i < H → getD stages i 0 ≤ greatest-root H stages
 unfolding greatest-root
 greatest-least zero stages i h = absurd (omega arith)
 greatest-least (suc H) stages i h = ⊎-elim

@@ -63,10 +63,10 @@ if-no false x y t = refl
 pub some-not : (n : ℕ) → 1 ≤ n → T (not (eqb n 0))
 some-not n h = by-test (eqb n 0) (λ b. T (not b)) (λ t. absurd (omega (arith, eqb→eq n 0 t))) (λ _. tt)
 
-zero-is : (n : ℕ) → n ≡ 0 → T (eqb n 0)
+pub zero-is : (n : ℕ) → n ≡ 0 → T (eqb n 0)
 zero-is n e = rw e tt
 
-not-twice : (b : Bool) → T b → T (not (not b))
+pub not-twice : (b : Bool) → T b → T (not (not b))
 not-twice true t = tt
 not-twice false t = absurd t
 
@@ -364,7 +364,7 @@ room-nodes : (nodes work : ℕ) → room nodes work * node-words ≤ nodes
 unfolding room
 room-nodes nodes work = omega (arith, min-le-left (nodes / node-words) (min (work / work-words) nodes-most), div-mul-le-self nodes node-words)
 
-room-holds : (nodes work : ℕ) → Room nodes work (room nodes work)
+pub room-holds : (nodes work : ℕ) → Room nodes work (room nodes work)
 unfolding room
 room-holds nodes work =
     let W = min (work / work-words) nodes-most in
@@ -378,7 +378,7 @@ room-holds nodes work =
       no-more = λ k l m n. le-min (le-div-iff-mul-le {k = node-words} {x = k} {y = nodes} (omega arith) .1 l) (le-min (le-div-iff-mul-le {k = work-words} {x = k} {y = work} (omega arith) .1 m) n);
     }
 
-room-is : {nodes work N : ℕ} → Room nodes work N → room nodes work ≡ N
+pub room-is : {nodes work N : ℕ} → Room nodes work N → room nodes work ≡ N
 room-is {nodes} {work} {N} r =
     let h = room-holds nodes work in
     omega (arith, (r .no-more) (room nodes work) (h .in-nodes) (h .in-work) (h .most), (h .no-more) N (r .in-nodes) (r .in-work) (r .most))
@@ -782,7 +782,7 @@ module _ (B : List ℕ) (a : ℕ) where
 
 -- ---- listing
 
-not-all : (p : ℕ → Bool) (b k : ℕ) → T (not (all p (from-to b k))) → (i : ℕ) × ((b ≤ i) × ((i < b + k) × T (not (p i))))
+pub not-all : (p : ℕ → Bool) (b k : ℕ) → T (not (all p (from-to b k))) → (i : ℕ) × ((b ≤ i) × ((i < b + k) × T (not (p i))))
 unfolding all from-to
 not-all p b zero t = absurd t
 not-all p b (suc k) t = by-test (p b) (λ z. T (not (z && all p (from-to (suc b) k))) → (i : ℕ) × ((b ≤ i) × ((i < b + suc k) × T (not (p i)))))
@@ -790,7 +790,7 @@ not-all p b (suc k) t = by-test (p b) (λ z. T (not (z && all p (from-to (suc b)
     (λ n _. (b, (omega arith, (omega arith, n))))
     t
 
-all-from : (p : ℕ → Bool) (b k : ℕ) → T (all p (from-to b k)) → (i : ℕ) → b ≤ i → i < b + k → T (p i)
+pub all-from : (p : ℕ → Bool) (b k : ℕ) → T (all p (from-to b k)) → (i : ℕ) → b ≤ i → i < b + k → T (p i)
 unfolding all from-to
 all-from p b zero t i h l = absurd (omega arith)
 all-from p b (suc k) t i h l =
@@ -800,7 +800,7 @@ all-from p b (suc k) t i h l =
     not-sym : (b i : ℕ) → T (not (eqb b i)) → T (not (eqb i b))
     not-sym b i n = by-test (eqb i b) (λ x. T (not x)) (λ e. absurd (T-not (eqb b i) n (rw (eqb→eq i b e) (eqb-refl b)))) (λ _. tt)
 
-from-each : (p : ℕ → Bool) (b k : ℕ) → ((i : ℕ) → b ≤ i → i < b + k → T (p i)) → T (all p (from-to b k))
+pub from-each : (p : ℕ → Bool) (b k : ℕ) → ((i : ℕ) → b ≤ i → i < b + k → T (p i)) → T (all p (from-to b k))
 unfolding all from-to
 from-each p b zero f = tt
 from-each p b (suc k) f = and-in (p b) (all p (from-to (suc b) k)) (f b (omega arith) (omega arith)) (from-each p (suc b) k (λ i h l. f i (omega arith) (omega arith)))

@@ -1,0 +1,4 @@
+-- Laws behind the proofs.
+pub mod Stages
+pub mod Cutting
+pub mod Ends

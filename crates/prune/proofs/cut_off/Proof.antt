@@ -1,0 +1,97 @@
+-- `prune::cut_off` meets its contract.
+use mathlib.Core.Path.{_∙_}
+use Prim.Native.Nat.{_-_}
+use native.Mathlib.Omega.{arith}
+use borrow.Author.Needs.{needs}
+use mir.Facts.{fits-widen}
+use lib.ListN.{length-set}
+use Rattle.prune.proofs.Cutting.{holds, to-copy, to-make, cut-left}
+use Rattle.prune.proofs.cut_off.Statement.{statement}
+use Rattle.prune.proofs.cut_off.Tie as tie
+
+greatest-root-requires : tie.Need-greatest-root-requires
+greatest-root-requires c κs = search needs
+
+cast-last : tie.Need-cast-last
+cast-last c = search needs
+
+sub-at : tie.Need-sub-at
+sub-at c = search needs
+
+cast-at : tie.Need-cast-at
+cast-at c = search needs
+
+mul-root : tie.Need-mul-root
+mul-root c = search needs
+
+slice-read-root : tie.Need-slice-read-root
+slice-read-root c = search needs
+
+cast-root : tie.Need-cast-root
+cast-root c =
+    fits-widen tt (c .slice-known3 .given _)
+
+copy-path-requires : tie.Need-copy-path-requires
+copy-path-requires c κs =
+    to-copy (c .before .before .before .before .before .before .before .pre) (c .before .before .greatest-root .ensures)
+
+cast-stages : tie.Need-cast-stages
+cast-stages c =
+    let h = holds (c .before .before .before .before .before .before .before .before .before .pre) (c .before .before .before .before .greatest-root .ensures) in
+    record { fits = omega (arith, c .before .copy-path .ensures .within, h .few) }
+
+mul-stages : tie.Need-mul-stages
+mul-stages c = search needs
+
+slice-write-stages : tie.Need-slice-write-stages
+slice-write-stages c = search needs
+
+sub-tables-anew : tie.Need-sub-tables-anew
+sub-tables-anew c = search needs
+
+add-tables-anew : tie.Need-add-tables-anew
+add-tables-anew c =
+    let t = to-copy (c .before .before .before .before .before .before .before .before .before .before .before .before .pre) (c .before .before .before .before .before .before .before .greatest-root .ensures) in
+    let h = holds (c .before .before .before .before .before .before .before .before .before .before .before .before .pre) (c .before .before .before .before .before .before .before .greatest-root .ensures) in
+    record { fits = omega (arith, t .2, h .few) }
+
+tables-anew-requires : tie.Need-tables-anew-requires
+tables-anew-requires c κs =
+    to-make (c .before .before .before .before .before .before .before .before .before .before .before .before .pre) (c .before .before .before .before .before .before .before .greatest-root .ensures) (c .before .before .before .before .copy-path .ensures) (c .before .before .before .before .copy-path .kept .0)
+
+same-length : tie.Need-same-length
+same-length c = search needs
+
+same-length-2 : tie.Need-same-length-2
+same-length-2 c =
+    c .before .before .before .before .before .tables-anew .kept .1 .0 ∙ length-set (c .before .before .before .before .before .before .before .before .before .before .before .before .before .before .before .before .before .before .args .stages .now) (c .before .before .before .before .before .before .before .before .before .before .before .before .before .before .before .before .before .before .args .stage - 1) (c .before .before .before .before .before .before .before .before .before .before .copy-path .result)
+
+same-length-3 : tie.Need-same-length-3
+same-length-3 c = search needs
+
+returns : tie.Need-returns
+returns c =
+    cut-left (c .before .before .before .before .before .before .before .before .before .before .before .before .before .before .before .before .before .before .pre) (c .before .before .before .before .before .before .before .before .before .before .before .before .before .greatest-root .ensures) (c .before .before .before .before .before .before .before .before .before .before .copy-path .ensures) (c .before .before .before .before .before .before .before .before .before .before .copy-path .kept .0) (c .before .before .before .before .before .tables-anew .ensures)
+
+pub cut-off-spec : {M : Type 1} → statement M
+cut-off-spec =
+    tie.close
+    (tie.spec
+    greatest-root-requires
+    cast-last
+    sub-at
+    cast-at
+    mul-root
+    slice-read-root
+    cast-root
+    copy-path-requires
+    cast-stages
+    mul-stages
+    slice-write-stages
+    sub-tables-anew
+    add-tables-anew
+    tables-anew-requires
+    same-length
+    same-length-2
+    same-length-3
+    returns)

@@ -1,0 +1,2 @@
+-- What a path leaves.
+pub mod Pruning

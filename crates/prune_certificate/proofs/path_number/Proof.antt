@@ -1,0 +1,66 @@
+-- `prune_certificate::path_number` meets its contract.
+use mathlib.Core.Path.{sym, _∙_}
+use Rattle.whole.specs.Cases.{from-true}
+use Rattle.prune_paths.specs.Prune.{tree-at}
+use Rattle.prune_certificate.proofs.Answers.{no-turns, no-fit, no-count, fit-is, count-is, a-negative, accepted, not-proved}
+use borrow.Author.Needs.{needs}
+use Rattle.prune_certificate.proofs.path_number.Statement.{statement}
+use Rattle.prune_certificate.proofs.path_number.Tie as tie
+
+returns : tie.Need-returns
+returns c =
+    no-turns (c .before .before .args .turns .now) (tree-at (c .before .before .args .nodes .now) (c .before .before .args .root)) (c .before .before .args .ks .now) (c .if1 .taken)
+
+shape-requires : tie.Need-shape-requires
+shape-requires c κs = search needs
+
+returns-2 : tie.Need-returns-2
+returns-2 c =
+    no-fit (c .before .before .before .before .args .turns .now) (tree-at (c .before .before .before .before .args .nodes .now) (c .before .before .before .before .args .root)) (c .before .before .before .before .args .ks .now) (c .before .shape .result) (c .before .shape .ensures) (c .if2 .taken)
+
+sub-if3 : tie.Need-sub-if3
+sub-if3 c = search needs
+
+returns-3 : tie.Need-returns-3
+returns-3 c =
+    no-count (c .before .before .before .before .before .args .turns .now) (tree-at (c .before .before .before .before .before .args .nodes .now) (c .before .before .before .before .before .args .root)) (c .before .before .before .before .before .args .ks .now) (c .before .before .shape .result) (c .before .before .shape .ensures) (c .before .if2 .left) (c .if3 .taken)
+
+none-negative-requires : tie.Need-none-negative-requires
+none-negative-requires c κs = search needs
+
+returns-4 : tie.Need-returns-4
+returns-4 c =
+    a-negative (c .before .before .before .before .before .before .before .args .turns .now) (tree-at (c .before .before .before .before .before .before .before .args .nodes .now) (c .before .before .before .before .before .before .before .args .root)) (c .before .before .before .before .before .before .before .args .ks .now) (c .before .before .before .before .shape .result) (c .before .before .before .before .shape .ensures) (c .before .before .before .before .before .if1 .left) (c .before .before .before .if2 .left) (c .before .before .if3 .left) (c .before .none-negative .result) (c .before .none-negative .ensures) (c .if4 .left)
+
+contradicts-requires : tie.Need-contradicts-requires
+contradicts-requires c κs =
+    let F = tree-at (c .before .before .before .before .before .before .before .args .nodes .now) (c .before .before .before .before .before .before .before .args .root) in
+    record {
+      node = c .before .before .before .before .before .before .before .pre;
+      fit = fit-is (c .before .before .before .before .before .before .before .args .turns .now) F (c .before .before .before .before .before .before .before .args .ks .now) (c .before .before .before .before .shape .result) (c .before .before .before .before .shape .ensures) (c .before .before .before .before .before .if1 .left) (c .before .before .before .if2 .left) (c .before .before .if3 .left);
+      count = count-is (c .before .before .before .before .before .before .before .args .turns .now) F (c .before .before .before .before .before .before .before .args .ks .now) (c .before .before .before .before .shape .result) (c .before .before .before .before .shape .ensures) (c .before .before .before .before .before .if1 .left) (c .before .before .before .if2 .left) (c .before .before .if3 .left);
+      signs = from-true (sym (c .before .none-negative .ensures) ∙ c .if4 .taken);
+    }
+
+returns-5 : tie.Need-returns-5
+returns-5 c =
+    accepted (c .before .before .before .before .before .before .before .before .before .args .turns .now) (tree-at (c .before .before .before .before .before .before .before .before .before .args .nodes .now) (c .before .before .before .before .before .before .before .before .before .args .root)) (c .before .before .before .before .before .before .before .before .before .args .ks .now) (c .before .before .before .before .before .before .shape .result) (c .before .before .before .before .before .before .shape .ensures) (c .before .before .before .before .before .before .before .if1 .left) (c .before .before .before .before .before .if2 .left) (c .before .before .before .before .if3 .left) (c .before .before .before .none-negative .result) (c .before .before .before .none-negative .ensures) (c .before .before .if4 .taken) (c .before .contradicts .result) (c .before .contradicts .ensures) (c .if5 .taken)
+
+returns-6 : tie.Need-returns-6
+returns-6 c =
+    not-proved (c .before .before .before .before .before .before .before .before .before .args .turns .now) (tree-at (c .before .before .before .before .before .before .before .before .before .args .nodes .now) (c .before .before .before .before .before .before .before .before .before .args .root)) (c .before .before .before .before .before .before .before .before .before .args .ks .now) (c .before .before .before .before .before .before .shape .result) (c .before .before .before .before .before .before .shape .ensures) (c .before .before .before .before .before .before .before .if1 .left) (c .before .before .before .before .before .if2 .left) (c .before .before .before .before .if3 .left) (c .before .before .before .none-negative .result) (c .before .before .before .none-negative .ensures) (c .before .before .if4 .taken) (c .before .contradicts .result) (c .before .contradicts .ensures) (c .if5 .left)
+
+pub path-number-spec : {M : Type 1} → statement M
+path-number-spec =
+    tie.close
+    (tie.spec
+    returns
+    shape-requires
+    returns-2
+    sub-if3
+    returns-3
+    none-negative-requires
+    returns-4
+    contradicts-requires
+    returns-5
+    returns-6)

@@ -1,0 +1,2 @@
+-- Certificates of paths, on the rows of a lent table.
+pub mod Path

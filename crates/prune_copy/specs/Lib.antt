@@ -1,0 +1,2 @@
+-- A path copied behind a lent table's rows.
+pub mod Copy

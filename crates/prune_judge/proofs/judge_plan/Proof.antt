@@ -1,0 +1,87 @@
+-- `prune_judge::judge_plan` meets its contract.
+use mathlib.Core.Path.{_∙_}
+use Rattle.progress.specs.Standing.{site-as}
+use Rattle.prune_judge.proofs.Judged.{says-15, says-14, root-good, says-path, says-12, says-0}
+use borrow.Author.Needs.{needs}
+use Rattle.prune_judge.proofs.judge_plan.Statement.{statement}
+use Rattle.prune_judge.proofs.judge_plan.Tie as tie
+
+refused-requires : tie.Need-refused-requires
+refused-requires c κs = search needs
+
+returns : tie.Need-returns
+returns c =
+    c .refused .ensures ∙ says-15 _ _ _ _ _ _ _ _ (c .before .if1 .taken)
+
+greatest-root-requires : tie.Need-greatest-root-requires
+greatest-root-requires c κs = search needs
+
+cast-all-good : tie.Need-cast-all-good
+cast-all-good c = search needs
+
+cast-all-good-2 : tie.Need-cast-all-good-2
+cast-all-good-2 c = search needs
+
+cast-all-good-3 : tie.Need-cast-all-good-3
+cast-all-good-3 c = search needs
+
+all-good-requires : tie.Need-all-good-requires
+all-good-requires c κs = search needs
+
+refused-requires-2 : tie.Need-refused-requires-2
+refused-requires-2 c κs = search needs
+
+returns-2 : tie.Need-returns-2
+returns-2 c =
+    c .refused2 .ensures ∙ says-14 (site-as ((c .before .before .before .before .before .before .before .before .before) .args .site)) _ _ _ _ _ _ _ (c .before .before .before .before .before .before .if1 .left) (c .before .before .before .before .before .greatest-root .result) (c .before .before .before .before .before .greatest-root .ensures) (c .before .before .all-good .result) (c .before .before .all-good .ensures) (c .before .if2 .left)
+
+path-number-requires : tie.Need-path-number-requires
+path-number-requires c κs =
+    let a = (c .before .before .before .before .before .before .before .before) .args in
+    root-good (site-as (a .site)) (a .nodes .now) (a .stages .now) (a .most) (a .stage) (a .root) (a .turns .now) (a .ks .now) (c .before .before .before .before .before .if1 .left) (c .before .before .before .before .greatest-root .result) (c .before .before .before .before .greatest-root .ensures) (c .before .all-good .result) (c .before .all-good .ensures) (c .if2 .taken) ((c .before .before .before .before .before .before .before .before) .pre .0) ((c .before .before .before .before .before .before .before .before) .pre .2)
+
+refused-requires-3 : tie.Need-refused-requires-3
+refused-requires-3 c κs = search needs
+
+returns-3 : tie.Need-returns-3
+returns-3 c =
+    c .refused3 .ensures ∙ says-path (site-as ((c .before .before .before .before .before .before .before .before .before .before .before) .args .site)) _ _ _ _ _ _ _ (c .before .before .before .before .before .before .before .before .if1 .left) (c .before .before .before .before .before .before .before .greatest-root .result) (c .before .before .before .before .before .before .before .greatest-root .ensures) (c .before .before .before .before .all-good .result) (c .before .before .before .before .all-good .ensures) (c .before .before .before .if2 .taken) (c .before .before .path-number .result) (c .before .before .path-number .ensures) (c .before .if3 .taken)
+
+exceeds-requires : tie.Need-exceeds-requires
+exceeds-requires c κs = search needs
+
+refused-requires-4 : tie.Need-refused-requires-4
+refused-requires-4 c κs = search needs
+
+returns-4 : tie.Need-returns-4
+returns-4 c =
+    c .refused4 .ensures ∙ says-12 (site-as ((c .before .before .before .before .before .before .before .before .before .before .before .before .before) .args .site)) _ _ _ _ _ _ _ (c .before .before .before .before .before .before .before .before .before .before .if1 .left) (c .before .before .before .before .before .before .before .before .before .greatest-root .result) (c .before .before .before .before .before .before .before .before .before .greatest-root .ensures) (c .before .before .before .before .before .before .all-good .result) (c .before .before .before .before .before .before .all-good .ensures) (c .before .before .before .before .before .if2 .taken) (c .before .before .before .before .path-number .result) (c .before .before .before .before .path-number .ensures) (c .before .before .before .if3 .left) (c .before .before .exceeds .result) (c .before .before .exceeds .ensures) (c .before .if4 .taken)
+
+refused-requires-5 : tie.Need-refused-requires-5
+refused-requires-5 c κs = search needs
+
+returns-5 : tie.Need-returns-5
+returns-5 c =
+    c .refused5 .ensures ∙ says-0 (site-as ((c .before .before .before .before .before .before .before .before .before .before .before .before .before) .args .site)) _ _ _ _ _ _ _ (c .before .before .before .before .before .before .before .before .before .before .if1 .left) (c .before .before .before .before .before .before .before .before .before .greatest-root .result) (c .before .before .before .before .before .before .before .before .before .greatest-root .ensures) (c .before .before .before .before .before .before .all-good .result) (c .before .before .before .before .before .before .all-good .ensures) (c .before .before .before .before .before .if2 .taken) (c .before .before .before .before .path-number .result) (c .before .before .before .before .path-number .ensures) (c .before .before .before .if3 .left) (c .before .before .exceeds .result) (c .before .before .exceeds .ensures) (c .before .if4 .left)
+
+pub judge-plan-spec : {M : Type 1} → statement M
+judge-plan-spec =
+    tie.close
+    (tie.spec
+    refused-requires
+    returns
+    greatest-root-requires
+    cast-all-good
+    cast-all-good-2
+    cast-all-good-3
+    all-good-requires
+    refused-requires-2
+    returns-2
+    path-number-requires
+    refused-requires-3
+    returns-3
+    exceeds-requires
+    refused-requires-4
+    returns-4
+    refused-requires-5
+    returns-5)

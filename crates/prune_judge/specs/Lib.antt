@@ -1,0 +1,2 @@
+-- A path for a stage of a plan, judged.
+pub mod Judging

@@ -1,0 +1,1 @@
+// "Paths that no state can take", as definitions and laws: everything is in specs/.

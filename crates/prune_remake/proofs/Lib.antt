@@ -1,0 +1,3 @@
+-- Laws of rows made anew.
+pub mod Making
+pub mod Remaking

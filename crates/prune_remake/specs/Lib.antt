@@ -1,0 +1,2 @@
+-- What making anew leaves.
+pub mod Remade

@@ -1,0 +1,4 @@
+-- Laws of a lent table's rows.
+pub mod Rows
+pub mod Branches
+pub mod Again

@@ -1,0 +1,2 @@
+-- The rows of a lent table, as nodes.
+pub mod Rows

@@ -1,0 +1,2 @@
+-- Tables made anew from rows and stage words.
+pub mod Tables
