@@ -9,7 +9,7 @@
  * Nothing else is read or written, nothing is kept between calls, and calls on different slices may run at once.
  *
  *  1 to 8  the model is refused; place is an offset in it
- *  9       horizon or steps not 1 to 8
+ *  9       horizon, steps or stage not 1 to 8
  * 10       stage words not eight, peaks not 401, a model above 262,144 bytes, or an old one above 65,535
  * 11       a number leaves its limits; place is the stage, 0 while loading
  * 12       the tables are too small; place is the stage, 0 while loading
@@ -21,6 +21,8 @@
  * 18       no action carries the name
  * 19       several actions carry the name
  * 20       the model does not fit the old form: above 4 levels, 8 actions or 65,535 bytes once written, or a command 13
+ * 21       the multipliers do not show that no state takes the path
+ * 22       the path is empty, has a byte other than 0 and 1 or leaves the diagram, or has not a multiplier for each test
  */
 #ifndef PLANNER_H
 #define PLANNER_H
@@ -63,6 +65,7 @@ extern "C" {
 #define PLANNER_PAGE_BYTES ((size_t)8)
 #define PLANNER_TO_NEW_BYTES ((size_t)8)
 #define PLANNER_TO_OLD_BYTES ((size_t)8)
+#define PLANNER_PRUNE_BYTES ((size_t)4)
 
 /* The bytes of a page, for so many stages: 50 columns and a line end for each. */
 #define PLANNER_PAGE_TEXT_BYTES(horizon) ((size_t)51 * (horizon))
@@ -183,6 +186,26 @@ uint32_t planner_to_new(const uint8_t *old, size_t old_len, uint8_t *buffer, siz
  * 20 where it does not fit the old form; 17. */
 uint32_t planner_to_old(const uint8_t *model, size_t model_len, uint8_t *buffer, size_t buffer_len,
                         uint8_t *out, size_t out_len);
+
+/* Cuts a path that no state can take off the diagram of a stage, 1 to 8, in tables that planner_solve filled. `turns` has a
+ * byte for each node on the way from the stage's root: 1 where the path goes on at the high branch, 0 at the low one.
+ * `multipliers` has a number of 0 or more for each linear test on the way, the last node's too, in that order; conditions
+ * have none. A high side of a test p reads p <= 0, a low side -p < 0. These are added up, each times its multiplier: the path
+ * is accepted exactly when all coefficients cancel and the constant is above 0, or is 0 with a multiplier above 0 on some low
+ * side.
+ *
+ * The last node is then replaced, on this path only, by the branch that the path does not take, all nodes are made anew, and
+ * node, stage and work words are numbered and cleared as after solving. Every state reads the same values and actions as
+ * before, so one path may follow another. Nodes that other paths share are copied, so that there may be more of them.
+ *
+ * Answer: place u32. Refusals in order: 10; 9 for the stage; 1 to 8; 15 for this stage alone; 14 for any node up to the
+ * greatest of the eight stage words; 22; 21; 17; 12, its place being the stage, where the nodes up to that greatest word and
+ * one for each turn but the last exceed what the tables hold. A refusal, 12 too, leaves all words as they are. The stack is
+ * that of planner_solve. */
+uint32_t planner_prune(const uint8_t *model, size_t model_len, int64_t *nodes, size_t node_words,
+                       uint32_t *stages, size_t stage_words, uint32_t *work, size_t work_words, uint32_t stage,
+                       const uint8_t *turns, size_t turns_len, const int32_t *multipliers, size_t multipliers_len,
+                       uint8_t *out, size_t out_len);
 
 #ifdef __cplusplus
 }

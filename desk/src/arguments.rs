@@ -22,6 +22,7 @@ pub struct Arguments {
     pub page: bool,
     pub html: bool,
     pub table: bool,
+    pub paths: bool,
     pub help: bool,
 }
 
@@ -64,6 +65,7 @@ impl Arguments {
             "--page" => self.page = true,
             "--html" => self.html = true,
             "--table" => self.table = true,
+            "--paths" => self.paths = true,
             _ => self.help = true,
         }
         Ok(())

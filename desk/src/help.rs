@@ -10,6 +10,7 @@ usage: ./plan MODEL HORIZON [--nodes N]                   the plan of a site, as
        ./plan picture MODEL HORIZON --along LEVEL .. -o FILE
                                                           values and actions drawn over one level or two
        ./plan --peaks MODEL HORIZON                       the nodes that loading and each action need
+       ./plan --prune MODEL HORIZON                       the nodes without the paths that no state can take
        ./plan --to-new OLD NEW                            a model of the old form, which begins with 01, made new
        ./plan --to-old NEW OLD                            and the way back
        ./plan VERB --help                                 more about a verb
@@ -56,6 +57,19 @@ usage: ./plan --peaks MODEL HORIZON [--nodes N] [--raw]
 
 Prints how many nodes the tables have to hold: while the model is loaded, and at most over the operations of each action in
 all stages, each with its share of the largest. Tables of the largest are just enough to solve the model.
+";
+
+pub const PRUNE: &str = "\
+usage: ./plan --prune MODEL HORIZON [--paths] [--nodes N] [--raw]
+
+Looks for paths of the plan that no state can take, since the tests on the way contradict each other, and has the library cut
+them off. Prints how many nodes the plan had and has, and how many paths were cut off. No value and no action changes.
+
+  --paths       each path as it was sent: P, the stage, the turns (1 high, 0 low), a multiplier for each linear test
+  --nodes N     as for ./plan; a path that needs more is left alone
+
+A path is left alone as well if its smallest multipliers do not fit 32 bits. Of a plan with very many paths not all are looked
+at, which is said then.
 ";
 
 pub const TO_NEW: &str = "\

@@ -2,7 +2,8 @@
 
 use crate::state::State;
 use crate::widths::{
-    refusal, NAME_BYTES, OLD_MODEL_BYTES_MOST, PAIR_BYTES, PEAK_WORDS, STAGE_WORDS, TO_NEW_MODEL_BYTES, VALUE_BYTES,
+    refusal, NAME_BYTES, OLD_MODEL_BYTES_MOST, PAIR_BYTES, PEAK_WORDS, PRUNE_BYTES, STAGE_WORDS, TO_NEW_MODEL_BYTES,
+    VALUE_BYTES,
 };
 
 /// A refusal: its number and its place.
@@ -51,6 +52,11 @@ extern "C" {
     ) -> u32;
     fn planner_to_old(
         model: Bytes, model_len: usize, buffer: *mut u8, buffer_len: usize, out: Answer, out_len: usize,
+    ) -> u32;
+    fn planner_prune(
+        model: Bytes, model_len: usize, nodes: *mut i64, node_words: usize, stages: *mut u32, stage_words: usize,
+        work: *mut u32, work_words: usize, stage: u32, turns: Bytes, turns_len: usize,
+        multipliers: *const i32, multipliers_len: usize, out: Answer, out_len: usize,
     ) -> u32;
     #[cfg(planner_find)]
     fn planner_find(model: Bytes, model_len: usize, name: Bytes, name_len: usize, out: Answer, out_len: usize) -> u32;
@@ -170,6 +176,24 @@ pub fn to_new(old: &[u8]) -> Result<Vec<u8>, Refusal> {
 /// A model in the old form.
 pub fn to_old(model: &[u8]) -> Result<Vec<u8>, Refusal> {
     converted(planner_to_old, model, OLD_MODEL_BYTES_MOST)
+}
+
+/// Cuts a path off the diagram of a stage.
+#[rustfmt::skip]
+pub fn prune(
+    m: &[u8], nodes: &mut [i64], stages: &mut [u32; STAGE_WORDS], work: &mut [u32], stage: u32, turns: &[u8],
+    multipliers: &[i32],
+) -> Result<(), Refusal> {
+    let mut out = [0; PRUNE_BYTES];
+    // SAFETY: as said above.
+    let number = unsafe {
+        planner_prune(
+            m.as_ptr(), m.len(), nodes.as_mut_ptr(), nodes.len(), stages.as_mut_ptr(), stages.len(),
+            work.as_mut_ptr(), work.len(), stage, turns.as_ptr(), turns.len(),
+            multipliers.as_ptr(), multipliers.len(), out.as_mut_ptr(), out.len(),
+        )
+    };
+    judged(number, out).map(|_| ())
 }
 
 /// The action that carries a name.

@@ -2,11 +2,13 @@
 //! proved about it; whatever it says about a model, a value or an action comes from the library's calls.
 
 mod arguments;
+mod certificate;
 mod fraction;
 mod help;
 mod library;
 mod model;
 mod picture;
+mod prune;
 mod refusals;
 mod show;
 mod solved;

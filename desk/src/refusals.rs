@@ -392,6 +392,14 @@ fn of_call(number: u32) -> Told {
         refusal::STAGE => told("the tables have the stage that is asked for", "solve with a longer horizon"),
         refusal::ACTION => told("the action is one of the site's", "see './plan show MODEL' for its actions"),
         refusal::BUFFER => told("the text fits its buffer", "take smaller tables, with --nodes"),
+        refusal::NOT_SHOWN => told(
+            "the multipliers show that no state can take the path",
+            "the sum of p on high sides and -p on low sides has no coefficients, and a constant above 0",
+        ),
+        refusal::NO_PATH => told(
+            "a path has a turn 0 or 1 at each node on its way, and a multiplier for each linear test",
+            "compare it with the plan: './plan MODEL HORIZON' has the nodes",
+        ),
         _ => told("not known here", "see include/planner.h"),
     }
 }

@@ -4,6 +4,7 @@ use crate::arguments::Arguments;
 use crate::library::{self, Refusal};
 use crate::model::{Model, Written};
 use crate::picture::{Picture, Stopped};
+use crate::prune::{self, Pruned, Sent, SIDES_MOST};
 use crate::refusals::{explain, Subject};
 use crate::solved::{Solved, Unsolved};
 use crate::state::{Given, State};
@@ -26,6 +27,7 @@ pub fn run(given: &[String], out: &mut Vec<u8>) -> Done {
         "--to-new" => verb(rest, &["--raw"], help::TO_NEW, out, to_new),
         "--to-old" => verb(rest, &["--raw"], help::TO_OLD, out, to_old),
         "--peaks" => verb(rest, &["--nodes", "--raw"], help::PEAKS, out, peaks),
+        "--prune" => verb(rest, &["--nodes", "--paths", "--raw"], help::PRUNE, out, prune),
         "help" => helped(rest, out),
         _ => verb(given, &["--at", "--nodes", "--raw", "--page"], help::PLAN, out, plan),
     }
@@ -289,6 +291,44 @@ fn peak_lines(solved: &Solved) -> Result<String, Refusal> {
         text += &format!("{peak:>width$}  {share:>3} %  {of}\n");
     }
     Ok(text)
+}
+
+/// How many nodes the plan had, and has without the paths that no state can take.
+fn prune(arguments: &Arguments, out: &mut Vec<u8>) -> Done {
+    let asked = Asked::read(arguments)?;
+    if arguments.words.len() > 2 {
+        return Err(usage("paths are those of a model and a horizon: there is a word too many"));
+    }
+    let solved = asked.solve(None, out)?;
+    let pruned = prune::prune(&solved, arguments.nodes).map_err(|refused| asked.refuse(refused, None, None, out))?;
+    if arguments.paths {
+        out.extend(pruned.paths.iter().flat_map(|path| path_line(path).into_bytes()));
+    }
+    out.extend(pruned_lines(&pruned).bytes());
+    Ok(())
+}
+
+/// A path as it is sent: `P stage turns multipliers`.
+fn path_line(path: &Sent) -> String {
+    let turns: String = path.turns.iter().map(u8::to_string).collect();
+    let multipliers: String = path.multipliers.iter().map(|multiplier| format!(" {multiplier}")).collect();
+    format!("P {} {turns}{multipliers}\n", path.stage)
+}
+
+fn pruned_lines(pruned: &Pruned) -> String {
+    let paths = |count: usize| words::count(count, "path");
+    let mut text = format!("the plan had {} and has {}\n", words::count(pruned.had, "node"), pruned.has);
+    text += &format!("{} cut off that no state can take\n", paths(pruned.paths.len()));
+    if pruned.left.wide > 0 {
+        text += &format!("{} left alone: the smallest multipliers do not fit 32 bits\n", paths(pruned.left.wide));
+    }
+    if pruned.left.full > 0 {
+        text += &format!("{} left alone: the tables have no room for the copied nodes\n", paths(pruned.left.full));
+    }
+    if !pruned.whole {
+        text += &format!("ended after {SIDES_MOST} sides of tests: there are more paths than that\n");
+    }
+    text
 }
 
 fn picture(arguments: &Arguments, out: &mut Vec<u8>) -> Done {

@@ -82,6 +82,12 @@ impl Whole {
 
     /// The greatest common divisor, zero or more.
     pub fn common_divisor(&self, other: &Whole) -> Whole {
+        if let (Some(mut a), Some(mut b)) = (self.small(), other.small()) {
+            while b != 0 {
+                (a, b) = (b, a % b);
+            }
+            return Whole::from(a);
+        }
         let (mut a, mut b) = (self.size(), other.size());
         while !b.is_zero() {
             (a, b) = (b.clone(), a.divided(&b).1);

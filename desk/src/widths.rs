@@ -134,4 +134,6 @@ pub mod refusal {
     pub const NAMELESS: u32 = 18;
     pub const AMBIGUOUS: u32 = 19;
     pub const NO_FIT: u32 = 20;
+    pub const NOT_SHOWN: u32 = 21;
+    pub const NO_PATH: u32 = 22;
 }

@@ -366,6 +366,7 @@ static void find_is(const model *m, const char *name, uint32_t number, uint32_t 
 static void page_is(const call *given, uint32_t number, uint32_t place);
 static void to_old_refused(const model *m, uint32_t number, uint32_t place);
 static void model_unsolved(const model *m, uint32_t number, uint32_t place);
+static void model_unpruned(const model *m, uint32_t number, uint32_t place);
 
 static void model_refused(const model *m, uint32_t number, uint32_t place)
 {
@@ -382,6 +383,7 @@ static void model_refused(const model *m, uint32_t number, uint32_t place)
     page_is(&c, number, place);
     to_old_refused(m, number, place);
     model_unsolved(m, number, place);
+    model_unpruned(m, number, place);
 }
 
 static void models_refused(void)
@@ -480,6 +482,8 @@ static void long_models_refused(void)
            "a long model's page");
     expect(planner_to_old(bytes, longer, NULL, 0, out, sizeof out) == 10, "a long model in the old form");
     expect(planner_solve(bytes, longer, 0, NULL, 0, NULL, 0, NULL, 0, NULL, 0, out, sizeof out) == 10, "a long model solved");
+    expect(planner_prune(bytes, longer, c.nodes, WORDS, c.stages, 8, NULL, 0, 0, NULL, 0, NULL, 0, out, sizeof out) == 10,
+           "a path in a long model's tables");
     planner_judged judged = planner_validate(bytes, longer);
     expect(judged.number == 10 && judged.place == 0, "a long model judged");
     expect(planner_name(bytes, most, 1, out, sizeof out) == 3, "a model of the greatest length");
@@ -1305,6 +1309,224 @@ static void solves_refused(void)
     solve_is(&s, 9, 0);
 }
 
+/* ---- paths that no state can take */
+
+/* Two levels that stay: the reward is 1 where L1 + L2 <= 0, else 2 where L1 <= 0, else 3 where L2 <= 0, else 4. */
+static model corner(void)
+{
+    static const int32_t tests[3][2] = {{0, 1}, {1, 0}, {1, 1}};
+    model m = {{0}, 0};
+    command(&m, "\x02\x02\x00\x01\x00\x01", SITE_BYTES);
+    for (int32_t value = 1; value <= 4; value++)
+        linear(&m, 0x10, 0, value);
+    for (int i = 0; i < 3; i++) {
+        linear(&m, 0x12, tests[i][0], 0);
+        put(m.bytes + m.len - LINEAR_BYTES + 5, (uint32_t)tests[i][1], 4);
+    }
+    command(&m, "\x20\x01\x00", 3);
+    linear(&m, 0x10, 1, 0);
+    command(&m, "\x22\x01\x00\x01", 4);
+    linear(&m, 0x10, 0, 0);
+    put(m.bytes + m.len - LINEAR_BYTES + 5, 1, 4);
+    command(&m, "\x22\x01\x00\x02\xff", 5);
+    return m;
+}
+
+#define VALUE(value) 0, 0, 0, 0, 0, 0, 0, 0, 0, value, 1, 0
+#define TEST(c1, c2, high, low) 2, c1, c2, 0, 0, 0, 0, 0, 0, 0, high, low
+
+/* The plan, and what is left of it without the path where L1 and L2 are not above 0 and their sum is; then also without
+ * the one where both are above 0 and their sum is not. */
+enum { CORNER = 10, CORNER_ROOM = 12 };
+static const int64_t CORNER_NODES[CORNER * NODE] = {
+    VALUE(1), VALUE(2), TEST(1, 1, 1, 2), VALUE(3), TEST(1, 1, 1, 4), TEST(1, 0, 3, 5),
+    VALUE(4), TEST(1, 1, 1, 7), TEST(1, 0, 3, 8), TEST(0, 1, 6, 9),
+};
+static const int64_t CORNER_CUT[CORNER * NODE] = {
+    VALUE(1), VALUE(3), TEST(1, 1, 1, 2), TEST(1, 0, 1, 3), VALUE(2), TEST(1, 1, 1, 5),
+    VALUE(4), TEST(1, 1, 1, 7), TEST(1, 0, 6, 8), TEST(0, 1, 4, 9),
+};
+static const int64_t CORNER_CUT_TWICE[CORNER * NODE] = {
+    VALUE(1), VALUE(3), TEST(1, 1, 1, 2), TEST(1, 0, 1, 3), VALUE(2), TEST(1, 1, 1, 5),
+    VALUE(4), TEST(1, 0, 6, 7), TEST(0, 1, 4, 8),
+};
+
+/* What a path is sent with; a test changes one thing of the corner's. */
+typedef struct sent {
+    model m;
+    int64_t nodes[CORNER_ROOM * NODE];
+    size_t node_words;
+    uint32_t stages[8];
+    size_t stage_words, work_words;
+    uint32_t stage;
+    uint8_t turns[4];
+    size_t turns_len;
+    int32_t multipliers[4];
+    size_t multipliers_len;
+} sent;
+
+static sent usual_path(void)
+{
+    sent p = {corner(), {0}, CORNER_ROOM * NODE, {CORNER}, 8, PLANNER_WORK_WORDS(CORNER_ROOM), 1, {1, 1, 0}, 3, {1, 1, 1}, 3};
+    memcpy(p.nodes, CORNER_NODES, sizeof CORNER_NODES);
+    return p;
+}
+
+/* All that is lent to it, in the middle of marks. */
+typedef struct lent_path {
+    int64_t nodes[GUARD + CORNER_ROOM * NODE + GUARD];
+    uint32_t stages[GUARD + PLANNER_STAGE_WORDS + GUARD];
+    uint32_t work[GUARD + PLANNER_WORK_WORDS(CORNER_ROOM) + GUARD];
+    uint8_t out[GUARD + PLANNER_PRUNE_BYTES + GUARD];
+} lent_path;
+
+static uint32_t prune(const sent *p, lent_path *l, size_t out_len)
+{
+    return planner_prune(p->m.len == 0 ? NULL : p->m.bytes, p->m.len, p->node_words == 0 ? NULL : l->nodes + GUARD,
+                         p->node_words, p->stage_words == 0 ? NULL : l->stages + GUARD, p->stage_words,
+                         p->work_words == 0 ? NULL : l->work + GUARD, p->work_words, p->stage,
+                         p->turns_len == 0 ? NULL : p->turns, p->turns_len,
+                         p->multipliers_len == 0 ? NULL : p->multipliers, p->multipliers_len,
+                         out_len == 0 ? NULL : l->out + GUARD, out_len);
+}
+
+/* With every length of `out`: a short one leaves everything untouched, as every refusal does. An accepted path leaves these
+ * rows below this root, and zeros. */
+static void path_is(const sent *given, uint32_t number, uint32_t place, const int64_t *rows, uint32_t root)
+{
+    sent p = *given;
+    for (size_t len = 0; len <= PLANNER_PRUNE_BYTES + 3; len++) {
+        lent_path made, left;
+        int fits = len >= PLANNER_PRUNE_BYTES, yields = number == 0 || number == 12;
+        memset(&made, MARK, sizeof made);
+        memcpy(made.nodes + GUARD, p.nodes, p.node_words * sizeof *p.nodes);
+        memcpy(made.stages + GUARD, p.stages, sizeof p.stages);
+        memcpy(&left, &made, sizeof left);
+        if (fits && number == 0) {
+            memset(left.nodes + GUARD, 0, p.node_words * sizeof *p.nodes);
+            memcpy(left.nodes + GUARD, rows, root * NODE * sizeof *rows);
+            memset(left.stages + GUARD, 0, sizeof p.stages);
+            left.stages[GUARD + p.stage - 1] = root;
+            memset(left.work + GUARD, 0, p.work_words * sizeof *left.work);
+        }
+        if (fits)
+            put(left.out + GUARD, place, 4);
+        uint32_t r = prune(&p, &made, len);
+        expect(r == (fits || !yields ? number : 17), "number of a path");
+        expect(memcmp(&made, &left, sizeof made) == 0, "what a path is lent, and what is beside it");
+        expect(memcmp(&p, given, sizeof p) == 0, "a path leaves model, turns and multipliers as they are");
+    }
+}
+
+static void path_refused(const sent *p, uint32_t number, uint32_t place)
+{
+    path_is(p, number, place, NULL, 0);
+}
+
+/* Everything else is wrong too, but 10 and 9. */
+static void model_unpruned(const model *m, uint32_t number, uint32_t place)
+{
+    sent p = usual_path();
+    p.m = *m;
+    p.stages[0] = 0;
+    p.nodes[0] = 9;
+    p.turns_len = 0;
+    path_refused(&p, number, place);
+}
+
+static void paths_cut(void)
+{
+    sent p = usual_path();
+    path_is(&p, 0, 0, CORNER_CUT, CORNER);
+    p.multipliers[0] = p.multipliers[1] = p.multipliers[2] = INT32_MAX;
+    path_is(&p, 0, 0, CORNER_CUT, CORNER);
+    memcpy(p.nodes, CORNER_CUT, sizeof CORNER_CUT);
+    p.turns[0] = p.turns[1] = 0;
+    p.turns[2] = 1;
+    path_is(&p, 0, 0, CORNER_CUT_TWICE, CORNER - 1);
+    /* Another stage's word, and anything behind the greatest. */
+    p = usual_path();
+    p.stages[0] = 0;
+    p.stages[7] = CORNER;
+    p.stage = 8;
+    p.nodes[CORNER * NODE] = -1;
+    path_is(&p, 0, 0, CORNER_CUT, CORNER);
+    p.stage = 1;
+    path_refused(&p, 15, 0);
+}
+
+/* Both slices count, whole nodes alone; 12 yields to a short `out`. */
+static void paths_without_room(void)
+{
+    sent p = usual_path();
+    p.node_words = CORNER_ROOM * NODE - 1;
+    path_refused(&p, 12, 1);
+    p = usual_path();
+    p.work_words--;
+    path_refused(&p, 12, 1);
+    p.work_words = 0;
+    path_refused(&p, 12, 1);
+    p.stages[5] = CORNER;
+    p.stage = 6;
+    path_refused(&p, 12, 6);
+}
+
+static void paths_refused(void)
+{
+    static const uint8_t bytes[] = {2, 0x31, 0xFF};
+    sent p = usual_path();
+    p.turns[2] = 1;
+    path_refused(&p, 21, 0);
+    p = usual_path();
+    p.multipliers[1] = 2;
+    path_refused(&p, 21, 0);
+    p.multipliers[0] = p.multipliers[1] = p.multipliers[2] = -1;
+    path_refused(&p, 21, 0);
+    p.multipliers[0] = p.multipliers[1] = p.multipliers[2] = 0;
+    path_refused(&p, 21, 0);
+    memset(p.turns, 0, sizeof p.turns); /* a multiplier below 0 would make the sum 0 */
+    p.multipliers[0] = p.multipliers[1] = 1;
+    p.multipliers[2] = -1;
+    path_refused(&p, 21, 0);
+    p.work_words = 0; /* 21 comes before 12 */
+    path_refused(&p, 21, 0);
+    p.multipliers_len = 2;
+    path_refused(&p, 22, 0);
+    p.multipliers_len = 4;
+    path_refused(&p, 22, 0);
+    p = usual_path();
+    p.turns_len = 4;
+    path_refused(&p, 22, 0);
+    p.multipliers_len = 4;
+    path_refused(&p, 22, 0);
+    p.turns_len = p.multipliers_len = 0;
+    path_refused(&p, 22, 0);
+    for (size_t i = 0; i < sizeof bytes; i++) {
+        p = usual_path();
+        p.turns[2] = bytes[i];
+        path_refused(&p, 22, 0);
+    }
+    p.nodes[1 * NODE + HIGH] = 2; /* the site has action 1 alone */
+    path_refused(&p, 14, 0);
+    p = usual_path();
+    p.stages[7] = CORNER_ROOM + 1;
+    path_refused(&p, 14, 0);
+    p.stages[7] = UINT32_MAX;
+    path_refused(&p, 14, 0);
+    p.stage = 2;
+    path_refused(&p, 15, 0);
+    p.m.bytes[0] = 1;
+    path_refused(&p, 3, 0);
+    p.stage = 0;
+    path_refused(&p, 9, 0);
+    p.stage = 9;
+    path_refused(&p, 9, 0);
+    p.stage_words = 7;
+    path_refused(&p, 10, 0);
+    p.stage_words = 0;
+    path_refused(&p, 10, 0);
+}
+
 int main(void)
 {
     values_read();
@@ -1330,6 +1552,9 @@ int main(void)
     forbidding_refused();
     solves();
     solves_refused();
+    paths_cut();
+    paths_without_room();
+    paths_refused();
     printf("exports: %u checks\n", checks);
     return 0;
 }

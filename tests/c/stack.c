@@ -1,6 +1,8 @@
-/* How much stack a solve takes: it runs on a thread whose stack is just as large as the header asks for, painted before.
+/* How much stack a solve takes, or a path that is cut off the longest diagram of so many nodes: it runs on a thread whose
+ * stack is just as large as the header asks for, painted before.
  *
  *   stack MODEL HORIZON NODES
+ *   stack --path NODES
  */
 #define _GNU_SOURCE
 
@@ -36,29 +38,77 @@ static void *solve(void *unused)
     return NULL;
 }
 
-int main(int count, char **arguments)
+static void *prune(void *unused)
 {
-    if (count != 4)
-        fail("usage: stack MODEL HORIZON NODES");
-    FILE *file = fopen(arguments[1], "rb");
+    static const uint8_t turns[] = {1};
+    static const int32_t multipliers[] = {1};
+    (void)unused;
+    number = planner_prune(model, model_len, nodes, PLANNER_NODE_WORDS(capacity), stages, PLANNER_STAGE_WORDS, work,
+                           PLANNER_WORK_WORDS(capacity), 1, turns, 1, multipliers, 1, out, PLANNER_PRUNE_BYTES);
+    return NULL;
+}
+
+static void read_model(const char *path)
+{
+    FILE *file = fopen(path, "rb");
     if (file == NULL)
         fail("cannot open the model");
     model_len = fread(model, 1, sizeof model, file);
     fclose(file);
-    horizon = (uint32_t)strtoul(arguments[2], NULL, 10);
-    capacity = strtoul(arguments[3], NULL, 10);
+}
+
+/* A site of one level that stays, and one action. */
+static void write_model(void)
+{
+    static const uint8_t site[] = {0x02, 1, 0, 1, 0, 1, 0x10}, reward[] = {0x20, 1, 0, 0x10, 1}, next[] = {0x22, 1, 0, 1, 0xFF};
+    memcpy(model, site, sizeof site);
+    memcpy(model + 43, reward, sizeof reward);
+    memcpy(model + 83, next, sizeof next);
+    model_len = 88;
+}
+
+/* L1 <= 3, L1 <= 4 and so on, each on the high side of the next, below a root that asks whether 1 <= 0. */
+static void write_chain(void)
+{
+    for (size_t row = 1; row <= capacity; row++) {
+        int64_t *node = nodes + PLANNER_NODE_WORDS(row - 1), below = (int64_t)row - 1;
+        int is_leaf = row <= 2, is_root = row == capacity;
+        node[0] = is_leaf ? 0 : 2;
+        node[1] = !is_leaf && !is_root;
+        node[9] = is_root ? 1 : -(int64_t)row;
+        node[10] = is_leaf || is_root ? 1 : below;
+        node[11] = is_leaf ? 0 : is_root ? below : 1;
+    }
+    stages[0] = (uint32_t)capacity;
+}
+
+int main(int count, char **arguments)
+{
+    int is_path = count == 3 && strcmp(arguments[1], "--path") == 0;
+    if (!is_path && count != 4)
+        fail("usage: stack MODEL HORIZON NODES, or stack --path NODES");
+    capacity = strtoul(arguments[count - 1], NULL, 10);
     nodes = calloc(PLANNER_NODE_WORDS(capacity) + 1, sizeof *nodes);
     work = calloc(PLANNER_WORK_WORDS(capacity) + 1, sizeof *work);
+    if (nodes == NULL || work == NULL)
+        fail("out of memory");
+    if (is_path) {
+        write_model();
+        write_chain();
+    } else {
+        read_model(arguments[1]);
+        horizon = (uint32_t)strtoul(arguments[2], NULL, 10);
+    }
     size_t size = (PLANNER_STACK_BYTES(capacity) + PAGE - 1) / PAGE * PAGE;
     /* A page that must not be touched lies below the stack. */
     uint8_t *low = mmap(NULL, size + PAGE, PROT_READ | PROT_WRITE, MAP_PRIVATE | MAP_ANONYMOUS, -1, 0);
-    if (nodes == NULL || work == NULL || low == MAP_FAILED || mprotect(low, PAGE, PROT_NONE) != 0)
+    if (low == MAP_FAILED || mprotect(low, PAGE, PROT_NONE) != 0)
         fail("out of memory");
     memset(low + PAGE, PAINT, size);
     pthread_attr_t attributes;
     pthread_t thread;
     if (pthread_attr_init(&attributes) != 0 || pthread_attr_setstack(&attributes, low + PAGE, size) != 0
-        || pthread_create(&thread, &attributes, solve, NULL) != 0 || pthread_join(thread, NULL) != 0)
+        || pthread_create(&thread, &attributes, is_path ? prune : solve, NULL) != 0 || pthread_join(thread, NULL) != 0)
         fail("cannot run a thread with this stack");
     size_t untouched = 0;
     while (untouched < size && low[PAGE + untouched] == PAINT)
@@ -66,5 +116,5 @@ int main(int count, char **arguments)
     printf("%s, horizon %u, %zu nodes: number %u, %zu of %zu bytes of stack, %.0f a node\n", arguments[1],
            (unsigned)horizon, capacity, (unsigned)number, size - untouched, size,
            (double)(size - untouched) / (double)(capacity == 0 ? 1 : capacity));
-    return untouched == 0;
+    return untouched == 0 || (is_path && (number != 0 || stages[0] != capacity - 1));
 }

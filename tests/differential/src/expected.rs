@@ -1,6 +1,6 @@
 //! What each C function has to return and to leave, by the second program.
 
-use reference::{find, listing, name, page, solve, value, worth, Outcome, Reading, Refusal, State};
+use reference::{find, listing, name, page, prune, solve, value, worth, Outcome, Reading, Refusal, State};
 
 /// The answer's bytes, or 17 for a short `out`, where an earlier refusal keeps its number (decision 97).
 fn answer(number: u32, bytes: Vec<u8>, out: &mut [u8]) -> u32 {
@@ -118,4 +118,30 @@ pub fn paged(
     out: &mut [u8],
 ) -> u32 {
     written(page(model, horizon, nodes, stages, state, text.len(), place), text, place, out)
+}
+
+#[allow(clippy::too_many_arguments)]
+pub fn pruned(
+    model: &[u8],
+    nodes: &mut [i64],
+    stages: &mut [u32],
+    work: &mut [u32],
+    stage: u32,
+    turns: &[u8],
+    multipliers: &[i32],
+    out: &mut [u8],
+) -> u32 {
+    match prune(model, nodes, stages, work.len(), stage, turns, multipliers) {
+        Ok(left) => {
+            let number = answer(0, words(&[0]), out);
+            if number == 0 {
+                nodes.fill(0);
+                nodes[..left.nodes.len()].copy_from_slice(&left.nodes);
+                stages.copy_from_slice(&left.stages);
+                work.fill(0);
+            }
+            number
+        }
+        Err(Refusal { number, place }) => answer(number, words(&[place]), out),
+    }
 }

@@ -1,5 +1,6 @@
 //! Compares every outcome of libplanner.a with the second program: numbers, places, all lent words, peaks too, values,
-//! names and actions found by them, listings, pages, models of the other form, plain working. See tests/README.md for the link line.
+//! names and actions found by them, listings, pages, models of the other form, paths cut off, plain working. See
+//! tests/README.md for the link line.
 
 mod conversion;
 mod expected;
@@ -9,6 +10,7 @@ mod meter;
 mod planner;
 #[cfg(linked)]
 mod planner;
+mod pruning;
 mod speed;
 
 use models::{
@@ -22,15 +24,20 @@ use std::time::Instant;
 
 const USAGE: &str = "differential random [COUNT [SEED]]      random models, tables, states, damage
 differential endurance [COUNT [SEED]]   the same tables and buffer for one model after another
-differential large                      the large models, with times, and their other form
+differential large                      the large models, with times, their other form, and long paths
 differential speed                      the README's figures, library and second program in one run
 differential time MODEL HORIZON         the time of both to solve the model of a file";
 
+/// Success and the refusals 1 to 26 of both documents.
+const NUMBERS_GIVEN: usize = 27;
+
 /// What a call was made with, kept for the report of a difference.
 struct Calls {
-    by_number: [u64; 21],
+    by_number: [u64; NUMBERS_GIVEN],
     /// Values and worths that were none.
     none: u64,
+    /// Paths that were cut off.
+    cut: u64,
     model: Vec<u8>,
     round: u64,
 }
@@ -417,6 +424,8 @@ fn one_round(calls: &mut Calls, rng: &mut Rng) {
     for _ in 0..4 {
         compare_find(calls, rng);
     }
+    // A source of its own: the rest of a round is what its seed gives without it.
+    pruning::round(calls, &mut Rng(rng.0 ^ 0x0A), solved.as_ref());
     let is_solved = solved.is_some();
     let mut tables = solved.unwrap_or_else(|| Tables::full_of_anything(rng, [10 * NODE_WORDS, STAGES, 0, 0]));
     for _ in 0..if is_solved { 6 } else { 2 } {
@@ -479,6 +488,7 @@ fn endurance_round(calls: &mut Calls, rng: &mut Rng, lent: &mut Tables, buffer: 
     }
     calls.count(number);
     compare_state(calls, rng, lent, horizon, number == 0);
+    pruning::endurance(calls, &mut Rng(rng.0 ^ 0x0A), lent);
     conversion::endurance(calls, rng, buffer);
 }
 
@@ -559,7 +569,7 @@ fn rounds(calls: &mut Calls, count: u64, seed: u64, mut round: impl FnMut(&mut C
 }
 
 fn compare(mode: &str, count: u64, seed: u64) {
-    let mut calls = Calls { by_number: [0; 21], none: 0, model: Vec::new(), round: 0 };
+    let mut calls = Calls { by_number: [0; NUMBERS_GIVEN], none: 0, cut: 0, model: Vec::new(), round: 0 };
     let start = Instant::now();
     let lengths = [NODE_WORDS * 2_000 + 3, STAGES, WORK_WORDS * 2_000 + 5, PEAK_WORDS + 1];
     let mut lent = Tables::full_of_anything(&mut Rng(seed), lengths);
@@ -568,6 +578,7 @@ fn compare(mode: &str, count: u64, seed: u64) {
         "large" => {
             large(&mut calls);
             conversion::large(&mut calls, &mut Rng(seed));
+            pruning::large(&mut calls, &mut Rng(seed));
         }
         "random" => rounds(&mut calls, count, seed, one_round),
         "endurance" => {
@@ -581,7 +592,8 @@ fn compare(mode: &str, count: u64, seed: u64) {
     println!("{mode}: {total} calls of {library}, all as expected, seed {seed}, {time:.1} s");
     let numbers: Vec<String> =
         calls.by_number.iter().enumerate().map(|(number, count)| format!("{number}:{count}")).collect();
-    println!("by number {}; none was read {} times", numbers.join(" "), calls.none);
+    let (none, cut) = (calls.none, calls.cut);
+    println!("by number {}; none was read {none} times, {cut} paths were cut off", numbers.join(" "));
 }
 
 fn run(args: &[String]) {

@@ -1,7 +1,7 @@
 //! Stands in for the library, so that the comparison can be built and tried without it. A fault can be asked for with
-//! PLANNER_FAULT=function (solve, value, name, worth, listing, find, page, to_new or to_old; to_new_buffer and
-//! to_old_buffer spoil the last byte of the lent buffer, solve_peaks the last word of the peaks); the comparison has to
-//! find it.
+//! PLANNER_FAULT=function (solve, value, name, worth, listing, find, page, to_new, to_old or prune; to_new_buffer and
+//! to_old_buffer spoil the last byte of the lent buffer, solve_peaks the last word of the peaks, prune_tables the last one
+//! of the nodes); the comparison has to find it.
 
 use crate::expected;
 use reference::State;
@@ -101,4 +101,20 @@ pub fn to_old(model: &[u8], buffer: &mut [u8], out: &mut [u8]) -> u32 {
     let number = spoil("to_old", expected::to_old(model, buffer, out), out);
     spoil_last("to_old_buffer", buffer);
     number
+}
+
+#[allow(clippy::too_many_arguments)]
+pub fn prune(
+    model: &[u8],
+    nodes: &mut [i64],
+    stages: &mut [u32],
+    work: &mut [u32],
+    stage: u32,
+    turns: &[u8],
+    multipliers: &[i32],
+    out: &mut [u8],
+) -> u32 {
+    let number = expected::pruned(model, nodes, stages, work, stage, turns, multipliers, out);
+    spoil_last("prune_tables", nodes);
+    spoil("prune", number, out)
 }

@@ -100,6 +100,11 @@ extern "C" {
     fn planner_to_old(
         model: *const u8, model_len: usize, buffer: *mut u8, buffer_len: usize, out: *mut u8, out_len: usize,
     ) -> u32;
+    fn planner_prune(
+        model: *const u8, model_len: usize, nodes: *mut i64, node_words: usize, stages: *mut u32, stage_words: usize,
+        work: *mut u32, work_words: usize, stage: u32, turns: *const u8, turns_len: usize,
+        multipliers: *const i32, multipliers_len: usize, out: *mut u8, out_len: usize,
+    ) -> u32;
 }
 
 extern "C" {
@@ -235,4 +240,20 @@ pub fn to_old(model: &[u8], buffer: &mut [u8], out: &mut [u8]) -> u32 {
     let (buffer_len, out_len) = (buffer.len(), out.len());
     // SAFETY: as said above.
     unsafe { planner_to_old(model.as_ptr(), model.len(), buffer.as_mut_ptr(), buffer_len, out.as_mut_ptr(), out_len) }
+}
+
+#[rustfmt::skip]
+#[allow(clippy::too_many_arguments)]
+pub fn prune(
+    m: &[u8], nodes: &mut [i64], stages: &mut [u32], work: &mut [u32], stage: u32, turns: &[u8], multipliers: &[i32],
+    out: &mut [u8],
+) -> u32 {
+    // SAFETY: as said above.
+    unsafe {
+        planner_prune(
+            m.as_ptr(), m.len(), nodes.as_mut_ptr(), nodes.len(), stages.as_mut_ptr(), stages.len(),
+            work.as_mut_ptr(), work.len(), stage, turns.as_ptr(), turns.len(), multipliers.as_ptr(), multipliers.len(),
+            out.as_mut_ptr(), out.len(),
+        )
+    }
 }

@@ -2,12 +2,14 @@
 
 mod domains;
 mod forbidding;
+mod foreign;
 mod large;
 mod old;
 mod random;
 
 pub use domains::{chain, inventory, releases, reservoirs, rover, wet_reservoirs};
 pub use forbidding::forbidding;
+pub use foreign::{foreign, TableWriter};
 pub use large::{
     deep, long_listing, mixed, near_limit, of_length, of_old_length, rain_tanks_kept, settings, staircases,
 };
@@ -124,6 +126,15 @@ pub fn pond_kept() -> Vec<u8> {
     pond_ending(|w| {
         w.leaf([], 120).leaf([], 0).test([-1], 20);
     })
+}
+
+/// Two levels that stay, and one action: its reward is 1 where L1 + L2 ≤ 0, else 2 where L1 ≤ 0, else 3 where L2 ≤ 0, else 4.
+/// The plan asks for L2 and L1 first, so that two of its paths are no state's.
+pub fn corner() -> Vec<u8> {
+    let mut w = Writer::site(2, 0, 1, 1);
+    w.leaf([], 1).leaf([], 2).leaf([], 3).leaf([], 4).test([0, 1], 0).test([1, 0], 0).test([1, 1], 0).reward(1);
+    w.leaf([1, 0], 0).next(1, 1).leaf([0, 1], 0).next(1, 2);
+    w.end()
 }
 
 /// One action, its next level and the end worth −2³¹ × L1 each: stage 1 names 2⁶², which is beyond the limits.

@@ -1,7 +1,7 @@
 //! Writes the models to a folder, and some random ones: `models FOLDER [COUNT [SEED]]`.
 
 use models::{
-    chain, damaged, deep, dry_inlet, long_listing, mixed, near_limit, of_length, of_old_length, old_form, pond,
+    chain, corner, damaged, deep, dry_inlet, long_listing, mixed, near_limit, of_length, of_old_length, old_form, pond,
     pond_kept, rain, rain_tanks_kept, random, settings, staircases, steep_end, wet_reservoirs, Rng, MODEL_BYTES,
     OLD_BYTES,
 };
@@ -19,6 +19,7 @@ fn main() -> std::io::Result<()> {
         ("pond", pond()),
         ("pond_kept", pond_kept()),
         ("rain", rain()),
+        ("corner", corner()),
         ("steep_end", steep_end()),
         ("dry_inlet", dry_inlet()),
         ("wet_reservoirs", wet_reservoirs()),

@@ -341,6 +341,12 @@ impl Store {
         self.make(Node { label, high, low })
     }
 
+    /// The same, with a label as it stands.
+    pub fn node_over(&mut self, label: Label, high: Id, low: Id) -> Result<Id, Fault> {
+        let label = self.label_id(label);
+        self.over(label, high, low)
+    }
+
     fn first(&self, one: LabelId, other: LabelId) -> LabelId {
         if one == other || self.labels[one as usize] < self.labels[other as usize] {
             one

@@ -3,9 +3,11 @@
 //!
 //! `widths` has the sizes of everything; `model` reads and judges the bytes, in the planner's form or in the old one,
 //! `diagram` has the rules on diagrams and `unique` their hash tables, `solve` the operations of a solve, `read` the
-//! readers of tables, `find` an action by its name, `page` the page of a state, `convert` writes a model in the other
-//! form, and `plain` works a state out from the written model, without diagrams. `hex_text` is for the programs in `bin`.
+//! readers of tables, `find` an action by its name, `page` the page of a state, `prune` cuts off a path, `convert` writes a
+//! model in the other form, and `plain` works a state out from the written model, without diagrams. `certificate` finds
+//! paths to cut off, for the tests; `hex_text` is for the programs in `bin`.
 
+pub mod certificate;
 pub mod convert;
 pub mod diagram;
 pub mod find;
@@ -13,6 +15,7 @@ pub mod hex_text;
 pub mod model;
 pub mod page;
 pub mod plain;
+pub mod prune;
 pub mod read;
 pub mod solve;
 mod unique;
@@ -23,6 +26,7 @@ pub use find::find;
 pub use model::{validate, validate_old, Model, Refusal, Site};
 pub use page::page;
 pub use plain::{worth, worth_old};
+pub use prune::prune;
 pub use read::{listing, name, program, value, Reading};
 pub use solve::{solve, solve_old, solve_with_room, Outcome};
 

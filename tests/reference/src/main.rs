@@ -1,8 +1,8 @@
 //! A small command line over the second program.
 
-use reference::widths::{LEVELS, NODES_MOST, NODE_WORDS};
+use reference::widths::{LEVELS, NODES_MOST, NODE_WORDS, WORK_WORDS};
 use reference::{
-    find, name, program, solve_with_room, to_new, to_old, validate, validate_old, value, with_deep_stack, worth,
+    find, name, program, prune, solve_with_room, to_new, to_old, validate, validate_old, value, with_deep_stack, worth,
     Reading, Refusal, State,
 };
 use std::str::FromStr;
@@ -17,11 +17,12 @@ reference value MODEL HORIZON STEPS MASK L1 .. L8 D
 reference worth MODEL STEPS MASK L1 .. L8 D
 reference name MODEL ACTION
 reference find MODEL NAME
+reference prune MODEL HORIZON NODES STAGE TURNS MULTIPLIER ..
 reference to_new OLD FILE
 reference to_old MODEL FILE
-MODEL is a file, INPUT one with what the listing program reads. Each prints number and place first, and after a success
-solve: peak; value and worth: action, low word, high word; name: the name; find: the action; to_new and to_old: the bytes
-written to FILE.
+MODEL is a file, INPUT one with what the listing program reads, TURNS digits, 1 high and 0 low, or - for none. Each prints
+number and place first, and after a success solve: peak; value and worth: action, low word, high word; name: the name; find:
+the action; prune: the plan's nodes before and after; to_new and to_old: the bytes written to FILE.
 list and print print what the listing program prints.";
 
 fn number<T: FromStr>(args: &[String], place: usize) -> T {
@@ -57,6 +58,24 @@ fn show_solve(model: &[u8], horizon: u32, nodes: usize) {
         eprintln!("peaks: loading {loading}, actions {:?}", &actions[..last]);
     }
     eprintln!("roots {:?}, {} rule calls, {} deep, {time:.3} s", done.stages, done.calls, done.deepest);
+}
+
+/// Solves in the largest tables, and cuts off one path in tables of so many nodes.
+fn show_prune(model: &[u8], args: &[String]) {
+    let (horizon, room, stage): (u32, usize, u32) = (number(args, 2), number(args, 3), number(args, 4));
+    let mut done = solve_with_room(model, horizon, NODES_MOST);
+    if done.number != 0 {
+        return println!("{} {} 0 0", done.number, done.place);
+    }
+    let rows = done.nodes.len() / NODE_WORDS;
+    done.nodes.resize(NODE_WORDS * room, 0);
+    let turns: Vec<u8> =
+        args.get(5).map_or("", |turns| turns).bytes().filter(|&b| b != b'-').map(|b| b.wrapping_sub(b'0')).collect();
+    let multipliers: Vec<i32> = (6..args.len()).map(|place| number(args, place)).collect();
+    match prune(model, &done.nodes, &done.stages, WORK_WORDS * room, stage, &turns, &multipliers) {
+        Ok(left) => println!("0 0 {rows} {}", left.nodes.len() / NODE_WORDS),
+        Err(refusal) => println!("{} {} 0 0", refusal.number, refusal.place),
+    }
 }
 
 fn write(converted: Result<Vec<u8>, Refusal>, path: &str) {
@@ -114,6 +133,7 @@ fn run(args: &[String]) {
             Ok(action) => println!("0 0 {action}"),
             Err(refusal) => println!("{} {} 0", refusal.number, refusal.place),
         },
+        "prune" => show_prune(&model, args),
         "to_new" if args.len() == 3 => write(to_new(&model, usize::MAX), &args[2]),
         "to_old" if args.len() == 3 => write(to_old(&model, usize::MAX), &args[2]),
         _ => usage(),

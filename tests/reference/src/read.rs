@@ -26,15 +26,15 @@ impl Reading {
 }
 
 /// A row of the table.
-struct Row<'a> {
-    kind: i64,
-    nums: &'a [i64; NUMBERS],
-    high: i64,
-    low: i64,
+pub struct Row<'a> {
+    pub kind: i64,
+    pub nums: &'a [i64; NUMBERS],
+    pub high: i64,
+    pub low: i64,
 }
 
 /// A row of the table, or 14 (65 to 69).
-fn row<'a>(site: &Site, nodes: &'a [i64], number: i64) -> Result<Row<'a>, Refusal> {
+pub fn row<'a>(site: &Site, nodes: &'a [i64], number: i64) -> Result<Row<'a>, Refusal> {
     let inside = 1 <= number && number <= (nodes.len() / NODE_WORDS) as i64;
     if !inside {
         return Refusal::of(14);

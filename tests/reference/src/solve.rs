@@ -70,6 +70,11 @@ struct Solver<'a> {
     stage: u32,
 }
 
+/// What tables of so many words hold: N.
+pub fn room(node_words: usize, work_words: usize) -> usize {
+    (node_words / NODE_WORDS).min(work_words / WORK_WORDS).min(NODES_MOST)
+}
+
 /// Solves a model for tables of so many words; a large model asks for `with_deep_stack`.
 pub fn solve(
     bytes: &[u8],
@@ -79,7 +84,7 @@ pub fn solve(
     work_words: usize,
     peak_words: usize,
 ) -> Outcome {
-    let most = (node_words / NODE_WORDS).min(work_words / WORK_WORDS).min(NODES_MOST);
+    let most = room(node_words, work_words);
     let model = match peak_words {
         PEAK_WORDS => open(bytes, Some(stage_words), Some(horizon)),
         _ => Refusal::of(10),
@@ -239,31 +244,46 @@ impl Solver<'_> {
         self.last.expect("a last result")
     }
 
-    /// Numbers the nodes of stages 1 to H and writes them (57).
+    /// Numbers the nodes of stages 1 to H and writes them.
     fn write(&self, outcome: &mut Outcome) {
-        let mut numbers = vec![0; self.store.count()];
-        for (h, &root) in self.stages.iter().enumerate().skip(1) {
-            outcome.stages[h - 1] = self.write_diagram(root, &mut numbers, &mut outcome.nodes);
+        let mut rows = Rows::new(&self.store);
+        for (word, &root) in outcome.stages.iter_mut().zip(&self.stages[1..]) {
+            *word = rows.write(root);
         }
+        outcome.nodes = rows.words;
+    }
+}
+
+/// Rows of the tables: nodes are numbered in the order in which they are written (57).
+pub struct Rows<'a> {
+    store: &'a Store,
+    numbers: Vec<u32>,
+    pub words: Vec<i64>,
+}
+
+impl Rows<'_> {
+    pub fn new(store: &Store) -> Rows<'_> {
+        Rows { store, numbers: vec![0; store.count()], words: Vec::new() }
     }
 
-    fn write_diagram(&self, id: Id, numbers: &mut Vec<u32>, rows: &mut Vec<i64>) -> u32 {
-        if numbers[id as usize] == 0 {
+    /// Writes what is not there yet of a diagram, high before low, a node after its branches; its number.
+    pub fn write(&mut self, id: Id) -> u32 {
+        if self.numbers[id as usize] == 0 {
             let (node, &Label { kind, nums }) = (self.store.node(id), self.store.label(id));
             let (kind, high, low) = match kind {
                 Kind::Leaf => (0, node.high, 0),
                 Kind::None => (3, 0, 0),
                 kind => {
-                    let high = self.write_diagram(node.high, numbers, rows);
-                    (kind as i64, high, self.write_diagram(node.low, numbers, rows))
+                    let high = self.write(node.high);
+                    (kind as i64, high, self.write(node.low))
                 }
             };
-            rows.push(kind);
-            rows.extend(nums);
-            rows.extend([high, low].map(i64::from));
-            numbers[id as usize] = (rows.len() / NODE_WORDS) as u32;
+            self.words.push(kind);
+            self.words.extend(nums);
+            self.words.extend([high, low].map(i64::from));
+            self.numbers[id as usize] = (self.words.len() / NODE_WORDS) as u32;
         }
-        numbers[id as usize]
+        self.numbers[id as usize]
     }
 }
 

@@ -1,0 +1,239 @@
+//! Paths of a solved plan that no state can take: found by linear programming, and cut off by the library.
+
+use crate::certificate::{is_high_at, judge, Judged, Linear, Point, Side};
+use crate::fraction::Fraction;
+use crate::library::{self, Refusal};
+use crate::solved::Solved;
+use crate::whole::Whole;
+use crate::widths::*;
+
+/// A path as the library has taken it.
+#[derive(Clone, Debug)]
+pub struct Sent {
+    pub stage: u32,
+    pub turns: Vec<u8>,
+    pub multipliers: Vec<i32>,
+}
+
+/// Paths that stay although no state can take them.
+#[derive(Clone, Debug, Default)]
+pub struct Left {
+    /// Their smallest multipliers do not fit 32 bits.
+    pub wide: usize,
+    /// The tables have no room for them.
+    pub full: usize,
+}
+
+/// What has come of a plan.
+pub struct Pruned {
+    pub had: usize,
+    pub has: usize,
+    pub paths: Vec<Sent>,
+    pub left: Left,
+    /// Whether all paths were looked at.
+    pub whole: bool,
+}
+
+/// Sides of tests that are put together at most: a plan may have more paths than anybody can wait for.
+pub const SIDES_MOST: usize = 1_000_000;
+
+#[derive(Clone)]
+struct Tables {
+    nodes: Vec<i64>,
+    stages: [u32; STAGE_WORDS],
+}
+
+/// What stands at the end of a way.
+enum Node {
+    Leaf,
+    Condition,
+    Test(Linear),
+}
+
+/// The turns from a stage's root, and the sides of the tests among them.
+struct Way {
+    stage: u32,
+    turns: Vec<u8>,
+    sides: Vec<Side>,
+}
+
+/// Why a walk does not go on.
+enum Stop {
+    /// A node on the way is not there any more.
+    Changed,
+    TooMuch,
+    Refused(Refusal),
+}
+
+impl Tables {
+    fn rows(&self) -> usize {
+        self.stages.iter().fold(0, |rows, &root| rows.max(root as usize))
+    }
+
+    fn words(&self, node: u32) -> &[i64] {
+        &self.nodes[NODE_WORDS * (node as usize - 1)..][..NODE_WORDS]
+    }
+
+    /// The nodes on the way and the one at its end, as far as they are there.
+    fn nodes_on(&self, way: &Way) -> Vec<&[i64]> {
+        let mut on = vec![self.words(self.stages[way.stage as usize - 1])];
+        for &turn in &way.turns {
+            let words = on[on.len() - 1];
+            if matches!(words[KIND], kind::LEAF | kind::NONE) {
+                break;
+            }
+            on.push(self.words(words[if turn == 1 { HIGH } else { LOW }] as u32));
+        }
+        on
+    }
+
+    fn end(&self, way: &Way) -> Node {
+        let on = self.nodes_on(way);
+        let words = on[on.len() - 1];
+        match words[KIND] {
+            kind::LEAF | kind::NONE => Node::Leaf,
+            kind::CONDITION => Node::Condition,
+            _ => Node::Test(std::array::from_fn(|place| words[COEFFICIENTS + place])),
+        }
+    }
+
+    /// Whether the turns are taken at the same conditions and tests as in other tables.
+    fn has_way_of(&self, other: &Tables, way: &Way) -> bool {
+        let (on, on_other) = (self.nodes_on(way), other.nodes_on(way));
+        let same = |(one, other): (&&[i64], &&[i64])| one[..HIGH] == other[..HIGH];
+        on.len() == on_other.len() && on.iter().zip(&on_other).take(way.turns.len()).all(same)
+    }
+}
+
+struct Walk<'a> {
+    model: &'a [u8],
+    /// What the tables may hold.
+    most: usize,
+    tables: Tables,
+    paths: Vec<Sent>,
+    /// The smallest plan on the way, and how many paths it is without.
+    best: (Tables, usize),
+    left: Left,
+    /// Sides of tests that were put together.
+    sides: usize,
+}
+
+impl Walk<'_> {
+    /// All paths of a stage: again from its root after a cut that has changed more than what lies below it.
+    fn stage(&mut self, stage: u32) -> Result<(), Stop> {
+        let (left, origin) = (self.left.clone(), std::array::from_fn(|_| Fraction::from(0)));
+        loop {
+            let mut way = Way { stage, turns: Vec::new(), sides: Vec::new() };
+            match self.below(&mut way, &origin) {
+                Err(Stop::Changed) => self.left = left.clone(),
+                ended => return ended,
+            }
+        }
+    }
+
+    /// All paths that go on from the end of a way that the point takes. What is cut off there makes place for another node.
+    fn below(&mut self, way: &mut Way, point: &Point) -> Result<(), Stop> {
+        loop {
+            let linear = match self.tables.end(way) {
+                Node::Leaf => return Ok(()),
+                Node::Condition => {
+                    self.turn(way, true, None, point)?;
+                    return self.turn(way, false, None, point);
+                }
+                Node::Test(linear) => linear,
+            };
+            let is_high = is_high_at(&linear, point);
+            match self.judge(way, Side { is_high: !is_high, linear })? {
+                Judged::Impossible(multipliers) => {
+                    if self.cut(way, !is_high, &multipliers)? {
+                        continue;
+                    }
+                    return self.turn(way, is_high, Some(linear), point);
+                }
+                Judged::Taken(there) => {
+                    self.turn(way, is_high, Some(linear), point)?;
+                    return self.turn(way, !is_high, Some(linear), &there);
+                }
+            }
+        }
+    }
+
+    /// The paths behind one more turn, which a test adds a side to.
+    fn turn(&mut self, way: &mut Way, is_high: bool, test: Option<Linear>, point: &Point) -> Result<(), Stop> {
+        way.turns.push(u8::from(is_high));
+        way.sides.extend(test.map(|linear| Side { is_high, linear }));
+        self.below(way, point)?;
+        way.turns.pop();
+        if test.is_some() {
+            way.sides.pop();
+        }
+        Ok(())
+    }
+
+    /// Whether some state takes the way and this side.
+    fn judge(&mut self, way: &mut Way, side: Side) -> Result<Judged, Stop> {
+        way.sides.push(side);
+        self.sides += way.sides.len();
+        if self.sides > SIDES_MOST {
+            return Err(Stop::TooMuch);
+        }
+        let judged = judge(&way.sides);
+        way.sides.pop();
+        Ok(judged)
+    }
+
+    /// Has the library cut off the way with one more turn; false where the path is left alone.
+    fn cut(&mut self, way: &mut Way, is_high: bool, multipliers: &[Whole]) -> Result<bool, Stop> {
+        let Some(multipliers) = multipliers.iter().map(Whole::to_i32).collect::<Option<Vec<i32>>>() else {
+            self.left.wide += 1;
+            return Ok(false);
+        };
+        let turns = [&way.turns[..], &[u8::from(is_high)]].concat();
+        let rows = self.tables.rows();
+        let room = (rows + turns.len() - 1).min(self.most);
+        let mut after = Tables { nodes: self.tables.nodes[..NODE_WORDS * rows].to_vec(), stages: self.tables.stages };
+        after.nodes.resize(NODE_WORDS * room, 0);
+        let mut work = vec![0; WORK_WORDS * room];
+        let Tables { nodes, stages } = &mut after;
+        match library::prune(self.model, nodes, stages, &mut work, way.stage, &turns, &multipliers) {
+            Err(refused) if library::wants_room(refused) => {
+                self.left.full += 1;
+                return Ok(false);
+            }
+            done => done.map_err(Stop::Refused)?,
+        }
+        let before = std::mem::replace(&mut self.tables, after);
+        self.paths.push(Sent { stage: way.stage, turns, multipliers });
+        if self.tables.rows() <= self.best.0.rows() {
+            self.best = (self.tables.clone(), self.paths.len());
+        }
+        if self.tables.has_way_of(&before, way) {
+            Ok(true)
+        } else {
+            Err(Stop::Changed)
+        }
+    }
+}
+
+/// Cuts off all paths of a plan that no state can take, stage by stage, in tables of so many nodes or of the most. Nodes that
+/// other paths share are copied, so that a plan may grow before it shrinks: the smallest one on the way is what it comes to.
+pub fn prune(solved: &Solved, nodes: Option<usize>) -> Result<Pruned, Refusal> {
+    let tables = Tables { nodes: solved.nodes.clone(), stages: solved.stages };
+    let had = tables.rows();
+    let (model, most, best) = (solved.model, nodes.unwrap_or(NODES_MOST), (tables.clone(), 0));
+    let mut walk = Walk { model, most, tables, paths: Vec::new(), best, left: Left::default(), sides: 0 };
+    let mut whole = true;
+    for stage in 1..=solved.horizon as u32 {
+        match walk.stage(stage) {
+            Ok(()) => {}
+            Err(Stop::Refused(refused)) => return Err(refused),
+            Err(Stop::Changed | Stop::TooMuch) => {
+                whole = false;
+                break;
+            }
+        }
+    }
+    let (best, count) = walk.best;
+    walk.paths.truncate(count);
+    Ok(Pruned { had, has: best.rows(), paths: walk.paths, left: walk.left, whole })
+}
