@@ -1,5 +1,5 @@
 // The refusals before the model's own: 10, then 9; and models of 262,144 and 262,145 bytes.
-use hex_text::report;
+use check_hex::report;
 
 // The longest model that is accepted, and a byte more.
 const MOST: usize = 262144;
@@ -21,7 +21,7 @@ fn add(room: &mut [u8], at: usize, text: &[u8]) -> usize {
     if room.len() < at {
         return 0;
     }
-    sum(at, hex_text::bytes_of(text, &mut room[at..]))
+    sum(at, check_hex::bytes_of(text, &mut room[at..]))
 }
 
 // An accepted model of 454 bytes and 39 for each turn, with eight levels and an end worth: its reward is a choice over as many

@@ -1,6 +1,6 @@
 // Listings of the pond from tables that are filled by hand: whole, from a place, of a smaller horizon, and each refusal.
 // The buffer is full of dots before, so that they show what stays untouched.
-use hex_text::report;
+use check_hex::report;
 use table::HIGH;
 use table::LOW;
 use table::NODE_WORDS;
@@ -16,7 +16,7 @@ const TEXT: usize = 225;
 
 const ROOM: usize = TEXT + 7;
 
-fn print(name: &[u8], r: listing::Listed, room: &[u8]) {
+fn print(name: &[u8], r: text_listing::Listed, room: &[u8]) {
     report::label(name);
     report::number(r.number as u64, b" ");
     report::number(r.place as u64, b", size ");
@@ -33,15 +33,15 @@ fn into(
     room: &mut [u8],
     n: usize,
     place: usize,
-) -> listing::Listed {
+) -> text_listing::Listed {
     if room.len() < n {
-        return listing::Listed {
+        return text_listing::Listed {
             number: 0,
             place: 0,
             size: 0,
         };
     }
-    listing::listing(model, horizon, nodes, stages, &mut room[..n], place)
+    text_listing::listing(model, horizon, nodes, stages, &mut room[..n], place)
 }
 
 // A listing into the first n bytes of a new buffer.
@@ -94,7 +94,7 @@ fn of_model(name: &[u8], model: &[u8], horizon: u32, stages: &[u32], n: usize, p
 }
 
 fn pond(room: &mut [u8]) {
-    hex_text::bytes_of(
+    check_hex::bytes_of(
         b"S 01 00 02A 01 P 20 01A 10 01000000 OOOKO 22 01A 01 10 OOOOK 32000000 10 OOOOK ffffffff 12 ffffffff OOOK 0a000000 20 02A 10 01000000 OOOK f6ffffff 10 01000000 OOOKO 12 ffffffff OOOK 0a000000 22 02A 01 ff",
         room,
     );

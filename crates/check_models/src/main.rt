@@ -1,12 +1,12 @@
 // Verdicts of the models on standard input, a line each: a label, a colon, and the model as hexadecimal text.
 // A line without a colon is copied.
-use hex_text::find;
-use hex_text::report;
+use check_hex::find;
+use check_hex::report;
 use libc::STDIN_FILENO;
 
 // The label, then the number and the place.
 fn judge(name: &[u8], text: &[u8], room: &mut [u8]) {
-    let n = hex_text::bytes_of(text, room);
+    let n = check_hex::bytes_of(text, room);
     let v = model::validate(&room[..n]);
     report::label(name);
     report::refusal(v.number, v.place);

@@ -1,11 +1,11 @@
 // The commands of the models on standard input, a line each: a label, a colon, and the model as hexadecimal text.
 // A reader over the model from each command on reads that command and the one behind it; both are compared with the
 // cursor's. A line without a colon is copied.
-use command::Command;
-use command::Read;
-use hex_text::find;
-use hex_text::report;
+use check_hex::find;
+use check_hex::report;
 use libc::STDIN_FILENO;
+use model_command::Command;
+use model_command::Read;
 
 // A command's byte and its operands of one or two bytes, 0 where it has fewer; byte 0 for an unknown one, 1 for one that is cut.
 struct Row {
@@ -89,12 +89,12 @@ fn compare(x: Row, cursor: Row) {
 
 // The command at an offset, and the one behind it: as a reader over the rest of the model has them, and the cursor.
 fn step(model: &[u8], rest: &[u8], at: usize, next: usize) {
-    let x = shown(reader::first(rest));
+    let x = shown(model_reader::first(rest));
     print(at, x);
-    compare(x, shown(command::command_at(model, at)));
+    compare(x, shown(model_command::command_at(model, at)));
     compare(
-        shown(reader::second(rest)),
-        shown(command::command_at(model, next)),
+        shown(model_reader::second(rest)),
+        shown(model_command::command_at(model, next)),
     );
 }
 
@@ -102,7 +102,7 @@ fn step(model: &[u8], rest: &[u8], at: usize, next: usize) {
 fn walk(model: &[u8]) {
     let mut at: usize = 0;
     while at < model.len() {
-        let next = command::next_after(model, at);
+        let next = model_command::next_after(model, at);
         step(model, &model[at..], at, next);
         if next <= at {
             return;
@@ -112,7 +112,7 @@ fn walk(model: &[u8]) {
 }
 
 fn read(name: &[u8], text: &[u8], room: &mut [u8]) {
-    let n = hex_text::bytes_of(text, room);
+    let n = check_hex::bytes_of(text, room);
     report::line(name);
     walk(&room[..n]);
 }

@@ -3,12 +3,12 @@
 ghost use Prim.Native.Nat.{_≤_};
 ghost use lib.ListN.{length};
 use libc::STDOUT_FILENO;
-use solver::PEAK_WORDS;
-use solver::Solved;
-use solver::solve;
-use value_reading::value;
-use values::Asked;
-use values::Value;
+use solve_tables::PEAK_WORDS;
+use solve_tables::Solved;
+use solve_tables::solve;
+use value_read::value;
+use value_walk::Asked;
+use value_walk::Value;
 
 // Room for 256 nodes.
 const ROOM: usize = 256;
@@ -525,7 +525,7 @@ fn run(models: &[u8; 65536]) {
 
 fn main() {
     let mut models = io::large_buffer();
-    hex_text::bytes_of(
+    check_hex::bytes_of(
         b"S 01 00 02A 01 P 20 01A 10 01000000 OOOKO 22 01A 01 10 OOOOK 32000000 10 OOOOK ffffffff 12 ffffffff OOOK 0a000000 20 02A 10 01000000 OOOK f6ffffff 10 01000000 OOOKO 12 ffffffff OOOK 0a000000 22 02A 01 ff | S 01 01 01A 0a 10 01000000 OOOKO 20 01A 10 OOOOK 07000000 21 01A 01 10 01000000 OOOK 6affffff 10 01000000 OOOK ceffffff 11 05 22 01A 01 ff | S 01 04 01A 64 10 01000000 OOOKO 20 01A 10 OOOOK 32000000 21 01A 01 10 OOOOK 64000000 21 01A 02 P 21 01A 03 10 OOOOK 01000000 21 01A 04 10 01000000 OOOKO 22 01A 01 ff | S 01 00 02A 01 P 20 01A 10 01000000 OOOKO 22 01A 01 10 OOOOK 32000000 10 OOOOK ffffffff 12 ffffffff OOOK 0a000000 20 02A 10 01000000 OOOK f6ffffff 10 01000000 OOOKO 12 ffffffff OOOK 0a000000 22 02A 01 10 01000000 OOOKO 23 ff",
         &mut models,
     );

@@ -1,8 +1,8 @@
 // Plain working of the states on standard input, a line each: a label, a colon, and as hexadecimal text the steps left, the mask,
 // the numerators of eight levels and the denominator, four bytes each, then the model. A line without a colon is copied.
 ghost use Prim.Native.Nat.{_<_};
-use hex_text::find;
-use hex_text::report;
+use check_hex::find;
+use check_hex::report;
 use libc::STDIN_FILENO;
 use whole::NUMBERS;
 
@@ -16,7 +16,7 @@ const MODEL: usize = NUMERATORS + NUMBERS * WORD;
 fn byte(input: &[u8], at: usize) -> u32
     ensures { λ r. ⌜ r < 256 ⌝ }
 {
-    command::byte_at(input, at) as u32
+    model_command::byte_at(input, at) as u32
 }
 
 // Four bytes, low byte first.
@@ -54,7 +54,7 @@ fn numerator(x: whole::Numerator) {
 }
 
 // The number and place, the action, and the numerator.
-fn show(v: values::Value) {
+fn show(v: value_walk::Value) {
     report::number(v.number as u64, b" ");
     report::number(v.place as u64, b" ");
     report::number(v.action as u64, b" ");
@@ -72,10 +72,10 @@ fn numerators(input: &[u8]) -> [i32; NUMBERS] {
 }
 
 // The worth of the state that the input begins with.
-fn asked(input: &[u8], model: &[u8]) -> values::Value {
+fn asked(input: &[u8], model: &[u8]) -> value_walk::Value {
     let mask = word(input, WORD);
     let n = numerators(input);
-    worth::worth(model, word(input, 0), values::Asked { mask, n })
+    plain_worth::worth(model, word(input, 0), value_walk::Asked { mask, n })
 }
 
 fn work(name: &[u8], input: &[u8]) {
@@ -87,7 +87,7 @@ fn work(name: &[u8], input: &[u8]) {
 }
 
 fn row(name: &[u8], text: &[u8], room: &mut [u8]) {
-    let n = hex_text::bytes_of(text, room);
+    let n = check_hex::bytes_of(text, room);
     work(name, &room[..n]);
 }
 

@@ -10,12 +10,12 @@ use lib.ListN.{length, getD, set, take}
 use lib.Seq.{take-suc, take-length}
 use Rattle.table.specs.Table.{nodeAt, isLeaf}
 use Rattle.theory.specs.Diagram.{Tree}
-use Rattle.diagrams.specs.Nodes.{testOf, blank, trees, Good}
-use Rattle.mark.specs.Mark.{needed, rootsOf, flag, markOf, Below, Space, Marked}
-use Rattle.diagrams.proofs.Trees.{trees-length, at-branch}
-use Rattle.mark.proofs.Reach.{needed-branch, needed-root}
-use Rattle.slide.specs.Slide.{rank, keepOf, Closed, Slid}
-use Rattle.slide.proofs.Ranks.{keep-at}
+use Rattle.rule_node.specs.Nodes.{testOf, blank, trees, Good}
+use Rattle.collect_mark.specs.Mark.{needed, rootsOf, flag, markOf, Below, Space, Marked}
+use Rattle.rule_node.proofs.Trees.{trees-length, at-branch}
+use Rattle.collect_mark.proofs.Reach.{needed-branch, needed-root}
+use Rattle.collect_compact.specs.Slide.{rank, keepOf, Closed, Slid}
+use Rattle.collect_compact.proofs.Ranks.{keep-at}
 use Rattle.collect.specs.Collect.{keepIf, forwarded, Collected}
 
 -- ---- forwarding the roots

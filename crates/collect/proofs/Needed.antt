@@ -18,10 +18,10 @@ use Rattle.theory.specs.laws.Comps.{member-in}
 use Rattle.theory.specs.laws.Counting.{distinct-roots}
 use Rattle.theory.specs.laws.Inside.{inside-parts, inside-branch, all-none, all-parts, all-cons, roots-inside, roots-sub}
 use Rattle.collect.proofs.Order.{SameNodes, same-nodes, SameOut, run-order}
-use Rattle.diagrams.specs.Nodes.{leafOf, testOf, blank, trees, Good}
-use Rattle.mark.specs.Mark.{sub, needed, rootsOf, Below}
-use Rattle.diagrams.proofs.Trees.{trees-length, at-leaf, at-branch}
-use Rattle.mark.proofs.Reach.{clash, either, same-true, needed-branch, needed-root}
+use Rattle.rule_node.specs.Nodes.{leafOf, testOf, blank, trees, Good}
+use Rattle.collect_mark.specs.Mark.{sub, needed, rootsOf, Below}
+use Rattle.rule_node.proofs.Trees.{trees-length, at-leaf, at-branch}
+use Rattle.collect_mark.proofs.Reach.{clash, either, same-true, needed-branch, needed-root}
 use Rattle.collect.specs.Collect.{keepIf, Collected}
 
 is-true : (b : Bool) → T b → b ≡ true

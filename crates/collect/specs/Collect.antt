@@ -6,8 +6,8 @@ use Prim.Native.Nat.{ℕ, zero, suc, _+_, _≤_}
 use lib.IntN.{ℤ}
 use lib.ListN.{length, getD}
 use Rattle.theory.specs.Diagram.{Tree}
-use Rattle.diagrams.specs.Nodes.{trees, Good}
-use Rattle.mark.specs.Mark.{needed, rootsOf, Below}
+use Rattle.rule_node.specs.Nodes.{trees, Good}
+use Rattle.collect_mark.specs.Mark.{needed, rootsOf, Below}
 
 unfoldable pub keepIf : (Tree → Bool) → List Tree → List Tree
 keepIf p [] = []

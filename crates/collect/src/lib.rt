@@ -2,8 +2,8 @@
 ghost use mathlib.Core.Path.{_≡_};
 ghost use Prim.Native.Nat.{_*_, _≤_};
 ghost use lib.ListN.{length};
-ghost use Rattle.diagrams.specs.Nodes.{Good};
-ghost use Rattle.mark.specs.Mark.{Below, Space};
+ghost use Rattle.rule_node.specs.Nodes.{Good};
+ghost use Rattle.collect_mark.specs.Mark.{Below, Space};
 ghost use Rattle.collect.specs.Collect.{forwarded, Collected};
 
 // Each root's new index.
@@ -30,8 +30,8 @@ pub fn collect(
     requires { ⌜ Space cap (now nodes) (now work) count × Good (now nodes) count × Below (now roots) count ⌝ }
     ensures { λ r. ⌜ Collected (now (nodes .entry)) (now (nodes .exit)) (now (work .entry)) (now (work .exit)) (now (roots .entry)) (now (roots .exit)) count r ⌝ }
 {
-    mark::mark(nodes, work, cap, count, roots);
-    let left = slide::slide(nodes, work, cap, count);
+    collect_mark::mark(nodes, work, cap, count, roots);
+    let left = collect_compact::slide(nodes, work, cap, count);
     forward(work, cap, roots);
     left
 }

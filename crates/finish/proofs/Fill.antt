@@ -6,7 +6,7 @@ use native.Mathlib.Numerals.{add-one}
 use native.Mathlib.Omega.{arith}
 use lib.ListN.{length, getD, set, take, drop, replicate, length-map}
 use lib.Seq.{take-suc, take-all, take-at}
-use Rattle.clear.proofs.Fill.{Filled, fill}
+use Rattle.table_clear.proofs.Fill.{Filled, fill}
 use Rattle.finish.specs.Finish.{numbersOf}
 
 -- zeros, and nothing else

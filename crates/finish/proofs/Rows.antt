@@ -20,10 +20,10 @@ use Rattle.table.specs.declared.Node.{Node}
 use Rattle.theory.specs.Widths.{levels-most, conditions-most, node-words}
 use Rattle.theory.specs.Diagram.{now, later, linear, Leaf, some, forbidden, lin-of, act-of, no-coeffs, Tree, leaf, branch, padded}
 use Rattle.theory.specs.Solve.{number-of, linear-words, test-words, leaf-kind, row, rows}
-use Rattle.diagrams.specs.Nodes.{linOf, noneNode, leafOf, firstOf, conditionOf, testOf, blank, Tested, Valid}
-use Rattle.diagrams.proofs.Trees.{split-last, same-firsts, leaf-none, leaf-some}
-use Rattle.diagrams.proofs.Meanings.{zeros-behind}
-use Rattle.numbering.specs.Number.{listOf}
+use Rattle.rule_node.specs.Nodes.{linOf, noneNode, leafOf, firstOf, conditionOf, testOf, blank, Tested, Valid}
+use Rattle.rule_node.proofs.Trees.{split-last, same-firsts, leaf-none, leaf-some}
+use Rattle.rule_node.proofs.Meanings.{zeros-behind}
+use Rattle.finish_number.specs.Number.{listOf}
 
 -- ---- a node's words and its row
 

@@ -15,12 +15,12 @@ use Rattle.theory.specs.Diagram.{Tree}
 use Rattle.theory.specs.Solve.{number-of, row, rows, table-of, solved-nodes, solved-stages}
 use Rattle.theory.specs.laws.Table.{number-below, number-entry}
 use Rattle.theory.specs.laws.Words.{rows-length}
-use Rattle.diagrams.specs.Nodes.{blank, trees, treeAt}
-use Rattle.numbering.specs.Number.{Held, Roots, treesOf, listOf, Numbered, Listed}
-use Rattle.diagrams.proofs.Trees.{at-leaf, at-branch}
-use Rattle.numbering.proofs.Numbers.{number-in}
-use Rattle.numbering.proofs.Enter.{list-length, numbered-fits}
-use Rattle.arrange.specs.Arrange.{renumber, Inverse, Arranged, Rewritten}
+use Rattle.rule_node.specs.Nodes.{blank, trees, treeAt}
+use Rattle.finish_number.specs.Number.{TableHeld, Roots, treesOf, listOf, Numbered, Listed}
+use Rattle.rule_node.proofs.Trees.{at-leaf, at-branch}
+use Rattle.finish_number.proofs.Numbers.{number-in}
+use Rattle.finish_number.proofs.Enter.{list-length, numbered-fits}
+use Rattle.finish_arrange.specs.Arrange.{renumber, Inverse, Arranged, Rewritten}
 use Rattle.finish.specs.Finish.{Finished, numbersOf, LaidOut}
 use Rattle.finish.proofs.Rows.{words-of, over, row-leaf, row-branch, rows-take}
 
@@ -42,7 +42,7 @@ number-found t X w c m e =
     let i : number-of t (listOf X w c) - 1 ≡ m = omega arith in
     (h, sym (list-at X w c m h) ∙ (ap (λ (k : ℕ). getD (listOf X w c) k blank) (sym i) ∙ number-entry blank t (listOf X w c) (number-in t (listOf X w c) (λ z. omega arith))))
 
-module _ {cap : ℕ} {l : List ℤ} {n : ℕ} (G : Held cap l n) {w : List ℕ} {c : ℕ} (N : Numbered cap l n w c) where
+module _ {cap : ℕ} {l : List ℤ} {n : ℕ} (G : TableHeld cap l n) {w : List ℕ} {c : ℕ} (N : Numbered cap l n w c) where
   abbrev X : List Tree
   X = trees l n
 
@@ -97,7 +97,7 @@ unfolding numbersOf
 numbers-are w cap l n Y [] h = refl
 numbers-are w cap l n Y (r ∷ R) h = ap₂ (λ (a : ℕ) (b : List ℕ). a ∷ b) (h 0 (omega arith)) (numbers-are w cap l n Y R (λ j q. h (suc j) (omega arith)))
 
-module _ {cap : ℕ} {l : List ℤ} {n : ℕ} (G : Held cap l n) {w : List ℕ} {c : ℕ} {R : List ℕ} (s : List ℕ) (B : Roots R n) (eight : length s ≡ steps-most) (L : Listed cap l n w c R) where
+module _ {cap : ℕ} {l : List ℤ} {n : ℕ} (G : TableHeld cap l n) {w : List ℕ} {c : ℕ} {R : List ℕ} (s : List ℕ) (B : Roots R n) (eight : length s ≡ steps-most) (L : Listed cap l n w c R) where
   stages : {s′ : List ℕ} → s′ ≡ numbersOf w cap R ++ replicate (length s - length R) 0 → s′ ≡ solved-stages (treesOf l n R)
   unfolding solved-stages table-of
   stages e =

@@ -7,12 +7,12 @@ use lib.ListN.{length, getD, take, replicate}
 use Rattle.theory.specs.Widths.{node-words, work-words, steps-most}
 use Rattle.theory.specs.Diagram.{Tree}
 use Rattle.theory.specs.Solve.{table-of, solved-nodes, solved-stages}
-use Rattle.numbering.specs.Number.{Held, Roots}
-use Rattle.arrange.specs.Arrange.{Arranged}
+use Rattle.finish_number.specs.Number.{TableHeld, Roots}
+use Rattle.finish_arrange.specs.Arrange.{Arranged}
 
 -- a good table of n nodes, the roots of at most eight stages in it, eight stage words; the work words may hold anything
 pub record Unfinished (cap : ℕ) (l : List ℤ) (n : ℕ) (w R s : List ℕ) : Type 0 where
-  pub held : Held cap l n
+  pub held : TableHeld cap l n
   pub works : cap * work-words ≤ length w
   pub roots : Roots R n
   pub few : length R ≤ steps-most

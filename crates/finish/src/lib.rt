@@ -6,18 +6,18 @@ ghost use Prim.Native.Nat.{_*_, _≤_};
 ghost use lib.ListN.{length};
 ghost use Rattle.table.specs.Table.{node-words};
 ghost use Rattle.theory.specs.Widths.{nodes-most};
-ghost use Rattle.numbering.specs.Number.{Held, Roots, Listed, treesOf};
-ghost use Rattle.arrange.specs.Arrange.{Inverse};
+ghost use Rattle.finish_number.specs.Number.{TableHeld, Roots, Listed, treesOf};
+ghost use Rattle.finish_arrange.specs.Arrange.{Inverse};
 ghost use Rattle.finish.specs.Finish.{Unfinished, Finished, LaidOut, Cleared};
-use clear::zeros;
+use table_clear::zeros;
 
 // The roots' nodes get their numbers, whatever the work words held; the answer is their count.
 fn number_stages(nodes: &[i64], work: &mut [u32], roots: &[u32], cap: usize, count: usize) -> usize
-    requires { ⌜ Held cap (now nodes) count × (cap * 2 ≤ length (now work)) × Roots (now roots) count ⌝ }
+    requires { ⌜ TableHeld cap (now nodes) count × (cap * 2 ≤ length (now work)) × Roots (now roots) count ⌝ }
     ensures { λ r. ⌜ Listed cap (now (nodes .entry)) count (now (work .exit)) r (now (roots .entry)) ⌝ }
 {
-    clear::work(work, cap, cap + count);
-    numbering::number_all(nodes, work, roots, cap, count)
+    table_clear::work(work, cap, cap + count);
+    finish_number::number_all(nodes, work, roots, cap, count)
 }
 
 // The first c nodes by their numbers, and nothing else.
@@ -25,7 +25,7 @@ fn lay_out(nodes: &mut [i64], work: &mut [u32], cap: usize, count: usize, c: usi
     requires { ⌜ Inverse cap count (now work) 0 c × (cap ≤ nodes-most) × (cap * node-words ≤ length (now nodes)) ⌝ }
     ensures { λ _. ⌜ LaidOut (now (nodes .entry)) (now (nodes .exit)) (now (work .entry)) (now (work .exit)) c ⌝ }
 {
-    arrange::arrange(nodes, work, cap, count, c);
+    finish_arrange::arrange(nodes, work, cap, count, c);
     zeros::nodes_from(nodes, c * table::NODE_WORDS);
     zeros::words_from(work, 0);
 }
@@ -43,7 +43,7 @@ pub fn finish(
     ensures { λ r. ⌜ Finished (now (nodes .entry)) (now (nodes .exit)) (now (work .entry)) (now (work .exit)) (now (stages .exit)) r (treesOf (now (nodes .entry)) count (now (roots .entry))) ⌝ }
 {
     let c = number_stages(nodes, work, roots, cap, count);
-    arrange::rewrite(nodes, work, cap, count);
+    finish_arrange::rewrite(nodes, work, cap, count);
     stages::stage_words(work, roots, stages, cap);
     lay_out(nodes, work, cap, count, c);
     c

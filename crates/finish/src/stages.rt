@@ -4,9 +4,9 @@ ghost use mathlib.Core.List.{_++_};
 ghost use Prim.Native.Nat.{_-_, _*_, _≤_};
 ghost use lib.ListN.{length, drop, replicate};
 ghost use Rattle.theory.specs.Widths.{nodes-most};
-ghost use Rattle.numbering.specs.Number.{Roots};
+ghost use Rattle.finish_number.specs.Number.{Roots};
 ghost use Rattle.finish.specs.Finish.{numbersOf};
-use clear::zeros;
+use table_clear::zeros;
 
 // Each root's number, stage by stage.
 fn root_numbers(work: &[u32], roots: &[u32], stages: &mut [u32], cap: usize)

@@ -15,8 +15,8 @@ use Rattle.theory.specs.Command.{Command, site, push-leaf, push-condition, push
 use Rattle.theory.specs.Verdict.{or, Site, site-of, Verdict, refusal, verdict, verdict-in, judged-in, at-start, rule, Rule, first-broken, first-rules, site-rules, rules-in, ended, after}
 use Rattle.theory.specs.Load.{site-at, site-in}
 use Rattle.theory.specs.Solve.{early}
-use Rattle.command.proofs.Forward.{whole-bytes}
-use Rattle.progress.proofs.Numbers.{bounds, not-false-T}
+use Rattle.model_command.proofs.Forward.{whole-bytes}
+use Rattle.model_progress.proofs.Numbers.{bounds, not-false-T}
 use Rattle.model.specs.declared.Verdict.{Verdict as CodeVerdict}
 use Rattle.model.specs.Answers.{shown}
 use Rattle.model.proofs.Walk.{from-first-in}

@@ -13,18 +13,18 @@ use Rattle.theory.specs.Widths.{flags-most}
 use Rattle.theory.specs.Form.{Form, new-form}
 use Rattle.theory.specs.Command.{Command, site, push-leaf, push-condition, push-test, push-forbidden, give, name-action, end-model, Read, whole, unknown, short, Placed, byte-at, width, width-in, read-in, read-at, goes-on, readings-from, readings-from-in, readings-in}
 use Rattle.theory.specs.Verdict.{Progress, at-start, rule, first-broken, first-rules, later-rules, rules-in, after, Verdict, refusal, ended, judged-in, verdict-in}
-use Rattle.command.proofs.Command.{the-type}
-use Rattle.command.specs.declared.Command.{Command as CodeCommand}
-use Rattle.command.specs.declared.Command.the-variants.{Site, Leaf, Condition, Test, Forbidden, Give, Name, End}
-use Rattle.command.specs.declared.Read.{Read as CodeRead}
-use Rattle.command.specs.declared.Read.the-variants.{Whole, Unknown, Short}
-use Rattle.command.specs.Reading.{command-of, command-of-in, read-of, read-of-in, next-in, next-at}
-use Rattle.command.proofs.Forward.{whole-bytes, next-whole}
-use Rattle.progress.specs.declared.Progress.{Progress as CodeProgress}
-use Rattle.progress.specs.declared.Site.{Site as CodeSite}
-use Rattle.facts.specs.Seen.{seen-in}
-use Rattle.progress.specs.Standing.{site-as, noted, Stands, Leaves}
-use Rattle.progress.proofs.Leaving.{stands-start}
+use Rattle.model_command.proofs.Command.{the-type}
+use Rattle.model_command.specs.declared.Command.{Command as CodeCommand}
+use Rattle.model_command.specs.declared.Command.the-variants.{Site, Leaf, Condition, Test, Forbidden, Give, Name, End}
+use Rattle.model_command.specs.declared.Read.{Read as CodeRead}
+use Rattle.model_command.specs.declared.Read.the-variants.{Whole, Unknown, Short}
+use Rattle.model_command.specs.Reading.{command-of, command-of-in, read-of, read-of-in, next-in, next-at}
+use Rattle.model_command.proofs.Forward.{whole-bytes, next-whole}
+use Rattle.model_progress.specs.declared.Progress.{Progress as CodeProgress}
+use Rattle.model_progress.specs.declared.Site.{Site as CodeSite}
+use Rattle.model_facts.specs.Seen.{seen-in}
+use Rattle.model_progress.specs.Standing.{site-as, noted, ProgressStands, Leaves}
+use Rattle.model_progress.proofs.Leaving.{stands-start}
 use Rattle.model.specs.Answers.{is-end}
 use Rattle.model.specs.Walk.{Walk}
 
@@ -128,7 +128,7 @@ later-keeps form p (give g) b u = (b, refl)
 later-keeps form p (name-action a t) b u = (b, refl)
 later-keeps form p end-model b u = (b, refl)
 
-same-site : {t : CodeProgress} {F : List Bool} {p : Progress} → Stands t F p → (S : CodeSite) → p .begun ≡ true → site-as S ≡ p .site → Stands (record { begun = true; site = S; seen = t .seen }) F p
+same-site : {t : CodeProgress} {F : List Bool} {p : Progress} → ProgressStands t F p → (S : CodeSite) → p .begun ≡ true → site-as S ≡ p .site → ProgressStands (record { begun = true; site = S; seen = t .seen }) F p
 same-site st S b e = record {
   begun = sym b;
   site = e;
@@ -189,7 +189,7 @@ module _ {form : Form} {B : List ℕ} {at : ℕ} {s : CodeProgress} {F : List Bo
       g rest ∙ ap (λ (d : Command). ended (length B) at d rest) (sym (at-end-in form B at c i)) ∙ unbroken (command-of-in form B at c) e (sym f ∙ z) (o .0) (o .2)
 
   pub turn-to : (c : CodeCommand) (n next : ℕ) (t : CodeProgress) (G : List Bool) → whole (command-of-in form B at c) ≡ read-in form B at → n ≡ first-broken (rules-in form (w .so-far) (command-of-in form B at c)) → n ≡ 0 → is-end c ≡ false
-      → next ≡ next-in form B at → Stands t G (after (w .so-far) (command-of-in form B at c)) → Walk form B next t G
+      → next ≡ next-in form B at → ProgressStands t G (after (w .so-far) (command-of-in form B at c)) → Walk form B next t G
   turn-to c n next t G e f z i g st =
       let o = first (whole (command-of-in form B at c)) e in
       let h = forward-in form B at (command-of-in form B at c) next e g in
@@ -207,11 +207,11 @@ module _ {form : Form} {B : List ℕ} {at : ℕ} {s : CodeProgress} {F : List Bo
       let u = sym f ∙ z in
       let k = later-keeps form (w .so-far) (command-of-in form B at c) (sym (w .stands .begun) ∙ b) u in
       turn-to c n next _ G e f z i g
-      (same-site (subst (λ (H : List Bool). Stands t H (after (w .so-far) (command-of-in form B at c))) (sym h) (lv F (w .so-far) (w .stands) u)) (s .site) (k .0) (w .stands .site ∙ sym (k .1)))
+      (same-site (subst (λ (H : List Bool). ProgressStands t H (after (w .so-far) (command-of-in form B at c))) (sym h) (lv F (w .so-far) (w .stands) u)) (s .site) (k .0) (w .stands .site ∙ sym (k .1)))
 
 -- the first command, which is a site where it breaks no rule
 pub walk-first : (form : Form) (B : List ℕ) (F : List Bool) → F ≡ replicate flags-most false → (c : CodeCommand) (n next : ℕ) (t : CodeProgress) → whole (command-of-in form B 0 c) ≡ read-in form B 0 → n ≡ first-broken (first-rules form (command-of-in form B 0 c)) → n ≡ 0
-    → next ≡ next-in form B 0 → Stands t (replicate flags-most false) (after at-start (command-of-in form B 0 c)) → Walk form B next t F
+    → next ≡ next-in form B 0 → ProgressStands t (replicate flags-most false) (after at-start (command-of-in form B 0 c)) → Walk form B next t F
 unfolding rules-in walk-starts
 walk-first form B F o c n next t e f z g st =
     subst (Walk form B next t) (sym o) (turn-to (walk-starts form B) c n next t _ e f z (first-goes form B c (sym f ∙ z)) g st)

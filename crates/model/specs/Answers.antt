@@ -1,8 +1,8 @@
 -- A verdict, as document 01's definitions have it, and the end of a model.
 use mathlib.Core.Bool.{Bool, true, false}
 use Rattle.theory.specs.Verdict.{Verdict, refusal}
-use Rattle.command.specs.declared.Command.{Command as CodeCommand}
-use Rattle.command.specs.declared.Command.the-variants.{Site, Leaf, Condition, Test, Forbidden, Give, Name, End}
+use Rattle.model_command.specs.declared.Command.{Command as CodeCommand}
+use Rattle.model_command.specs.declared.Command.the-variants.{Site, Leaf, Condition, Test, Forbidden, Give, Name, End}
 use Rattle.model.specs.declared.Verdict.{Verdict as CodeVerdict}
 
 abbrev pub shown : CodeVerdict → Verdict

@@ -6,27 +6,27 @@ ghost use lib.ListN.{length, replicate};
 ghost use Rattle.theory.specs.Widths.{flags-most};
 ghost use Rattle.theory.specs.Command.{end-model};
 ghost use Rattle.theory.specs.Verdict.{verdict, verdict-in};
-ghost use Rattle.forms.specs.Forms.{form-of};
+ghost use Rattle.model_form.specs.Forms.{form-of};
 ghost use Rattle.theory.specs.Verdict.{refusal as refused};
 ghost use Rattle.theory.specs.Verdict.{ended as ended-at};
 ghost use Rattle.theory.specs.Verdict.{Verdict as Outcome};
 ghost use Rattle.theory.specs.Load.{site-at};
 ghost use Rattle.theory.specs.Solve.{early as early-of};
-ghost use Rattle.progress.specs.Standing.{site-as};
+ghost use Rattle.model_progress.specs.Standing.{site-as};
 ghost use Rattle.model.specs.Answers.{shown};
 ghost use Rattle.model.specs.Walk.{Walk};
 ghost use Rattle.model.specs.Answers.{is-end as ends};
-use command::Command;
-use command::Read;
-use forms::Form;
-use progress::Progress;
-use progress::Site;
-use progress::given::FLAGS;
-use progress::refusals::EXTRA;
-use progress::refusals::SHORT;
-use progress::refusals::SIZES;
-use progress::refusals::STEPS;
-use progress::refusals::UNKNOWN;
+use model_command::Command;
+use model_command::Read;
+use model_form::Form;
+use model_progress::Progress;
+use model_progress::Site;
+use model_progress::given::FLAGS;
+use model_progress::refusals::EXTRA;
+use model_progress::refusals::SHORT;
+use model_progress::refusals::SIZES;
+use model_progress::refusals::STEPS;
+use model_progress::refusals::UNKNOWN;
 
 // "A model may have 262,144 bytes"
 const BYTES_MOST: usize = 262144;
@@ -81,7 +81,7 @@ fn rest(form: Form, model: &[u8], flags: &mut [bool], from: usize, begun: Progre
     let mut seen = begun.seen;
     let mut at = from;
     loop {
-        let read = command::command_in(form, model, at);
+        let read = model_command::command_in(form, model, at);
         match read {
             Read::Whole(c) => {
                 let s = Progress {
@@ -89,17 +89,17 @@ fn rest(form: Form, model: &[u8], flags: &mut [bool], from: usize, begun: Progre
                     site,
                     seen,
                 };
-                let k = command_rules::broken(form, model, at, c, flags, s);
+                let k = model_command_rules::broken(form, model, at, c, flags, s);
                 if k != 0 {
                     return refusal(k, at);
                 }
                 if is_end(c) {
                     return ended(model.len(), at);
                 }
-                progress::given::note(flags, c);
-                let t = progress::states::after(form, model, at, c, s);
+                model_progress::given::note(flags, c);
+                let t = model_progress::states::after(form, model, at, c, s);
                 seen = t.seen;
-                at += command::size_in(form, c);
+                at += model_command::size_in(form, c);
             }
             Read::Unknown => return refusal(UNKNOWN, at),
             Read::Short => return refusal(SHORT, at),
@@ -112,15 +112,15 @@ fn judge(form: Form, model: &[u8], flags: &mut [bool]) -> Verdict
     requires { ⌜ now flags ≡ replicate flags-most false ⌝ }
     ensures { λ r. ⌜ shown r ≡ verdict-in (form-of form) (now (model .entry)) ⌝ }
 {
-    let read = command::command_in(form, model, 0);
+    let read = model_command::command_in(form, model, 0);
     match read {
         Read::Whole(c) => {
-            let k = command_rules::first(form, c);
+            let k = model_command_rules::first(form, c);
             if k != 0 {
                 return refusal(k, 0);
             }
-            let from = command::next_after_in(form, model, 0);
-            rest(form, model, flags, from, progress::states::first(c))
+            let from = model_command::next_after_in(form, model, 0);
+            rest(form, model, flags, from, model_progress::states::first(c))
         }
         Read::Unknown => refusal(UNKNOWN, 0),
         Read::Short => refusal(SHORT, 0),
@@ -165,9 +165,9 @@ pub fn site(model: &[u8]) -> Site
     ensures { λ r. ⌜ site-as r ≡ site-at (now (model .entry)) ⌝ }
 {
     Site {
-        levels: command::byte_at(model, 1),
-        conditions: command::byte_at(model, 2),
-        actions: command::action_in(Form::New, model, 3),
-        weights: command::byte_at(model, 3 + forms::action_bytes(Form::New)),
+        levels: model_command::byte_at(model, 1),
+        conditions: model_command::byte_at(model, 2),
+        actions: model_command::action_in(Form::New, model, 3),
+        weights: model_command::byte_at(model, 3 + model_form::action_bytes(Form::New)),
     }
 }

@@ -1,9 +1,9 @@
 // The export that writes a page.
 ghost use mathlib.Core.Path.{_≡_};
 ghost use mathlib.Core.List.{[], _∷_};
-ghost use Rattle.values.specs.State.{asked-by};
-ghost use Rattle.page_text.specs.Page.{page as page-of};
-ghost use Rattle.answers.specs.Texts.{listed, listing-answer};
+ghost use Rattle.value_walk.specs.State.{asked-by};
+ghost use Rattle.text_page_lines.specs.Page.{page as page-of};
+ghost use Rattle.c_answers.specs.Texts.{listed, listing-answer};
 
 // Answer, 8 bytes: place of a refusal, length written to `text` from `place` on.
 #[no_mangle]
@@ -28,7 +28,7 @@ pub extern "C" fn planner_page(
 ) -> u32
     ensures { λ r. ⌜ listed r (now (out .exit)) (now (text .exit)) ≡ listing-answer (page-of (now (bytes .entry)) horizon (now (nodes .entry)) (now (stages .entry)) (asked-by mask (l1 ∷ l2 ∷ l3 ∷ l4 ∷ l5 ∷ l6 ∷ l7 ∷ l8 ∷ d ∷ [])) (now (text .entry)) place) (now (text .entry)) (now (out .entry)) ⌝ }
 {
-    page_calls::page(
+    c_page::page(
         bytes,
         horizon,
         nodes,

@@ -1,7 +1,7 @@
 // The export that has a path cut off which no state can take.
 ghost use mathlib.Core.Path.{_≡_};
 ghost use Rattle.prune_paths.specs.Prune.{prune as prune-of};
-ghost use Rattle.prune_calls.specs.Answer.{pruned, prune-answer};
+ghost use Rattle.c_prune.specs.Answer.{pruned, prune-answer};
 
 // Answer, 4 bytes: the place of a refusal. Where `out` has no room for it nothing is written.
 #[no_mangle]
@@ -17,5 +17,5 @@ pub extern "C" fn planner_prune(
 ) -> u32
     ensures { λ r. ⌜ pruned r (now (out .exit)) (now (nodes .exit)) (now (stages .exit)) (now (work .exit)) ≡ prune-answer (prune-of (now (model .entry)) (now (nodes .entry)) (now (stages .entry)) (now (work .entry)) stage (now (turns .entry)) (now (multipliers .entry))) (now (nodes .entry)) (now (stages .entry)) (now (work .entry)) (now (out .entry)) ⌝ }
 {
-    prune_calls::prune(model, nodes, stages, work, stage, turns, multipliers, out)
+    c_prune::prune(model, nodes, stages, work, stage, turns, multipliers, out)
 }

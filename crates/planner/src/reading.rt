@@ -3,9 +3,9 @@ ghost use mathlib.Core.Path.{_≡_};
 ghost use mathlib.Core.List.{[], _∷_};
 ghost use Rattle.theory.specs.Value.{value-of};
 ghost use Rattle.theory.specs.Plain.{plain-of};
-ghost use Rattle.values.specs.State.{asked-by};
-ghost use Rattle.answers.specs.Answers.{answered};
-ghost use Rattle.value_answers.specs.Reading.{value-answer};
+ghost use Rattle.value_walk.specs.State.{asked-by};
+ghost use Rattle.c_answers.specs.Answers.{answered};
+ghost use Rattle.c_value_answers.specs.Reading.{value-answer};
 
 // Answer, 24 bytes: place, action, low word, high word.
 #[no_mangle]
@@ -28,7 +28,7 @@ pub extern "C" fn planner_value(
 ) -> u32
     ensures { λ r. ⌜ answered r (now (out .exit)) ≡ value-answer (value-of (now (bytes .entry)) (now (nodes .entry)) (now (stages .entry)) steps (asked-by mask (l1 ∷ l2 ∷ l3 ∷ l4 ∷ l5 ∷ l6 ∷ l7 ∷ l8 ∷ d ∷ []))) (now (out .entry)) ⌝ }
 {
-    value_calls::value(
+    c_value::value(
         bytes,
         nodes,
         stages,
@@ -66,5 +66,5 @@ pub extern "C" fn planner_worth(
 ) -> u32
     ensures { λ r. ⌜ answered r (now (out .exit)) ≡ value-answer (plain-of (now (bytes .entry)) steps (asked-by mask (l1 ∷ l2 ∷ l3 ∷ l4 ∷ l5 ∷ l6 ∷ l7 ∷ l8 ∷ d ∷ []))) (now (out .entry)) ⌝ }
 {
-    value_calls::worth(bytes, steps, mask, l1, l2, l3, l4, l5, l6, l7, l8, d, out)
+    c_value::worth(bytes, steps, mask, l1, l2, l3, l4, l5, l6, l7, l8, d, out)
 }

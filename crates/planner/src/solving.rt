@@ -1,7 +1,7 @@
 // Exports that judge a model and solve it.
 ghost use mathlib.Core.Path.{_≡_};
 ghost use Rattle.theory.specs.Solve.{solve as solve-of};
-ghost use Rattle.answers.specs.Solving.{model-verdict, solved, solve-answer};
+ghost use Rattle.c_answers.specs.Solving.{model-verdict, solved, solve-answer};
 
 #[repr(C)]
 pub struct Judged {
@@ -37,10 +37,10 @@ pub extern "C" fn planner_solve(
     ensures { λ r. ⌜ solved r (now (out .exit)) (now (nodes .exit)) (now (stages .exit)) (now (work .exit)) (now (peaks .exit)) ≡ solve-answer (solve-of (now (bytes .entry)) horizon (now (nodes .entry)) (now (stages .entry)) (now (work .entry)) (now (peaks .entry))) (now (nodes .entry)) (now (stages .entry)) (now (work .entry)) (now (peaks .entry)) (now (out .entry)) ⌝ }
 {
     if out.len() < 8 {
-        let early = solver::early(bytes, horizon, stages.len(), peaks.len());
-        return answers::short(early.number);
+        let early = solve_tables::early(bytes, horizon, stages.len(), peaks.len());
+        return c_answers::short(early.number);
     }
-    let v = solver::solve(bytes, horizon, nodes, stages, work, peaks);
-    answers::put_pair(out, v.place, v.peak);
+    let v = solve_tables::solve(bytes, horizon, nodes, stages, work, peaks);
+    c_answers::put_pair(out, v.place, v.peak);
     v.number
 }

@@ -1,8 +1,8 @@
 // The listing program: a horizon byte and a model on standard input, the listing of the plan or the refusal on standard output.
 use libc::STDIN_FILENO;
 use libc::STDOUT_FILENO;
-use plan_input::MODEL_MOST;
-use plan_program::answer;
+use text_input::MODEL_MOST;
+use text_program::answer;
 
 // A horizon byte, and a model of one byte more than is taken: a longer one is refused by its length.
 const ROOM: usize = 2 + MODEL_MOST;

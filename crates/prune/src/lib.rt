@@ -4,11 +4,11 @@ ghost use mathlib.Core.Path.{_≡_};
 ghost use Rattle.prune_paths.specs.Prune.{pruned};
 ghost use Rattle.prune_paths.specs.Prune.{prune as prune-of};
 ghost use Rattle.prune.specs.Pruning.{Accepted, outcome, left};
-use listing::judging::greatest_root;
 use model::STAGE_WORDS;
 use model::Verdict;
 use prune_copy::copy_path;
 use prune_tables::tables_anew;
+use text_listing::judging::greatest_root;
 
 // The path's copy becomes the stage's root; then all is made anew, with as many rows as the copy and the roots reach.
 fn cut_off(nodes: &mut [i64], stages: &mut [u32], work: &mut [u32], stage: u32, turns: &[u8])
@@ -35,7 +35,7 @@ pub fn prune(
 ) -> Verdict
     ensures { λ v. ⌜ outcome v (now (nodes .exit)) (now (stages .exit)) (now (work .exit)) ≡ prune-of (now (model .entry)) (now (nodes .entry)) (now (stages .entry)) (now (work .entry)) stage (now (turns .entry)) (now (multipliers .entry)) ⌝ }
 {
-    let most = room::room(nodes.len(), work.len());
+    let most = table_room::room(nodes.len(), work.len());
     let v = prune_judge::refusal(model, nodes, stages, most, stage, turns, multipliers);
     if v.number != 0 {
         return v;

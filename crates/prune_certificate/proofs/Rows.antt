@@ -16,7 +16,7 @@ use Rattle.theory.specs.Rows.{KindFits, fits-leaf, fits-condition, fits-test, f
 use Rattle.theory.specs.laws.Fits.{node-fits}
 use Rattle.theory.specs.laws.Valid.{among-out}
 use Rattle.table.specs.Table.{eqZ, isLeaf, isNone}
-use Rattle.rows.specs.Row.{Inside}
+use Rattle.table_rows.specs.Row.{Inside}
 use Rattle.prune_paths.specs.Prune.{leaf-at, test-at, high-at, low-at, tree-from, tree-at, fits, Side, with-side, along}
 use Rattle.prune_paths.specs.laws.Foreign.{Seen, leaf-seen, branch-seen, seen, tree-enough}
 use Rattle.prune_certificate.specs.Path.{GoodNode, is-test, tests, goes}

@@ -13,7 +13,7 @@ ghost use Rattle.prune_paths.specs.Prune.{tree-at, along, added};
 ghost use Rattle.prune_certificate.specs.Path.{GoodNode, Proposed, Given, Joined, number-at, part};
 use super::paths::goes;
 use super::paths::tests;
-use rows::words::word;
+use table_rows::words::word;
 use whole::Numerator;
 use whole::two_words::product;
 use whole::two_words::sum;

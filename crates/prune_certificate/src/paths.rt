@@ -4,10 +4,10 @@ ghost use lib.IntN.{natAbs};
 ghost use Rattle.theory.specs.Value.{node-word, ends};
 ghost use Rattle.prune_paths.specs.Prune.{tree-at};
 ghost use Rattle.prune_certificate.specs.Path.{GoodNode, tests, goes, shape-of};
-use rows::words::magnitude;
-use rows::words::word;
 use table::HIGH;
 use table::LOW;
+use table_rows::words::magnitude;
+use table_rows::words::word;
 
 // The kind of a linear test.
 const TEST: usize = 2;

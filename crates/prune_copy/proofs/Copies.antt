@@ -12,7 +12,7 @@ use Rattle.table.specs.Table.{nodeAt, isLeaf}
 use Rattle.table.specs.declared.Node.{Node}
 use Rattle.theory.specs.Diagram.{Test, Tree, branch}
 use Rattle.theory.specs.Rows.{Among}
-use Rattle.diagrams.specs.Nodes.{linOf, testOf}
+use Rattle.rule_node.specs.Nodes.{linOf, testOf}
 use Rattle.prune_paths.specs.Prune.{high-at, low-at, tree-at, cut, GoodRows}
 use Rattle.prune_rows.specs.Rows.{RowFits, branch-at}
 use Rattle.prune_rows.proofs.Rows.{row-at}

@@ -9,7 +9,7 @@ use lib.IntN.{ℤ}
 use Rattle.whole.specs.Cases.{if, by-eq, both}
 use Rattle.table.specs.Table.{nodeAt, isLeaf}
 use Rattle.theory.specs.Diagram.{branch}
-use Rattle.diagrams.specs.Nodes.{testOf}
+use Rattle.rule_node.specs.Nodes.{testOf}
 use Rattle.prune_paths.specs.Prune.{high-at, low-at, tree-at, fits, GoodRows}
 use Rattle.prune_rows.specs.Rows.{RowFits, branch-at}
 use Rattle.prune_rows.proofs.Rows.{Row, row-at}

@@ -14,7 +14,7 @@ use Rattle.table.specs.Table.{nodeAt, putAt}
 use Rattle.table.specs.declared.Node.{Node}
 use Rattle.table.proofs.Words.{back}
 use Rattle.prune_rows.specs.Rows.{branch-at}
-use Rattle.prune_copy.specs.Copy.{is-high, next-at, stand-in, turned, below, Ready, Stepped}
+use Rattle.prune_copy.specs.Copy.{is-high, next-at, stand-in, turned, below, CopyReady, Stepped}
 
 module _ (x : Node) {high : Bool} (b : ℕ) where
   pub turned-high : high ≡ true → turned x high b ≡ record { kind = x .kind; n = x .n; high = pos b; low = x .low }
@@ -44,7 +44,7 @@ module _ (W : List ℤ) (turns : List ℕ) (k r c : ℕ) where
 
 -- ---- a row copied, as the code does it
 
-module _ {l : List ℤ} {turns : List ℕ} {k r c next b : ℕ} (R : Ready l turns k r c) (en : next ≡ next-at l turns k r) (eb : b ≡ stand-in l turns (k + 1) next (c - 1)) where
+module _ {l : List ℤ} {turns : List ℕ} {k r c next b : ℕ} (R : CopyReady l turns k r c) (en : next ≡ next-at l turns k r) (eb : b ≡ stand-in l turns (k + 1) next (c - 1)) where
   below-is : b ≡ below l turns k r c
   below-is = eb ∙ ap (λ (j : ℕ). stand-in l turns (k + 1) j (c - 1)) en
 

@@ -18,12 +18,12 @@ use Rattle.table.proofs.Store.{put-length, put-else, put-same}
 use Rattle.theory.specs.Widths.{node-words}
 use Rattle.theory.specs.Value.{good-row}
 use Rattle.theory.specs.Rows.{Range, Among}
-use Rattle.rows.specs.Row.{Inside}
+use Rattle.table_rows.specs.Row.{Inside}
 use Rattle.prune_paths.specs.Prune.{tree-at, fits, cut, GoodRows}
 use Rattle.prune_rows.proofs.Rows.{high-is, low-is}
 use Rattle.prune_rows.proofs.Branches.{branch-same}
 use Rattle.prune_rows.proofs.Again.{row-same, row-copied, trees-kept}
-use Rattle.prune_copy.specs.Copy.{is-high, next-at, stand-in, turned, below, Ready, Stepped, rows-after, Copied}
+use Rattle.prune_copy.specs.Copy.{is-high, next-at, stand-in, turned, below, CopyReady, Stepped, rows-after, Copied}
 use Rattle.prune_copy.proofs.Turning.{stands-copy, stands-other}
 use Rattle.prune_copy.proofs.Paths.{OnPath, on-path}
 use Rattle.prune_copy.proofs.Copies.{turned-kind, turned-n, turned-branches, copy-tree, last-tree}
@@ -131,7 +131,7 @@ module _ {W : List ℤ} {root : ℕ} {turns : List ℕ} {last : ℕ} (G : GoodRo
     d-same : below l turns k r c ≡ d
     d-same = ap (λ (j : ℕ). stand-in l turns (k + 1) j (c - 1)) next-same ∙ stand-same l W turns (k + 1) next (c - 1) (row-kept next (below-r .0) (omega (arith, below-r .1, U .row .1)))
 
-    pub ready : Ready l turns k r c
+    pub ready : CopyReady l turns k r c
     ready = record {
       more = more;
       row = inside r (U .row .0) (omega (arith, U .row .1));

@@ -9,7 +9,7 @@ use lib.ListN.{length, getD}
 use Rattle.whole.specs.Cases.{if}
 use Rattle.table.specs.Table.{nodeAt, putAt}
 use Rattle.table.specs.declared.Node.{Node}
-use Rattle.rows.specs.Row.{Inside}
+use Rattle.table_rows.specs.Row.{Inside}
 use Rattle.prune_paths.specs.Prune.{tree-at, cut, GoodRows}
 use Rattle.prune_rows.specs.Rows.{branch-at}
 
@@ -36,7 +36,7 @@ abbrev pub below : List ℤ → List ℕ → ℕ → ℕ → ℕ → ℕ
 below l turns k r c = stand-in l turns (k + 1) (next-at l turns k r) (c - 1)
 
 -- row r can be copied to row c, turn k being taken there and not the last
-pub record Ready (l : List ℤ) (turns : List ℕ) (k r c : ℕ) : Type 0 where
+pub record CopyReady (l : List ℤ) (turns : List ℕ) (k r c : ℕ) : Type 0 where
   pub more : k + 1 < length turns
   pub row : Inside l r
   pub next : Inside l (next-at l turns k r)

@@ -5,9 +5,9 @@ ghost use Prim.Native.Nat.{_+_, _*_, _^_, _≤_, _<_};
 ghost use lib.Dec.{T};
 ghost use lib.ListN.{length};
 ghost use Rattle.theory.specs.Widths.{node-words};
-ghost use Rattle.rows.specs.Row.{Inside};
+ghost use Rattle.table_rows.specs.Row.{Inside};
 ghost use Rattle.prune_paths.specs.Prune.{tree-at, fits, GoodRows};
-ghost use Rattle.prune_copy.specs.Copy.{stand-in as stands-in, turned as turned-to, Ready, Stepped, rows-after, Copied};
+ghost use Rattle.prune_copy.specs.Copy.{stand-in as stands-in, turned as turned-to, CopyReady, Stepped, rows-after, Copied};
 use prune_rows::branch;
 use table::Node;
 
@@ -39,7 +39,7 @@ fn turned(x: Node, high: bool, b: usize) -> Node
 
 // Row r copied to row c, over what stands in for the next row, which it answers.
 fn copy_row(nodes: &mut [i64], turns: &[u8], k: usize, r: usize, c: usize) -> usize
-    requires { ⌜ Ready (now nodes) (now turns) k r c ⌝ }
+    requires { ⌜ CopyReady (now nodes) (now turns) k r c ⌝ }
     ensures { λ next. ⌜ Stepped (now (nodes .entry)) (now (turns .entry)) k r c (now (nodes .exit)) next ⌝ }
 {
     let high = turns[k] == 1;

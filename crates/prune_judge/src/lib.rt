@@ -6,16 +6,16 @@ ghost use lib.ListN.{length};
 ghost use Rattle.theory.specs.Widths.{steps-most, conditions-most};
 ghost use Rattle.theory.specs.Verdict.{refusal as refusal-of};
 ghost use Rattle.theory.specs.Listing.{greatest-root};
-ghost use Rattle.progress.specs.Standing.{site-as};
+ghost use Rattle.model_progress.specs.Standing.{site-as};
 ghost use Rattle.model.specs.Answers.{shown};
 ghost use Rattle.prune_paths.specs.Prune.{prune-refusal};
 ghost use Rattle.prune_judge.specs.Judging.{plan-verdict};
-use listing::judging::all_good;
-use listing::judging::greatest_root;
 use model::STAGE_WORDS;
 use model::Verdict;
-use progress::Site;
+use model_progress::Site;
 use prune_certificate::path_number;
+use text_listing::judging::all_good;
+use text_listing::judging::greatest_root;
 
 fn refused(number: u32, place: usize) -> Verdict
     ensures { λ v. ⌜ shown v ≡ refusal-of number place ⌝ }

@@ -15,10 +15,10 @@ use Rattle.table.specs.declared.Made.{Made}
 use Rattle.theory.specs.Diagram.{Test, Tree, leaf, branch, same}
 use Rattle.theory.specs.Computation.{Comp, ret, make, result, done, stopped, run, member}
 use Rattle.theory.specs.Rules.{narrowed, node}
-use Rattle.diagrams.specs.Nodes.{leafOf, testOf, treeOf, trees, treeAt, Valid, Proper}
-use Rattle.diagrams.specs.Table.{Grew}
-use Rattle.diagrams.proofs.Trees.{trees-length, tree-leaf}
-use Rattle.diagrams.proofs.Outcomes.{out-ok, out-no, grew-as}
+use Rattle.rule_node.specs.Nodes.{leafOf, testOf, treeOf, trees, treeAt, Valid, Proper}
+use Rattle.rule_node.specs.Table.{Grew}
+use Rattle.rule_node.proofs.Trees.{trees-length, tree-leaf}
+use Rattle.rule_node.proofs.Outcomes.{out-ok, out-no, grew-as}
 use Rattle.prune_rows.specs.Rows.{RowFits}
 use Rattle.prune_remake.specs.Remade.{forward, branch-anew, row-anew, Gone}
 

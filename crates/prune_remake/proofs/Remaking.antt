@@ -12,15 +12,15 @@ use Rattle.table.specs.Table.{node-words, nodeAt, isLeaf}
 use Rattle.table.specs.declared.Node.{Node}
 use Rattle.table.specs.declared.Made.{Made}
 use Rattle.table.proofs.Look.{split}
-use Rattle.unique.specs.Unique.{work-words, lastOf}
+use Rattle.table_unique.specs.Unique.{work-words, lastOf}
 use Rattle.theory.specs.Diagram.{Leaf, leaf}
 use Rattle.theory.specs.Computation.{make, result}
 use Rattle.theory.specs.Rules.{node}
-use Rattle.diagrams.specs.Nodes.{leafOf, testOf, treeAt}
-use Rattle.diagrams.specs.Table.{Bare, Grew}
-use Rattle.diagrams.proofs.Trees.{trees-length, trees-kept}
-use Rattle.clear.specs.Wipe.{wiped}
-use Rattle.clear.proofs.Parts.{same-length, within}
+use Rattle.rule_node.specs.Nodes.{leafOf, testOf, treeAt}
+use Rattle.rule_node.specs.Table.{Bare, Grew}
+use Rattle.rule_node.proofs.Trees.{trees-length, trees-kept}
+use Rattle.table_clear.specs.Wipe.{wiped}
+use Rattle.table_clear.proofs.Parts.{same-length, within}
 use Rattle.prune_paths.specs.Prune.{tree-at, GoodRows}
 use Rattle.prune_paths.specs.laws.Fits.{anew, anew-branch, anew-leaf}
 use Rattle.prune_rows.specs.Rows.{RowFits}

@@ -10,8 +10,8 @@ use Rattle.table.specs.declared.Node.{Node}
 use Rattle.theory.specs.Diagram.{Tree, leaf}
 use Rattle.theory.specs.Computation.{Comp, make, result}
 use Rattle.theory.specs.Rules.{node}
-use Rattle.diagrams.specs.Nodes.{leafOf, testOf, treeAt}
-use Rattle.diagrams.specs.Table.{Bare}
+use Rattle.rule_node.specs.Nodes.{leafOf, testOf, treeAt}
+use Rattle.rule_node.specs.Table.{Bare}
 use Rattle.prune_paths.specs.Prune.{tree-at, remade}
 
 -- where row i has gone: an index of the new table; behind the chains' words

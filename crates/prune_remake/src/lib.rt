@@ -4,13 +4,13 @@ ghost use mathlib.Core.Path.{_≡_};
 ghost use Prim.Native.Nat.{_+_, _-_, _*_, _≤_, _<_};
 ghost use lib.ListN.{length};
 ghost use Rattle.table.specs.Table.{node-words, nodeAt};
-ghost use Rattle.unique.specs.Unique.{work-words};
-ghost use Rattle.diagrams.specs.Table.{Bare, Grew};
+ghost use Rattle.table_unique.specs.Unique.{work-words};
+ghost use Rattle.rule_node.specs.Table.{Bare, Grew};
 ghost use Rattle.prune_paths.specs.Prune.{GoodRows};
 ghost use Rattle.prune_rows.specs.Rows.{RowFits};
 ghost use Rattle.prune_remake.specs.Remade.{forward, row-anew, Gone, Remade};
-use diagrams::making::intern;
-use diagrams::making::join_test;
+use rule_node::making::intern;
+use rule_node::making::join_test;
 use table::Made;
 
 // The index that row r has gone to; rows are numbered from 1.
@@ -27,11 +27,11 @@ fn remake_row(nodes: &mut [i64], work: &mut [u32], cap: usize, count: usize, i: 
     ensures { λ r. ⌜ Grew cap (now (nodes .entry)) (now (work .entry)) count (row-anew cap (now (nodes .entry)) (now (work .entry)) count (nodeAt (now (nodes .entry)) i)) (now (nodes .exit)) (now (work .exit)) r ⌝ }
 {
     let x = table::get(nodes, i);
-    if peek::is_leaf(x) {
+    if table_peek::is_leaf(x) {
         return intern(nodes, work, cap, count, x);
     }
-    let h = gone(work, cap, peek::high(x));
-    let l = gone(work, cap, peek::low(x));
+    let h = gone(work, cap, table_peek::high(x));
+    let l = gone(work, cap, table_peek::low(x));
     join_test(nodes, work, cap, count, x, h, l)
 }
 
@@ -40,7 +40,7 @@ pub fn remake(nodes: &mut [i64], work: &mut [u32], cap: usize, rows: usize) -> u
     requires { ⌜ GoodRows (now nodes) rows × (0 < cap) × (cap ≤ 65535) × (rows ≤ cap) × (cap * node-words ≤ length (now nodes)) × (cap * work-words ≤ length (now work)) ⌝ }
     ensures { λ r. ⌜ Remade cap (now (nodes .entry)) (now (nodes .exit)) (now (work .exit)) r rows × (length (now (nodes .exit)) ≡ length (now (nodes .entry))) × (length (now (work .exit)) ≡ length (now (work .entry))) ⌝ }
 {
-    clear::work(work, 0, cap);
+    table_clear::work(work, 0, cap);
     let mut count: usize = 0;
     let mut i: usize = 0;
     while i < rows {

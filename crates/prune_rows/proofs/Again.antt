@@ -17,7 +17,7 @@ use Rattle.theory.specs.Value.{node-word, high-of, low-of, good-row, ends}
 use Rattle.theory.specs.Staying.{In62}
 use Rattle.theory.specs.Rows.{Range, Among, KindFits, fits-leaf, fits-condition, fits-test, fits-none, BranchesFit}
 use Rattle.theory.specs.laws.Fits.{node-fits, fits-good}
-use Rattle.diagrams.specs.Nodes.{leafOf, testOf}
+use Rattle.rule_node.specs.Nodes.{leafOf, testOf}
 use Rattle.prune_paths.specs.Prune.{tree-at, GoodRows}
 use Rattle.prune_rows.proofs.Rows.{kind-is, number-is, high-is, low-is, ends-is, row-of}
 

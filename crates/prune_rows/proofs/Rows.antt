@@ -23,9 +23,9 @@ use Rattle.theory.specs.Verdict.{or}
 use Rattle.theory.specs.Value.{node-word, node-linear, high-of, low-of, ends}
 use Rattle.theory.specs.Rows.{Range, Among, NodeFits, KindFits, fits-leaf, fits-condition, fits-test, fits-none, BranchesFit}
 use Rattle.theory.specs.laws.Fits.{part-word, node-fits}
-use Rattle.rows.proofs.Rowed.{linear-is}
-use Rattle.diagrams.specs.Nodes.{linOf, noneNode, leafOf, firstOf, testOf, Tested}
-use Rattle.diagrams.proofs.Trees.{now-is, test-con, test-lin}
+use Rattle.table_rows.proofs.Rowed.{linear-is}
+use Rattle.rule_node.specs.Nodes.{linOf, noneNode, leafOf, firstOf, testOf, Tested}
+use Rattle.rule_node.proofs.Trees.{now-is, test-con, test-lin}
 use Rattle.prune_paths.specs.Prune.{leaf-at, test-at, high-at, low-at, tree-from, tree-at, GoodRows}
 use Rattle.prune_paths.specs.laws.Foreign.{Rows-good, tree-by, tree-enough}
 use Rattle.prune_rows.specs.Rows.{RowFits}

@@ -7,7 +7,7 @@ use lib.IntN.{ℤ, natAbs}
 use Rattle.whole.specs.Cases.{if}
 use Rattle.table.specs.Table.{isLeaf}
 use Rattle.table.specs.declared.Node.{Node}
-use Rattle.diagrams.specs.Nodes.{Valid}
+use Rattle.rule_node.specs.Nodes.{Valid}
 use Rattle.prune_paths.specs.Prune.{high-at, low-at}
 
 -- the branches of the row at index i are rows 1 to i

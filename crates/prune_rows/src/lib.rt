@@ -1,6 +1,6 @@
 // The rows of a lent table; they are numbered from 1.
 ghost use mathlib.Core.Path.{_≡_};
-ghost use Rattle.rows.specs.Row.{Inside};
+ghost use Rattle.table_rows.specs.Row.{Inside};
 ghost use Rattle.prune_rows.specs.Rows.{branch-at};
 
 // Row r's branch, the high one or the low one.
@@ -10,7 +10,7 @@ pub fn branch(nodes: &[i64], r: usize, high: bool) -> usize
 {
     let x = table::get(nodes, r - 1);
     if high {
-        return peek::high(x);
+        return table_peek::high(x);
     }
-    peek::low(x)
+    table_peek::low(x)
 }

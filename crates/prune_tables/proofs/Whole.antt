@@ -13,8 +13,8 @@ use Rattle.whole.specs.Cases.{if, by-eq}
 use Rattle.theory.specs.Widths.{steps-most}
 use Rattle.theory.specs.Diagram.{Tree}
 use Rattle.theory.specs.Solve.{number-of, table-of, solved-nodes, solved-stages}
-use Rattle.diagrams.specs.Nodes.{treeAt}
-use Rattle.numbering.specs.Number.{Roots, treesOf}
+use Rattle.rule_node.specs.Nodes.{treeAt}
+use Rattle.finish_number.specs.Number.{Roots, treesOf}
 use Rattle.finish.specs.Finish.{Unfinished, Finished}
 use Rattle.prune_remake.specs.Remade.{Remade}
 use Rattle.prune_tables.specs.Tables.{rooted, before, gone-to, Standing, Gathered, Spread, Rowed, anew, stages-of, word-in, Anew}

@@ -5,13 +5,13 @@
 //! `diagram` has the rules on diagrams and `unique` their hash tables, `solve` the operations of a solve, `read` the
 //! readers of tables, `find` an action by its name, `page` the page of a state, `prune` cuts off a path, `convert` writes a
 //! model in the other form, and `plain` works a state out from the written model, without diagrams. `certificate` finds
-//! paths to cut off, for the tests; `hex_text` is for the programs in `bin`.
+//! paths to cut off, for the tests; `check_hex` is for the programs in `bin`.
 
 pub mod certificate;
 pub mod convert;
 pub mod diagram;
 pub mod find;
-pub mod hex_text;
+pub mod check_hex;
 pub mod model;
 pub mod page;
 pub mod plain;

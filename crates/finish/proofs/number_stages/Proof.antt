@@ -1,6 +1,6 @@
 use native.Mathlib.Omega.{arith}
 use Prim.Native.Nat.{_+_}
-use Rattle.clear.proofs.Parts.{within}
+use Rattle.table_clear.proofs.Parts.{within}
 use borrow.Author.Needs.{needs}
 use Rattle.finish.proofs.number_stages.Statement.{statement}
 use Rattle.finish.proofs.number_stages.Tie as tie

@@ -1,6 +1,6 @@
 -- `model::judge` meets its contract.
 use mathlib.Core.Path.{sym, _∙_}
-use Rattle.forms.specs.Forms.{form-of}
+use Rattle.model_form.specs.Forms.{form-of}
 use borrow.Author.Needs.{needs}
 use Rattle.model.proofs.Walk.{whole-is-in, unknown-is, short-is, walk-starts, turn-unknown, turn-short, walk-first, first-broken-at}
 use Rattle.model.proofs.judge.Statement.{statement}

@@ -4,8 +4,8 @@ use mathlib.Core.Bool.{true}
 use Prim.Native.Nat.{_-_}
 use native.Mathlib.Omega.{arith}
 use lib.ListN.{length}
-use Rattle.command.proofs.Forward.{whole-bytes}
-use Rattle.forms.specs.Forms.{form-of}
+use Rattle.model_command.proofs.Forward.{whole-bytes}
+use Rattle.model_form.specs.Forms.{form-of}
 use borrow.Author.Needs.{needs}
 use Rattle.model.specs.Walk.{Walk}
 use Rattle.model.proofs.Walk.{same-begun, whole-is-in, unknown-is, short-is, forward-in, past, turn-unknown, turn-short, turn-broken, turn-end, turn-on}

@@ -3,7 +3,7 @@ use mathlib.Core.Path.{ap, _∙_}
 use Prim.Native.Nat.{ℕ, _+_}
 use Rattle.theory.specs.Command.{byte-at}
 use Rattle.theory.specs.Load.{site-in}
-use Rattle.forms.specs.Forms.{form-of}
+use Rattle.model_form.specs.Forms.{form-of}
 use borrow.Author.Needs.{needs}
 use Rattle.model.proofs.site.Statement.{statement}
 use Rattle.model.proofs.site.Tie as tie

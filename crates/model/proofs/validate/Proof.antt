@@ -1,5 +1,5 @@
 -- `model::validate` meets its contract.
-use Rattle.forms.specs.Forms.{form-of}
+use Rattle.model_form.specs.Forms.{form-of}
 use borrow.Author.Needs.{needs}
 use Rattle.model.proofs.validate.Statement.{statement}
 use Rattle.model.proofs.validate.Tie as tie

@@ -145,14 +145,14 @@ all-stages-lead M H X e i = over-end-leads M H (M .end) X e i
 -- ---- loading
 
 -- the diagrams of the stack and those that have been given are there
-abbrev pub Stands : Loaded → List Tree → Type 0
-Stands s X = T (all-inside (s .stack) X) × T (all-inside (entry-trees (s .entries)) X)
+abbrev pub StackStands : Loaded → List Tree → Type 0
+StackStands s X = T (all-inside (s .stack) X) × T (all-inside (entry-trees (s .entries)) X)
 
 -- and so at the end of a computation over X
 abbrev pub Loads : List Tree → Comp Loaded → Type 0
-Loads X m = Stands (result m) (needed X (events m))
+Loads X m = StackStands (result m) (needed X (events m))
 
-ret-loads : (X : List Tree) (s : Loaded) → Stands s X → Loads X (ret s)
+ret-loads : (X : List Tree) (s : Loaded) → StackStands s X → Loads X (ret s)
 unfolding result events needed
 ret-loads X s a = a
 
@@ -161,7 +161,7 @@ push-loads : (X : List Tree) (m : Comp Tree) (K : List Tree) (E : List Entry) �
     → Loads X (bind m (λ r. ret (record { stack = r ∷ K; entries = E })))
 push-loads X m K E b a e =
     let s = sub-needed X (events m) in
-    bind-gives Stands X m (λ r. ret (record { stack = r ∷ K; entries = E })) (ret-loads _ _ (all-cons _ K _ (builds b) (all-more s K a), all-more s (entry-trees E) e))
+    bind-gives StackStands X m (λ r. ret (record { stack = r ∷ K; entries = E })) (ret-loads _ _ (all-cons _ K _ (builds b) (all-more s K a), all-more s (entry-trees E) e))
 
 choice-loads : (X : List Tree) (t : Test) (K : List Tree) (E : List Entry) → T (all-inside K X) → T (all-inside (entry-trees E) X) → Loads X (load-choice t K E)
 unfolding load-choice-with
@@ -177,7 +177,7 @@ unfolding load-entry
 entry-loads X g [] E a e = ret-loads X _ (all-none X, e)
 entry-loads X g (t ∷ K) E a e = let d = all-parts t K X a in ret-loads X _ (d .1, all-cons t (entry-trees E) X (d .0) e)
 
-one-loads : (X : List Tree) (c : Command) (s : Loaded) → Stands s X → Loads X (load-one c s)
+one-loads : (X : List Tree) (c : Command) (s : Loaded) → StackStands s X → Loads X (load-one c s)
 unfolding load-one-with
 one-loads X (site m n a w) s d = ret-loads X s d
 one-loads X (push-leaf p) s d = push-loads X (make (leaf (plain p))) (s .stack) (s .entries) (leaf-built X (plain p)) (d .0) (d .1)
@@ -189,13 +189,13 @@ one-loads X (name-action a b) s d = ret-loads X s d
 one-loads X end-model s d = ret-loads X s d
 
 -- what stood over X stands when loading ends
-pub load-on-stands : (X : List Tree) (l : List Placed) (s : Loaded) → Stands s X → Loads X (load-on l s)
+pub load-on-stands : (X : List Tree) (l : List Placed) (s : Loaded) → StackStands s X → Loads X (load-on l s)
 unfolding load-on-with
 load-on-stands X [] s d = ret-loads X s d
 load-on-stands X (x ∷ l) s d = go (λ Y u. load-on-stands Y l u) (x .read)
   where
-    go : ((Y : List Tree) (u : Loaded) → Stands u Y → Loads Y (load-on l u)) → (r : Read) → Loads X (elim r [ whole c ↦ bind (load-one c s) (load-on l) | unknown ↦ ret s | short ↦ ret s ])
-    go ih (whole c) = bind-gives Stands X (load-one c s) (load-on l) (ih _ _ (one-loads X c s d))
+    go : ((Y : List Tree) (u : Loaded) → StackStands u Y → Loads Y (load-on l u)) → (r : Read) → Loads X (elim r [ whole c ↦ bind (load-one c s) (load-on l) | unknown ↦ ret s | short ↦ ret s ])
+    go ih (whole c) = bind-gives StackStands X (load-one c s) (load-on l) (ih _ _ (one-loads X c s d))
     go ih unknown = ret-loads X s d
     go ih short = ret-loads X s d
 

@@ -112,26 +112,26 @@ snoc-closed X t c i u m = elim (snoc-cases X t u m) [
 ]
 
 -- a diagram that is entered: the nodes before are still there, it is there, and so is all that is below any
-pub record Entered (t : Tree) (X Y : List Tree) : Type 0 where
+pub record TreeEntered (t : Tree) (X Y : List Tree) : Type 0 where
   pub more : Sub X Y
   pub there : T (inside t Y)
   pub closed : Closed Y
 
-was-there : (t : Tree) (X : List Tree) → Closed X → T (member t X) → Entered t X X
+was-there : (t : Tree) (X : List Tree) → Closed X → T (member t X) → TreeEntered t X X
 was-there t X c m = record { more = sub-refl; there = c t m; closed = c }
 
-comes-last : (t : Tree) (X Y : List Tree) → Sub X Y → Closed Y → T (inside t (Y ++ (t ∷ []))) → Entered t X (Y ++ (t ∷ []))
+comes-last : (t : Tree) (X Y : List Tree) → Sub X Y → Closed Y → T (inside t (Y ++ (t ∷ []))) → TreeEntered t X (Y ++ (t ∷ []))
 comes-last t X Y s c i = record { more = sub-trans s (sub-snoc Y t); there = i; closed = snoc-closed Y t c i }
 
-pub entered : (t : Tree) (X : List Tree) → Closed X → Entered t X (enter t X)
+pub entered : (t : Tree) (X : List Tree) → Closed X → TreeEntered t X (enter t X)
 unfolding enter inside
-entered (leaf f) X c = by-test (member (leaf f) X) (λ b. Entered (leaf f) X (if b X (X ++ (leaf f ∷ [])))) (was-there (leaf f) X c) (λ _. comes-last (leaf f) X X sub-refl c (last-in X (leaf f)))
+entered (leaf f) X c = by-test (member (leaf f) X) (λ b. TreeEntered (leaf f) X (if b X (X ++ (leaf f ∷ [])))) (was-there (leaf f) X c) (λ _. comes-last (leaf f) X X sub-refl c (last-in X (leaf f)))
 entered (branch t h l) X c =
     let a = entered h X c in
     let b = entered l (enter h X) (a .closed) in
     let Y = enter l (enter h X) in
     let s = sub-snoc Y (branch t h l) in
-    by-test (member (branch t h l) X) (λ b. Entered (branch t h l) X (if b X (Y ++ (branch t h l ∷ [])))) (was-there (branch t h l) X c)
+    by-test (member (branch t h l) X) (λ b. TreeEntered (branch t h l) X (if b X (Y ++ (branch t h l ∷ [])))) (was-there (branch t h l) X c)
     (λ _. comes-last (branch t h l) X Y (sub-trans (a .more) (b .more)) (b .closed)
     (inside-branch t h l _ (last-in Y (branch t h l)) (inside-more (sub-trans (b .more) s) h (a .there)) (inside-more s l (b .there))))
 

@@ -104,13 +104,13 @@ abbrev pub entry-trees : List Entry → List Tree
 entry-trees E = map (λ e. e .tree) E
 
 -- one that a command may give, and that is loaded
-pub record Held (S : Site) (E : List Entry) (c : ℕ) (t : Tree) : Type 0 where
+pub record EntryHeld (S : Site) (E : List Entry) (c : ℕ) (t : Tree) : Type 0 where
   pub good : T (fits S c t)
   pub loaded : List·Memᴰ t (entry-trees E)
 
 -- what is found at a slot is such
 abbrev pub Found : Site → List Entry → Slot → Type 0
-Found S E g = Held S E (g .command) (find-slot g E)
+Found S E g = EntryHeld S E (g .command) (find-slot g E)
 
 -- each entry is what it may be
 abbrev Fitting : Site → List Entry → Type 0
@@ -129,7 +129,7 @@ unfolding Given has-slot find-slot all
 given-entry S G E g t w u = (
   λ h r n.
       let E′ : List Entry = record { slot = g; tree = t } ∷ E in
-      by-test (same-slot h g) (λ b. T (or b (has-slot h G)) → Held S E′ (h .command) (if b t (find-slot h E)))
+      by-test (same-slot h g) (λ b. T (or b (has-slot h G)) → EntryHeld S E′ (h .command) (if b t (find-slot h E)))
       (λ s _. record { good = subst (λ c. T (fits S c t)) (sym (eqb→eq (h .command) (g .command) (same-command h g s))) w; loaded = List·Memᴰ·head refl })
       (λ _ r. let d = u .0 h r n in record { good = d .good; loaded = List·Memᴰ·tail (d .loaded) })
       r,

@@ -1,6 +1,6 @@
 //! What `crates/check_models` has to print for its input, worked out by the second program.
 
-use reference::hex_text::rows;
+use reference::check_hex::rows;
 use reference::validate;
 
 fn main() -> std::io::Result<()> {

@@ -1,6 +1,6 @@
 //! What `crates/check_solve` has to print, worked out by the second program.
 
-use reference::hex_text::bytes;
+use reference::check_hex::bytes;
 use reference::widths::{Form, New, LEVELS, NODE_WORDS, PEAK_WORDS, STAGES, WORK_WORDS};
 use reference::{solve, value, Reading, State};
 

@@ -1,7 +1,7 @@
 //! What `crates/check_worth` has to print for its input, worked out by the second program. A row has steps, mask, numerators and
 //! denominator, in four bytes each, and then the model.
 
-use reference::hex_text::rows;
+use reference::check_hex::rows;
 use reference::widths::LEVELS;
 use reference::{worth, Reading, State};
 

@@ -2,7 +2,7 @@ use borrow.Author.Needs.{needs}
 use Prim.Native.Nat.{_-_, _≤_}
 use native.Mathlib.Omega.{arith}
 use lib.ListN.{length}
-use Rattle.clear.proofs.Fill.{Filled}
+use Rattle.table_clear.proofs.Fill.{Filled}
 use Rattle.finish.proofs.Fill.{firsts, numbers-begin, numbers-go, numbers-end}
 use Rattle.finish.proofs.stages.root_numbers.Statement.{statement}
 use Rattle.finish.proofs.stages.root_numbers.Tie as tie

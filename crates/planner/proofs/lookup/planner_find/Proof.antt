@@ -1,5 +1,5 @@
 -- `planner::lookup::planner_find` meets its contract.
-use Rattle.name_answers.proofs.Looked.{find-given}
+use Rattle.c_name_answers.proofs.Looked.{find-given}
 use borrow.Author.Needs.{needs}
 use Rattle.planner.proofs.lookup.planner_find.Statement.{statement}
 use Rattle.planner.proofs.lookup.planner_find.Tie as tie

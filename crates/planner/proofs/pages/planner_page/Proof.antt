@@ -2,10 +2,10 @@
 use mathlib.Core.Path.{ap, _∙_}
 use mathlib.Core.List.{List, [], _∷_}
 use lib.IntN.{ℤ}
-use Rattle.values.specs.State.{asked-by}
-use Rattle.page_text.specs.Page.{page}
-use Rattle.answers.specs.Texts.{listing-answer}
-use Rattle.answers.proofs.States.{read-back}
+use Rattle.value_walk.specs.State.{asked-by}
+use Rattle.text_page_lines.specs.Page.{page}
+use Rattle.c_answers.specs.Texts.{listing-answer}
+use Rattle.c_answers.proofs.States.{read-back}
 use borrow.Author.Needs.{needs}
 use Rattle.planner.proofs.pages.planner_page.Statement.{statement}
 use Rattle.planner.proofs.pages.planner_page.Tie as tie

@@ -3,9 +3,9 @@ use mathlib.Core.Path.{ap, _∙_}
 use mathlib.Core.List.{List, [], _∷_}
 use lib.IntN.{ℤ}
 use Rattle.theory.specs.Value.{value-of}
-use Rattle.values.specs.State.{asked-by}
-use Rattle.answers.proofs.States.{read-back}
-use Rattle.value_answers.specs.Reading.{value-answer}
+use Rattle.value_walk.specs.State.{asked-by}
+use Rattle.c_answers.proofs.States.{read-back}
+use Rattle.c_value_answers.specs.Reading.{value-answer}
 use borrow.Author.Needs.{needs}
 use Rattle.planner.proofs.reading.planner_value.Statement.{statement}
 use Rattle.planner.proofs.reading.planner_value.Tie as tie

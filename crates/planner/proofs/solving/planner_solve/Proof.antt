@@ -1,6 +1,6 @@
 -- `planner::solving::planner_solve` meets its contract.
 use Rattle.theory.specs.Solve.{solve}
-use Rattle.answers.proofs.Solved.{solve-short, solve-whole}
+use Rattle.c_answers.proofs.Solved.{solve-short, solve-whole}
 use borrow.Author.Needs.{needs}
 use Rattle.planner.proofs.solving.planner_solve.Statement.{statement}
 use Rattle.planner.proofs.solving.planner_solve.Tie as tie

@@ -2,7 +2,7 @@
 use mathlib.Core.Path.{ap}
 use borrow.Author.Needs.{needs}
 use Rattle.theory.specs.Verdict.{Verdict}
-use Rattle.answers.proofs.Solved.{model-judged}
+use Rattle.c_answers.proofs.Solved.{model-judged}
 use Rattle.planner.proofs.solving.planner_validate.Statement.{statement}
 use Rattle.planner.proofs.solving.planner_validate.Tie as tie
 

@@ -1,6 +1,6 @@
 -- `planner::texts::planner_listing` meets its contract.
 use Rattle.theory.specs.Listing.{listing}
-use Rattle.answers.proofs.Listed.{text-whole, listing-short}
+use Rattle.c_answers.proofs.Listed.{text-whole, listing-short}
 use borrow.Author.Needs.{needs}
 use Rattle.planner.proofs.texts.planner_listing.Statement.{statement}
 use Rattle.planner.proofs.texts.planner_listing.Tie as tie

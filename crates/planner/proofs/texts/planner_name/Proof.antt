@@ -1,5 +1,5 @@
 -- `planner::texts::planner_name` meets its contract.
-use Rattle.name_answers.proofs.Named.{name-most, name-short, name-whole}
+use Rattle.c_name_answers.proofs.Named.{name-most, name-short, name-whole}
 use borrow.Author.Needs.{needs}
 use Rattle.planner.proofs.texts.planner_name.Statement.{statement}
 use Rattle.planner.proofs.texts.planner_name.Tie as tie

@@ -1,0 +1,44 @@
+-- `check_pond::run` meets its contract.
+use native.Mathlib.Omega.{arith}
+use Rattle.check_pond.proofs.Operations.{judged}
+use borrow.Author.Needs.{needs}
+use Rattle.check_pond.proofs.run.Statement.{statement}
+use Rattle.check_pond.proofs.run.Tie as tie
+
+returns : tie.Need-returns
+returns c = search needs
+
+validate-requires : tie.Need-validate-requires
+validate-requires c κs = search needs
+
+returns-2 : tie.Need-returns-2
+returns-2 c = search needs
+
+planned-requires : tie.Need-planned-requires
+planned-requires c κs =
+    (judged (c .before .before .before .before .before .before .before .before .before .before .before .args .model .now) (c .before .before .before .before .before .validate .result) (c .before .before .before .before .before .validate .ensures) (c .before .before .before .if2 .left), omega (arith, c .before .before .before .before .before .before .if1 .left), c .before .before .before .before .before .before .before .before .before .before .before .pre .0, c .before .before .before .before .before .before .before .before .before .before .before .pre .1)
+
+same-length : tie.Need-same-length
+same-length c = search needs
+
+same-length-2 : tie.Need-same-length-2
+same-length-2 c = search needs
+
+same-length-3 : tie.Need-same-length-3
+same-length-3 c = search needs
+
+returns-3 : tie.Need-returns-3
+returns-3 c = search needs
+
+pub run-spec : {M : Type 1} → statement M
+run-spec =
+    tie.close
+    (tie.spec
+    returns
+    validate-requires
+    returns-2
+    planned-requires
+    same-length
+    same-length-2
+    same-length-3
+    returns-3)

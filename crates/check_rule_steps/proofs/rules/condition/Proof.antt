@@ -1,0 +1,55 @@
+use Rattle.check_rule_steps.proofs.Steps.{same, grew, proper-condition}
+use borrow.Author.Needs.{needs}
+use Rattle.check_rule_steps.proofs.rules.condition.Statement.{statement}
+use Rattle.check_rule_steps.proofs.rules.condition.Tie as tie
+
+mag-requires : tie.Need-mag-requires
+mag-requires c κs = search needs
+
+unknown-requires : tie.Need-unknown-requires
+unknown-requires c κs = search needs
+
+returns : tie.Need-returns
+returns c = same (c .unknown .ensures) (c .before .before .before .before .before .pre .0)
+
+unknown-requires-2 : tie.Need-unknown-requires-2
+unknown-requires-2 c κs = search needs
+
+returns-2 : tie.Need-returns-2
+returns-2 c = same (c .unknown2 .ensures) (c .before .before .before .before .before .before .pre .0)
+
+cast-n : tie.Need-cast-n
+cast-n c = search needs
+
+array-set-from-n : tie.Need-array-set-from-n
+array-set-from-n c = search needs
+
+join-test-requires : tie.Need-join-test-requires
+join-test-requires c κs =
+    let h = c .before .before .before .before .before .before .before .pre in
+    (h .0 .bare, proper-condition (c .before .before .before .before .mag .result) (search needs) (search needs), h .1, h .2)
+
+same-length : tie.Need-same-length
+same-length c = search needs
+
+same-length-2 : tie.Need-same-length-2
+same-length-2 c = search needs
+
+returns-3 : tie.Need-returns-3
+returns-3 c = grew (c .before .before .before .before .before .before .before .before .before .before .before .pre .0) (c .before .before .before .join-test .ensures)
+
+pub condition-spec : {M : Type 1} → statement M
+condition-spec =
+    tie.close
+    (tie.spec
+    mag-requires
+    unknown-requires
+    returns
+    unknown-requires-2
+    returns-2
+    cast-n
+    array-set-from-n
+    join-test-requires
+    same-length
+    same-length-2
+    returns-3)

@@ -1,0 +1,72 @@
+use Rattle.rule_unary.proofs.Asking.{scale-acts, shift-acts}
+use Rattle.check_rule_steps.proofs.Steps.{never, small-back, scales, shifts, counts}
+use borrow.Author.Needs.{needs}
+use Rattle.check_rule_steps.proofs.rules.numbers.Statement.{statement}
+use Rattle.check_rule_steps.proofs.rules.numbers.Tie as tie
+
+mag-requires : tie.Need-mag-requires
+mag-requires c κs = search needs
+
+low-half-requires : tie.Need-low-half-requires
+low-half-requires c κs = search needs
+
+high-half-requires : tie.Need-high-half-requires
+high-half-requires c κs = search needs
+
+returns : tie.Need-returns
+returns c =
+    λ _. scales (c .before .before .before .before .pre .0) (c .before .before .if1 .taken) (scale-acts (c .before .before .before .before .args .c) (c .before .before .before .before .fits .c) (c .before .low-half .ensures) (c .high-half .ensures))
+
+none-requires : tie.Need-none-requires
+none-requires c κs = search needs
+
+returns-2 : tie.Need-returns-2
+returns-2 c =
+    never (c .none .ensures)
+
+low-half-requires-2 : tie.Need-low-half-requires-2
+low-half-requires-2 c κs = search needs
+
+high-half-requires-2 : tie.Need-high-half-requires-2
+high-half-requires-2 c κs = search needs
+
+returns-3 : tie.Need-returns-3
+returns-3 c =
+    λ _. shifts (c .before .before .before .before .if1 .left) (c .before .before .before .if2 .taken) (shift-acts (c .before .before .before .before .before .before .args .c) (c .before .before .before .before .before .before .fits .c) (c .before .low-half2 .ensures) (c .high-half2 .ensures) (small-back (c .before .before .before .before .before .before .args .c) (c .before .before .before .before .before .before .fits .c) (search needs)))
+
+none-requires-2 : tie.Need-none-requires-2
+none-requires-2 c κs = search needs
+
+returns-4 : tie.Need-returns-4
+returns-4 c =
+    never (c .none2 .ensures)
+
+none-requires-3 : tie.Need-none-requires-3
+none-requires-3 c κs = search needs
+
+returns-5 : tie.Need-returns-5
+returns-5 c =
+    never (c .none3 .ensures)
+
+returns-6 : tie.Need-returns-6
+returns-6 c =
+    λ _. counts (c .before .before .if2 .left) (c .before .before .before .before .before .pre .1) (search needs) (c .if5 .left)
+
+pub numbers-spec : {M : Type 1} → statement M
+numbers-spec =
+    tie.close
+    (tie.spec
+    mag-requires
+    low-half-requires
+    high-half-requires
+    returns
+    none-requires
+    returns-2
+    low-half-requires-2
+    high-half-requires-2
+    returns-3
+    none-requires-2
+    returns-4
+    none-requires-3
+    returns-5
+    returns-6)

@@ -1,0 +1,76 @@
+use native.Mathlib.Nat.{lt-of-lt-of-le}
+use Rattle.check_rules.proofs.Steps.{held, held-on}
+use borrow.Author.Needs.{needs}
+use Rattle.check_rules.proofs.pair.Statement.{statement}
+use Rattle.check_rules.proofs.pair.Tie as tie
+
+stairs-requires : tie.Need-stairs-requires
+stairs-requires c κs = search needs
+
+show-requires : tie.Need-show-requires
+show-requires c κs = search needs
+
+same-length : tie.Need-same-length
+same-length c = search needs
+
+same-length-2 : tie.Need-same-length-2
+same-length-2 c = search needs
+
+returns : tie.Need-returns
+returns c =
+    c .before .before .before .before .before .before .stairs .ensures
+
+stairs-requires-2 : tie.Need-stairs-requires-2
+stairs-requires-2 c κs = search needs
+
+show-requires-2 : tie.Need-show-requires-2
+show-requires-2 c κs = search needs
+
+same-length-3 : tie.Need-same-length-3
+same-length-3 c = search needs
+
+same-length-4 : tie.Need-same-length-4
+same-length-4 c = search needs
+
+returns-2 : tie.Need-returns-2
+returns-2 c =
+    held-on (c .before .before .before .before .before .before .before .before .before .before .before .before .before .before .before .stairs .ensures .more) (c .before .before .before .before .before .before .stairs2 .ensures)
+
+merge-requires : tie.Need-merge-requires
+merge-requires c κs =
+    let F = c .before .before .before .before .before .before .before .before .before .before .before .before .before .before .before .before .before .stairs .ensures in
+    let G = c .before .before .before .before .before .before .before .before .stairs2 .ensures in
+    (G .table, (c .before .before .before .before .before .before .before .before .before .before .before .before .before .before .before .before .before .before .before .before .before) .pre .1, lt-of-lt-of-le (F .within (c .before .before .before .before .before .before .before .before .before .before .before .if1 .left)) (G .more), G .within (c .before .before .if2 .left))
+
+show-requires-3 : tie.Need-show-requires-3
+show-requires-3 c κs = search needs
+
+same-length-5 : tie.Need-same-length-5
+same-length-5 c = search needs
+
+same-length-6 : tie.Need-same-length-6
+same-length-6 c = search needs
+
+returns-3 : tie.Need-returns-3
+returns-3 c =
+    held-on (c .before .before .before .before .before .before .before .before .before .before .before .before .before .before .before .before .before .before .before .before .before .before .stairs .ensures .more) (held-on (c .before .before .before .before .before .before .before .before .before .before .before .before .before .stairs2 .ensures .more) (held (c .before .before .before .before .merge .ensures)))
+
+pub pair-spec : {M : Type 1} → statement M
+pair-spec =
+    tie.close
+    (tie.spec
+    stairs-requires
+    show-requires
+    same-length
+    same-length-2
+    returns
+    stairs-requires-2
+    show-requires-2
+    same-length-3
+    same-length-4
+    returns-2
+    merge-requires
+    show-requires-3
+    same-length-5
+    same-length-6
+    returns-3)

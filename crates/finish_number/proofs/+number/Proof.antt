@@ -1,0 +1,123 @@
+use mathlib.Core.Path.{sym, _∙_}
+use native.Mathlib.Omega.{arith}
+use Rattle.table.specs.Table.{nodeAt}
+use Rattle.finish_number.proofs.Enter.{c-lt, leaf-new, branch-lt, branch-new, was-there}
+use Prim.Native.Nat.{ℕ, _<_}
+use borrow.Fn.Kinds.{In}
+use borrow.Fn.PlainCycle.{Measures, is, falls, and}
+use Rattle.finish_number.proofs.number.Reads as number
+use Rattle.finish_number.proofs.number.Kinds as number-kinds
+use Rattle.finish_number.proofs.+number.Lts-number as number-lts
+use Rattle.finish_number.proofs.assign.Reads as assign-reads
+use Rattle.finish_number.proofs.branches.branch.Reads as branch-reads
+use Rattle.finish_number.proofs.branches.is_leaf.Reads as is-leaf-reads
+use Rattle.finish_number.proofs.+number.{statement}
+use Rattle.finish_number.proofs.+number.Tie.{close}
+
+abbrev μ-number : Measures 2 number-kinds.ps ℕ
+μ-number κs a = a .1 .1 .1 .1 .1 .0
+
+abbrev number-at : ℕ → In 2 number-kinds.ps
+number-at t = and 2 number-kinds.ps (is 2 number-kinds.ps μ-number t) number.Pre
+
+abbrev number-below : ℕ → In 2 number-kinds.ps
+number-below t = and 2 number-kinds.ps (falls 2 number-kinds.ps _<_ μ-number t) number.Pre
+
+-- the contracts that `number` calls by, itself at a smaller measure
+abbrev number-claims : ℕ → number-lts.Claims
+number-claims t = (
+  is-leaf-reads.Asked,
+  is-leaf-reads.Learnt,
+  assign-reads.Asked,
+  assign-reads.Learnt,
+  branch-reads.Asked,
+  branch-reads.Learnt,
+  number-below t,
+  number.Post,
+)
+
+number-add-if1 : (t : ℕ) → number-lts.Need-add-if1 (number-claims t) (number-at t) number.Post
+number-add-if1 t c =
+    let g = (c .before) .pre .1 .0 .room in let f = (c .before) .pre .1 .0 .few in let i = (c .before) .pre .1 .1 in let v = (c .before) .pre .1 .2 .works in let q = (c .before) .pre .1 .0 .words in omega arith
+
+number-mul-if1 : (t : ℕ) → number-lts.Need-mul-if1 (number-claims t) (number-at t) number.Post
+number-mul-if1 t c =
+    let g = (c .before) .pre .1 .0 .room in let f = (c .before) .pre .1 .0 .few in let i = (c .before) .pre .1 .1 in let v = (c .before) .pre .1 .2 .works in let q = (c .before) .pre .1 .0 .words in omega arith
+
+number-slice-read-if1 : (t : ℕ) → number-lts.Need-slice-read-if1 (number-claims t) (number-at t) number.Post
+number-slice-read-if1 t c =
+    let g = (c .before .before) .pre .1 .0 .room in let f = (c .before .before) .pre .1 .0 .few in let i = (c .before .before) .pre .1 .1 in let v = (c .before .before) .pre .1 .2 .works in let q = (c .before .before) .pre .1 .0 .words in omega arith
+
+number-is-leaf-requires : (t : ℕ) → number-lts.Need-is-leaf-requires (number-claims t) (number-at t) number.Post
+number-is-leaf-requires t c κs =
+    let g = (c .before .before .before) .pre .1 .0 .room in let f = (c .before .before .before) .pre .1 .0 .few in let i = (c .before .before .before) .pre .1 .1 in let v = (c .before .before .before) .pre .1 .2 .works in let q = (c .before .before .before) .pre .1 .0 .words in omega arith
+
+number-assign-requires : (t : ℕ) → number-lts.Need-assign-requires (number-claims t) (number-at t) number.Post
+number-assign-requires t c κs =
+    let g = (c .before .before .before .before .before .before) .pre .1 .0 .room in let i = (c .before .before .before .before .before .before) .pre .1 .1 in let q = c-lt ((c .before .before .before .before .before .before) .pre .1 .0) ((c .before .before .before .before .before .before) .pre .1 .2) _ i (c .before .before .before .if1 .taken) in ((c .before .before .before .before .before .before) .pre .1 .2 .works, (c .before .before .before .before .before .before) .pre .1 .0 .few, omega arith, omega arith)
+
+number-same-length : (t : ℕ) → number-lts.Need-same-length (number-claims t) (number-at t) number.Post
+number-same-length t c =
+    c .before .before .assign .kept .0
+
+number-returns : (t : ℕ) → number-lts.Need-returns (number-claims t) (number-at t) number.Post
+number-returns t c =
+    leaf-new ((c .before .before .before .before .before .before .before .before .before) .pre .1 .0) ((c .before .before .before .before .before .before .before .before .before) .pre .1 .2) _ ((c .before .before .before .before .before .before .before .before .before) .pre .1 .1) (c .before .before .before .before .before .before .if1 .taken) (sym (c .before .before .before .before .before .is-leaf .ensures) ∙ c .before .before .before .before .if2 .taken) (c .before .before .assign .ensures .0) (c .before .before .assign .ensures .1)
+
+number-branch-requires : (t : ℕ) → number-lts.Need-branch-requires (number-claims t) (number-at t) number.Post
+unfolding nodeAt
+number-branch-requires t c κs =
+    let g = (c .before .before .before .before .before .before) .pre .1 .0 .room in let i = (c .before .before .before .before .before .before) .pre .1 .1 in let q = (c .before .before .before .before .before .before) .pre .1 .0 .words in (omega arith, omega arith, (c .before .before .before .before .before .before) .pre .1 .0 .good .valid _ i .high-nat)
+
+number-number-requires : (t : ℕ) → number-lts.Need-number-requires (number-claims t) (number-at t) number.Post
+unfolding nodeAt
+number-number-requires t c κs =
+    let e = c .branch .ensures in let i = (c .before .before .before .before .before .before .before) .pre .1 .1 in let b = (c .before .before .before .before .before .before .before) .pre .1 .0 .good .valid _ i .high-below (sym (c .before .before .before .is-leaf .ensures) ∙ c .before .before .if2 .left) in (omega (arith, (c .before .before .before .before .before .before .before) .pre .0), ((c .before .before .before .before .before .before .before) .pre .1 .0, omega arith, (c .before .before .before .before .before .before .before) .pre .1 .2))
+
+number-branch-requires-2 : (t : ℕ) → number-lts.Need-branch-requires-2 (number-claims t) (number-at t) number.Post
+unfolding nodeAt
+number-branch-requires-2 t c κs =
+    let g = (c .before .before .before .before .before .before .before .before .before .before .before) .pre .1 .0 .room in let i = (c .before .before .before .before .before .before .before .before .before .before .before) .pre .1 .1 in let q = (c .before .before .before .before .before .before .before .before .before .before .before) .pre .1 .0 .words in (omega arith, omega arith, (c .before .before .before .before .before .before .before .before .before .before .before) .pre .1 .0 .good .valid _ i .low-nat)
+
+number-number-requires-2 : (t : ℕ) → number-lts.Need-number-requires-2 (number-claims t) (number-at t) number.Post
+unfolding nodeAt
+number-number-requires-2 t c κs =
+    let e = c .branch2 .ensures in let i = (c .before .before .before .before .before .before .before .before .before .before .before .before) .pre .1 .1 in let b = (c .before .before .before .before .before .before .before .before .before .before .before .before) .pre .1 .0 .good .valid _ i .low-below (sym (c .before .before .before .before .before .before .before .before .is-leaf .ensures) ∙ c .before .before .before .before .before .before .before .if2 .left) in (omega (arith, (c .before .before .before .before .before .before .before .before .before .before .before .before) .pre .0), ((c .before .before .before .before .before .before .before .before .before .before .before .before) .pre .1 .0, omega arith, c .before .before .before .before .number .ensures .state))
+
+number-assign-requires-2 : (t : ℕ) → number-lts.Need-assign-requires-2 (number-claims t) (number-at t) number.Post
+unfolding nodeAt
+number-assign-requires-2 t c κs =
+    let g = (c .before .before .before .before .before .before .before .before .before .before .before .before .before .before .before .before) .pre .1 .0 .room in let i = (c .before .before .before .before .before .before .before .before .before .before .before .before .before .before .before .before) .pre .1 .1 in let q = branch-lt ((c .before .before .before .before .before .before .before .before .before .before .before .before .before .before .before .before) .pre .1 .0) ((c .before .before .before .before .before .before .before .before .before .before .before .before .before .before .before .before) .pre .1 .2) _ i (c .before .before .before .before .before .before .before .before .before .before .before .before .before .if1 .taken) (sym (c .before .before .before .before .before .before .before .before .before .before .before .before .is-leaf .ensures) ∙ c .before .before .before .before .before .before .before .before .before .before .before .if2 .left) (c .before .before .before .before .before .before .before .before .before .branch .ensures) (c .before .before .before .before .branch2 .ensures) (c .before .before .before .before .before .before .before .before .number .ensures) (c .before .before .before .number2 .ensures) in (c .before .before .before .number2 .ensures .state .works, (c .before .before .before .before .before .before .before .before .before .before .before .before .before .before .before .before) .pre .1 .0 .few, omega arith, omega arith)
+
+number-same-length-2 : (t : ℕ) → number-lts.Need-same-length-2 (number-claims t) (number-at t) number.Post
+number-same-length-2 t c =
+    c .before .before .assign2 .kept .0 ∙ (c .before .before .before .before .before .before .number2 .kept .1 .0 ∙ c .before .before .before .before .before .before .before .before .before .before .before .number .kept .1 .0)
+
+number-returns-2 : (t : ℕ) → number-lts.Need-returns-2 (number-claims t) (number-at t) number.Post
+unfolding nodeAt
+number-returns-2 t c =
+    branch-new ((c .before .before .before .before .before .before .before .before .before .before .before .before .before .before .before .before .before .before .before) .pre .1 .0) ((c .before .before .before .before .before .before .before .before .before .before .before .before .before .before .before .before .before .before .before) .pre .1 .2) _ ((c .before .before .before .before .before .before .before .before .before .before .before .before .before .before .before .before .before .before .before) .pre .1 .1) (c .before .before .before .before .before .before .before .before .before .before .before .before .before .before .before .before .if1 .taken) (sym (c .before .before .before .before .before .before .before .before .before .before .before .before .before .before .before .is-leaf .ensures) ∙ c .before .before .before .before .before .before .before .before .before .before .before .before .before .before .if2 .left) (c .before .before .before .before .before .before .before .before .before .before .before .before .branch .ensures) (c .before .before .before .before .before .before .before .branch2 .ensures) (c .before .before .before .before .before .before .before .before .before .before .before .number .ensures) (c .before .before .before .before .before .before .number2 .ensures) (c .before .before .assign2 .ensures .0) (c .before .before .assign2 .ensures .1)
+
+number-returns-3 : (t : ℕ) → number-lts.Need-returns-3 (number-claims t) (number-at t) number.Post
+number-returns-3 t c =
+    was-there ((c .before .before .before) .pre .1 .0) ((c .before .before .before) .pre .1 .2) _ ((c .before .before .before) .pre .1 .1) (c .if1 .left)
+
+pub +number-spec : {M : Type 1} → statement M
++number-spec = close μ-number λ t. number-lts.spec (number-claims t)
+    (number-at t)
+    number.Post
+    (number-add-if1 t)
+    (number-mul-if1 t)
+    (number-slice-read-if1 t)
+    (number-is-leaf-requires t)
+    (number-assign-requires t)
+    (number-same-length t)
+    (number-returns t)
+    (number-branch-requires t)
+    (number-number-requires t)
+    (number-branch-requires-2 t)
+    (number-number-requires-2 t)
+    (number-assign-requires-2 t)
+    (number-same-length-2 t)
+    (number-returns-2 t)
+    (number-returns-3 t)

@@ -1,8 +1,0 @@
--- The form of document 02 that the code's names.
-use Rattle.theory.specs.Form.{Form, old-form, new-form}
-use Rattle.forms.specs.declared.Form.{Form as CodeForm}
-use Rattle.forms.specs.declared.Form.the-variants.{Old, New}
-
-unfoldable pub form-of : CodeForm → Form
-form-of Old = old-form
-form-of New = new-form

@@ -1,0 +1,81 @@
+-- `load_choose::test_from` meets its contract.
+use Rattle.load_choose.proofs.Tests.{none-stood, other-stood, condition-fits, condition-test-stood, linear-there, linear-nums, linear-test-stood}
+use native.Mathlib.Omega.{arith}
+use mathlib.Core.Path.{sym, subst}
+use Rattle.rule_node.specs.Nodes.{Nums}
+use borrow.Author.Needs.{needs}
+use Rattle.load_choose.proofs.test_from.Statement.{statement}
+use Rattle.load_choose.proofs.test_from.Tie as tie
+
+command-at-requires : tie.Need-command-at-requires
+command-at-requires c κs = search needs
+
+enum-known-read : tie.Need-enum-known-read
+enum-known-read c = search needs
+
+condition-requires : tie.Need-condition-requires
+condition-requires c κs = search needs
+
+returns : tie.Need-returns
+returns c =
+    none-stood ((c .before .before .before .before) .args .model .now) ((c .before .before .before .before) .args .at) (c .before .before .command-at .result) (c .before .before .command-at .ensures) (c .before .match .keys2) (c .condition .ensures)
+
+enum-known-c : tie.Need-enum-known-c
+enum-known-c c = search needs
+
+condition-requires-2 : tie.Need-condition-requires-2
+condition-requires-2 c κs =
+    condition-fits ((c .before .before .before .before .before .before .before .before) .args .model .now) ((c .before .before .before .before .before .before .before .before) .args .at) (c .before .before .before .before .before .before .command-at .result) (c .before .before .before .before .before .before .command-at .ensures) (c .before .before .before .before .read .given .1) (c .before .c .given .1) ((c .before .before .before .before .before .before .before .before) .pre)
+
+enum-told : tie.Need-enum-told
+enum-told c = search needs
+
+add-linear-at : tie.Need-add-linear-at
+add-linear-at c =
+    let h = linear-there (c .before .before .before .before .before .before .before .args .model .now) (c .before .before .before .before .before .before .before .args .at) (c .before .before .before .before .before .command-at .result) (c .before .before .before .before .before .command-at .ensures) (c .before .before .before .read .given .1) (c .enum-told .given .1) in omega arith
+
+linear-at-requires : tie.Need-linear-at-requires
+linear-at-requires c κs =
+    let h = linear-there (c .before .before .before .before .before .before .before .args .model .now) (c .before .before .before .before .before .before .before .args .at) (c .before .before .before .before .before .command-at .result) (c .before .before .before .before .before .command-at .ensures) (c .before .before .before .read .given .1) (c .enum-told .given .1) in omega arith
+
+words-requires : tie.Need-words-requires
+words-requires c κs = search needs
+
+named-requires : tie.Need-named-requires
+named-requires c κs =
+    subst Nums (sym (c .words .ensures)) (linear-nums (c .before .before .before .before .before .before .before .before .before .args .model .now) (c .before .before .before .before .before .before .before .before .before .args .at) (c .before .before .before .before .before .before .before .command-at .result) (c .before .before .before .before .before .before .before .command-at .ensures) (c .before .before .before .before .before .read .given .1) (c .before .before .enum-told .given .1) (c .before .linear-at .ensures))
+
+condition-requires-3 : tie.Need-condition-requires-3
+condition-requires-3 c κs = search needs
+
+returns-2 : tie.Need-returns-2
+returns-2 c =
+    condition-test-stood ((c .before .before .before .before .before .before .before .before .before) .args .model .now) ((c .before .before .before .before .before .before .before .before .before) .args .at) (c .before .before .before .before .before .before .before .command-at .result) (c .before .before .before .before .before .before .before .command-at .ensures) (c .before .before .before .before .before .read .given .1) (c .before .before .c .given .1) (c .condition2 .ensures)
+
+returns-3 : tie.Need-returns-3
+returns-3 c =
+    linear-test-stood (c .before .before .before .before .before .before .before .before .before .before .args .model .now) (c .before .before .before .before .before .before .before .before .before .before .args .at) (c .before .before .before .before .before .before .before .before .command-at .result) (c .before .before .before .before .before .before .before .before .command-at .ensures) (c .before .before .before .before .before .before .read .given .1) (c .before .before .before .enum-told .given .1) (c .before .before .linear-at .ensures) (c .before .words .ensures) (c .named .ensures)
+
+returns-4 : tie.Need-returns-4
+returns-4 c =
+    other-stood ((c .before .before .before .before .before .before .before) .args .model .now) ((c .before .before .before .before .before .before .before) .args .at) (c .before .before .before .before .before .command-at .result) (c .before .before .before .before .before .command-at .ensures) (c .before .before .before .read .given .1) (c .before .match2 .keys3) (c .condition3 .ensures)
+
+pub test-from-spec : {M : Type 1} → statement M
+test-from-spec =
+    tie.close
+    (tie.spec
+    command-at-requires
+    enum-known-read
+    condition-requires
+    returns
+    enum-known-c
+    condition-requires-2
+    enum-told
+    add-linear-at
+    linear-at-requires
+    words-requires
+    named-requires
+    condition-requires-3
+    returns-2
+    returns-3
+    returns-4)

@@ -1,0 +1,16 @@
+-- `model_command_rules::forbidden` meets its contract.
+use mathlib.Core.Path.{_∙_}
+use Rattle.model_command_rules.proofs.Judging.{later-forbidden}
+use borrow.Author.Needs.{needs}
+use Rattle.model_command_rules.proofs.forbidden.Statement.{statement}
+use Rattle.model_command_rules.proofs.forbidden.Tie as tie
+
+ordered-requires : tie.Need-ordered-requires
+ordered-requires c κs = search needs
+
+returns : tie.Need-returns
+returns c =
+    λ F p st. c .ordered .ensures ∙ later-forbidden st
+
+pub forbidden-spec : {M : Type 1} → statement M
+forbidden-spec = tie.close (tie.spec ordered-requires returns)

@@ -1,0 +1,73 @@
+-- `model_progress::given::note` meets its contract.
+use mathlib.Core.Path.{sym, ap, _∙_}
+use mathlib.Core.Bool.{true}
+use Prim.Native.Nat.{ℕ}
+use lib.ListN.{set}
+use Rattle.model_command.specs.declared.Command.{Command as CodeCommand}
+use Rattle.model_progress.specs.Standing.{place, noted}
+use Rattle.model_progress.proofs.Flags.{noted-other}
+use borrow.Author.Needs.{needs}
+use Rattle.model_progress.proofs.given.note.Statement.{statement}
+use Rattle.model_progress.proofs.given.note.Tie as tie
+
+enum-known-c : tie.Need-enum-known-c
+enum-known-c c = search needs
+
+base-requires : tie.Need-base-requires
+base-requires c κs = search needs
+
+place-requires : tie.Need-place-requires
+place-requires c κs = search needs
+
+raise-requires : tie.Need-raise-requires
+raise-requires c κs = search needs
+
+enum-known-c-2 : tie.Need-enum-known-c-2
+enum-known-c-2 c = search needs
+
+place-requires-2 : tie.Need-place-requires-2
+place-requires-2 c κs = search needs
+
+raise-requires-2 : tie.Need-raise-requires-2
+raise-requires-2 c κs = search needs
+
+same-length : tie.Need-same-length
+same-length c = search needs
+
+returns : tie.Need-returns
+unfolding noted
+returns c =
+    c .before .before .raise .ensures
+    ∙ ap (λ (k : ℕ). set (c .before .before .before .before .before .before .before .before .before .before .args .flags .now) k true) (c .before .before .before .place .ensures ∙ ap (λ (b : ℕ). place b (c .before .before .before .before .before .before .before .c .given .0 .1 .1 .0) (c .before .before .before .before .before .before .before .c .given .0 .1 .0)) (c .before .before .before .before .base .ensures .0))
+    ∙ ap (λ (d : CodeCommand). noted d (c .before .before .before .before .before .before .before .before .before .before .args .flags .now)) (sym (c .before .before .before .before .before .before .before .c .given .1))
+
+same-length-2 : tie.Need-same-length-2
+same-length-2 c = search needs
+
+returns-2 : tie.Need-returns-2
+unfolding noted
+returns-2 c =
+    c .before .before .raise2 .ensures
+    ∙ ap (λ (k : ℕ). set (c .before .before .before .before .before .before .before .before .before .args .flags .now) k true) (c .before .before .before .place2 .ensures)
+    ∙ ap (λ (d : CodeCommand). noted d (c .before .before .before .before .before .before .before .before .before .args .flags .now)) (sym (c .before .before .before .before .before .before .c2 .given .1))
+
+returns-3 : tie.Need-returns-3
+returns-3 c =
+    noted-other (c .before .before .args .c) (c .before .before .args .flags .now) (c .match .keys3)
+
+pub note-spec : {M : Type 1} → statement M
+note-spec =
+    tie.close
+    (tie.spec
+    enum-known-c
+    base-requires
+    place-requires
+    raise-requires
+    enum-known-c-2
+    place-requires-2
+    raise-requires-2
+    same-length
+    returns
+    same-length-2
+    returns-2
+    returns-3)

@@ -1,9 +1,0 @@
--- The answer of finding an action by its name.
-use mathlib.Core.List.{List}
-use Prim.Native.Nat.{ℕ}
-use Rattle.finding.specs.Find.{FindOut}
-use Rattle.answers.specs.Answers.{pair-bytes, pair-size, Answer, answer}
-
--- place, action
-unfoldable pub find-answer : FindOut → List ℕ → Answer
-find-answer v out = answer pair-size (v .number) (pair-bytes (v .place) (v .action)) out

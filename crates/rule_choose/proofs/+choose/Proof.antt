@@ -1,0 +1,220 @@
+use native.Mathlib.Omega.{arith}
+use native.Mathlib.Nat.{lt-of-lt-of-le}
+use borrow.Author.Needs.{needs}
+use Rattle.rule_node.specs.Nodes.{treeAt}
+use Rattle.rule_node.proofs.Outcomes.{grown, lifted}
+use Rattle.rule_node.proofs.Caching.{room-in, keepable}
+use Rattle.rule_node.proofs.Meanings.{names-more, readable-in, test-proper}
+use Rattle.rule_node.proofs.Going.{at-in, high-stops, low-stops, root-on, high-in, joined}
+use Rattle.rule_choose.proofs.Choices.{choice-key, choice-goes, choice-ends, choice-kept, choice-answered, choice-stored}
+use Prim.Native.Nat.{ℕ, _+_, _<_}
+use borrow.Fn.Kinds.{In}
+use borrow.Fn.PlainCycle.{Measures, is, falls, and}
+use Prim.Native.Nat.{ℕ, _<_}
+use Rattle.rule_choose.proofs.choose.Reads as choose
+use Rattle.rule_choose.proofs.choose.Kinds as choose-kinds
+use Rattle.rule_choose.proofs.+choose.Lts-choose as choose-lts
+use Rattle.rule_choose.proofs.roots.choice_at.Reads as choice-at-reads
+use Rattle.table_cache.proofs.keep.Reads as keep-reads
+use Rattle.table_cache.proofs.look.Reads as look-reads
+use Rattle.rule_node.proofs.making.join.Reads as join-reads
+use Rattle.rule_node.proofs.making.join_test.Reads as join-test-reads
+use Rattle.rule_tests.proofs.test_at.Reads as test-at-reads
+use Rattle.rule_choose.proofs.+choose.{statement}
+use Rattle.rule_choose.proofs.+choose.Tie.{close}
+
+abbrev μ-choose : Measures 2 choose-kinds.ps ℕ
+μ-choose κs a = a .1 .1 .1 .1 .1 .1 .0 + a .1 .1 .1 .1 .1 .1 .1 .0
+
+abbrev choose-at : ℕ → In 2 choose-kinds.ps
+choose-at t = and 2 choose-kinds.ps (is 2 choose-kinds.ps μ-choose t) choose.Pre
+
+abbrev choose-below : ℕ → In 2 choose-kinds.ps
+choose-below t = and 2 choose-kinds.ps (falls 2 choose-kinds.ps _<_ μ-choose t) choose.Pre
+
+-- the contracts that `choose` calls by, itself at a smaller measure
+abbrev choose-claims : ℕ → choose-lts.Claims
+choose-claims t = (
+  test-at-reads.Asked,
+  test-at-reads.Learnt,
+  choice-at-reads.Asked,
+  choice-at-reads.Learnt,
+  join-test-reads.Asked,
+  join-test-reads.Learnt,
+  look-reads.Asked,
+  look-reads.Learnt,
+  choose-below t,
+  choose.Post,
+  join-reads.Asked,
+  join-reads.Learnt,
+  keep-reads.Asked,
+  keep-reads.Learnt,
+)
+
+choose-test-at-requires : (t : ℕ) → choose-lts.Need-test-at-requires (choose-claims t) (choose-at t) choose.Post
+choose-test-at-requires t c κs =
+    readable-in ((c .before .before) .pre .1 .0 .bare) ((c .before .before) .pre .1 .1)
+
+choose-choice-at-requires : (t : ℕ) → choose-lts.Need-choice-at-requires (choose-claims t) (choose-at t) choose.Post
+choose-choice-at-requires t c κs =
+    (at-in ((c .before .before .before) .args .f) ((c .before .before .before) .pre .1 .0 .bare) ((c .before .before .before) .pre .1 .2), at-in ((c .before .before .before) .args .g) ((c .before .before .before) .pre .1 .0 .bare) ((c .before .before .before) .pre .1 .3))
+
+choose-test-at-requires-2 : (t : ℕ) → choose-lts.Need-test-at-requires-2 (choose-claims t) (choose-at t) choose.Post
+choose-test-at-requires-2 t c κs =
+    readable-in ((c .before .before .before .before .before .before .before .before) .pre .1 .0 .bare) ((c .before .before .before .before .before .before .before .before) .pre .1 .1)
+
+choose-join-test-requires : (t : ℕ) → choose-lts.Need-join-test-requires (choose-claims t) (choose-at t) choose.Post
+choose-join-test-requires t c κs =
+    let w = choice-goes ((c .before .before .before .before .before .before .before .before .before) .pre .1 .0) ((c .before .before .before .before .before .before .before .before .before) .pre .1 .1) ((c .before .before .before .before .before .before .before .before .before) .args .f) ((c .before .before .before .before .before .before .before .before .before) .args .g) ((c .before .before .before .before .before .before .before .before .before) .pre .1 .2) ((c .before .before .before .before .before .before .before .before .before) .pre .1 .3) (c .before .before .before .before .before .before .test-at .ensures) (c .before .before .before .before .before .choice-at .ensures) in
+    let o = w .0 (c .before .before .before .before .if1 .taken) in
+    ((c .before .before .before .before .before .before .before .before .before) .pre .1 .0 .bare, test-proper ((c .before .before .before .before .before .before .before .before .before) .pre .1 .0 .bare .good) ((c .before .before .before .before .before .before .before .before .before) .pre .1 .1) (c .test-at2 .ensures), o .fh, o .gl)
+
+choose-same-length : (t : ℕ) → choose-lts.Need-same-length (choose-claims t) (choose-at t) choose.Post
+choose-same-length t c = search needs
+
+choose-same-length-2 : (t : ℕ) → choose-lts.Need-same-length-2 (choose-claims t) (choose-at t) choose.Post
+choose-same-length-2 t c = search needs
+
+choose-returns : (t : ℕ) → choose-lts.Need-returns (choose-claims t) (choose-at t) choose.Post
+choose-returns t c =
+    let w = choice-goes ((c .before .before .before .before .before .before .before .before .before .before .before .before .before) .pre .1 .0) ((c .before .before .before .before .before .before .before .before .before .before .before .before .before) .pre .1 .1) ((c .before .before .before .before .before .before .before .before .before .before .before .before .before) .args .f) ((c .before .before .before .before .before .before .before .before .before .before .before .before .before) .args .g) ((c .before .before .before .before .before .before .before .before .before .before .before .before .before) .pre .1 .2) ((c .before .before .before .before .before .before .before .before .before .before .before .before .before) .pre .1 .3) (c .before .before .before .before .before .before .before .before .before .before .test-at .ensures) (c .before .before .before .before .before .before .before .before .before .choice-at .ensures) in
+    let o = w .0 (c .before .before .before .before .before .before .before .before .if1 .taken) in
+    choice-ends ((c .before .before .before .before .before .before .before .before .before .before .before .before .before) .pre .1 .0) ((c .before .before .before .before .before .before .before .before .before .before .before .before .before) .pre .1 .1) ((c .before .before .before .before .before .before .before .before .before .before .before .before .before) .args .f) ((c .before .before .before .before .before .before .before .before .before .before .before .before .before) .args .g) ((c .before .before .before .before .before .before .before .before .before .before .before .before .before) .pre .1 .2) ((c .before .before .before .before .before .before .before .before .before .before .before .before .before) .pre .1 .3) o (c .before .before .before .before .test-at2 .ensures) (c .before .before .before .join-test .ensures)
+
+choose-look-requires : (t : ℕ) → choose-lts.Need-look-requires (choose-claims t) (choose-at t) choose.Post
+choose-look-requires t c κs =
+    (room-in ((c .before .before .before .before .before .before) .pre .1 .0), choice-key ((c .before .before .before .before .before .before) .pre .1 .0) ((c .before .before .before .before .before .before) .pre .1 .1) ((c .before .before .before .before .before .before) .args .f) ((c .before .before .before .before .before .before) .args .g) ((c .before .before .before .before .before .before) .pre .1 .2) ((c .before .before .before .before .before .before) .pre .1 .3))
+
+choose-sub-t29 : (t : ℕ) → choose-lts.Need-sub-t29 (choose-claims t) (choose-at t) choose.Post
+choose-sub-t29 t c = omega arith
+
+choose-same-length-3 : (t : ℕ) → choose-lts.Need-same-length-3 (choose-claims t) (choose-at t) choose.Post
+choose-same-length-3 t c = search needs
+
+choose-same-length-4 : (t : ℕ) → choose-lts.Need-same-length-4 (choose-claims t) (choose-at t) choose.Post
+choose-same-length-4 t c = search needs
+
+choose-returns-2 : (t : ℕ) → choose-lts.Need-returns-2 (choose-claims t) (choose-at t) choose.Post
+choose-returns-2 t c =
+    choice-answered ((c .before .before .before .before .before .before .before .before) .pre .1 .0) ((c .before .before .before .before .before .before .before .before) .pre .1 .1) ((c .before .before .before .before .before .before .before .before) .args .f) ((c .before .before .before .before .before .before .before .before) .args .g) ((c .before .before .before .before .before .before .before .before) .pre .1 .2) ((c .before .before .before .before .before .before .before .before) .pre .1 .3) _ (c .before .look .ensures (c .if2 .taken))
+
+choose-choose-requires : (t : ℕ) → choose-lts.Need-choose-requires (choose-claims t) (choose-at t) choose.Post
+choose-choose-requires t c κs =
+    let w = choice-goes ((c .before .before .before .before .before .before .before .before .before .before) .pre .1 .0) ((c .before .before .before .before .before .before .before .before .before .before) .pre .1 .1) ((c .before .before .before .before .before .before .before .before .before .before) .args .f) ((c .before .before .before .before .before .before .before .before .before .before) .args .g) ((c .before .before .before .before .before .before .before .before .before .before) .pre .1 .2) ((c .before .before .before .before .before .before .before .before .before .before) .pre .1 .3) (c .before .before .before .before .before .before .before .test-at .ensures) (c .before .before .before .before .before .before .choice-at .ensures) in
+    let o = w .1 (c .before .before .before .before .before .if1 .left) in
+    (omega (arith, o .high, (c .before .before .before .before .before .before .before .before .before .before) .pre .0), ((c .before .before .before .before .before .before .before .before .before .before) .pre .1 .0, (c .before .before .before .before .before .before .before .before .before .before) .pre .1 .1, o .fh, o .gh))
+
+choose-same-length-5 : (t : ℕ) → choose-lts.Need-same-length-5 (choose-claims t) (choose-at t) choose.Post
+choose-same-length-5 t c = search needs
+
+choose-same-length-6 : (t : ℕ) → choose-lts.Need-same-length-6 (choose-claims t) (choose-at t) choose.Post
+choose-same-length-6 t c = search needs
+
+choose-returns-3 : (t : ℕ) → choose-lts.Need-returns-3 (choose-claims t) (choose-at t) choose.Post
+choose-returns-3 t c =
+    let w = choice-goes ((c .before .before .before .before .before .before .before .before .before .before .before .before .before .before .before .before) .pre .1 .0) ((c .before .before .before .before .before .before .before .before .before .before .before .before .before .before .before .before) .pre .1 .1) ((c .before .before .before .before .before .before .before .before .before .before .before .before .before .before .before .before) .args .f) ((c .before .before .before .before .before .before .before .before .before .before .before .before .before .before .before .before) .args .g) ((c .before .before .before .before .before .before .before .before .before .before .before .before .before .before .before .before) .pre .1 .2) ((c .before .before .before .before .before .before .before .before .before .before .before .before .before .before .before .before) .pre .1 .3) (c .before .before .before .before .before .before .before .before .before .before .before .before .before .test-at .ensures) (c .before .before .before .before .before .before .before .before .before .before .before .before .choice-at .ensures) in
+    let o = w .1 (c .before .before .before .before .before .before .before .before .before .before .before .if1 .left) in
+    let Q = c .before .before .before .before .before .choose .ensures in
+    high-stops _ _ _ _ _ _ _ _ _ _ _ o _ Q (c .if3 .taken)
+
+choose-choose-requires-2 : (t : ℕ) → choose-lts.Need-choose-requires-2 (choose-claims t) (choose-at t) choose.Post
+choose-choose-requires-2 t c κs =
+    let w = choice-goes ((c .before .before .before .before .before .before .before .before .before .before .before .before .before .before .before .before .before .before) .pre .1 .0) ((c .before .before .before .before .before .before .before .before .before .before .before .before .before .before .before .before .before .before) .pre .1 .1) ((c .before .before .before .before .before .before .before .before .before .before .before .before .before .before .before .before .before .before) .args .f) ((c .before .before .before .before .before .before .before .before .before .before .before .before .before .before .before .before .before .before) .args .g) ((c .before .before .before .before .before .before .before .before .before .before .before .before .before .before .before .before .before .before) .pre .1 .2) ((c .before .before .before .before .before .before .before .before .before .before .before .before .before .before .before .before .before .before) .pre .1 .3) (c .before .before .before .before .before .before .before .before .before .before .before .before .before .before .before .test-at .ensures) (c .before .before .before .before .before .before .before .before .before .before .before .before .before .before .choice-at .ensures) in
+    let o = w .1 (c .before .before .before .before .before .before .before .before .before .before .before .before .before .if1 .left) in
+    let Q = c .before .before .before .before .before .before .before .choose .ensures in
+    (omega (arith, o .low, (c .before .before .before .before .before .before .before .before .before .before .before .before .before .before .before .before .before .before) .pre .0), (Q .table, names-more (Q .more) ((c .before .before .before .before .before .before .before .before .before .before .before .before .before .before .before .before .before .before) .pre .1 .1), lt-of-lt-of-le (o .fl) (Q .more), lt-of-lt-of-le (o .gl) (Q .more)))
+
+choose-same-length-7 : (t : ℕ) → choose-lts.Need-same-length-7 (choose-claims t) (choose-at t) choose.Post
+choose-same-length-7 t c = search needs
+
+choose-same-length-8 : (t : ℕ) → choose-lts.Need-same-length-8 (choose-claims t) (choose-at t) choose.Post
+choose-same-length-8 t c = search needs
+
+choose-returns-4 : (t : ℕ) → choose-lts.Need-returns-4 (choose-claims t) (choose-at t) choose.Post
+choose-returns-4 t c =
+    let w = choice-goes ((c .before .before .before .before .before .before .before .before .before .before .before .before .before .before .before .before .before .before .before .before .before .before .before .before) .pre .1 .0) ((c .before .before .before .before .before .before .before .before .before .before .before .before .before .before .before .before .before .before .before .before .before .before .before .before) .pre .1 .1) ((c .before .before .before .before .before .before .before .before .before .before .before .before .before .before .before .before .before .before .before .before .before .before .before .before) .args .f) ((c .before .before .before .before .before .before .before .before .before .before .before .before .before .before .before .before .before .before .before .before .before .before .before .before) .args .g) ((c .before .before .before .before .before .before .before .before .before .before .before .before .before .before .before .before .before .before .before .before .before .before .before .before) .pre .1 .2) ((c .before .before .before .before .before .before .before .before .before .before .before .before .before .before .before .before .before .before .before .before .before .before .before .before) .pre .1 .3) (c .before .before .before .before .before .before .before .before .before .before .before .before .before .before .before .before .before .before .before .before .before .test-at .ensures) (c .before .before .before .before .before .before .before .before .before .before .before .before .before .before .before .before .before .before .before .before .choice-at .ensures) in
+    let o = w .1 (c .before .before .before .before .before .before .before .before .before .before .before .before .before .before .before .before .before .before .before .if1 .left) in
+    let Q = c .before .before .before .before .before .before .before .before .before .before .before .before .before .choose .ensures in
+    let S = choice-kept (grown Q) ((c .before .before .before .before .before .before .before .before .before .before .before .before .before .before .before .before .before .before .before .before .before .before .before .before) .pre .1 .1) (treeAt (c .before .before .before .before .before .before .before .before .before .before .before .before .before .choose .last .0) (c .before .before .before .before .before .before .before .before .before .before .before .before .before .choose .result .count) (c .before .before .before .before .before .before .before .before .before .before .before .before .before .before .before .before .before .before .before .before .choice-at .result .fl)) (treeAt (c .before .before .before .before .before .before .before .before .before .before .before .before .before .choose .last .0) (c .before .before .before .before .before .before .before .before .before .before .before .before .before .choose .result .count) (c .before .before .before .before .before .before .before .before .before .before .before .before .before .before .before .before .before .before .before .before .choice-at .result .gl)) (c .before .before .before .before .before .choose2 .ensures) in
+    low-stops _ _ _ _ _ _ _ _ _ _ _ o _ Q (c .before .before .before .before .before .before .before .before .if3 .left) _ _ _ S (c .if4 .taken)
+
+choose-join-requires : (t : ℕ) → choose-lts.Need-join-requires (choose-claims t) (choose-at t) choose.Post
+choose-join-requires t c κs =
+    let w = choice-goes ((c .before .before .before .before .before .before .before .before .before .before .before .before .before .before .before .before .before .before .before .before .before .before .before .before .before .before) .pre .1 .0) ((c .before .before .before .before .before .before .before .before .before .before .before .before .before .before .before .before .before .before .before .before .before .before .before .before .before .before) .pre .1 .1) ((c .before .before .before .before .before .before .before .before .before .before .before .before .before .before .before .before .before .before .before .before .before .before .before .before .before .before) .args .f) ((c .before .before .before .before .before .before .before .before .before .before .before .before .before .before .before .before .before .before .before .before .before .before .before .before .before .before) .args .g) ((c .before .before .before .before .before .before .before .before .before .before .before .before .before .before .before .before .before .before .before .before .before .before .before .before .before .before) .pre .1 .2) ((c .before .before .before .before .before .before .before .before .before .before .before .before .before .before .before .before .before .before .before .before .before .before .before .before .before .before) .pre .1 .3) (c .before .before .before .before .before .before .before .before .before .before .before .before .before .before .before .before .before .before .before .before .before .before .before .test-at .ensures) (c .before .before .before .before .before .before .before .before .before .before .before .before .before .before .before .before .before .before .before .before .before .before .choice-at .ensures) in
+    let o = w .1 (c .before .before .before .before .before .before .before .before .before .before .before .before .before .before .before .before .before .before .before .before .before .if1 .left) in
+    let Q = c .before .before .before .before .before .before .before .before .before .before .before .before .before .before .before .choose .ensures in
+    let S = choice-kept (grown Q) ((c .before .before .before .before .before .before .before .before .before .before .before .before .before .before .before .before .before .before .before .before .before .before .before .before .before .before) .pre .1 .1) (treeAt (c .before .before .before .before .before .before .before .before .before .before .before .before .before .before .before .choose .last .0) (c .before .before .before .before .before .before .before .before .before .before .before .before .before .before .before .choose .result .count) (c .before .before .before .before .before .before .before .before .before .before .before .before .before .before .before .before .before .before .before .before .before .before .choice-at .result .fl)) (treeAt (c .before .before .before .before .before .before .before .before .before .before .before .before .before .before .before .choose .last .0) (c .before .before .before .before .before .before .before .before .before .before .before .before .before .before .before .choose .result .count) (c .before .before .before .before .before .before .before .before .before .before .before .before .before .before .before .before .before .before .before .before .before .before .choice-at .result .gl)) (c .before .before .before .before .before .before .before .choose2 .ensures) in
+    (S .table .bare, root-on _ _ _ _ _ _ _ _ _ _ _ o _ Q (c .before .before .before .before .before .before .before .before .before .before .if3 .left) _ _ _ S, high-in _ _ _ _ _ _ _ _ _ _ _ o _ Q (c .before .before .before .before .before .before .before .before .before .before .if3 .left) _ _ _ S, S .within (c .before .before .if4 .left))
+
+choose-same-length-9 : (t : ℕ) → choose-lts.Need-same-length-9 (choose-claims t) (choose-at t) choose.Post
+choose-same-length-9 t c = search needs
+
+choose-same-length-10 : (t : ℕ) → choose-lts.Need-same-length-10 (choose-claims t) (choose-at t) choose.Post
+choose-same-length-10 t c = search needs
+
+choose-returns-5 : (t : ℕ) → choose-lts.Need-returns-5 (choose-claims t) (choose-at t) choose.Post
+choose-returns-5 t c =
+    let w = choice-goes ((c .before .before .before .before .before .before .before .before .before .before .before .before .before .before .before .before .before .before .before .before .before .before .before .before .before .before .before .before .before .before .before .before) .pre .1 .0) ((c .before .before .before .before .before .before .before .before .before .before .before .before .before .before .before .before .before .before .before .before .before .before .before .before .before .before .before .before .before .before .before .before) .pre .1 .1) ((c .before .before .before .before .before .before .before .before .before .before .before .before .before .before .before .before .before .before .before .before .before .before .before .before .before .before .before .before .before .before .before .before) .args .f) ((c .before .before .before .before .before .before .before .before .before .before .before .before .before .before .before .before .before .before .before .before .before .before .before .before .before .before .before .before .before .before .before .before) .args .g) ((c .before .before .before .before .before .before .before .before .before .before .before .before .before .before .before .before .before .before .before .before .before .before .before .before .before .before .before .before .before .before .before .before) .pre .1 .2) ((c .before .before .before .before .before .before .before .before .before .before .before .before .before .before .before .before .before .before .before .before .before .before .before .before .before .before .before .before .before .before .before .before) .pre .1 .3) (c .before .before .before .before .before .before .before .before .before .before .before .before .before .before .before .before .before .before .before .before .before .before .before .before .before .before .before .before .before .test-at .ensures) (c .before .before .before .before .before .before .before .before .before .before .before .before .before .before .before .before .before .before .before .before .before .before .before .before .before .before .before .before .choice-at .ensures) in
+    let o = w .1 (c .before .before .before .before .before .before .before .before .before .before .before .before .before .before .before .before .before .before .before .before .before .before .before .before .before .before .before .if1 .left) in
+    let Q = c .before .before .before .before .before .before .before .before .before .before .before .before .before .before .before .before .before .before .before .before .before .choose .ensures in
+    let S = choice-kept (grown Q) ((c .before .before .before .before .before .before .before .before .before .before .before .before .before .before .before .before .before .before .before .before .before .before .before .before .before .before .before .before .before .before .before .before) .pre .1 .1) (treeAt (c .before .before .before .before .before .before .before .before .before .before .before .before .before .before .before .before .before .before .before .before .before .choose .last .0) (c .before .before .before .before .before .before .before .before .before .before .before .before .before .before .before .before .before .before .before .before .before .choose .result .count) (c .before .before .before .before .before .before .before .before .before .before .before .before .before .before .before .before .before .before .before .before .before .before .before .before .before .before .before .before .choice-at .result .fl)) (treeAt (c .before .before .before .before .before .before .before .before .before .before .before .before .before .before .before .before .before .before .before .before .before .choose .last .0) (c .before .before .before .before .before .before .before .before .before .before .before .before .before .before .before .before .before .before .before .before .before .choose .result .count) (c .before .before .before .before .before .before .before .before .before .before .before .before .before .before .before .before .before .before .before .before .before .before .before .before .before .before .before .before .choice-at .result .gl)) (c .before .before .before .before .before .before .before .before .before .before .before .before .before .choose2 .ensures) in
+    joined _ _ _ _ _ _ _ _ _ _ _ o _ Q (c .before .before .before .before .before .before .before .before .before .before .before .before .before .before .before .before .if3 .left) _ _ _ S (c .before .before .before .before .before .before .before .before .if4 .left) _ _ _ (lifted (S .table) (c .before .before .before .before .before .join .ensures))
+
+choose-keep-requires : (t : ℕ) → choose-lts.Need-keep-requires (choose-claims t) (choose-at t) choose.Post
+choose-keep-requires t c κs =
+    let w = choice-goes ((c .before .before .before .before .before .before .before .before .before .before .before .before .before .before .before .before .before .before .before .before .before .before .before .before .before .before .before .before .before .before .before .before .before) .pre .1 .0) ((c .before .before .before .before .before .before .before .before .before .before .before .before .before .before .before .before .before .before .before .before .before .before .before .before .before .before .before .before .before .before .before .before .before) .pre .1 .1) ((c .before .before .before .before .before .before .before .before .before .before .before .before .before .before .before .before .before .before .before .before .before .before .before .before .before .before .before .before .before .before .before .before .before) .args .f) ((c .before .before .before .before .before .before .before .before .before .before .before .before .before .before .before .before .before .before .before .before .before .before .before .before .before .before .before .before .before .before .before .before .before) .args .g) ((c .before .before .before .before .before .before .before .before .before .before .before .before .before .before .before .before .before .before .before .before .before .before .before .before .before .before .before .before .before .before .before .before .before) .pre .1 .2) ((c .before .before .before .before .before .before .before .before .before .before .before .before .before .before .before .before .before .before .before .before .before .before .before .before .before .before .before .before .before .before .before .before .before) .pre .1 .3) (c .before .before .before .before .before .before .before .before .before .before .before .before .before .before .before .before .before .before .before .before .before .before .before .before .before .before .before .before .before .before .test-at .ensures) (c .before .before .before .before .before .before .before .before .before .before .before .before .before .before .before .before .before .before .before .before .before .before .before .before .before .before .before .before .before .choice-at .ensures) in
+    let o = w .1 (c .before .before .before .before .before .before .before .before .before .before .before .before .before .before .before .before .before .before .before .before .before .before .before .before .before .before .before .before .if1 .left) in
+    let Q = c .before .before .before .before .before .before .before .before .before .before .before .before .before .before .before .before .before .before .before .before .before .before .choose .ensures in
+    let S = choice-kept (grown Q) ((c .before .before .before .before .before .before .before .before .before .before .before .before .before .before .before .before .before .before .before .before .before .before .before .before .before .before .before .before .before .before .before .before .before) .pre .1 .1) (treeAt (c .before .before .before .before .before .before .before .before .before .before .before .before .before .before .before .before .before .before .before .before .before .before .choose .last .0) (c .before .before .before .before .before .before .before .before .before .before .before .before .before .before .before .before .before .before .before .before .before .before .choose .result .count) (c .before .before .before .before .before .before .before .before .before .before .before .before .before .before .before .before .before .before .before .before .before .before .before .before .before .before .before .before .before .choice-at .result .fl)) (treeAt (c .before .before .before .before .before .before .before .before .before .before .before .before .before .before .before .before .before .before .before .before .before .before .choose .last .0) (c .before .before .before .before .before .before .before .before .before .before .before .before .before .before .before .before .before .before .before .before .before .before .choose .result .count) (c .before .before .before .before .before .before .before .before .before .before .before .before .before .before .before .before .before .before .before .before .before .before .before .before .before .before .before .before .before .choice-at .result .gl)) (c .before .before .before .before .before .before .before .before .before .before .before .before .before .before .choose2 .ensures) in
+    let J = joined _ _ _ _ _ _ _ _ _ _ _ o _ Q (c .before .before .before .before .before .before .before .before .before .before .before .before .before .before .before .before .before .if3 .left) _ _ _ S (c .before .before .before .before .before .before .before .before .before .if4 .left) _ _ _ (lifted (S .table) (c .before .before .before .before .before .before .join .ensures)) in
+    keepable J (c .before .if5 .left) (choice-key ((c .before .before .before .before .before .before .before .before .before .before .before .before .before .before .before .before .before .before .before .before .before .before .before .before .before .before .before .before .before .before .before .before .before) .pre .1 .0) ((c .before .before .before .before .before .before .before .before .before .before .before .before .before .before .before .before .before .before .before .before .before .before .before .before .before .before .before .before .before .before .before .before .before) .pre .1 .1) ((c .before .before .before .before .before .before .before .before .before .before .before .before .before .before .before .before .before .before .before .before .before .before .before .before .before .before .before .before .before .before .before .before .before) .args .f) ((c .before .before .before .before .before .before .before .before .before .before .before .before .before .before .before .before .before .before .before .before .before .before .before .before .before .before .before .before .before .before .before .before .before) .args .g) ((c .before .before .before .before .before .before .before .before .before .before .before .before .before .before .before .before .before .before .before .before .before .before .before .before .before .before .before .before .before .before .before .before .before) .pre .1 .2) ((c .before .before .before .before .before .before .before .before .before .before .before .before .before .before .before .before .before .before .before .before .before .before .before .before .before .before .before .before .before .before .before .before .before) .pre .1 .3))
+
+choose-same-length-11 : (t : ℕ) → choose-lts.Need-same-length-11 (choose-claims t) (choose-at t) choose.Post
+choose-same-length-11 t c =
+    search (needs, c .before .before .before .before .before .before .before .before .before .before .before .before .before .before .before .before .before .before .before .before .before .before .before .before .before .choose .kept, c .before .before .before .before .before .before .before .before .before .before .before .before .before .before .before .before .before .choose2 .kept, c .before .before .before .before .before .before .before .before .before .join .kept, c .before .before .keep .kept)
+
+choose-same-length-12 : (t : ℕ) → choose-lts.Need-same-length-12 (choose-claims t) (choose-at t) choose.Post
+choose-same-length-12 t c =
+    search (needs, c .before .before .before .before .before .before .before .before .before .before .before .before .before .before .before .before .before .before .before .before .before .before .before .before .before .choose .kept, c .before .before .before .before .before .before .before .before .before .before .before .before .before .before .before .before .before .choose2 .kept, c .before .before .before .before .before .before .before .before .before .join .kept, c .before .before .keep .kept)
+
+choose-returns-6 : (t : ℕ) → choose-lts.Need-returns-6 (choose-claims t) (choose-at t) choose.Post
+choose-returns-6 t c =
+    let w = choice-goes ((c .before .before .before .before .before .before .before .before .before .before .before .before .before .before .before .before .before .before .before .before .before .before .before .before .before .before .before .before .before .before .before .before .before .before .before .before) .pre .1 .0) ((c .before .before .before .before .before .before .before .before .before .before .before .before .before .before .before .before .before .before .before .before .before .before .before .before .before .before .before .before .before .before .before .before .before .before .before .before) .pre .1 .1) ((c .before .before .before .before .before .before .before .before .before .before .before .before .before .before .before .before .before .before .before .before .before .before .before .before .before .before .before .before .before .before .before .before .before .before .before .before) .args .f) ((c .before .before .before .before .before .before .before .before .before .before .before .before .before .before .before .before .before .before .before .before .before .before .before .before .before .before .before .before .before .before .before .before .before .before .before .before) .args .g) ((c .before .before .before .before .before .before .before .before .before .before .before .before .before .before .before .before .before .before .before .before .before .before .before .before .before .before .before .before .before .before .before .before .before .before .before .before) .pre .1 .2) ((c .before .before .before .before .before .before .before .before .before .before .before .before .before .before .before .before .before .before .before .before .before .before .before .before .before .before .before .before .before .before .before .before .before .before .before .before) .pre .1 .3) (c .before .before .before .before .before .before .before .before .before .before .before .before .before .before .before .before .before .before .before .before .before .before .before .before .before .before .before .before .before .before .before .before .before .test-at .ensures) (c .before .before .before .before .before .before .before .before .before .before .before .before .before .before .before .before .before .before .before .before .before .before .before .before .before .before .before .before .before .before .before .before .choice-at .ensures) in
+    let o = w .1 (c .before .before .before .before .before .before .before .before .before .before .before .before .before .before .before .before .before .before .before .before .before .before .before .before .before .before .before .before .before .before .before .if1 .left) in
+    let Q = c .before .before .before .before .before .before .before .before .before .before .before .before .before .before .before .before .before .before .before .before .before .before .before .before .before .choose .ensures in
+    let S = choice-kept (grown Q) ((c .before .before .before .before .before .before .before .before .before .before .before .before .before .before .before .before .before .before .before .before .before .before .before .before .before .before .before .before .before .before .before .before .before .before .before .before) .pre .1 .1) (treeAt (c .before .before .before .before .before .before .before .before .before .before .before .before .before .before .before .before .before .before .before .before .before .before .before .before .before .choose .last .0) (c .before .before .before .before .before .before .before .before .before .before .before .before .before .before .before .before .before .before .before .before .before .before .before .before .before .choose .result .count) (c .before .before .before .before .before .before .before .before .before .before .before .before .before .before .before .before .before .before .before .before .before .before .before .before .before .before .before .before .before .before .before .before .choice-at .result .fl)) (treeAt (c .before .before .before .before .before .before .before .before .before .before .before .before .before .before .before .before .before .before .before .before .before .before .before .before .before .choose .last .0) (c .before .before .before .before .before .before .before .before .before .before .before .before .before .before .before .before .before .before .before .before .before .before .before .before .before .choose .result .count) (c .before .before .before .before .before .before .before .before .before .before .before .before .before .before .before .before .before .before .before .before .before .before .before .before .before .before .before .before .before .before .before .before .choice-at .result .gl)) (c .before .before .before .before .before .before .before .before .before .before .before .before .before .before .before .before .before .choose2 .ensures) in
+    let J = joined _ _ _ _ _ _ _ _ _ _ _ o _ Q (c .before .before .before .before .before .before .before .before .before .before .before .before .before .before .before .before .before .before .before .before .if3 .left) _ _ _ S (c .before .before .before .before .before .before .before .before .before .before .before .before .if4 .left) _ _ _ (lifted (S .table) (c .before .before .before .before .before .before .before .before .before .join .ensures)) in
+    choice-stored ((c .before .before .before .before .before .before .before .before .before .before .before .before .before .before .before .before .before .before .before .before .before .before .before .before .before .before .before .before .before .before .before .before .before .before .before .before) .pre .1 .0) ((c .before .before .before .before .before .before .before .before .before .before .before .before .before .before .before .before .before .before .before .before .before .before .before .before .before .before .before .before .before .before .before .before .before .before .before .before) .pre .1 .1) ((c .before .before .before .before .before .before .before .before .before .before .before .before .before .before .before .before .before .before .before .before .before .before .before .before .before .before .before .before .before .before .before .before .before .before .before .before) .args .f) ((c .before .before .before .before .before .before .before .before .before .before .before .before .before .before .before .before .before .before .before .before .before .before .before .before .before .before .before .before .before .before .before .before .before .before .before .before) .args .g) ((c .before .before .before .before .before .before .before .before .before .before .before .before .before .before .before .before .before .before .before .before .before .before .before .before .before .before .before .before .before .before .before .before .before .before .before .before) .pre .1 .2) ((c .before .before .before .before .before .before .before .before .before .before .before .before .before .before .before .before .before .before .before .before .before .before .before .before .before .before .before .before .before .before .before .before .before .before .before .before) .pre .1 .3) J (c .before .before .before .before .if5 .left) (c .before .before .keep .ensures)
+
+pub +choose-spec : {M : Type 1} → statement M
++choose-spec = close μ-choose λ t. choose-lts.spec (choose-claims t)
+    (choose-at t)
+    choose.Post
+    (choose-test-at-requires t)
+    (choose-choice-at-requires t)
+    (choose-test-at-requires-2 t)
+    (choose-join-test-requires t)
+    (choose-same-length t)
+    (choose-same-length-2 t)
+    (choose-returns t)
+    (choose-look-requires t)
+    (choose-sub-t29 t)
+    (choose-same-length-3 t)
+    (choose-same-length-4 t)
+    (choose-returns-2 t)
+    (choose-choose-requires t)
+    (choose-same-length-5 t)
+    (choose-same-length-6 t)
+    (choose-returns-3 t)
+    (choose-choose-requires-2 t)
+    (choose-same-length-7 t)
+    (choose-same-length-8 t)
+    (choose-returns-4 t)
+    (choose-join-requires t)
+    (choose-same-length-9 t)
+    (choose-same-length-10 t)
+    (choose-returns-5 t)
+    (choose-keep-requires t)
+    (choose-same-length-11 t)
+    (choose-same-length-12 t)
+    (choose-returns-6 t)

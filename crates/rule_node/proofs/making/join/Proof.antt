@@ -1,0 +1,30 @@
+-- `rule_node::making::join` meets its contract.
+use mathlib.Core.Path.{ap}
+use Rattle.table.specs.declared.Node.{Node}
+use Rattle.theory.specs.Rules.{node}
+use Rattle.rule_node.specs.Nodes.{testOf, treeAt}
+use Rattle.rule_node.proofs.Joining.{proper-as}
+use Rattle.rule_node.proofs.Outcomes.{grew-as}
+use borrow.Author.Needs.{needs}
+use Rattle.rule_node.proofs.making.join.Statement.{statement}
+use Rattle.rule_node.proofs.making.join.Tie as tie
+
+get-requires : tie.Need-get-requires
+get-requires c κs = search needs
+
+join-test-requires : tie.Need-join-test-requires
+join-test-requires c κs =
+    ((c .before .before .before .before .before) .pre .0, proper-as ((c .before .before .before .before .before) .pre .0) ((c .before .before .before .before .before) .pre .1) (c .before .before .get .ensures), (c .before .before .before .before .before) .pre .2, (c .before .before .before .before .before) .pre .3)
+
+same-length : tie.Need-same-length
+same-length c = search needs
+
+same-length-2 : tie.Need-same-length-2
+same-length-2 c = search needs
+
+returns : tie.Need-returns
+returns c =
+    grew-as (ap (λ (x : Node). node (testOf x) (treeAt ((c .before .before .before .before .before .before .before .before .before) .args .nodes .now) ((c .before .before .before .before .before .before .before .before .before) .args .count) ((c .before .before .before .before .before .before .before .before .before) .args .h)) (treeAt ((c .before .before .before .before .before .before .before .before .before) .args .nodes .now) ((c .before .before .before .before .before .before .before .before .before) .args .count) ((c .before .before .before .before .before .before .before .before .before) .args .l))) (c .before .before .before .before .before .before .get .ensures)) (c .before .before .before .join-test .ensures)
+
+pub join-spec : {M : Type 1} → statement M
+join-spec = tie.close (tie.spec get-requires join-test-requires same-length same-length-2 returns)

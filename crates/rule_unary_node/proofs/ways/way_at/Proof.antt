@@ -1,0 +1,46 @@
+use Rattle.rule_tests.proofs.Comparing.{at-as}
+use Rattle.rule_unary_node.proofs.Passing.{way-other, way-side}
+use borrow.Author.Needs.{needs}
+use Rattle.rule_unary_node.proofs.ways.way_at.Statement.{statement}
+use Rattle.rule_unary_node.proofs.ways.way_at.Tie as tie
+
+get-requires : tie.Need-get-requires
+get-requires c κs = search needs
+
+below-requires : tie.Need-below-requires
+below-requires c κs =
+    at-as (c .get .ensures) ((c .before) .pre .0)
+
+way-requires : tie.Need-way-requires
+way-requires c κs = search needs
+
+returns : tie.Need-returns
+returns c =
+    way-other ((c .before .before .before .before) .args .op) ((c .before .before .before .before) .args .p) (c .before .before .before .get .ensures) (c .before .before .below .ensures) (c .way .ensures) (c .before .if1 .taken)
+
+later-requires : tie.Need-later-requires
+later-requires c κs =
+    (c .before .before .before) .pre .1 (c .if1 .left)
+
+order-requires : tie.Need-order-requires
+order-requires c κs = search needs
+
+way-requires-2 : tie.Need-way-requires-2
+way-requires-2 c κs = search needs
+
+returns-2 : tie.Need-returns-2
+returns-2 c =
+    way-side ((c .before .before .before .before .before .before) .args .op) ((c .before .before .before .before .before .before) .args .p) (c .before .before .before .before .before .get .ensures) (c .before .before .before .before .below .ensures) (c .before .before .later .ensures) (c .before .order .ensures) (c .way2 .ensures) (c .before .before .before .if1 .left)
+
+pub way-at-spec : {M : Type 1} → statement M
+way-at-spec =
+    tie.close
+    (tie.spec
+    get-requires
+    below-requires
+    way-requires
+    returns
+    later-requires
+    order-requires
+    way-requires-2
+    returns-2)

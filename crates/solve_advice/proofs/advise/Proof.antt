@@ -1,0 +1,66 @@
+-- `solve_advice::advise` meets its contract.
+use mathlib.Core.Path.{refl}
+use Rattle.value_walk.specs.Out.{out}
+use Rattle.value_walk.specs.State.{asked}
+use Rattle.theorems.specs.laws.Advice.{refusal-given, value-given}
+use borrow.Author.Needs.{needs}
+use Rattle.solve_advice.proofs.advise.Statement.{statement}
+use Rattle.solve_advice.proofs.advise.Tie as tie
+
+solve-requires : tie.Need-solve-requires
+solve-requires c κs = search needs
+
+same-length : tie.Need-same-length
+same-length c = search needs
+
+same-length-2 : tie.Need-same-length-2
+same-length-2 c = search needs
+
+same-length-3 : tie.Need-same-length-3
+same-length-3 c = search needs
+
+same-length-4 : tie.Need-same-length-4
+same-length-4 c = search needs
+
+returns : tie.Need-returns
+returns c =
+    let a = c .before .before .before .before .before .before .before .before .before .before .before .before .before .before .before .before .before .before .args in
+    refusal-given (a .model .now) (a .horizon) (a .nodes .now) (a .stages .now) (a .work .now) (a .peaks .now) (c .before .before .before .before .before .before .before .before .before .solve .ensures) (a .steps) (asked (a .q)) (c .if1 .taken)
+
+value-requires : tie.Need-value-requires
+value-requires c κs = search needs
+
+same-length-5 : tie.Need-same-length-5
+same-length-5 c = search needs
+
+same-length-6 : tie.Need-same-length-6
+same-length-6 c = search needs
+
+same-length-7 : tie.Need-same-length-7
+same-length-7 c = search needs
+
+same-length-8 : tie.Need-same-length-8
+same-length-8 c = search needs
+
+returns-2 : tie.Need-returns-2
+returns-2 c =
+    let a = c .before .before .before .before .before .before .before .before .before .before .before .before .before .before .before .before .before .before .before .before .before .args in
+    value-given (a .model .now) (a .horizon) (a .nodes .now) (a .stages .now) (a .work .now) (a .peaks .now) (c .before .before .before .before .before .before .before .before .before .before .before .before .solve .ensures) (a .steps) (asked (a .q)) _ (out (c .value .result)) (c .before .before .before .if1 .left)
+    refl (c .value .ensures)
+
+pub advise-spec : {M : Type 1} → statement M
+advise-spec =
+    tie.close
+    (tie.spec
+    solve-requires
+    same-length
+    same-length-2
+    same-length-3
+    same-length-4
+    returns
+    value-requires
+    same-length-5
+    same-length-6
+    same-length-7
+    same-length-8
+    returns-2)

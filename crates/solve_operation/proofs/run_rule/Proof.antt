@@ -1,0 +1,87 @@
+use Prim.Native.Nat.{_-_}
+use native.Mathlib.Omega.{arith}
+use borrow.Author.Needs.{needs}
+use Rattle.solve_operation.proofs.Parts.{Trying, trying-starts, trying-asks, trying-again, whole-asks, whole-ends, part-ends}
+use Rattle.solve_operation.proofs.run_rule.Statement.{statement}
+use Rattle.solve_operation.proofs.run_rule.Tie as tie
+
+abbrev Inv-loop : tie.InvT-loop
+Inv-loop nodes₀ work₀ cap count roots rule part₀ nodes work part = Trying cap nodes₀ work₀ count nodes work part
+
+abbrev μ-loop : tie.MeasureT-loop
+μ-loop nodes₀ work₀ cap count roots rule part₀ nodes work part = cap - part
+
+first-part-requires : tie.Need-first-part-requires Inv-loop μ-loop
+first-part-requires c κs =
+    let z = c .before .before .pre .0 in
+    (z .some, z .few, z .room)
+
+loop-holds : tie.Need-loop-holds Inv-loop μ-loop
+loop-holds c = trying-starts (c .before .before .before .pre .0) (c .before .before .before .pre .1) (c .first-part .ensures)
+
+attempt-requires : tie.Need-attempt-requires Inv-loop μ-loop
+attempt-requires c κs =
+    let s = c .before .before .before .before .before .before .before in
+    let t = trying-asks (c .before .before .before .loop .inv) in
+    (t .0, t .1, s .pre .2, s .pre .3)
+
+same-length : tie.Need-same-length Inv-loop μ-loop
+same-length c = search needs
+
+same-length-2 : tie.Need-same-length-2 Inv-loop μ-loop
+same-length-2 c = search needs
+
+returns : tie.Need-returns Inv-loop μ-loop
+returns c =
+    let s = c .before .before .before .before .before .before .before .before .before .before .before .before .before in
+    part-ends (c .before .before .before .before .before .before .before .before .before .loop .inv) (s .args .roots .now) (s .args .rule) (c .before .before .before .before .before .attempt .ensures) (c .before .before .before .before .before .attempt .kept .0) (c .before .before .before .before .before .attempt .kept .1 .0) (c .if1 .taken)
+
+wider-part-requires : tie.Need-wider-part-requires Inv-loop μ-loop
+wider-part-requires c κs =
+    let s = c .before .before .before .before .before .before .before .before .before .before .before .before .before in
+    (c .before .before .before .before .before .before .before .before .before .loop .inv .some, s .pre .0 .few, c .before .before .before .before .before .before .before .before .loop-test .taken)
+
+loop-less : tie.Need-loop-less Inv-loop μ-loop
+loop-less c = omega (arith, c .wider-part .ensures .0, c .before .before .before .before .before .before .before .before .before .loop-test .taken)
+
+loop-again : tie.Need-loop-again Inv-loop μ-loop
+loop-again c =
+    let s = c .before .before .before .before .before .before .before .before .before .before .before .before .before .before in
+    trying-again (c .before .before .before .before .before .before .before .before .before .before .loop .inv) (s .args .roots .now) (s .args .rule) (c .before .before .before .before .before .before .attempt .ensures) (c .before .before .before .before .before .before .attempt .kept .0) (c .before .before .before .before .before .before .attempt .kept .1 .0) (c .wider-part .ensures)
+
+attempt-requires-2 : tie.Need-attempt-requires-2 Inv-loop μ-loop
+attempt-requires-2 c κs =
+    let s = c .before .before .before .before .before .before .before in
+    let t = whole-asks (c .before .before .before .loop .inv) in
+    (t .0, t .1, s .pre .2, s .pre .3)
+
+same-length-3 : tie.Need-same-length-3 Inv-loop μ-loop
+same-length-3 c = search needs
+
+same-length-4 : tie.Need-same-length-4 Inv-loop μ-loop
+same-length-4 c = search needs
+
+returns-2 : tie.Need-returns-2 Inv-loop μ-loop
+returns-2 c =
+    let s = c .before .before .before .before .before .before .before .before .before .before .before in
+    whole-ends (c .before .before .before .before .before .before .before .loop .inv) (s .args .roots .now) (s .args .rule) (c .before .before .before .attempt2 .ensures)
+
+pub run-rule-spec : {M : Type 1} → statement M
+run-rule-spec =
+    tie.close
+    (tie.spec
+    Inv-loop
+    μ-loop
+    first-part-requires
+    loop-holds
+    attempt-requires
+    same-length
+    same-length-2
+    returns
+    wider-part-requires
+    loop-less
+    loop-again
+    attempt-requires-2
+    same-length-3
+    same-length-4
+    returns-2)

@@ -1,0 +1,28 @@
+-- `solve_stages::counted` meets its contract.
+use borrow.Author.Needs.{needs}
+use Rattle.solve_stages.proofs.StagesCounted.{joined-as}
+use Rattle.solve_stages.proofs.counted.Statement.{statement}
+use Rattle.solve_stages.proofs.counted.Tie as tie
+use Rattle.solve_stages.proofs.counted.Reads as reads
+use Rattle.solve_stages.proofs.counted.Lts as lts
+use Rattle.solve_peaks.proofs.raise_peak.Reads as raise-peak-reads
+use Rattle.solve_operation.proofs.larger.Reads as larger-reads
+
+larger-requires : tie.Need-larger-requires
+larger-requires c κs = search needs
+
+raise-peak-requires : tie.Need-raise-peak-requires
+raise-peak-requires c κs = (c .before .before .before .before .before .pre .0, c .before .before .before .before .before .pre .1 (c .before .if1 .taken))
+
+same-length : tie.Need-same-length
+same-length c = search needs
+
+returns : tie.Need-returns
+returns c = (joined-as (c .before .before .before .before .before .before .before .before .args .run) (c .before .before .before .before .before .before .before .before .args .own) (c .before .before .before .before .before .before .larger .ensures), λ ok. c .before .before .raise-peak .ensures)
+
+returns-2 : tie.Need-returns-2
+returns-2 c = (joined-as (c .before .before .before .before .args .run) (c .before .before .before .before .args .own) (c .before .before .larger .ensures), λ ok. absurd (c .if1 .left ok))
+
+pub counted-spec : {M : Type 1} → statement M
+counted-spec =
+    tie.close (tie.spec larger-requires raise-peak-requires same-length returns returns-2)

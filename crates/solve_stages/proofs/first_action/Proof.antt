@@ -1,0 +1,43 @@
+-- `solve_stages::first_action` meets its contract.
+use borrow.Author.Needs.{needs}
+use Rattle.solve_laws.specs.Peaks.{total-own}
+use Rattle.solve_stages.proofs.StagesCounted.{own-fits, action-counted}
+use Rattle.solve_stages.proofs.first_action.Statement.{statement}
+use Rattle.solve_stages.proofs.first_action.Tie as tie
+use Rattle.solve_stages.proofs.first_action.Reads as reads
+use Rattle.solve_stages.proofs.first_action.Lts as lts
+use Rattle.solve_stages.proofs.counted.Reads as counted-reads
+use Rattle.solve_total.proofs.total.Reads as total-reads
+
+total-requires : tie.Need-total-requires
+total-requires c κs = search needs
+
+counted-requires : tie.Need-counted-requires
+counted-requires c κs = (c .before .before .before .before .before .before .before .before .before .before .before .before .before .before .pre .1, own-fits (c .before .before .before .before .before .before .total .ensures))
+
+same-length : tie.Need-same-length
+same-length c = search needs
+
+same-length-2 : tie.Need-same-length-2
+same-length-2 c = search needs
+
+same-length-3 : tie.Need-same-length-3
+same-length-3 c = search needs
+
+same-length-4 : tie.Need-same-length-4
+same-length-4 c = search needs
+
+returns : tie.Need-returns
+returns c = action-counted (c .before .before .before .before .before .before .before .before .before .total .ensures) (c .before .before .before .before .before .before .before .before .before .before .before .before .before .before .before .before .before .args .backup .action) (c .before .before .before .before .before .before .before .before .before .before .before .before .before .before .before .before .before .args .run) (λ K. total-own _ _ K _ _ _) (c .before .before .counted .ensures .0) (c .before .before .counted .ensures .1)
+
+pub first-action-spec : {M : Type 1} → statement M
+first-action-spec =
+    tie.close
+    (tie.spec
+    total-requires
+    counted-requires
+    same-length
+    same-length-2
+    same-length-3
+    same-length-4
+    returns)

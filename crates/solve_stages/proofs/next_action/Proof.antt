@@ -1,0 +1,42 @@
+-- `solve_stages::next_action` meets its contract.
+use borrow.Author.Needs.{needs}
+use Rattle.solve_stages.proofs.StagesCounted.{own-fits, action-counted, bettered-own}
+use Rattle.solve_stages.proofs.next_action.Statement.{statement}
+use Rattle.solve_stages.proofs.next_action.Tie as tie
+use Rattle.solve_stages.proofs.next_action.Reads as reads
+use Rattle.solve_stages.proofs.next_action.Lts as lts
+use Rattle.solve_stages.proofs.better.Reads as better-reads
+use Rattle.solve_stages.proofs.counted.Reads as counted-reads
+
+better-requires : tie.Need-better-requires
+better-requires c κs = search needs
+
+counted-requires : tie.Need-counted-requires
+counted-requires c κs = (c .before .before .before .before .before .before .before .before .before .before .before .before .before .before .pre .1, own-fits (c .before .before .before .before .before .before .better .ensures))
+
+same-length : tie.Need-same-length
+same-length c = search needs
+
+same-length-2 : tie.Need-same-length-2
+same-length-2 c = search needs
+
+same-length-3 : tie.Need-same-length-3
+same-length-3 c = search needs
+
+same-length-4 : tie.Need-same-length-4
+same-length-4 c = search needs
+
+returns : tie.Need-returns
+returns c = action-counted (c .before .before .before .before .before .before .before .before .before .better .ensures) (c .before .before .before .before .before .before .before .before .before .before .before .before .before .before .before .before .before .args .backup .action) (c .before .before .before .before .before .before .before .before .before .before .before .before .before .before .before .before .before .args .run) (λ K. bettered-own _ _ _ _ _ K) (c .before .before .counted .ensures .0) (c .before .before .counted .ensures .1)
+
+pub next-action-spec : {M : Type 1} → statement M
+next-action-spec =
+    tie.close
+    (tie.spec
+    better-requires
+    counted-requires
+    same-length
+    same-length-2
+    same-length-3
+    same-length-4
+    returns)

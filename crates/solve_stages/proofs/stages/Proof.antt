@@ -1,0 +1,137 @@
+-- `solve_stages::stages` meets its contract.
+use mathlib.Core.Path.{_≡_, refl, _∙_}
+use Prim.Native.Nat.{_-_}
+use native.Mathlib.Omega.{arith}
+use lib.ListN.{length}
+use Rattle.solve_stages.proofs.StagesAll.{Staging, staging-starts, staging-due, staging-stops, staging-on, staging-ends}
+use Rattle.solve_stages.proofs.stages.Statement.{statement}
+use Rattle.solve_stages.proofs.stages.Tie as tie
+
+abbrev Inv-loop : tie.InvT-loop
+Inv-loop model horizon nodes₀ work₀ cap roots₀ peaks₀ size r₀ h₀ nodes work roots peaks r h =
+    Staging model cap horizon nodes₀ roots₀ size r₀ peaks₀ nodes work roots r peaks h × (length nodes ≡ length nodes₀) × (length work ≡ length work₀) × (length roots ≡ length roots₀) × (length peaks ≡ length peaks₀)
+
+abbrev μ-loop : tie.MeasureT-loop
+μ-loop model horizon nodes₀ work₀ cap roots₀ peaks₀ size r₀ h₀ nodes work roots peaks r h =
+    horizon - h
+
+model-size-requires : tie.Need-model-size-requires Inv-loop μ-loop
+model-size-requires c κs =
+    tt
+
+loop-holds : tie.Need-loop-holds Inv-loop μ-loop
+loop-holds c =
+    (staging-starts (c .before .before .before .before .before .args .horizon) (c .before .before .before .before .before .args .run) (c .before .before .before .before .before .pre .0) (c .model-size .ensures .0) (c .before .before .before .before .before .args .peaks .now) (c .before .before .before .before .before .pre .1), refl, refl, refl, refl)
+
+add-t14 : tie.Need-add-t14 Inv-loop μ-loop
+add-t14 c =
+    omega (arith, c .loop-test .taken, c .before .before .before .before .before .before .before .pre .2, c .before .before .model-size .ensures .1)
+
+add-t15 : tie.Need-add-t15 Inv-loop μ-loop
+add-t15 c =
+    omega (arith, c .loop-test .taken, c .before .before .before .before .before .before .before .pre .2, c .before .before .model-size .ensures .1)
+
+add-t16 : tie.Need-add-t16 Inv-loop μ-loop
+add-t16 c =
+    omega (arith, c .loop-test .taken, c .before .before .before .before .before .before .before .pre .2, c .before .before .model-size .ensures .1)
+
+add-t17 : tie.Need-add-t17 Inv-loop μ-loop
+add-t17 c =
+    omega (arith, c .loop-test .taken, c .before .before .before .before .before .before .before .pre .2, c .before .before .model-size .ensures .1)
+
+stage-requires : tie.Need-stage-requires Inv-loop μ-loop
+stage-requires c κs = (
+  staging-due (c .before .before .before .before .before .loop .inv .0) (omega arith) (omega (arith, c .before .before .before .before .loop-test .taken)) (c .before .before .before .before .before .before .before .before .before .before .before .pre .2) (omega (arith, c .before .before .before .before .before .before .before .before .before .before .before .pre .3, c .before .before .before .before .before .loop .inv .3)),
+  refl,
+  omega (arith, c .before .before .before .before .loop-test .taken, c .before .before .before .before .before .before .before .before .before .before .before .pre .3, c .before .before .before .before .before .loop .inv .3, c .before .before .before .before .before .loop .inv .0 .place),
+  c .before .before .before .before .before .loop .inv .4 ∙ c .before .before .before .before .before .before .before .before .before .before .before .pre .4,
+)
+
+add-t26 : tie.Need-add-t26 Inv-loop μ-loop
+add-t26 c =
+    omega (arith, c .before .before .before .before .before .before .before .before .before .before .before .before .before .before .loop-test .taken, c .before .before .before .before .before .before .before .before .before .before .before .before .before .before .before .before .before .before .before .before .before .pre .2, c .before .before .before .before .before .before .before .before .before .before .before .before .before .before .before .before .model-size .ensures .1)
+
+same-length : tie.Need-same-length Inv-loop μ-loop
+same-length c =
+    c .before .before .before .before .before .before .before .before .before .stage .kept .1 .0 ∙ c .before .before .before .before .before .before .before .before .before .before .before .before .before .before .before .loop .inv .1
+
+same-length-2 : tie.Need-same-length-2 Inv-loop μ-loop
+same-length-2 c =
+    c .before .before .before .before .before .before .before .before .before .stage .kept .1 .1 .0 ∙ c .before .before .before .before .before .before .before .before .before .before .before .before .before .before .before .loop .inv .2
+
+same-length-3 : tie.Need-same-length-3 Inv-loop μ-loop
+same-length-3 c =
+    c .before .before .before .before .before .before .before .before .before .stage .kept .1 .1 .1 .1 .1 .0 ∙ c .before .before .before .before .before .before .before .before .before .before .before .before .before .before .before .loop .inv .3
+
+same-length-4 : tie.Need-same-length-4 Inv-loop μ-loop
+same-length-4 c =
+    c .before .before .before .before .before .before .before .before .before .stage .kept .1 .1 .1 .1 .1 .1 .0 ∙ c .before .before .before .before .before .before .before .before .before .before .before .before .before .before .before .loop .inv .4
+
+returns : tie.Need-returns Inv-loop μ-loop
+returns c =
+    staging-stops (c .before .before .before .before .before .before .before .before .before .before .before .before .before .before .before .loop .inv .0) (omega (arith, c .before .before .before .before .before .before .before .before .before .before .before .before .before .before .loop-test .taken)) (c .before .before .before .before .before .before .before .before .before .stage .ensures) (c .if1 .taken)
+
+add-h : tie.Need-add-h Inv-loop μ-loop
+add-h c =
+    omega (arith, c .before .before .before .before .before .before .before .before .before .before .before .before .before .before .loop-test .taken, c .before .before .before .before .before .before .before .before .before .before .before .before .before .before .before .before .before .before .before .before .before .pre .2, c .before .before .before .before .before .before .before .before .before .before .before .before .before .before .before .before .model-size .ensures .1)
+
+loop-less : tie.Need-loop-less Inv-loop μ-loop
+loop-less c =
+    omega (arith, c .before .before .before .before .before .before .before .before .before .before .before .before .before .before .loop-test .taken)
+
+loop-again : tie.Need-loop-again Inv-loop μ-loop
+loop-again c = (
+  staging-on (c .before .before .before .before .before .before .before .before .before .before .before .before .before .before .before .loop .inv .0) (omega (arith, c .before .before .before .before .before .before .before .before .before .before .before .before .before .before .loop-test .taken)) (c .before .before .before .before .before .before .before .before .before .stage .ensures) (c .if1 .left) (omega (arith, c .before .before .before .before .before .before .before .before .before .before .before .before .before .before .loop-test .taken, c .before .before .before .before .before .before .before .before .before .before .before .before .before .before .before .before .before .before .before .before .before .pre .3, c .before .before .before .before .before .before .before .before .before .before .before .before .before .before .before .loop .inv .3, c .before .before .before .before .before .before .before .before .before .before .before .before .before .before .before .loop .inv .0 .place, c .before .before .before .before .before .before .before .before .before .stage .kept .1 .1 .1 .1 .1 .0)),
+  c .before .before .before .before .before .before .before .before .before .stage .kept .1 .0 ∙ c .before .before .before .before .before .before .before .before .before .before .before .before .before .before .before .loop .inv .1,
+  c .before .before .before .before .before .before .before .before .before .stage .kept .1 .1 .0 ∙ c .before .before .before .before .before .before .before .before .before .before .before .before .before .before .before .loop .inv .2,
+  c .before .before .before .before .before .before .before .before .before .stage .kept .1 .1 .1 .1 .1 .0 ∙ c .before .before .before .before .before .before .before .before .before .before .before .before .before .before .before .loop .inv .3,
+  c .before .before .before .before .before .before .before .before .before .stage .kept .1 .1 .1 .1 .1 .1 .0 ∙ c .before .before .before .before .before .before .before .before .before .before .before .before .before .before .before .loop .inv .4,
+)
+
+same-length-5 : tie.Need-same-length-5 Inv-loop μ-loop
+same-length-5 c =
+    c .before .loop .inv .1
+
+same-length-6 : tie.Need-same-length-6 Inv-loop μ-loop
+same-length-6 c =
+    c .before .loop .inv .2
+
+same-length-7 : tie.Need-same-length-7 Inv-loop μ-loop
+same-length-7 c =
+    c .before .loop .inv .3
+
+same-length-8 : tie.Need-same-length-8 Inv-loop μ-loop
+same-length-8 c =
+    c .before .loop .inv .4
+
+returns-2 : tie.Need-returns-2 Inv-loop μ-loop
+returns-2 c =
+    staging-ends (c .before .loop .inv .0) (λ q. omega (arith, c .loop-test .left))
+
+pub stages-spec : {M : Type 1} → statement M
+stages-spec =
+    tie.close
+    (tie.spec
+    Inv-loop
+    μ-loop
+    model-size-requires
+    loop-holds
+    add-t14
+    add-t15
+    add-t16
+    add-t17
+    stage-requires
+    add-t26
+    same-length
+    same-length-2
+    same-length-3
+    same-length-4
+    returns
+    add-h
+    loop-less
+    loop-again
+    same-length-5
+    same-length-6
+    same-length-7
+    same-length-8
+    returns-2)

@@ -1,0 +1,68 @@
+-- `solve_value_iteration::stage_zero` meets its contract.
+use borrow.Author.Needs.{needs}
+use native.Mathlib.Omega.{arith}
+use Rattle.solve_value_iteration.proofs.Runs.{end-grounded, zero-ready, zero-fits, zero-grounded}
+use Rattle.solve_value_iteration.proofs.stage_zero.Statement.{statement}
+use Rattle.solve_value_iteration.proofs.stage_zero.Tie as tie
+use Rattle.solve_value_iteration.proofs.stage_zero.Reads as reads
+use Rattle.solve_value_iteration.proofs.stage_zero.Lts as lts
+use Rattle.solve_peaks.proofs.raise_peak.Reads as raise-peak-reads
+use Rattle.solve_operation.proofs.operate.Reads as operate-reads
+use Rattle.solve_total.proofs.model_size.Reads as model-size-reads
+
+returns : tie.Need-returns
+returns c = end-grounded (c .before .before .before .before .before .args .model .now) (c .before .before .before .before .before .pre .0) (c .before .before .before .before .before .pre .2) (c .before .before .before .before .before .pre .3) (c .before .before .before .before .before .pre .4) (c .if1 .taken) (c .before .before .before .before .before .pre .1)
+
+model-size-requires : tie.Need-model-size-requires
+model-size-requires c κs = search needs
+
+operate-requires : tie.Need-operate-requires
+operate-requires c κs = zero-ready (c .before .before .before .before .before .before .before .before .before .args .model .now) (c .before .before .before .before .before .before .before .before .before .pre .0) (c .before .before .before .before .before .before .before .before .before .pre .2) (c .before .before .before .before .before .before .before .before .before .pre .3) (c .before .before .before .before .before .before .before .before .before .pre .4) (c .before .before .before .model-size .ensures .0)
+
+raise-peak-requires : tie.Need-raise-peak-requires
+raise-peak-requires c κs = (omega (arith, c .before .before .before .before .before .before .before .before .before .before .before .before .before .before .before .before .before .before .pre .5), zero-fits (c .before .before .before .before .before .before .before .before .before .before .before .before .before .before .before .before .before .before .args .model .now) (c .before .before .before .before .before .before .before .before .before .before .before .before .before .before .before .before .before .before .pre .0) (c .before .before .before .before .before .before .before .before .before .before .before .before .before .before .before .before .before .before .pre .2) (c .before .before .before .before .before .before .before .before .before .before .before .before .before .before .before .before .before .before .pre .3) (c .before .before .before .before .before .before .before .before .before .before .before .before .before .before .before .before .before .before .pre .4) (c .before .before .before .before .before .before .before .before .before .before .before .before .before .if1 .left) (c .before .before .before .before .before .before .before .before .before .before .before .before .before .before .before .before .before .before .pre .1) (c .before .before .before .before .before .before .before .before .before .before .before .before .model-size .ensures .0) (c .before .before .before .before .before .before .before .before .operate .ensures) (c .before .before .before .before .before .before .before .before .operate .kept .1 .1 .1 .1 .0) (c .before .if2 .taken))
+
+same-length : tie.Need-same-length
+same-length c = search needs
+
+same-length-2 : tie.Need-same-length-2
+same-length-2 c = search needs
+
+same-length-3 : tie.Need-same-length-3
+same-length-3 c = search needs
+
+same-length-4 : tie.Need-same-length-4
+same-length-4 c = search needs
+
+returns-2 : tie.Need-returns-2
+returns-2 c = zero-grounded (c .before .before .before .before .before .before .before .before .before .before .before .before .before .before .before .before .before .before .before .before .before .args .model .now) (c .before .before .before .before .before .before .before .before .before .before .before .before .before .before .before .before .before .before .before .before .before .pre .0) (c .before .before .before .before .before .before .before .before .before .before .before .before .before .before .before .before .before .before .before .before .before .pre .2) (c .before .before .before .before .before .before .before .before .before .before .before .before .before .before .before .before .before .before .before .before .before .pre .3) (c .before .before .before .before .before .before .before .before .before .before .before .before .before .before .before .before .before .before .before .before .before .pre .4) (c .before .before .before .before .before .before .before .before .before .before .before .before .before .before .before .before .if1 .left) (c .before .before .before .before .before .before .before .before .before .before .before .before .before .before .before .before .before .before .before .before .before .pre .1) (c .before .before .before .before .before .before .before .before .before .before .before .before .before .before .before .model-size .ensures .0) (c .before .before .before .before .before .before .before .before .before .before .before .operate .ensures) (c .before .before .before .before .before .before .before .before .before .before .before .operate .kept .1 .1 .1 .1 .0) (λ ok. c .before .before .raise-peak .ensures)
+
+same-length-5 : tie.Need-same-length-5
+same-length-5 c = search needs
+
+same-length-6 : tie.Need-same-length-6
+same-length-6 c = search needs
+
+same-length-7 : tie.Need-same-length-7
+same-length-7 c = search needs
+
+returns-3 : tie.Need-returns-3
+returns-3 c = zero-grounded (c .before .before .before .before .before .before .before .before .before .before .before .before .before .before .before .before .before .args .model .now) (c .before .before .before .before .before .before .before .before .before .before .before .before .before .before .before .before .before .pre .0) (c .before .before .before .before .before .before .before .before .before .before .before .before .before .before .before .before .before .pre .2) (c .before .before .before .before .before .before .before .before .before .before .before .before .before .before .before .before .before .pre .3) (c .before .before .before .before .before .before .before .before .before .before .before .before .before .before .before .before .before .pre .4) (c .before .before .before .before .before .before .before .before .before .before .before .before .if1 .left) (c .before .before .before .before .before .before .before .before .before .before .before .before .before .before .before .before .before .pre .1) (c .before .before .before .before .before .before .before .before .before .before .before .model-size .ensures .0) (c .before .before .before .before .before .before .before .operate .ensures) (c .before .before .before .before .before .before .before .operate .kept .1 .1 .1 .1 .0) (λ ok. absurd (c .if2 .left ok))
+
+pub stage-zero-spec : {M : Type 1} → statement M
+stage-zero-spec =
+    tie.close
+    (tie.spec
+    returns
+    model-size-requires
+    operate-requires
+    raise-peak-requires
+    same-length
+    same-length-2
+    same-length-3
+    same-length-4
+    returns-2
+    same-length-5
+    same-length-6
+    same-length-7
+    returns-3)

@@ -1,0 +1,81 @@
+use mathlib.Core.Path.{refl}
+use Prim.Native.Nat.{ℕ, _+_, _-_}
+use borrow.Author.Needs.{needs}
+use native.Mathlib.Omega.{arith}
+use Rattle.table.proofs.Look.{hit, miss}
+use Rattle.table_unique.proofs.Chain.{Walk, begins, goes-on, less, hits, misses}
+use Rattle.table_unique.proofs.find.Statement.{statement}
+use Rattle.table_unique.proofs.find.Tie as tie
+
+abbrev Inv-loop : tie.InvT-loop
+Inv-loop nodes work cap count x b at₀ at = Walk cap nodes count x at
+
+abbrev μ-loop : tie.MeasureT-loop
+μ-loop nodes work cap count x b at₀ at = at
+
+hash-requires : tie.Need-hash-requires Inv-loop μ-loop
+hash-requires c κs = (c .before .pre .some, c .before .pre .few)
+
+mul-at : tie.Need-mul-at Inv-loop μ-loop
+mul-at c = let q = c .before .before .pre .few in omega (arith, c .hash .ensures .1)
+
+shared-slice-read-at : tie.Need-shared-slice-read-at Inv-loop μ-loop
+shared-slice-read-at c = let q = c .before .before .before .pre .works in omega (arith, c .before .hash .ensures .1)
+
+cast-at : tie.Need-cast-at Inv-loop μ-loop
+cast-at c = omega (arith, c .shared-slice-known2 .given (c .before .hash .result))
+
+loop-holds : tie.Need-loop-holds Inv-loop μ-loop
+loop-holds c = begins (c .before .before .before .pre) (c .before .before .before .args .x) _ (c .before .hash .ensures .1) (c .before .hash .ensures .0)
+
+sub-i : tie.Need-sub-i Inv-loop μ-loop
+sub-i c = omega arith
+
+is-at-requires : tie.Need-is-at-requires Inv-loop μ-loop
+is-at-requires c κs = let q = c .before .loop .inv .within in let r = c .before .before .before .before .before .pre .room in let w = c .before .before .before .before .before .pre .words in omega arith
+
+returns : tie.Need-returns Inv-loop μ-loop
+returns c = hits (c .before .before .before .before .before .before .before .pre) (c .before .before .before .before .before .before .before .args .x) (c .before .before .before .loop .at) (c .before .before .loop-test .taken) (c .before .before .before .loop .inv) (hit refl (c .before .is-at .ensures) (c .if1 .taken))
+
+add-at : tie.Need-add-at Inv-loop μ-loop
+add-at c = let q = c .before .before .before .loop .inv .within in let r = c .before .before .before .before .before .before .before .pre .room in let f = c .before .before .before .before .before .before .before .pre .few in omega arith
+
+mul-at-2 : tie.Need-mul-at-2 Inv-loop μ-loop
+mul-at-2 c = let q = c .before .before .before .loop .inv .within in let r = c .before .before .before .before .before .before .before .pre .room in let f = c .before .before .before .before .before .before .before .pre .few in omega arith
+
+shared-slice-read-at-2 : tie.Need-shared-slice-read-at-2 Inv-loop μ-loop
+shared-slice-read-at-2 c = let q = c .before .before .before .before .loop .inv .within in let r = c .before .before .before .before .before .before .before .before .pre .room in let f = c .before .before .before .before .before .before .before .before .pre .works in let z = c .before .before .before .loop-test .taken in omega arith
+
+cast-at-2 : tie.Need-cast-at-2 Inv-loop μ-loop
+cast-at-2 c = omega (arith, c .shared-slice-known3 .given (c .before .before .before .before .before .before .before .before .args .cap + (c .before .before .before .before .loop .at - 1)))
+
+loop-less : tie.Need-loop-less Inv-loop μ-loop
+loop-less c = less (c .before .before .before .before .before .before .before .before .pre) (c .before .before .before .before .before .before .before .before .args .x) (c .before .before .before .before .loop .at) (c .before .before .before .loop-test .taken) (c .before .before .before .before .loop .inv)
+
+loop-again : tie.Need-loop-again Inv-loop μ-loop
+loop-again c = goes-on (c .before .before .before .before .before .before .before .before .pre) (c .before .before .before .before .before .before .before .before .args .x) (c .before .before .before .before .loop .at) (c .before .before .before .loop-test .taken) (c .before .before .before .before .loop .inv) (miss refl (c .before .before .is-at .ensures) (c .before .if1 .left))
+
+returns-2 : tie.Need-returns-2 Inv-loop μ-loop
+returns-2 c = misses (c .before .before .before .before .before .pre) (c .before .before .before .before .before .args .x) (c .before .loop .at) (c .loop-test .left) (c .before .loop .inv)
+
+pub find-spec : {M : Type 1} → statement M
+find-spec =
+    tie.close
+    (tie.spec
+    Inv-loop
+    μ-loop
+    hash-requires
+    mul-at
+    shared-slice-read-at
+    cast-at
+    loop-holds
+    sub-i
+    is-at-requires
+    returns
+    add-at
+    mul-at-2
+    shared-slice-read-at-2
+    cast-at-2
+    loop-less
+    loop-again
+    returns-2)

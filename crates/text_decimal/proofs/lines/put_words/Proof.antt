@@ -1,0 +1,78 @@
+-- `text_decimal::lines::put_words` meets its contract.
+use Prim.Native.Nat.{_-_}
+use native.Mathlib.Omega.{arith}
+use mathlib.Core.Path.{ap}
+use borrow.Author.Needs.{needs}
+use lib.ListN.{length, getD}
+use Rattle.text_decimal.proofs.Puts.{none, rename}
+use Rattle.text_decimal.proofs.Numbers.{spaced-back}
+use lib.IntN.{pos}
+use Rattle.text_decimal.proofs.Rows.{Written, written-none, written-room, written-more, written-all}
+use Rattle.text_decimal.proofs.lines.put_words.Statement.{statement}
+use Rattle.text_decimal.proofs.lines.put_words.Tie as tie
+
+abbrev Inv-loop : tie.InvT-loop
+Inv-loop out₀ at xs next₀ i₀ out next i = Written xs out₀ at i next out
+
+abbrev μ-loop : tie.MeasureT-loop
+μ-loop out₀ at xs next₀ i₀ out next i = length xs - i
+
+loop-holds : tie.Need-loop-holds Inv-loop μ-loop
+loop-holds c =
+    let a = (c .before) .args in
+    written-none (a .xs .now) (a .out .now) (a .at) (none (a .out .now) (a .at))
+
+mul-put-signed : tie.Need-mul-put-signed Inv-loop μ-loop
+mul-put-signed c =
+    search needs
+
+shared-slice-copy-out-put-signed : tie.Need-shared-slice-copy-out-put-signed Inv-loop μ-loop
+shared-slice-copy-out-put-signed c =
+    search needs
+
+put-signed-requires : tie.Need-put-signed-requires Inv-loop μ-loop
+put-signed-requires c κs =
+    let a = (c .before .before .before .before .before) .args in
+    let l = c .before .before .before .loop in
+    let r = written-room (a .xs .now) (a .out .now) (a .at) (l .i) (l .next) (l .out) (l .inv) (c .before .before .loop-test .taken) ((c .before .before .before .before .before) .pre) in
+    omega (arith, r, ap length (spaced-back (getD (a .xs .now) (l .i) (pos 0)) (record { sfits = c .put-signed-arg2 .given })))
+
+add-i : tie.Need-add-i Inv-loop μ-loop
+add-i c =
+    search needs
+
+loop-less : tie.Need-loop-less Inv-loop μ-loop
+loop-less c =
+    search needs
+
+loop-again : tie.Need-loop-again Inv-loop μ-loop
+loop-again c =
+    let a = (c .before .before .before .before .before .before .before .before) .args in
+    let l = c .before .before .before .before .before .before .loop in
+    let q = c .before .before .put-signed in
+    written-more (a .xs .now) (a .out .now) (a .at) (l .i) (l .next) (l .out) (l .inv) (c .before .before .before .before .before .loop-test .taken) ((c .before .before .before .before .before .before .before .before) .pre) (q .result) (q .last .0) (q .kept .0)
+    (rename (spaced-back (getD (a .xs .now) (l .i) (pos 0)) (record { sfits = c .before .before .before .put-signed-arg2 .given })) (q .ensures))
+
+same-length : tie.Need-same-length Inv-loop μ-loop
+same-length c =
+    c .before .loop .inv .kept
+
+returns : tie.Need-returns Inv-loop μ-loop
+returns c =
+    written-all (c .before .loop .inv) (c .loop-test .left)
+
+pub put-words-spec : {M : Type 1} → statement M
+put-words-spec =
+    tie.close
+    (tie.spec
+    Inv-loop
+    μ-loop
+    loop-holds
+    mul-put-signed
+    shared-slice-copy-out-put-signed
+    put-signed-requires
+    add-i
+    loop-less
+    loop-again
+    same-length
+    returns)

@@ -1,0 +1,63 @@
+-- `text_decimal::put_signed` meets its contract.
+use native.Mathlib.Omega.{arith}
+use Prim.Native.Nat.{_≤_}
+use mathlib.Core.Path.{ap, sym}
+use lib.ListN.{length}
+use Rattle.text_decimal.proofs.Puts.{then, rename}
+use Rattle.text_decimal.proofs.Numbers.{spaced-negative, spaced-positive}
+use borrow.Author.Needs.{needs}
+use Rattle.text_decimal.proofs.put_signed.Statement.{statement}
+use Rattle.text_decimal.proofs.put_signed.Tie as tie
+
+mag-requires : tie.Need-mag-requires
+mag-requires c κs = search needs
+
+slice-aggregate-put-bytes : tie.Need-slice-aggregate-put-bytes
+slice-aggregate-put-bytes c = search needs
+
+put-bytes-requires : tie.Need-put-bytes-requires
+put-bytes-requires c κs =
+    let e = spaced-negative ((c .before .before .before .before .before) .args .z) (c .before .before .before .mag .result) ((c .before .before .before .before .before) .fits .z) (c .before .before .before .mag .ensures) (c .before .before .if1 .taken) in
+    omega (arith, (c .before .before .before .before .before) .pre, ap length e)
+
+put-digits-requires : tie.Need-put-digits-requires
+put-digits-requires c κs =
+    let e = spaced-negative ((c .before .before .before .before .before .before .before .before .before) .args .z) (c .before .before .before .before .before .before .before .mag .result) ((c .before .before .before .before .before .before .before .before .before) .fits .z) (c .before .before .before .before .before .before .before .mag .ensures) (c .before .before .before .before .before .before .if1 .taken) in
+    omega (arith, (c .before .before .before .before .before .before .before .before .before) .pre, ap length e, c .before .before .before .put-bytes .ensures .behind, c .before .before .before .put-bytes .kept .0)
+
+same-length : tie.Need-same-length
+same-length c = search needs
+
+returns : tie.Need-returns
+returns c =
+    let a = (c .before .before .before .before .before .before .before .before .before .before .before .before) .args in
+    let e = spaced-negative (a .z) (c .before .before .before .before .before .before .before .before .before .before .mag .result) ((c .before .before .before .before .before .before .before .before .before .before .before .before) .fits .z) (c .before .before .before .before .before .before .before .before .before .before .mag .ensures) (c .before .before .before .before .before .before .before .before .before .if1 .taken) in
+    let h : a .at ≤ length (a .out .now) = omega (arith, (c .before .before .before .before .before .before .before .before .before .before .before .before) .pre) in
+    rename (sym e) (then h (c .before .before .before .before .before .before .put-bytes .ensures) (c .before .before .put-digits .ensures))
+
+put-number-requires : tie.Need-put-number-requires
+put-number-requires c κs =
+    let e = spaced-positive ((c .before .before .before .before) .args .z) (c .before .before .mag .result) ((c .before .before .before .before) .fits .z) (c .before .before .mag .ensures) (c .before .if1 .left) in
+    omega (arith, (c .before .before .before .before) .pre, ap length e)
+
+same-length-2 : tie.Need-same-length-2
+same-length-2 c = search needs
+
+returns-2 : tie.Need-returns-2
+returns-2 c =
+    let e = spaced-positive ((c .before .before .before .before .before .before .before) .args .z) (c .before .before .before .before .before .mag .result) ((c .before .before .before .before .before .before .before) .fits .z) (c .before .before .before .before .before .mag .ensures) (c .before .before .before .before .if1 .left) in
+    rename (sym e) (c .before .before .put-number .ensures)
+
+pub put-signed-spec : {M : Type 1} → statement M
+put-signed-spec =
+    tie.close
+    (tie.spec
+    mag-requires
+    slice-aggregate-put-bytes
+    put-bytes-requires
+    put-digits-requires
+    same-length
+    returns
+    put-number-requires
+    same-length-2
+    returns-2)

@@ -1,0 +1,71 @@
+-- `text_page::writing::write_lines` meets its contract.
+use Prim.Native.Nat.{_+_, _-_, _≤_}
+use native.Mathlib.Omega.{arith}
+use mathlib.Core.Path.{_≡_, ap, _∙_}
+use Rattle.value_walk.specs.State.{asked}
+use Rattle.text_decimal.proofs.Puts.{rename}
+use Rattle.text_plan.proofs.Joined.{Lined, upon, lined-none, lined-room, lined-more, part-room}
+use Rattle.text_page_lines.specs.Page.{line-at}
+use Rattle.text_page.proofs.Read.{lines-room, lines-are}
+use borrow.Author.Needs.{needs}
+use Rattle.text_page.proofs.writing.write_lines.Statement.{statement}
+use Rattle.text_page.proofs.writing.write_lines.Tie as tie
+
+abbrev Inv-loop : tie.InvT-loop
+Inv-loop text₀ place model site horizon nodes stages q next₀ h₀ text next h = (h ≤ horizon) × Lined (line-at model nodes stages (asked q)) text₀ place h next text
+
+abbrev μ-loop : tie.MeasureT-loop
+μ-loop text₀ place model site horizon nodes stages q next₀ h₀ text next h = horizon - h
+
+loop-holds : tie.Need-loop-holds Inv-loop μ-loop
+loop-holds c = (omega arith, lined-none (line-at (c .before .before .before .args .model .now) (c .before .before .before .args .nodes .now) (c .before .before .before .args .stages .now) (asked (c .before .before .before .args .q))) (c .before .before .before .args .text .now) (c .before .before .before .args .place))
+
+add-h : tie.Need-add-h Inv-loop μ-loop
+add-h c = omega (arith, c .loop-test .taken)
+
+sub-write-line : tie.Need-sub-write-line Inv-loop μ-loop
+sub-write-line c = omega (arith, lined-room (line-at (c .before .before .before .before .before .args .model .now) (c .before .before .before .before .before .args .nodes .now) (c .before .before .before .before .before .args .stages .now) (asked (c .before .before .before .before .before .args .q))) (c .before .before .before .before .before .args .text .now) (c .before .before .before .before .before .args .place) (c .before .loop .h) (c .before .loop .next) (c .before .loop .text) (c .before .before .before .before .before .args .horizon) (c .before .loop .inv .1) (c .loop-test .taken) (lines-room (c .before .before .before .before .before .args .model .now) (c .before .before .before .before .before .args .horizon) (c .before .before .before .before .before .args .nodes .now) (c .before .before .before .before .before .args .stages .now) (asked (c .before .before .before .before .before .args .q)) (c .before .before .before .before .before .args .place) (c .before .before .before .before .before .pre .1)))
+
+part-write-line-start : tie.Need-part-write-line-start Inv-loop μ-loop
+part-write-line-start c = omega (arith, lined-room (line-at (c .before .before .before .before .before .args .model .now) (c .before .before .before .before .before .args .nodes .now) (c .before .before .before .before .before .args .stages .now) (asked (c .before .before .before .before .before .args .q))) (c .before .before .before .before .before .args .text .now) (c .before .before .before .before .before .args .place) (c .before .loop .h) (c .before .loop .next) (c .before .loop .text) (c .before .before .before .before .before .args .horizon) (c .before .loop .inv .1) (c .loop-test .taken) (lines-room (c .before .before .before .before .before .args .model .now) (c .before .before .before .before .before .args .horizon) (c .before .before .before .before .before .args .nodes .now) (c .before .before .before .before .before .args .stages .now) (asked (c .before .before .before .before .before .args .q)) (c .before .before .before .before .before .args .place) (c .before .before .before .before .before .pre .1)))
+
+part-write-line-end : tie.Need-part-write-line-end Inv-loop μ-loop
+part-write-line-end c = omega (arith, lined-room (line-at (c .before .before .before .before .before .args .model .now) (c .before .before .before .before .before .args .nodes .now) (c .before .before .before .before .before .args .stages .now) (asked (c .before .before .before .before .before .args .q))) (c .before .before .before .before .before .args .text .now) (c .before .before .before .before .before .args .place) (c .before .loop .h) (c .before .loop .next) (c .before .loop .text) (c .before .before .before .before .before .args .horizon) (c .before .loop .inv .1) (c .loop-test .taken) (lines-room (c .before .before .before .before .before .args .model .now) (c .before .before .before .before .before .args .horizon) (c .before .before .before .before .before .args .nodes .now) (c .before .before .before .before .before .args .stages .now) (asked (c .before .before .before .before .before .args .q)) (c .before .before .before .before .before .args .place) (c .before .before .before .before .before .pre .1)))
+
+write-line-requires : tie.Need-write-line-requires Inv-loop μ-loop
+write-line-requires c κs = (c .before .before .before .before .before .before .pre .0 (c .before .before .loop .h + 1) (omega arith) (omega (arith, c .before .loop-test .taken)), part-room ((line-at (c .before .before .before .before .before .before .args .model .now) (c .before .before .before .before .before .before .args .nodes .now) (c .before .before .before .before .before .before .args .stages .now) (asked (c .before .before .before .before .before .before .args .q))) (c .before .before .loop .h + 1)) (c .before .before .loop .text) (c .before .before .loop .next) (lined-room (line-at (c .before .before .before .before .before .before .args .model .now) (c .before .before .before .before .before .before .args .nodes .now) (c .before .before .before .before .before .before .args .stages .now) (asked (c .before .before .before .before .before .before .args .q))) (c .before .before .before .before .before .before .args .text .now) (c .before .before .before .before .before .before .args .place) (c .before .before .loop .h) (c .before .before .loop .next) (c .before .before .loop .text) (c .before .before .before .before .before .before .args .horizon) (c .before .before .loop .inv .1) (c .before .loop-test .taken) (lines-room (c .before .before .before .before .before .before .args .model .now) (c .before .before .before .before .before .before .args .horizon) (c .before .before .before .before .before .before .args .nodes .now) (c .before .before .before .before .before .before .args .stages .now) (asked (c .before .before .before .before .before .before .args .q)) (c .before .before .before .before .before .before .args .place) (c .before .before .before .before .before .before .pre .1))))
+
+add-next : tie.Need-add-next Inv-loop μ-loop
+add-next c = omega (arith, lined-room (line-at (c .before .before .before .before .before .before .before .before .before .args .model .now) (c .before .before .before .before .before .before .before .before .before .args .nodes .now) (c .before .before .before .before .before .before .before .before .before .args .stages .now) (asked (c .before .before .before .before .before .before .before .before .before .args .q))) (c .before .before .before .before .before .before .before .before .before .args .text .now) (c .before .before .before .before .before .before .before .before .before .args .place) (c .before .before .before .before .before .loop .h) (c .before .before .before .before .before .loop .next) (c .before .before .before .before .before .loop .text) (c .before .before .before .before .before .before .before .before .before .args .horizon) (c .before .before .before .before .before .loop .inv .1) (c .before .before .before .before .loop-test .taken) (lines-room (c .before .before .before .before .before .before .before .before .before .args .model .now) (c .before .before .before .before .before .before .before .before .before .args .horizon) (c .before .before .before .before .before .before .before .before .before .args .nodes .now) (c .before .before .before .before .before .before .before .before .before .args .stages .now) (asked (c .before .before .before .before .before .before .before .before .before .args .q)) (c .before .before .before .before .before .before .before .before .before .args .place) (c .before .before .before .before .before .before .before .before .before .pre .1)), c .before .before .write-line .ensures .behind)
+
+loop-less : tie.Need-loop-less Inv-loop μ-loop
+loop-less c = omega (arith, c .before .before .before .before .loop-test .taken)
+
+loop-again : tie.Need-loop-again Inv-loop μ-loop
+loop-again c = (omega (arith, c .before .before .before .before .loop-test .taken), lined-more (line-at (c .before .before .before .before .before .before .before .before .before .args .model .now) (c .before .before .before .before .before .before .before .before .before .args .nodes .now) (c .before .before .before .before .before .before .before .before .before .args .stages .now) (asked (c .before .before .before .before .before .before .before .before .before .args .q))) (c .before .before .before .before .before .before .before .before .before .args .text .now) (c .before .before .before .before .before .before .before .before .before .args .place) (c .before .before .before .before .before .loop .h) (c .before .before .before .before .before .loop .next) (c .before .before .before .before .before .loop .text) (c .before .before .before .before .before .before .before .before .before .args .horizon) (c .before .before .before .before .before .loop .inv .1) (c .before .before .before .before .loop-test .taken) (lines-room (c .before .before .before .before .before .before .before .before .before .args .model .now) (c .before .before .before .before .before .before .before .before .before .args .horizon) (c .before .before .before .before .before .before .before .before .before .args .nodes .now) (c .before .before .before .before .before .before .before .before .before .args .stages .now) (asked (c .before .before .before .before .before .before .before .before .before .args .q)) (c .before .before .before .before .before .before .before .before .before .args .place) (c .before .before .before .before .before .before .before .before .before .pre .1)) (c .before .before .write-line .result) (c .before .before .write-line .last .0) (c .before .before .write-line .kept .0) (c .before .before .write-line .ensures))
+
+same-length : tie.Need-same-length Inv-loop μ-loop
+same-length c = c .before .loop .inv .1 .kept
+
+returns : tie.Need-returns Inv-loop μ-loop
+returns c =
+    let e : c .before .loop .h ≡ c .before .before .before .before .before .args .horizon = omega (arith, c .loop-test .left, c .before .loop .inv .0) in
+    rename (ap (upon (line-at (c .before .before .before .before .before .args .model .now) (c .before .before .before .before .before .args .nodes .now) (c .before .before .before .before .before .args .stages .now) (asked (c .before .before .before .before .before .args .q)))) e ∙ lines-are (c .before .before .before .before .before .args .model .now) (c .before .before .before .before .before .args .horizon) (c .before .before .before .before .before .args .nodes .now) (c .before .before .before .before .before .args .stages .now) (asked (c .before .before .before .before .before .args .q))) (c .before .loop .inv .1 .put)
+
+pub write-lines-spec : {M : Type 1} → statement M
+write-lines-spec =
+    tie.close
+    (tie.spec
+    Inv-loop
+    μ-loop
+    loop-holds
+    add-h
+    sub-write-line
+    part-write-line-start
+    part-write-line-end
+    write-line-requires
+    add-next
+    loop-less
+    loop-again
+    same-length
+    returns)

@@ -1,0 +1,34 @@
+-- `text_plan_lines::stage_line_len` meets its contract.
+use mathlib.Core.Path.{ap, _∙_}
+use native.Mathlib.Omega.{arith}
+use lib.ListN.{length}
+use Rattle.text_plan_lines.proofs.Numbered.{stage-is}
+use borrow.Author.Needs.{needs}
+use Rattle.text_plan_lines.proofs.stage_line_len.Statement.{statement}
+use Rattle.text_plan_lines.proofs.stage_line_len.Tie as tie
+
+stage-numbers-requires : tie.Need-stage-numbers-requires
+stage-numbers-requires c κs = search needs
+
+slice-aggregate-line-len : tie.Need-slice-aggregate-line-len
+slice-aggregate-line-len c = search needs
+
+slice-aggregate-line-len-2 : tie.Need-slice-aggregate-line-len-2
+slice-aggregate-line-len-2 c = search needs
+
+line-len-requires : tie.Need-line-len-requires
+line-len-requires c κs = search needs
+
+returns : tie.Need-returns
+returns c =
+    (c .line-len .ensures .0 ∙ ap length (stage-is ((c .before .before .before .before .before) .args .stages .now) ((c .before .before .before .before .before) .args .h) (c .before .before .before .stage-numbers .ensures)), omega (arith, c .line-len .ensures .1, ap length (c .before .before .before .stage-numbers .ensures)))
+
+pub stage-line-len-spec : {M : Type 1} → statement M
+stage-line-len-spec =
+    tie.close
+    (tie.spec
+    stage-numbers-requires
+    slice-aggregate-line-len
+    slice-aggregate-line-len-2
+    line-len-requires
+    returns)

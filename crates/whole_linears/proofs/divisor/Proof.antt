@@ -1,0 +1,42 @@
+use mathlib.Core.Path.{_≡_, refl, sym, ap, _∙_}
+use Prim.Native.Nat.{ℕ, _+_, _-_, _≤_}
+use native.Mathlib.Omega.{arith}
+use borrow.Author.Needs.{needs}
+use lib.IntN.{ℤ, pos, _+ℤ_, _-ℤ_, _*ℤ_}
+use lib.ListN.{length, getD, take, drop}
+use lib.Signed.{quotZ}
+use Rattle.whole.specs.Divisor.{gcdOf, gcd-all, at-least-one}
+use Rattle.whole.specs.Linears.{coefficients, divisorL}
+use Rattle.whole.proofs.Loops.{divisor-is}
+use Rattle.whole_linears.proofs.divisor.Statement.{statement}
+use Rattle.whole_linears.proofs.divisor.Tie as tie
+
+array-copy-out-mag : tie.Need-array-copy-out-mag
+array-copy-out-mag c = search needs
+
+mag-requires : tie.Need-mag-requires
+mag-requires c κs = search needs
+
+gcd-first-requires : tie.Need-gcd-first-requires
+gcd-first-requires c κs = search needs
+
+gcd-requires : tie.Need-gcd-requires
+gcd-requires c κs = search needs
+
+at-least-one-requires : tie.Need-at-least-one-requires
+at-least-one-requires c κs = search needs
+
+returns : tie.Need-returns
+returns c =
+    divisor-is ((c .before .before .before .before .before) .args .t1) _ _ _ _ (c .before .before .before .before .mag-arg .given) (c .before .before .before .mag .ensures) (c .before .before .gcd-first .ensures) (c .before .gcd .ensures) (c .at-least-one .ensures)
+
+pub divisor-spec : {M : Type 1} → statement M
+divisor-spec =
+    tie.close
+    (tie.spec
+    array-copy-out-mag
+    mag-requires
+    gcd-first-requires
+    gcd-requires
+    at-least-one-requires
+    returns)
