@@ -38,7 +38,7 @@ use denote.Exit.{yes}
 use Rattle.model_reader.specs.declared.Reader.{Reader}
 use Rattle.model_reader.proofs.Reader as T
 use Rattle.model_reader.proofs.Reader.Laws as T′
-use Rattle.model_reader.proofs.new.Key.{name as #reader·new}
+use Rattle.model_reader.proofs.new.Key.{name as #model-reader·new}
 use Rattle.model_reader.proofs.new as new
 use Rattle.model_reader.proofs.new.Statement as stated
 use Rattle.model_reader.proofs.new.Code as code
@@ -95,5 +95,5 @@ pub new-spec : {M : Type 1} → stated.statement M
 unfolding code.routine tablesOf
 new-spec 𝓤 H 𝓜 𝓖 𝓡 =
     entered 𝓤 H (tripleOf 𝓤 H (𝓖 .A) new.signature (new.spec 𝓤 H (𝓖 .A) (𝓜 .mem) (𝓡 .run)))
-    (tables 𝓤 H 𝓜 𝓡 code.env .C) (tables 𝓤 H 𝓜 𝓡 code.env .Λ) #reader·new code.function (code.unfolded 𝓤 H 𝓜 𝓡)
+    (tables 𝓤 H 𝓜 𝓡 code.env .C) (tables 𝓤 H 𝓜 𝓡 code.env .Λ) #model-reader·new code.function (code.unfolded 𝓤 H 𝓜 𝓡)
     (new-meets 𝓤 H (𝓖 .A) (givenOf 𝓤 H 𝓜 𝓖) (𝓜 .mem) (𝓡 .run) (tablesOf 𝓤 H 𝓜 (tables 𝓤 H 𝓜 𝓡 code.env)))

@@ -47,17 +47,17 @@ use Rattle.model_command.proofs.Read as S
 use Rattle.model_command.proofs.Read.Laws as S′
 use Rattle.model_reader.proofs.new as new
 use Rattle.model_reader.proofs.new.Symbol as new-def
-use Rattle.model_reader.proofs.new.Symbol.{name as #reader·new}
+use Rattle.model_reader.proofs.new.Symbol.{name as #model-reader·new}
 use Rattle.model_reader.proofs.new.Met as new-thm
 use Rattle.model_reader.proofs.past as past
 use Rattle.model_reader.proofs.past.Symbol as past-def
-use Rattle.model_reader.proofs.past.Symbol.{name as #reader·past}
+use Rattle.model_reader.proofs.past.Symbol.{name as #model-reader·past}
 use Rattle.model_reader.proofs.past.Met as past-thm
 use Rattle.model_reader.proofs.next as next
 use Rattle.model_reader.proofs.next.Symbol as next-def
-use Rattle.model_reader.proofs.next.Symbol.{name as #reader·next}
+use Rattle.model_reader.proofs.next.Symbol.{name as #model-reader·next}
 use Rattle.model_reader.proofs.next.Met as next-thm
-use Rattle.model_reader.proofs.second.Key.{name as #reader·second}
+use Rattle.model_reader.proofs.second.Key.{name as #model-reader·second}
 use Rattle.model_reader.proofs.second as second
 use Rattle.model_reader.proofs.second.Statement as stated
 use Rattle.model_reader.proofs.second.Code as code
@@ -144,7 +144,7 @@ module _ {M : Type 1} (𝓤 : URA M) (H : Heap 𝓤) (A : Atoms 𝓤) (W : Given
       suffices ! _ (ends-at 𝓤 H A second.ended stayed (second.clauses 𝓤 H A mem run) W (((κ, tt), (q, tt), tt, (s, tt), (v ∷ [], tt)), tt) u t (tt, tt) (tt, tt)) $ says ! e $
       move ! (1 ∷ []) $ frame ! $ nothing ! $ move ! (2 ∷ 0 ∷ []) $ fjoin ! $ frame ! $ done !
 
-  module _ (C : Calls 𝓤 H) (Λ : Loops 𝓤 H) (fm : FmC 𝓤 H (W .laws) C) (known-new : Triple 𝓤 (C #reader·new) (New 𝓤 H A mem run)) (known-past : Triple 𝓤 (C #reader·past) (Past 𝓤 H A mem run)) (known-next : Triple 𝓤 (C #reader·next) (Next 𝓤 H A mem run)) where
+  module _ (C : Calls 𝓤 H) (Λ : Loops 𝓤 H) (fm : FmC 𝓤 H (W .laws) C) (known-new : Triple 𝓤 (C #model-reader·new) (New 𝓤 H A mem run)) (known-past : Triple 𝓤 (C #model-reader·past) (Past 𝓤 H A mem run)) (known-next : Triple 𝓤 (C #model-reader·next) (Next 𝓤 H A mem run)) where
     walk : Is (ShrSlice (named 0) κ u8) s (v ∷ []) → ent 𝓤 (onEntry 𝓤 H A second.signature (κ, tt) (q, tt) (s, tt) (v ∷ [], tt)) (WpFn 𝓤 H C Λ code.function (v ∷ []) Post)
     walk p =
         qed W (raw (onEntry 𝓤 H A second.signature (κ, tt) (q, tt) (s, tt) (v ∷ [], tt)) ∷ []) ∵ enter ! C Λ code.function (v ∷ []) _ $
@@ -174,13 +174,13 @@ module _ {M : Type 1} (𝓤 : URA M) (H : Heap 𝓤) (A : Atoms 𝓤) (W : Given
         by ! (exits t u′ (joined r r₁ t e b e′))))))))))))))))))
 
 module _ {M : Type 1} (𝓤 : URA M) (H : Heap 𝓤) (A : Atoms 𝓤) (W : Given 𝓤 H A) (mem : Memory → SProp 𝓤) (run : Routine → Fun 𝓤) where
-  second-walks : (C : Calls 𝓤 H) (Λ : Loops 𝓤 H) → FmC 𝓤 H (W .laws) C → Triple 𝓤 (C #reader·new) (New 𝓤 H A mem run) → Triple 𝓤 (C #reader·past) (Past 𝓤 H A mem run) → Triple 𝓤 (C #reader·next) (Next 𝓤 H A mem run)
+  second-walks : (C : Calls 𝓤 H) (Λ : Loops 𝓤 H) → FmC 𝓤 H (W .laws) C → Triple 𝓤 (C #model-reader·new) (New 𝓤 H A mem run) → Triple 𝓤 (C #model-reader·past) (Past 𝓤 H A mem run) → Triple 𝓤 (C #model-reader·next) (Next 𝓤 H A mem run)
       → Walks 𝓤 H A second.ended stayed (WpFn 𝓤 H C Λ code.function) (second.clauses 𝓤 H A mem run)
   second-walks C Λ fm known-new known-past known-next = walked 𝓤 H A second.ended stayed (second.clauses 𝓤 H A mem run) (WpFn 𝓤 H C Λ code.function) (λ κs. (slice-vals, tt)) (λ κs. (shr-slice-tells (named 0) (κs .0) u8, tt))
       (λ κs qs bounds a g are. via 𝓤 _ (fst∗ 𝓤 _ (emp 𝓤)) (walk 𝓤 H A W mem run (κs .0) (qs .0) (a .0) C Λ fm known-new known-past known-next (are .0)))
 
 second-meets : {M : Type 1} (𝓤 : URA M) (H : Heap 𝓤) (A : Atoms 𝓤) (W : Given 𝓤 H A) (mem : Memory → SProp 𝓤) (run : Routine → Fun 𝓤) (𝓣 : Tables 𝓤 H)
-    → Triple 𝓤 (𝓣 .C #reader·new) (New 𝓤 H A mem run) → Triple 𝓤 (𝓣 .C #reader·past) (Past 𝓤 H A mem run) → Triple 𝓤 (𝓣 .C #reader·next) (Next 𝓤 H A mem run)
+    → Triple 𝓤 (𝓣 .C #model-reader·new) (New 𝓤 H A mem run) → Triple 𝓤 (𝓣 .C #model-reader·past) (Past 𝓤 H A mem run) → Triple 𝓤 (𝓣 .C #model-reader·next) (Next 𝓤 H A mem run)
     → Meets 𝓤 H A second.signature (WpFn 𝓤 H (𝓣 .C) (𝓣 .Λ) code.function) (second.spec 𝓤 H A mem run)
 second-meets 𝓤 H A W mem run 𝓣 known-new known-past known-next = walk-meets 𝓤 H A second.ended stayed W (goes-none-slice 𝓤 H A W 1 (0 ∷ []) tt (plain (λ _. u8)) yes, tt) (second.clauses 𝓤 H A mem run) (WpFn 𝓤 H (𝓣 .C) (𝓣 .Λ) code.function) (WpFn-mono 𝓤 H (W .laws) 𝓣 code.function)
     (second-walks 𝓤 H A W mem run (𝓣 .C) (𝓣 .Λ) (fmOf 𝓤 H (W .laws) 𝓣) known-new known-past known-next)
@@ -189,8 +189,8 @@ pub second-spec : {M : Type 1} → stated.statement M
 unfolding code.routine tablesOf
 second-spec 𝓤 H 𝓜 𝓖 𝓡 =
     entered 𝓤 H (tripleOf 𝓤 H (𝓖 .A) second.signature (second.spec 𝓤 H (𝓖 .A) (𝓜 .mem) (𝓡 .run)))
-    (tables 𝓤 H 𝓜 𝓡 code.env .C) (tables 𝓤 H 𝓜 𝓡 code.env .Λ) #reader·second code.function (code.unfolded 𝓤 H 𝓜 𝓡)
+    (tables 𝓤 H 𝓜 𝓡 code.env .C) (tables 𝓤 H 𝓜 𝓡 code.env .Λ) #model-reader·second code.function (code.unfolded 𝓤 H 𝓜 𝓡)
     (second-meets 𝓤 H (𝓖 .A) (givenOf 𝓤 H 𝓜 𝓖) (𝓜 .mem) (𝓡 .run) (tablesOf 𝓤 H 𝓜 (tables 𝓤 H 𝓜 𝓡 code.env))
-    (cited 𝓤 H (New 𝓤 H (𝓖 .A) (𝓜 .mem) (𝓡 .run)) 𝓜 𝓡 code.env #reader·new new-def.routine code.calls-reader·new (new-thm.met 𝓤 H 𝓜 𝓖 𝓡))
-    (cited 𝓤 H (Past 𝓤 H (𝓖 .A) (𝓜 .mem) (𝓡 .run)) 𝓜 𝓡 code.env #reader·past past-def.routine code.calls-reader·past (past-thm.met 𝓤 H 𝓜 𝓖 𝓡))
-    (cited 𝓤 H (Next 𝓤 H (𝓖 .A) (𝓜 .mem) (𝓡 .run)) 𝓜 𝓡 code.env #reader·next next-def.routine code.calls-reader·next (next-thm.met 𝓤 H 𝓜 𝓖 𝓡)))
+    (cited 𝓤 H (New 𝓤 H (𝓖 .A) (𝓜 .mem) (𝓡 .run)) 𝓜 𝓡 code.env #model-reader·new new-def.routine code.calls-model-reader·new (new-thm.met 𝓤 H 𝓜 𝓖 𝓡))
+    (cited 𝓤 H (Past 𝓤 H (𝓖 .A) (𝓜 .mem) (𝓡 .run)) 𝓜 𝓡 code.env #model-reader·past past-def.routine code.calls-model-reader·past (past-thm.met 𝓤 H 𝓜 𝓖 𝓡))
+    (cited 𝓤 H (Next 𝓤 H (𝓖 .A) (𝓜 .mem) (𝓡 .run)) 𝓜 𝓡 code.env #model-reader·next next-def.routine code.calls-model-reader·next (next-thm.met 𝓤 H 𝓜 𝓖 𝓡)))
