@@ -5,10 +5,11 @@ ghost use lib.ListN.{length};
 ghost use Rattle.rule_node.specs.Nodes.{Good};
 ghost use Rattle.collect_mark.specs.Mark.{Below, Space};
 ghost use Rattle.collect.specs.Collect.{forwarded, Collected};
+ghost use Rattle.table.specs.Table.{nodes-most};
 
 // Each root's new index.
 fn forward(work: &[u32], cap: usize, roots: &mut [u32])
-    requires { ⌜ (cap * 2 ≤ length (now work)) × (cap ≤ 65535) × Below (now roots) cap ⌝ }
+    requires { ⌜ (cap * 2 ≤ length (now work)) × (cap ≤ nodes-most) × Below (now roots) cap ⌝ }
     ensures { λ _. ⌜ now (roots .exit) ≡ forwarded (now (work .entry)) cap (length (now (roots .entry))) (now (roots .entry)) ⌝ }
 {
     let mut j: usize = 0;

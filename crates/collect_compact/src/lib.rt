@@ -4,14 +4,14 @@ use table::Node;
 ghost use mathlib.Core.Path.{_≡_};
 ghost use Prim.Native.Nat.{_*_, _≤_, _<_};
 ghost use lib.ListN.{length};
-ghost use Rattle.table.specs.Table.{node-words, nodeAt};
+ghost use Rattle.table.specs.Table.{node-words, nodeAt, nodes-most};
 ghost use Rattle.rule_node.specs.Nodes.{Valid, Good};
 ghost use Rattle.collect_mark.specs.Mark.{Space};
 ghost use Rattle.collect_compact.specs.Slide.{renumber, SlidOne, Stayed, Closed, Slid};
 
 // A node with its branches' new indexes.
 fn moved(work: &[u32], cap: usize, x: Node) -> Node
-    requires { ⌜ (cap * 2 ≤ length (now work)) × (cap ≤ 65535) × Valid x cap ⌝ }
+    requires { ⌜ (cap * 2 ≤ length (now work)) × (cap ≤ nodes-most) × Valid x cap ⌝ }
     ensures { λ r. ⌜ r ≡ renumber (now (work .entry)) cap x ⌝ }
 {
     if table_peek::is_leaf(x) {
@@ -29,7 +29,7 @@ fn moved(work: &[u32], cap: usize, x: Node) -> Node
 
 // One node: where it is marked it goes to index j. Answers the next such index.
 fn slide_one(nodes: &mut [i64], work: &mut [u32], cap: usize, i: usize, j: usize) -> usize
-    requires { ⌜ (cap * node-words ≤ length (now nodes)) × (cap * 2 ≤ length (now work)) × (cap ≤ 65535) × (i < cap) × (j ≤ i) × Valid (nodeAt (now nodes) i) cap ⌝ }
+    requires { ⌜ (cap * node-words ≤ length (now nodes)) × (cap * 2 ≤ length (now work)) × (cap ≤ nodes-most) × (i < cap) × (j ≤ i) × Valid (nodeAt (now nodes) i) cap ⌝ }
     ensures { λ r. ⌜ SlidOne (now (nodes .entry)) (now (work .entry)) cap i j (now (nodes .exit)) (now (work .exit)) r ⌝ }
 {
     if work[i] == 0 {
@@ -43,7 +43,7 @@ fn slide_one(nodes: &mut [i64], work: &mut [u32], cap: usize, i: usize, j: usize
 
 // The nodes up to the first that is not marked stay in place: each is forwarded to itself. Answers how many.
 fn stay(work: &mut [u32], cap: usize, count: usize) -> usize
-    requires { ⌜ (cap * 2 ≤ length (now work)) × (cap ≤ 65535) × (count ≤ cap) ⌝ }
+    requires { ⌜ (cap * 2 ≤ length (now work)) × (cap ≤ nodes-most) × (count ≤ cap) ⌝ }
     ensures { λ r. ⌜ Stayed cap (now (work .entry)) (now (work .exit)) count r ⌝ }
 {
     let mut i: usize = 0;

@@ -6,7 +6,7 @@ use Prim.Native.Nat.{ℕ, zero, suc, _*_, _≤_, _<_}
 use lib.Dec.{eqb}
 use lib.IntN.{ℤ, pos, natAbs}
 use lib.ListN.{length, getD, set}
-use Rattle.table.specs.Table.{node-words, isLeaf}
+use Rattle.table.specs.Table.{node-words, isLeaf, nodes-most}
 use Rattle.table_unique.specs.Unique.{work-words}
 use Rattle.table.specs.Table.{nodeAt}
 use Rattle.theory.specs.Diagram.{Tree, leaf, branch, same}
@@ -34,7 +34,7 @@ pub record Below (R : List ℕ) (n : ℕ) : Type 0 where
 -- room for cap nodes in the node words and the work words
 pub record Space (cap : ℕ) (l : List ℤ) (w : List ℕ) (n : ℕ) : Type 0 where
   pub some : 0 < cap
-  pub few : cap ≤ 65535
+  pub few : cap ≤ nodes-most
   pub room : n ≤ cap
   pub words : cap * node-words ≤ length l
   pub works : cap * work-words ≤ length w

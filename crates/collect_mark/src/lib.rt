@@ -2,13 +2,13 @@
 ghost use mathlib.Core.Path.{_≡_};
 ghost use Prim.Native.Nat.{_+_, _*_, _≤_, _<_};
 ghost use lib.ListN.{length};
-ghost use Rattle.table.specs.Table.{node-words, nodeAt};
+ghost use Rattle.table.specs.Table.{node-words, nodeAt, nodes-most};
 ghost use Rattle.rule_node.specs.Nodes.{Valid, Good};
 ghost use Rattle.collect_mark.specs.Mark.{Space, Below, markStep, markDown, Marked};
 
 // The branches of a marked node become marked.
 fn below(nodes: &[i64], work: &mut [u32], i: usize)
-    requires { ⌜ (i * node-words + node-words ≤ length (now nodes)) × (i < length (now work)) × (i ≤ 65535) × Valid (nodeAt (now nodes) i) i ⌝ }
+    requires { ⌜ (i * node-words + node-words ≤ length (now nodes)) × (i < length (now work)) × (i ≤ nodes-most) × Valid (nodeAt (now nodes) i) i ⌝ }
     ensures { λ _. ⌜ now (work .exit) ≡ markStep (now (nodes .entry)) (now (work .entry)) i ⌝ }
 {
     if work[i] == 0 {
@@ -26,7 +26,7 @@ fn below(nodes: &[i64], work: &mut [u32], i: usize)
 
 // So for all nodes. From the last down, for a node's branches lie below it.
 fn descend(nodes: &[i64], work: &mut [u32], count: usize)
-    requires { ⌜ (count * node-words ≤ length (now nodes)) × (count ≤ length (now work)) × (count ≤ 65535) × Good (now nodes) count ⌝ }
+    requires { ⌜ (count * node-words ≤ length (now nodes)) × (count ≤ length (now work)) × (count ≤ nodes-most) × Good (now nodes) count ⌝ }
     ensures { λ _. ⌜ now (work .exit) ≡ markDown (now (nodes .entry)) (now (work .entry)) count ⌝ }
 {
     let mut i = count;

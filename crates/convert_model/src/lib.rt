@@ -9,6 +9,7 @@ ghost use Rattle.convert_model.specs.Conversion.{own-refusal, conversion
 ghost use Rattle.convert_model.specs.Conversion.{too-large as larger};
 ghost use Rattle.convert_model.specs.Conversion.{unfit as unfit-in};
 ghost use Rattle.convert_model.specs.Written.{outcome-as};
+use model::BYTES_MOST;
 use model::Verdict;
 use model_command::action_in;
 use model_command::byte_at;
@@ -33,13 +34,16 @@ pub struct Converted {
     pub size: usize,
 }
 
-// "A model may have 262,144 bytes"; "Old models keep their limit of 65,535 bytes."
+// "Old models keep their limit of 65,535 bytes."
+const OLD_BYTES_MOST: usize = 65535;
+
+// How long a model may be.
 fn bytes_most(form: Form) -> usize
     ensures { λ r. ⌜ (r ≡ bytes-in (form-of form)) × (r ≤ 262144) ⌝ }
 {
     match form {
-        Form::Old => 65535,
-        Form::New => 262144,
+        Form::Old => OLD_BYTES_MOST,
+        Form::New => BYTES_MOST,
     }
 }
 

@@ -16,11 +16,9 @@ use model::site;
 use model_command::Command;
 use model_command::Read;
 use model_form::ACTIONS;
+use model_form::CONDITIONS;
 use model_form::LEVELS;
 use model_stack::Stack;
-
-// "n conditions (0 to 4)"
-const CONDITIONS: usize = 4;
 
 // The most roots that a model has, with the end worth's.
 pub const LOADED_ROOTS: usize = (1 + CONDITIONS + LEVELS) * ACTIONS + 1;

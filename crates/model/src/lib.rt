@@ -29,7 +29,7 @@ use model_progress::refusals::STEPS;
 use model_progress::refusals::UNKNOWN;
 
 // "A model may have 262,144 bytes"
-const BYTES_MOST: usize = 262144;
+pub const BYTES_MOST: usize = 262144;
 
 // "horizon or steps not 1 to 8", and the eight stage words.
 const STEPS_MOST: u32 = 8;

@@ -22,9 +22,7 @@ use model_progress::refusals::OPERAND;
 use model_progress::refusals::ORDER;
 use model_progress::refusals::STACK;
 use model_progress::refusals::TWICE;
-
-// "it holds at most 32"
-const STACK_MOST: usize = 32;
+use model_stack::STACK_MOST;
 
 // "operands 4, then 5, 6, diagram 4"
 fn ordered(operand: bool, stack: bool, twice: bool, diagram: bool) -> u32

@@ -11,6 +11,7 @@ ghost use Rattle.theory.specs.Verdict.{or, top};
 ghost use Rattle.theory.specs.Verdict.{joined as joined-facts};
 ghost use Rattle.theory.specs.Verdict.{may-be as may-be-given};
 ghost use Rattle.model_facts.specs.Seen.{seen-in, seen};
+use model_stack::STACK_MOST;
 
 // The three facts of each diagram on the stack, a word of bits for each fact, the top's lowest.
 pub struct Seen {
@@ -65,7 +66,7 @@ pub fn pushed(t: Seen, next_step: bool, weights: bool, forbids: bool) -> Seen
     let later = t.later;
     let weighed = t.weights;
     let barred = t.forbids;
-    if t.len < 32 {
+    if t.len < STACK_MOST {
         Seen {
             len: t.len + 1,
             later: below(later, next_step),

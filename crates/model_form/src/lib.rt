@@ -8,6 +8,9 @@ use whole::COEFFICIENTS;
 // "m up to 8"
 pub const LEVELS: usize = COEFFICIENTS;
 
+// "n conditions (0 to 4)"
+pub const CONDITIONS: usize = 4;
+
 // "A as two bytes (1 to 400)"
 pub const ACTIONS: usize = 400;
 

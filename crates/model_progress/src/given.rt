@@ -6,9 +6,9 @@ ghost use lib.ListN.{getD, set};
 ghost use Rattle.model_progress.specs.Standing.{base-of, row-given, action-given, all-given, site-as, noted};
 ghost use Rattle.model_progress.specs.Standing.{place as place-of};
 use super::Site;
-use super::operands::CONDITIONS;
 use model_command::Command;
 use model_form::ACTIONS;
+use model_form::CONDITIONS;
 use model_form::LEVELS;
 
 // Flags in all: the end worth's, then rows of the actions from 1 on, for the reward, each chance, each next level and the name.

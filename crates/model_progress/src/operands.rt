@@ -24,11 +24,10 @@ use super::refusals::OPERAND;
 use model_command::NAME_BYTES;
 use model_facts::both;
 use model_facts::either;
+use model_form::CONDITIONS;
 use model_form::Form;
 
-// "n conditions (0 to 4)"; "weight total W (1 to 100)".
-pub const CONDITIONS: usize = 4;
-
+// "weight total W (1 to 100)".
 const WEIGHTS: usize = 100;
 
 // 1 to n.

@@ -17,9 +17,9 @@ ghost use Rattle.model_facts.specs.Seen.{seen as seen-of};
 use super::Progress;
 use super::Site;
 use super::operands;
-use super::operands::CONDITIONS;
 use model_command::Command;
 use model_facts::Seen;
+use model_form::CONDITIONS;
 use model_form::Form;
 
 pub fn start() -> Progress

@@ -4,9 +4,12 @@ ghost use mathlib.Core.List.{[]};
 ghost use lib.ListN.{drop, getD};
 ghost use Rattle.model_stack.specs.Held.{held, pushed};
 
+// "it holds at most 32"
+pub const STACK_MOST: usize = 32;
+
 // Diagram numbers. The top is at len − 1.
 pub struct Stack {
-    pub items: [u32; 32],
+    pub items: [u32; STACK_MOST],
     pub len: usize,
 }
 
@@ -15,7 +18,7 @@ impl Stack {
         ensures { λ r. ⌜ held r ≡ [] ⌝ }
     {
         Stack {
-            items: [0u32; 32],
+            items: [0u32; STACK_MOST],
             len: 0,
         }
     }
@@ -25,7 +28,7 @@ impl Stack {
         ensures { λ r. ⌜ held r ≡ pushed x (held self) ⌝ }
     {
         let at = self.len;
-        if at < 32 {
+        if at < STACK_MOST {
             self.items[at] = x;
             self.len = at + 1;
         }
@@ -52,6 +55,6 @@ impl Stack {
         }
         let last = at - 1;
         let items = self.items;
-        if last < 32 { items[last] } else { 0 }
+        if last < STACK_MOST { items[last] } else { 0 }
     }
 }

@@ -22,6 +22,7 @@ ghost use Rattle.plain_pass.specs.Pass.{numerator as numerator-at};
 ghost use Rattle.plain_pass.specs.Parts.{Room, Holds, Asks};
 use model_command::Command;
 use model_command::Read;
+use model_stack::STACK_MOST;
 use plain_parts::size;
 use plain_pass::Slot;
 use whole::NUMBERS;
@@ -299,6 +300,6 @@ pub fn leaf_at(
     requires { ⌜ Asks (now model) (slot-of g) begin (point-at mask setting (now n) m) ⌝ }
     ensures { λ r. ⌜ Comes (now (model .entry)) (slot-of g) (point-at mask setting (now (n .entry)) m) r ⌝ }
 {
-    let mut items = [0u32; 32];
+    let mut items = [0u32; STACK_MOST];
     pass_from(model, begin, g, mask, setting, n, m, &mut items)
 }

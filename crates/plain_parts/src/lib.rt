@@ -17,12 +17,10 @@ ghost use Rattle.plain_pass.specs.Parts.{place as place-of};
 use model_command::Command;
 use model_command::Read;
 use model_form::ACTIONS;
+use model_form::CONDITIONS;
 use model_form::Form;
 use model_form::LEVELS;
 use plain_pass::Slot;
-
-// The conditions that a model can have.
-const CONDITIONS: usize = 4;
 
 // The end worth's place among an action's slots: behind a reward, the chances and the next levels.
 const END_ROW: usize = 1 + CONDITIONS + LEVELS;

@@ -3,7 +3,7 @@
 ghost use mathlib.Core.Path.{_≡_};
 ghost use Prim.Native.Nat.{_+_, _-_, _*_, _≤_, _<_};
 ghost use lib.ListN.{length};
-ghost use Rattle.table.specs.Table.{node-words, nodeAt};
+ghost use Rattle.table.specs.Table.{node-words, nodeAt, nodes-most};
 ghost use Rattle.table_unique.specs.Unique.{work-words};
 ghost use Rattle.rule_node.specs.Table.{Bare, Grew};
 ghost use Rattle.prune_paths.specs.Prune.{GoodRows};
@@ -15,7 +15,7 @@ use table::Made;
 
 // The index that row r has gone to; rows are numbered from 1.
 pub fn gone(work: &[u32], cap: usize, r: usize) -> usize
-    requires { ⌜ (0 < r) × (r ≤ cap) × (cap ≤ 65535) × (cap * work-words ≤ length (now work)) ⌝ }
+    requires { ⌜ (0 < r) × (r ≤ cap) × (cap ≤ nodes-most) × (cap * work-words ≤ length (now work)) ⌝ }
     ensures { λ j. ⌜ j ≡ forward cap (now (work .entry)) (r - 1) ⌝ }
 {
     work[cap * 2 + (r - 1)] as usize
@@ -37,7 +37,7 @@ fn remake_row(nodes: &mut [i64], work: &mut [u32], cap: usize, count: usize, i: 
 
 // Rows 1 to `rows`; answers how many nodes they come to.
 pub fn remake(nodes: &mut [i64], work: &mut [u32], cap: usize, rows: usize) -> usize
-    requires { ⌜ GoodRows (now nodes) rows × (0 < cap) × (cap ≤ 65535) × (rows ≤ cap) × (cap * node-words ≤ length (now nodes)) × (cap * work-words ≤ length (now work)) ⌝ }
+    requires { ⌜ GoodRows (now nodes) rows × (0 < cap) × (cap ≤ nodes-most) × (rows ≤ cap) × (cap * node-words ≤ length (now nodes)) × (cap * work-words ≤ length (now work)) ⌝ }
     ensures { λ r. ⌜ Remade cap (now (nodes .entry)) (now (nodes .exit)) (now (work .exit)) r rows × (length (now (nodes .exit)) ≡ length (now (nodes .entry))) × (length (now (work .exit)) ≡ length (now (work .entry))) ⌝ }
 {
     table_clear::work(work, 0, cap);

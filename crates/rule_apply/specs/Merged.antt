@@ -5,7 +5,8 @@ use Rattle.whole.specs.Cases.{if}
 use Rattle.theory.specs.Diagram.{Test, Tree}
 use Rattle.theory.specs.Computation.{Comp}
 use Rattle.theory.specs.Rules.{node, choose}
+use Rattle.rule_node.specs.Codes.{best-code}
 
 -- what is made of two results over a root
 unfoldable pub makerOf : ℕ → Test → Tree → Tree → Comp Tree
-makerOf op = if (eqb op 2) choose node
+makerOf op = if (eqb op best-code) choose node

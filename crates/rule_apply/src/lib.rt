@@ -1,6 +1,7 @@
 // Two diagrams merged by the first root: sum, product, best.
 ghost use Prim.Native.Nat.{_<_, _≤_};
 ghost use Rattle.table.specs.Table.{nodeAt};
+ghost use Rattle.rule_node.specs.Codes.{best-code};
 ghost use Rattle.rule_node.specs.Nodes.{testOf, treeAt, Root};
 ghost use Rattle.rule_node.specs.Table.{Table, RuleRan};
 ghost use Rattle.rule_node.specs.Meaning.{ruleOf};
@@ -35,7 +36,7 @@ fn over_root(
     join(nodes, work, cap, count, t, h, l)
 }
 
-// The diagrams at f and g merged: op 0 is sum, 1 product, 2 best. Only indexes live over the calls.
+// The diagrams at f and g merged by sum, product or best. Only indexes live over the calls.
 pub fn merge(
     nodes: &mut [i64],
     work: &mut [u32],
@@ -45,7 +46,7 @@ pub fn merge(
     f: usize,
     g: usize,
 ) -> Made
-    requires { ⌜ Table ruleOf cap (now nodes) (now work) count × (op ≤ 2) × (f < count) × (g < count) ⌝ }
+    requires { ⌜ Table ruleOf cap (now nodes) (now work) count × (op ≤ best-code) × (f < count) × (g < count) ⌝ }
     ensures { λ r. ⌜ RuleRan ruleOf cap (now (nodes .entry)) (now (work .entry)) count (ruleOf (now (nodes .entry)) count op f g 0 0) (now (nodes .exit)) (now (work .exit)) r ⌝ }
 {
     let s = sides_at(nodes, f, g);

@@ -1,4 +1,5 @@
 -- Diagrams in a node table: what its words mean, and what the rules on it do.
+pub mod Codes
 pub mod Nodes
 pub mod Table
 pub mod Meaning

@@ -15,6 +15,7 @@ use Rattle.theory.specs.Diagram.{Test, later, lin-of, Tree, leaf, branch, test-
 use Rattle.theory.specs.Computation.{Comp, ret}
 use Rattle.theory.specs.Rules.{choose, over, decide, sum, product, best, scale, shift, complement, number, side, substitute}
 use Rattle.rule_node.specs.Nodes.{blank, treeAt}
+use Rattle.rule_node.specs.Codes.{sum-code, product-code, best-code, scale-code, shift-code, complement-code, number-code, yes-side-code, no-side-code, walk-code, choose-later-code, choose-named-code, substitute-code}
 
 -- the i64 with the low half p and the high half q
 unfoldable pub cOf : ℕ → ℕ → ℤ
@@ -27,11 +28,11 @@ testIn (branch t h l) = t
 
 -- the test that a choice is given: 10 the next step's condition p, 11 the one that the node at p names
 unfoldable pub testBy : List ℤ → ℕ → ℕ → ℕ → Test
-testBy l n op p = if (eqb op 10) (later p) (testIn (treeAt l n p))
+testBy l n op p = if (eqb op choose-later-code) (later p) (testIn (treeAt l n p))
 
 -- such a test is there
 abbrev pub Names : ℕ → ℕ → ℕ → Type 0
-Names n op p = ((op ≡ 10) × (0 < p) × (p ≤ conditions-most)) ⊎ ((op ≡ 11) × (p < n))
+Names n op p = ((op ≡ choose-later-code) × (0 < p) × (p ≤ conditions-most)) ⊎ ((op ≡ choose-named-code) × (p < n))
 
 -- a word's low and high half, of 16 bits each
 unfoldable pub halves : List ℕ → List ℕ
@@ -49,19 +50,19 @@ packed l n op f g p q = map (treeAt l n) (indexes op f g p q)
 -- the rule of the number c
 unfoldable pub ruleBy : ℕ → List ℤ → ℕ → ℕ → ℕ → ℕ → ℕ → ℕ → Comp Tree
 ruleBy c l n op f g p q =
-    if (eqb c 0) (sum (treeAt l n f) (treeAt l n g))
-    (if (eqb c 1) (product (treeAt l n f) (treeAt l n g))
-    (if (eqb c 2) (best (treeAt l n f) (treeAt l n g))
-    (if (eqb c 3) (scale (cOf p q) (treeAt l n f))
-    (if (eqb c 4) (shift (cOf p q) (treeAt l n f))
-    (if (eqb c 5) (complement p (treeAt l n f))
-    (if (eqb c 6) (number p (treeAt l n f))
-    (if (eqb c 7) (side true p (treeAt l n f))
-    (if (eqb c 8) (side false p (treeAt l n f))
-    (if (eqb c 9) (over choose (λ x. decide (lin-of x) (treeAt l n g) (treeAt l n p)) (treeAt l n f))
-    (if (eqb c 10) (choose (testBy l n 10 p) (treeAt l n f) (treeAt l n g))
-    (if (eqb c 11) (choose (testBy l n 11 p) (treeAt l n f) (treeAt l n g))
-    (if (eqb c 12) (substitute (packed l n op f g p q) (treeAt l n (f % 65536)))
+    if (eqb c sum-code) (sum (treeAt l n f) (treeAt l n g))
+    (if (eqb c product-code) (product (treeAt l n f) (treeAt l n g))
+    (if (eqb c best-code) (best (treeAt l n f) (treeAt l n g))
+    (if (eqb c scale-code) (scale (cOf p q) (treeAt l n f))
+    (if (eqb c shift-code) (shift (cOf p q) (treeAt l n f))
+    (if (eqb c complement-code) (complement p (treeAt l n f))
+    (if (eqb c number-code) (number p (treeAt l n f))
+    (if (eqb c yes-side-code) (side true p (treeAt l n f))
+    (if (eqb c no-side-code) (side false p (treeAt l n f))
+    (if (eqb c walk-code) (over choose (λ x. decide (lin-of x) (treeAt l n g) (treeAt l n p)) (treeAt l n f))
+    (if (eqb c choose-later-code) (choose (testBy l n choose-later-code p) (treeAt l n f) (treeAt l n g))
+    (if (eqb c choose-named-code) (choose (testBy l n choose-named-code p) (treeAt l n f) (treeAt l n g))
+    (if (eqb c substitute-code) (substitute (packed l n op f g p q) (treeAt l n (f % 65536)))
     (ret blank)))))))))))))
 
 -- a rule's number is the low four bits of its first word, and all of it but for substitution

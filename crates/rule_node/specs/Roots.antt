@@ -17,6 +17,7 @@ use Rattle.theory.specs.Rules.{parallel}
 use Rattle.rule_node.specs.Nodes.{linOf, Nums}
 use Rattle.rule_node.specs.declared.Sides.{Sides}
 use Rattle.rule_node.specs.declared.Down.{Down}
+use Rattle.rule_node.specs.Codes.{choose-later-code}
 
 -- ---- the order, by kind and then by the numbers, coefficients and constant
 
@@ -41,13 +42,13 @@ unfoldable pub namedNode : Node → Node
 namedNode x = if (isLeaf (x .kind)) (linearNode (quotL (divisorL (x .n)) (x .n))) x
 
 unfoldable pub testNode : List ℤ → ℕ → ℕ → Node
-testNode l op p = if (eqb op 10) (laterNode p) (namedNode (nodeAt l p))
+testNode l op p = if (eqb op choose-later-code) (laterNode p) (namedNode (nodeAt l p))
 
 -- it can be read
 pub record Readable (l : List ℤ) (op p : ℕ) : Type 0 where
-  pub number : op ≡ 10 → p ≤ conditions-most
-  pub words : (op ≡ 10 → ⊥) → p * node-words + node-words ≤ length l
-  pub nums : (op ≡ 10 → ⊥) → Nums (nodeAt l p)
+  pub number : op ≡ choose-later-code → p ≤ conditions-most
+  pub words : (op ≡ choose-later-code → ⊥) → p * node-words + node-words ≤ length l
+  pub nums : (op ≡ choose-later-code → ⊥) → Nums (nodeAt l p)
 
 -- ---- the sides
 

@@ -19,29 +19,30 @@ use Rattle.rule_node.specs.Roots.{downOf, ordNum, orderOf, laterNode}
 use Rattle.rule_node.specs.declared.Down.{Down}
 use Rattle.rule_leaves.specs.Leaves.{staysNone, productNode, shiftNode, complementNode, numberNode}
 use Rattle.rule_unary_node.specs.declared.Way.{Way}
+use Rattle.rule_node.specs.Codes.{scale-code, shift-code, complement-code, number-code, yes-side-code, no-side-code}
 
 -- ---- the rules
 
 -- 3 scale · 4 shift · 5 complement · 6 number · 7 the yes side · 8 the no side
 unfoldable pub actOf : ℕ → ℕ → ℕ → Tree → Comp Tree
 actOf op p q F =
-    if (eqb op 3) (scale (cOf p q) F)
-    (if (eqb op 4) (shift (cOf p q) F)
-    (if (eqb op 5) (complement p F)
-    (if (eqb op 6) (number p F)
-    (if (eqb op 7) (side true p F) (side false p F)))))
+    if (eqb op scale-code) (scale (cOf p q) F)
+    (if (eqb op shift-code) (shift (cOf p q) F)
+    (if (eqb op complement-code) (complement p F)
+    (if (eqb op number-code) (number p F)
+    (if (eqb op yes-side-code) (side true p F) (side false p F)))))
 
 -- such a rule with numbers in range: two words of 32 bits; a shift within the limits, a weight, an action, a condition
 pub record Acts (op p q : ℕ) : Type 0 where
-  pub from : 3 ≤ op
-  pub to : op ≤ 8
+  pub from : scale-code ≤ op
+  pub to : op ≤ no-side-code
   pub low : p < 4294967296
   pub high : q < 4294967296
-  pub shifts : op ≡ 4 → Small (cOf p q)
-  pub weighs : op ≡ 5 → p ≤ weights-most
-  pub numbers : op ≡ 6 → p ≤ actions-most
-  pub some : 7 ≤ op → 0 < p
-  pub picks : 7 ≤ op → p ≤ conditions-most
+  pub shifts : op ≡ shift-code → Small (cOf p q)
+  pub weighs : op ≡ complement-code → p ≤ weights-most
+  pub numbers : op ≡ number-code → p ≤ actions-most
+  pub some : yes-side-code ≤ op → 0 < p
+  pub picks : yes-side-code ≤ op → p ≤ conditions-most
 
 -- the halves of an i64's bits
 unfoldable pub lowOf : ℤ → ℕ
@@ -55,14 +56,14 @@ highOf c = ofZ w64 c / 4294967296
 -- the leaf that a rule makes of a leaf; a side leaves it
 unfoldable pub actedNode : ℕ → ℕ → ℕ → Node → Node
 actedNode op p q x =
-    if (eqb op 3) (productNode (cOf p q) x)
-    (if (eqb op 4) (shiftNode (cOf p q) x)
-    (if (eqb op 5) (complementNode p x)
-    (if (eqb op 6) (numberNode p x) x)))
+    if (eqb op scale-code) (productNode (cOf p q) x)
+    (if (eqb op shift-code) (shiftNode (cOf p q) x)
+    (if (eqb op complement-code) (complementNode p x)
+    (if (eqb op number-code) (numberNode p x) x)))
 
 -- the leaf stays as it is: a side does not change it, "none" is not numbered, and a number times it but 0 is it
 unfoldable pub staysBy : ℕ → ℕ → ℕ → Node → Bool
-staysBy op p q x = if (ltb 6 op) true (if (eqb op 6) (isNone (x .kind)) (if (eqb op 3) (staysNone (cOf p q) x) false))
+staysBy op p q x = if (ltb number-code op) true (if (eqb op number-code) (isNone (x .kind)) (if (eqb op scale-code) (staysNone (cOf p q) x) false))
 
 -- ---- the way on
 
@@ -70,7 +71,7 @@ staysBy op p q x = if (ltb 6 op) true (if (eqb op 6) (isNone (x .kind)) (if (eqb
 unfoldable pub wayBy : Down → ℕ → ℕ → Way
 wayBy d op o =
     if (eqb o 1)
-    (if (eqb op 7) (record { ends = d .ends; picks = true; high = d .high; low = d .low }) (record { ends = d .ends; picks = true; high = d .low; low = d .low }))
+    (if (eqb op yes-side-code) (record { ends = d .ends; picks = true; high = d .high; low = d .low }) (record { ends = d .ends; picks = true; high = d .low; low = d .low }))
     (record { ends = d .ends; picks = false; high = d .high; low = d .low })
 
 unfoldable pub wayOf : ℕ → ℕ → Node → Way

@@ -3,6 +3,7 @@ ghost use mathlib.Core.Path.{_≡_};
 ghost use Prim.Native.Nat.{_≤_};
 ghost use Rattle.table.specs.Table.{nodeAt};
 ghost use Rattle.theory.specs.Widths.{conditions-most};
+ghost use Rattle.rule_node.specs.Codes.{yes-side-code};
 ghost use Rattle.rule_node.specs.Nodes.{At};
 ghost use Rattle.rule_unary_node.specs.Acts.{wayBy, wayOf};
 use super::Way;
@@ -42,7 +43,7 @@ pub fn way(d: Down, op: usize, o: usize) -> Way
 
 // What the rule op goes on with at f. Only a side looks for its condition.
 pub fn way_at(nodes: &[i64], op: usize, f: usize, p: usize) -> Way
-    requires { ⌜ At (now nodes) f × (7 ≤ op → p ≤ conditions-most) ⌝ }
+    requires { ⌜ At (now nodes) f × (yes-side-code ≤ op → p ≤ conditions-most) ⌝ }
     ensures { λ r. ⌜ r ≡ wayOf op p (nodeAt (now (nodes .entry)) f) ⌝ }
 {
     let x = table::get(nodes, f);

@@ -9,6 +9,7 @@ ghost use Rattle.rule_node.specs.Meaning.{ruleOf};
 ghost use Rattle.collect_mark.specs.Mark.{rootsOf, Below, Space};
 ghost use Rattle.solve_laws.specs.Operated.{Came};
 ghost use Rattle.solve_operation.specs.Operation.{substitutes, compOf, zeroNode, FitsLevels, Fits, Standing, Kept, Operated};
+ghost use Rattle.table.specs.Table.{nodes-most};
 use rule_node::codes::BEST;
 use table::Made;
 use table::Node;
@@ -157,19 +158,24 @@ fn attempt(
     compute(nodes, work, part, count, roots, rule)
 }
 
+// Rooms up to here are cleared in a moment: sixteen times what is held; the least part.
+const SMALL_PART: usize = 4096;
+
+const LEAST_PART: usize = 512;
+
 // The part of the room that a rule begins with: sixteen times what is held, or eight times where that is more than 4,096 nodes, since
 // every operation clears it.
 fn first_part(cap: usize, count: usize) -> usize
-    requires { ⌜ (0 < cap) × (cap ≤ 65535) × (count ≤ cap) ⌝ }
+    requires { ⌜ (0 < cap) × (cap ≤ nodes-most) × (count ≤ cap) ⌝ }
     ensures { λ r. ⌜ (0 < r) × (count ≤ r) × (r ≤ cap) ⌝ }
 {
-    let wide = least(count * 16, larger(4096, count * 8));
-    least(cap, larger(512, wide))
+    let wide = least(count * 16, larger(SMALL_PART, count * 8));
+    least(cap, larger(LEAST_PART, wide))
 }
 
 // The part after one that was too small.
 pub fn wider_part(cap: usize, part: usize) -> usize
-    requires { ⌜ (0 < part) × (cap ≤ 65535) × (part < cap) ⌝ }
+    requires { ⌜ (0 < part) × (cap ≤ nodes-most) × (part < cap) ⌝ }
     ensures { λ r. ⌜ (part < r) × (r ≤ cap) ⌝ }
 {
     least(cap, part * 16)

@@ -15,6 +15,10 @@ use Rattle.table.specs.declared.Made.{Made}
 abbrev pub node-words : ℕ
 node-words = numbers + 3
 
+-- "What the tables hold, N, is the least of .. and 65,535"
+abbrev pub nodes-most : ℕ
+nodes-most = 65535
+
 abbrev pub high-word : ℕ
 high-word = numbers + 1
 

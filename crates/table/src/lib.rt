@@ -11,6 +11,9 @@ use whole::NUMBERS;
 // A node's words: its kind, its numbers, and high and low behind them.
 pub const NODE_WORDS: usize = NUMBERS + 3;
 
+// "What the tables hold, N, is the least of .. and 65,535"
+pub const NODES_MOST: usize = 65535;
+
 pub const HIGH: usize = NUMBERS + 1;
 
 pub const LOW: usize = NUMBERS + 2;

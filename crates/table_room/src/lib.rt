@@ -3,6 +3,7 @@ ghost use mathlib.Core.Path.{_≡_};
 ghost use Prim.Native.Nat.{min};
 ghost use Rattle.theory.specs.Solve.{room as room-of};
 use table::NODE_WORDS;
+use table::NODES_MOST;
 use table_unique::WORK_WORDS;
 
 fn least(a: usize, b: usize) -> usize
@@ -15,5 +16,5 @@ fn least(a: usize, b: usize) -> usize
 pub fn room(nodes: usize, work: usize) -> usize
     ensures { λ r. ⌜ r ≡ room-of nodes work ⌝ }
 {
-    least(nodes / NODE_WORDS, least(work / WORK_WORDS, 65535))
+    least(nodes / NODE_WORDS, least(work / WORK_WORDS, NODES_MOST))
 }

@@ -6,7 +6,7 @@ use Prim.Native.Nat.{ℕ, zero, suc, _+_, _-_, _*_, _/_, _%_, _^_, _≤_, _<_}
 use lib.Dec.{eqb}
 use lib.IntN.{ℤ, pos, negsuc}
 use lib.ListN.{length, getD}
-use Rattle.table.specs.Table.{node-words, nodeAt, internR, internW}
+use Rattle.table.specs.Table.{node-words, nodeAt, internR, internW, nodes-most}
 use Rattle.table.specs.declared.Made.{Made}
 use Rattle.table.specs.declared.Node.{Node}
 
@@ -58,7 +58,7 @@ Apart l n = (i j : ℕ) → i < n → j < n → nodeAt l i ≡ nodeAt l j → i 
 -- a table of n nodes with room for cap, and its chains
 pub record Chained (cap : ℕ) (l : List ℤ) (w : List ℕ) (n : ℕ) : Type 0 where
   pub some : 0 < cap
-  pub few : cap ≤ 65535
+  pub few : cap ≤ nodes-most
   pub room : n ≤ cap
   pub words : cap * node-words ≤ length l
   pub works : cap * work-words ≤ length w

@@ -6,7 +6,7 @@ use table::Node;
 use whole::NUMBERS;
 ghost use mathlib.Core.Path.{_≡_};
 ghost use Prim.Native.Nat.{_*_, _%_, _^_, _≤_, _<_};
-ghost use Rattle.table.specs.Table.{firstNode};
+ghost use Rattle.table.specs.Table.{firstNode, nodes-most};
 ghost use Rattle.table_unique.specs.Unique.{factors-end, bitsOf, addedOf, nextOf, bucketOf, hashOf, Chained, NodeEntered};
 
 // A node's work words: two for the chains, and six for the cache.
@@ -68,7 +68,7 @@ fn next(k: u64) -> u64
 
 // The bucket of a sum of shares, by both its halves as a fraction: no division by the room.
 fn bucket(sum: u64, cap: usize) -> usize
-    requires { ⌜ (0 < cap) × (cap ≤ 65535) ⌝ }
+    requires { ⌜ (0 < cap) × (cap ≤ nodes-most) ⌝ }
     ensures { λ r. ⌜ (r ≡ bucketOf sum cap) × (r < cap) ⌝ }
 {
     let fraction = ((sum % HALF + sum / HALF) % HALF) as usize;
@@ -77,7 +77,7 @@ fn bucket(sum: u64, cap: usize) -> usize
 
 // A node's bucket.
 pub fn hash(x: Node, cap: usize) -> usize
-    requires { ⌜ (0 < cap) × (cap ≤ 65535) ⌝ }
+    requires { ⌜ (0 < cap) × (cap ≤ nodes-most) ⌝ }
     ensures { λ r. ⌜ (r ≡ hashOf cap x) × (r < cap) ⌝ }
 {
     let n = x.n;

@@ -6,6 +6,7 @@ ghost use Rattle.theory.specs.Verdict.{refusal as refusal-of};
 ghost use Rattle.theory.specs.Listing.{refusal-line};
 ghost use Rattle.text_plan_lines.specs.Lines.{line-most};
 ghost use Rattle.text_input.specs.Printed.{printed, text-bytes, tables-printed, plan-printed, program};
+use model::STAGE_WORDS;
 use solve_tables::PEAK_WORDS;
 use solve_tables::solve;
 use table::NODE_WORDS;
@@ -17,8 +18,6 @@ const NODES: usize = 512;
 const NODES_WORDS: usize = NODES * NODE_WORDS;
 
 const NODES_WORK: usize = NODES * WORK_WORDS;
-
-const STAGE_WORDS: usize = 8;
 
 // "A refusal prints `R number place`."
 fn refusal(text: &mut [u8], number: u32, place: usize) -> usize
