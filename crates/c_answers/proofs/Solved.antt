@@ -17,8 +17,8 @@ use Rattle.theory.specs.Verdict.{Verdict}
 use Rattle.theory.specs.Solve.{room, solve-in, SolveOut, solve-left, early, early-with-peaks, solve}
 use Rattle.theory.specs.laws.Refusals.{refused-number}
 use Rattle.c_answers.specs.Answers.{pair-bytes, short}
-use Rattle.c_answers.specs.Solving as A
-use Rattle.c_answers.specs.Solving.{model-verdict, solve-answer}
+use Rattle.c_answers.specs.SolveAnswer as A
+use Rattle.c_answers.specs.SolveAnswer.{model-verdict, solve-answer}
 use Rattle.c_answers.proofs.Bytes.{pair-length}
 use Rattle.c_answers.proofs.Answered.{at-start}
 

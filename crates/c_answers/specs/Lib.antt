@@ -1,4 +1,4 @@
 -- What the exports promise, in the terms of document 01.
 pub mod Answers
-pub mod Solving
+pub mod SolveAnswer
 pub mod Texts

@@ -6,7 +6,7 @@ use lib.ListN.{length}
 use Rattle.text_decimal.specs.Put.{PutAt}
 use Rattle.model_find.specs.Find.{FindOut}
 use Rattle.c_answers.specs.Answers.{pair-bytes, short, Answer, answered}
-use Rattle.c_name_answers.specs.Finding.{find-answer}
+use Rattle.c_name_answers.specs.FindAnswer.{find-answer}
 use Rattle.c_answers.proofs.Bytes.{pair-length}
 use Rattle.c_answers.proofs.Answered.{no-room, room}
 

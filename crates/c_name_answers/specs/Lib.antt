@@ -1,3 +1,3 @@
 -- What the answers about names are.
 pub mod Names
-pub mod Finding
+pub mod FindAnswer

@@ -2,7 +2,7 @@
 ghost use mathlib.Core.Path.{_≡_};
 ghost use Rattle.model_find.specs.Tally.{found-as};
 ghost use Rattle.c_answers.specs.Answers.{answered};
-ghost use Rattle.c_name_answers.specs.Finding.{find-answer};
+ghost use Rattle.c_name_answers.specs.FindAnswer.{find-answer};
 use c_answers::put_pair;
 use c_answers::short;
 use model_find::Found;

@@ -12,7 +12,7 @@ use Rattle.text_decimal.specs.Put.{PutAt}
 use Rattle.text_decimal.proofs.Puts.{then, rename}
 use Rattle.theory.specs.Value.{Asked, ValueOut}
 use Rattle.c_answers.specs.Answers.{le, pair-bytes, short, Answer, answered}
-use Rattle.c_value_answers.specs.Reading.{word-bytes, value-bytes, value-answer}
+use Rattle.c_value_answers.specs.ValueAnswer.{word-bytes, value-bytes, value-answer}
 use Rattle.c_answers.proofs.Bytes.{le-length, pair-length}
 use Rattle.c_answers.proofs.Answered.{no-room, room}
 

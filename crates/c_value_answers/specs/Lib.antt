@@ -1,2 +1,2 @@
 -- What a value's answer is.
-pub mod Reading
+pub mod ValueAnswer

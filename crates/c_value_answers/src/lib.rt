@@ -7,7 +7,7 @@ ghost use mir.Val.{ofZ};
 ghost use Rattle.text_decimal.specs.Put.{PutAt};
 ghost use Rattle.value_walk.specs.Out.{out as value-out};
 ghost use Rattle.c_answers.specs.Answers.{answered};
-ghost use Rattle.c_value_answers.specs.Reading.{word-bytes, value-bytes, value-answer};
+ghost use Rattle.c_value_answers.specs.ValueAnswer.{word-bytes, value-bytes, value-answer};
 use c_answers::put_le;
 use c_answers::put_pair;
 use c_answers::short;

@@ -15,11 +15,11 @@ use Rattle.theory.specs.Widths.{roots-most}
 use Rattle.theory.specs.Verdict.{Verdict, verdict}
 use Rattle.model.specs.Answers.{shown}
 use Rattle.model.specs.declared.Verdict.{Verdict as CodeVerdict}
-use Rattle.load_model.specs.Rooting.{Loads}
+use Rattle.load_model.specs.ModelRoots.{Loads}
 use Rattle.load_model.specs.declared.Done.{Done}
 use Rattle.finish.specs.Finish.{Unfinished}
 use Rattle.solve_operation.specs.Operation.{Fits, Standing, Operated}
-use Rattle.solve_total.specs.Planning.{modelSize}
+use Rattle.solve_total.specs.StageTable.{modelSize}
 use Rattle.solve_operation.specs.declared.Rule.{Rule}
 use Rattle.solve_operation.specs.declared.Rule.the-variants.{Zero, Levels, Reward, Best}
 use Rattle.solve_operation.specs.declared.Run.{Run}

@@ -19,7 +19,7 @@ use Rattle.rule_node.specs.Nodes.{Proper}
 use Rattle.table.proofs.Leaf.{condition-as}
 use Rattle.table.specs.Table.{node-words, eqZ}
 use Rattle.rule_node.specs.Table.{Table, Grew}
-use Rattle.rule_node.specs.Meaning.{ruleOf}
+use Rattle.rule_node.specs.EntryMeaning.{ruleOf}
 use Rattle.rule_unary_node.specs.Acts.{Acts}
 use Rattle.rule_node.proofs.Outcomes.{lifted, fresh}
 use Rattle.rule_node.proofs.Meanings.{zeros-behind}

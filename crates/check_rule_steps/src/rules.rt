@@ -3,7 +3,7 @@ ghost use mathlib.Core.Path.{_≡_};
 ghost use mathlib.Core.Bool.{true, false};
 ghost use Prim.Native.Nat.{_≤_, _<_};
 ghost use Rattle.rule_node.specs.Table.{Table};
-ghost use Rattle.rule_node.specs.Meaning.{ruleOf, Names};
+ghost use Rattle.rule_node.specs.EntryMeaning.{ruleOf, Names};
 ghost use Rattle.rule_unary_node.specs.Acts.{Acts};
 use super::Numbers;
 use super::Step;

@@ -20,7 +20,7 @@ use Rattle.theory.specs.Computation.{Comp}
 use Rattle.theory.specs.Diagram.{Tree}
 use Rattle.rule_node.specs.Nodes.{Proper}
 use Rattle.rule_node.specs.Table.{Table, RuleRan, Grew}
-use Rattle.rule_node.specs.Meaning.{ruleOf}
+use Rattle.rule_node.specs.EntryMeaning.{ruleOf}
 use Rattle.rule_node.specs.Roots.{linearNode}
 use Rattle.rule_node.proofs.Outcomes.{lifted}
 use Rattle.rule_node.proofs.Meanings.{proper-linear}

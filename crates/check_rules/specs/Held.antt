@@ -5,7 +5,7 @@ use Prim.Native.Nat.{ℕ, _<_, _≤_}
 use lib.IntN.{ℤ}
 use Rattle.table.specs.declared.Made.{Made}
 use Rattle.rule_node.specs.Table.{Table}
-use Rattle.rule_node.specs.Meaning.{ruleOf}
+use Rattle.rule_node.specs.EntryMeaning.{ruleOf}
 
 -- what the program's table holds
 abbrev pub cap : ℕ

@@ -1,7 +1,7 @@
 // Staircases merged in a table of 49,152 nodes: what each step came to, as its refusal's number and the count of nodes.
 ghost use Prim.Native.Nat.{_≤_, _<_};
 ghost use Rattle.rule_node.specs.Table.{Table};
-ghost use Rattle.rule_node.specs.Meaning.{ruleOf};
+ghost use Rattle.rule_node.specs.EntryMeaning.{ruleOf};
 ghost use Rattle.check_rules.specs.Held.{cap, RulesHeld};
 use rule_apply::merge;
 use rule_node::making::join_test;

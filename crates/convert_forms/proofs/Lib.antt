@@ -1,6 +1,6 @@
 -- Laws that several proofs cite.
 pub mod Operands
-pub mod Going
-pub mod Filling
-pub mod Putting
+pub mod ReadingSteps
+pub mod CutBytes
+pub mod CommandParts
 pub mod Pass

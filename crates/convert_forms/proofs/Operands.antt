@@ -11,7 +11,7 @@ use Rattle.theory.specs.Form.{Form, old-form, new-form, site-byte, levels-in, a
 use Rattle.theory.specs.Command.{byte-at}
 use Rattle.convert_forms.specs.declared.layouts.Layout.{Layout as CodeLayout}
 use Rattle.convert_forms.specs.Forms.{Layout, layout, layout-in, byte-in, copied, fitted, converted}
-use Rattle.convert_forms.specs.Working.{layout-as, converted-length}
+use Rattle.convert_forms.specs.OperandLayouts.{layout-as, converted-length}
 
 pub record Few (x : Layout) : Type 0 where
   pub before : x .before ≤ 32

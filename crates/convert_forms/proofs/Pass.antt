@@ -13,13 +13,13 @@ use Rattle.theory.specs.Rows.{Whole-in}
 use Rattle.theory.specs.laws.Loading.{behind-in}
 use Rattle.theory.specs.laws.Rows.{by-read-in, if-no}
 use Rattle.model_command.specs.declared.Read.{Read as CodeRead}
-use Rattle.model_command.specs.Reading.{next-in, read-of-in}
+use Rattle.model_command.specs.CursorReadings.{next-in, read-of-in}
 use Rattle.text_decimal.specs.Put.{PutAt}
 use Rattle.text_decimal.proofs.Puts.{none, then, rename}
 use Rattle.convert_forms.specs.Forms.{converted, converted-all, model-as}
-use Rattle.convert_forms.specs.Working.{converted-length, reads-on}
+use Rattle.convert_forms.specs.OperandLayouts.{converted-length, reads-on}
 use Rattle.convert_forms.proofs.Operands.{converted-long, length-most}
-use Rattle.convert_forms.proofs.Going.{goes-as}
+use Rattle.convert_forms.proofs.ReadingSteps.{goes-as}
 
 -- the commands before an offset are done; those from it on are left
 pub record Pass (F G : Form) (B : List ℕ) (at : ℕ) (done : List ℕ) : Type 0 where

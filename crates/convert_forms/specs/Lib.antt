@@ -1,3 +1,3 @@
 -- The bytes of a model in another form, and what the code works with.
 pub mod Forms
-pub mod Working
+pub mod OperandLayouts

@@ -4,7 +4,7 @@ ghost use Rattle.model_form.specs.Forms.{form-of};
 ghost use Rattle.convert_forms.specs.Forms.{layout};
 ghost use Rattle.convert_forms.specs.Forms.{layout-in as layout-of};
 ghost use Rattle.convert_forms.specs.Forms.{byte-in as byte-of};
-ghost use Rattle.convert_forms.specs.Working.{layout-as, converted-length};
+ghost use Rattle.convert_forms.specs.OperandLayouts.{layout-as, converted-length};
 use model_command::NAME_BYTES;
 use model_form::Form;
 use model_form::action_bytes;

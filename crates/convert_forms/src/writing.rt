@@ -8,7 +8,7 @@ ghost use Rattle.theory.specs.Command.{byte-at};
 ghost use Rattle.model_form.specs.Forms.{form-of};
 ghost use Rattle.text_decimal.specs.Put.{PutAt};
 ghost use Rattle.convert_forms.specs.Forms.{copied, fitted, converted, model-as};
-ghost use Rattle.convert_forms.specs.Working.{reads-on};
+ghost use Rattle.convert_forms.specs.OperandLayouts.{reads-on};
 use super::layouts::byte_in;
 use super::layouts::command_len;
 use super::layouts::layout_in;

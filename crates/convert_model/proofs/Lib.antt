@@ -1,4 +1,4 @@
 -- Laws that several proofs cite.
 pub mod Thirteen
-pub mod Searching
+pub mod ForbiddenSearch
 pub mod Call

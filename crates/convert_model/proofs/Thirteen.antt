@@ -13,7 +13,7 @@ use Rattle.model_command.specs.declared.Command.{Command as CodeCommand}
 use Rattle.model_command.specs.declared.Command.the-variants.{Site, Leaf, Condition, Test, Forbidden, Give, Name, End}
 use Rattle.model_command.specs.declared.Read.{Read as CodeRead}
 use Rattle.model_command.specs.declared.Read.the-variants.{Whole, Unknown, Short}
-use Rattle.model_command.specs.Reading.{command-of-in, read-of-in}
+use Rattle.model_command.specs.CursorReadings.{command-of-in, read-of-in}
 use Rattle.convert_model.specs.Conversion.{is-forbidden}
 use Rattle.convert_model.specs.Written.{reads-forbidden}
 

@@ -16,10 +16,10 @@ use Rattle.table_cache.specs.Cache.{slotOf, Key, Entry, storeOf}
 use Rattle.rule_choose.specs.Choice.{choiceOf}
 use Rattle.rule_node.proofs.Trees.{trees-kept}
 use Rattle.rule_node.proofs.Outcomes.{ran-as, grew-as, lifted}
-use Rattle.rule_node.proofs.Caching.{answered, kept-run}
-use Rattle.rule_choose.proofs.Choosing.{Here, Chooses, chooses-as}
-use Rattle.rule_node.proofs.Going.{index-small}
-use Rattle.load_choose.specs.Testing.{Stood, Testing, testAt, loadRule}
+use Rattle.rule_node.proofs.CacheEntries.{answered, kept-run}
+use Rattle.rule_choose.proofs.ChoiceSteps.{Here, Chooses, chooses-as}
+use Rattle.rule_node.proofs.RuleSteps.{index-small}
+use Rattle.load_choose.specs.CommandTest.{Stood, Testing, testAt, loadRule}
 
 rule-is : (B : List ℕ) (l : List ℤ) (n op f g p q : ℕ) → loadRule B l n op f g p q ≡ choose (testAt B p) (treeAt l n f) (treeAt l n g)
 unfolding loadRule

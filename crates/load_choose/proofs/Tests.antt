@@ -31,12 +31,12 @@ use Rattle.model_command.specs.declared.Command.{Command as CodeCommand}
 use Rattle.model_command.specs.declared.Command.the-variants.{Site, Leaf, Condition, Test as TestBy, Forbidden, Give, Name, End}
 use Rattle.model_command.specs.declared.Read.{Read as CodeRead}
 use Rattle.model_command.specs.declared.Read.the-variants.{Whole, Unknown, Short}
-use Rattle.model_command.specs.Reading.{with-linear, linear-of, command-of-in, command-of, read-of-in, read-of}
+use Rattle.model_command.specs.CursorReadings.{with-linear, linear-of, command-of-in, command-of, read-of-in, read-of}
 use Rattle.rule_node.specs.Nodes.{linOf, testOf, conditionOf, Nums, Proper}
 use Rattle.rule_node.specs.Roots.{linearNode, namedNode}
 use Rattle.rule_node.proofs.Trees.{later-is, now-is}
 use Rattle.rule_node.proofs.Meanings.{zeros-behind, proper-linear, divided-test, named-leaf}
-use Rattle.load_choose.specs.Testing.{Stood, wordsOf, condition-in, condition-read, test-in, test-read, testAt, Testing}
+use Rattle.load_choose.specs.CommandTest.{Stood, wordsOf, condition-in, condition-read, test-in, test-read, testAt, Testing}
 
 -- ---- a condition
 

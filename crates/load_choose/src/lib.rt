@@ -6,7 +6,7 @@ ghost use Rattle.theory.specs.Load.{condition-test};
 ghost use Rattle.theory.specs.Widths.{conditions-most};
 ghost use Rattle.rule_node.specs.Nodes.{treeAt};
 ghost use Rattle.rule_node.specs.Table.{Table, RuleRan};
-ghost use Rattle.load_choose.specs.Testing.{Stood, Testing, wordsOf, testAt, loadRule};
+ghost use Rattle.load_choose.specs.CommandTest.{Stood, Testing, wordsOf, testAt, loadRule};
 use model_command::Command;
 use model_command::Read;
 use rule_choose::roots::choice_at;

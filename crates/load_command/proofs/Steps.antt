@@ -28,16 +28,16 @@ use Rattle.model_command.proofs.Command.{the-type as command-type}
 use Rattle.model_command.specs.declared.Command.{Command as CodeCommand}
 use Rattle.model_command.specs.declared.Command.the-variants.{Site, Leaf, Condition, Test as TestBy, Forbidden, Give, Name, End}
 use Rattle.model_stack.specs.Held.{held, pushed}
-use Rattle.model_command.specs.Reading.{with-linear, linear-of, command-of-in, command-of}
+use Rattle.model_command.specs.CursorReadings.{with-linear, linear-of, command-of-in, command-of}
 use Rattle.rule_node.specs.Nodes.{blank, linOf, treeOf, trees, treeAt, Nums, Valid, Grown}
 use Rattle.rule_node.specs.Table.{Rule, Bare, Table, RuleRan, Grew}
 use Rattle.rule_node.proofs.Trees.{trees-kept, grown-not, tree-leaf, leaf-some}
 use Rattle.rule_node.proofs.Outcomes.{out-ok, out-no, grown, ran-as, grew-as, lifted}
-use Rattle.rule_node.proofs.Going.{index-small}
+use Rattle.rule_node.proofs.RuleSteps.{index-small}
 use Rattle.load_choose.proofs.Tests.{words-nums}
-use Rattle.load_choose.specs.Testing.{wordsOf, condition-in, condition-read, test-in, test-read, testAt, Testing, loadRule}
+use Rattle.load_choose.specs.CommandTest.{wordsOf, condition-in, condition-read, test-in, test-read, testAt, Testing, loadRule}
 use Rattle.load_command.specs.declared.Loaded.{Loaded}
-use Rattle.load_command.specs.Stepping.{standing, Below, Put, Grown-on, Chosen-on, Popped, Able, height, given-to, entered, StepReady, loading, Stepped}
+use Rattle.load_command.specs.CommandStep.{standing, Below, Put, Grown-on, Chosen-on, Popped, Able, height, given-to, entered, StepReady, loading, Stepped}
 
 -- ---- numbers on the stack
 

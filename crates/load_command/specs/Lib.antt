@@ -1,2 +1,2 @@
 -- What one command of the model does to the stack and the table.
-pub mod Stepping
+pub mod CommandStep

@@ -24,14 +24,14 @@ use Rattle.theory.specs.laws.Comps.{run-bind, run-result}
 use Rattle.theory.specs.laws.Comps.{after as after-out}
 use Rattle.theory.specs.laws.Loading.{accepted-site, by-reading, behind}
 use Rattle.model_stack.specs.Held.{held}
-use Rattle.model_command.specs.Reading.{next-at}
+use Rattle.model_command.specs.CursorReadings.{next-at}
 use Rattle.model_command.proofs.Forward.{Bytes, next-whole}
 use Rattle.rule_node.specs.Nodes.{trees}
 use Rattle.rule_node.specs.Table.{Table}
-use Rattle.load_choose.specs.Testing.{loadRule}
-use Rattle.load_command.specs.Stepping.{standing, Below, loading}
+use Rattle.load_choose.specs.CommandTest.{loadRule}
+use Rattle.load_command.specs.CommandStep.{standing, Below, loading}
 use Rattle.load_command.specs.declared.Loaded.{Loaded}
-use Rattle.load_model.specs.Rooting.{endOf, Starts, Loads}
+use Rattle.load_model.specs.ModelRoots.{endOf, Starts, Loads}
 use Rattle.load_model.proofs.Places.{width-of, Placed-at, Rooted, rooted-none}
 use Rattle.load_model.proofs.Turns.{Walk, few-in, judged-whole}
 

@@ -25,8 +25,8 @@ use Rattle.rule_node.proofs.Trees.{trees-kept}
 use Rattle.model_command.proofs.Command.{the-type as command-type}
 use Rattle.model_command.specs.declared.Command.{Command as CodeCommand}
 use Rattle.model_command.specs.declared.Command.the-variants.{Site as SiteBy, Leaf, Condition, Test, Forbidden, Give, Name, End}
-use Rattle.model_command.specs.Reading.{command-of-in, command-of}
-use Rattle.load_model.specs.Rooting.{rows-above, offset-of, place-of, ended-by, storedIn}
+use Rattle.model_command.specs.CursorReadings.{command-of-in, command-of}
+use Rattle.load_model.specs.ModelRoots.{rows-above, offset-of, place-of, ended-by, storedIn}
 
 -- ---- places
 

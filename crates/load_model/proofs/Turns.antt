@@ -28,19 +28,19 @@ use Rattle.model_command.specs.declared.Command.{Command as CodeCommand}
 use Rattle.model_command.specs.declared.Read.{Read as CodeRead}
 use Rattle.model_command.specs.declared.Read.the-variants.{Whole, Unknown, Short}
 use Rattle.model_stack.specs.Held.{held}
-use Rattle.model_command.specs.Reading.{command-of, read-of-in, read-of, next-at}
+use Rattle.model_command.specs.CursorReadings.{command-of, read-of-in, read-of, next-at}
 use Rattle.model_command.proofs.Forward.{whole-bytes}
 use Rattle.model_progress.specs.declared.Site.{Site as CodeSite}
-use Rattle.model_progress.specs.Standing.{site-as}
+use Rattle.model_progress.specs.GivenFlags.{site-as}
 use Rattle.model.specs.Answers.{is-end}
 use Rattle.model.proofs.Walk.{at-end, going, forward, from-first}
 use Rattle.rule_node.specs.Nodes.{trees, treeAt}
 use Rattle.rule_node.specs.Table.{Table}
-use Rattle.load_choose.specs.Testing.{loadRule}
-use Rattle.load_command.specs.Stepping.{standing, Below, Able, height, given-to, entered, StepReady, loading, Stepped}
+use Rattle.load_choose.specs.CommandTest.{loadRule}
+use Rattle.load_command.specs.CommandStep.{standing, Below, Able, height, given-to, entered, StepReady, loading, Stepped}
 use Rattle.load_command.proofs.Steps.{top-below}
 use Rattle.load_command.specs.declared.Loaded.{Loaded}
-use Rattle.load_model.specs.Rooting.{place-of, ended-by, storedIn}
+use Rattle.load_model.specs.ModelRoots.{place-of, ended-by, storedIn}
 use Rattle.load_model.proofs.Places.{Stands-at, placed-given, ends-given, Rooted, rooted-grown, rooted-name, rooted-entry, stored-none, stored-length}
 
 -- ---- a command that breaks no rule

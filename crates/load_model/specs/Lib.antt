@@ -1,2 +1,2 @@
 -- Where the roots of a model's diagrams stand, and what a load leaves.
-pub mod Rooting
+pub mod ModelRoots

@@ -18,13 +18,13 @@ use Rattle.model_command.specs.declared.Command.{Command as CodeCommand}
 use Rattle.model_command.specs.declared.Command.the-variants.{Site, Leaf, Condition, Test, Forbidden, Give, Name, End}
 use Rattle.model_command.specs.declared.Read.{Read as CodeRead}
 use Rattle.model_command.specs.declared.Read.the-variants.{Whole, Unknown, Short}
-use Rattle.model_command.specs.Reading.{command-of, command-of-in, read-of, read-of-in, next-in, next-at}
+use Rattle.model_command.specs.CursorReadings.{command-of, command-of-in, read-of, read-of-in, next-in, next-at}
 use Rattle.model_command.proofs.Forward.{whole-bytes, next-whole}
 use Rattle.model_progress.specs.declared.Progress.{Progress as CodeProgress}
 use Rattle.model_progress.specs.declared.Site.{Site as CodeSite}
 use Rattle.model_facts.specs.Seen.{seen-in}
-use Rattle.model_progress.specs.Standing.{site-as, noted, ProgressStands, Leaves}
-use Rattle.model_progress.proofs.Leaving.{stands-start}
+use Rattle.model_progress.specs.GivenFlags.{site-as, noted, ProgressStands, Leaves}
+use Rattle.model_progress.proofs.StateAfter.{stands-start}
 use Rattle.model.specs.Answers.{is-end}
 use Rattle.model.specs.Walk.{Walk}
 

@@ -8,7 +8,7 @@ use Rattle.theory.specs.Form.{Form}
 use Rattle.theory.specs.Command.{readings-from-in}
 use Rattle.theory.specs.Verdict.{Progress, judged-in, verdict-in}
 use Rattle.model_progress.specs.declared.Progress.{Progress as CodeProgress}
-use Rattle.model_progress.specs.Standing.{ProgressStands}
+use Rattle.model_progress.specs.GivenFlags.{ProgressStands}
 
 -- with fuel enough, what is left of the readings gives the verdict
 pub record Walk (form : Form) (B : List ℕ) (at : ℕ) (s : CodeProgress) (F : List Bool) : Type 0 where

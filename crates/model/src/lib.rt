@@ -12,7 +12,7 @@ ghost use Rattle.theory.specs.Verdict.{ended as ended-at};
 ghost use Rattle.theory.specs.Verdict.{Verdict as Outcome};
 ghost use Rattle.theory.specs.Load.{site-at};
 ghost use Rattle.theory.specs.Solve.{early as early-of};
-ghost use Rattle.model_progress.specs.Standing.{site-as};
+ghost use Rattle.model_progress.specs.GivenFlags.{site-as};
 ghost use Rattle.model.specs.Answers.{shown};
 ghost use Rattle.model.specs.Walk.{Walk};
 ghost use Rattle.model.specs.Answers.{is-end as ends};

@@ -11,7 +11,7 @@ use Rattle.whole.specs.Cases.{if}
 use Rattle.theory.specs.Widths.{name-bytes}
 use Rattle.theory.specs.Form.{Form, old-form, new-form, site-byte, action-bytes, forbidden-bytes, linear-bytes, behind-action}
 use Rattle.theory.specs.Command.{Command, site, push-leaf, push-condition, push-test, push-forbidden, give, name-action, end-model, whole, unknown, short, byte-at, width-in, command-in, read-in}
-use Rattle.model_command.specs.Reading.{next-in}
+use Rattle.model_command.specs.CursorReadings.{next-in}
 
 -- the bytes of a command that is whole
 pub record Bytes (F : Form) (B : List ℕ) (at : ℕ) : Type 0 where

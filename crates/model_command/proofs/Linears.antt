@@ -15,7 +15,7 @@ use Rattle.whole.proofs.Filled.{Filled}
 use Rattle.theory.specs.laws.Words.{padded-full}
 use Rattle.theory.specs.Widths.{levels-most}
 use Rattle.theory.specs.Command.{word-at, signed, signed-from, linear-in, linear-at}
-use Rattle.model_command.specs.Reading.{linear-of}
+use Rattle.model_command.specs.CursorReadings.{linear-of}
 use Rattle.model_command.proofs.Signed.{signed-size}
 
 -- number k of those from an offset on

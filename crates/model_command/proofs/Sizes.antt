@@ -5,7 +5,7 @@ use Prim.Native.Nat.{ℕ}
 use Rattle.theory.specs.Form.{Form}
 use Rattle.theory.specs.Command.{whole, byte-at, width-in, read-in}
 use Rattle.model_command.specs.declared.Command.{Command as CodeCommand}
-use Rattle.model_command.specs.Reading.{command-of-in}
+use Rattle.model_command.specs.CursorReadings.{command-of-in}
 use Rattle.model_command.proofs.Forward.{length-of, length-whole}
 
 pub by-case : (F : Form) {c d : CodeCommand} (n : ℕ) → c ≡ d → ((B : List ℕ) (at : ℕ) → n ≡ length-of F (command-of-in F B at d)) → (B : List ℕ) (at : ℕ) → whole (command-of-in F B at c) ≡ read-in F B at → n ≡ width-in F (byte-at B at)

@@ -1,2 +1,2 @@
 -- What the code's readings are in the terms of the documents.
-pub mod Reading
+pub mod CursorReadings

@@ -6,7 +6,7 @@ ghost use lib.ListN.{length};
 ghost use Rattle.theory.specs.Command.{whole, read-in, read-at, command-in, byte-at, word-at, action-at, linear-at, signed};
 ghost use Rattle.theory.specs.Command.{width-in as bytes-of};
 ghost use Rattle.model_form.specs.Forms.{form-of};
-ghost use Rattle.model_command.specs.Reading.{linear-bytes, linear-of, site-in, command-of-in, read-of-in, read-of, next-in, next-at};
+ghost use Rattle.model_command.specs.CursorReadings.{linear-bytes, linear-of, site-in, command-of-in, read-of-in, read-of, next-in, next-at};
 ghost use Rattle.whole.specs.Linears.{Smalls};
 use model_form::Form;
 use whole::NUMBERS;

@@ -26,7 +26,7 @@ use Rattle.model_find.specs.Tally.{tally, told}
 use Rattle.model_find.specs.laws.Spaces.{trim-sent}
 use Rattle.model_find.specs.laws.Bearers.{tells-none}
 use Rattle.model_find.specs.laws.Rows.{find-told}
-use Rattle.model_find.proofs.Meeting.{tally-tells}
+use Rattle.model_find.proofs.BearersMet.{tally-tells}
 
 -- the first n bytes are n
 pub front-length : (y : List ℕ) (n : ℕ) → n ≤ length y → n ≡ length (take n y)

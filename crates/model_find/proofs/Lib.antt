@@ -1,4 +1,4 @@
 -- Laws that several proofs cite.
 pub mod Pass
-pub mod Meeting
+pub mod BearersMet
 pub mod Call

@@ -5,7 +5,7 @@ pub mod Spaces
 -- lists of bearers
 pub mod Bearers
 -- the commands that name actions
-pub mod Naming
+pub mod NameCommands
 -- numbers of the early refusals
 pub mod Early
 -- the rows, and the statements that follow

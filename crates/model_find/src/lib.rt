@@ -4,7 +4,7 @@ ghost use Prim.Native.Nat.{_+_, _≤_};
 ghost use lib.ListN.{length, take, drop};
 ghost use Rattle.theory.specs.Widths.{name-bytes};
 ghost use Rattle.theory.specs.Command.{whole, read-at, readings};
-ghost use Rattle.model_command.specs.Reading.{command-of};
+ghost use Rattle.model_command.specs.CursorReadings.{command-of};
 ghost use Rattle.model_find.specs.declared.Bearers.the-variants.{Nobody};
 ghost use Rattle.model_find.specs.Find.{trim, same-name, refused-find};
 ghost use Rattle.model_find.specs.Find.{find as find-of};

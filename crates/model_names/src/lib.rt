@@ -8,7 +8,7 @@ ghost use Rattle.theory.specs.Name.{names-action, trimmed, name-part};
 ghost use Rattle.theory.specs.Name.{named-part as part-named};
 ghost use Rattle.theory.specs.Name.{name-refusal as refused};
 ghost use Rattle.theory.specs.Name.{name as name-of};
-ghost use Rattle.model_command.specs.Reading.{command-of};
+ghost use Rattle.model_command.specs.CursorReadings.{command-of};
 ghost use Rattle.model.specs.Answers.{shown};
 ghost use Rattle.model_names.specs.Parts.{part-as};
 use model::Verdict;

@@ -21,7 +21,7 @@ use denote.Enum.Declared.{tagOf}
 use Rattle.model_command.proofs.Command.{the-type}
 use Rattle.model_command.specs.declared.Command.{Command as CodeCommand}
 use Rattle.model_command.specs.declared.Command.the-variants.{Site as SiteBy, Leaf, Condition, Test, Forbidden, Give, Name, End}
-use Rattle.model_progress.specs.Standing.{noted, place, names-row, base-of, flag-of, Slotted, for-reward, for-chance, for-level, for-name, for-end}
+use Rattle.model_progress.specs.GivenFlags.{noted, place, names-row, base-of, flag-of, Slotted, for-reward, for-chance, for-level, for-name, for-end}
 use Rattle.model_progress.proofs.Numbers.{bounds, is-among}
 
 -- a store past the end changes nothing

@@ -2,4 +2,4 @@
 pub mod Numbers
 pub mod Runs
 pub mod Flags
-pub mod Leaving
+pub mod StateAfter

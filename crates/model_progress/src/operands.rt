@@ -14,7 +14,7 @@ ghost use Rattle.theory.specs.Diagram.{zeros as zeros-in};
 ghost use Rattle.theory.specs.Valid.{all};
 ghost use Rattle.theory.specs.Valid.{among as is-among};
 ghost use Rattle.theory.specs.Verdict.{or, next-condition, first-broken, site-rules, site-of, is-weight, of-site, same-slot, end-slot};
-ghost use Rattle.model_progress.specs.Standing.{site-as};
+ghost use Rattle.model_progress.specs.GivenFlags.{site-as};
 ghost use Rattle.whole.specs.Cases.{if};
 ghost use Rattle.theory.specs.Verdict.{beyond as some-beyond};
 ghost use Rattle.theory.specs.Verdict.{printable as is-printable};

@@ -11,8 +11,8 @@ ghost use Rattle.theory.specs.Verdict.{at-start, site-of, first-broken, first-r
 ghost use Rattle.theory.specs.Verdict.{after as after-command};
 ghost use Rattle.theory.specs.Form.{Form as Written};
 ghost use Rattle.model_form.specs.Forms.{form-of};
-ghost use Rattle.model_command.specs.Reading.{command-of-in};
-ghost use Rattle.model_progress.specs.Standing.{ProgressStands, Leaves, site-as};
+ghost use Rattle.model_command.specs.CursorReadings.{command-of-in};
+ghost use Rattle.model_progress.specs.GivenFlags.{ProgressStands, Leaves, site-as};
 ghost use Rattle.model_facts.specs.Seen.{seen as seen-of};
 use super::Progress;
 use super::Site;

@@ -2,7 +2,7 @@
 // The functions are thin, and the work is the cursor's; each is proved by a walk by hand.
 ghost use mathlib.Core.Path.{_≡_};
 ghost use Rattle.theory.specs.Command.{read-at};
-ghost use Rattle.model_command.specs.Reading.{read-of, next-at};
+ghost use Rattle.model_command.specs.CursorReadings.{read-of, next-at};
 use model_command::Read;
 
 pub struct Reader<'a> {

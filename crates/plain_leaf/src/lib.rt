@@ -14,7 +14,7 @@ ghost use Rattle.theory.specs.Command.{whole, give, byte-at, read-at, action-at
 ghost use Rattle.theory.specs.Meaning.{nth};
 ghost use Rattle.theory.specs.Value.{bits};
 ghost use Rattle.theory.specs.Verdict.{same-slot};
-ghost use Rattle.model_command.specs.Reading.{with-linear, linear-of, command-of};
+ghost use Rattle.model_command.specs.CursorReadings.{with-linear, linear-of, command-of};
 ghost use Rattle.model_stack.specs.Held.{last-first};
 ghost use Rattle.plain_pass.specs.Pass.{slot-of, point-at, nums-at, Flat, condition-holds, stepped, codes-end, code-at, pushes, push-width, push-of, index-at, Comes};
 ghost use Rattle.plain_pass.specs.Pass.{takes as takes-slot};

@@ -10,7 +10,7 @@ ghost use Rattle.whole.specs.Linears.{numbers};
 ghost use Rattle.whole.specs.Numerator.{words};
 ghost use Rattle.theory.specs.Command.{word-at, linear-at};
 ghost use Rattle.theory.specs.Command.{signed as signed-of};
-ghost use Rattle.model_command.specs.Reading.{linear-bytes};
+ghost use Rattle.model_command.specs.CursorReadings.{linear-bytes};
 ghost use Rattle.plain_pass.specs.Pass.{point-at, nums-at, Flat};
 ghost use Rattle.plain_pass.specs.Pass.{numerator as numerator-of};
 use super::numerator;

@@ -9,7 +9,7 @@ ghost use Rattle.whole.specs.Cases.{if};
 ghost use Rattle.theory.specs.Widths.{stack-most};
 ghost use Rattle.theory.specs.Command.{whole, byte-at, width, read-at};
 ghost use Rattle.theory.specs.Verdict.{verdict};
-ghost use Rattle.model_command.specs.Reading.{command-of};
+ghost use Rattle.model_command.specs.CursorReadings.{command-of};
 ghost use Rattle.plain_pass.specs.Pass.{slot-of};
 ghost use Rattle.plain_pass.specs.Parts.{depth-after, noted, put, Blank, Parts};
 ghost use Rattle.plain_pass.specs.Parts.{row as row-of};

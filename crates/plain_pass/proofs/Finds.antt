@@ -20,7 +20,7 @@ use Rattle.model_command.specs.declared.Command.{Command as CodeCommand}
 use Rattle.model_command.specs.declared.Command.the-variants.{Site, Leaf, Condition, Test, Forbidden, Give, Name, End}
 use Rattle.model_stack.specs.Held.{pushed}
 use Rattle.model_command.specs.declared.Read.{Read as CodeRead}
-use Rattle.model_command.specs.Reading.{command-of, read-of, next-at, command-of-in}
+use Rattle.model_command.specs.CursorReadings.{command-of, read-of, next-at, command-of-in}
 use Rattle.model.specs.Answers.{is-end}
 use Rattle.model.proofs.Walk.{forward}
 use Rattle.plain_pass.specs.declared.Point.{Point}

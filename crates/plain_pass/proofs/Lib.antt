@@ -6,7 +6,7 @@ pub mod Reach
 pub mod Turns
 pub mod Sums
 pub mod Actions
-pub mod Holding
+pub mod PassWords
 pub mod Places
 pub mod Finds
 pub mod Ends

@@ -11,7 +11,7 @@ use Rattle.whole.specs.LinearsLaws.{rest}
 use Rattle.whole.proofs.Products.{Added, all-added}
 use Rattle.theory.specs.Widths.{levels-most}
 use Rattle.theory.specs.Command.{word-at, signed, signed-from, linear-at}
-use Rattle.model_command.specs.Reading.{linear-of}
+use Rattle.model_command.specs.CursorReadings.{linear-of}
 use Rattle.model_command.proofs.Linears.{number-at, linear-read}
 use Rattle.plain_pass.specs.declared.Point.{Point}
 use Rattle.plain_pass.specs.Pass.{Flat, numerator}

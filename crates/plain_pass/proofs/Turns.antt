@@ -31,7 +31,7 @@ use Rattle.model_command.specs.declared.Command.{Command as CodeCommand}
 use Rattle.model_command.specs.declared.Command.the-variants.{Site, Leaf as LeafBy, Condition, Test, Forbidden, Give, Name, End}
 use Rattle.model_command.specs.declared.Read.{Read as CodeRead}
 use Rattle.model_command.specs.declared.Read.the-variants.{Whole, Unknown, Short}
-use Rattle.model_command.specs.Reading.{with-linear, linear-of, command-of, read-of, next-at, command-of-in, read-of-in}
+use Rattle.model_command.specs.CursorReadings.{with-linear, linear-of, command-of, read-of, next-at, command-of-in, read-of-in}
 use Rattle.model_command.proofs.Forward.{Bytes, has-linear, linear-room, next-whole}
 use Rattle.model_stack.specs.Held.{pushed}
 use Rattle.model.specs.Answers.{is-end}

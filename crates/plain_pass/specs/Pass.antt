@@ -20,7 +20,7 @@ use Rattle.theory.specs.Value.{bits}
 use Rattle.theory.specs.laws.Loading.{loaded-entries}
 use Rattle.model_command.specs.declared.Command.{Command as CodeCommand}
 use Rattle.model_command.specs.declared.Command.the-variants.{Leaf as LeafBy, Condition, Test, Forbidden}
-use Rattle.model_command.specs.Reading.{with-linear}
+use Rattle.model_command.specs.CursorReadings.{with-linear}
 use Rattle.model_stack.specs.Held.{pushed}
 use Rattle.plain_pass.specs.declared.Point.{Point}
 use Rattle.plain_pass.specs.declared.Reward.{Reward}

@@ -1,4 +1,4 @@
 -- Laws that the proofs cite.
 pub mod Lists
 pub mod Weigh
-pub mod Leading
+pub mod NextStates

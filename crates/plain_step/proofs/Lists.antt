@@ -19,7 +19,7 @@ use Rattle.model.proofs.Accepted.{site-accepted}
 use Rattle.plain_pass.specs.declared.Point.{Point}
 use Rattle.plain_pass.specs.Pass.{StateStands}
 use Rattle.plain_pass.proofs.Points.{stands-alone, stands-bits}
-use Rattle.plain_step.specs.Standing.{ModelReady, Spells, under}
+use Rattle.plain_step.specs.PointState.{ModelReady, Spells, under}
 
 pub map-twice : {A B C : Type 0} (f : B → C) (g : A → B) (l : List A) → map f (map g l) ≡ map (λ x. f (g x)) l
 map-twice f g [] = refl

@@ -20,7 +20,7 @@ use Rattle.plain_pass.specs.declared.Point.{Point}
 use Rattle.plain_pass.specs.Pass.{StateStands}
 use Rattle.plain_pass.proofs.Actions.{chance-within}
 use Rattle.plain_step.specs.declared.Chances.{Chances}
-use Rattle.plain_step.specs.Standing.{ModelReady, Standing, Acts, Chance, Chances-are, Out-of, Weighs}
+use Rattle.plain_step.specs.PointState.{ModelReady, Standing, Acts, Chance, Chances-are, Out-of, Weighs}
 use Rattle.plain_step.proofs.Lists.{map-twice, listed, within-widths, alone}
 
 -- ---- chances

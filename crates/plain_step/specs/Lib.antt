@@ -1,2 +1,2 @@
 -- A step of a model: the state that a point stands for, a setting's weight, and the next state.
-pub mod Standing
+pub mod PointState

@@ -3,7 +3,7 @@ ghost use mathlib.Core.Path.{_≡_};
 ghost use Rattle.theory.specs.Load.{site-at};
 ghost use Rattle.plain_pass.specs.Pass.{Flat};
 ghost use Rattle.plain_pass.specs.Parts.{Parts};
-ghost use Rattle.plain_step.specs.Standing.{ModelReady, Fits, Acts, under, Level-is, Leads};
+ghost use Rattle.plain_step.specs.PointState.{ModelReady, Fits, Acts, under, Level-is, Leads};
 use super::Next;
 use super::sites;
 use plain_limits::Level;

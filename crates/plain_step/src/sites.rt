@@ -2,7 +2,7 @@
 ghost use mathlib.Core.Path.{_≡_};
 ghost use Prim.Native.Nat.{_^_};
 ghost use Rattle.theory.specs.Load.{site-at};
-ghost use Rattle.plain_step.specs.Standing.{ModelReady};
+ghost use Rattle.plain_step.specs.PointState.{ModelReady};
 
 pub fn levels(model: &[u8]) -> u8
     ensures { λ r. ⌜ r ≡ site-at (now (model .entry)) .levels ⌝ }

@@ -8,7 +8,7 @@ ghost use Rattle.theory.specs.Load.{site-at};
 ghost use Rattle.theory.specs.Meaning.{nth};
 ghost use Rattle.theory.specs.Value.{bits};
 ghost use Rattle.plain_pass.specs.Parts.{Parts};
-ghost use Rattle.plain_step.specs.Standing.{ModelReady, Standing, Acts, Chance, Chances-are, Out-of, Weighs};
+ghost use Rattle.plain_step.specs.PointState.{ModelReady, Standing, Acts, Chance, Chances-are, Out-of, Weighs};
 use super::Chances;
 use super::sites;
 use plain_pass::Point;

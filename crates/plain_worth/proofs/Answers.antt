@@ -31,7 +31,7 @@ use Rattle.plain_pass.specs.Pass.{reward-of, StateStands}
 use Rattle.plain_limits.specs.declared.Total.{Total}
 use Rattle.plain_limits.specs.declared.Total.the-variants as total
 use Rattle.plain_limits.specs.Totals.{total-of, times-of, summed}
-use Rattle.plain_step.specs.Standing.{ModelReady, Spells, Standing}
+use Rattle.plain_step.specs.PointState.{ModelReady, Spells, Standing}
 use Rattle.plain_worth.specs.Worths.{earned-of, Earned, State-worth}
 use Rattle.plain_step.proofs.Lists.{within-widths, alone}
 

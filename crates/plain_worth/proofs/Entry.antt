@@ -29,7 +29,7 @@ use Rattle.value_walk.specs.declared.Asked.{Asked as CodeAsked}
 use Rattle.plain_pass.specs.declared.Point.{Point}
 use Rattle.plain_limits.specs.declared.Total.{Total}
 use Rattle.plain_limits.specs.Totals.{total-of}
-use Rattle.plain_step.specs.Standing.{ModelReady, Spells, Fits, Standing}
+use Rattle.plain_step.specs.PointState.{ModelReady, Spells, Fits, Standing}
 use Rattle.plain_step.proofs.Lists.{within-widths}
 use Rattle.plain_worth.specs.Worths.{point-of, State-worth}
 

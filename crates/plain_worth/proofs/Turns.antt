@@ -26,7 +26,7 @@ use Rattle.plain_limits.specs.declared.Total.the-variants as total
 use Rattle.plain_step.specs.declared.Chances.{Chances}
 use Rattle.plain_step.specs.declared.Next.{Next}
 use Rattle.plain_limits.specs.Totals.{total-of, times-of, added-of, summed, tried, Kept, stopped, is-over}
-use Rattle.plain_step.specs.Standing.{ModelReady, Spells, Standing, Acts, act, after, Chances-are, Weighs, Reaches, Leads}
+use Rattle.plain_step.specs.PointState.{ModelReady, Spells, Standing, Acts, act, after, Chances-are, Weighs, Reaches, Leads}
 use Rattle.plain_worth.specs.Worths.{earned-of, Earned, State-worth, Action-worth}
 use Rattle.plain_limits.proofs.Judge.{times-kept, added-kept}
 use Rattle.plain_worth.proofs.Runs.{left, on, settings-are, judged-on, settings-end, settings-skip, settings-over, settings-add, others, actions-end, actions-on}

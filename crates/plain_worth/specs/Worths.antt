@@ -17,7 +17,7 @@ use Rattle.value_walk.specs.declared.Asked.{Asked}
 use Rattle.plain_pass.specs.declared.Point.{Point}
 use Rattle.plain_limits.specs.declared.Total.{Total}
 use Rattle.plain_limits.specs.Totals.{total-of, times-of, summed}
-use Rattle.plain_step.specs.Standing.{Spells}
+use Rattle.plain_step.specs.PointState.{Spells}
 
 -- the point that a state of m levels asked for stands at, with no setting
 abbrev pub point-of : ℕ → Asked → Point

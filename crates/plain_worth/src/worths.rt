@@ -2,7 +2,7 @@
 ghost use mathlib.Core.Path.{_≡_};
 ghost use Prim.Native.Nat.{_≤_};
 ghost use Rattle.plain_pass.specs.Parts.{Blank, Parts};
-ghost use Rattle.plain_step.specs.Standing.{Standing, Acts};
+ghost use Rattle.plain_step.specs.PointState.{Standing, Acts};
 ghost use Rattle.plain_worth.specs.Worths.{Earned, State-worth, Action-worth};
 use plain_limits::Total;
 use plain_pass::Point;

@@ -2,7 +2,7 @@
 ghost use mathlib.Core.Path.{_≡_};
 ghost use Rattle.model_find.specs.Find.{find as find-of};
 ghost use Rattle.c_answers.specs.Answers.{answered};
-ghost use Rattle.c_name_answers.specs.Finding.{find-answer};
+ghost use Rattle.c_name_answers.specs.FindAnswer.{find-answer};
 
 // Answer, 8 bytes: place, action.
 #[no_mangle]

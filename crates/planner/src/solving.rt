@@ -1,7 +1,7 @@
 // Exports that judge a model and solve it.
 ghost use mathlib.Core.Path.{_≡_};
 ghost use Rattle.theory.specs.Solve.{solve as solve-of};
-ghost use Rattle.c_answers.specs.Solving.{model-verdict, solved, solve-answer};
+ghost use Rattle.c_answers.specs.SolveAnswer.{model-verdict, solved, solve-answer};
 
 #[repr(C)]
 pub struct Judged {

@@ -18,7 +18,7 @@ use Rattle.model.specs.Answers.{shown}
 use Rattle.model.specs.declared.Verdict.{Verdict as CodeVerdict}
 use Rattle.prune_paths.specs.Prune.{tree-at, along, fits, shaped, prune-refusal, pruned, PruneOut, prune}
 use Rattle.prune_paths.specs.laws.Reads.{cleared}
-use Rattle.prune.specs.Pruning.{Accepted, outcome, left}
+use Rattle.prune.specs.CutOutcome.{Accepted, outcome, left}
 
 -- a path that is shaped is there, and fits
 shape-parts : (turns : List ℕ) (nodes : List ℤ) (root : ℕ) (ks : List ℤ) → T (shaped turns (tree-at nodes root) ks) → (1 ≤ length turns) × T (fits turns (tree-at nodes root))

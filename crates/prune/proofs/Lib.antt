@@ -1,4 +1,4 @@
 -- Laws behind the proofs.
 pub mod Stages
-pub mod Cutting
+pub mod CutSteps
 pub mod Ends

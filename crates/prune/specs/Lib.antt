@@ -1,2 +1,2 @@
 -- What a path leaves.
-pub mod Pruning
+pub mod CutOutcome

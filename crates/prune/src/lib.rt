@@ -3,7 +3,7 @@
 ghost use mathlib.Core.Path.{_≡_};
 ghost use Rattle.prune_paths.specs.Prune.{pruned};
 ghost use Rattle.prune_paths.specs.Prune.{prune as prune-of};
-ghost use Rattle.prune.specs.Pruning.{Accepted, outcome, left};
+ghost use Rattle.prune.specs.CutOutcome.{Accepted, outcome, left};
 use model::STAGE_WORDS;
 use model::Verdict;
 use prune_copy::copy_path;

@@ -1,5 +1,5 @@
 -- Laws of a path copied.
-pub mod Turning
+pub mod StandIn
 pub mod Paths
 pub mod Copies
 pub mod Walk

@@ -24,7 +24,7 @@ use Rattle.prune_rows.proofs.Rows.{high-is, low-is}
 use Rattle.prune_rows.proofs.Branches.{branch-same}
 use Rattle.prune_rows.proofs.Again.{row-same, row-copied, trees-kept}
 use Rattle.prune_copy.specs.Copy.{is-high, next-at, stand-in, turned, below, CopyReady, Stepped, rows-after, Copied}
-use Rattle.prune_copy.proofs.Turning.{stands-copy, stands-other}
+use Rattle.prune_copy.proofs.StandIn.{stands-copy, stands-other}
 use Rattle.prune_copy.proofs.Paths.{OnPath, on-path}
 use Rattle.prune_copy.proofs.Copies.{turned-kind, turned-n, turned-branches, copy-tree, last-tree}
 

@@ -22,7 +22,7 @@ use Rattle.theory.specs.laws.Rows.{Passed, by-early, early-some}
 use Rattle.prune_paths.specs.Prune.{tree-at, path-number, path-needs, prune-refusal}
 use Rattle.prune_paths.specs.laws.Foreign.{rows-good}
 use Rattle.prune_certificate.specs.Path.{GoodNode}
-use Rattle.prune_judge.specs.Judging.{plan-verdict}
+use Rattle.prune_judge.specs.PathRefusals.{plan-verdict}
 
 module _ (S : Site) (nodes : List ℤ) (stages : List ℕ) (N s root : ℕ) (turns : List ℕ) (ks : List ℤ) where
   abbrev by-tests : Bool → Bool → ℕ → Bool → Verdict

@@ -1,2 +1,2 @@
 -- A path for a stage of a plan, judged.
-pub mod Judging
+pub mod PathRefusals

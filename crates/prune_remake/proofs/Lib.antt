@@ -1,3 +1,3 @@
 -- Laws of rows made anew.
-pub mod Making
-pub mod Remaking
+pub mod RowRemade
+pub mod RowsRemade

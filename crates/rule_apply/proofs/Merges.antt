@@ -17,13 +17,13 @@ use Rattle.rule_node.specs.declared.Sides.{Sides}
 use Rattle.rule_node.specs.Nodes.{leafOf, testOf, treeAt, Root}
 use Rattle.rule_node.specs.Table.{Table, RuleRan, Grew, Lasting}
 use Rattle.table_cache.specs.Cache.{Key}
-use Rattle.rule_node.specs.Meaning.{ruleBy, ruleOf}
+use Rattle.rule_node.specs.EntryMeaning.{ruleBy, ruleOf}
 use Rattle.rule_choose.specs.Choice.{sidesOf}
 use Rattle.rule_node.proofs.Outcomes.{ran-as, lifted}
 use Rattle.rule_node.proofs.Meanings.{lasts-sum, lasts-product, lasts-best}
-use Rattle.rule_choose.proofs.Merging.{Ends, Goes, goes-as}
-use Rattle.rule_node.proofs.Stepping.{On}
-use Rattle.rule_node.proofs.Going.{index-small, key-of, high-stops, low-stops, root-on, high-in, joined}
+use Rattle.rule_choose.proofs.MergeSteps.{Ends, Goes, goes-as}
+use Rattle.rule_node.proofs.TwoOperands.{On}
+use Rattle.rule_node.proofs.RuleSteps.{index-small, key-of, high-stops, low-stops, root-on, high-in, joined}
 use Rattle.rule_leaves.specs.Leaves.{AtLeaf}
 use Rattle.rule_apply_leaves.specs.Combined.{leafRule}
 use Rattle.rule_apply.specs.Merged.{makerOf}

@@ -4,7 +4,7 @@ ghost use Rattle.table.specs.Table.{nodeAt};
 ghost use Rattle.rule_node.specs.Codes.{best-code};
 ghost use Rattle.rule_node.specs.Nodes.{testOf, treeAt, Root};
 ghost use Rattle.rule_node.specs.Table.{Table, RuleRan};
-ghost use Rattle.rule_node.specs.Meaning.{ruleOf};
+ghost use Rattle.rule_node.specs.EntryMeaning.{ruleOf};
 ghost use Rattle.rule_apply.specs.Merged.{makerOf};
 use rule_apply_leaves::combine;
 use rule_choose::choose;

@@ -13,14 +13,14 @@ use Rattle.rule_node.specs.declared.Sides.{Sides}
 use Rattle.rule_node.specs.Nodes.{testOf, treeAt, Grown}
 use Rattle.rule_node.specs.Table.{Rule, Table, RuleRan, Grew}
 use Rattle.table_cache.specs.Cache.{slotOf, Key, Entry, storeOf}
-use Rattle.rule_node.specs.Meaning.{testBy, Names, ruleOf}
+use Rattle.rule_node.specs.EntryMeaning.{testBy, Names, ruleOf}
 use Rattle.rule_node.specs.Roots.{testNode}
 use Rattle.rule_choose.specs.Choice.{choiceOf}
 use Rattle.rule_node.proofs.Outcomes.{ran-as, grew-as, lifted}
-use Rattle.rule_node.proofs.Caching.{answered, kept-run}
-use Rattle.rule_choose.proofs.Choosing.{Here, Chooses, chooses-as}
+use Rattle.rule_node.proofs.CacheEntries.{answered, kept-run}
+use Rattle.rule_choose.proofs.ChoiceSteps.{Here, Chooses, chooses-as}
 use Rattle.rule_node.proofs.Meanings.{rule-choose, names-small, test-kept, test-proper, test-is, lasts-choose}
-use Rattle.rule_node.proofs.Going.{index-small, key-of}
+use Rattle.rule_node.proofs.RuleSteps.{index-small, key-of}
 
 module _ {R : Rule} {cap : ℕ} {l : List ℤ} {w : List ℕ} {n : ℕ} (A : Table R cap l w n) {op p : ℕ} (N : Names n op p) (f g : ℕ) (hf : f < n) (hg : g < n) where
   -- the words fit an entry

@@ -1,5 +1,5 @@
 -- Laws of choices and merges, that several proofs and other crates cite.
-pub mod Splitting
-pub mod Merging
-pub mod Choosing
+pub mod RootCases
+pub mod MergeSteps
+pub mod ChoiceSteps
 pub mod Choices

@@ -5,7 +5,7 @@ ghost use Prim.Native.Nat.{_<_};
 ghost use Rattle.theory.specs.Rules as T;
 ghost use Rattle.rule_node.specs.Nodes.{treeAt};
 ghost use Rattle.rule_node.specs.Table.{Table, RuleRan};
-ghost use Rattle.rule_node.specs.Meaning.{testBy, Names, ruleOf};
+ghost use Rattle.rule_node.specs.EntryMeaning.{testBy, Names, ruleOf};
 use self::roots::choice_at;
 use rule_node::making::join;
 use rule_node::making::join_test;

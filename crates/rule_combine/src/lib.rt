@@ -7,7 +7,7 @@ ghost use Rattle.whole.specs.Linears.{numbers};
 ghost use Rattle.table.specs.Table.{nodeAt};
 ghost use Rattle.rule_node.specs.Nodes.{linOf, treeAt, At};
 ghost use Rattle.rule_node.specs.Table.{Table, RuleRan};
-ghost use Rattle.rule_node.specs.Meaning.{ruleOf};
+ghost use Rattle.rule_node.specs.EntryMeaning.{ruleOf};
 ghost use Rattle.rule_combine.specs.Levels.{Levels, levelsAt, addOn};
 ghost use Rattle.theory.specs.Rules as T;
 use rule_apply::merge;

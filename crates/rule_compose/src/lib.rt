@@ -7,7 +7,7 @@ ghost use Rattle.theory.specs.Widths.{conditions-most};
 ghost use Rattle.theory.specs.Rules as R;
 ghost use Rattle.rule_node.specs.Nodes.{linOf, treeAt};
 ghost use Rattle.rule_node.specs.Table.{Table, RuleRan};
-ghost use Rattle.rule_node.specs.Meaning.{ruleOf};
+ghost use Rattle.rule_node.specs.EntryMeaning.{ruleOf};
 ghost use Rattle.rule_combine.specs.Levels.{Levels, levelsAt};
 ghost use Rattle.rule_compose.specs.Substitution.{headOf, overTest};
 use rule_choose::choose;

@@ -14,7 +14,7 @@ use Rattle.table.specs.declared.Node.{Node}
 use Rattle.theory.specs.Widths.{levels-most, conditions-most}
 use Rattle.theory.specs.Diagram.{now, later, linear}
 use Rattle.rule_node.specs.Nodes.{firstOf, linOf, conditionOf, testOf, Tested}
-use Rattle.rule_node.specs.Meaning.{halves, indexes}
+use Rattle.rule_node.specs.EntryMeaning.{halves, indexes}
 use Rattle.table_cache.specs.Cache.{Key}
 use Rattle.rule_combine.specs.Levels.{Levels}
 use Rattle.rule_compose_entry.specs.declared.Words.{Words}

@@ -1,3 +1,3 @@
 -- Laws that several proofs cite.
-pub mod Expecting
-pub mod Rewarding
+pub mod ExpectationSteps
+pub mod RewardSteps

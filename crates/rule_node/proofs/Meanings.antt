@@ -23,7 +23,7 @@ use Rattle.theory.specs.Diagram.{Test, later, linear, Leaf, lin-of, Tree, leaf,
 use Rattle.theory.specs.Rules.{choose, over, decide, sum, product, best, scale, shift, complement, number, side, substitute}
 use Rattle.rule_node.specs.Nodes.{linOf, leafOf, testOf, treeAt, Nums, Good, Proper, Grown, Root}
 use Rattle.rule_node.specs.Table.{Lasting, Bare, Table}
-use Rattle.rule_node.specs.Meaning.{cOf, testIn, testBy, Names, indexes, packed, ruleBy, ruleOf}
+use Rattle.rule_node.specs.EntryMeaning.{cOf, testIn, testBy, Names, indexes, packed, ruleBy, ruleOf}
 use Rattle.rule_node.specs.Roots.{laterNode, linearNode, namedNode, testNode, Readable}
 use Rattle.rule_node.proofs.Trees.{trees-kept, later-is, leaf-lin, at-leaf, at-branch}
 

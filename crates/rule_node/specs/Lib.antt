@@ -2,5 +2,5 @@
 pub mod Codes
 pub mod Nodes
 pub mod Table
-pub mod Meaning
+pub mod EntryMeaning
 pub mod Roots

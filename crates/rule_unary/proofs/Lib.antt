@@ -1,3 +1,3 @@
 -- Laws of the rules of one diagram, that the proofs cite.
-pub mod Walking
-pub mod Asking
+pub mod UnarySteps
+pub mod RulesByName

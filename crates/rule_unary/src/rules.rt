@@ -5,7 +5,7 @@ ghost use Rattle.theory.specs.Widths.{weights-most, actions-most};
 ghost use Rattle.theory.specs.Rules as T;
 ghost use Rattle.rule_node.specs.Nodes.{treeAt};
 ghost use Rattle.rule_node.specs.Table.{Table, RuleRan};
-ghost use Rattle.rule_node.specs.Meaning.{ruleOf};
+ghost use Rattle.rule_node.specs.EntryMeaning.{ruleOf};
 ghost use Rattle.rule_unary_node.specs.Acts.{Acts};
 ghost use Rattle.rule_unary.specs.Picks.{Picks};
 use rule_node::codes::COMPLEMENT;

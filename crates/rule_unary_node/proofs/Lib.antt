@@ -1,5 +1,5 @@
 -- Laws that the proofs cite.
-pub mod Acting
-pub mod Halving
-pub mod Leaving
-pub mod Passing
+pub mod RulesByNumber
+pub mod WordHalves
+pub mod LeafResults
+pub mod WayOn

@@ -14,7 +14,7 @@ use Rattle.theory.specs.Widths.{conditions-most, weights-most, actions-most}
 use Rattle.theory.specs.Diagram.{Tree}
 use Rattle.theory.specs.Computation.{Comp}
 use Rattle.theory.specs.Rules.{scale, shift, complement, number, side}
-use Rattle.rule_node.specs.Meaning.{cOf}
+use Rattle.rule_node.specs.EntryMeaning.{cOf}
 use Rattle.rule_node.specs.Roots.{downOf, ordNum, orderOf, laterNode}
 use Rattle.rule_node.specs.declared.Down.{Down}
 use Rattle.rule_leaves.specs.Leaves.{staysNone, productNode, shiftNode, complementNode, numberNode}

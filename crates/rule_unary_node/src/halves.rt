@@ -3,7 +3,7 @@ ghost use mathlib.Core.Path.{_≡_};
 ghost use Prim.Native.Nat.{_<_};
 ghost use mir.Syntax.{w64};
 ghost use mir.Val.{ofZ};
-ghost use Rattle.rule_node.specs.Meaning.{cOf};
+ghost use Rattle.rule_node.specs.EntryMeaning.{cOf};
 ghost use Rattle.rule_unary_node.specs.Acts.{lowOf, highOf};
 use whole::limits::mag;
 

@@ -22,13 +22,13 @@ use Rattle.rule_node.specs.declared.Sides.{Sides}
 use Rattle.rule_node.specs.Nodes.{linOf, constantOf, leafOf, treeAt, Valid, Root}
 use Rattle.rule_node.specs.Table.{Table, RuleRan}
 use Rattle.table_cache.specs.Cache.{Key}
-use Rattle.rule_node.specs.Meaning.{testIn, testBy, Names, ruleOf}
+use Rattle.rule_node.specs.EntryMeaning.{testIn, testBy, Names, ruleOf}
 use Rattle.rule_node.specs.Roots.{downOf, leftSides}
 use Rattle.rule_node.proofs.Trees.{leaf-lin, at-leaf, trees-kept}
 use Rattle.rule_node.proofs.Outcomes.{grown, ran-as, ran-ret}
-use Rattle.rule_node.proofs.Stepping.{On, left-on}
+use Rattle.rule_node.proofs.TwoOperands.{On, left-on}
 use Rattle.rule_node.proofs.Meanings.{rule-walk, root-test}
-use Rattle.rule_node.proofs.Going.{index-small, key-of, high-stops, low-stops, root-on, high-in, joined, over-leaf, over-branch}
+use Rattle.rule_node.proofs.RuleSteps.{index-small, key-of, high-stops, low-stops, root-on, high-in, joined, over-leaf, over-branch}
 use Rattle.rule_leaves.specs.Leaves.{AtLeaf}
 use Rattle.rule_leaves.proofs.Sums.{decide-constant, decide-test}
 

@@ -5,7 +5,7 @@ ghost use Rattle.table.specs.Table.{nodeAt};
 ghost use Rattle.theory.specs.Rules.{decide};
 ghost use Rattle.rule_node.specs.Nodes.{linOf, treeAt, At};
 ghost use Rattle.rule_node.specs.Table.{Table, RuleRan};
-ghost use Rattle.rule_node.specs.Meaning.{ruleOf};
+ghost use Rattle.rule_node.specs.EntryMeaning.{ruleOf};
 ghost use Rattle.rule_node.specs.Roots.{downOf};
 ghost use Rattle.rule_leaves.specs.Leaves.{AtLeaf};
 use rule_choose::choose;

@@ -16,7 +16,7 @@ use Rattle.finish_number.specs.Number.{treesOf}
 use Rattle.finish.specs.Finish.{Unfinished, Finished}
 use Rattle.solve_laws.specs.Onward.{answered-no}
 use Rattle.solve_stages.specs.declared.Planned.{Planned}
-use Rattle.solve_total.specs.Planning.{modelSize}
+use Rattle.solve_total.specs.StageTable.{modelSize}
 use Rattle.solve_value_iteration.specs.Iteration.{Room, stageTrees, Plans}
 use Rattle.solve_value_iteration.proofs.Start.{standing-roots}
 use Rattle.solve_in_room.specs.Solves.{Solves}

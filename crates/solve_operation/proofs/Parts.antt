@@ -19,7 +19,7 @@ use Rattle.theory.specs.Computation.{Comp, ret, named, made, Out, done, stopped
 use Rattle.rule_node.specs.Nodes.{blank, treeOf, trees, Valid, Good}
 use Rattle.rule_node.specs.Table.{Table, RuleRan, outOf}
 use Rattle.rule_node.specs.Table.{Rule as Entries}
-use Rattle.rule_node.specs.Meaning.{ruleOf}
+use Rattle.rule_node.specs.EntryMeaning.{ruleOf}
 use Rattle.rule_node.proofs.Trees.{trees-same, tree-at}
 use Rattle.rule_node.proofs.Outcomes.{fresh}
 use Rattle.collect_mark.specs.Mark.{rootsOf, Space}

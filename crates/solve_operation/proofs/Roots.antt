@@ -15,7 +15,7 @@ use Rattle.theory.specs.Diagram.{Tree}
 use Rattle.theory.specs.Rules.{substitute}
 use Rattle.rule_node.specs.Nodes.{blank, trees, treeAt}
 use Rattle.rule_node.specs.Table.{RuleRan}
-use Rattle.rule_node.specs.Meaning.{ruleOf}
+use Rattle.rule_node.specs.EntryMeaning.{ruleOf}
 use Rattle.rule_node.proofs.Outcomes.{ran-as}
 use Rattle.collect_mark.specs.Mark.{rootsOf, Below}
 use Rattle.collect.specs.Collect.{Collected}

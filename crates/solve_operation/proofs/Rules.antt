@@ -17,7 +17,7 @@ use Rattle.theory.specs.Valid.{small-linear, all}
 use Rattle.theory.specs.laws.Comps.{run-judge}
 use Rattle.rule_node.specs.Nodes.{trees, treeAt, linOf, Plain}
 use Rattle.rule_node.specs.Table.{Table, RuleRan, Grew}
-use Rattle.rule_node.specs.Meaning.{ruleBy, ruleOf}
+use Rattle.rule_node.specs.EntryMeaning.{ruleBy, ruleOf}
 use Rattle.rule_node.proofs.Outcomes.{lifted, ran-as, ran-like}
 use Rattle.collect_mark.specs.Mark.{rootsOf}
 use Rattle.solve_laws.specs.Operated.{roots-at}

@@ -5,7 +5,7 @@ ghost use Prim.Native.Nat.{_+_, _≤_, _<_, min, max};
 ghost use lib.ListN.{length, take};
 ghost use Rattle.rule_node.specs.Nodes.{trees, Good};
 ghost use Rattle.rule_node.specs.Table.{Table, RuleRan};
-ghost use Rattle.rule_node.specs.Meaning.{ruleOf};
+ghost use Rattle.rule_node.specs.EntryMeaning.{ruleOf};
 ghost use Rattle.collect_mark.specs.Mark.{rootsOf, Below, Space};
 ghost use Rattle.solve_laws.specs.Operated.{Came};
 ghost use Rattle.solve_operation.specs.Operation.{substitutes, compOf, zeroNode, FitsLevels, Fits, Standing, Kept, Operated};

@@ -22,7 +22,7 @@ use Rattle.solve_laws.specs.Steps.{behind, behind-none, stages-done}
 use Rattle.solve_laws.specs.Loops.{stage-done, stage-refused}
 use Rattle.solve_laws.specs.Peaks.{stages-peaks}
 use Rattle.solve_operation.specs.Operation.{heldTrees, Standing}
-use Rattle.solve_total.specs.Planning.{modelSize, StageReady, Due, rootAt, ActionRan}
+use Rattle.solve_total.specs.StageTable.{modelSize, StageReady, Due, rootAt, ActionRan}
 use Rattle.solve_stages.specs.Stages.{Counted, Staged}
 use Rattle.solve_operation.specs.declared.Run.{Run}
 use Rattle.solve_total.proofs.Roots.{held-length}

@@ -16,7 +16,7 @@ use Rattle.solve_laws.specs.Alike.{Alike, alike-refl, alike-trans, alike-eq, al
 use Rattle.solve_laws.specs.Onward.{onward, run-all-end, run-all-then, Works, Stops, works-run, stops-run, answered, answered-no, onward-ok, onward-no}
 use Rattle.solve_laws.specs.Roots.{Rooted}
 use Rattle.solve_operation.specs.Operation.{heldTrees, compOf, Fits, Standing, Operated}
-use Rattle.solve_total.specs.Planning.{Due, actionOf, beforeOf, totalOf, rootAt, ActionRan}
+use Rattle.solve_total.specs.StageTable.{Due, actionOf, beforeOf, totalOf, rootAt, ActionRan}
 use Rattle.solve_stages.specs.Stages.{bettered}
 use Rattle.solve_operation.specs.declared.Rule.the-variants.{Best}
 use Rattle.solve_operation.specs.declared.Run.{Run}

@@ -12,7 +12,7 @@ use Rattle.theory.specs.Peaks.{raise}
 use Rattle.theory.specs.Widths.{nodes-most}
 use Rattle.solve_laws.specs.Onward.{answered-ok}
 use Rattle.solve_laws.specs.Peaks.{Own, own-then, own-operation, total-own, own-peaks, own-answered}
-use Rattle.solve_total.specs.Planning.{actionOf, rootAt, ActionRan}
+use Rattle.solve_total.specs.StageTable.{actionOf, rootAt, ActionRan}
 use Rattle.solve_stages.specs.Stages.{bettered, joined, Counted}
 use Rattle.solve_operation.specs.declared.Run.{Run}
 

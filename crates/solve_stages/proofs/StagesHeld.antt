@@ -19,7 +19,7 @@ use Rattle.rule_node.specs.Nodes.{blank}
 use Rattle.solve_laws.specs.Onward.{answered}
 use Rattle.solve_laws.specs.Roots.{Rooted}
 use Rattle.solve_operation.specs.Operation.{heldTrees, Standing}
-use Rattle.solve_total.specs.Planning.{modelSize, StageReady, rootAt}
+use Rattle.solve_total.specs.StageTable.{modelSize, StageReady, rootAt}
 use Rattle.solve_total.proofs.Roots.{held-length, held-suc}
 
 -- an answer by its two cases

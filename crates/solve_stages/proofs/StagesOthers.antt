@@ -15,7 +15,7 @@ use Rattle.theory.specs.Meaning.{Action}
 use Rattle.theory.specs.Verdict.{Site, verdict}
 use Rattle.theory.specs.Load.{site-at, model}
 use Rattle.model_progress.specs.declared.Site.{Site as CodeSite}
-use Rattle.model_progress.specs.Standing.{site-as}
+use Rattle.model_progress.specs.GivenFlags.{site-as}
 use Rattle.theory.specs.Stage.{moment, action-total, best-on, stage-over}
 use Rattle.theory.specs.Peaks.{peaks-of}
 use Rattle.theory.specs.laws.Loading.{accepted-site}
@@ -27,7 +27,7 @@ use Rattle.solve_laws.specs.Steps.{best-on-step, best-on-done}
 use Rattle.solve_laws.specs.Loops.{first-done, first-refused}
 use Rattle.solve_laws.specs.Peaks.{peaks-alone-on, stage-peaks}
 use Rattle.solve_operation.specs.Operation.{heldTrees, Standing}
-use Rattle.solve_total.specs.Planning.{modelSize, StageReady, Due, actionOf, beforeOf, totalOf, rootAt, ActionRan}
+use Rattle.solve_total.specs.StageTable.{modelSize, StageReady, Due, actionOf, beforeOf, totalOf, rootAt, ActionRan}
 use Rattle.solve_stages.specs.Stages.{bettered, Counted}
 use Rattle.solve_operation.specs.declared.Run.{Run}
 use Rattle.solve_total.specs.declared.Backup.{Backup}

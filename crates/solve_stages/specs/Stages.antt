@@ -16,7 +16,7 @@ use Rattle.solve_laws.specs.Alike.{Alike}
 use Rattle.solve_laws.specs.Onward.{answered}
 use Rattle.solve_operation.specs.Operation.{heldTrees, Standing}
 use Rattle.solve_operation.specs.declared.Run.{Run}
-use Rattle.solve_total.specs.Planning.{modelSize, actionOf, rootAt, ActionRan}
+use Rattle.solve_total.specs.StageTable.{modelSize, actionOf, rootAt, ActionRan}
 use Rattle.solve_stages.specs.declared.Planned.{Planned}
 
 -- action a's total G, then the better of F, the best so far, and G

@@ -6,7 +6,7 @@ ghost use Rattle.theory.specs.Widths.{steps-most, nodes-most, peak-words};
 ghost use Rattle.theory.specs.Load.{model as model-of};
 ghost use Rattle.theory.specs.Stage.{best-on, stage-over};
 ghost use Rattle.theory.specs.Peaks.{raise};
-ghost use Rattle.solve_total.specs.Planning.{modelSize, StageReady, Due, beforeOf, totalOf, rootAt, ActionRan};
+ghost use Rattle.solve_total.specs.StageTable.{modelSize, StageReady, Due, beforeOf, totalOf, rootAt, ActionRan};
 ghost use Rattle.solve_stages.specs.Stages.{bettered, joined, Counted, Staged};
 use load_model::wide_action;
 use model::site;

@@ -24,7 +24,7 @@ use Rattle.solve_laws.specs.Onward.{answered-ok, answered-no}
 use Rattle.solve_laws.specs.Outcome.{solve-early, solve-solved, solve-refused}
 use Rattle.solve_stages.specs.declared.Planned.{Planned}
 use Rattle.solve_in_room.specs.Solves.{Solves}
-use Rattle.solve_tables.specs.Solving.{outcome}
+use Rattle.solve_tables.specs.SolveOutcome.{outcome}
 
 -- ---- before it runs
 

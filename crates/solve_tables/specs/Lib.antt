@@ -1,2 +1,2 @@
 -- What solving leaves.
-pub mod Solving
+pub mod SolveOutcome

@@ -3,7 +3,7 @@ ghost use mathlib.Core.Path.{_≡_};
 ghost use Rattle.theory.specs.Solve.{early-with-peaks};
 ghost use Rattle.theory.specs.Solve.{solve as solve-of};
 ghost use Rattle.model.specs.Answers.{shown};
-ghost use Rattle.solve_tables.specs.Solving.{outcome};
+ghost use Rattle.solve_tables.specs.SolveOutcome.{outcome};
 use model::Verdict;
 use model_progress::refusals::SIZES;
 use solve_in_room::solve_in;

@@ -17,9 +17,9 @@ use Rattle.theory.specs.laws.Valid.{among-out}
 use Rattle.theory.specs.laws.Loading.{Of-site, accepted-site, loaded-entries, model-loaded}
 use Rattle.rule_node.specs.Nodes.{blank}
 use Rattle.model_progress.specs.declared.Site.{Site as CodeSite}
-use Rattle.model_progress.specs.Standing.{site-as}
+use Rattle.model_progress.specs.GivenFlags.{site-as}
 use Rattle.load_model.proofs.Places.{row-few}
-use Rattle.solve_total.specs.Planning.{actionSize, modelSize, actionOf}
+use Rattle.solve_total.specs.StageTable.{actionSize, modelSize, actionOf}
 
 -- ---- the site
 

@@ -14,7 +14,7 @@ use Rattle.solve_laws.specs.Roots.{Rooted, rooted-front, roots-append, roots-le
 use Rattle.solve_operation.specs.Operation.{heldTrees, Standing, Operated}
 use Rattle.solve_operation.specs.declared.Rule.{Rule}
 use Rattle.solve_operation.specs.declared.Run.{Run}
-use Rattle.solve_total.specs.Planning.{rootAt}
+use Rattle.solve_total.specs.StageTable.{rootAt}
 
 -- as many diagrams as roots
 pub held-length : (l : List ℤ) (n : ℕ) (R : List ℕ) (held : ℕ) → held ≤ length R → length (heldTrees l n R held) ≡ held

@@ -17,7 +17,7 @@ use Rattle.solve_laws.specs.Steps.{sum-out-done}
 use Rattle.solve_laws.specs.Loops.{condition-done, condition-refused}
 use Rattle.solve_laws.specs.Roots.{Rooted}
 use Rattle.solve_operation.specs.Operation.{compOf, Fits, heldTrees, Operated}
-use Rattle.solve_total.specs.Planning.{rootAt, Sums, chancesOf, ActionRan}
+use Rattle.solve_total.specs.StageTable.{rootAt, Sums, chancesOf, ActionRan}
 use Rattle.solve_operation.specs.declared.Rule.the-variants.{Expect}
 use Rattle.solve_operation.specs.declared.Run.{Run}
 use Rattle.solve_total.specs.declared.Chances.{Chances}

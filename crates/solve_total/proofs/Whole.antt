@@ -19,7 +19,7 @@ use Rattle.theory.specs.Load.{model, site-at}
 use Rattle.theory.specs.Stage.{moment, sum-out}
 use Rattle.rule_node.specs.Nodes.{blank}
 use Rattle.model_progress.specs.declared.Site.{Site as CodeSite}
-use Rattle.model_progress.specs.Standing.{site-as}
+use Rattle.model_progress.specs.GivenFlags.{site-as}
 use Rattle.load_model.proofs.Places.{row-few}
 use Rattle.solve_laws.specs.Alike.{Alike}
 use Rattle.solve_laws.specs.Onward.{Works, Stops, works-run, stops-run, run-all-end, answered, answered-ok, answered-no, onward-ok, onward-no}
@@ -27,7 +27,7 @@ use Rattle.solve_laws.specs.Steps.{after-levels, after-levels-run}
 use Rattle.solve_laws.specs.Loops.{substituted, substitute-refused}
 use Rattle.solve_laws.specs.Roots.{Rooted}
 use Rattle.solve_operation.specs.Operation.{compOf, Fits, heldTrees, Operated}
-use Rattle.solve_total.specs.Planning.{Due, actionOf, beforeOf, totalOf, rootAt, ActionRan}
+use Rattle.solve_total.specs.StageTable.{Due, actionOf, beforeOf, totalOf, rootAt, ActionRan}
 use Rattle.solve_operation.specs.declared.Rule.the-variants.{Levels, Reward}
 use Rattle.solve_operation.specs.declared.Run.{Run}
 use Rattle.solve_total.specs.declared.Backup.{Backup}

@@ -1,2 +1,2 @@
 -- An action's total on a table with its roots.
-pub mod Planning
+pub mod StageTable

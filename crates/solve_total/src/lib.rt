@@ -3,7 +3,7 @@ ghost use mathlib.Core.Path.{_≡_};
 ghost use Prim.Native.Nat.{_<_};
 ghost use Rattle.theory.specs.Computation.{Moment};
 ghost use Rattle.theory.specs.Stage.{sum-out as summed};
-ghost use Rattle.solve_total.specs.Planning.{modelSize, Sums, chancesOf, Due, beforeOf, totalOf, rootAt, ActionRan};
+ghost use Rattle.solve_total.specs.StageTable.{modelSize, Sums, chancesOf, Due, beforeOf, totalOf, rootAt, ActionRan};
 use load_model::wide;
 use load_model::wide_action;
 use model::site;

@@ -1,5 +1,5 @@
 -- Laws that the proofs cite.
 pub mod Start
 pub mod Parts
-pub mod Counting
+pub mod LoadPeaks
 pub mod Runs

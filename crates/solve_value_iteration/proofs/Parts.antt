@@ -11,8 +11,8 @@ use Rattle.rule_node.specs.Nodes.{Good}
 use Rattle.rule_node.specs.Table.{Table}
 use Rattle.collect_mark.specs.Mark.{Space}
 use Rattle.collect_rehash.specs.Rehash.{Rehashed}
-use Rattle.load_choose.specs.Testing.{loadRule}
-use Rattle.load_model.specs.Rooting.{Loads}
+use Rattle.load_choose.specs.CommandTest.{loadRule}
+use Rattle.load_model.specs.ModelRoots.{Loads}
 use Rattle.load_model.specs.declared.Done.{Done}
 use Rattle.solve_operation.proofs.Parts.{more-room, stop-of, rehashed-table}
 use Rattle.solve_value_iteration.specs.Iteration.{Brought}

@@ -19,8 +19,8 @@ use Rattle.rule_node.specs.Nodes.{trees}
 use Rattle.rule_node.proofs.Trees.{trees-length}
 use Rattle.collect_mark.specs.Mark.{rootsOf}
 use Rattle.collect_mark.specs.Mark.{Below as Lower}
-use Rattle.load_command.specs.Stepping.{standing, Below}
-use Rattle.load_model.specs.Rooting.{endOf}
+use Rattle.load_command.specs.CommandStep.{standing, Below}
+use Rattle.load_model.specs.ModelRoots.{endOf}
 use Rattle.load_model.specs.declared.Done.{Done}
 use Rattle.solve_laws.specs.Alike.{Alike, alike-eq}
 use Rattle.solve_laws.specs.Onward.{answered-no}
@@ -28,12 +28,12 @@ use Rattle.solve_laws.specs.Roots.{roots-length, roots-append, below-append, be
 use Rattle.solve_laws.specs.Steps.{behind-none, all-stages-ended}
 use Rattle.solve_laws.specs.Loops.{zero-done, zero-refused}
 use Rattle.solve_laws.specs.Outcome.{solve-loaded, solve-unloaded}
-use Rattle.solve_value_iteration.proofs.Counting.{zero-counted, loaded-counted}
+use Rattle.solve_value_iteration.proofs.LoadPeaks.{zero-counted, loaded-counted}
 use Rattle.solve_operation.specs.declared.Rule.the-variants.{Zero}
 use Rattle.solve_operation.specs.declared.Run.{Run}
 use Rattle.solve_stages.specs.declared.Planned.{Planned}
 use Rattle.solve_operation.specs.Operation.{compOf, Fits, heldTrees, Standing, Operated}
-use Rattle.solve_total.specs.Planning.{modelSize, rootAt, StageReady}
+use Rattle.solve_total.specs.StageTable.{modelSize, rootAt, StageReady}
 use Rattle.solve_stages.specs.Stages.{Staged}
 use Rattle.solve_value_iteration.specs.Iteration.{stageTrees, Brought, Grounded, Plans}
 use Rattle.solve_value_iteration.proofs.Start.{size-few, loaded-models, loaded-standing}

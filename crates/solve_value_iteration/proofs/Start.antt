@@ -22,11 +22,11 @@ use Rattle.rule_node.proofs.Outcomes.{fresh}
 use Rattle.collect_mark.specs.Mark.{rootsOf, Space}
 use Rattle.collect_mark.specs.Mark.{Below as Lower}
 use Rattle.finish.proofs.Fill.{all-wiped}
-use Rattle.load_command.specs.Stepping.{Below}
+use Rattle.load_command.specs.CommandStep.{Below}
 use Rattle.load_model.specs.declared.Done.{Done}
 use Rattle.solve_laws.specs.Operated.{below-cons}
 use Rattle.solve_operation.specs.Operation.{heldTrees, Standing}
-use Rattle.solve_total.specs.Planning.{modelSize}
+use Rattle.solve_total.specs.StageTable.{modelSize}
 use Rattle.solve_value_iteration.specs.Iteration.{Room, Brought}
 
 -- ---- no node yet

@@ -13,13 +13,13 @@ use Rattle.theory.specs.Peaks.{peaks-of, solved-peaks}
 use Rattle.theory.specs.Solve.{solve-in}
 use Rattle.rule_node.specs.Nodes.{trees, Good}
 use Rattle.collect_mark.specs.Mark.{rootsOf, Space}
-use Rattle.load_command.specs.Stepping.{standing, Below}
-use Rattle.load_model.specs.Rooting.{endOf, rootsOf as numbersOf}
+use Rattle.load_command.specs.CommandStep.{standing, Below}
+use Rattle.load_model.specs.ModelRoots.{endOf, rootsOf as numbersOf}
 use Rattle.load_model.specs.declared.Done.{Done}
 use Rattle.solve_laws.specs.Onward.{answered}
 use Rattle.solve_operation.specs.Operation.{Standing}
 use Rattle.solve_operation.specs.declared.Run.{Run}
-use Rattle.solve_total.specs.Planning.{modelSize, rootAt, StageReady}
+use Rattle.solve_total.specs.StageTable.{modelSize, rootAt, StageReady}
 use Rattle.solve_stages.specs.declared.Planned.{Planned}
 
 -- room for some nodes in the lent words

@@ -7,7 +7,7 @@ ghost use Rattle.theory.specs.Valid.{all};
 ghost use Rattle.theory.specs.Verdict.{from-to};
 ghost use Rattle.theory.specs.Value.{good-row};
 ghost use Rattle.theory.specs.Listing.{greatest-root};
-ghost use Rattle.model_progress.specs.Standing.{site-as};
+ghost use Rattle.model_progress.specs.GivenFlags.{site-as};
 ghost use Rattle.text_listing.specs.Refusal.{rooted, plan-refusal};
 use model_progress::Site;
 use table::NODE_WORDS;

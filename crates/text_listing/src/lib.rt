@@ -4,7 +4,7 @@ ghost use Prim.Native.Nat.{_≤_};
 ghost use lib.ListN.{length};
 ghost use Rattle.theory.specs.Widths.{steps-most};
 ghost use Rattle.theory.specs.Listing.{listing as listing-of};
-ghost use Rattle.model_progress.specs.Standing.{site-as};
+ghost use Rattle.model_progress.specs.GivenFlags.{site-as};
 ghost use Rattle.text_listing.specs.Refusal.{plan-listing};
 ghost use Rattle.text_listing.specs.Answer.{outcome, refused-as};
 use model::early;

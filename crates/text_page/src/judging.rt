@@ -5,7 +5,7 @@ ghost use Prim.Native.Nat.{_≤_};
 ghost use lib.ListN.{length};
 ghost use Rattle.theory.specs.Valid.{all};
 ghost use Rattle.theory.specs.Verdict.{from-to};
-ghost use Rattle.model_progress.specs.Standing.{site-as};
+ghost use Rattle.model_progress.specs.GivenFlags.{site-as};
 ghost use Rattle.value_walk.specs.State.{asked};
 ghost use Rattle.text_page.specs.Stages.{spared, stages-refusal};
 use model_progress::Site;

@@ -3,7 +3,7 @@ ghost use mathlib.Core.Path.{_≡_};
 ghost use lib.ListN.{length};
 ghost use Rattle.theory.specs.Load.{site-at};
 ghost use Rattle.theory.specs.Solve.{early as early-of};
-ghost use Rattle.model_progress.specs.Standing.{site-as};
+ghost use Rattle.model_progress.specs.GivenFlags.{site-as};
 ghost use Rattle.value_walk.specs.State.{asked};
 ghost use Rattle.text_listing.specs.Answer.{outcome, refused-as};
 ghost use Rattle.text_page_lines.specs.Page.{page as page-of};

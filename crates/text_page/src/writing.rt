@@ -5,7 +5,7 @@ ghost use lib.ListN.{length};
 ghost use Rattle.whole.specs.Int.{up};
 ghost use Rattle.whole.specs.Numerator.{number};
 ghost use Rattle.theory.specs.Widths.{steps-most};
-ghost use Rattle.model_progress.specs.Standing.{site-as};
+ghost use Rattle.model_progress.specs.GivenFlags.{site-as};
 ghost use Rattle.value_walk.specs.State.{asked};
 ghost use Rattle.text_decimal.specs.Put.{PutAt};
 ghost use Rattle.whole_division.specs.Floor.{floor-by};

@@ -1,3 +1,3 @@
 -- Laws that several proofs cite.
-pub mod Filling
-pub mod Padding
+pub mod ColumnDigits
+pub mod LineParts

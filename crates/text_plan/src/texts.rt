@@ -5,7 +5,7 @@ ghost use lib.ListN.{length};
 ghost use Rattle.theory.specs.Widths.{node-words, steps-most};
 ghost use Rattle.theory.specs.Verdict.{from-to};
 ghost use Rattle.theory.specs.Listing.{lines, node-line, stage-line, text};
-ghost use Rattle.model_progress.specs.Standing.{site-as};
+ghost use Rattle.model_progress.specs.GivenFlags.{site-as};
 ghost use Rattle.text_decimal.specs.Put.{PutAt};
 ghost use Rattle.text_plan_lines.specs.Lines.{line-most};
 ghost use Rattle.text_plan.specs.Plan.{PlanReady, other-lines-most, upto};

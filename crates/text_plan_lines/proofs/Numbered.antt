@@ -16,7 +16,7 @@ use Rattle.theory.specs.Listing.{spaced, spaced-all, line, numbers-of, first-li
 use Rattle.table_rows.specs.Row.{Inside}
 use Rattle.table_rows.proofs.Rowed.{take-more}
 use Rattle.model_progress.specs.declared.Site.{Site}
-use Rattle.model_progress.specs.Standing.{site-as}
+use Rattle.model_progress.specs.GivenFlags.{site-as}
 use Rattle.text_plan_lines.specs.Lines.{node-rest}
 
 pub first-is :

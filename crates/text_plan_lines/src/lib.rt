@@ -6,7 +6,7 @@ ghost use lib.ListN.{length, getD};
 ghost use Rattle.theory.specs.Verdict.{refusal};
 ghost use Rattle.theory.specs.Value.{node-word, high-of, low-of};
 ghost use Rattle.theory.specs.Listing.{first-line, node-line, stage-line, refusal-line};
-ghost use Rattle.model_progress.specs.Standing.{site-as};
+ghost use Rattle.model_progress.specs.GivenFlags.{site-as};
 ghost use Rattle.table_rows.specs.Row.{Inside};
 ghost use Rattle.text_decimal.specs.Put.{PutAt};
 ghost use Rattle.text_plan_lines.specs.Lines.{node-rest, line-most, node-line-most};

@@ -18,7 +18,7 @@ use Rattle.theory.specs.Verdict.{Verdict, Site, refusal, verdict, or}
 use Rattle.model.specs.declared.Verdict.{Verdict as CodeVerdict}
 use Rattle.model.specs.Answers.{shown}
 use Rattle.model_progress.specs.declared.Site.{Site as CodeSite}
-use Rattle.model_progress.specs.Standing.{site-as}
+use Rattle.model_progress.specs.GivenFlags.{site-as}
 use Rattle.value_walk.specs.Out.{value-after}
 
 -- ---- the early refusals

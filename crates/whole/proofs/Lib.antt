@@ -6,6 +6,6 @@ pub mod Divided
 pub mod TwoWords
 pub mod Filled
 pub mod Clipped
-pub mod Comparing
+pub mod Comparisons
 pub mod Loops
 pub mod Products

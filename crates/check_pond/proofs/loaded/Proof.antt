@@ -1,7 +1,7 @@
 -- `check_pond::loaded` meets its contract.
 use mathlib.Core.Path.{_∙_}
 use native.Mathlib.Omega.{arith}
-use Rattle.load_choose.specs.Testing.{loadRule}
+use Rattle.load_choose.specs.CommandTest.{loadRule}
 use Rattle.solve_value_iteration.proofs.Start.{wiped-table}
 use Rattle.check_pond.proofs.Operations.{loaded}
 use borrow.Author.Needs.{needs}

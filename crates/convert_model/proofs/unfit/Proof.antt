@@ -1,6 +1,6 @@
 -- `convert_model::unfit` meets its contract.
 use Rattle.model_form.specs.Forms.{form-of}
-use Rattle.convert_model.proofs.Searching.{unfit-large, unfit-by, unfit-not}
+use Rattle.convert_model.proofs.ForbiddenSearch.{unfit-large, unfit-by, unfit-not}
 use borrow.Author.Needs.{needs}
 use Rattle.convert_model.proofs.unfit.Statement.{statement}
 use Rattle.convert_model.proofs.unfit.Tie as tie

@@ -2,8 +2,8 @@ use native.Mathlib.Omega.{arith}
 use native.Mathlib.Nat.{lt-of-lt-of-le}
 use borrow.Author.Needs.{needs}
 use Rattle.rule_node.proofs.Outcomes.{lifted}
-use Rattle.rule_node.proofs.Caching.{room-in, keepable}
-use Rattle.rule_node.proofs.Going.{at-in, high-stops, low-stops, root-on, high-in, joined}
+use Rattle.rule_node.proofs.CacheEntries.{room-in, keepable}
+use Rattle.rule_node.proofs.RuleSteps.{at-in, high-stops, low-stops, root-on, high-in, joined}
 use Rattle.load_choose.proofs.Commands.{choice-key, choice-goes, choice-ends, choice-answered, choice-stored}
 use Prim.Native.Nat.{ℕ, _<_, _+_}
 use borrow.Fn.Kinds.{In}

@@ -1,6 +1,6 @@
 -- `load_choose::words` meets its contract.
 use mathlib.Core.Path.{refl}
-use Rattle.load_choose.specs.Testing.{wordsOf}
+use Rattle.load_choose.specs.CommandTest.{wordsOf}
 use Rattle.load_choose.proofs.words.Statement.{statement}
 use Rattle.load_choose.proofs.words.Tie as tie
 

@@ -1,6 +1,6 @@
 -- `load_command::choice` meets its contract.
 use Rattle.model_stack.specs.Held.{held}
-use Rattle.load_choose.specs.Testing.{testAt}
+use Rattle.load_choose.specs.CommandTest.{testAt}
 use Rattle.load_command.proofs.Steps.{chosen, low-fits, high-fits, small-ran}
 use borrow.Author.Needs.{needs}
 use Rattle.load_command.proofs.choice.Statement.{statement}

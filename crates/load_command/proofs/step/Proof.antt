@@ -1,6 +1,6 @@
 -- `load_command::step` meets its contract.
 use native.Mathlib.Omega.{arith}
-use Rattle.model_command.specs.Reading.{command-of-in}
+use Rattle.model_command.specs.CursorReadings.{command-of-in}
 use Rattle.load_command.proofs.Steps.{leaf-there, leaf-read, leaf-loaded, condition-asks, test-asks, condition-step, test-step, forbidden-step, give-step, other-step, ready-as, step-as}
 use borrow.Author.Needs.{needs}
 use Rattle.load_command.proofs.step.Statement.{statement}

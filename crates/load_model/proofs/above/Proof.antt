@@ -3,7 +3,7 @@ use mathlib.Core.Path.{ap}
 use Prim.Native.Nat.{ℕ, _-_}
 use native.Mathlib.Omega.{arith}
 use borrow.Author.Tests.{eq-eqb, ne-eqb}
-use Rattle.load_model.specs.Rooting.{rows-above}
+use Rattle.load_model.specs.ModelRoots.{rows-above}
 use borrow.Author.Needs.{needs}
 use Rattle.load_model.proofs.above.Statement.{statement}
 use Rattle.load_model.proofs.above.Tie as tie

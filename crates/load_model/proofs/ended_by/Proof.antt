@@ -3,9 +3,9 @@ use mathlib.Core.Path.{ap, _∙_, sym}
 use mathlib.Core.Bool.{Bool}
 use borrow.Author.Tests.{eq-eqb, ne-eqb}
 use Rattle.theory.specs.Verdict.{or}
-use Rattle.model_command.specs.Reading.{command-of-in, command-of}
+use Rattle.model_command.specs.CursorReadings.{command-of-in, command-of}
 use Rattle.model_command.specs.declared.Command.{Command as CodeCommand}
-use Rattle.load_model.specs.Rooting.{ended-by}
+use Rattle.load_model.specs.ModelRoots.{ended-by}
 use Rattle.load_model.proofs.Places.{other-command}
 use borrow.Author.Needs.{needs}
 use Rattle.load_model.proofs.ended_by.Statement.{statement}

@@ -3,7 +3,7 @@ use mathlib.Core.Path.{ap₂, _∙_}
 use Prim.Native.Nat.{ℕ, _+_}
 use native.Mathlib.Omega.{arith}
 use borrow.Author.Tests.{eq-eqb, ne-eqb}
-use Rattle.load_model.specs.Rooting.{offset-of}
+use Rattle.load_model.specs.ModelRoots.{offset-of}
 use borrow.Author.Needs.{needs}
 use Rattle.load_model.proofs.offset.Statement.{statement}
 use Rattle.load_model.proofs.offset.Tie as tie

@@ -1,9 +1,9 @@
 -- `load_model::place` meets its contract.
 use mathlib.Core.Path.{ap, ap₂, _∙_, sym}
 use Prim.Native.Nat.{ℕ, _+_, _*_}
-use Rattle.model_command.specs.Reading.{command-of-in, command-of}
+use Rattle.model_command.specs.CursorReadings.{command-of-in, command-of}
 use Rattle.model_command.specs.declared.Command.{Command as CodeCommand}
-use Rattle.load_model.specs.Rooting.{place-of}
+use Rattle.load_model.specs.ModelRoots.{place-of}
 use Rattle.load_model.proofs.Places.{other-command}
 use borrow.Author.Needs.{needs}
 use Rattle.load_model.proofs.place.Statement.{statement}

@@ -4,7 +4,7 @@ use Prim.Native.Nat.{_+_, _<_, _≤_}
 use lib.ListN.{length}
 use borrow.Author.Tests.{ne-eqb, eq-eqb, le-leb, lt-leb, lt-ltb, le-ltb}
 use Rattle.theory.specs.Command.{read-in}
-use Rattle.model_command.specs.Reading.{read-of-in}
+use Rattle.model_command.specs.CursorReadings.{read-of-in}
 use borrow.Author.Needs.{needs}
 use Rattle.model_command.proofs.command_in.Statement.{statement}
 use Rattle.model_command.proofs.command_in.Tie as tie

@@ -3,7 +3,7 @@ use native.Mathlib.Omega.{arith}
 use Prim.Native.Nat.{_+_, _<_, _≤_}
 use lib.ListN.{length}
 use borrow.Author.Tests.{le-leb, lt-leb, lt-ltb, le-ltb}
-use Rattle.model_command.specs.Reading.{next-in}
+use Rattle.model_command.specs.CursorReadings.{next-in}
 use borrow.Author.Needs.{needs}
 use Rattle.model_command.proofs.next_after_in.Statement.{statement}
 use Rattle.model_command.proofs.next_after_in.Tie as tie

@@ -1,7 +1,7 @@
 -- `model_command::size_in` meets its contract.
 use mathlib.Core.Path.{refl, ap}
 use Prim.Native.Nat.{ℕ, _+_}
-use Rattle.model_command.specs.Reading.{command-of-in}
+use Rattle.model_command.specs.CursorReadings.{command-of-in}
 use Rattle.model_command.proofs.Forward.{length-of}
 use Rattle.model_command.proofs.Sizes.{by-case}
 use borrow.Author.Needs.{needs}

@@ -3,7 +3,7 @@ use mathlib.Core.Path.{refl, _∙_, sym}
 use native.Mathlib.Omega.{arith}
 use borrow.Author.Tests.{ne-eqb, eq-eqb}
 use Rattle.theory.specs.Command.{command-in}
-use Rattle.model_command.specs.Reading.{command-of-in}
+use Rattle.model_command.specs.CursorReadings.{command-of-in}
 use borrow.Author.Needs.{needs}
 use Rattle.model_command.proofs.whole_at.Statement.{statement}
 use Rattle.model_command.proofs.whole_at.Tie as tie

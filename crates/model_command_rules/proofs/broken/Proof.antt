@@ -1,7 +1,7 @@
 -- `model_command_rules::broken` meets its contract.
 use Rattle.model_form.specs.Forms.{form-of}
 use mathlib.Core.Path.{_∙_}
-use Rattle.model_command_rules.proofs.Judging.{begun-rules, first-rules-of}
+use Rattle.model_command_rules.proofs.RuleTests.{begun-rules, first-rules-of}
 use borrow.Author.Needs.{needs}
 use Rattle.model_command_rules.proofs.broken.Statement.{statement}
 use Rattle.model_command_rules.proofs.broken.Tie as tie

@@ -3,8 +3,8 @@ use mathlib.Core.Path.{ap, _∙_}
 use mathlib.Core.Bool.{Bool, false, not}
 use lib.Dec.{ltb}
 use Rattle.theory.specs.Verdict.{first-broken}
-use Rattle.model_progress.specs.Standing.{in-order}
-use Rattle.model_command_rules.proofs.Judging.{later-condition}
+use Rattle.model_progress.specs.GivenFlags.{in-order}
+use Rattle.model_command_rules.proofs.RuleTests.{later-condition}
 use borrow.Author.Needs.{needs}
 use Rattle.model_command_rules.proofs.condition.Statement.{statement}
 use Rattle.model_command_rules.proofs.condition.Tie as tie

@@ -1,6 +1,6 @@
 -- `model_command_rules::end` meets its contract.
 use mathlib.Core.Path.{sym, _∙_}
-use Rattle.model_command_rules.proofs.Judging.{later-end, end-missing, end-held, end-done}
+use Rattle.model_command_rules.proofs.RuleTests.{later-end, end-missing, end-held, end-done}
 use borrow.Author.Needs.{needs}
 use Rattle.model_command_rules.proofs.end.Statement.{statement}
 use Rattle.model_command_rules.proofs.end.Tie as tie

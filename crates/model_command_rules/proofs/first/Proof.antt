@@ -3,8 +3,8 @@ use Rattle.model_form.specs.Forms.{form-of}
 use mathlib.Core.Path.{sym, ap, _∙_}
 use Rattle.theory.specs.Verdict.{first-broken, first-rules}
 use Rattle.model_command.specs.declared.Command.{Command as CodeCommand}
-use Rattle.model_command.specs.Reading.{command-of-in}
-use Rattle.model_progress.proofs.Leaving.{not-first}
+use Rattle.model_command.specs.CursorReadings.{command-of-in}
+use Rattle.model_progress.proofs.StateAfter.{not-first}
 use borrow.Author.Needs.{needs}
 use Rattle.model_command_rules.proofs.first.Statement.{statement}
 use Rattle.model_command_rules.proofs.first.Tie as tie

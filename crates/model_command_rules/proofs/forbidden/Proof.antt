@@ -1,6 +1,6 @@
 -- `model_command_rules::forbidden` meets its contract.
 use mathlib.Core.Path.{_∙_}
-use Rattle.model_command_rules.proofs.Judging.{later-forbidden}
+use Rattle.model_command_rules.proofs.RuleTests.{later-forbidden}
 use borrow.Author.Needs.{needs}
 use Rattle.model_command_rules.proofs.forbidden.Statement.{statement}
 use Rattle.model_command_rules.proofs.forbidden.Tie as tie

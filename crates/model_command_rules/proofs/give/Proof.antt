@@ -6,8 +6,8 @@ use lib.Dec.{ltb}
 use lib.ListN.{getD}
 use Rattle.theory.specs.Command.{Slot}
 use Rattle.theory.specs.Verdict.{first-broken}
-use Rattle.model_progress.specs.Standing.{in-order, place}
-use Rattle.model_command_rules.proofs.Judging.{later-give}
+use Rattle.model_progress.specs.GivenFlags.{in-order, place}
+use Rattle.model_command_rules.proofs.RuleTests.{later-give}
 use borrow.Author.Needs.{needs}
 use Rattle.model_command_rules.proofs.give.Statement.{statement}
 use Rattle.model_command_rules.proofs.give.Tie as tie

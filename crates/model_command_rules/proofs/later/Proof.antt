@@ -8,9 +8,9 @@ use Prim.Native.Nat.{ℕ, _+_}
 use native.Mathlib.Omega.{arith}
 use lib.ListN.{take, drop}
 use Rattle.theory.specs.Verdict.{printable, first-broken, later-rules}
-use Rattle.model_command.specs.Reading.{command-of-in}
+use Rattle.model_command.specs.CursorReadings.{command-of-in}
 use Rattle.model_command.proofs.Forward.{whole-bytes}
-use Rattle.model_progress.proofs.Leaving.{known-command, leaf-there, test-there}
+use Rattle.model_progress.proofs.StateAfter.{known-command, leaf-there, test-there}
 use borrow.Author.Needs.{needs}
 use Rattle.model_command_rules.proofs.later.Statement.{statement}
 use Rattle.model_command_rules.proofs.later.Tie as tie

@@ -6,8 +6,8 @@ use mathlib.Core.Bool.{Bool, false}
 use lib.Dec.{leb}
 use Rattle.theory.specs.Verdict.{first-broken}
 use Rattle.theory.specs.Command.{linear-in}
-use Rattle.model_progress.specs.Standing.{in-order}
-use Rattle.model_command_rules.proofs.Judging.{later-leaf}
+use Rattle.model_progress.specs.GivenFlags.{in-order}
+use Rattle.model_command_rules.proofs.RuleTests.{later-leaf}
 use borrow.Author.Needs.{needs}
 use Rattle.model_command_rules.proofs.leaf.Statement.{statement}
 use Rattle.model_command_rules.proofs.leaf.Tie as tie

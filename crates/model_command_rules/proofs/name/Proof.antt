@@ -4,8 +4,8 @@ use mathlib.Core.Bool.{false, not}
 use Prim.Native.Nat.{ℕ}
 use lib.ListN.{getD}
 use Rattle.theory.specs.Verdict.{or, first-broken}
-use Rattle.model_progress.specs.Standing.{in-order}
-use Rattle.model_command_rules.proofs.Judging.{later-name}
+use Rattle.model_progress.specs.GivenFlags.{in-order}
+use Rattle.model_command_rules.proofs.RuleTests.{later-name}
 use borrow.Author.Needs.{needs}
 use Rattle.model_command_rules.proofs.name.Statement.{statement}
 use Rattle.model_command_rules.proofs.name.Tie as tie

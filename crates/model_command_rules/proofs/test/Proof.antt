@@ -5,8 +5,8 @@ use mathlib.Core.Bool.{Bool, false}
 use lib.Dec.{ltb}
 use Rattle.theory.specs.Verdict.{or, first-broken}
 use Rattle.theory.specs.Command.{linear-in}
-use Rattle.model_progress.specs.Standing.{in-order}
-use Rattle.model_command_rules.proofs.Judging.{later-test}
+use Rattle.model_progress.specs.GivenFlags.{in-order}
+use Rattle.model_command_rules.proofs.RuleTests.{later-test}
 use borrow.Author.Needs.{needs}
 use Rattle.model_command_rules.proofs.test.Statement.{statement}
 use Rattle.model_command_rules.proofs.test.Tie as tie

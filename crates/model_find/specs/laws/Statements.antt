@@ -16,7 +16,7 @@ use Rattle.model_find.specs.Find.{FindOut, refused-find, bearers, found-
 use Rattle.model_find.specs.Statements.{Sent, FindRow, find-0, find-1-10, find-18, find-19, FindRows, FindsHome, NamesFound, SpacesLost, EmptyNobodys, Shared, SharedRefused}
 use Rattle.model_find.specs.laws.Spaces.{Ends, trim-more, trim-none, trim-sent}
 use Rattle.model_find.specs.laws.Bearers.{tells-one, tells-none, tells-several}
-use Rattle.model_find.specs.laws.Naming.{name-there, name-given-there}
+use Rattle.model_find.specs.laws.NameCommands.{name-there, name-given-there}
 use Rattle.model_find.specs.laws.Early.{early-most}
 use Rattle.model_find.specs.laws.Rows.{find-row, find-is, find-told}
 

@@ -4,7 +4,7 @@ use Prim.Native.Nat.{_+_}
 use native.Mathlib.Nat.{add-zero, add-comm}
 use Rattle.theory.specs.Name.{Part}
 use Rattle.model_names.specs.Parts.{part-as}
-use Rattle.model_names.proofs.Naming.{part-refused, part-passed, name-empty, name-bytes-are}
+use Rattle.model_names.proofs.NameWalk.{part-refused, part-passed, name-empty, name-bytes-are}
 use borrow.Author.Needs.{needs}
 use Rattle.model_names.proofs.name.Statement.{statement}
 use Rattle.model_names.proofs.name.Tie as tie

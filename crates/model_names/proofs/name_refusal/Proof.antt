@@ -4,7 +4,7 @@ use mathlib.Core.Bool.{true, false}
 use borrow.Author.Tests.{le-leb, lt-leb}
 use Rattle.theory.specs.Verdict.{Site}
 use Rattle.theory.specs.Valid.{among}
-use Rattle.model_names.proofs.Naming.{early-refused, early-passed}
+use Rattle.model_names.proofs.NameWalk.{early-refused, early-passed}
 use borrow.Author.Needs.{needs}
 use Rattle.model_names.proofs.name_refusal.Statement.{statement}
 use Rattle.model_names.proofs.name_refusal.Tie as tie

@@ -7,7 +7,7 @@ use native.Mathlib.Omega.{arith}
 use lib.ListN.{length}
 use Rattle.model_command.proofs.Forward.{whole-bytes}
 use Rattle.model.proofs.Walk.{whole-is, forward}
-use Rattle.model_names.proofs.Naming.{Seek, seek-starts, seek-stops, seek-found, seek-ends, seek-on, name-room}
+use Rattle.model_names.proofs.NameWalk.{Seek, seek-starts, seek-stops, seek-found, seek-ends, seek-on, name-room}
 use borrow.Author.Needs.{needs}
 use Rattle.model_names.proofs.named_part.Statement.{statement}
 use Rattle.model_names.proofs.named_part.Tie as tie

@@ -3,9 +3,9 @@ use mathlib.Core.Path.{sym, ap, _∙_}
 use lib.Dec.{eqb}
 use Rattle.theory.specs.Command.{whole}
 use Rattle.theory.specs.Name.{names-action}
-use Rattle.model_command.specs.Reading.{command-of, command-of-in}
+use Rattle.model_command.specs.CursorReadings.{command-of, command-of-in}
 use Rattle.model_command.specs.declared.Command.{Command as CodeCommand}
-use Rattle.model_names.proofs.Naming.{names-other}
+use Rattle.model_names.proofs.NameWalk.{names-other}
 use borrow.Author.Needs.{needs}
 use Rattle.model_names.proofs.names.Statement.{statement}
 use Rattle.model_names.proofs.names.Tie as tie

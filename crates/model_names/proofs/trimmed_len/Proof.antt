@@ -4,7 +4,7 @@ use Prim.Native.Nat.{_≤_}
 use native.Mathlib.Omega.{arith}
 use lib.ListN.{drop}
 use Rattle.theory.specs.Name.{trimmed}
-use Rattle.model_names.proofs.Naming.{trim-stay, trim-down}
+use Rattle.model_names.proofs.NameWalk.{trim-stay, trim-down}
 use Rattle.model_names.proofs.trimmed_len.Statement.{statement}
 use Rattle.model_names.proofs.trimmed_len.Tie as tie
 

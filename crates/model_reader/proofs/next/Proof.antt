@@ -44,7 +44,7 @@ use denote.Triple.Walked.{says, Stays, stay-none, walkOf, goes-none, Walks, ends
 use denote.Exit.{yes}
 use denote.Triple.Clauses.{ensured, lasts}
 use Rattle.theory.specs.Command.{read-at}
-use Rattle.model_command.specs.Reading.{read-of}
+use Rattle.model_command.specs.CursorReadings.{read-of}
 use Rattle.model_reader.specs.declared.Reader.{Reader}
 use Rattle.model_command.specs.declared.Read.{Read}
 use Rattle.model_reader.proofs.Reader as T

@@ -43,7 +43,7 @@ use denote.Triple.Table.{entered, cited}
 use denote.Triple.Walked.{says, Stays, stay-none, walkOf, goes-none, Walks, ends-at, walked, walk-meets}
 use denote.Exit.{yes}
 use denote.Triple.Clauses.{ensured, lasts}
-use Rattle.model_command.specs.Reading.{next-at}
+use Rattle.model_command.specs.CursorReadings.{next-at}
 use Rattle.model_reader.specs.declared.Reader.{Reader}
 use Rattle.model_reader.proofs.Reader as T
 use Rattle.model_reader.proofs.Reader.Laws as T′

@@ -6,10 +6,10 @@ use lib.IntN.{pos}
 use lib.Signed.{leZ}
 use Rattle.theory.specs.Diagram.{Linear}
 use Rattle.model_command.specs.declared.Command.{Command as CodeCommand}
-use Rattle.model_command.specs.Reading.{command-of, command-of-in}
+use Rattle.model_command.specs.CursorReadings.{command-of, command-of-in}
 use Rattle.model_stack.specs.Held.{last-first}
 use Rattle.plain_pass.specs.Pass.{point-at, chosen, stepped, numerator}
-use Rattle.plain_pass.proofs.Holding.{holds-as}
+use Rattle.plain_pass.proofs.PassWords.{holds-as}
 use Rattle.plain_pass.proofs.Turns.{leaf-there, test-there, whole-there}
 use borrow.Author.Needs.{needs}
 use Rattle.plain_leaf.proofs.after.Statement.{statement}

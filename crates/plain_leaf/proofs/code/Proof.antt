@@ -3,7 +3,7 @@ use Prim.Native.Nat.{_+_, _≤_, _<_}
 use native.Mathlib.Omega.{arith}
 use lib.ListN.{length}
 use borrow.Author.Tests.{lt-ltb, le-ltb}
-use Rattle.model_command.specs.Reading.{with-linear}
+use Rattle.model_command.specs.CursorReadings.{with-linear}
 use Rattle.plain_pass.specs.Pass.{code-at}
 use Rattle.plain_leaf.proofs.code.Statement.{statement}
 use Rattle.plain_leaf.proofs.code.Tie as tie

@@ -7,7 +7,7 @@ use Rattle.theory.specs.Command.{byte-at}
 use Rattle.model_stack.specs.Held.{last-first}
 use Rattle.plain_pass.specs.Pass.{point-at, nums-at}
 use Rattle.plain_pass.proofs.Points.{numbers-alone, flat-alone}
-use Rattle.plain_pass.proofs.Holding.{holds-as}
+use Rattle.plain_pass.proofs.PassWords.{holds-as}
 use Rattle.plain_pass.proofs.Turns.{condition-left, forbidden-left, test-left, condition-wide, forbidden-wide, test-wide}
 use borrow.Author.Needs.{needs}
 use Rattle.plain_leaf.proofs.push_by.Statement.{statement}

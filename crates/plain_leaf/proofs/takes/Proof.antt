@@ -1,7 +1,7 @@
 -- `plain_leaf::takes` meets its contract.
 use mathlib.Core.Path.{sym, ap, _∙_}
 use Rattle.model_command.specs.declared.Command.{Command as CodeCommand}
-use Rattle.model_command.specs.Reading.{command-of, command-of-in}
+use Rattle.model_command.specs.CursorReadings.{command-of, command-of-in}
 use Rattle.plain_pass.specs.Pass.{slot-of}
 use Rattle.plain_pass.specs.Pass.{takes as takes-slot}
 use Rattle.plain_pass.proofs.Turns.{takes-other}

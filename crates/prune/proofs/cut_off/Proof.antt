@@ -5,7 +5,7 @@ use native.Mathlib.Omega.{arith}
 use borrow.Author.Needs.{needs}
 use mir.Facts.{fits-widen}
 use lib.ListN.{length-set}
-use Rattle.prune.proofs.Cutting.{holds, to-copy, to-make, cut-left}
+use Rattle.prune.proofs.CutSteps.{holds, to-copy, to-make, cut-left}
 use Rattle.prune.proofs.cut_off.Statement.{statement}
 use Rattle.prune.proofs.cut_off.Tie as tie
 

@@ -1,6 +1,6 @@
 -- `prune_copy::copy_row` meets its contract.
 use native.Mathlib.Omega.{arith}
-use Rattle.prune_copy.proofs.Turning.{lower-is, stepped}
+use Rattle.prune_copy.proofs.StandIn.{lower-is, stepped}
 use borrow.Author.Needs.{needs}
 use Rattle.prune_copy.proofs.copy_row.Statement.{statement}
 use Rattle.prune_copy.proofs.copy_row.Tie as tie

@@ -1,6 +1,6 @@
 -- `prune_copy::stand_in` meets its contract.
 use mathlib.Core.Path.{sym, _∙_}
-use Rattle.prune_copy.proofs.Turning.{stands-copy, stands-other}
+use Rattle.prune_copy.proofs.StandIn.{stands-copy, stands-other}
 use borrow.Author.Needs.{needs}
 use Rattle.prune_copy.proofs.stand_in.Statement.{statement}
 use Rattle.prune_copy.proofs.stand_in.Tie as tie

@@ -1,5 +1,5 @@
 -- `prune_copy::turned` meets its contract.
-use Rattle.prune_copy.proofs.Turning.{stored-high, stored-low}
+use Rattle.prune_copy.proofs.StandIn.{stored-high, stored-low}
 use borrow.Author.Needs.{needs}
 use Rattle.prune_copy.proofs.turned.Statement.{statement}
 use Rattle.prune_copy.proofs.turned.Tie as tie

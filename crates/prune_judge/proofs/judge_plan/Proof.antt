@@ -1,6 +1,6 @@
 -- `prune_judge::judge_plan` meets its contract.
 use mathlib.Core.Path.{_∙_}
-use Rattle.model_progress.specs.Standing.{site-as}
+use Rattle.model_progress.specs.GivenFlags.{site-as}
 use Rattle.prune_judge.proofs.Judged.{says-15, says-14, root-good, says-path, says-12, says-0}
 use borrow.Author.Needs.{needs}
 use Rattle.prune_judge.proofs.judge_plan.Statement.{statement}

@@ -1,6 +1,6 @@
 -- `prune_judge::refusal` meets its contract.
 use native.Mathlib.Omega.{arith}
-use Rattle.model_progress.specs.Standing.{site-as}
+use Rattle.model_progress.specs.GivenFlags.{site-as}
 use Rattle.model.specs.Answers.{shown}
 use Rattle.prune_judge.proofs.Judged.{early-stops, early-passes, stage-there, plan-there}
 use borrow.Author.Needs.{needs}

@@ -2,7 +2,7 @@
 use mathlib.Core.Path.{_∙_}
 use Prim.Native.Nat.{_-_}
 use native.Mathlib.Omega.{arith}
-use Rattle.prune_remake.proofs.Remaking.{Upto, begins, fits-here, at-in, step, all-remade}
+use Rattle.prune_remake.proofs.RowsRemade.{Upto, begins, fits-here, at-in, step, all-remade}
 use Rattle.prune_remake.proofs.remake.Statement.{statement}
 use Rattle.prune_remake.proofs.remake.Tie as tie
 

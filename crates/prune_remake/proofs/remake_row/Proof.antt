@@ -1,7 +1,7 @@
 -- `prune_remake::remake_row` meets its contract.
 use native.Mathlib.Omega.{arith}
 use borrow.Author.Needs.{needs}
-use Rattle.prune_remake.proofs.Making.{leaf-valid, leaf-made, test-proper, high-in, low-in, gone-in, test-made}
+use Rattle.prune_remake.proofs.RowRemade.{leaf-valid, leaf-made, test-proper, high-in, low-in, gone-in, test-made}
 use Rattle.prune_remake.proofs.remake_row.Statement.{statement}
 use Rattle.prune_remake.proofs.remake_row.Tie as tie
 

@@ -1,5 +1,5 @@
 use mathlib.Core.Path.{sym, _∙_}
-use Rattle.rule_apply_leaves.proofs.Combining.{best-first, best-second}
+use Rattle.rule_apply_leaves.proofs.LeafPairs.{best-first, best-second}
 use borrow.Author.Needs.{needs}
 use Rattle.rule_apply_leaves.proofs.best_leaves.Statement.{statement}
 use Rattle.rule_apply_leaves.proofs.best_leaves.Tie as tie

@@ -1,5 +1,5 @@
-use Rattle.rule_node.proofs.Judging.{nums-at}
-use Rattle.rule_apply_leaves.proofs.Combining.{best-over, less-nums, best-constant, best-proper, best-test}
+use Rattle.rule_node.proofs.LeafNumbers.{nums-at}
+use Rattle.rule_apply_leaves.proofs.LeafPairs.{best-over, less-nums, best-constant, best-proper, best-test}
 use borrow.Author.Needs.{needs}
 use Rattle.rule_apply_leaves.proofs.best_linears.Statement.{statement}
 use Rattle.rule_apply_leaves.proofs.best_linears.Tie as tie

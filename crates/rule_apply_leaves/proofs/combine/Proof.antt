@@ -1,5 +1,5 @@
 use Rattle.rule_node.proofs.Outcomes.{grew-as}
-use Rattle.rule_apply_leaves.proofs.Combining.{is-sum, is-product, is-best}
+use Rattle.rule_apply_leaves.proofs.LeafPairs.{is-sum, is-product, is-best}
 use borrow.Author.Needs.{needs}
 use Rattle.rule_apply_leaves.proofs.combine.Statement.{statement}
 use Rattle.rule_apply_leaves.proofs.combine.Tie as tie

@@ -1,4 +1,4 @@
-use Rattle.rule_apply_leaves.proofs.Combining.{plain-product, product-stays, product-made}
+use Rattle.rule_apply_leaves.proofs.LeafPairs.{plain-product, product-stays, product-made}
 use borrow.Author.Needs.{needs}
 use Rattle.rule_apply_leaves.proofs.product_leaves.Statement.{statement}
 use Rattle.rule_apply_leaves.proofs.product_leaves.Tie as tie

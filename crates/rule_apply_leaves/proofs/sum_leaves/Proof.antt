@@ -1,5 +1,5 @@
-use Rattle.rule_node.proofs.Judging.{nums-at}
-use Rattle.rule_apply_leaves.proofs.Combining.{plain-sum, sum-first, sum-second, sum-made}
+use Rattle.rule_node.proofs.LeafNumbers.{nums-at}
+use Rattle.rule_apply_leaves.proofs.LeafPairs.{plain-sum, sum-first, sum-second, sum-made}
 use borrow.Author.Needs.{needs}
 use Rattle.rule_apply_leaves.proofs.sum_leaves.Statement.{statement}
 use Rattle.rule_apply_leaves.proofs.sum_leaves.Tie as tie

@@ -3,9 +3,9 @@ use native.Mathlib.Nat.{lt-of-lt-of-le}
 use borrow.Author.Needs.{needs}
 use Rattle.rule_node.specs.Nodes.{treeAt}
 use Rattle.rule_node.proofs.Outcomes.{grown, lifted}
-use Rattle.rule_node.proofs.Caching.{room-in, keepable}
+use Rattle.rule_node.proofs.CacheEntries.{room-in, keepable}
 use Rattle.rule_node.proofs.Meanings.{names-more, readable-in, test-proper}
-use Rattle.rule_node.proofs.Going.{at-in, high-stops, low-stops, root-on, high-in, joined}
+use Rattle.rule_node.proofs.RuleSteps.{at-in, high-stops, low-stops, root-on, high-in, joined}
 use Rattle.rule_choose.proofs.Choices.{choice-key, choice-goes, choice-ends, choice-kept, choice-answered, choice-stored}
 use Prim.Native.Nat.{ℕ, _+_, _<_}
 use borrow.Fn.Kinds.{In}

@@ -1,5 +1,5 @@
 use Rattle.whole.proofs.Signed.{back}
-use Rattle.rule_combine.proofs.Adding.{level-stops, level-asks, level-added}
+use Rattle.rule_combine.proofs.LinearSteps.{level-stops, level-asks, level-added}
 use borrow.Author.Needs.{needs}
 use Rattle.rule_combine.proofs.add_level.Statement.{statement}
 use Rattle.rule_combine.proofs.add_level.Tie as tie

@@ -4,8 +4,8 @@ use native.Mathlib.Omega.{arith}
 use lib.ListN.{length}
 use borrow.Author.Needs.{needs}
 use Rattle.table.proofs.Words.{back}
-use Rattle.rule_node.proofs.Going.{at-in}
-use Rattle.rule_combine.proofs.Adding.{Adding, adding-none, added-all, adding-number, adding-asks, adding-stops, adding-one}
+use Rattle.rule_node.proofs.RuleSteps.{at-in}
+use Rattle.rule_combine.proofs.LinearSteps.{Adding, adding-none, added-all, adding-number, adding-asks, adding-stops, adding-one}
 use Rattle.rule_combine.proofs.add_levels.Statement.{statement}
 use Rattle.rule_combine.proofs.add_levels.Tie as tie
 

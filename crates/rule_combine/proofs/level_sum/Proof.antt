@@ -2,8 +2,8 @@ use mathlib.Core.Path.{_∙_}
 use native.Mathlib.Omega.{arith}
 use borrow.Author.Needs.{needs}
 use Rattle.table.proofs.Words.{back}
-use Rattle.rule_node.proofs.Going.{at-in}
-use Rattle.rule_combine.proofs.Adding.{levels-stop, levels-ask, levels-made}
+use Rattle.rule_node.proofs.RuleSteps.{at-in}
+use Rattle.rule_combine.proofs.LinearSteps.{levels-stop, levels-ask, levels-made}
 use Rattle.rule_combine.proofs.level_sum.Statement.{statement}
 use Rattle.rule_combine.proofs.level_sum.Tie as tie
 

@@ -3,8 +3,8 @@ use native.Mathlib.Nat.{lt-of-lt-of-le}
 use native.Mathlib.Omega.{arith}
 use borrow.Author.Needs.{needs}
 use Rattle.table.proofs.Words.{back}
-use Rattle.rule_node.proofs.Going.{at-in}
-use Rattle.rule_combine.proofs.Adding.{linear-stops, shift-asks, linear-made}
+use Rattle.rule_node.proofs.RuleSteps.{at-in}
+use Rattle.rule_combine.proofs.LinearSteps.{linear-stops, shift-asks, linear-made}
 use Rattle.rule_combine.proofs.linear_diagram.Statement.{statement}
 use Rattle.rule_combine.proofs.linear_diagram.Tie as tie
 

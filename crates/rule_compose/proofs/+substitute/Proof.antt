@@ -1,7 +1,7 @@
 use native.Mathlib.Omega.{arith}
 use borrow.Author.Needs.{needs}
-use Rattle.rule_node.proofs.Going.{at-in}
-use Rattle.rule_compose.proofs.Substituting.{sub-asks, sub-answered, retain-asks, sub-stored, sub-ends, sub-tested, sub-high, sub-low, sub-head-stops, high-asks, sub-high-stops, low-asks, sub-low-stops, over-asks, sub-made}
+use Rattle.rule_node.proofs.RuleSteps.{at-in}
+use Rattle.rule_compose.proofs.ComposeSteps.{sub-asks, sub-answered, retain-asks, sub-stored, sub-ends, sub-tested, sub-high, sub-low, sub-head-stops, high-asks, sub-high-stops, low-asks, sub-low-stops, over-asks, sub-made}
 use Prim.Native.Nat.{ℕ, _<_}
 use borrow.Fn.Kinds.{In}
 use borrow.Fn.PlainCycle.{Measures, is, falls, and}

@@ -1,4 +1,4 @@
-use Rattle.rule_compose.proofs.Substituting.{sub-none, sub-leaf}
+use Rattle.rule_compose.proofs.ComposeSteps.{sub-none, sub-leaf}
 use borrow.Author.Needs.{needs}
 use Rattle.rule_compose.proofs.at_leaf.Statement.{statement}
 use Rattle.rule_compose.proofs.at_leaf.Tie as tie

@@ -1,5 +1,5 @@
 use Rattle.rule_node.proofs.Outcomes.{ran-as, ran-ret}
-use Rattle.rule_compose.proofs.Substituting.{head-linear, head-none}
+use Rattle.rule_compose.proofs.ComposeSteps.{head-linear, head-none}
 use borrow.Author.Needs.{needs}
 use Rattle.rule_compose.proofs.head.Statement.{statement}
 use Rattle.rule_compose.proofs.head.Tie as tie

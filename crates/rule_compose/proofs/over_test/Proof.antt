@@ -1,5 +1,5 @@
 use Rattle.rule_node.proofs.Outcomes.{ran-as}
-use Rattle.rule_compose.proofs.Substituting.{over-walk, over-choice, names-later}
+use Rattle.rule_compose.proofs.ComposeSteps.{over-walk, over-choice, names-later}
 use borrow.Author.Needs.{needs}
 use Rattle.rule_compose.proofs.over_test.Statement.{statement}
 use Rattle.rule_compose.proofs.over_test.Tie as tie

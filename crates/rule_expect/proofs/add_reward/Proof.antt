@@ -1,4 +1,4 @@
-use Rattle.rule_expect.proofs.Rewarding.{reward-over, scale-stops, reward-asks, sum-stops, number-asks, rewarded}
+use Rattle.rule_expect.proofs.RewardSteps.{reward-over, scale-stops, reward-asks, sum-stops, number-asks, rewarded}
 use borrow.Author.Needs.{needs}
 use Rattle.rule_expect.proofs.add_reward.Statement.{statement}
 use Rattle.rule_expect.proofs.add_reward.Tie as tie

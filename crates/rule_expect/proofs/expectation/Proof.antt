@@ -1,4 +1,4 @@
-use Rattle.rule_expect.proofs.Expecting.{yes-picks, yes-stops, complement-asks, complement-stops, no-asks, no-stops, sum-asks, expected}
+use Rattle.rule_expect.proofs.ExpectationSteps.{yes-picks, yes-stops, complement-asks, complement-stops, no-asks, no-stops, sum-asks, expected}
 use borrow.Author.Needs.{needs}
 use Rattle.rule_expect.proofs.expectation.Statement.{statement}
 use Rattle.rule_expect.proofs.expectation.Tie as tie

@@ -1,4 +1,4 @@
-use Rattle.rule_expect.proofs.Expecting.{weighted-stops, weighted-asks, weighted-made}
+use Rattle.rule_expect.proofs.ExpectationSteps.{weighted-stops, weighted-asks, weighted-made}
 use borrow.Author.Needs.{needs}
 use Rattle.rule_expect.proofs.weighted.Statement.{statement}
 use Rattle.rule_expect.proofs.weighted.Tie as tie

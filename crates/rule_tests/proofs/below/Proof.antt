@@ -3,7 +3,7 @@ use mathlib.Core.Path.{_∙_}
 use mathlib.Core.Bool.{true, false}
 use Rattle.table.proofs.Tests.{abs-of}
 use Rattle.table.proofs.Leaf.{leaf-told}
-use Rattle.rule_tests.proofs.Comparing.{down-as}
+use Rattle.rule_tests.proofs.Comparisons.{down-as}
 use borrow.Author.Needs.{needs}
 use Rattle.rule_tests.proofs.below.Statement.{statement}
 use Rattle.rule_tests.proofs.below.Tie as tie

@@ -2,7 +2,7 @@
 use borrow.Author.Needs.{needs}
 use mathlib.Core.Path.{_∙_}
 use native.Mathlib.Omega.{arith}
-use Rattle.solve_value_iteration.proofs.Counting.{words-length}
+use Rattle.solve_value_iteration.proofs.LoadPeaks.{words-length}
 use Rattle.solve_value_iteration.proofs.Runs.{unloaded, loaded-fits, zero-off, stages-fit, stages-run}
 use Rattle.solve_value_iteration.proofs.run_stages.Statement.{statement}
 use Rattle.solve_value_iteration.proofs.run_stages.Tie as tie

@@ -3,7 +3,7 @@ use Prim.Native.Nat.{ℕ, _*_, _%_, _^_}
 use borrow.Author.Needs.{needs}
 use Rattle.whole.proofs.Signed.{back}
 use Rattle.table_unique.specs.Unique.{bitsOf, addedOf}
-use Rattle.table_unique.proofs.Hashing.{added-as}
+use Rattle.table_unique.proofs.NodeHash.{added-as}
 use Rattle.table_unique.proofs.added.Statement.{statement}
 use Rattle.table_unique.proofs.added.Tie as tie
 

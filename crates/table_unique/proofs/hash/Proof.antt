@@ -5,7 +5,7 @@ use lib.ListN.{drop}
 use Rattle.whole.specs.Linears.{numbers}
 use Rattle.table.proofs.Words.{back, as-long}
 use Rattle.table_unique.specs.Unique.{factors-end, hashL}
-use Rattle.table_unique.proofs.Hashing.{hash-goes, hash-ends, hash-as}
+use Rattle.table_unique.proofs.NodeHash.{hash-goes, hash-ends, hash-as}
 use Rattle.table_unique.proofs.hash.Statement.{statement}
 use Rattle.table_unique.proofs.hash.Tie as tie
 

@@ -2,7 +2,7 @@ use mathlib.Core.Path.{_∙_}
 use Prim.Native.Nat.{_/_, _%_}
 use native.Mathlib.Omega.{arith}
 use borrow.Author.Needs.{needs}
-use Rattle.table_unique.proofs.Hashing.{none, most, product}
+use Rattle.table_unique.proofs.NodeHash.{none, most, product}
 use Rattle.table_unique.proofs.times.Statement.{statement}
 use Rattle.table_unique.proofs.times.Tie as tie
 

@@ -4,7 +4,7 @@ use native.Mathlib.Omega.{arith}
 use mathlib.Core.Path.{ap, _∙_}
 use lib.ListN.{length}
 use Rattle.theory.specs.Listing.{text}
-use Rattle.model_progress.specs.Standing.{site-as}
+use Rattle.model_progress.specs.GivenFlags.{site-as}
 use Rattle.text_listing.specs.declared.Listed.{Listed}
 use Rattle.text_listing.specs.Answer.{outcome}
 use Rattle.text_listing.proofs.Judged.{ready}

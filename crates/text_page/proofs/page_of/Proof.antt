@@ -3,7 +3,7 @@ use native.Mathlib.Omega.{arith}
 use mathlib.Core.Path.{refl, ap, _∙_}
 use mathlib.Core.Logic.{inl, inr}
 use lib.ListN.{length}
-use Rattle.model_progress.specs.Standing.{site-as}
+use Rattle.model_progress.specs.GivenFlags.{site-as}
 use Rattle.value_walk.specs.State.{asked}
 use Rattle.text_listing.specs.declared.Listed.{Listed}
 use Rattle.text_listing.specs.Answer.{outcome}

@@ -1,4 +1,4 @@
-use Rattle.rule_unary.proofs.Asking.{scale-acts, shift-acts}
+use Rattle.rule_unary.proofs.RulesByName.{scale-acts, shift-acts}
 use Rattle.check_rule_steps.proofs.Steps.{never, small-back, scales, shifts, counts}
 use borrow.Author.Needs.{needs}
 use Rattle.check_rule_steps.proofs.rules.numbers.Statement.{statement}

@@ -3,7 +3,7 @@ use Prim.Native.Nat.{_-_}
 use borrow.Author.Needs.{needs}
 use lib.ListN.{length}
 use Rattle.rule_node.specs.Table.{Table}
-use Rattle.rule_node.specs.Meaning.{ruleOf}
+use Rattle.rule_node.specs.EntryMeaning.{ruleOf}
 use Rattle.check_rule_steps.proofs.runs.each.Statement.{statement}
 use Rattle.check_rule_steps.proofs.runs.each.Tie as tie
 

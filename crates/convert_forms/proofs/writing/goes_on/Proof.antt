@@ -1,5 +1,5 @@
 -- `convert_forms::writing::goes_on` meets its contract.
-use Rattle.convert_forms.proofs.Going.{ends-here, another, no-command}
+use Rattle.convert_forms.proofs.ReadingSteps.{ends-here, another, no-command}
 use borrow.Author.Needs.{needs}
 use Rattle.convert_forms.proofs.writing.goes_on.Statement.{statement}
 use Rattle.convert_forms.proofs.writing.goes_on.Tie as tie

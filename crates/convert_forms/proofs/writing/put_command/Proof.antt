@@ -6,7 +6,7 @@ use lib.ListN.{length-set}
 use Rattle.model_form.specs.Forms.{form-of}
 use Rattle.convert_forms.specs.Forms.{copied}
 use Rattle.convert_forms.proofs.Operands.{few-as, fitted-length}
-use Rattle.convert_forms.proofs.Putting.{parts-long, command-put}
+use Rattle.convert_forms.proofs.CommandParts.{parts-long, command-put}
 use borrow.Author.Needs.{needs}
 use Rattle.convert_forms.proofs.writing.put_command.Statement.{statement}
 use Rattle.convert_forms.proofs.writing.put_command.Tie as tie

@@ -1,7 +1,7 @@
 -- `convert_forms::writing::put_fitted` meets its contract.
 use Prim.Native.Nat.{_-_}
 use native.Mathlib.Omega.{arith}
-use Rattle.convert_forms.proofs.Filling.{Filled, fill-starts, fill-on, fill-ends}
+use Rattle.convert_forms.proofs.CutBytes.{Filled, fill-starts, fill-on, fill-ends}
 use Rattle.convert_forms.proofs.writing.put_fitted.Statement.{statement}
 use Rattle.convert_forms.proofs.writing.put_fitted.Tie as tie
 

@@ -5,7 +5,7 @@ use native.Mathlib.Omega.{arith}
 use lib.ListN.{length}
 use Rattle.model_form.specs.Forms.{form-of}
 use Rattle.convert_forms.proofs.Pass.{goes}
-use Rattle.convert_model.proofs.Searching.{Searched, search-starts, search-found, search-ends, search-on, met}
+use Rattle.convert_model.proofs.ForbiddenSearch.{Searched, search-starts, search-found, search-ends, search-on, met}
 use Rattle.convert_model.proofs.forbidding.forbids.Statement.{statement}
 use Rattle.convert_model.proofs.forbidding.forbids.Tie as tie
 

@@ -3,7 +3,7 @@ use mathlib.Core.Path.{sym, ap, _∙_}
 use mathlib.Core.Bool.{false}
 use Prim.Native.Nat.{ℕ}
 use lib.ListN.{getD}
-use Rattle.model_progress.specs.Standing.{action-given}
+use Rattle.model_progress.specs.GivenFlags.{action-given}
 use borrow.Author.Needs.{needs}
 use Rattle.model_progress.proofs.given.action.Statement.{statement}
 use Rattle.model_progress.proofs.given.action.Tie as tie

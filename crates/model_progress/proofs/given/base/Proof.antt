@@ -1,7 +1,7 @@
 -- `model_progress::given::base` meets its contract.
 use native.Mathlib.Omega.{arith}
 use borrow.Author.Tests.{eq-eqb, ne-eqb}
-use Rattle.model_progress.specs.Standing.{base-of}
+use Rattle.model_progress.specs.GivenFlags.{base-of}
 use Rattle.model_progress.proofs.given.base.Statement.{statement}
 use Rattle.model_progress.proofs.given.base.Tie as tie
 

@@ -4,7 +4,7 @@ use Prim.Native.Nat.{suc, _-_, _≤_}
 use native.Mathlib.Omega.{arith}
 use Rattle.theory.specs.Valid.{all}
 use Rattle.theory.specs.Verdict.{from-to}
-use Rattle.model_progress.specs.Standing.{action-given, all-given, site-as}
+use Rattle.model_progress.specs.GivenFlags.{action-given, all-given, site-as}
 use Rattle.model_progress.proofs.Runs.{run-turn, run-done}
 use Rattle.model_progress.proofs.given.complete.Statement.{statement}
 use Rattle.model_progress.proofs.given.complete.Tie as tie

@@ -4,7 +4,7 @@ use mathlib.Core.Bool.{true}
 use Prim.Native.Nat.{ℕ}
 use lib.ListN.{set}
 use Rattle.model_command.specs.declared.Command.{Command as CodeCommand}
-use Rattle.model_progress.specs.Standing.{place, noted}
+use Rattle.model_progress.specs.GivenFlags.{place, noted}
 use Rattle.model_progress.proofs.Flags.{noted-other}
 use borrow.Author.Needs.{needs}
 use Rattle.model_progress.proofs.given.note.Statement.{statement}

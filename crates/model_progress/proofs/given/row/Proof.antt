@@ -6,7 +6,7 @@ use native.Mathlib.Omega.{arith}
 use lib.ListN.{getD}
 use Rattle.theory.specs.Valid.{all}
 use Rattle.theory.specs.Verdict.{from-to}
-use Rattle.model_progress.specs.Standing.{place, row-given}
+use Rattle.model_progress.specs.GivenFlags.{place, row-given}
 use Rattle.model_progress.proofs.Runs.{run-turn, run-done}
 use Rattle.model_progress.proofs.given.row.Statement.{statement}
 use Rattle.model_progress.proofs.given.row.Tie as tie

@@ -2,9 +2,9 @@
 use Rattle.model_form.specs.Forms.{form-of}
 use mathlib.Core.Path.{refl}
 use native.Mathlib.Omega.{arith}
-use Rattle.model_command.specs.Reading.{command-of-in}
-use Rattle.model_progress.specs.Standing.{noted}
-use Rattle.model_progress.proofs.Leaving.{by-command, leaf-there, after-site, after-leaf, after-condition, after-test, after-forbidden, after-give, after-name, after-end}
+use Rattle.model_command.specs.CursorReadings.{command-of-in}
+use Rattle.model_progress.specs.GivenFlags.{noted}
+use Rattle.model_progress.proofs.StateAfter.{by-command, leaf-there, after-site, after-leaf, after-condition, after-test, after-forbidden, after-give, after-name, after-end}
 use borrow.Author.Needs.{needs}
 use Rattle.model_progress.proofs.states.after.Statement.{statement}
 use Rattle.model_progress.proofs.states.after.Tie as tie

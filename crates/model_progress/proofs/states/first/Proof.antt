@@ -1,5 +1,5 @@
 -- `model_progress::states::first` meets its contract.
-use Rattle.model_progress.proofs.Leaving.{first-site, first-other}
+use Rattle.model_progress.proofs.StateAfter.{first-site, first-other}
 use borrow.Author.Needs.{needs}
 use Rattle.model_progress.proofs.states.first.Statement.{statement}
 use Rattle.model_progress.proofs.states.first.Tie as tie

@@ -1,5 +1,5 @@
 -- `model_progress::states::start` meets its contract.
-use Rattle.model_progress.proofs.Leaving.{stands-start}
+use Rattle.model_progress.proofs.StateAfter.{stands-start}
 use borrow.Author.Needs.{needs}
 use Rattle.model_progress.proofs.states.start.Statement.{statement}
 use Rattle.model_progress.proofs.states.start.Tie as tie

@@ -1,5 +1,5 @@
 -- `plain_leaf::offsets::choose` meets its contract.
-use Rattle.plain_pass.proofs.Holding.{too-few, high-held, low-held}
+use Rattle.plain_pass.proofs.PassWords.{too-few, high-held, low-held}
 use borrow.Author.Needs.{needs}
 use Rattle.plain_leaf.proofs.offsets.choose.Statement.{statement}
 use Rattle.plain_leaf.proofs.offsets.choose.Tie as tie

@@ -1,6 +1,6 @@
 -- `plain_leaf::offsets::pop` meets its contract.
 use native.Mathlib.Omega.{arith}
-use Rattle.plain_pass.proofs.Holding.{less-held, none-held}
+use Rattle.plain_pass.proofs.PassWords.{less-held, none-held}
 use borrow.Author.Needs.{needs}
 use Rattle.plain_leaf.proofs.offsets.pop.Statement.{statement}
 use Rattle.plain_leaf.proofs.offsets.pop.Tie as tie

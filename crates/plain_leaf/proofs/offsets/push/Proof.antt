@@ -1,5 +1,5 @@
 -- `plain_leaf::offsets::push` meets its contract.
-use Rattle.plain_pass.proofs.Holding.{more-held, full-held}
+use Rattle.plain_pass.proofs.PassWords.{more-held, full-held}
 use borrow.Author.Needs.{needs}
 use Rattle.plain_leaf.proofs.offsets.push.Statement.{statement}
 use Rattle.plain_leaf.proofs.offsets.push.Tie as tie

@@ -1,5 +1,5 @@
 -- `plain_step::moves::next_level` meets its contract.
-use Rattle.plain_step.proofs.Leading.{level-found}
+use Rattle.plain_step.proofs.NextStates.{level-found}
 use borrow.Author.Needs.{needs}
 use Rattle.plain_step.proofs.moves.next_level.Statement.{statement}
 use Rattle.plain_step.proofs.moves.next_level.Tie as tie

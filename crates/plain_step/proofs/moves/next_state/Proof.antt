@@ -7,7 +7,7 @@ use mir.Syntax.{w32}
 use mir.ValLaws.{toZ-ofZ}
 use Rattle.table.proofs.Words.{as-long}
 use Rattle.plain_step.proofs.Lists.{within-widths}
-use Rattle.plain_step.proofs.Leading.{Moved, none-moved, one-moved, all-moved, leads-over, flat-under}
+use Rattle.plain_step.proofs.NextStates.{Moved, none-moved, one-moved, all-moved, leads-over, flat-under}
 use Rattle.plain_step.proofs.moves.next_state.Statement.{statement}
 use Rattle.plain_step.proofs.moves.next_state.Tie as tie
 

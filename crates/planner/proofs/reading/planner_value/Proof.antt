@@ -5,7 +5,7 @@ use lib.IntN.{ℤ}
 use Rattle.theory.specs.Value.{value-of}
 use Rattle.value_walk.specs.State.{asked-by}
 use Rattle.c_answers.proofs.States.{read-back}
-use Rattle.c_value_answers.specs.Reading.{value-answer}
+use Rattle.c_value_answers.specs.ValueAnswer.{value-answer}
 use borrow.Author.Needs.{needs}
 use Rattle.planner.proofs.reading.planner_value.Statement.{statement}
 use Rattle.planner.proofs.reading.planner_value.Tie as tie

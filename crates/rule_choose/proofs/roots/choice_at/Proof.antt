@@ -1,6 +1,6 @@
 -- `rule_choose::roots::choice_at` meets its contract.
-use Rattle.rule_tests.proofs.Comparing.{at-as}
-use Rattle.rule_choose.proofs.Splitting.{choice-as}
+use Rattle.rule_tests.proofs.Comparisons.{at-as}
+use Rattle.rule_choose.proofs.RootCases.{choice-as}
 use borrow.Author.Needs.{needs}
 use Rattle.rule_choose.proofs.roots.choice_at.Statement.{statement}
 use Rattle.rule_choose.proofs.roots.choice_at.Tie as tie

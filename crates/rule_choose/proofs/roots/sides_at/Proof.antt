@@ -1,6 +1,6 @@
 -- `rule_choose::roots::sides_at` meets its contract.
-use Rattle.rule_tests.proofs.Comparing.{at-as}
-use Rattle.rule_choose.proofs.Splitting.{sides-as}
+use Rattle.rule_tests.proofs.Comparisons.{at-as}
+use Rattle.rule_choose.proofs.RootCases.{sides-as}
 use borrow.Author.Needs.{needs}
 use Rattle.rule_choose.proofs.roots.sides_at.Statement.{statement}
 use Rattle.rule_choose.proofs.roots.sides_at.Tie as tie

@@ -2,7 +2,7 @@
 use mathlib.Core.Path.{refl, _∙_}
 use mathlib.Core.Bool.{true, false}
 use borrow.Author.Tests.{eq-eqb, ne-eqb}
-use Rattle.rule_choose.proofs.Splitting.{split-as}
+use Rattle.rule_choose.proofs.RootCases.{split-as}
 use borrow.Author.Needs.{needs}
 use Rattle.rule_choose.proofs.roots.split.Statement.{statement}
 use Rattle.rule_choose.proofs.roots.split.Tie as tie

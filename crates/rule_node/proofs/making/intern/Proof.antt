@@ -1,5 +1,5 @@
 -- `rule_node::making::intern` meets its contract.
-use Rattle.rule_node.proofs.Interning.{interned-as}
+use Rattle.rule_node.proofs.TreeMade.{interned-as}
 use borrow.Author.Needs.{needs}
 use Rattle.rule_node.proofs.making.intern.Statement.{statement}
 use Rattle.rule_node.proofs.making.intern.Tie as tie

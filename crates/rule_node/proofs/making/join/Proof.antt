@@ -3,7 +3,7 @@ use mathlib.Core.Path.{ap}
 use Rattle.table.specs.declared.Node.{Node}
 use Rattle.theory.specs.Rules.{node}
 use Rattle.rule_node.specs.Nodes.{testOf, treeAt}
-use Rattle.rule_node.proofs.Joining.{proper-as}
+use Rattle.rule_node.proofs.BranchNode.{proper-as}
 use Rattle.rule_node.proofs.Outcomes.{grew-as}
 use borrow.Author.Needs.{needs}
 use Rattle.rule_node.proofs.making.join.Statement.{statement}

@@ -1,4 +1,4 @@
-use Rattle.rule_node.proofs.Joining.{join-same, join-valid, join-made, words-of}
+use Rattle.rule_node.proofs.BranchNode.{join-same, join-valid, join-made, words-of}
 use borrow.Author.Needs.{needs}
 use Rattle.rule_node.proofs.making.join_test.Statement.{statement}
 use Rattle.rule_node.proofs.making.join_test.Tie as tie

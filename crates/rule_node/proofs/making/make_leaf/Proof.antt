@@ -1,5 +1,5 @@
 use Rattle.table.proofs.Words.{as-long}
-use Rattle.rule_node.proofs.Judging.{leaf-over, leaf-valid, leaf-made}
+use Rattle.rule_node.proofs.LeafNumbers.{leaf-over, leaf-valid, leaf-made}
 use borrow.Author.Needs.{needs}
 use Rattle.rule_node.proofs.making.make_leaf.Statement.{statement}
 use Rattle.rule_node.proofs.making.make_leaf.Tie as tie

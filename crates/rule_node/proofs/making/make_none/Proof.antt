@@ -1,4 +1,4 @@
-use Rattle.rule_node.proofs.Judging.{none-valid, none-made}
+use Rattle.rule_node.proofs.LeafNumbers.{none-valid, none-made}
 use borrow.Author.Needs.{needs}
 use Rattle.rule_node.proofs.making.make_none.Statement.{statement}
 use Rattle.rule_node.proofs.making.make_none.Tie as tie

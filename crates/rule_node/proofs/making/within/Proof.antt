@@ -1,6 +1,6 @@
 use mathlib.Core.Path.{_∙_}
 use Rattle.table.proofs.Words.{as-long}
-use Rattle.rule_node.proofs.Judging.{smalls-are}
+use Rattle.rule_node.proofs.LeafNumbers.{smalls-are}
 use borrow.Author.Needs.{needs}
 use Rattle.rule_node.proofs.making.within.Statement.{statement}
 use Rattle.rule_node.proofs.making.within.Tie as tie

@@ -1,9 +1,9 @@
 use native.Mathlib.Omega.{arith}
 use borrow.Author.Needs.{needs}
-use Rattle.rule_node.proofs.Caching.{room-in, answered, kept-run, keepable}
-use Rattle.rule_node.proofs.Going.{at-in}
-use Rattle.rule_unary_node.proofs.Acting.{act-key, act-lasts}
-use Rattle.rule_unary.proofs.Walking.{walk-ends, walk-ended, pick-falls, pick-in, walk-picked, high-falls, low-falls, walk-high, walk-low, high-stopped, low-stopped, join-asks, walk-joined}
+use Rattle.rule_node.proofs.CacheEntries.{room-in, answered, kept-run, keepable}
+use Rattle.rule_node.proofs.RuleSteps.{at-in}
+use Rattle.rule_unary_node.proofs.RulesByNumber.{act-key, act-lasts}
+use Rattle.rule_unary.proofs.UnarySteps.{walk-ends, walk-ended, pick-falls, pick-in, walk-picked, high-falls, low-falls, walk-high, walk-low, high-stopped, low-stopped, join-asks, walk-joined}
 use Prim.Native.Nat.{ℕ, _<_}
 use borrow.Fn.Kinds.{In}
 use borrow.Fn.PlainCycle.{Measures, is, falls, and}

@@ -1,4 +1,4 @@
-use Rattle.rule_unary.proofs.Asking.{complement-acts, complement-ran}
+use Rattle.rule_unary.proofs.RulesByName.{complement-acts, complement-ran}
 use borrow.Author.Needs.{needs}
 use Rattle.rule_unary.proofs.rules.complement.Statement.{statement}
 use Rattle.rule_unary.proofs.rules.complement.Tie as tie

@@ -1,4 +1,4 @@
-use Rattle.rule_unary.proofs.Asking.{number-acts, number-ran}
+use Rattle.rule_unary.proofs.RulesByName.{number-acts, number-ran}
 use borrow.Author.Needs.{needs}
 use Rattle.rule_unary.proofs.rules.number.Statement.{statement}
 use Rattle.rule_unary.proofs.rules.number.Tie as tie

@@ -1,4 +1,4 @@
-use Rattle.rule_unary.proofs.Asking.{scale-acts, scale-ran}
+use Rattle.rule_unary.proofs.RulesByName.{scale-acts, scale-ran}
 use borrow.Author.Needs.{needs}
 use Rattle.rule_unary.proofs.rules.scale.Statement.{statement}
 use Rattle.rule_unary.proofs.rules.scale.Tie as tie

@@ -1,4 +1,4 @@
-use Rattle.rule_unary.proofs.Asking.{shift-acts, shift-ran}
+use Rattle.rule_unary.proofs.RulesByName.{shift-acts, shift-ran}
 use borrow.Author.Needs.{needs}
 use Rattle.rule_unary.proofs.rules.shift.Statement.{statement}
 use Rattle.rule_unary.proofs.rules.shift.Tie as tie

@@ -1,4 +1,4 @@
-use Rattle.rule_unary.proofs.Asking.{side-acts}
+use Rattle.rule_unary.proofs.RulesByName.{side-acts}
 use borrow.Author.Needs.{needs}
 use Rattle.rule_unary.proofs.rules.side.Statement.{statement}
 use Rattle.rule_unary.proofs.rules.side.Tie as tie

@@ -1,5 +1,5 @@
 use native.Mathlib.Omega.{arith}
-use Rattle.rule_unary_node.proofs.Halving.{bits-neg, bits-pos}
+use Rattle.rule_unary_node.proofs.WordHalves.{bits-neg, bits-pos}
 use borrow.Author.Needs.{needs}
 use Rattle.rule_unary_node.proofs.halves.bits.Statement.{statement}
 use Rattle.rule_unary_node.proofs.halves.bits.Tie as tie

@@ -1,4 +1,4 @@
-use Rattle.rule_unary_node.proofs.Halving.{high-is}
+use Rattle.rule_unary_node.proofs.WordHalves.{high-is}
 use borrow.Author.Needs.{needs}
 use Rattle.rule_unary_node.proofs.halves.high_half.Statement.{statement}
 use Rattle.rule_unary_node.proofs.halves.high_half.Tie as tie

@@ -1,4 +1,4 @@
-use Rattle.rule_unary_node.proofs.Halving.{low-is}
+use Rattle.rule_unary_node.proofs.WordHalves.{low-is}
 use borrow.Author.Needs.{needs}
 use Rattle.rule_unary_node.proofs.halves.low_half.Statement.{statement}
 use Rattle.rule_unary_node.proofs.halves.low_half.Tie as tie

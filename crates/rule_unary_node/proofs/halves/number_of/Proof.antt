@@ -1,7 +1,7 @@
 use mathlib.Core.Path.{_∙_}
 use Prim.Native.Nat.{_+_, _*_}
 use native.Mathlib.Omega.{arith}
-use Rattle.rule_unary_node.proofs.Halving.{number-plain, number-fits, number-back}
+use Rattle.rule_unary_node.proofs.WordHalves.{number-plain, number-fits, number-back}
 use borrow.Author.Needs.{needs}
 use Rattle.rule_unary_node.proofs.halves.number_of.Statement.{statement}
 use Rattle.rule_unary_node.proofs.halves.number_of.Tie as tie

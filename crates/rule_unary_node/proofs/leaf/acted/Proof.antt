@@ -1,7 +1,7 @@
 use mathlib.Core.Path.{_∙_, sym}
 use native.Mathlib.Omega.{arith}
 use Rattle.rule_leaves.proofs.Figures.{small-as}
-use Rattle.rule_unary_node.proofs.Leaving.{scaled-as, shifted-as, acted-complement, acted-number, acted-side}
+use Rattle.rule_unary_node.proofs.LeafResults.{scaled-as, shifted-as, acted-complement, acted-number, acted-side}
 use borrow.Author.Needs.{needs}
 use Rattle.rule_unary_node.proofs.leaf.acted.Statement.{statement}
 use Rattle.rule_unary_node.proofs.leaf.acted.Tie as tie

@@ -1,4 +1,4 @@
-use Rattle.rule_unary_node.proofs.Leaving.{leaf-kept, leaf-nums, leaf-plain, leaf-judged, leaf-valid, leaf-numbered}
+use Rattle.rule_unary_node.proofs.LeafResults.{leaf-kept, leaf-nums, leaf-plain, leaf-judged, leaf-valid, leaf-numbered}
 use borrow.Author.Needs.{needs}
 use Rattle.rule_unary_node.proofs.leaf.at_leaf.Statement.{statement}
 use Rattle.rule_unary_node.proofs.leaf.at_leaf.Tie as tie

@@ -1,5 +1,5 @@
 use mathlib.Core.Path.{_∙_}
-use Rattle.rule_unary_node.proofs.Leaving.{stays-side, stays-number, stays-scale, stays-not}
+use Rattle.rule_unary_node.proofs.LeafResults.{stays-side, stays-number, stays-scale, stays-not}
 use borrow.Author.Needs.{needs}
 use Rattle.rule_unary_node.proofs.leaf.stays.Statement.{statement}
 use Rattle.rule_unary_node.proofs.leaf.stays.Tie as tie

@@ -1,7 +1,7 @@
 use mathlib.Core.Path.{refl}
 use mathlib.Core.Bool.{true, false}
 use borrow.Author.Tests.{eq-eqb, ne-eqb}
-use Rattle.rule_unary_node.proofs.Passing.{way-as}
+use Rattle.rule_unary_node.proofs.WayOn.{way-as}
 use Rattle.rule_unary_node.proofs.ways.way.Statement.{statement}
 use Rattle.rule_unary_node.proofs.ways.way.Tie as tie
 

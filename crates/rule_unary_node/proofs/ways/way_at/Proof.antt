@@ -1,5 +1,5 @@
-use Rattle.rule_tests.proofs.Comparing.{at-as}
-use Rattle.rule_unary_node.proofs.Passing.{way-other, way-side}
+use Rattle.rule_tests.proofs.Comparisons.{at-as}
+use Rattle.rule_unary_node.proofs.WayOn.{way-other, way-side}
 use borrow.Author.Needs.{needs}
 use Rattle.rule_unary_node.proofs.ways.way_at.Statement.{statement}
 use Rattle.rule_unary_node.proofs.ways.way_at.Tie as tie

@@ -1,7 +1,7 @@
 -- `text_listing::judging::plan_refusal` meets its contract.
 use mathlib.Core.Path.{sym, ap, _∙_}
 use Rattle.theory.specs.Value.{good-row}
-use Rattle.model_progress.specs.Standing.{site-as}
+use Rattle.model_progress.specs.GivenFlags.{site-as}
 use Rattle.text_listing.proofs.Every.{every}
 use Rattle.text_listing.proofs.Judged.{plan-15, plan-14, plan-none}
 use borrow.Author.Needs.{needs}

@@ -3,7 +3,7 @@ use Prim.Native.Nat.{_-_, _≤_}
 use native.Mathlib.Omega.{arith}
 use mathlib.Core.Bool.{true}
 use mathlib.Core.Path.{_≡_, sym, ap, _∙_}
-use Rattle.model_progress.specs.Standing.{site-as}
+use Rattle.model_progress.specs.GivenFlags.{site-as}
 use Rattle.value_walk.specs.State.{asked}
 use Rattle.text_listing.proofs.Every.{every, every-none, every-true, every-false}
 use Rattle.text_page.specs.Stages.{spared}

@@ -1,7 +1,7 @@
 -- `text_page_lines::columns::magnitude` meets its contract.
 use Prim.Native.Nat.{_<_}
 use native.Mathlib.Omega.{arith}
-use Rattle.text_page_lines.proofs.Filling.{magnitude-plain, magnitude-below}
+use Rattle.text_page_lines.proofs.ColumnDigits.{magnitude-plain, magnitude-below}
 use Rattle.text_page_lines.proofs.columns.magnitude.Statement.{statement}
 use Rattle.text_page_lines.proofs.columns.magnitude.Tie as tie
 

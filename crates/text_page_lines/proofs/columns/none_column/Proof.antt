@@ -1,5 +1,5 @@
 -- `text_page_lines::columns::none_column` meets its contract.
-use Rattle.text_page_lines.proofs.Filling.{none-are}
+use Rattle.text_page_lines.proofs.ColumnDigits.{none-are}
 use borrow.Author.Needs.{needs}
 use Rattle.text_page_lines.proofs.columns.none_column.Statement.{statement}
 use Rattle.text_page_lines.proofs.columns.none_column.Tie as tie

@@ -1,5 +1,5 @@
 -- `text_page_lines::columns::not_zero` meets its contract.
-use Rattle.text_page_lines.proofs.Filling.{zero-words, some-words}
+use Rattle.text_page_lines.proofs.ColumnDigits.{zero-words, some-words}
 use Rattle.text_page_lines.proofs.columns.not_zero.Statement.{statement}
 use Rattle.text_page_lines.proofs.columns.not_zero.Tie as tie
 

@@ -1,6 +1,6 @@
 -- `text_page_lines::columns::steps_column` meets its contract.
 use native.Mathlib.Omega.{arith}
-use Rattle.text_page_lines.proofs.Filling.{steps-are}
+use Rattle.text_page_lines.proofs.ColumnDigits.{steps-are}
 use Rattle.text_page_lines.proofs.columns.steps_column.Statement.{statement}
 use Rattle.text_page_lines.proofs.columns.steps_column.Tie as tie
 

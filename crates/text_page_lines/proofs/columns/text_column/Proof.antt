@@ -1,6 +1,6 @@
 -- `text_page_lines::columns::text_column` meets its contract.
 use Rattle.whole_division.specs.Words.{whole-as}
-use Rattle.text_page_lines.proofs.Filling.{as-none, as-number}
+use Rattle.text_page_lines.proofs.ColumnDigits.{as-none, as-number}
 use borrow.Author.Needs.{needs}
 use Rattle.text_page_lines.proofs.columns.text_column.Statement.{statement}
 use Rattle.text_page_lines.proofs.columns.text_column.Tie as tie

@@ -3,7 +3,7 @@ use native.Mathlib.Omega.{arith}
 use borrow.Author.Needs.{needs}
 use lib.IntN.{natAbs}
 use Rattle.whole_division.specs.Words.{two-words, whole-as}
-use Rattle.text_page_lines.proofs.Filling.{Filled, fill-starts, fill-more, column-plain, column-below}
+use Rattle.text_page_lines.proofs.ColumnDigits.{Filled, fill-starts, fill-more, column-plain, column-below}
 use Rattle.text_page_lines.proofs.columns.value_column.Statement.{statement}
 use Rattle.text_page_lines.proofs.columns.value_column.Tie as tie
 

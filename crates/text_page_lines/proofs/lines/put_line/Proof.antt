@@ -1,7 +1,7 @@
 -- `text_page_lines::lines::put_line` meets its contract.
 use native.Mathlib.Omega.{arith}
 use Rattle.whole_division.specs.Words.{whole-as}
-use Rattle.text_page_lines.proofs.Padding.{line-put}
+use Rattle.text_page_lines.proofs.LineParts.{line-put}
 use borrow.Author.Needs.{needs}
 use Rattle.text_page_lines.proofs.lines.put_line.Statement.{statement}
 use Rattle.text_page_lines.proofs.lines.put_line.Tie as tie

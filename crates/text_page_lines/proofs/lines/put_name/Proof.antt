@@ -1,7 +1,7 @@
 -- `text_page_lines::lines::put_name` meets its contract.
 use native.Mathlib.Omega.{arith}
 use lib.ListN.{length}
-use Rattle.text_page_lines.proofs.Padding.{rest-length, name-put}
+use Rattle.text_page_lines.proofs.LineParts.{rest-length, name-put}
 use borrow.Author.Needs.{needs}
 use Rattle.text_page_lines.proofs.lines.put_name.Statement.{statement}
 use Rattle.text_page_lines.proofs.lines.put_name.Tie as tie

@@ -1,5 +1,5 @@
 -- `text_plan::texts::text_len` meets its contract.
-use Rattle.model_progress.specs.Standing.{site-as}
+use Rattle.model_progress.specs.GivenFlags.{site-as}
 use Rattle.text_plan.proofs.Joined.{text-counted}
 use borrow.Author.Needs.{needs}
 use Rattle.text_plan.proofs.texts.text_len.Statement.{statement}

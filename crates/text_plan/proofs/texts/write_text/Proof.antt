@@ -4,7 +4,7 @@ use native.Mathlib.Omega.{arith}
 use borrow.Rule.Slice.PartMut.{same-len-mid}
 use lib.ListN.{length}
 use Rattle.theory.specs.Listing.{first-line}
-use Rattle.model_progress.specs.Standing.{site-as}
+use Rattle.model_progress.specs.GivenFlags.{site-as}
 use Rattle.text_decimal.proofs.Puts.{lent}
 use Rattle.text_plan.proofs.Joined.{part-room, text-length, text-put}
 use borrow.Author.Needs.{needs}

@@ -13,15 +13,15 @@ use Rattle.theory.specs.Computation.{Comp}
 use Rattle.theory.specs.Rules.{node}
 use Rattle.rule_node.specs.Nodes.{testOf, treeAt, Root}
 use Rattle.rule_node.specs.Table.{Bare, Table, RuleRan, Grew}
-use Rattle.rule_node.specs.Meaning.{ruleOf}
+use Rattle.rule_node.specs.EntryMeaning.{ruleOf}
 use Rattle.rule_node.proofs.Outcomes.{ran-as, lifted}
-use Rattle.rule_node.proofs.Going.{high-stops, low-stops, root-on, high-in, joined}
-use Rattle.rule_node.proofs.Stepping.{On}
+use Rattle.rule_node.proofs.RuleSteps.{high-stops, low-stops, root-on, high-in, joined}
+use Rattle.rule_node.proofs.TwoOperands.{On}
 use Rattle.rule_leaves.specs.Leaves.{AtLeaf}
 use Rattle.rule_unary_node.specs.declared.Way.{Way}
 use Rattle.rule_unary_node.specs.Acts.{actOf, Acts, wayOf}
-use Rattle.rule_unary_node.proofs.Acting.{rule-as}
-use Rattle.rule_unary_node.proofs.Passing.{Passes, passes-as, sidesBy, alone}
+use Rattle.rule_unary_node.proofs.RulesByNumber.{rule-as}
+use Rattle.rule_unary_node.proofs.WayOn.{Passes, passes-as, sidesBy, alone}
 
 module _ {cap : ℕ} {l : List ℤ} {w : List ℕ} {n : ℕ} (A : Table ruleOf cap l w n) {op p q : ℕ} (K : Acts op p q) (f : ℕ) (hf : f < n) {s : Way} (e : s ≡ wayOf op p (nodeAt l f)) where
   abbrev rule : List ℤ → ℕ → ℕ → Comp Tree

@@ -14,7 +14,7 @@ use Rattle.model_command.specs.declared.Command.{Command as CodeCommand}
 use Rattle.model_command.specs.declared.Command.the-variants.{Site as SiteBy, Leaf, Condition, Test, Forbidden, Give, Name, End}
 use Rattle.theory.specs.Form.{Form}
 use Rattle.model_facts.specs.Seen.{seen}
-use Rattle.model_command.specs.Reading.{command-of-in}
+use Rattle.model_command.specs.CursorReadings.{command-of-in}
 use Rattle.model_progress.specs.declared.Site.{Site as CodeSite}
 use Rattle.model_progress.specs.declared.Progress.{Progress as CodeProgress}
 

@@ -17,9 +17,9 @@ use Rattle.rule_node.specs.Nodes.{testOf, treeAt, Tested, Good}
 use Rattle.rule_node.specs.Roots.{orderOf, ordNum, downOf, rightSides}
 use Rattle.rule_choose.specs.Choice.{splitOf, pickLow, pickOf, choiceOf, endSides}
 use Rattle.rule_node.proofs.Trees.{at-leaf, at-branch}
-use Rattle.rule_choose.proofs.Splitting.{splitBy, split-as}
+use Rattle.rule_choose.proofs.RootCases.{splitBy, split-as}
 use Rattle.rule_tests.proofs.Ordered.{order-is}
-use Rattle.rule_node.proofs.Stepping.{step-lt, step-eq, step-gt, step-leaf, choose-lt, choose-eq, choose-gt, choose-leaf, both-ret, On, left-on, right-on, both-on}
+use Rattle.rule_node.proofs.TwoOperands.{step-lt, step-eq, step-gt, step-leaf, choose-lt, choose-eq, choose-gt, choose-leaf, both-ret, On, left-on, right-on, both-on}
 
 -- t is first: a node of it over a high and a low side
 pub record Here (l : List ℤ) (n : ℕ) (t : Test) (f g : ℕ) (s : Sides) : Type 0 where

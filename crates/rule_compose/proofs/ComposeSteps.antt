@@ -25,16 +25,16 @@ use Rattle.rule_node.specs.declared.Down.{Down}
 use Rattle.rule_node.specs.Nodes.{firstOf, linOf, conditionOf, testOf, treeAt, Tested, Grown}
 use Rattle.rule_node.specs.Table.{Rule, Lasting, Table, RuleRan}
 use Rattle.table_cache.specs.Cache.{Room, Key}
-use Rattle.rule_node.specs.Meaning.{testBy, Names, halves, indexes, ruleOf}
+use Rattle.rule_node.specs.EntryMeaning.{testBy, Names, halves, indexes, ruleOf}
 use Rattle.rule_node.specs.Roots.{downOf}
 use Rattle.rule_node.proofs.Trees.{trees-kept, grown-on, leaf-none, leaf-some, at-leaf, at-branch}
-use Rattle.rule_node.proofs.Interning.{grew-there}
+use Rattle.rule_node.proofs.TreeMade.{grew-there}
 use Rattle.rule_node.proofs.Outcomes.{lifted, grown, stop, seq, ran-as, both-high-stops, both-low-stops, both-made}
-use Rattle.rule_node.proofs.Caching.{room-in, answered, kept-run}
+use Rattle.rule_node.proofs.CacheEntries.{room-in, answered, kept-run}
 use Rattle.rule_node.proofs.Meanings.{rule-substitute, rule-walk, lasts-substitute}
-use Rattle.rule_node.proofs.Going.{index-small}
+use Rattle.rule_node.proofs.RuleSteps.{index-small}
 use Rattle.rule_combine.specs.Levels.{Levels, levelsAt}
-use Rattle.rule_combine.proofs.Adding.{levels-kept, levels-more}
+use Rattle.rule_combine.proofs.LinearSteps.{levels-kept, levels-more}
 use Rattle.rule_compose_entry.specs.declared.Words.{Words}
 use Rattle.rule_compose_entry.specs.Entry.{wordsOf, Held, withResult, conditionIn}
 use Rattle.rule_compose_entry.proofs.Entries.{code-is, place-is, indexes-are, condition-later, condition-now, condition-none, condition-most, test-cond, test-lin, cond-later, cond-now}

@@ -18,8 +18,8 @@ use Rattle.rule_node.specs.Table.{Rule, Bare, RuleRan}
 use Rattle.table_cache.specs.Cache.{Key}
 use Rattle.rule_node.proofs.Trees.{trees-kept, at-leaf, at-branch}
 use Rattle.rule_node.proofs.Outcomes.{grown, ran-as, both-high-stops, both-low-stops, both-high-in, both-made}
-use Rattle.rule_node.proofs.Joining.{root-kept}
-use Rattle.rule_node.proofs.Stepping.{On}
+use Rattle.rule_node.proofs.BranchNode.{root-kept}
+use Rattle.rule_node.proofs.TwoOperands.{On}
 
 -- an index of the table can be read
 pub at-in : {cap : ℕ} {l : List ℤ} {w : List ℕ} {n : ℕ} (t : ℕ) → Bare cap l w n → t < n → At l t

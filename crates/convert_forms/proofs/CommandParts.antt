@@ -10,7 +10,7 @@ use Rattle.text_decimal.specs.Put.{PutAt}
 use Rattle.text_decimal.proofs.Puts.{put-first, then, rename}
 use Rattle.convert_forms.specs.declared.layouts.Layout.{Layout as CodeLayout}
 use Rattle.convert_forms.specs.Forms.{layout-in, byte-in, copied, fitted, converted}
-use Rattle.convert_forms.specs.Working.{layout-as, converted-length}
+use Rattle.convert_forms.specs.OperandLayouts.{layout-as, converted-length}
 use Rattle.convert_forms.proofs.Operands.{fitted-same, converted-long, parts-sum}
 
 module _ (F G : Form) (B : List ℕ) (at op code : ℕ) (x y : CodeLayout) (e : op ≡ byte-at B at) (d : code ≡ byte-in F G op) (f : layout-as x ≡ layout-in F op) (g : layout-as y ≡ layout-in G code) where

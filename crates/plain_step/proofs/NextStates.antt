@@ -31,7 +31,7 @@ use Rattle.plain_limits.specs.declared.Level.{Level}
 use Rattle.plain_limits.specs.declared.Level.the-variants as level
 use Rattle.plain_step.specs.declared.Next.{Next}
 use Rattle.plain_limits.specs.Totals.{judged-32}
-use Rattle.plain_step.specs.Standing.{ModelReady, Spells, Fits, under, after, Level-is, Leads}
+use Rattle.plain_step.specs.PointState.{ModelReady, Spells, Fits, under, after, Level-is, Leads}
 use Rattle.plain_step.proofs.Lists.{map-twice, listed-from, some-fails, each-passes, within-widths, set}
 
 -- ---- a level

@@ -13,7 +13,7 @@ use Rattle.theory.specs.Verdict.{or}
 use Rattle.theory.specs.Load.{site-in}
 use Rattle.theory.specs.laws.Loading.{behind-in}
 use Rattle.model_command.specs.declared.Read.{Read as CodeRead}
-use Rattle.model_command.specs.Reading.{next-in, read-of-in}
+use Rattle.model_command.specs.CursorReadings.{next-in, read-of-in}
 use Rattle.convert_model.specs.Conversion.{is-forbidden, forbids, too-large, unfit}
 use Rattle.convert_model.specs.Written.{reads-forbidden}
 use Rattle.convert_model.proofs.Thirteen.{forbids-as}

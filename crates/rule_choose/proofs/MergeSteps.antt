@@ -16,9 +16,9 @@ use Rattle.rule_node.specs.Nodes.{leafOf, testOf, treeAt, Good}
 use Rattle.rule_node.specs.Roots.{orderOf, ordNum, downOf}
 use Rattle.rule_choose.specs.Choice.{sidesOf}
 use Rattle.rule_node.proofs.Trees.{at-leaf, at-branch}
-use Rattle.rule_choose.proofs.Splitting.{splitBy, split-as}
+use Rattle.rule_choose.proofs.RootCases.{splitBy, split-as}
 use Rattle.rule_tests.proofs.Ordered.{order-is}
-use Rattle.rule_node.proofs.Stepping.{merge-ll, merge-ln, merge-nl, merge-lt, merge-eq, merge-gt, On, left-on, right-on, both-on}
+use Rattle.rule_node.proofs.TwoOperands.{merge-ll, merge-ln, merge-nl, merge-lt, merge-eq, merge-gt, On, left-on, right-on, both-on}
 
 -- both are leaves
 pub record Ends (l : List ℤ) (n : ℕ) (m : Tree → Tree → Comp Tree) (op : Leaf → Leaf → Comp Tree) (f g : ℕ) : Type 0 where

@@ -20,7 +20,7 @@ use Rattle.rule_node.specs.Nodes.{blank, trees, treeAt, Grown}
 use Rattle.rule_node.specs.Table.{Rule, ResultStands, Lasting, Cached, Table, RuleRan, outOf}
 use Rattle.rule_node.proofs.Trees.{trees-length, trees-kept, grown-not, grown-on}
 use Rattle.rule_node.proofs.Outcomes.{out-ok, grown}
-use Rattle.rule_node.proofs.Going.{index-small}
+use Rattle.rule_node.proofs.RuleSteps.{index-small}
 
 pub room-in : {R : Rule} {cap : ℕ} {l : List ℤ} {w : List ℕ} {n : ℕ} → Table R cap l w n → Room cap w
 room-in A = let C = A .bare .chained in record { some = C .some; few = C .few; works = C .works }

@@ -13,12 +13,12 @@ use Rattle.theory.specs.Widths.{weights-most, actions-most}
 use Rattle.theory.specs.Rules.{scale, shift, complement, number}
 use Rattle.rule_node.specs.Nodes.{treeAt}
 use Rattle.rule_node.specs.Table.{RuleRan}
-use Rattle.rule_node.specs.Meaning.{cOf, ruleOf}
+use Rattle.rule_node.specs.EntryMeaning.{cOf, ruleOf}
 use Rattle.rule_node.proofs.Outcomes.{ran-as}
 use Rattle.rule_node.proofs.Meanings.{rule-scale, rule-shift, rule-complement, rule-number}
 use Rattle.rule_unary_node.specs.Acts.{Acts, lowOf, highOf}
 use Rattle.rule_unary.specs.Picks.{Picks}
-use Rattle.rule_unary_node.proofs.Halving.{halves, low-lt, high-lt}
+use Rattle.rule_unary_node.proofs.WordHalves.{halves, low-lt, high-lt}
 
 -- ---- numbers in range
 

@@ -25,7 +25,7 @@ use Rattle.model_command.specs.declared.Command.{Command as CodeCommand}
 use Rattle.model_command.specs.declared.Command.the-variants.{Site, Leaf, Condition, Test, Forbidden, Give, Name, End}
 use Rattle.model_command.specs.declared.Read.{Read as CodeRead}
 use Rattle.model_command.specs.declared.Read.the-variants.{Whole, Unknown, Short}
-use Rattle.model_command.specs.Reading.{command-of, command-of-in, read-of, read-of-in, next-at}
+use Rattle.model_command.specs.CursorReadings.{command-of, command-of-in, read-of, read-of-in, next-at}
 use Rattle.model_command.proofs.Forward.{whole-bytes, length-of, length-whole}
 use Rattle.model.specs.declared.Verdict.{Verdict as CodeVerdict}
 use Rattle.model.specs.Answers.{shown, is-end}

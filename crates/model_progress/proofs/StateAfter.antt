@@ -21,9 +21,9 @@ use denote.Enum.Declared.{tagOf}
 use Rattle.model_command.specs.declared.Command.the-variants.{Site as SiteBy, Leaf, Condition, Test, Forbidden, Give, Name, End}
 use Rattle.model_command.proofs.Forward.{has-linear, linear-room}
 use Rattle.model_facts.specs.declared.Seen.{Seen}
-use Rattle.model_command.specs.Reading.{command-of-in}
+use Rattle.model_command.specs.CursorReadings.{command-of-in}
 use Rattle.model_progress.specs.declared.Progress.{Progress as CodeProgress}
-use Rattle.model_progress.specs.Standing.{site-as, place, names-row, flag-of, noted, Slotted, for-name, ProgressStands, Leaves, Later}
+use Rattle.model_progress.specs.GivenFlags.{site-as, place, names-row, flag-of, noted, Slotted, for-name, ProgressStands, Leaves, Later}
 use Rattle.model_progress.proofs.Numbers.{bounds, is-among, not-false-T}
 use Rattle.model_progress.proofs.Flags.{flag-more, no-flag, slotted-given}
 use Rattle.model_facts.specs.Seen.{seen-in, seen}

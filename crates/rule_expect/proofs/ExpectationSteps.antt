@@ -13,7 +13,7 @@ use Rattle.theory.specs.Computation.{Comp, bind}
 use Rattle.theory.specs.Rules.{sum, product, complement, side, expectation}
 use Rattle.rule_node.specs.Nodes.{treeAt}
 use Rattle.rule_node.specs.Table.{Table, RuleRan}
-use Rattle.rule_node.specs.Meaning.{ruleOf}
+use Rattle.rule_node.specs.EntryMeaning.{ruleOf}
 use Rattle.rule_node.proofs.Trees.{trees-kept, grown-on}
 use Rattle.rule_node.proofs.Outcomes.{grown, stop, seq, ran-as}
 use Rattle.rule_node.proofs.Meanings.{rule-sum, rule-product, rule-yes, rule-no, lasts-no}

@@ -25,11 +25,11 @@ use Rattle.rule_node.specs.Nodes.{linOf, constantOf, leafOf, testOf, trees, tre
 use Rattle.rule_node.specs.Table.{Bare, Grew}
 use Rattle.rule_node.specs.Roots.{linearNode, namedNode}
 use Rattle.rule_node.proofs.Trees.{leaf-none, leaf-some, leaf-lin, at-leaf}
-use Rattle.rule_node.proofs.Interning.{grew-there}
+use Rattle.rule_node.proofs.TreeMade.{grew-there}
 use Rattle.rule_node.proofs.Outcomes.{grew-as, grew-like, grew-ret, grew-over, grew-judged}
-use Rattle.rule_node.proofs.Judging.{nums-of, nums-at}
+use Rattle.rule_node.proofs.LeafNumbers.{nums-of, nums-at}
 use Rattle.rule_node.proofs.Meanings.{proper-linear, divided-test, named-leaf}
-use Rattle.rule_node.proofs.Stepping.{choose-leaf, step-leaf, both-ret}
+use Rattle.rule_node.proofs.TwoOperands.{choose-leaf, step-leaf, both-ret}
 use Rattle.rule_leaves.specs.Leaves.{AtLeaf, AtLinear, staysNone, sumNode, lessNode, productNode}
 use Rattle.rule_leaves.proofs.Sums.{sum-lin, less-lin, less-long, stays-none, scale-stays, scale-run, decide-constant, decide-test}
 use Rattle.rule_apply_leaves.specs.Combined.{leafRule}

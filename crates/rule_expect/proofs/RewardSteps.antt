@@ -19,7 +19,7 @@ use Rattle.theory.specs.Valid.{all, small-linear}
 use Rattle.theory.specs.Rules.{scale, sum, number, add-reward}
 use Rattle.rule_node.specs.Nodes.{treeAt}
 use Rattle.rule_node.specs.Table.{Table, RuleRan}
-use Rattle.rule_node.specs.Meaning.{ruleOf}
+use Rattle.rule_node.specs.EntryMeaning.{ruleOf}
 use Rattle.rule_node.proofs.Trees.{trees-kept}
 use Rattle.rule_node.proofs.Outcomes.{grown, stop, seq, ran-as, ran-over, ran-judged}
 use Rattle.rule_node.proofs.Meanings.{rule-sum}

@@ -16,8 +16,8 @@ use Rattle.theory.specs.Stage.{model-diagrams}
 use Rattle.model_stack.specs.Held.{held}
 use Rattle.rule_node.specs.Nodes.{trees}
 use Rattle.rule_node.specs.Table.{Table}
-use Rattle.load_choose.specs.Testing.{loadRule}
-use Rattle.load_command.specs.Stepping.{standing, Below}
+use Rattle.load_choose.specs.CommandTest.{loadRule}
+use Rattle.load_command.specs.CommandStep.{standing, Below}
 use Rattle.load_command.specs.declared.Loaded.{Loaded}
 use Rattle.load_model.specs.declared.Done.{Done}
 

@@ -18,17 +18,17 @@ use Rattle.theory.specs.Computation.{Comp, ret, make, run}
 use Rattle.theory.specs.Rules.{make-leaf, none-leaf, over, scale, shift, complement, number, leaf-shift, leaf-complement, leaf-number}
 use Rattle.rule_node.specs.Nodes.{linOf, constantOf, leafOf, treeOf, trees, treeAt, Nums, Valid, Plain}
 use Rattle.rule_node.specs.Table.{Bare, Grew}
-use Rattle.rule_node.specs.Meaning.{cOf}
+use Rattle.rule_node.specs.EntryMeaning.{cOf}
 use Rattle.rule_node.proofs.Trees.{leaf-none, leaf-some, leaf-lin, tree-leaf, at-leaf}
-use Rattle.rule_node.proofs.Interning.{grew-there}
+use Rattle.rule_node.proofs.TreeMade.{grew-there}
 use Rattle.rule_node.proofs.Outcomes.{grew-as, grew-like, grew-ret}
-use Rattle.rule_node.proofs.Judging.{nums-at}
+use Rattle.rule_node.proofs.LeafNumbers.{nums-at}
 use Rattle.rule_leaves.specs.Leaves.{AtLeaf, staysNone, productNode, shiftNode, complementNode, numberNode}
 use Rattle.rule_leaves.proofs.Sums.{stays-none, scale-stays, scale-run}
 use Rattle.rule_leaves.proofs.Figures.{with-lin}
 use Rattle.whole.specs.Cases.{if}
 use Rattle.rule_unary_node.specs.Acts.{actOf, Acts, actedNode, staysBy}
-use Rattle.rule_unary_node.proofs.Acting.{by-op, side-leaf}
+use Rattle.rule_unary_node.proofs.RulesByNumber.{by-op, side-leaf}
 
 no : {A : Type 0} → true ≡ false → A
 no e = absurd (let z : _≡_ {A = ℕ} 0 1 = cc in omega arith)

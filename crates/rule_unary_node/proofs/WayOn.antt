@@ -15,18 +15,18 @@ use Rattle.theory.specs.Diagram.{later, Tree, cmp}
 use Rattle.theory.specs.Computation.{Comp}
 use Rattle.theory.specs.Rules.{node, is-later}
 use Rattle.rule_node.specs.Nodes.{testOf, treeAt, Tested, Good}
-use Rattle.rule_node.specs.Meaning.{testBy}
+use Rattle.rule_node.specs.EntryMeaning.{testBy}
 use Rattle.rule_node.specs.Roots.{downOf, ordNum, orderOf, laterNode}
 use Rattle.rule_node.specs.declared.Down.{Down}
 use Rattle.rule_node.specs.declared.Sides.{Sides}
 use Rattle.rule_node.proofs.Trees.{at-branch}
 use Rattle.rule_tests.proofs.Ordered.{order-is}
 use Rattle.rule_node.proofs.Meanings.{test-later, test-proper, test-is}
-use Rattle.rule_tests.proofs.Comparing.{num-eq}
-use Rattle.rule_node.proofs.Stepping.{On}
+use Rattle.rule_tests.proofs.Comparisons.{num-eq}
+use Rattle.rule_node.proofs.TwoOperands.{On}
 use Rattle.rule_unary_node.specs.declared.Way.{Way}
 use Rattle.rule_unary_node.specs.Acts.{actOf, Acts, wayBy, wayOf}
-use Rattle.rule_unary_node.proofs.Acting.{is-condition, not-condition, act-on, yes-picks, no-picks}
+use Rattle.rule_unary_node.proofs.RulesByNumber.{is-condition, not-condition, act-on, yes-picks, no-picks}
 
 no : {A : Type 0} → true ≡ false → A
 no e = absurd (let z : _≡_ {A = ℕ} 0 1 = cc in omega arith)

@@ -15,9 +15,9 @@ use Rattle.theory.specs.laws.Comps.{cmp-eq, cmp-refl}
 use Rattle.rule_node.specs.Nodes.{treeAt}
 use Rattle.rule_node.specs.Table.{Bare, Lasting}
 use Rattle.table_cache.specs.Cache.{Key}
-use Rattle.rule_node.specs.Meaning.{ruleBy, ruleOf}
+use Rattle.rule_node.specs.EntryMeaning.{ruleBy, ruleOf}
 use Rattle.rule_node.proofs.Trees.{trees-kept}
-use Rattle.rule_node.proofs.Going.{index-small}
+use Rattle.rule_node.proofs.RuleSteps.{index-small}
 use Rattle.rule_unary_node.specs.Acts.{actOf, Acts}
 
 no : {A : Type 0} → true ≡ false → A

@@ -13,8 +13,8 @@ use Rattle.model_command.specs.declared.Command.{Command as CodeCommand}
 use Rattle.model_command.specs.declared.Command.the-variants.{Site, Leaf, Condition, Test, Forbidden, Give, Name, End}
 use Rattle.model_command.specs.declared.Read.{Read as CodeRead}
 use Rattle.model_command.specs.declared.Read.the-variants.{Whole, Unknown, Short}
-use Rattle.model_command.specs.Reading.{command-of-in, read-of-in}
-use Rattle.convert_forms.specs.Working.{reads-on}
+use Rattle.model_command.specs.CursorReadings.{command-of-in, read-of-in}
+use Rattle.convert_forms.specs.OperandLayouts.{reads-on}
 
 pub ends-here : (r : CodeRead) (c : CodeCommand) → r ≡ Whole c → c ≡ End → false ≡ reads-on r
 unfolding reads-on

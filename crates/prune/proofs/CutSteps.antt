@@ -14,7 +14,7 @@ use Rattle.theory.specs.laws.Reading.{greatest-least}
 use Rattle.prune_paths.specs.Prune.{tree-at, fits, GoodRows, path-needs, stages-anew, pruned}
 use Rattle.prune_copy.specs.Copy.{rows-after, Copied}
 use Rattle.prune_tables.specs.Tables.{Rowed, Anew, word-in}
-use Rattle.prune.specs.Pruning.{Accepted, left}
+use Rattle.prune.specs.CutOutcome.{Accepted, left}
 use Rattle.prune.proofs.Stages.{stand, words-within, same-stages, same-words}
 
 module _ {W : List ℤ} {stages work : List ℕ} {s : ℕ} {turns : List ℕ} (A : Accepted W stages work s turns) {last : ℕ} (g : last ≡ greatest-root steps-most stages) where

@@ -26,7 +26,7 @@ use Rattle.prune_paths.specs.laws.Fits.{anew, anew-branch, anew-leaf}
 use Rattle.prune_rows.specs.Rows.{RowFits}
 use Rattle.prune_remake.specs.Remade.{forward, branch-anew, row-anew, Remade}
 use Rattle.prune_rows.proofs.Rows.{Row, row-of}
-use Rattle.prune_remake.proofs.Making.{one-row, Went, went, leaf-anew, test-anew}
+use Rattle.prune_remake.proofs.RowRemade.{one-row, Went, went, leaf-anew, test-anew}
 
 -- the first i of the rows are made anew, and as many words are there as were lent
 pub record Upto (cap rows : ℕ) (W l : List ℤ) (w₀ w : List ℕ) (n i : ℕ) : Type 0 where

@@ -15,7 +15,7 @@ use Rattle.theory.specs.Load.{Entry, Loaded as Loading, load-one}
 use Rattle.model_stack.specs.Held.{held, pushed}
 use Rattle.rule_node.specs.Nodes.{trees, treeAt, Grown}
 use Rattle.rule_node.specs.Table.{Rule, Table, RuleRan, Grew}
-use Rattle.load_choose.specs.Testing.{loadRule}
+use Rattle.load_choose.specs.CommandTest.{loadRule}
 use Rattle.load_command.specs.declared.Loaded.{Loaded}
 
 -- ---- on the stack

@@ -21,7 +21,7 @@ use Rattle.theory.specs.laws.Comps.{bind-bind, bind-ret}
 use Rattle.theory.specs.Rules.{scale, shift, sum, sum-on, levels-sum, linear-diagram}
 use Rattle.rule_node.specs.Nodes.{linOf, constantOf, treeAt, Grown}
 use Rattle.rule_node.specs.Table.{Table, RuleRan}
-use Rattle.rule_node.specs.Meaning.{ruleOf}
+use Rattle.rule_node.specs.EntryMeaning.{ruleOf}
 use Rattle.rule_node.proofs.Trees.{trees-kept}
 use Rattle.rule_node.proofs.Outcomes.{grown, stop, seq, ran-as, ran-ret}
 use Rattle.rule_node.proofs.Meanings.{rule-sum}

@@ -10,7 +10,7 @@ use mir.Syntax.{w64}
 use mir.Val.{SFits, toZ, ofZ}
 use mir.ValLaws.{toZ-ofZ, ofZ-fits}
 use Rattle.whole.proofs.Signed.{R, back, negated, not-negative}
-use Rattle.rule_node.specs.Meaning.{cOf}
+use Rattle.rule_node.specs.EntryMeaning.{cOf}
 use Rattle.rule_unary_node.specs.Acts.{lowOf, highOf}
 
 halves-sum : (n : ℕ) → n / 4294967296 * 4294967296 + n % 4294967296 ≡ n

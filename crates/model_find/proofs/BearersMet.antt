@@ -19,7 +19,7 @@ use Rattle.model_find.specs.Statements.{Carries}
 use Rattle.model_find.specs.Tally.{joined, with-reading, tally, told}
 use Rattle.model_find.specs.laws.Spaces.{same-is, same-self}
 use Rattle.model_find.specs.laws.Bearers.{Distinct, Lists, tells, told-is, bearers-listed}
-use Rattle.model_find.specs.laws.Naming.{naming, behind-later, name-there, named-once, in-range, name-given-there}
+use Rattle.model_find.specs.laws.NameCommands.{naming, behind-later, name-there, named-once, in-range, name-given-there}
 
 -- the action that a reading names x
 met-by : List ℕ → Read → List ℕ
