@@ -6,6 +6,6 @@ pub mod Divided
 pub mod TwoWords
 pub mod Filled
 pub mod Clipped
-pub mod Comparisons
+pub mod Comparing
 pub mod Loops
 pub mod Products
