@@ -27,3 +27,5 @@ pub mod Parallel
 -- K8
 pub mod Forbidden
 pub mod Peaks
+-- K11
+pub mod Override
