@@ -139,10 +139,7 @@ module _ (M : Model) (ok : T (valid M)) (h : ℕ) (s : State) (v : ℤ) (is : Ha
 
   pub value-loses-at-most : LosesAtMost M h s v
   unfolding short
-  value-loses-at-most π x e p d above all = rw (loss-less π x e) (within d _ _ (loss-most M ok π p d h s all))
-    where
-      within : (d l b : ℕ) → d * l ≤ b → (pos d *ℤ pos l) ≤ℤ pos b
-      within d l b q = simp diff (omega arith)
+  value-loses-at-most π x e p d above all = rw (loss-less π x e) (simp diff (omega (arith, loss-most M ok π p d h s all)))
 
 -- ---- of the value that is read
 
