@@ -82,11 +82,11 @@ module _ (M : Model) (ok : T (valid M)) (π : Policy (process M)) (p d : ℕ) wh
   loss-most = gathered (process M) π (λ h s. d * loss (process M) π h s ≤ h * p * (s .den * power M h)) Least
       (λ s. unfold loss in (omega arith))
       (λ h s here onward.
-          let a = (π .choice) (suc h) s in
-          let w = state-weights M ok a ((π .allowed) (suc h) s) s in
-          let m = sum-most ((process M .weight) a s) (λ e. loss (process M) π h ((process M .next) a s e)) (h * p * (s .den * power M h)) d (process M .settings) (λ e i q. onward e i q) in
-          rw (loss-parts (process M) π h s, power-step (M .weights) (M .conditions) h)
-          (bound-sizes h ((M .weights) ^ (M .conditions)) d p (s .den) (power M h) _ _ (rw w at m) (rw (power-step (M .weights) (M .conditions) h) at here)))
+      let a = (π .choice) (suc h) s in
+      let w = state-weights M ok a ((π .allowed) (suc h) s) s in
+      let m = sum-most ((process M .weight) a s) (λ e. loss (process M) π h ((process M .next) a s e)) (h * p * (s .den * power M h)) d (process M .settings) (λ e i q. onward e i q) in
+      rw (loss-parts (process M) π h s, power-step (M .weights) (M .conditions) h)
+      (bound-sizes h ((M .weights) ^ (M .conditions)) d p (s .den) (power M h) _ _ (rw w at m) (rw (power-step (M .weights) (M .conditions) h) at here)))
 
 -- ---- the statements, of a value v
 
