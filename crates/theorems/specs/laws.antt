@@ -29,3 +29,4 @@ pub mod Forbidden
 pub mod Peaks
 -- K11
 pub mod Override
+pub mod OverrideCase

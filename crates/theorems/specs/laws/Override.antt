@@ -1,25 +1,28 @@
 -- "How much an override loses", proved: over `loses`, from which theory's laws have demand 3 too.
-use mathlib.Core.Path.{_≡_, refl, sym, ap, _∙_, subst}
-use mathlib.Core.List.{List, [], _∷_}
+use mathlib.Core.Path.{_≡_, refl, sym, ap, ap₂, _∙_, subst}
+use mathlib.Core.Bool.{Bool}
+use mathlib.Core.List.{List, [], _∷_, map}
 use Prim.Native.Nat.{ℕ, zero, suc, _+_, _*_, _^_, _≤_}
 use native.Mathlib.Omega.{arith}
 use lib.Dec.{T}
 use lib.IntN.{ℤ, pos, _+ℤ_, _-ℤ_, _*ℤ_}
 use lib.Signed.{_≤ℤ_}
 use Rattle.whole.specs.Int.{atom, diff}
-use Rattle.theory.specs.Total.{Total, num, none, Has, _⊕_}
+use Rattle.theory.specs.Total.{Total, num, none, Has, _⊕_, weigh}
 use Rattle.theory.specs.Process.{Process, Policy, total, optimum, expected, Reached}
 use Rattle.theory.specs.Loss.{sum, shortfall, loss}
-use Rattle.theory.specs.Meaning.{Model, State, moved, power, process}
+use Rattle.theory.specs.Meaning.{Model, State, action-at, env, chance-at, weight, settings, moved, power, process}
 use Rattle.theory.specs.Valid.{valid}
 use Rattle.theory.specs.Load.{model}
-use Rattle.theory.specs.laws.Total.{num-⊕, has-above, has-left}
-use Rattle.theory.specs.laws.Lists.{sum-most}
+use Rattle.theory.specs.laws.Total.{num-⊕, pos-⊕, has-above, has-left, weigh-⊕, weigh-times}
+use Rattle.theory.specs.laws.Lists.{mean-pos, sum-most}
 use Rattle.theory.specs.laws.Process.{loses, falls-short, exact-expected, expected-below, gathered}
 use Rattle.theory.specs.laws.Loading.{accepted-valid}
+use Rattle.theorems.specs.Fraction.{plus, divided, weighed}
 use Rattle.theorems.specs.Demands.{start}
-use Rattle.theorems.specs.Override.{over-steps, counted, short, short-after, lost, StepByStep, Loses, FallsShort, LosesNothing, LosesAtMost, Read}
+use Rattle.theorems.specs.Override.{over-steps, counted, short, short-after, lost, StepByStep, fraction, LostFormula, Loses, FallsShort, LosesNothing, LosesAtMost, Read}
 use Rattle.theorems.specs.laws.Weights.{power-step}
+use Rattle.theorems.specs.laws.Formula.{weighed-mean}
 use Rattle.theorems.specs.laws.Chances.{state-weights}
 use Rattle.theorems.specs.laws.Demands.{went, read-optimum}
 
@@ -51,22 +54,63 @@ module _ {E : Type 0} (w : E → ℕ) where
   steps-sum f l (suc n) = ap (λ z. sum (λ e. counted (w e) (f zero e)) l + z) (steps-sum (λ k. f (suc k)) l n) ∙ sum-plus (f zero) (λ e. over-steps (λ k. f (suc k) e) n) l
 
 module _ {S A E : Type 0} (P : Process S A E) (π : Policy P) where
+  -- here, and from each next state on
+  lost-parts : (h : ℕ) (s : S) → let a = (π .choice) (suc h) s in
+      lost P π (suc h) s ≡ short P π (suc h) s + sum (λ e. (P .weight) a s e * lost P π h ((P .next) a s e)) (P .settings)
+  unfolding lost over-steps short-after
+  lost-parts h s =
+      let a = (π .choice) (suc h) s in
+      ap (λ z. short P π (suc h) s + z) (steps-sum ((P .weight) a s) (λ k e. short-after P π k h ((P .next) a s e)) (P .settings) h)
+
   pub step-by-step : StepByStep P π
-  unfolding lost loss over-steps short-after short
+  unfolding lost loss over-steps short
   step-by-step zero s = refl
   step-by-step (suc h) s =
       let a = (π .choice) (suc h) s in
-      ap (λ z. shortfall P h s a + z)
-      (steps-sum ((P .weight) a s) (λ k e. short-after P π k h ((P .next) a s e)) (P .settings) h
-      ∙ (λ i. sum (λ e. (P .weight) a s e * step-by-step h ((P .next) a s e) i) (P .settings)))
-
-  -- ---- the bound
+      lost-parts h s ∙ (λ i. shortfall P h s a + sum (λ e. (P .weight) a s e * step-by-step h ((P .next) a s e) i) (P .settings))
 
   -- the recursion's two parts
   loss-parts : (h : ℕ) (s : S) → let a = (π .choice) (suc h) s in
       loss P π (suc h) s ≡ sum (λ e. (P .weight) a s e * loss P π h ((P .next) a s e)) (P .settings) + shortfall P h s a
   unfolding loss
   loss-parts h s = omega arith
+
+-- ---- in fractions
+
+-- K here, and from the next states on F over f, which is m over their own scale
+lost-common : (f W D P : ℕ) (K F m : Total) → weigh (D * P) F ≡ weigh f m → weigh (D * (W * P) * (f * W)) (K ⊕ m) ≡ weigh (D * (W * P)) (weigh (f * W) K ⊕ weigh (D * (W * P)) F)
+lost-common f W D P K F m e =
+    let c = D * (W * P) in
+    weigh-⊕ (c * (f * W)) K m
+    ∙ ap₂ _⊕_ (weigh-times c (f * W) K)
+    (ap (λ (k : ℕ). weigh k m) turned ∙ weigh-times (c * W) f m ∙ ap (weigh (c * W)) (sym e) ∙ sym (weigh-times (c * W) (D * P) F) ∙ ap (λ (k : ℕ). weigh k F) squared ∙ weigh-times c c F)
+    ∙ sym (weigh-⊕ c (weigh (f * W) K) (weigh c F))
+  where
+    turned : D * (W * P) * (f * W) ≡ D * (W * P) * W * f
+    turned = omega arith
+
+    squared : D * (W * P) * W * (D * P) ≡ D * (W * P) * (D * (W * P))
+    squared = omega arith
+
+module _ (M : Model) (W>0 : 1 ≤ M .weights) where
+  pub lost-formula : LostFormula M W>0
+  unfolding process moved plus divided
+  lost-formula π h s =
+      let a = action-at M ((π .choice) (suc h) s) in
+      let w = weight (M .weights) (map (chance-at (env s [])) (a .chances)) in
+      let later : List Bool → ℕ = λ r. lost (process M) π h (moved s (a .levels) r) in
+      let X = weighed w (λ r. fraction M W>0 h (moved s (a .levels) r) (later r)) (settings (M .conditions)) in
+      let k = short (process M) π (suc h) s in
+      let m = sum (λ r. w r * later r) (settings (M .conditions)) in
+      let W = (M .weights) ^ (M .conditions) in
+      subst (λ (p : ℕ). weigh (s .den * p * (X .den * W)) (num (pos (lost (process M) π (suc h) s))) ≡ weigh (s .den * p) (weigh (X .den * W) (num (pos k)) ⊕ weigh (s .den * p) (X .numerator)))
+      (sym (power-step (M .weights) (M .conditions) h))
+      (ap (λ (l : ℕ). weigh (s .den * (W * power M h) * (X .den * W)) (num (pos l))) (lost-parts (process M) π h s)
+      ∙ ap (weigh (s .den * (W * power M h) * (X .den * W))) (sym (pos-⊕ k m))
+      ∙ lost-common (X .den) W (s .den) (power M h) (num (pos k)) (X .numerator) (num (pos m))
+      (weighed-mean w (λ r. num (pos (later r))) (s .den * power M h) (fraction M W>0 h s 0 .den>0) (settings (M .conditions)) ∙ ap (weigh (X .den)) (mean-pos w later (settings (M .conditions)))))
+
+-- ---- the bound
 
 -- at the scale of h + 1 steps: l from the next states on, k here
 bound-sizes : (h w d p D c l k : ℕ) → d * l ≤ w * (h * p * (D * c)) → d * k ≤ p * (D * (w * c)) → d * (l + k) ≤ suc h * p * (D * (w * c))
