@@ -143,6 +143,7 @@ pub read-optimum : (g : Solving) (h : ℕ) → 1 ≤ h → h ≤ g .horizon → 
     → num (number (reading g h q .numerator)) ≡ optimum (site g) h (start g q t)
 read-optimum g h a b q t has = ap (λ o. num (number (o .numerator))) (exact g h a b q t) ∙ has-number (optimum (site g) h (start g q t)) (lowest-best (site g) h (start g q t)) has
 
+-- by what a policy loses: `policy-equal` rests on theory's `loses`, as K11 does
 pub optimal : Optimal
 optimal g h a b q t has π =
     let s = start g q t in
