@@ -12,7 +12,7 @@ use Rattle.theory.specs.Value.{Asked, value-of}
 use Rattle.theory.specs.Listing.{greatest-root}
 use Rattle.theory.specs.Rows.{Range, NodeFits}
 use Rattle.theorems.specs.Demands.{Solving, left}
-use Rattle.theorems.specs.Advice.{Exact, Optimal, ReadsNone}
+use Rattle.theorems.specs.Advice.{Exact, Optimal, ReadsNone, Override}
 use Rattle.prune_paths.specs.Prune.{along, proves, takes, PruneOut, prune}
 
 -- "Paths that no state can take": no state takes every turn of an accepted one
@@ -31,11 +31,11 @@ pub data After (B : List ℕ) (nodes : List ℤ) (stages : List ℕ) : List ℤ 
   then-pruned : {W : List ℤ} {S : List ℕ} → After B nodes stages W S → (work : List ℕ) (s : ℕ) (turns : List ℕ) (ks : List ℤ)
       → After B nodes stages (prune B W S work s turns ks .nodes) (prune B W S work s turns ks .stages)
 
--- so demands 2 and 3, and K8's none, hold of what is read after any number of calls
+-- so demands 2 and 3, K8's none and K11's losses hold of what is read after any number of calls
 abbrev pub DemandsHold : Type 0
 DemandsHold = (g : Solving) (W : List ℤ) (S : List ℕ) → After (g .bytes) (left g .nodes) (left g .stages) W S → (h : ℕ) (q : Asked) → 1 ≤ h → h ≤ g .horizon
     → let v = value-of (g .bytes) W S h q in
-    Exact (g .bytes) h q v × (Optimal (g .bytes) h q v × ReadsNone (g .bytes) h q v)
+    Exact (g .bytes) h q v × (Optimal (g .bytes) h q v × (ReadsNone (g .bytes) h q v × Override (g .bytes) h q v))
 
 -- "12, which counts the nodes up to that root and one for each turn but the last": what is made fits, so that as many words are left as were lent
 abbrev pub AllFits : Type 0

@@ -1,4 +1,4 @@
--- Demands 2 and 3, and K8's none, said of one answer at one state.
+-- Demands 2 and 3, K8's none and K11's losses, said of one answer at one state.
 use mathlib.Core.Path.{_≡_}
 use mathlib.Core.Logic.{_↔_}
 use mathlib.Core.List.{List}
@@ -12,6 +12,7 @@ use Rattle.theory.specs.Meaning.{State, process}
 use Rattle.theory.specs.Load.{model, site-at}
 use Rattle.theory.specs.Solve.{SolveOut, solve}
 use Rattle.theory.specs.Value.{Asked, accepted, state-of, ValueOut, refused-value, answered, value-of}
+use Rattle.theorems.specs.Override.{Loses, FallsShort, LosesNothing, LosesAtMost}
 
 -- the lent words, as a solve leaves them
 pub record Left (o : SolveOut) (nodes : List ℤ) (stages work peaks : List ℕ) : Type 0 where
@@ -46,6 +47,13 @@ module _ (B : List ℕ) (h : ℕ) (q : Asked) (v : ValueOut) where
   pub record ReadsNone : Type 0 where
     pub exactly : (t : Accepted) → (v ≡ answered none 0) ↔ ((π : Policy (process (model B))) → Stopped (process (model B)) π h (start t))
 
+  -- "the value less the policy's total is exactly the expected sum, over the steps, of what its action falls short of the best there", each term of it, and what follows
+  pub record Override : Type 0 where
+    pub loses : (t : Accepted) → Loses (model B) h (start t) (number (v .numerator))
+    pub falls-short : (t : Accepted) → FallsShort (model B) h (start t) (number (v .numerator))
+    pub loses-nothing : (t : Accepted) → LosesNothing (model B) h (start t) (number (v .numerator))
+    pub loses-at-most : (t : Accepted) → LosesAtMost (model B) h (start t) (number (v .numerator))
+
 -- a call that solves B for the horizon H in lent tables, then reads at q with h steps left, and leaves the tables as nodes′, stages′, work′ and peaks′
 pub record Advises (B : List ℕ) (H : ℕ) (nodes : List ℤ) (stages work peaks : List ℕ) (h : ℕ) (q : Asked) (nodes′ : List ℤ) (stages′ work′ peaks′ : List ℕ) (v : ValueOut) : Type 0 where
   -- every lent word is as solving leaves it
@@ -60,3 +68,5 @@ pub record Advises (B : List ℕ) (H : ℕ) (nodes : List ℤ) (stages work peak
   pub optimal : solve B H nodes stages work peaks .number ≡ 0 → 1 ≤ h → h ≤ H → Optimal B h q v
   -- K8
   pub reads-none : solve B H nodes stages work peaks .number ≡ 0 → 1 ≤ h → h ≤ H → ReadsNone B h q v
+  -- K11
+  pub override : solve B H nodes stages work peaks .number ≡ 0 → 1 ≤ h → h ≤ H → Override B h q v

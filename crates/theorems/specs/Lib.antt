@@ -17,6 +17,8 @@ pub mod Parallel
 pub mod Forbidden
 -- K9, a peak for each action
 pub mod Peaks
+-- K11, how much an override loses
+pub mod Override
 -- ---- laws
 
 pub mod laws

@@ -27,3 +27,6 @@ pub mod Parallel
 -- K8
 pub mod Forbidden
 pub mod Peaks
+-- K11
+pub mod Override
+pub mod OverrideCase

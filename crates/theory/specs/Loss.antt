@@ -1,4 +1,4 @@
--- What a policy loses against the optimum: a tool of demand 3's proof; K11 will state it.
+-- "How much an override loses", by recursion: what demand 3's proof rests on, and what Override of `theorems` states.
 use mathlib.Core.List.{List, [], _∷_}
 use Prim.Native.Nat.{ℕ, zero, suc, _+_, _*_}
 use lib.IntN.{_-ℤ_}
@@ -18,11 +18,11 @@ sum w [] = 0
 sum w (e ∷ l) = w e + sum w l
 
 module _ {S A E : Type 0} (P : Process S A E) where
-  -- what an action falls short of the best, h + 1 steps left
+  -- "what its action falls short of the best there", h + 1 steps left: V less its total with V after it, whatever a policy does later
   unfoldable pub shortfall : ℕ → S → A → ℕ
   shortfall h s a = excess (optimum P (suc h) s) (total P (optimum P h) h a s)
 
-  -- the expected sum of a policy's shortfalls
+  -- "the expected sum, over the steps": here, and from each next state by its setting's weight, 0 times anything being nothing
   unfoldable pub loss : Policy P → ℕ → S → ℕ
   loss π zero s = 0
   loss π (suc h) s = let a = (π .choice) (suc h) s in

@@ -4,8 +4,8 @@
 //! `widths` has the sizes of everything; `model` reads and judges the bytes, in the planner's form or in the old one,
 //! `diagram` has the rules on diagrams and `unique` their hash tables, `solve` the operations of a solve, `read` the
 //! readers of tables, `find` an action by its name, `page` the page of a state, `prune` cuts off a path, `convert` writes a
-//! model in the other form, and `plain` works a state out from the written model, without diagrams. `certificate` finds
-//! paths to cut off, for the tests; `check_hex` is for the programs in `bin`.
+//! model in the other form, and `plain` works a state out from the written model, without diagrams. `policy` has
+//! what a policy loses, and `certificate` finds paths to cut off, for the tests; `check_hex` is for the programs in `bin`.
 
 pub mod certificate;
 pub mod convert;
@@ -15,6 +15,7 @@ pub mod check_hex;
 pub mod model;
 pub mod page;
 pub mod plain;
+pub mod policy;
 pub mod prune;
 pub mod read;
 pub mod solve;

@@ -27,7 +27,8 @@ fn try_worth(model: Model, steps: u32, state: State) -> Result<Reading, Refusal>
 }
 
 /// Why a state or an action has no worth.
-enum Without {
+#[derive(Debug)]
+pub(crate) enum Without {
     /// A number leaves its limits.
     Limits,
     /// No action is permitted on the way (K8.8, K8.9).
@@ -35,7 +36,7 @@ enum Without {
 }
 
 /// With no step left it is the end worth, 0 where none is given (K1.5).
-fn worth_of_state(model: &Model, h: u32, state: &State) -> Result<(i128, u32), Without> {
+pub(crate) fn worth_of_state(model: &Model, h: u32, state: &State) -> Result<(i128, u32), Without> {
     if h == 0 {
         let worth = model.end_worth().map_or(0, |tree| evaluate(model, tree, state, 0));
         return Ok((judged(worth)?, 0));
@@ -62,37 +63,55 @@ fn judged(number: i128) -> Result<i128, Without> {
 }
 
 /// The steps are those of decision 73, in its order. The first none ends it: what stands behind that is not worked.
-fn worth_of_action(model: &Model, h: u32, action: usize, state: &State, power: i64) -> Result<i128, Without> {
+pub(crate) fn worth_of_action(
+    model: &Model,
+    h: u32,
+    action: usize,
+    state: &State,
+    power: i64,
+) -> Result<i128, Without> {
     let reward = leaf(model, model.reward(action), state, 0).ok_or(Without::None)?;
     let reward = judged(at(reward, &state.nums[..model.site.m], state.d))?;
     let mut sum = judged(i128::from(power) * reward)?;
-    let mut chances = [0; CONDITIONS];
-    for (yes, &chance) in chances.iter_mut().zip(model.chances(action)) {
-        *yes = linear(model, chance, state, 0)[CONSTANT];
-    }
+    let chances = chances(model, action, state);
     for setting in 0..1u32 << model.site.n {
         let weight = weight(model, &chances, setting);
         if weight == 0 {
             continue;
         }
-        let mut next = State { mask: setting, nums: [0; LEVELS], d: state.d };
-        for (num, &level) in next.nums.iter_mut().zip(model.nexts(action)) {
-            *num = i32::try_from(evaluate(model, level, state, setting)).map_err(|_| Without::Limits)?;
-        }
+        let next = next(model, action, state, setting)?;
         let (worth, _) = worth_of_state(model, h - 1, &next)?;
         sum = judged(sum + judged(i128::from(weight) * worth)?)?;
     }
     Ok(sum)
 }
 
+/// The weights for yes of an action at a state.
+pub(crate) fn chances(model: &Model, action: usize, state: &State) -> [i64; CONDITIONS] {
+    let mut chances = [0; CONDITIONS];
+    for (yes, &chance) in chances.iter_mut().zip(model.chances(action)) {
+        *yes = linear(model, chance, state, 0)[CONSTANT];
+    }
+    chances
+}
+
+/// The next state under an action and a setting of the next conditions.
+pub(crate) fn next(model: &Model, action: usize, state: &State, setting: u32) -> Result<State, Without> {
+    let mut next = State { mask: setting, nums: [0; LEVELS], d: state.d };
+    for (num, &level) in next.nums.iter_mut().zip(model.nexts(action)) {
+        *num = i32::try_from(evaluate(model, level, state, setting)).map_err(|_| Without::Limits)?;
+    }
+    Ok(next)
+}
+
 /// A setting's weight, of the weights for yes.
-fn weight(model: &Model, chances: &[i64; CONDITIONS], setting: u32) -> i64 {
+pub(crate) fn weight(model: &Model, chances: &[i64; CONDITIONS], setting: u32) -> i64 {
     let one = |(i, &yes): (usize, &i64)| if setting >> i & 1 == 1 { yes } else { model.site.w - yes };
     chances[..model.site.n].iter().enumerate().map(one).product()
 }
 
 /// The leaf of a written diagram for a state and a setting of the next conditions; nothing where it is forbidden.
-fn leaf<'a>(model: &'a Model, mut tree: u32, state: &State, setting: u32) -> Option<&'a [i64; NUMBERS]> {
+pub(crate) fn leaf<'a>(model: &'a Model, mut tree: u32, state: &State, setting: u32) -> Option<&'a [i64; NUMBERS]> {
     let nums = &state.nums[..model.site.m];
     loop {
         let (holds, high, low) = match &model.trees[tree as usize] {
@@ -114,6 +133,6 @@ fn linear<'a>(model: &'a Model, tree: u32, state: &State, setting: u32) -> &'a [
 }
 
 /// Its value, times D.
-fn evaluate(model: &Model, tree: u32, state: &State, setting: u32) -> i128 {
+pub(crate) fn evaluate(model: &Model, tree: u32, state: &State, setting: u32) -> i128 {
     at(linear(model, tree, state, setting), &state.nums[..model.site.m], state.d)
 }

@@ -17,7 +17,7 @@ use Rattle.theory.specs.Value.{Asked, ValueOut, value-of, good-row}
 use Rattle.theory.specs.Listing.{greatest-root}
 use Rattle.theory.specs.Rows.{Range, NodeFits}
 use Rattle.theorems.specs.Demands.{Solving, left}
-use Rattle.theorems.specs.Advice.{Exact, Optimal, ReadsNone}
+use Rattle.theorems.specs.Advice.{Exact, Optimal, ReadsNone, Override}
 use Rattle.theorems.specs.laws.Advice.{value-given}
 use Rattle.theory.specs.Valid.{good-test, stage-leaf}
 use Rattle.theory.specs.laws.Nodes.{parts}
@@ -49,7 +49,7 @@ demands-hold g W S a h q low high =
     let v = value-of B W S h q in
     let e : v ≡ value-of B (o .nodes) (o .stages) h q = after-reads B (o .nodes) (o .stages) W S a h q in
     let d = value-given B (g .horizon) (g .nodes) (g .stages) (g .work) (g .peaks) refl h q q v (g .is) refl e in
-    (d .exact (g .is) low high, (d .optimal (g .is) low high, d .reads-none (g .is) low high))
+    (d .exact (g .is) low high, (d .optimal (g .is) low high, (d .reads-none (g .is) low high, d .override (g .is) low high)))
 
 pub all-fits : AllFits
 unfolding prune pruned

@@ -13,7 +13,8 @@ use Rattle.theory.specs.Value.{Asked, ValueOut, refused-value, answered, value-
 use Rattle.theorems.specs.Demands.{Solving}
 use Rattle.theorems.specs.laws.Demands as demands
 use Rattle.theorems.specs.laws.Forbidden as forbidden
-use Rattle.theorems.specs.Advice.{Left, start, Exact, Optimal, ReadsNone, Advises}
+use Rattle.theorems.specs.laws.Override as overrides
+use Rattle.theorems.specs.Advice.{Left, start, Exact, Optimal, ReadsNone, Override, Advises}
 
 -- the numerator is that of the total, whatever the action
 any-action : (x : Total) (a : ℕ) → answered x a .numerator ≡ answered x 0 .numerator
@@ -53,6 +54,14 @@ module _ (B : List ℕ) (H : ℕ) (nodes : List ℤ) (stages work peaks : List �
   read-none : ReadsNone B h q read
   read-none = record { exactly = λ t. forbidden.none-read solving h low high q t .1 }
 
+  read-override : Override B h q read
+  read-override = record {
+    loses = overrides.override-loses solving h low high q;
+    falls-short = overrides.override-falls-short solving h low high q;
+    loses-nothing = overrides.override-loses-nothing solving h low high q;
+    loses-at-most = overrides.override-loses-at-most solving h low high q;
+  }
+
   module _ {l : List ℤ} {s w k : List ℕ} (L : Left (solve B H nodes stages work peaks) l s w k) (v : ValueOut) (e : v ≡ value-of B l s h q) where
     same-read : read ≡ v
     same-read = (ap (λ (x : List ℤ). value-of B x (solve B H nodes stages work peaks .stages) h q) (sym (L .nodes-left)) ∙ ap (λ (x : List ℕ). value-of B l x h q) (sym (L .stages-left))) ∙ sym e
@@ -65,6 +74,9 @@ module _ (B : List ℕ) (H : ℕ) (nodes : List ℤ) (stages work peaks : List �
 
     advised-none : ReadsNone B h q v
     advised-none = subst (ReadsNone B h q) same-read read-none
+
+    advised-override : Override B h q v
+    advised-override = subst (Override B h q) same-read read-override
 
 -- what a solve answered with and left
 module _ (B : List ℕ) (H : ℕ) (nodes : List ℤ) (stages work peaks : List ℕ) {k p peak : ℕ} {l : List ℤ} {s w m : List ℕ} (e : record { number = k; place = p; peak = peak; nodes = l; stages = s; work = w; peaks = m } ≡ solve B H nodes stages work peaks) where
@@ -84,6 +96,7 @@ module _ (B : List ℕ) (H : ℕ) (nodes : List ℤ) (stages work peaks : List �
     exact = λ z. absurd (n (number-left ∙ z));
     optimal = λ z. absurd (n (number-left ∙ z));
     reads-none = λ z. absurd (n (number-left ∙ z));
+    override = λ z. absurd (n (number-left ∙ z));
   }
 
   -- the value read from the tables that it left
@@ -95,4 +108,5 @@ module _ (B : List ℕ) (H : ℕ) (nodes : List ℤ) (stages work peaks : List �
     exact = λ y a b. advised-exact B H nodes stages work peaks y h a b q left v r;
     optimal = λ y a b. advised-optimal B H nodes stages work peaks y h a b q left v r;
     reads-none = λ y a b. advised-none B H nodes stages work peaks y h a b q left v r;
+    override = λ y a b. advised-override B H nodes stages work peaks y h a b q left v r;
   }

@@ -83,7 +83,7 @@ module _ (M : Model) (v : T (valid M)) where
         let w = chance-weighs C m (env s []) in
         (permitted-at (env s []) C (w .allowed) ∙ ap num (value-constant (env s []) (lin-of (at (env s []) C)) (w .constant) ∙ ap (λ (z : ℤ). z *ℤ pos (s .den)) (w .least)), w .most)
 
-    state-weights : (s : State) → sum ((process M .weight) a s) (process M .settings) ≡ (M .weights) ^ (M .conditions)
+    pub state-weights : (s : State) → sum ((process M .weight) a s) (process M .settings) ≡ (M .weights) ^ (M .conditions)
     unfolding process
     state-weights s =
         let ws = map (chance-at (env s [])) (action-at M a .chances) in

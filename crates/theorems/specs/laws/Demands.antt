@@ -23,11 +23,11 @@ use Rattle.theory.specs.Valid.{all, all-nodes, good-test, stage-leaf}
 use Rattle.theory.specs.Verdict.{Verdict, verdict, refusal}
 use Rattle.theory.specs.Load.{model}
 use Rattle.theory.specs.Solve.{room, solve-in, SolveOut, solve-left, early, early-with-peaks, solve, solved-nodes, solved-stages}
-use Rattle.theory.specs.Value.{answered, value-of}
+use Rattle.theory.specs.Value.{Asked, answered, value-of}
 use Rattle.theory.specs.Plain.{plain-of}
 use Rattle.theory.specs.Name.{name-refusal, name-part}
 use Rattle.theory.specs.Listing.{greatest-root, listing}
-use Rattle.theorems.specs.Demands.{Solving, left, start, site, reading, Exact, Optimal, StateAccepted, PlainAgrees, SameValue, FirstMet, SolvedExactly, CountsDistinct, PeakDecides, VerdictRows, AsWritten, SolveRows, ValueRows, PlainRows, NameRows, NamePartRows, ListingRows, Formula, ChancesWithin, WeightsSum, SpelledSame, TestsDivided, LoadedOrdered, StagesOrdered, TablesReduced, SideLiteral, TablesHold}
+use Rattle.theorems.specs.Demands.{Solving, left, Accepted, start, site, reading, Exact, Optimal, StateAccepted, PlainAgrees, SameValue, FirstMet, SolvedExactly, CountsDistinct, PeakDecides, VerdictRows, AsWritten, SolveRows, ValueRows, PlainRows, NameRows, NamePartRows, ListingRows, Formula, ChancesWithin, WeightsSum, SpelledSame, TestsDivided, LoadedOrdered, StagesOrdered, TablesReduced, SideLiteral, TablesHold}
 use Rattle.theorems.specs.Reduced.{Reduced}
 use Rattle.theory.specs.Rows.{VerdictRow, SolveRow, ValueRow, PlainRow, NameRow, NamePartRow, ListingRow}
 use Rattle.theory.specs.laws.Loading.{accepted-valid, accepted-site}
@@ -138,11 +138,16 @@ exact g h a b q t =
     (rw (← site .same-conditions, ← site .same-actions) (d .0))
     ∙ stage-answer (model B) h F (subst (Stage (model B) h) same S) s
 
+-- a value that is not none, as it is read
+pub read-optimum : (g : Solving) (h : ℕ) → 1 ≤ h → h ≤ g .horizon → (q : Asked) (t : Accepted g q) → Has (optimum (site g) h (start g q t))
+    → num (number (reading g h q .numerator)) ≡ optimum (site g) h (start g q t)
+read-optimum g h a b q t has = ap (λ o. num (number (o .numerator))) (exact g h a b q t) ∙ has-number (optimum (site g) h (start g q t)) (lowest-best (site g) h (start g q t)) has
+
+-- by what a policy loses: `policy-equal` rests on theory's `loses`, as K11 does
 pub optimal : Optimal
 optimal g h a b q t has π =
     let s = start g q t in
-    let v : num (number (reading g h q .numerator)) ≡ optimum (site g) h s =
-    ap (λ o. num (number (o .numerator))) (exact g h a b q t) ∙ has-number (optimum (site g) h s) (lowest-best (site g) h s) has in
+    let v = read-optimum g h a b q t has in
     let p = policy-equal (site g) π h s has in (
       (λ e. p .0 (sym e ∙ v), λ k. v ∙ sym (p .1 k)),
       λ n. rw v (policy-lower (site g) π h s has n),

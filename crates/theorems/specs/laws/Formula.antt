@@ -20,7 +20,7 @@ one-more w d k x n m e = ap (λ z. weigh d (weigh k (weigh w x) ⊕ z)) e ∙ ap
 abbrev over : {E : Type 0} → (E → Total) → (d : ℕ) → 0 < d → E → Fraction
 over X d h e = record { numerator = X e; den = d; den>0 = h }
 
-weighed-mean : {E : Type 0} (w : E → ℕ) (X : E → Total) (d : ℕ) (h : 0 < d) (l : List E)
+pub weighed-mean : {E : Type 0} (w : E → ℕ) (X : E → Total) (d : ℕ) (h : 0 < d) (l : List E)
     → weigh d (weighed w (over X d h) l .numerator) ≡ weigh (weighed w (over X d h) l .den) (mean w X l)
 unfolding weighed mean plus times
 weighed-mean w X d h [] = weigh-nothing d ∙ sym (weigh-nothing 1)
