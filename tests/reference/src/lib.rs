@@ -8,10 +8,10 @@
 //! what a policy loses, and `certificate` finds paths to cut off, for the tests; `check_hex` is for the programs in `bin`.
 
 pub mod certificate;
+pub mod check_hex;
 pub mod convert;
 pub mod diagram;
 pub mod find;
-pub mod check_hex;
 pub mod model;
 pub mod page;
 pub mod plain;
