@@ -1,6 +1,6 @@
 use mathlib.Core.Path.{sym, ap}
 use Rattle.whole.specs.Linears.{ordNum}
-use Rattle.whole.proofs.Comparisons.{lt-of, cmp-lt, cmp-gt, cmp-same}
+use Rattle.whole.proofs.Comparing.{lt-of, cmp-lt, cmp-gt, cmp-same}
 use Rattle.whole_linears.proofs.compare_two.Statement.{statement}
 use Rattle.whole_linears.proofs.compare_two.Tie as tie
 
