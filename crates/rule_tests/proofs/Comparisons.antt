@@ -11,7 +11,7 @@ use Rattle.table.specs.declared.Node.{Node}
 use Rattle.rule_node.specs.declared.Down.{Down}
 use Rattle.rule_node.specs.Nodes.{At}
 use Rattle.rule_node.specs.Roots.{downOf}
-pub use Rattle.whole.proofs.Comparisons.{num-lt, num-eq, num-gt}
+pub use Rattle.whole.proofs.Comparing.{num-lt, num-eq, num-gt}
 
 -- ---- a node that was read
 

@@ -13,7 +13,7 @@ use lib.Signed.{pos-natAbs, mag}
 use mir.Syntax.{w64}
 use mir.Val.{ofZ, toZ}
 use Rattle.whole.specs.Linears.{numbers, ordNum}
-use Rattle.whole.proofs.Comparisons.{lt-cmp, gt-cmp, eq-cmp, num-eq, then-here, then-on, cmp-back, order-differs, order-goes, order-ends}
+use Rattle.whole.proofs.Comparing.{lt-cmp, gt-cmp, eq-cmp, num-eq, then-here, then-on, cmp-back, order-differs, order-goes, order-ends}
 use Rattle.table.proofs.Words.{R, same-bits}
 use Rattle.table.proofs.Look.{eqZ-true}
 use Rattle.table.specs.Table.{eqZ}
