@@ -105,12 +105,14 @@ impl Table {
         rows.min_by_key(|&row| (&self.rows[row][last] / &self.rows[row][column], self.basis[row]))
     }
 
-    /// Until no column makes the artificial numbers less.
-    fn solve(&mut self) {
-        while let Some(column) = (0..self.real).find(|&column| self.costs[column].is_negative()) {
+    /// Until no column makes the artificial numbers less; nothing where the time is up before.
+    fn solve(&mut self, in_time: &dyn Fn() -> bool) -> Option<()> {
+        while in_time() {
+            let Some(column) = (0..self.real).find(|&column| self.costs[column].is_negative()) else { return Some(()) };
             let row = self.leaving(column).expect("the artificial numbers are not below zero");
             self.pivot(row, column);
         }
+        None
     }
 
     /// The numbers of the sides' columns.
@@ -170,25 +172,26 @@ fn tight(sides: &[Side]) -> Vec<usize> {
     places
 }
 
-pub fn judge(sides: &[Side]) -> Judged {
+/// Whether some state takes all sides; nothing where the time is up before that is known.
+pub fn judge(sides: &[Side], in_time: &dyn Fn() -> bool) -> Option<Judged> {
     let places = tight(sides);
     let counting: Vec<&Side> = places.iter().map(|&place| &sides[place]).collect();
     let levels: Vec<usize> = (0..LEVELS).filter(|&level| counting.iter().any(|side| side.linear[level] != 0)).collect();
     let mut table = Table::new(&counting, &levels);
-    table.solve();
+    table.solve(in_time)?;
     if table.costs[table.costs.len() - 1].is_zero() {
         let mut multipliers = vec![Whole::from(0u128); sides.len()];
         for (place, number) in places.into_iter().zip(whole(&table.multipliers())) {
             multipliers[place] = number;
         }
-        return Judged::Impossible(multipliers);
+        return Some(Judged::Impossible(multipliers));
     }
     let constant = table.price(levels.len());
     let mut point = std::array::from_fn(|_| Fraction::from(0));
     for (row, &level) in levels.iter().enumerate() {
         point[level] = &table.price(row) / &constant;
     }
-    Judged::Taken(point)
+    Some(Judged::Taken(point))
 }
 
 #[cfg(test)]
@@ -204,7 +207,7 @@ mod tests {
 
     /// A point is taken by every side; multipliers are not below zero, and what they add up to is what no state is.
     fn hold(sides: &[Side]) -> Judged {
-        let judged = judge(sides);
+        let judged = judge(sides, &|| true).expect("there is time");
         match &judged {
             Judged::Taken(point) => {
                 assert!(
@@ -265,6 +268,12 @@ mod tests {
         impossible(&[side(true, &[], 1)], &[1]);
         impossible(&[side(false, &[], 0)], &[1]);
         taken(&[side(true, &[], 0), side(false, &[], 1)]);
+    }
+
+    /// Nothing is said of sides that there was no time for.
+    #[test]
+    fn no_time() {
+        assert_eq!(judge(&[side(true, &[1], 0), side(false, &[1], 0)], &|| false), None);
     }
 
     /// The smallest multipliers may be beyond 32 bits.
