@@ -1,6 +1,6 @@
 //! Paths of a solved plan that no state can take: found by linear programming, and cut off by the library.
 
-use crate::certificate::{is_high_at, judge, Judged, Linear, Point, Side};
+use crate::certificate::{is_high_at, judge_last, Judged, Linear, Point, Side};
 use crate::fraction::Fraction;
 use crate::library::{self, Refusal};
 use crate::solved::Solved;
@@ -194,7 +194,7 @@ impl Walk<'_, '_> {
                 Node::Test(linear) => linear,
             };
             let is_high = is_high_at(&linear, point);
-            match self.judge(way, Side { is_high: !is_high, linear })? {
+            match self.judge(way, Side { is_high: !is_high, linear }, point)? {
                 Judged::Impossible(multipliers) => {
                     if self.cut(way, !is_high, &multipliers)? {
                         continue;
@@ -221,12 +221,12 @@ impl Walk<'_, '_> {
         Ok(())
     }
 
-    /// Whether some state takes the way and this side.
-    fn judge(&mut self, way: &mut Way, side: Side) -> Result<Judged, Stop> {
+    /// Whether some state takes the way, as the point does, and this side.
+    fn judge(&mut self, way: &mut Way, side: Side, point: &Point) -> Result<Judged, Stop> {
         (self.watch.tell)(&Progress { stage: way.stage, paths: self.paths.len(), nodes: self.tables.rows() });
         let until = self.watch.until;
         way.sides.push(side);
-        let judged = judge(&way.sides, &|| Instant::now() < until);
+        let judged = judge_last(&way.sides, point, &|| Instant::now() < until);
         way.sides.pop();
         judged.ok_or(Stop::TimeUp)
     }

@@ -90,10 +90,12 @@ impl Lent {
         Lent { tables, out: [0; 24], full: (rows, roots) }
     }
 
-    /// A value is read from solved tables.
+    /// A value is read from solved tables; the path is one that is cut off.
     fn prepare(&mut self, row: &Row) {
-        if row.job == Job::Value {
-            self.library(&solving(row.what, row.model.clone(), 8));
+        match row.job {
+            Job::Value => _ = self.library(&solving(row.what, row.model.clone(), 8)),
+            Job::Prune => assert_eq!(self.library(row), 0, "{}", row.what),
+            _ => {}
         }
     }
 
