@@ -4,6 +4,9 @@ use crate::fraction::Fraction;
 use crate::state::level_named;
 use crate::widths::NODES_MOST;
 
+/// A day.
+const SECONDS_MOST: u64 = 86_400;
+
 /// A free level of a picture, with its range if one is given.
 #[derive(Clone, Debug, PartialEq)]
 pub struct Along {
@@ -16,6 +19,7 @@ pub struct Arguments {
     pub words: Vec<String>,
     pub at: Option<String>,
     pub nodes: Option<usize>,
+    pub seconds: Option<u64>,
     pub along: Vec<Along>,
     pub output: Option<String>,
     pub raw: bool,
@@ -55,6 +59,7 @@ impl Arguments {
         match word {
             "--at" => self.at = Some(behind(word, rest)?),
             "--nodes" => self.nodes = Some(nodes(&behind(word, rest)?)?),
+            "--seconds" => self.seconds = Some(seconds(&behind(word, rest)?)?),
             "-o" => self.output = Some(behind(word, rest)?),
             "--along" => {
                 while let Some(next) = rest.next_if(|next| next.starts_with('L')) {
@@ -86,6 +91,11 @@ fn nodes(word: &str) -> Result<usize, String> {
     number.ok_or(format!("--nodes takes a whole number up to {NODES_MOST}, not '{word}'"))
 }
 
+fn seconds(word: &str) -> Result<u64, String> {
+    let number = word.parse().ok().filter(|&number| number <= SECONDS_MOST);
+    number.ok_or(format!("--seconds takes a whole number up to {SECONDS_MOST}, not '{word}'"))
+}
+
 /// `L1` or `L1=0..40`.
 fn along(word: &str) -> Result<Along, String> {
     let (name, range) = match word.split_once('=') {
@@ -106,15 +116,19 @@ mod tests {
 
     fn read(line: &str) -> Result<Arguments, String> {
         let words: Vec<String> = line.split(' ').map(str::to_string).collect();
-        Arguments::read(&words, &["--at", "--nodes", "--along", "-o"])
+        Arguments::read(&words, &["--at", "--nodes", "--seconds", "--along", "-o"])
     }
 
     #[test]
     fn words_and_options() {
-        let read_well = read("m 2 -5 --nodes 12 --along L1=0..1/2 L2 -o f -- --at").unwrap();
+        let read_well = read("m 2 -5 --nodes 12 --seconds 86400 --along L1=0..1/2 L2 -o f -- --at").unwrap();
         assert_eq!(read_well.words, ["m", "2", "-5", "--at"]);
         assert_eq!((read_well.nodes, read_well.output.as_deref()), (Some(12), Some("f")));
+        assert_eq!(read_well.seconds, Some(86_400));
         assert_eq!(read_well.along.len(), 2);
+        for line in ["m --seconds", "m --seconds 86401", "m --seconds -1", "m --seconds 1.5"] {
+            assert!(read(line).is_err(), "{line}");
+        }
         for line in ["m --raw", "m --nodes", "m --nodes 65536", "m --along L9", "m --along L1=3..1", "m --along L1=3"] {
             assert!(read(line).is_err(), "{line}");
         }

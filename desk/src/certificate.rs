@@ -105,12 +105,14 @@ impl Table {
         rows.min_by_key(|&row| (&self.rows[row][last] / &self.rows[row][column], self.basis[row]))
     }
 
-    /// Until no column makes the artificial numbers less.
-    fn solve(&mut self) {
-        while let Some(column) = (0..self.real).find(|&column| self.costs[column].is_negative()) {
+    /// Until no column makes the artificial numbers less; nothing where the time is up before.
+    fn solve(&mut self, in_time: &dyn Fn() -> bool) -> Option<()> {
+        while in_time() {
+            let Some(column) = (0..self.real).find(|&column| self.costs[column].is_negative()) else { return Some(()) };
             let row = self.leaving(column).expect("the artificial numbers are not below zero");
             self.pivot(row, column);
         }
+        None
     }
 
     /// The numbers of the sides' columns.
@@ -170,25 +172,58 @@ fn tight(sides: &[Side]) -> Vec<usize> {
     places
 }
 
-pub fn judge(sides: &[Side]) -> Judged {
+/// Whether some state takes all sides; nothing where the time is up before that is known.
+pub fn judge(sides: &[Side], in_time: &dyn Fn() -> bool) -> Option<Judged> {
     let places = tight(sides);
     let counting: Vec<&Side> = places.iter().map(|&place| &sides[place]).collect();
     let levels: Vec<usize> = (0..LEVELS).filter(|&level| counting.iter().any(|side| side.linear[level] != 0)).collect();
     let mut table = Table::new(&counting, &levels);
-    table.solve();
+    table.solve(in_time)?;
     if table.costs[table.costs.len() - 1].is_zero() {
         let mut multipliers = vec![Whole::from(0u128); sides.len()];
         for (place, number) in places.into_iter().zip(whole(&table.multipliers())) {
             multipliers[place] = number;
         }
-        return Judged::Impossible(multipliers);
+        return Some(Judged::Impossible(multipliers));
     }
     let constant = table.price(levels.len());
     let mut point = std::array::from_fn(|_| Fraction::from(0));
     for (row, &level) in levels.iter().enumerate() {
         point[level] = &table.price(row) / &constant;
     }
-    Judged::Taken(point)
+    Some(Judged::Taken(point))
+}
+
+/// The levels that a side has a say in, a bit for each.
+fn levels_of(side: &Side) -> u32 {
+    (0..LEVELS).filter(|&level| side.linear[level] != 0).fold(0, |levels, level| levels | 1 << level)
+}
+
+/// Whether some state takes all sides, where the point takes all but the last one. Only sides that hang together with the
+/// last one, by levels that they share, decide it; the point's other levels stay.
+pub fn judge_last(sides: &[Side], point: &Point, in_time: &dyn Fn() -> bool) -> Option<Judged> {
+    let mut levels = levels_of(sides.last()?);
+    loop {
+        let together = sides.iter().map(levels_of).filter(|of_side| of_side & levels != 0);
+        match together.fold(levels, |levels, of_side| levels | of_side) {
+            more if more == levels => break,
+            more => levels = more,
+        }
+    }
+    let decides = |&place: &usize| place + 1 == sides.len() || levels_of(&sides[place]) & levels != 0;
+    let places: Vec<usize> = (0..sides.len()).filter(decides).collect();
+    let deciding: Vec<Side> = places.iter().map(|&place| sides[place].clone()).collect();
+    Some(match judge(&deciding, in_time)? {
+        Judged::Taken(there) => Judged::Taken(std::array::from_fn(|level| {
+            let taken = if levels & 1 << level != 0 { &there } else { point };
+            taken[level].clone()
+        })),
+        Judged::Impossible(few) => {
+            let mut multipliers = vec![Whole::from(0u128); sides.len()];
+            places.into_iter().zip(few).for_each(|(place, number)| multipliers[place] = number);
+            Judged::Impossible(multipliers)
+        }
+    })
 }
 
 #[cfg(test)]
@@ -202,10 +237,15 @@ mod tests {
         Side { is_high, linear }
     }
 
-    /// A point is taken by every side; multipliers are not below zero, and what they add up to is what no state is.
     fn hold(sides: &[Side]) -> Judged {
-        let judged = judge(sides);
-        match &judged {
+        let judged = judge(sides, &|| true).expect("there is time");
+        holds(sides, &judged);
+        judged
+    }
+
+    /// A point is taken by every side; multipliers are not below zero, and what they add up to is what no state is.
+    fn holds(sides: &[Side], judged: &Judged) {
+        match judged {
             Judged::Taken(point) => {
                 assert!(
                     sides.iter().all(|side| is_high_at(&side.linear, point) == side.is_high),
@@ -232,7 +272,6 @@ mod tests {
                 );
             }
         }
-        judged
     }
 
     fn impossible(sides: &[Side], multipliers: &[i64]) {
@@ -267,6 +306,12 @@ mod tests {
         taken(&[side(true, &[], 0), side(false, &[], 1)]);
     }
 
+    /// Nothing is said of sides that there was no time for.
+    #[test]
+    fn no_time() {
+        assert_eq!(judge(&[side(true, &[1], 0), side(false, &[1], 0)], &|| false), None);
+    }
+
     /// The smallest multipliers may be beyond 32 bits.
     #[test]
     fn large_multipliers() {
@@ -298,5 +343,34 @@ mod tests {
             counts[usize::from(matches!(hold(&sides), Judged::Taken(_)))] += 1;
         }
         assert!(counts.iter().all(|&count| count > 500), "{counts:?}");
+    }
+
+    /// Side after side, with a point that takes those before: the same answer as all sides together have.
+    #[test]
+    fn one_more_side() {
+        let mut word = 7u64;
+        let mut below = |count: u64| {
+            word = word.wrapping_mul(6364136223846793005).wrapping_add(1442695040888963407);
+            (word >> 33) % count
+        };
+        let (mut taken, mut impossible) = (0, 0);
+        for _ in 0..1_000 {
+            let (mut sides, mut point): (Vec<Side>, Point) = (Vec::new(), std::array::from_fn(|_| Fraction::from(0)));
+            loop {
+                let mut levels = [0; 4];
+                (0..1 + below(2)).for_each(|_| levels[below(4) as usize] = below(5) as i64 - 2);
+                let linear = side(true, &levels, below(7) as i64 - 3).linear;
+                sides.push(Side { is_high: !is_high_at(&linear, &point), linear });
+                let judged = judge_last(&sides, &point, &|| true).expect("there is time");
+                holds(&sides, &judged);
+                match (judged, judge(&sides, &|| true).expect("there is time")) {
+                    (Judged::Taken(there), Judged::Taken(_)) => point = there,
+                    (Judged::Impossible(_), Judged::Impossible(_)) => break impossible += 1,
+                    (one, other) => panic!("{sides:?}: {one:?}, {other:?}"),
+                }
+                taken += 1;
+            }
+        }
+        assert!(taken > 500 && impossible > 500, "{taken} {impossible}");
     }
 }

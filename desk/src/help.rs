@@ -10,7 +10,7 @@ usage: ./plan MODEL HORIZON [--nodes N]                   the plan of a site, as
        ./plan picture MODEL HORIZON --along LEVEL .. -o FILE
                                                           values and actions drawn over one level or two
        ./plan --peaks MODEL HORIZON                       the nodes that loading and each action need
-       ./plan --prune MODEL HORIZON                       the nodes without the paths that no state can take
+       ./plan prune MODEL HORIZON                         the nodes without the paths that no state can take
        ./plan --to-new OLD NEW                            a model of the old form, which begins with 01, made new
        ./plan --to-old NEW OLD                            and the way back
        ./plan VERB --help                                 more about a verb
@@ -60,16 +60,18 @@ all stages, each with its share of the largest. Tables of the largest are just e
 ";
 
 pub const PRUNE: &str = "\
-usage: ./plan --prune MODEL HORIZON [--paths] [--nodes N] [--raw]
+usage: ./plan prune MODEL HORIZON [--paths] [--seconds N] [--nodes N] [--raw]       (or ./plan --prune ..)
 
-Looks for paths of the plan that no state can take, since the tests on the way contradict each other, and has the library cut
-them off. Prints how many nodes the plan had and has, and how many paths were cut off. No value and no action changes.
+Solves the model, looks for paths of the plan that no state can take, since the tests on the way contradict each other, and has
+the library cut them off, until none is left or the time is up. Prints how many nodes each stage and the plan had and has, and
+how many paths were cut off. No value and no action changes. Where it takes long, standard error says how far it is.
 
   --paths       each path as it was sent: P, the stage, the turns (1 high, 0 low), a multiplier for each linear test
+  --seconds N   looks for at most N seconds, up to 86400; if not given, 60. What was cut off until then counts
   --nodes N     as for ./plan; a path that needs more is left alone
 
-A path is left alone as well if its smallest multipliers do not fit 32 bits. Of a plan with very many paths not all are looked
-at, which is said then.
+Nodes that stages share count in each of them, and once in the plan. A path is left alone as well if its smallest multipliers
+do not fit 32 bits.
 ";
 
 pub const TO_NEW: &str = "\

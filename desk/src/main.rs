@@ -8,6 +8,7 @@ mod help;
 mod library;
 mod model;
 mod picture;
+mod progress;
 mod prune;
 mod refusals;
 mod show;

@@ -1,11 +1,12 @@
 //! Paths of a solved plan that no state can take: found by linear programming, and cut off by the library.
 
-use crate::certificate::{is_high_at, judge, Judged, Linear, Point, Side};
+use crate::certificate::{is_high_at, judge_last, Judged, Linear, Point, Side};
 use crate::fraction::Fraction;
 use crate::library::{self, Refusal};
 use crate::solved::Solved;
 use crate::whole::Whole;
 use crate::widths::*;
+use std::time::Instant;
 
 /// A path as the library has taken it.
 #[derive(Clone, Debug)]
@@ -24,18 +25,36 @@ pub struct Left {
     pub full: usize,
 }
 
+/// The nodes of a plan.
+#[derive(Clone, Debug, PartialEq, Eq)]
+pub struct Nodes {
+    pub all: usize,
+    /// Of each stage, those that it shares with others too.
+    pub stages: Vec<usize>,
+}
+
 /// What has come of a plan.
 pub struct Pruned {
-    pub had: usize,
-    pub has: usize,
+    pub had: Nodes,
+    pub has: Nodes,
     pub paths: Vec<Sent>,
     pub left: Left,
-    /// Whether all paths were looked at.
+    /// Whether all paths were looked at in the time.
     pub whole: bool,
 }
 
-/// Sides of tests that are put together at most: a plan may have more paths than anybody can wait for.
-pub const SIDES_MOST: usize = 1_000_000;
+/// How far a walk is.
+pub struct Progress {
+    pub stage: u32,
+    pub paths: usize,
+    pub nodes: usize,
+}
+
+/// When a walk ends, and who is told how far it is.
+pub struct Watch<'a> {
+    pub until: Instant,
+    pub tell: &'a mut dyn FnMut(&Progress),
+}
 
 #[derive(Clone)]
 struct Tables {
@@ -61,7 +80,7 @@ struct Way {
 enum Stop {
     /// A node on the way is not there any more.
     Changed,
-    TooMuch,
+    TimeUp,
     Refused(Refusal),
 }
 
@@ -72,6 +91,25 @@ impl Tables {
 
     fn words(&self, node: u32) -> &[i64] {
         &self.nodes[NODE_WORDS * (node as usize - 1)..][..NODE_WORDS]
+    }
+
+    /// How many nodes a stage's diagram has. Branches lie below their nodes.
+    fn nodes_of(&self, stage: usize) -> usize {
+        let root = self.stages[stage - 1] as usize;
+        let mut is_met = vec![false; root + 1];
+        is_met[root] = true;
+        for node in (1..=root).rev() {
+            let words = self.words(node as u32);
+            if is_met[node] && !matches!(words[KIND], kind::LEAF | kind::NONE) {
+                is_met[words[HIGH] as usize] = true;
+                is_met[words[LOW] as usize] = true;
+            }
+        }
+        is_met[1..].iter().filter(|&&met| met).count()
+    }
+
+    fn count(&self, horizon: usize) -> Nodes {
+        Nodes { all: self.rows(), stages: (1..=horizon).map(|stage| self.nodes_of(stage)).collect() }
     }
 
     /// The nodes on the way and the one at its end, as far as they are there.
@@ -105,8 +143,9 @@ impl Tables {
     }
 }
 
-struct Walk<'a> {
+struct Walk<'a, 'b> {
     model: &'a [u8],
+    watch: Watch<'b>,
     /// What the tables may hold.
     most: usize,
     tables: Tables,
@@ -114,11 +153,23 @@ struct Walk<'a> {
     /// The smallest plan on the way, and how many paths it is without.
     best: (Tables, usize),
     left: Left,
-    /// Sides of tests that were put together.
-    sides: usize,
 }
 
-impl Walk<'_> {
+impl Walk<'_, '_> {
+    /// All stages: again while paths that had no room before may have it now.
+    fn plan(&mut self, horizon: u32) -> Result<(), Stop> {
+        loop {
+            let sent = self.paths.len();
+            self.left = Left::default();
+            for stage in 1..=horizon {
+                self.stage(stage)?;
+            }
+            if self.left.full == 0 || self.paths.len() == sent {
+                return Ok(());
+            }
+        }
+    }
+
     /// All paths of a stage: again from its root after a cut that has changed more than what lies below it.
     fn stage(&mut self, stage: u32) -> Result<(), Stop> {
         let (left, origin) = (self.left.clone(), std::array::from_fn(|_| Fraction::from(0)));
@@ -143,7 +194,7 @@ impl Walk<'_> {
                 Node::Test(linear) => linear,
             };
             let is_high = is_high_at(&linear, point);
-            match self.judge(way, Side { is_high: !is_high, linear })? {
+            match self.judge(way, Side { is_high: !is_high, linear }, point)? {
                 Judged::Impossible(multipliers) => {
                     if self.cut(way, !is_high, &multipliers)? {
                         continue;
@@ -170,16 +221,14 @@ impl Walk<'_> {
         Ok(())
     }
 
-    /// Whether some state takes the way and this side.
-    fn judge(&mut self, way: &mut Way, side: Side) -> Result<Judged, Stop> {
+    /// Whether some state takes the way, as the point does, and this side.
+    fn judge(&mut self, way: &mut Way, side: Side, point: &Point) -> Result<Judged, Stop> {
+        (self.watch.tell)(&Progress { stage: way.stage, paths: self.paths.len(), nodes: self.tables.rows() });
+        let until = self.watch.until;
         way.sides.push(side);
-        self.sides += way.sides.len();
-        if self.sides > SIDES_MOST {
-            return Err(Stop::TooMuch);
-        }
-        let judged = judge(&way.sides);
+        let judged = judge_last(&way.sides, point, &|| Instant::now() < until);
         way.sides.pop();
-        Ok(judged)
+        judged.ok_or(Stop::TimeUp)
     }
 
     /// Has the library cut off the way with one more turn; false where the path is left alone.
@@ -215,25 +264,20 @@ impl Walk<'_> {
     }
 }
 
-/// Cuts off all paths of a plan that no state can take, stage by stage, in tables of so many nodes or of the most. Nodes that
-/// other paths share are copied, so that a plan may grow before it shrinks: the smallest one on the way is what it comes to.
-pub fn prune(solved: &Solved, nodes: Option<usize>) -> Result<Pruned, Refusal> {
+/// Cuts off all paths of a plan that no state can take, stage by stage, in tables of so many nodes or of the most, as long as
+/// the watch allows. Nodes that other paths share are copied, so that a plan may grow before it shrinks: the smallest one on
+/// the way is what it comes to.
+pub fn prune(solved: &Solved, nodes: Option<usize>, watch: Watch) -> Result<Pruned, Refusal> {
     let tables = Tables { nodes: solved.nodes.clone(), stages: solved.stages };
-    let had = tables.rows();
+    let had = tables.count(solved.horizon);
     let (model, most, best) = (solved.model, nodes.unwrap_or(NODES_MOST), (tables.clone(), 0));
-    let mut walk = Walk { model, most, tables, paths: Vec::new(), best, left: Left::default(), sides: 0 };
-    let mut whole = true;
-    for stage in 1..=solved.horizon as u32 {
-        match walk.stage(stage) {
-            Ok(()) => {}
-            Err(Stop::Refused(refused)) => return Err(refused),
-            Err(Stop::Changed | Stop::TooMuch) => {
-                whole = false;
-                break;
-            }
-        }
-    }
+    let mut walk = Walk { model, watch, most, tables, paths: Vec::new(), best, left: Left::default() };
+    let whole = match walk.plan(solved.horizon as u32) {
+        Ok(()) => true,
+        Err(Stop::Refused(refused)) => return Err(refused),
+        Err(Stop::Changed | Stop::TimeUp) => false,
+    };
     let (best, count) = walk.best;
     walk.paths.truncate(count);
-    Ok(Pruned { had, has: best.rows(), paths: walk.paths, left: walk.left, whole })
+    Ok(Pruned { had, has: best.count(solved.horizon), paths: walk.paths, left: walk.left, whole })
 }

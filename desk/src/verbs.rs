@@ -4,13 +4,15 @@ use crate::arguments::Arguments;
 use crate::library::{self, Refusal};
 use crate::model::{Model, Written};
 use crate::picture::{Picture, Stopped};
-use crate::prune::{self, Pruned, Sent, SIDES_MOST};
+use crate::progress::Teller;
+use crate::prune::{self, Progress, Pruned, Sent, Watch};
 use crate::refusals::{explain, Subject};
 use crate::solved::{Solved, Unsolved};
 use crate::state::{Given, State};
 use crate::widths::{LEVELS, LOADING, MODEL_BYTES_MOST, NODES_MOST, NO_ACTION};
 use crate::{help, show, words, Failure};
 use std::io::{Read, Write};
+use std::time::{Duration, Instant};
 
 type Done = Result<(), Failure>;
 
@@ -27,11 +29,13 @@ pub fn run(given: &[String], out: &mut Vec<u8>) -> Done {
         "--to-new" => verb(rest, &["--raw"], help::TO_NEW, out, to_new),
         "--to-old" => verb(rest, &["--raw"], help::TO_OLD, out, to_old),
         "--peaks" => verb(rest, &["--nodes", "--raw"], help::PEAKS, out, peaks),
-        "--prune" => verb(rest, &["--nodes", "--paths", "--raw"], help::PRUNE, out, prune),
+        "prune" | "--prune" => verb(rest, &PRUNE_OPTIONS, help::PRUNE, out, prune),
         "help" => helped(rest, out),
         _ => verb(given, &["--at", "--nodes", "--raw", "--page"], help::PLAN, out, plan),
     }
 }
+
+const PRUNE_OPTIONS: [&str; 4] = ["--nodes", "--seconds", "--paths", "--raw"];
 
 const PICTURE_OPTIONS: [&str; 7] = ["--along", "--at", "--nodes", "-o", "--html", "--table", "--raw"];
 
@@ -293,6 +297,9 @@ fn peak_lines(solved: &Solved) -> Result<String, Refusal> {
     Ok(text)
 }
 
+/// Seconds that paths are looked for, where the call does not say.
+const SECONDS: u64 = 60;
+
 /// How many nodes the plan had, and has without the paths that no state can take.
 fn prune(arguments: &Arguments, out: &mut Vec<u8>) -> Done {
     let asked = Asked::read(arguments)?;
@@ -300,12 +307,22 @@ fn prune(arguments: &Arguments, out: &mut Vec<u8>) -> Done {
         return Err(usage("paths are those of a model and a horizon: there is a word too many"));
     }
     let solved = asked.solve(None, out)?;
-    let pruned = prune::prune(&solved, arguments.nodes).map_err(|refused| asked.refuse(refused, None, None, out))?;
+    let (seconds, mut teller) = (arguments.seconds.unwrap_or(SECONDS), Teller::new());
+    let horizon = solved.horizon;
+    let mut tell = |progress: &Progress| teller.say(|| progress_words(progress, horizon));
+    let watch = Watch { until: Instant::now() + Duration::from_secs(seconds), tell: &mut tell };
+    let pruned = prune::prune(&solved, arguments.nodes, watch);
+    let pruned = pruned.map_err(|refused| asked.refuse(refused, None, None, out))?;
     if arguments.paths {
         out.extend(pruned.paths.iter().flat_map(|path| path_line(path).into_bytes()));
     }
-    out.extend(pruned_lines(&pruned).bytes());
+    out.extend(pruned_lines(&pruned, seconds).bytes());
     Ok(())
+}
+
+fn progress_words(progress: &Progress, horizon: usize) -> String {
+    let Progress { stage, paths, nodes } = progress;
+    format!("stage {stage} of {horizon}, {} cut off, {}", words::count(*paths, "path"), words::count(*nodes, "node"))
 }
 
 /// A path as it is sent: `P stage turns multipliers`.
@@ -315,9 +332,14 @@ fn path_line(path: &Sent) -> String {
     format!("P {} {turns}{multipliers}\n", path.stage)
 }
 
-fn pruned_lines(pruned: &Pruned) -> String {
+fn pruned_lines(pruned: &Pruned, seconds: u64) -> String {
     let paths = |count: usize| words::count(count, "path");
-    let mut text = format!("the plan had {} and has {}\n", words::count(pruned.had, "node"), pruned.has);
+    let width = pruned.had.all.max(pruned.has.all).to_string().len().max("had".len());
+    let mut text = format!("stage  {:>width$}  {:>width$}\n", "had", "has");
+    for (stage, (had, has)) in (1..).zip(pruned.had.stages.iter().zip(&pruned.has.stages)) {
+        text += &format!("{stage:>5}  {had:>width$}  {has:>width$}\n");
+    }
+    text += &format!("the plan had {} and has {}\n", words::count(pruned.had.all, "node"), pruned.has.all);
     text += &format!("{} cut off that no state can take\n", paths(pruned.paths.len()));
     if pruned.left.wide > 0 {
         text += &format!("{} left alone: the smallest multipliers do not fit 32 bits\n", paths(pruned.left.wide));
@@ -326,7 +348,8 @@ fn pruned_lines(pruned: &Pruned) -> String {
         text += &format!("{} left alone: the tables have no room for the copied nodes\n", paths(pruned.left.full));
     }
     if !pruned.whole {
-        text += &format!("ended after {SIDES_MOST} sides of tests: there are more paths than that\n");
+        let time = words::count(seconds as usize, "second");
+        text += &format!("ended after {time}: not all paths were looked at\n");
     }
     text
 }

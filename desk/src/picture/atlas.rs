@@ -77,13 +77,19 @@ fn draw_region(frame: &Frame, map: &Map, region: &Region, sheet: &Sheet) -> Stri
     };
     let title = escaped(&words);
     let body = format!("<polygon points=\"{corners}\" fill=\"{fill}\" {edges}><title>{title}</title></polygon>\n");
-    if !roomy {
+    let number = if region.is_none() { "none".to_string() } else { region.action.to_string() };
+    if !roomy || extent(&points, |point| point.0) < width(&number, 12.0) || extent(&points, |point| point.1) < 12.0 {
         return body;
     }
     let mean = |part: fn(&(f64, f64)) -> f64| points.iter().map(part).sum::<f64>() / points.len() as f64;
     let style = format!("font-size=\"12\" fill=\"{}\" pointer-events=\"none\"", on_colour(region.action));
-    let number = if region.is_none() { "none".to_string() } else { region.action.to_string() };
     body + &text(mean(|point| point.0), mean(|point| point.1) + 4.0, "middle", &style, &number)
+}
+
+/// From the least to the greatest of the points' parts.
+fn extent(points: &[(f64, f64)], part: fn(&(f64, f64)) -> f64) -> f64 {
+    let parts = || points.iter().map(part);
+    parts().fold(f64::MIN, f64::max) - parts().fold(f64::MAX, f64::min)
 }
 
 /// A smaller region has no room for a number.

@@ -2,10 +2,13 @@
 
 use crate::meter::{by_callgrind, counted, keep_memory, least_time, Counter};
 use crate::{planner, Tables};
-use models::{chain, commands, deep, near_limit, pond, rain, releases, reservoirs, settings, staircases};
+use models::{
+    chain, commands, deep, near_limit, pond, rain, releases, reservoirs, settings, staircases,
+    steps_behind_a_contradiction,
+};
 use reference::diagram::Store;
 use reference::widths::{NODES_MOST, NODE_WORDS, PEAK_WORDS, STAGES, WORK_WORDS};
-use reference::{solve_with_room, validate, value, worth, State};
+use reference::{prune, solve_with_room, validate, value, worth, State};
 use std::hint::black_box;
 
 const STATE: State = State { mask: 0, nums: [39, 0, 0, 0, 0, 0, 0, 0], d: 2 };
@@ -21,7 +24,12 @@ enum Job {
     /// With so many steps.
     Worth(u32),
     Validate,
+    /// An accepted path of two turns; the tables are copied before, since the library writes to them.
+    Prune,
 }
+
+/// The path that is proposed: stage, turns, multipliers.
+const PATH: (u32, [u8; 2], [i32; 2]) = (1, [1, 0], [1, 1]);
 
 struct Row {
     what: &'static str,
@@ -55,6 +63,7 @@ fn rows() -> Vec<Row> {
         solving("solve the pond, horizon 8", pond(), 8),
         solving("solve the rain, horizon 8", rain(), 8),
         row("read a value of the pond, its validation included", pond(), Job::Value),
+        row("cut off a path of a plan of 65,534 nodes, and copy the plan before", pond(), Job::Prune),
         row("plain working of the pond, 4 steps", pond(), Job::Worth(4)),
         row("plain working of 400 settings, 2 steps", settings(), Job::Worth(2)),
         row("validate a model of 111,169 bytes", staircases(), Job::Validate),
@@ -62,10 +71,11 @@ fn rows() -> Vec<Row> {
     ]
 }
 
-/// What the library is lent: the tables and an answer's bytes.
+/// What the library is lent: the tables and an answer's bytes; and a plan that fills the tables but for one node.
 struct Lent {
     tables: Tables,
     out: [u8; 24],
+    full: (Vec<i64>, [u32; STAGES]),
 }
 
 impl Lent {
@@ -73,13 +83,19 @@ impl Lent {
         keep_memory();
         let (nodes, work) = (vec![1; NODE_WORDS * NODES_MOST], vec![1; WORK_WORDS * NODES_MOST]);
         let tables = Tables { nodes, stages: vec![1; STAGES], work, peaks: vec![1; PEAK_WORDS] };
-        Lent { tables, out: [0; 24] }
+        let (mut rows, root) = steps_behind_a_contradiction((NODES_MOST as u32 - 3) / 2);
+        rows.resize(NODE_WORDS * NODES_MOST, 0);
+        let mut roots = [0; STAGES];
+        roots[PATH.0 as usize - 1] = root;
+        Lent { tables, out: [0; 24], full: (rows, roots) }
     }
 
-    /// A value is read from solved tables.
+    /// A value is read from solved tables; the path is one that is cut off.
     fn prepare(&mut self, row: &Row) {
-        if row.job == Job::Value {
-            self.library(&solving(row.what, row.model.clone(), 8));
+        match row.job {
+            Job::Value => _ = self.library(&solving(row.what, row.model.clone(), 8)),
+            Job::Prune => assert_eq!(self.library(row), 0, "{}", row.what),
+            _ => {}
         }
     }
 
@@ -98,6 +114,12 @@ impl Lent {
             Job::Value => planner::value(&row.model, nodes, stages, 8, STATE, out),
             Job::Worth(steps) => planner::worth(&row.model, steps, STATE, out),
             Job::Validate => planner::validate(&row.model).0,
+            Job::Prune => {
+                let ((full, roots), (stage, turns, multipliers)) = (&self.full, PATH);
+                nodes.copy_from_slice(full);
+                stages.copy_from_slice(roots);
+                planner::prune(&row.model, nodes, stages, work, stage, &turns, &multipliers, out)
+            }
         }
     }
 
@@ -109,6 +131,12 @@ impl Lent {
             Job::Value => black_box(value(&row.model, nodes, stages, 8, STATE)).number,
             Job::Worth(steps) => black_box(worth(&row.model, steps, STATE)).number,
             Job::Validate => black_box(validate(&row.model)).0,
+            Job::Prune => {
+                let ((full, roots), (stage, turns, multipliers)) = (&self.full, PATH);
+                let words = WORK_WORDS * NODES_MOST;
+                let pruned = prune(&row.model, &black_box(full.clone()), roots, words, stage, &turns, &multipliers);
+                black_box(pruned).map_or_else(|refused| refused.number, |_| 0)
+            }
         }
     }
 }
@@ -219,6 +247,7 @@ fn bound(row: &Row, cost: &Cost, done: &[(&Row, &Cost)]) -> String {
         Job::Solve(_, room) => (time(Job::Floor, &[]) * room as f64 / NODES_MOST as f64, "clearing", "rules; "),
         Job::Value => (validation(), "validation", "walk; "),
         Job::Worth(_) => (validation(), "validation", "evaluations; "),
+        Job::Prune => (time(Job::Floor, &[]), "clearing", "rows made anew; "),
     };
     let share = 100.0 * floor / cost.times[0];
     format!("{}{name} {share:.0} %", if share < 25.0 { otherwise } else { "" })

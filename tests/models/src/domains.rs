@@ -72,8 +72,13 @@ pub fn inventory(orders: u16, known: bool) -> Vec<u8> {
 /// The rover (documents 001 and 002) that moves by 10 to either side; its picture is worth 4 at 0 and falls to 0 at −2
 /// and 2 in straight lines. Condition 1: the picture is taken.
 pub fn rover() -> Vec<u8> {
-    let mut w = Writer::site(1, 1, 2, 1);
-    for (action, distance) in [(1, -10), (2, 10)] {
+    rover_moving(&[-10, 10])
+}
+
+/// The same with other moves.
+pub fn rover_moving(distances: &[i32]) -> Vec<u8> {
+    let mut w = Writer::site(1, 1, distances.len() as u16, 1);
+    for (action, &distance) in (1..).zip(distances) {
         w.leaf([1], distance).next(action, 1).leaf([], 1);
         between(&mut w, [1], [-2, 2], nothing, |w| _ = w.leaf([], 1));
         w.condition(1).chance(action, 1).leaf([], 0);

@@ -42,6 +42,26 @@ impl TableWriter {
     }
 }
 
+/// A table of 2 × leaves + 2 nodes, all different, for one action, and the number of its root. L1 ≤ 0 and then L1 > 5 lead to
+/// a tree of the steps of L1 that the root's low side has too: no state takes the turns 1 0, shown by 1 and 1.
+pub fn steps_behind_a_contradiction(leaves: u32) -> (Vec<i64>, u32) {
+    let mut table = TableWriter::default();
+    let end = table.leaf(&[1], 0, 1);
+    let mut row: Vec<(i64, u32)> = (0..i64::from(leaves)).map(|step| (step, table.leaf(&[], step, 1))).collect();
+    // Pairs of neighbours, by the last step of the first one.
+    while row.len() > 1 {
+        let join = |pair: &[(i64, u32)]| match *pair {
+            [(middle, first), (last, second)] => (last, table.test(&[1], -middle, first, second)),
+            [one] => one,
+            _ => unreachable!("pairs"),
+        };
+        row = row.chunks(2).map(join).collect();
+    }
+    let contradicted = table.test(&[1], -5, end, row[0].1);
+    let root = table.test(&[1], 0, contradicted, row[0].1);
+    (table.0, root)
+}
+
 /// Linears of few directions with few constants, so that on a path many are parallel, equal or opposite; now and then one
 /// without coefficients or with the largest numbers. Levels may be beyond those of a site.
 fn tests(rng: &mut Rng) -> Vec<([i64; LEVELS], i64)> {

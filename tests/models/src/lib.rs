@@ -7,9 +7,9 @@ mod large;
 mod old;
 mod random;
 
-pub use domains::{chain, inventory, releases, reservoirs, rover, wet_reservoirs};
+pub use domains::{chain, inventory, releases, reservoirs, rover, rover_moving, wet_reservoirs};
 pub use forbidding::forbidding;
-pub use foreign::{foreign, TableWriter};
+pub use foreign::{foreign, steps_behind_a_contradiction, TableWriter};
 pub use large::{
     deep, long_listing, mixed, near_limit, of_length, of_old_length, rain_tanks_kept, settings, staircases,
 };

@@ -1,9 +1,9 @@
 //! Writes the models to a folder, and some random ones: `models FOLDER [COUNT [SEED]]`.
 
 use models::{
-    chain, corner, damaged, deep, dry_inlet, long_listing, mixed, near_limit, of_length, of_old_length, old_form, pond,
-    pond_kept, rain, rain_tanks_kept, random, settings, staircases, steep_end, wet_reservoirs, Rng, MODEL_BYTES,
-    OLD_BYTES,
+    chain, corner, damaged, deep, dry_inlet, inventory, long_listing, mixed, near_limit, of_length, of_old_length,
+    old_form, pond, pond_kept, rain, rain_tanks_kept, random, rover, rover_moving, settings, staircases, steep_end,
+    wet_reservoirs, Rng, MODEL_BYTES, OLD_BYTES,
 };
 use std::path::Path;
 
@@ -30,6 +30,16 @@ fn main() -> std::io::Result<()> {
         ("settings", settings()),
         ("mixed", mixed()),
         ("seven_tanks", chain(7)),
+        // Domains of the papers, by their numbers of orders and moves.
+        ("inventory_known_1", inventory(1, true)),
+        ("inventory_known_2", inventory(2, true)),
+        ("inventory_known_5", inventory(5, true)),
+        ("inventory_uncertain_1", inventory(1, false)),
+        ("inventory_uncertain_2", inventory(2, false)),
+        ("inventory_uncertain_5", inventory(5, false)),
+        ("rover_2", rover()),
+        ("rover_4", rover_moving(&[-10, -5, 5, 10])),
+        ("rover_8", rover_moving(&[-10, -7, -4, -1, 1, 4, 7, 10])),
         ("longest", of_length(MODEL_BYTES)),
         ("too_long", of_length(MODEL_BYTES + 1)),
         // 65,535 bytes in the old form, and one more.
