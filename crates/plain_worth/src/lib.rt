@@ -50,7 +50,7 @@ fn answer(t: Total) -> Value
 }
 
 // The state of m levels that is asked for, with no setting.
-fn point(m: u32, q: Asked) -> Point
+pub fn point(m: u32, q: Asked) -> Point
     ensures { λ x. ⌜ x ≡ point-of m q ⌝ }
 {
     let n = q.n;
