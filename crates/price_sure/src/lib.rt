@@ -1,6 +1,7 @@
 // Whether the plan's action at a state is sure, worked from the model's bytes as plain working is.
 ghost use mathlib.Core.Path.{_≡_};
 ghost use Prim.Native.Nat.{_*_, _≤_};
+ghost use lib.IntN.{natAbs};
 ghost use Rattle.plain_pass.specs.Parts.{Blank, Parts};
 ghost use Rattle.plain_limits.specs.Totals.{total-of};
 ghost use Rattle.plain_step.specs.Standing.{Standing};
@@ -116,6 +117,20 @@ fn worked(model: &[u8], steps: u32, x: Point, e: u64, d: u64) -> Said
     roomed(model, steps, x, e, d, mag(p))
 }
 
+fn size(z: i32) -> u64
+    ensures { λ r. ⌜ r ≡ natAbs z ⌝ }
+{
+    mag(z as i64)
+}
+
+// The denominator of a state, which is not negative where it is accepted.
+fn denominator(q: Asked) -> u64
+    ensures { λ r. ⌜ r ≡ natAbs (asked q .den) ⌝ }
+{
+    let d = q.n[8];
+    size(d)
+}
+
 // "Order: 10, 9, the model, 13, 23; then 11 as plain working gives it": whether the plan's action at the state stays best where rewards move by at most e.
 pub fn sure(bytes: &[u8], steps: u32, q: Asked, e: i32) -> Said
     ensures { λ r. ⌜ out r ≡ sure-of (now (bytes .entry)) steps (asked q) e ⌝ }
@@ -132,6 +147,11 @@ pub fn sure(bytes: &[u8], steps: u32, q: Asked, e: i32) -> Said
     if e < 0 {
         return refused(NEGATIVE_CHANGE, 0);
     }
-    let d = q.n[8];
-    worked(bytes, steps, plain_worth::point(m, q), mag(e as i64), mag(d as i64))
+    worked(
+        bytes,
+        steps,
+        plain_worth::point(m, q),
+        size(e),
+        denominator(q),
+    )
 }
