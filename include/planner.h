@@ -23,6 +23,7 @@
  * 20       the model does not fit the old form: above 4 levels, 8 actions or 65,535 bytes once written, or a command 13
  * 21       the multipliers do not show that no state takes the path
  * 22       the path is empty, has a byte other than 0 and 1 or leaves the diagram, or has not a multiplier for each test
+ * 23       the change of rewards is below zero
  */
 #ifndef PLANNER_H
 #define PLANNER_H
@@ -66,6 +67,7 @@ extern "C" {
 #define PLANNER_TO_NEW_BYTES ((size_t)8)
 #define PLANNER_TO_OLD_BYTES ((size_t)8)
 #define PLANNER_PRUNE_BYTES ((size_t)4)
+#define PLANNER_SURE_BYTES ((size_t)8)
 
 /* The bytes of a page, for so many stages: 50 columns and a line end for each. */
 #define PLANNER_PAGE_TEXT_BYTES(horizon) ((size_t)51 * (horizon))
@@ -126,6 +128,24 @@ static inline uint32_t planner_worth_at(const uint8_t *model, size_t model_len, 
     const int32_t *l = state->level;
     return planner_worth(model, model_len, steps, state->mask, l[0], l[1], l[2], l[3], l[4], l[5], l[6], l[7],
                          state->denominator, out, out_len);
+}
+
+/* Whether the action that planner_worth gives stays best where prices move (K12): sure is 1 where its worth exceeds that of
+ * every other action that has one by more than 2 * steps * e, else 0; at a state whose value is none it is 0. For any model
+ * with the same chances, next levels, end worth and forbidden leaves, and rewards that differ nowhere by more than e, a sure
+ * action is best there, alone; and the value moves by at most steps * e, sure or not.
+ * Answer: place u32, sure u32. Refusals in order: 10; 9; 1 to 8; 13; 23 where e is below zero; 17; 11 as planner_worth gives
+ * it. Time and stack are those of planner_worth. */
+uint32_t planner_sure(const uint8_t *model, size_t model_len, uint32_t steps, uint32_t mask,
+                      int32_t l1, int32_t l2, int32_t l3, int32_t l4, int32_t l5, int32_t l6, int32_t l7, int32_t l8,
+                      int32_t d, int32_t e, uint8_t *out, size_t out_len);
+
+static inline uint32_t planner_sure_at(const uint8_t *model, size_t model_len, uint32_t steps,
+                                       const struct planner_state *state, int32_t e, uint8_t *out, size_t out_len)
+{
+    const int32_t *l = state->level;
+    return planner_sure(model, model_len, steps, state->mask, l[0], l[1], l[2], l[3], l[4], l[5], l[6], l[7],
+                        state->denominator, e, out, out_len);
 }
 
 /* An action's name without its trailing spaces, empty where it has none. Action 0, that of a value none, is refused with 16.

@@ -11,6 +11,7 @@ usage: ./plan MODEL HORIZON [--nodes N]                   the plan of a site, as
                                                           values and actions drawn over one level or two
        ./plan --peaks MODEL HORIZON                       the nodes that loading and each action need
        ./plan prune MODEL HORIZON                         the nodes without the paths that no state can take
+       ./plan --sure E MODEL STEPS STATE                  whether the best action stays so where rewards move by up to E
        ./plan --to-new OLD NEW                            a model of the old form, which begins with 01, made new
        ./plan --to-old NEW OLD                            and the way back
        ./plan VERB --help                                 more about a verb
@@ -72,6 +73,16 @@ how many paths were cut off. No value and no action changes. Where it takes long
 
 Nodes that stages share count in each of them, and once in the plan. A path is left alone as well if its smallest multipliers
 do not fit 32 bits.
+";
+
+pub const SURE: &str = "\
+usage: ./plan --sure E MODEL STEPS --at STATE [--raw]
+       ./plan --sure E MODEL STEPS MASK L1 .. D [--raw]
+
+Works the state out with so many steps left, 1 to 8, and prints the best action, whether it is sure, and by how much it leads the
+next one. It is sure if it leads by more than 2 x STEPS x E: then it is best, alone, for every model with the same chances, next
+levels, end worth and forbidden leaves whose rewards differ nowhere by more than E. The value moves by at most STEPS x E, sure or
+not. E is a whole number, 0 or more. The time grows steeply with the steps.
 ";
 
 pub const TO_NEW: &str = "\

@@ -41,6 +41,15 @@ extern "C" {
         steps: u32, mask: u32, l1: i32, l2: i32, l3: i32, l4: i32, l5: i32, l6: i32, l7: i32, l8: i32, d: i32,
         out: Answer, out_len: usize,
     ) -> u32;
+    fn planner_worth(
+        model: Bytes, model_len: usize, steps: u32, mask: u32,
+        l1: i32, l2: i32, l3: i32, l4: i32, l5: i32, l6: i32, l7: i32, l8: i32, d: i32, out: Answer, out_len: usize,
+    ) -> u32;
+    fn planner_sure(
+        model: Bytes, model_len: usize, steps: u32, mask: u32,
+        l1: i32, l2: i32, l3: i32, l4: i32, l5: i32, l6: i32, l7: i32, l8: i32, d: i32, e: i32,
+        out: Answer, out_len: usize,
+    ) -> u32;
     fn planner_name(model: Bytes, model_len: usize, action: u32, out: Answer, out_len: usize) -> u32;
     fn planner_listing(
         model: Bytes, model_len: usize, horizon: u32, nodes: *const i64, node_words: usize,
@@ -122,9 +131,40 @@ pub fn value(
             l1, l2, l3, l4, l5, l6, l7, l8, state.denominator, out.as_mut_ptr(), out.len(),
         )
     };
-    let out = judged(number, out)?;
+    judged(number, out).map(reading)
+}
+
+fn reading(out: [u8; VALUE_BYTES]) -> Reading {
     let (low, high) = (number_at(&out, 8, 8), number_at(&out, 16, 8) as i64);
-    Ok(Reading { action: number_at(&out, 4, 4) as u32, numerator: i128::from(high) << 64 | i128::from(low) })
+    Reading { action: number_at(&out, 4, 4) as u32, numerator: i128::from(high) << 64 | i128::from(low) }
+}
+
+/// The same from the model alone.
+#[rustfmt::skip]
+pub fn worth(m: &[u8], steps: u32, state: &State) -> Result<Reading, Refusal> {
+    let (mut out, [l1, l2, l3, l4, l5, l6, l7, l8]) = ([0; VALUE_BYTES], state.numerators);
+    // SAFETY: as said above.
+    let number = unsafe {
+        planner_worth(
+            m.as_ptr(), m.len(), steps, state.mask, l1, l2, l3, l4, l5, l6, l7, l8, state.denominator,
+            out.as_mut_ptr(), out.len(),
+        )
+    };
+    judged(number, out).map(reading)
+}
+
+/// Whether the best action at the state is sure where rewards move by at most e.
+#[rustfmt::skip]
+pub fn sure(m: &[u8], steps: u32, state: &State, e: i32) -> Result<bool, Refusal> {
+    let (mut out, [l1, l2, l3, l4, l5, l6, l7, l8]) = ([0; PAIR_BYTES], state.numerators);
+    // SAFETY: as said above.
+    let number = unsafe {
+        planner_sure(
+            m.as_ptr(), m.len(), steps, state.mask, l1, l2, l3, l4, l5, l6, l7, l8, state.denominator, e,
+            out.as_mut_ptr(), out.len(),
+        )
+    };
+    judged(number, out).map(|out| number_at(&out, 4, 4) == 1)
 }
 
 /// An action's name, empty where it has none.

@@ -400,6 +400,7 @@ fn of_call(number: u32) -> Told {
             "a path has a turn 0 or 1 at each node on its way, and a multiplier for each linear test",
             "compare it with the plan: './plan MODEL HORIZON' has the nodes",
         ),
+        refusal::CHANGE => told("rewards move by 0 or more", "ask for a change that is not below zero"),
         _ => told("not known here", "see include/planner.h"),
     }
 }

@@ -1,6 +1,7 @@
 //! The verbs: each reads its words, makes the library's calls and writes what it has to say.
 
 use crate::arguments::Arguments;
+use crate::lead;
 use crate::library::{self, Refusal};
 use crate::model::{Model, Written};
 use crate::picture::{Picture, Stopped};
@@ -30,6 +31,7 @@ pub fn run(given: &[String], out: &mut Vec<u8>) -> Done {
         "--to-old" => verb(rest, &["--raw"], help::TO_OLD, out, to_old),
         "--peaks" => verb(rest, &["--nodes", "--raw"], help::PEAKS, out, peaks),
         "prune" | "--prune" => verb(rest, &PRUNE_OPTIONS, help::PRUNE, out, prune),
+        "--sure" => verb(rest, &["--at", "--raw"], help::SURE, out, sure),
         "help" => helped(rest, out),
         _ => verb(given, &["--at", "--nodes", "--raw", "--page"], help::PLAN, out, plan),
     }
@@ -205,8 +207,7 @@ impl<'a> Asked<'a> {
 }
 
 /// The state of a call, if it has one. In numbers it has a numerator for each level of the site, or for all that there are.
-fn state(arguments: &Arguments, model: &[u8]) -> Result<Option<State>, Failure> {
-    let numbers = &arguments.words[2..];
+fn state(arguments: &Arguments, numbers: &[String], model: &[u8]) -> Result<Option<State>, Failure> {
     let levels = || Written::read(Model::new(model)).site().map_or(LEVELS, |site| site.levels);
     match (&arguments.at, numbers.len()) {
         (None, 0) => Ok(None),
@@ -223,7 +224,7 @@ fn state(arguments: &Arguments, model: &[u8]) -> Result<Option<State>, Failure> 
 
 fn plan(arguments: &Arguments, out: &mut Vec<u8>) -> Done {
     let asked = Asked::read(arguments)?;
-    let state = state(arguments, &asked.model)?;
+    let state = state(arguments, &arguments.words[2..], &asked.model)?;
     if arguments.page && state.is_none() {
         return Err(usage("--page is for a state: --at STATE"));
     }
@@ -352,6 +353,38 @@ fn pruned_lines(pruned: &Pruned, seconds: u64) -> String {
         text += &format!("ended after {time}: not all paths were looked at\n");
     }
     text
+}
+
+/// The best action at a state, whether it stays so, and by how much it leads.
+fn sure(arguments: &Arguments, out: &mut Vec<u8>) -> Done {
+    let [change, path, steps, numbers @ ..] = arguments.words.as_slice() else {
+        return Err(usage("a change of rewards, a model, a number of steps and a state are needed"));
+    };
+    let change: i32 =
+        change.parse().map_err(|_| Failure::Usage(format!("the change '{change}' is no whole number of 32 bits")))?;
+    let steps: u32 = steps.parse().map_err(|_| Failure::Usage(format!("'{steps}' is no number of steps")))?;
+    let model = load(path)?;
+    let Some(state) = state(arguments, numbers, &model)? else { return Err(usage("a state is needed: --at STATE")) };
+    let asked = Subject { state: Some(&state), ..subject(path, &model) };
+    let lines = sure_lines(&model, steps, &state, change).map_err(|refused| refuse(arguments, refused, &asked, out))?;
+    out.extend(lines.bytes());
+    Ok(())
+}
+
+fn sure_lines(model: &[u8], steps: u32, state: &State, change: i32) -> Result<String, Refusal> {
+    let is_sure = library::sure(model, steps, state, change)?;
+    let site = Written::read(Model::new(model)).site().expect("an accepted model has a site");
+    let mut text = format!("at {}\n", state.words(site.levels, site.conditions));
+    let Some(lead) = lead::lead(model, steps, state)? else { return Ok(text + "none: not sure\n") };
+    assert_eq!(lead.action, library::worth(model, steps, state)?.action, "the desk's best action is the library's");
+    let name = library::name(model, lead.action)?;
+    text += format!("{} {name}", lead.action).trim_end();
+    text += if is_sure { ": sure\n" } else { ": not sure\n" };
+    text += &match lead.next {
+        Some(next) => format!("it leads the next action by {}\n", &lead.value - &next),
+        None => "no other action has a value\n".to_string(),
+    };
+    Ok(text)
 }
 
 fn picture(arguments: &Arguments, out: &mut Vec<u8>) -> Done {

@@ -358,6 +358,61 @@ static void worths(void)
     worth_is(&m, 8, INT32_MIN, 1, 11, 0, 0, 0, 0);
 }
 
+/* ---- whether an action is sure */
+
+static void sure_at(const model *m, uint32_t steps, struct planner_state state, int32_t e, uint32_t number, uint32_t place,
+                    uint32_t sure)
+{
+    model kept = *m;
+    lent out;
+    uint8_t answer[PLANNER_SURE_BYTES];
+    put(answer, place, 4);
+    put(answer + 4, sure, 4);
+    for (size_t len = 0; len <= PLANNER_SURE_BYTES + 3; len++) {
+        uint8_t *start = lend(&out, len);
+        int fits = len >= PLANNER_SURE_BYTES, yields = number == 0 || number == 11;
+        uint32_t r = planner_sure_at(kept.len == 0 ? NULL : kept.bytes, kept.len, steps, &state, e,
+                                     len == 0 ? NULL : start, len);
+        expect(r == (fits || !yields ? number : 17), "number of sure");
+        expect(marked_beside(&out, 0, fits ? sizeof answer : 0), "no byte beside the answer of sure is written");
+        expect(!fits || holds_bytes(&out, 0, answer, sizeof answer), "the answer of sure");
+        expect(memcmp(&kept, m, sizeof kept) == 0, "sure leaves the model as it is");
+    }
+}
+
+static void sure_is(const model *m, uint32_t steps, int32_t level, int32_t d, int32_t e, uint32_t number, uint32_t sure)
+{
+    struct planner_state state = {0, {level}, d};
+    sure_at(m, steps, state, e, number, 0, sure);
+}
+
+static void sures(void)
+{
+    model m = pond("Hold            ");
+    /* At 20 releasing leads by 50, which is more than 2 * 2 * 12 and less than 2 * 2 * 13. */
+    sure_is(&m, 2, 20, 1, 12, 0, 1);
+    sure_is(&m, 2, 20, 1, 13, 0, 0);
+    sure_is(&m, 2, 40, 2, 12, 0, 1);
+    sure_is(&m, 2, 40, 2, 13, 0, 0);
+    sure_is(&m, 2, 20, 1, 0, 0, 1);
+    sure_is(&m, 2, 20, 1, INT32_MAX, 0, 0);
+    /* Holding leads by 1 below 10; with two steps left at 10 it does not matter when the water is let out. */
+    sure_is(&m, 1, 9, 1, 0, 0, 1);
+    sure_is(&m, 1, 9, 1, 1, 0, 0);
+    sure_is(&m, 2, 10, 1, 0, 0, 0);
+    /* 13 before 23, 9 before both. */
+    sure_is(&m, 2, 20, 1, -1, 23, 0);
+    sure_is(&m, 2, 20, 1, INT32_MIN, 23, 0);
+    sure_is(&m, 2, 20, 0, -1, 13, 0);
+    sure_is(&m, 0, 20, 0, -1, 9, 0);
+    sure_is(&m, 9, 20, 0, -1, 9, 0);
+    /* One action alone is sure for every change; 23 before 11. */
+    m = still(INT32_MIN);
+    sure_is(&m, 1, INT32_MIN + 1, 1, INT32_MAX, 0, 1);
+    sure_is(&m, 1, INT32_MIN, 1, INT32_MAX, 11, 0);
+    sure_is(&m, 1, INT32_MIN, 1, -1, 23, 0);
+}
+
 /* ---- models at fault, by every export that takes one */
 
 static void name_is(const model *m, uint32_t action, uint32_t number, uint32_t place, const char *name);
@@ -377,6 +432,8 @@ static void model_refused(const model *m, uint32_t number, uint32_t place)
     expect(judged.number == number && judged.place == place, "a model judged");
     value_refused(&c, number, place);
     worth_is(m, 2, 20, 0, number, place, 0, 0, 0);
+    struct planner_state refused = {0, {20}, 0};
+    sure_at(m, 2, refused, -1, number, place, 0);
     name_is(m, 0, number, place, "");
     find_is(m, "", number, place, 0);
     listing_is(&c, number, place);
@@ -1534,6 +1591,7 @@ int main(void)
     values_of_nodes_refused();
     values_early_refused();
     worths();
+    sures();
     models_refused();
     end_worths_refused();
     long_models_refused();

@@ -71,6 +71,9 @@ int main(void)
     r = planner_worth_at(model, len, 1, &s, out, sizeof out);
     q = planner_worth(model, len, 1, 0, 3, 5, 7, 11, 13, 17, 19, 23, 2, other, sizeof other);
     good &= same("worth", r, q, out, other, sizeof out) && out[4] == 1 && out[8] == 580 % 256 && out[9] == 580 / 256;
+    r = planner_sure_at(model, len, 1, &s, 4, out, sizeof out);
+    q = planner_sure(model, len, 1, 0, 3, 5, 7, 11, 13, 17, 19, 23, 2, 4, other, sizeof other);
+    good &= same("sure", r, q, out, other, PLANNER_SURE_BYTES) && out[4] == 1;
     memset(text, 0, sizeof text);
     r = planner_page_at(model, len, 1, nodes, 12, stages, 8, &s, text, sizeof text, 0, out, sizeof out);
     good &= r == 0 && strstr((const char *)text, " 290 ") != NULL;

@@ -14,7 +14,7 @@ use value_walk::Value;
 use whole::Numerator;
 use whole::two_words::from_word;
 
-mod worths; // worths.rt: the worth of a state and of an action
+pub mod worths; // worths.rt: the worth of a state and of an action
 
 fn refused(number: u32, place: usize) -> Value
     ensures { λ v. ⌜ out v ≡ refused-value number place ⌝ }
@@ -50,7 +50,7 @@ fn answer(t: Total) -> Value
 }
 
 // The state of m levels that is asked for, with no setting.
-fn point(m: u32, q: Asked) -> Point
+pub fn point(m: u32, q: Asked) -> Point
     ensures { λ x. ⌜ x ≡ point-of m q ⌝ }
 {
     let n = q.n;

@@ -65,7 +65,7 @@ fn state_worth(model: &[u8], parts: &[u32], steps: u32, x: Point) -> Total
 }
 
 // "an action's worth sums the worth of its next states; those of weight 0 are skipped"; it is left at the first none.
-fn action_worth(model: &[u8], parts: &[u32], steps: u32, a: u16, x: Point) -> Total
+pub fn action_worth(model: &[u8], parts: &[u32], steps: u32, a: u16, x: Point) -> Total
     requires { ⌜ Standing (now model) x × Acts (now model) a × (1 ≤ steps) × (steps ≤ 8) × Parts (now model) (now parts) ⌝ }
     ensures { λ r. ⌜ Action-worth (now (model .entry)) steps a x r ⌝ }
 {

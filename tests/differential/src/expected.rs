@@ -1,6 +1,6 @@
 //! What each C function has to return and to leave, by the second program.
 
-use reference::{find, listing, name, page, prune, solve, value, worth, Outcome, Reading, Refusal, State};
+use reference::{find, listing, name, page, prune, solve, sure, value, worth, Outcome, Reading, Refusal, State};
 
 /// The answer's bytes, or 17 for a short `out`, where an earlier refusal keeps its number (decision 97).
 fn answer(number: u32, bytes: Vec<u8>, out: &mut [u8]) -> u32 {
@@ -64,6 +64,12 @@ pub fn named(model: &[u8], action: u32, out: &mut [u8]) -> u32 {
 
 pub fn worked(model: &[u8], steps: u32, state: State, out: &mut [u8]) -> u32 {
     reading(worth(model, steps, state), out)
+}
+
+pub fn assured(model: &[u8], steps: u32, state: State, e: i32, out: &mut [u8]) -> u32 {
+    let (number, place, sure) =
+        sure(model, steps, state, e).map_or_else(|r| (r.number, r.place, 0), |sure| (0, 0, u32::from(sure)));
+    answer(number, words(&[place, sure]), out)
 }
 
 pub fn listed(

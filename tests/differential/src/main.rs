@@ -1,6 +1,6 @@
 //! Compares every outcome of libplanner.a with the second program: numbers, places, all lent words, peaks too, values,
-//! names and actions found by them, listings, pages, models of the other form, paths cut off, plain working. See
-//! tests/README.md for the link line.
+//! names and actions found by them, listings, pages, models of the other form, paths cut off, plain working, and whether
+//! actions are sure. See tests/README.md for the link line.
 
 mod conversion;
 mod expected;
@@ -38,6 +38,8 @@ struct Calls {
     none: u64,
     /// Paths that were cut off.
     cut: u64,
+    /// Actions that were sure.
+    sure: u64,
     model: Vec<u8>,
     round: u64,
 }
@@ -152,6 +154,34 @@ fn compare_state(calls: &mut Calls, rng: &mut Rng, tables: &Tables, steps: u32, 
     if is_solved && number == 0 && other_number == 0 {
         calls.check("value and worth", "answer", &from_tables[..24].to_vec(), &from_model[..24].to_vec(), &arguments);
     }
+}
+
+/// Whether the best action of a state is sure: for an e around where that turns, and for any other.
+fn compare_sure(calls: &mut Calls, rng: &mut Rng, steps: u32) {
+    let model = calls.model.clone();
+    if cost(&model, steps) > 20_000 {
+        return;
+    }
+    let state = state(rng, &model);
+    let turn = (0..31).fold(0, |e, bit| {
+        let more = e | 1 << (30 - bit);
+        if reference::sure(&model, steps, state, more) == Ok(true) {
+            more
+        } else {
+            e
+        }
+    });
+    let any = rng.word() as i32 >> rng.below(32);
+    let e = rng.pick(&[0, 0, turn, turn, turn.saturating_add(1), turn / 2, any, i32::MAX, -1, i32::MIN]);
+    let mut out = out(rng, 8);
+    let mut ours = out.clone();
+    let arguments = (steps, state, e, out.len());
+    let number = planner::sure(&model, steps, state, e, &mut out);
+    let our_number = expected::assured(&model, steps, state, e, &mut ours);
+    calls.check("sure", "number", &number, &our_number, &arguments);
+    calls.check("sure", "answer", &out, &ours, &arguments);
+    calls.count(number);
+    calls.sure += u64::from(number == 0 && out[4] == 1);
 }
 
 /// Next states that plain working meets, about.
@@ -426,6 +456,11 @@ fn one_round(calls: &mut Calls, rng: &mut Rng) {
     }
     // A source of its own: the rest of a round is what its seed gives without it.
     pruning::round(calls, &mut Rng(rng.0 ^ 0x0A), solved.as_ref());
+    let prices = &mut Rng(rng.0 ^ 0x0C);
+    for _ in 0..3 {
+        let steps = any_horizon(prices);
+        compare_sure(calls, prices, steps);
+    }
     let is_solved = solved.is_some();
     let mut tables = solved.unwrap_or_else(|| Tables::full_of_anything(rng, [10 * NODE_WORDS, STAGES, 0, 0]));
     for _ in 0..if is_solved { 6 } else { 2 } {
@@ -569,7 +604,7 @@ fn rounds(calls: &mut Calls, count: u64, seed: u64, mut round: impl FnMut(&mut C
 }
 
 fn compare(mode: &str, count: u64, seed: u64) {
-    let mut calls = Calls { by_number: [0; NUMBERS_GIVEN], none: 0, cut: 0, model: Vec::new(), round: 0 };
+    let mut calls = Calls { by_number: [0; NUMBERS_GIVEN], none: 0, cut: 0, sure: 0, model: Vec::new(), round: 0 };
     let start = Instant::now();
     let lengths = [NODE_WORDS * 2_000 + 3, STAGES, WORK_WORDS * 2_000 + 5, PEAK_WORDS + 1];
     let mut lent = Tables::full_of_anything(&mut Rng(seed), lengths);
@@ -592,8 +627,11 @@ fn compare(mode: &str, count: u64, seed: u64) {
     println!("{mode}: {total} calls of {library}, all as expected, seed {seed}, {time:.1} s");
     let numbers: Vec<String> =
         calls.by_number.iter().enumerate().map(|(number, count)| format!("{number}:{count}")).collect();
-    let (none, cut) = (calls.none, calls.cut);
-    println!("by number {}; none was read {none} times, {cut} paths were cut off", numbers.join(" "));
+    let (none, cut, sure) = (calls.none, calls.cut, calls.sure);
+    println!(
+        "by number {}; none was read {none} times, {cut} paths were cut off, {sure} actions were sure",
+        numbers.join(" ")
+    );
 }
 
 fn run(args: &[String]) {

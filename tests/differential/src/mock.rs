@@ -1,6 +1,6 @@
 //! Stands in for the library, so that the comparison can be built and tried without it. A fault can be asked for with
-//! PLANNER_FAULT=function (solve, value, name, worth, listing, find, page, to_new, to_old or prune; to_new_buffer and
-//! to_old_buffer spoil the last byte of the lent buffer, solve_peaks the last word of the peaks, prune_tables the last one
+//! PLANNER_FAULT=function (solve, value, name, worth, sure, listing, find, page, to_new, to_old or prune; to_new_buffer
+//! and to_old_buffer spoil the last byte of the lent buffer, solve_peaks the last word of the peaks, prune_tables the last one
 //! of the nodes); the comparison has to find it.
 
 use crate::expected;
@@ -59,6 +59,10 @@ pub fn name(model: &[u8], action: u32, out: &mut [u8]) -> u32 {
 
 pub fn worth(model: &[u8], steps: u32, state: State, out: &mut [u8]) -> u32 {
     spoil("worth", expected::worked(model, steps, state, out), out)
+}
+
+pub fn sure(model: &[u8], steps: u32, state: State, e: i32, out: &mut [u8]) -> u32 {
+    spoil("sure", expected::assured(model, steps, state, e, out), out)
 }
 
 pub fn listing(

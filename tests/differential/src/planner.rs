@@ -100,6 +100,10 @@ extern "C" {
     fn planner_to_old(
         model: *const u8, model_len: usize, buffer: *mut u8, buffer_len: usize, out: *mut u8, out_len: usize,
     ) -> u32;
+    fn planner_sure(
+        model: *const u8, model_len: usize, steps: u32, mask: u32, l1: i32, l2: i32, l3: i32, l4: i32, l5: i32, l6: i32,
+        l7: i32, l8: i32, d: i32, e: i32, out: *mut u8, out_len: usize,
+    ) -> u32;
     fn planner_prune(
         model: *const u8, model_len: usize, nodes: *mut i64, node_words: usize, stages: *mut u32, stage_words: usize,
         work: *mut u32, work_words: usize, stage: u32, turns: *const u8, turns_len: usize,
@@ -193,6 +197,17 @@ pub fn worth(model: &[u8], steps: u32, state: State, out: &mut [u8]) -> u32 {
             d,
             out.as_mut_ptr(),
             out.len(),
+        )
+    }
+}
+
+#[rustfmt::skip]
+pub fn sure(model: &[u8], steps: u32, state: State, e: i32, out: &mut [u8]) -> u32 {
+    let State { mask, nums: [l1, l2, l3, l4, l5, l6, l7, l8], d } = state;
+    // SAFETY: as said above.
+    unsafe {
+        planner_sure(
+            model.as_ptr(), model.len(), steps, mask, l1, l2, l3, l4, l5, l6, l7, l8, d, e, out.as_mut_ptr(), out.len(),
         )
     }
 }

@@ -54,6 +54,17 @@ pub(crate) fn worth_of_state(model: &Model, h: u32, state: &State) -> Result<(i1
     best.ok_or(Without::None)
 }
 
+/// What each action comes to, none where it has no worth; 11 from any of them.
+pub(crate) fn worths(model: &Model, h: u32, state: &State) -> Result<Vec<Option<i128>>, Refusal> {
+    let Some(power) = power(model.site.w, model.site.n as u32 * h) else { return Refusal::of(11) };
+    let worth = |action| match worth_of_action(model, h, action, state, power) {
+        Ok(worth) => Ok(Some(worth)),
+        Err(Without::None) => Ok(None),
+        Err(Without::Limits) => Refusal::of(11),
+    };
+    (0..model.site.a).map(worth).collect()
+}
+
 fn judged(number: i128) -> Result<i128, Without> {
     if number.abs() <= i128::from(LIMIT) {
         Ok(number)

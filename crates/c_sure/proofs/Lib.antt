@@ -1,0 +1,2 @@
+-- Laws that the proofs rest on.
+pub mod Given

@@ -1,0 +1,29 @@
+-- `c_sure::answer` meets its contract.
+use Rattle.price_sure.specs.Answers.{out as said-out}
+use Rattle.c_sure.proofs.Given.{sure-short, sure-whole}
+use borrow.Author.Needs.{needs}
+use Rattle.c_sure.proofs.answer.Statement.{statement}
+use Rattle.c_sure.proofs.answer.Tie as tie
+
+short-requires : tie.Need-short-requires
+short-requires c κs = search needs
+
+returns : tie.Need-returns
+returns c =
+    sure-short (said-out (c .before .before .before .args .v)) (c .before .before .before .args .out .now) (c .before .if1 .taken) (c .short .ensures)
+
+cast-put-pair : tie.Need-cast-put-pair
+cast-put-pair c = search needs
+
+put-pair-requires : tie.Need-put-pair-requires
+put-pair-requires c κs = search needs
+
+same-length : tie.Need-same-length
+same-length c = search needs
+
+returns-2 : tie.Need-returns-2
+returns-2 c =
+    sure-whole (said-out (c .before .before .before .before .before .before .before .args .v)) (c .before .before .before .before .before .before .before .args .out .now) (c .before .before .before .before .before .if1 .left) (c .before .before .put-pair .ensures .0)
+
+pub answer-spec : {M : Type 1} → statement M
+answer-spec = tie.close (tie.spec short-requires returns cast-put-pair put-pair-requires same-length returns-2)

@@ -1,0 +1,2 @@
+-- What the answer is.
+pub mod Answer

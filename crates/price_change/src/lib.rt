@@ -1,0 +1,1 @@
+// "Does a price change matter?", as definitions and laws: everything is in specs/.

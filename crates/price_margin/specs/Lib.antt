@@ -1,0 +1,2 @@
+-- The largest worth of all actions but the best.
+pub mod Rivals

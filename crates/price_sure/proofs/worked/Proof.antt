@@ -1,0 +1,67 @@
+-- `price_sure::worked` meets its contract.
+use native.Mathlib.Omega.{arith}
+use Rattle.plain_worth.proofs.Answers.{exponent-fits}
+use Rattle.price_sure.proofs.Entry.{worked-over, worked-priced}
+use borrow.Author.Needs.{needs}
+use Rattle.price_sure.proofs.worked.Statement.{statement}
+use Rattle.price_sure.proofs.worked.Tie as tie
+
+conditions-requires : tie.Need-conditions-requires
+conditions-requires c κs = search needs
+
+cast-n : tie.Need-cast-n
+cast-n c = search needs
+
+weights-requires : tie.Need-weights-requires
+weights-requires c κs = search needs
+
+cast-power-within : tie.Need-cast-power-within
+cast-power-within c = search needs
+
+mul-power-within : tie.Need-mul-power-within
+mul-power-within c =
+    omega (arith, exponent-fits (c .before .before .before .args .model .now) (c .before .before .before .pre .0 .ready) _ (c .before .before .before .args .steps) (c .before .conditions .ensures) (c .before .before .before .pre .2))
+
+power-within-requires : tie.Need-power-within-requires
+power-within-requires c κs = search needs
+
+enum-known-p : tie.Need-enum-known-p
+enum-known-p c = search needs
+
+enum-told : tie.Need-enum-told
+enum-told c = search needs
+
+refused-requires : tie.Need-refused-requires
+refused-requires c κs = search needs
+
+returns : tie.Need-returns
+returns c =
+    worked-over (c .before .before .before .before .before .before .before .args .model .now) (c .before .before .before .before .before .before .before .pre .0 .ready) (c .before .before .before .before .before .before .before .args .steps) (c .before .before .before .before .before .before .before .args .x) (c .before .before .before .before .before .conditions .ensures) (c .before .before .before .before .weights .ensures) (c .before .before .before .power-within .ensures) (c .before .before .before .before .before .before .before .pre .1) (c .before .enum-told .given .1) _ _ (c .refused .ensures)
+
+mag-requires : tie.Need-mag-requires
+mag-requires c κs = search needs
+
+roomed-requires : tie.Need-roomed-requires
+roomed-requires c κs =
+    (c .before .before .before .before .before .before .before .before .pre .0, c .before .before .before .before .before .before .before .before .pre .1, c .before .before .before .before .before .before .before .before .pre .2, worked-priced (c .before .before .before .before .before .before .before .before .args .model .now) (c .before .before .before .before .before .before .before .before .pre .0 .ready) (c .before .before .before .before .before .before .before .before .args .steps) (c .before .before .before .before .before .before .before .before .args .x) (c .before .before .before .before .before .before .conditions .ensures) (c .before .before .before .before .before .weights .ensures) (c .before .before .before .before .power-within .ensures) _ (c .before .before .p .given .1) (record { sfits = c .before .known-told .given .0 .1 }) _ (c .before .before .before .before .before .before .before .before .pre .3) (c .mag .ensures))
+
+returns-2 : tie.Need-returns-2
+returns-2 c = search needs
+
+pub worked-spec : {M : Type 1} → statement M
+worked-spec =
+    tie.close
+    (tie.spec
+    conditions-requires
+    cast-n
+    weights-requires
+    cast-power-within
+    mul-power-within
+    power-within-requires
+    enum-known-p
+    enum-told
+    refused-requires
+    returns
+    mag-requires
+    roomed-requires
+    returns-2)

@@ -1,0 +1,2 @@
+-- What the call comes to, in the terms of its definition.
+pub mod Answers
