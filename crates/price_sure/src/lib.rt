@@ -13,6 +13,7 @@ use plain_pass::Point;
 use plain_step::sites;
 use plain_worth::worths;
 use value_walk::Asked;
+use whole::COEFFICIENTS;
 use whole::Within;
 use whole::limits::mag;
 use whole::limits::power_within;
@@ -127,7 +128,7 @@ fn size(z: i32) -> u64
 fn denominator(q: Asked) -> u64
     ensures { λ r. ⌜ r ≡ natAbs (asked q .den) ⌝ }
 {
-    let d = q.n[8];
+    let d = q.n[COEFFICIENTS];
     size(d)
 }
 
