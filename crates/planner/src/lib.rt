@@ -6,3 +6,4 @@ pub mod lookup; // lookup.rt: an action found by its name
 pub mod pages; // pages.rt: pages
 pub mod conversions; // conversions.rt: models in the other form
 pub mod paths; // paths.rt: paths that no state can take
+pub mod totals; // totals.rt: two sites together
