@@ -4,20 +4,22 @@
 //! `widths` has the sizes of everything; `model` reads and judges the bytes, in the planner's form or in the old one,
 //! `diagram` has the rules on diagrams and `unique` their hash tables, `solve` the operations of a solve, `read` the
 //! readers of tables, `find` an action by its name, `page` the page of a state, `prune` cuts off a path, `convert` writes a
-//! model in the other form, and `plain` works a state out from the written model, without diagrams. `certificate` finds
+//! model in the other form, `plain` works a state out from the written model, without diagrams, and `total` has two sites
+//! together. `certificate` finds
 //! paths to cut off, for the tests; `check_hex` is for the programs in `bin`.
 
 pub mod certificate;
+pub mod check_hex;
 pub mod convert;
 pub mod diagram;
 pub mod find;
-pub mod check_hex;
 pub mod model;
 pub mod page;
 pub mod plain;
 pub mod prune;
 pub mod read;
 pub mod solve;
+pub mod total;
 mod unique;
 pub mod widths;
 
@@ -29,6 +31,7 @@ pub use plain::{worth, worth_old};
 pub use prune::prune;
 pub use read::{listing, name, program, value, Reading};
 pub use solve::{solve, solve_old, solve_with_room, Outcome};
+pub use total::{joined, total, Side, Total};
 
 use widths::{CONSTANT, LEVELS, NUMBERS};
 
