@@ -15,6 +15,7 @@ pub struct Along {
 pub struct Arguments {
     pub words: Vec<String>,
     pub at: Option<String>,
+    pub and: Option<String>,
     pub nodes: Option<usize>,
     pub along: Vec<Along>,
     pub output: Option<String>,
@@ -54,6 +55,7 @@ impl Arguments {
     ) -> Result<(), String> {
         match word {
             "--at" => self.at = Some(behind(word, rest)?),
+            "--and" => self.and = Some(behind(word, rest)?),
             "--nodes" => self.nodes = Some(nodes(&behind(word, rest)?)?),
             "-o" => self.output = Some(behind(word, rest)?),
             "--along" => {

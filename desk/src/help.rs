@@ -11,6 +11,8 @@ usage: ./plan MODEL HORIZON [--nodes N]                   the plan of a site, as
                                                           values and actions drawn over one level or two
        ./plan --peaks MODEL HORIZON                       the nodes that loading and each action need
        ./plan --prune MODEL HORIZON                       the nodes without the paths that no state can take
+       ./plan --two MODEL MODEL STEPS --at STATE --and STATE
+                                                          two sites that share nothing: both actions, one total
        ./plan --to-new OLD NEW                            a model of the old form, which begins with 01, made new
        ./plan --to-old NEW OLD                            and the way back
        ./plan VERB --help                                 more about a verb
@@ -70,6 +72,20 @@ them off. Prints how many nodes the plan had and has, and how many paths were cu
 
 A path is left alone as well if its smallest multipliers do not fit 32 bits. Of a plan with very many paths not all are looked
 at, which is said then.
+";
+
+pub const TWO: &str = "\
+usage: ./plan --two MODEL MODEL STEPS [--at STATE] [--and STATE] [--nodes N] [--raw]
+
+Two sites that share no water and no condition, as one: for each number of steps up to STEPS, 1 to 8, the best expected total
+of both and the action of each. Both models have one weight total W, which is refused with 26 otherwise; the same model may
+stand on both sides.
+
+  --at STATE    the first site's state, as for ./plan; --and STATE the second's. Levels and conditions that are not named are 0
+                and do not hold. The levels of both are brought over one denominator
+  --nodes N     as for ./plan, for each site's tables
+
+A total is 'none' where either site has none.
 ";
 
 pub const TO_NEW: &str = "\

@@ -400,6 +400,10 @@ fn of_call(number: u32) -> Told {
             "a path has a turn 0 or 1 at each node on its way, and a multiplier for each linear test",
             "compare it with the plan: './plan MODEL HORIZON' has the nodes",
         ),
+        refusal::SCALES => told(
+            "two sites have one weight total W and their states one denominator",
+            "write one of the models over the other's W: a chance w of W is 10 w of 10 W",
+        ),
         _ => told("not known here", "see include/planner.h"),
     }
 }

@@ -136,4 +136,5 @@ pub mod refusal {
     pub const NO_FIT: u32 = 20;
     pub const NOT_SHOWN: u32 = 21;
     pub const NO_PATH: u32 = 22;
+    pub const SCALES: u32 = 26;
 }
