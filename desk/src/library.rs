@@ -2,8 +2,8 @@
 
 use crate::state::State;
 use crate::widths::{
-    refusal, NAME_BYTES, OLD_MODEL_BYTES_MOST, PAIR_BYTES, PEAK_WORDS, PRUNE_BYTES, STAGE_WORDS, TO_NEW_MODEL_BYTES,
-    TOTAL_BYTES, VALUE_BYTES,
+    refusal, NAME_BYTES, OLD_MODEL_BYTES_MOST, PAIR_BYTES, PEAK_WORDS, PRUNE_BYTES, STAGE_WORDS, TOTAL_BYTES,
+    TO_NEW_MODEL_BYTES, VALUE_BYTES,
 };
 
 /// A refusal: its number and its place.
