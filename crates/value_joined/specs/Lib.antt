@@ -3,6 +3,7 @@ pub mod Joined
 pub mod Total
 pub mod TotalRows
 pub mod Statements
+pub mod Examples
 -- ---- laws
 
 pub mod laws
