@@ -99,6 +99,7 @@ fn edges(calls: &mut Calls, rng: &mut Rng) {
         nums[0] = i32::MAX;
         let (stages, state) = ([1; STAGES], State { mask: 0, nums, d: 1 });
         let side = |i: usize| Side { model: &models[i], nodes: &rows[i], stages: &stages, state };
-        compare(calls, rng, side(0), side(1), steps);
+        let other = State { d: rng.pick(&[1, 1, 1, 1, 1, 1, 1, 2]), ..state };
+        compare(calls, rng, side(0), Side { state: other, ..side(1) }, steps);
     }
 }
