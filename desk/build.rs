@@ -7,7 +7,7 @@ use std::{env, fs, path::Path};
 const LATER: [&str; 2] = ["planner_find", "planner_page"];
 
 /// Numbers that the header gives names to, without their PLANNER_.
-const NUMBERS: [&str; 15] = [
+const NUMBERS: [&str; 16] = [
     "LEVELS_MOST",
     "ACTIONS_MOST",
     "OLD_MODEL_BYTES_MOST",
@@ -23,6 +23,7 @@ const NUMBERS: [&str; 15] = [
     "STACK_BYTES_BESIDE",
     "VALUE_BYTES",
     "PRUNE_BYTES",
+    "TOTAL_BYTES",
 ];
 
 /// The first number behind the name in its `#define`.

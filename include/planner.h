@@ -24,6 +24,7 @@
  * 21       the multipliers do not show that no state takes the path
  * 22       the path is empty, has a byte other than 0 and 1 or leaves the diagram, or has not a multiplier for each test
  * 23       the change of rewards is below zero
+ * 26       two sites whose weight totals W or whose states' denominators differ
  */
 #ifndef PLANNER_H
 #define PLANNER_H
@@ -59,6 +60,7 @@ extern "C" {
 /* The bytes of each answer. */
 #define PLANNER_SOLVE_BYTES ((size_t)8)
 #define PLANNER_VALUE_BYTES ((size_t)24)
+#define PLANNER_TOTAL_BYTES ((size_t)28)
 #define PLANNER_WORTH_BYTES ((size_t)24)
 #define PLANNER_NAME_BYTES ((size_t)24)
 #define PLANNER_LISTING_BYTES ((size_t)8)
@@ -226,6 +228,35 @@ uint32_t planner_prune(const uint8_t *model, size_t model_len, int64_t *nodes, s
                        uint32_t *stages, size_t stage_words, uint32_t *work, size_t work_words, uint32_t stage,
                        const uint8_t *turns, size_t turns_len, const int32_t *multipliers, size_t multipliers_len,
                        uint8_t *out, size_t out_len);
+
+/* Two sites that share no water and no condition, as one: both actions and the best expected total, with so many steps left to
+ * both. Each side has its model, the tables that planner_solve filled for it, and its state; W and d must be the same. One
+ * model may stand on both sides, at two states.
+ * Answer: place u32, first action u32, second action u32, low word u64, high word i64. The total is
+ * (high * 2^64 + low) / (d * W^((n1 + n2) * steps)). It is none where either side has no value: the number, both words and
+ * both actions are then 0.
+ * Refusals in order: those of planner_value for the first side, then those for the second; 26; 17; 11, place 0, where the
+ * numerator lies outside the two words. */
+uint32_t planner_total(const uint8_t *model1, size_t model1_len, const int64_t *nodes1, size_t node_words1,
+                       const uint32_t *stages1, size_t stage_words1, uint32_t mask1, int32_t l11, int32_t l12, int32_t l13,
+                       int32_t l14, int32_t l15, int32_t l16, int32_t l17, int32_t l18, int32_t d1,
+                       const uint8_t *model2, size_t model2_len, const int64_t *nodes2, size_t node_words2,
+                       const uint32_t *stages2, size_t stage_words2, uint32_t mask2, int32_t l21, int32_t l22, int32_t l23,
+                       int32_t l24, int32_t l25, int32_t l26, int32_t l27, int32_t l28, int32_t d2,
+                       uint32_t steps, uint8_t *out, size_t out_len);
+
+static inline uint32_t planner_total_at(const uint8_t *model1, size_t model1_len, const int64_t *nodes1, size_t node_words1,
+                                        const uint32_t *stages1, size_t stage_words1, const struct planner_state *state1,
+                                        const uint8_t *model2, size_t model2_len, const int64_t *nodes2, size_t node_words2,
+                                        const uint32_t *stages2, size_t stage_words2, const struct planner_state *state2,
+                                        uint32_t steps, uint8_t *out, size_t out_len)
+{
+    const int32_t *l = state1->level, *k = state2->level;
+    return planner_total(model1, model1_len, nodes1, node_words1, stages1, stage_words1, state1->mask, l[0], l[1], l[2], l[3],
+                         l[4], l[5], l[6], l[7], state1->denominator, model2, model2_len, nodes2, node_words2, stages2,
+                         stage_words2, state2->mask, k[0], k[1], k[2], k[3], k[4], k[5], k[6], k[7], state2->denominator,
+                         steps, out, out_len);
+}
 
 #ifdef __cplusplus
 }

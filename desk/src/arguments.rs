@@ -18,6 +18,7 @@ pub struct Along {
 pub struct Arguments {
     pub words: Vec<String>,
     pub at: Option<String>,
+    pub and: Option<String>,
     pub nodes: Option<usize>,
     pub seconds: Option<u64>,
     pub along: Vec<Along>,
@@ -58,6 +59,7 @@ impl Arguments {
     ) -> Result<(), String> {
         match word {
             "--at" => self.at = Some(behind(word, rest)?),
+            "--and" => self.and = Some(behind(word, rest)?),
             "--nodes" => self.nodes = Some(nodes(&behind(word, rest)?)?),
             "--seconds" => self.seconds = Some(seconds(&behind(word, rest)?)?),
             "-o" => self.output = Some(behind(word, rest)?),

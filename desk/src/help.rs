@@ -12,6 +12,8 @@ usage: ./plan MODEL HORIZON [--nodes N]                   the plan of a site, as
        ./plan --peaks MODEL HORIZON                       the nodes that loading and each action need
        ./plan prune MODEL HORIZON                         the nodes without the paths that no state can take
        ./plan --sure E MODEL STEPS STATE                  whether the best action stays so where rewards move by up to E
+       ./plan --two MODEL MODEL STEPS --at STATE --and STATE
+                                                          two sites that share nothing: both actions, one total
        ./plan --to-new OLD NEW                            a model of the old form, which begins with 01, made new
        ./plan --to-old NEW OLD                            and the way back
        ./plan VERB --help                                 more about a verb
@@ -83,6 +85,20 @@ Works the state out with so many steps left, 1 to 8, and prints the best action,
 next one. It is sure if it leads by more than 2 x STEPS x E: then it is best, alone, for every model with the same chances, next
 levels, end worth and forbidden leaves whose rewards differ nowhere by more than E. The value moves by at most STEPS x E, sure or
 not. E is a whole number, 0 or more. The time grows steeply with the steps.
+";
+
+pub const TWO: &str = "\
+usage: ./plan --two MODEL MODEL STEPS [--at STATE] [--and STATE] [--nodes N] [--raw]
+
+Two sites that share no water and no condition, as one: for each number of steps up to STEPS, 1 to 8, the best expected total
+of both and the action of each. Both models have one weight total W, which is refused with 26 otherwise; the same model may
+stand on both sides.
+
+  --at STATE    the first site's state, as for ./plan; --and STATE the second's. Levels and conditions that are not named are 0
+                and do not hold. The levels of both are brought over one denominator
+  --nodes N     as for ./plan, for each site's tables
+
+A total is 'none' where either site has none.
 ";
 
 pub const TO_NEW: &str = "\

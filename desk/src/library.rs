@@ -2,8 +2,8 @@
 
 use crate::state::State;
 use crate::widths::{
-    refusal, NAME_BYTES, OLD_MODEL_BYTES_MOST, PAIR_BYTES, PEAK_WORDS, PRUNE_BYTES, STAGE_WORDS, TO_NEW_MODEL_BYTES,
-    VALUE_BYTES,
+    refusal, NAME_BYTES, OLD_MODEL_BYTES_MOST, PAIR_BYTES, PEAK_WORDS, PRUNE_BYTES, STAGE_WORDS, TOTAL_BYTES,
+    TO_NEW_MODEL_BYTES, VALUE_BYTES,
 };
 
 /// A refusal: its number and its place.
@@ -66,6 +66,13 @@ extern "C" {
         model: Bytes, model_len: usize, nodes: *mut i64, node_words: usize, stages: *mut u32, stage_words: usize,
         work: *mut u32, work_words: usize, stage: u32, turns: Bytes, turns_len: usize,
         multipliers: *const i32, multipliers_len: usize, out: Answer, out_len: usize,
+    ) -> u32;
+    fn planner_total(
+        model1: Bytes, model1_len: usize, nodes1: *const i64, node_words1: usize, stages1: *const u32, stage_words1: usize,
+        mask1: u32, l11: i32, l12: i32, l13: i32, l14: i32, l15: i32, l16: i32, l17: i32, l18: i32, d1: i32,
+        model2: Bytes, model2_len: usize, nodes2: *const i64, node_words2: usize, stages2: *const u32, stage_words2: usize,
+        mask2: u32, l21: i32, l22: i32, l23: i32, l24: i32, l25: i32, l26: i32, l27: i32, l28: i32, d2: i32,
+        steps: u32, out: Answer, out_len: usize,
     ) -> u32;
     #[cfg(planner_find)]
     fn planner_find(model: Bytes, model_len: usize, name: Bytes, name_len: usize, out: Answer, out_len: usize) -> u32;
@@ -234,6 +241,40 @@ pub fn prune(
         )
     };
     judged(number, out).map(|_| ())
+}
+
+/// A model with its tables, and a state of it.
+pub struct Side<'a> {
+    pub model: &'a [u8],
+    pub nodes: &'a [i64],
+    pub stages: &'a [u32; STAGE_WORDS],
+    pub state: &'a State,
+}
+
+/// A total's numerator and both actions.
+pub struct Total {
+    pub actions: [u32; 2],
+    pub numerator: i128,
+}
+
+/// Two sites as one.
+#[rustfmt::skip]
+pub fn total(one: &Side, two: &Side, steps: u32) -> Result<Total, Refusal> {
+    let mut out = [0; TOTAL_BYTES];
+    let ([l1, l2, l3, l4, l5, l6, l7, l8], [k1, k2, k3, k4, k5, k6, k7, k8]) = (one.state.numerators, two.state.numerators);
+    // SAFETY: as said above.
+    let number = unsafe {
+        planner_total(
+            one.model.as_ptr(), one.model.len(), one.nodes.as_ptr(), one.nodes.len(), one.stages.as_ptr(), one.stages.len(),
+            one.state.mask, l1, l2, l3, l4, l5, l6, l7, l8, one.state.denominator,
+            two.model.as_ptr(), two.model.len(), two.nodes.as_ptr(), two.nodes.len(), two.stages.as_ptr(), two.stages.len(),
+            two.state.mask, k1, k2, k3, k4, k5, k6, k7, k8, two.state.denominator, steps, out.as_mut_ptr(), out.len(),
+        )
+    };
+    let out = judged(number, out)?;
+    let (low, high) = (number_at(&out, 12, 8), number_at(&out, 20, 8) as i64);
+    let actions = [4, 8].map(|place| number_at(&out, place, 4) as u32);
+    Ok(Total { actions, numerator: i128::from(high) << 64 | i128::from(low) })
 }
 
 /// The action that carries a name.

@@ -401,6 +401,10 @@ fn of_call(number: u32) -> Told {
             "compare it with the plan: './plan MODEL HORIZON' has the nodes",
         ),
         refusal::CHANGE => told("rewards move by 0 or more", "ask for a change that is not below zero"),
+        refusal::SCALES => told(
+            "two sites have one weight total W and their states one denominator",
+            "write one of the models over the other's W: a chance w of W is 10 w of 10 W",
+        ),
         _ => told("not known here", "see include/planner.h"),
     }
 }

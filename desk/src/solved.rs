@@ -52,6 +52,24 @@ impl<'a> Solved<'a> {
         Ok((Fraction::new(Whole::from(reading.numerator), denominator), reading.action))
     }
 
+    /// The total of this site and another with so many steps left, and both actions: 0 and `NO_ACTION`s where it is none.
+    pub fn total(
+        &self,
+        steps: usize,
+        state: &State,
+        other: &Solved,
+        other_state: &State,
+    ) -> Result<(Fraction, [u32; 2]), Refusal> {
+        let total = library::total(&self.side(state), &other.side(other_state), steps as u32)?;
+        let scale = &self.scale(steps) * &other.scale(steps);
+        let denominator = &Whole::from(i64::from(state.denominator)) * &scale;
+        Ok((Fraction::new(Whole::from(total.numerator), denominator), total.actions))
+    }
+
+    fn side<'b>(&'b self, state: &'b State) -> library::Side<'b> {
+        library::Side { model: self.model, nodes: &self.nodes, stages: &self.stages, state }
+    }
+
     /// W^(n*h): what a stage's values are multiplied by.
     pub fn scale(&self, steps: usize) -> Whole {
         let weight = Whole::from(self.site.weight as i64);

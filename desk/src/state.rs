@@ -85,6 +85,23 @@ impl State {
         Some(State { mask, numerators, denominator: common.to_i32()? })
     }
 
+    /// Both over one denominator, the least that does, if all fit.
+    pub fn together(&self, other: &State) -> Option<(State, State)> {
+        let (d, e) = (i64::from(self.denominator), i64::from(other.denominator));
+        let shared = (1..=d.min(e)).rev().find(|shared| d % shared == 0 && e % shared == 0)?;
+        Some((self.times(e / shared)?, other.times(d / shared)?))
+    }
+
+    /// The same levels with numerators and denominator so many times as large.
+    fn times(&self, factor: i64) -> Option<State> {
+        let scaled = |number: i32| i32::try_from(i64::from(number).checked_mul(factor)?).ok();
+        let mut state = State { denominator: scaled(self.denominator)?, ..self.clone() };
+        for numerator in &mut state.numerators {
+            *numerator = scaled(*numerator)?;
+        }
+        Some(state)
+    }
+
     /// MASK L1 .. D; levels that have no word are 0.
     pub fn read(words: &[String]) -> Result<State, String> {
         let number = |word: &String| word.parse::<i32>().map_err(|_| format!("'{word}' is no whole number of 32 bits"));
@@ -126,6 +143,10 @@ mod tests {
         assert_eq!(read("1 78 -1 0 0 0 0 0 0 4"), Ok(state));
         assert_eq!(read("0 1 2 3 4 5 6 7 8 9").map(|state| (state.numerators[7], state.denominator)), Ok((8, 9)));
         assert!(Given::read("L8=1 L7=-1/2").is_ok() && Given::read("L9=1").is_err());
+        let (half, third) = (read("0 1 2").unwrap(), read("0 1 3").unwrap());
+        let (one, two) = half.together(&third).unwrap();
+        assert_eq!((one.numerators[0], two.numerators[0], one.denominator, two.denominator), (3, 2, 6, 6));
+        assert_eq!(read("0 1 65536").unwrap().together(&read("0 1 65535").unwrap()), None);
         assert!(Given::read("L1=3000000000").unwrap().state().is_err());
         assert!(Given::read("L1=1/65537 L2=1/65539").unwrap().state().is_err());
     }

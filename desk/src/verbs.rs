@@ -32,6 +32,7 @@ pub fn run(given: &[String], out: &mut Vec<u8>) -> Done {
         "--peaks" => verb(rest, &["--nodes", "--raw"], help::PEAKS, out, peaks),
         "prune" | "--prune" => verb(rest, &PRUNE_OPTIONS, help::PRUNE, out, prune),
         "--sure" => verb(rest, &["--at", "--raw"], help::SURE, out, sure),
+        "--two" => verb(rest, &["--at", "--and", "--nodes", "--raw"], help::TWO, out, two),
         "help" => helped(rest, out),
         _ => verb(given, &["--at", "--nodes", "--raw", "--page"], help::PLAN, out, plan),
     }
@@ -272,6 +273,50 @@ fn values(solved: &Solved, state: &State) -> Result<Vec<u8>, Refusal> {
         text += &format!("{:>5}  {:>value$}  {:>decimal$}  {}\n", row[0], row[1], row[2], row[3]);
     }
     Ok(text.into_bytes())
+}
+
+/// Two sites that share nothing, as one: for each number of steps the total and both actions.
+fn two(arguments: &Arguments, out: &mut Vec<u8>) -> Done {
+    let [one, other, steps] = arguments.words.as_slice() else {
+        return Err(usage("two models and a number of steps are needed"));
+    };
+    let steps: u32 = steps.parse().map_err(|_| Failure::Usage(format!("'{steps}' is no number of steps")))?;
+    let asked = |path| Ok(Asked { arguments, path, model: load(path)?, horizon: steps });
+    let (first, second) = (asked(one)?, asked(other)?);
+    let state = |at: &Option<String>| Given::read(at.as_deref().unwrap_or("")).and_then(|given| given.state());
+    let (at, and) = (state(&arguments.at).map_err(Failure::Usage)?, state(&arguments.and).map_err(Failure::Usage)?);
+    let (at, and) = at.together(&and).ok_or(usage("over one denominator the levels do not fit 32 bits"))?;
+    let solved = first.solve(Some(&at), out)?;
+    let others = second.solve(Some(&and), out)?;
+    // A refusal of one side is told of it; what is left concerns both.
+    solved.value(1, &at).map_err(|refused| first.refuse(refused, None, Some(&at), out))?;
+    others.value(1, &and).map_err(|refused| second.refuse(refused, None, Some(&and), out))?;
+    let text = total_lines((&solved, &at), (&others, &and)).map_err(|refused| {
+        let path = format!("{one} and {other}");
+        refuse(arguments, refused, &Subject { path: &path, ..subject(one, &first.model) }, out)
+    })?;
+    out.extend(text.bytes());
+    Ok(())
+}
+
+fn total_lines((one, at): (&Solved, &State), (two, and): (&Solved, &State)) -> Result<String, Refusal> {
+    let mut rows = vec![["steps", "total", "decimal", "first", "second"].map(str::to_string)];
+    for steps in 1..=one.horizon {
+        let (total, actions) = one.total(steps, at, two, and)?;
+        let [exact, decimal] = match actions {
+            [NO_ACTION, NO_ACTION] => ["none", "-"].map(str::to_string),
+            _ => [total.to_string(), total.decimal(PLACES)],
+        };
+        rows.push([steps.to_string(), exact, decimal, one.action(actions[0])?, two.action(actions[1])?]);
+    }
+    let words = |solved: &Solved, state: &State| state.words(solved.site.levels, solved.site.conditions);
+    let width = |column: usize| rows.iter().map(|row| row[column].len()).max().unwrap_or(0);
+    let (total, decimal, first) = (width(1), width(2), width(3));
+    let mut text = format!("the first at {}\nthe second at {}\n", words(one, at), words(two, and));
+    for row in &rows {
+        text += &format!("{:>5}  {:>total$}  {:>decimal$}  {:first$}  {}\n", row[0], row[1], row[2], row[3], row[4]);
+    }
+    Ok(text)
 }
 
 /// The needed nodes of loading and of each action, and their share of the largest of these, to the nearest percent.

@@ -1584,6 +1584,190 @@ static void paths_refused(void)
     path_refused(&p, 10, 0);
 }
 
+/* ---- two sites together */
+
+/* The rain of document 01: one condition, one action that earns the level, over W 10. Its tables for two steps. */
+static model rain(void)
+{
+    model m = {{0}, 0};
+    command(&m, "\x02\x01\x01\x01\x00\x0a", SITE_BYTES);
+    linear(&m, 0x10, 0, 7);
+    command(&m, "\x21\x01\x00\x01", 4);
+    linear(&m, 0x10, 1, 0);
+    command(&m, "\x20\x01\x00", 3);
+    linear(&m, 0x10, 1, -150);
+    linear(&m, 0x10, 1, -50);
+    command(&m, "\x11\x05\x22\x01\x00\x01\xff", 7);
+    return m;
+}
+
+/* Both sides: the pond with W 10 at 20, and the rain at 200. */
+typedef struct two {
+    call first;
+    call second;
+} two;
+
+static two both_usual(void)
+{
+    two t = {usual(), usual()};
+    t.first.m.bytes[SITE_BYTES - 1] = 10;
+    t.second.m = rain();
+    memset(t.second.nodes, 0, sizeof t.second.nodes);
+    memset(t.second.stages, 0, sizeof t.second.stages);
+    uint8_t answer[PLANNER_SOLVE_BYTES];
+    uint32_t work[PLANNER_WORK_WORDS(40)], peaks[PLANNER_PEAK_WORDS];
+    int64_t nodes[PLANNER_NODE_WORDS(40)];
+    expect(planner_solve(t.second.m.bytes, t.second.m.len, 2, nodes, PLANNER_NODE_WORDS(40), t.second.stages, 8, work,
+                         PLANNER_WORK_WORDS(40), peaks, PLANNER_PEAK_WORDS, answer, sizeof answer) == 0,
+           "the rain is solved");
+    memcpy(t.second.nodes, nodes, sizeof t.second.nodes);
+    t.second.state.level[0] = 200;
+    return t;
+}
+
+static const int64_t *nodes_of(const call *c)
+{
+    return c->node_words == 0 ? NULL : c->nodes;
+}
+
+static const uint32_t *stages_of(const call *c)
+{
+    return c->stage_words == 0 ? NULL : c->stages;
+}
+
+/* With every length of `out`: a short one yields to every refusal but 11. */
+static void total_is(const two *given, uint32_t number, uint32_t place, uint32_t first, uint32_t second, uint64_t low,
+                     int64_t high)
+{
+    two t = *given;
+    const call *a = &t.first, *b = &t.second;
+    lent out;
+    uint8_t answer[PLANNER_TOTAL_BYTES];
+    put(answer, place, 4);
+    put(answer + 4, first, 4);
+    put(answer + 8, second, 4);
+    put(answer + 12, low, 8);
+    put(answer + 20, (uint64_t)high, 8);
+    for (size_t len = 0; len <= PLANNER_TOTAL_BYTES + 3; len++) {
+        uint8_t *start = lend(&out, len);
+        int fits = len >= PLANNER_TOTAL_BYTES, yields = number == 0 || number == 11;
+        uint32_t r = planner_total_at(a->m.bytes, a->m.len, nodes_of(a), a->node_words, stages_of(a), a->stage_words, &a->state,
+                                      b->m.bytes, b->m.len, nodes_of(b), b->node_words, stages_of(b), b->stage_words, &b->state,
+                                      a->steps, len == 0 ? NULL : start, len);
+        expect(r == (fits || !yields ? number : 17), "number of a total");
+        expect(marked_beside(&out, 0, fits ? sizeof answer : 0), "no byte beside a total's answer is written");
+        expect(!fits || holds_bytes(&out, 0, answer, sizeof answer), "a total's answer");
+        expect(memcmp(&t, given, sizeof t) == 0, "a total leaves models and tables as they are");
+    }
+}
+
+static void total_refused(const two *t, uint32_t number, uint32_t place)
+{
+    total_is(t, number, place, 0, 0, 0, 0);
+}
+
+static void totals(void)
+{
+    /* 100 at the pond is 100 * 10^2 over 10^2, and the rain's 28,000 stays: the pond has no condition. */
+    two t = both_usual();
+    total_is(&t, 0, 0, 2, 1, 38000, 0);
+    two turned = {t.second, t.first};
+    turned.first.steps = 2;
+    total_is(&turned, 0, 0, 1, 2, 38000, 0);
+    /* The same model twice, in two states. */
+    turned.first = t.first;
+    turned.second = t.first;
+    turned.second.state.level[0] = 10;
+    total_is(&turned, 0, 0, 2, 1, 150, 0);
+    /* Below zero. */
+    t.second.state.level[0] = -1000;
+    total_is(&t, 0, 0, 2, 1, UINT64_MAX - 201999, -1);
+    /* None on either side: both actions and both words are 0. */
+    t = both_usual();
+    memset(t.first.nodes, 0, sizeof t.first.nodes);
+    t.first.nodes[0] = 3;
+    t.first.stages[1] = 1;
+    total_is(&t, 0, 0, 0, 0, 0, 0);
+    two other = {t.second, t.first};
+    other.first.steps = 2;
+    total_is(&other, 0, 0, 0, 0, 0, 0);
+}
+
+/* One leaf that reads coefficient * (2^31 - 1) + constant. */
+static void leaf_read(call *c, int64_t coefficient, int64_t constant)
+{
+    memset(c->nodes, 0, sizeof c->nodes);
+    c->nodes[L1] = coefficient;
+    c->nodes[CONSTANT] = constant;
+    c->nodes[HIGH] = 1;
+    for (int i = 0; i < 8; i++)
+        c->stages[i] = 1;
+    c->state.level[0] = INT32_MAX;
+}
+
+/* Tables that no solve left. The pond has no condition and the rain one; with W 64 and 8 steps the first numerator is
+ * multiplied by 2^48, the second is not. */
+static void totals_at_the_ends(void)
+{
+    two t = both_usual();
+    t.first.steps = 8;
+    t.first.m.bytes[SITE_BYTES - 1] = 64;
+    t.second.m.bytes[SITE_BYTES - 1] = 64;
+    /* 2^79 = (2^31 - 1) * (2^48 + 2^17) + 2^17: times 2^48 it is 2^127, outside, and the second brings it back. */
+    leaf_read(&t.first, ((int64_t)1 << 48) + ((int64_t)1 << 17), (int64_t)1 << 17);
+    leaf_read(&t.second, 0, -1);
+    total_is(&t, 0, 0, 1, 1, UINT64_MAX, INT64_MAX);
+    leaf_read(&t.second, 0, 0);
+    total_refused(&t, 11, 0);
+    /* -2^127 is the other end. */
+    leaf_read(&t.first, -((int64_t)1 << 48) - ((int64_t)1 << 17), -((int64_t)1 << 17));
+    total_is(&t, 0, 0, 1, 1, 0, INT64_MIN);
+    leaf_read(&t.second, 0, -1);
+    total_refused(&t, 11, 0);
+    leaf_read(&t.second, 0, 1);
+    total_is(&t, 0, 0, 1, 1, 1, INT64_MIN);
+    /* None comes before 11, and 26 before none. */
+    leaf_read(&t.second, 0, 0);
+    t.second.nodes[0] = 3;
+    t.second.nodes[HIGH] = 0;
+    total_is(&t, 0, 0, 0, 0, 0, 0);
+    t.second.state.denominator = 2;
+    total_refused(&t, 26, 0);
+}
+
+/* All of the first's refusals, then the second's, then 26. */
+static void totals_refused(void)
+{
+    two t = both_usual();
+    t.second.state.denominator = 2;
+    total_refused(&t, 26, 0);
+    t.second.state.denominator = 1;
+    t.first.m.bytes[SITE_BYTES - 1] = 9;
+    total_refused(&t, 26, 0);
+    t.second.nodes[(t.second.stages[1] - 1) * NODE] = 4;
+    total_refused(&t, 14, 0);
+    t.second.stages[1] = 0;
+    total_refused(&t, 15, 0);
+    t.second.state.mask = 2;
+    total_refused(&t, 13, 0);
+    t.second.m.bytes[0] = 1;
+    total_refused(&t, 3, 0);
+    t.second.stage_words = 7;
+    total_refused(&t, 10, 0);
+    t.first.nodes[6 * NODE] = 4;
+    total_refused(&t, 14, 0);
+    t.first.stages[1] = 0;
+    total_refused(&t, 15, 0);
+    t.first.state.denominator = 0;
+    total_refused(&t, 13, 0);
+    t.first.m.len--;
+    total_refused(&t, 2, (uint32_t)t.first.m.len);
+    t.first.steps = 9;
+    total_refused(&t, 9, 0);
+    t.first.stage_words = 0;
+    total_refused(&t, 10, 0);
+}
+
 int main(void)
 {
     values_read();
@@ -1613,6 +1797,9 @@ int main(void)
     paths_cut();
     paths_without_room();
     paths_refused();
+    totals();
+    totals_at_the_ends();
+    totals_refused();
     printf("exports: %u checks\n", checks);
     return 0;
 }

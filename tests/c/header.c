@@ -62,6 +62,9 @@ int main(void)
     const int64_t nodes[12] = {0, 1, 2, 3, 4, 5, 6, 7, 8, 9, 1, 0};
     const uint32_t stages[8] = {1, 0, 0, 0, 0, 0, 0, 0};
     uint8_t out[PLANNER_VALUE_BYTES], other[PLANNER_VALUE_BYTES], text[PLANNER_PAGE_TEXT_BYTES(1) + 1];
+    /* 8 * 1 and 9 * 2 are 26, with the 580 606. */
+    struct planner_state t = {0, {0, 0, 0, 0, 0, 0, 0, 1}, 2};
+    uint8_t both[PLANNER_TOTAL_BYTES], other_both[PLANNER_TOTAL_BYTES];
     uint32_t r, q;
     int good = 1;
     write_model();
@@ -80,6 +83,10 @@ int main(void)
     q = planner_page(model, len, 1, nodes, 12, stages, 8, 0, 3, 5, 7, 11, 13, 17, 19, 23, 2, text, sizeof text, 0, other,
                      sizeof other);
     good &= same("page", r, q, out, other, PLANNER_PAGE_BYTES) && strstr((const char *)text, " 290 ") != NULL;
+    r = planner_total_at(model, len, nodes, 12, stages, 8, &s, model, len, nodes, 12, stages, 8, &t, 1, both, sizeof both);
+    q = planner_total(model, len, nodes, 12, stages, 8, 0, 3, 5, 7, 11, 13, 17, 19, 23, 2, model, len, nodes, 12, stages, 8, 0, 0,
+                      0, 0, 0, 0, 0, 0, 1, 2, 1, other_both, sizeof other_both);
+    good &= same("total", r, q, both, other_both, sizeof both) && both[4] == 1 && both[8] == 1 && both[12] == 606 % 256;
     good &= planner_validate(model, len).number == 0;
     printf("header: %s\n", good ? "as it should be" : "FAILED");
     return !good;

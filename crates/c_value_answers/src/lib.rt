@@ -25,7 +25,8 @@ fn bits(z: i64) -> u64
     m
 }
 
-fn put_words(out: &mut [u8], at: usize, low: u64, high: i64) -> usize
+// Low word, high word.
+pub fn put_words(out: &mut [u8], at: usize, low: u64, high: i64) -> usize
     requires { ⌜ at + 16 ≤ length (now out) ⌝ }
     ensures { λ r. ⌜ PutAt (now (out .entry)) at (word-bytes low high) r (now (out .exit)) ⌝ }
 {

@@ -7,3 +7,4 @@ pub mod pages; // pages.rt: pages
 pub mod conversions; // conversions.rt: models in the other form
 pub mod paths; // paths.rt: paths that no state can take
 pub mod prices; // prices.rt: whether an action stays best where prices move
+pub mod totals; // totals.rt: two sites together

@@ -66,7 +66,7 @@ fn divided_by_power(x: Whole, w: u32, k: u32) -> Whole
 }
 
 // The whole number that a numerator's words hold.
-fn from_words(x: Numerator) -> Whole
+pub fn from_words(x: Numerator) -> Whole
     ensures { λ r. ⌜ whole-as r ≡ number x ⌝ }
 {
     let low = x.low;

@@ -1,6 +1,8 @@
 //! What each C function has to return and to leave, by the second program.
 
-use reference::{find, listing, name, page, prune, solve, sure, value, worth, Outcome, Reading, Refusal, State};
+use reference::{
+    find, listing, name, page, prune, solve, sure, total, value, worth, Outcome, Reading, Refusal, Side, State, Total,
+};
 
 /// The answer's bytes, or 17 for a short `out`, where an earlier refusal keeps its number (decision 97).
 fn answer(number: u32, bytes: Vec<u8>, out: &mut [u8]) -> u32 {
@@ -150,4 +152,12 @@ pub fn pruned(
         }
         Err(Refusal { number, place }) => answer(number, words(&[place]), out),
     }
+}
+
+pub fn totalled(first: Side, second: Side, steps: u32, out: &mut [u8]) -> u32 {
+    let Total { number, place, actions: [one, two], low, high } = total(first, second, steps);
+    let mut bytes = words(&[place, one, two]);
+    bytes.extend(low.to_le_bytes());
+    bytes.extend(high.to_le_bytes());
+    answer(number, bytes, out)
 }

@@ -1,6 +1,6 @@
 //! Compares every outcome of libplanner.a with the second program: numbers, places, all lent words, peaks too, values,
-//! names and actions found by them, listings, pages, models of the other form, paths cut off, plain working, and whether
-//! actions are sure. See tests/README.md for the link line.
+//! names and actions found by them, listings, pages, models of the other form, paths cut off, totals of two sites, plain
+//! working, and whether actions are sure. See tests/README.md for the link line.
 
 mod conversion;
 mod expected;
@@ -12,6 +12,7 @@ mod planner;
 mod planner;
 mod pruning;
 mod speed;
+mod totals;
 
 use models::{
     chain, damaged, deep, dry_inlet, mixed, near_limit, of_length, pond, pond_kept, rain, rain_tanks_kept, random,
@@ -40,6 +41,8 @@ struct Calls {
     cut: u64,
     /// Actions that were sure.
     sure: u64,
+    /// Totals of two sites that were not none.
+    together: u64,
     model: Vec<u8>,
     round: u64,
 }
@@ -461,6 +464,7 @@ fn one_round(calls: &mut Calls, rng: &mut Rng) {
         let steps = any_horizon(prices);
         compare_sure(calls, prices, steps);
     }
+    totals::round(calls, &mut Rng(rng.0 ^ 0x0E), solved.as_ref());
     let is_solved = solved.is_some();
     let mut tables = solved.unwrap_or_else(|| Tables::full_of_anything(rng, [10 * NODE_WORDS, STAGES, 0, 0]));
     for _ in 0..if is_solved { 6 } else { 2 } {
@@ -604,7 +608,8 @@ fn rounds(calls: &mut Calls, count: u64, seed: u64, mut round: impl FnMut(&mut C
 }
 
 fn compare(mode: &str, count: u64, seed: u64) {
-    let mut calls = Calls { by_number: [0; NUMBERS_GIVEN], none: 0, cut: 0, sure: 0, model: Vec::new(), round: 0 };
+    let mut calls =
+        Calls { by_number: [0; NUMBERS_GIVEN], none: 0, cut: 0, sure: 0, together: 0, model: Vec::new(), round: 0 };
     let start = Instant::now();
     let lengths = [NODE_WORDS * 2_000 + 3, STAGES, WORK_WORDS * 2_000 + 5, PEAK_WORDS + 1];
     let mut lent = Tables::full_of_anything(&mut Rng(seed), lengths);
@@ -627,11 +632,12 @@ fn compare(mode: &str, count: u64, seed: u64) {
     println!("{mode}: {total} calls of {library}, all as expected, seed {seed}, {time:.1} s");
     let numbers: Vec<String> =
         calls.by_number.iter().enumerate().map(|(number, count)| format!("{number}:{count}")).collect();
-    let (none, cut, sure) = (calls.none, calls.cut, calls.sure);
+    let (none, cut, sure, together) = (calls.none, calls.cut, calls.sure, calls.together);
     println!(
         "by number {}; none was read {none} times, {cut} paths were cut off, {sure} actions were sure",
         numbers.join(" ")
     );
+    println!("two sites came to a total {together} times");
 }
 
 fn run(args: &[String]) {

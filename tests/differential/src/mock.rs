@@ -1,10 +1,10 @@
 //! Stands in for the library, so that the comparison can be built and tried without it. A fault can be asked for with
-//! PLANNER_FAULT=function (solve, value, name, worth, sure, listing, find, page, to_new, to_old or prune; to_new_buffer
+//! PLANNER_FAULT=function (solve, value, name, worth, sure, listing, find, page, to_new, to_old, prune or total; to_new_buffer
 //! and to_old_buffer spoil the last byte of the lent buffer, solve_peaks the last word of the peaks, prune_tables the last one
 //! of the nodes); the comparison has to find it.
 
 use crate::expected;
-use reference::State;
+use reference::{Side, State};
 use std::ops::BitXorAssign;
 use std::sync::atomic::{AtomicU32, Ordering};
 
@@ -121,4 +121,8 @@ pub fn prune(
     let number = expected::pruned(model, nodes, stages, work, stage, turns, multipliers, out);
     spoil_last("prune_tables", nodes);
     spoil("prune", number, out)
+}
+
+pub fn total(first: Side, second: Side, steps: u32, out: &mut [u8]) -> u32 {
+    spoil("total", expected::totalled(first, second, steps, out), out)
 }

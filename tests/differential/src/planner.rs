@@ -1,6 +1,6 @@
 //! The C interface of the library (decision 97), and safe calls to it.
 
-use reference::State;
+use reference::{Side, State};
 
 #[repr(C)]
 struct Judged {
@@ -269,6 +269,33 @@ pub fn prune(
             m.as_ptr(), m.len(), nodes.as_mut_ptr(), nodes.len(), stages.as_mut_ptr(), stages.len(),
             work.as_mut_ptr(), work.len(), stage, turns.as_ptr(), turns.len(), multipliers.as_ptr(), multipliers.len(),
             out.as_mut_ptr(), out.len(),
+        )
+    }
+}
+
+#[rustfmt::skip]
+extern "C" {
+    fn planner_total(
+        model1: *const u8, model1_len: usize, nodes1: *const i64, node_words1: usize, stages1: *const u32, stage_words1: usize,
+        mask1: u32, l11: i32, l12: i32, l13: i32, l14: i32, l15: i32, l16: i32, l17: i32, l18: i32, d1: i32,
+        model2: *const u8, model2_len: usize, nodes2: *const i64, node_words2: usize, stages2: *const u32, stage_words2: usize,
+        mask2: u32, l21: i32, l22: i32, l23: i32, l24: i32, l25: i32, l26: i32, l27: i32, l28: i32, d2: i32,
+        steps: u32, out: *mut u8, out_len: usize,
+    ) -> u32;
+}
+
+#[rustfmt::skip]
+pub fn total(first: Side, second: Side, steps: u32, out: &mut [u8]) -> u32 {
+    let State { mask, nums: [l1, l2, l3, l4, l5, l6, l7, l8], d } = first.state;
+    let State { mask: mask2, nums: [k1, k2, k3, k4, k5, k6, k7, k8], d: e } = second.state;
+    // SAFETY: as said above.
+    unsafe {
+        planner_total(
+            first.model.as_ptr(), first.model.len(), first.nodes.as_ptr(), first.nodes.len(),
+            first.stages.as_ptr(), first.stages.len(), mask, l1, l2, l3, l4, l5, l6, l7, l8, d,
+            second.model.as_ptr(), second.model.len(), second.nodes.as_ptr(), second.nodes.len(),
+            second.stages.as_ptr(), second.stages.len(), mask2, k1, k2, k3, k4, k5, k6, k7, k8, e,
+            steps, out.as_mut_ptr(), out.len(),
         )
     }
 }

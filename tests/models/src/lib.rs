@@ -112,6 +112,13 @@ pub fn pond() -> Vec<u8> {
     pond_commands().end()
 }
 
+/// The pond with another weight total: without conditions that changes nothing but the site.
+pub fn pond_of(w: u8) -> Vec<u8> {
+    let mut model = pond();
+    model[SITE_BYTES - 1] = w;
+    model
+}
+
 /// The pond with an end worth, which `write` leaves on the stack.
 pub fn pond_ending(write: impl FnOnce(&mut Writer)) -> Vec<u8> {
     let mut w = pond_commands();

@@ -4,9 +4,9 @@
 //! `widths` has the sizes of everything; `model` reads and judges the bytes, in the planner's form or in the old one,
 //! `diagram` has the rules on diagrams and `unique` their hash tables, `solve` the operations of a solve, `read` the
 //! readers of tables, `find` an action by its name, `page` the page of a state, `prune` cuts off a path, `convert` writes a
-//! model in the other form, `plain` works a state out from the written model, without diagrams, and `sure` says whether its
-//! best action stays best where rewards move. `policy` has what a policy loses, and `certificate` finds paths to cut off, for
-//! the tests; `check_hex` is for the programs in `bin`.
+//! model in the other form, `plain` works a state out from the written model, without diagrams, `sure` says whether its best
+//! action stays best where rewards move, and `total` has two sites together. `policy` has what a policy loses, and
+//! `certificate` finds paths to cut off, for the tests; `check_hex` is for the programs in `bin`.
 
 pub mod certificate;
 pub mod check_hex;
@@ -21,6 +21,7 @@ pub mod prune;
 pub mod read;
 pub mod solve;
 pub mod sure;
+pub mod total;
 mod unique;
 pub mod widths;
 
@@ -33,6 +34,7 @@ pub use prune::prune;
 pub use read::{listing, name, program, value, Reading};
 pub use solve::{solve, solve_old, solve_with_room, Outcome};
 pub use sure::sure;
+pub use total::{joined, total, Side, Total};
 
 use widths::{CONSTANT, LEVELS, NUMBERS};
 

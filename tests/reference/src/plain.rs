@@ -38,8 +38,7 @@ pub(crate) enum Without {
 /// With no step left it is the end worth, 0 where none is given (K1.5).
 pub(crate) fn worth_of_state(model: &Model, h: u32, state: &State) -> Result<(i128, u32), Without> {
     if h == 0 {
-        let worth = model.end_worth().map_or(0, |tree| evaluate(model, tree, state, 0));
-        return Ok((judged(worth)?, 0));
+        return Ok((judged(end_worth(model, state))?, 0));
     }
     // The first number that an action names, the same for all, also where its reward is forbidden.
     let power = power(model.site.w, model.site.n as u32 * h).ok_or(Without::Limits)?;
@@ -81,8 +80,7 @@ pub(crate) fn worth_of_action(
     state: &State,
     power: i64,
 ) -> Result<i128, Without> {
-    let reward = leaf(model, model.reward(action), state, 0).ok_or(Without::None)?;
-    let reward = judged(at(reward, &state.nums[..model.site.m], state.d))?;
+    let reward = judged(reward(model, action, state).ok_or(Without::None)?)?;
     let mut sum = judged(i128::from(power) * reward)?;
     let chances = chances(model, action, state);
     for setting in 0..1u32 << model.site.n {
@@ -90,11 +88,21 @@ pub(crate) fn worth_of_action(
         if weight == 0 {
             continue;
         }
-        let next = next(model, action, state, setting)?;
+        let next = next_state(model, action, state, setting).ok_or(Without::Limits)?;
         let (worth, _) = worth_of_state(model, h - 1, &next)?;
         sum = judged(sum + judged(i128::from(weight) * worth)?)?;
     }
     Ok(sum)
+}
+
+/// With no step left, times D: 0 where no end worth is given.
+pub(crate) fn end_worth(model: &Model, state: &State) -> i128 {
+    model.end_worth().map_or(0, |tree| evaluate(model, tree, state, 0))
+}
+
+/// A reward, times D; nothing where it is forbidden.
+pub(crate) fn reward(model: &Model, action: usize, state: &State) -> Option<i128> {
+    leaf(model, model.reward(action), state, 0).map(|linear| at(linear, &state.nums[..model.site.m], state.d))
 }
 
 /// The weights for yes of an action at a state.
@@ -106,13 +114,13 @@ pub(crate) fn chances(model: &Model, action: usize, state: &State) -> [i64; COND
     chances
 }
 
-/// The next state under an action and a setting of the next conditions.
-pub(crate) fn next(model: &Model, action: usize, state: &State, setting: u32) -> Result<State, Without> {
+/// The next state under an action and a setting of the next conditions, if its numerators have 32 bits.
+pub(crate) fn next_state(model: &Model, action: usize, state: &State, setting: u32) -> Option<State> {
     let mut next = State { mask: setting, nums: [0; LEVELS], d: state.d };
     for (num, &level) in next.nums.iter_mut().zip(model.nexts(action)) {
-        *num = i32::try_from(evaluate(model, level, state, setting)).map_err(|_| Without::Limits)?;
+        *num = i32::try_from(evaluate(model, level, state, setting)).ok()?;
     }
-    Ok(next)
+    Some(next)
 }
 
 /// A setting's weight, of the weights for yes.

@@ -2,7 +2,7 @@
 //! numbers are times D × W^(n×h), and exact.
 
 use crate::model::{open, Model, Refusal};
-use crate::plain::{chances, evaluate, leaf, next, weight, worth_of_action, worth_of_state, Without};
+use crate::plain::{chances, evaluate, leaf, next_state, weight, worth_of_action, worth_of_state, Without};
 use crate::solve::power;
 use crate::{at, State};
 
@@ -66,7 +66,12 @@ impl<P: Policy> Walk<'_, P> {
         state: &'a State,
     ) -> impl Iterator<Item = (i64, Result<State, Without>)> + 'a {
         let chances = chances(self.model, action, state);
-        let one = move |setting| (weight(self.model, &chances, setting), next(self.model, action, state, setting));
+        let one = move |setting| {
+            (
+                weight(self.model, &chances, setting),
+                next_state(self.model, action, state, setting).ok_or(Without::Limits),
+            )
+        };
         (0..1u32 << self.model.site.n).map(one)
     }
 

@@ -1,0 +1,1 @@
+// "Two valleys, one total", as definitions and laws: everything is in specs/.

@@ -1,0 +1,2 @@
+-- The outcome as the code holds it.
+pub mod Out

@@ -1,0 +1,20 @@
+-- `whole_wide::added_alike` meets its contract.
+use borrow.Author.Needs.{needs}
+use Rattle.whole_wide.proofs.Signs.{alike-holds}
+use Rattle.whole_wide.proofs.added_alike.Statement.{statement}
+use Rattle.whole_wide.proofs.added_alike.Tie as tie
+
+when-below-requires : tie.Need-when-below-requires
+when-below-requires c κs = search needs
+
+sum-requires : tie.Need-sum-requires
+sum-requires c κs = search needs
+
+returns : tie.Need-returns
+returns c =
+    let a = c .before .before .before .args in
+    let r = c .before .before .before .pre in
+    alike-holds (a .x) (a .y) (c .before .before .when-below .result) (c .before .sum .result) (r .0) (r .1) (r .2) (c .before .before .when-below .ensures) (c .before .sum .ensures)
+
+pub added-alike-spec : {M : Type 1} → statement M
+added-alike-spec = tie.close (tie.spec when-below-requires sum-requires returns)
