@@ -15,3 +15,6 @@ pub mod Statements
 -- ---- laws
 
 pub mod laws
+-- ---- examples
+
+pub mod Examples
