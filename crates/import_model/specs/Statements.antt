@@ -20,7 +20,7 @@ use Rattle.import_grammar.specs.laws.Viable.{Stopped}
 use Rattle.import_numbers.specs.Numbers.{numbers}
 use Rattle.import_model.specs.Commands.{text-commands}
 use Rattle.import_model.specs.Encode.{placed}
-use Rattle.import_model.specs.Meaning.{leaf-at, end-worth, text-items, text-site, text-process}
+use Rattle.import_model.specs.Meaning.{Item, item-leaf, leaf-at, end-worth, text-items, text-site, text-process}
 use Rattle.import_model.specs.Import.{model-bytes, untouched, filled-with, import-text}
 
 -- ---- the rows
@@ -69,6 +69,8 @@ pub record Follows (B : List ℕ) (t : Text) : Type 0 where
   -- "(site, names and forbidden too)": the site that is written, and all its commands as docs/ says them
   pub same-site : site-at B ≡ text-site t
   pub commands : readings B ≡ placed 0 (text-commands t)
+  -- each item is the one that gives its slot
+  pub items : (x : Item) → List·Memᴰ x (text-items t) → (e : Env) → leaf-at e (x .slot) (text-items t) ≡ item-leaf e x
   -- at every state, and every setting of the next conditions
   pub rewards : (a : ℕ) → Range 1 (text-site t .actions) a → (e : Env) → at e (action-at (model B) a .reward) ≡ leaf-at e (reward-slot a) (text-items t)
   pub chances : (a : ℕ) → Range 1 (text-site t .actions) a → (e : Env)

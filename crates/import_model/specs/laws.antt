@@ -12,5 +12,7 @@ pub mod Rows
 pub mod Decode
 -- the commands of a text fit their bytes
 pub mod Fits
+-- each item is the one that gives its slot
+pub mod Once
 -- the statements
 pub mod Statements

@@ -12,7 +12,7 @@ use Rattle.theory.specs.Widths.{levels-most, conditions-most, actions-most, wei
 use Rattle.theory.specs.Form.{new-form}
 use Rattle.theory.specs.Computation.{bind, ret, result}
 use Rattle.theory.specs.Command.{Command, site, Placed, bytes-at, readings}
-use Rattle.theory.specs.Verdict.{Site, site-of, Verdict, verdict}
+use Rattle.theory.specs.Verdict.{Site, site-of, Verdict, at-start, judged-in, verdict, verdict-in}
 use Rattle.theory.specs.Valid.{among}
 use Rattle.theory.specs.Load.{Entry, Loaded, load-one, load-on-with, load-on, model, model-of, site-at, site-in}
 use Rattle.theory.specs.Process.{Action}
@@ -34,10 +34,11 @@ use Rattle.import_model.specs.Statements.{ReadAs, NumbersFit, ImportRow,
 use Rattle.import_model.specs.Meaning.{text-items, text-site, items-site, opening-site, before-site, process-of, text-process}
 use Rattle.import_model.specs.laws.Follows.{load-all, loaded}
 use Rattle.import_model.specs.laws.Items.{Entered, Loads, text-loads}
-use Rattle.import_model.specs.laws.Decode.{readings-placed, AllFit, with-end}
+use Rattle.import_model.specs.laws.Decode.{readings-placed, AllFit, fits-and, with-end}
 use Rattle.import_model.specs.laws.Fits.{items-fit}
 use Rattle.import_model.specs.laws.Alike.{Alike, optimum-as, lowest-best-as, expected-as}
 use Rattle.import_model.specs.laws.Processes.{rewards-follow, chances-follow, levels-follow, end-follows, an-action, processes}
+use Rattle.import_model.specs.laws.Once.{once, once-first, each-once}
 use Rattle.import_model.specs.laws.Rows.{in-fit, import-rows}
 
 -- ---- a call that is not refused
@@ -90,14 +91,16 @@ unfolding placed load-on-with load-all result
 load-placed at [] s = refl
 load-placed at (c ∷ C) s = result-bind (load-one c s) (load-on (placed (at + length (command-bytes c)) C)) ∙ load-placed (at + length (command-bytes c)) C (result (load-one c s))
 
+entries-of : (t : Text) → T (not (beyond t)) → loaded-entries (model-bytes t) ≡ load-all (text-commands t) (loaded [] []) .entries
+entries-of t h = ap (λ (l : List Placed). result (load-on l (loaded [] [])) .entries) (model-readings t h) ∙ ap (λ (s : Loaded). s .entries) (load-placed 0 (text-commands t) (loaded [] []))
+
 -- what the model's bytes load, item by item
 model-entries : (t : Text) → T (not (beyond t)) → Entered (loaded-entries (model-bytes t)) (text-items t)
 unfolding load-all
 model-entries t h =
     let d = text-loads t in
     let e : loaded-entries (model-bytes t) ≡ d .entries =
-    ap (λ (l : List Placed). result (load-on l (loaded [] [])) .entries) (model-readings t h) ∙ ap (λ (s : Loaded). s .entries) (load-placed 0 (text-commands t) (loaded [] []))
-    ∙ ap (λ (C : List Command). load-all C (loaded [] []) .entries) (sym (append-nil (text-commands t))) ∙ ap (λ (s : Loaded). s .entries) (d .loads []) in
+    entries-of t h ∙ ap (λ (C : List Command). load-all C (loaded [] []) .entries) (sym (append-nil (text-commands t))) ∙ ap (λ (s : Loaded). s .entries) (d .loads []) in
     subst (λ (E : List Entry). Entered E (text-items t)) (sym e) (d .entered)
 
 -- ---- the site
@@ -172,6 +175,29 @@ site-written t ok =
     let weights = below-most byte-most (S .weights) (omega (arith, d .1)) in
     site-capped t ∙ (λ i. site-of (levels i) (conditions i) (actions i) (weights i))
 
+-- ---- each item
+
+rest-fits : {C : List Command} (c : Command) (R : List Command) → C ≡ c ∷ R → AllFit C → AllFit R
+rest-fits c R e f = behind (subst AllFit e f)
+  where
+    behind : AllFit (c ∷ R) → AllFit R
+    behind (fits-and _ g h) = h
+
+commands-start : (t : Text) → Starts (commands-of t) (site-command (text-site t))
+unfolding commands-of text-site
+commands-start (entire I e) = items-start I
+
+entries-once : (t : Text) → T (not (beyond t)) → verdict (model-bytes t) .number ≡ 0 → T (once (loaded-entries (model-bytes t)))
+unfolding verdict-in
+entries-once t h v =
+    let B = model-bytes t in
+    let s = commands-start t in
+    let is : text-commands t ≡ site-command (text-site t) ∷ with-end (s .rest) = text-with-end t ∙ ap with-end (s .is) in
+    let j : judged-in new-form (length B) at-start (placed 0 (site-command (text-site t) ∷ with-end (s .rest))) .number ≡ 0 =
+    ap (λ (C : List Command). judged-in new-form (length B) at-start (placed 0 C) .number) (sym is) ∙ ap (λ (l : List Placed). judged-in new-form (length B) at-start l .number) (sym (model-readings t h)) ∙ v in
+    subst (λ (E : List Entry). T (once E)) (sym (entries-of t h ∙ ap (λ (C : List Command). load-all C (loaded [] []) .entries) is))
+    (once-first _ _ _ _ (rest-fits (site-command (text-site t)) (s .rest) (s .is) (text-fits t h)) (length B) j)
+
 -- ---- the model follows the reading
 
 model-follows-text : (t : Text) → T (not (beyond t)) → AdmittedIn new-form (model-bytes t) → Follows (model-bytes t) t
@@ -194,6 +220,7 @@ model-follows-text t h d =
     record {
       same-site = is;
       commands = model-readings t h;
+      items = λ x m y. each-once e (entries-once t h v) y x m;
       rewards = λ a r x. ap (λ (m : Model). at x (action-at m a .reward)) M ∙ rewards-follow S E l e (range .0) less x a (act a r);
       chances = λ a r x. ap (λ (m : Model). map (at x) (action-at m a .chances)) M ∙ chances-follow S E l e (range .0) less x a (act a r);
       levels = λ a r x. ap (λ (m : Model). map (at x) (action-at m a .levels)) M ∙ levels-follow S E l e (range .0) less x a (act a r);
