@@ -7,17 +7,12 @@ use lib.Dec.{eqb, leb}
 use lib.ListN.{length, drop}
 use Rattle.whole.specs.Cases.{if}
 use Rattle.import_found.specs.Places.{Place, atom-at, result-at, lost, is-space, is-cond, TooDeep}
-use Rattle.import_places.specs.Walking.{signs}
+use Rattle.import_places.specs.Walking.{signs, two-to}
 use Rattle.import_going.specs.declared.turning.Going.{Going}
 use Rattle.import_going.specs.declared.turning.Turn.{Turn}
 use Rattle.import_going.specs.declared.turning.Turn.the-variants.{On, Atom, Else, Deep, Lost}
 use Rattle.import_going.specs.declared.start.Spot.{Spot}
 use Rattle.import_going.specs.declared.start.Spot.the-variants.{Atom as AtomAt, Result as ResultAt, Lost as LostAt, Deep as DeepAt}
-
--- 2 to a power
-unfoldable pub two-to : ℕ → ℕ
-two-to zero = 1
-two-to (suc c) = two-to c * 2
 
 abbrev pub bit-of : Bool → ℕ
 bit-of true = 1

@@ -3,15 +3,17 @@ ghost use Prim.Native.Nat.{_≤_, _<_};
 ghost use mathlib.Core.Path.{_≡_};
 ghost use mathlib.Core.Bool.{false};
 ghost use lib.ListN.{length, drop};
-ghost use Rattle.import_found.specs.Places.{after-colon, next-case, go as place-from};
-ghost use Rattle.import_places.specs.Walking.{signs};
-ghost use Rattle.import_going.specs.Turns.{two-to, cond-at, Spotted};
+ghost use Rattle.import_found.specs.Places.{after-colon, next-case, find as place-after, go as place-from};
+ghost use Rattle.import_places.specs.Walking.{signs, two-to};
+ghost use Rattle.import_going.specs.Turns.{cond-at, Spotted};
 use crate::behind::Found;
 use crate::behind::behind;
 use crate::bracket::is_cond;
 use crate::turning::Going;
 use crate::turning::Turn;
 use crate::turning::after_byte;
+use import_places::Next;
+use import_places::find;
 
 // An atom with its sign and the signs around it, a result, nothing, or more brackets than a text may have.
 pub enum Spot {
@@ -89,5 +91,19 @@ pub fn next_case(text: &[u8], from: usize) -> Spot
     match f {
         Found::At(i) => go(text, i, 0, 0),
         Found::Nothing => Spot::Lost,
+    }
+}
+
+// Where to go on once the atom at an offset is decided.
+pub fn decided(text: &[u8], from: usize, value: bool, mask: u64, count: u32) -> Spot
+    requires { ⌜ (from ≤ length (now text)) × (length (now text) ≤ 262144) × (mask < two-to count) ⌝ }
+    ensures { λ r. ⌜ Spotted (now (text .entry)) (place-after (drop from (now (text .entry))) 0 value false (signs mask count)) r ⌝ }
+{
+    let n = find(text, from, value, mask, count);
+    match n {
+        Next::Go(i, m, c) => go(text, i, m, c),
+        Next::Result(i) => Spot::Result(i),
+        Next::NextCase(i) => next_case(text, i),
+        Next::Lost => Spot::Lost,
     }
 }

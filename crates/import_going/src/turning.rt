@@ -3,7 +3,8 @@ ghost use mathlib.Core.Path.{_≡_};
 ghost use mathlib.Core.Bool.{not};
 ghost use Prim.Native.Nat.{_<_};
 ghost use Rattle.import_found.specs.Places.{is-space};
-ghost use Rattle.import_going.specs.Turns.{two-to, bit-of, opened-of, turn-of};
+ghost use Rattle.import_places.specs.Walking.{two-to};
+ghost use Rattle.import_going.specs.Turns.{bit-of, opened-of, turn-of};
 
 // Whether "!" turns what comes, and each bracket that is open, innermost in the lowest bit.
 pub struct Going {

@@ -1,5 +1,5 @@
 use native.Mathlib.Omega.{arith}
-use Rattle.import_going.specs.Turns.{two-to}
+use Rattle.import_places.specs.Walking.{two-to}
 use Rattle.import_going.proofs.Reaching.{case-within, case-found, case-not}
 use borrow.Author.Needs.{needs}
 use Rattle.import_going.proofs.start.next_case.Statement.{statement}
