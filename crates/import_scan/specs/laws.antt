@@ -1,0 +1,2 @@
+-- the steps agree with the reader's
+pub mod Agree
