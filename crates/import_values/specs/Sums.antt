@@ -26,7 +26,7 @@ use Rattle.import_values.specs.Reads.{guard, g-and, g-append, g-implied,
 g-assoc : (a b c : List ℤ) (x : Out) → guard (all-within (a ++ b)) (guard (all-within c) x) ≡ guard (all-within (a ++ (b ++ c))) x
 g-assoc a b c x = sym (g-append a b (guard (all-within c) x)) ∙ (ap (guard (all-within a)) (g-append b c x) ∙ g-append a (b ++ c) x)
 
-g-three : (a b c : List ℤ) (x : Out) → guard (all-within a) (guard (all-within b) (guard (all-within c) x)) ≡ guard (all-within (a ++ (b ++ c))) x
+pub g-three : (a b c : List ℤ) (x : Out) → guard (all-within a) (guard (all-within b) (guard (all-within c) x)) ≡ guard (all-within (a ++ (b ++ c))) x
 g-three a b c x = ap (guard (all-within a)) (g-append b c x) ∙ g-append a (b ++ c) x
 
 flat-nine : (p : Linear) → Flat p → nine p ≡ constant9 (p .const)
@@ -183,7 +183,7 @@ module _ (only : Bool) where
       ∙ (ap (guard (all-within (tot X′ m′ t′))) (factor-read (suc d) S L C X m t (tot X′ m′ t′) f)
       ∙ ap (λ (u : List ℤ). guard (all-within u) (guard (all-within (multiplied t u)) (run only (suc d) S (full L C X m (multiplied t u)) f))) e))
 
-  open-read : (d : ℕ) (S : List Frame) (L : List ℤ) (C : ℕ) (X : List ℤ) (m : Bool) (t : List ℤ) (p : Spaces) (w : List ℕ) → run only (suc d) S (open9 L C X m t) (spaces-bytes p (40 ∷ w)) ≡ run only d (open9 L C X m t ∷ S) (open9 zero9 0 zero9 false unit9) w
+  pub open-read : (d : ℕ) (S : List Frame) (L : List ℤ) (C : ℕ) (X : List ℤ) (m : Bool) (t : List ℤ) (p : Spaces) (w : List ℕ) → run only (suc d) S (open9 L C X m t) (spaces-bytes p (40 ∷ w)) ≡ run only d (open9 L C X m t ∷ S) (open9 zero9 0 zero9 false unit9) w
   unfolding run
   open-read d S L C X m t p w = spaced only (suc d) S (open9 L C X m t) (calm-open only (suc d) S L C X m t) p (40 ∷ w)
 
@@ -196,7 +196,7 @@ module _ (only : Bool) where
       ∙ (ap (guard (leb (digits-value ds) most)) (number-whole only d S L C X m t (digits-value ds) h)
       ∙ sym (ap (λ (b : Bool). guard b (guard (all-within (multiplied t (constant9 (pos (digits-value ds))))) (run only d S (full L C X m (multiplied t (constant9 (pos (digits-value ds))))) f))) (and-end (leb (digits-value ds) most)))))
 
-  none-deep : {A : Type 0} {n : ℕ} → suc n ≤ 0 → A
+  pub none-deep : {A : Type 0} {n : ℕ} → suc n ≤ 0 → A
   none-deep h = absurd (omega arith)
 
   mutual

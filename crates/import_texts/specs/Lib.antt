@@ -1,0 +1,2 @@
+-- conditions of a text
+pub mod Conditions
