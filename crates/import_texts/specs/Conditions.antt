@@ -118,7 +118,7 @@ module _ (d : ℕ) (S : List Frame) where
   end-case true T o w = refl
   end-case false T o w = run-over false d S w
 
-  reset-full : (k : Mark) (X : List ℤ) (m : Bool) (t : List ℤ) (w : List ℕ) → run false d S (full zero9 0 X m t) (mark-byte k ∷ w) ≡ guard (all-within (tot X m t)) (run false d S (idle (mark-behind k)) w)
+  pub reset-full : (k : Mark) (X : List ℤ) (m : Bool) (t : List ℤ) (w : List ℕ) → run false d S (full zero9 0 X m t) (mark-byte k ∷ w) ≡ guard (all-within (tot X m t)) (run false d S (idle (mark-behind k)) w)
   unfolding run step closed on-mark on-other on-equals on-end finished compared-with total
   reset-full semi X m t w = end-case (all-within (tot X m t)) (tot X m t) 0 w
   reset-full colon X m t w = end-case (all-within (tot X m t)) (tot X m t) 0 w
@@ -137,7 +137,7 @@ module _ (d : ℕ) (S : List Frame) where
   reset-full big-C X m t w = end-case (all-within (tot X m t)) (tot X m t) 5 w
   reset-full big-N X m t w = end-case (all-within (tot X m t)) (tot X m t) 5 w
 
-  reset-idle : (k : Mark) (w : List ℕ) → run false d S (idle 0) (mark-byte k ∷ w) ≡ run false d S (idle (mark-behind k)) w
+  pub reset-idle : (k : Mark) (w : List ℕ) → run false d S (idle 0) (mark-byte k ∷ w) ≡ run false d S (idle (mark-behind k)) w
   unfolding closed on-mark on-other on-equals on-end finished compared-with total addL all-within in-32-bits run step
   reset-idle semi w = refl
   reset-idle colon w = refl
@@ -156,7 +156,7 @@ module _ (d : ℕ) (S : List Frame) where
   reset-idle big-C w = refl
   reset-idle big-N w = refl
 
-  reset-held : (k : Mark) (w : List ℕ) → run false d S (idle 4) (mark-byte k ∷ w) ≡ run false d S (idle (mark-behind k)) w
+  pub reset-held : (k : Mark) (w : List ℕ) → run false d S (idle 4) (mark-byte k ∷ w) ≡ run false d S (idle (mark-behind k)) w
   unfolding run step closed on-mark on-other on-equals on-end finished compared-with total
   reset-held semi w = refl
   reset-held colon w = refl
@@ -182,16 +182,16 @@ module _ (d : ℕ) (S : List Frame) where
   calm-held newline f = refl
   calm-held return f = refl
 
-  idle-spaced : (p : Spaces) (f : List ℕ) → run false d S (idle 0) (spaces-bytes p f) ≡ run false d S (idle 0) f
+  pub idle-spaced : (p : Spaces) (f : List ℕ) → run false d S (idle 0) (spaces-bytes p f) ≡ run false d S (idle 0) f
   idle-spaced p f = spaced false d S (idle 0) (calm-open false d S zero9 0 zero9 false unit9) p f
 
-  held-spaced : (p : Spaces) (f : List ℕ) → run false d S (idle 4) (spaces-bytes p f) ≡ run false d S (idle 4) f
+  pub held-spaced : (p : Spaces) (f : List ℕ) → run false d S (idle 4) (spaces-bytes p f) ≡ run false d S (idle 4) f
   held-spaced p f = spaced false d S (idle 4) calm-held p f
 
-  full-spaced : (L : List ℤ) (C : ℕ) (X : List ℤ) (m : Bool) (t : List ℤ) (p : Spaces) (f : List ℕ) → run false d S (full L C X m t) (spaces-bytes p f) ≡ run false d S (full L C X m t) f
+  pub full-spaced : (L : List ℤ) (C : ℕ) (X : List ℤ) (m : Bool) (t : List ℤ) (p : Spaces) (f : List ℕ) → run false d S (full L C X m t) (spaces-bytes p f) ≡ run false d S (full L C X m t) f
   full-spaced L C X m t p f = spaced false d S (full L C X m t) (calm-full false d S L C X m t) p f
 
-  condition-digit : (i : Four) (f : List ℕ) → run false d S (idle 5) (four-byte i ∷ f) ≡ run false d S (idle 4) f
+  pub condition-digit : (i : Four) (f : List ℕ) → run false d S (idle 5) (four-byte i ∷ f) ≡ run false d S (idle 4) f
   unfolding run step on-digit
   condition-digit f1 f = refl
   condition-digit f2 f = refl
