@@ -1,0 +1,2 @@
+-- steps in conditions, cases and results
+pub mod Cases

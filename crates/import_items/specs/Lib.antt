@@ -1,0 +1,2 @@
+-- steps in the site, items, names and words
+pub mod Items

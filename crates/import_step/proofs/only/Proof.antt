@@ -1,0 +1,16 @@
+-- `import_step::only` meets its contract.
+use borrow.Author.Tests.{eq-eqb, ne-eqb}
+use Rattle.import_step.specs.Steps.{only}
+use Rattle.import_step.proofs.only.Statement.{statement}
+use Rattle.import_step.proofs.only.Tie as tie
+
+returns : tie.Need-returns
+unfolding only
+returns c = simp (eq-eqb _ _ (c .if1 .taken))
+
+returns-2 : tie.Need-returns-2
+unfolding only
+returns-2 c = simp (ne-eqb _ _ (c .if1 .left))
+
+pub only-spec : {M : Type 1} → statement M
+only-spec = tie.close (tie.spec returns returns-2)

@@ -1,0 +1,2 @@
+-- a step from any state
+pub mod Steps
