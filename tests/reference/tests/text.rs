@@ -523,3 +523,34 @@ fn same_sees_differences() {
         assert!(!same(&first, &model(reward, name), 500, 1), "{reward} {name}");
     }
 }
+
+/// The texts of docs/TEXT-MODELS.md are models without fault, and its refusals are as it says.
+#[test]
+fn the_page() {
+    let page = std::fs::read_to_string(format!("{}/../../docs/TEXT-MODELS.md", env!("CARGO_MANIFEST_DIR")));
+    let page = page.expect("the page").replace("\n\n    site m=1 n=1 A=1", "\n");
+    let texts: Vec<&str> = page.split("```text\n").skip(1).filter_map(|rest| rest.split("```").next()).collect();
+    assert_eq!(texts.len(), 5);
+    for text in texts {
+        assert_eq!(outcome(text), (0, 0), "{text}");
+    }
+    let mut rows = 0;
+    for row in page.lines().filter_map(|line| line.strip_prefix("| `")) {
+        let Some((cases, rest)) = row.split_once("` | ") else { continue };
+        let columns: Vec<u32> = rest.split(" | ").filter_map(|column| column.parse().ok()).collect();
+        let [number, place] = columns[..] else { continue };
+        let start = if number == 24 { with_reward("").len() as u32 } else { 0 };
+        assert_eq!(of_reward(cases), (number, start + place), "{cases}");
+        rows += 1;
+    }
+    assert_eq!(rows, 28);
+}
+
+/// Two texts that say the same, one without copies.
+#[test]
+fn a_case_before_saves_copies() {
+    let long = with_reward("C1 & L1 < 3 : 1 ; C1 & L1 > 7 : 2 ; C1 : 3 ; else : 0");
+    let short = with_reward("!C1 : 0 ; L1 < 3 : 1 ; L1 > 7 : 2 ; else : 3");
+    let [long, short] = [long, short].map(|text| import(text.as_bytes(), ANY).expect("a model without fault"));
+    assert!(same(&long, &short, 500, 1) && short.len() < long.len());
+}
