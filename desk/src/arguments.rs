@@ -28,6 +28,7 @@ pub struct Arguments {
     pub html: bool,
     pub table: bool,
     pub paths: bool,
+    pub text: bool,
     pub help: bool,
 }
 
@@ -73,6 +74,7 @@ impl Arguments {
             "--html" => self.html = true,
             "--table" => self.table = true,
             "--paths" => self.paths = true,
+            "--text" => self.text = true,
             _ => self.help = true,
         }
         Ok(())

@@ -17,6 +17,7 @@ mod solved;
 #[cfg(test)]
 mod spell;
 mod state;
+mod text;
 mod verbs;
 mod whole;
 mod widths;

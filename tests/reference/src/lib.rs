@@ -7,31 +7,39 @@
 //! model in the other form, `plain` works a state out from the written model, without diagrams, `sure` says whether its best
 //! action stays best where rewards move, and `total` has two sites together. `policy` has what a policy loses, and
 //! `certificate` finds paths to cut off, for the tests; `check_hex` is for the programs in `bin`.
+//! model in the other form, and `plain` works a state out from the written model, without diagrams. `text` reads models
+//! written as text, `import` gives their bytes, and `same` compares what two models mean. `certificate` finds paths to cut off, for the tests; `check_hex` is for
+//! the programs in `bin`.
 
 pub mod certificate;
 pub mod check_hex;
 pub mod convert;
 pub mod diagram;
 pub mod find;
+pub mod import;
 pub mod model;
 pub mod page;
 pub mod plain;
 pub mod policy;
 pub mod prune;
 pub mod read;
+pub mod same;
 pub mod solve;
 pub mod sure;
 pub mod total;
+pub mod text;
 mod unique;
 pub mod widths;
 
 pub use convert::{to_new, to_old};
 pub use find::find;
+pub use import::import;
 pub use model::{validate, validate_old, Model, Refusal, Site};
 pub use page::page;
 pub use plain::{worth, worth_old};
 pub use prune::prune;
 pub use read::{listing, name, program, value, Reading};
+pub use same::same;
 pub use solve::{solve, solve_old, solve_with_room, Outcome};
 pub use sure::sure;
 pub use total::{joined, total, Side, Total};
