@@ -5,11 +5,9 @@
 //! `diagram` has the rules on diagrams and `unique` their hash tables, `solve` the operations of a solve, `read` the
 //! readers of tables, `find` an action by its name, `page` the page of a state, `prune` cuts off a path, `convert` writes a
 //! model in the other form, `plain` works a state out from the written model, without diagrams, `sure` says whether its best
-//! action stays best where rewards move, and `total` has two sites together. `policy` has what a policy loses, and
-//! `certificate` finds paths to cut off, for the tests; `check_hex` is for the programs in `bin`.
-//! model in the other form, and `plain` works a state out from the written model, without diagrams. `text` reads models
-//! written as text, `import` gives their bytes, and `same` compares what two models mean. `certificate` finds paths to cut off, for the tests; `check_hex` is for
-//! the programs in `bin`.
+//! action stays best where rewards move, and `total` has two sites together. `text` reads models written as text, `import`
+//! gives their bytes, and `same` compares what two models mean. `policy` has what a policy loses, and `certificate` finds
+//! paths to cut off, for the tests; `check_hex` is for the programs in `bin`.
 
 pub mod certificate;
 pub mod check_hex;
@@ -26,8 +24,8 @@ pub mod read;
 pub mod same;
 pub mod solve;
 pub mod sure;
-pub mod total;
 pub mod text;
+pub mod total;
 mod unique;
 pub mod widths;
 
