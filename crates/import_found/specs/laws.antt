@@ -1,0 +1,6 @@
+-- walks over the bytes of a sum
+pub mod Passing
+-- the three walks of the emitter
+pub mod Walks
+-- what the places in the text emit is what the reading becomes
+pub mod Found

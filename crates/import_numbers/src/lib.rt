@@ -1,0 +1,1 @@
+// The numbers of a model text, as definitions: everything is in specs/.

@@ -1,0 +1,120 @@
+use mathlib.Core.Path.{sym, _∙_, refl}
+use mathlib.Core.Bool.{false}
+use Prim.Native.Nat.{_-_}
+use native.Mathlib.Omega.{arith}
+use lib.ListN.{length, drop}
+use borrow.Author.Needs.{needs}
+use Rattle.import_found.specs.Places.{find as place-after}
+use Rattle.import_places.specs.Walking.{signs, meant}
+use Rattle.import_places.proofs.Steps.{At, on-byte, on-depth, at-end}
+use Rattle.import_places.proofs.find.Statement.{statement}
+use Rattle.import_places.proofs.find.Tie as tie
+use Rattle.import_places.proofs.find.Reads as reads
+use Rattle.import_places.proofs.find.Lts as lts
+use Rattle.import_places.proofs.advance.Reads as advance-reads
+
+abbrev Inv-loop : tie.InvT-loop
+Inv-loop text from value mask count s₀ i₀ s i = At text (place-after (drop from text) 0 value false (signs mask count)) s i
+
+abbrev μ-loop : tie.MeasureT-loop
+μ-loop text from value mask count s₀ i₀ s i = length text - i
+
+-- src/lib.rt:106:5
+loop-holds : tie.Need-loop-holds Inv-loop μ-loop
+loop-holds c = record { within = c .before .pre .0; shallows = omega arith; rest = refl }
+
+-- src/lib.rt:107:28
+shared-slice-read-advance : tie.Need-shared-slice-read-advance Inv-loop μ-loop
+shared-slice-read-advance c = omega arith
+
+-- src/lib.rt:107:13
+advance-requires : tie.Need-advance-requires Inv-loop μ-loop
+advance-requires c κs = let a = c .before .before .loop .inv .shallows in let b = c .before .before .loop .inv .within in omega (arith, c .before .before .before .before .pre .1)
+
+-- src/lib.rt:108:9
+add-i : tie.Need-add-i Inv-loop μ-loop
+add-i c = omega arith
+
+-- src/lib.rt:110:22
+enum-known-t : tie.Need-enum-known-t Inv-loop μ-loop
+enum-known-t c = search needs
+
+-- src/lib.rt:106:5
+loop-less : tie.Need-loop-less Inv-loop μ-loop
+loop-less c = omega arith
+
+-- src/lib.rt:106:5
+loop-again : tie.Need-loop-again Inv-loop μ-loop
+loop-again c =
+    let e = sym (c .before .t .given .1) ∙ c .before .before .before .advance .ensures in
+    let d = on-depth (c .before .before .before .before .before .before .loop .s) (c .before .t .given .0 .0) _ e in
+    let h = c .before .before .before .before .before .before .loop .inv .shallows in
+    record {
+      within = omega (arith, c .before .before .before .before .before .loop-test .taken);
+      shallows = omega arith;
+      rest = sym (on-byte _ (c .before .before .before .before .before .before .loop .s) (c .before .before .before .before .before .before .loop .i) _ (c .before .before .before .before .before .loop-test .taken) e) ∙ c .before .before .before .before .before .before .loop .inv .rest;
+    }
+
+-- src/lib.rt:114:17
+enum-told : tie.Need-enum-told Inv-loop μ-loop
+enum-told c = search needs
+
+-- src/lib.rt:114:17
+returns : tie.Need-returns Inv-loop μ-loop
+unfolding meant
+returns c = sym (on-byte _ (c .before .before .before .before .before .loop .s) (c .before .before .before .before .before .loop .i) _ (c .before .before .before .before .loop-test .taken) (sym (c .enum-told .given .1) ∙ c .before .before .advance .ensures)) ∙ c .before .before .before .before .before .loop .inv .rest
+
+-- src/lib.rt:117:17
+enum-told-2 : tie.Need-enum-told-2 Inv-loop μ-loop
+enum-told-2 c = search needs
+
+-- src/lib.rt:117:17
+returns-2 : tie.Need-returns-2 Inv-loop μ-loop
+unfolding meant
+returns-2 c = sym (on-byte _ (c .before .before .before .before .before .loop .s) (c .before .before .before .before .before .loop .i) _ (c .before .before .before .before .loop-test .taken) (sym (c .enum-told2 .given .1) ∙ c .before .before .advance .ensures)) ∙ c .before .before .before .before .before .loop .inv .rest
+
+-- src/lib.rt:120:17
+enum-told-3 : tie.Need-enum-told-3 Inv-loop μ-loop
+enum-told-3 c = search needs
+
+-- src/lib.rt:120:17
+returns-3 : tie.Need-returns-3 Inv-loop μ-loop
+unfolding meant
+returns-3 c = sym (on-byte _ (c .before .before .before .before .before .loop .s) (c .before .before .before .before .before .loop .i) _ (c .before .before .before .before .loop-test .taken) (sym (c .enum-told3 .given .1) ∙ c .before .before .advance .ensures)) ∙ c .before .before .before .before .before .loop .inv .rest
+
+-- src/lib.rt:123:17
+enum-told-4 : tie.Need-enum-told-4 Inv-loop μ-loop
+enum-told-4 c = search needs
+
+-- src/lib.rt:123:17
+returns-4 : tie.Need-returns-4 Inv-loop μ-loop
+unfolding meant
+returns-4 c = sym (on-byte _ (c .before .before .before .before .before .loop .s) (c .before .before .before .before .before .loop .i) _ (c .before .before .before .before .loop-test .taken) (sym (c .enum-told4 .given .1) ∙ c .before .before .advance .ensures)) ∙ c .before .before .before .before .before .loop .inv .rest
+
+-- src/lib.rt:100:1
+returns-5 : tie.Need-returns-5 Inv-loop μ-loop
+unfolding meant
+returns-5 c = at-end _ _ (c .before .loop .s) (c .before .loop .i) (c .before .loop .inv) (c .loop-test .left)
+
+pub find-spec : {M : Type 1} → statement M
+find-spec =
+    tie.close
+    (tie.spec
+    Inv-loop
+    μ-loop
+    loop-holds
+    shared-slice-read-advance
+    advance-requires
+    add-i
+    enum-known-t
+    loop-less
+    loop-again
+    enum-told
+    returns
+    enum-told-2
+    returns-2
+    enum-told-3
+    returns-3
+    enum-told-4
+    returns-4
+    returns-5)

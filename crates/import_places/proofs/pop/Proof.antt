@@ -1,0 +1,29 @@
+use Rattle.import_places.specs.Walking.{popped}
+use borrow.Author.Tests.{ne-eqb, eq-eqb, le-leb, lt-leb, lt-ltb, le-ltb, not-true, not-false}
+use borrow.Author.Needs.{needs}
+use Rattle.import_places.proofs.pop.Statement.{statement}
+use Rattle.import_places.proofs.pop.Tie as tie
+use Rattle.import_places.proofs.pop.Reads as reads
+use Rattle.import_places.proofs.pop.Lts as lts
+use Rattle.import_places.proofs.turned.Reads as turned-reads
+
+-- src/lib.rt:49:9
+returns : tie.Need-returns
+unfolding popped
+returns c = simp (eq-eqb _ _ (c .if1 .taken))
+
+-- src/lib.rt:52:9
+turned-requires : tie.Need-turned-requires
+turned-requires c κs = search needs
+
+-- src/lib.rt:53:77
+sub-t6 : tie.Need-sub-t6
+sub-t6 c = search needs
+
+-- src/lib.rt:45:1
+returns-2 : tie.Need-returns-2
+unfolding popped
+returns-2 c = simp (ne-eqb _ _ (c .before .before .before .before .if1 .left), ← c .before .before .turned .ensures)
+
+pub pop-spec : {M : Type 1} → statement M
+pop-spec = tie.close (tie.spec returns turned-requires sub-t6 returns-2)
