@@ -1,0 +1,32 @@
+use mathlib.Core.Path.{_≡_, refl, sym, ap, _∙_, subst}
+use mathlib.Core.Bool.{Bool}
+use mathlib.Core.List.{List}
+use Prim.Native.Nat.{ℕ}
+use native.Mathlib.Omega.{arith}
+use lib.IntN.{ℤ}
+use lib.ListN.{length}
+use Rattle.import_numbers.specs.Numbers.{all-within}
+use Rattle.import_frames.specs.declared.Frame.{Frame}
+use Rattle.import_frames.specs.Frames as f
+use Rattle.import_frames.specs.Frames.{Sound, factor, closed, total, on-sign, on-compare, less, compared-with, finished, on-end, on-equals, on-other, on-mark, grown, on-digit, step, entered, popped}
+use Rattle.import_frames.specs.Kept as kept
+use Rattle.import_frames.proofs.Laws.{yes, no, hit, miss, hit-lt, miss-lt, hit-le, miss-le, nine-smalls}
+use Rattle.import_frames.proofs.behind.Statement.{statement}
+use Rattle.import_frames.proofs.behind.Tie as tie
+use Rattle.import_frames.proofs.behind.Reads as reads
+use Rattle.import_frames.proofs.behind.Lts as lts
+
+returns : tie.Need-returns
+returns c = hit (c .before .args .k) 67 _ _ (c .if1 .taken) (refl)
+
+returns-2 : tie.Need-returns-2
+returns-2 c = miss (c .before .before .args .k) 67 _ _ (c .before .if1 .left) (hit (c .before .before .args .k) 78 _ _ (c .if2 .taken) (refl))
+
+returns-3 : tie.Need-returns-3
+returns-3 c = miss (c .before .before .before .args .k) 67 _ _ (c .before .before .if1 .left) (miss (c .before .before .before .args .k) 78 _ _ (c .before .if2 .left) (hit (c .before .before .before .args .k) 34 _ _ (c .if3 .taken) (refl)))
+
+returns-4 : tie.Need-returns-4
+returns-4 c = miss (c .before .before .before .args .k) 67 _ _ (c .before .before .if1 .left) (miss (c .before .before .before .args .k) 78 _ _ (c .before .if2 .left) (miss (c .before .before .before .args .k) 34 _ _ (c .if3 .left) (refl)))
+
+pub behind-spec : {M : Type 1} → statement M
+behind-spec = tie.close (tie.spec returns returns-2 returns-3 returns-4)

@@ -1,0 +1,37 @@
+use mathlib.Core.Path.{_≡_, refl, sym, ap, _∙_, subst}
+use mathlib.Core.Bool.{Bool}
+use mathlib.Core.List.{List}
+use Prim.Native.Nat.{ℕ}
+use native.Mathlib.Omega.{arith}
+use lib.IntN.{ℤ}
+use lib.ListN.{length}
+use Rattle.import_numbers.specs.Numbers.{all-within}
+use Rattle.import_frames.specs.declared.Frame.{Frame}
+use Rattle.import_frames.specs.Frames as f
+use Rattle.import_frames.specs.Frames.{Sound, factor, closed, total, on-sign, on-compare, less, compared-with, finished, on-end, on-equals, on-other, on-mark, grown, on-digit, step, entered, popped}
+use Rattle.import_frames.specs.Kept as kept
+use Rattle.import_frames.proofs.Laws.{yes, no, hit, miss, hit-lt, miss-lt, hit-le, miss-le, nine-smalls}
+use borrow.Author.Needs.{needs}
+use Rattle.import_frames.proofs.closed.Statement.{statement}
+use Rattle.import_frames.proofs.closed.Tie as tie
+use Rattle.import_frames.proofs.closed.Reads as reads
+use Rattle.import_frames.proofs.closed.Lts as lts
+use Rattle.import_frames.proofs.factor.Reads as factor-reads
+use Rattle.import_linears.proofs.constant.Reads as constant-reads
+
+constant-requires : tie.Need-constant-requires
+constant-requires c κs = search needs
+
+factor-requires : tie.Need-factor-requires
+factor-requires c κs = search needs
+
+returns : tie.Need-returns
+unfolding closed
+returns c = hit (c .before .before .before .before .args .s .mode) 1 _ _ (c .before .before .if1 .taken) (c .factor .ensures ∙ ap (factor (c .before .before .before .before .args .s)) (c .before .constant .ensures))
+
+returns-2 : tie.Need-returns-2
+unfolding closed
+returns-2 c = miss (c .before .before .args .s .mode) 1 _ _ (c .if1 .left) (refl)
+
+pub closed-spec : {M : Type 1} → statement M
+closed-spec = tie.close (tie.spec constant-requires factor-requires returns returns-2)

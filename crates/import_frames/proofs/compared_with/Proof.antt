@@ -1,0 +1,63 @@
+use mathlib.Core.Path.{_≡_, refl, sym, ap, _∙_, subst}
+use mathlib.Core.Bool.{Bool}
+use mathlib.Core.List.{List}
+use Prim.Native.Nat.{ℕ}
+use native.Mathlib.Omega.{arith}
+use lib.IntN.{ℤ}
+use lib.ListN.{length}
+use Rattle.import_numbers.specs.Numbers.{all-within}
+use Rattle.import_frames.specs.declared.Frame.{Frame}
+use Rattle.import_frames.specs.Frames as f
+use Rattle.import_frames.specs.Frames.{Sound, factor, closed, total, on-sign, on-compare, less, compared-with, finished, on-end, on-equals, on-other, on-mark, grown, on-digit, step, entered, popped}
+use Rattle.import_frames.specs.Kept as kept
+use Rattle.import_frames.proofs.Laws.{yes, no, hit, miss, hit-lt, miss-lt, hit-le, miss-le, nine-smalls}
+use borrow.Author.Needs.{needs}
+use Rattle.import_frames.proofs.compared_with.Statement.{statement}
+use Rattle.import_frames.proofs.compared_with.Tie as tie
+use Rattle.import_frames.proofs.compared_with.Reads as reads
+use Rattle.import_frames.proofs.compared_with.Lts as lts
+use Rattle.import_frames.proofs.idle.Reads as idle-reads
+use Rattle.import_frames.proofs.less.Reads as less-reads
+use Rattle.import_frames.proofs.over.Reads as over-reads
+use Rattle.import_frames.proofs.valued.Reads as valued-reads
+use Rattle.import_linears.proofs.all_fit.Reads as all-fit-reads
+
+valued-requires : tie.Need-valued-requires
+valued-requires c κs = search needs
+
+returns : tie.Need-returns
+unfolding compared-with
+returns c = hit (c .before .before .before .args .s .compared) 0 _ _ (c .before .if1 .taken) (c .valued .ensures)
+
+less-requires : tie.Need-less-requires
+less-requires c κs = search needs
+
+all-fit-requires : tie.Need-all-fit-requires
+all-fit-requires c κs = search needs
+
+idle-requires : tie.Need-idle-requires
+idle-requires c κs = search needs
+
+returns-2 : tie.Need-returns-2
+unfolding compared-with
+returns-2 c = miss (c .before .before .before .before .before .before .args .s .compared) 0 _ _ (c .before .before .before .before .if1 .left) (yes (all-within (less (c .before .before .before .before .before .before .args .s) (c .before .before .before .before .before .before .args .t))) _ _ (c .before .before .all-fit .ensures ∙ ap all-within (c .before .before .before .less .ensures)) (c .before .if2 .taken) (c .idle .ensures))
+
+over-requires : tie.Need-over-requires
+over-requires c κs = search needs
+
+returns-3 : tie.Need-returns-3
+unfolding compared-with
+returns-3 c = miss (c .before .before .before .before .before .before .args .s .compared) 0 _ _ (c .before .before .before .before .if1 .left) (no (all-within (less (c .before .before .before .before .before .before .args .s) (c .before .before .before .before .before .before .args .t))) _ _ (c .before .before .all-fit .ensures ∙ ap all-within (c .before .before .before .less .ensures)) (c .before .if2 .left) (c .over .ensures))
+
+pub compared-with-spec : {M : Type 1} → statement M
+compared-with-spec =
+    tie.close
+    (tie.spec
+    valued-requires
+    returns
+    less-requires
+    all-fit-requires
+    idle-requires
+    returns-2
+    over-requires
+    returns-3)

@@ -1,0 +1,58 @@
+use mathlib.Core.Path.{_≡_, refl, sym, ap, _∙_, subst}
+use mathlib.Core.Bool.{Bool}
+use mathlib.Core.List.{List}
+use Prim.Native.Nat.{ℕ}
+use native.Mathlib.Omega.{arith}
+use lib.IntN.{ℤ}
+use lib.ListN.{length}
+use Rattle.import_numbers.specs.Numbers.{all-within}
+use Rattle.import_frames.specs.declared.Frame.{Frame}
+use Rattle.import_frames.specs.Frames as f
+use Rattle.import_frames.specs.Frames.{Sound, factor, closed, total, on-sign, on-compare, less, compared-with, finished, on-end, on-equals, on-other, on-mark, grown, on-digit, step, entered, popped}
+use Rattle.import_frames.specs.Kept as kept
+use Rattle.import_frames.proofs.Laws.{yes, no, hit, miss, hit-lt, miss-lt, hit-le, miss-le, nine-smalls}
+use borrow.Author.Needs.{needs}
+use Rattle.import_frames.proofs.finished.Statement.{statement}
+use Rattle.import_frames.proofs.finished.Tie as tie
+use Rattle.import_frames.proofs.finished.Reads as reads
+use Rattle.import_frames.proofs.finished.Lts as lts
+use Rattle.import_frames.proofs.compared_with.Reads as compared-with-reads
+use Rattle.import_frames.proofs.over.Reads as over-reads
+use Rattle.import_frames.proofs.total.Reads as total-reads
+use Rattle.import_linears.proofs.all_fit.Reads as all-fit-reads
+
+returns : tie.Need-returns
+unfolding finished
+returns c = hit (c .before .before .args .s .mode) 4 _ _ (c .if1 .taken) (refl)
+
+total-requires : tie.Need-total-requires
+total-requires c κs = search needs
+
+all-fit-requires : tie.Need-all-fit-requires
+all-fit-requires c κs = search needs
+
+compared-with-requires : tie.Need-compared-with-requires
+compared-with-requires c κs = (c .before .before .before .before .before .pre, record { long = ap (λ (l : List ℤ). length l) (c .before .before .total .ensures) ∙ kept.total-long (c .before .before .before .before .before .args .s) (c .before .before .before .before .before .pre); within = sym (c .before .all-fit .ensures) ∙ c .if2 .taken })
+
+returns-2 : tie.Need-returns-2
+unfolding finished
+returns-2 c = miss (c .before .before .before .before .before .before .args .s .mode) 4 _ _ (c .before .before .before .before .if1 .left) (yes (all-within (total (c .before .before .before .before .before .before .args .s))) _ _ (c .before .before .all-fit .ensures ∙ ap all-within (c .before .before .before .total .ensures)) (c .before .if2 .taken) (c .compared-with .ensures ∙ ap (compared-with (c .before .before .before .before .before .before .args .s)) (c .before .before .before .total .ensures)))
+
+over-requires : tie.Need-over-requires
+over-requires c κs = search needs
+
+returns-3 : tie.Need-returns-3
+unfolding finished
+returns-3 c = miss (c .before .before .before .before .before .before .args .s .mode) 4 _ _ (c .before .before .before .before .if1 .left) (no (all-within (total (c .before .before .before .before .before .before .args .s))) _ _ (c .before .before .all-fit .ensures ∙ ap all-within (c .before .before .before .total .ensures)) (c .before .if2 .left) (c .over .ensures))
+
+pub finished-spec : {M : Type 1} → statement M
+finished-spec =
+    tie.close
+    (tie.spec
+    returns
+    total-requires
+    all-fit-requires
+    compared-with-requires
+    returns-2
+    over-requires
+    returns-3)

@@ -1,0 +1,37 @@
+use mathlib.Core.Path.{_≡_, refl, sym, ap, _∙_, subst}
+use mathlib.Core.Bool.{Bool}
+use mathlib.Core.List.{List}
+use Prim.Native.Nat.{ℕ}
+use native.Mathlib.Omega.{arith}
+use lib.IntN.{ℤ}
+use lib.ListN.{length}
+use Rattle.import_numbers.specs.Numbers.{all-within}
+use Rattle.import_frames.specs.declared.Frame.{Frame}
+use Rattle.import_frames.specs.Frames as f
+use Rattle.import_frames.specs.Frames.{Sound, factor, closed, total, on-sign, on-compare, less, compared-with, finished, on-end, on-equals, on-other, on-mark, grown, on-digit, step, entered, popped}
+use Rattle.import_frames.specs.Kept as kept
+use Rattle.import_frames.proofs.Laws.{yes, no, hit, miss, hit-lt, miss-lt, hit-le, miss-le, nine-smalls}
+use borrow.Author.Needs.{needs}
+use Rattle.import_frames.proofs.grown.Statement.{statement}
+use Rattle.import_frames.proofs.grown.Tie as tie
+use Rattle.import_frames.proofs.grown.Reads as reads
+use Rattle.import_frames.proofs.grown.Lts as lts
+use Rattle.import_frames.proofs.numbered.Reads as numbered-reads
+use Rattle.import_frames.proofs.over.Reads as over-reads
+
+numbered-requires : tie.Need-numbered-requires
+numbered-requires c κs = search needs
+
+returns : tie.Need-returns
+unfolding grown
+returns c = hit-le (c .before .before .args .n) 2147483647 _ _ (c .before .if1 .taken) (c .numbered .ensures)
+
+over-requires : tie.Need-over-requires
+over-requires c κs = search needs
+
+returns-2 : tie.Need-returns-2
+unfolding grown
+returns-2 c = miss-le (c .before .before .args .n) 2147483647 _ _ (c .before .if1 .left) (c .over .ensures)
+
+pub grown-spec : {M : Type 1} → statement M
+grown-spec = tie.close (tie.spec numbered-requires returns over-requires returns-2)

@@ -1,0 +1,43 @@
+use mathlib.Core.Path.{_≡_, refl, sym, ap, _∙_, subst}
+use mathlib.Core.Bool.{Bool}
+use mathlib.Core.List.{List}
+use Prim.Native.Nat.{ℕ}
+use native.Mathlib.Omega.{arith}
+use lib.IntN.{ℤ}
+use lib.ListN.{length}
+use Rattle.import_numbers.specs.Numbers.{all-within}
+use Rattle.import_frames.specs.declared.Frame.{Frame}
+use Rattle.import_frames.specs.Frames as f
+use Rattle.import_frames.specs.Frames.{Sound, factor, closed, total, on-sign, on-compare, less, compared-with, finished, on-end, on-equals, on-other, on-mark, grown, on-digit, step, entered, popped}
+use Rattle.import_frames.specs.Kept as kept
+use Rattle.import_frames.proofs.Laws.{yes, no, hit, miss, hit-lt, miss-lt, hit-le, miss-le, nine-smalls}
+use Rattle.import_frames.proofs.less.Statement.{statement}
+use Rattle.import_frames.proofs.less.Tie as tie
+use Rattle.import_frames.proofs.less.Reads as reads
+use Rattle.import_frames.proofs.less.Lts as lts
+use Rattle.whole_linears.proofs.sub.Reads as sub-reads
+
+sub-requires : tie.Need-sub-requires
+sub-requires c κs = (nine-smalls (c .before .before .before .pre .1), nine-smalls (c .before .before .before .pre .0 .left-nine))
+
+returns : tie.Need-returns
+unfolding less
+returns c = hit (c .before .before .before .before .args .s .compared) 1 _ _ (c .before .if1 .taken) (c .sub .ensures)
+
+sub-requires-2 : tie.Need-sub-requires-2
+sub-requires-2 c κs = (nine-smalls (c .before .before .before .before .before .pre .1), nine-smalls (c .before .before .before .before .before .pre .0 .left-nine))
+
+returns-2 : tie.Need-returns-2
+unfolding less
+returns-2 c = miss (c .before .before .before .before .before .before .args .s .compared) 1 _ _ (c .before .before .before .if1 .left) (hit (c .before .before .before .before .before .before .args .s .compared) 4 _ _ (c .before .if2 .taken) (c .sub2 .ensures))
+
+sub-requires-3 : tie.Need-sub-requires-3
+sub-requires-3 c κs = (nine-smalls (c .before .before .before .before .before .pre .0 .left-nine), nine-smalls (c .before .before .before .before .before .pre .1))
+
+returns-3 : tie.Need-returns-3
+unfolding less
+returns-3 c = miss (c .before .before .before .before .before .before .args .s .compared) 1 _ _ (c .before .before .before .if1 .left) (miss (c .before .before .before .before .before .before .args .s .compared) 4 _ _ (c .before .if2 .left) (c .sub3 .ensures))
+
+pub less-spec : {M : Type 1} → statement M
+less-spec =
+    tie.close (tie.spec sub-requires returns sub-requires-2 returns-2 sub-requires-3 returns-3)

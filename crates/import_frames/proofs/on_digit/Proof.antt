@@ -1,0 +1,84 @@
+use mathlib.Core.Path.{_≡_, refl, sym, ap, _∙_, subst}
+use mathlib.Core.Bool.{Bool}
+use mathlib.Core.List.{List}
+use Prim.Native.Nat.{ℕ}
+use native.Mathlib.Omega.{arith}
+use lib.IntN.{ℤ}
+use lib.ListN.{length}
+use Rattle.import_numbers.specs.Numbers.{all-within}
+use Rattle.import_frames.specs.declared.Frame.{Frame}
+use Rattle.import_frames.specs.Frames as f
+use Rattle.import_frames.specs.Frames.{Sound, factor, closed, total, on-sign, on-compare, less, compared-with, finished, on-end, on-equals, on-other, on-mark, grown, on-digit, step, entered, popped}
+use Rattle.import_frames.specs.Kept as kept
+use Rattle.import_frames.proofs.Laws.{yes, no, hit, miss, hit-lt, miss-lt, hit-le, miss-le, nine-smalls}
+use borrow.Author.Needs.{needs}
+use Rattle.import_frames.proofs.on_digit.Statement.{statement}
+use Rattle.import_frames.proofs.on_digit.Tie as tie
+use Rattle.import_frames.proofs.on_digit.Reads as reads
+use Rattle.import_frames.proofs.on_digit.Lts as lts
+use Rattle.import_frames.proofs.factor.Reads as factor-reads
+use Rattle.import_frames.proofs.grown.Reads as grown-reads
+use Rattle.import_frames.proofs.idle.Reads as idle-reads
+use Rattle.import_frames.proofs.numbered.Reads as numbered-reads
+use Rattle.import_linears.proofs.level.Reads as level-reads
+
+sub-d : tie.Need-sub-d
+sub-d c = let h = kept.digit-small (c .args .k) (c .pre .1) in omega arith
+
+cast-d : tie.Need-cast-d
+cast-d c = let h = kept.digit-small (c .args .k) (c .pre .1) in omega arith
+
+mul-grown : tie.Need-mul-grown
+mul-grown c = let g = c .before .before .before .pre .0 .number-within in omega arith
+
+add-grown : tie.Need-add-grown
+add-grown c = let h = kept.digit-small (c .before .before .before .args .k) (c .before .before .before .pre .1) in let g = c .before .before .before .pre .0 .number-within in omega arith
+
+grown-requires : tie.Need-grown-requires
+grown-requires c κs = search needs
+
+returns : tie.Need-returns
+unfolding on-digit
+returns c = hit (c .before .before .before .before .args .s .mode) 1 _ _ (c .before .before .if1 .taken) (c .grown .ensures)
+
+level-requires : tie.Need-level-requires
+level-requires c κs = search needs
+
+factor-requires : tie.Need-factor-requires
+factor-requires c κs = (c .before .before .before .before .before .pre .0, ap (λ (l : List ℤ). length l) (c .level .ensures) ∙ kept.level-long (c .before .before .before .before .before .args .k))
+
+returns-2 : tie.Need-returns-2
+unfolding on-digit
+returns-2 c = miss (c .before .before .before .before .before .before .args .s .mode) 1 _ _ (c .before .before .before .before .if1 .left) (hit (c .before .before .before .before .before .before .args .s .mode) 3 _ _ (c .before .before .if2 .taken) (c .factor .ensures ∙ ap (factor (c .before .before .before .before .before .before .args .s)) (c .before .level .ensures)))
+
+idle-requires : tie.Need-idle-requires
+idle-requires c κs = search needs
+
+returns-3 : tie.Need-returns-3
+unfolding on-digit
+returns-3 c = miss (c .before .before .before .before .before .before .before .args .s .mode) 1 _ _ (c .before .before .before .before .before .if1 .left) (miss (c .before .before .before .before .before .before .before .args .s .mode) 3 _ _ (c .before .before .before .if2 .left) (hit (c .before .before .before .before .before .before .before .args .s .mode) 5 _ _ (c .before .if3 .taken) (c .idle .ensures)))
+
+numbered-requires : tie.Need-numbered-requires
+numbered-requires c κs = search needs
+
+returns-4 : tie.Need-returns-4
+unfolding on-digit
+returns-4 c = miss (c .before .before .before .before .before .before .before .args .s .mode) 1 _ _ (c .before .before .before .before .before .if1 .left) (miss (c .before .before .before .before .before .before .before .args .s .mode) 3 _ _ (c .before .before .before .if2 .left) (miss (c .before .before .before .before .before .before .before .args .s .mode) 5 _ _ (c .before .if3 .left) (c .numbered .ensures)))
+
+pub on-digit-spec : {M : Type 1} → statement M
+on-digit-spec =
+    tie.close
+    (tie.spec
+    sub-d
+    cast-d
+    mul-grown
+    add-grown
+    grown-requires
+    returns
+    level-requires
+    factor-requires
+    returns-2
+    idle-requires
+    returns-3
+    numbered-requires
+    returns-4)

@@ -1,0 +1,42 @@
+use mathlib.Core.Path.{_≡_, refl, sym, ap, _∙_, subst}
+use mathlib.Core.Bool.{Bool}
+use mathlib.Core.List.{List}
+use Prim.Native.Nat.{ℕ}
+use native.Mathlib.Omega.{arith}
+use lib.IntN.{ℤ}
+use lib.ListN.{length}
+use Rattle.import_numbers.specs.Numbers.{all-within}
+use Rattle.import_frames.specs.declared.Frame.{Frame}
+use Rattle.import_frames.specs.Frames as f
+use Rattle.import_frames.specs.Frames.{Sound, factor, closed, total, on-sign, on-compare, less, compared-with, finished, on-end, on-equals, on-other, on-mark, grown, on-digit, step, entered, popped}
+use Rattle.import_frames.specs.Kept as kept
+use Rattle.import_frames.proofs.Laws.{yes, no, hit, miss, hit-lt, miss-lt, hit-le, miss-le, nine-smalls}
+use borrow.Author.Needs.{needs}
+use Rattle.import_frames.proofs.on_end.Statement.{statement}
+use Rattle.import_frames.proofs.on_end.Tie as tie
+use Rattle.import_frames.proofs.on_end.Reads as reads
+use Rattle.import_frames.proofs.on_end.Lts as lts
+use Rattle.import_frames.proofs.behind.Reads as behind-reads
+use Rattle.import_frames.proofs.finished.Reads as finished-reads
+use Rattle.import_frames.proofs.idle.Reads as idle-reads
+
+finished-requires : tie.Need-finished-requires
+finished-requires c κs = search needs
+
+returns : tie.Need-returns
+unfolding on-end
+returns c = yes (finished (c .before .before .args .s) .beyond) _ _ (ap (λ (g : Frame). g .beyond) (c .before .finished .ensures)) (c .if1 .taken) (c .before .finished .ensures)
+
+behind-requires : tie.Need-behind-requires
+behind-requires c κs = search needs
+
+idle-requires : tie.Need-idle-requires
+idle-requires c κs = search needs
+
+returns-2 : tie.Need-returns-2
+unfolding on-end
+returns-2 c = no (finished (c .before .before .before .before .args .s) .beyond) _ _ (ap (λ (g : Frame). g .beyond) (c .before .before .before .finished .ensures)) (c .before .before .if1 .left) (c .idle .ensures ∙ ap (λ (o : ℕ). f.idle o) (c .before .behind .ensures))
+
+pub on-end-spec : {M : Type 1} → statement M
+on-end-spec =
+    tie.close (tie.spec finished-requires returns behind-requires idle-requires returns-2)

@@ -1,0 +1,61 @@
+use mathlib.Core.Path.{_≡_, refl, sym, ap, _∙_, subst}
+use mathlib.Core.Bool.{Bool}
+use mathlib.Core.List.{List}
+use Prim.Native.Nat.{ℕ}
+use native.Mathlib.Omega.{arith}
+use lib.IntN.{ℤ}
+use lib.ListN.{length}
+use Rattle.import_numbers.specs.Numbers.{all-within}
+use Rattle.import_frames.specs.declared.Frame.{Frame}
+use Rattle.import_frames.specs.Frames as f
+use Rattle.import_frames.specs.Frames.{Sound, factor, closed, total, on-sign, on-compare, less, compared-with, finished, on-end, on-equals, on-other, on-mark, grown, on-digit, step, entered, popped}
+use Rattle.import_frames.specs.Kept as kept
+use Rattle.import_frames.proofs.Laws.{yes, no, hit, miss, hit-lt, miss-lt, hit-le, miss-le, nine-smalls}
+use borrow.Author.Needs.{needs}
+use Rattle.import_frames.proofs.on_equals.Statement.{statement}
+use Rattle.import_frames.proofs.on_equals.Tie as tie
+use Rattle.import_frames.proofs.on_equals.Reads as reads
+use Rattle.import_frames.proofs.on_equals.Lts as lts
+use Rattle.import_frames.proofs.on_end.Reads as on-end-reads
+use Rattle.import_frames.proofs.with_comparison.Reads as with-comparison-reads
+
+with-comparison-requires : tie.Need-with-comparison-requires
+with-comparison-requires c κs = search needs
+
+returns : tie.Need-returns
+unfolding on-equals
+returns c = hit (c .before .before .before .before .before .args .s .mode) 0 _ _ (c .before .before .before .if1 .taken) (hit (c .before .before .before .before .before .args .s .compared) 1 _ _ (c .before .if2 .taken) (c .with-comparison .ensures))
+
+with-comparison-requires-2 : tie.Need-with-comparison-requires-2
+with-comparison-requires-2 c κs = search needs
+
+returns-2 : tie.Need-returns-2
+unfolding on-equals
+returns-2 c = hit (c .before .before .before .before .before .before .before .args .s .mode) 0 _ _ (c .before .before .before .before .before .if1 .taken) (miss (c .before .before .before .before .before .before .before .args .s .compared) 1 _ _ (c .before .before .before .if2 .left) (hit (c .before .before .before .before .before .before .before .args .s .compared) 3 _ _ (c .before .if3 .taken) (c .with-comparison2 .ensures)))
+
+on-end-requires : tie.Need-on-end-requires
+on-end-requires c κs = search needs
+
+returns-3 : tie.Need-returns-3
+unfolding on-equals
+returns-3 c = hit (c .before .before .before .before .before .before .before .args .s .mode) 0 _ _ (c .before .before .before .before .before .if1 .taken) (miss (c .before .before .before .before .before .before .before .args .s .compared) 1 _ _ (c .before .before .before .if2 .left) (miss (c .before .before .before .before .before .before .before .args .s .compared) 3 _ _ (c .before .if3 .left) (c .on-end .ensures)))
+
+on-end-requires-2 : tie.Need-on-end-requires-2
+on-end-requires-2 c κs = search needs
+
+returns-4 : tie.Need-returns-4
+unfolding on-equals
+returns-4 c = miss (c .before .before .before .args .s .mode) 0 _ _ (c .before .if1 .left) (c .on-end2 .ensures)
+
+pub on-equals-spec : {M : Type 1} → statement M
+on-equals-spec =
+    tie.close
+    (tie.spec
+    with-comparison-requires
+    returns
+    with-comparison-requires-2
+    returns-2
+    on-end-requires
+    returns-3
+    on-end-requires-2
+    returns-4)

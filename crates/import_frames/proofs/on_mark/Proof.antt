@@ -1,0 +1,81 @@
+use mathlib.Core.Path.{_≡_, refl, sym, ap, _∙_, subst}
+use mathlib.Core.Bool.{Bool}
+use mathlib.Core.List.{List}
+use Prim.Native.Nat.{ℕ}
+use native.Mathlib.Omega.{arith}
+use lib.IntN.{ℤ}
+use lib.ListN.{length}
+use Rattle.import_numbers.specs.Numbers.{all-within}
+use Rattle.import_frames.specs.declared.Frame.{Frame}
+use Rattle.import_frames.specs.Frames as f
+use Rattle.import_frames.specs.Frames.{Sound, factor, closed, total, on-sign, on-compare, less, compared-with, finished, on-end, on-equals, on-other, on-mark, grown, on-digit, step, entered, popped}
+use Rattle.import_frames.specs.Kept as kept
+use Rattle.import_frames.proofs.Laws.{yes, no, hit, miss, hit-lt, miss-lt, hit-le, miss-le, nine-smalls}
+use borrow.Author.Needs.{needs}
+use Rattle.import_frames.proofs.on_mark.Statement.{statement}
+use Rattle.import_frames.proofs.on_mark.Tie as tie
+use Rattle.import_frames.proofs.on_mark.Reads as reads
+use Rattle.import_frames.proofs.on_mark.Lts as lts
+use Rattle.import_frames.proofs.is_blank.Reads as is-blank-reads
+use Rattle.import_frames.proofs.moded.Reads as moded-reads
+use Rattle.import_frames.proofs.on_other.Reads as on-other-reads
+use Rattle.import_frames.proofs.on_sign.Reads as on-sign-reads
+
+is-blank-requires : tie.Need-is-blank-requires
+is-blank-requires c κs = search needs
+
+returns : tie.Need-returns
+unfolding on-mark
+returns c = yes (f.blank (c .before .before .args .k)) _ _ (c .before .is-blank .ensures) (c .if1 .taken) refl
+
+moded-requires : tie.Need-moded-requires
+moded-requires c κs = search needs
+
+returns-2 : tie.Need-returns-2
+unfolding on-mark
+returns-2 c = no (f.blank (c .before .before .before .before .args .k)) _ _ (c .before .before .before .is-blank .ensures) (c .before .before .if1 .left) (hit (c .before .before .before .before .args .k) 42 _ _ (c .before .if2 .taken) (c .moded .ensures))
+
+on-sign-requires : tie.Need-on-sign-requires
+on-sign-requires c κs = search needs
+
+returns-3 : tie.Need-returns-3
+unfolding on-mark
+returns-3 c = no (f.blank (c .before .before .before .before .before .args .k)) _ _ (c .before .before .before .before .is-blank .ensures) (c .before .before .before .if1 .left) (miss (c .before .before .before .before .before .args .k) 42 _ _ (c .before .before .if2 .left) (hit (c .before .before .before .before .before .args .k) 43 _ _ (c .before .if3 .taken) (c .on-sign .ensures)))
+
+on-sign-requires-2 : tie.Need-on-sign-requires-2
+on-sign-requires-2 c κs = search needs
+
+returns-4 : tie.Need-returns-4
+unfolding on-mark
+returns-4 c = no (f.blank (c .before .before .before .before .before .before .args .k)) _ _ (c .before .before .before .before .before .is-blank .ensures) (c .before .before .before .before .if1 .left) (miss (c .before .before .before .before .before .before .args .k) 42 _ _ (c .before .before .before .if2 .left) (miss (c .before .before .before .before .before .before .args .k) 43 _ _ (c .before .before .if3 .left) (hit (c .before .before .before .before .before .before .args .k) 45 _ _ (c .before .if4 .taken) (c .on-sign2 .ensures))))
+
+moded-requires-2 : tie.Need-moded-requires-2
+moded-requires-2 c κs = search needs
+
+returns-5 : tie.Need-returns-5
+unfolding on-mark
+returns-5 c = no (f.blank (c .before .before .before .before .before .before .before .args .k)) _ _ (c .before .before .before .before .before .before .is-blank .ensures) (c .before .before .before .before .before .if1 .left) (miss (c .before .before .before .before .before .before .before .args .k) 42 _ _ (c .before .before .before .before .if2 .left) (miss (c .before .before .before .before .before .before .before .args .k) 43 _ _ (c .before .before .before .if3 .left) (miss (c .before .before .before .before .before .before .before .args .k) 45 _ _ (c .before .before .if4 .left) (hit (c .before .before .before .before .before .before .before .args .k) 76 _ _ (c .before .if5 .taken) (c .moded2 .ensures)))))
+
+on-other-requires : tie.Need-on-other-requires
+on-other-requires c κs = search needs
+
+returns-6 : tie.Need-returns-6
+unfolding on-mark
+returns-6 c = no (f.blank (c .before .before .before .before .before .before .before .args .k)) _ _ (c .before .before .before .before .before .before .is-blank .ensures) (c .before .before .before .before .before .if1 .left) (miss (c .before .before .before .before .before .before .before .args .k) 42 _ _ (c .before .before .before .before .if2 .left) (miss (c .before .before .before .before .before .before .before .args .k) 43 _ _ (c .before .before .before .if3 .left) (miss (c .before .before .before .before .before .before .before .args .k) 45 _ _ (c .before .before .if4 .left) (miss (c .before .before .before .before .before .before .before .args .k) 76 _ _ (c .before .if5 .left) (c .on-other .ensures)))))
+
+pub on-mark-spec : {M : Type 1} → statement M
+on-mark-spec =
+    tie.close
+    (tie.spec
+    is-blank-requires
+    returns
+    moded-requires
+    returns-2
+    on-sign-requires
+    returns-3
+    on-sign-requires-2
+    returns-4
+    moded-requires-2
+    returns-5
+    on-other-requires
+    returns-6)

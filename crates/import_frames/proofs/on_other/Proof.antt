@@ -1,0 +1,62 @@
+use mathlib.Core.Path.{_≡_, refl, sym, ap, _∙_, subst}
+use mathlib.Core.Bool.{Bool}
+use mathlib.Core.List.{List}
+use Prim.Native.Nat.{ℕ}
+use native.Mathlib.Omega.{arith}
+use lib.IntN.{ℤ}
+use lib.ListN.{length}
+use Rattle.import_numbers.specs.Numbers.{all-within}
+use Rattle.import_frames.specs.declared.Frame.{Frame}
+use Rattle.import_frames.specs.Frames as f
+use Rattle.import_frames.specs.Frames.{Sound, factor, closed, total, on-sign, on-compare, less, compared-with, finished, on-end, on-equals, on-other, on-mark, grown, on-digit, step, entered, popped}
+use Rattle.import_frames.specs.Kept as kept
+use Rattle.import_frames.proofs.Laws.{yes, no, hit, miss, hit-lt, miss-lt, hit-le, miss-le, nine-smalls}
+use borrow.Author.Needs.{needs}
+use Rattle.import_frames.proofs.on_other.Statement.{statement}
+use Rattle.import_frames.proofs.on_other.Tie as tie
+use Rattle.import_frames.proofs.on_other.Reads as reads
+use Rattle.import_frames.proofs.on_other.Lts as lts
+use Rattle.import_frames.proofs.on_compare.Reads as on-compare-reads
+use Rattle.import_frames.proofs.on_end.Reads as on-end-reads
+use Rattle.import_frames.proofs.on_equals.Reads as on-equals-reads
+
+on-equals-requires : tie.Need-on-equals-requires
+on-equals-requires c κs = search needs
+
+returns : tie.Need-returns
+unfolding on-other
+returns c = hit (c .before .before .args .k) 61 _ _ (c .before .if1 .taken) (c .on-equals .ensures)
+
+on-compare-requires : tie.Need-on-compare-requires
+on-compare-requires c κs = search needs
+
+returns-2 : tie.Need-returns-2
+unfolding on-other
+returns-2 c = miss (c .before .before .before .args .k) 61 _ _ (c .before .before .if1 .left) (hit (c .before .before .before .args .k) 60 _ _ (c .before .if2 .taken) (c .on-compare .ensures))
+
+on-compare-requires-2 : tie.Need-on-compare-requires-2
+on-compare-requires-2 c κs = search needs
+
+returns-3 : tie.Need-returns-3
+unfolding on-other
+returns-3 c = miss (c .before .before .before .before .args .k) 61 _ _ (c .before .before .before .if1 .left) (miss (c .before .before .before .before .args .k) 60 _ _ (c .before .before .if2 .left) (hit (c .before .before .before .before .args .k) 62 _ _ (c .before .if3 .taken) (c .on-compare2 .ensures)))
+
+on-end-requires : tie.Need-on-end-requires
+on-end-requires c κs = search needs
+
+returns-4 : tie.Need-returns-4
+unfolding on-other
+returns-4 c = miss (c .before .before .before .before .args .k) 61 _ _ (c .before .before .before .if1 .left) (miss (c .before .before .before .before .args .k) 60 _ _ (c .before .before .if2 .left) (miss (c .before .before .before .before .args .k) 62 _ _ (c .before .if3 .left) (c .on-end .ensures)))
+
+pub on-other-spec : {M : Type 1} → statement M
+on-other-spec =
+    tie.close
+    (tie.spec
+    on-equals-requires
+    returns
+    on-compare-requires
+    returns-2
+    on-compare-requires-2
+    returns-3
+    on-end-requires
+    returns-4)

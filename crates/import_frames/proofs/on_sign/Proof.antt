@@ -1,0 +1,62 @@
+use mathlib.Core.Path.{_≡_, refl, sym, ap, _∙_, subst}
+use mathlib.Core.Bool.{Bool}
+use mathlib.Core.List.{List}
+use Prim.Native.Nat.{ℕ}
+use native.Mathlib.Omega.{arith}
+use lib.IntN.{ℤ}
+use lib.ListN.{length}
+use Rattle.import_numbers.specs.Numbers.{all-within}
+use Rattle.import_frames.specs.declared.Frame.{Frame}
+use Rattle.import_frames.specs.Frames as f
+use Rattle.import_frames.specs.Frames.{Sound, factor, closed, total, on-sign, on-compare, less, compared-with, finished, on-end, on-equals, on-other, on-mark, grown, on-digit, step, entered, popped}
+use Rattle.import_frames.specs.Kept as kept
+use Rattle.import_frames.proofs.Laws.{yes, no, hit, miss, hit-lt, miss-lt, hit-le, miss-le, nine-smalls}
+use borrow.Author.Needs.{needs}
+use Rattle.import_frames.proofs.on_sign.Statement.{statement}
+use Rattle.import_frames.proofs.on_sign.Tie as tie
+use Rattle.import_frames.proofs.on_sign.Reads as reads
+use Rattle.import_frames.proofs.on_sign.Lts as lts
+use Rattle.import_frames.proofs.over.Reads as over-reads
+use Rattle.import_frames.proofs.summed.Reads as summed-reads
+use Rattle.import_frames.proofs.total.Reads as total-reads
+use Rattle.import_linears.proofs.all_fit.Reads as all-fit-reads
+
+summed-requires : tie.Need-summed-requires
+summed-requires c κs = search needs
+
+returns : tie.Need-returns
+unfolding on-sign
+returns c = hit (c .before .before .before .before .args .s .mode) 0 _ _ (c .before .before .if1 .taken) (c .summed .ensures)
+
+total-requires : tie.Need-total-requires
+total-requires c κs = search needs
+
+all-fit-requires : tie.Need-all-fit-requires
+all-fit-requires c κs = search needs
+
+summed-requires-2 : tie.Need-summed-requires-2
+summed-requires-2 c κs = search needs
+
+returns-2 : tie.Need-returns-2
+unfolding on-sign
+returns-2 c = miss (c .before .before .before .before .before .before .args .s .mode) 0 _ _ (c .before .before .before .before .if1 .left) (yes (all-within (total (c .before .before .before .before .before .before .args .s))) _ _ (c .before .before .all-fit .ensures ∙ ap all-within (c .before .before .before .total .ensures)) (c .before .if2 .taken) (c .summed2 .ensures ∙ ap (λ (t : List ℤ). f.summed (c .before .before .before .before .before .before .args .s) t (c .before .before .before .before .before .before .args .minus)) (c .before .before .before .total .ensures)))
+
+over-requires : tie.Need-over-requires
+over-requires c κs = search needs
+
+returns-3 : tie.Need-returns-3
+unfolding on-sign
+returns-3 c = miss (c .before .before .before .before .before .before .args .s .mode) 0 _ _ (c .before .before .before .before .if1 .left) (no (all-within (total (c .before .before .before .before .before .before .args .s))) _ _ (c .before .before .all-fit .ensures ∙ ap all-within (c .before .before .before .total .ensures)) (c .before .if2 .left) (c .over .ensures))
+
+pub on-sign-spec : {M : Type 1} → statement M
+on-sign-spec =
+    tie.close
+    (tie.spec
+    summed-requires
+    returns
+    total-requires
+    all-fit-requires
+    summed-requires-2
+    returns-2
+    over-requires
+    returns-3)

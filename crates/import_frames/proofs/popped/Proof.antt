@@ -1,0 +1,47 @@
+use mathlib.Core.Path.{_≡_, refl, sym, ap, _∙_, subst}
+use mathlib.Core.Bool.{Bool}
+use mathlib.Core.List.{List}
+use Prim.Native.Nat.{ℕ}
+use native.Mathlib.Omega.{arith}
+use lib.IntN.{ℤ}
+use lib.ListN.{length}
+use Rattle.import_numbers.specs.Numbers.{all-within}
+use Rattle.import_frames.specs.declared.Frame.{Frame}
+use Rattle.import_frames.specs.Frames as f
+use Rattle.import_frames.specs.Frames.{Sound, factor, closed, total, on-sign, on-compare, less, compared-with, finished, on-end, on-equals, on-other, on-mark, grown, on-digit, step, entered, popped}
+use Rattle.import_frames.specs.Kept as kept
+use Rattle.import_frames.proofs.Laws.{yes, no, hit, miss, hit-lt, miss-lt, hit-le, miss-le, nine-smalls}
+use borrow.Author.Needs.{needs}
+use Rattle.import_frames.proofs.popped.Statement.{statement}
+use Rattle.import_frames.proofs.popped.Tie as tie
+use Rattle.import_frames.proofs.popped.Reads as reads
+use Rattle.import_frames.proofs.popped.Lts as lts
+use Rattle.import_frames.proofs.closed.Reads as closed-reads
+use Rattle.import_frames.proofs.entered.Reads as entered-reads
+use Rattle.import_frames.proofs.finished.Reads as finished-reads
+
+closed-requires : tie.Need-closed-requires
+closed-requires c κs = search needs
+
+returns : tie.Need-returns
+unfolding popped
+returns c = yes (closed (c .before .before .args .s) .beyond) _ _ (ap (λ (g : Frame). g .beyond) (c .before .closed .ensures)) (c .if1 .taken) (c .before .closed .ensures)
+
+finished-requires : tie.Need-finished-requires
+finished-requires c κs = subst Sound (sym (c .before .closed .ensures)) (kept.closed-sound (c .before .before .args .s) (c .before .before .pre .1))
+
+returns-2 : tie.Need-returns-2
+unfolding popped
+returns-2 c = no (closed (c .before .before .before .before .args .s) .beyond) _ _ (ap (λ (g : Frame). g .beyond) (c .before .before .before .closed .ensures)) (c .before .before .if1 .left) (yes (finished (closed (c .before .before .before .before .args .s)) .beyond) _ _ (ap (λ (g : Frame). g .beyond) (c .before .finished .ensures ∙ ap finished (c .before .before .before .closed .ensures))) (c .if2 .taken) (c .before .finished .ensures ∙ ap finished (c .before .before .before .closed .ensures)))
+
+entered-requires : tie.Need-entered-requires
+entered-requires c κs = (c .before .before .before .before .pre .0, subst Sound (sym (c .before .finished .ensures ∙ ap finished (c .before .before .before .closed .ensures))) (kept.finished-sound (closed (c .before .before .before .before .args .s)) (kept.closed-sound (c .before .before .before .before .args .s) (c .before .before .before .before .pre .1))))
+
+returns-3 : tie.Need-returns-3
+unfolding popped
+returns-3 c = no (closed (c .before .before .before .before .before .args .s) .beyond) _ _ (ap (λ (g : Frame). g .beyond) (c .before .before .before .before .closed .ensures)) (c .before .before .before .if1 .left) (no (finished (closed (c .before .before .before .before .before .args .s)) .beyond) _ _ (ap (λ (g : Frame). g .beyond) (c .before .before .finished .ensures ∙ ap finished (c .before .before .before .before .closed .ensures))) (c .before .if2 .left) (c .entered .ensures ∙ ap (entered (c .before .before .before .before .before .args .o)) (c .before .before .finished .ensures ∙ ap finished (c .before .before .before .before .closed .ensures))))
+
+pub popped-spec : {M : Type 1} → statement M
+popped-spec =
+    tie.close
+    (tie.spec closed-requires returns finished-requires returns-2 entered-requires returns-3)

@@ -1,0 +1,73 @@
+use mathlib.Core.Path.{_≡_, refl, sym, ap, _∙_, subst}
+use mathlib.Core.Bool.{Bool}
+use mathlib.Core.List.{List}
+use Prim.Native.Nat.{ℕ}
+use native.Mathlib.Omega.{arith}
+use lib.IntN.{ℤ}
+use lib.ListN.{length}
+use Rattle.import_numbers.specs.Numbers.{all-within}
+use Rattle.import_frames.specs.declared.Frame.{Frame}
+use Rattle.import_frames.specs.Frames as f
+use Rattle.import_frames.specs.Frames.{Sound, factor, closed, total, on-sign, on-compare, less, compared-with, finished, on-end, on-equals, on-other, on-mark, grown, on-digit, step, entered, popped}
+use Rattle.import_frames.specs.Kept as kept
+use Rattle.import_frames.proofs.Laws.{yes, no, hit, miss, hit-lt, miss-lt, hit-le, miss-le, nine-smalls}
+use borrow.Author.Needs.{needs}
+use Rattle.import_frames.proofs.step.Statement.{statement}
+use Rattle.import_frames.proofs.step.Tie as tie
+use Rattle.import_frames.proofs.step.Reads as reads
+use Rattle.import_frames.proofs.step.Lts as lts
+use Rattle.import_frames.proofs.closed.Reads as closed-reads
+use Rattle.import_frames.proofs.idle.Reads as idle-reads
+use Rattle.import_frames.proofs.is_digit.Reads as is-digit-reads
+use Rattle.import_frames.proofs.on_digit.Reads as on-digit-reads
+use Rattle.import_frames.proofs.on_mark.Reads as on-mark-reads
+
+idle-requires : tie.Need-idle-requires
+idle-requires c κs = search needs
+
+returns : tie.Need-returns
+unfolding step
+returns c = hit (c .before .before .before .before .args .s .mode) 6 _ _ (c .before .before .if1 .taken) (hit (c .before .before .before .before .args .k) 34 _ _ (c .before .if2 .taken) (c .idle .ensures))
+
+returns-2 : tie.Need-returns-2
+unfolding step
+returns-2 c = hit (c .before .before .before .args .s .mode) 6 _ _ (c .before .if1 .taken) (miss (c .before .before .before .args .k) 34 _ _ (c .if2 .left) (refl))
+
+is-digit-requires : tie.Need-is-digit-requires
+is-digit-requires c κs = search needs
+
+on-digit-requires : tie.Need-on-digit-requires
+on-digit-requires c κs = (c .before .before .before .before .pre, sym (c .before .is-digit .ensures) ∙ c .if3 .taken)
+
+returns-3 : tie.Need-returns-3
+unfolding step
+returns-3 c = miss (c .before .before .before .before .before .args .s .mode) 6 _ _ (c .before .before .before .if1 .left) (yes (f.digit (c .before .before .before .before .before .args .k)) _ _ (c .before .before .is-digit .ensures) (c .before .if3 .taken) (c .on-digit .ensures))
+
+closed-requires : tie.Need-closed-requires
+closed-requires c κs = search needs
+
+returns-4 : tie.Need-returns-4
+unfolding step
+returns-4 c = miss (c .before .before .before .before .before .before .args .s .mode) 6 _ _ (c .before .before .before .before .if1 .left) (no (f.digit (c .before .before .before .before .before .before .args .k)) _ _ (c .before .before .before .is-digit .ensures) (c .before .before .if3 .left) (yes (closed (c .before .before .before .before .before .before .args .s) .beyond) _ _ (ap (λ (g : Frame). g .beyond) (c .before .closed .ensures)) (c .if4 .taken) (c .before .closed .ensures)))
+
+on-mark-requires : tie.Need-on-mark-requires
+on-mark-requires c κs = subst Sound (sym (c .before .closed .ensures)) (kept.closed-sound (c .before .before .before .before .before .before .args .s) (c .before .before .before .before .before .before .pre))
+
+returns-5 : tie.Need-returns-5
+unfolding step
+returns-5 c = miss (c .before .before .before .before .before .before .before .args .s .mode) 6 _ _ (c .before .before .before .before .before .if1 .left) (no (f.digit (c .before .before .before .before .before .before .before .args .k)) _ _ (c .before .before .before .before .is-digit .ensures) (c .before .before .before .if3 .left) (no (closed (c .before .before .before .before .before .before .before .args .s) .beyond) _ _ (ap (λ (g : Frame). g .beyond) (c .before .before .closed .ensures)) (c .before .if4 .left) (c .on-mark .ensures ∙ ap (λ (g : Frame). on-mark g (c .before .before .before .before .before .before .before .args .k)) (c .before .before .closed .ensures))))
+
+pub step-spec : {M : Type 1} → statement M
+step-spec =
+    tie.close
+    (tie.spec
+    idle-requires
+    returns
+    returns-2
+    is-digit-requires
+    on-digit-requires
+    returns-3
+    closed-requires
+    returns-4
+    on-mark-requires
+    returns-5)

@@ -1,0 +1,36 @@
+use mathlib.Core.Path.{_≡_, refl, sym, ap, _∙_, subst}
+use mathlib.Core.Bool.{Bool}
+use mathlib.Core.List.{List}
+use Prim.Native.Nat.{ℕ}
+use native.Mathlib.Omega.{arith}
+use lib.IntN.{ℤ}
+use lib.ListN.{length}
+use Rattle.import_numbers.specs.Numbers.{all-within}
+use Rattle.import_frames.specs.declared.Frame.{Frame}
+use Rattle.import_frames.specs.Frames as f
+use Rattle.import_frames.specs.Frames.{Sound, factor, closed, total, on-sign, on-compare, less, compared-with, finished, on-end, on-equals, on-other, on-mark, grown, on-digit, step, entered, popped}
+use Rattle.import_frames.specs.Kept as kept
+use Rattle.import_frames.proofs.Laws.{yes, no, hit, miss, hit-lt, miss-lt, hit-le, miss-le, nine-smalls}
+use Rattle.import_frames.proofs.total.Statement.{statement}
+use Rattle.import_frames.proofs.total.Tie as tie
+use Rattle.import_frames.proofs.total.Reads as reads
+use Rattle.import_frames.proofs.total.Lts as lts
+use Rattle.whole_linears.proofs.add.Reads as add-reads
+use Rattle.whole_linears.proofs.sub.Reads as sub-reads
+
+sub-requires : tie.Need-sub-requires
+sub-requires c κs = (nine-smalls (c .before .before .before .pre .sum-nine), nine-smalls (c .before .before .before .pre .term-nine))
+
+returns : tie.Need-returns
+unfolding total
+returns c = yes ((c .before .before .before .before .args .s) .minus) _ _ refl (c .before .if1 .taken) (c .sub .ensures)
+
+add-requires : tie.Need-add-requires
+add-requires c κs = (nine-smalls (c .before .before .before .pre .sum-nine), nine-smalls (c .before .before .before .pre .term-nine))
+
+returns-2 : tie.Need-returns-2
+unfolding total
+returns-2 c = no ((c .before .before .before .before .args .s) .minus) _ _ refl (c .before .if1 .left) (c .add .ensures)
+
+pub total-spec : {M : Type 1} → statement M
+total-spec = tie.close (tie.spec sub-requires returns add-requires returns-2)

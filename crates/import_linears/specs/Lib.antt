@@ -1,0 +1,2 @@
+-- linears as nine numbers
+pub mod Nine
