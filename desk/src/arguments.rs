@@ -23,6 +23,7 @@ pub struct Arguments {
     pub html: bool,
     pub table: bool,
     pub paths: bool,
+    pub text: bool,
     pub help: bool,
 }
 
@@ -66,6 +67,7 @@ impl Arguments {
             "--html" => self.html = true,
             "--table" => self.table = true,
             "--paths" => self.paths = true,
+            "--text" => self.text = true,
             _ => self.help = true,
         }
         Ok(())

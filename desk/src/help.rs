@@ -6,6 +6,7 @@ usage: ./plan MODEL HORIZON [--nodes N]                   the plan of a site, as
        ./plan MODEL HORIZON MASK L1 .. D [--page]         the same, the state in numbers
        ./plan check MODEL                                 accepted, or why not
        ./plan show MODEL                                  the model in words
+       ./plan show --text MODEL                           the model as text, to be changed and imported
        ./plan find MODEL NAME                             the action that carries a name
        ./plan picture MODEL HORIZON --along LEVEL .. -o FILE
                                                           values and actions drawn over one level or two
@@ -37,12 +38,15 @@ that it breaks, and advice. With --raw: 'R number place', 'R 0 0' for an accepte
 ";
 
 pub const SHOW: &str = "\
-usage: ./plan show MODEL [--raw]
+usage: ./plan show [--text] MODEL [--raw]
 
 Prints the model in words, one command to a line with its offset in the file. Below each reward, chance, next level and
 end worth stands its diagram: 'if' a test or condition, 'then' the branch for yes, 'else' the other. C1 is a condition now, N1
 one of the next step; 'forbidden' is where an action must not be taken. A refused model is shown as far as it can be read,
 and then its refusal.
+
+  --text        the model as docs/TEXT-MODELS.md has it: importing this text gives a model of the same values. A model whose
+                diagrams branch on both sides again and again has no text that fits, which is said then
 ";
 
 pub const FIND: &str = "\

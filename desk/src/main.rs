@@ -15,6 +15,7 @@ mod solved;
 #[cfg(test)]
 mod spell;
 mod state;
+mod text;
 mod verbs;
 mod whole;
 mod widths;

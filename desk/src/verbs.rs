@@ -9,7 +9,7 @@ use crate::refusals::{explain, Subject};
 use crate::solved::{Solved, Unsolved};
 use crate::state::{Given, State};
 use crate::widths::{LEVELS, LOADING, MODEL_BYTES_MOST, NODES_MOST, NO_ACTION};
-use crate::{help, show, words, Failure};
+use crate::{help, show, text, words, Failure};
 use std::io::{Read, Write};
 
 type Done = Result<(), Failure>;
@@ -21,7 +21,7 @@ pub fn run(given: &[String], out: &mut Vec<u8>) -> Done {
     let rest = &given[1..];
     match first.as_str() {
         "check" => verb(rest, &["--raw"], help::CHECK, out, check),
-        "show" => verb(rest, &["--raw"], help::SHOW, out, show),
+        "show" => verb(rest, &["--raw", "--text"], help::SHOW, out, show),
         "find" => verb(rest, &["--raw"], help::FIND, out, find),
         "picture" => verb(rest, &PICTURE_OPTIONS, help::PICTURE, out, picture),
         "--to-new" => verb(rest, &["--raw"], help::TO_NEW, out, to_new),
@@ -105,6 +105,12 @@ fn check(arguments: &Arguments, out: &mut Vec<u8>) -> Done {
 
 fn show(arguments: &Arguments, out: &mut Vec<u8>) -> Done {
     let (path, model) = one_model(arguments)?;
+    if arguments.text {
+        library::validate(&model).map_err(|refused| refuse(arguments, refused, &subject(path, &model), out))?;
+        let text = text::text(&Written::read(Model::new(&model)));
+        out.extend(text.map_err(|why| Failure::Around(format!("{path} cannot be written as text: {why}")))?.bytes());
+        return Ok(());
+    }
     out.extend(show::show(Model::new(&model)).bytes());
     library::validate(&model).map_err(|refused| refuse(arguments, refused, &subject(path, &model), out))
 }

@@ -37,27 +37,35 @@ pub fn sum(terms: &[Term]) -> String {
     text
 }
 
+/// A number before a level, or the constant, if it is not zero.
+pub fn term((number, level): (i64, Option<usize>)) -> Option<Term> {
+    (number != 0).then(|| Term { negative: number < 0, size: number.unsigned_abs().to_string(), level })
+}
+
 fn terms(linear: &Linear) -> Vec<Term> {
     let levels = linear.coefficients.iter().enumerate().map(|(level, &number)| (number, Some(level)));
-    let numbers = levels.chain([(linear.constant, None)]).filter(|(number, _)| *number != 0);
-    let term =
-        |(number, level): (i64, _)| Term { negative: number < 0, size: number.unsigned_abs().to_string(), level };
-    numbers.map(term).collect()
+    levels.chain([(linear.constant, None)]).filter_map(term).collect()
 }
 
 pub fn linear(linear: &Linear) -> String {
     sum(&terms(linear))
 }
 
-/// The test p <= 0 with p's negative terms on the other side; read from the right where only that side has levels.
-pub fn test(linear: &Linear) -> String {
-    let (mut right, left): (Vec<Term>, Vec<Term>) = terms(linear).into_iter().partition(|term| term.negative);
+/// The two sides of a test p <= 0, p's negative terms on the other one, and whether it reads >=: where only that side has
+/// levels, it stands first.
+pub fn sides(terms: Vec<Term>) -> (String, bool, String) {
+    let (mut right, left): (Vec<Term>, Vec<Term>) = terms.into_iter().partition(|term| term.negative);
     right.iter_mut().for_each(|term| term.negative = false);
     let has_levels = |side: &[Term]| side.iter().any(|term| term.level.is_some());
     if !has_levels(&left) && has_levels(&right) {
-        return format!("{} >= {}", sum(&right), sum(&left));
+        return (sum(&right), true, sum(&left));
     }
-    format!("{} <= {}", sum(&left), sum(&right))
+    (sum(&left), false, sum(&right))
+}
+
+pub fn test(linear: &Linear) -> String {
+    let (left, is_least, right) = sides(terms(linear));
+    format!("{left} {} {right}", if is_least { ">=" } else { "<=" })
 }
 
 /// C1 for a condition now, N1 for the next step's.

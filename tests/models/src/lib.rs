@@ -6,6 +6,7 @@ mod foreign;
 mod large;
 mod old;
 mod random;
+mod texts;
 
 pub use domains::{chain, inventory, releases, reservoirs, rover, wet_reservoirs};
 pub use forbidding::forbidding;
@@ -15,6 +16,9 @@ pub use large::{
 };
 pub use old::{old_form, Form, NEW, OLD, OLD_BYTES};
 pub use random::{commands, damaged, damaged_in, random, Rng};
+pub use texts::{
+    damaged_text, doubling, limits, long_row, text, text_for_length, text_of_length, with_reward, POND_TEXT, TEXT_BYTES,
+};
 
 /// The levels, actions and bytes that a model may have, and the bytes of its site command.
 pub const LEVELS: usize = 8;

@@ -4,30 +4,36 @@
 //! `widths` has the sizes of everything; `model` reads and judges the bytes, in the planner's form or in the old one,
 //! `diagram` has the rules on diagrams and `unique` their hash tables, `solve` the operations of a solve, `read` the
 //! readers of tables, `find` an action by its name, `page` the page of a state, `prune` cuts off a path, `convert` writes a
-//! model in the other form, and `plain` works a state out from the written model, without diagrams. `certificate` finds
-//! paths to cut off, for the tests; `check_hex` is for the programs in `bin`.
+//! model in the other form, and `plain` works a state out from the written model, without diagrams. `text` reads models
+//! written as text, `import` gives their bytes, and `same` compares what two models mean. `certificate` finds paths to cut off, for the tests; `check_hex` is for
+//! the programs in `bin`.
 
 pub mod certificate;
+pub mod check_hex;
 pub mod convert;
 pub mod diagram;
 pub mod find;
-pub mod check_hex;
+pub mod import;
 pub mod model;
 pub mod page;
 pub mod plain;
 pub mod prune;
 pub mod read;
+pub mod same;
 pub mod solve;
+pub mod text;
 mod unique;
 pub mod widths;
 
 pub use convert::{to_new, to_old};
 pub use find::find;
+pub use import::import;
 pub use model::{validate, validate_old, Model, Refusal, Site};
 pub use page::page;
 pub use plain::{worth, worth_old};
 pub use prune::prune;
 pub use read::{listing, name, program, value, Reading};
+pub use same::same;
 pub use solve::{solve, solve_old, solve_with_room, Outcome};
 
 use widths::{CONSTANT, LEVELS, NUMBERS};

@@ -2,8 +2,8 @@
 
 use reference::widths::{LEVELS, NODES_MOST, NODE_WORDS, WORK_WORDS};
 use reference::{
-    find, name, program, prune, solve_with_room, to_new, to_old, validate, validate_old, value, with_deep_stack, worth,
-    Reading, Refusal, State,
+    find, import, name, program, prune, same, solve_with_room, to_new, to_old, validate, validate_old, value,
+    with_deep_stack, worth, Reading, Refusal, State,
 };
 use std::str::FromStr;
 use std::time::Instant;
@@ -20,10 +20,13 @@ reference find MODEL NAME
 reference prune MODEL HORIZON NODES STAGE TURNS MULTIPLIER ..
 reference to_new OLD FILE
 reference to_old MODEL FILE
-MODEL is a file, INPUT one with what the listing program reads, TURNS digits, 1 high and 0 low, or - for none. Each prints
+reference import TEXT FILE
+reference same MODEL MODEL STATES SEED
+MODEL is a file, TEXT one with a model written as text, INPUT one with what the listing program reads, TURNS digits, 1 high and 0 low, or - for none. Each prints
 number and place first, and after a success solve: peak; value and worth: action, low word, high word; name: the name; find:
-the action; prune: the plan's nodes before and after; to_new and to_old: the bytes written to FILE.
-list and print print what the listing program prints.";
+the action; prune: the plan's nodes before and after; to_new, to_old and import: the bytes written to FILE.
+list and print print what the listing program prints; same prints 1 if both models have the same site, names, and rewards,
+chances, next levels and end worth at so many random states, else 0.";
 
 fn number<T: FromStr>(args: &[String], place: usize) -> T {
     let parsed = args.get(place).and_then(|arg| arg.parse().ok());
@@ -136,6 +139,11 @@ fn run(args: &[String]) {
         "prune" => show_prune(&model, args),
         "to_new" if args.len() == 3 => write(to_new(&model, usize::MAX), &args[2]),
         "to_old" if args.len() == 3 => write(to_old(&model, usize::MAX), &args[2]),
+        "import" if args.len() == 3 => write(import(&model, usize::MAX), &args[2]),
+        "same" if args.len() == 5 => {
+            let other = std::fs::read(&args[2]).unwrap_or_else(|error| fail(&args[2], &error));
+            println!("{}", u32::from(same(&model, &other, number(args, 3), number(args, 4))));
+        }
         _ => usage(),
     }
 }

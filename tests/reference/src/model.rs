@@ -18,15 +18,15 @@ impl Refusal {
 }
 
 pub const LEAF: u8 = 0x10;
-const CONDITION: u8 = 0x11;
+pub const CONDITION: u8 = 0x11;
 pub const TEST: u8 = 0x12;
-const FORBIDDEN: u8 = 0x13;
-const REWARD: u8 = 0x20;
-const CHANCE: u8 = 0x21;
-const NEXT: u8 = 0x22;
-const END_WORTH: u8 = 0x23;
-const NAME: u8 = 0x30;
-const END: u8 = 0xFF;
+pub const FORBIDDEN: u8 = 0x13;
+pub const REWARD: u8 = 0x20;
+pub const CHANCE: u8 = 0x21;
+pub const NEXT: u8 = 0x22;
+pub const END_WORTH: u8 = 0x23;
+pub const NAME: u8 = 0x30;
+pub const END: u8 = 0xFF;
 
 /// The site command: levels, conditions, actions, weight total.
 #[derive(Clone, Copy, Debug)]

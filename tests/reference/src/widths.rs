@@ -10,6 +10,9 @@ pub const CONDITIONS: usize = 4;
 pub const WEIGHT_MOST: usize = 100;
 pub const STACK_MOST: usize = 32;
 pub const LETTERS: usize = 16;
+/// Bytes of a model written as text, and brackets in one another there.
+pub const TEXT_BYTES: usize = 262_144;
+pub const BRACKETS_MOST: usize = 32;
 
 /// Words of a node: kind, numbers, high, low. N divides node words by this, and work words by another eight.
 pub const NODE_WORDS: usize = 1 + NUMBERS + 2;

@@ -1,7 +1,7 @@
 //! What `crates/check_pond` has to print, worked out by the second program.
 
-use reference::diagram::{condition, divided, Id, Kind, Store};
 use reference::check_hex::bytes;
+use reference::diagram::{condition, divided, Id, Kind, Store};
 use reference::model::{open, Model, Tree};
 use reference::widths::{NODE_WORDS, NUMBERS};
 use reference::{listing, solve_with_room};
