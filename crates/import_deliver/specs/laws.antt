@@ -1,0 +1,2 @@
+-- an import is its passes, one by one
+pub mod Passes
