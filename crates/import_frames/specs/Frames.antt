@@ -148,7 +148,7 @@ entered o f = if (eqb (f .mode) 4) (idle 4) (factor o (f .sum))
 unfoldable pub popped : Frame → Frame → Frame
 popped o s = unless-over (closed s) (unless-over (finished (closed s)) (entered o (finished (closed s))))
 
--- ---- the run over bytes, with the frames of the brackets around
+-- ---- where a frame ends, and where a bracket opens another
 
 -- a ")", or where only a sum is asked for what is no byte of one
 abbrev pub stops : Bool → Frame → ℕ → Bool
@@ -156,15 +156,3 @@ stops only s k = if (eqb (s .mode) 6) false (if (eqb k 41) true (if (of-sum k) f
 
 abbrev pub opens : Frame → ℕ → Bool
 opens s k = if (eqb (s .mode) 6) false (eqb k 40)
-
--- a number was beyond, or brackets do not match; or the frame and the bytes at which it ends
-pub data Out : Type 0 where
-  stopped : Out
-  ended : Frame → List ℕ → Out
-
-unfoldable pub run : Bool → ℕ → List Frame → Frame → List ℕ → Out
-unfolding step popped
-run only d [] s [] = if (s .beyond) stopped (ended s [])
-run only d (o ∷ S) s [] = stopped
-run only d [] s (k ∷ w) = if (s .beyond) stopped (if (stops only s k) (ended s (k ∷ w)) (if (opens s k) (elim d [ zero ↦ stopped | suc e ↦ run only e (s ∷ []) (idle 0) w ]) (run only d [] (step s k) w)))
-run only d (o ∷ S) s (k ∷ w) = if (s .beyond) stopped (if (stops only s k) (if (eqb k 41) (run only (suc d) S (popped o s) w) stopped) (if (opens s k) (elim d [ zero ↦ stopped | suc e ↦ run only e (s ∷ o ∷ S) (idle 0) w ]) (run only d (o ∷ S) (step s k) w)))

@@ -203,9 +203,9 @@ pub fn factor(s: Frame, q: [i64; NUMBERS]) -> Frame
     ensures { λ r. ⌜ r ≡ f.factor s q ⌝ }
 {
     let p = s.term;
-    let t = product(p, q);
-    if all_fit(t) {
-        return termed(s, t);
+    let y = product(p, q);
+    if all_fit(y) {
+        return termed(s, y);
     }
     over()
 }

@@ -7,7 +7,7 @@ use lib.Dec.{T, eqb}
 use lib.IntN.{ℤ, pos, negsuc}
 use Rattle.theory.specs.Diagram.{Linear, no-coeffs, _⊞_, _⊟_, _⊠_, addL, scaleL}
 use Rattle.theory.specs.Plain.{in-32-bits}
-use Rattle.import_grammar.specs.Grammar.{none, Digits, one, also, Digit, d0, d1, d2, d3, d4, d6, d7, d8, i1, Op, lt, le, gt, ge, Sign, adds, takes, ConstFactor, number, kbracket, ConstTerm, kfactor, ktimes, ConstSum, kterm, kneg, kplus, vfactor, level, vterm, Sum, constant, varying, Atom, compare, Setting, setting, head, worth, end, start, closed, Text, entire, deepest}
+use Rattle.import_grammar.specs.Grammar.{none, Digits, one, also, Digit, d0, d1, d2, d3, d4, d5, d6, d7, d8, i1, Op, lt, le, gt, ge, Sign, adds, takes, ConstFactor, number, kbracket, ConstTerm, kfactor, ktimes, ConstSum, kterm, kneg, kplus, vfactor, level, vterm, Sum, constant, varying, Atom, compare, Setting, setting, head, worth, end, start, closed, Text, entire, deepest}
 use Rattle.import_numbers.specs.Numbers.{digits-value, linear-of, kfactor-linear, vfactor-linear, kfactor-numbers, vfactor-numbers, sum-numbers, atom-numbers, result-numbers, setting-numbers, before-numbers, numbers, all-within, beyond, difference, constant-linear}
 
 -- 2147483647 and 2147483648
@@ -36,6 +36,24 @@ product = constant (kterm (ktimes (digits (one d2)) none (kbracket none (kneg no
 negated : Sum deepest
 negated = constant (kneg none (ktimes (digits (one d2)) none (number none (one d3))))
 
+-- -65536 * 32768: the product is 2³¹ before the minus
+half : Digits
+half = also (also (also (also (one d6) d5) d5) d3) d6
+
+other : Digits
+other = also (also (also (also (one d3) d2) d7) d6) d8
+
+whole-term : Sum deepest
+whole-term = constant (kneg none (ktimes (digits half) none (number none other)))
+
+-- (-65536) * 32768
+in-brackets : Sum deepest
+in-brackets = constant (kterm (ktimes (kfactor (kbracket none (kneg none (digits half)) none)) none (number none other)))
+
+-- 65536 * 32768
+too-much : Sum deepest
+too-much = constant (kterm (ktimes (digits half) none (number none other)))
+
 -- L1
 level1 : Sum deepest
 level1 = varying (vterm (vfactor (level none i1)))
@@ -57,6 +75,10 @@ fits s = all-within (sum-numbers deepest s)
 table : T (not (fits over-and-back) && (fits least && (not (fits (constant (kterm (digits one-more)))) && (fits (constant (kterm (digits most))) && (fits product && fits negated)))))
 unfolding fits over-and-back least product negated digits most one-more all-within in-32-bits sum-numbers kfactor-numbers vfactor-numbers kfactor-linear vfactor-linear digits-value _⊞_ _⊟_ _⊠_ addL scaleL no-coeffs
 table = tt
+
+products : T (not (fits whole-term) && (fits in-brackets && not (fits too-much)))
+unfolding fits whole-term in-brackets too-much half other digits all-within in-32-bits sum-numbers kfactor-numbers vfactor-numbers kfactor-linear vfactor-linear digits-value _⊞_ _⊟_ _⊠_ addL scaleL no-coeffs
+products = tt
 
 -- "right less left for < and >=": 2³¹ more than L1 is beyond, 2³¹ less is not
 comparisons : T (not (all-within (atom-numbers (against le))) && (not (all-within (atom-numbers (against gt))) && (all-within (atom-numbers (against lt)) && all-within (atom-numbers (against ge)))))

@@ -1,0 +1,57 @@
+use mathlib.Core.Path.{_≡_, refl, sym, ap, _∙_, subst}
+use mathlib.Core.Bool.{Bool}
+use mathlib.Core.List.{List}
+use native.Mathlib.Omega.{arith}
+use lib.ListN.{length}
+use Rattle.import_frames.specs.Frames as f
+use Rattle.import_frames.proofs.Laws.{yes, no, hit, miss}
+use Rattle.import_sums.specs.Walks.{Reaches}
+use Rattle.import_sums.proofs.Laws.{begins, at-over, at-end, at-stop, goes-on, too-deep, comes-back, closes-over, closes-end, closes-odd, closes-well}
+use borrow.Author.Needs.{needs}
+use Rattle.import_sums.proofs.closing.Statement.{statement}
+use Rattle.import_sums.proofs.closing.Tie as tie
+use Rattle.import_sums.proofs.closing.Reads as reads
+use Rattle.import_sums.proofs.closing.Lts as lts
+use Rattle.import_frames.proofs.over.Reads as over-reads
+use Rattle.import_frames.proofs.popped.Reads as popped-reads
+
+returns : tie.Need-returns
+returns c = let s = c .before .before .before in closes-over _ _ _ (s .pre .0) _ (s .pre .1 .0) (s .pre .1 .1 .0) (s .pre .1 .1 .1) (c .if1 .taken)
+
+shared-slice-read-if3 : tie.Need-shared-slice-read-if3
+shared-slice-read-if3 c = search needs
+
+popped-requires : tie.Need-popped-requires
+popped-requires c κs = search needs
+
+add-t13 : tie.Need-add-t13
+add-t13 c = search needs
+
+returns-2 : tie.Need-returns-2
+returns-2 c = let s = c .before .before .before .before .before .before .before in closes-well _ _ _ (s .pre .0) _ (s .pre .1 .0) (s .pre .1 .1 .0) (s .pre .1 .1 .1) (c .before .before .before .before .if1 .left) (c .before .before .before .if2 .taken) (c .before .if3 .taken) (c .popped .ensures)
+
+over-requires : tie.Need-over-requires
+over-requires c κs = search needs
+
+returns-3 : tie.Need-returns-3
+returns-3 c = let s = c .before .before .before .before .before .before .before in closes-odd _ _ _ (s .pre .0) _ (s .pre .1 .0) (s .pre .1 .1 .0) (s .pre .1 .1 .1) (c .before .before .before .before .if1 .left) (c .before .before .before .if2 .taken) (c .before .if3 .left) (c .over .ensures)
+
+over-requires-2 : tie.Need-over-requires-2
+over-requires-2 c κs = search needs
+
+returns-4 : tie.Need-returns-4
+returns-4 c = let s = c .before .before .before .before .before in closes-end _ _ _ (s .pre .0) _ (s .pre .1 .0) (s .pre .1 .1 .0) (s .pre .1 .1 .1) (c .before .if2 .left) (c .over2 .ensures)
+
+pub closing-spec : {M : Type 1} → statement M
+closing-spec =
+    tie.close
+    (tie.spec
+    returns
+    shared-slice-read-if3
+    popped-requires
+    add-t13
+    returns-2
+    over-requires
+    returns-3
+    over-requires-2
+    returns-4)

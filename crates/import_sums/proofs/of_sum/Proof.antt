@@ -1,0 +1,57 @@
+use mathlib.Core.Path.{_≡_, refl, sym, ap, _∙_, subst}
+use mathlib.Core.Bool.{Bool}
+use mathlib.Core.List.{List}
+use native.Mathlib.Omega.{arith}
+use lib.ListN.{length}
+use Rattle.import_frames.specs.Frames as f
+use Rattle.import_frames.proofs.Laws.{yes, no, hit, miss}
+use Rattle.import_sums.specs.Walks.{Reaches}
+use Rattle.import_sums.proofs.Laws.{begins, at-over, at-end, at-stop, goes-on, too-deep, comes-back, closes-over, closes-end, closes-odd, closes-well}
+use borrow.Author.Needs.{needs}
+use Rattle.import_sums.proofs.of_sum.Statement.{statement}
+use Rattle.import_sums.proofs.of_sum.Tie as tie
+use Rattle.import_sums.proofs.of_sum.Reads as reads
+use Rattle.import_sums.proofs.of_sum.Lts as lts
+use Rattle.import_frames.proofs.is_blank.Reads as is-blank-reads
+use Rattle.import_frames.proofs.is_digit.Reads as is-digit-reads
+
+is-blank-requires : tie.Need-is-blank-requires
+is-blank-requires c κs = search needs
+
+returns : tie.Need-returns
+returns c = yes (f.blank (c .before .before .args .k)) _ _ (c .before .is-blank .ensures) (c .if1 .taken) refl
+
+is-digit-requires : tie.Need-is-digit-requires
+is-digit-requires c κs = search needs
+
+returns-2 : tie.Need-returns-2
+returns-2 c = no (f.blank (c .before .before .before .before .args .k)) _ _ (c .before .before .before .is-blank .ensures) (c .before .before .if1 .left) (yes (f.digit (c .before .before .before .before .args .k)) _ _ (c .before .is-digit .ensures) (c .if2 .taken) refl)
+
+returns-3 : tie.Need-returns-3
+returns-3 c = no (f.blank (c .before .before .before .before .before .args .k)) _ _ (c .before .before .before .before .is-blank .ensures) (c .before .before .before .if1 .left) (no (f.digit (c .before .before .before .before .before .args .k)) _ _ (c .before .before .is-digit .ensures) (c .before .if2 .left) (hit (c .before .before .before .before .before .args .k) 42 _ _ (c .if3 .taken) (refl)))
+
+returns-4 : tie.Need-returns-4
+returns-4 c = no (f.blank (c .before .before .before .before .before .before .args .k)) _ _ (c .before .before .before .before .before .is-blank .ensures) (c .before .before .before .before .if1 .left) (no (f.digit (c .before .before .before .before .before .before .args .k)) _ _ (c .before .before .before .is-digit .ensures) (c .before .before .if2 .left) (miss (c .before .before .before .before .before .before .args .k) 42 _ _ (c .before .if3 .left) (hit (c .before .before .before .before .before .before .args .k) 43 _ _ (c .if4 .taken) (refl))))
+
+returns-5 : tie.Need-returns-5
+returns-5 c = no (f.blank (c .before .before .before .before .before .before .before .args .k)) _ _ (c .before .before .before .before .before .before .is-blank .ensures) (c .before .before .before .before .before .if1 .left) (no (f.digit (c .before .before .before .before .before .before .before .args .k)) _ _ (c .before .before .before .before .is-digit .ensures) (c .before .before .before .if2 .left) (miss (c .before .before .before .before .before .before .before .args .k) 42 _ _ (c .before .before .if3 .left) (miss (c .before .before .before .before .before .before .before .args .k) 43 _ _ (c .before .if4 .left) (hit (c .before .before .before .before .before .before .before .args .k) 45 _ _ (c .if5 .taken) (refl)))))
+
+returns-6 : tie.Need-returns-6
+returns-6 c = no (f.blank (c .before .before .before .before .before .before .before .before .args .k)) _ _ (c .before .before .before .before .before .before .before .is-blank .ensures) (c .before .before .before .before .before .before .if1 .left) (no (f.digit (c .before .before .before .before .before .before .before .before .args .k)) _ _ (c .before .before .before .before .before .is-digit .ensures) (c .before .before .before .before .if2 .left) (miss (c .before .before .before .before .before .before .before .before .args .k) 42 _ _ (c .before .before .before .if3 .left) (miss (c .before .before .before .before .before .before .before .before .args .k) 43 _ _ (c .before .before .if4 .left) (miss (c .before .before .before .before .before .before .before .before .args .k) 45 _ _ (c .before .if5 .left) (hit (c .before .before .before .before .before .before .before .before .args .k) 76 _ _ (c .if6 .taken) (refl))))))
+
+returns-7 : tie.Need-returns-7
+returns-7 c = no (f.blank (c .before .before .before .before .before .before .before .before .args .k)) _ _ (c .before .before .before .before .before .before .before .is-blank .ensures) (c .before .before .before .before .before .before .if1 .left) (no (f.digit (c .before .before .before .before .before .before .before .before .args .k)) _ _ (c .before .before .before .before .before .is-digit .ensures) (c .before .before .before .before .if2 .left) (miss (c .before .before .before .before .before .before .before .before .args .k) 42 _ _ (c .before .before .before .if3 .left) (miss (c .before .before .before .before .before .before .before .before .args .k) 43 _ _ (c .before .before .if4 .left) (miss (c .before .before .before .before .before .before .before .before .args .k) 45 _ _ (c .before .if5 .left) (miss (c .before .before .before .before .before .before .before .before .args .k) 76 _ _ (c .if6 .left) (refl))))))
+
+pub of-sum-spec : {M : Type 1} → statement M
+of-sum-spec =
+    tie.close
+    (tie.spec
+    is-blank-requires
+    returns
+    is-digit-requires
+    returns-2
+    returns-3
+    returns-4
+    returns-5
+    returns-6
+    returns-7)

@@ -1,0 +1,22 @@
+use mathlib.Core.Path.{_≡_, refl, sym, ap, _∙_, subst}
+use mathlib.Core.Bool.{Bool}
+use mathlib.Core.List.{List}
+use native.Mathlib.Omega.{arith}
+use lib.ListN.{length}
+use Rattle.import_frames.specs.Frames as f
+use Rattle.import_frames.proofs.Laws.{yes, no, hit, miss}
+use Rattle.import_sums.specs.Walks.{Reaches}
+use Rattle.import_sums.proofs.Laws.{begins, at-over, at-end, at-stop, goes-on, too-deep, comes-back, closes-over, closes-end, closes-odd, closes-well}
+use Rattle.import_sums.proofs.opens.Statement.{statement}
+use Rattle.import_sums.proofs.opens.Tie as tie
+use Rattle.import_sums.proofs.opens.Reads as reads
+use Rattle.import_sums.proofs.opens.Lts as lts
+
+returns : tie.Need-returns
+returns c = hit (c .before .before .args .s .mode) 6 _ _ (c .if1 .taken) (refl)
+
+returns-2 : tie.Need-returns-2
+returns-2 c = miss (c .before .before .args .s .mode) 6 _ _ (c .if1 .left) (refl)
+
+pub opens-spec : {M : Type 1} → statement M
+opens-spec = tie.close (tie.spec returns returns-2)

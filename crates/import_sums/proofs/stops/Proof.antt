@@ -1,0 +1,33 @@
+use mathlib.Core.Path.{_≡_, refl, sym, ap, _∙_, subst}
+use mathlib.Core.Bool.{Bool}
+use mathlib.Core.List.{List}
+use native.Mathlib.Omega.{arith}
+use lib.ListN.{length}
+use Rattle.import_frames.specs.Frames as f
+use Rattle.import_frames.proofs.Laws.{yes, no, hit, miss}
+use Rattle.import_sums.specs.Walks.{Reaches}
+use Rattle.import_sums.proofs.Laws.{begins, at-over, at-end, at-stop, goes-on, too-deep, comes-back, closes-over, closes-end, closes-odd, closes-well}
+use borrow.Author.Needs.{needs}
+use Rattle.import_sums.proofs.stops.Statement.{statement}
+use Rattle.import_sums.proofs.stops.Tie as tie
+use Rattle.import_sums.proofs.stops.Reads as reads
+use Rattle.import_sums.proofs.stops.Lts as lts
+use Rattle.import_sums.proofs.of_sum.Reads as of-sum-reads
+
+returns : tie.Need-returns
+returns c = hit (c .before .before .args .s .mode) 6 _ _ (c .if1 .taken) (refl)
+
+returns-2 : tie.Need-returns-2
+returns-2 c = miss (c .before .before .before .args .s .mode) 6 _ _ (c .before .if1 .left) (hit (c .before .before .before .args .k) 41 _ _ (c .if2 .taken) (refl))
+
+of-sum-requires : tie.Need-of-sum-requires
+of-sum-requires c κs = search needs
+
+returns-3 : tie.Need-returns-3
+returns-3 c = miss (c .before .before .before .before .before .args .s .mode) 6 _ _ (c .before .before .before .if1 .left) (miss (c .before .before .before .before .before .args .k) 41 _ _ (c .before .before .if2 .left) (yes (f.of-sum (c .before .before .before .before .before .args .k)) _ _ (c .before .of-sum .ensures) (c .if3 .taken) refl))
+
+returns-4 : tie.Need-returns-4
+returns-4 c = miss (c .before .before .before .before .before .args .s .mode) 6 _ _ (c .before .before .before .if1 .left) (miss (c .before .before .before .before .before .args .k) 41 _ _ (c .before .before .if2 .left) (no (f.of-sum (c .before .before .before .before .before .args .k)) _ _ (c .before .of-sum .ensures) (c .if3 .left) refl))
+
+pub stops-spec : {M : Type 1} → statement M
+stops-spec = tie.close (tie.spec returns returns-2 of-sum-requires returns-3 returns-4)

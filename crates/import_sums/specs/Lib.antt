@@ -1,0 +1,4 @@
+-- the run over bytes
+pub mod Run
+-- what a walk over a text's bytes ends with
+pub mod Walks
