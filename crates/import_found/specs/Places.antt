@@ -2,11 +2,12 @@
 use mathlib.Core.Bool.{Bool, true, false, not}
 use mathlib.Core.List.{List, [], _∷_}
 use mathlib.Core.Path.{_≡_}
-use Prim.Native.Nat.{ℕ, zero, suc}
+use Prim.Native.Nat.{ℕ, zero, suc, _≤_, _<_}
 use lib.Dec.{eqb}
+use lib.ListN.{length}
 use Rattle.whole.specs.Cases.{if}
 use Rattle.theory.specs.Command.{Command}
-use Rattle.import_grammar.specs.Grammar.{Spaces, Atom, now, later, compare, group, Result, spaces-bytes, atom-bytes, result-bytes}
+use Rattle.import_grammar.specs.Grammar.{Spaces, Atom, now, later, compare, group, Result, spaces-bytes, atom-bytes, result-bytes, deepest}
 use Rattle.import_model.specs.Commands.{atom-commands, result-command}
 
 -- an atom, whether "!" turns it, and whether "!" turns each bracket that is open, innermost first; a result; or outside the grammar
@@ -31,14 +32,14 @@ unfoldable pub after-colon : List ℕ → Place
 after-colon [] = lost
 after-colon (k ∷ w) = if (eqb k 58) (result-at w) (after-colon w)
 
--- from where a condition, a case or an else begins
+-- from where a condition, a case or an else begins; an else stands in no bracket
 unfoldable pub go : List ℕ → Bool → List Bool → Place
 unfolding is-cond after-colon is-space
 go [] b ps = lost
 go (k ∷ w) b ps =
     if (eqb k 33) (go w (not b) ps)
     (if (eqb k 40) (if (is-cond w 0) (go w false (b ∷ ps)) (atom-at b ps (k ∷ w)))
-    (if (eqb k 101) (after-colon w)
+    (if (eqb k 101) (elim ps [ [] ↦ after-colon w | p ∷ qs ↦ lost ])
     (if (is-space k) (go w b ps) (atom-at b ps (k ∷ w)))))
 
 -- behind the next ";"
@@ -91,8 +92,14 @@ Decided (later p i) = Unit {0}
 Decided (compare s p op t) = Unit {0}
 Decided (group p o q) = ⊥
 
--- an atom's commands are those of its two outcomes and its own; a result has one
+-- an atom's commands are those of its two outcomes and its own; a result has one; "Brackets .. nest at most 32 deep"
 pub data Emits : Place → List Command → Type 0 where
   by-result : {w : List ℕ} (r : Result) (q : Spaces) (f : List ℕ) → w ≡ result-bytes r (spaces-bytes q f) → AfterResult f → Emits (result-at w) (result-command r ∷ [])
-  by-atom : {b : Bool} {ps : List Bool} {w : List ℕ} {n : ℕ} (x : Atom n) (q : Spaces) (k : ℕ) (f : List ℕ) → Decided x → AfterAtom k → w ≡ atom-bytes x (spaces-bytes q (k ∷ f))
+  by-atom : {b : Bool} {ps : List Bool} {w : List ℕ} {n : ℕ} (x : Atom n) (q : Spaces) (k : ℕ) (f : List ℕ) → length ps ≤ deepest → Decided x → AfterAtom k → w ≡ atom-bytes x (spaces-bytes q (k ∷ f))
       → (T F : List Command) → Emits (find w 0 (not b) false ps) T → Emits (find w 0 b false ps) F → Emits (atom-at b ps w) (atom-commands x T F)
+
+-- more brackets are open than a text may have: no commands are there
+abbrev pub TooDeep : Place → Type 0
+TooDeep (atom-at b ps w) = deepest < length ps
+TooDeep (result-at w) = ⊥
+TooDeep lost = Unit {0}

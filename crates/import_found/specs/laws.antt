@@ -4,3 +4,5 @@ pub mod Passing
 pub mod Walks
 -- what the places in the text emit is what the reading becomes
 pub mod Found
+-- no place of a text is behind too many brackets
+pub mod Depth

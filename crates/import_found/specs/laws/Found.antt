@@ -2,13 +2,15 @@
 use mathlib.Core.Path.{_≡_, refl, sym, ap, ap₂, _∙_, subst}
 use mathlib.Core.Bool.{Bool, true, false, not}
 use mathlib.Core.List.{List, [], _∷_, _++_}
-use Prim.Native.Nat.{ℕ, zero, suc}
+use Prim.Native.Nat.{ℕ, zero, suc, _+_, _≤_}
+use native.Mathlib.Omega.{arith}
 use lib.Dec.{eqb}
+use lib.ListN.{length}
 use lib.IntN.{ℤ, pos, negsuc}
 use Rattle.whole.specs.Cases.{if}
 use Rattle.theory.specs.Diagram.{Linear, _⊠_}
 use Rattle.theory.specs.Command.{Command}
-use Rattle.import_grammar.specs.Grammar.{Blank, blank, tab, newline, return, Spaces, none, more, Digit, d0, d1, d2, d3, d4, d5, d6, d7, d8, d9, Digits, one, also, Index, i1, i2, i3, i4, i5, i6, i7, i8, Four, f1, f2, f3, f4, Op, lt, le, gt, ge, Sign, adds, takes, ConstFactor, number, kbracket, ConstTerm, kfactor, ktimes, ConstSum, kterm, kneg, kplus, VaryFactor, level, vbracket, VaryTerm, vfactor, vscaled, vby, VarySum, vterm, vneg, plusKV, plusVK, plusVV, Sum, constant, varying, Nots, unsaid, bang, Atom, now, later, compare, group, Not, negated, And, alone, both, Or, single, either, Result, worth, forbids, Before, start, case, Opening, digit-byte, blank-byte, index-byte, four-byte, sign-byte, op-bytes, spaces-bytes, digits-bytes, kfactor-bytes, kterm-bytes, ksum-bytes, vfactor-bytes, vterm-bytes, vsum-bytes, sum-bytes, nots-bytes, atom-bytes, not-bytes, and-bytes, or-bytes, result-bytes, opening-bytes, before-bytes}
+use Rattle.import_grammar.specs.Grammar.{Blank, blank, tab, newline, return, Spaces, none, more, Digit, d0, d1, d2, d3, d4, d5, d6, d7, d8, d9, Digits, one, also, Index, i1, i2, i3, i4, i5, i6, i7, i8, Four, f1, f2, f3, f4, Op, lt, le, gt, ge, Sign, adds, takes, ConstFactor, number, kbracket, ConstTerm, kfactor, ktimes, ConstSum, kterm, kneg, kplus, VaryFactor, level, vbracket, VaryTerm, vfactor, vscaled, vby, VarySum, vterm, vneg, plusKV, plusVK, plusVV, Sum, constant, varying, Nots, unsaid, bang, Atom, now, later, compare, group, Not, negated, And, alone, both, Or, single, either, Result, worth, forbids, Before, start, case, Opening, digit-byte, blank-byte, index-byte, four-byte, sign-byte, op-bytes, spaces-bytes, digits-bytes, kfactor-bytes, kterm-bytes, ksum-bytes, vfactor-bytes, vterm-bytes, vsum-bytes, sum-bytes, nots-bytes, atom-bytes, not-bytes, and-bytes, or-bytes, result-bytes, opening-bytes, before-bytes, deepest}
 use Rattle.import_numbers.specs.Numbers.{joined, kfactor-linear, kterm-linear, ksum-linear, vfactor-linear, vterm-linear, vsum-linear, linear-of}
 use Rattle.import_model.specs.Commands.{compare-commands, nots-commands, atom-commands, not-commands, and-commands, or-commands, result-command, opening-commands, before-commands}
 use Rattle.import_found.specs.Places.{Place, atom-at, result-at, lost, is-space, is-cond, after-colon, go, next-case, xor, find, AfterAtom, and-behind, or-behind, close-behind, colon-behind, AfterResult, ends-case, Decided, Emits, by-result, by-atom}
@@ -199,11 +201,11 @@ moved : {t u : Place} {C : List Command} → t ≡ u → Emits u C → Emits t C
 moved {C = C} e h = subst (λ (x : Place). Emits x C) (sym e) h
 
 -- an atom that begins here, behind white space
-atom-emits : {n : ℕ} (x : Atom n) (w : List ℕ) (q : Spaces) (k : ℕ) (f : List ℕ) (b : Bool) (ps : List Bool) (Y N : List Command) → Decided x → AfterAtom k
+atom-emits : {n : ℕ} (x : Atom n) (w : List ℕ) (q : Spaces) (k : ℕ) (f : List ℕ) (b : Bool) (ps : List Bool) (Y N : List Command) → length ps ≤ deepest → Decided x → AfterAtom k
     → Starts w (atom-bytes x (spaces-bytes q (k ∷ f)))
     → Emits (find (spaces-bytes q (k ∷ f)) 0 (not b) false ps) Y → Emits (find (spaces-bytes q (k ∷ f)) 0 b false ps) N → Emits (go w b ps) (atom-commands x Y N)
-atom-emits x w q k f b ps Y N d t g y z =
-    moved (g b ps) (by-atom x q k f d t refl Y N (moved (pass-atom x (spaces-bytes q (k ∷ f)) 0 (not b) false ps) y) (moved (pass-atom x (spaces-bytes q (k ∷ f)) 0 b false ps) z))
+atom-emits x w q k f b ps Y N m d t g y z =
+    moved (g b ps) (by-atom x q k f m d t refl Y N (moved (pass-atom x (spaces-bytes q (k ∷ f)) 0 (not b) false ps) y) (moved (pass-atom x (spaces-bytes q (k ∷ f)) 0 b false ps) z))
 
 xor-yes : (b : Bool) → xor b true ≡ not b
 xor-yes true = refl
@@ -250,53 +252,53 @@ later-starts p i f c ps = go-spaces p (78 ∷ four-byte i ∷ f) c ps
 mutual
   unfolding atom-bytes find go or-commands spaces-bytes
 
-  atom-out : {n : ℕ} (x : Atom n) (q : Spaces) (k : ℕ) (t : AfterAtom k) (f : List ℕ) (ps : List Bool) (b : Bool) (Y N : List Command)
+  atom-out : {n : ℕ} (x : Atom n) (q : Spaces) (k : ℕ) (t : AfterAtom k) (f : List ℕ) (ps : List Bool) (m : n + length ps ≡ deepest) (b : Bool) (Y N : List Command)
       → Emits (find (spaces-bytes q (k ∷ f)) 0 (not b) false ps) Y → Emits (find (spaces-bytes q (k ∷ f)) 0 b false ps) N
       → Emits (go (atom-bytes x (spaces-bytes q (k ∷ f))) b ps) (atom-commands x Y N)
-  atom-out {n} (now p i) q k t f ps b Y N y z =
-      atom-emits {n = n} (now none i) (spaces-bytes p (67 ∷ four-byte i ∷ spaces-bytes q (k ∷ f))) q k f b ps Y N tt t (now-starts p i (spaces-bytes q (k ∷ f))) y z
-  atom-out {n} (later p i) q k t f ps b Y N y z =
-      atom-emits {n = n} (later none i) (spaces-bytes p (78 ∷ four-byte i ∷ spaces-bytes q (k ∷ f))) q k f b ps Y N tt t (later-starts p i (spaces-bytes q (k ∷ f))) y z
-  atom-out (compare s p op r) q k t f ps b Y N y z =
+  atom-out {n} (now p i) q k t f ps m b Y N y z =
+      atom-emits {n = n} (now none i) (spaces-bytes p (67 ∷ four-byte i ∷ spaces-bytes q (k ∷ f))) q k f b ps Y N (omega (arith, m)) tt t (now-starts p i (spaces-bytes q (k ∷ f))) y z
+  atom-out {n} (later p i) q k t f ps m b Y N y z =
+      atom-emits {n = n} (later none i) (spaces-bytes p (78 ∷ four-byte i ∷ spaces-bytes q (k ∷ f))) q k f b ps Y N (omega (arith, m)) tt t (later-starts p i (spaces-bytes q (k ∷ f))) y z
+  atom-out (compare s p op r) q k t f ps m b Y N y z =
       subst (λ (a : Linear). Emits (go (sum-bytes s (spaces-bytes p (op-bytes op (sum-bytes r (spaces-bytes q (k ∷ f)))))) b ps) (compare-commands op a (linear-of _ r) Y N)) (sum-same _ s)
-      (atom-emits (compare (bare s) p op r) (sum-bytes s (spaces-bytes p (op-bytes op (sum-bytes r (spaces-bytes q (k ∷ f)))))) q k f b ps Y N tt t (sum-starts s (spaces-bytes p (op-bytes op (sum-bytes r (spaces-bytes q (k ∷ f)))))) y z)
-  atom-out (group p o r) q k t f ps b Y N y z =
+      (atom-emits (compare (bare s) p op r) (sum-bytes s (spaces-bytes p (op-bytes op (sum-bytes r (spaces-bytes q (k ∷ f)))))) q k f b ps Y N (omega (arith, m)) tt t (sum-starts s (spaces-bytes p (op-bytes op (sum-bytes r (spaces-bytes q (k ∷ f)))))) y z)
+  atom-out (group p o r) q k t f ps m b Y N y z =
       moved
       (go-spaces p (40 ∷ or-bytes o (spaces-bytes r (41 ∷ spaces-bytes q (k ∷ f)))) b ps
       ∙ ap (λ (c : Bool). if c (go (or-bytes o (spaces-bytes r (41 ∷ spaces-bytes q (k ∷ f)))) false (b ∷ ps)) (atom-at b ps (40 ∷ or-bytes o (spaces-bytes r (41 ∷ spaces-bytes q (k ∷ f))))))
       (cond-or o (spaces-bytes r (41 ∷ spaces-bytes q (k ∷ f))) 0))
-      (or-out o r 41 close-next (spaces-bytes q (k ∷ f)) (b ∷ ps) Y N
+      (or-out o r 41 close-next (spaces-bytes q (k ∷ f)) (b ∷ ps) (omega (arith, m)) Y N
       (moved (pass-spaces r (41 ∷ spaces-bytes q (k ∷ f)) 0 true false (b ∷ ps) ∙ ap (λ (v : Bool). find (spaces-bytes q (k ∷ f)) 0 v false ps) (xor-yes b)) y)
       (moved (pass-spaces r (41 ∷ spaces-bytes q (k ∷ f)) 0 false false (b ∷ ps) ∙ ap (λ (v : Bool). find (spaces-bytes q (k ∷ f)) 0 v false ps) (xor-not b)) z))
 
-  not-out : {n : ℕ} (x : Not n) (q : Spaces) (k : ℕ) (t : AfterAtom k) (f : List ℕ) (ps : List Bool) (Y N : List Command)
+  not-out : {n : ℕ} (x : Not n) (q : Spaces) (k : ℕ) (t : AfterAtom k) (f : List ℕ) (ps : List Bool) (m : n + length ps ≡ deepest) (Y N : List Command)
       → Emits (find (spaces-bytes q (k ∷ f)) 0 true false ps) Y → Emits (find (spaces-bytes q (k ∷ f)) 0 false false ps) N
       → Emits (go (not-bytes x (spaces-bytes q (k ∷ f))) false ps) (not-commands x Y N)
-  not-out (negated m x) q k t f ps Y N y z =
-      subst (Emits (go (nots-bytes m (atom-bytes x (spaces-bytes q (k ∷ f)))) false ps)) (sym (nots-as m (λ a b. atom-commands x a b) Y N))
-      (moved (go-nots m (atom-bytes x (spaces-bytes q (k ∷ f))) false ps)
-      (signed (sign m false) (atom-bytes x (spaces-bytes q (k ∷ f))) (spaces-bytes q (k ∷ f)) ps (λ a b. atom-commands x a b) Y N
-      (λ s A B g h. atom-out x q k t f ps s A B g h) y z))
+  not-out (negated x′ x) q k t f ps m Y N y z =
+      subst (Emits (go (nots-bytes x′ (atom-bytes x (spaces-bytes q (k ∷ f)))) false ps)) (sym (nots-as x′ (λ a b. atom-commands x a b) Y N))
+      (moved (go-nots x′ (atom-bytes x (spaces-bytes q (k ∷ f))) false ps)
+      (signed (sign x′ false) (atom-bytes x (spaces-bytes q (k ∷ f))) (spaces-bytes q (k ∷ f)) ps (λ a b. atom-commands x a b) Y N
+      (λ s A B g h. atom-out x q k t f ps m s A B g h) y z))
 
-  and-out : {n : ℕ} (x : And n) (q : Spaces) (k : ℕ) (t : AfterAtom k) (f : List ℕ) (ps : List Bool) (Y N : List Command)
+  and-out : {n : ℕ} (x : And n) (q : Spaces) (k : ℕ) (t : AfterAtom k) (f : List ℕ) (ps : List Bool) (m : n + length ps ≡ deepest) (Y N : List Command)
       → Emits (find (spaces-bytes q (k ∷ f)) 0 true false ps) Y → Emits (find (spaces-bytes q (k ∷ f)) 0 false false ps) N
       → Emits (go (and-bytes x (spaces-bytes q (k ∷ f))) false ps) (and-commands x Y N)
-  and-out (alone x) q k t f ps Y N y z = not-out x q k t f ps Y N y z
-  and-out (both x p u) q k t f ps Y N y z =
-      and-out x p 38 and-behind (not-bytes u (spaces-bytes q (k ∷ f))) ps (not-commands u Y N) N
-      (moved (pass-spaces p (38 ∷ not-bytes u (spaces-bytes q (k ∷ f))) 0 true false ps) (not-out u q k t f ps Y N y z))
+  and-out (alone x) q k t f ps m Y N y z = not-out x q k t f ps m Y N y z
+  and-out (both x p u) q k t f ps m Y N y z =
+      and-out x p 38 and-behind (not-bytes u (spaces-bytes q (k ∷ f))) ps m (not-commands u Y N) N
+      (moved (pass-spaces p (38 ∷ not-bytes u (spaces-bytes q (k ∷ f))) 0 true false ps) (not-out u q k t f ps m Y N y z))
       (moved (pass-spaces p (38 ∷ not-bytes u (spaces-bytes q (k ∷ f))) 0 false false ps ∙ pass-not u (spaces-bytes q (k ∷ f)) 0 false false ps) z)
 
-  or-out : {n : ℕ} (x : Or n) (q : Spaces) (k : ℕ) (t : AfterOr k) (f : List ℕ) (ps : List Bool) (Y N : List Command)
+  or-out : {n : ℕ} (x : Or n) (q : Spaces) (k : ℕ) (t : AfterOr k) (f : List ℕ) (ps : List Bool) (m : n + length ps ≡ deepest) (Y N : List Command)
       → Emits (find (spaces-bytes q (k ∷ f)) 0 true false ps) Y → Emits (find (spaces-bytes q (k ∷ f)) 0 false false ps) N
       → Emits (go (or-bytes x (spaces-bytes q (k ∷ f))) false ps) (or-commands x Y N)
-  or-out (single x) q k t f ps Y N y z = and-out x q k (as-atom t) f ps Y N y z
-  or-out (either x p u) q k t f ps Y N y z =
-      or-out x p 124 or-next (and-bytes u (spaces-bytes q (k ∷ f))) ps Y (and-commands u Y N)
+  or-out (single x) q k t f ps m Y N y z = and-out x q k (as-atom t) f ps m Y N y z
+  or-out (either x p u) q k t f ps m Y N y z =
+      or-out x p 124 or-next (and-bytes u (spaces-bytes q (k ∷ f))) ps m Y (and-commands u Y N)
       (moved
       (pass-spaces p (124 ∷ and-bytes u (spaces-bytes q (k ∷ f))) 0 true false ps ∙ pass-and u (spaces-bytes q (k ∷ f)) ps
       ∙ pass-spaces q (k ∷ f) 0 true true ps ∙ calm t f ps ∙ sym (pass-spaces q (k ∷ f) 0 true false ps)) y)
-      (moved (pass-spaces p (124 ∷ and-bytes u (spaces-bytes q (k ∷ f))) 0 false false ps) (and-out u q k (as-atom t) f ps Y N y z))
+      (moved (pass-spaces p (124 ∷ and-bytes u (spaces-bytes q (k ∷ f))) 0 false false ps) (and-out u q k (as-atom t) f ps m Y N y z))
 
 -- ---- an item
 
@@ -328,7 +330,7 @@ unfolding cases-bytes cases-commands find next-case
 cases-out (start O) w C h = h
 cases-out (case B o p r q) w C h =
     cases-out B (or-bytes o (spaces-bytes p (58 ∷ result-bytes r (spaces-bytes q (59 ∷ w))))) (or-commands o (result-command r ∷ []) C)
-    (or-out o p 58 colon-next (result-bytes r (spaces-bytes q (59 ∷ w))) [] (result-command r ∷ []) C
+    (or-out o p 58 colon-next (result-bytes r (spaces-bytes q (59 ∷ w))) [] refl (result-command r ∷ []) C
     (moved (pass-spaces p (58 ∷ result-bytes r (spaces-bytes q (59 ∷ w))) 0 true false []) (by-result r q (59 ∷ w) refl ends-case))
     (moved (pass-spaces p (58 ∷ result-bytes r (spaces-bytes q (59 ∷ w))) 0 false false [] ∙ skip-result r (spaces-bytes q (59 ∷ w)) ∙ skip-spaces q (59 ∷ w)) h))
 
