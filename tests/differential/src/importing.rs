@@ -2,7 +2,7 @@
 //! after a refusal.
 
 use crate::{bytes, expected, out, planner, Calls};
-use models::{damaged_text, limits, text, Rng};
+use models::{damaged_text, limits, longest_row, text, usual_text, Rng};
 use std::time::Instant;
 
 /// One call with this buffer, which has marks all over.
@@ -59,21 +59,31 @@ pub fn endurance(calls: &mut Calls, rng: &mut Rng, buffer: &mut [u8]) {
     compare_in(calls, rng, &text, &mut buffer[..length]);
 }
 
-/// Texts at the limits, with the time of both programs.
+/// One call with room for any model, and the time of both programs.
+fn timed(calls: &mut Calls, what: &str, text: &[u8], refusal: (u32, u32)) {
+    let (mut buffer, mut out) = (vec![0; 262_144], [0; 8]);
+    calls.model = text.to_vec();
+    let start = Instant::now();
+    let number = planner::import(text, &mut buffer, &mut out);
+    let time = start.elapsed().as_secs_f64();
+    let start = Instant::now();
+    let ours = reference::import(text, buffer.len());
+    let our_time = start.elapsed().as_secs_f64();
+    let place = u32::from_le_bytes(out[..4].try_into().expect("four bytes"));
+    calls.check("import", what, &(number, place), &refusal, &text.len());
+    let length = ours.as_ref().map_or(0, |model| model.len());
+    calls.check("import", "model", &buffer[..length], ours.as_deref().unwrap_or_default(), &what);
+    calls.count(number);
+    println!("{what}: {} bytes of text, number {number}, place {place}, {length} bytes", text.len());
+    println!("  library {time:.4} s, reference {our_time:.4} s");
+}
+
+/// Texts at the limits; one of usual items, and the one that takes longest.
 pub fn large(calls: &mut Calls, rng: &mut Rng) {
     for (what, text, refusal) in limits() {
         compare(calls, rng, &text);
-        let (mut buffer, mut out) = (vec![0; 262_144], [0; 8]);
-        let start = Instant::now();
-        let number = planner::import(&text, &mut buffer, &mut out);
-        let time = start.elapsed().as_secs_f64();
-        let start = Instant::now();
-        let ours = reference::import(&text, buffer.len());
-        let our_time = start.elapsed().as_secs_f64();
-        let place = u32::from_le_bytes(out[..4].try_into().expect("four bytes"));
-        calls.check("import", what, &(number, place), &refusal, &text.len());
-        let length = ours.map_or(0, |model| model.len());
-        println!("{what}: {} bytes of text, number {number}, place {place}, {length} bytes", text.len());
-        println!("  library {time:.4} s, reference {our_time:.4} s");
+        timed(calls, what, &text, refusal);
     }
+    timed(calls, "400 settings as text", &usual_text(), (0, 0));
+    timed(calls, "the longest row of &", &longest_row(), (0, 0));
 }

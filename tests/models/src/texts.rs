@@ -1,7 +1,7 @@
 //! Models written as text (K13): random ones with all items, most of them models without fault; each damaged; and texts at
 //! the limits.
 
-use crate::{Rng, LEVELS, MODEL_BYTES};
+use crate::{Rng, ACTIONS, LEVELS, MODEL_BYTES};
 
 /// Brackets that may stand in one another, and characters of a name.
 pub const BRACKETS: usize = 32;
@@ -340,6 +340,31 @@ pub fn text_for_length(bytes: usize) -> Vec<u8> {
 pub fn long_row() -> Vec<u8> {
     let room = TEXT_BYTES - with_reward("C1:forbidden;else:0").len();
     with_reward(&format!("{}C1:forbidden;else:0", "C1&".repeat(room / 3))).into_bytes()
+}
+
+/// The longest row of `&` whose model fits: each & copies a forbidden leaf. No other text is known that an import has more to do
+/// with.
+pub fn longest_row() -> Vec<u8> {
+    let beside = 88 + 37 + 3 + 1;
+    let row = vec!["C1"; (MODEL_BYTES - beside) / 3].join("&");
+    with_reward(&format!("{row}:0;else:forbidden")).into_bytes()
+}
+
+/// 400 actions with usual items, a name each: some 78,000 bytes.
+pub fn usual_text() -> Vec<u8> {
+    let mut text = format!("site m=1 n=2 A={ACTIONS} W=4\n");
+    for action in 1..=i32::from(ACTIONS) {
+        let (amount, pump) = (20 * (1 + action % 2), action / 8);
+        text += &format!(
+            "reward {action} = L1 >= {amount} : {} ; else : -1\nchance {action} N1 = C1 & L1 < 100 : 3 ; else : {}\n\
+             chance {action} N2 = else : {}\nnext {action} L1 = L1 < {amount} : L1 ; N1 : L1 + 20 - {amount} ; else : L1 - {amount}\n\
+             name {action} \"Setting {action}\"\n",
+            3 * amount - pump,
+            pump % 3,
+            1 + pump % 2,
+        );
+    }
+    text.into_bytes()
 }
 
 /// Texts at the limits, each with the number and place of its refusal.

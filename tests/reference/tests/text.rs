@@ -320,6 +320,8 @@ fn texts_at_the_limits() {
     let (longest, more) = (models::text_for_length(262_144), models::text_for_length(100_001));
     assert_eq!(import(&longest, ANY).map(|model| model.len()), Ok(262_144));
     assert_eq!(import(&more, ANY).map(|model| model.len()), Ok(100_001));
+    assert_eq!(import(&models::longest_row(), ANY).map(|model| model.len()), Ok(262_143));
+    assert_eq!(import(&models::usual_text(), ANY).map(|model| model.len()), Ok(192_807));
     let marks = format!("{} name 1 \"{}\"", with_reward("else : 0"), "\"\"".repeat(16));
     let model = import(marks.as_bytes(), ANY).expect("a model without fault");
     assert_eq!(model[model.len() - 17..], [&[b'"'; 16][..], &[0xFF]].concat());
@@ -528,7 +530,7 @@ fn same_sees_differences() {
 #[test]
 fn the_page() {
     let page = std::fs::read_to_string(format!("{}/../../docs/TEXT-MODELS.md", env!("CARGO_MANIFEST_DIR")));
-    let page = page.expect("the page").replace("\n\n    site m=1 n=1 A=1", "\n");
+    let page = page.expect("the page");
     let texts: Vec<&str> = page.split("```text\n").skip(1).filter_map(|rest| rest.split("```").next()).collect();
     assert_eq!(texts.len(), 5);
     for text in texts {

@@ -1,7 +1,7 @@
 //! K13: where a text stops (24), against a second recogniser that shares nothing with the second program's: Earley's, byte by
 //! byte over the productions, which derives both kinds of sums apart. It is slow, and only for small texts.
 
-use models::{damaged_text, text, Rng};
+use models::{damaged_text, limits, text, Rng};
 use reference::text::read;
 use std::collections::{HashMap, HashSet};
 
@@ -308,6 +308,21 @@ fn all_short_texts_stop_alike() {
     }
     println!("{texts} short texts");
     assert!(texts > 3_000, "{texts}");
+}
+
+/// Brackets 31 to 34 deep and names about as long as one may be, and each with a byte put in, taken out or changed.
+#[test]
+fn limits_stop_alike() {
+    let (mut rng, mut texts) = (Rng(5), 0);
+    for (what, text, (number, place)) in limits().into_iter().filter(|(_, text, _)| text.len() <= 200) {
+        let stop = same_stop(&text);
+        assert_eq!(stop, (number == 24).then_some(place as usize), "{what}");
+        for _ in 0..10 {
+            same_stop(&damaged_text(&mut rng, &text));
+            texts += 1;
+        }
+    }
+    assert!(texts >= 100, "{texts}");
 }
 
 /// The rows that the prover computes (`crates/import_grammar`), read from its file.
