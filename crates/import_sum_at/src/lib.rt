@@ -6,11 +6,9 @@ ghost use Rattle.import_sum_at.specs.SumAt.{Works};
 use import_frames::closed;
 use import_frames::total;
 use import_linears::all_fit;
+use import_sums::DEEPEST;
 use import_sums::walk;
 use whole::NUMBERS;
-
-// The brackets that may be open at once.
-pub const DEEPEST: usize = 32;
 
 // A sum's linear and the place behind it, or that a number of it lies beyond 32 bits.
 pub struct Worked {

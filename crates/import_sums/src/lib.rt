@@ -16,6 +16,9 @@ use import_frames::over;
 use import_frames::popped;
 use import_frames::step;
 
+// The brackets that may be open at once.
+pub const DEEPEST: usize = 32;
+
 // A frame, and the place up to which it is worked.
 pub struct Walked {
     pub frame: Frame,

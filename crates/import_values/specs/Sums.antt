@@ -26,7 +26,7 @@ use Rattle.import_values.specs.Reads.{guard, g-and, g-append, g-implied,
 g-assoc : (a b c : List ℤ) (x : Out) → guard (all-within (a ++ b)) (guard (all-within c) x) ≡ guard (all-within (a ++ (b ++ c))) x
 g-assoc a b c x = sym (g-append a b (guard (all-within c) x)) ∙ (ap (guard (all-within a)) (g-append b c x) ∙ g-append a (b ++ c) x)
 
-g-three : (a b c : List ℤ) (x : Out) → guard (all-within a) (guard (all-within b) (guard (all-within c) x)) ≡ guard (all-within (a ++ (b ++ c))) x
+pub g-three : (a b c : List ℤ) (x : Out) → guard (all-within a) (guard (all-within b) (guard (all-within c) x)) ≡ guard (all-within (a ++ (b ++ c))) x
 g-three a b c x = ap (guard (all-within a)) (g-append b c x) ∙ g-append a (b ++ c) x
 
 flat-nine : (p : Linear) → Flat p → nine p ≡ constant9 (p .const)
@@ -45,7 +45,7 @@ minus-of takes = true
 abbrev tot : List ℤ → Bool → List ℤ → List ℤ
 tot X m t = if m (subL X t) (addL X t)
 
-first-tot : (t : Linear) → Eight t → tot zero9 false (nine t) ≡ nine t
+pub first-tot : (t : Linear) → Eight t → tot zero9 false (nine t) ≡ nine t
 first-tot t h = zero-add (nine t) (nine-long t h)
 
 neg-tot : (t : Linear) → Eight t → tot zero9 true (nine t) ≡ nine (negsuc 0 ⊠ t)
@@ -138,7 +138,7 @@ sign-follows takes w = mark refl refl
 module _ (only : Bool) where
   module _ (d : ℕ) (S : List Frame) (L : List ℤ) (C : ℕ) where
     -- a product in the order of the definition
-    product-read : (X : List ℤ) (m : Bool) (l : List ℤ) (k : ℤ) (a r : List ℤ) (f : List ℕ) → l ≡ clipL k a → scaleL k a ≡ r → guard (all-within l) (run only d S (full L C X m l) f) ≡ guard (all-within r) (run only d S (full L C X m r) f)
+    pub product-read : (X : List ℤ) (m : Bool) (l : List ℤ) (k : ℤ) (a r : List ℤ) (f : List ℕ) → l ≡ clipL k a → scaleL k a ≡ r → guard (all-within l) (run only d S (full L C X m l) f) ≡ guard (all-within r) (run only d S (full L C X m r) f)
     product-read X m l k a r f e h =
         ap (λ (u : List ℤ). guard (all-within u) (run only d S (full L C X m u) f)) e
         ∙ (clip-judged (scaleL k a) (λ (u : List ℤ). run only d S (full L C X m u) f) stopped
@@ -183,7 +183,7 @@ module _ (only : Bool) where
       ∙ (ap (guard (all-within (tot X′ m′ t′))) (factor-read (suc d) S L C X m t (tot X′ m′ t′) f)
       ∙ ap (λ (u : List ℤ). guard (all-within u) (guard (all-within (multiplied t u)) (run only (suc d) S (full L C X m (multiplied t u)) f))) e))
 
-  open-read : (d : ℕ) (S : List Frame) (L : List ℤ) (C : ℕ) (X : List ℤ) (m : Bool) (t : List ℤ) (p : Spaces) (w : List ℕ) → run only (suc d) S (open9 L C X m t) (spaces-bytes p (40 ∷ w)) ≡ run only d (open9 L C X m t ∷ S) (open9 zero9 0 zero9 false unit9) w
+  pub open-read : (d : ℕ) (S : List Frame) (L : List ℤ) (C : ℕ) (X : List ℤ) (m : Bool) (t : List ℤ) (p : Spaces) (w : List ℕ) → run only (suc d) S (open9 L C X m t) (spaces-bytes p (40 ∷ w)) ≡ run only d (open9 L C X m t ∷ S) (open9 zero9 0 zero9 false unit9) w
   unfolding run
   open-read d S L C X m t p w = spaced only (suc d) S (open9 L C X m t) (calm-open only (suc d) S L C X m t) p (40 ∷ w)
 
@@ -196,7 +196,7 @@ module _ (only : Bool) where
       ∙ (ap (guard (leb (digits-value ds) most)) (number-whole only d S L C X m t (digits-value ds) h)
       ∙ sym (ap (λ (b : Bool). guard b (guard (all-within (multiplied t (constant9 (pos (digits-value ds))))) (run only d S (full L C X m (multiplied t (constant9 (pos (digits-value ds))))) f))) (and-end (leb (digits-value ds) most)))))
 
-  none-deep : {A : Type 0} {n : ℕ} → suc n ≤ 0 → A
+  pub none-deep : {A : Type 0} {n : ℕ} → suc n ≤ 0 → A
   none-deep h = absurd (omega arith)
 
   mutual
@@ -238,7 +238,7 @@ module _ (only : Bool) where
         ∙ g-append (ksum-numbers s) (kterm-numbers y) (run only d S (full L C (nine (ksum-linear s)) (minus-of g) (nine (kterm-linear y))) f)))
 
   module _ (d : ℕ) (S : List Frame) (L : List ℤ) (C : ℕ) (X : List ℤ) (m : Bool) (t : List ℤ) where
-    level-digit : (i : Index) (f : List ℕ) → run only d S (open9 L C X m t) (76 ∷ index-byte i ∷ f) ≡ guard (all-within (multiplied t (nine (level-linear i)))) (run only d S (full L C X m (multiplied t (nine (level-linear i)))) f)
+    pub level-digit : (i : Index) (f : List ℕ) → run only d S (open9 L C X m t) (76 ∷ index-byte i ∷ f) ≡ guard (all-within (multiplied t (nine (level-linear i)))) (run only d S (full L C X m (multiplied t (nine (level-linear i)))) f)
     unfolding run step closed on-mark on-digit factor level9
     level-digit i1 f = run-if only d S (all-within (multiplied t (nine (level-linear i1)))) (full L C X m (multiplied t (nine (level-linear i1)))) f
     level-digit i2 f = run-if only d S (all-within (multiplied t (nine (level-linear i2)))) (full L C X m (multiplied t (nine (level-linear i2)))) f

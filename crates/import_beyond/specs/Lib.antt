@@ -1,0 +1,2 @@
+-- 25
+pub mod Beyond

@@ -1,0 +1,4 @@
+-- conditions of a text
+pub mod Conditions
+-- whole texts
+pub mod Texts
