@@ -15,7 +15,7 @@ use Rattle.import_found.specs.Places.{Place, lost, result-at, go, next-case, xo
 use Rattle.import_places.specs.declared.Walk.{Walk}
 use Rattle.import_places.specs.declared.Step.{Step}
 use Rattle.import_places.specs.declared.Step.the-variants.{On, Go, Result, NextCase, Lost}
-use Rattle.import_places.specs.Walking.{signs, popped, token-of, step-of}
+use Rattle.import_places.specs.Walking.{signs, two-to, popped, token-of, step-of}
 
 abbrev pub from-walk : List ℕ → Walk → Place
 from-walk w s = find w (s .depth) (s .value) (s .whole) (signs (s .mask) (s .count))
@@ -123,9 +123,43 @@ unfolding token-of
 token-bar s k e v =
     sym (ap (token-of s) e ∙ ap (λ (b : Bool). if b (On (record { depth = 0; value = true; whole = true; mask = s .mask; count = s .count })) Go) v)
 
+-- ---- signs
+
+half-low : (m c : ℕ) → m < two-to c → m / 2 < two-to (c - 1)
+unfolding two-to
+half-low m zero h = omega arith
+half-low m (suc c) h = subst (λ (k : ℕ). m / 2 < two-to k) (less-one c) (omega (arith, h))
+
+abbrev LowAfter : Step → Type 0
+LowAfter (On t) = t .mask < two-to (t .count)
+LowAfter Go = Unit {0}
+LowAfter Result = Unit {0}
+LowAfter NextCase = Unit {0}
+LowAfter Lost = Unit {0}
+
+low-if : (b : Bool) (x y : Step) → LowAfter x → LowAfter y → LowAfter (if b x y)
+low-if true x y p q = p
+low-if false x y p q = q
+
+step-low : (s : Walk) (k : ℕ) → s .mask < two-to (s .count) → LowAfter (step-of s k)
+unfolding step-of popped token-of
+step-low s k h =
+    low-if (eqb k 40) (On (record { depth = s .depth + 1; value = s .value; whole = s .whole; mask = s .mask; count = s .count })) _ h
+    (low-if (eqb k 41) _ _
+    (low-if (eqb (s .depth) 0) _ (On (record { depth = s .depth - 1; value = s .value; whole = s .whole; mask = s .mask; count = s .count }))
+    (low-if (eqb (s .count) 0) Lost (On (record { depth = 0; value = xor (eqb (s .mask % 2) 1) (s .value); whole = false; mask = s .mask / 2; count = s .count - 1 })) tt (half-low (s .mask) (s .count) h)) h)
+    (low-if (eqb (s .depth) 0) _ (On s)
+    (low-if (eqb k 38) _ _ (low-if (s .value) _ (On s) (low-if (s .whole) (On s) Go h tt) h)
+    (low-if (eqb k 124) _ _ (low-if (s .value) (On (record { depth = 0; value = true; whole = true; mask = s .mask; count = s .count })) Go h tt)
+    (low-if (eqb k 58) _ (On s) (low-if (s .value) Result NextCase tt tt) h))) h))
+
+pub on-low : (s w : Walk) (k : ℕ) → On w ≡ step-of s k → s .mask < two-to (s .count) → w .mask < two-to (w .count)
+on-low s w k e h = subst LowAfter (sym e) (step-low s k h)
+
 pub record At (text : List ℕ) (meant : Place) (s : Walk) (i : ℕ) : Type 0 where
   pub within : i ≤ length text
   pub shallows : s .depth ≤ i
+  pub low : s .mask < two-to (s .count)
   pub rest : from-walk (drop i text) s ≡ meant
 
 pub drop-all : (w : List ℕ) (i : ℕ) → length w ≤ i → drop i w ≡ []

@@ -1,9 +1,10 @@
 -- One byte of the scan, and what its answers stand for.
 use mathlib.Core.Bool.{Bool, true, false}
 use mathlib.Core.List.{List, [], _∷_}
-use Prim.Native.Nat.{ℕ, zero, suc, _+_, _-_, _/_, _%_}
+use mathlib.Core.Path.{_≡_}
+use Prim.Native.Nat.{ℕ, zero, suc, _+_, _-_, _*_, _/_, _%_, _≤_, _<_}
 use lib.Dec.{eqb}
-use lib.ListN.{drop}
+use lib.ListN.{length, drop}
 use Rattle.whole.specs.Cases.{if}
 use Rattle.import_found.specs.Places.{Place, lost, result-at, go, next-case, xor}
 use Rattle.import_places.specs.declared.Walk.{Walk}
@@ -16,6 +17,11 @@ use Rattle.import_places.specs.declared.Next.the-variants.{Go as GoAt, R
 unfoldable pub signs : ℕ → ℕ → List Bool
 signs m zero = []
 signs m (suc c) = eqb (m % 2) 1 ∷ signs (m / 2) c
+
+-- 2 to a power
+unfoldable pub two-to : ℕ → ℕ
+two-to zero = 1
+two-to (suc c) = two-to c * 2
 
 unfoldable pub popped : Walk → Step
 popped s =
@@ -40,3 +46,15 @@ meant w (GoAt i m c) = go (drop i w) false (signs m c)
 meant w (ResultAt i) = result-at (drop i w)
 meant w (NextCaseAt i) = next-case (drop i w)
 meant w LostAt = lost
+
+-- what is found lies in the text, and its signs are all there are
+abbrev pub InText : List ℕ → Next → Type 0
+InText w (GoAt i m c) = (i ≤ length w) × (m < two-to c)
+InText w (ResultAt i) = i ≤ length w
+InText w (NextCaseAt i) = i ≤ length w
+InText w LostAt = Unit {0}
+
+-- the place that is meant
+pub record Comes (w : List ℕ) (p : Place) (r : Next) : Type 0 where
+  pub place : meant w r ≡ p
+  pub inside : InText w r

@@ -6,7 +6,7 @@ use lib.ListN.{length, drop}
 use borrow.Author.Needs.{needs}
 use Rattle.import_found.specs.Places.{find as place-after}
 use Rattle.import_places.specs.Walking.{signs, meant}
-use Rattle.import_places.proofs.Steps.{At, on-byte, on-depth, at-end}
+use Rattle.import_places.proofs.Steps.{At, on-byte, on-depth, on-low, at-end}
 use Rattle.import_places.proofs.find.Statement.{statement}
 use Rattle.import_places.proofs.find.Tie as tie
 use Rattle.import_places.proofs.find.Reads as reads
@@ -21,7 +21,7 @@ abbrev μ-loop : tie.MeasureT-loop
 
 -- src/lib.rt:106:5
 loop-holds : tie.Need-loop-holds Inv-loop μ-loop
-loop-holds c = record { within = c .before .pre .0; shallows = omega arith; rest = refl }
+loop-holds c = record { within = c .before .pre .0; shallows = omega arith; low = c .before .pre .2; rest = refl }
 
 -- src/lib.rt:107:28
 shared-slice-read-advance : tie.Need-shared-slice-read-advance Inv-loop μ-loop
@@ -52,6 +52,7 @@ loop-again c =
     record {
       within = omega (arith, c .before .before .before .before .before .loop-test .taken);
       shallows = omega arith;
+      low = on-low (c .before .before .before .before .before .before .loop .s) (c .before .t .given .0 .0) _ e (c .before .before .before .before .before .before .loop .inv .low);
       rest = sym (on-byte _ (c .before .before .before .before .before .before .loop .s) (c .before .before .before .before .before .before .loop .i) _ (c .before .before .before .before .before .loop-test .taken) e) ∙ c .before .before .before .before .before .before .loop .inv .rest;
     }
 
@@ -62,7 +63,7 @@ enum-told c = search needs
 -- src/lib.rt:114:17
 returns : tie.Need-returns Inv-loop μ-loop
 unfolding meant
-returns c = sym (on-byte _ (c .before .before .before .before .before .loop .s) (c .before .before .before .before .before .loop .i) _ (c .before .before .before .before .loop-test .taken) (sym (c .enum-told .given .1) ∙ c .before .before .advance .ensures)) ∙ c .before .before .before .before .before .loop .inv .rest
+returns c = record { place = sym (on-byte _ (c .before .before .before .before .before .loop .s) (c .before .before .before .before .before .loop .i) _ (c .before .before .before .before .loop-test .taken) (sym (c .enum-told .given .1) ∙ c .before .before .advance .ensures)) ∙ c .before .before .before .before .before .loop .inv .rest; inside = (omega (arith, c .before .before .before .before .loop-test .taken), c .before .before .before .before .before .loop .inv .low) }
 
 -- src/lib.rt:117:17
 enum-told-2 : tie.Need-enum-told-2 Inv-loop μ-loop
@@ -71,7 +72,7 @@ enum-told-2 c = search needs
 -- src/lib.rt:117:17
 returns-2 : tie.Need-returns-2 Inv-loop μ-loop
 unfolding meant
-returns-2 c = sym (on-byte _ (c .before .before .before .before .before .loop .s) (c .before .before .before .before .before .loop .i) _ (c .before .before .before .before .loop-test .taken) (sym (c .enum-told2 .given .1) ∙ c .before .before .advance .ensures)) ∙ c .before .before .before .before .before .loop .inv .rest
+returns-2 c = record { place = sym (on-byte _ (c .before .before .before .before .before .loop .s) (c .before .before .before .before .before .loop .i) _ (c .before .before .before .before .loop-test .taken) (sym (c .enum-told2 .given .1) ∙ c .before .before .advance .ensures)) ∙ c .before .before .before .before .before .loop .inv .rest; inside = omega (arith, c .before .before .before .before .loop-test .taken) }
 
 -- src/lib.rt:120:17
 enum-told-3 : tie.Need-enum-told-3 Inv-loop μ-loop
@@ -80,7 +81,7 @@ enum-told-3 c = search needs
 -- src/lib.rt:120:17
 returns-3 : tie.Need-returns-3 Inv-loop μ-loop
 unfolding meant
-returns-3 c = sym (on-byte _ (c .before .before .before .before .before .loop .s) (c .before .before .before .before .before .loop .i) _ (c .before .before .before .before .loop-test .taken) (sym (c .enum-told3 .given .1) ∙ c .before .before .advance .ensures)) ∙ c .before .before .before .before .before .loop .inv .rest
+returns-3 c = record { place = sym (on-byte _ (c .before .before .before .before .before .loop .s) (c .before .before .before .before .before .loop .i) _ (c .before .before .before .before .loop-test .taken) (sym (c .enum-told3 .given .1) ∙ c .before .before .advance .ensures)) ∙ c .before .before .before .before .before .loop .inv .rest; inside = omega (arith, c .before .before .before .before .loop-test .taken) }
 
 -- src/lib.rt:123:17
 enum-told-4 : tie.Need-enum-told-4 Inv-loop μ-loop
@@ -89,12 +90,12 @@ enum-told-4 c = search needs
 -- src/lib.rt:123:17
 returns-4 : tie.Need-returns-4 Inv-loop μ-loop
 unfolding meant
-returns-4 c = sym (on-byte _ (c .before .before .before .before .before .loop .s) (c .before .before .before .before .before .loop .i) _ (c .before .before .before .before .loop-test .taken) (sym (c .enum-told4 .given .1) ∙ c .before .before .advance .ensures)) ∙ c .before .before .before .before .before .loop .inv .rest
+returns-4 c = record { place = sym (on-byte _ (c .before .before .before .before .before .loop .s) (c .before .before .before .before .before .loop .i) _ (c .before .before .before .before .loop-test .taken) (sym (c .enum-told4 .given .1) ∙ c .before .before .advance .ensures)) ∙ c .before .before .before .before .before .loop .inv .rest; inside = tt }
 
 -- src/lib.rt:100:1
 returns-5 : tie.Need-returns-5 Inv-loop μ-loop
 unfolding meant
-returns-5 c = at-end _ _ (c .before .loop .s) (c .before .loop .i) (c .before .loop .inv) (c .loop-test .left)
+returns-5 c = record { place = at-end _ _ (c .before .loop .s) (c .before .loop .i) (c .before .loop .inv) (c .loop-test .left); inside = tt }
 
 pub find-spec : {M : Type 1} → statement M
 find-spec =

@@ -1,0 +1,28 @@
+use mathlib.Core.Path.{sym, _∙_}
+use Rattle.import_going.specs.Turns.{cond-at}
+use Rattle.import_going.proofs.Reaching.{cond-yes, cond-not}
+use borrow.Author.Needs.{needs}
+use Rattle.import_going.proofs.start.bracket_at.Statement.{statement}
+use Rattle.import_going.proofs.start.bracket_at.Tie as tie
+use Rattle.import_going.proofs.start.bracket_at.Reads as reads
+use Rattle.import_going.proofs.start.bracket_at.Lts as lts
+use Rattle.import_going.proofs.bracket.is_cond.Reads as is-cond-reads
+
+-- src/start.rt:27:30
+add-is-cond : tie.Need-add-is-cond
+add-is-cond c = search needs
+
+-- src/start.rt:27:9
+is-cond-requires : tie.Need-is-cond-requires
+is-cond-requires c κs = search needs
+
+-- src/start.rt:27:9
+returns : tie.Need-returns
+returns c = c .is-cond .ensures ∙ cond-yes _ _ _ (c .before .if1 .taken)
+
+-- src/start.rt:22:1
+returns-2 : tie.Need-returns-2
+returns-2 c = cond-not _ _ _ (c .if1 .left)
+
+pub bracket-at-spec : {M : Type 1} → statement M
+bracket-at-spec = tie.close (tie.spec add-is-cond is-cond-requires returns returns-2)

@@ -1,0 +1,2 @@
+-- a sum's linear has the sum's value
+pub mod Linear
