@@ -1,2 +1,2 @@
--- an import is its passes, one by one
+-- an import from its model on
 pub mod Passes

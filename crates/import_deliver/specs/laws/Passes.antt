@@ -1,4 +1,4 @@
--- An import is its passes, one by one: the text's length, where it stops, its numbers, and then the model.
+-- What an import comes to where its text is not refused: the passes over its model.
 use mathlib.Core.Path.{_≡_, refl, sym, ap, _∙_}
 use mathlib.Core.Bool.{Bool, true, false, not}
 use mathlib.Core.List.{List}
@@ -31,46 +31,22 @@ too-long-model B buffer h = sym (ap (λ (b : Bool). left-by (from-own (if b (ref
     left-by : Verdict → ListingOut
     left-by v = if (eqb (v .number) 0) (filled-with buffer B) (untouched buffer (v .number) (v .place))
 
-module _ (w buffer : List ℕ) where
-  -- "It refuses text above 262,144 bytes with 10"
-  pub too-long : text-most < length w → untouched buffer 10 0 ≡ import-text w buffer
+-- a text that is refused neither with 10, 24 nor 25: what is left is the model
+module _ (w buffer : List ℕ) (h : length w ≤ text-most) (t : Text) (e : text-bytes t ≡ w) (f : beyond t ≡ false) where
+  read-as : (o : Outcome) → Right w o → o ≡ fine t
+  unfolding InGrammar
+  read-as (fine u) r = ap fine (one-reading u t (r ∙ sym e))
+  read-as (stops i) r = absurd (stops-outside w i r (t, e))
+
+  abbrev left-by : Verdict → ListingOut
+  left-by v = if (eqb (v .number) 0) (filled-with buffer (model-bytes t)) (untouched buffer (v .number) (v .place))
+
+  numbered : delivered (model-bytes t) buffer ≡ imported buffer (fine t)
+  unfolding delivered imported import-refusal model-refusal
+  numbered = ap (λ (b : Bool). left-by (if b (refusal 25 0) (model-refusal (model-bytes t) (length buffer)))) (sym f)
+
+  pub then-the-model : delivered (model-bytes t) buffer ≡ import-text w buffer
   unfolding import-text
-  too-long h = sym (ap (λ (b : Bool). if b (untouched buffer 10 0) (imported buffer (scan begin w 0))) (lt-ltb _ _ h))
-
-  module _ (h : length w ≤ text-most) where
-    scanned : imported buffer (scan begin w 0) ≡ import-text w buffer
-    unfolding import-text
-    scanned = sym (ap (λ (b : Bool). if b (untouched buffer 10 0) (imported buffer (scan begin w 0))) (le-ltb _ _ h))
-
-    -- "text outside the grammar with 24"
-    pub outside : (i : ℕ) → scan begin w 0 ≡ stops i → untouched buffer 24 i ≡ import-text w buffer
-    unfolding imported
-    outside i e = sym (ap (imported buffer) e) ∙ scanned
-
-    module _ (t : Text) (e : text-bytes t ≡ w) where
-      read-as : (o : Outcome) → Right w o → o ≡ fine t
-      unfolding InGrammar
-      read-as (fine u) r = ap fine (one-reading u t (r ∙ sym e))
-      read-as (stops i) r = absurd (stops-outside w i r (t, e))
-
-      judged : imported buffer (fine t) ≡ import-text w buffer
-      judged = ap (imported buffer) (sym (read-as (scan begin w 0) (scan-right w))) ∙ scanned
-
-      abbrev left-by : Verdict → ListingOut
-      left-by v = if (eqb (v .number) 0) (filled-with buffer (model-bytes t)) (untouched buffer (v .number) (v .place))
-
-      abbrev refused-by : Bool → Verdict
-      refused-by b = if b (refusal 25 0) (model-refusal (model-bytes t) (length buffer))
-
-      numbered : (b : Bool) → beyond t ≡ b → left-by (refused-by b) ≡ import-text w buffer
-      unfolding imported import-refusal model-refusal
-      numbered b f = ap (λ (c : Bool). left-by (refused-by c)) (sym f) ∙ judged
-
-      -- "a number beyond signed 32 bits .. with 25 once the whole text is in the grammar"
-      pub beyond-32-bits : beyond t ≡ true → untouched buffer 25 0 ≡ import-text w buffer
-      beyond-32-bits = numbered true
-
-      -- and then the model
-      pub within-32-bits : beyond t ≡ false → delivered (model-bytes t) buffer ≡ import-text w buffer
-      unfolding delivered
-      within-32-bits = numbered false
+  then-the-model = numbered
+      ∙ ap (imported buffer) (sym (read-as (scan begin w 0) (scan-right w)))
+      ∙ sym (ap (λ (b : Bool). if b (untouched buffer 10 0) (imported buffer (scan begin w 0))) (le-ltb _ _ h))
