@@ -1,0 +1,2 @@
+-- what is proved
+pub mod laws

@@ -1,0 +1,2 @@
+-- what a text is encoded as are bytes
+pub mod Bytes
