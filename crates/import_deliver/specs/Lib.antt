@@ -1,0 +1,4 @@
+-- the outcome from the model on
+pub mod Delivered
+-- laws
+pub mod laws

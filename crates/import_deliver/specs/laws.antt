@@ -1,0 +1,2 @@
+-- an import from its model on
+pub mod Passes

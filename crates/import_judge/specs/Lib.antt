@@ -1,0 +1,4 @@
+-- 10, 24 and 25
+pub mod Refusal
+-- laws
+pub mod laws

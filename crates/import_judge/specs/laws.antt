@@ -1,0 +1,2 @@
+-- an import is refused so
+pub mod Refused
