@@ -2,7 +2,7 @@
 use mathlib.Core.Bool.{Bool, true, false}
 use Prim.Native.Nat.{ℕ, suc, _+_, _-_}
 use lib.Dec.{eqb, ltb}
-use Rattle.import_grammar.specs.Grammar.{if}
+use Rattle.import_grammar.specs.Grammar.{if, deepest}
 use Rattle.import_state.specs.declared.Side.{Side}
 use Rattle.import_state.specs.declared.Side.the-variants.{Left, Right, Case, Last}
 use Rattle.import_state.specs.declared.Sum.{Sum}
@@ -23,7 +23,7 @@ unfoldable pub resulted : Side → ℕ → State
 unfolding item
 resulted Left k = Dead
 resulted Right k = Dead
-resulted Case k = if (eqb k 59) (At (Atom 32 32 true)) Dead
+resulted Case k = if (eqb k 59) (At (Atom deepest deepest true)) Dead
 resulted Last k = item k
 
 -- after an atom
@@ -31,8 +31,8 @@ unfoldable pub joined : ℕ → ℕ → State
 joined r k =
     if (eqb k 38) (At (Atom r r false))
     (if (eqb k 124) (At (Atom r r false))
-    (if (eqb k 41) (if (ltb r 32) (At (Held (r + 1))) Dead)
-    (if (eqb k 58) (if (eqb r 32) (At (Result Case)) Dead) Dead)))
+    (if (eqb k 41) (if (ltb r deepest) (At (Held (r + 1))) Dead)
+    (if (eqb k 58) (if (eqb r deepest) (At (Result Case)) Dead) Dead)))
 
 -- after the left side of a comparison, or a sum in a bracket that might have been a condition's
 unfoldable pub end-left : Sum → ℕ → State
@@ -87,4 +87,4 @@ on-compared r m k = if (eqb k 61) (if m (At (Factor (begun Right r 0) true)) Dea
 
 -- a result is expected
 unfoldable pub on-result : Side → ℕ → State
-on-result d k = if (eqb k 102) (In (Forbidden d 8)) (on-factor (begun d 32 0) true k)
+on-result d k = if (eqb k 102) (In (Forbidden d 8)) (on-factor (begun d deepest 0) true k)

@@ -2,7 +2,7 @@
 use mathlib.Core.Bool.{Bool, true, false}
 use Prim.Native.Nat.{ℕ, _-_}
 use lib.Dec.{eqb, ltb}
-use Rattle.import_grammar.specs.Grammar.{if}
+use Rattle.import_grammar.specs.Grammar.{if, deepest}
 use Rattle.import_state.specs.declared.Side.{Side}
 use Rattle.import_state.specs.declared.Setting.{Setting}
 use Rattle.import_state.specs.declared.Setting.the-variants.{Levels, Conditions, Actions, Weights}
@@ -12,7 +12,7 @@ use Rattle.import_state.specs.declared.Place.the-variants.{Site, Equals, Set, A
 use Rattle.import_state.specs.declared.Token.the-variants.{Word, Forbidden, Name, Chance, Next}
 use Rattle.import_state.specs.declared.State.{State}
 use Rattle.import_state.specs.declared.State.the-variants.{Dead, At, In}
-use Rattle.import_state.specs.Bytes.{digit, plain, letter, forbidden-letter}
+use Rattle.import_state.specs.Bytes.{name-chars, digit, plain, letter, forbidden-letter}
 use Rattle.import_cases.specs.Cases.{item}
 
 -- m, n, A and W
@@ -39,10 +39,10 @@ on-set h m k = if (digit k) (if m (At (Set h true)) Dead) (settled h k)
 
 -- after an item's number
 unfoldable pub opened : Kind → ℕ → State
-opened kinds.Reward k = if (eqb k 61) (At (Atom 32 32 true)) Dead
+opened kinds.Reward k = if (eqb k 61) (At (Atom deepest deepest true)) Dead
 opened kinds.Chance k = if (eqb k 78) (In Chance) Dead
 opened kinds.Next k = if (eqb k 76) (In Next) Dead
-opened kinds.Name k = if (eqb k 34) (In (Name 16)) Dead
+opened kinds.Name k = if (eqb k 34) (In (Name name-chars)) Dead
 
 -- after an item's number so far
 unfoldable pub on-given : Kind → Bool → ℕ → State

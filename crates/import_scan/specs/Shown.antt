@@ -1,10 +1,11 @@
 -- What the scanner keeps of the reader's state: numbers, and none of the pieces.
 use mathlib.Core.Bool.{Bool, true, false}
 use Prim.Native.Nat.{ℕ, suc}
-use Rattle.import_grammar.specs.Grammar.{Spaces, none, more, ConstFactor, number, kbracket, ConstTerm, kfactor, ktimes, vfactor, vscaled, vby, unsaid, bang, Chars}
+use Rattle.import_grammar.specs.Grammar.{Spaces, none, more, ConstFactor, number, kbracket, ConstTerm, kfactor, ktimes, vfactor, vscaled, vby, unsaid, bang, Chars, deepest}
 use Rattle.import_grammar.specs.Reader.{ConstPre, kopens, knegs, kmore, SumPre, kpre, vmore, ConstTermPre, first, timesK, TermPre, free, timesV, Term, kt, vt, no-or, some-or, no-and, some-and, Level, lv, CondCtx, base, inside, ResultCtx, of-case, of-else, Head, q0, q1, q2, q3, Kind, a-reward, a-chance, a-next, a-name, SumCtx, left, right, value, paren, ConstCtx, behind, within}
 use Rattle.import_grammar.specs.Reader.{State as Standing, cond, factor, after, cfactor, cafter, less, greater, held, els, outset, hletter, hequals, hnumber, hdone, inum, idone, iequals, res, forbade, quoted}
 use Rattle.import_grammar.specs.Reader.{Middle, letterC, letterL, reward1, reward2, reward3, reward4, reward5, chance1, chance2, chance3, chance4, chance5, end1, end2, n1, next2, next3, name2, name3, site1, site2, site3, forb1, forb2, forb3, forb4, forb5, forb6, forb7, forb8, letterN, chanceN, nextL, inside-name, el1, el2, el3, Machine, at, mid, dead}
+use Rattle.import_state.specs.Bytes.{no-level}
 use Rattle.import_state.specs.declared.Side.{Side}
 use Rattle.import_state.specs.declared.Side.the-variants.{Left, Right, Case, Last}
 use Rattle.import_state.specs.declared.Setting.{Setting}
@@ -34,7 +35,7 @@ chars-room {n = n} cs = n
 
 -- the room of the innermost level that has something before its atom: brackets up to there are conditions'
 abbrev pub hards : {n : ℕ} → CondCtx n → Level n → ℕ
-hards (base B) l = 32
+hards (base B) l = deepest
 hards (inside ctx l′ q) (lv no-or no-and unsaid) = hards ctx l′
 hards (inside ctx l′ q) (lv no-or no-and (bang x r)) = cond-room (inside ctx l′ q)
 hards (inside ctx l′ q) (lv no-or (some-and a r) x) = cond-room (inside ctx l′ q)
@@ -66,14 +67,14 @@ hard-of (paren sc pre cp q) = hard-of sc
 abbrev pub top-of : {n : ℕ} → SumCtx n → ℕ
 top-of (left ctx l) = cond-room ctx
 top-of (right ctx l s q op) = cond-room ctx
-top-of (value rc) = 32
+top-of (value rc) = deepest
 top-of (paren sc pre cp q) = top-of sc
 
 -- the room of the innermost sum around that has a level
 abbrev pub level-of : {n : ℕ} → SumCtx n → ℕ
-level-of (left ctx l) = 33
-level-of (right ctx l s q op) = 33
-level-of (value rc) = 33
+level-of (left ctx l) = no-level
+level-of (right ctx l s q op) = no-level
+level-of (value rc) = no-level
 level-of (paren sc (kpre c) cp q) = level-of sc
 level-of (paren sc (vmore s p g) cp q) = room-of sc
 

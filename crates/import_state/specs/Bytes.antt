@@ -1,9 +1,17 @@
--- Bytes, and the letters of words.
+-- Limits, bytes, and the letters of words.
 use mathlib.Core.Bool.{Bool, true, false}
 use Prim.Native.Nat.{ℕ}
 use lib.Dec.{eqb}
 use Rattle.import_grammar.specs.Grammar.{if, is-plain}
 use Rattle.import_grammar.specs.Reader.{is-digit, is-blank}
+
+-- a level's room where there is none: above every room
+abbrev pub no-level : ℕ
+no-level = 33
+
+-- characters of a name
+abbrev pub name-chars : ℕ
+name-chars = 16
 
 -- a digit
 unfoldable pub digit : ℕ → Bool

@@ -9,11 +9,11 @@ use Rattle.import_state.specs.declared.Place.the-variants.{Factor, After
 use Rattle.import_state.specs.declared.Token.the-variants.{Level}
 use Rattle.import_state.specs.declared.State.{State}
 use Rattle.import_state.specs.declared.State.the-variants.{Dead, At, In}
-use Rattle.import_state.specs.Bytes.{digit}
+use Rattle.import_state.specs.Bytes.{no-level, digit}
 
 -- nothing of the sum has been read
 unfoldable pub begun : Side → ℕ → ℕ → Sum
-begun d r h = record { side = d; room = r; hard = h; top = r; level = 33; vary = false }
+begun d r h = record { side = d; room = r; hard = h; top = r; level = no-level; vary = false }
 
 -- inside a bracket, or outside again
 unfoldable pub roomed : Sum → ℕ → Sum

@@ -2,7 +2,7 @@
 use mathlib.Core.Bool.{Bool, true, false}
 use Prim.Native.Nat.{ℕ}
 use lib.Dec.{eqb}
-use Rattle.import_grammar.specs.Grammar.{if}
+use Rattle.import_grammar.specs.Grammar.{if, deepest}
 use Rattle.import_state.specs.declared.Side.{Side}
 use Rattle.import_state.specs.declared.Side.the-variants.{Left, Right, Case, Last}
 use Rattle.import_state.specs.declared.Setting.{Setting}
@@ -52,7 +52,7 @@ on-place (Value h) k = if (digit k) (At (Set h true)) Dead
 on-place (Set h m) k = on-set h m k
 on-place (Action h) k = if (digit k) (At (Given h true)) Dead
 on-place (Given h m) k = on-given h m k
-on-place Opener k = only k 61 (At (Atom 32 32 true))
+on-place Opener k = only k 61 (At (Atom deepest deepest true))
 on-place (Quoted n m) k = on-quoted n m k
 on-place (Atom r h f) k = on-atom r h f k
 on-place (Factor s b) k = on-factor s b k
@@ -102,7 +102,7 @@ last-setting Weights = true
 
 -- the else's result, with no bracket open
 unfoldable pub after-ends : Sum → Bool
-after-ends s = if (last-side (s .side)) (eqb (s .room) 32) false
+after-ends s = if (last-side (s .side)) (eqb (s .room) deepest) false
 
 -- a text may end here: behind the site or an item
 unfoldable pub place-ends : Place → Bool

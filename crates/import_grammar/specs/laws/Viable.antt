@@ -313,7 +313,7 @@ abbrev pub Impossible : List ℕ → List ℕ → Type 0
 Impossible u [] = InGrammar u → ⊥
 Impossible u (k ∷ v) = Begins (u ++ (k ∷ [])) → ⊥
 
--- what 02 says of number 24
+-- "24 and the offset of the first byte that no text of the grammar can have there (or the length, if it only ends early)"
 pub record Stopped (w : List ℕ) (i : ℕ) : Type 0 where
   pub before : List ℕ
   pub after : List ℕ
@@ -358,7 +358,7 @@ scanned (k ∷ w) u i h e =
       ending = dead-begins (u ++ (k ∷ [])) (ap alive one-more ∙ f);
     })
 
--- every byte string has its outcome: a reading of it, or the offset that 02 names
+-- every byte string has its outcome: a reading of it, or 24's offset
 
 pub scan-right : (w : List ℕ) → Right w (scan begin w 0)
 unfolding run
