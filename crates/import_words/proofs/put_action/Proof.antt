@@ -11,7 +11,7 @@ same-length : tie.Need-same-length
 same-length c = search needs
 
 returns : tie.Need-returns
-returns c = rename (as-low-first _ _) (c .before .before .put-le .ensures)
+returns c = rename {l′ = c .before .before .put-le .last .0} {n = c .before .before .put-le .result} (as-low-first 2 (c .before .before .before .before .before .args .action)) (c .before .before .put-le .ensures)
 
 pub put-action-spec : {M : Type 1} → statement M
 put-action-spec = tie.close (tie.spec put-le-requires same-length returns)
