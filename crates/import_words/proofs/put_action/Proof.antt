@@ -1,3 +1,4 @@
+-- `import_words::put_action` meets its contract.
 use Rattle.text_decimal.proofs.Puts.{rename}
 use Rattle.import_words.proofs.Laws.{as-low-first}
 use borrow.Author.Needs.{needs}

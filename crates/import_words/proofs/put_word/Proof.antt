@@ -1,3 +1,4 @@
+-- `import_words::put_word` meets its contract.
 use mathlib.Core.Path.{ap, _∙_}
 use Rattle.text_decimal.proofs.Puts.{rename}
 use Rattle.import_model.specs.Encode.{low-first}

@@ -1,3 +1,4 @@
+-- `import_words::put_words` meets its contract.
 use Prim.Native.Nat.{_-_}
 use native.Mathlib.Omega.{arith}
 use Rattle.whole.specs.Linears.{numbers}

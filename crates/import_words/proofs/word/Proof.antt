@@ -1,3 +1,4 @@
+-- `import_words::word` meets its contract.
 use native.Mathlib.Omega.{arith}
 use Rattle.import_words.proofs.Laws.{negative, not-negative}
 use borrow.Author.Needs.{needs}
