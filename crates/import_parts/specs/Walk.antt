@@ -115,16 +115,25 @@ slot-in l = record { command = kind-in l; action = action-in (kind-in l) l; inde
 
 -- ---- a name
 
--- the characters of a string, from behind its opening quotation mark; whether a quotation mark stands right before: a second one is a character, any other byte is behind the string
+-- in a string, from behind its opening quotation mark, by whether a quotation mark that is no character stands right before: a second one is a character, any other byte is behind the string
+unfoldable pub spells : Bool → ℕ → Bool
+spells q k = if (eqb k 34) q (not q)
+
 unfoldable pub spelled : Bool → List ℕ → List ℕ
+unfolding spells
 spelled q [] = []
-spelled true (k ∷ w) = if (eqb k 34) (34 ∷ spelled false w) []
-spelled false (k ∷ w) = if (eqb k 34) (spelled true w) (k ∷ spelled false w)
+spelled q (k ∷ w) = if (spells q k) (k ∷ spelled false w) (if q [] (spelled true w))
+
+unfoldable pub behind-string : Bool → ℕ → Bool
+behind-string q k = if (eqb k 34) false q
+
+unfoldable pub quoted-after : Bool → ℕ → Bool
+quoted-after q k = if (eqb k 34) (not q) false
 
 unfoldable pub string-rest : Bool → List ℕ → List ℕ
+unfolding behind-string quoted-after
 string-rest q [] = []
-string-rest true (k ∷ w) = if (eqb k 34) (string-rest false w) (k ∷ w)
-string-rest false (k ∷ w) = if (eqb k 34) (string-rest true w) (string-rest false w)
+string-rest q (k ∷ w) = if (behind-string q k) (k ∷ w) (string-rest (quoted-after q k) w)
 
 -- from its opening quotation mark: byte j of the sixteen, and the next item
 unfoldable pub name-byte : ℕ → List ℕ → ℕ

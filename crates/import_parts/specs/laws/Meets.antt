@@ -102,11 +102,11 @@ value-digit m v d7 f = refl
 value-digit m v d8 f = refl
 value-digit m v d9 f = refl
 
-small : (m n : ℕ) → n ≤ m → at-most m n ≡ n
+pub small : (m n : ℕ) → n ≤ m → at-most m n ≡ n
 unfolding at-most
 small m n h = by-eq (ltb m n) (λ (b : Bool). if b m n ≡ n) (λ t. absurd (let g = ltb→lt m n (subst T (sym t) tt) in omega (arith, g, h))) (λ _. refl)
 
-great : (m n : ℕ) → m ≤ n → at-most m n ≡ m
+pub great : (m n : ℕ) → m ≤ n → at-most m n ≡ m
 unfolding at-most
 great m n h = by-test (ltb m n) (λ (b : Bool). if b m n ≡ m) (λ _. refl) (λ t. let g = nltb→le m n t in omega (arith, g, h))
 

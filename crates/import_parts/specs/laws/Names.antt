@@ -11,21 +11,21 @@ use Rattle.theory.specs.Widths.{name-bytes}
 use Rattle.import_grammar.specs.Grammar.{Blank, blank, tab, newline, return, Spaces, none, more, Char, Chars, empty, char, quote, is-plain, blank-byte, spaces-bytes, chars-bytes}
 use Rattle.import_model.specs.Commands.{letters, filled}
 use Rattle.import_parts.specs.Parts.{string-bytes}
-use Rattle.import_parts.specs.Walk.{next-letter, spelled, string-rest, name-byte, name-rest}
+use Rattle.import_parts.specs.Walk.{next-letter, spells, spelled, behind-string, quoted-after, string-rest, name-byte, name-rest}
 
 plain-is-none : (k : ℕ) → T (is-plain k) → eqb k 34 ≡ false
 plain-is-none k = by-eq (eqb k 34) (λ (b : Bool). T (if b false (if (leb 32 k) (leb k 126) false)) → b ≡ false) (λ _ h. absurd h) (λ _ h. refl)
 
 spells-one : (k : ℕ) (f : List ℕ) → eqb k 34 ≡ false → spelled false (k ∷ f) ≡ k ∷ spelled false f
-unfolding spelled
-spells-one k f e = ap (λ (b : Bool). if b (spelled true f) (k ∷ spelled false f)) e
+unfolding spelled spells
+spells-one k f e = ap (λ (b : Bool). if (if b false true) (k ∷ spelled false f) (spelled true f)) e
 
 passes-one : (k : ℕ) (f : List ℕ) → eqb k 34 ≡ false → string-rest false (k ∷ f) ≡ string-rest false f
-unfolding string-rest
-passes-one k f e = ap (λ (b : Bool). if b (string-rest true f) (string-rest false f)) e
+unfolding string-rest behind-string quoted-after
+passes-one k f e = λ i. if (if (e i) false false) (k ∷ f) (string-rest (if (e i) true false) f)
 
 spells-chars : {n : ℕ} (cs : Chars n) (f : List ℕ) → spelled false (chars-bytes cs f) ≡ letters cs ++ spelled false f
-unfolding chars-bytes letters spelled
+unfolding chars-bytes letters spelled spells
 spells-chars empty f = refl
 spells-chars (char cs c) f =
     spells-chars cs (c .byte ∷ f) ∙ ap (λ (l : List ℕ). letters cs ++ l) (spells-one (c .byte) f (plain-is-none (c .byte) (c .plain)))
@@ -33,7 +33,7 @@ spells-chars (char cs c) f =
 spells-chars (quote cs) f = spells-chars cs (34 ∷ 34 ∷ f) ∙ sym (append-assoc (letters cs) (34 ∷ []) (spelled false f))
 
 passes-chars : {n : ℕ} (cs : Chars n) (f : List ℕ) → string-rest false (chars-bytes cs f) ≡ string-rest false f
-unfolding chars-bytes string-rest
+unfolding chars-bytes string-rest behind-string quoted-after
 passes-chars empty f = refl
 passes-chars (char cs c) f = passes-chars cs (c .byte ∷ f) ∙ passes-one (c .byte) f (plain-is-none (c .byte) (c .plain))
 passes-chars (quote cs) f = passes-chars cs (34 ∷ 34 ∷ f)
@@ -44,7 +44,7 @@ pub record Unquoted (f : List ℕ) : Type 0 where
   pub stays : string-rest true f ≡ f
 
 blank-unquoted : (b : Blank) (f : List ℕ) → Unquoted (blank-byte b ∷ f)
-unfolding spelled string-rest
+unfolding spelled spells string-rest behind-string quoted-after
 blank-unquoted blank f = record { ended = refl; stays = refl }
 blank-unquoted tab f = record { ended = refl; stays = refl }
 blank-unquoted newline f = record { ended = refl; stays = refl }
@@ -60,7 +60,7 @@ nothing-behind [] = refl
 nothing-behind (k ∷ x) = ap (λ (l : List ℕ). k ∷ l) (nothing-behind x)
 
 spells-string : {n : ℕ} (cs : Chars n) (f : List ℕ) → Unquoted f → spelled false (drop 1 (string-bytes cs f)) ≡ letters cs
-unfolding string-bytes spelled
+unfolding string-bytes spelled spells
 spells-string cs f h = spells-chars cs (34 ∷ f) ∙ ap (λ (l : List ℕ). letters cs ++ l) (h .ended) ∙ nothing-behind (letters cs)
 
 filled-byte : (k : ℕ) (l : List ℕ) (j : ℕ) → j < k → getD l j 0x20 ≡ getD (filled k l) j 0
@@ -78,5 +78,5 @@ name-spelled cs f j h k = ap (λ (l : List ℕ). getD l j 0x20) (spells-string c
 
 -- what stands behind it
 pub string-left : {n : ℕ} (cs : Chars n) (f : List ℕ) → Unquoted f → name-rest (string-bytes cs f) ≡ next-letter false f
-unfolding name-rest string-bytes string-rest
+unfolding name-rest string-bytes string-rest behind-string quoted-after
 string-left cs f h = ap (next-letter false) (passes-chars cs (34 ∷ f) ∙ h .stays)

@@ -13,7 +13,7 @@ use Rattle.import_model.specs.Commands.{byte-of, action-of, setting-of, letters
 use Rattle.import_found.specs.Places.{Emits, go, AfterResult, ends-text, reward-next, chance-next, name-next, end-next}
 use Rattle.import_found.specs.laws.Found.{opening-of, cases-bytes, cases-commands, item-out}
 use Rattle.import_parts.specs.Parts.{Site, site-with, Part, item, name, site-bytes, site-command, gap, opened-bytes, else-bytes, string-bytes, named-bytes, part-gap, part-bare, parts-bytes, slot-of, part-commands, parts-commands, from-letter, Walked}
-use Rattle.import_parts.specs.Walk.{Stands, next-letter, begins, is-letter, inside-after, item-rest, goes-on, number-value, number-rest, kind-in, slot-in, opening-rest, spelled, string-rest, name-byte, name-rest, setting-rest}
+use Rattle.import_parts.specs.Walk.{Stands, next-letter, begins, is-letter, inside-after, item-rest, goes-on, number-value, number-rest, kind-in, slot-in, opening-rest, spells, spelled, behind-string, quoted-after, string-rest, name-byte, name-rest, setting-rest}
 use Rattle.import_parts.specs.laws.Order.{text-parts, text-site, text-end, text-order, text-commands-order}
 use Rattle.import_parts.specs.laws.Meets.{Ends, ends-spaced, rest-spaces, SiteRead, site-read}
 use Rattle.import_parts.specs.laws.Items.{slot-read, opening-left, name-read, name-left, item-left, next-spaces}
@@ -29,14 +29,14 @@ record Lettered (f : List ℕ) : Type 0 where
   after : AfterResult f
 
 opening-lettered : (O : Opening) (f : List ℕ) → Lettered (opened-bytes O f)
-unfolding opened-bytes next-letter begins is-letter inside-after number-rest number-value goes-on Ends spelled string-rest
+unfolding opened-bytes next-letter begins is-letter inside-after number-rest number-value goes-on Ends spelled spells string-rest behind-string quoted-after
 opening-lettered (reward I p q ds r) f = record { here = refl; unread = refl; ends = λ m v. refl; unquoted = record { ended = refl; stays = refl }; after = reward-next }
 opening-lettered (chance I p q ds r i t) f = record { here = refl; unread = refl; ends = λ m v. refl; unquoted = record { ended = refl; stays = refl }; after = chance-next }
 opening-lettered (next I p q ds r i t) f = record { here = refl; unread = refl; ends = λ m v. refl; unquoted = record { ended = refl; stays = refl }; after = name-next }
 opening-lettered (end I p t) f = record { here = refl; unread = refl; ends = λ m v. refl; unquoted = record { ended = refl; stays = refl }; after = end-next }
 
 part-lettered : (x : Part) (f : List ℕ) → Lettered (part-bare x f)
-unfolding part-bare named-bytes next-letter begins is-letter inside-after number-rest number-value goes-on Ends spelled string-rest
+unfolding part-bare named-bytes next-letter begins is-letter inside-after number-rest number-value goes-on Ends spelled spells string-rest behind-string quoted-after
 part-lettered (item B p q r) f = opening-lettered (opening-of B) (cases-bytes B (else-bytes p q r f))
 part-lettered (name p q ds r cs) f = record { here = refl; unread = refl; ends = λ m v. refl; unquoted = record { ended = refl; stays = refl }; after = name-next }
 
@@ -54,7 +54,7 @@ still-as [] e = refl
 still-as (x ∷ P) e = refl
 
 letter-lettered : (P : List Part) (e : Spaces) → Lettered (from-letter P e)
-unfolding from-letter next-letter number-rest number-value Ends spelled string-rest
+unfolding from-letter next-letter number-rest number-value Ends spelled spells string-rest behind-string quoted-after
 letter-lettered [] e = record { here = refl; unread = refl; ends = λ m v. refl; unquoted = record { ended = refl; stays = refl }; after = ends-text }
 letter-lettered (x ∷ P) e = part-lettered x (parts-bytes P (spaces-bytes e []))
 
