@@ -303,15 +303,15 @@ mutual
 -- ---- an item
 
 -- an item's opening, the bytes of its cases before f, and their commands before those of what follows
-pub opening-of : Before → Opening
+unfoldable pub opening-of : Before → Opening
 opening-of (start O) = O
 opening-of (case B o p r q) = opening-of B
 
-pub cases-bytes : Before → List ℕ → List ℕ
+unfoldable pub cases-bytes : Before → List ℕ → List ℕ
 cases-bytes (start O) f = f
 cases-bytes (case B o p r q) f = cases-bytes B (or-bytes o (spaces-bytes p (58 ∷ result-bytes r (spaces-bytes q (59 ∷ f)))))
 
-pub cases-commands : Before → List Command → List Command
+unfoldable pub cases-commands : Before → List Command → List Command
 cases-commands (start O) C = C
 cases-commands (case B o p r q) C = cases-commands B (or-commands o (result-command r ∷ []) C)
 

@@ -1,0 +1,28 @@
+use Rattle.import_walk.proofs.Joined.{item-joined}
+use borrow.Author.Needs.{needs}
+use Rattle.import_walk.proofs.steps.end_of_item.Statement.{statement}
+use Rattle.import_walk.proofs.steps.end_of_item.Tie as tie
+use Rattle.import_walk.proofs.steps.end_of_item.Reads as reads
+use Rattle.import_walk.proofs.steps.end_of_item.Lts as lts
+use Rattle.import_walk.proofs.steps.next_letter.Reads as next-letter-reads
+use Rattle.import_walk.proofs.steps.past.Reads as past-reads
+
+-- src/steps.rt:101:9
+next-letter-requires : tie.Need-next-letter-requires
+next-letter-requires c κs = search needs
+
+-- src/steps.rt:102:9
+past-requires : tie.Need-past-requires
+past-requires c κs = search needs
+
+-- src/steps.rt:103:5
+next-letter-requires-2 : tie.Need-next-letter-requires-2
+next-letter-requires-2 c κs = search needs
+
+-- src/steps.rt:97:1
+returns : tie.Need-returns
+returns c = item-joined _ _ _ _ _ (c .before .before .next-letter .ensures) (c .before .past .ensures) (c .next-letter2 .ensures)
+
+pub end-of-item-spec : {M : Type 1} → statement M
+end-of-item-spec =
+    tie.close (tie.spec next-letter-requires past-requires next-letter-requires-2 returns)

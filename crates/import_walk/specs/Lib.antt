@@ -1,0 +1,4 @@
+-- where the steps stop, and what numbers they read
+pub mod Onward
+-- what the walk answers
+pub mod Answers
