@@ -10,7 +10,7 @@ use lib.Seq.{take-suc, take-all, take-at, getD-append-seam}
 use Rattle.whole.specs.Linears.{coefficients, numbers}
 use Rattle.theory.specs.Diagram.{Linear}
 use Rattle.theory.specs.Command.{Command, site, push-condition, push-forbidden, name-action, end-model}
-use Rattle.model_command.specs.Reading.{linear-of}
+use Rattle.model_command.specs.CursorReadings.{linear-of}
 use Rattle.text_decimal.specs.Put.{PutAt}
 use Rattle.text_decimal.proofs.Puts.{then, rename}
 use Rattle.import_numbers.specs.Numbers.{nine}

@@ -4,7 +4,7 @@ use Prim.Native.Nat.{ℕ, _+_, _≤_}
 use lib.IntN.{ℤ}
 use lib.ListN.{length}
 use Rattle.theory.specs.Command.{Command, push-leaf, push-test, give}
-use Rattle.model_command.specs.Reading.{linear-of}
+use Rattle.model_command.specs.CursorReadings.{linear-of}
 use Rattle.import_model.specs.Encode.{command-bytes}
 
 -- 10 with nine numbers: "coefficients of levels .., then a constant"

@@ -4,7 +4,7 @@ ghost use Prim.Native.Nat.{_+_, _≤_};
 ghost use lib.Dec.{T};
 ghost use lib.ListN.{length};
 ghost use Rattle.theory.specs.Command.{site, push-condition, push-forbidden, name-action, end-model};
-ghost use Rattle.model_command.specs.Reading.{linear-of};
+ghost use Rattle.model_command.specs.CursorReadings.{linear-of};
 ghost use Rattle.text_decimal.specs.Put.{PutAt};
 ghost use Rattle.import_numbers.specs.Numbers.{all-within};
 ghost use Rattle.import_model.specs.Encode.{linear-bytes, action-encoded, command-bytes};
