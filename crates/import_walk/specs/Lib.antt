@@ -2,3 +2,5 @@
 pub mod Onward
 -- what the walk answers
 pub mod Answers
+-- the answers are the reading's
+pub mod Steps
