@@ -33,17 +33,28 @@ pub record Comes (w : List ℕ) (r : Spot) (l : List ℕ) (n : ℕ) (C : List Co
   pub spotted : Spotted w place r
   pub visits : Visits w place (entries l n) C
 
--- what is still to be written stays the same
-pub record Enters (w : List ℕ) (e : Entry) (l : List ℕ) (n : ℕ) (r : Spot) (l′ : List ℕ) : Type 0 where
-  pub same : length l′ ≡ length l
-  pub goes-on : (C : List Command) → Visits w (place-of w e) (entries l n) C → Comes w r l′ (suc n) C
-
 -- a spot lies in the text
 abbrev pub InPlace : List ℕ → Spot → Type 0
 InPlace w (AtomAt i b m c) = (i < length w) × (m < two-to c)
 InPlace w (ResultAt i) = i ≤ length w
 InPlace w LostAt = Unit {0}
 InPlace w DeepAt = Unit {0}
+
+-- what is still to be written stays the same
+pub record Enters (w : List ℕ) (e : Entry) (l : List ℕ) (n : ℕ) (r : Spot) (l′ : List ℕ) : Type 0 where
+  pub same : length l′ ≡ length l
+  pub inside : InPlace w r
+  pub goes-on : (C : List Command) → Visits w (place-of w e) (entries l n) C → Comes w r l′ (suc n) C
+
+-- a spot of the text, and a list that is long enough
+pub record Starting (w : List ℕ) (s : Spot) (l : List ℕ) (n : ℕ) : Type 0 where
+  pub inside : InPlace w s
+  pub short : length w ≤ 262144
+  pub long : length l ≡ 131072
+  pub few : n ≤ length l
+
+abbrev pub none-found : Down
+none-found = record { count = 0; at = 0; found = false }
 
 -- a result is reached, whose command is the first that is still to be written
 pub record Descends (w : List ℕ) (s : Spot) (l : List ℕ) (n : ℕ) (r : Down) (l′ : List ℕ) : Type 0 where

@@ -1,11 +1,7 @@
 // From a place to the result that comes first, the atoms on the way put on the list.
 ghost use mathlib.Core.Path.{_≡_};
-ghost use Prim.Native.Nat.{_≤_, _<_};
-ghost use lib.ListN.{length};
 ghost use Rattle.import_found.specs.Places.{xor};
-ghost use Rattle.import_going.specs.Turns.{Spotted};
-ghost use Rattle.import_places.specs.Walking.{two-to};
-ghost use Rattle.import_walk.specs.Walks.{Ready, Enters, Descends, InPlace};
+ghost use Rattle.import_walk.specs.Walks.{Ready, Enters, Starting, none-found, Descends};
 use import_going::start::Spot;
 use import_going::start::decided;
 use import_list::Entry;
@@ -46,4 +42,55 @@ fn enter(text: &[u8], e: Entry, list: &mut [u64], n: usize) -> Spot
     let t = look(text, e.at);
     push(list, n, e);
     decided(text, e.at, first_value(t.first, e.sign), e.mask, e.count)
+}
+
+fn nothing() -> Down
+    ensures { λ r. ⌜ r ≡ none-found ⌝ }
+{
+    Down {
+        count: 0,
+        at: 0,
+        found: false,
+    }
+}
+
+// The result that comes first from a place on.
+pub fn descend(text: &[u8], spot: Spot, list: &mut [u64], count: usize) -> Down
+    requires { ⌜ Starting (now text) spot (now list) count ⌝ }
+    ensures { λ r. ⌜ Descends (now (text .entry)) spot (now (list .entry)) count r (now (list .exit)) ⌝ }
+{
+    let mut s = spot;
+    let mut n = count;
+    while n <= list.len() {
+        match s {
+            Spot::Atom(at, sign, mask, deep) => {
+                if n >= list.len() {
+                    return nothing();
+                }
+                let e = Entry {
+                    at,
+                    sign,
+                    mask,
+                    count: deep,
+                    both: false,
+                };
+                s = enter(text, e, list, n);
+                n += 1;
+            }
+            Spot::Result(i) => {
+                return Down {
+                    count: n,
+                    at: i,
+                    found: true,
+                };
+            }
+            Spot::Lost => {
+                return nothing();
+            }
+            Spot::Deep => {
+                return nothing();
+            }
+        }
+    }
+    nothing()
 }
