@@ -14,7 +14,7 @@ use Rattle.import_list.specs.declared.Entry.{Entry}
 use Rattle.import_list.specs.Pending.{Visits}
 use Rattle.import_list.specs.Packed.{entries}
 use Rattle.import_list.specs.laws.Steps.{ResultFirst}
-use Rattle.import_walk.specs.declared.Down.{Down}
+use Rattle.import_descend.specs.declared.Down.{Down}
 
 -- an atom of the text, of which no command is written, and room for it on the list
 pub record Ready (w : List ℕ) (e : Entry) (l : List ℕ) (n : ℕ) : Type 0 where

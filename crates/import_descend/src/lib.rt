@@ -1,7 +1,7 @@
 // From a place to the result that comes first, the atoms on the way put on the list.
 ghost use mathlib.Core.Path.{_≡_};
 ghost use Rattle.import_found.specs.Places.{xor};
-ghost use Rattle.import_walk.specs.Walks.{Ready, Enters, Starting, none-found, Descends};
+ghost use Rattle.import_descend.specs.Walks.{Ready, Enters, Starting, none-found, Descends};
 use import_going::start::Spot;
 use import_going::start::decided;
 use import_list::Entry;

@@ -19,8 +19,8 @@ use Rattle.import_list.specs.Packed.{entries, Fits, Pushed}
 use Rattle.import_list.specs.laws.Steps.{atom-told, first-entry, visit-atom, visit-result, not-deep, not-lost, few, rises, ResultFirst}
 use Rattle.import_look.specs.declared.Told.{Told}
 use Rattle.import_look.specs.Looks.{Looks}
-use Rattle.import_walk.specs.declared.Down.{Down}
-use Rattle.import_walk.specs.Walks.{Ready, place-of, Comes, Enters, InPlace, Starting, none-found, Descends}
+use Rattle.import_descend.specs.declared.Down.{Down}
+use Rattle.import_descend.specs.Walks.{Ready, place-of, Comes, Enters, InPlace, Starting, none-found, Descends}
 
 -- ---- no place is too deep for a word
 
