@@ -2,12 +2,13 @@
 use mathlib.Core.Bool.{Bool, true, false, not}
 use mathlib.Core.List.{List, [], _∷_}
 use mathlib.Core.Path.{_≡_}
-use Prim.Native.Nat.{ℕ, zero, suc, _≤_, _<_}
+use Prim.Native.Nat.{ℕ, zero, suc, _+_, _≤_, _<_}
 use lib.Dec.{eqb}
 use lib.ListN.{length}
 use Rattle.whole.specs.Cases.{if}
 use Rattle.theory.specs.Command.{Command}
 use Rattle.import_grammar.specs.Grammar.{Spaces, Atom, now, later, compare, group, Result, spaces-bytes, atom-bytes, result-bytes, deepest}
+use Rattle.import_numbers.specs.Numbers.{atom-numbers, result-numbers, all-within}
 use Rattle.import_model.specs.Commands.{atom-commands, result-command}
 
 -- an atom, whether "!" turns it, and whether "!" turns each bracket that is open, innermost first; a result; or outside the grammar
@@ -92,10 +93,10 @@ Decided (later p i) = Unit {0}
 Decided (compare s p op t) = Unit {0}
 Decided (group p o q) = ⊥
 
--- an atom's commands are those of its two outcomes and its own; a result has one; "Brackets .. nest at most 32 deep"
+-- an atom's commands are those of its two outcomes and its own; a result has one; "Brackets .. nest at most 32 deep", and no number is "beyond signed 32 bits"
 pub data Emits : Place → List Command → Type 0 where
-  by-result : {w : List ℕ} (r : Result) (q : Spaces) (f : List ℕ) → w ≡ result-bytes r (spaces-bytes q f) → AfterResult f → Emits (result-at w) (result-command r ∷ [])
-  by-atom : {b : Bool} {ps : List Bool} {w : List ℕ} {n : ℕ} (x : Atom n) (q : Spaces) (k : ℕ) (f : List ℕ) → length ps ≤ deepest → Decided x → AfterAtom k → w ≡ atom-bytes x (spaces-bytes q (k ∷ f))
+  by-result : {w : List ℕ} (r : Result) (q : Spaces) (f : List ℕ) → w ≡ result-bytes r (spaces-bytes q f) → AfterResult f → all-within (result-numbers r) ≡ true → Emits (result-at w) (result-command r ∷ [])
+  by-atom : {b : Bool} {ps : List Bool} {w : List ℕ} {n : ℕ} (x : Atom n) (q : Spaces) (k : ℕ) (f : List ℕ) → n + length ps ≤ deepest → Decided x → AfterAtom k → w ≡ atom-bytes x (spaces-bytes q (k ∷ f)) → all-within (atom-numbers x) ≡ true
       → (T F : List Command) → Emits (find w 0 (not b) false ps) T → Emits (find w 0 b false ps) F → Emits (atom-at b ps w) (atom-commands x T F)
 
 -- more brackets are open than a text may have: no commands are there

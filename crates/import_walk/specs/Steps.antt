@@ -1,6 +1,6 @@
 -- The answers are the reading's: one step of a walk over a text, for every reading.
 use mathlib.Core.Path.{_≡_, refl, sym, ap, _∙_, subst}
-use mathlib.Core.Bool.{false}
+use mathlib.Core.Bool.{true, false}
 use mathlib.Core.List.{List, [], _∷_, _++_}
 use Prim.Native.Nat.{ℕ, _≤_, _<_}
 use native.Mathlib.Omega.{arith}
@@ -11,7 +11,8 @@ use Rattle.theory.specs.Verdict.{name-slot}
 use Rattle.import_grammar.specs.Grammar.{Spaces, none, Digits, Result, Chars, Before, Text, text-bytes}
 use Rattle.import_model.specs.Commands.{action-of, letters, filled, result-command, text-commands}
 use Rattle.import_found.specs.Places.{Emits, go}
-use Rattle.import_found.specs.laws.Found.{opening-of, cases-commands}
+use Rattle.import_numbers.specs.Numbers.{all-within, result-numbers}
+use Rattle.import_found.specs.laws.Found.{opening-of, cases-commands, cases-numbers}
 use Rattle.import_parts.specs.Parts.{site-with, Part, item, name, site-command, slot-of, part-commands, Walked}
 use Rattle.import_parts.specs.Walk.{item-rest, name-byte, name-rest}
 use Rattle.import_parts.specs.laws.Order.{text-parts, text-site, text-end}
@@ -41,7 +42,7 @@ site-step w t r q a =
 pub record ItemStep (w : List ℕ) (cs : List Command) (at : ℕ) (done : List Command) (B : Before) (p q : Spaces) (r : Result) (P : List Part) (e : Spaces) (o : Opening) (to : ℕ) : Type 0 where
   pub slot : slot-said o ≡ slot-of (opening-of B)
   pub cases : drop (o .next) w ≡ cases-at B p q r P e
-  pub emits : Emits (go (drop (o .next) w) false []) (cases-commands B (result-command r ∷ []))
+  pub emits : all-within (cases-numbers B) ≡ true → all-within (result-numbers r) ≡ true → Emits (go (drop (o .next) w) false []) (cases-commands B (result-command r ∷ []))
   pub walked : Walked w cs to (done ++ part-commands (item B p q r)) P e
   pub further : at < length w → at < to
 
@@ -53,7 +54,7 @@ item-step w cs at done B p q r P e o to k a b =
     record {
       slot = a .slot ∙ i .slot;
       cases = d ∙ i .cases;
-      emits = subst (λ (l : List ℕ). Emits (go l false []) (cases-commands B (result-command r ∷ []))) (sym d) (i .emits);
+      emits = λ j g. subst (λ (l : List ℕ). Emits (go l false []) (cases-commands B (result-command r ∷ []))) (sym d) (i .emits j g);
       walked = walk-on w cs at done (item B p q r) P e to k (record { within = b .stands .within; rest = b .stands .rest ∙ ap item-rest d ∙ i .next });
       further = λ h. let m = a .moves h in let n = b .on in omega (arith, m, n);
     }

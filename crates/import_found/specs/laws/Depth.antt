@@ -32,5 +32,5 @@ go-deep (k ∷ w) b ps h =
     (deep-if (is-space k) _ _ on h)))
 
 pub never-deep : {t : Place} {C : List Command} → Emits t C → TooDeep t → ⊥
-never-deep (by-result r q f e a) d = d
-never-deep (by-atom x q k f m z a e Y N y n) d = absurd (omega (arith, m, d))
+never-deep (by-result r q f e a j) d = d
+never-deep (by-atom x q k f m z a e j Y N y n) d = absurd (omega (arith, m, d))

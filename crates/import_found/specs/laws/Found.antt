@@ -1,6 +1,6 @@
 -- What the places in the text emit is what the reading becomes.
 use mathlib.Core.Path.{_≡_, refl, sym, ap, ap₂, _∙_, subst}
-use mathlib.Core.Bool.{Bool, true, false, not}
+use mathlib.Core.Bool.{Bool, true, false, not, _&&_}
 use mathlib.Core.List.{List, [], _∷_, _++_}
 use Prim.Native.Nat.{ℕ, zero, suc, _+_, _≤_}
 use native.Mathlib.Omega.{arith}
@@ -10,8 +10,9 @@ use lib.IntN.{ℤ, pos, negsuc}
 use Rattle.whole.specs.Cases.{if}
 use Rattle.theory.specs.Diagram.{Linear, _⊠_}
 use Rattle.theory.specs.Command.{Command}
+use Rattle.theory.specs.Plain.{in-32-bits}
 use Rattle.import_grammar.specs.Grammar.{Blank, blank, tab, newline, return, Spaces, none, more, Digit, d0, d1, d2, d3, d4, d5, d6, d7, d8, d9, Digits, one, also, Index, i1, i2, i3, i4, i5, i6, i7, i8, Four, f1, f2, f3, f4, Op, lt, le, gt, ge, Sign, adds, takes, ConstFactor, number, kbracket, ConstTerm, kfactor, ktimes, ConstSum, kterm, kneg, kplus, VaryFactor, level, vbracket, VaryTerm, vfactor, vscaled, vby, VarySum, vterm, vneg, plusKV, plusVK, plusVV, Sum, constant, varying, Nots, unsaid, bang, Atom, now, later, compare, group, Not, negated, And, alone, both, Or, single, either, Result, worth, forbids, Before, start, case, Opening, digit-byte, blank-byte, index-byte, four-byte, sign-byte, op-bytes, spaces-bytes, digits-bytes, kfactor-bytes, kterm-bytes, ksum-bytes, vfactor-bytes, vterm-bytes, vsum-bytes, sum-bytes, nots-bytes, atom-bytes, not-bytes, and-bytes, or-bytes, result-bytes, opening-bytes, before-bytes, deepest}
-use Rattle.import_numbers.specs.Numbers.{joined, kfactor-linear, kterm-linear, ksum-linear, vfactor-linear, vterm-linear, vsum-linear, linear-of}
+use Rattle.import_numbers.specs.Numbers.{minus, joined, kfactor-linear, kterm-linear, ksum-linear, vfactor-linear, vterm-linear, vsum-linear, linear-of, difference, nine, kfactor-numbers, kterm-numbers, ksum-numbers, vfactor-numbers, vterm-numbers, vsum-numbers, sum-numbers, atom-numbers, not-numbers, and-numbers, or-numbers, result-numbers, all-within}
 use Rattle.import_model.specs.Commands.{compare-commands, nots-commands, atom-commands, not-commands, and-commands, or-commands, result-command, opening-commands, before-commands}
 use Rattle.import_found.specs.Places.{Place, atom-at, result-at, lost, is-space, is-cond, after-colon, go, next-case, xor, find, AfterAtom, and-behind, or-behind, close-behind, colon-behind, AfterResult, ends-case, Decided, Emits, by-result, by-atom}
 use Rattle.import_found.specs.laws.Walks.{pass-spaces, pass-atom, pass-not, pass-and, not-cond, cond-or, skip-spaces, skip-result, colon-spaces}
@@ -91,6 +92,68 @@ sum-same : (n : ℕ) (s : Sum n) → linear-of n (bare s) ≡ linear-of n s
 unfolding bare linear-of
 sum-same n (constant s) = ksum-same s
 sum-same n (varying s) = vsum-same s
+
+-- and has the same numbers
+kfactor-alike : {n : ℕ} (x : ConstFactor n) → kfactor-numbers (bare-kfactor x) ≡ kfactor-numbers x
+unfolding bare-kfactor kfactor-numbers
+kfactor-alike (number p ds) = refl
+kfactor-alike (kbracket p s q) = refl
+
+kterm-alike : {n : ℕ} (t : ConstTerm n) → kterm-numbers (bare-kterm t) ≡ kterm-numbers t
+unfolding bare-kterm kfactor-numbers kfactor-linear
+kterm-alike (kfactor x) = kfactor-alike x
+kterm-alike (ktimes t p x) = ap₂ (λ (l : List ℤ) (q : Linear). l ++ (kfactor-numbers x ++ nine ((q .const) ⊠ kfactor-linear x))) (kterm-alike t) (kterm-same t)
+
+ksum-alike : {n : ℕ} (s : ConstSum n) → ksum-numbers (bare-ksum s) ≡ ksum-numbers s
+unfolding bare-ksum kfactor-numbers kfactor-linear
+ksum-alike (kterm t) = kterm-alike t
+ksum-alike (kneg p t) = refl
+ksum-alike (kplus s p g t) = ap₂ (λ (l : List ℤ) (q : Linear). l ++ (kterm-numbers t ++ nine (joined g q (kterm-linear t)))) (ksum-alike s) (ksum-same s)
+
+vfactor-alike : {n : ℕ} (x : VaryFactor n) → vfactor-numbers (bare-vfactor x) ≡ vfactor-numbers x
+unfolding bare-vfactor vfactor-numbers
+vfactor-alike (level p i) = refl
+vfactor-alike (vbracket p s q) = refl
+
+vterm-alike : {n : ℕ} (t : VaryTerm n) → vterm-numbers (bare-vterm t) ≡ vterm-numbers t
+unfolding bare-vterm vfactor-numbers vfactor-linear
+vterm-alike (vfactor x) = vfactor-alike x
+vterm-alike (vscaled t p x) = ap₂ (λ (l : List ℤ) (q : Linear). l ++ (vfactor-numbers x ++ nine ((q .const) ⊠ vfactor-linear x))) (kterm-alike t) (kterm-same t)
+vterm-alike (vby t p x) = ap₂ (λ (l : List ℤ) (q : Linear). l ++ (kfactor-numbers x ++ nine ((kfactor-linear x .const) ⊠ q))) (vterm-alike t) (vterm-same t)
+
+vsum-alike : {n : ℕ} (s : VarySum n) → vsum-numbers (bare-vsum s) ≡ vsum-numbers s
+unfolding bare-vsum vfactor-numbers vfactor-linear
+vsum-alike (vterm t) = vterm-alike t
+vsum-alike (vneg p t) = refl
+vsum-alike (plusKV s p g t) = ap₂ (λ (l : List ℤ) (q : Linear). l ++ (vterm-numbers t ++ nine (joined g q (vterm-linear t)))) (ksum-alike s) (ksum-same s)
+vsum-alike (plusVK s p g t) = ap₂ (λ (l : List ℤ) (q : Linear). l ++ (kterm-numbers t ++ nine (joined g q (kterm-linear t)))) (vsum-alike s) (vsum-same s)
+vsum-alike (plusVV s p g t) = ap₂ (λ (l : List ℤ) (q : Linear). l ++ (vterm-numbers t ++ nine (joined g q (vterm-linear t)))) (vsum-alike s) (vsum-same s)
+
+sum-alike : (n : ℕ) (s : Sum n) → sum-numbers n (bare s) ≡ sum-numbers n s
+unfolding bare sum-numbers
+sum-alike n (constant s) = ksum-alike s
+sum-alike n (varying s) = vsum-alike s
+
+atom-alike : {n : ℕ} (s : Sum n) (p : Spaces) (op : Op) (t : Sum n) → atom-numbers (compare (bare s) p op t) ≡ atom-numbers (compare s p op t)
+unfolding atom-numbers
+atom-alike {n} s p op t = ap₂ (λ (l : List ℤ) (q : Linear). l ++ (sum-numbers _ t ++ nine (difference op q (linear-of _ t)))) (sum-alike n s) (sum-same n s)
+
+-- ---- all of two lists
+
+both-true : (c d e : Bool) → (d ≡ true → e ≡ true) → (c && d) ≡ true → (c && e) ≡ true
+both-true true d e h f = h f
+both-true false d e h f = f
+
+last-true : (c d : Bool) → (c && d) ≡ true → d ≡ true
+last-true true d f = f
+last-true false d f = absurd (let w : _≡_ {A = ℕ} 0 1 = cc in omega arith)
+
+pub within-apart : (a b : List ℤ) → all-within (a ++ b) ≡ true → (all-within a ≡ true) × (all-within b ≡ true)
+unfolding all-within
+within-apart [] b e = (refl, e)
+within-apart (z ∷ a) b e =
+    let d = within-apart a b (last-true (in-32-bits z) (all-within (a ++ b)) e) in
+    (both-true (in-32-bits z) (all-within (a ++ b)) (all-within a) (λ f. d .0) e, d .1)
 
 -- ---- where an atom begins
 
@@ -201,11 +264,11 @@ moved : {t u : Place} {C : List Command} → t ≡ u → Emits u C → Emits t C
 moved {C = C} e h = subst (λ (x : Place). Emits x C) (sym e) h
 
 -- an atom that begins here, behind white space
-atom-emits : {n : ℕ} (x : Atom n) (w : List ℕ) (q : Spaces) (k : ℕ) (f : List ℕ) (b : Bool) (ps : List Bool) (Y N : List Command) → length ps ≤ deepest → Decided x → AfterAtom k
+atom-emits : {n : ℕ} (x : Atom n) (w : List ℕ) (q : Spaces) (k : ℕ) (f : List ℕ) (b : Bool) (ps : List Bool) (Y N : List Command) → n + length ps ≤ deepest → Decided x → AfterAtom k → all-within (atom-numbers x) ≡ true
     → Starts w (atom-bytes x (spaces-bytes q (k ∷ f)))
     → Emits (find (spaces-bytes q (k ∷ f)) 0 (not b) false ps) Y → Emits (find (spaces-bytes q (k ∷ f)) 0 b false ps) N → Emits (go w b ps) (atom-commands x Y N)
-atom-emits x w q k f b ps Y N m d t g y z =
-    moved (g b ps) (by-atom x q k f m d t refl Y N (moved (pass-atom x (spaces-bytes q (k ∷ f)) 0 (not b) false ps) y) (moved (pass-atom x (spaces-bytes q (k ∷ f)) 0 b false ps) z))
+atom-emits x w q k f b ps Y N m d t j g y z =
+    moved (g b ps) (by-atom x q k f m d t refl j Y N (moved (pass-atom x (spaces-bytes q (k ∷ f)) 0 (not b) false ps) y) (moved (pass-atom x (spaces-bytes q (k ∷ f)) 0 b false ps) z))
 
 xor-yes : (b : Bool) → xor b true ≡ not b
 xor-yes true = refl
@@ -250,55 +313,57 @@ unfolding go is-space
 later-starts p i f c ps = go-spaces p (78 ∷ four-byte i ∷ f) c ps
 
 mutual
-  unfolding atom-bytes find go or-commands spaces-bytes
+  unfolding atom-bytes find go or-commands spaces-bytes atom-numbers all-within
 
-  atom-out : {n : ℕ} (x : Atom n) (q : Spaces) (k : ℕ) (t : AfterAtom k) (f : List ℕ) (ps : List Bool) (m : n + length ps ≡ deepest) (b : Bool) (Y N : List Command)
+  atom-out : {n : ℕ} (x : Atom n) (q : Spaces) (k : ℕ) (t : AfterAtom k) (f : List ℕ) (ps : List Bool) (m : n + length ps ≡ deepest) (j : all-within (atom-numbers x) ≡ true) (b : Bool) (Y N : List Command)
       → Emits (find (spaces-bytes q (k ∷ f)) 0 (not b) false ps) Y → Emits (find (spaces-bytes q (k ∷ f)) 0 b false ps) N
       → Emits (go (atom-bytes x (spaces-bytes q (k ∷ f))) b ps) (atom-commands x Y N)
-  atom-out {n} (now p i) q k t f ps m b Y N y z =
-      atom-emits {n = n} (now none i) (spaces-bytes p (67 ∷ four-byte i ∷ spaces-bytes q (k ∷ f))) q k f b ps Y N (omega (arith, m)) tt t (now-starts p i (spaces-bytes q (k ∷ f))) y z
-  atom-out {n} (later p i) q k t f ps m b Y N y z =
-      atom-emits {n = n} (later none i) (spaces-bytes p (78 ∷ four-byte i ∷ spaces-bytes q (k ∷ f))) q k f b ps Y N (omega (arith, m)) tt t (later-starts p i (spaces-bytes q (k ∷ f))) y z
-  atom-out (compare s p op r) q k t f ps m b Y N y z =
+  atom-out {n} (now p i) q k t f ps m j b Y N y z =
+      atom-emits {n = n} (now none i) (spaces-bytes p (67 ∷ four-byte i ∷ spaces-bytes q (k ∷ f))) q k f b ps Y N (omega (arith, m)) tt t refl (now-starts p i (spaces-bytes q (k ∷ f))) y z
+  atom-out {n} (later p i) q k t f ps m j b Y N y z =
+      atom-emits {n = n} (later none i) (spaces-bytes p (78 ∷ four-byte i ∷ spaces-bytes q (k ∷ f))) q k f b ps Y N (omega (arith, m)) tt t refl (later-starts p i (spaces-bytes q (k ∷ f))) y z
+  atom-out (compare s p op r) q k t f ps m j b Y N y z =
       subst (λ (a : Linear). Emits (go (sum-bytes s (spaces-bytes p (op-bytes op (sum-bytes r (spaces-bytes q (k ∷ f)))))) b ps) (compare-commands op a (linear-of _ r) Y N)) (sum-same _ s)
-      (atom-emits (compare (bare s) p op r) (sum-bytes s (spaces-bytes p (op-bytes op (sum-bytes r (spaces-bytes q (k ∷ f)))))) q k f b ps Y N (omega (arith, m)) tt t (sum-starts s (spaces-bytes p (op-bytes op (sum-bytes r (spaces-bytes q (k ∷ f)))))) y z)
-  atom-out (group p o r) q k t f ps m b Y N y z =
+      (atom-emits (compare (bare s) p op r) (sum-bytes s (spaces-bytes p (op-bytes op (sum-bytes r (spaces-bytes q (k ∷ f)))))) q k f b ps Y N (omega (arith, m)) tt t (ap all-within (atom-alike s p op r) ∙ j) (sum-starts s (spaces-bytes p (op-bytes op (sum-bytes r (spaces-bytes q (k ∷ f)))))) y z)
+  atom-out (group p o r) q k t f ps m j b Y N y z =
       moved
       (go-spaces p (40 ∷ or-bytes o (spaces-bytes r (41 ∷ spaces-bytes q (k ∷ f)))) b ps
       ∙ ap (λ (c : Bool). if c (go (or-bytes o (spaces-bytes r (41 ∷ spaces-bytes q (k ∷ f)))) false (b ∷ ps)) (atom-at b ps (40 ∷ or-bytes o (spaces-bytes r (41 ∷ spaces-bytes q (k ∷ f))))))
       (cond-or o (spaces-bytes r (41 ∷ spaces-bytes q (k ∷ f))) 0))
-      (or-out o r 41 close-next (spaces-bytes q (k ∷ f)) (b ∷ ps) (omega (arith, m)) Y N
+      (or-out o r 41 close-next (spaces-bytes q (k ∷ f)) (b ∷ ps) (omega (arith, m)) j Y N
       (moved (pass-spaces r (41 ∷ spaces-bytes q (k ∷ f)) 0 true false (b ∷ ps) ∙ ap (λ (v : Bool). find (spaces-bytes q (k ∷ f)) 0 v false ps) (xor-yes b)) y)
       (moved (pass-spaces r (41 ∷ spaces-bytes q (k ∷ f)) 0 false false (b ∷ ps) ∙ ap (λ (v : Bool). find (spaces-bytes q (k ∷ f)) 0 v false ps) (xor-not b)) z))
 
-  not-out : {n : ℕ} (x : Not n) (q : Spaces) (k : ℕ) (t : AfterAtom k) (f : List ℕ) (ps : List Bool) (m : n + length ps ≡ deepest) (Y N : List Command)
+  not-out : {n : ℕ} (x : Not n) (q : Spaces) (k : ℕ) (t : AfterAtom k) (f : List ℕ) (ps : List Bool) (m : n + length ps ≡ deepest) (j : all-within (not-numbers x) ≡ true) (Y N : List Command)
       → Emits (find (spaces-bytes q (k ∷ f)) 0 true false ps) Y → Emits (find (spaces-bytes q (k ∷ f)) 0 false false ps) N
       → Emits (go (not-bytes x (spaces-bytes q (k ∷ f))) false ps) (not-commands x Y N)
-  not-out (negated x′ x) q k t f ps m Y N y z =
+  not-out (negated x′ x) q k t f ps m j Y N y z =
       subst (Emits (go (nots-bytes x′ (atom-bytes x (spaces-bytes q (k ∷ f)))) false ps)) (sym (nots-as x′ (λ a b. atom-commands x a b) Y N))
       (moved (go-nots x′ (atom-bytes x (spaces-bytes q (k ∷ f))) false ps)
       (signed (sign x′ false) (atom-bytes x (spaces-bytes q (k ∷ f))) (spaces-bytes q (k ∷ f)) ps (λ a b. atom-commands x a b) Y N
-      (λ s A B g h. atom-out x q k t f ps m s A B g h) y z))
+      (λ s A B g h. atom-out x q k t f ps m j s A B g h) y z))
 
-  and-out : {n : ℕ} (x : And n) (q : Spaces) (k : ℕ) (t : AfterAtom k) (f : List ℕ) (ps : List Bool) (m : n + length ps ≡ deepest) (Y N : List Command)
+  and-out : {n : ℕ} (x : And n) (q : Spaces) (k : ℕ) (t : AfterAtom k) (f : List ℕ) (ps : List Bool) (m : n + length ps ≡ deepest) (j : all-within (and-numbers x) ≡ true) (Y N : List Command)
       → Emits (find (spaces-bytes q (k ∷ f)) 0 true false ps) Y → Emits (find (spaces-bytes q (k ∷ f)) 0 false false ps) N
       → Emits (go (and-bytes x (spaces-bytes q (k ∷ f))) false ps) (and-commands x Y N)
-  and-out (alone x) q k t f ps m Y N y z = not-out x q k t f ps m Y N y z
-  and-out (both x p u) q k t f ps m Y N y z =
-      and-out x p 38 and-behind (not-bytes u (spaces-bytes q (k ∷ f))) ps m (not-commands u Y N) N
-      (moved (pass-spaces p (38 ∷ not-bytes u (spaces-bytes q (k ∷ f))) 0 true false ps) (not-out u q k t f ps m Y N y z))
+  and-out (alone x) q k t f ps m j Y N y z = not-out x q k t f ps m j Y N y z
+  and-out (both x p u) q k t f ps m j Y N y z =
+      let d = within-apart (and-numbers x) (not-numbers u) j in
+      and-out x p 38 and-behind (not-bytes u (spaces-bytes q (k ∷ f))) ps m (d .0) (not-commands u Y N) N
+      (moved (pass-spaces p (38 ∷ not-bytes u (spaces-bytes q (k ∷ f))) 0 true false ps) (not-out u q k t f ps m (d .1) Y N y z))
       (moved (pass-spaces p (38 ∷ not-bytes u (spaces-bytes q (k ∷ f))) 0 false false ps ∙ pass-not u (spaces-bytes q (k ∷ f)) 0 false false ps) z)
 
-  or-out : {n : ℕ} (x : Or n) (q : Spaces) (k : ℕ) (t : AfterOr k) (f : List ℕ) (ps : List Bool) (m : n + length ps ≡ deepest) (Y N : List Command)
+  or-out : {n : ℕ} (x : Or n) (q : Spaces) (k : ℕ) (t : AfterOr k) (f : List ℕ) (ps : List Bool) (m : n + length ps ≡ deepest) (j : all-within (or-numbers x) ≡ true) (Y N : List Command)
       → Emits (find (spaces-bytes q (k ∷ f)) 0 true false ps) Y → Emits (find (spaces-bytes q (k ∷ f)) 0 false false ps) N
       → Emits (go (or-bytes x (spaces-bytes q (k ∷ f))) false ps) (or-commands x Y N)
-  or-out (single x) q k t f ps m Y N y z = and-out x q k (as-atom t) f ps m Y N y z
-  or-out (either x p u) q k t f ps m Y N y z =
-      or-out x p 124 or-next (and-bytes u (spaces-bytes q (k ∷ f))) ps m Y (and-commands u Y N)
+  or-out (single x) q k t f ps m j Y N y z = and-out x q k (as-atom t) f ps m j Y N y z
+  or-out (either x p u) q k t f ps m j Y N y z =
+      let d = within-apart (or-numbers x) (and-numbers u) j in
+      or-out x p 124 or-next (and-bytes u (spaces-bytes q (k ∷ f))) ps m (d .0) Y (and-commands u Y N)
       (moved
       (pass-spaces p (124 ∷ and-bytes u (spaces-bytes q (k ∷ f))) 0 true false ps ∙ pass-and u (spaces-bytes q (k ∷ f)) ps
       ∙ pass-spaces q (k ∷ f) 0 true true ps ∙ calm t f ps ∙ sym (pass-spaces q (k ∷ f) 0 true false ps)) y)
-      (moved (pass-spaces p (124 ∷ and-bytes u (spaces-bytes q (k ∷ f))) 0 false false ps) (and-out u q k (as-atom t) f ps m Y N y z))
+      (moved (pass-spaces p (124 ∷ and-bytes u (spaces-bytes q (k ∷ f))) 0 false false ps) (and-out u q k (as-atom t) f ps m (d .1) Y N y z))
 
 -- ---- an item
 
@@ -315,6 +380,11 @@ unfoldable pub cases-commands : Before → List Command → List Command
 cases-commands (start O) C = C
 cases-commands (case B o p r q) C = cases-commands B (or-commands o (result-command r ∷ []) C)
 
+-- the numbers of its cases
+pub cases-numbers : Before → List ℤ
+cases-numbers (start O) = []
+cases-numbers (case B o p r q) = cases-numbers B ++ (or-numbers o ++ result-numbers r)
+
 pub bytes-apart : (B : Before) (f : List ℕ) → before-bytes B f ≡ opening-bytes (opening-of B) (cases-bytes B f)
 unfolding before-bytes opening-of cases-bytes
 bytes-apart (start O) f = refl
@@ -325,21 +395,23 @@ unfolding before-commands opening-of cases-commands
 commands-apart (start O) C = refl
 commands-apart (case B o p r q) C = commands-apart B (or-commands o (result-command r ∷ []) C)
 
-cases-out : (B : Before) (w : List ℕ) (C : List Command) → Emits (go w false []) C → Emits (go (cases-bytes B w) false []) (cases-commands B C)
-unfolding cases-bytes cases-commands find next-case
-cases-out (start O) w C h = h
-cases-out (case B o p r q) w C h =
-    cases-out B (or-bytes o (spaces-bytes p (58 ∷ result-bytes r (spaces-bytes q (59 ∷ w))))) (or-commands o (result-command r ∷ []) C)
-    (or-out o p 58 colon-next (result-bytes r (spaces-bytes q (59 ∷ w))) [] refl (result-command r ∷ []) C
-    (moved (pass-spaces p (58 ∷ result-bytes r (spaces-bytes q (59 ∷ w))) 0 true false []) (by-result r q (59 ∷ w) refl ends-case))
+cases-out : (B : Before) (w : List ℕ) (C : List Command) → all-within (cases-numbers B) ≡ true → Emits (go w false []) C → Emits (go (cases-bytes B w) false []) (cases-commands B C)
+unfolding cases-bytes cases-commands cases-numbers find next-case
+cases-out (start O) w C j h = h
+cases-out (case B o p r q) w C j h =
+    let d = within-apart (cases-numbers B) (or-numbers o ++ result-numbers r) j in
+    let g = within-apart (or-numbers o) (result-numbers r) (d .1) in
+    cases-out B (or-bytes o (spaces-bytes p (58 ∷ result-bytes r (spaces-bytes q (59 ∷ w))))) (or-commands o (result-command r ∷ []) C) (d .0)
+    (or-out o p 58 colon-next (result-bytes r (spaces-bytes q (59 ∷ w))) [] refl (g .0) (result-command r ∷ []) C
+    (moved (pass-spaces p (58 ∷ result-bytes r (spaces-bytes q (59 ∷ w))) 0 true false []) (by-result r q (59 ∷ w) refl ends-case (g .1)))
     (moved (pass-spaces p (58 ∷ result-bytes r (spaces-bytes q (59 ∷ w))) 0 false false [] ∙ skip-result r (spaces-bytes q (59 ∷ w)) ∙ skip-spaces q (59 ∷ w)) h))
 
--- the commands at the first place of an item are those of its cases
-pub item-out : (B : Before) (p q : Spaces) (r : Result) (e : Spaces) (f : List ℕ) → AfterResult f
+-- the commands at the first place of an item are those of its cases, where no number of it is beyond
+pub item-out : (B : Before) (p q : Spaces) (r : Result) (e : Spaces) (f : List ℕ) → AfterResult f → all-within (cases-numbers B) ≡ true → all-within (result-numbers r) ≡ true
     → Emits (go (cases-bytes B (spaces-bytes p (101 ∷ 108 ∷ 115 ∷ 101 ∷ spaces-bytes q (58 ∷ result-bytes r (spaces-bytes e f))))) false []) (cases-commands B (result-command r ∷ []))
 unfolding go after-colon
-item-out B p q r e f a =
-    cases-out B (spaces-bytes p (101 ∷ 108 ∷ 115 ∷ 101 ∷ spaces-bytes q (58 ∷ result-bytes r (spaces-bytes e f)))) (result-command r ∷ [])
+item-out B p q r e f a j g =
+    cases-out B (spaces-bytes p (101 ∷ 108 ∷ 115 ∷ 101 ∷ spaces-bytes q (58 ∷ result-bytes r (spaces-bytes e f)))) (result-command r ∷ []) j
     (moved
     (go-spaces p (101 ∷ 108 ∷ 115 ∷ 101 ∷ spaces-bytes q (58 ∷ result-bytes r (spaces-bytes e f))) false [] ∙ colon-spaces q (58 ∷ result-bytes r (spaces-bytes e f)))
-    (by-result r e f refl a))
+    (by-result r e f refl a g))

@@ -11,7 +11,8 @@ use Rattle.theory.specs.Verdict.{name-slot}
 use Rattle.import_grammar.specs.Grammar.{Spaces, none, Digits, Result, Setting, Chars, Items, Opening, reward, chance, next, end, Before, start, case, Text, entire, text-bytes, spaces-bytes, result-bytes}
 use Rattle.import_model.specs.Commands.{byte-of, action-of, setting-of, letters, filled, result-command, text-commands}
 use Rattle.import_found.specs.Places.{Emits, go, AfterResult, ends-text, reward-next, chance-next, name-next, end-next}
-use Rattle.import_found.specs.laws.Found.{opening-of, cases-bytes, cases-commands, item-out}
+use Rattle.import_numbers.specs.Numbers.{all-within, result-numbers}
+use Rattle.import_found.specs.laws.Found.{opening-of, cases-bytes, cases-commands, cases-numbers, item-out}
 use Rattle.import_parts.specs.Parts.{Site, site-with, Part, item, name, site-bytes, site-command, gap, opened-bytes, else-bytes, string-bytes, named-bytes, part-gap, part-bare, parts-bytes, slot-of, part-commands, parts-commands, from-letter, Walked}
 use Rattle.import_parts.specs.Walk.{Stands, next-letter, begins, is-letter, inside-after, item-rest, goes-on, number-value, number-rest, kind-in, slot-in, opening-rest, spells, spelled, behind-string, quoted-after, string-rest, name-byte, name-rest, setting-rest}
 use Rattle.import_parts.specs.laws.Order.{text-parts, text-site, text-end, text-order, text-commands-order}
@@ -110,14 +111,14 @@ cases-at B p q r P e = cases-bytes B (else-bytes p q r (parts-bytes P (spaces-by
 pub record ItemWalked (l : List ℕ) (B : Before) (p q : Spaces) (r : Result) (P : List Part) (e : Spaces) : Type 0 where
   pub slot : slot-in l ≡ slot-of (opening-of B)
   pub cases : opening-rest (kind-in l) l ≡ cases-at B p q r P e
-  pub emits : Emits (go (opening-rest (kind-in l) l) false []) (cases-commands B (result-command r ∷ []))
+  pub emits : all-within (cases-numbers B) ≡ true → all-within (result-numbers r) ≡ true → Emits (go (opening-rest (kind-in l) l) false []) (cases-commands B (result-command r ∷ []))
   pub next : item-rest (opening-rest (kind-in l) l) ≡ from-letter P e
 
-emits-at : (B : Before) (p q : Spaces) (r : Result) (P : List Part) (e : Spaces) → Emits (go (cases-at B p q r P e) false []) (cases-commands B (result-command r ∷ []))
+emits-at : (B : Before) (p q : Spaces) (r : Result) (P : List Part) (e : Spaces) → all-within (cases-numbers B) ≡ true → all-within (result-numbers r) ≡ true → Emits (go (cases-at B p q r P e) false []) (cases-commands B (result-command r ∷ []))
 unfolding cases-at else-bytes still
-emits-at B p q r P e =
+emits-at B p q r P e j g =
     subst (λ (l : List ℕ). Emits (go (cases-bytes B (else-bytes p q r l)) false []) (cases-commands B (result-command r ∷ []))) (sym (still-as P e))
-    (item-out B p q r (gap-before P e) (from-letter P e) (letter-lettered P e .after))
+    (item-out B p q r (gap-before P e) (from-letter P e) (letter-lettered P e .after) j g)
 
 pub item-walked : (w : List ℕ) (cs : List Command) (at : ℕ) (done : List Command) (B : Before) (p q : Spaces) (r : Result) (P : List Part) (e : Spaces)
     → Walked w cs at done (item B p q r ∷ P) e → ItemWalked (drop at w) B p q r P e
@@ -128,7 +129,7 @@ item-walked w cs at done B p q r P e k =
     record {
       slot = ap slot-in (k .bytes) ∙ slot-read (opening-of B) c;
       cases = o;
-      emits = subst (λ (l : List ℕ). Emits (go l false []) (cases-commands B (result-command r ∷ []))) (sym o) (emits-at B p q r P e);
+      emits = λ j g. subst (λ (l : List ℕ). Emits (go l false []) (cases-commands B (result-command r ∷ []))) (sym o) (emits-at B p q r P e j g);
       next = ap item-rest o ∙ item-left B p q r (still P e) ∙ next-still P e;
     }
 

@@ -1,0 +1,2 @@
+-- the way to a result
+pub mod Walks

@@ -1,0 +1,18 @@
+use borrow.Author.Needs.{needs}
+use Rattle.import_list.specs.Packed.{unpacked}
+use Rattle.import_list.proofs.unpack.Statement.{statement}
+use Rattle.import_list.proofs.unpack.Tie as tie
+use Rattle.import_list.proofs.unpack.Reads as reads
+use Rattle.import_list.proofs.unpack.Lts as lts
+
+-- src/lib.rt:50:16
+cast-t10 : tie.Need-cast-t10
+cast-t10 c = search needs
+
+-- src/lib.rt:41:1
+returns : tie.Need-returns
+unfolding unpacked
+returns c = search needs
+
+pub unpack-spec : {M : Type 1} → statement M
+unpack-spec = tie.close (tie.spec cast-t10 returns)

@@ -1,0 +1,32 @@
+use Rattle.import_look.proofs.Telling.{leaf-forbidden, leaf-worth}
+use borrow.Author.Needs.{needs}
+use Rattle.import_look.proofs.leaf.Statement.{statement}
+use Rattle.import_look.proofs.leaf.Tie as tie
+use Rattle.import_look.proofs.leaf.Reads as reads
+use Rattle.import_look.proofs.leaf.Lts as lts
+use Rattle.import_look.proofs.skip.Reads as skip-reads
+use Rattle.import_sum_at.proofs.sum_at.Reads as sum-at-reads
+use Rattle.model_command.proofs.byte_at.Reads as byte-at-reads
+
+-- src/lib.rt:151:9
+skip-requires : tie.Need-skip-requires
+skip-requires c κs = search needs
+
+-- src/lib.rt:152:8
+byte-at-requires : tie.Need-byte-at-requires
+byte-at-requires c κs = search needs
+
+-- src/lib.rt:153:9
+returns : tie.Need-returns
+returns c = leaf-forbidden _ _ _ (c .before .before .skip .ensures) (c .before .byte-at .ensures) (c .if1 .taken)
+
+-- src/lib.rt:160:9
+sum-at-requires : tie.Need-sum-at-requires
+sum-at-requires c κs = search needs
+
+-- src/lib.rt:147:1
+returns-2 : tie.Need-returns-2
+returns-2 c = leaf-worth _ _ _ (c .before .before .before .before .skip .ensures) (c .before .before .before .byte-at .ensures) (c .before .before .if1 .left) (c .before .sum-at .result) (c .before .sum-at .ensures)
+
+pub leaf-spec : {M : Type 1} → statement M
+leaf-spec = tie.close (tie.spec skip-requires byte-at-requires returns sum-at-requires returns-2)

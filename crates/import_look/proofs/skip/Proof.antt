@@ -1,0 +1,64 @@
+use mathlib.Core.Path.{refl}
+use Prim.Native.Nat.{_-_}
+use native.Mathlib.Omega.{arith}
+use lib.ListN.{length}
+use borrow.Author.Needs.{needs}
+use Rattle.import_look.proofs.Places.{Skipping, skip-on, skip-stops, skip-ends}
+use Rattle.import_look.proofs.skip.Statement.{statement}
+use Rattle.import_look.proofs.skip.Tie as tie
+use Rattle.import_look.proofs.skip.Reads as reads
+use Rattle.import_look.proofs.skip.Lts as lts
+use Rattle.import_frames.proofs.is_blank.Reads as is-blank-reads
+
+abbrev Inv-loop : tie.InvT-loop
+Inv-loop text at i₀ i = Skipping text at i
+
+abbrev μ-loop : tie.MeasureT-loop
+μ-loop text at i₀ i = length text - i
+
+-- src/lib.rt:36:5
+loop-holds : tie.Need-loop-holds Inv-loop μ-loop
+loop-holds c = record { within = c .before .pre; rest = refl }
+
+-- src/lib.rt:37:21
+shared-slice-read-is-blank : tie.Need-shared-slice-read-is-blank Inv-loop μ-loop
+shared-slice-read-is-blank c = omega arith
+
+-- src/lib.rt:37:12
+is-blank-requires : tie.Need-is-blank-requires Inv-loop μ-loop
+is-blank-requires c κs = search needs
+
+-- src/lib.rt:38:13
+add-i : tie.Need-add-i Inv-loop μ-loop
+add-i c = omega arith
+
+-- src/lib.rt:36:5
+loop-less : tie.Need-loop-less Inv-loop μ-loop
+loop-less c = omega arith
+
+-- src/lib.rt:36:5
+loop-again : tie.Need-loop-again Inv-loop μ-loop
+loop-again c = skip-on _ _ _ (c .before .before .before .before .loop .inv) (c .before .before .before .loop-test .taken) (c .before .is-blank .ensures) (c .if1 .taken)
+
+-- src/lib.rt:40:13
+returns : tie.Need-returns Inv-loop μ-loop
+returns c = skip-stops _ _ _ (c .before .before .before .before .loop .inv) (c .before .before .before .loop-test .taken) (c .before .is-blank .ensures) (c .if1 .left)
+
+-- src/lib.rt:31:1
+returns-2 : tie.Need-returns-2 Inv-loop μ-loop
+returns-2 c = skip-ends _ _ _ (c .before .loop .inv) (c .loop-test .left)
+
+pub skip-spec : {M : Type 1} → statement M
+skip-spec =
+    tie.close
+    (tie.spec
+    Inv-loop
+    μ-loop
+    loop-holds
+    shared-slice-read-is-blank
+    is-blank-requires
+    add-i
+    loop-less
+    loop-again
+    returns
+    returns-2)

@@ -1,0 +1,2 @@
+-- what is read at a place
+pub mod Looks
