@@ -1,7 +1,7 @@
 -- Euclid's rule: a step, and that the bound on the steps does not matter.
-use mathlib.Core.Path.{_≡_, refl}
+use mathlib.Core.Path.{_≡_, refl, sym, ap, _∙_}
 use Prim.Native.Nat.{ℕ, zero, suc, _%_, _≤_, _<_, zero-le, suc-le-suc}
-use native.Mathlib.Nat.{mod-lt, le-trans, le-of-lt}
+use native.Mathlib.Nat.{mod-lt, zero-mod, le-trans, le-of-lt}
 use native.Mathlib.Omega.{arith}
 use Rattle.whole.specs.Divisor.{gcdBy, gcdOf, at-least-one}
 
@@ -40,6 +40,12 @@ gcd-step a zero n = absurd (n refl)
 gcd-step a (suc b) n =
     let h : a % suc b < suc b = mod-lt a (suc-le-suc zero-le) in
     fuel (a % suc b) b (suc b) (a % suc b) (omega arith) (omega arith)
+
+-- 0 is divided by every number
+pub zero-gcd : (a b : ℕ) → a ≡ 0 → b ≡ gcdOf a b
+unfolding gcdOf gcdBy
+zero-gcd a zero e = sym e
+zero-gcd a (suc b) e = gcd-zero (suc b) (a % suc b) (ap (λ (n : ℕ). n % suc b) e ∙ zero-mod (suc b)) ∙ gcd-step a (suc b) (λ (q : suc b ≡ 0). omega arith)
 
 pub least-zero : (g : ℕ) → g ≡ 0 → 1 ≡ at-least-one g
 unfolding at-least-one

@@ -3,12 +3,12 @@ use mathlib.Core.Path.{_≡_, refl, sym, ap, ap₂, _∙_}
 use mathlib.Core.Bool.{Bool, true, false, _&&_}
 use mathlib.Core.List.{List, [], _∷_, map}
 use Prim.Native.Nat.{ℕ, zero, suc, _+_, _-_, _≤_, _<_}
-use native.Mathlib.Nat.{suc-inj, le-of-suc-le-suc, not-suc-le-zero}
+use native.Mathlib.Nat.{suc-inj, le-of-suc-le-suc, not-suc-le-zero, div-one}
 use native.Mathlib.Numerals.{add-one}
 use native.Mathlib.Omega.{arith}
 use borrow.Author.Tests.{le-leb, lt-leb, leb-true, eqb-true, eq-eqb}
 use lib.Dec.{leb, eqb}
-use lib.IntN.{ℤ, pos, negsuc, natAbs, _+ℤ_, _-ℤ_, _*ℤ_, +ℤ-assoc, +ℤ-comm}
+use lib.IntN.{ℤ, pos, negsuc, negℤ, natAbs, _+ℤ_, _-ℤ_, _*ℤ_, +ℤ-assoc, +ℤ-comm}
 use lib.ListN.{length, getD, take, drop, length-map}
 use lib.Seq.{drop-cons}
 use lib.Signed.{quotZ}
@@ -93,6 +93,16 @@ unfolding scaleL
 scale-take zero k a = refl
 scale-take (suc n) k [] = refl
 scale-take (suc n) k (x ∷ a) = ap (λ (r : List ℤ). (k *ℤ x) ∷ r) (scale-take n k a)
+
+quot-one-of : (z : ℤ) → quotZ z (pos 1) ≡ z
+quot-one-of (pos n) = ap pos (div-one n)
+quot-one-of (negsuc n) = ap (λ (k : ℕ). negℤ (pos k)) (div-one (suc n))
+
+-- dividing by 1 changes nothing
+pub quot-one : (a : List ℤ) → quotL 1 a ≡ a
+unfolding quotL
+quot-one [] = refl
+quot-one (z ∷ a) = ap₂ (λ (x : ℤ) (r : List ℤ). x ∷ r) (quot-one-of z) (quot-one a)
 
 pub quot-take : (n g : ℕ) (a : List ℤ) → take n (quotL g a) ≡ quotL g (take n a)
 unfolding quotL

@@ -6,10 +6,13 @@ ghost use lib.Signed.{quotZ};
 ghost use Rattle.whole.specs.Within.{limit};
 ghost use Rattle.whole.specs.Divisor.{gcdOf, at-least-one};
 
-// By Euclid's rule.
+// By Euclid's rule; most coefficients are 0, and no division is needed for them.
 pub fn gcd(a: u64, b: u64) -> u64
     ensures { λ r. ⌜ r ≡ gcdOf a b ⌝ }
 {
+    if a == 0 {
+        return b;
+    }
     let mut x = a;
     let mut y = b;
     while y != 0 {

@@ -108,6 +108,10 @@ pub fn divided(a: [i64; NUMBERS]) -> [i64; NUMBERS]
     ensures { λ r. ⌜ r ≡ quotL (divisorL a) a ⌝ }
 {
     let g = divisor(a);
+    // Mostly there is nothing to divide by.
+    if g == 1 {
+        return a;
+    }
     let mut out = [0i64; NUMBERS];
     let mut i: usize = 0;
     while i < NUMBERS {

@@ -1,3 +1,4 @@
+-- `whole_linears::divided` meets its contract: dividing by 1 changes nothing; else the loop has filled so many quotients.
 use mathlib.Core.Path.{_≡_, refl, sym, ap, _∙_}
 use Prim.Native.Nat.{ℕ, _+_, _-_, _≤_}
 use native.Mathlib.Omega.{arith}
@@ -5,7 +6,8 @@ use borrow.Author.Needs.{needs}
 use lib.IntN.{ℤ, pos, _+ℤ_, _-ℤ_, _*ℤ_}
 use lib.ListN.{length, getD, take, drop}
 use lib.Signed.{quotZ}
-use Rattle.whole.specs.Linears.{numbers, divisorL}
+use Rattle.whole.specs.Linears.{numbers, quotL, divisorL}
+use Rattle.whole.specs.LinearsLaws.{quot-one}
 use Rattle.whole.proofs.Filled.{Filled, none-filled, one-filled}
 use Rattle.whole.proofs.Loops.{divisor-fits-as, part-is, divided-all}
 use Rattle.whole_linears.proofs.divided.Statement.{statement}
@@ -21,6 +23,10 @@ divisor-requires : tie.Need-divisor-requires Inv-loop μ-loop
 divisor-requires c κs =
     tt
 
+returns : tie.Need-returns Inv-loop μ-loop
+returns c =
+    sym (quot-one _) ∙ ap (λ (g : ℕ). quotL g (c .before .before .args .t1)) (sym (c .if1 .taken) ∙ c .before .divisor .ensures)
+
 loop-holds : tie.Need-loop-holds Inv-loop μ-loop
 loop-holds c =
     none-filled refl
@@ -35,7 +41,7 @@ array-copy-out-quot c =
 
 quot-requires : tie.Need-quot-requires Inv-loop μ-loop
 quot-requires c κs =
-    divisor-fits-as _ ((c .before .before .before .before) .pre) _ (c .before .before .before .divisor .ensures)
+    divisor-fits-as _ (c .before .before .before .before .before .pre) _ (c .before .before .before .before .divisor .ensures)
 
 mul-out : tie.Need-mul-out Inv-loop μ-loop
 mul-out c =
@@ -55,11 +61,11 @@ loop-less c =
 
 loop-again : tie.Need-loop-again Inv-loop μ-loop
 loop-again c =
-    one-filled (c .before .before .before .loop .inv) (c .before .before .loop-test .taken) (part-is _ ((c .before .before .before .before .before) .pre) (c .before .before .before .loop .i) _ (c .before .before .before .before .divisor .ensures) (c .quot .ensures))
+    one-filled (c .before .before .before .loop .inv) (c .before .before .loop-test .taken) (part-is _ (c .before .before .before .before .before .before .pre) (c .before .before .before .loop .i) _ (c .before .before .before .before .before .divisor .ensures) (c .quot .ensures))
 
-returns : tie.Need-returns Inv-loop μ-loop
-returns c =
-    divided-all _ ((c .before .before .before) .pre) (c .before .loop .inv) (c .loop-test .left)
+returns-2 : tie.Need-returns-2 Inv-loop μ-loop
+returns-2 c =
+    divided-all _ (c .before .before .before .before .pre) (c .before .loop .inv) (c .loop-test .left)
 
 pub divided-spec : {M : Type 1} → statement M
 divided-spec =
@@ -68,6 +74,7 @@ divided-spec =
     Inv-loop
     μ-loop
     divisor-requires
+    returns
     loop-holds
     mul-quot
     array-copy-out-quot
@@ -77,4 +84,4 @@ divided-spec =
     add-i
     loop-less
     loop-again
-    returns)
+    returns-2)
