@@ -1,0 +1,2 @@
+-- what the emitter is to promise
+pub mod Emits
