@@ -85,6 +85,11 @@ extern "C" {
 #define PLANNER_STACK_BYTES_BESIDE ((size_t)65536)
 #define PLANNER_STACK_BYTES(nodes) (PLANNER_STACK_BYTES_BESIDE + PLANNER_STACK_BYTES_A_NODE * (size_t)(nodes))
 
+/* The stack that a thread needs to import a text, whatever the text: 262,144 bytes for the model, until every refusal is out,
+ * 1,048,576 for a list of the questions on the way to a result, and the frames of the calls, those of up to 33 brackets too.
+ * planner_prune needs what planner_solve does; every other call does with PLANNER_STACK_BYTES_BESIDE. */
+#define PLANNER_IMPORT_STACK_BYTES ((size_t)1441792)
+
 /* A state: bit i - 1 of mask is condition i; the levels' numerators, those beyond the site's levels zero, and their
  * denominator. Each function of a state has one with the suffix _at that takes it so. */
 struct planner_state {
@@ -215,7 +220,7 @@ uint32_t planner_to_old(const uint8_t *model, size_t model_len, uint8_t *buffer,
 /* The model of a text (K13), written to the start of `buffer`; docs/TEXT-MODELS.md has the grammar and the commands that a text
  * becomes. Answer: place u32 of a refusal; length u32 of what was written. A refusal leaves `buffer` as it is, and no byte behind
  * the model is touched. Refusals in order: 10 for a text above 262,144 bytes; 24, whose place is an offset in the text; 25; then of
- * the model that it becomes 10, and 1 to 8 by the model's offsets; 17. */
+ * the model that it becomes 10, and 1 to 8 by the model's offsets; 17. The stack is PLANNER_IMPORT_STACK_BYTES. */
 uint32_t planner_import(const uint8_t *text, size_t text_len, uint8_t *buffer, size_t buffer_len,
                         uint8_t *out, size_t out_len);
 
