@@ -497,14 +497,13 @@ fn the_examples() {
         ("rain", rain()),
         ("corner", corner()),
         ("dry_inlet", dry_inlet()),
+        ("chain", chain(3)),
     ];
     for (name, model) in models {
         let text = std::fs::read(format!("{folder}/{name}.txt")).expect("an example's text");
         assert_eq!(import(&text, ANY), Ok(model.clone()), "{name}");
         assert_eq!(std::fs::read(format!("{folder}/{name}.model")).expect("an example"), model, "{name}");
     }
-    let text = std::fs::read(format!("{folder}/chain.txt")).expect("an example's text");
-    assert_eq!(import(&text, ANY), Ok(chain(3)), "chain");
 }
 
 /// `same` sees each thing that two models may differ in.
