@@ -88,7 +88,7 @@ extern "C" {
 /* The stack that a thread needs to import a text, whatever the text: 262,144 bytes for the model, until every refusal is out,
  * 1,048,576 for a list of the questions on the way to a result, and the frames of the calls, those of up to 33 brackets too.
  * planner_prune needs what planner_solve does; every other call does with PLANNER_STACK_BYTES_BESIDE. */
-#define PLANNER_IMPORT_STACK_BYTES ((size_t)1441792)
+#define PLANNER_IMPORT_STACK_BYTES ((size_t)1376256)
 
 /* A state: bit i - 1 of mask is condition i; the levels' numerators, those beyond the site's levels zero, and their
  * denominator. Each function of a state has one with the suffix _at that takes it so. */
