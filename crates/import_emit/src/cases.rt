@@ -8,13 +8,7 @@ pub struct Emitted {
 }
 
 // The commands of the cases that begin at a place; the list has import_descend::ENTRIES words.
-pub fn emit_cases(
-    text: &[u8],
-    from: usize,
-    list: &mut [u64],
-    out: &mut [u8],
-    at: usize,
-) -> Emitted
+pub fn emit_cases(text: &[u8], from: usize, list: &mut [u64], out: &mut [u8], at: usize) -> Emitted
     requires { ⌜ Begins (now text) from (now list) (now out) at ⌝ }
     ensures { λ r. ⌜ Emitting (now (text .entry)) from (now (out .entry)) at r (now (out .exit)) ⌝ }
 {

@@ -57,13 +57,7 @@ fn write_end(out: &mut [u8], at: usize) -> Emitted
 }
 
 // The items from an offset on, and the end.
-fn write_parts(
-    text: &[u8],
-    from: usize,
-    list: &mut [u64],
-    out: &mut [u8],
-    start: usize,
-) -> Emitted
+fn write_parts(text: &[u8], from: usize, list: &mut [u64], out: &mut [u8], start: usize) -> Emitted
     requires { ⌜ PartsAt (now text) from (now list) (now out) start ⌝ }
     ensures { λ r. ⌜ PartsPut (now (text .entry)) from (now (out .entry)) start r (now (out .exit)) ⌝ }
 {
