@@ -62,7 +62,7 @@ module _ (w : List ℕ) (from : ℕ) (out₀ : List ℕ) (start : ℕ) (s : star
       go (x ∷ L) k j = record { lent = n; part = x; parts = L; spaces = e; comes = record { inside = k .within; bytes = k .bytes; within = j } }
 
   module _ (r : Passed) (out′ : List ℕ) (q : PartPut w i out at r out′) (h : i < length w) where
-    pub gone-on : (P : List Part) (e : Spaces) → r .wrote .full ≡ false → Gone w out₀ start P e i at out → Gone w out₀ start P e (r .next) (r .wrote .at) out′
+    gone-on : (P : List Part) (e : Spaces) → r .wrote .full ≡ false → Gone w out₀ start P e i at out → Gone w out₀ start P e (r .next) (r .wrote .at) out′
     gone-on P e f g = go (g .left) (g .walked) (g .within)
       where
         go : (L : List Part) → Walked w (parts-commands P ++ (end-model ∷ [])) i (g .done) L e → parts-within L → Gone w out₀ start P e (r .next) (r .wrote .at) out′
@@ -77,6 +77,15 @@ module _ (w : List ℕ) (from : ℕ) (out₀ : List ℕ) (start : ℕ) (s : star
               within = j .1;
               put = rename (sym (encode-append (g .done) (part-commands x))) (then s (g .put) (q .put x L e c .put f));
             }
+
+    pub going-on : (l l′ : List ℕ) → PartsAt w from l out₀ start → length l′ ≡ 131072 → r .wrote .full ≡ false → ((P : List Part) (e : Spaces) → Comes w from P e → Gone w out₀ start P e i at out) → length out ≡ length out₀
+        → Going w from out₀ start l′ (r .next) (r .wrote .at) out′
+    going-on l l′ p n f g m = record {
+      same = q .same ∙ m;
+      long = n;
+      room = inside s (gone-on (p .parts) (p .spaces) f (g (p .parts) (p .spaces) (p .comes)) .put);
+      gone = λ P e c. gone-on P e f (g P e c);
+    }
 
     full-at : (P L : List Part) (e : Spaces) (done : List Command) → PutAt out₀ start (encode done) at out → length out ≡ length out₀ → r .wrote .full ≡ true
         → Walked w (parts-commands P ++ (end-model ∷ [])) i done L e → parts-within L → Put out₀ start (encode (parts-commands P ++ (end-model ∷ []))) (r .wrote) out′

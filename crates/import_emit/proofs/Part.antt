@@ -8,7 +8,7 @@ use native.Mathlib.Omega.{arith}
 use borrow.Author.Tests.{eqb-true, eqb-false}
 use lib.Dec.{eqb, ltb, ltb→lt, nltb→le}
 use lib.ListN.{length, drop, getD, set, length-set}
-use lib.Seq.{getD-set-same, getD-set-other}
+use lib.Seq.{getD-set-same, getD-set-other, ext-getD}
 use Rattle.whole.specs.Cases.{if, by-test}
 use Rattle.theory.specs.Widths.{name-bytes}
 use Rattle.theory.specs.Command.{Command, give, Slot, name-action, end-model, site}
@@ -28,10 +28,10 @@ use Rattle.import_walk.specs.Answers.{SiteAt, OpeningAt, slot-said}
 use Rattle.import_walk.specs.Steps.{SiteStep, site-step, ItemStep, item-step, NameStep, name-step}
 use Rattle.import_walk.specs.declared.opening.Opening.{Opening}
 use Rattle.import_walk.specs.declared.site.Site.{Site}
-use Rattle.import_emit.specs.Emitting.{Put, Begins}
-use Rattle.import_emit.specs.Items.{Spelt, Named, ItemPut, Comes, Lent, Reading}
+use Rattle.import_emit.specs.Emitting.{Put, Begins, Emitting}
+use Rattle.import_emit.specs.Items.{Puts, Spelt, Named, ItemPut, Comes, Lent, Reading}
 use Rattle.import_emit.specs.declared.cases.Emitted.{Emitted}
-use Rattle.import_emit.proofs.Puts.{encode-one, put-as}
+use Rattle.import_emit.proofs.Puts.{encode-one, encode-more, put-as, full-before, behind}
 
 -- ---- no number is above the greatest of its operand
 
@@ -77,14 +77,26 @@ site-small w at s a = record {
 
 -- ---- sixteen bytes one by one
 
-pub spell-more : (w : List ℕ) (from : ℕ) (b : List ℕ) (j k : ℕ) → j < length b
-    → ((i : ℕ) → i < j → name-byte i (drop from w) ≡ getD b i 0) → k ≡ name-byte j (drop from w)
-    → (i : ℕ) → i < j + 1 → name-byte i (drop from w) ≡ getD (set b j k) i 0
-spell-more w from b j k h f e i q = here (eqb i j) (λ t. eqb-true i j t) (λ t. eqb-false i j t)
+pub record Spelling (w : List ℕ) (from : ℕ) (b : List ℕ) (j : ℕ) : Type 0 where
+  pub upto : j ≤ name-bytes
+  pub long : length b ≡ name-bytes
+  pub each : (i : ℕ) → i < j → name-byte i (drop from w) ≡ getD b i 0
+
+pub spell-on : {w : List ℕ} {from : ℕ} {b : List ℕ} {j k : ℕ} → Spelling w from b j → j < name-bytes → k ≡ name-byte j (drop from w) → Spelling w from (set b j k) (j + 1)
+spell-on {w} {from} {b} {j} {k} s h e = record { upto = omega arith; long = length-set b j k ∙ s .long; each = λ i q. here i q (eqb i j) (λ t. eqb-true i j t) (λ t. eqb-false i j t) }
   where
-    here : (c : Bool) → (c ≡ true → i ≡ j) → (c ≡ false → i ≡ j → ⊥) → name-byte i (drop from w) ≡ getD (set b j k) i 0
-    here true y n = let s : i ≡ j = y refl in ap (λ (x : ℕ). name-byte x (drop from w)) s ∙ sym e ∙ sym (ap (λ (x : ℕ). getD (set b j k) x 0) s ∙ getD-set-same b j k 0 h)
-    here false y n = let s = n refl in f i (omega arith) ∙ sym (getD-set-other b j i k 0 s)
+    here : (i : ℕ) → i < j + 1 → (c : Bool) → (c ≡ true → i ≡ j) → (c ≡ false → i ≡ j → ⊥) → name-byte i (drop from w) ≡ getD (set b j k) i 0
+    here i q true y n =
+        let m : i ≡ j = y refl in
+        ap (λ (x : ℕ). name-byte x (drop from w)) m ∙ sym e ∙ sym (ap (λ (x : ℕ). getD (set b j k) x 0) m ∙ getD-set-same b j k 0 (let g = s .long in omega arith))
+    here i q false y n = let m = n refl in s .each i (omega arith) ∙ sym (getD-set-other b j i k 0 m)
+
+pub spelt-all : {w : List ℕ} {from : ℕ} {b : List ℕ} {j : ℕ} → Spelling w from b j → name-bytes ≤ j → Spelt w from b
+spelt-all s h = record { long = s .long; each = λ i q. s .each i (omega (arith, q, h)) }
+
+-- they are one list
+pub spelt-same : {w : List ℕ} {from : ℕ} {b c : List ℕ} → Spelt w from b → Spelt w from c → b ≡ c
+spelt-same {b = b} {c = c} p q = ext-getD 0 b c (p .long ∙ sym (q .long)) (λ j h. let g : j < name-bytes = omega (arith, p .long) in sym (p .each j g) ∙ q .each j g)
 
 filled-long : (k : ℕ) (l : List ℕ) → length (filled k l) ≡ k
 unfolding filled
@@ -109,6 +121,19 @@ kind-of : {s t : Slot} → s ≡ t → s .command ≡ t .command
 kind-of e = ap (λ (s : Slot). s .command) e
 
 -- ---- an item with cases
+
+module _ {w out out₁ : List ℕ} {o : Opening} {at : ℕ} {e : Emitted} (m : Emitting w (o .next) out at e out₁) where
+  pub cases-full : e .full ≡ true → ItemPut w o out at e out₁
+  cases-full f = record {
+    same = m .same;
+    commands = λ C i. put-as (encode-more C (give (slot-said o))) (full-before (command-bytes (give (slot-said o))) f (m .commands C i));
+  }
+
+  pub cases-then : {r : Emitted} {out₂ : List ℕ} → at ≤ length out → e .full ≡ false → Puts out₁ (e .at) (command-bytes (give (slot-said o))) r out₂ → ItemPut w o out at r out₂
+  cases-then h f p = record {
+    same = p .same ∙ m .same;
+    commands = λ C i. put-as (encode-more C (give (slot-said o))) (behind h (m .same) (m .commands C i .put f) (p .put));
+  }
 
 module _ (w : List ℕ) (from : ℕ) (o : Opening) (a : OpeningAt w from o) (k : o .kind ≡ 0x30 → ⊥) where
   pub item-begins : (l out : List ℕ) (at : ℕ) → Lent w l out at → (x : Part) (P : List Part) (e : Spaces) → Comes w from (x ∷ P) e → Begins w (o .next) l out at

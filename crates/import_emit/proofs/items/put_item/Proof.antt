@@ -1,3 +1,4 @@
+use Rattle.import_emit.proofs.Part.{cases-full, cases-then}
 use Rattle.import_emit.proofs.Puts.{encode-more, inside, put-as, full-before, behind}
 use mathlib.Core.Path.{sym, _∙_}
 use borrow.Author.Needs.{needs}
@@ -22,11 +23,11 @@ same-length-2 c = search needs
 
 -- src/items.rt:66:9
 returns : tie.Need-returns
-returns c = ?
+returns c = cases-full (c .before .before .before .before .before .emit-cases .ensures) (c .if1 .taken)
 
 -- src/items.rt:68:5
 put-slot-requires : tie.Need-put-slot-requires
-put-slot-requires c κs = record { action = c .before .before .before .before .before .before .before .before .before .before .before .before .pre .action; room = ? }
+put-slot-requires c κs = record { action = c .before .before .before .before .before .before .before .before .before .before .before .before .pre .action; room = inside (c .before .before .before .before .before .before .before .before .before .before .before .before .pre .begins .room) (c .before .before .before .before .before .before .emit-cases .ensures .commands (c .before .before .before .before .before .before .before .before .before .before .before .before .pre .begins .commands) (c .before .before .before .before .before .before .before .before .before .before .before .before .pre .begins .emits) .put (c .before .if1 .left)) }
 
 -- src/items.rt:60:1
 same-length-3 : tie.Need-same-length-3
@@ -38,7 +39,7 @@ same-length-4 c = search needs
 
 -- src/items.rt:60:1
 returns-2 : tie.Need-returns-2
-returns-2 c = ?
+returns-2 c = cases-then (c .before .before .before .before .before .before .before .before .before .emit-cases .ensures) (c .before .before .before .before .before .before .before .before .before .before .before .before .before .before .before .pre .begins .room) (c .before .before .before .before .if1 .left) (c .before .before .put-slot .ensures)
 
 pub put-item-spec : {M : Type 1} → statement M
 put-item-spec =

@@ -1,3 +1,12 @@
+use Rattle.import_emit.proofs.Puts.{fits, fits-not, put-as}
+use Rattle.import_emit.proofs.Part.{spelt-same}
+use Rattle.import_write.proofs.Laws.{name-length}
+use Rattle.import_model.specs.Encode.{command-bytes}
+use Rattle.theory.specs.Command.{name-action}
+use native.Mathlib.Omega.{arith}
+use mathlib.Core.List.{List}
+use Prim.Native.Nat.{ℕ}
+use mathlib.Core.Path.{refl, ap}
 use borrow.Author.Needs.{needs}
 use Rattle.import_emit.proofs.items.put_named.Statement.{statement}
 use Rattle.import_emit.proofs.items.put_named.Tie as tie
@@ -12,7 +21,7 @@ sub-if1 c = search needs
 
 -- src/items.rt:90:9
 returns : tie.Need-returns
-returns c = ?
+returns c = record { same = refl; put = λ b s. fits-not refl (omega (arith, name-length (c .before .before .before .args .o .action) b, s .long, c .if1 .taken)) }
 
 -- src/items.rt:92:16
 spell-requires : tie.Need-spell-requires
@@ -28,7 +37,7 @@ slice-aggregate-put-name c = search needs
 
 -- src/items.rt:93:9
 put-name-requires : tie.Need-put-name-requires
-put-name-requires c κs = ?
+put-name-requires c κs = omega (arith, name-length (c .before .before .before .before .before .before .before .args .o .action) (c .before .before .before .spell .result), c .before .before .before .spell .ensures .long, c .before .before .before .before .if1 .left, c .before .before .before .before .before .before .before .pre .0 .room)
 
 -- src/items.rt:85:1
 same-length : tie.Need-same-length
@@ -36,7 +45,7 @@ same-length c = search needs
 
 -- src/items.rt:85:1
 returns-2 : tie.Need-returns-2
-returns-2 c = ?
+returns-2 c = record { same = c .before .before .put-name .kept .0; put = λ b s. put-as (ap (λ (x : List ℕ). command-bytes (name-action (c .before .before .before .before .before .before .before .before .before .before .args .o .action) x)) (spelt-same (c .before .before .before .before .before .before .spell .ensures) s)) (fits refl (c .before .before .put-name .ensures)) }
 
 pub put-named-spec : {M : Type 1} → statement M
 put-named-spec =

@@ -1,3 +1,5 @@
+use Rattle.import_emit.proofs.Part.{action-small, item-begins, item-puts, item-on, name-puts, name-on}
+use native.Mathlib.Omega.{arith}
 use borrow.Author.Needs.{needs}
 use Rattle.import_emit.proofs.items.put_part.Statement.{statement}
 use Rattle.import_emit.proofs.items.put_part.Tie as tie
@@ -15,7 +17,7 @@ opening-at-requires c κs = search needs
 
 -- src/items.rt:106:13
 put-named-requires : tie.Need-put-named-requires
-put-named-requires c κs = ?
+put-named-requires c κs = (record { action = action-small _ _ _ (c .before .before .before .opening-at .ensures); room = c .before .before .before .before .before .before .before .pre .lent .room }, c .before .before .before .opening-at .ensures .next .stands .within)
 
 -- src/items.rt:107:13
 end-of-name-requires : tie.Need-end-of-name-requires
@@ -27,11 +29,11 @@ same-length c = search needs
 
 -- src/items.rt:108:9
 returns : tie.Need-returns
-returns c = ?
+returns c = let a = c .before .before .before .before .before .before .before .opening-at .ensures in let b = c .end-of-name .ensures in record { same = c .before .before .before .put-named .ensures .same; further = λ h. let m = a .moves h in let n = b .on in omega (arith, m, n); put = name-puts _ _ _ a (c .before .before .before .before .before .if1 .taken) _ b (c .before .before .before .put-named .ensures); on = name-on _ _ _ a (c .before .before .before .before .before .if1 .taken) _ b }
 
 -- src/items.rt:110:9
 put-item-requires : tie.Need-put-item-requires
-put-item-requires c κs = ?
+put-item-requires c κs = record { action = action-small _ _ _ (c .before .before .before .before .opening-at .ensures); begins = item-begins _ _ _ (c .before .before .before .before .opening-at .ensures) (c .before .before .if1 .left) _ _ _ (c .before .before .before .before .before .before .before .before .pre .lent) (c .before .before .before .before .before .before .before .before .pre .part) (c .before .before .before .before .before .before .before .before .pre .parts) (c .before .before .before .before .before .before .before .before .pre .spaces) (c .before .before .before .before .before .before .before .before .pre .comes) }
 
 -- src/items.rt:111:9
 end-of-item-requires : tie.Need-end-of-item-requires
@@ -47,7 +49,7 @@ same-length-3 c = search needs
 
 -- src/items.rt:100:1
 returns-2 : tie.Need-returns-2
-returns-2 c = ?
+returns-2 c = let a = c .before .before .before .before .before .before .before .before .before .before .opening-at .ensures in let b = c .end-of-item .ensures in record { same = c .before .before .before .before .before .put-item .ensures .same; further = λ h. let m = a .moves h in let n = b .on in omega (arith, m, n); put = item-puts _ _ _ a (c .before .before .before .before .before .before .before .before .if1 .left) _ b (c .before .before .before .before .before .put-item .ensures); on = item-on _ _ _ a (c .before .before .before .before .before .before .before .before .if1 .left) _ b }
 
 pub put-part-spec : {M : Type 1} → statement M
 put-part-spec =

@@ -1,11 +1,9 @@
+use mathlib.Core.Path.{refl}
+use Prim.Native.Nat.{_-_}
+use Rattle.import_emit.proofs.Part.{Spelling, spell-on, spelt-all}
 use borrow.Author.Needs.{needs}
-use Rattle.import_emit.proofs.Part.{spell-more}
-use Rattle.import_parts.specs.Walk.{name-byte}
 use Rattle.theory.specs.Widths.{name-bytes}
-use lib.ListN.{length, drop, getD, length-set}
 use native.Mathlib.Omega.{arith}
-use Prim.Native.Nat.{ℕ, _-_, _≤_, _<_}
-use mathlib.Core.Path.{_≡_, refl, sym}
 use Rattle.import_emit.proofs.items.spell.Statement.{statement}
 use Rattle.import_emit.proofs.items.spell.Tie as tie
 use Rattle.import_emit.proofs.items.spell.Reads as reads
@@ -13,14 +11,14 @@ use Rattle.import_emit.proofs.items.spell.Lts as lts
 use Rattle.import_walk.proofs.name.name_byte.Reads as name-byte-reads
 
 abbrev Inv-loop : tie.InvT-loop
-Inv-loop text from name₀ j₀ name j = (j ≤ name-bytes) × ((length name ≡ name-bytes) × ((k : ℕ) → k < j → name-byte k (drop from text) ≡ getD name k 0))
+Inv-loop text from name₀ j₀ name j = Spelling text from name j
 
 abbrev μ-loop : tie.MeasureT-loop
 μ-loop text from name₀ j₀ name j = name-bytes - j
 
 -- src/items.rt:77:5
 loop-holds : tie.Need-loop-holds Inv-loop μ-loop
-loop-holds c = (omega arith, (refl, λ k h. absurd (omega arith)))
+loop-holds c = record { upto = omega arith; long = refl; each = λ k h. absurd (omega arith) }
 
 -- src/items.rt:78:13
 name-byte-requires : tie.Need-name-byte-requires Inv-loop μ-loop
@@ -40,11 +38,11 @@ loop-less c = omega arith
 
 -- src/items.rt:77:5
 loop-again : tie.Need-loop-again Inv-loop μ-loop
-loop-again c = ?
+loop-again c = spell-on (c .before .before .loop .inv) (c .before .loop-test .taken) (c .name-byte .ensures)
 
 -- src/items.rt:71:1
 returns : tie.Need-returns Inv-loop μ-loop
-returns c = ?
+returns c = spelt-all (c .before .loop .inv) (c .loop-test .left)
 
 pub spell-spec : {M : Type 1} → statement M
 spell-spec =
