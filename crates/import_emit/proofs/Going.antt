@@ -52,7 +52,7 @@ module _ (w : List ℕ) (from : ℕ) (l out : List ℕ) (start : ℕ) (p : Parts
     gone = λ P e c. record { done = []; left = P; walked = as-walked w from P e c; within = c .within; put = none out start };
   }
 
-module _ (w : List ℕ) (from : ℕ) (out₀ : List ℕ) (start : ℕ) (s : start ≤ length out₀) (i at : ℕ) (out : List ℕ) where
+module _ (w out₀ : List ℕ) (start : ℕ) (s : start ≤ length out₀) (i at : ℕ) (out : List ℕ) where
   -- a part is left before the end
   pub some-part : (l : List ℕ) (P : List Part) (e : Spaces) → i < length w → Lent w l out at → Gone w out₀ start P e i at out → PartAt w i l out at
   some-part l P e h n g = go (g .left) (g .walked) (g .within)
@@ -78,9 +78,9 @@ module _ (w : List ℕ) (from : ℕ) (out₀ : List ℕ) (start : ℕ) (s : star
               put = rename (sym (encode-append (g .done) (part-commands x))) (then s (g .put) (q .put x L e c .put f));
             }
 
-    pub going-on : (l l′ : List ℕ) → PartsAt w from l out₀ start → length l′ ≡ 131072 → r .wrote .full ≡ false → ((P : List Part) (e : Spaces) → Comes w from P e → Gone w out₀ start P e i at out) → length out ≡ length out₀
+    pub going-on : (from : ℕ) (l l′ : List ℕ) → PartsAt w from l out₀ start → length l′ ≡ 131072 → r .wrote .full ≡ false → ((P : List Part) (e : Spaces) → Comes w from P e → Gone w out₀ start P e i at out) → length out ≡ length out₀
         → Going w from out₀ start l′ (r .next) (r .wrote .at) out′
-    going-on l l′ p n f g m = record {
+    going-on from l l′ p n f g m = record {
       same = q .same ∙ m;
       long = n;
       room = inside s (gone-on (p .parts) (p .spaces) f (g (p .parts) (p .spaces) (p .comes)) .put);
