@@ -1,8 +1,8 @@
 -- The loop: what is written so far and what the list stands for are all the commands.
 use mathlib.Core.Path.{_≡_, refl, sym, ap, _∙_, subst}
-use mathlib.Core.Bool.{Bool, true, false}
+use mathlib.Core.Bool.{true, false}
 use mathlib.Core.List.{List, [], _∷_, _++_, append-assoc, append-nil}
-use Prim.Native.Nat.{ℕ, zero, suc, _+_, _-_, _≤_, _<_}
+use Prim.Native.Nat.{ℕ, _+_, _≤_, _<_}
 use native.Mathlib.Omega.{arith}
 use lib.ListN.{length, drop, length-append}
 use Rattle.whole.specs.Cases.{clash}
@@ -10,18 +10,18 @@ use Rattle.theory.specs.Command.{Command}
 use Rattle.text_decimal.specs.Put.{PutAt}
 use Rattle.text_decimal.proofs.Puts.{none, then, rename}
 use Rattle.import_model.specs.Encode.{command-bytes, encode}
-use Rattle.import_found.specs.Places.{Place, go, Emits}
+use Rattle.import_found.specs.Places.{go, Emits}
 use Rattle.import_places.specs.Walking.{signs, two-to}
 use Rattle.import_going.specs.declared.start.Spot.{Spot}
 use Rattle.import_going.specs.Turns.{Spotted}
-use Rattle.import_list.specs.Pending.{Pending, Visits}
+use Rattle.import_list.specs.Pending.{Pending}
 use Rattle.import_list.specs.Packed.{entries}
 use Rattle.import_list.specs.laws.Steps.{first-visit, all-written}
 use Rattle.import_write.proofs.Laws.{next-command}
 use Rattle.import_descend.specs.Walks.{Comes}
 use Rattle.import_emit_cases.specs.declared.Emitted.{Emitted}
 use Rattle.import_emit_cases.specs.declared.Wrote.{Wrote}
-use Rattle.import_emit_cases.specs.Emitting.{Put, Lent, Advances, Writes, Finishes, Begins, Emitting}
+use Rattle.import_emit_cases.specs.Emitting.{Lent, Writes, Finishes, Begins, Emitting}
 
 -- all commands are no shorter than those written and the next
 longer-all : (A : List Command) (c : Command) (D C : List Command) → C ≡ A ++ (c ∷ D) → length (encode A) + length (command-bytes c) ≤ length (encode C)

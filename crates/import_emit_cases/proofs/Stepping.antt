@@ -1,18 +1,17 @@
 -- One step: a result's command where the way goes down, or the latest entry's own. The laws of the list say what is still to be written behind it.
-use mathlib.Core.Path.{_≡_, refl, sym, ap, _∙_, subst}
+use mathlib.Core.Path.{_≡_, sym, ap, _∙_, subst}
 use mathlib.Core.Bool.{Bool, true, false, not}
-use mathlib.Core.List.{List, [], _∷_}
-use Prim.Native.Nat.{ℕ, zero, suc, _+_, _-_, _%_, _/_, _≤_, _<_}
+use mathlib.Core.List.{List, _∷_}
+use Prim.Native.Nat.{ℕ, zero, suc, _-_, _<_}
 use native.Mathlib.Omega.{arith}
 use lib.Dec.{T}
-use lib.ListN.{length, drop, getD}
+use lib.ListN.{getD}
 use Rattle.whole.specs.Cases.{from-true}
 use Rattle.theory.specs.Command.{Command}
 use Rattle.import_numbers.specs.Numbers.{all-within}
 use Rattle.import_model.specs.Encode.{command-bytes}
 use Rattle.import_model.specs.Commands.{result-command}
-use Rattle.import_found.specs.Places.{Place, find, xor}
-use Rattle.import_places.specs.Walking.{signs}
+use Rattle.import_found.specs.Places.{xor}
 use Rattle.import_going.specs.declared.start.Spot.{Spot}
 use Rattle.import_going.specs.Turns.{Spotted}
 use Rattle.import_list.specs.declared.Entry.{Entry}
@@ -26,7 +25,7 @@ use Rattle.import_descend.specs.Walks.{Comes, Starting, Descends}
 use Rattle.import_descend.proofs.Entering.{spotted-in}
 use Rattle.import_emit_cases.specs.declared.Emitted.{Emitted}
 use Rattle.import_emit_cases.specs.declared.Wrote.{Wrote}
-use Rattle.import_emit_cases.specs.Emitting.{Put, Puts, Lent, Advances, Writes}
+use Rattle.import_emit_cases.specs.Emitting.{Put, Puts, Lent, Writes}
 
 as-command : {out : List ℕ} {at : ℕ} {c d : Command} {r : Emitted} {out′ : List ℕ} → c ≡ d → Put out at (command-bytes c) r out′ → Put out at (command-bytes d) r out′
 as-command {out} {at} {r = r} {out′ = out′} e p = subst (λ (c : Command). Put out at (command-bytes c) r out′) e p

@@ -1,43 +1,32 @@
+-- `import_emit_cases::put_linear` meets its contract: both commands have 37 bytes.
 use native.Mathlib.Omega.{arith}
 use Rattle.import_write.proofs.Laws.{leaf-length, test-length}
 use Rattle.import_emit_cases.proofs.Putting.{put-one, no-room, linear-length, linear-test, linear-leaf, as-told}
 use borrow.Author.Needs.{needs}
 use Rattle.import_emit_cases.proofs.put_linear.Statement.{statement}
 use Rattle.import_emit_cases.proofs.put_linear.Tie as tie
-use Rattle.import_emit_cases.proofs.put_linear.Reads as reads
-use Rattle.import_emit_cases.proofs.put_linear.Lts as lts
-use Rattle.import_write.proofs.put_leaf.Reads as put-leaf-reads
-use Rattle.import_write.proofs.put_test.Reads as put-test-reads
 
--- src/lib.rt:53:8
 sub-if1 : tie.Need-sub-if1
 sub-if1 c = search needs
 
--- src/lib.rt:54:9
 returns : tie.Need-returns
 returns c = no-room _ _ 37 _ (linear-length (c .before .before .args .a) (c .before .before .good .1 .1 .0 .1 .0 .1) (c .before .before .args .test)) (c .before .before .pre .1) (omega (arith, c .if1 .taken, c .before .before .pre .1))
 
--- src/lib.rt:57:13
 put-test-requires : tie.Need-put-test-requires
 put-test-requires c κs = (c .before .before .before .before .pre .0, omega (arith, (test-length (c .before .before .before .before .args .a) (c .before .before .before .before .good .1 .1 .0 .1 .0 .1)), c .before .before .if1 .left, c .before .before .before .before .pre .1))
 
--- src/lib.rt:58:9
 same-length : tie.Need-same-length
 same-length c = search needs
 
--- src/lib.rt:58:9
 returns-2 : tie.Need-returns-2
 returns-2 c = as-told (linear-test (c .before .before .before .before .before .before .before .args .a) (c .before .before .before .before .before .before .before .args .test) (c .before .before .before .before .if2 .taken)) (put-one _ _ 37 _ (test-length (c .before .before .before .before .before .before .before .args .a) (c .before .before .before .before .before .before .before .good .1 .1 .0 .1 .0 .1)) _ _ (omega arith) (omega (arith, c .before .before .before .before .before .if1 .left, c .before .before .before .before .before .before .before .pre .1)) (c .before .before .put-test .ensures))
 
--- src/lib.rt:60:9
 put-leaf-requires : tie.Need-put-leaf-requires
 put-leaf-requires c κs = (c .before .before .before .before .pre .0, omega (arith, (leaf-length (c .before .before .before .before .args .a) (c .before .before .before .before .good .1 .1 .0 .1 .0 .1)), c .before .before .if1 .left, c .before .before .before .before .pre .1))
 
--- src/lib.rt:49:1
 same-length-2 : tie.Need-same-length-2
 same-length-2 c = search needs
 
--- src/lib.rt:49:1
 returns-3 : tie.Need-returns-3
 returns-3 c = as-told (linear-leaf (c .before .before .before .before .before .before .before .args .a) (c .before .before .before .before .before .before .before .args .test) (c .before .before .before .before .if2 .left)) (put-one _ _ 37 _ (leaf-length (c .before .before .before .before .before .before .before .args .a) (c .before .before .before .before .before .before .before .good .1 .1 .0 .1 .0 .1)) _ _ (omega arith) (omega (arith, c .before .before .before .before .before .if1 .left, c .before .before .before .before .before .before .before .pre .1)) (c .before .before .put-leaf .ensures))
 
