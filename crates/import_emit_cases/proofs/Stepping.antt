@@ -68,12 +68,12 @@ module _ (w l : List ℕ) (n : ℕ) (out : List ℕ) (at : ℕ) (e : Entry) (z :
   pub lies : Lies w e
   lies = top-lies (on-top (L .to))
 
-  pub marked-fits : Fits (with-both e)
-  marked-fits =
+  pub marked-fits : (b : Bool) → Fits (record { at = e .at; sign = e .sign; mask = e .mask; count = e .count; both = b })
+  marked-fits b =
       let a = lies .inside in
-      let b = L .short in
+      let s = L .short in
       let q = narrow l n e z h in
-      record { place = omega (arith, a, b); shallow = q .0; low = q .1 }
+      record { place = omega (arith, a, s); shallow = q .0; low = q .1 }
 
   module _ (t : Told) (K : Looks w (e .at) t) where
     module _ (b : e .both ≡ true) where

@@ -11,7 +11,7 @@ same-length : tie.Need-same-length
 same-length c = search needs
 
 returns : tie.Need-returns
-returns c = as-told (told-leaf (c .before .before .before .before .before .before .before .before .args .t) (c .before .before .before .before .if1 .taken)) (c .before .before .put-linear .ensures)
+returns c = as-told {r = c .before .before .put-linear .result} {out′ = c .before .before .put-linear .last .0} (told-leaf (c .before .before .before .before .before .before .before .before .args .t) (c .before .before .before .before .if1 .taken)) (c .before .before .put-linear .ensures)
 
 put-asking-requires : tie.Need-put-asking-requires
 put-asking-requires c κs = search needs

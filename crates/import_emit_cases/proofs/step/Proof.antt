@@ -30,7 +30,7 @@ sub-push : tie.Need-sub-push
 sub-push c = search needs
 
 push-requires : tie.Need-push-requires
-push-requires c κs = (omega (arith, c .before .before .before .before .before .before .before .before .pre .0, c .before .before .before .before .before .before .before .before .pre .1 .few), marked-fits _ _ _ _ _ (c .before .before .before .top .result) (c .before .before .before .before .before .before .before .before .pre .0) (c .before .before .before .before .before .before .before .before .pre .1) (c .before .before .before .top .ensures))
+push-requires c κs = (omega (arith, c .before .before .before .before .before .before .before .before .pre .0, c .before .before .before .before .before .before .before .before .pre .1 .few), marked-fits _ _ _ _ _ (c .before .before .before .top .result) (c .before .before .before .before .before .before .before .before .pre .0) (c .before .before .before .before .before .before .before .before .pre .1) (c .before .before .before .top .ensures) _)
 
 first-value-requires : tie.Need-first-value-requires
 first-value-requires c κs = search needs
@@ -39,7 +39,7 @@ decided-requires : tie.Need-decided-requires
 decided-requires c κs = let a = lies _ _ _ _ _ (c .before .before .before .before .before .before .before .top .result) (c .before .before .before .before .before .before .before .before .before .before .before .before .pre .0) (c .before .before .before .before .before .before .before .before .before .before .before .before .pre .1) (c .before .before .before .before .before .before .before .top .ensures) in let b = a .inside in (omega (arith, b), c .before .before .before .before .before .before .before .before .before .before .before .before .pre .1 .short, a .low)
 
 write-leaf-requires : tie.Need-write-leaf-requires
-write-leaf-requires c κs = second-lent _ _ _ _ _ (c .before .before .before .before .before .before .before .before .before .before .top .result) (c .before .before .before .before .before .before .before .before .before .before .before .before .before .before .before .pre .0) (c .before .before .before .before .before .before .before .before .before .before .before .before .before .before .before .pre .1) (c .before .before .before .before .before .before .before .before .before .before .top .ensures) (c .before .before .before .before .before .before .before .before .before .look .result) (c .before .before .before .before .before .before .before .before .before .look .ensures) (c .before .before .before .before .before .before .before .before .if1 .left) _ (c .before .before .before .before .before .before .push .ensures) _ (c .before .before .before .first-value .ensures) (c .before .before .decided .result) (c .before .before .decided .ensures)
+write-leaf-requires c κs = second-lent _ _ _ _ _ (c .before .before .before .before .before .before .before .before .before .before .top .result) (c .before .before .before .before .before .before .before .before .before .before .before .before .before .before .before .pre .0) (c .before .before .before .before .before .before .before .before .before .before .before .before .before .before .before .pre .1) (c .before .before .before .before .before .before .before .before .before .before .top .ensures) (c .before .before .before .before .before .before .before .before .before .look .result) (c .before .before .before .before .before .before .before .before .before .look .ensures) (c .before .before .before .before .before .before .before .before .if1 .left) (c .before .before .before .before .before .before .push .last .0) (c .before .before .before .before .before .before .push .ensures) _ (c .before .before .before .first-value .ensures) (c .before .before .decided .result) (c .before .before .decided .ensures)
 
 same-length-3 : tie.Need-same-length-3
 same-length-3 c = search needs
@@ -48,7 +48,7 @@ same-length-4 : tie.Need-same-length-4
 same-length-4 c = search needs
 
 returns-2 : tie.Need-returns-2
-returns-2 c = second-writes _ _ _ _ _ (c .before .before .before .before .before .before .before .before .before .before .before .before .before .before .before .top .result) (c .before .before .before .before .before .before .before .before .before .before .before .before .before .before .before .before .before .before .before .before .pre .0) (c .before .before .before .before .before .before .before .before .before .before .before .before .before .before .before .before .before .before .before .before .pre .1) (c .before .before .before .before .before .before .before .before .before .before .before .before .before .before .before .top .ensures) (c .before .before .before .before .before .before .before .before .before .before .before .before .before .before .look .result) (c .before .before .before .before .before .before .before .before .before .before .before .before .before .before .look .ensures) (c .before .before .before .before .before .before .before .before .before .before .before .before .before .if1 .left) _ (c .before .before .before .before .before .before .before .before .before .before .before .push .ensures) _ (c .before .before .before .before .before .before .before .before .first-value .ensures) (c .before .before .before .before .before .before .before .decided .result) (c .before .before .before .before .before .before .before .decided .ensures) (c .before .before .before .before .write-leaf .result) _ _ (c .before .before .before .before .write-leaf .ensures)
+returns-2 c = second-writes _ _ _ _ _ (c .before .before .before .before .before .before .before .before .before .before .before .before .before .before .before .top .result) (c .before .before .before .before .before .before .before .before .before .before .before .before .before .before .before .before .before .before .before .before .pre .0) (c .before .before .before .before .before .before .before .before .before .before .before .before .before .before .before .before .before .before .before .before .pre .1) (c .before .before .before .before .before .before .before .before .before .before .before .before .before .before .before .top .ensures) (c .before .before .before .before .before .before .before .before .before .before .before .before .before .before .look .result) (c .before .before .before .before .before .before .before .before .before .before .before .before .before .before .look .ensures) (c .before .before .before .before .before .before .before .before .before .before .before .before .before .if1 .left) (c .before .before .before .before .before .before .before .before .before .before .before .push .last .0) (c .before .before .before .before .before .before .before .before .before .before .before .push .ensures) _ (c .before .before .before .before .before .before .before .before .first-value .ensures) (c .before .before .before .before .before .before .before .decided .result) (c .before .before .before .before .before .before .before .decided .ensures) (c .before .before .before .before .write-leaf .result) _ _ (c .before .before .before .before .write-leaf .ensures)
 
 pub step-spec : {M : Type 1} → statement M
 step-spec =
