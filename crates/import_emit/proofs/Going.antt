@@ -16,9 +16,9 @@ use Rattle.import_parts.specs.Parts.{Part, site-command, part-commands, parts-c
 use Rattle.import_parts.specs.laws.Order.{text-parts, text-site, text-end, text-commands-order}
 use Rattle.import_parts.specs.laws.Within.{parts-within}
 use Rattle.import_parts.specs.laws.Walks.{walk-on, walk-ended, walk-not-ended}
-use Rattle.import_emit.specs.Emitting.{Put}
-use Rattle.import_emit.specs.Items.{Comes, Lent, PartAt, PartPut, PartsAt, PartsPut, Puts, Reading}
-use Rattle.import_emit.specs.declared.cases.Emitted.{Emitted}
+use Rattle.import_emit_cases.specs.Emitting.{Put}
+use Rattle.import_emit.specs.Items.{Comes, Buffers, PartAt, PartPut, PartsAt, PartsPut, CommandPut, Reading}
+use Rattle.import_emit_cases.specs.declared.Emitted.{Emitted}
 use Rattle.import_emit.specs.declared.items.Passed.{Passed}
 use Rattle.import_emit.proofs.Puts.{encode-append, encode-one, encode-more, inside, fits-not, put-as, full-before, behind}
 use Rattle.import_emit.proofs.Part.{as-walked}
@@ -54,7 +54,7 @@ module _ (w : List ℕ) (from : ℕ) (l out : List ℕ) (start : ℕ) (p : Parts
 
 module _ (w out₀ : List ℕ) (start : ℕ) (s : start ≤ length out₀) (i at : ℕ) (out : List ℕ) where
   -- a part is left before the end
-  pub some-part : (l : List ℕ) (P : List Part) (e : Spaces) → i < length w → Lent w l out at → Gone w out₀ start P e i at out → PartAt w i l out at
+  pub some-part : (l : List ℕ) (P : List Part) (e : Spaces) → i < length w → Buffers w l out at → Gone w out₀ start P e i at out → PartAt w i l out at
   some-part l P e h n g = go (g .left) (g .walked) (g .within)
     where
       go : (L : List Part) → Walked w (parts-commands P ++ (end-model ∷ [])) i (g .done) L e → parts-within L → PartAt w i l out at
@@ -102,6 +102,6 @@ module _ (w out₀ : List ℕ) (start : ℕ) (s : start ≤ length out₀) (i at
     gone-full P e m f g = full-at P (g .left) e (g .done) (g .put) m f (g .walked) (g .within)
 
   -- no part is left at the end
-  pub gone-all : (P : List Part) (e : Spaces) {r : Emitted} {out′ : List ℕ} → length w ≤ i → length out ≡ length out₀ → Puts out at (command-bytes end-model) r out′ → Gone w out₀ start P e i at out
+  pub gone-all : (P : List Part) (e : Spaces) {r : Emitted} {out′ : List ℕ} → length w ≤ i → length out ≡ length out₀ → CommandPut out at end-model r out′ → Gone w out₀ start P e i at out
       → Put out₀ start (encode (parts-commands P ++ (end-model ∷ []))) r out′
   gone-all P e h m p g = put-as (encode-more (g .done) end-model ∙ sym (ap encode (walk-ended w _ i (g .done) (g .left) e (g .walked) h))) (behind s m (g .put) (p .put))

@@ -28,9 +28,9 @@ use Rattle.import_walk.specs.Answers.{SiteAt, OpeningAt, slot-said}
 use Rattle.import_walk.specs.Steps.{SiteStep, site-step, ItemStep, item-step, NameStep, name-step}
 use Rattle.import_walk.specs.declared.opening.Opening.{Opening}
 use Rattle.import_walk.specs.declared.site.Site.{Site}
-use Rattle.import_emit.specs.Emitting.{Put, Begins, Emitting}
-use Rattle.import_emit.specs.Items.{Puts, Spelt, Named, ItemPut, Comes, Lent, Reading}
-use Rattle.import_emit.specs.declared.cases.Emitted.{Emitted}
+use Rattle.import_emit_cases.specs.Emitting.{Put, Begins, Emitting}
+use Rattle.import_emit.specs.Items.{CommandPut, Spelt, NamePut, ItemPut, Comes, Buffers, Reading}
+use Rattle.import_emit_cases.specs.declared.Emitted.{Emitted}
 use Rattle.import_emit.proofs.Puts.{encode-one, encode-more, put-as, full-before, behind}
 
 -- ---- no number is above the greatest of its operand
@@ -129,14 +129,14 @@ module _ {w out out₁ : List ℕ} {o : Opening} {at : ℕ} {e : Emitted} (m : E
     commands = λ C i. put-as (encode-more C (give (slot-said o))) (full-before (command-bytes (give (slot-said o))) f (m .commands C i));
   }
 
-  pub cases-then : {r : Emitted} {out₂ : List ℕ} → at ≤ length out → e .full ≡ false → Puts out₁ (e .at) (command-bytes (give (slot-said o))) r out₂ → ItemPut w o out at r out₂
+  pub cases-then : {r : Emitted} {out₂ : List ℕ} → at ≤ length out → e .full ≡ false → CommandPut out₁ (e .at) (give (slot-said o)) r out₂ → ItemPut w o out at r out₂
   cases-then h f p = record {
     same = p .same ∙ m .same;
     commands = λ C i. put-as (encode-more C (give (slot-said o))) (behind h (m .same) (m .commands C i .put f) (p .put));
   }
 
 module _ (w : List ℕ) (from : ℕ) (o : Opening) (a : OpeningAt w from o) (k : o .kind ≡ 0x30 → ⊥) where
-  pub item-begins : (l out : List ℕ) (at : ℕ) → Lent w l out at → (x : Part) (P : List Part) (e : Spaces) → Comes w from (x ∷ P) e → Begins w (o .next) l out at
+  pub item-begins : (l out : List ℕ) (at : ℕ) → Buffers w l out at → (x : Part) (P : List Part) (e : Spaces) → Comes w from (x ∷ P) e → Begins w (o .next) l out at
   item-begins l out at n (item B p q r) P e c =
       let i = item-walked w _ from [] B p q r P e (as-walked w from (item B p q r ∷ P) e c) in
       record {
@@ -170,7 +170,7 @@ module _ (w : List ℕ) (from : ℕ) (o : Opening) (a : OpeningAt w from o) (k :
 -- ---- a name
 
 module _ (w : List ℕ) (from : ℕ) (o : Opening) (a : OpeningAt w from o) (k : o .kind ≡ 0x30) (to : ℕ) (b : Onward w (o .next) to (name-rest (drop (o .next) w))) where
-  pub name-puts : {out out′ : List ℕ} {at : ℕ} {r : Emitted} → Named w o out at r out′ → (x : Part) (P : List Part) (e : Spaces) → Comes w from (x ∷ P) e → Put out at (encode (part-commands x)) r out′
+  pub name-puts : {out out′ : List ℕ} {at : ℕ} {r : Emitted} → NamePut w o out at r out′ → (x : Part) (P : List Part) (e : Spaces) → Comes w from (x ∷ P) e → Put out at (encode (part-commands x)) r out′
   unfolding part-commands
   name-puts i (item B p q r) P e c =
       absurd (item-kind (opening-of B) (sym (kind-of (a .slot ∙ item-walked w _ from [] B p q r P e (as-walked w from (item B p q r ∷ P) e c) .slot)) ∙ k))

@@ -11,8 +11,8 @@ use Rattle.theory.specs.Command.{Command}
 use Rattle.text_decimal.specs.Put.{PutAt}
 use Rattle.text_decimal.proofs.Puts.{then, rename}
 use Rattle.import_model.specs.Encode.{command-bytes, encode}
-use Rattle.import_emit.specs.Emitting.{Put}
-use Rattle.import_emit.specs.declared.cases.Emitted.{Emitted}
+use Rattle.import_emit_cases.specs.Emitting.{Put}
+use Rattle.import_emit_cases.specs.declared.Emitted.{Emitted}
 
 -- ---- encode
 

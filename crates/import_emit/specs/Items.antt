@@ -18,16 +18,15 @@ use Rattle.import_parts.specs.laws.Order.{text-parts, text-site, text-end}
 use Rattle.import_parts.specs.laws.Within.{parts-within}
 use Rattle.import_walk.specs.declared.opening.Opening.{Opening}
 use Rattle.import_walk.specs.Answers.{slot-said}
-use Rattle.import_emit.specs.Emitting.{Put, Begins}
-use Rattle.import_emit.specs.declared.cases.Emitted.{Emitted}
+use Rattle.import_emit_cases.specs.Emitting.{Put, Begins}
+use Rattle.import_emit_cases.specs.declared.Emitted.{Emitted}
 use Rattle.import_emit.specs.declared.items.Passed.{Passed}
 
 -- ---- one command behind what is written
 
--- some bytes, and no other length of the buffer
-pub record Puts (out : List ℕ) (at : ℕ) (bytes : List ℕ) (r : Emitted) (out′ : List ℕ) : Type 0 where
+pub record CommandPut (out : List ℕ) (at : ℕ) (c : Command) (r : Emitted) (out′ : List ℕ) : Type 0 where
   pub same : length out′ ≡ length out
-  pub put : Put out at bytes r out′
+  pub put : Put out at (command-bytes c) r out′
 
 -- an opening whose action is written in two bytes
 pub record Opened (o : Opening) (out : List ℕ) (at : ℕ) : Type 0 where
@@ -40,7 +39,7 @@ pub record Spelt (w : List ℕ) (from : ℕ) (b : List ℕ) : Type 0 where
   pub each : (j : ℕ) → j < name-bytes → name-byte j (drop from w) ≡ getD b j 0
 
 -- the name whose string begins behind its opening
-pub record Named (w : List ℕ) (o : Opening) (out : List ℕ) (at : ℕ) (r : Emitted) (out′ : List ℕ) : Type 0 where
+pub record NamePut (w : List ℕ) (o : Opening) (out : List ℕ) (at : ℕ) (r : Emitted) (out′ : List ℕ) : Type 0 where
   pub same : length out′ ≡ length out
   pub put : (b : List ℕ) → Spelt w (o .next) b → Put out at (command-bytes (name-action (o .action) b)) r out′
 
@@ -65,14 +64,14 @@ pub record Comes (w : List ℕ) (from : ℕ) (P : List Part) (e : Spaces) : Type
   pub within : parts-within P
 
 -- what is lent: the text, the list of the cases, the bytes
-pub record Lent (w l out : List ℕ) (at : ℕ) : Type 0 where
+pub record Buffers (w l out : List ℕ) (at : ℕ) : Type 0 where
   pub short : length w ≤ text-most
   pub long : length l ≡ 131072
   pub room : at ≤ length out
 
 -- a part comes
 pub record PartAt (w : List ℕ) (from : ℕ) (l out : List ℕ) (at : ℕ) : Type 0 where
-  pub lent : Lent w l out at
+  pub lent : Buffers w l out at
   pub part : Part
   pub parts : List Part
   pub spaces : Spaces
@@ -87,7 +86,7 @@ pub record PartPut (w : List ℕ) (from : ℕ) (out : List ℕ) (at : ℕ) (r : 
 
 -- parts come, or the end
 pub record PartsAt (w : List ℕ) (from : ℕ) (l out : List ℕ) (at : ℕ) : Type 0 where
-  pub lent : Lent w l out at
+  pub lent : Buffers w l out at
   pub parts : List Part
   pub spaces : Spaces
   pub comes : Comes w from parts spaces

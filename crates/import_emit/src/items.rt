@@ -6,9 +6,9 @@ ghost use Rattle.theory.specs.Command.{give};
 ghost use Rattle.import_model.specs.Encode.{command-bytes};
 ghost use Rattle.import_write.specs.Writes.{given-of};
 ghost use Rattle.import_walk.specs.Answers.{slot-said};
-ghost use Rattle.import_emit.specs.Items.{Puts, Opened, Spelt, Named, ItemAt, ItemPut, PartAt, PartPut};
-use crate::cases::Emitted;
-use crate::cases::emit_cases;
+ghost use Rattle.import_emit.specs.Items.{CommandPut, Opened, Spelt, NamePut, ItemAt, ItemPut, PartAt, PartPut};
+use import_emit_cases::Emitted;
+use import_emit_cases::emit_cases;
 use import_walk::name::end_of_name;
 use import_walk::name::name_byte;
 use import_walk::opening::END;
@@ -44,7 +44,7 @@ fn slot_len(kind: u8) -> usize
 
 fn put_slot(out: &mut [u8], at: usize, o: Opening) -> Emitted
     requires { ⌜ Opened o (now out) at ⌝ }
-    ensures { λ r. ⌜ Puts (now (out .entry)) at (command-bytes (give (slot-said o))) r (now (out .exit)) ⌝ }
+    ensures { λ r. ⌜ CommandPut (now (out .entry)) at (give (slot-said o)) r (now (out .exit)) ⌝ }
 {
     let n = slot_len(o.kind);
     if out.len() - at < n {
@@ -84,7 +84,7 @@ fn spell(text: &[u8], from: usize) -> [u8; NAME_BYTES]
 
 fn put_named(text: &[u8], o: Opening, out: &mut [u8], at: usize) -> Emitted
     requires { ⌜ Opened o (now out) at × (o .next ≤ length (now text)) ⌝ }
-    ensures { λ r. ⌜ Named (now (text .entry)) o (now (out .entry)) at r (now (out .exit)) ⌝ }
+    ensures { λ r. ⌜ NamePut (now (text .entry)) o (now (out .entry)) at r (now (out .exit)) ⌝ }
 {
     if out.len() - at < NAMED {
         return Emitted { at, full: true };

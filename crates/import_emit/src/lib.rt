@@ -3,17 +3,15 @@ ghost use mathlib.Core.Path.{_≡_};
 ghost use Prim.Native.Nat.{_≤_};
 ghost use lib.ListN.{length};
 ghost use Rattle.theory.specs.Command.{end-model};
-ghost use Rattle.import_model.specs.Encode.{command-bytes};
-ghost use Rattle.import_emit.specs.Items.{Puts, PartsAt, PartsPut, Reading, SitePut, ModelPut};
-use cases::Emitted;
+ghost use Rattle.import_emit.specs.Items.{CommandPut, PartsAt, PartsPut, Reading, SitePut, ModelPut};
 use import_descend::ENTRIES;
+use import_emit_cases::Emitted;
 use import_walk::site::header_at;
 use import_write::put_end;
 use import_write::put_site;
 use items::Passed;
 use items::put_part;
 
-pub mod cases;
 pub mod items;
 
 // The bytes of a site.
@@ -47,7 +45,7 @@ fn write_site(text: &[u8], out: &mut [u8]) -> Passed
 
 fn write_end(out: &mut [u8], at: usize) -> Emitted
     requires { ⌜ at ≤ length (now out) ⌝ }
-    ensures { λ r. ⌜ Puts (now (out .entry)) at (command-bytes end-model) r (now (out .exit)) ⌝ }
+    ensures { λ r. ⌜ CommandPut (now (out .entry)) at end-model r (now (out .exit)) ⌝ }
 {
     if at == out.len() {
         return Emitted { at, full: true };

@@ -6,7 +6,7 @@ use Rattle.import_emit.proofs.items.put_item.Statement.{statement}
 use Rattle.import_emit.proofs.items.put_item.Tie as tie
 use Rattle.import_emit.proofs.items.put_item.Reads as reads
 use Rattle.import_emit.proofs.items.put_item.Lts as lts
-use Rattle.import_emit.proofs.cases.emit_cases.Reads as emit-cases-reads
+use Rattle.import_emit_cases.proofs.emit_cases.Reads as emit-cases-reads
 use Rattle.import_emit.proofs.items.put_slot.Reads as put-slot-reads
 
 -- src/items.rt:64:9
