@@ -1,19 +1,31 @@
 -- What the emitter answers, in the terms of the definitions.
-use mathlib.Core.Path.{_≡_, ap, _∙_}
-use mathlib.Core.List.{List}
-use Prim.Native.Nat.{ℕ, _≤_, _<_}
+use mathlib.Core.Path.{_≡_, ap, _∙_, sym}
+use mathlib.Core.Bool.{true, false}
+use mathlib.Core.List.{List, _++_}
+use Prim.Native.Nat.{ℕ, _+_, _≤_, _<_}
 use native.Mathlib.Omega.{arith}
-use lib.Dec.{ltb, ltb→lt, nltb→le}
-use lib.ListN.{length, take}
-use Rattle.whole.specs.Cases.{by-test}
-use Rattle.theory.specs.Form.{new-form, bytes-in}
+use lib.ListN.{length, take, drop, length-append}
+use lib.Seq.{take-append-seam}
+use Rattle.theory.specs.Listing.{written}
 use Rattle.import_model.specs.Import.{text-most, model-bytes, untouched, import-text}
 use Rattle.import_deliver.specs.Delivered.{delivered}
 use Rattle.import_deliver.specs.laws.Passes.{too-long-model, then-the-model}
 use Rattle.import_judge.specs.laws.Refused.{Sound}
-use Rattle.import_entry.specs.Emits.{Emits}
+use Rattle.import_emit_cases.specs.declared.Emitted.{Emitted}
+use Rattle.import_emit.specs.Items.{Reading, ModelPut}
 
-module _ (w buffer : List ℕ) (s : Sound w) {room : ℕ} {after : List ℕ} {n : ℕ} (m : room ≡ text-most) (k : length after ≡ room) (e : Emits (model-bytes (s .text)) room after n) where
+pub reading-of : (w : List ℕ) → Sound w → Reading w
+reading-of w s = record { text = s .text; bytes = s .bytes; reading = s .reading; within = s .within }
+
+written-start : (out bytes : List ℕ) → take (0 + length bytes) (written out 0 bytes) ≡ bytes
+unfolding written
+written-start out bytes = take-append-seam bytes (drop (0 + length bytes) out)
+
+written-long : (out bytes : List ℕ) → length bytes ≤ length (written out 0 bytes)
+unfolding written
+written-long out bytes = omega (arith, length-append bytes (drop (0 + length bytes) out))
+
+module _ (w buffer : List ℕ) (s : Sound w) {out after : List ℕ} {r : Emitted} (m : length out ≡ text-most) (e : ModelPut w out r after) where
   abbrev B : List ℕ
   B = model-bytes (s .text)
 
@@ -21,15 +33,15 @@ module _ (w buffer : List ℕ) (s : Sound w) {room : ℕ} {after : List ℕ} {n 
   the-model = then-the-model w buffer (s .bytes) (s .text) (s .reading) (s .within)
 
   -- "the model's own refusals follow (10 first)"
-  pub emitted-long : length after < n → untouched buffer 10 0 ≡ import-text w buffer
-  emitted-long h =
-      too-long-model B buffer
-      (by-test (ltb room (length B)) (λ _. bytes-in new-form < length B) (λ t. omega (arith, m, ltb→lt room (length B) t))
-      (λ t. let y = nltb→le room (length B) t in absurd (omega (arith, h, k, e .made y .0, y))))
-      ∙ the-model
+  pub emitted-long : r .full ≡ true → untouched buffer 10 0 ≡ import-text w buffer
+  emitted-long h = too-long-model B buffer (omega (arith, m, e .put (reading-of w s) .longer h)) ∙ the-model
 
-  pub emitted-whole : n ≤ length after → delivered (take n after) buffer ≡ import-text w buffer
+  pub emitted-fits : r .full ≡ false → r .at ≤ length after
+  emitted-fits h =
+      let p = e .put (reading-of w s) .put h in
+      omega (arith, p .behind, ap length (p .left), written-long out B)
+
+  pub emitted-whole : r .full ≡ false → delivered (take (r .at) after) buffer ≡ import-text w buffer
   emitted-whole h =
-      by-test (ltb room (length B)) (λ _. delivered (take n after) buffer ≡ delivered B buffer) (λ t. absurd (omega (arith, h, k, e .long (ltb→lt room (length B) t))))
-      (λ t. ap (λ (l : List ℕ). delivered l buffer) (e .made (nltb→le room (length B) t) .1))
-      ∙ the-model
+      let p = e .put (reading-of w s) .put h in
+      ap (λ (n : ℕ). delivered (take n after) buffer) (p .behind) ∙ ap (λ (l : List ℕ). delivered (take (0 + length B) l) buffer) (p .left) ∙ ap (λ (l : List ℕ). delivered l buffer) (written-start out B) ∙ the-model

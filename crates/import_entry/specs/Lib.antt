@@ -1,2 +1,0 @@
--- what the emitter is to promise
-pub mod Emits
