@@ -12,12 +12,10 @@ use Rattle.import_deliver.specs.Delivered.{delivered}
 use Rattle.import_deliver.specs.laws.Passes.{too-long-model, then-the-model}
 use Rattle.import_judge.specs.laws.Refused.{Sound}
 use Rattle.import_emit_cases.specs.declared.Emitted.{Emitted}
-use Rattle.import_emit.specs.Items.{Reading, ModelPut}
+use Rattle.import_emit_cases.specs.Emitting.{Put}
+use Rattle.import_emit.specs.Items.{ModelPut}
 
-pub reading-of : (w : List ℕ) → Sound w → Reading w
-reading-of w s = record { text = s .text; bytes = s .bytes; reading = s .reading; within = s .within }
-
-written-start : (out bytes : List ℕ) → take (0 + length bytes) (written out 0 bytes) ≡ bytes
+written-start : (out bytes : List ℕ) → take (length bytes) (written out 0 bytes) ≡ bytes
 unfolding written
 written-start out bytes = take-append-seam bytes (drop (0 + length bytes) out)
 
@@ -29,19 +27,20 @@ module _ (w buffer : List ℕ) (s : Sound w) {out after : List ℕ} {r : Emitted
   abbrev B : List ℕ
   B = model-bytes (s .text)
 
+  put : Put out 0 B r after
+  put = e .put (record { text = s .text; bytes = s .bytes; reading = s .reading; within = s .within })
+
   the-model : delivered B buffer ≡ import-text w buffer
   the-model = then-the-model w buffer (s .bytes) (s .text) (s .reading) (s .within)
 
   -- "the model's own refusals follow (10 first)"
   pub emitted-long : r .full ≡ true → untouched buffer 10 0 ≡ import-text w buffer
-  emitted-long h = too-long-model B buffer (omega (arith, m, e .put (reading-of w s) .longer h)) ∙ the-model
+  emitted-long h = too-long-model B buffer (omega (arith, m, put .longer h)) ∙ the-model
 
   pub emitted-fits : r .full ≡ false → r .at ≤ length after
-  emitted-fits h =
-      let p = e .put (reading-of w s) .put h in
-      omega (arith, p .behind, ap length (p .left), written-long out B)
+  emitted-fits h = omega (arith, put .put h .behind, ap (λ (l : List ℕ). length l) (put .put h .left), written-long out B)
 
   pub emitted-whole : r .full ≡ false → delivered (take (r .at) after) buffer ≡ import-text w buffer
   emitted-whole h =
-      let p = e .put (reading-of w s) .put h in
-      ap (λ (n : ℕ). delivered (take n after) buffer) (p .behind) ∙ ap (λ (l : List ℕ). delivered (take (0 + length B) l) buffer) (p .left) ∙ ap (λ (l : List ℕ). delivered l buffer) (written-start out B) ∙ the-model
+      let n : r .at ≡ length B = omega (arith, put .put h .behind) in
+      ap (λ (k : ℕ). delivered (take k after) buffer) n ∙ ap (λ (l : List ℕ). delivered (take (length B) l) buffer) (put .put h .left) ∙ ap (λ (l : List ℕ). delivered l buffer) (written-start out B) ∙ the-model
