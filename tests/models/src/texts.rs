@@ -342,12 +342,20 @@ pub fn long_row() -> Vec<u8> {
     with_reward(&format!("{}C1:forbidden;else:0", "C1&".repeat(room / 3))).into_bytes()
 }
 
-/// The longest row of `&` whose model fits: each & copies a forbidden leaf. No other text is known that an import has more to do
-/// with.
+/// The longest row of `&` whose model fits: each & copies a forbidden leaf.
 pub fn longest_row() -> Vec<u8> {
     let beside = 88 + 37 + 3 + 1;
     let row = vec!["C1"; (MODEL_BYTES - beside) / 3].join("&");
     with_reward(&format!("{row}:0;else:forbidden")).into_bytes()
+}
+
+/// No text of as many bytes is known that an import takes longer for: seven cases copy a row of conditions 128 times, and each
+/// condition that fails there leads over all the white space behind it. As long as a text may be, it takes two minutes.
+pub fn slowest_text(bytes: usize) -> Vec<u8> {
+    let (copies, row) = ("C1&C1:forbidden;".repeat(7), vec!["C1"; 676].join("&"));
+    let result = ":forbidden;else:forbidden";
+    let spaces = " ".repeat(bytes - with_reward(&format!("{copies}{row}{result}")).len());
+    with_reward(&format!("{copies}{row}{spaces}{result}")).into_bytes()
 }
 
 /// 400 actions with usual items, a name each, as one would write them: some 100,000 bytes.
