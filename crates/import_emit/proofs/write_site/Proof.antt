@@ -23,16 +23,16 @@ returns c =
     }
 
 cast-put-site : tie.Need-cast-put-site
-cast-put-site c = omega (arith, site-small _ _ _ (c .before .before .before .header-at .ensures) .levels)
+cast-put-site c = let z = site-small _ _ _ (c .before .before .before .header-at .ensures) in omega arith
 
 cast-put-site-2 : tie.Need-cast-put-site-2
-cast-put-site-2 c = omega (arith, site-small _ _ _ (c .before .before .before .before .header-at .ensures) .conditions)
+cast-put-site-2 c = let z = site-small _ _ _ (c .before .before .before .before .header-at .ensures) in omega arith
 
 cast-put-site-3 : tie.Need-cast-put-site-3
-cast-put-site-3 c = omega (arith, site-small _ _ _ (c .before .before .before .before .before .header-at .ensures) .actions)
+cast-put-site-3 c = let z = site-small _ _ _ (c .before .before .before .before .before .header-at .ensures) in omega arith
 
 cast-put-site-4 : tie.Need-cast-put-site-4
-cast-put-site-4 c = omega (arith, site-small _ _ _ (c .before .before .before .before .before .before .header-at .ensures) .weights)
+cast-put-site-4 c = let z = site-small _ _ _ (c .before .before .before .before .before .before .header-at .ensures) in omega arith
 
 put-site-requires : tie.Need-put-site-requires
 put-site-requires c κs =
