@@ -2,25 +2,23 @@
 use mathlib.Core.Path.{_≡_, refl, sym, ap, _∙_}
 use mathlib.Core.Bool.{true, false}
 use mathlib.Core.List.{List, [], _∷_, _++_, append-assoc}
-use Prim.Native.Nat.{ℕ, _+_, _≤_, _<_}
-use native.Mathlib.Omega.{arith}
-use lib.ListN.{length, drop, length-append}
+use Prim.Native.Nat.{ℕ, _≤_, _<_}
+use lib.ListN.{length}
 use Rattle.theory.specs.Command.{Command, end-model}
 use Rattle.import_grammar.specs.Grammar.{Spaces}
 use Rattle.text_decimal.specs.Put.{PutAt}
 use Rattle.text_decimal.proofs.Puts.{none, then, rename}
 use Rattle.import_model.specs.Encode.{command-bytes, encode}
 use Rattle.import_model.specs.Import.{model-bytes}
-use Rattle.import_model.specs.Commands.{text-commands}
 use Rattle.import_parts.specs.Parts.{Part, site-command, part-commands, parts-commands, Walked}
-use Rattle.import_parts.specs.laws.Order.{text-parts, text-site, text-end, text-commands-order}
+use Rattle.import_parts.specs.laws.Order.{text-parts, text-site, text-commands-order}
 use Rattle.import_parts.specs.laws.Within.{parts-within}
 use Rattle.import_parts.specs.laws.Walks.{walk-on, walk-ended, walk-not-ended}
 use Rattle.import_emit_cases.specs.Emitting.{Put}
-use Rattle.import_emit.specs.Items.{Comes, Buffers, PartAt, PartPut, PartsAt, PartsPut, CommandPut, Reading}
+use Rattle.import_emit.specs.Items.{Comes, Buffers, PartAt, PartPut, PartsAt, CommandPut, Reading}
 use Rattle.import_emit_cases.specs.declared.Emitted.{Emitted}
 use Rattle.import_emit.specs.declared.items.Passed.{Passed}
-use Rattle.import_emit.proofs.Puts.{encode-append, encode-one, encode-more, inside, fits-not, put-as, full-before, behind}
+use Rattle.import_emit.proofs.Puts.{encode-append, encode-more, inside, put-as, full-before, behind}
 use Rattle.import_emit.proofs.Part.{as-walked}
 
 -- the bytes of a whole text: its site's, then those of its parts and the end

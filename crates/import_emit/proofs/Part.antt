@@ -3,29 +3,28 @@ use mathlib.Core.Path.{_≡_, refl, sym, ap, _∙_, subst}
 use mathlib.Core.Bool.{Bool, true, false}
 use mathlib.Core.List.{List, [], _∷_, _++_}
 use Prim.Native.Nat.{ℕ, zero, suc, _+_, _*_, _-_, _≤_, _<_}
-use native.Mathlib.Numerals.{add-one}
 use native.Mathlib.Omega.{arith}
 use borrow.Author.Tests.{eqb-true, eqb-false}
-use lib.Dec.{eqb, ltb, ltb→lt, nltb→le}
+use lib.Dec.{eqb, ltb, nltb→le}
 use lib.ListN.{length, drop, getD, set, length-set}
 use lib.Seq.{getD-set-same, getD-set-other, ext-getD}
 use Rattle.whole.specs.Cases.{if, by-test}
 use Rattle.theory.specs.Widths.{name-bytes}
-use Rattle.theory.specs.Command.{Command, give, Slot, name-action, end-model, site}
-use Rattle.import_grammar.specs.Grammar.{Spaces, Digits, Result, Chars, Opening as OpeningOf, reward, chance, next, end, Before, Text, text-bytes}
+use Rattle.theory.specs.Command.{give, Slot, name-action, end-model, site}
+use Rattle.import_grammar.specs.Grammar.{Spaces, Opening as OpeningOf, reward, chance, next, end}
 use Rattle.import_grammar.specs.Reader.{is-blank}
 use Rattle.import_model.specs.Commands.{at-most, byte-most, action-most, action-of, letters, filled, result-command}
 use Rattle.import_model.specs.Encode.{command-bytes, encode}
 use Rattle.import_found.specs.Places.{Emits, go}
 use Rattle.import_found.specs.laws.Found.{opening-of, cases-commands}
-use Rattle.import_parts.specs.Parts.{Part, item, name, site-command, slot-of, part-commands, parts-commands, from-letter, Walked}
+use Rattle.import_parts.specs.Parts.{Part, item, name, site-command, slot-of, part-commands, parts-commands, Walked}
 use Rattle.import_parts.specs.Walk.{past, goes-on, grown, number-value, setting-value, setting-rest, kind-in, word-of, action-in, slot-in, item-rest, name-byte, name-rest}
 use Rattle.import_parts.specs.laws.Order.{text-parts, text-site, text-end}
-use Rattle.import_parts.specs.laws.Within.{part-within, parts-within, text-within}
+use Rattle.import_parts.specs.laws.Within.{text-within}
 use Rattle.import_parts.specs.laws.Walks.{item-walked, name-walked}
 use Rattle.import_walk.specs.Onward.{Onward}
 use Rattle.import_walk.specs.Answers.{SiteAt, OpeningAt, slot-said}
-use Rattle.import_walk.specs.Steps.{SiteStep, site-step, ItemStep, item-step, NameStep, name-step}
+use Rattle.import_walk.specs.Steps.{site-step, item-step, name-step}
 use Rattle.import_walk.specs.declared.opening.Opening.{Opening}
 use Rattle.import_walk.specs.declared.site.Site.{Site}
 use Rattle.import_emit_cases.specs.Emitting.{Put, Begins, Emitting}
@@ -112,6 +111,13 @@ item-kind (reward I p q ds r) e = let z : _≡_ {A = ℕ} 0x20 0x30 = e in omega
 item-kind (chance I p q ds r i t) e = let z : _≡_ {A = ℕ} 0x21 0x30 = e in omega arith
 item-kind (next I p q ds r i t) e = let z : _≡_ {A = ℕ} 0x22 0x30 = e in omega arith
 item-kind (end I p t) e = let z : _≡_ {A = ℕ} 0x23 0x30 = e in omega arith
+
+-- behind an item the walk is further on
+pub further-on : {w l : List ℕ} {from to : ℕ} {o : Opening} → OpeningAt w from o → Onward w (o .next) to l → from < length w → from < to
+further-on a b h =
+    let m = a .moves h in
+    let n = b .on in
+    omega (arith, m, n)
 
 -- the walk that has all of these parts before it
 pub as-walked : (w : List ℕ) (from : ℕ) (P : List Part) (e : Spaces) → Comes w from P e → Walked w (parts-commands P ++ (end-model ∷ [])) from [] P e

@@ -9,7 +9,7 @@ use lib.Seq.{length-take-le}
 use Rattle.theory.specs.Listing.{written}
 use Rattle.theory.specs.Command.{Command}
 use Rattle.text_decimal.specs.Put.{PutAt}
-use Rattle.text_decimal.proofs.Puts.{then, rename}
+use Rattle.text_decimal.proofs.Puts.{then}
 use Rattle.import_model.specs.Encode.{command-bytes, encode}
 use Rattle.import_emit_cases.specs.Emitting.{Put}
 use Rattle.import_emit_cases.specs.declared.Emitted.{Emitted}

@@ -1,39 +1,33 @@
-use Rattle.import_emit.proofs.Puts.{fits, fits-not}
-use native.Mathlib.Omega.{arith}
+-- `import_emit::items::put_slot` meets its contract.
 use mathlib.Core.Path.{refl}
+use native.Mathlib.Omega.{arith}
 use borrow.Author.Needs.{needs}
+use Rattle.import_emit.proofs.Puts.{fits, fits-not}
 use Rattle.import_emit.proofs.items.put_slot.Statement.{statement}
 use Rattle.import_emit.proofs.items.put_slot.Tie as tie
-use Rattle.import_emit.proofs.items.put_slot.Reads as reads
-use Rattle.import_emit.proofs.items.put_slot.Lts as lts
-use Rattle.import_emit.proofs.items.slot_len.Reads as slot-len-reads
-use Rattle.import_write.proofs.put_given.Reads as put-given-reads
 
--- src/items.rt:49:9
 slot-len-requires : tie.Need-slot-len-requires
 slot-len-requires c κs = search needs
 
--- src/items.rt:50:8
 sub-if1 : tie.Need-sub-if1
 sub-if1 c = search needs
 
--- src/items.rt:51:9
 returns : tie.Need-returns
-returns c = record { same = refl; put = fits-not refl (omega (arith, c .before .slot-len .ensures (c .before .before .before .args .o .action) (c .before .before .before .args .o .index), c .if1 .taken)) }
+returns c =
+    let o = c .before .before .before .args .o in
+    record { same = refl; put = fits-not refl (omega (arith, c .before .slot-len .ensures (o .action) (o .index), c .if1 .taken)) }
 
--- src/items.rt:53:45
 cast-put-given : tie.Need-cast-put-given
 cast-put-given c = search needs
 
--- src/items.rt:53:9
 put-given-requires : tie.Need-put-given-requires
-put-given-requires c κs = omega (arith, c .before .before .before .slot-len .ensures (c .before .before .before .before .before .args .o .action) (c .before .before .before .before .before .args .o .index), c .before .before .if1 .left, c .before .before .before .before .before .pre .room)
+put-given-requires c κs =
+    let s = c .before .before .before .before .before in
+    omega (arith, c .before .before .before .slot-len .ensures (s .args .o .action) (s .args .o .index), c .before .before .if1 .left, s .pre .room)
 
--- src/items.rt:45:1
 same-length : tie.Need-same-length
 same-length c = search needs
 
--- src/items.rt:45:1
 returns-2 : tie.Need-returns-2
 returns-2 c = record { same = c .before .before .put-given .kept .0; put = fits refl (c .before .before .put-given .ensures) }
 
