@@ -101,11 +101,13 @@ pub(crate) fn end_worth(model: &Model, state: &State) -> i128 {
 }
 
 /// A reward, times D; nothing where it is forbidden.
+#[inline(always)]
 pub(crate) fn reward(model: &Model, action: usize, state: &State) -> Option<i128> {
     leaf(model, model.reward(action), state, 0).map(|linear| at(linear, &state.nums[..model.site.m], state.d))
 }
 
 /// The weights for yes of an action at a state.
+#[inline(always)]
 pub(crate) fn chances(model: &Model, action: usize, state: &State) -> [i64; CONDITIONS] {
     let mut chances = [0; CONDITIONS];
     for (yes, &chance) in chances.iter_mut().zip(model.chances(action)) {
@@ -115,6 +117,7 @@ pub(crate) fn chances(model: &Model, action: usize, state: &State) -> [i64; COND
 }
 
 /// The next state under an action and a setting of the next conditions, if its numerators have 32 bits.
+#[inline(always)]
 pub(crate) fn next_state(model: &Model, action: usize, state: &State, setting: u32) -> Option<State> {
     let mut next = State { mask: setting, nums: [0; LEVELS], d: state.d };
     for (num, &level) in next.nums.iter_mut().zip(model.nexts(action)) {
@@ -124,12 +127,14 @@ pub(crate) fn next_state(model: &Model, action: usize, state: &State, setting: u
 }
 
 /// A setting's weight, of the weights for yes.
+#[inline(always)]
 pub(crate) fn weight(model: &Model, chances: &[i64; CONDITIONS], setting: u32) -> i64 {
     let one = |(i, &yes): (usize, &i64)| if setting >> i & 1 == 1 { yes } else { model.site.w - yes };
     chances[..model.site.n].iter().enumerate().map(one).product()
 }
 
 /// The leaf of a written diagram for a state and a setting of the next conditions; nothing where it is forbidden.
+#[inline(always)]
 pub(crate) fn leaf<'a>(model: &'a Model, mut tree: u32, state: &State, setting: u32) -> Option<&'a [i64; NUMBERS]> {
     let nums = &state.nums[..model.site.m];
     loop {
@@ -147,11 +152,13 @@ pub(crate) fn leaf<'a>(model: &'a Model, mut tree: u32, state: &State, setting: 
 }
 
 /// That of a chance, a next level or an end worth, which has no forbidden one.
+#[inline(always)]
 fn linear<'a>(model: &'a Model, tree: u32, state: &State, setting: u32) -> &'a [i64; NUMBERS] {
     leaf(model, tree, state, setting).expect("forbidden leaves stand in rewards only")
 }
 
 /// Its value, times D.
+#[inline(always)]
 pub(crate) fn evaluate(model: &Model, tree: u32, state: &State, setting: u32) -> i128 {
     at(linear(model, tree, state, setting), &state.nums[..model.site.m], state.d)
 }
