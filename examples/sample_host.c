@@ -1,10 +1,12 @@
 /* A host: solves a model file, an old one too, and says what to do in one state, and the whole plan.
  *
  *   sample_host MODEL HORIZON NODES [--page] MASK L1 .. D
+ *   sample_host --text
  *
  * L1 .. are the numerators of one level or more; those that are left out are 0. Prints the peak, the value and the action with
  * HORIZON steps left, or that it is none, the action that its name leads back to, then the listing; with --page the state's
- * page and nothing else; a refusal as `R number place`.
+ * page and nothing else; a refusal as `R number place`. With --text the model is a text that stands below, and what is printed
+ * is what the calls say that go beyond a plan: planner_import, planner_prune, planner_sure, planner_total.
  */
 #define _POSIX_C_SOURCE 200809L
 
@@ -19,6 +21,15 @@
 
 /* No line of a listing is longer: nine numbers of 20 characters, and less than 48 for all else. */
 #define LINE_BYTES_MOST ((size_t)(48 + 21 * (PLANNER_LEVELS_MOST + 1)))
+
+/* Two tanks. Pumping pays by how full they are, resting nothing, and neither moves any water. */
+static const char TANKS[] = "site m=2 n=0 A=2 W=1\n"
+                            "name 1 \"Pump\"\n"
+                            "reward 1 = L1 + L2 <= 0 : 1 ; L1 <= 0 : 2 ; L2 <= 0 : 3 ; else : 4\n"
+                            "next 1 L1 = else : L1   next 1 L2 = else : L2\n"
+                            "name 2 \"Rest\"\n"
+                            "reward 2 = else : 0\n"
+                            "next 2 L1 = else : L1   next 2 L2 = else : L2\n";
 
 typedef struct plan {
     uint8_t *model;
@@ -88,6 +99,19 @@ static void renew(plan *p)
     p->model_len = (size_t)number_at(out + 4, 4);
 }
 
+/* Runs a call on a thread of its own, with the stack that it needs. */
+static void run(void *(*call)(void *), plan *p, size_t stack)
+{
+    pthread_attr_t attributes;
+    pthread_t thread;
+    if (pthread_attr_init(&attributes) != 0 || pthread_attr_setstacksize(&attributes, stack) != 0
+        || pthread_create(&thread, &attributes, call, p) != 0 || pthread_join(thread, NULL) != 0)
+        fail("cannot run a thread with the stack that a call needs");
+    pthread_attr_destroy(&attributes);
+    if (p->number != 0)
+        refused(p->number, p->out);
+}
+
 static void *solve_here(void *argument)
 {
     plan *p = argument;
@@ -97,20 +121,11 @@ static void *solve_here(void *argument)
     return NULL;
 }
 
-/* On a thread of its own, with the stack that so many nodes need. */
 static void solve(plan *p)
 {
-    pthread_attr_t attributes;
-    pthread_t thread;
     p->nodes = lent(PLANNER_NODE_WORDS(p->capacity), sizeof *p->nodes);
     p->work = lent(PLANNER_WORK_WORDS(p->capacity), sizeof *p->work);
-    if (pthread_attr_init(&attributes) != 0
-        || pthread_attr_setstacksize(&attributes, PLANNER_STACK_BYTES(p->capacity)) != 0
-        || pthread_create(&thread, &attributes, solve_here, p) != 0 || pthread_join(thread, NULL) != 0)
-        fail("cannot run a thread with the stack that solving needs");
-    pthread_attr_destroy(&attributes);
-    if (p->number != 0)
-        refused(p->number, p->out);
+    run(solve_here, p, PLANNER_STACK_BYTES(p->capacity));
 }
 
 /* The peak, which is the largest word of the peaks, and who needs so many nodes: loading, or the first action that does. */
@@ -219,6 +234,74 @@ static void print_page(const plan *p, const struct planner_state *state)
     fwrite(text, 1, (size_t)number_at(out + 4, 4), stdout);
 }
 
+static void *import_here(void *argument)
+{
+    plan *p = argument;
+    p->number = planner_import((const uint8_t *)TANKS, sizeof TANKS - 1, p->model, PLANNER_MODEL_BYTES_MOST, p->out,
+                               PLANNER_IMPORT_BYTES);
+    p->model_len = (size_t)number_at(p->out + 4, 4);
+    return NULL;
+}
+
+/* The plan asks L2 <= 0, then L1 <= 0, then L1 + L2 <= 0: on the path low, low, high -L2 < 0, -L1 < 0 and L1 + L2 <= 0, each
+ * taken once, add up to 0 < 0, so that no state takes it. */
+static void *cut_off_here(void *argument)
+{
+    static const uint8_t turns[] = {0, 0, 1};
+    static const int32_t multipliers[] = {1, 1, 1};
+    plan *p = argument;
+    p->number = planner_prune(p->model, p->model_len, p->nodes, PLANNER_NODE_WORDS(p->capacity), p->stages,
+                              PLANNER_STAGE_WORDS, p->work, PLANNER_WORK_WORDS(p->capacity), p->horizon, turns,
+                              sizeof turns, multipliers, sizeof multipliers / sizeof *multipliers, p->out,
+                              PLANNER_PRUNE_BYTES);
+    return NULL;
+}
+
+/* Whether the best action stays best, whatever rewards differ by at most so much. */
+static void print_sure(const plan *p, const struct planner_state *state, int32_t change)
+{
+    uint8_t out[PLANNER_SURE_BYTES];
+    uint32_t number = planner_sure_at(p->model, p->model_len, p->horizon, state, change, out, sizeof out);
+    if (number != 0)
+        refused(number, out);
+    printf("rewards differ by at most %" PRId32 ": %s\n", change, number_at(out + 4, 4) != 0 ? "sure" : "not sure");
+}
+
+/* The site at one state and the same site at another, as two that share no water. */
+static void print_total(const plan *p, const struct planner_state *first, const struct planner_state *second)
+{
+    uint8_t out[PLANNER_TOTAL_BYTES];
+    size_t words = PLANNER_NODE_WORDS(p->capacity);
+    uint32_t number = planner_total_at(p->model, p->model_len, p->nodes, words, p->stages, PLANNER_STAGE_WORDS, first,
+                                       p->model, p->model_len, p->nodes, words, p->stages, PLANNER_STAGE_WORDS, second,
+                                       p->horizon, out, sizeof out);
+    if (number != 0)
+        refused(number, out);
+    printf("two sites: actions %" PRIu64 " and %" PRIu64 ", total ", number_at(out + 4, 4), number_at(out + 8, 4));
+    print_words(number_at(out + 12, 8), number_at(out + 20, 8));
+    printf(" / %" PRId32 "\n", first->denominator);
+}
+
+/* The text above: imported, solved for one step, and asked about two states. Its W is 1. */
+static void print_tanks(plan *p)
+{
+    struct planner_state full = {0, {5, 5}, 1}, empty = {0, {-5, -5}, 1};
+    p->model = lent(PLANNER_MODEL_BYTES_MOST, 1);
+    run(import_here, p, PLANNER_IMPORT_STACK_BYTES);
+    printf("imported, %zu bytes\n", p->model_len);
+    p->horizon = 1;
+    p->capacity = 64;
+    solve(p);
+    printf("the plan has %" PRIu32 " nodes", p->stages[0]);
+    run(cut_off_here, p, PLANNER_STACK_BYTES(p->capacity));
+    printf(", and %" PRIu32 " once a path is cut off\n", p->stages[0]);
+    print_plan(p);
+    print_value(p, &full);
+    print_sure(p, &full, 1);
+    print_sure(p, &full, 2);
+    print_total(p, &full, &empty);
+}
+
 static long long argument(const char *text, long long least, long long most)
 {
     char *end;
@@ -233,7 +316,7 @@ static struct planner_state state_of(int count, char **arguments)
 {
     struct planner_state state = {0, {0}, 0};
     if (count < 3 || count > PLANNER_LEVELS_MOST + 2)
-        fail("usage: sample_host MODEL HORIZON NODES [--page] MASK L1 .. D");
+        fail("usage: sample_host MODEL HORIZON NODES [--page] MASK L1 .. D, or sample_host --text");
     state.mask = (uint32_t)argument(arguments[0], 0, UINT32_MAX);
     for (int i = 0; i < count - 2; i++)
         state.level[i] = (int32_t)argument(arguments[1 + i], INT32_MIN, INT32_MAX);
@@ -241,25 +324,34 @@ static struct planner_state state_of(int count, char **arguments)
     return state;
 }
 
+/* The model of a file, solved. */
+static void print_file(plan *p, int count, char **arguments)
+{
+    int page = count > 4 && strcmp(arguments[4], "--page") == 0, first = 4 + page;
+    struct planner_state state = state_of(count - first, arguments + first);
+    load(p, arguments[1]);
+    if (p->model_len > 0 && p->model[0] == 0x01)
+        renew(p);
+    p->horizon = (uint32_t)argument(arguments[2], 0, UINT32_MAX);
+    p->capacity = (size_t)argument(arguments[3], 0, PLANNER_NODES_MOST);
+    solve(p);
+    if (page) {
+        print_page(p, &state);
+    } else {
+        print_peak(p);
+        print_value(p, &state);
+        print_plan(p);
+    }
+}
+
 int main(int count, char **arguments)
 {
     plan p;
-    int page = count > 4 && strcmp(arguments[4], "--page") == 0, first = 4 + page;
-    struct planner_state state = state_of(count - first, arguments + first);
     memset(&p, 0, sizeof p);
-    load(&p, arguments[1]);
-    if (p.model_len > 0 && p.model[0] == 0x01)
-        renew(&p);
-    p.horizon = (uint32_t)argument(arguments[2], 0, UINT32_MAX);
-    p.capacity = (size_t)argument(arguments[3], 0, PLANNER_NODES_MOST);
-    solve(&p);
-    if (page) {
-        print_page(&p, &state);
-    } else {
-        print_peak(&p);
-        print_value(&p, &state);
-        print_plan(&p);
-    }
+    if (count == 2 && strcmp(arguments[1], "--text") == 0)
+        print_tanks(&p);
+    else
+        print_file(&p, count, arguments);
     free(p.model);
     free(p.nodes);
     free(p.work);

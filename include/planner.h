@@ -10,7 +10,7 @@
  *
  *  1 to 8  the model is refused; place is an offset in it
  *  9       horizon, steps or stage not 1 to 8
- * 10       stage words not eight, peaks not 401, a model above 262,144 bytes, or an old one above 65,535
+ * 10       stage words not eight, peaks not 401, a model or a text above 262,144 bytes, or an old one above 65,535
  * 11       a number leaves its limits; place is the stage, 0 while loading
  * 12       the tables are too small; place is the stage, 0 while loading
  * 13       the state is not one of the model's
@@ -24,6 +24,8 @@
  * 21       the multipliers do not show that no state takes the path
  * 22       the path is empty, has a byte other than 0 and 1 or leaves the diagram, or has not a multiplier for each test
  * 23       the change of rewards is below zero
+ * 24       the text is not one of the grammar; place is the offset of the first byte that no text can have there, or the length
+ * 25       a number of the text is beyond signed 32 bits
  * 26       two sites whose weight totals W or whose states' denominators differ
  */
 #ifndef PLANNER_H
@@ -68,6 +70,7 @@ extern "C" {
 #define PLANNER_PAGE_BYTES ((size_t)8)
 #define PLANNER_TO_NEW_BYTES ((size_t)8)
 #define PLANNER_TO_OLD_BYTES ((size_t)8)
+#define PLANNER_IMPORT_BYTES ((size_t)8)
 #define PLANNER_PRUNE_BYTES ((size_t)4)
 #define PLANNER_SURE_BYTES ((size_t)8)
 
@@ -81,6 +84,11 @@ extern "C" {
 #define PLANNER_STACK_BYTES_A_NODE ((size_t)2816)
 #define PLANNER_STACK_BYTES_BESIDE ((size_t)65536)
 #define PLANNER_STACK_BYTES(nodes) (PLANNER_STACK_BYTES_BESIDE + PLANNER_STACK_BYTES_A_NODE * (size_t)(nodes))
+
+/* The stack that a thread needs to import a text, whatever the text: 262,144 bytes for the model, until every refusal is out,
+ * 1,048,576 for a list of the questions on the way to a result, and the frames of the calls, those of up to 33 brackets too.
+ * planner_prune needs what planner_solve does; every other call does with PLANNER_STACK_BYTES_BESIDE. */
+#define PLANNER_IMPORT_STACK_BYTES ((size_t)1376256)
 
 /* A state: bit i - 1 of mask is condition i; the levels' numerators, those beyond the site's levels zero, and their
  * denominator. Each function of a state has one with the suffix _at that takes it so. */
@@ -207,6 +215,13 @@ uint32_t planner_to_new(const uint8_t *old, size_t old_len, uint8_t *buffer, siz
 /* New into old; planner_to_new then gives the same bytes again. Refusals in order: 10 for a model above 262,144 bytes; 1 to 8;
  * 20 where it does not fit the old form; 17. */
 uint32_t planner_to_old(const uint8_t *model, size_t model_len, uint8_t *buffer, size_t buffer_len,
+                        uint8_t *out, size_t out_len);
+
+/* The model of a text (K13), written to the start of `buffer`; docs/TEXT-MODELS.md has the grammar and the commands that a text
+ * becomes. Answer: place u32 of a refusal; length u32 of what was written. A refusal leaves `buffer` as it is, and no byte behind
+ * the model is touched. Refusals in order: 10 for a text above 262,144 bytes; 24, whose place is an offset in the text; 25; then of
+ * the model that it becomes 10, and 1 to 8 by the model's offsets; 17. The stack is PLANNER_IMPORT_STACK_BYTES. */
+uint32_t planner_import(const uint8_t *text, size_t text_len, uint8_t *buffer, size_t buffer_len,
                         uint8_t *out, size_t out_len);
 
 /* Cuts a path that no state can take off the diagram of a stage, 1 to 8, in tables that planner_solve filled. `turns` has a

@@ -17,9 +17,11 @@ usage: ./plan MODEL HORIZON [--nodes N]                   the plan of a site, as
                                                           two sites that share nothing: both actions, one total
        ./plan --to-new OLD NEW                            a model of the old form, which begins with 01, made new
        ./plan --to-old NEW OLD                            and the way back
+       ./plan --import TEXT MODEL                         the bytes of a model that is written as text
        ./plan VERB --help                                 more about a verb
 
-HORIZON is the number of steps, 1 to 8.
+HORIZON is the number of steps, 1 to 8. MODEL is a file with a model's bytes, or with a model written as text, which begins
+with the word 'site' (docs/TEXT-MODELS.md).
 
   --at \"L1=39/2 C1\"   the state: levels as 12, -3/4 or 19.5 (0 if not named), C1 for a condition that holds, !C1 for one
                       that does not (as if not named)
@@ -119,6 +121,14 @@ usage: ./plan --to-old NEW OLD [--raw]
 Writes the model of the file NEW to the file OLD in the old form, for a unit that reads no other. Refused with 20 if the
 model does not fit that form: more than 4 levels, more than 8 actions, more than 65,535 bytes once written, or a forbidden
 leaf (13). A file OLD that is there already stays as it is.
+";
+
+pub const IMPORT: &str = "\
+usage: ./plan --import TEXT MODEL [--raw]
+
+Writes the bytes of the model that the file TEXT has as text to the file MODEL. A text outside the grammar is refused with 24,
+and the line and column of the first byte that no text can have there are shown. A file MODEL that is there already stays as it
+is. All other verbs read a text as well, wherever they read a model.
 ";
 
 pub const PICTURE: &str = "\

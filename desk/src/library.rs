@@ -2,8 +2,8 @@
 
 use crate::state::State;
 use crate::widths::{
-    refusal, NAME_BYTES, OLD_MODEL_BYTES_MOST, PAIR_BYTES, PEAK_WORDS, PRUNE_BYTES, STAGE_WORDS, TOTAL_BYTES,
-    TO_NEW_MODEL_BYTES, VALUE_BYTES,
+    refusal, MODEL_BYTES_MOST, NAME_BYTES, OLD_MODEL_BYTES_MOST, PAIR_BYTES, PEAK_WORDS, PRUNE_BYTES, STAGE_WORDS,
+    TOTAL_BYTES, TO_NEW_MODEL_BYTES, VALUE_BYTES,
 };
 
 /// A refusal: its number and its place.
@@ -61,6 +61,9 @@ extern "C" {
     ) -> u32;
     fn planner_to_old(
         model: Bytes, model_len: usize, buffer: *mut u8, buffer_len: usize, out: Answer, out_len: usize,
+    ) -> u32;
+    fn planner_import(
+        text: Bytes, text_len: usize, buffer: *mut u8, buffer_len: usize, out: Answer, out_len: usize,
     ) -> u32;
     fn planner_prune(
         model: Bytes, model_len: usize, nodes: *mut i64, node_words: usize, stages: *mut u32, stage_words: usize,
@@ -223,6 +226,11 @@ pub fn to_new(old: &[u8]) -> Result<Vec<u8>, Refusal> {
 /// A model in the old form.
 pub fn to_old(model: &[u8]) -> Result<Vec<u8>, Refusal> {
     converted(planner_to_old, model, OLD_MODEL_BYTES_MOST)
+}
+
+/// The model that a text becomes.
+pub fn import(text: &[u8]) -> Result<Vec<u8>, Refusal> {
+    converted(planner_import, text, MODEL_BYTES_MOST)
 }
 
 /// Cuts a path off the diagram of a stage.

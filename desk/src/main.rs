@@ -5,6 +5,7 @@ mod arguments;
 mod certificate;
 mod fraction;
 mod help;
+mod importing;
 mod lead;
 mod library;
 mod model;

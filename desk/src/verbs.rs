@@ -11,7 +11,7 @@ use crate::refusals::{explain, Subject};
 use crate::solved::{Solved, Unsolved};
 use crate::state::{Given, State};
 use crate::widths::{LEVELS, LOADING, MODEL_BYTES_MOST, NODES_MOST, NO_ACTION};
-use crate::{help, show, text, words, Failure};
+use crate::{help, importing, show, text, words, Failure};
 use std::io::{Read, Write};
 use std::time::{Duration, Instant};
 
@@ -29,6 +29,7 @@ pub fn run(given: &[String], out: &mut Vec<u8>) -> Done {
         "picture" => verb(rest, &PICTURE_OPTIONS, help::PICTURE, out, picture),
         "--to-new" => verb(rest, &["--raw"], help::TO_NEW, out, to_new),
         "--to-old" => verb(rest, &["--raw"], help::TO_OLD, out, to_old),
+        "--import" => verb(rest, &["--raw"], help::IMPORT, out, import),
         "--peaks" => verb(rest, &["--nodes", "--raw"], help::PEAKS, out, peaks),
         "prune" | "--prune" => verb(rest, &PRUNE_OPTIONS, help::PRUNE, out, prune),
         "--sure" => verb(rest, &["--at", "--raw"], help::SURE, out, sure),
@@ -78,28 +79,42 @@ fn load(path: &str) -> Result<Vec<u8>, Failure> {
     read.map(|_| model).map_err(|error| Failure::Around(format!("cannot read {path}: {error}")))
 }
 
+/// The model of a file, in bytes or written as text.
+fn load_model(path: &str, arguments: &Arguments, out: &mut Vec<u8>) -> Result<Vec<u8>, Failure> {
+    let file = load(path)?;
+    if !importing::is_text(&file) {
+        return Ok(file);
+    }
+    library::import(&file)
+        .map_err(|refused| refuse_with(arguments, refused, out, || importing::explain(refused, path, &file)))
+}
+
 /// The refusal as the call wants it.
 fn refuse(arguments: &Arguments, refused: Refusal, subject: &Subject, out: &mut Vec<u8>) -> Failure {
+    refuse_with(arguments, refused, out, || explain(refused, subject))
+}
+
+fn refuse_with(arguments: &Arguments, refused: Refusal, out: &mut Vec<u8>, words: impl FnOnce() -> String) -> Failure {
     if arguments.raw {
         out.extend(format!("R {} {}\n", refused.number, refused.place).into_bytes());
         return Failure::Raw;
     }
-    Failure::Refused(explain(refused, subject))
+    Failure::Refused(words())
 }
 
 fn subject<'a>(path: &'a str, model: &'a [u8]) -> Subject<'a> {
     Subject { path, model: Model::new(model), nodes: None, state: None }
 }
 
-fn one_model(arguments: &Arguments) -> Result<(&str, Vec<u8>), Failure> {
+fn one_model<'a>(arguments: &'a Arguments, out: &mut Vec<u8>) -> Result<(&'a str, Vec<u8>), Failure> {
     match arguments.words.as_slice() {
-        [path] => Ok((path, load(path)?)),
+        [path] => Ok((path, load_model(path, arguments, out)?)),
         _ => Err(usage("one model is needed")),
     }
 }
 
 fn check(arguments: &Arguments, out: &mut Vec<u8>) -> Done {
-    let (path, model) = one_model(arguments)?;
+    let (path, model) = one_model(arguments, out)?;
     library::validate(&model).map_err(|refused| refuse(arguments, refused, &subject(path, &model), out))?;
     if arguments.raw {
         out.extend(b"R 0 0\n");
@@ -111,7 +126,7 @@ fn check(arguments: &Arguments, out: &mut Vec<u8>) -> Done {
 }
 
 fn show(arguments: &Arguments, out: &mut Vec<u8>) -> Done {
-    let (path, model) = one_model(arguments)?;
+    let (path, model) = one_model(arguments, out)?;
     if arguments.text {
         library::validate(&model).map_err(|refused| refuse(arguments, refused, &subject(path, &model), out))?;
         let text = text::text(&Written::read(Model::new(&model)));
@@ -125,7 +140,7 @@ fn show(arguments: &Arguments, out: &mut Vec<u8>) -> Done {
 #[cfg(planner_find)]
 fn find(arguments: &Arguments, out: &mut Vec<u8>) -> Done {
     let [path, name] = arguments.words.as_slice() else { return Err(usage("a model and a name are needed")) };
-    let model = load(path)?;
+    let model = load_model(path, arguments, out)?;
     let found = library::find(&model, name.as_bytes());
     let action = found.map_err(|refused| refuse(arguments, refused, &subject(path, &model), out))?;
     out.extend(format!("{action}\n").bytes());
@@ -151,8 +166,19 @@ fn to_old(arguments: &Arguments, out: &mut Vec<u8>) -> Done {
     let [from, to] = arguments.words.as_slice() else {
         return Err(usage("a model and a file for the old one are needed"));
     };
-    let model = load(from)?;
+    let model = load_model(from, arguments, out)?;
     let written = library::to_old(&model).map_err(|refused| refuse(arguments, refused, &subject(from, &model), out))?;
+    keep(to, &written, out)
+}
+
+/// The bytes that a text becomes.
+fn import(arguments: &Arguments, out: &mut Vec<u8>) -> Done {
+    let [from, to] = arguments.words.as_slice() else {
+        return Err(usage("a text and a file for its model are needed"));
+    };
+    let text = load(from)?;
+    let written = library::import(&text)
+        .map_err(|refused| refuse_with(arguments, refused, out, || importing::explain(refused, from, &text)))?;
     keep(to, &written, out)
 }
 
@@ -183,13 +209,13 @@ pub struct Asked<'a> {
 }
 
 impl<'a> Asked<'a> {
-    pub fn read(arguments: &'a Arguments) -> Result<Asked<'a>, Failure> {
+    pub fn read(arguments: &'a Arguments, out: &mut Vec<u8>) -> Result<Asked<'a>, Failure> {
         let [path, horizon, ..] = arguments.words.as_slice() else {
             return Err(usage("a model and a horizon are needed"));
         };
         let horizon =
             horizon.parse().map_err(|_| Failure::Usage(format!("the horizon '{horizon}' is no number of steps")))?;
-        Ok(Asked { arguments, path, model: load(path)?, horizon })
+        Ok(Asked { arguments, path, model: load_model(path, arguments, out)?, horizon })
     }
 
     pub fn solve(&self, state: Option<&State>, out: &mut Vec<u8>) -> Result<Solved<'_>, Failure> {
@@ -230,7 +256,7 @@ fn state(arguments: &Arguments, numbers: &[String], model: &[u8]) -> Result<Opti
 }
 
 fn plan(arguments: &Arguments, out: &mut Vec<u8>) -> Done {
-    let asked = Asked::read(arguments)?;
+    let asked = Asked::read(arguments, out)?;
     let state = state(arguments, &arguments.words[2..], &asked.model)?;
     if arguments.page && state.is_none() {
         return Err(usage("--page is for a state: --at STATE"));
@@ -287,7 +313,7 @@ fn two(arguments: &Arguments, out: &mut Vec<u8>) -> Done {
         return Err(usage("two models and a number of steps are needed"));
     };
     let steps: u32 = steps.parse().map_err(|_| Failure::Usage(format!("'{steps}' is no number of steps")))?;
-    let asked = |path| Ok(Asked { arguments, path, model: load(path)?, horizon: steps });
+    let mut asked = |path| Ok(Asked { arguments, path, model: load_model(path, arguments, out)?, horizon: steps });
     let (first, second) = (asked(one)?, asked(other)?);
     let state = |at: &Option<String>| Given::read(at.as_deref().unwrap_or("")).and_then(|given| given.state());
     let (at, and) = (state(&arguments.at).map_err(Failure::Usage)?, state(&arguments.and).map_err(Failure::Usage)?);
@@ -327,7 +353,7 @@ fn total_lines((one, at): (&Solved, &State), (two, and): (&Solved, &State)) -> R
 
 /// The needed nodes of loading and of each action, and their share of the largest of these, to the nearest percent.
 fn peaks(arguments: &Arguments, out: &mut Vec<u8>) -> Done {
-    let asked = Asked::read(arguments)?;
+    let asked = Asked::read(arguments, out)?;
     if arguments.words.len() > 2 {
         return Err(usage("peaks are those of a model and a horizon: there is a word too many"));
     }
@@ -354,7 +380,7 @@ const SECONDS: u64 = 60;
 
 /// How many nodes the plan had, and has without the paths that no state can take.
 fn prune(arguments: &Arguments, out: &mut Vec<u8>) -> Done {
-    let asked = Asked::read(arguments)?;
+    let asked = Asked::read(arguments, out)?;
     if arguments.words.len() > 2 {
         return Err(usage("paths are those of a model and a horizon: there is a word too many"));
     }
@@ -414,7 +440,7 @@ fn sure(arguments: &Arguments, out: &mut Vec<u8>) -> Done {
     let change: i32 =
         change.parse().map_err(|_| Failure::Usage(format!("the change '{change}' is no whole number of 32 bits")))?;
     let steps: u32 = steps.parse().map_err(|_| Failure::Usage(format!("'{steps}' is no number of steps")))?;
-    let model = load(path)?;
+    let model = load_model(path, arguments, out)?;
     let Some(state) = state(arguments, numbers, &model)? else { return Err(usage("a state is needed: --at STATE")) };
     let asked = Subject { state: Some(&state), ..subject(path, &model) };
     let lines = sure_lines(&model, steps, &state, change).map_err(|refused| refuse(arguments, refused, &asked, out))?;
@@ -439,7 +465,7 @@ fn sure_lines(model: &[u8], steps: u32, state: &State, change: i32) -> Result<St
 }
 
 fn picture(arguments: &Arguments, out: &mut Vec<u8>) -> Done {
-    let asked = Asked::read(arguments)?;
+    let asked = Asked::read(arguments, out)?;
     if arguments.words.len() > 2 || arguments.along.is_empty() {
         return Err(usage("a picture needs a model, a horizon and --along LEVEL"));
     }

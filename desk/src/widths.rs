@@ -137,5 +137,7 @@ pub mod refusal {
     pub const NOT_SHOWN: u32 = 21;
     pub const NO_PATH: u32 = 22;
     pub const CHANGE: u32 = 23;
+    pub const GRAMMAR: u32 = 24;
+    pub const BEYOND: u32 = 25;
     pub const SCALES: u32 = 26;
 }

@@ -1080,6 +1080,70 @@ static int all_marked(const uint8_t *bytes, size_t count)
     return 1;
 }
 
+static model text_of(const char *written)
+{
+    model m = {{0}, 0};
+    command(&m, written, strlen(written));
+    return m;
+}
+
+static void import_refused(const char *written, uint32_t number, uint32_t place)
+{
+    model text = text_of(written);
+    conversion_refused(planner_import, &text, number, place);
+}
+
+#define STILL "site m=1 n=0 A=1 W=1 next 1 L1 = else : L1 reward 1 = "
+
+/* A text, in a buffer with room, just enough and a byte short; every refusal, and that none comes too soon. */
+static void imports(void)
+{
+    model text = text_of("site m=1 n=0 A=2 W=1 reward 1 = else : 0 next 1 L1 = else : L1 reward 2 = L1 >= 10 : 50 ; else : -1 "
+                         "next 2 L1 = L1 >= 10 : L1 - 10 ; else : L1 name 1 \"Hold\" ");
+    model made = pond("Hold            ");
+    converted(planner_import, &text, ROOM, 0, 0, &made);
+    converted(planner_import, &text, made.len, 0, 0, &made);
+    converted(planner_import, &text, made.len - 1, 17, 0, NULL);
+    converted(planner_import, &text, 0, 17, 0, NULL);
+    import_refused("", 24, 0);
+    import_refused("site m=1 n=0 A=1 W=1 rewarf", 24, 26);
+    import_refused(STILL "else : L1*L2", 24, (uint32_t)sizeof STILL - 1 + 10);
+    import_refused(STILL "else : 5 *", 24, (uint32_t)sizeof STILL - 1 + 10);
+    import_refused(STILL "else : 2147483648 ;", 24, (uint32_t)sizeof STILL - 1 + 18);
+    import_refused(STILL "else : -2147483648", 25, 0);
+    import_refused(STILL "L1 <= -2147483647 - 1 : 1 ; else : 2*L2", 25, 0);
+    import_refused(STILL "else : L2", 4, SITE_BYTES + LINEAR_BYTES + 4);
+    import_refused(STILL "else : 0 reward 1 = else : 1", 6, SITE_BYTES + 3 * LINEAR_BYTES + 4 + 3);
+    import_refused("site m=1 n=0 A=1 W=1", 7, SITE_BYTES);
+    import_refused("site m=257 n=0 A=1 W=1", 4, 0);
+    model longer = text_of(STILL);
+    while (longer.len < 900) {
+        command(&longer, "L1 < 1 & L1 < 2 : 1 ; ", 22);
+    }
+    command(&longer, "else : 0", 8);
+    conversion_refused(planner_import, &longer, 10, 0);
+}
+
+/* A text of all bytes that one may have, and of one more. */
+static void long_imports(void)
+{
+    const size_t most = PLANNER_MODEL_BYTES_MOST;
+    model text = text_of(STILL "else : 0"), made = text_of(STILL);
+    uint8_t *padded = malloc(most + 1), out[PLANNER_IMPORT_BYTES];
+    expect(padded != NULL, "memory");
+    memset(padded, ' ', most + 1);
+    memcpy(padded, text.bytes, text.len);
+    memset(made.bytes, MARK, sizeof made.bytes);
+    expect(planner_import(padded, most, made.bytes, sizeof made.bytes, out, sizeof out) == 0, "the longest text");
+    expect(planner_validate(made.bytes, SITE_BYTES + 2 * LINEAR_BYTES + 8).number == 0, "its model");
+    memset(made.bytes, MARK, sizeof made.bytes);
+    expect(planner_import(padded, most + 1, made.bytes, sizeof made.bytes, out, sizeof out) == 10, "a text one too long");
+    padded[0] = '?';
+    expect(planner_import(padded, most + 1, made.bytes, sizeof made.bytes, NULL, 0) == 10, "10 comes before 24 and 17");
+    expect(all_marked(made.bytes, sizeof made.bytes), "nothing is written by a refusal");
+    free(padded);
+}
+
 /* As many bytes as the old form has room for, and one more. */
 static void long_conversions(void)
 {
@@ -1789,6 +1853,8 @@ int main(void)
     conversions();
     conversions_refused();
     long_conversions();
+    imports();
+    long_imports();
     none_read();
     none_refused();
     forbidding_refused();

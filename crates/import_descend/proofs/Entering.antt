@@ -53,7 +53,7 @@ fits w e l n R h k = record { place = let a = R .inside in let b = R .short in o
 
 -- ---- on the list
 
-spotted-in : (w : List ℕ) (p : Place) (r : Spot) → Spotted w p r → InPlace w r
+pub spotted-in : (w : List ℕ) (p : Place) (r : Spot) → Spotted w p r → InPlace w r
 spotted-in w p (AtomAt i b m c) S = S .1
 spotted-in w p (ResultAt i) S = S .1
 spotted-in w p LostAt S = tt
@@ -69,7 +69,7 @@ entered w e l n t v r l′ R L P z S =
       same = P .room;
       inside = spotted-in w (find (drop (e .at) w) 0 v false (signs (e .mask) (e .count))) r S;
       goes-on = λ C G.
-          let g = visit-atom G (e .at) (e .sign) (e .mask) (e .count) refl (R .inside) (t .first) (λ x. (L x) .first-is) in
+          let g = visit-atom G (e .at) (e .sign) (e .mask) (e .count) refl (R .inside) (R .low) (t .first) (λ x. (L x) .first-is) in
           record {
             place = find (drop (e .at) w) 0 v false (signs (e .mask) (e .count));
             spotted = S;
@@ -121,7 +121,6 @@ module _ (w : List ℕ) (s₀ : Spot) (l₀ : List ℕ) (n₀ : ℕ) (s : Spot) 
         same = K .same;
         few = omega arith;
         inside = omega arith;
-        found-is = λ C G. absurd (never C G);
         first = λ C G. absurd (never C G);
       }
     where
@@ -138,13 +137,12 @@ module _ (w : List ℕ) (s₀ : Spot) (l₀ : List ℕ) (n₀ : ℕ) (s : Spot) 
           let o = S .long in
           omega (arith, f, k, a, d, q, o, h)
 
-  pub reached : (i : ℕ) → s ≡ ResultAt i → Descends w s₀ l₀ n₀ (record { count = n; at = i; found = true }) l
+  pub reached : (i : ℕ) → s ≡ ResultAt i → Descends w s₀ l₀ n₀ (record { count = n; at = i }) l
   reached i e =
       record {
         same = K .same;
         few = K .few;
         inside = subst (InPlace w) e (K .inside);
-        found-is = λ C G. refl;
         first = λ C G.
             let g = K .comes C G in
             let t : Spotted w (g .place) (ResultAt i) = subst (Spotted w (g .place)) e (g .spotted) in
@@ -152,7 +150,7 @@ module _ (w : List ℕ) (s₀ : Spot) (l₀ : List ℕ) (n₀ : ℕ) (s : Spot) 
       }
 
   none-here : ((C : List Command) → Comes w s₀ l₀ n₀ C → ⊥) → Descends w s₀ l₀ n₀ none-found l
-  none-here h = record { same = K .same; few = omega arith; inside = omega arith; found-is = λ C G. absurd (h C G); first = λ C G. absurd (h C G) }
+  none-here h = record { same = K .same; few = omega arith; inside = omega arith; first = λ C G. absurd (h C G) }
 
   pub lost-here : s ≡ LostAt → Descends w s₀ l₀ n₀ none-found l
   lost-here e = none-here (λ C G. not-lost (K .comes C G .visits) (subst (Spotted w (K .comes C G .place)) e (K .comes C G .spotted)))

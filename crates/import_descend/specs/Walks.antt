@@ -1,6 +1,6 @@
 -- The way from a place to the result that comes first.
 use mathlib.Core.Path.{_≡_}
-use mathlib.Core.Bool.{Bool, true, false}
+use mathlib.Core.Bool.{false}
 use mathlib.Core.List.{List, [], _∷_}
 use Prim.Native.Nat.{ℕ, suc, _+_, _≤_, _<_}
 use lib.ListN.{length, drop}
@@ -54,12 +54,11 @@ pub record Starting (w : List ℕ) (s : Spot) (l : List ℕ) (n : ℕ) : Type 0 
   pub few : n ≤ length l
 
 abbrev pub none-found : Down
-none-found = record { count = 0; at = 0; found = false }
+none-found = record { count = 0; at = 0 }
 
--- a result is reached, whose command is the first that is still to be written
+-- for each reading: a result is reached, whose command is the first that is still to be written
 pub record Descends (w : List ℕ) (s : Spot) (l : List ℕ) (n : ℕ) (r : Down) (l′ : List ℕ) : Type 0 where
   pub same : length l′ ≡ length l
   pub few : r .count ≤ length l
   pub inside : r .at ≤ length w
-  pub found-is : (C : List Command) → Comes w s l n C → r .found ≡ true
   pub first : (C : List Command) → Comes w s l n C → ResultFirst w (drop (r .at) w) (entries l′ (r .count)) C

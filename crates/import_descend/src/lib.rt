@@ -11,15 +11,14 @@ use import_look::look;
 // So many entries suffice for every text.
 pub const ENTRIES: usize = 131072;
 
-// A result and how many entries are on the list, or that there is none.
+// A result, and how many entries are on the list.
 pub struct Down {
     pub count: usize,
     pub at: usize,
-    pub found: bool,
 }
 
 // What is decided for the outcome that is written first.
-fn first_value(first: bool, sign: bool) -> bool
+pub fn first_value(first: bool, sign: bool) -> bool
     ensures { λ r. ⌜ r ≡ xor first sign ⌝ }
 {
     if first {
@@ -47,11 +46,7 @@ fn enter(text: &[u8], e: Entry, list: &mut [u64], n: usize) -> Spot
 fn nothing() -> Down
     ensures { λ r. ⌜ r ≡ none-found ⌝ }
 {
-    Down {
-        count: 0,
-        at: 0,
-        found: false,
-    }
+    Down { count: 0, at: 0 }
 }
 
 // The result that comes first from a place on.
@@ -78,11 +73,7 @@ pub fn descend(text: &[u8], spot: Spot, list: &mut [u64], count: usize) -> Down
                 n += 1;
             }
             Spot::Result(i) => {
-                return Down {
-                    count: n,
-                    at: i,
-                    found: true,
-                };
+                return Down { count: n, at: i };
             }
             Spot::Lost => {
                 return nothing();

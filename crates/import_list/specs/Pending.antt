@@ -2,7 +2,7 @@
 use mathlib.Core.Bool.{Bool, true, false, not}
 use mathlib.Core.List.{List, [], _∷_, _++_}
 use mathlib.Core.Path.{_≡_}
-use Prim.Native.Nat.{ℕ, _+_, _≤_}
+use Prim.Native.Nat.{ℕ, _+_, _≤_, _<_}
 use lib.ListN.{length, drop}
 use Rattle.whole.specs.Cases.{if}
 use Rattle.theory.specs.Command.{Command, push-condition, push-test, push-forbidden}
@@ -10,7 +10,7 @@ use Rattle.import_grammar.specs.Grammar.{Spaces, Op, lt, le, gt, ge, Atom, now,
 use Rattle.import_numbers.specs.Numbers.{linear-of, difference, atom-numbers, result-numbers, all-within}
 use Rattle.import_model.specs.Commands.{condition-of, later-of, result-command}
 use Rattle.import_found.specs.Places.{Place, atom-at, result-at, lost, find, xor, AfterAtom, AfterResult, Decided, Emits}
-use Rattle.import_places.specs.Walking.{signs}
+use Rattle.import_places.specs.Walking.{signs, two-to}
 use Rattle.import_list.specs.declared.Entry.{Entry}
 
 -- whether the commands of the outcome where a comparison holds are written first: "a <= b": T F, "a > b": F T, "a >= b": T F, "a < b": F T
@@ -78,10 +78,15 @@ abbrev pub Rises : ℕ → List Entry → Type 0
 Rises i [] = Unit {0}
 Rises i (d ∷ l) = d .at + 2 ≤ i
 
+-- an entry lies in the text, and its mask has no sign but those counted
+pub record Lies (w : List ℕ) (e : Entry) : Type 0 where
+  pub inside : e .at < length w
+  pub low : e .mask < two-to (e .count)
+
 -- what a list stands for, the latest entry first: one behind another
 pub data Pending (w : List ℕ) : List Entry → List Command → Type 0 where
   none-left : Pending w [] []
-  also-left : {e : Entry} {l : List Entry} {A B : List Command} → Stands w e A → Rises (e .at) l → Pending w l B → Pending w (e ∷ l) (A ++ B)
+  also-left : {e : Entry} {l : List Entry} {A B : List Command} → Stands w e A → Lies w e → Rises (e .at) l → Pending w l B → Pending w (e ∷ l) (A ++ B)
 
 -- how many bytes there are from a place on
 abbrev pub size : Place → ℕ

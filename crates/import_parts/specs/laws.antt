@@ -8,3 +8,5 @@ pub mod Items
 pub mod Names
 -- each item stands where the one before ends
 pub mod Walks
+-- no number of an item is beyond
+pub mod Within

@@ -109,6 +109,10 @@ pub fn to_old(model: &[u8], buffer: &mut [u8], out: &mut [u8]) -> u32 {
     written(reference::to_old(model, buffer.len()), buffer, 0, out)
 }
 
+pub fn imported(text: &[u8], buffer: &mut [u8], out: &mut [u8]) -> u32 {
+    written(reference::import(text, buffer.len()), buffer, 0, out)
+}
+
 pub fn found(model: &[u8], name: &[u8], out: &mut [u8]) -> u32 {
     let (number, place, action) = find(model, name).map_or_else(|r| (r.number, r.place, 0), |action| (0, 0, action));
     answer(number, words(&[place, action]), out)

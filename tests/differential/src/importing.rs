@@ -2,7 +2,7 @@
 //! after a refusal.
 
 use crate::{bytes, expected, out, planner, Calls};
-use models::{damaged_text, limits, longest_row, text, usual_text, Rng};
+use models::{damaged_text, limits, slowest_text, text, usual_text, Rng};
 use std::time::Instant;
 
 /// One call with this buffer, which has marks all over.
@@ -78,12 +78,12 @@ fn timed(calls: &mut Calls, what: &str, text: &[u8], refusal: (u32, u32)) {
     println!("  library {time:.4} s, reference {our_time:.4} s");
 }
 
-/// Texts at the limits; one of usual items, and the one that takes longest.
+/// Texts at the limits; one of usual items, and the one that takes longest, a tenth as long as it may be.
 pub fn large(calls: &mut Calls, rng: &mut Rng) {
     for (what, text, refusal) in limits() {
         compare(calls, rng, &text);
         timed(calls, what, &text, refusal);
     }
     timed(calls, "400 settings as text", &usual_text(), (0, 0));
-    timed(calls, "the longest row of &", &longest_row(), (0, 0));
+    timed(calls, "the slowest text known", &slowest_text(26_214), (0, 0));
 }

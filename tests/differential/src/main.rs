@@ -1,9 +1,10 @@
 //! Compares every outcome of libplanner.a with the second program: numbers, places, all lent words, peaks too, values,
-//! names and actions found by them, listings, pages, models of the other form, paths cut off, totals of two sites, plain
-//! working, and whether actions are sure. See tests/README.md for the link line.
+//! names and actions found by them, listings, pages, models of the other form and from text, paths cut off, totals of two
+//! sites, plain working, and whether actions are sure. See tests/README.md for the link line.
 
 mod conversion;
 mod expected;
+mod importing;
 mod meter;
 #[cfg(not(linked))]
 #[path = "mock.rs"]
@@ -25,7 +26,7 @@ use std::time::Instant;
 
 const USAGE: &str = "differential random [COUNT [SEED]]      random models, tables, states, damage
 differential endurance [COUNT [SEED]]   the same tables and buffer for one model after another
-differential large                      the large models, with times, their other form, and long paths
+differential large                      the large models and texts, with times, their other form, and long paths
 differential speed                      the README's figures, library and second program in one run
 differential time MODEL HORIZON         the time of both to solve the model of a file";
 
@@ -488,6 +489,8 @@ fn one_round(calls: &mut Calls, rng: &mut Rng) {
     compare_listing(calls, rng, &tables, horizon);
     compare_page(calls, rng, &tables, horizon);
     conversion::round(calls, rng, horizon);
+    // As above.
+    importing::round(calls, &mut Rng(rng.0 ^ 0x0D));
 }
 
 /// The same tables and buffer, never cleared from outside, for one model after another: each time as with fresh ones.
@@ -529,6 +532,7 @@ fn endurance_round(calls: &mut Calls, rng: &mut Rng, lent: &mut Tables, buffer: 
     compare_state(calls, rng, lent, horizon, number == 0);
     pruning::endurance(calls, &mut Rng(rng.0 ^ 0x0A), lent);
     conversion::endurance(calls, rng, buffer);
+    importing::endurance(calls, &mut Rng(rng.0 ^ 0x0D), buffer);
 }
 
 fn large(calls: &mut Calls) {
@@ -619,6 +623,7 @@ fn compare(mode: &str, count: u64, seed: u64) {
             large(&mut calls);
             conversion::large(&mut calls, &mut Rng(seed));
             pruning::large(&mut calls, &mut Rng(seed));
+            importing::large(&mut calls, &mut Rng(seed));
         }
         "random" => rounds(&mut calls, count, seed, one_round),
         "endurance" => {

@@ -1,6 +1,6 @@
 //! Stands in for the library, so that the comparison can be built and tried without it. A fault can be asked for with
-//! PLANNER_FAULT=function (solve, value, name, worth, sure, listing, find, page, to_new, to_old, prune or total; to_new_buffer
-//! and to_old_buffer spoil the last byte of the lent buffer, solve_peaks the last word of the peaks, prune_tables the last one
+//! PLANNER_FAULT=function (solve, value, name, worth, sure, listing, find, page, to_new, to_old, import, prune or total;
+//! to_new_buffer, to_old_buffer and import_buffer spoil the last byte of the lent buffer, solve_peaks the last word of the peaks, prune_tables the last one
 //! of the nodes); the comparison has to find it.
 
 use crate::expected;
@@ -104,6 +104,12 @@ pub fn to_new(old: &[u8], buffer: &mut [u8], out: &mut [u8]) -> u32 {
 pub fn to_old(model: &[u8], buffer: &mut [u8], out: &mut [u8]) -> u32 {
     let number = spoil("to_old", expected::to_old(model, buffer, out), out);
     spoil_last("to_old_buffer", buffer);
+    number
+}
+
+pub fn import(text: &[u8], buffer: &mut [u8], out: &mut [u8]) -> u32 {
+    let number = spoil("import", expected::imported(text, buffer, out), out);
+    spoil_last("import_buffer", buffer);
     number
 }
 

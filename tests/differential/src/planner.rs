@@ -100,6 +100,9 @@ extern "C" {
     fn planner_to_old(
         model: *const u8, model_len: usize, buffer: *mut u8, buffer_len: usize, out: *mut u8, out_len: usize,
     ) -> u32;
+    fn planner_import(
+        text: *const u8, text_len: usize, buffer: *mut u8, buffer_len: usize, out: *mut u8, out_len: usize,
+    ) -> u32;
     fn planner_sure(
         model: *const u8, model_len: usize, steps: u32, mask: u32, l1: i32, l2: i32, l3: i32, l4: i32, l5: i32, l6: i32,
         l7: i32, l8: i32, d: i32, e: i32, out: *mut u8, out_len: usize,
@@ -255,6 +258,12 @@ pub fn to_old(model: &[u8], buffer: &mut [u8], out: &mut [u8]) -> u32 {
     let (buffer_len, out_len) = (buffer.len(), out.len());
     // SAFETY: as said above.
     unsafe { planner_to_old(model.as_ptr(), model.len(), buffer.as_mut_ptr(), buffer_len, out.as_mut_ptr(), out_len) }
+}
+
+pub fn import(text: &[u8], buffer: &mut [u8], out: &mut [u8]) -> u32 {
+    let (buffer_len, out_len) = (buffer.len(), out.len());
+    // SAFETY: as said above.
+    unsafe { planner_import(text.as_ptr(), text.len(), buffer.as_mut_ptr(), buffer_len, out.as_mut_ptr(), out_len) }
 }
 
 #[rustfmt::skip]

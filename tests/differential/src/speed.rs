@@ -4,11 +4,11 @@ use crate::meter::{by_callgrind, counted, keep_memory, least_time, Counter};
 use crate::{planner, Tables};
 use models::{
     chain, commands, deep, near_limit, pond, rain, releases, reservoirs, settings, staircases,
-    steps_behind_a_contradiction,
+    steps_behind_a_contradiction, usual_text, MODEL_BYTES,
 };
 use reference::diagram::Store;
 use reference::widths::{NODES_MOST, NODE_WORDS, PEAK_WORDS, STAGES, WORK_WORDS};
-use reference::{prune, solve_with_room, validate, value, worth, State};
+use reference::{import, prune, solve_with_room, validate, value, worth, State};
 use std::hint::black_box;
 
 const STATE: State = State { mask: 0, nums: [39, 0, 0, 0, 0, 0, 0, 0], d: 2 };
@@ -26,6 +26,8 @@ enum Job {
     Validate,
     /// An accepted path of two turns; the tables are copied before, since the library writes to them.
     Prune,
+    /// The row's model is a text.
+    Import,
 }
 
 /// The path that is proposed: stage, turns, multipliers.
@@ -64,6 +66,7 @@ fn rows() -> Vec<Row> {
         solving("solve the rain, horizon 8", rain(), 8),
         row("read a value of the pond, its validation included", pond(), Job::Value),
         row("cut off a path of a plan of 65,534 nodes, and copy the plan before", pond(), Job::Prune),
+        row("import a text of 98,580 bytes, 400 settings with usual items", usual_text(), Job::Import),
         row("plain working of the pond, 4 steps", pond(), Job::Worth(4)),
         row("plain working of 400 settings, 2 steps", settings(), Job::Worth(2)),
         row("validate a model of 111,169 bytes", staircases(), Job::Validate),
@@ -71,9 +74,11 @@ fn rows() -> Vec<Row> {
     ]
 }
 
-/// What the library is lent: the tables and an answer's bytes; and a plan that fills the tables but for one node.
+/// What the library is lent: the tables, room for a model and an answer's bytes; and a plan that fills the tables but for one
+/// node.
 struct Lent {
     tables: Tables,
+    buffer: Vec<u8>,
     out: [u8; 24],
     full: (Vec<i64>, [u32; STAGES]),
 }
@@ -87,7 +92,7 @@ impl Lent {
         rows.resize(NODE_WORDS * NODES_MOST, 0);
         let mut roots = [0; STAGES];
         roots[PATH.0 as usize - 1] = root;
-        Lent { tables, out: [0; 24], full: (rows, roots) }
+        Lent { tables, buffer: vec![1; MODEL_BYTES], out: [0; 24], full: (rows, roots) }
     }
 
     /// A value is read from solved tables; the path is one that is cut off.
@@ -120,6 +125,7 @@ impl Lent {
                 stages.copy_from_slice(roots);
                 planner::prune(&row.model, nodes, stages, work, stage, &turns, &multipliers, out)
             }
+            Job::Import => planner::import(&row.model, &mut self.buffer, out),
         }
     }
 
@@ -137,6 +143,7 @@ impl Lent {
                 let pruned = prune(&row.model, &black_box(full.clone()), roots, words, stage, &turns, &multipliers);
                 black_box(pruned).map_or_else(|refused| refused.number, |_| 0)
             }
+            Job::Import => black_box(import(&row.model, MODEL_BYTES)).map_or_else(|refused| refused.number, |_| 0),
         }
     }
 }
@@ -248,6 +255,7 @@ fn bound(row: &Row, cost: &Cost, done: &[(&Row, &Cost)]) -> String {
         Job::Value => (validation(), "validation", "walk; "),
         Job::Worth(_) => (validation(), "validation", "evaluations; "),
         Job::Prune => (time(Job::Floor, &[]), "clearing", "rows made anew; "),
+        Job::Import => return format!("bytes of the text; {:.0} MB/s", row.model.len() as f64 / cost.times[0] / 1e6),
     };
     let share = 100.0 * floor / cost.times[0];
     format!("{}{name} {share:.0} %", if share < 25.0 { otherwise } else { "" })

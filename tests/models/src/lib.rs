@@ -17,8 +17,8 @@ pub use large::{
 pub use old::{old_form, Form, NEW, OLD, OLD_BYTES};
 pub use random::{commands, damaged, damaged_in, random, Rng};
 pub use texts::{
-    damaged_text, doubling, limits, long_row, longest_row, text, text_for_length, text_of_length, usual_text,
-    with_reward, POND_TEXT, TEXT_BYTES,
+    damaged_text, doubling, limits, long_row, longest_row, slowest_text, text, text_for_length, text_of_length,
+    usual_text, with_reward, POND_TEXT, TEXT_BYTES,
 };
 
 /// The levels, actions and bytes that a model may have, and the bytes of its site command.

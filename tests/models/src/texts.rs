@@ -342,23 +342,32 @@ pub fn long_row() -> Vec<u8> {
     with_reward(&format!("{}C1:forbidden;else:0", "C1&".repeat(room / 3))).into_bytes()
 }
 
-/// The longest row of `&` whose model fits: each & copies a forbidden leaf. No other text is known that an import has more to do
-/// with.
+/// The longest row of `&` whose model fits: each & copies a forbidden leaf.
 pub fn longest_row() -> Vec<u8> {
     let beside = 88 + 37 + 3 + 1;
     let row = vec!["C1"; (MODEL_BYTES - beside) / 3].join("&");
     with_reward(&format!("{row}:0;else:forbidden")).into_bytes()
 }
 
-/// 400 actions with usual items, a name each: some 78,000 bytes.
+/// No text of as many bytes is known that an import takes longer for: seven cases copy a row of conditions 128 times, and each
+/// condition that fails there leads over all the white space behind it. As long as a text may be, it takes two minutes.
+pub fn slowest_text(bytes: usize) -> Vec<u8> {
+    let (copies, row) = ("C1&C1:forbidden;".repeat(7), vec!["C1"; 676].join("&"));
+    let result = ":forbidden;else:forbidden";
+    let spaces = " ".repeat(bytes - with_reward(&format!("{copies}{row}{result}")).len());
+    with_reward(&format!("{copies}{row}{spaces}{result}")).into_bytes()
+}
+
+/// 400 actions with usual items, a name each, as one would write them: some 100,000 bytes.
 pub fn usual_text() -> Vec<u8> {
     let mut text = format!("site m=1 n=2 A={ACTIONS} W=4\n");
     for action in 1..=i32::from(ACTIONS) {
         let (amount, pump) = (20 * (1 + action % 2), action / 8);
         text += &format!(
-            "reward {action} = L1 >= {amount} : {} ; else : -1\nchance {action} N1 = C1 & L1 < 100 : 3 ; else : {}\n\
-             chance {action} N2 = else : {}\nnext {action} L1 = L1 < {amount} : L1 ; N1 : L1 + 20 - {amount} ; else : L1 - {amount}\n\
-             name {action} \"Setting {action}\"\n",
+            "\nname {action} \"Setting {action}\"\n\
+             reward {action} =\n  L1 >= 3*{amount} : {} ;\n  L1 >= {amount} : 2*({amount} - {pump}) ;\n  else : -1\n\
+             chance {action} N1 = C1 & L1 < 100 : 3 ; else : {}\nchance {action} N2 = else : {}\n\
+             next {action} L1 =\n  L1 < {amount} : L1 ;\n  N1 & L1 <= 500 : L1 + 20 - {amount} ;\n  else : L1 - {amount}\n",
             3 * amount - pump,
             pump % 3,
             1 + pump % 2,

@@ -1,7 +1,7 @@
-//! The model files of `examples/` are what is written here, and those of `examples/old` their old form: `models FOLDER`
-//! makes them again.
+//! The model files of `examples/`, which are made from the texts there, are what is written here, and those of `examples/old`
+//! their old form.
 
-use models::{corner, dry_inlet, old_form, pond, pond_kept, rain};
+use models::{chain, corner, dry_inlet, old_form, pond, pond_kept, rain};
 
 fn example(name: &str) -> Vec<u8> {
     let path = format!("{}/../../examples/{name}.model", env!("CARGO_MANIFEST_DIR"));
@@ -15,7 +15,7 @@ fn examples_are_written_here() {
         assert_eq!(example(&format!("old/{name}")), old_form(&model), "old {name}");
     }
     // Later than the old form; command 13 has none.
-    for (name, model) in [("dry_inlet", dry_inlet()), ("corner", corner())] {
+    for (name, model) in [("dry_inlet", dry_inlet()), ("corner", corner()), ("chain", chain(3))] {
         assert_eq!(example(name), model, "{name}");
     }
 }

@@ -321,7 +321,8 @@ fn texts_at_the_limits() {
     assert_eq!(import(&longest, ANY).map(|model| model.len()), Ok(262_144));
     assert_eq!(import(&more, ANY).map(|model| model.len()), Ok(100_001));
     assert_eq!(import(&models::longest_row(), ANY).map(|model| model.len()), Ok(262_143));
-    assert_eq!(import(&models::usual_text(), ANY).map(|model| model.len()), Ok(192_807));
+    assert_eq!(import(&models::slowest_text(26_214), ANY).map(|model| model.len()), Ok(260_439));
+    assert_eq!(import(&models::usual_text(), ANY).map(|model| model.len()), Ok(252_007));
     let marks = format!("{} name 1 \"{}\"", with_reward("else : 0"), "\"\"".repeat(16));
     let model = import(marks.as_bytes(), ANY).expect("a model without fault");
     assert_eq!(model[model.len() - 17..], [&[b'"'; 16][..], &[0xFF]].concat());
@@ -497,14 +498,13 @@ fn the_examples() {
         ("rain", rain()),
         ("corner", corner()),
         ("dry_inlet", dry_inlet()),
+        ("chain", chain(3)),
     ];
     for (name, model) in models {
         let text = std::fs::read(format!("{folder}/{name}.txt")).expect("an example's text");
         assert_eq!(import(&text, ANY), Ok(model.clone()), "{name}");
         assert_eq!(std::fs::read(format!("{folder}/{name}.model")).expect("an example"), model, "{name}");
     }
-    let text = std::fs::read(format!("{folder}/chain.txt")).expect("an example's text");
-    assert_eq!(import(&text, ANY), Ok(chain(3)), "chain");
 }
 
 /// `same` sees each thing that two models may differ in.

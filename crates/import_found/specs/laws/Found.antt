@@ -381,7 +381,7 @@ cases-commands (start O) C = C
 cases-commands (case B o p r q) C = cases-commands B (or-commands o (result-command r ∷ []) C)
 
 -- the numbers of its cases
-pub cases-numbers : Before → List ℤ
+unfoldable pub cases-numbers : Before → List ℤ
 cases-numbers (start O) = []
 cases-numbers (case B o p r q) = cases-numbers B ++ (or-numbers o ++ result-numbers r)
 

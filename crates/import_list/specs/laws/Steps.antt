@@ -11,9 +11,9 @@ use Rattle.import_grammar.specs.Grammar.{Op, lt, le, gt, ge, Atom, now, later, 
 use Rattle.import_model.specs.Commands.{compare-commands, atom-commands, result-command}
 use Rattle.import_found.specs.Places.{Place, atom-at, result-at, lost, find, xor, Decided, Emits, by-result, by-atom, TooDeep}
 use Rattle.import_found.specs.laws.Depth.{never-deep}
-use Rattle.import_places.specs.Walking.{signs}
+use Rattle.import_places.specs.Walking.{signs, two-to}
 use Rattle.import_list.specs.declared.Entry.{Entry}
-use Rattle.import_list.specs.Pending.{first-holds, own, Reading, ResultReading, outcome, first-value, second-value, Stands, half, done, Rises, Pending, none-left, also-left, size, Beyond, Visits}
+use Rattle.import_list.specs.Pending.{first-holds, own, Reading, ResultReading, outcome, first-value, second-value, Stands, half, done, Lies, Rises, Pending, none-left, also-left, size, Beyond, Visits}
 use Rattle.import_list.specs.laws.Shorter.{outcome-size}
 
 -- ---- an atom's commands: of its first outcome, of its second, its own
@@ -78,7 +78,7 @@ rises w i (d ∷ l) h b = let m = length-drop i w in let n = length-drop (d .at)
 -- so there are at most half as many entries as bytes
 pub few : {w : List ℕ} {l : List Entry} {C : List Command} → Pending w l C → (i : ℕ) → Rises i l → length l * 2 ≤ i
 few none-left i r = omega arith
-few (also-left {e} s q p) i r = let h = few p (e .at) q in omega (arith, h, r)
+few (also-left {e} s d q p) i r = let h = few p (e .at) q in omega (arith, h, r)
 
 -- ---- steps
 
@@ -94,10 +94,10 @@ pub atom-told : {w : List ℕ} {p : Place} {l : List Entry} {C : List Command} (
 atom-told G e = told (subst (λ (q : Place). Emits q (G .here)) e (G .emits))
 
 -- a visit of an atom: it waits on the list, its first outcome is visited
-pub visit-atom : {w : List ℕ} {p : Place} {l : List Entry} {C : List Command} (G : Visits w p l C) (i : ℕ) (b : Bool) (m c : ℕ) → p ≡ atom-at b (signs m c) (drop i w) → i < length w
+pub visit-atom : {w : List ℕ} {p : Place} {l : List Entry} {C : List Command} (G : Visits w p l C) (i : ℕ) (b : Bool) (m c : ℕ) → p ≡ atom-at b (signs m c) (drop i w) → i < length w → m < two-to c
     → (first : Bool) → ((R : Reading (drop i w)) → first ≡ first-holds (R .atom))
     → Visits w (find (drop i w) 0 (first-value first b) false (signs m c)) (first-entry i b m c ∷ l) C
-visit-atom {w} {p} {l} {C} G i b m c e h first f =
+visit-atom {w} {p} {l} {C} G i b m c e h k first f =
     let t = atom-told G e in
     let R = t .reading in
     let x = R .atom in
@@ -113,6 +113,7 @@ visit-atom {w} {p} {l} {C} G i b m c e h first f =
       beyond = outcome-size (drop i w) R (first-value first b) (signs m c);
       pending = also-left
           (half refl R B (pick-second (drop i w) (signs m c) (first-holds x) b (t .holds) (t .fails)))
+          (record { inside = h; low = k })
           (rises w i l h (subst (λ (n : ℕ). Beyond w n l) (ap size e) (G .beyond)))
           (G .pending);
       all = G .all ∙ (ap (λ (D : List Command). D ++ G .later-on) (t .is ∙ atom-apart x (R .decided) Y N) ∙ append-assoc A (B ++ (own x ∷ [])) (G .later-on));
@@ -126,6 +127,7 @@ pub record Top (w : List ℕ) (e : Entry) (l : List Entry) (C : List Command) : 
   pub its : List Command
   pub others : List Command
   pub stands : Stands w e its
+  pub lies : Lies w e
   pub rise : Rises (e .at) l
   pub rest : Pending w l others
   pub is : C ≡ its ++ others
@@ -136,7 +138,7 @@ Topped w (e ∷ l) C = Top w e l C
 
 pub topped : {w : List ℕ} {l : List Entry} {C : List Command} → Pending w l C → Topped w l C
 topped none-left = refl
-topped (also-left {A = A} {B = B} s r p) = record { its = A; others = B; stands = s; rise = r; rest = p; is = refl }
+topped (also-left {A = A} {B = B} s d r p) = record { its = A; others = B; stands = s; lies = d; rise = r; rest = p; is = refl }
 
 pub record HalfTold (w : List ℕ) (e : Entry) (A : List Command) : Type 0 where
   pub reading : Reading (drop (e .at) w)
@@ -156,6 +158,10 @@ done-told : {w : List ℕ} {e : Entry} {A : List Command} → Stands w e A → e
 done-told (half n R S h) z = absurd (clash (sym z ∙ n))
 done-told (done y R) z = record { reading = R; is = refl }
 
+-- the latest entry lies in the text
+pub top-lies : {w : List ℕ} {e : Entry} {l : List Entry} {C : List Command} → Pending w (e ∷ l) C → Lies w e
+top-lies {w} {e} {l} {C} P = let t : Top w e l C = topped P in t .lies
+
 -- the first outcome is written: the second is visited, and the entry waits for its own command
 pub visit-second : {w : List ℕ} {e : Entry} {l : List Entry} {C : List Command} → Pending w (e ∷ l) C → e .both ≡ false
     → (first : Bool) → ((R : Reading (drop (e .at) w)) → first ≡ first-holds (R .atom))
@@ -170,7 +176,7 @@ visit-second {w} {e} {l} {C} P z first f =
       later-on = O ++ t .others;
       emits = subst (λ (v : Bool). Emits (outcome w e (second-value v (e .sign))) (h .second)) (sym (f R)) (h .emits);
       beyond = outcome-size (drop (e .at) w) R (second-value first (e .sign)) (signs (e .mask) (e .count));
-      pending = also-left (done refl R) (t .rise) (t .rest);
+      pending = also-left (done refl R) (record { inside = t .lies .inside; low = t .lies .low }) (t .rise) (t .rest);
       all = t .is ∙ (ap (λ (D : List Command). D ++ t .others) (h .is) ∙ append-assoc (h .second) O (t .others));
     }
 

@@ -51,7 +51,7 @@ mutual
   before-commands-order (case B o p r q) C X P e = before-commands-order B (or-commands o (result-command r ∷ []) C) X P e
 
 -- the parts of a whole text
-pub text-parts : Text → List Part
+unfoldable pub text-parts : Text → List Part
 text-parts (entire I e) = parts I []
 
 pub text-site : Text → Site

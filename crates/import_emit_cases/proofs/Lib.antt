@@ -1,0 +1,4 @@
+-- laws that several proofs cite
+pub mod Putting
+pub mod Stepping
+pub mod Looping
