@@ -1,3 +1,4 @@
+-- `whole_linears::divided` meets its contract: the first i numbers of the result are the quotients; the divisor is at least 1 and within the limits, as `quot` requires.
 use mathlib.Core.Path.{_≡_, refl, sym, ap, _∙_}
 use Prim.Native.Nat.{ℕ, _+_, _-_, _≤_}
 use native.Mathlib.Omega.{arith}
