@@ -1,3 +1,4 @@
+-- `check_rules::pair` meets its contract: the first staircase stays within the table, for the count only grows; the rule then has both its operands there.
 use native.Mathlib.Nat.{lt-of-lt-of-le}
 use Rattle.check_rules.proofs.Steps.{held, held-on}
 use borrow.Author.Needs.{needs}

@@ -1,3 +1,4 @@
+-- `check_rules::stair` meets its contract: a test of coefficient 1 is proper at every place up to 1,000,000 (`proper-at`), so `join_test` may take it.
 use native.Mathlib.Nat.{lt-of-lt-of-le}
 use Rattle.check_rules.proofs.Steps.{held-grew, held-on, proper-at}
 use borrow.Author.Needs.{needs}

@@ -1,3 +1,4 @@
+-- `check_rules::stairs` meets its contract: the answer so far keeps the table, with an index within it where it has not stopped; each step goes on from its count (`held-on`).
 use mathlib.Core.Path.{_≡_, refl}
 use Prim.Native.Nat.{_-_, _≤_}
 use native.Mathlib.Omega.{arith}

@@ -1,3 +1,4 @@
+-- `collect::collect` meets its contract: what is marked is closed under branches, which `slide` requires; then every root is marked, so it has a forward word (`collected`).
 use Rattle.collect.proofs.Gathers.{space₁, closed, asks, collected}
 use borrow.Author.Needs.{needs}
 use Rattle.collect.proofs.collect.Statement.{statement}

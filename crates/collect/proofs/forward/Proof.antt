@@ -1,3 +1,4 @@
+-- `collect::forward` meets its contract: the first j roots are forwarded, and the others are as they were.
 use borrow.Author.Needs.{needs}
 use Prim.Native.Nat.{_-_}
 use native.Mathlib.Omega.{arith}

@@ -1,3 +1,4 @@
+-- `collect_compact::moved` meets its contract: a leaf stays; the branches of a valid node are below cap, so their forward words are there to be read.
 use Prim.Native.Nat.{_+_}
 use native.Mathlib.Omega.{arith}
 use Rattle.collect_compact.proofs.Moves.{moved-leaf, high-less, low-less, moved-branch}

@@ -1,3 +1,4 @@
+-- `collect_compact::slide` meets its contract: of the first i nodes the marked ones are the first j, with the trees that they had and forwarded; from i on nothing has changed (`State`).
 use Prim.Native.Nat.{_-_}
 use native.Mathlib.Omega.{arith}
 use borrow.Author.Needs.{needs}

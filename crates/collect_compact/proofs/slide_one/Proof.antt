@@ -1,3 +1,4 @@
+-- `collect_compact::slide_one` meets its contract: a node that is not marked changes nothing; a marked one gets its branches' new indexes and is stored at j.
 use Rattle.collect_compact.proofs.Moves.{one-no, one-yes, valid-as}
 use borrow.Author.Needs.{needs}
 use Rattle.collect_compact.proofs.slide_one.Statement.{statement}

@@ -1,3 +1,4 @@
+-- `collect_compact::stay` meets its contract: the invariant is the contract at i: the first i nodes are marked and forwarded to themselves (`Stayed`).
 use Prim.Native.Nat.{_-_}
 use native.Mathlib.Omega.{arith}
 use borrow.Author.Needs.{needs}

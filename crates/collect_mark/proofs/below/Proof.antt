@@ -1,3 +1,4 @@
+-- `collect_mark::below` meets its contract: the three cases of `markStep`: not marked, a leaf, or two branches, which lie below the node and so in the words.
 use native.Mathlib.Omega.{arith}
 use lib.ListN.{length-set}
 use Rattle.collect_mark.proofs.Steps.{step-zero, step-leaf, step-branch, high-less, low-less}

@@ -1,3 +1,4 @@
+-- `collect_mark::descend` meets its contract: `markDown` from i gives, on the words so far, what it gives from count on those at the entry; i falls.
 use borrow.Author.Needs.{needs}
 use native.Mathlib.Omega.{arith}
 use Rattle.collect_mark.proofs.Steps.{Descent, begins, asks, falls, ends}

@@ -1,3 +1,4 @@
+-- `collect_mark::mark` meets its contract: the first j roots are marked, and only nodes that the roots need are; `descend` marks the branches (`Pass`).
 use borrow.Author.Needs.{needs}
 use mathlib.Core.Path.{_∙_}
 use Prim.Native.Nat.{_-_}

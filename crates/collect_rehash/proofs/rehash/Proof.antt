@@ -1,3 +1,4 @@
+-- `collect_rehash::rehash` meets its contract: the heads and the cache are cleared; then the chains hold the first i nodes, and node i becomes its bucket's head, with the old head as its link.
 use Prim.Native.Nat.{_-_}
 use native.Mathlib.Omega.{arith}
 use mathlib.Core.Path.{_∙_}

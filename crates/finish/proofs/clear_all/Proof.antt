@@ -1,3 +1,4 @@
+-- `finish::clear_all` meets its contract: words that are zero from 0 on are all zero (`all-wiped`).
 use Rattle.finish.proofs.Fill.{all-wiped}
 use lib.IntN.{pos}
 use borrow.Author.Needs.{needs}

@@ -1,3 +1,4 @@
+-- `finish::finish` meets its contract: the numbering is an inverse pair of lists, which `lay_out` requires; `finished` joins the contracts of the four calls.
 use native.Mathlib.Omega.{arith}
 use Rattle.finish.proofs.Whole.{inverse, wide, finished}
 use borrow.Author.Needs.{needs}

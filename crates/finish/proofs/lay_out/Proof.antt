@@ -1,3 +1,4 @@
+-- `finish::lay_out` meets its contract: each part is one call's contract; work words that are zero from 0 on are all zero (`all-wiped`).
 use mathlib.Core.Path.{ap, _∙_}
 use Prim.Native.Nat.{ℕ}
 use lib.ListN.{replicate}

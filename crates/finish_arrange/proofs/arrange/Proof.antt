@@ -1,3 +1,4 @@
+-- `finish_arrange::arrange` meets its contract: the first k places have their nodes, the work words tell where the others stand, and from k on places and numbers are still inverse (`Perm`).
 use Prim.Native.Nat.{_-_}
 use native.Mathlib.Omega.{arith}
 use Rattle.finish_arrange.proofs.Perm.{Perm, begins, roomy, q-small, steps-as, ends}

@@ -1,3 +1,4 @@
+-- `finish_arrange::renumbered` meets its contract: a leaf stays; the branches of a valid node are natural numbers below cap, so their numbers are there to be read.
 use mathlib.Core.Path.{_∙_}
 use Prim.Native.Nat.{_+_}
 use native.Mathlib.Omega.{arith}

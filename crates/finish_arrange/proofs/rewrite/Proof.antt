@@ -1,3 +1,4 @@
+-- `finish_arrange::rewrite` meets its contract: the nodes before i have their branches' numbers, and those from i on are as they were.
 use Prim.Native.Nat.{_-_}
 use native.Mathlib.Omega.{arith}
 use Rattle.finish_arrange.proofs.Rewrites.{Rewrite, rewrites, room, valid, rewrite-more, rewritten}

@@ -1,3 +1,4 @@
+-- `finish_arrange::swap_work` meets its contract: the two cases of `swapW`: the node at k has no number, or its number's word is set to p.
 use mathlib.Core.Path.{refl}
 use native.Mathlib.Omega.{arith}
 use lib.ListN.{length-set}

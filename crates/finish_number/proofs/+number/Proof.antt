@@ -1,3 +1,4 @@
+-- `finish_number::number` meets its contract: the inner calls are at branches, whose indexes are smaller; each may assume its contract, the second one on the state that the first leaves.
 use mathlib.Core.Path.{sym, _∙_}
 use native.Mathlib.Omega.{arith}
 use Rattle.table.specs.Table.{nodeAt}

@@ -1,3 +1,4 @@
+-- `finish_number::assign` meets its contract: the two writes are `assigned` by definition; both places lie within 2 cap words.
 use mathlib.Core.Path.{refl}
 use native.Mathlib.Omega.{arith}
 use lib.ListN.{length-set}

@@ -1,3 +1,4 @@
+-- `finish_number::number_all` meets its contract: entering the roots from j on after the nodes numbered so far gives what entering all roots gives (`Going`).
 use borrow.Author.Needs.{needs}
 use Prim.Native.Nat.{_-_}
 use native.Mathlib.Omega.{arith}

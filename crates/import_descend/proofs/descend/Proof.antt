@@ -1,3 +1,4 @@
+-- `import_descend::descend` meets its contract: what is visited from the first spot on is visited from s on with the list so far (`Walking`); each turn adds an entry, so the room falls.
 use Prim.Native.Nat.{_+_, _-_}
 use native.Mathlib.Omega.{arith}
 use lib.ListN.{length}

@@ -1,3 +1,4 @@
+-- `import_descend::enter` meets its contract: an atom that is visited has at most 32 signs, so nothing is to be shown of a wider one; else the entry fits its word, and its first outcome is decided.
 use native.Mathlib.Omega.{arith}
 use Rattle.import_descend.proofs.Entering.{too-wide, too-deep, fits, entered}
 use borrow.Author.Needs.{needs}

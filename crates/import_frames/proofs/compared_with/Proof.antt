@@ -1,3 +1,4 @@
+-- `import_frames::compared_with` meets its contract: the cases of `compared-with`: no comparison, or a difference whose numbers fit, or one over the limits.
 use mathlib.Core.Path.{_≡_, refl, sym, ap, _∙_, subst}
 use mathlib.Core.Bool.{Bool}
 use mathlib.Core.List.{List}

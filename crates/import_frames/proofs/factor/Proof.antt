@@ -1,3 +1,4 @@
+-- `import_frames::factor` meets its contract: the product is the term where all its numbers fit, and over where not.
 use mathlib.Core.Path.{_≡_, refl, sym, ap, _∙_, subst}
 use mathlib.Core.Bool.{Bool}
 use mathlib.Core.List.{List}

@@ -1,3 +1,4 @@
+-- `import_frames::finished` meets its contract: what is held stays; a total of nine numbers that fit is what `compared_with` requires, and any other is over.
 use mathlib.Core.Path.{_≡_, refl, sym, ap, _∙_, subst}
 use mathlib.Core.Bool.{Bool}
 use mathlib.Core.List.{List}

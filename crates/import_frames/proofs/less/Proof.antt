@@ -1,3 +1,4 @@
+-- `import_frames::less` meets its contract: both sides are nine numbers within the limits, as `sub` requires; the comparison tells which is taken from which.
 use mathlib.Core.Path.{_≡_, refl, sym, ap, _∙_, subst}
 use mathlib.Core.Bool.{Bool}
 use mathlib.Core.List.{List}

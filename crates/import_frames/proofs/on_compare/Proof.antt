@@ -1,3 +1,4 @@
+-- `import_frames::on_compare` meets its contract: the total is the left side where all its numbers fit, and over where not.
 use mathlib.Core.Path.{_≡_, refl, sym, ap, _∙_, subst}
 use mathlib.Core.Bool.{Bool}
 use mathlib.Core.List.{List}

@@ -1,3 +1,4 @@
+-- `import_frames::on_digit` meets its contract: the cases of `on-digit` by mode; a sound frame's number is within the limits, so a digit more fits, and a level has nine numbers.
 use mathlib.Core.Path.{_≡_, refl, sym, ap, _∙_, subst}
 use mathlib.Core.Bool.{Bool}
 use mathlib.Core.List.{List}

@@ -1,3 +1,4 @@
+-- `import_frames::on_end` meets its contract: a frame that finishes over the limits stays over; any other is idle in the mode behind the byte.
 use mathlib.Core.Path.{_≡_, refl, sym, ap, _∙_, subst}
 use mathlib.Core.Bool.{Bool}
 use mathlib.Core.List.{List}

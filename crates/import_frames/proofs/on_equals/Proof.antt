@@ -1,3 +1,4 @@
+-- `import_frames::on_equals` meets its contract: the cases of `on-equals`: right behind `<` or `>` it changes the comparison, and else it ends the sum.
 use mathlib.Core.Path.{_≡_, refl, sym, ap, _∙_, subst}
 use mathlib.Core.Bool.{Bool}
 use mathlib.Core.List.{List}

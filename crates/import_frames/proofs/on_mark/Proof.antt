@@ -1,3 +1,4 @@
+-- `import_frames::on_mark` meets its contract: the cases of `on-mark` by byte, in the code's order.
 use mathlib.Core.Path.{_≡_, refl, sym, ap, _∙_, subst}
 use mathlib.Core.Bool.{Bool}
 use mathlib.Core.List.{List}

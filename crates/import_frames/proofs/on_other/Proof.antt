@@ -1,3 +1,4 @@
+-- `import_frames::on_other` meets its contract: the cases of `on-other` by byte, each its call's contract.
 use mathlib.Core.Path.{_≡_, refl, sym, ap, _∙_, subst}
 use mathlib.Core.Bool.{Bool}
 use mathlib.Core.List.{List}

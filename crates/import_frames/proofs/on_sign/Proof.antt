@@ -1,3 +1,4 @@
+-- `import_frames::on_sign` meets its contract: before a leading sign stands nothing; else the total goes on where all its numbers fit, and is over where not.
 use mathlib.Core.Path.{_≡_, refl, sym, ap, _∙_, subst}
 use mathlib.Core.Bool.{Bool}
 use mathlib.Core.List.{List}

@@ -1,3 +1,4 @@
+-- `import_frames::popped` meets its contract: closing and finishing keep the frame sound, as the next call requires; a frame that is over is the answer.
 use mathlib.Core.Path.{_≡_, refl, sym, ap, _∙_, subst}
 use mathlib.Core.Bool.{Bool}
 use mathlib.Core.List.{List}

@@ -1,3 +1,4 @@
+-- `import_frames::step` meets its contract: the cases of `step`: a name's byte, a digit, or a mark behind a closed number; closing keeps the frame sound.
 use mathlib.Core.Path.{_≡_, refl, sym, ap, _∙_, subst}
 use mathlib.Core.Bool.{Bool}
 use mathlib.Core.List.{List}

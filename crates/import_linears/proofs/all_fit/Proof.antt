@@ -1,3 +1,4 @@
+-- `import_linears::all_fit` meets its contract: all numbers fit where those from i on do; the first that does not ends the loop.
 use mathlib.Core.Path.{_≡_, refl}
 use Prim.Native.Nat.{_-_, _≤_}
 use native.Mathlib.Omega.{arith}

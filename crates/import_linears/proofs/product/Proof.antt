@@ -1,3 +1,4 @@
+-- `import_linears::product` meets its contract: the cases of `multiplied`: the constant of the first linear multiplies the second where the first has no level, and else it is the other way round.
 use Rattle.import_linears.proofs.Laws.{by-first, by-second}
 use borrow.Author.Needs.{needs}
 use Rattle.import_linears.proofs.product.Statement.{statement}

@@ -1,3 +1,4 @@
+-- `import_list::pack` meets its contract: each part fits its bits (`Fits`), so every product and sum fits 64 bits; the result is that of `packed`.
 use native.Mathlib.Omega.{arith}
 use borrow.Author.Needs.{needs}
 use Rattle.import_list.specs.Packed.{packed}

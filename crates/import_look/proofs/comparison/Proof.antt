@@ -1,3 +1,4 @@
+-- `import_look::comparison` meets its contract: `turned` swaps the sides of the difference; `compared` joins the two sums and the operator.
 use mathlib.Core.Path.{sym, _∙_}
 use Rattle.import_look.proofs.Places.{if-yes, if-no}
 use Rattle.import_look.proofs.Telling.{compared}

@@ -1,3 +1,4 @@
+-- `import_look::difference` meets its contract: the cases of `tested-of`: two lists of nine numbers that fit have a difference, as `sub` requires; else the left one stands for it.
 use mathlib.Core.Path.{sym, _∙_}
 use Rattle.import_frames.proofs.Laws.{nine-smalls}
 use Rattle.import_look.proofs.Telling.{test-both, test-right, test-left}

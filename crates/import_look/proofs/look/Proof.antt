@@ -1,3 +1,4 @@
+-- `import_look::look` meets its contract: the byte behind white space decides: a condition of this step, one of the next, or else a comparison that begins at `at`.
 use Rattle.import_look.proofs.Telling.{looks-now, looks-later, looks-other}
 use borrow.Author.Needs.{needs}
 use Rattle.import_look.proofs.look.Statement.{statement}

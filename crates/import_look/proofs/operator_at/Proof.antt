@@ -1,3 +1,4 @@
+-- `import_look::operator_at` meets its contract: the cases of `operator-of`: "=" is the second byte, or another byte is, or there is none; `next` stays within the text in each.
 use native.Mathlib.Omega.{arith}
 use Rattle.import_look.proofs.Telling.{op-equals, op-bare, op-none}
 use borrow.Author.Needs.{needs}

@@ -1,3 +1,4 @@
+-- `import_look::skip` meets its contract: without white space the text from i is that from `at`; the first byte that is not blank ends the loop.
 use mathlib.Core.Path.{refl}
 use Prim.Native.Nat.{_-_}
 use native.Mathlib.Omega.{arith}

@@ -1,3 +1,4 @@
+-- `import_places::find` meets its contract: the walk in the state s from i leads to the place that is meant from the start (`At`); the depth is at most i, and the mask below 2 to the count.
 use mathlib.Core.Path.{sym, _∙_, refl}
 use mathlib.Core.Bool.{false}
 use Prim.Native.Nat.{_-_}

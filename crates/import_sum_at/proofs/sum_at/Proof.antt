@@ -1,3 +1,4 @@
+-- `import_sum_at::sum_at` meets its contract: the frame is over, or its last number is, or the total's numbers decide; closing keeps the frame sound, as `total` requires.
 use mathlib.Core.Path.{_≡_, refl, sym, ap, _∙_, subst}
 use Rattle.import_frames.specs.Frames.{Sound}
 use Rattle.import_frames.specs.Kept as kept

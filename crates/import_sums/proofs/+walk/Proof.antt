@@ -1,3 +1,4 @@
+-- `import_sums::walk` meets its contract: the run from a fresh frame at `at` is the run from s at i, whatever brackets are around (`Reaches`). An inner walk may assume its contract; its depth is one less.
 use mathlib.Core.Path.{_≡_, refl, sym, ap, _∙_, subst}
 use mathlib.Core.Bool.{Bool}
 use mathlib.Core.List.{List}

@@ -1,3 +1,4 @@
+-- `import_sums::closing` meets its contract: the inner frame is over, or ")" follows and pops it, or another byte or the text's end makes it over; each continues the outer run.
 use mathlib.Core.Path.{_≡_, refl, sym, ap, _∙_, subst}
 use mathlib.Core.Bool.{Bool}
 use mathlib.Core.List.{List}

@@ -1,3 +1,4 @@
+-- `import_sums::of_sum` meets its contract: the cases of `of-sum` by byte, in the code's order.
 use mathlib.Core.Path.{_≡_, refl, sym, ap, _∙_, subst}
 use mathlib.Core.Bool.{Bool}
 use mathlib.Core.List.{List}

@@ -1,3 +1,4 @@
+-- `load_choose::choose_command` meets its contract: each inner call goes to a branch of f or g, or of both, so that f + g falls; it may assume its contract. The test lies in the model, which does not change.
 use native.Mathlib.Omega.{arith}
 use native.Mathlib.Nat.{lt-of-lt-of-le}
 use borrow.Author.Needs.{needs}

@@ -1,3 +1,4 @@
+-- `rule_apply::merge` meets its contract: each inner call goes to a branch of f or g, or of both, so that f + g falls; it may assume its contract. `over_root` makes one diagram of the two results.
 use native.Mathlib.Omega.{arith}
 use borrow.Author.Needs.{needs}
 use Rattle.rule_node.proofs.CacheEntries.{room-in, answered, kept-run, keepable}

@@ -1,3 +1,4 @@
+-- `rule_apply::over_root` meets its contract: the two cases of `makerOf`: best chooses by the root's test, and sum and product have a node of it.
 use mathlib.Core.Path.{refl, ap, _∙_}
 use mathlib.Core.Logic.{inr}
 use Rattle.theory.specs.Diagram.{Test}

@@ -1,3 +1,4 @@
+-- `rule_apply_leaves::best_leaves` meets its contract: "none" loses to any other leaf; where neither is "none" both are linears, which `best_linears` requires.
 use mathlib.Core.Path.{sym, _∙_}
 use Rattle.rule_apply_leaves.proofs.LeafPairs.{best-first, best-second}
 use borrow.Author.Needs.{needs}

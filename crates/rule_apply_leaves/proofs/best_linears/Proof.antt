@@ -1,3 +1,4 @@
+-- `rule_apply_leaves::best_linears` meets its contract: the difference of the two linears decides: over the limits, a constant whose sign picks the leaf, or else a proper test of it.
 use Rattle.rule_node.proofs.LeafNumbers.{nums-at}
 use Rattle.rule_apply_leaves.proofs.LeafPairs.{best-over, less-nums, best-constant, best-proper, best-test}
 use borrow.Author.Needs.{needs}

@@ -1,3 +1,4 @@
+-- `rule_apply_leaves::combine` meets its contract: `leafRule` at each number is the rule that the code calls.
 use Rattle.rule_node.proofs.Outcomes.{grew-as}
 use Rattle.rule_apply_leaves.proofs.LeafPairs.{is-sum, is-product, is-best}
 use borrow.Author.Needs.{needs}

@@ -1,3 +1,4 @@
+-- `rule_apply_leaves::product_leaves` meets its contract: the leaf "none" stays where the constant is not 0; else the product is worked out, and `make_leaf` judges it.
 use Rattle.rule_apply_leaves.proofs.LeafPairs.{plain-product, product-stays, product-made}
 use borrow.Author.Needs.{needs}
 use Rattle.rule_apply_leaves.proofs.product_leaves.Statement.{statement}

@@ -1,3 +1,4 @@
+-- `rule_apply_leaves::sum_leaves` meets its contract: the first leaf "none" met is the sum; two linears have the sum that `plus` gives and `make_leaf` judges.
 use Rattle.rule_node.proofs.LeafNumbers.{nums-at}
 use Rattle.rule_apply_leaves.proofs.LeafPairs.{plain-sum, sum-first, sum-second, sum-made}
 use borrow.Author.Needs.{needs}

@@ -1,3 +1,4 @@
+-- `rule_choose::choose` meets its contract: each inner call goes to a branch of f or g, or of both, so that f + g falls; it may assume its contract, and the test that op and p give stays the same in the grown table.
 use native.Mathlib.Omega.{arith}
 use native.Mathlib.Nat.{lt-of-lt-of-le}
 use borrow.Author.Needs.{needs}

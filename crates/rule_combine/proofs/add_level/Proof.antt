@@ -1,3 +1,4 @@
+-- `rule_combine::add_level` meets its contract: the level scaled, then the sum; the diagram at f is still there in the table that scaling leaves.
 use Rattle.whole.proofs.Signed.{back}
 use Rattle.rule_combine.proofs.LinearSteps.{level-stops, level-asks, level-added}
 use borrow.Author.Needs.{needs}

@@ -1,3 +1,4 @@
+-- `rule_combine::level_sum` meets its contract: the first level is scaled, and `add_levels` goes on from it; a stop of either is the sum's stop.
 use mathlib.Core.Path.{_∙_}
 use native.Mathlib.Omega.{arith}
 use borrow.Author.Needs.{needs}

@@ -1,3 +1,4 @@
+-- `rule_combine::linear_diagram` meets its contract: the sum of the levels, and its shift by the constant, which node i still has in the grown table.
 use mathlib.Core.Path.{_∙_}
 use native.Mathlib.Nat.{lt-of-lt-of-le}
 use native.Mathlib.Omega.{arith}

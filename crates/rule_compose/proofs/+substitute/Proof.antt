@@ -1,3 +1,4 @@
+-- `rule_compose::substitute` meets its contract: the inner calls are at f's branches, whose indexes are smaller; each may assume its contract on the table that the call before leaves. `over_test` makes one diagram of the two results.
 use native.Mathlib.Omega.{arith}
 use borrow.Author.Needs.{needs}
 use Rattle.rule_node.proofs.RuleSteps.{at-in}

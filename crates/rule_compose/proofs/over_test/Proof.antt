@@ -1,3 +1,4 @@
+-- `rule_compose::over_test` meets its contract: the two cases of `overTest`: k = 0 walks the test's diagram, and any other k is a choice by the next step's condition.
 use Rattle.rule_node.proofs.Outcomes.{ran-as}
 use Rattle.rule_compose.proofs.ComposeSteps.{over-walk, over-choice, names-later}
 use borrow.Author.Needs.{needs}

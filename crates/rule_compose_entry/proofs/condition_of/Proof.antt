@@ -1,3 +1,4 @@
+-- `rule_compose_entry::condition_of` meets its contract: the node's kind decides, and then whether its number is above 4, a condition of the next step.
 use mathlib.Core.Path.{sym, subst}
 use native.Mathlib.Omega.{arith}
 use lib.Dec.{T}

@@ -1,3 +1,4 @@
+-- `rule_expect::add_reward` meets its contract: the power judged, then scale, sum and number in turn, each on the table that the one before leaves; a stop of any is the result's stop.
 use Rattle.rule_expect.proofs.RewardSteps.{reward-over, scale-stops, reward-asks, sum-stops, number-asks, rewarded}
 use borrow.Author.Needs.{needs}
 use Rattle.rule_expect.proofs.add_reward.Statement.{statement}

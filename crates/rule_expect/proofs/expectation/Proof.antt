@@ -1,3 +1,4 @@
+-- `rule_expect::expectation` meets its contract: four computations in turn, each on the table that the one before leaves; a stop of any of them is the expectation's stop.
 use Rattle.rule_expect.proofs.ExpectationSteps.{yes-picks, yes-stops, complement-asks, complement-stops, no-asks, no-stops, sum-asks, expected}
 use borrow.Author.Needs.{needs}
 use Rattle.rule_expect.proofs.expectation.Statement.{statement}

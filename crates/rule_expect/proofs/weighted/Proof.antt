@@ -1,3 +1,4 @@
+-- `rule_expect::weighted` meets its contract: the side, then the product with w, which is still there in the table that the side leaves.
 use Rattle.rule_expect.proofs.ExpectationSteps.{weighted-stops, weighted-asks, weighted-made}
 use borrow.Author.Needs.{needs}
 use Rattle.rule_expect.proofs.weighted.Statement.{statement}

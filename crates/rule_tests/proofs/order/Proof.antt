@@ -1,3 +1,4 @@
+-- `rule_tests::order` meets its contract: each early answer is what the words' order gives: by the kinds where they differ (`kinds-order`, `kinds-differ`), else by the numbers.
 use mathlib.Core.Path.{refl}
 use native.Mathlib.Omega.{arith}
 use Rattle.whole.specs.Linears.{ordNum}

@@ -1,3 +1,4 @@
+-- `rule_tests::order_linears` meets its contract: the lists are ordered as their rests from i on are; the first two coefficients that differ decide, and else the constant.
 use mathlib.Core.Path.{_≡_, refl}
 use Prim.Native.Nat.{_-_, _≤_}
 use native.Mathlib.Omega.{arith}

@@ -1,3 +1,4 @@
+-- `rule_walk::walk` meets its contract: the inner calls are at f's branches, with g and p as they are, so that f + g falls; each may assume its contract, and what the cache keeps lasts as the table grows.
 use native.Mathlib.Omega.{arith}
 use borrow.Author.Needs.{needs}
 use Rattle.rule_node.proofs.CacheEntries.{room-in, answered, kept-run, keepable}

@@ -1,3 +1,4 @@
+-- `rule_walk::decide_at` meets its contract: the two cases of `decide`: a constant picks g or p by its sign, and any other linear is a choice by the test that f names.
 use mathlib.Core.Path.{refl}
 use mathlib.Core.Logic.{inr}
 use Rattle.rule_walk.proofs.Walks.{decided-constant, decided-test}

@@ -1,3 +1,4 @@
+-- `solve_in_room::fill` meets its contract: a run that ends with 0 leaves what `finish` requires (`to-finish`); any other run asks nothing of the tables' words.
 use mathlib.Core.Path.{_∙_}
 use native.Mathlib.Omega.{arith}
 use Rattle.solve_value_iteration.proofs.Start.{size-few, no-nodes}

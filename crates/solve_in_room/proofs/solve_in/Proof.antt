@@ -1,3 +1,4 @@
+-- `solve_in_room::solve_in` meets its contract: without room the first leaf already ends with 12 (`no-room`); else `fill` gives the contract.
 use mathlib.Core.Path.{refl, _∙_}
 use Rattle.solve_in_room.proofs.Left.{no-room, some-room, cleared}
 use Rattle.solve_in_room.proofs.solve_in.Statement.{statement}

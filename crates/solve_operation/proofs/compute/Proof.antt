@@ -1,3 +1,4 @@
+-- `solve_operation::compute` meets its contract: one case for each rule: `Fits` says that its roots are there, and `Below` that they are in the table.
 use native.Mathlib.Omega.{arith}
 use lib.ListN.{length}
 use Rattle.solve_operation.proofs.Rules.{zero-plain, zero-ran, levels-took, expect-took, reward-took, best-took, levels-fit, expect-fit, reward-fit, best-fit}

@@ -1,3 +1,4 @@
+-- `solve_operation::keep_roots` meets its contract: `collect` on the first roots alone; the others stay as they are (`prefix-kept`).
 use mathlib.Core.Path.{sym, subst}
 use Prim.Native.Nat.{ℕ}
 use lib.Seq.{length-take-le}

@@ -1,3 +1,4 @@
+-- `solve_operation::operate` meets its contract: the roots moved with their nodes, so the rule has the same operands; only a rule that ended with 0 writes its root.
 use mathlib.Core.Path.{sym, ap, _∙_}
 use mathlib.Core.Logic.{⊎-elim}
 use lib.ListN.{length}

@@ -1,3 +1,4 @@
+-- `solve_operation::replace_levels` meets its contract: the m roots from `at` on lie below count, as `substitute` requires of levels; their trees are the part of the roots' trees.
 use native.Mathlib.Omega.{arith}
 use borrow.Author.Needs.{needs}
 use Rattle.solve_operation.proofs.Roots.{levels-ask, levels-ran}

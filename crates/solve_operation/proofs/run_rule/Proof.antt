@@ -1,3 +1,4 @@
+-- `solve_operation::run_rule` meets its contract: the count nodes stand as they did and the part has room for them (`Trying`); a run that does not end with 12 in a part ends alike in the whole room. The parts grow.
 use Prim.Native.Nat.{_-_}
 use native.Mathlib.Omega.{arith}
 use borrow.Author.Needs.{needs}

@@ -1,3 +1,4 @@
+-- `solve_peaks::raise_peak` meets its contract: a word below the count is replaced (`raise-larger`), and any other stays (`raise-same`).
 use borrow.Author.Needs.{needs}
 use Rattle.solve_peaks.proofs.Words.{raise-larger, raise-same}
 use Rattle.solve_peaks.proofs.raise_peak.Statement.{statement}

@@ -1,3 +1,4 @@
+-- `solve_value_iteration::load_in_parts` meets its contract: each try has room for a part, and lengths do not change (`Filling`); what does not end with 12 in a part ends alike in the whole room. The parts grow.
 use Prim.Native.Nat.{_-_}
 use native.Mathlib.Omega.{arith}
 use borrow.Author.Needs.{needs}

@@ -1,3 +1,4 @@
+-- `table::get` meets its contract: the first k numbers are the words behind the kind; kind, high and low are read after them.
 use Prim.Native.Nat.{ℕ, _+_, _-_, _*_, _≤_}
 use native.Mathlib.Omega.{arith}
 use borrow.Author.Needs.{needs}

@@ -1,3 +1,4 @@
+-- `table::is_at` meets its contract: nodes that differ in low or in the constant are not equal, for equal nodes have equal fields; else `same` decides.
 use mathlib.Core.Path.{ap, sym, _∙_, subst}
 use lib.IntN.{pos}
 use lib.ListN.{getD}

@@ -1,3 +1,4 @@
+-- `table::put` meets its contract: the first k numbers stand behind the kind, and no other word has changed since the kind was stored; high and low come last.
 use Prim.Native.Nat.{ℕ, _+_, _-_, _*_, _≤_}
 use native.Mathlib.Omega.{arith}
 use borrow.Author.Needs.{needs}

@@ -1,3 +1,4 @@
+-- `table_unique::find` meets its contract: no node of x's bucket from `at` on equals x, and each link is below the one before it (`Walk`).
 use mathlib.Core.Path.{refl}
 use Prim.Native.Nat.{ℕ, _+_, _-_}
 use borrow.Author.Needs.{needs}

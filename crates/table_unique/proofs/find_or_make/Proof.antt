@@ -1,3 +1,4 @@
+-- `table_unique::find_or_make` meets its contract: the node is there, or the table is full, or it is appended as its bucket's new head, with the old head as its link (`chained-new`).
 use mathlib.Core.Path.{_∙_, ap, refl}
 use native.Mathlib.Omega.{arith}
 use lib.ListN.{length, length-set}

@@ -1,3 +1,4 @@
+-- `table_unique::times` meets its contract: a factor is below 2³¹, so its high half is 0 and both products fit; the sum by halves is the product's last 64 bits.
 use mathlib.Core.Path.{_∙_}
 use Prim.Native.Nat.{_/_, _%_}
 use native.Mathlib.Omega.{arith}

@@ -1,3 +1,4 @@
+-- `whole_linears::divisor` meets its contract: the constant's magnitude and the coefficients' divisor have the divisor of all nine (`divisor-is`).
 use mathlib.Core.Path.{_≡_, refl, sym, ap, _∙_}
 use Prim.Native.Nat.{ℕ, _+_, _-_, _≤_}
 use native.Mathlib.Omega.{arith}

@@ -1,3 +1,4 @@
+-- `whole_linears::gcd_first` meets its contract: g is the divisor of the coefficients from i on, and i falls.
 use mathlib.Core.Path.{_≡_, refl, sym, ap, _∙_}
 use Prim.Native.Nat.{ℕ, _+_, _-_, _≤_}
 use native.Mathlib.Omega.{arith}

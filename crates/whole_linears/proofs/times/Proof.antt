@@ -1,3 +1,4 @@
+-- `whole_linears::times` meets its contract: the first i numbers of the result are the products, clipped; `product` takes any two numbers, so nothing is required.
 use mathlib.Core.Path.{_≡_, refl, sym, ap, _∙_}
 use Prim.Native.Nat.{ℕ, _+_, _-_, _≤_}
 use native.Mathlib.Omega.{arith}

@@ -1,3 +1,4 @@
+-- `whole_linears::within` meets its contract: all numbers lie within the limits where those from i on do; the first that does not ends the loop.
 use mathlib.Core.Path.{_≡_, refl, sym, ap, _∙_}
 use Prim.Native.Nat.{ℕ, _+_, _-_, _≤_}
 use native.Mathlib.Omega.{arith}

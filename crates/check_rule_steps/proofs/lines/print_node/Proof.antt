@@ -1,3 +1,4 @@
+-- `check_rule_steps::lines::print_node` meets its contract: i is at most the node's words, and an index below the bound has a place that fits.
 use Prim.Native.Nat.{_-_, _≤_}
 use native.Mathlib.Omega.{arith}
 use Rattle.table.specs.Table.{node-words}

@@ -1,3 +1,4 @@
+-- `check_rule_steps::rules::binary_step` meets its contract: each case is its call's contract, with both operands below count; an unknown operand leaves the table as it is.
 use Rattle.check_rule_steps.proofs.Steps.{same}
 use borrow.Author.Needs.{needs}
 use Rattle.check_rule_steps.proofs.rules.binary_step.Statement.{statement}

@@ -1,3 +1,4 @@
+-- `check_rule_steps::rules::condition` meets its contract: a condition of 1 to 8 is proper (`proper-condition`), so `join_test` may take it; other numbers leave the table as it is.
 use Rattle.check_rule_steps.proofs.Steps.{same, grew, proper-condition}
 use borrow.Author.Needs.{needs}
 use Rattle.check_rule_steps.proofs.rules.condition.Statement.{statement}

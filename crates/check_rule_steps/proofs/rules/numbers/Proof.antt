@@ -1,3 +1,4 @@
+-- `check_rule_steps::rules::numbers` meets its contract: each answer that fits is one that its rule may take (`Acts`): any number scales, one within the limits shifts, and the others take 1 to 4.
 use Rattle.rule_unary.proofs.RulesByName.{scale-acts, shift-acts}
 use Rattle.check_rule_steps.proofs.Steps.{never, small-back, scales, shifts, counts}
 use borrow.Author.Needs.{needs}

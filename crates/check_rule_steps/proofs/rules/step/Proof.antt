@@ -1,3 +1,4 @@
+-- `check_rule_steps::rules::step` meets its contract: each case is its call's contract; an unknown step leaves the table as it is.
 use Rattle.check_rule_steps.proofs.Steps.{same}
 use borrow.Author.Needs.{needs}
 use Rattle.check_rule_steps.proofs.rules.step.Statement.{statement}

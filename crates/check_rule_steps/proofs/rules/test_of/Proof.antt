@@ -1,3 +1,4 @@
+-- `check_rule_steps::rules::test_of` meets its contract: a node's index is below count, a condition is 1 to 4; all else does not fit, so nothing is to be shown of it.
 use mathlib.Core.Path.{refl}
 use mathlib.Core.Logic.{inl, inr}
 use Rattle.check_rule_steps.proofs.Steps.{never}

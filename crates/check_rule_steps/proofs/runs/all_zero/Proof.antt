@@ -1,3 +1,4 @@
+-- `check_rule_steps::runs::all_zero` meets its contract: the words before i are 0.
 use mathlib.Core.Path.{_≡_}
 use Prim.Native.Nat.{ℕ, _-_, _≤_, _<_}
 use native.Mathlib.Omega.{arith}

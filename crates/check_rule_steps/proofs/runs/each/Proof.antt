@@ -1,3 +1,4 @@
+-- `check_rule_steps::runs::each` meets its contract: the table is held with the count of the last answer, and no length changes; i goes up to 1,000.
 use mathlib.Core.Path.{_≡_, refl}
 use Prim.Native.Nat.{_-_}
 use borrow.Author.Needs.{needs}

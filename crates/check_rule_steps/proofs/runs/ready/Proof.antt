@@ -1,3 +1,4 @@
+-- `check_rule_steps::runs::ready` meets its contract: a table of zero work words and no node is held (`empty`); each test before gives one of its bounds.
 use mathlib.Core.Path.{_≡_}
 use Prim.Native.Nat.{ℕ}
 use native.Mathlib.Omega.{arith}

@@ -1,3 +1,4 @@
+-- `check_rule_steps::runs::run` meets its contract: the rows are run only where `ready` is true, and then the table is held, which `each` requires.
 use borrow.Author.Needs.{needs}
 use Rattle.check_rule_steps.proofs.runs.run.Statement.{statement}
 use Rattle.check_rule_steps.proofs.runs.run.Tie as tie

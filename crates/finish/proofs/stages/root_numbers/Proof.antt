@@ -1,3 +1,4 @@
+-- `finish::stages::root_numbers` meets its contract: the first j stage words are the numbers of the first j roots, and the others are as they were.
 use borrow.Author.Needs.{needs}
 use Prim.Native.Nat.{_-_, _≤_}
 use native.Mathlib.Omega.{arith}

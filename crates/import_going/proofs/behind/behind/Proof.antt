@@ -1,3 +1,4 @@
+-- `import_going::behind::behind` meets its contract: up to the first k the text from i reads as that from the start, whatever is made of what follows (`Passing`).
 use mathlib.Core.Path.{refl}
 use Prim.Native.Nat.{_-_}
 use native.Mathlib.Omega.{arith}

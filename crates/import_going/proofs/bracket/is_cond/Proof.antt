@@ -1,3 +1,4 @@
+-- `import_going::bracket::is_cond` meets its contract: the answer from i at this depth is that from the start (`Seeing`); the depth is at most i, so it fits.
 use mathlib.Core.Path.{sym, _∙_, refl}
 use Prim.Native.Nat.{_-_}
 use native.Mathlib.Omega.{arith}

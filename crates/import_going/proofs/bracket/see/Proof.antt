@@ -1,3 +1,4 @@
+-- `import_going::bracket::see` meets its contract: the cases of `seen-of` by byte, and by the depth at `)`.
 use Rattle.import_going.specs.Going.{seen-of}
 use mathlib.Core.Path.{sym, _∙_}
 use mathlib.Core.Bool.{true, false}

@@ -1,3 +1,4 @@
+-- `import_going::start::decided` meets its contract: each of the four answers of `find` has its case of `Spotted`; what `find` says of its place is what `go` and `next_case` require.
 use Rattle.import_going.proofs.Reaching.{go-inside, comes-go, comes-result, comes-case, case-inside, comes-lost}
 use borrow.Author.Needs.{needs}
 use Rattle.import_going.proofs.start.decided.Statement.{statement}

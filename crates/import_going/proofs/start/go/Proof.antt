@@ -1,3 +1,4 @@
+-- `import_going::start::go` meets its contract: going on from s at i leads to the place that is meant from the start (`Reaching`); each byte goes on or ends at it.
 use mathlib.Core.Path.{sym, _∙_, refl}
 use mathlib.Core.Bool.{false}
 use Prim.Native.Nat.{_-_}

@@ -1,3 +1,4 @@
+-- `import_going::turning::after_byte` meets its contract: the cases of `turn-of` by byte: `!`, `(`, `e`, and else white space or an atom.
 use mathlib.Core.Path.{sym, _∙_}
 use mathlib.Core.Bool.{true, false}
 use Rattle.import_going.specs.Turns.{turn-of}

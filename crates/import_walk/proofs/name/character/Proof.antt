@@ -1,3 +1,4 @@
+-- `import_walk::name::character` meets its contract: character `left` of the string from i is character j of the whole (`Spelling`).
 use mathlib.Core.Path.{refl, sym, _∙_}
 use Prim.Native.Nat.{_-_}
 use native.Mathlib.Omega.{arith}

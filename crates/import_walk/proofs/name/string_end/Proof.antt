@@ -1,3 +1,4 @@
+-- `import_walk::name::string_end` meets its contract: from i, behind a quote or not, the string's end is that from the start (`Scanning`).
 use mathlib.Core.Path.{refl, sym, _∙_}
 use Prim.Native.Nat.{_-_}
 use native.Mathlib.Omega.{arith}

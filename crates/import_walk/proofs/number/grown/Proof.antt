@@ -1,3 +1,4 @@
+-- `import_walk::number::grown` meets its contract: the value is at most 65,535, so ten times it and a digit fit; the cases of `grown-of` are a blank, `most`, and the new value.
 use mathlib.Core.Path.{sym, _∙_}
 use native.Mathlib.Omega.{arith}
 use Rattle.import_walk.proofs.Loops.{grown-blank, grown-over, grown-in}

@@ -1,3 +1,4 @@
+-- `import_walk::number::number_at` meets its contract: the value so far with the bytes from i on gives the value of all, and is at most `most` (`Counting`).
 use mathlib.Core.Path.{refl, sym, _∙_}
 use Prim.Native.Nat.{_-_}
 use native.Mathlib.Omega.{arith}

@@ -1,3 +1,4 @@
+-- `import_walk::opening::opening_at` meets its contract: each part is a call's contract on the parts before it (`opening-joined`).
 use mathlib.Core.Path.{refl}
 use Rattle.import_walk.proofs.Joined.{opening-joined}
 use borrow.Author.Needs.{needs}

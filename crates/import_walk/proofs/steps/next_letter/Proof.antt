@@ -1,3 +1,4 @@
+-- `import_walk::steps::next_letter` meets its contract: from i, inside a string or not, the next letter is that from the start (`Scanning`).
 use mathlib.Core.Path.{refl, sym, _∙_}
 use Prim.Native.Nat.{_-_}
 use native.Mathlib.Omega.{arith}

@@ -1,3 +1,4 @@
+-- `import_walk::steps::past` meets its contract: what is behind the first c is the same from i as from the start (`Passing`).
 use mathlib.Core.Path.{refl, sym, _∙_}
 use Prim.Native.Nat.{_-_}
 use native.Mathlib.Omega.{arith}

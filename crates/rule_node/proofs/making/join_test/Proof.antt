@@ -1,3 +1,4 @@
+-- `rule_node::making::join_test` meets its contract: the low branch is narrowed first; where both branches are one then the node is that branch, and else it is valid and is interned.
 use Rattle.rule_node.proofs.BranchNode.{join-same, join-valid, join-made, words-of}
 use borrow.Author.Needs.{needs}
 use Rattle.rule_node.proofs.making.join_test.Statement.{statement}

@@ -1,3 +1,4 @@
+-- `rule_node::narrowing::parallel` meets its contract: the cases of `parallelOf`: x with y's constant in the place of its own equals y, where both are linear tests and y's constant is larger.
 use native.Mathlib.Omega.{arith}
 use Rattle.table.proofs.Tests.{kind-yes, kind-no}
 use Rattle.table.proofs.Words.{as-long}

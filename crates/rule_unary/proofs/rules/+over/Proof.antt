@@ -1,3 +1,4 @@
+-- `rule_unary::rules::over` meets its contract: the inner calls are at branches of f, whose indexes are smaller; each may assume its contract. A side that picks is its branch's result; else both results meet in `join`.
 use native.Mathlib.Omega.{arith}
 use borrow.Author.Needs.{needs}
 use Rattle.rule_node.proofs.CacheEntries.{room-in, answered, kept-run, keepable}

@@ -1,3 +1,4 @@
+-- `rule_unary_node::halves::number_of` meets its contract: the halves make one word; below 2⁶³ it is the number, and from there on −1 less what it lacks of the greatest word (`number-back`).
 use mathlib.Core.Path.{_∙_}
 use Prim.Native.Nat.{_+_, _*_}
 use native.Mathlib.Omega.{arith}

@@ -1,3 +1,4 @@
+-- `rule_unary_node::leaf::acted` meets its contract: a case of `actedNode` for each rule; `Acts` gives what each callee requires, and the rules left over are sides, which keep the leaf.
 use mathlib.Core.Path.{_∙_, sym}
 use native.Mathlib.Omega.{arith}
 use Rattle.rule_leaves.proofs.Figures.{small-as}

@@ -1,3 +1,4 @@
+-- `rule_unary_node::leaf::at_leaf` meets its contract: a leaf that stays is its own result; a numbered one is valid as it is, and one of a new linear is judged by `make_leaf`.
 use Rattle.rule_unary_node.proofs.LeafResults.{leaf-kept, leaf-nums, leaf-plain, leaf-judged, leaf-valid, leaf-numbered}
 use borrow.Author.Needs.{needs}
 use Rattle.rule_unary_node.proofs.leaf.at_leaf.Statement.{statement}

@@ -1,3 +1,4 @@
+-- `rule_unary_node::ways::way_at` meets its contract: only a side compares its condition with the node's test; for a rule below `YES_SIDE` the order counts as 0.
 use Rattle.rule_tests.proofs.Comparisons.{at-as}
 use Rattle.rule_unary_node.proofs.WayOn.{way-other, way-side}
 use borrow.Author.Needs.{needs}

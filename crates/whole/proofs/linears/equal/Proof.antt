@@ -1,3 +1,4 @@
+-- `whole::linears::equal` meets its contract: the lists are equal where their rests from i on are; the loop keeps that, and the first difference ends it.
 use mathlib.Core.Path.{_≡_, refl, sym, ap, _∙_}
 use Prim.Native.Nat.{ℕ, _+_, _-_, _≤_}
 use native.Mathlib.Omega.{arith}
