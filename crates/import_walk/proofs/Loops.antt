@@ -6,7 +6,7 @@ use Prim.Native.Nat.{ℕ, zero, suc, _+_, _*_, _-_, _≤_, _<_}
 use native.Mathlib.Numerals.{add-one}
 use native.Mathlib.Omega.{arith}
 use lib.Dec.{eqb}
-use lib.ListN.{length, getD, drop}
+use lib.ListN.{length, getD, drop, drop-of-length-le}
 use lib.Seq.{drop-cons, drop-drop}
 use borrow.Author.Tests.{ne-eqb, eq-eqb}
 use Rattle.whole.specs.Cases.{if}
@@ -17,12 +17,6 @@ use Rattle.import_parts.specs.laws.Meets.{small, great}
 use Rattle.import_walk.specs.declared.number.Number.{Number}
 use Rattle.import_walk.specs.Onward.{Onward, Ahead, NumberAt}
 
-pub drop-all : (w : List ℕ) (i : ℕ) → length w ≤ i → drop i w ≡ []
-drop-all [] zero h = refl
-drop-all [] (suc i) h = refl
-drop-all (k ∷ w) zero h = absurd (omega arith)
-drop-all (k ∷ w) (suc i) h = drop-all w i (omega arith)
-
 -- ---- n bytes on
 
 pub ahead-in : (w : List ℕ) (at n : ℕ) → at ≤ length w → n < length w - at → Ahead w at n (at + n)
@@ -30,7 +24,7 @@ ahead-in w at n a h = record { to = record { stands = record { within = omega (a
 
 pub ahead-out : (w : List ℕ) (at n : ℕ) → at ≤ length w → length w - at ≤ n → Ahead w at n (length w)
 ahead-out w at n a h = record {
-  to = record { stands = record { within = omega arith; rest = drop-all w (length w) (omega arith) ∙ sym (drop-drop n at w ∙ drop-all w (at + n) (omega (arith, a, h))) }; on = a };
+  to = record { stands = record { within = omega arith; rest = drop-of-length-le w {i = length w} (omega arith) ∙ sym (drop-drop n at w ∙ drop-of-length-le w {i = at + n} (omega (arith, a, h))) }; on = a };
   moves = λ p q. p;
 }
 
@@ -67,7 +61,7 @@ scan-here F here turn o text from b i s h e = record { stands = record { within 
 scan-end : (F : Bool → List ℕ → List ℕ) (here turn : Bool → ℕ → Bool) → OneByte F here turn → (text : List ℕ) (from : ℕ) (b : Bool) (i : ℕ)
     → Scanning F text from b i → length text ≤ i → Onward text from i (F false (drop from text))
 scan-end F here turn o text from b i s h = record {
-  stands = record { within = s .within; rest = drop-all text i h ∙ sym (o .nothing b) ∙ ap (F b) (sym (drop-all text i h)) ∙ s .rest };
+  stands = record { within = s .within; rest = drop-of-length-le text h ∙ sym (o .nothing b) ∙ ap (F b) (sym (drop-of-length-le text h)) ∙ s .rest };
   on = s .on;
 }
 
@@ -125,7 +119,7 @@ past-found c text from i p h e = record {
 
 pub past-end : (c : ℕ) (text : List ℕ) (from i : ℕ) → Passing c text from i → length text ≤ i → Onward text from i (past c (drop from text))
 unfolding past
-past-end c text from i p h = record { stands = record { within = p .within; rest = drop-all text i h ∙ ap (past c) (sym (drop-all text i h)) ∙ p .rest }; on = p .on }
+past-end c text from i p h = record { stands = record { within = p .within; rest = drop-of-length-le text h ∙ ap (past c) (sym (drop-of-length-le text h)) ∙ p .rest }; on = p .on }
 
 -- ---- numbers
 
@@ -189,9 +183,9 @@ count-here text from most v i s h e r p q = record {
 pub count-end : (text : List ℕ) (from most v i : ℕ) → Counting text from most v i → length text ≤ i → (r : Number) → r .value ≡ v → r .next ≡ i → NumberAt text from most r
 unfolding number-value number-rest
 count-end text from most v i s h r p q = record {
-  value = p ∙ ap (number-value most v) (sym (drop-all text i h)) ∙ s .value;
+  value = p ∙ ap (number-value most v) (sym (drop-of-length-le text h)) ∙ s .value;
   next = subst (λ (j : ℕ). Onward text from j (number-rest (drop from text))) (sym q)
-      (record { stands = record { within = s .within; rest = drop-all text i h ∙ ap number-rest (sym (drop-all text i h)) ∙ s .rest }; on = s .on });
+      (record { stands = record { within = s .within; rest = drop-of-length-le text h ∙ ap number-rest (sym (drop-of-length-le text h)) ∙ s .rest }; on = s .on });
 }
 
 -- ---- the characters of a name
@@ -237,4 +231,4 @@ spell-quoted text from j left q i s h e z = record {
 
 pub spell-end : (text : List ℕ) (from j left : ℕ) (q : Bool) (i : ℕ) → Spelling text from j left q i → length text ≤ i → 0x20 ≡ getD (spelled false (drop from text)) j 0x20
 unfolding spelled
-spell-end text from j left q i s h = ap (λ (l : List ℕ). getD (spelled q l) left 0x20) (sym (drop-all text i h)) ∙ s .rest
+spell-end text from j left q i s h = ap (λ (l : List ℕ). getD (spelled q l) left 0x20) (sym (drop-of-length-le text h)) ∙ s .rest

@@ -1,6 +1,7 @@
 use native.Mathlib.Omega.{arith}
 use Rattle.import_going.specs.Turns.{opened-of}
-use Rattle.import_going.proofs.Reaching.{mask-bound, bit-most, too-deep, not-deep}
+use Rattle.import_places.specs.laws.Signs.{mask-bound}
+use Rattle.import_going.proofs.Reaching.{bit-most, too-deep, not-deep}
 use borrow.Author.Needs.{needs}
 use Rattle.import_going.proofs.turning.opened.Statement.{statement}
 use Rattle.import_going.proofs.turning.opened.Tie as tie
@@ -18,11 +19,11 @@ bit-requires c κs = search needs
 
 -- src/turning.rt:71:15
 mul-t4 : tie.Need-mul-t4
-mul-t4 c = omega (arith, mask-bound _ _ (c .before .before .before .before .pre) (c .before .before .if1 .left))
+mul-t4 c = omega (arith, mask-bound _ _ (c .before .before .before .before .pre) (omega (arith, c .before .before .if1 .left)))
 
 -- src/turning.rt:71:15
 add-t5 : tie.Need-add-t5
-add-t5 c = omega (arith, mask-bound _ _ (c .before .before .before .before .pre) (c .before .before .if1 .left), c .before .bit .ensures, bit-most (c .before .before .before .before .args .s .sign))
+add-t5 c = omega (arith, mask-bound _ _ (c .before .before .before .before .pre) (omega (arith, c .before .before .if1 .left)), c .before .bit .ensures, bit-most (c .before .before .before .before .args .s .sign))
 
 -- src/turning.rt:72:16
 add-t6 : tie.Need-add-t6
