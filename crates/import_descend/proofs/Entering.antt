@@ -2,7 +2,7 @@
 use mathlib.Core.Path.{_≡_, refl, sym, ap, _∙_, subst}
 use mathlib.Core.Bool.{Bool, true, false, not}
 use mathlib.Core.List.{List, [], _∷_}
-use Prim.Native.Nat.{ℕ, zero, suc, _+_, _-_, _*_, _/_, _≤_, _<_}
+use Prim.Native.Nat.{ℕ, zero, suc, _+_, _-_, _*_, _≤_, _<_}
 use native.Mathlib.Numerals.{add-one}
 use native.Mathlib.Omega.{arith}
 use lib.ListN.{length, drop}
@@ -10,6 +10,7 @@ use Rattle.theory.specs.Command.{Command}
 use Rattle.import_grammar.specs.Grammar.{deepest}
 use Rattle.import_found.specs.Places.{Place, atom-at, result-at, lost, find, xor, TooDeep}
 use Rattle.import_places.specs.Walking.{signs, two-to}
+use Rattle.import_places.specs.laws.Signs.{signs-length, mask-bound}
 use Rattle.import_going.specs.declared.start.Spot.{Spot}
 use Rattle.import_going.specs.declared.start.Spot.the-variants.{Atom as AtomAt, Result as ResultAt, Lost as LostAt, Deep as DeepAt}
 use Rattle.import_going.specs.Turns.{Spotted}
@@ -23,21 +24,6 @@ use Rattle.import_descend.specs.declared.Down.{Down}
 use Rattle.import_descend.specs.Walks.{Ready, place-of, Comes, Enters, InPlace, Starting, none-found, Descends}
 
 -- ---- no place is too deep for a word
-
-two-more : (c d k : ℕ) → k ≡ d + c → two-to c ≤ two-to k
-unfolding two-to
-two-more c zero k e = let q : k ≡ c = omega (arith, e) in subst (λ (j : ℕ). two-to c ≤ two-to j) (sym q) (omega arith)
-two-more c (suc d) zero e = absurd (omega (arith, e))
-two-more c (suc d) (suc k) e = let h = two-more c d k (omega (arith, e)) in omega (arith, h)
-
-mask-bound : (m c : ℕ) → m < two-to c → c ≤ 32 → m < 4294967296
-unfolding two-to
-mask-bound m c h l = let q = two-more c (32 - c) 32 (omega (arith, l)) in omega (arith, q, h)
-
-signs-length : (m c : ℕ) → length (signs m c) ≡ c
-unfolding signs
-signs-length m zero = refl
-signs-length m (suc c) = ap suc (signs-length (m / 2) c)
 
 shallow : {w : List ℕ} {l : List Entry} {C : List Command} (e : Entry) → Visits w (place-of w e) l C → e .count ≤ 32
 shallow e G = let t = (atom-told G refl) .deep in let n = signs-length (e .mask) (e .count) in omega (arith, t, n)

@@ -5,6 +5,7 @@ use mathlib.Core.List.{List, [], _∷_}
 use Prim.Native.Nat.{ℕ, suc, _+_, _≤_, _<_}
 use lib.ListN.{length, drop}
 use Rattle.theory.specs.Command.{Command}
+use Rattle.import_model.specs.Import.{text-most}
 use Rattle.import_found.specs.Places.{Place, atom-at, result-at, lost}
 use Rattle.import_places.specs.Walking.{signs, two-to}
 use Rattle.import_going.specs.declared.start.Spot.{Spot}
@@ -12,14 +13,14 @@ use Rattle.import_going.specs.declared.start.Spot.the-variants.{Atom as AtomAt,
 use Rattle.import_going.specs.Turns.{Spotted}
 use Rattle.import_list.specs.declared.Entry.{Entry}
 use Rattle.import_list.specs.Pending.{Visits}
-use Rattle.import_list.specs.Packed.{entries}
+use Rattle.import_list.specs.Packed.{list-most, entries}
 use Rattle.import_list.specs.laws.Steps.{ResultFirst}
 use Rattle.import_descend.specs.declared.Down.{Down}
 
 -- an atom of the text, of which no command is written, and room for it on the list
 pub record Ready (w : List ℕ) (e : Entry) (l : List ℕ) (n : ℕ) : Type 0 where
   pub inside : e .at < length w
-  pub short : length w ≤ 262144
+  pub short : length w ≤ text-most
   pub low : e .mask < two-to (e .count)
   pub fresh : e .both ≡ false
   pub room : n < length l
@@ -49,8 +50,8 @@ pub record Enters (w : List ℕ) (e : Entry) (l : List ℕ) (n : ℕ) (r : Spot)
 -- a spot of the text, and a list that is long enough
 pub record Starting (w : List ℕ) (s : Spot) (l : List ℕ) (n : ℕ) : Type 0 where
   pub inside : InPlace w s
-  pub short : length w ≤ 262144
-  pub long : length l ≡ 131072
+  pub short : length w ≤ text-most
+  pub long : length l ≡ list-most
   pub few : n ≤ length l
 
 abbrev pub none-found : Down

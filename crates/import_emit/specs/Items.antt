@@ -18,6 +18,7 @@ use Rattle.import_parts.specs.laws.Order.{text-parts, text-site, text-end}
 use Rattle.import_parts.specs.laws.Within.{parts-within}
 use Rattle.import_walk.specs.declared.opening.Opening.{Opening}
 use Rattle.import_walk.specs.Answers.{slot-said}
+use Rattle.import_list.specs.Packed.{list-most}
 use Rattle.import_emit_cases.specs.Emitting.{Put, Begins}
 use Rattle.import_emit_cases.specs.declared.Emitted.{Emitted}
 use Rattle.import_emit.specs.declared.items.Passed.{Passed}
@@ -66,7 +67,7 @@ pub record Comes (w : List ℕ) (from : ℕ) (P : List Part) (e : Spaces) : Type
 -- what is lent: the text, the list of the cases, the bytes
 pub record Buffers (w l out : List ℕ) (at : ℕ) : Type 0 where
   pub short : length w ≤ text-most
-  pub long : length l ≡ 131072
+  pub long : length l ≡ list-most
   pub room : at ≤ length out
 
 -- a part comes

@@ -3,6 +3,7 @@ ghost use mathlib.Core.Path.{_≡_};
 ghost use Prim.Native.Nat.{_≤_};
 ghost use lib.ListN.{length};
 ghost use Rattle.theory.specs.Command.{end-model};
+ghost use Rattle.import_list.specs.Packed.{list-most};
 ghost use Rattle.import_emit.specs.Items.{CommandPut, PartsAt, PartsPut, Reading, SitePut, ModelPut};
 use import_descend::ENTRIES;
 use import_emit_cases::Emitted;
@@ -74,7 +75,7 @@ fn write_parts(text: &[u8], from: usize, list: &mut [u64], out: &mut [u8], start
 }
 
 fn write_text(text: &[u8], list: &mut [u64], out: &mut [u8]) -> Emitted
-    requires { ⌜ Reading (now text) × (length (now list) ≡ 131072) ⌝ }
+    requires { ⌜ Reading (now text) × (length (now list) ≡ list-most) ⌝ }
     ensures { λ r. ⌜ ModelPut (now (text .entry)) (now (out .entry)) r (now (out .exit)) ⌝ }
 {
     let s = write_site(text, out);

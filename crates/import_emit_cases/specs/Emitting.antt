@@ -7,9 +7,10 @@ use lib.ListN.{length, drop}
 use Rattle.theory.specs.Command.{Command}
 use Rattle.text_decimal.specs.Put.{PutAt}
 use Rattle.import_model.specs.Encode.{command-bytes, encode}
+use Rattle.import_model.specs.Import.{text-most}
 use Rattle.import_found.specs.Places.{go, Emits}
 use Rattle.import_list.specs.Pending.{Pending}
-use Rattle.import_list.specs.Packed.{entries}
+use Rattle.import_list.specs.Packed.{list-most, entries}
 use Rattle.import_emit_cases.specs.declared.Emitted.{Emitted}
 use Rattle.import_emit_cases.specs.declared.Wrote.{Wrote}
 
@@ -26,8 +27,8 @@ pub record Puts (out : List ℕ) (at : ℕ) (c : Command) (r : Emitted) (out′ 
 
 -- the buffers that are lent, where some commands are still to be written
 pub record Lent (w l : List ℕ) (n : ℕ) (out : List ℕ) (at : ℕ) (To : List Command → Type 0) : Type 0 where
-  pub short : length w ≤ 262144
-  pub long : length l ≡ 131072
+  pub short : length w ≤ text-most
+  pub long : length l ≡ list-most
   pub few : n ≤ length l
   pub room : at ≤ length out
   pub commands : List Command
@@ -58,8 +59,8 @@ Finishes out at To r out′ = (C : List Command) → To C → Put out at (encode
 -- the cases that begin at a place, and the buffers that are lent
 pub record Begins (w : List ℕ) (from : ℕ) (l out : List ℕ) (at : ℕ) : Type 0 where
   pub inside : from ≤ length w
-  pub short : length w ≤ 262144
-  pub long : length l ≡ 131072
+  pub short : length w ≤ text-most
+  pub long : length l ≡ list-most
   pub room : at ≤ length out
   pub commands : List Command
   pub emits : Emits (go (drop from w) false []) commands

@@ -6,7 +6,7 @@ use Prim.Native.Nat.{ℕ, zero, suc, _+_, _-_, _*_, _/_, _%_, _≤_, _<_}
 use native.Mathlib.Numerals.{add-one}
 use native.Mathlib.Omega.{arith}
 use lib.Dec.{T, eqb, leb, leb→le, nleb→lt}
-use lib.ListN.{length, getD, drop}
+use lib.ListN.{length, getD, drop, drop-of-length-le}
 use lib.Seq.{drop-cons}
 use borrow.Author.Tests.{ne-eqb, eq-eqb}
 use Rattle.whole.specs.Cases.{if, by-test, by-eq}
@@ -15,6 +15,8 @@ use Rattle.import_found.specs.laws.Depth.{go-deep}
 use Rattle.import_places.specs.declared.Next.{Next}
 use Rattle.import_places.specs.declared.Next.the-variants.{Go as GoAt, Result as ResultTo, NextCase as NextCaseAt, Lost as LostTo}
 use Rattle.import_places.specs.Walking.{signs, two-to, meant, Comes}
+use Rattle.import_places.specs.laws.Signs.{signs-length}
+use Rattle.import_places.proofs.Steps.{not-zero}
 use Rattle.import_going.specs.declared.turning.Going.{Going}
 use Rattle.import_going.specs.declared.turning.Turn.{Turn}
 use Rattle.import_going.specs.declared.turning.Turn.the-variants.{On, Atom, Else, Deep, Lost}
@@ -24,29 +26,12 @@ use Rattle.import_going.specs.declared.behind.Found.{Found}
 use Rattle.import_going.specs.declared.behind.Found.the-variants.{At, Nothing}
 use Rattle.import_going.specs.Going.{upto, found-at, reached, Behind}
 use Rattle.import_going.specs.Turns.{bit-of, opened-of, turn-of, cond-at, Spotted}
-use Rattle.import_going.proofs.Steps.{drop-all}
 
 -- ---- bits
-
-two-more : (c d k : ℕ) → k ≡ d + c → two-to c ≤ two-to k
-unfolding two-to
-two-more c zero k e = let q : k ≡ c = omega (arith, e) in subst (λ (j : ℕ). two-to c ≤ two-to j) (sym q) (omega arith)
-two-more c (suc d) zero e = absurd (omega (arith, e))
-two-more c (suc d) (suc k) e = let h = two-more c d k (omega (arith, e)) in omega (arith, h)
-
--- the mask of at most 32 signs
-pub mask-bound : (m c : ℕ) → m < two-to c → c < 32 → m < 4294967296
-unfolding two-to
-mask-bound m c h l = let q = two-more c (32 - c) 32 (omega arith) in omega (arith, q, h)
 
 pub bit-most : (b : Bool) → bit-of b ≤ 1
 bit-most true = omega arith
 bit-most false = omega arith
-
-signs-length : (m c : ℕ) → length (signs m c) ≡ c
-unfolding signs
-signs-length m zero = refl
-signs-length m (suc c) = ap suc (signs-length (m / 2) c)
 
 low-bit : (m : ℕ) (b : Bool) → (eqb ((m * 2 + bit-of b) % 2) 1 ≡ b) × ((m * 2 + bit-of b) / 2 ≡ m)
 low-bit m true = (eq-eqb ((m * 2 + 1) % 2) 1 (omega arith), omega arith)
@@ -72,9 +57,6 @@ Meets p k w s Lost = p ≡ lost
 meets-if : (k : ℕ) (w : List ℕ) (s : Going) (b : Bool) (x y : Place) (t u : Turn) → Meets x k w s t → Meets y k w s u → Meets (if b x y) k w s (if b t u)
 meets-if k w s true x y t u p q = p
 meets-if k w s false x y t u p q = q
-
-not-zero : (n : ℕ) → eqb (suc n) 0 ≡ false
-not-zero n = ne-eqb (suc n) 0 (λ e. omega arith)
 
 else-meets : (k : ℕ) (w : List ℕ) (s : Going) (m c : ℕ) → Meets (elim (signs m c) as (λ _. Place) [ [] ↦ after-colon w | p ∷ qs ↦ lost ]) k w s (if (eqb c 0) Else Lost)
 unfolding signs
@@ -166,7 +148,7 @@ lost-spotted text p s i c h e q r = on-turn text p s i Lost c h e q r
 
 pub end-spotted : (text : List ℕ) (p : Place) (s : Going) (i : ℕ) → Reaching text p s i → length text ≤ i → Spotted text p LostAt
 unfolding go
-end-spotted text p s i r h = sym (r .rest) ∙ ap (λ (w : List ℕ). from-going w s) (drop-all text i h)
+end-spotted text p s i r h = sym (r .rest) ∙ ap (λ (w : List ℕ). from-going w s) (drop-of-length-le text h)
 
 -- ---- behind a byte
 

@@ -1,16 +1,17 @@
 -- One byte of each walk takes what is looked for one byte on.
 use mathlib.Core.Path.{_≡_, refl, sym, ap, _∙_, subst}
 use mathlib.Core.Bool.{Bool, true, false}
-use mathlib.Core.List.{List, [], _∷_}
+use mathlib.Core.List.{List, _∷_}
 use Prim.Native.Nat.{ℕ, zero, suc, _+_, _-_, _≤_, _<_}
 use native.Mathlib.Numerals.{add-one}
 use native.Mathlib.Omega.{arith}
 use lib.Dec.{eqb}
-use lib.ListN.{length, getD, drop}
+use lib.ListN.{length, getD, drop, drop-of-length-le}
 use lib.Seq.{drop-cons}
 use borrow.Author.Tests.{ne-eqb, eq-eqb}
 use Rattle.whole.specs.Cases.{if}
 use Rattle.import_found.specs.Places.{Place, lost, is-cond}
+use Rattle.import_places.proofs.Steps.{not-zero, less-one}
 use Rattle.import_going.specs.declared.bracket.Seen.{Seen}
 use Rattle.import_going.specs.declared.bracket.Seen.the-variants.{On, Is}
 use Rattle.import_going.specs.declared.behind.Found.{Found}
@@ -41,12 +42,6 @@ marks w d false true c e = refl
 marks w d false false true e = refl
 marks w d false false false true = refl
 marks w d false false false false = refl
-
-not-zero : (n : ℕ) → eqb (suc n) 0 ≡ false
-not-zero n = ne-eqb (suc n) 0 (λ e. omega arith)
-
-less-one : (n : ℕ) → n ≡ suc n - 1
-less-one n = omega arith
 
 otherwise : (w : List ℕ) (x y : Seen) (b : Bool) → b ≡ false → seen-after w y ≡ seen-after w (if b x y)
 otherwise w x y b e = sym (ap (λ (t : Bool). seen-after w (if t x y)) e)
@@ -86,15 +81,9 @@ pub record Seeing (text : List ℕ) (meant : Bool) (d i : ℕ) : Type 0 where
   pub shallows : d ≤ i
   pub rest : is-cond (drop i text) d ≡ meant
 
-pub drop-all : (w : List ℕ) (i : ℕ) → length w ≤ i → drop i w ≡ []
-drop-all [] zero h = refl
-drop-all [] (suc i) h = refl
-drop-all (k ∷ w) zero h = absurd (omega arith)
-drop-all (k ∷ w) (suc i) h = drop-all w i (omega arith)
-
 pub seen-end : (text : List ℕ) (meant : Bool) (d i : ℕ) → Seeing text meant d i → length text ≤ i → false ≡ meant
 unfolding is-cond
-seen-end text meant d i a h = ap (λ (w : List ℕ). is-cond w d) (sym (drop-all text i h)) ∙ a .rest
+seen-end text meant d i a h = ap (λ (w : List ℕ). is-cond w d) (sym (drop-of-length-le text h)) ∙ a .rest
 
 -- ---- behind a byte
 
@@ -121,4 +110,4 @@ pass-found c text from i p h e = record { place = λ K. sym (at-byte c text i tr
 
 pub pass-end : (c : ℕ) (text : List ℕ) (from i : ℕ) → Passing c text from i → length text ≤ i → Behind c text from Nothing
 unfolding found-at reached upto
-pass-end c text from i p h = record { place = λ K. ap (upto c K) (sym (drop-all text i h)) ∙ p .rest K; within = omega arith }
+pass-end c text from i p h = record { place = λ K. ap (upto c K) (sym (drop-of-length-le text h)) ∙ p .rest K; within = omega arith }

@@ -2,6 +2,7 @@
 ghost use mathlib.Core.Path.{_≡_};
 ghost use Prim.Native.Nat.{_≤_, _<_};
 ghost use lib.ListN.{length, drop};
+ghost use Rattle.import_model.specs.Import.{text-most};
 ghost use Rattle.import_found.specs.Places.{is-cond};
 ghost use Rattle.import_going.specs.Going.{seen-of, is-mark};
 
@@ -49,7 +50,7 @@ fn see(depth: usize, k: u8) -> Seen
 }
 
 pub fn is_cond(text: &[u8], from: usize) -> bool
-    requires { ⌜ (from ≤ length (now text)) × (length (now text) ≤ 262144) ⌝ }
+    requires { ⌜ (from ≤ length (now text)) × (length (now text) ≤ text-most) ⌝ }
     ensures { λ r. ⌜ r ≡ is-cond (drop from (now (text .entry))) 0 ⌝ }
 {
     let mut depth: usize = 0;

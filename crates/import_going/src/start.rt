@@ -3,6 +3,7 @@ ghost use Prim.Native.Nat.{_≤_, _<_};
 ghost use mathlib.Core.Path.{_≡_};
 ghost use mathlib.Core.Bool.{false};
 ghost use lib.ListN.{length, drop};
+ghost use Rattle.import_model.specs.Import.{text-most};
 ghost use Rattle.import_found.specs.Places.{after-colon, next-case, find as place-after, go as place-from};
 ghost use Rattle.import_places.specs.Walking.{signs, two-to};
 ghost use Rattle.import_going.specs.Turns.{cond-at, Spotted};
@@ -25,7 +26,7 @@ pub enum Spot {
 
 // Whether a bracket of a condition is opened here.
 fn bracket_at(text: &[u8], i: usize, k: u8) -> bool
-    requires { ⌜ (i < length (now text)) × (length (now text) ≤ 262144) ⌝ }
+    requires { ⌜ (i < length (now text)) × (length (now text) ≤ text-most) ⌝ }
     ensures { λ r. ⌜ r ≡ cond-at (now (text .entry)) i k ⌝ }
 {
     if k == 40 {
@@ -47,7 +48,7 @@ fn result_behind(text: &[u8], from: usize) -> Spot
 }
 
 pub fn go(text: &[u8], from: usize, mask: u64, count: u32) -> Spot
-    requires { ⌜ (from ≤ length (now text)) × (length (now text) ≤ 262144) × (mask < two-to count) ⌝ }
+    requires { ⌜ (from ≤ length (now text)) × (length (now text) ≤ text-most) × (mask < two-to count) ⌝ }
     ensures { λ r. ⌜ Spotted (now (text .entry)) (place-from (drop from (now (text .entry))) false (signs mask count)) r ⌝ }
 {
     let mut s = Going {
@@ -84,7 +85,7 @@ pub fn go(text: &[u8], from: usize, mask: u64, count: u32) -> Spot
 
 // The first place of the next case.
 pub fn next_case(text: &[u8], from: usize) -> Spot
-    requires { ⌜ (from ≤ length (now text)) × (length (now text) ≤ 262144) ⌝ }
+    requires { ⌜ (from ≤ length (now text)) × (length (now text) ≤ text-most) ⌝ }
     ensures { λ r. ⌜ Spotted (now (text .entry)) (next-case (drop from (now (text .entry)))) r ⌝ }
 {
     let f = behind(text, from, 59);
@@ -96,7 +97,7 @@ pub fn next_case(text: &[u8], from: usize) -> Spot
 
 // Where to go on once the atom at an offset is decided.
 pub fn decided(text: &[u8], from: usize, value: bool, mask: u64, count: u32) -> Spot
-    requires { ⌜ (from ≤ length (now text)) × (length (now text) ≤ 262144) × (mask < two-to count) ⌝ }
+    requires { ⌜ (from ≤ length (now text)) × (length (now text) ≤ text-most) × (mask < two-to count) ⌝ }
     ensures { λ r. ⌜ Spotted (now (text .entry)) (place-after (drop from (now (text .entry))) 0 value false (signs mask count)) r ⌝ }
 {
     let n = find(text, from, value, mask, count);

@@ -9,12 +9,9 @@ use lib.ListN.{length, getD, set, length-set}
 use lib.Seq.{getD-set-same, getD-set-other}
 use borrow.Author.Tests.{ne-eqb, eq-eqb}
 use Rattle.import_going.specs.Turns.{bit-of}
+use Rattle.import_going.proofs.Reaching.{bit-most}
 use Rattle.import_list.specs.declared.Entry.{Entry}
 use Rattle.import_list.specs.Packed.{packed, unpacked, Fits, entries, Pushed}
-
-bit-most : (b : Bool) → bit-of b ≤ 1
-bit-most true = omega arith
-bit-most false = omega arith
 
 bit-back : (n : ℕ) (b : Bool) → n ≡ bit-of b → eqb n 1 ≡ b
 bit-back n true e = eq-eqb n 1 e

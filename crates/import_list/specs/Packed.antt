@@ -8,6 +8,10 @@ use lib.ListN.{length, getD, set}
 use Rattle.import_going.specs.Turns.{bit-of}
 use Rattle.import_list.specs.declared.Entry.{Entry}
 
+-- the words of a list, enough for every text (import_descend::ENTRIES)
+abbrev pub list-most : ℕ
+list-most = 131072
+
 -- from the lowest bit: both, sign, 32 of the mask, 6 of the count, the place
 unfoldable pub packed : Entry → ℕ
 packed e = (((e .at * 64 + e .count) * 4294967296 + e .mask) * 2 + bit-of (e .sign)) * 2 + bit-of (e .both)

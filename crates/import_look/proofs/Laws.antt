@@ -7,22 +7,15 @@ use native.Mathlib.Omega.{arith}
 use lib.Dec.{eqb}
 use lib.ListN.{length, drop, getD}
 use Rattle.whole.specs.Cases.{if}
-use Rattle.import_grammar.specs.Grammar.{Blank, blank, tab, newline, return, Spaces, none, more, Digit, d0, d1, d2, d3, d4, d5, d6, d7, d8, d9, Digits, one, also, ConstFactor, number, kbracket, ConstTerm, kfactor, ktimes, ConstSum, kterm, kneg, kplus, VaryFactor, level, vbracket, VaryTerm, vfactor, vscaled, vby, VarySum, vterm, vneg, plusKV, plusVK, plusVV, Sum, constant, varying, digit-byte, blank-byte, index-byte, sign-byte, spaces-bytes, digits-bytes, kfactor-bytes, kterm-bytes, ksum-bytes, vfactor-bytes, vterm-bytes, vsum-bytes, sum-bytes}
+use Rattle.import_grammar.specs.Grammar.{Spaces, Digit, d0, d1, d2, d3, d4, d5, d6, d7, d8, d9, Digits, one, also, ConstFactor, number, kbracket, ConstTerm, kfactor, ktimes, ConstSum, kterm, kneg, kplus, VaryFactor, level, vbracket, VaryTerm, vfactor, vscaled, vby, VarySum, vterm, vneg, plusKV, plusVK, plusVV, Sum, constant, varying, digit-byte, index-byte, sign-byte, spaces-bytes, digits-bytes, kfactor-bytes, kterm-bytes, ksum-bytes, vfactor-bytes, vterm-bytes, vsum-bytes, sum-bytes}
+use Rattle.import_found.specs.laws.Passing.{over-blanks}
 use Rattle.import_look.specs.Looks.{unspaced}
 
 -- ---- white space
 
-unspaced-over : (b : Blank) (f : List ℕ) → unspaced (blank-byte b ∷ f) ≡ unspaced f
-unfolding unspaced
-unspaced-over blank f = refl
-unspaced-over tab f = refl
-unspaced-over newline f = refl
-unspaced-over return f = refl
-
 pub unspaced-spaces : (q : Spaces) (f : List ℕ) → unspaced (spaces-bytes q f) ≡ unspaced f
-unfolding spaces-bytes
-unspaced-spaces none f = refl
-unspaced-spaces (more q b) f = unspaced-spaces q (blank-byte b ∷ f) ∙ unspaced-over b f
+unfolding unspaced
+unspaced-spaces = over-blanks unspaced (λ f. refl) (λ f. refl) (λ f. refl) (λ f. refl)
 
 -- ---- how a sum begins: no "C", no "N", no "f", no "="
 

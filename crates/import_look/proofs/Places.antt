@@ -5,11 +5,10 @@ use mathlib.Core.List.{List, [], _∷_, _++_}
 use Prim.Native.Nat.{ℕ, zero, suc, _+_, _-_, _≤_, _<_}
 use native.Mathlib.Numerals.{add-one}
 use native.Mathlib.Omega.{arith}
-use lib.ListN.{length, drop, getD}
+use lib.ListN.{length, drop, getD, drop-of-length-le}
 use lib.Seq.{drop-cons}
 use Rattle.whole.specs.Cases.{if}
 use Rattle.import_frames.specs.Frames.{blank}
-use Rattle.import_going.proofs.Steps.{drop-all}
 use Rattle.import_look.specs.Looks.{unspaced, Skips}
 
 pub record Skipping (w : List ℕ) (at i : ℕ) : Type 0 where
@@ -44,7 +43,7 @@ skip-stops w at i s h e t =
 
 pub skip-ends : (w : List ℕ) (at i : ℕ) → Skipping w at i → length w ≤ i → Skips w at i
 unfolding unspaced
-skip-ends w at i s h = record { within = s .within; rest = (drop-all w i h ∙ ap unspaced (sym (drop-all w i h))) ∙ s .rest }
+skip-ends w at i s h = record { within = s .within; rest = (drop-of-length-le w h ∙ ap unspaced (sym (drop-of-length-le w h))) ∙ s .rest }
 
 -- ---- bytes
 

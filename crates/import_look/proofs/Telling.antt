@@ -8,6 +8,7 @@ use borrow.Author.Tests.{lt-ltb, le-ltb, le-leb, lt-leb, eq-eqb, ne-eqb, eqb-fal
 use lib.Dec.{eqb, ltb, leb}
 use lib.IntN.{ℤ, pos}
 use lib.ListN.{length, drop, getD, length-append}
+use lib.Seq.{take-at, getD-at}
 use Rattle.whole.specs.Cases.{if}
 use Rattle.whole.specs.Linears.{subL, coefficients}
 use Rattle.whole.specs.LinearsLaws.{add-length, sub-length}
@@ -151,20 +152,11 @@ test-is : (x y : Linear) (f : Bool) → Eight x → Eight y → all-within (nine
 test-is x y f p q a b = sym (test-both (nine x) (nine y) (nine (x ⊟ y)) f refl a refl b (sym (nine-sub x y (same-long x y p q))))
 
 -- nine numbers are those of their linear
-cons-of : (l : List ℤ) (z : ℤ) → length l ≡ 8 → linear-of (l ++ (z ∷ [])) ≡ record { coeffs = l; const = z }
-cons-of (a ∷ b ∷ c ∷ d ∷ e ∷ f ∷ g ∷ h ∷ []) z q = refl
-cons-of [] z q = absurd (omega (arith, q))
-cons-of (a ∷ []) z q = absurd (omega (arith, q))
-cons-of (a ∷ b ∷ []) z q = absurd (omega (arith, q))
-cons-of (a ∷ b ∷ c ∷ []) z q = absurd (omega (arith, q))
-cons-of (a ∷ b ∷ c ∷ d ∷ []) z q = absurd (omega (arith, q))
-cons-of (a ∷ b ∷ c ∷ d ∷ e ∷ []) z q = absurd (omega (arith, q))
-cons-of (a ∷ b ∷ c ∷ d ∷ e ∷ f ∷ []) z q = absurd (omega (arith, q))
-cons-of (a ∷ b ∷ c ∷ d ∷ e ∷ f ∷ g ∷ []) z q = absurd (omega (arith, q))
-cons-of (a ∷ b ∷ c ∷ d ∷ e ∷ f ∷ g ∷ h ∷ i ∷ l) z q = absurd (omega (arith, q))
-
 nine-back : (p : Linear) → Eight p → linear-of (nine p) ≡ p
-nine-back p h = cons-of (p .coeffs) (p .const) (h .long)
+nine-back p h = λ i. record {
+  coeffs = take-at (p .coeffs) (p .const ∷ []) coefficients (h .long) i;
+  const = getD-at (p .coeffs) (p .const) [] (pos 0) coefficients (h .long) i;
+}
 
 eight-less : (x y : Linear) → Eight x → Eight y → Eight (x ⊟ y)
 eight-less x y p q =

@@ -3,6 +3,7 @@ ghost use mathlib.Core.Path.{_≡_};
 ghost use Prim.Native.Nat.{_≤_, _<_};
 ghost use lib.ListN.{length, drop};
 ghost use Rattle.whole.specs.Linears.{numbers};
+ghost use Rattle.import_model.specs.Import.{text-most};
 ghost use Rattle.import_look.specs.Looks.{Skips, operator-of, condition-told, tested-of, Compares, Looks, LeafLooks};
 use import_frames::is_blank;
 use import_linears::all_fit;
@@ -44,7 +45,7 @@ fn skip(text: &[u8], at: usize) -> usize
 }
 
 fn operator_at(text: &[u8], i: usize) -> Operator
-    requires { ⌜ (i ≤ length (now text)) × (length (now text) ≤ 262144) ⌝ }
+    requires { ⌜ (i ≤ length (now text)) × (length (now text) ≤ text-most) ⌝ }
     ensures { λ r. ⌜ (r ≡ operator-of (now (text .entry)) i) × (r .next ≤ length (now (text .entry))) ⌝ }
 {
     if i + 1 < text.len() {
@@ -94,7 +95,7 @@ fn difference(a: [i64; NUMBERS], b: [i64; NUMBERS], first: bool) -> Told
 
 // A comparison's test.
 fn comparison(text: &[u8], at: usize) -> Told
-    requires { ⌜ (at ≤ length (now text)) × (length (now text) ≤ 262144) ⌝ }
+    requires { ⌜ (at ≤ length (now text)) × (length (now text) ≤ text-most) ⌝ }
     ensures { λ r. ⌜ Compares (now (text .entry)) at r ⌝ }
 {
     let a = sum_at(text, at);
@@ -129,7 +130,7 @@ fn condition(text: &[u8], at: usize, base: u8) -> Told
 
 // The atom at a place.
 pub fn look(text: &[u8], at: usize) -> Told
-    requires { ⌜ (at ≤ length (now text)) × (length (now text) ≤ 262144) ⌝ }
+    requires { ⌜ (at ≤ length (now text)) × (length (now text) ≤ text-most) ⌝ }
     ensures { λ r. ⌜ Looks (now (text .entry)) at r ⌝ }
 {
     let i = skip(text, at);

@@ -6,6 +6,7 @@ use Prim.Native.Nat.{ℕ, _≤_, _<_}
 use lib.IntN.{ℤ, pos, negsuc}
 use lib.ListN.{length, take, drop}
 use lib.Signed.{_≤ℤ_}
+use Rattle.theory.specs.Widths.{bytes-most}
 use Rattle.theory.specs.Form.{new-form}
 use Rattle.theory.specs.Command.{readings}
 use Rattle.theory.specs.Verdict.{refusal, reward-slot, chance-slot, level-slot, from-to}
@@ -21,13 +22,13 @@ use Rattle.import_numbers.specs.Numbers.{numbers}
 use Rattle.import_model.specs.Commands.{text-commands}
 use Rattle.import_model.specs.Encode.{placed}
 use Rattle.import_model.specs.Meaning.{Item, item-leaf, leaf-at, end-worth, text-items, text-site, text-process}
-use Rattle.import_model.specs.Import.{model-bytes, untouched, filled-with, import-text}
+use Rattle.import_model.specs.Import.{text-most, model-bytes, untouched, filled-with, import-text}
 
 -- ---- the rows
 
 -- neither 10 nor 24: t is what the bytes are read as
 pub record ReadAs (w : List ℕ) (t : Text) : Type 0 where
-  pub bytes : length w ≤ 262144
+  pub bytes : length w ≤ text-most
   pub reading : text-bytes t ≡ w
 
 -- not 25: no "number beyond signed 32 bits, written, worked out or as a comparison's difference"
@@ -38,15 +39,15 @@ pub data ImportRow (w buffer : List ℕ) : ListingOut → Type 0 where
   import-0 : {t : Text} → ReadAs w t → NumbersFit t → AdmittedIn new-form (model-bytes t) → length (model-bytes t) ≤ length buffer
       → ImportRow w buffer (filled-with buffer (model-bytes t))
   -- "text above 262,144 bytes with 10"
-  import-10 : 262144 < length w → ImportRow w buffer (untouched buffer 10 0)
+  import-10 : text-most < length w → ImportRow w buffer (untouched buffer 10 0)
   -- "24 and the offset of the first byte that no text of the grammar can have there (or the length, if it only ends early)"
-  import-24 : {i : ℕ} → length w ≤ 262144 → Stopped w i → ImportRow w buffer (untouched buffer 24 i)
+  import-24 : {i : ℕ} → length w ≤ text-most → Stopped w i → ImportRow w buffer (untouched buffer 24 i)
   -- "with 25 once the whole text is in the grammar"
   import-25 : {t : Text} → ReadAs w t → (NumbersFit t → ⊥) → ImportRow w buffer (untouched buffer 25 0)
   -- "the model's own refusals follow (10 first)"
-  import-10-model : {t : Text} → ReadAs w t → NumbersFit t → 262144 < length (model-bytes t) → ImportRow w buffer (untouched buffer 10 0)
+  import-10-model : {t : Text} → ReadAs w t → NumbersFit t → bytes-most < length (model-bytes t) → ImportRow w buffer (untouched buffer 10 0)
   -- "by its offsets"
-  import-1-8 : {t : Text} {k p : ℕ} → ReadAs w t → NumbersFit t → length (model-bytes t) ≤ 262144 → VerdictRow (model-bytes t) (refusal k p) → 1 ≤ k
+  import-1-8 : {t : Text} {k p : ℕ} → ReadAs w t → NumbersFit t → length (model-bytes t) ≤ bytes-most → VerdictRow (model-bytes t) (refusal k p) → 1 ≤ k
       → ImportRow w buffer (untouched buffer k p)
   -- "then 17"
   import-17 : {t : Text} → ReadAs w t → NumbersFit t → AdmittedIn new-form (model-bytes t) → length buffer < length (model-bytes t)

@@ -6,7 +6,7 @@ use Prim.Native.Nat.{ℕ, zero, suc, _+_, _-_, _≤_, _<_, _%_, _/_}
 use native.Mathlib.Numerals.{add-one}
 use native.Mathlib.Omega.{arith}
 use lib.Dec.{eqb}
-use lib.ListN.{length, getD, drop}
+use lib.ListN.{length, getD, drop, drop-of-length-le}
 use lib.Seq.{drop-cons}
 use borrow.Author.Tests.{ne-eqb, eq-eqb}
 use Rattle.whole.specs.Cases.{if}
@@ -59,10 +59,10 @@ token-steps k w v a m c =
 otherwise : (w : List ℕ) (s : Walk) (x y : Step) (b : Bool) → b ≡ false → after w s y ≡ after w s (if b x y)
 otherwise w s x y b e = sym (ap (λ (t : Bool). after w s (if t x y)) e)
 
-not-zero : (n : ℕ) → eqb (suc n) 0 ≡ false
+pub not-zero : (n : ℕ) → eqb (suc n) 0 ≡ false
 not-zero n = ne-eqb (suc n) 0 (λ e. omega arith)
 
-less-one : (n : ℕ) → n ≡ suc n - 1
+pub less-one : (n : ℕ) → n ≡ suc n - 1
 less-one n = omega arith
 
 pop-steps : (w : List ℕ) (v a : Bool) (m c : ℕ) →
@@ -162,12 +162,6 @@ pub record At (text : List ℕ) (meant : Place) (s : Walk) (i : ℕ) : Type 0 wh
   pub low : s .mask < two-to (s .count)
   pub rest : from-walk (drop i text) s ≡ meant
 
-pub drop-all : (w : List ℕ) (i : ℕ) → length w ≤ i → drop i w ≡ []
-drop-all [] zero h = refl
-drop-all [] (suc i) h = refl
-drop-all (k ∷ w) zero h = absurd (omega arith)
-drop-all (k ∷ w) (suc i) h = drop-all w i (omega arith)
-
 pub at-end : (text : List ℕ) (meant : Place) (s : Walk) (i : ℕ) → At text meant s i → length text ≤ i → lost ≡ meant
 unfolding find
-at-end text meant s i a h = ap (λ (w : List ℕ). from-walk w s) (sym (drop-all text i h)) ∙ a .rest
+at-end text meant s i a h = ap (λ (w : List ℕ). from-walk w s) (sym (drop-of-length-le text h)) ∙ a .rest

@@ -2,10 +2,10 @@
 use mathlib.Core.Path.{_≡_, refl, sym, ap, _∙_, subst}
 use mathlib.Core.Bool.{Bool, true, false, not}
 use mathlib.Core.List.{List, [], _∷_}
-use Prim.Native.Nat.{ℕ, zero, suc, _+_, _≤_, _<_}
+use Prim.Native.Nat.{ℕ, suc, _+_, _≤_, _<_}
 use native.Mathlib.Numerals.{add-one}
 use native.Mathlib.Omega.{arith}
-use lib.ListN.{length, getD, drop}
+use lib.ListN.{length, getD, drop, drop-of-length-le}
 use lib.Seq.{drop-cons}
 use borrow.Author.Tests.{not-true, not-false}
 use Rattle.import_grammar.specs.Reader.{Machine, step, begin, finish, Reading, read, unfinished}
@@ -72,12 +72,6 @@ module _ (w : List ℕ) (s : State) (i : ℕ) (a : At w s i) (h : i < length w) 
       let l : alive (step (a .machine) (getD w i 0)) ≡ false = not-true _ (lives ∙ f) in
       ap answer (sym (ap (λ (b : Bool). elim b as (λ _. Meant) [ true ↦ scan (step (a .machine) (getD w i 0)) (drop (suc i) w) (suc i) | false ↦ stops i ]) l) ∙ one-byte)
 
-drop-all : (w : List ℕ) (i : ℕ) → length w ≤ i → drop i w ≡ []
-drop-all [] zero h = refl
-drop-all [] (suc i) h = refl
-drop-all (k ∷ w) zero h = absurd (omega arith)
-drop-all (k ∷ w) (suc i) h = drop-all w i (omega arith)
-
 concluded-as : (r : Reading) (i : ℕ) (b : Bool) → has-reading r ≡ b → answer (concluded r i) ≡ elim b [ true ↦ Fine | false ↦ Stops i ]
 unfolding answer concluded
 concluded-as (read t) i b e = ap (λ (x : Bool). elim x as (λ _. Scanned) [ true ↦ Fine | false ↦ Stops i ]) e
@@ -86,5 +80,5 @@ concluded-as unfinished i b e = ap (λ (x : Bool). elim x as (λ _. Scanned) [ t
 pub ended : (w : List ℕ) (s : State) (i : ℕ) → At w s i → length w ≤ i → (b : Bool) → is-finished s ≡ b → answer (scan begin w 0) ≡ elim b [ true ↦ Fine | false ↦ Stops i ]
 unfolding scan
 ended w s i a h b e =
-    ap answer (sym (a .rest) ∙ ap (λ (v : List ℕ). scan (a .machine) v i) (drop-all w i h))
+    ap answer (sym (a .rest) ∙ ap (λ (v : List ℕ). scan (a .machine) v i) (drop-of-length-le w h))
     ∙ concluded-as (finish (a .machine)) i b (sym (finished-reads (a .machine)) ∙ ap is-finished (sym (a .is)) ∙ e)

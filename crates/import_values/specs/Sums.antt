@@ -33,6 +33,13 @@ flat-nine : (p : Linear) → Flat p → nine p ≡ constant9 (p .const)
 unfolding no-coeffs
 flat-nine p h = ap (λ (l : List ℤ). l ++ (p .const ∷ [])) (h .none-but-0)
 
+-- a product of which one factor is a constant
+constant-by : (p : Linear) → Flat p → (q : List ℤ) → multiplied (nine p) q ≡ clipL (p .const) q
+constant-by p h q = ap (λ (u : List ℤ). multiplied u q) (flat-nine p h) ∙ by-left (p .const) q
+
+by-constant : (p : Linear) → Flat p → (q : List ℤ) → multiplied q (nine p) ≡ clipL (p .const) q
+by-constant p h q = ap (λ (u : List ℤ). multiplied q u) (flat-nine p h) ∙ by-right q (p .const)
+
 nine-long : (p : Linear) → Eight p → length (nine p) ≡ numbers
 nine-long p h = length-append (p .coeffs) (p .const ∷ []) ∙ ap (λ (n : ℕ). n + 1) (h .long)
 
@@ -157,11 +164,28 @@ module _ (only : Bool) where
     unfolding run step closed on-mark on-sign
     minus-read p w = spaced only d S (open9 L C zero9 false unit9) (calm-open only d S L C zero9 false unit9) p (45 ∷ w)
 
-    plus-read : (B N : List ℤ) (X : List ℤ) (m : Bool) (t T : List ℤ) → tot X m t ≡ T → ((x : Out) → guard (all-within B) (guard (all-within T) x) ≡ guard (all-within N) x) → (p : Spaces) (g : Sign) (w : List ℕ) → guard (all-within B) (run only d S (full L C X m t) (spaces-bytes p (sign-byte g ∷ w))) ≡ guard (all-within N) (run only d S (open9 L C T (minus-of g) unit9) w)
-    plus-read B N X m t T e split p g w =
+    -- a sign and a term behind a sum
+    plus-read : (B N : List ℤ) (X : List ℤ) (m : Bool) (t T : List ℤ) → tot X m t ≡ T → ((x : Out) → guard (all-within B) (guard (all-within T) x) ≡ guard (all-within N) x)
+        → (p : Spaces) (g : Sign) (w : List ℕ) (M : List ℤ) (x : Out) → run only d S (open9 L C T (minus-of g) unit9) w ≡ guard (all-within M) x
+        → guard (all-within B) (run only d S (full L C X m t) (spaces-bytes p (sign-byte g ∷ w))) ≡ guard (all-within (N ++ M)) x
+    plus-read B N X m t T e split p g w M x r =
         ap (guard (all-within B)) (spaced only d S (full L C X m t) (calm-full only d S L C X m t) p (sign-byte g ∷ w)
         ∙ (sign-read X m t g w ∙ ap (λ (u : List ℤ). guard (all-within u) (run only d S (open9 L C u (minus-of g) unit9) w)) e))
-        ∙ split (run only d S (open9 L C T (minus-of g) unit9) w)
+        ∙ (split (run only d S (open9 L C T (minus-of g) unit9) w) ∙ (ap (guard (all-within N)) r ∙ g-append N M x))
+
+    -- a term of one factor
+    alone-read : (X : List ℤ) (m : Bool) (N a : List ℤ) (w f : List ℕ) → run only d S (open9 L C X m unit9) w ≡ guard (all-within N) (guard (all-within (multiplied unit9 a)) (run only d S (full L C X m (multiplied unit9 a)) f))
+        → (all-within N ≡ true → all-within a ≡ true) → run only d S (open9 L C X m unit9) w ≡ guard (all-within N) (run only d S (full L C X m a) f)
+    alone-read X m N a w f r h =
+        r ∙ (ap (guard (all-within N)) (product-read X m (multiplied unit9 a) (pos 1) a a f (by-left (pos 1) a) (scale-one a)) ∙ g-implied (all-within N) (all-within a) (run only d S (full L C X m a) f) h)
+
+    -- a factor b behind a term t: k times a
+    times-then : (X : List ℤ) (m : Bool) (N M t b : List ℤ) (k : ℤ) (a r : List ℤ) (p : Spaces) (w f : List ℕ) → multiplied t b ≡ clipL k a → scaleL k a ≡ r
+        → run only d S (open9 L C X m t) w ≡ guard (all-within M) (guard (all-within (multiplied t b)) (run only d S (full L C X m (multiplied t b)) f))
+        → guard (all-within N) (run only d S (full L C X m t) (spaces-bytes p (42 ∷ w))) ≡ guard (all-within (N ++ (M ++ r))) (run only d S (full L C X m r) f)
+    times-then X m N M t b k a r p w f e h q =
+        ap (guard (all-within N)) (times-read X m t p w ∙ (q ∙ ap (guard (all-within M)) (product-read X m (multiplied t b) k a r f e h)))
+        ∙ g-three N M r (run only d S (full L C X m r) f)
 
   -- ")" behind a sum
   module _ (d : ℕ) (S : List Frame) (L : List ℤ) (C : ℕ) (X : List ℤ) (m : Bool) (t : List ℤ) where
@@ -187,6 +211,14 @@ module _ (only : Bool) where
   unfolding run
   open-read d S L C X m t p w = spaced only (suc d) S (open9 L C X m t) (calm-open only (suc d) S L C X m t) p (40 ∷ w)
 
+  -- a sum in brackets
+  bracket-read : (d : ℕ) (S : List Frame) (L : List ℤ) (C : ℕ) (X : List ℤ) (m : Bool) (t : List ℤ) (B N X′ : List ℤ) (m′ : Bool) (t′ T : List ℤ) → tot X′ m′ t′ ≡ T → ((x : Out) → guard (all-within B) (guard (all-within T) x) ≡ guard (all-within N) x)
+      → (p q : Spaces) (w f : List ℕ) → run only d (open9 L C X m t ∷ S) (open9 zero9 0 zero9 false unit9) w ≡ guard (all-within B) (run only d (open9 L C X m t ∷ S) (full zero9 0 X′ m′ t′) (spaces-bytes q (41 ∷ f)))
+      → run only (suc d) S (open9 L C X m t) (spaces-bytes p (40 ∷ w)) ≡ guard (all-within N) (guard (all-within (multiplied t T)) (run only (suc d) S (full L C X m (multiplied t T)) f))
+  bracket-read d S L C X m t B N X′ m′ t′ T e split p q w f r =
+      open-read d S L C X m t p w
+      ∙ (r ∙ (ap (guard (all-within B)) (close-read d S L C X m t X′ m′ t′ T e q f) ∙ split (guard (all-within (multiplied t T)) (run only (suc d) S (full L C X m (multiplied t T)) f))))
+
   number-read : (d : ℕ) (S : List Frame) (L : List ℤ) (C : ℕ) (X : List ℤ) (m : Bool) (t : List ℤ) (p : Spaces) (ds : Digits) (f : List ℕ) → Follows f
       → run only d S (open9 L C X m t) (spaces-bytes p (digits-bytes ds f)) ≡ guard (all-within (pos (digits-value ds) ∷ [])) (guard (all-within (multiplied t (constant9 (pos (digits-value ds))))) (run only d S (full L C X m (multiplied t (constant9 (pos (digits-value ds))))) f))
   unfolding all-within in-32-bits
@@ -207,25 +239,17 @@ module _ (only : Bool) where
     kfactor-read (number p ds) d h S L C X m t f F = number-read d S L C X m t p ds f F
     kfactor-read (kbracket p s q) zero h S L C X m t f F = none-deep h
     kfactor-read (kbracket p s q) (suc d) h S L C X m t f F =
-        open-read d S L C X m t p (ksum-bytes s (spaces-bytes q (41 ∷ f)))
-        ∙ (ksum-read s d (omega arith) (open9 L C X m t ∷ S) zero9 0 (spaces-bytes q (41 ∷ f)) (spaces-follow q (mark refl refl))
-        ∙ (ap (guard (all-within (kbefore s))) (close-read d S L C X m t (kX s) (km s) (kt s) (nine (ksum-linear s)) (ksum-tot s) q f)
-        ∙ ksum-split s (guard (all-within (multiplied t (nine (ksum-linear s)))) (run only (suc d) S (full L C X m (multiplied t (nine (ksum-linear s)))) f))))
+        bracket-read d S L C X m t (kbefore s) (ksum-numbers s) (kX s) (km s) (kt s) (nine (ksum-linear s)) (ksum-tot s) (ksum-split s) p q (ksum-bytes s (spaces-bytes q (41 ∷ f))) f
+        (ksum-read s d (omega arith) (open9 L C X m t ∷ S) zero9 0 (spaces-bytes q (41 ∷ f)) (spaces-follow q (mark refl refl)))
 
     pub kterm-read : {n : ℕ} (y : ConstTerm n) (d : ℕ) → n ≤ d → (S : List Frame) (L : List ℤ) (C : ℕ) (X : List ℤ) (m : Bool) (f : List ℕ) → Follows f
         → run only d S (open9 L C X m unit9) (kterm-bytes y f) ≡ guard (all-within (kterm-numbers y)) (run only d S (full L C X m (nine (kterm-linear y))) f)
     kterm-read (kfactor x) d h S L C X m f F =
-        kfactor-read x d h S L C X m unit9 f F
-        ∙ (ap (guard (all-within (kfactor-numbers x))) (product-read d S L C X m (multiplied unit9 (nine (kfactor-linear x))) (pos 1) (nine (kfactor-linear x)) (nine (kfactor-linear x)) f (by-left (pos 1) (nine (kfactor-linear x))) (scale-one (nine (kfactor-linear x))))
-        ∙ g-implied (all-within (kfactor-numbers x)) (all-within (nine (kfactor-linear x))) (run only d S (full L C X m (nine (kfactor-linear x))) f) (kfactor-within x))
+        alone-read d S L C X m (kfactor-numbers x) (nine (kfactor-linear x)) (kfactor-bytes x f) f (kfactor-read x d h S L C X m unit9 f F) (kfactor-within x)
     kterm-read (ktimes y p x) d h S L C X m f F =
         kterm-read y d h S L C X m (spaces-bytes p (42 ∷ kfactor-bytes x f)) (spaces-follow p (mark refl refl))
-        ∙ (ap (guard (all-within (kterm-numbers y))) (times-read d S L C X m (nine (kterm-linear y)) p (kfactor-bytes x f)
-        ∙ (kfactor-read x d h S L C X m (nine (kterm-linear y)) f F
-        ∙ ap (guard (all-within (kfactor-numbers x))) (product-read d S L C X m (multiplied (nine (kterm-linear y)) (nine (kfactor-linear x))) (kterm-linear y .const) (nine (kfactor-linear x)) (nine (kterm-linear (ktimes y p x))) f
-        (ap (λ (u : List ℤ). multiplied u (nine (kfactor-linear x))) (flat-nine (kterm-linear y) (kterm-flat y)) ∙ by-left (kterm-linear y .const) (nine (kfactor-linear x)))
-        (nine-scale (kterm-linear y .const) (kfactor-linear x)))))
-        ∙ g-three (kterm-numbers y) (kfactor-numbers x) (nine (kterm-linear (ktimes y p x))) (run only d S (full L C X m (nine (kterm-linear (ktimes y p x)))) f))
+        ∙ times-then d S L C X m (kterm-numbers y) (kfactor-numbers x) (nine (kterm-linear y)) (nine (kfactor-linear x)) (kterm-linear y .const) (nine (kfactor-linear x)) (nine (kterm-linear (ktimes y p x))) p (kfactor-bytes x f) f
+        (constant-by (kterm-linear y) (kterm-flat y) (nine (kfactor-linear x))) (nine-scale (kterm-linear y .const) (kfactor-linear x)) (kfactor-read x d h S L C X m (nine (kterm-linear y)) f F)
 
     pub ksum-read : {n : ℕ} (s : ConstSum n) (d : ℕ) → n ≤ d → (S : List Frame) (L : List ℤ) (C : ℕ) (f : List ℕ) → Follows f
         → run only d S (open9 L C zero9 false unit9) (ksum-bytes s f) ≡ guard (all-within (kbefore s)) (run only d S (full L C (kX s) (km s) (kt s)) f)
@@ -233,9 +257,8 @@ module _ (only : Bool) where
     ksum-read (kneg p y) d h S L C f F = minus-read d S L C p (kterm-bytes y f) ∙ kterm-read y d h S L C zero9 true f F
     ksum-read (kplus s p g y) d h S L C f F =
         ksum-read s d h S L C (spaces-bytes p (sign-byte g ∷ kterm-bytes y f)) (spaces-follow p (sign-follows g (kterm-bytes y f)))
-        ∙ (plus-read d S L C (kbefore s) (ksum-numbers s) (kX s) (km s) (kt s) (nine (ksum-linear s)) (ksum-tot s) (ksum-split s) p g (kterm-bytes y f)
-        ∙ (ap (guard (all-within (ksum-numbers s))) (kterm-read y d h S L C (nine (ksum-linear s)) (minus-of g) f F)
-        ∙ g-append (ksum-numbers s) (kterm-numbers y) (run only d S (full L C (nine (ksum-linear s)) (minus-of g) (nine (kterm-linear y))) f)))
+        ∙ plus-read d S L C (kbefore s) (ksum-numbers s) (kX s) (km s) (kt s) (nine (ksum-linear s)) (ksum-tot s) (ksum-split s) p g (kterm-bytes y f) (kterm-numbers y) (run only d S (full L C (nine (ksum-linear s)) (minus-of g) (nine (kterm-linear y))) f)
+        (kterm-read y d h S L C (nine (ksum-linear s)) (minus-of g) f F)
 
   module _ (d : ℕ) (S : List Frame) (L : List ℤ) (C : ℕ) (X : List ℤ) (m : Bool) (t : List ℤ) where
     pub level-digit : (i : Index) (f : List ℕ) → run only d S (open9 L C X m t) (76 ∷ index-byte i ∷ f) ≡ guard (all-within (multiplied t (nine (level-linear i)))) (run only d S (full L C X m (multiplied t (nine (level-linear i)))) f)
@@ -260,33 +283,21 @@ module _ (only : Bool) where
     vfactor-read (level p i) d h S L C X m t f F = level-read d S L C X m t p i f
     vfactor-read (vbracket p s q) zero h S L C X m t f F = none-deep h
     vfactor-read (vbracket p s q) (suc d) h S L C X m t f F =
-        open-read d S L C X m t p (vsum-bytes s (spaces-bytes q (41 ∷ f)))
-        ∙ (vsum-read s d (omega arith) (open9 L C X m t ∷ S) zero9 0 (spaces-bytes q (41 ∷ f)) (spaces-follow q (mark refl refl))
-        ∙ (ap (guard (all-within (vbefore s))) (close-read d S L C X m t (vX s) (vm s) (vt s) (nine (vsum-linear s)) (vsum-tot s) q f)
-        ∙ vsum-split s (guard (all-within (multiplied t (nine (vsum-linear s)))) (run only (suc d) S (full L C X m (multiplied t (nine (vsum-linear s)))) f))))
+        bracket-read d S L C X m t (vbefore s) (vsum-numbers s) (vX s) (vm s) (vt s) (nine (vsum-linear s)) (vsum-tot s) (vsum-split s) p q (vsum-bytes s (spaces-bytes q (41 ∷ f))) f
+        (vsum-read s d (omega arith) (open9 L C X m t ∷ S) zero9 0 (spaces-bytes q (41 ∷ f)) (spaces-follow q (mark refl refl)))
 
     pub vterm-read : {n : ℕ} (y : VaryTerm n) (d : ℕ) → n ≤ d → (S : List Frame) (L : List ℤ) (C : ℕ) (X : List ℤ) (m : Bool) (f : List ℕ) → Follows f
         → run only d S (open9 L C X m unit9) (vterm-bytes y f) ≡ guard (all-within (vterm-numbers y)) (run only d S (full L C X m (nine (vterm-linear y))) f)
     vterm-read (vfactor x) d h S L C X m f F =
-        vfactor-read x d h S L C X m unit9 f F
-        ∙ (ap (guard (all-within (vfactor-numbers x))) (product-read d S L C X m (multiplied unit9 (nine (vfactor-linear x))) (pos 1) (nine (vfactor-linear x)) (nine (vfactor-linear x)) f (by-left (pos 1) (nine (vfactor-linear x))) (scale-one (nine (vfactor-linear x))))
-        ∙ g-implied (all-within (vfactor-numbers x)) (all-within (nine (vfactor-linear x))) (run only d S (full L C X m (nine (vfactor-linear x))) f) (vfactor-within x))
+        alone-read d S L C X m (vfactor-numbers x) (nine (vfactor-linear x)) (vfactor-bytes x f) f (vfactor-read x d h S L C X m unit9 f F) (vfactor-within x)
     vterm-read (vscaled y p x) d h S L C X m f F =
         kterm-read y d h S L C X m (spaces-bytes p (42 ∷ vfactor-bytes x f)) (spaces-follow p (mark refl refl))
-        ∙ (ap (guard (all-within (kterm-numbers y))) (times-read d S L C X m (nine (kterm-linear y)) p (vfactor-bytes x f)
-        ∙ (vfactor-read x d h S L C X m (nine (kterm-linear y)) f F
-        ∙ ap (guard (all-within (vfactor-numbers x))) (product-read d S L C X m (multiplied (nine (kterm-linear y)) (nine (vfactor-linear x))) (kterm-linear y .const) (nine (vfactor-linear x)) (nine (vterm-linear (vscaled y p x))) f
-        (ap (λ (u : List ℤ). multiplied u (nine (vfactor-linear x))) (flat-nine (kterm-linear y) (kterm-flat y)) ∙ by-left (kterm-linear y .const) (nine (vfactor-linear x)))
-        (nine-scale (kterm-linear y .const) (vfactor-linear x)))))
-        ∙ g-three (kterm-numbers y) (vfactor-numbers x) (nine (vterm-linear (vscaled y p x))) (run only d S (full L C X m (nine (vterm-linear (vscaled y p x)))) f))
+        ∙ times-then d S L C X m (kterm-numbers y) (vfactor-numbers x) (nine (kterm-linear y)) (nine (vfactor-linear x)) (kterm-linear y .const) (nine (vfactor-linear x)) (nine (vterm-linear (vscaled y p x))) p (vfactor-bytes x f) f
+        (constant-by (kterm-linear y) (kterm-flat y) (nine (vfactor-linear x))) (nine-scale (kterm-linear y .const) (vfactor-linear x)) (vfactor-read x d h S L C X m (nine (kterm-linear y)) f F)
     vterm-read (vby y p x) d h S L C X m f F =
         vterm-read y d h S L C X m (spaces-bytes p (42 ∷ kfactor-bytes x f)) (spaces-follow p (mark refl refl))
-        ∙ (ap (guard (all-within (vterm-numbers y))) (times-read d S L C X m (nine (vterm-linear y)) p (kfactor-bytes x f)
-        ∙ (kfactor-read x d h S L C X m (nine (vterm-linear y)) f F
-        ∙ ap (guard (all-within (kfactor-numbers x))) (product-read d S L C X m (multiplied (nine (vterm-linear y)) (nine (kfactor-linear x))) (kfactor-linear x .const) (nine (vterm-linear y)) (nine (vterm-linear (vby y p x))) f
-        (ap (λ (u : List ℤ). multiplied (nine (vterm-linear y)) u) (flat-nine (kfactor-linear x) (kfactor-flat x)) ∙ by-right (nine (vterm-linear y)) (kfactor-linear x .const))
-        (nine-scale (kfactor-linear x .const) (vterm-linear y)))))
-        ∙ g-three (vterm-numbers y) (kfactor-numbers x) (nine (vterm-linear (vby y p x))) (run only d S (full L C X m (nine (vterm-linear (vby y p x)))) f))
+        ∙ times-then d S L C X m (vterm-numbers y) (kfactor-numbers x) (nine (vterm-linear y)) (nine (kfactor-linear x)) (kfactor-linear x .const) (nine (vterm-linear y)) (nine (vterm-linear (vby y p x))) p (kfactor-bytes x f) f
+        (by-constant (kfactor-linear x) (kfactor-flat x) (nine (vterm-linear y))) (nine-scale (kfactor-linear x .const) (vterm-linear y)) (kfactor-read x d h S L C X m (nine (vterm-linear y)) f F)
 
     pub vsum-read : {n : ℕ} (s : VarySum n) (d : ℕ) → n ≤ d → (S : List Frame) (L : List ℤ) (C : ℕ) (f : List ℕ) → Follows f
         → run only d S (open9 L C zero9 false unit9) (vsum-bytes s f) ≡ guard (all-within (vbefore s)) (run only d S (full L C (vX s) (vm s) (vt s)) f)
@@ -294,19 +305,16 @@ module _ (only : Bool) where
     vsum-read (vneg p y) d h S L C f F = minus-read d S L C p (vterm-bytes y f) ∙ vterm-read y d h S L C zero9 true f F
     vsum-read (plusKV s p g y) d h S L C f F =
         ksum-read s d h S L C (spaces-bytes p (sign-byte g ∷ vterm-bytes y f)) (spaces-follow p (sign-follows g (vterm-bytes y f)))
-        ∙ (plus-read d S L C (kbefore s) (ksum-numbers s) (kX s) (km s) (kt s) (nine (ksum-linear s)) (ksum-tot s) (ksum-split s) p g (vterm-bytes y f)
-        ∙ (ap (guard (all-within (ksum-numbers s))) (vterm-read y d h S L C (nine (ksum-linear s)) (minus-of g) f F)
-        ∙ g-append (ksum-numbers s) (vterm-numbers y) (run only d S (full L C (nine (ksum-linear s)) (minus-of g) (nine (vterm-linear y))) f)))
+        ∙ plus-read d S L C (kbefore s) (ksum-numbers s) (kX s) (km s) (kt s) (nine (ksum-linear s)) (ksum-tot s) (ksum-split s) p g (vterm-bytes y f) (vterm-numbers y) (run only d S (full L C (nine (ksum-linear s)) (minus-of g) (nine (vterm-linear y))) f)
+        (vterm-read y d h S L C (nine (ksum-linear s)) (minus-of g) f F)
     vsum-read (plusVK s p g y) d h S L C f F =
         vsum-read s d h S L C (spaces-bytes p (sign-byte g ∷ kterm-bytes y f)) (spaces-follow p (sign-follows g (kterm-bytes y f)))
-        ∙ (plus-read d S L C (vbefore s) (vsum-numbers s) (vX s) (vm s) (vt s) (nine (vsum-linear s)) (vsum-tot s) (vsum-split s) p g (kterm-bytes y f)
-        ∙ (ap (guard (all-within (vsum-numbers s))) (kterm-read y d h S L C (nine (vsum-linear s)) (minus-of g) f F)
-        ∙ g-append (vsum-numbers s) (kterm-numbers y) (run only d S (full L C (nine (vsum-linear s)) (minus-of g) (nine (kterm-linear y))) f)))
+        ∙ plus-read d S L C (vbefore s) (vsum-numbers s) (vX s) (vm s) (vt s) (nine (vsum-linear s)) (vsum-tot s) (vsum-split s) p g (kterm-bytes y f) (kterm-numbers y) (run only d S (full L C (nine (vsum-linear s)) (minus-of g) (nine (kterm-linear y))) f)
+        (kterm-read y d h S L C (nine (vsum-linear s)) (minus-of g) f F)
     vsum-read (plusVV s p g y) d h S L C f F =
         vsum-read s d h S L C (spaces-bytes p (sign-byte g ∷ vterm-bytes y f)) (spaces-follow p (sign-follows g (vterm-bytes y f)))
-        ∙ (plus-read d S L C (vbefore s) (vsum-numbers s) (vX s) (vm s) (vt s) (nine (vsum-linear s)) (vsum-tot s) (vsum-split s) p g (vterm-bytes y f)
-        ∙ (ap (guard (all-within (vsum-numbers s))) (vterm-read y d h S L C (nine (vsum-linear s)) (minus-of g) f F)
-        ∙ g-append (vsum-numbers s) (vterm-numbers y) (run only d S (full L C (nine (vsum-linear s)) (minus-of g) (nine (vterm-linear y))) f)))
+        ∙ plus-read d S L C (vbefore s) (vsum-numbers s) (vX s) (vm s) (vt s) (nine (vsum-linear s)) (vsum-tot s) (vsum-split s) p g (vterm-bytes y f) (vterm-numbers y) (run only d S (full L C (nine (vsum-linear s)) (minus-of g) (nine (vterm-linear y))) f)
+        (vterm-read y d h S L C (nine (vsum-linear s)) (minus-of g) f F)
 
 -- ---- of either kind
 

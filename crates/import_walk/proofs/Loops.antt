@@ -6,22 +6,17 @@ use Prim.Native.Nat.{ℕ, zero, suc, _+_, _*_, _-_, _≤_, _<_}
 use native.Mathlib.Numerals.{add-one}
 use native.Mathlib.Omega.{arith}
 use lib.Dec.{eqb}
-use lib.ListN.{length, getD, drop}
+use lib.ListN.{length, getD, drop, drop-of-length-le}
 use lib.Seq.{drop-cons, drop-drop}
 use borrow.Author.Tests.{ne-eqb, eq-eqb}
 use Rattle.whole.specs.Cases.{if}
 use Rattle.import_model.specs.Commands.{at-most}
 use Rattle.import_state.specs.Bytes.{blank, digit}
-use Rattle.import_parts.specs.Walk.{Stands, past, is-letter, next-letter, begins, inside-after, goes-on, grown, number-value, number-rest, spells, spelled, behind-string, quoted-after, string-rest}
+use Rattle.import_parts.specs.Walk.{Stands, past, is-letter, next-letter, goes-on, grown, number-value, number-rest, spells, spelled, string-rest}
 use Rattle.import_parts.specs.laws.Meets.{small, great}
 use Rattle.import_walk.specs.declared.number.Number.{Number}
 use Rattle.import_walk.specs.Onward.{Onward, Ahead, NumberAt}
-
-pub drop-all : (w : List ℕ) (i : ℕ) → length w ≤ i → drop i w ≡ []
-drop-all [] zero h = refl
-drop-all [] (suc i) h = refl
-drop-all (k ∷ w) zero h = absurd (omega arith)
-drop-all (k ∷ w) (suc i) h = drop-all w i (omega arith)
+use Rattle.import_walk.specs.Scans.{stops, turned, scan-rest}
 
 -- ---- n bytes on
 
@@ -30,72 +25,50 @@ ahead-in w at n a h = record { to = record { stands = record { within = omega (a
 
 pub ahead-out : (w : List ℕ) (at n : ℕ) → at ≤ length w → length w - at ≤ n → Ahead w at n (length w)
 ahead-out w at n a h = record {
-  to = record { stands = record { within = omega arith; rest = drop-all w (length w) (omega arith) ∙ sym (drop-drop n at w ∙ drop-all w (at + n) (omega (arith, a, h))) }; on = a };
+  to = record { stands = record { within = omega arith; rest = drop-of-length-le w {i = length w} (omega arith) ∙ sym (drop-drop n at w ∙ drop-of-length-le w {i = at + n} (omega (arith, a, h))) }; on = a };
   moves = λ p q. p;
 }
 
 -- ---- a scan that stops at a byte
 
-pub record Scanning (F : Bool → List ℕ → List ℕ) (text : List ℕ) (from : ℕ) (b : Bool) (i : ℕ) : Type 0 where
+pub record Scanning (string : Bool) (text : List ℕ) (from : ℕ) (b : Bool) (i : ℕ) : Type 0 where
   pub within : i ≤ length text
   pub on : from ≤ i
-  pub rest : F b (drop i text) ≡ F false (drop from text)
+  pub rest : scan-rest string b (drop i text) ≡ scan-rest string false (drop from text)
 
--- one byte of such a scan
-record OneByte (F : Bool → List ℕ → List ℕ) (here turn : Bool → ℕ → Bool) : Type 0 where
-  one : (b : Bool) (k : ℕ) (w : List ℕ) → F b (k ∷ w) ≡ if (here b k) (k ∷ w) (F (turn b k) w)
-  nothing : (b : Bool) → F b [] ≡ []
+one-byte : (string b : Bool) (k : ℕ) (w : List ℕ) → scan-rest string b (k ∷ w) ≡ if (stops string b k) (k ∷ w) (scan-rest string (turned string b k) w)
+unfolding string-rest next-letter
+one-byte true b k w = refl
+one-byte false b k w = refl
 
-at-byte : (F : Bool → List ℕ → List ℕ) (here turn : Bool → ℕ → Bool) → OneByte F here turn → (text : List ℕ) (b c : Bool) (i : ℕ) → i < length text → here b (getD text i 0) ≡ c
-    → F b (drop i text) ≡ if c (drop i text) (F (turn b (getD text i 0)) (drop (i + 1) text))
-at-byte F here turn o text b c i h e =
-    ap (F b) (drop-cons text i 0 h) ∙ o .one b (getD text i 0) (drop (suc i) text)
-    ∙ (λ j. if (e j) (sym (drop-cons text i 0 h) j) (F (turn b (getD text i 0)) (drop (sym (add-one i) j) text)))
+nothing : (string b : Bool) → scan-rest string b [] ≡ []
+unfolding string-rest next-letter
+nothing true b = refl
+nothing false b = refl
 
-scan-on : (F : Bool → List ℕ → List ℕ) (here turn : Bool → ℕ → Bool) → OneByte F here turn → (text : List ℕ) (from : ℕ) (b b′ : Bool) (i : ℕ)
-    → Scanning F text from b i → i < length text → here b (getD text i 0) ≡ false → b′ ≡ turn b (getD text i 0) → Scanning F text from b′ (i + 1)
-scan-on F here turn o text from b b′ i s h e t = record {
+at-byte : (string : Bool) (text : List ℕ) (b c : Bool) (i : ℕ) → i < length text → stops string b (getD text i 0) ≡ c
+    → scan-rest string b (drop i text) ≡ if c (drop i text) (scan-rest string (turned string b (getD text i 0)) (drop (i + 1) text))
+at-byte string text b c i h e =
+    ap (scan-rest string b) (drop-cons text i 0 h) ∙ one-byte string b (getD text i 0) (drop (suc i) text)
+    ∙ (λ j. if (e j) (sym (drop-cons text i 0 h) j) (scan-rest string (turned string b (getD text i 0)) (drop (sym (add-one i) j) text)))
+
+pub scan-on : (string : Bool) (text : List ℕ) (from : ℕ) (b b′ : Bool) (i : ℕ) → Scanning string text from b i → i < length text → stops string b (getD text i 0) ≡ false → b′ ≡ turned string b (getD text i 0)
+    → Scanning string text from b′ (i + 1)
+scan-on string text from b b′ i s h e t = record {
   within = omega (arith, h);
   on = let a = s .on in omega (arith, a);
-  rest = ap (λ (x : Bool). F x (drop (i + 1) text)) t ∙ sym (at-byte F here turn o text b false i h e) ∙ s .rest;
+  rest = ap (λ (x : Bool). scan-rest string x (drop (i + 1) text)) t ∙ sym (at-byte string text b false i h e) ∙ s .rest;
 }
 
-scan-here : (F : Bool → List ℕ → List ℕ) (here turn : Bool → ℕ → Bool) → OneByte F here turn → (text : List ℕ) (from : ℕ) (b : Bool) (i : ℕ)
-    → Scanning F text from b i → i < length text → here b (getD text i 0) ≡ true → Onward text from i (F false (drop from text))
-scan-here F here turn o text from b i s h e = record { stands = record { within = s .within; rest = sym (at-byte F here turn o text b true i h e) ∙ s .rest }; on = s .on }
+pub scan-here : (string : Bool) (text : List ℕ) (from : ℕ) (b : Bool) (i : ℕ) → Scanning string text from b i → i < length text → stops string b (getD text i 0) ≡ true
+    → Onward text from i (scan-rest string false (drop from text))
+scan-here string text from b i s h e = record { stands = record { within = s .within; rest = sym (at-byte string text b true i h e) ∙ s .rest }; on = s .on }
 
-scan-end : (F : Bool → List ℕ → List ℕ) (here turn : Bool → ℕ → Bool) → OneByte F here turn → (text : List ℕ) (from : ℕ) (b : Bool) (i : ℕ)
-    → Scanning F text from b i → length text ≤ i → Onward text from i (F false (drop from text))
-scan-end F here turn o text from b i s h = record {
-  stands = record { within = s .within; rest = drop-all text i h ∙ sym (o .nothing b) ∙ ap (F b) (sym (drop-all text i h)) ∙ s .rest };
+pub scan-end : (string : Bool) (text : List ℕ) (from : ℕ) (b : Bool) (i : ℕ) → Scanning string text from b i → length text ≤ i → Onward text from i (scan-rest string false (drop from text))
+scan-end string text from b i s h = record {
+  stands = record { within = s .within; rest = drop-of-length-le text h ∙ sym (nothing string b) ∙ ap (scan-rest string b) (sym (drop-of-length-le text h)) ∙ s .rest };
   on = s .on;
 }
-
-letters-byte : OneByte next-letter begins inside-after
-unfolding next-letter
-letters-byte = record { one = λ b k w. refl; nothing = λ b. refl }
-
-string-byte : OneByte string-rest behind-string quoted-after
-unfolding string-rest
-string-byte = record { one = λ b k w. refl; nothing = λ b. refl }
-
-pub letter-on : (text : List ℕ) (from : ℕ) (b b′ : Bool) (i : ℕ) → Scanning next-letter text from b i → i < length text → begins b (getD text i 0) ≡ false → b′ ≡ inside-after b (getD text i 0) → Scanning next-letter text from b′ (i + 1)
-letter-on = scan-on next-letter begins inside-after letters-byte
-
-pub letter-here : (text : List ℕ) (from : ℕ) (b : Bool) (i : ℕ) → Scanning next-letter text from b i → i < length text → begins b (getD text i 0) ≡ true → Onward text from i (next-letter false (drop from text))
-letter-here = scan-here next-letter begins inside-after letters-byte
-
-pub letter-end : (text : List ℕ) (from : ℕ) (b : Bool) (i : ℕ) → Scanning next-letter text from b i → length text ≤ i → Onward text from i (next-letter false (drop from text))
-letter-end = scan-end next-letter begins inside-after letters-byte
-
-pub string-on : (text : List ℕ) (from : ℕ) (b b′ : Bool) (i : ℕ) → Scanning string-rest text from b i → i < length text → behind-string b (getD text i 0) ≡ false → b′ ≡ quoted-after b (getD text i 0) → Scanning string-rest text from b′ (i + 1)
-string-on = scan-on string-rest behind-string quoted-after string-byte
-
-pub string-here : (text : List ℕ) (from : ℕ) (b : Bool) (i : ℕ) → Scanning string-rest text from b i → i < length text → behind-string b (getD text i 0) ≡ true → Onward text from i (string-rest false (drop from text))
-string-here = scan-here string-rest behind-string quoted-after string-byte
-
-pub string-end : (text : List ℕ) (from : ℕ) (b : Bool) (i : ℕ) → Scanning string-rest text from b i → length text ≤ i → Onward text from i (string-rest false (drop from text))
-string-end = scan-end string-rest behind-string quoted-after string-byte
 
 pub last-letter : (k : ℕ) → (k ≡ 114 → ⊥) → (k ≡ 99 → ⊥) → (k ≡ 110 → ⊥) → eqb k 101 ≡ is-letter k
 unfolding is-letter
@@ -125,7 +98,7 @@ past-found c text from i p h e = record {
 
 pub past-end : (c : ℕ) (text : List ℕ) (from i : ℕ) → Passing c text from i → length text ≤ i → Onward text from i (past c (drop from text))
 unfolding past
-past-end c text from i p h = record { stands = record { within = p .within; rest = drop-all text i h ∙ ap (past c) (sym (drop-all text i h)) ∙ p .rest }; on = p .on }
+past-end c text from i p h = record { stands = record { within = p .within; rest = drop-of-length-le text h ∙ ap (past c) (sym (drop-of-length-le text h)) ∙ p .rest }; on = p .on }
 
 -- ---- numbers
 
@@ -189,9 +162,9 @@ count-here text from most v i s h e r p q = record {
 pub count-end : (text : List ℕ) (from most v i : ℕ) → Counting text from most v i → length text ≤ i → (r : Number) → r .value ≡ v → r .next ≡ i → NumberAt text from most r
 unfolding number-value number-rest
 count-end text from most v i s h r p q = record {
-  value = p ∙ ap (number-value most v) (sym (drop-all text i h)) ∙ s .value;
+  value = p ∙ ap (number-value most v) (sym (drop-of-length-le text h)) ∙ s .value;
   next = subst (λ (j : ℕ). Onward text from j (number-rest (drop from text))) (sym q)
-      (record { stands = record { within = s .within; rest = drop-all text i h ∙ ap number-rest (sym (drop-all text i h)) ∙ s .rest }; on = s .on });
+      (record { stands = record { within = s .within; rest = drop-of-length-le text h ∙ ap number-rest (sym (drop-of-length-le text h)) ∙ s .rest }; on = s .on });
 }
 
 -- ---- the characters of a name
@@ -237,4 +210,4 @@ spell-quoted text from j left q i s h e z = record {
 
 pub spell-end : (text : List ℕ) (from j left : ℕ) (q : Bool) (i : ℕ) → Spelling text from j left q i → length text ≤ i → 0x20 ≡ getD (spelled false (drop from text)) j 0x20
 unfolding spelled
-spell-end text from j left q i s h = ap (λ (l : List ℕ). getD (spelled q l) left 0x20) (sym (drop-all text i h)) ∙ s .rest
+spell-end text from j left q i s h = ap (λ (l : List ℕ). getD (spelled q l) left 0x20) (sym (drop-of-length-le text h)) ∙ s .rest

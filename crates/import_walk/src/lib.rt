@@ -2,5 +2,6 @@
 pub mod name;
 pub mod number;
 pub mod opening;
+pub mod scan;
 pub mod site;
 pub mod steps;

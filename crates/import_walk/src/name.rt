@@ -3,49 +3,21 @@ ghost use mathlib.Core.Path.{_≡_};
 ghost use mathlib.Core.Bool.{false};
 ghost use Prim.Native.Nat.{_≤_};
 ghost use lib.ListN.{length, drop, getD};
-ghost use Rattle.import_parts.specs.Walk.{name-byte as name-byte-of, name-rest, string-rest, spelled, spells as spells-of, behind-string as behind-string-of, quoted-after as quoted-after-of};
+ghost use Rattle.import_parts.specs.Walk.{name-byte as name-byte-of, name-rest, string-rest, spelled, spells as spells-of};
 ghost use Rattle.import_walk.specs.Onward.{Onward};
+use crate::scan::QUOTES;
+use crate::scan::scan;
 use crate::steps::ahead;
 use crate::steps::next_letter;
 
-pub const QUOTES: u8 = 34;
-
 pub const SPACE: u8 = 32;
-
-fn behind_string(quoted: bool, k: u8) -> bool
-    ensures { λ r. ⌜ r ≡ behind-string-of quoted k ⌝ }
-{
-    if k == QUOTES {
-        return false;
-    }
-    quoted
-}
-
-fn quoted_after(quoted: bool, k: u8) -> bool
-    ensures { λ r. ⌜ r ≡ quoted-after-of quoted k ⌝ }
-{
-    if k == QUOTES {
-        return if quoted { false } else { true };
-    }
-    false
-}
 
 // Behind the string whose characters begin here.
 fn string_end(text: &[u8], from: usize) -> usize
     requires { ⌜ from ≤ length (now text) ⌝ }
     ensures { λ r. ⌜ Onward (now (text .entry)) from r (string-rest false (drop from (now (text .entry)))) ⌝ }
 {
-    let mut quoted = false;
-    let mut i = from;
-    while i < text.len() {
-        let k = text[i];
-        if behind_string(quoted, k) {
-            return i;
-        }
-        quoted = quoted_after(quoted, k);
-        i += 1;
-    }
-    i
+    scan(text, from, true)
 }
 
 // The next item, or the end.

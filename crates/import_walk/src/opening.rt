@@ -2,6 +2,7 @@
 ghost use mathlib.Core.Path.{_≡_};
 ghost use Prim.Native.Nat.{_≤_, _-_};
 ghost use lib.ListN.{length, drop};
+ghost use Rattle.import_model.specs.Import.{text-most};
 ghost use Rattle.import_parts.specs.Walk.{word-of, index-in};
 ghost use Rattle.import_walk.specs.Answers.{OpeningAt, ActionAt, BehindAt, kind-by};
 use crate::number::Number;
@@ -82,7 +83,7 @@ fn digit_value(k: u8) -> u8
 
 // The digit behind N or L.
 fn index_at(text: &[u8], at: usize, kind: u8) -> u8
-    requires { ⌜ (at ≤ length (now text)) × (length (now text) ≤ 262144) ⌝ }
+    requires { ⌜ (at ≤ length (now text)) × (length (now text) ≤ text-most) ⌝ }
     ensures { λ r. ⌜ r ≡ index-in kind (drop at (now (text .entry))) ⌝ }
 {
     let k = byte_at(text, at + 1);
@@ -98,7 +99,7 @@ fn index_at(text: &[u8], at: usize, kind: u8) -> u8
 
 // From an item's first letter.
 pub fn opening_at(text: &[u8], at: usize) -> Opening
-    requires { ⌜ (at ≤ length (now text)) × (length (now text) ≤ 262144) ⌝ }
+    requires { ⌜ (at ≤ length (now text)) × (length (now text) ≤ text-most) ⌝ }
     ensures { λ r. ⌜ OpeningAt (now (text .entry)) at r ⌝ }
 {
     let first = byte_at(text, at);

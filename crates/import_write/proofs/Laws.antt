@@ -5,8 +5,8 @@ use Prim.Native.Nat.{ℕ, suc, _+_, _≤_}
 use native.Mathlib.Omega.{arith}
 use borrow.Author.Tests.{eq-eqb, ne-eqb}
 use lib.IntN.{ℤ, pos}
-use lib.ListN.{length, getD}
-use lib.Seq.{take-suc, take-all, take-at, getD-append-seam}
+use lib.ListN.{length}
+use lib.Seq.{take-suc, take-all}
 use Rattle.whole.specs.Linears.{coefficients, numbers}
 use Rattle.theory.specs.Diagram.{Linear}
 use Rattle.theory.specs.Command.{Command, site, push-condition, push-forbidden, name-action, end-model}
@@ -26,15 +26,6 @@ linear-spelt p = sym (words-end (p .coeffs) (p .const))
 
 pub nine-of : (a : List ℤ) → length a ≡ numbers → nine (linear-of a) ≡ a
 nine-of a n = sym (take-suc a coefficients (pos 0) (omega (arith, n))) ∙ take-all numbers a (omega (arith, n))
-
--- the linear that nine numbers stand for
-pub nine-back : (p : Linear) → length (p .coeffs) ≡ coefficients → linear-of (nine p) ≡ p
-nine-back p h =
-    let e = take-at (p .coeffs) (p .const ∷ []) coefficients h in
-    λ i. record { coeffs = e i; const = last (p .coeffs) (p .const) h i }
-  where
-    last : (l : List ℤ) (z : ℤ) → length l ≡ coefficients → getD (l ++ (z ∷ [])) coefficients (pos 0) ≡ z
-    last l z h = ap (λ (k : ℕ). getD (l ++ (z ∷ [])) k (pos 0)) (sym h) ∙ getD-append-seam l z [] (pos 0)
 
 pub linear-is : (a : List ℤ) → length a ≡ numbers → words-bytes a ≡ linear-bytes (linear-of a)
 linear-is a n = ap words-bytes (sym (nine-of a n)) ∙ sym (linear-spelt (linear-of a))

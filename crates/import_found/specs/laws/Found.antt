@@ -11,10 +11,11 @@ use Rattle.whole.specs.Cases.{if}
 use Rattle.theory.specs.Diagram.{Linear, _⊠_}
 use Rattle.theory.specs.Command.{Command}
 use Rattle.theory.specs.Plain.{in-32-bits}
-use Rattle.import_grammar.specs.Grammar.{Blank, blank, tab, newline, return, Spaces, none, more, Digit, d0, d1, d2, d3, d4, d5, d6, d7, d8, d9, Digits, one, also, Index, i1, i2, i3, i4, i5, i6, i7, i8, Four, f1, f2, f3, f4, Op, lt, le, gt, ge, Sign, adds, takes, ConstFactor, number, kbracket, ConstTerm, kfactor, ktimes, ConstSum, kterm, kneg, kplus, VaryFactor, level, vbracket, VaryTerm, vfactor, vscaled, vby, VarySum, vterm, vneg, plusKV, plusVK, plusVV, Sum, constant, varying, Nots, unsaid, bang, Atom, now, later, compare, group, Not, negated, And, alone, both, Or, single, either, Result, worth, forbids, Before, start, case, Opening, digit-byte, blank-byte, index-byte, four-byte, sign-byte, op-bytes, spaces-bytes, digits-bytes, kfactor-bytes, kterm-bytes, ksum-bytes, vfactor-bytes, vterm-bytes, vsum-bytes, sum-bytes, nots-bytes, atom-bytes, not-bytes, and-bytes, or-bytes, result-bytes, opening-bytes, before-bytes, deepest}
+use Rattle.import_grammar.specs.Grammar.{Spaces, none, Digit, d0, d1, d2, d3, d4, d5, d6, d7, d8, d9, Digits, one, also, Index, i1, i2, i3, i4, i5, i6, i7, i8, Four, f1, f2, f3, f4, Op, lt, le, gt, ge, Sign, adds, takes, ConstFactor, number, kbracket, ConstTerm, kfactor, ktimes, ConstSum, kterm, kneg, kplus, VaryFactor, level, vbracket, VaryTerm, vfactor, vscaled, vby, VarySum, vterm, vneg, plusKV, plusVK, plusVV, Sum, constant, varying, Nots, unsaid, bang, Atom, now, later, compare, group, Not, negated, And, alone, both, Or, single, either, Result, worth, forbids, Before, start, case, Opening, digit-byte, index-byte, four-byte, sign-byte, op-bytes, spaces-bytes, digits-bytes, kfactor-bytes, kterm-bytes, ksum-bytes, vfactor-bytes, vterm-bytes, vsum-bytes, sum-bytes, nots-bytes, atom-bytes, not-bytes, and-bytes, or-bytes, result-bytes, opening-bytes, before-bytes, deepest}
 use Rattle.import_numbers.specs.Numbers.{minus, joined, kfactor-linear, kterm-linear, ksum-linear, vfactor-linear, vterm-linear, vsum-linear, linear-of, difference, nine, kfactor-numbers, kterm-numbers, ksum-numbers, vfactor-numbers, vterm-numbers, vsum-numbers, sum-numbers, atom-numbers, not-numbers, and-numbers, or-numbers, result-numbers, all-within}
 use Rattle.import_model.specs.Commands.{compare-commands, nots-commands, atom-commands, not-commands, and-commands, or-commands, result-command, opening-commands, before-commands}
 use Rattle.import_found.specs.Places.{Place, atom-at, result-at, lost, is-space, is-cond, after-colon, go, next-case, xor, find, AfterAtom, and-behind, or-behind, close-behind, colon-behind, AfterResult, ends-case, Decided, Emits, by-result, by-atom}
+use Rattle.import_found.specs.laws.Passing.{over-blanks}
 use Rattle.import_found.specs.laws.Walks.{pass-spaces, pass-atom, pass-not, pass-and, not-cond, cond-or, skip-spaces, skip-result, colon-spaces}
 
 -- ---- a sum without the white space before it
@@ -157,17 +158,9 @@ within-apart (z ∷ a) b e =
 
 -- ---- where an atom begins
 
-go-over : (b : Blank) (f : List ℕ) (c : Bool) (ps : List Bool) → go (blank-byte b ∷ f) c ps ≡ go f c ps
-unfolding go is-space
-go-over blank f c ps = refl
-go-over tab f c ps = refl
-go-over newline f c ps = refl
-go-over return f c ps = refl
-
 go-spaces : (q : Spaces) (f : List ℕ) (c : Bool) (ps : List Bool) → go (spaces-bytes q f) c ps ≡ go f c ps
-unfolding spaces-bytes
-go-spaces none f c ps = refl
-go-spaces (more q b) f c ps = go-spaces q (blank-byte b ∷ f) c ps ∙ go-over b f c ps
+unfolding go is-space
+go-spaces q f c ps = over-blanks (λ (l : List ℕ). go l c ps) (λ f. refl) (λ f. refl) (λ f. refl) (λ f. refl) q f
 
 -- an atom begins here
 abbrev Starts : List ℕ → List ℕ → Type 0

@@ -4,6 +4,23 @@ use mathlib.Core.List.{List, [], _∷_}
 use Prim.Native.Nat.{ℕ, suc}
 use Rattle.import_grammar.specs.Grammar.{Blank, blank, tab, newline, return, Spaces, none, more, Digit, d0, d1, d2, d3, d4, d5, d6, d7, d8, d9, Digits, one, also, Index, i1, i2, i3, i4, i5, i6, i7, i8, Sign, adds, takes, ConstFactor, number, kbracket, ConstTerm, kfactor, ktimes, ConstSum, kterm, kneg, kplus, VaryFactor, level, vbracket, VaryTerm, vfactor, vscaled, vby, VarySum, vterm, vneg, plusKV, plusVK, plusVV, Sum, constant, varying, digit-byte, blank-byte, index-byte, sign-byte, spaces-bytes, digits-bytes, kfactor-bytes, kterm-bytes, ksum-bytes, vfactor-bytes, vterm-bytes, vsum-bytes, sum-bytes}
 
+-- what passes over each blank passes over white space
+module _ {X : Type 0} (F : List ℕ → X)
+    (on-blank : (f : List ℕ) → F (32 ∷ f) ≡ F f)
+    (on-tab : (f : List ℕ) → F (9 ∷ f) ≡ F f)
+    (on-newline : (f : List ℕ) → F (10 ∷ f) ≡ F f)
+    (on-return : (f : List ℕ) → F (13 ∷ f) ≡ F f) where
+  over-one : (b : Blank) (f : List ℕ) → F (blank-byte b ∷ f) ≡ F f
+  over-one blank f = on-blank f
+  over-one tab f = on-tab f
+  over-one newline f = on-newline f
+  over-one return f = on-return f
+
+  pub over-blanks : (q : Spaces) (f : List ℕ) → F (spaces-bytes q f) ≡ F f
+  unfolding spaces-bytes
+  over-blanks none f = refl
+  over-blanks (more q b) f = over-blanks q (blank-byte b ∷ f) ∙ over-one b f
+
 -- the bytes of a sum outside its brackets
 pub data SumByte : ℕ → Type 0 where
   s9 : SumByte 9

@@ -8,11 +8,11 @@ use lib.IntN.{ℤ, pos, negsuc}
 use Rattle.whole.specs.Cases.{if}
 use Rattle.theory.specs.Diagram.{Linear, _⊠_}
 use Rattle.theory.specs.Command.{Command}
-use Rattle.import_grammar.specs.Grammar.{Blank, blank, tab, newline, return, Spaces, none, more, Digit, d0, d1, d2, d3, d4, d5, d6, d7, d8, d9, Digits, one, also, Index, i1, i2, i3, i4, i5, i6, i7, i8, Four, f1, f2, f3, f4, Op, lt, le, gt, ge, Sign, adds, takes, ConstFactor, number, kbracket, ConstTerm, kfactor, ktimes, ConstSum, kterm, kneg, kplus, VaryFactor, level, vbracket, VaryTerm, vfactor, vscaled, vby, VarySum, vterm, vneg, plusKV, plusVK, plusVV, Sum, constant, varying, Nots, unsaid, bang, Atom, now, later, compare, group, Not, negated, And, alone, both, Or, single, either, Result, worth, forbids, Before, start, case, Opening, digit-byte, blank-byte, index-byte, four-byte, sign-byte, op-bytes, spaces-bytes, digits-bytes, kfactor-bytes, kterm-bytes, ksum-bytes, vfactor-bytes, vterm-bytes, vsum-bytes, sum-bytes, nots-bytes, atom-bytes, not-bytes, and-bytes, or-bytes, result-bytes, opening-bytes, before-bytes}
+use Rattle.import_grammar.specs.Grammar.{Spaces, none, Digit, d0, d1, d2, d3, d4, d5, d6, d7, d8, d9, Digits, one, also, Index, i1, i2, i3, i4, i5, i6, i7, i8, Four, f1, f2, f3, f4, Op, lt, le, gt, ge, Sign, adds, takes, ConstFactor, number, kbracket, ConstTerm, kfactor, ktimes, ConstSum, kterm, kneg, kplus, VaryFactor, level, vbracket, VaryTerm, vfactor, vscaled, vby, VarySum, vterm, vneg, plusKV, plusVK, plusVV, Sum, constant, varying, Nots, unsaid, bang, Atom, now, later, compare, group, Not, negated, And, alone, both, Or, single, either, Result, worth, forbids, Before, start, case, Opening, digit-byte, index-byte, four-byte, sign-byte, op-bytes, spaces-bytes, digits-bytes, kfactor-bytes, kterm-bytes, ksum-bytes, vfactor-bytes, vterm-bytes, vsum-bytes, sum-bytes, nots-bytes, atom-bytes, not-bytes, and-bytes, or-bytes, result-bytes, opening-bytes, before-bytes}
 use Rattle.import_numbers.specs.Numbers.{joined, kfactor-linear, kterm-linear, ksum-linear, vfactor-linear, vterm-linear, vsum-linear, linear-of}
 use Rattle.import_model.specs.Commands.{compare-commands, nots-commands, atom-commands, not-commands, and-commands, or-commands, result-command, opening-commands, before-commands}
 use Rattle.import_found.specs.Places.{Place, atom-at, result-at, lost, is-space, is-cond, after-colon, go, next-case, xor, find}
-use Rattle.import_found.specs.laws.Passing.{SumByte, s9, s10, s13, s32, s42, s43, s45, s48, s49, s50, s51, s52, s53, s54, s55, s56, s57, s76, blank-in, over-spaces, over-close, over-sum}
+use Rattle.import_found.specs.laws.Passing.{SumByte, s9, s10, s13, s32, s42, s43, s45, s48, s49, s50, s51, s52, s53, s54, s55, s56, s57, s76, over-blanks, blank-in, over-spaces, over-close, over-sum}
 
 -- ---- what comes next
 
@@ -254,14 +254,6 @@ unfolding result-bytes next-case
 skip-result (worth s) f = over-sum (λ d f. next-case f) skip-over skip-opens skip-closes s 0 f
 skip-result (forbids p) f = skip-spaces p (102 ∷ 111 ∷ 114 ∷ 98 ∷ 105 ∷ 100 ∷ 100 ∷ 101 ∷ 110 ∷ f)
 
-colon-over : (b : Blank) (f : List ℕ) → after-colon (blank-byte b ∷ f) ≡ after-colon f
-unfolding after-colon
-colon-over blank f = refl
-colon-over tab f = refl
-colon-over newline f = refl
-colon-over return f = refl
-
 pub colon-spaces : (q : Spaces) (f : List ℕ) → after-colon (spaces-bytes q f) ≡ after-colon f
-unfolding spaces-bytes
-colon-spaces none f = refl
-colon-spaces (more q b) f = colon-spaces q (blank-byte b ∷ f) ∙ colon-over b f
+unfolding after-colon
+colon-spaces = over-blanks after-colon (λ f. refl) (λ f. refl) (λ f. refl) (λ f. refl)

@@ -11,31 +11,24 @@ use Rattle.import_look.proofs.difference.Reads as difference-reads
 use Rattle.import_look.proofs.operator_at.Reads as operator-at-reads
 use Rattle.import_sum_at.proofs.sum_at.Reads as sum-at-reads
 
--- src/lib.rt:100:9
 sum-at-requires : tie.Need-sum-at-requires
 sum-at-requires c κs = search needs
 
--- src/lib.rt:101:9
 operator-at-requires : tie.Need-operator-at-requires
 operator-at-requires c κs = search needs
 
--- src/lib.rt:102:9
 sum-at-requires-2 : tie.Need-sum-at-requires-2
 sum-at-requires-2 c κs = search needs
 
--- src/lib.rt:106:9
 difference-requires : tie.Need-difference-requires
 difference-requires c κs = search needs
 
--- src/lib.rt:106:9
 returns : tie.Need-returns
 returns c = compared _ _ _ _ (c .before .before .before .before .before .operator-at .result) _ (c .before .before .before .before .before .before .sum-at .ensures) (c .before .before .before .before .before .operator-at .ensures .0) (c .before .before .before .before .sum-at2 .ensures) (c .difference .ensures ∙ sym (if-yes (c .before .before .before .before .before .operator-at .result .turned) _ _ (c .before .if1 .taken)))
 
--- src/lib.rt:108:5
 difference-requires-2 : tie.Need-difference-requires-2
 difference-requires-2 c κs = search needs
 
--- src/lib.rt:96:1
 returns-2 : tie.Need-returns-2
 returns-2 c = compared _ _ _ _ (c .before .before .before .before .before .operator-at .result) _ (c .before .before .before .before .before .before .sum-at .ensures) (c .before .before .before .before .before .operator-at .ensures .0) (c .before .before .before .before .sum-at2 .ensures) (c .difference2 .ensures ∙ sym (if-no (c .before .before .before .before .before .operator-at .result .turned) _ _ (c .before .if1 .left)))
 

@@ -6,19 +6,15 @@ use Rattle.import_look.proofs.condition.Reads as reads
 use Rattle.import_look.proofs.condition.Lts as lts
 use Rattle.model_command.proofs.byte_at.Reads as byte-at-reads
 
--- src/lib.rt:116:9
 byte-at-requires : tie.Need-byte-at-requires
 byte-at-requires c κs = search needs
 
--- src/lib.rt:120:18
 add-number : tie.Need-add-number
 add-number c = search needs
 
--- src/lib.rt:112:1
 returns : tie.Need-returns
 returns c = cond-yes _ _ _ _ (c .before .byte-at .ensures) (c .if1 .taken)
 
--- src/lib.rt:112:1
 returns-2 : tie.Need-returns-2
 returns-2 c = cond-no _ _ _ _ (c .before .byte-at .ensures) (c .if1 .left)
 

@@ -10,30 +10,24 @@ use Rattle.import_look.proofs.difference.Lts as lts
 use Rattle.import_linears.proofs.all_fit.Reads as all-fit-reads
 use Rattle.whole_linears.proofs.sub.Reads as sub-reads
 
--- src/lib.rt:76:8
 all-fit-requires : tie.Need-all-fit-requires
 all-fit-requires c κs = search needs
 
--- src/lib.rt:77:12
 all-fit-requires-2 : tie.Need-all-fit-requires-2
 all-fit-requires-2 c κs = search needs
 
--- src/lib.rt:78:17
 sub-requires : tie.Need-sub-requires
 sub-requires c κs = (
   nine-smalls (record { long = c .before .before .before .before .pre .0; within = sym (c .before .before .before .all-fit .ensures) ∙ c .before .before .if1 .taken }),
   nine-smalls (record { long = c .before .before .before .before .pre .1; within = sym (c .before .all-fit2 .ensures) ∙ c .if2 .taken }),
 )
 
--- src/lib.rt:79:13
 returns : tie.Need-returns
 returns c = test-both _ _ _ _ (c .before .before .before .before .all-fit .ensures) (c .before .before .before .if1 .taken) (c .before .before .all-fit2 .ensures) (c .before .if2 .taken) (c .sub .ensures)
 
--- src/lib.rt:72:1
 returns-2 : tie.Need-returns-2
 returns-2 c = test-right _ _ _ (c .before .before .before .all-fit .ensures) (c .before .before .if1 .taken) (c .before .all-fit2 .ensures) (c .if2 .left)
 
--- src/lib.rt:72:1
 returns-3 : tie.Need-returns-3
 returns-3 c = test-left _ _ _ (c .before .all-fit .ensures) (c .if1 .left)
 

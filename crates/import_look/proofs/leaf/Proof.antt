@@ -8,23 +8,18 @@ use Rattle.import_look.proofs.skip.Reads as skip-reads
 use Rattle.import_sum_at.proofs.sum_at.Reads as sum-at-reads
 use Rattle.model_command.proofs.byte_at.Reads as byte-at-reads
 
--- src/lib.rt:151:9
 skip-requires : tie.Need-skip-requires
 skip-requires c κs = search needs
 
--- src/lib.rt:152:8
 byte-at-requires : tie.Need-byte-at-requires
 byte-at-requires c κs = search needs
 
--- src/lib.rt:153:9
 returns : tie.Need-returns
 returns c = leaf-forbidden _ _ _ (c .before .before .skip .ensures) (c .before .byte-at .ensures) (c .if1 .taken)
 
--- src/lib.rt:160:9
 sum-at-requires : tie.Need-sum-at-requires
 sum-at-requires c κs = search needs
 
--- src/lib.rt:147:1
 returns-2 : tie.Need-returns-2
 returns-2 c = leaf-worth _ _ _ (c .before .before .before .before .skip .ensures) (c .before .before .before .byte-at .ensures) (c .before .before .if1 .left) (c .before .sum-at .result) (c .before .sum-at .ensures)
 

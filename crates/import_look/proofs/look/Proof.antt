@@ -10,43 +10,33 @@ use Rattle.import_look.proofs.condition.Reads as condition-reads
 use Rattle.import_look.proofs.skip.Reads as skip-reads
 use Rattle.model_command.proofs.byte_at.Reads as byte-at-reads
 
--- src/lib.rt:135:9
 skip-requires : tie.Need-skip-requires
 skip-requires c κs = search needs
 
--- src/lib.rt:136:9
 byte-at-requires : tie.Need-byte-at-requires
 byte-at-requires c κs = search needs
 
--- src/lib.rt:138:32
 add-condition : tie.Need-add-condition
 add-condition c = search needs
 
--- src/lib.rt:138:9
 condition-requires : tie.Need-condition-requires
 condition-requires c κs = search needs
 
--- src/lib.rt:138:9
 returns : tie.Need-returns
 returns c = looks-now _ _ _ (c .before .before .before .skip .ensures) (c .before .before .byte-at .ensures) (c .before .if1 .taken) (c .condition .ensures)
 
--- src/lib.rt:141:32
 add-condition-2 : tie.Need-add-condition-2
 add-condition-2 c = search needs
 
--- src/lib.rt:141:9
 condition-requires-2 : tie.Need-condition-requires-2
 condition-requires-2 c κs = search needs
 
--- src/lib.rt:141:9
 returns-2 : tie.Need-returns-2
 returns-2 c = looks-later _ _ _ (c .before .before .before .before .skip .ensures) (c .before .before .before .byte-at .ensures) (c .before .if2 .taken) (c .condition2 .ensures)
 
--- src/lib.rt:143:5
 comparison-requires : tie.Need-comparison-requires
 comparison-requires c κs = search needs
 
--- src/lib.rt:131:1
 returns-3 : tie.Need-returns-3
 returns-3 c = looks-other _ _ _ (c .before .before .before .before .skip .ensures) (c .before .before .before .byte-at .ensures) (c .before .before .if1 .left) (c .before .if2 .left) (c .comparison .ensures)
 

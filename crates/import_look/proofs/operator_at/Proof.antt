@@ -8,39 +8,30 @@ use Rattle.import_look.proofs.operator_at.Reads as reads
 use Rattle.import_look.proofs.operator_at.Lts as lts
 use Rattle.model_command.proofs.byte_at.Reads as byte-at-reads
 
--- src/lib.rt:50:8
 add-if1 : tie.Need-add-if1
 add-if1 c = search needs
 
--- src/lib.rt:51:20
 byte-at-requires : tie.Need-byte-at-requires
 byte-at-requires c κs = search needs
 
--- src/lib.rt:52:26
 add-byte-at : tie.Need-add-byte-at
 add-byte-at c = search needs
 
--- src/lib.rt:52:12
 byte-at-requires-2 : tie.Need-byte-at-requires-2
 byte-at-requires-2 c κs = search needs
 
--- src/lib.rt:56:23
 add-t11 : tie.Need-add-t11
 add-t11 c = search needs
 
--- src/lib.rt:53:13
 returns : tie.Need-returns
 returns c = (op-equals _ _ _ _ (c .before .before .byte-at .ensures) (c .before .byte-at2 .ensures) (c .before .before .before .if1 .taken) (c .if2 .taken), let h = c .before .before .before .if1 .taken in omega (arith, h))
 
--- src/lib.rt:62:19
 add-t8 : tie.Need-add-t8
 add-t8 c = search needs
 
--- src/lib.rt:59:9
 returns-2 : tie.Need-returns-2
 returns-2 c = (op-bare _ _ _ _ (c .before .before .byte-at .ensures) (c .before .byte-at2 .ensures) (c .before .before .before .if1 .taken) (c .if2 .left), let h = c .before .before .before .if1 .taken in omega (arith, h))
 
--- src/lib.rt:46:1
 returns-3 : tie.Need-returns-3
 returns-3 c = (op-none _ _ (c .if1 .left), c .before .before .pre .0)
 

@@ -55,7 +55,7 @@ OperandsFit end-model = ⊥
 four-back : (n : ℕ) → n < 4294967296 → n % 256 + n / 256 % 256 * 256 + n / 256 / 256 % 256 * 65536 + n / 256 / 256 / 256 % 256 * 16777216 ≡ n
 four-back n h = omega arith
 
-two-back : (n : ℕ) → n < 65536 → n % 256 + (n / 256 % 256 + 0 * 256) * 256 ≡ n
+pub two-back : (n : ℕ) → n < 65536 → n % 256 + (n / 256 % 256 + 0 * 256) * 256 ≡ n
 two-back n h = omega arith
 
 word-back : (z : ℤ) → T (in-32-bits z) → (word-of z < 4294967296) × (signed (word-of z) ≡ z)

@@ -11,6 +11,7 @@ use lib.ListN.{length, drop, length-append, length-drop}
 use lib.Seq.{drop-append-seam}
 use lib.Signed.{_≤ℤ_, leZ}
 use Rattle.whole.specs.Cases.{if, by-test, both, and-in, not-not}
+use Rattle.theory.specs.Widths.{bytes-most}
 use Rattle.theory.specs.Form.{new-form, bytes-in}
 use Rattle.theory.specs.Plain.{in-32-bits}
 use Rattle.theory.specs.Verdict.{Verdict, refusal, verdict-in}
@@ -103,7 +104,7 @@ module _ (w buffer : List ℕ) where
     judged : NumbersFit t → AdmittedIn new-form (model-bytes t) → Row (left-by t (behind-own t))
     judged f d = by-test (too-short t) (λ b. Row (left-by t (if b (refusal 17 0) (refusal 0 0)))) (λ s. import-17 r f d (ltb→lt _ _ s)) (λ s. import-0 r f d (nltb→le _ _ s))
 
-    own-row : NumbersFit t → length (model-bytes t) ≤ 262144 → (v : Verdict) → VerdictRow (model-bytes t) v → Row (left-by t (from-own t v))
+    own-row : NumbersFit t → length (model-bytes t) ≤ bytes-most → (v : Verdict) → VerdictRow (model-bytes t) v → Row (left-by t (from-own t v))
     unfolding from-own
     own-row f h v q = by-test (eqb (v .number) 0) (λ b. eqb (v .number) 0 ≡ b → Row (left-by t (if (not b) v (behind-own t))))
         (λ z _. judged f (record { bytes = h; own = zero-row-in new-form q (eqb→eq (v .number) 0 z) }))
@@ -121,7 +122,7 @@ module _ (w buffer : List ℕ) where
     read-row = by-test (beyond t) (λ b. Row (left-by t (if b (refusal 25 0) (from-own t (own-refusal new-form (model-bytes t))))))
         (λ z. import-25 r (λ f. T-not (beyond t) (in-fit t f) z)) (λ z. fitting-row (fit-in t z))
 
-  scanned-row : length w ≤ 262144 → (o : Outcome) → Right w o → Row (imported buffer o)
+  scanned-row : length w ≤ text-most → (o : Outcome) → Right w o → Row (imported buffer o)
   unfolding imported
   scanned-row h (fine t) r = read-row t (record { bytes = h; reading = r })
   scanned-row h (stops i) r = import-24 h r
@@ -133,7 +134,7 @@ module _ (w buffer : List ℕ) where
 
   -- ---- and each row is the outcome
 
-  short-is : length w ≤ 262144 → import-text w buffer ≡ imported buffer (scan begin w 0)
+  short-is : length w ≤ text-most → import-text w buffer ≡ imported buffer (scan begin w 0)
   unfolding import-text
   short-is h = if-no (ltb text-most (length w)) (untouched buffer 10 0) (imported buffer (scan begin w 0)) (at-most _ _ h)
 
@@ -144,7 +145,7 @@ module _ (w buffer : List ℕ) where
   unfolding imported import-refusal from-own
   fit-is {t} r f = read-is r ∙ ap (left-by t) (if-no (beyond t) (refusal 25 0) (from-own t (own-refusal new-form (model-bytes t))) (in-fit t f))
 
-  own-is : {t : Text} → ReadAs w t → NumbersFit t → length (model-bytes t) ≤ 262144 → (v : Verdict) → VerdictRow (model-bytes t) v → import-text w buffer ≡ left-by t (from-own t v)
+  own-is : {t : Text} → ReadAs w t → NumbersFit t → length (model-bytes t) ≤ bytes-most → (v : Verdict) → VerdictRow (model-bytes t) v → import-text w buffer ≡ left-by t (from-own t v)
   unfolding own-refusal
   own-is {t} r f h v q = fit-is r f
       ∙ ap (λ (v : Verdict). left-by t (from-own t v)) (if-no (ltb (bytes-in new-form) (length (model-bytes t))) (refusal 10 0) (verdict-in new-form (model-bytes t)) (at-most _ _ h) ∙ verdict-is-in new-form (model-bytes t) q)

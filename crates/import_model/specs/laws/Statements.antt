@@ -2,7 +2,7 @@
 use mathlib.Core.Path.{_≡_, refl, sym, ap, ap₂, _∙_, subst}
 use mathlib.Core.Bool.{Bool, true, false, not}
 use mathlib.Core.List.{List, [], _∷_, _++_, map, append-nil}
-use Prim.Native.Nat.{ℕ, _+_, _*_, _/_, _%_, _≤_, _<_}
+use Prim.Native.Nat.{ℕ, _+_, _≤_, _<_}
 use native.Mathlib.Omega.{arith}
 use lib.Dec.{T, ltb, leb→le, nltb→le}
 use lib.ListN.{length, drop}
@@ -34,7 +34,7 @@ use Rattle.import_model.specs.Statements.{ReadAs, NumbersFit, ImportRow,
 use Rattle.import_model.specs.Meaning.{text-items, text-site, items-site, opening-site, before-site, process-of, text-process}
 use Rattle.import_model.specs.laws.Follows.{load-all, loaded}
 use Rattle.import_model.specs.laws.Items.{Entered, Loads, text-loads}
-use Rattle.import_model.specs.laws.Decode.{readings-placed, AllFit, fits-and, with-end}
+use Rattle.import_model.specs.laws.Decode.{two-back, readings-placed, AllFit, fits-and, with-end}
 use Rattle.import_model.specs.laws.Fits.{items-fit}
 use Rattle.import_model.specs.laws.Alike.{Alike, optimum-as, lowest-best-as, expected-as}
 use Rattle.import_model.specs.laws.Processes.{rewards-follow, chances-follow, levels-follow, end-follows, an-action, processes}
@@ -138,9 +138,6 @@ mutual
 text-start : (t : Text) → Starts (text-commands t) (site-command (text-site t))
 unfolding text-commands text-site
 text-start (entire I e) = starts-with (items-commands I) _ (site-command (items-site I)) (items-start I)
-
-two-back : (n : ℕ) → n < 65536 → n % 256 + (n / 256 % 256 + 0 * 256) * 256 ≡ n
-two-back n h = omega arith
 
 site-first : (m n a w : ℕ) (C : List Command) → a < 65536 → site-at (encode (site m n a w ∷ C)) ≡ site-of m n a w
 unfolding site-in encode command-bytes low-first bytes-at

@@ -10,66 +10,34 @@ use Rattle.whole.specs.Cases.{if, by-test, by-eq}
 use Rattle.theory.specs.Widths.{name-bytes}
 use Rattle.theory.specs.Command.{Slot}
 use Rattle.theory.specs.Verdict.{name-slot}
-use Rattle.import_grammar.specs.Grammar.{Blank, blank, tab, newline, return, Spaces, none, more, Digit, d0, d1, d2, d3, d4, d5, d6, d7, d8, d9, Digits, one, also, Index, i1, i2, i3, i4, i5, i6, i7, i8, Four, f1, f2, f3, f4, Op, lt, le, gt, ge, Sum, Nots, unsaid, bang, Atom, now, later, compare, group, Not, negated, And, alone, both, Or, single, either, Result, worth, forbids, Setting, setting, Char, Chars, empty, char, quote, is-plain, Opening, reward, chance, next, end, Before, start, case, blank-byte, digit-byte, index-byte, four-byte, op-bytes, spaces-bytes, digits-bytes, sum-bytes, nots-bytes, atom-bytes, not-bytes, and-bytes, or-bytes, result-bytes, setting-bytes, chars-bytes}
+use Rattle.import_grammar.specs.Grammar.{Spaces, Digit, d0, d1, d2, d3, d4, d5, d6, d7, d8, d9, Digits, one, also, Index, i1, i2, i3, i4, i5, i6, i7, i8, Four, f1, f2, f3, f4, Op, lt, le, gt, ge, Sum, Nots, unsaid, bang, Atom, now, later, compare, group, Not, negated, And, alone, both, Or, single, either, Result, worth, forbids, Setting, setting, Char, Chars, empty, char, quote, is-plain, Opening, reward, chance, next, end, Before, start, case, digit-byte, index-byte, four-byte, op-bytes, spaces-bytes, digits-bytes, sum-bytes, nots-bytes, atom-bytes, not-bytes, and-bytes, or-bytes, result-bytes, setting-bytes, chars-bytes}
 use Rattle.import_grammar.specs.Reader.{is-digit, is-blank}
 use Rattle.import_numbers.specs.Numbers.{digit-value, digits-value}
 use Rattle.import_model.specs.Commands.{at-most, byte-most, action-most, byte-of, action-of, setting-of, condition-of, level-of, letters, filled}
-use Rattle.import_found.specs.laws.Passing.{SumByte, s9, s10, s13, s32, s42, s43, s45, s48, s49, s50, s51, s52, s53, s54, s55, s56, s57, s76, over-sum}
+use Rattle.import_found.specs.laws.Passing.{SumByte, s9, s10, s13, s32, s42, s43, s45, s48, s49, s50, s51, s52, s53, s54, s55, s56, s57, s76, over-blanks, over-sum}
 use Rattle.import_found.specs.laws.Found.{opening-of, cases-bytes}
 use Rattle.import_parts.specs.Parts.{Site, site-with, Part, item, name, site-bytes, opened-bytes, else-bytes, string-bytes, named-bytes, part-gap, part-bare, part-bytes, parts-bytes, slot-of, from-letter}
 use Rattle.import_parts.specs.Walk.{past, is-letter, begins, inside-after, next-letter, item-rest, goes-on, grown, number-value, number-rest, setting-value, setting-rest, kind-in, word-of, action-rest, action-in, index-in, opening-rest, slot-in, spelled, string-rest, name-byte, name-rest}
 
 -- ---- behind "=" and ":"
 
-past-blank : (b : Blank) (f : List ℕ) → past 61 (blank-byte b ∷ f) ≡ past 61 f
-unfolding past
-past-blank blank f = refl
-past-blank tab f = refl
-past-blank newline f = refl
-past-blank return f = refl
-
 pub past-spaces : (q : Spaces) (f : List ℕ) → past 61 (spaces-bytes q f) ≡ past 61 f
-unfolding spaces-bytes
-past-spaces none f = refl
-past-spaces (more q b) f = past-spaces q (blank-byte b ∷ f) ∙ past-blank b f
-
-colon-blank : (b : Blank) (f : List ℕ) → past 58 (blank-byte b ∷ f) ≡ past 58 f
 unfolding past
-colon-blank blank f = refl
-colon-blank tab f = refl
-colon-blank newline f = refl
-colon-blank return f = refl
+past-spaces = over-blanks (past 61) (λ f. refl) (λ f. refl) (λ f. refl) (λ f. refl)
 
 pub colon-spaces : (q : Spaces) (f : List ℕ) → past 58 (spaces-bytes q f) ≡ past 58 f
-unfolding spaces-bytes
-colon-spaces none f = refl
-colon-spaces (more q b) f = colon-spaces q (blank-byte b ∷ f) ∙ colon-blank b f
+unfolding past
+colon-spaces = over-blanks (past 58) (λ f. refl) (λ f. refl) (λ f. refl) (λ f. refl)
 
 -- ---- numbers
 
-value-blank : (m v : ℕ) (b : Blank) (f : List ℕ) → number-value m v (blank-byte b ∷ f) ≡ number-value m v f
-unfolding number-value goes-on grown
-value-blank m v blank f = refl
-value-blank m v tab f = refl
-value-blank m v newline f = refl
-value-blank m v return f = refl
-
 pub value-spaces : (m v : ℕ) (q : Spaces) (f : List ℕ) → number-value m v (spaces-bytes q f) ≡ number-value m v f
-unfolding spaces-bytes
-value-spaces m v none f = refl
-value-spaces m v (more q b) f = value-spaces m v q (blank-byte b ∷ f) ∙ value-blank m v b f
-
-rest-blank : (b : Blank) (f : List ℕ) → number-rest (blank-byte b ∷ f) ≡ number-rest f
-unfolding number-rest goes-on
-rest-blank blank f = refl
-rest-blank tab f = refl
-rest-blank newline f = refl
-rest-blank return f = refl
+unfolding number-value goes-on grown
+value-spaces m v = over-blanks (number-value m v) (λ f. refl) (λ f. refl) (λ f. refl) (λ f. refl)
 
 pub rest-spaces : (q : Spaces) (f : List ℕ) → number-rest (spaces-bytes q f) ≡ number-rest f
-unfolding spaces-bytes
-rest-spaces none f = refl
-rest-spaces (more q b) f = rest-spaces q (blank-byte b ∷ f) ∙ rest-blank b f
+unfolding number-rest goes-on
+rest-spaces = over-blanks number-rest (λ f. refl) (λ f. refl) (λ f. refl) (λ f. refl)
 
 rest-digit : (d : Digit) (f : List ℕ) → number-rest (digit-byte d ∷ f) ≡ number-rest f
 unfolding number-rest goes-on

@@ -4,7 +4,7 @@ use mathlib.Core.Bool.{Bool, true, false}
 use mathlib.Core.List.{List, [], _∷_, _++_, append-assoc}
 use Prim.Native.Nat.{ℕ, zero, suc, _≤_, _<_}
 use native.Mathlib.Omega.{arith}
-use lib.ListN.{length, drop, getD}
+use lib.ListN.{length, drop, getD, drop-of-length-le}
 use Rattle.theory.specs.Widths.{name-bytes}
 use Rattle.theory.specs.Command.{Command, end-model}
 use Rattle.theory.specs.Verdict.{name-slot}
@@ -154,12 +154,6 @@ name-walked w cs at done p q ds r x P e k =
 
 -- ---- the end
 
-drop-all : (w : List ℕ) (i : ℕ) → length w ≤ i → drop i w ≡ []
-drop-all [] zero h = refl
-drop-all [] (suc i) h = refl
-drop-all (k ∷ w) zero h = absurd (omega arith)
-drop-all (k ∷ w) (suc i) h = drop-all w i (omega arith)
-
 abbrev Empty : List ℕ → Type 0
 Empty [] = Unit {0}
 Empty (k ∷ w) = ⊥
@@ -202,7 +196,7 @@ walk-on w cs at done x P e to k s = record {
 
 -- the end: no part is left
 pub walk-ended : (w : List ℕ) (cs : List Command) (at : ℕ) (done : List Command) (P : List Part) (e : Spaces) → Walked w cs at done P e → length w ≤ at → cs ≡ done ++ (end-model ∷ [])
-walk-ended w cs at done P e k h = none-left w cs at done P e k (drop-all w at h)
+walk-ended w cs at done P e k h = none-left w cs at done P e k (drop-of-length-le w h)
 
 -- before it, one is
 pub walk-not-ended : (w : List ℕ) (cs : List Command) (at : ℕ) (done : List Command) (e : Spaces) → Walked w cs at done [] e → at < length w → ⊥

@@ -9,43 +9,34 @@ use Rattle.import_places.proofs.advance.Lts as lts
 use Rattle.import_places.proofs.pop.Reads as pop-reads
 use Rattle.import_places.proofs.token.Reads as token-reads
 
--- src/lib.rt:86:39
 add-t4 : tie.Need-add-t4
 add-t4 c = search needs
 
--- src/lib.rt:86:9
 returns : tie.Need-returns
 unfolding step-of
 returns c = simp (eq-eqb _ _ (c .before .if1 .taken))
 
--- src/lib.rt:90:13
 pop-requires : tie.Need-pop-requires
 pop-requires c κs = search needs
 
--- src/lib.rt:90:13
 returns-2 : tie.Need-returns-2
 unfolding step-of
 returns-2 c = simp (eq-eqb _ _ (c .before .if3 .taken), eq-eqb _ _ (c .before .before .before .if2 .taken), ne-eqb _ _ (c .before .before .before .before .if1 .left)) (c .pop .ensures)
 
--- src/lib.rt:92:39
 sub-t7 : tie.Need-sub-t7
 sub-t7 c = search needs
 
--- src/lib.rt:92:9
 returns-3 : tie.Need-returns-3
 unfolding step-of
 returns-3 c = simp (ne-eqb _ _ (c .before .if3 .left), eq-eqb _ _ (c .before .before .before .if2 .taken), ne-eqb _ _ (c .before .before .before .before .if1 .left))
 
--- src/lib.rt:95:9
 token-requires : tie.Need-token-requires
 token-requires c κs = search needs
 
--- src/lib.rt:95:9
 returns-4 : tie.Need-returns-4
 unfolding step-of
 returns-4 c = simp (eq-eqb _ _ (c .before .if4 .taken), ne-eqb _ _ (c .before .before .before .if2 .left), ne-eqb _ _ (c .before .before .before .before .if1 .left)) (c .token .ensures)
 
--- src/lib.rt:81:1
 returns-5 : tie.Need-returns-5
 unfolding step-of
 returns-5 c = simp (ne-eqb _ _ (c .if4 .left), ne-eqb _ _ (c .before .before .if2 .left), ne-eqb _ _ (c .before .before .before .if1 .left))

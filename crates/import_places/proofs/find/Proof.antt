@@ -20,31 +20,24 @@ Inv-loop text from value mask count s₀ i₀ s i = At text (place-after (drop f
 abbrev μ-loop : tie.MeasureT-loop
 μ-loop text from value mask count s₀ i₀ s i = length text - i
 
--- src/lib.rt:106:5
 loop-holds : tie.Need-loop-holds Inv-loop μ-loop
 loop-holds c = record { within = c .before .pre .0; shallows = omega arith; low = c .before .pre .2; rest = refl }
 
--- src/lib.rt:107:28
 shared-slice-read-advance : tie.Need-shared-slice-read-advance Inv-loop μ-loop
 shared-slice-read-advance c = omega arith
 
--- src/lib.rt:107:13
 advance-requires : tie.Need-advance-requires Inv-loop μ-loop
 advance-requires c κs = let a = c .before .before .loop .inv .shallows in let b = c .before .before .loop .inv .within in omega (arith, c .before .before .before .before .pre .1)
 
--- src/lib.rt:108:9
 add-i : tie.Need-add-i Inv-loop μ-loop
 add-i c = omega arith
 
--- src/lib.rt:110:22
 enum-known-t : tie.Need-enum-known-t Inv-loop μ-loop
 enum-known-t c = search needs
 
--- src/lib.rt:106:5
 loop-less : tie.Need-loop-less Inv-loop μ-loop
 loop-less c = omega arith
 
--- src/lib.rt:106:5
 loop-again : tie.Need-loop-again Inv-loop μ-loop
 loop-again c =
     let e = sym (c .before .t .given .1) ∙ c .before .before .before .advance .ensures in
@@ -57,43 +50,34 @@ loop-again c =
       rest = sym (on-byte _ (c .before .before .before .before .before .before .loop .s) (c .before .before .before .before .before .before .loop .i) _ (c .before .before .before .before .before .loop-test .taken) e) ∙ c .before .before .before .before .before .before .loop .inv .rest;
     }
 
--- src/lib.rt:114:17
 enum-told : tie.Need-enum-told Inv-loop μ-loop
 enum-told c = search needs
 
--- src/lib.rt:114:17
 returns : tie.Need-returns Inv-loop μ-loop
 unfolding meant
 returns c = record { place = sym (on-byte _ (c .before .before .before .before .before .loop .s) (c .before .before .before .before .before .loop .i) _ (c .before .before .before .before .loop-test .taken) (sym (c .enum-told .given .1) ∙ c .before .before .advance .ensures)) ∙ c .before .before .before .before .before .loop .inv .rest; inside = (omega (arith, c .before .before .before .before .loop-test .taken), c .before .before .before .before .before .loop .inv .low) }
 
--- src/lib.rt:117:17
 enum-told-2 : tie.Need-enum-told-2 Inv-loop μ-loop
 enum-told-2 c = search needs
 
--- src/lib.rt:117:17
 returns-2 : tie.Need-returns-2 Inv-loop μ-loop
 unfolding meant
 returns-2 c = record { place = sym (on-byte _ (c .before .before .before .before .before .loop .s) (c .before .before .before .before .before .loop .i) _ (c .before .before .before .before .loop-test .taken) (sym (c .enum-told2 .given .1) ∙ c .before .before .advance .ensures)) ∙ c .before .before .before .before .before .loop .inv .rest; inside = omega (arith, c .before .before .before .before .loop-test .taken) }
 
--- src/lib.rt:120:17
 enum-told-3 : tie.Need-enum-told-3 Inv-loop μ-loop
 enum-told-3 c = search needs
 
--- src/lib.rt:120:17
 returns-3 : tie.Need-returns-3 Inv-loop μ-loop
 unfolding meant
 returns-3 c = record { place = sym (on-byte _ (c .before .before .before .before .before .loop .s) (c .before .before .before .before .before .loop .i) _ (c .before .before .before .before .loop-test .taken) (sym (c .enum-told3 .given .1) ∙ c .before .before .advance .ensures)) ∙ c .before .before .before .before .before .loop .inv .rest; inside = omega (arith, c .before .before .before .before .loop-test .taken) }
 
--- src/lib.rt:123:17
 enum-told-4 : tie.Need-enum-told-4 Inv-loop μ-loop
 enum-told-4 c = search needs
 
--- src/lib.rt:123:17
 returns-4 : tie.Need-returns-4 Inv-loop μ-loop
 unfolding meant
 returns-4 c = record { place = sym (on-byte _ (c .before .before .before .before .before .loop .s) (c .before .before .before .before .before .loop .i) _ (c .before .before .before .before .loop-test .taken) (sym (c .enum-told4 .given .1) ∙ c .before .before .advance .ensures)) ∙ c .before .before .before .before .before .loop .inv .rest; inside = tt }
 
--- src/lib.rt:100:1
 returns-5 : tie.Need-returns-5 Inv-loop μ-loop
 unfolding meant
 returns-5 c = record { place = at-end _ _ (c .before .loop .s) (c .before .loop .i) (c .before .loop .inv) (c .loop-test .left); inside = tt }

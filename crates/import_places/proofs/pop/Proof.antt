@@ -7,20 +7,16 @@ use Rattle.import_places.proofs.pop.Reads as reads
 use Rattle.import_places.proofs.pop.Lts as lts
 use Rattle.import_places.proofs.turned.Reads as turned-reads
 
--- src/lib.rt:49:9
 returns : tie.Need-returns
 unfolding popped
 returns c = simp (eq-eqb _ _ (c .if1 .taken))
 
--- src/lib.rt:52:9
 turned-requires : tie.Need-turned-requires
 turned-requires c κs = search needs
 
--- src/lib.rt:53:77
 sub-t6 : tie.Need-sub-t6
 sub-t6 c = search needs
 
--- src/lib.rt:45:1
 returns-2 : tie.Need-returns-2
 unfolding popped
 returns-2 c = simp (ne-eqb _ _ (c .before .before .before .before .if1 .left), ← c .before .before .turned .ensures)

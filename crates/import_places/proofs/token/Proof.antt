@@ -7,41 +7,33 @@ use Rattle.import_places.proofs.token.Tie as tie
 use Rattle.import_places.proofs.token.Reads as reads
 use Rattle.import_places.proofs.token.Lts as lts
 
--- src/lib.rt:63:17
 returns : tie.Need-returns
 unfolding token-of
 returns c = simp (c .if3 .taken, c .before .if2 .taken, eq-eqb _ _ (c .before .before .if1 .taken))
 
--- src/lib.rt:65:13
 returns-2 : tie.Need-returns-2
 unfolding token-of
 returns-2 c = simp (c .if3 .left, c .before .if2 .taken, eq-eqb _ _ (c .before .before .if1 .taken))
 
--- src/lib.rt:67:9
 returns-3 : tie.Need-returns-3
 unfolding token-of
 returns-3 c = simp (c .if2 .left, eq-eqb _ _ (c .before .if1 .taken))
 
--- src/lib.rt:71:13
 returns-4 : tie.Need-returns-4
 returns-4 c = token-bar _ _ (c .before .if4 .taken) (c .if5 .taken)
 
--- src/lib.rt:73:9
 returns-5 : tie.Need-returns-5
 unfolding token-of
 returns-5 c = simp (c .if5 .left, eq-eqb _ _ (c .before .if4 .taken), ne-eqb _ _ (c .before .before .if1 .left))
 
--- src/lib.rt:76:9
 returns-6 : tie.Need-returns-6
 unfolding token-of
 returns-6 c = simp (c .if7 .taken, eq-eqb _ _ (c .before .if6 .taken), ne-eqb _ _ (c .before .before .if4 .left), ne-eqb _ _ (c .before .before .before .if1 .left))
 
--- src/lib.rt:76:9
 returns-7 : tie.Need-returns-7
 unfolding token-of
 returns-7 c = simp (c .if7 .left, eq-eqb _ _ (c .before .if6 .taken), ne-eqb _ _ (c .before .before .if4 .left), ne-eqb _ _ (c .before .before .before .if1 .left))
 
--- src/lib.rt:57:1
 returns-8 : tie.Need-returns-8
 unfolding token-of
 returns-8 c = simp (ne-eqb _ _ (c .if6 .left), ne-eqb _ _ (c .before .if4 .left), ne-eqb _ _ (c .before .before .if1 .left))

@@ -15,31 +15,24 @@ Inv-loop text from k i₀ i = Passing k text from i
 abbrev μ-loop : tie.MeasureT-loop
 μ-loop text from k i₀ i = length text - i
 
--- src/behind.rt:16:5
 loop-holds : tie.Need-loop-holds Inv-loop μ-loop
 loop-holds c = record { within = c .pre; rest = λ K. refl }
 
--- src/behind.rt:17:17
 shared-slice-read-b : tie.Need-shared-slice-read-b Inv-loop μ-loop
 shared-slice-read-b c = omega arith
 
--- src/behind.rt:18:9
 add-i : tie.Need-add-i Inv-loop μ-loop
 add-i c = omega arith
 
--- src/behind.rt:20:13
 returns : tie.Need-returns Inv-loop μ-loop
 returns c = pass-found _ _ _ _ (c .before .before .before .loop .inv) (c .before .before .loop-test .taken) (c .if1 .taken)
 
--- src/behind.rt:16:5
 loop-less : tie.Need-loop-less Inv-loop μ-loop
 loop-less c = omega arith
 
--- src/behind.rt:16:5
 loop-again : tie.Need-loop-again Inv-loop μ-loop
 loop-again c = pass-on _ _ _ _ (c .before .before .before .loop .inv) (c .before .before .loop-test .taken) (c .if1 .left)
 
--- src/behind.rt:11:1
 returns-2 : tie.Need-returns-2 Inv-loop μ-loop
 returns-2 c = pass-end _ _ _ _ (c .before .loop .inv) (c .loop-test .left)
 

@@ -18,31 +18,24 @@ Inv-loop text from depth₀ i₀ depth i = Seeing text (is-cond (drop from text)
 abbrev μ-loop : tie.MeasureT-loop
 μ-loop text from depth₀ i₀ depth i = length text - i
 
--- src/bracket.rt:54:5
 loop-holds : tie.Need-loop-holds Inv-loop μ-loop
 loop-holds c = record { within = c .before .pre .0; shallows = omega arith; rest = refl }
 
--- src/bracket.rt:55:28
 shared-slice-read-see : tie.Need-shared-slice-read-see Inv-loop μ-loop
 shared-slice-read-see c = omega arith
 
--- src/bracket.rt:55:13
 see-requires : tie.Need-see-requires Inv-loop μ-loop
 see-requires c κs = let a = c .before .before .loop .inv .shallows in let b = c .before .before .loop .inv .within in omega (arith, c .before .before .before .before .pre .1)
 
--- src/bracket.rt:56:9
 add-i : tie.Need-add-i Inv-loop μ-loop
 add-i c = omega arith
 
--- src/bracket.rt:58:22
 enum-known-s : tie.Need-enum-known-s Inv-loop μ-loop
 enum-known-s c = search needs
 
--- src/bracket.rt:54:5
 loop-less : tie.Need-loop-less Inv-loop μ-loop
 loop-less c = omega arith
 
--- src/bracket.rt:54:5
 loop-again : tie.Need-loop-again Inv-loop μ-loop
 loop-again c =
     let e = sym (c .before .s .given .1) ∙ c .before .before .before .see .ensures in
@@ -54,15 +47,12 @@ loop-again c =
       rest = sym (on-seen _ (c .before .before .before .before .before .before .loop .depth) (c .before .before .before .before .before .before .loop .i) _ (c .before .before .before .before .before .loop-test .taken) e) ∙ c .before .before .before .before .before .before .loop .inv .rest;
     }
 
--- src/bracket.rt:61:22
 enum-known-s-2 : tie.Need-enum-known-s-2 Inv-loop μ-loop
 enum-known-s-2 c = search needs
 
--- src/bracket.rt:62:17
 returns : tie.Need-returns Inv-loop μ-loop
 returns c = sym (on-seen _ (c .before .before .before .before .before .before .loop .depth) (c .before .before .before .before .before .before .loop .i) _ (c .before .before .before .before .before .loop-test .taken) (sym (c .before .s2 .given .1) ∙ c .before .before .before .see .ensures)) ∙ c .before .before .before .before .before .before .loop .inv .rest
 
--- src/bracket.rt:48:1
 returns-2 : tie.Need-returns-2 Inv-loop μ-loop
 returns-2 c = seen-end _ _ (c .before .loop .depth) (c .before .loop .i) (c .before .loop .inv) (c .loop-test .left)
 

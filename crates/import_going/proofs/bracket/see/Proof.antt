@@ -11,38 +11,30 @@ use Rattle.import_going.proofs.bracket.see.Reads as reads
 use Rattle.import_going.proofs.bracket.see.Lts as lts
 use Rattle.import_going.proofs.bracket.mark.Reads as mark-reads
 
--- src/bracket.rt:34:25
 add-t4 : tie.Need-add-t4
 add-t4 c = search needs
 
--- src/bracket.rt:34:9
 returns : tie.Need-returns
 unfolding seen-of
 returns c = simp (eq-eqb _ _ (c .if1 .taken))
 
--- src/bracket.rt:38:13
 returns-2 : tie.Need-returns-2
 unfolding seen-of
 returns-2 c = simp (eq-eqb _ _ (c .if3 .taken), eq-eqb _ _ (c .before .if2 .taken), ne-eqb _ _ (c .before .before .if1 .left))
 
--- src/bracket.rt:40:25
 sub-t6 : tie.Need-sub-t6
 sub-t6 c = search needs
 
--- src/bracket.rt:40:9
 returns-3 : tie.Need-returns-3
 unfolding seen-of
 returns-3 c = simp (ne-eqb _ _ (c .if3 .left), eq-eqb _ _ (c .before .if2 .taken), ne-eqb _ _ (c .before .before .if1 .left))
 
--- src/bracket.rt:42:8
 mark-requires : tie.Need-mark-requires
 mark-requires c κs = search needs
 
--- src/bracket.rt:43:9
 returns-4 : tie.Need-returns-4
 returns-4 c = see-mark _ _ true (c .before .before .before .if1 .left) (c .before .before .if2 .left) (sym (c .before .mark .ensures) ∙ c .if4 .taken)
 
--- src/bracket.rt:29:1
 returns-5 : tie.Need-returns-5
 returns-5 c = see-mark _ _ false (c .before .before .before .if1 .left) (c .before .before .if2 .left) (sym (c .before .mark .ensures) ∙ c .if4 .left)
 

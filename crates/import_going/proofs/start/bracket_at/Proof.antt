@@ -8,19 +8,15 @@ use Rattle.import_going.proofs.start.bracket_at.Reads as reads
 use Rattle.import_going.proofs.start.bracket_at.Lts as lts
 use Rattle.import_going.proofs.bracket.is_cond.Reads as is-cond-reads
 
--- src/start.rt:27:30
 add-is-cond : tie.Need-add-is-cond
 add-is-cond c = search needs
 
--- src/start.rt:27:9
 is-cond-requires : tie.Need-is-cond-requires
 is-cond-requires c κs = search needs
 
--- src/start.rt:27:9
 returns : tie.Need-returns
 returns c = c .is-cond .ensures ∙ cond-yes _ _ _ (c .before .if1 .taken)
 
--- src/start.rt:22:1
 returns-2 : tie.Need-returns-2
 returns-2 c = cond-not _ _ _ (c .if1 .left)
 

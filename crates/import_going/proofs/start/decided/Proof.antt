@@ -9,49 +9,38 @@ use Rattle.import_going.proofs.start.go.Reads as go-reads
 use Rattle.import_going.proofs.start.next_case.Reads as next-case-reads
 use Rattle.import_places.proofs.find.Reads as find-reads
 
--- src/start.rt:102:9
 find-requires : tie.Need-find-requires
 find-requires c κs = search needs
 
--- src/start.rt:104:18
 enum-known-n : tie.Need-enum-known-n
 enum-known-n c = search needs
 
--- src/start.rt:104:30
 go-requires : tie.Need-go-requires
 go-requires c κs =
     let d = go-inside _ _ _ _ _ _ (c .before .n .given .1) (c .before .before .before .find .ensures) in
     (d .0, c .before .before .before .before .before .pre .1, d .1)
 
--- src/start.rt:105:22
 enum-known-n-2 : tie.Need-enum-known-n-2
 enum-known-n-2 c = search needs
 
--- src/start.rt:106:24
 enum-known-n-3 : tie.Need-enum-known-n-3
 enum-known-n-3 c = search needs
 
--- src/start.rt:106:30
 next-case-requires : tie.Need-next-case-requires
 next-case-requires c κs = (case-inside _ _ _ _ (c .before .n3 .given .1) (c .before .before .before .find .ensures), c .before .before .before .before .before .pre .1)
 
--- src/start.rt:107:23
 enum-told : tie.Need-enum-told
 enum-told c = search needs
 
--- src/start.rt:98:1
 returns : tie.Need-returns
 returns c = comes-go _ _ _ _ _ (c .go .result) _ (c .before .before .n .given .1) (c .before .before .before .before .find .ensures) (c .go .ensures)
 
--- src/start.rt:98:1
 returns-2 : tie.Need-returns-2
 returns-2 c = comes-result _ _ _ _ (c .before .n2 .given .1) (c .before .before .before .find .ensures)
 
--- src/start.rt:98:1
 returns-3 : tie.Need-returns-3
 returns-3 c = comes-case _ _ _ (c .next-case .result) _ (c .before .before .n3 .given .1) (c .before .before .before .before .find .ensures) (c .next-case .ensures)
 
--- src/start.rt:98:1
 returns-4 : tie.Need-returns-4
 returns-4 c = comes-lost _ _ _ (c .enum-told .given .1) (c .before .before .find .ensures)
 

@@ -22,79 +22,60 @@ Inv-loop text from mask count s₀ i₀ s i = Reaching text (place-from (drop fr
 abbrev μ-loop : tie.MeasureT-loop
 μ-loop text from mask count s₀ i₀ s i = length text - i
 
--- src/start.rt:54:5
 loop-holds : tie.Need-loop-holds Inv-loop μ-loop
 loop-holds c = record { within = c .before .pre .0; low = c .before .pre .2; rest = refl }
 
--- src/start.rt:55:17
 shared-slice-read-k : tie.Need-shared-slice-read-k Inv-loop μ-loop
 shared-slice-read-k c = omega arith
 
--- src/start.rt:56:13
 bracket-at-requires : tie.Need-bracket-at-requires Inv-loop μ-loop
 bracket-at-requires c κs = (c .before .loop-test .taken, c .before .before .before .before .pre .1)
 
--- src/start.rt:57:13
 after-byte-requires : tie.Need-after-byte-requires Inv-loop μ-loop
 after-byte-requires c κs = c .before .before .before .loop .inv .low
 
--- src/start.rt:59:22
 enum-known-t : tie.Need-enum-known-t Inv-loop μ-loop
 enum-known-t c = search needs
 
--- src/start.rt:61:17
 add-i : tie.Need-add-i Inv-loop μ-loop
 add-i c = omega arith
 
--- src/start.rt:54:5
 loop-less : tie.Need-loop-less Inv-loop μ-loop
 loop-less c = omega arith
 
--- src/start.rt:54:5
 loop-again : tie.Need-loop-again Inv-loop μ-loop
 loop-again c = goes-on _ _ _ _ _ _ (c .before .before .before .before .before .before .loop-test .taken) (c .before .before .before .before .bracket-at .ensures) (sym (c .before .t .given .1) ∙ c .before .before .before .after-byte .ensures) (c .before .before .before .before .before .before .before .loop .inv)
 
--- src/start.rt:64:17
 enum-told : tie.Need-enum-told Inv-loop μ-loop
 enum-told c = search needs
 
--- src/start.rt:64:17
 returns : tie.Need-returns Inv-loop μ-loop
 returns c = atom-spotted _ _ (c .before .before .before .before .before .before .loop .s) _ _ (c .before .before .before .before .before .loop-test .taken) (c .before .before .before .bracket-at .ensures) (sym (c .enum-told .given .1) ∙ c .before .before .after-byte .ensures) (c .before .before .before .before .before .before .loop .inv)
 
--- src/start.rt:67:44
 enum-told-2 : tie.Need-enum-told-2 Inv-loop μ-loop
 enum-told-2 c = search needs
 
--- src/start.rt:67:44
 add-result-behind : tie.Need-add-result-behind Inv-loop μ-loop
 add-result-behind c = omega arith
 
--- src/start.rt:67:17
 result-behind-requires : tie.Need-result-behind-requires Inv-loop μ-loop
 result-behind-requires c κs = let h = c .before .before .before .before .before .loop-test .taken in omega arith
 
--- src/start.rt:67:17
 returns-2 : tie.Need-returns-2 Inv-loop μ-loop
 returns-2 c = else-spotted _ _ (c .before .before .before .before .before .before .before .loop .s) _ _ (c .result-behind .result) (c .before .before .before .before .before .before .loop-test .taken) (c .before .before .before .before .bracket-at .ensures) (sym (c .before .enum-told2 .given .1) ∙ c .before .before .before .after-byte .ensures) (c .before .before .before .before .before .before .before .loop .inv) (c .result-behind .ensures)
 
--- src/start.rt:70:17
 enum-told-3 : tie.Need-enum-told-3 Inv-loop μ-loop
 enum-told-3 c = search needs
 
--- src/start.rt:70:17
 returns-3 : tie.Need-returns-3 Inv-loop μ-loop
 returns-3 c = deep-spotted _ _ (c .before .before .before .before .before .before .loop .s) _ _ (c .before .before .before .before .before .loop-test .taken) (c .before .before .before .bracket-at .ensures) (sym (c .enum-told3 .given .1) ∙ c .before .before .after-byte .ensures) (c .before .before .before .before .before .before .loop .inv)
 
--- src/start.rt:73:17
 enum-told-4 : tie.Need-enum-told-4 Inv-loop μ-loop
 enum-told-4 c = search needs
 
--- src/start.rt:73:17
 returns-4 : tie.Need-returns-4 Inv-loop μ-loop
 returns-4 c = lost-spotted _ _ (c .before .before .before .before .before .before .loop .s) _ _ (c .before .before .before .before .before .loop-test .taken) (c .before .before .before .bracket-at .ensures) (sym (c .enum-told4 .given .1) ∙ c .before .before .after-byte .ensures) (c .before .before .before .before .before .before .loop .inv)
 
--- src/start.rt:44:1
 returns-5 : tie.Need-returns-5 Inv-loop μ-loop
 returns-5 c = end-spotted _ _ (c .before .loop .s) (c .before .loop .i) (c .before .loop .inv) (c .loop-test .left)
 

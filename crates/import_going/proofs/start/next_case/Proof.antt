@@ -9,28 +9,22 @@ use Rattle.import_going.proofs.start.next_case.Lts as lts
 use Rattle.import_going.proofs.behind.behind.Reads as behind-reads
 use Rattle.import_going.proofs.start.go.Reads as go-reads
 
--- src/start.rt:85:9
 behind-requires : tie.Need-behind-requires
 behind-requires c κs = search needs
 
--- src/start.rt:87:19
 enum-known-f : tie.Need-enum-known-f
 enum-known-f c = search needs
 
--- src/start.rt:87:25
 go-requires : tie.Need-go-requires
 unfolding two-to
 go-requires c κs = (case-within _ _ _ _ (c .before .f .given .1) (c .before .before .before .behind .ensures), c .before .before .before .before .before .pre .1, omega arith)
 
--- src/start.rt:88:27
 enum-told : tie.Need-enum-told
 enum-told c = search needs
 
--- src/start.rt:81:1
 returns : tie.Need-returns
 returns c = case-found _ _ _ (c .go .result) _ (c .before .before .f .given .1) (c .before .before .before .before .behind .ensures) (c .go .ensures)
 
--- src/start.rt:81:1
 returns-2 : tie.Need-returns-2
 returns-2 c = case-not _ _ _ (c .enum-told .given .1) (c .before .before .behind .ensures)
 

@@ -6,23 +6,18 @@ use Rattle.import_going.proofs.start.result_behind.Reads as reads
 use Rattle.import_going.proofs.start.result_behind.Lts as lts
 use Rattle.import_going.proofs.behind.behind.Reads as behind-reads
 
--- src/start.rt:37:9
 behind-requires : tie.Need-behind-requires
 behind-requires c κs = search needs
 
--- src/start.rt:39:19
 enum-known-f : tie.Need-enum-known-f
 enum-known-f c = search needs
 
--- src/start.rt:40:27
 enum-told : tie.Need-enum-told
 enum-told c = search needs
 
--- src/start.rt:33:1
 returns : tie.Need-returns
 returns c = colon-found _ _ _ _ (c .before .f .given .1) (c .before .before .before .behind .ensures)
 
--- src/start.rt:33:1
 returns-2 : tie.Need-returns-2
 returns-2 c = colon-not _ _ _ (c .enum-told .given .1) (c .before .before .behind .ensures)
 

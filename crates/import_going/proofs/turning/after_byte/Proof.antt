@@ -13,43 +13,33 @@ use Rattle.import_going.proofs.turning.opened.Reads as opened-reads
 use Rattle.import_going.proofs.turning.other.Reads as other-reads
 use Rattle.import_going.proofs.turning.space.Reads as space-reads
 
--- src/turning.rt:81:13
 other-requires : tie.Need-other-requires
 other-requires c κs = search needs
 
--- src/turning.rt:82:9
 returns : tie.Need-returns
 returns c = turn-bang _ _ _ _ (c .before .if1 .taken) (c .other .ensures)
 
--- src/turning.rt:90:13
 opened-requires : tie.Need-opened-requires
 opened-requires c κs = search needs
 
--- src/turning.rt:90:13
 returns-2 : tie.Need-returns-2
 returns-2 c = c .opened .ensures ∙ turn-open _ _ _ true (c .before .before .before .if1 .left) (c .before .before .if2 .taken) (c .before .if3 .taken)
 
--- src/turning.rt:92:9
 returns-3 : tie.Need-returns-3
 returns-3 c = turn-open _ _ _ false (c .before .before .if1 .left) (c .before .if2 .taken) (c .if3 .left)
 
--- src/turning.rt:96:13
 returns-4 : tie.Need-returns-4
 returns-4 c = turn-else _ _ _ true (c .before .before .before .before .if1 .left) (c .before .before .before .if2 .left) (c .before .before .if4 .taken) (eq-eqb _ _ (c .if5 .taken))
 
--- src/turning.rt:98:9
 returns-5 : tie.Need-returns-5
 returns-5 c = turn-else _ _ _ false (c .before .before .before .before .if1 .left) (c .before .before .before .if2 .left) (c .before .before .if4 .taken) (ne-eqb _ _ (c .if5 .left))
 
--- src/turning.rt:100:8
 space-requires : tie.Need-space-requires
 space-requires c κs = search needs
 
--- src/turning.rt:101:9
 returns-6 : tie.Need-returns-6
 returns-6 c = turn-other _ _ _ true (c .before .before .before .before .if1 .left) (c .before .before .before .if2 .left) (c .before .before .if4 .left) (sym (c .before .space .ensures) ∙ c .if6 .taken)
 
--- src/turning.rt:76:1
 returns-7 : tie.Need-returns-7
 returns-7 c = turn-other _ _ _ false (c .before .before .before .before .if1 .left) (c .before .before .before .if2 .left) (c .before .before .if4 .left) (sym (c .before .space .ensures) ∙ c .if6 .left)
 

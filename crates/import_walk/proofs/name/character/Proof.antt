@@ -17,51 +17,39 @@ Inv-loop text from j left₀ quoted₀ i₀ left quoted i = Spelling text from j
 abbrev μ-loop : tie.MeasureT-loop
 μ-loop text from j left₀ quoted₀ i₀ left quoted i = length text - i
 
--- src/name.rt:78:5
 loop-holds : tie.Need-loop-holds Inv-loop μ-loop
 loop-holds c = record { within = c .before .pre; rest = refl }
 
--- src/name.rt:79:17
 shared-slice-read-k : tie.Need-shared-slice-read-k Inv-loop μ-loop
 shared-slice-read-k c = omega arith
 
--- src/name.rt:80:9
 add-i : tie.Need-add-i Inv-loop μ-loop
 add-i c = omega arith
 
--- src/name.rt:81:12
 spells-requires : tie.Need-spells-requires Inv-loop μ-loop
 spells-requires c κs = search needs
 
--- src/name.rt:83:17
 returns : tie.Need-returns Inv-loop μ-loop
 returns c = spell-here _ _ _ _ _ _ (c .before .before .before .before .before .loop .inv) (c .before .before .before .before .loop-test .taken) (sym (c .before .before .spells .ensures) ∙ c .before .if1 .taken) (c .if2 .taken)
 
--- src/name.rt:85:13
 sub-left : tie.Need-sub-left Inv-loop μ-loop
 sub-left c = omega arith
 
--- src/name.rt:78:5
 loop-less : tie.Need-loop-less Inv-loop μ-loop
 loop-less c = omega arith
 
--- src/name.rt:78:5
 loop-again : tie.Need-loop-again Inv-loop μ-loop
 loop-again c = spell-on _ _ _ _ _ _ (c .before .before .before .before .before .loop .inv) (c .before .before .before .before .loop-test .taken) (sym (c .before .before .spells .ensures) ∙ c .before .if1 .taken) (c .if2 .left)
 
--- src/name.rt:89:17
 returns-2 : tie.Need-returns-2 Inv-loop μ-loop
 returns-2 c = spell-behind _ _ _ _ _ _ (c .before .before .before .before .before .loop .inv) (c .before .before .before .before .loop-test .taken) (sym (c .before .before .spells .ensures) ∙ c .before .if1 .left) (c .if3 .taken)
 
--- src/name.rt:78:5
 loop-less-2 : tie.Need-loop-less-2 Inv-loop μ-loop
 loop-less-2 c = omega arith
 
--- src/name.rt:78:5
 loop-again-2 : tie.Need-loop-again-2 Inv-loop μ-loop
 loop-again-2 c = spell-quoted _ _ _ _ _ _ (c .before .before .before .before .before .loop .inv) (c .before .before .before .before .loop-test .taken) (sym (c .before .before .spells .ensures) ∙ c .before .if1 .left) (c .if3 .left)
 
--- src/name.rt:71:1
 returns-3 : tie.Need-returns-3 Inv-loop μ-loop
 returns-3 c = spell-end _ _ _ _ _ _ (c .before .loop .inv) (c .loop-test .left)
 

@@ -8,19 +8,15 @@ use Rattle.import_walk.proofs.name.string_end.Reads as string-end-reads
 use Rattle.import_walk.proofs.steps.ahead.Reads as ahead-reads
 use Rattle.import_walk.proofs.steps.next_letter.Reads as next-letter-reads
 
--- src/name.rt:55:9
 ahead-requires : tie.Need-ahead-requires
 ahead-requires c κs = search needs
 
--- src/name.rt:56:9
 string-end-requires : tie.Need-string-end-requires
 string-end-requires c κs = search needs
 
--- src/name.rt:57:5
 next-letter-requires : tie.Need-next-letter-requires
 next-letter-requires c κs = search needs
 
--- src/name.rt:51:1
 returns : tie.Need-returns
 returns c = name-joined _ _ _ _ _ (c .before .before .ahead .ensures) (c .before .string-end .ensures) (c .next-letter .ensures)
 

@@ -7,15 +7,12 @@ use Rattle.import_walk.proofs.name.name_byte.Lts as lts
 use Rattle.import_walk.proofs.name.character.Reads as character-reads
 use Rattle.import_walk.proofs.steps.ahead.Reads as ahead-reads
 
--- src/name.rt:102:9
 ahead-requires : tie.Need-ahead-requires
 ahead-requires c κs = search needs
 
--- src/name.rt:103:5
 character-requires : tie.Need-character-requires
 character-requires c κs = search needs
 
--- src/name.rt:98:1
 returns : tie.Need-returns
 returns c = byte-joined _ _ _ _ _ (c .before .ahead .ensures) (c .character .ensures)
 

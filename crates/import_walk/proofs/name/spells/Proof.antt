@@ -5,17 +5,14 @@ use Rattle.import_walk.proofs.name.spells.Tie as tie
 use Rattle.import_walk.proofs.name.spells.Reads as reads
 use Rattle.import_walk.proofs.name.spells.Lts as lts
 
--- src/name.rt:65:9
 returns : tie.Need-returns
 unfolding spells
 returns c = simp (eq-eqb _ _ (c .if1 .taken))
 
--- src/name.rt:61:1
 returns-2 : tie.Need-returns-2
 unfolding spells
 returns-2 c = simp (ne-eqb _ _ (c .before .if1 .left), c .if2 .taken)
 
--- src/name.rt:61:1
 returns-3 : tie.Need-returns-3
 unfolding spells
 returns-3 c = simp (ne-eqb _ _ (c .before .if1 .left), c .if2 .left)

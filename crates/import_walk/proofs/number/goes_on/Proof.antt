@@ -8,19 +8,15 @@ use Rattle.import_walk.proofs.number.goes_on.Lts as lts
 use Rattle.import_state.proofs.bytes.is_blank.Reads as is-blank-reads
 use Rattle.import_state.proofs.bytes.is_digit.Reads as is-digit-reads
 
--- src/number.rt:19:8
 is-blank-requires : tie.Need-is-blank-requires
 is-blank-requires c κs = search needs
 
--- src/number.rt:20:9
 returns : tie.Need-returns
 returns c = goes-blank _ (sym (c .before .is-blank .ensures) ∙ c .if1 .taken)
 
--- src/number.rt:22:5
 is-digit-requires : tie.Need-is-digit-requires
 is-digit-requires c κs = search needs
 
--- src/number.rt:16:1
 returns-2 : tie.Need-returns-2
 returns-2 c = goes-digit _ _ (sym (c .before .before .is-blank .ensures) ∙ c .before .if1 .left) (c .is-digit .ensures)
 

@@ -10,31 +10,24 @@ use Rattle.import_walk.proofs.number.grown.Lts as lts
 use Rattle.import_state.proofs.bytes.is_blank.Reads as is-blank-reads
 use Rattle.import_walk.proofs.number.digit_value.Reads as digit-value-reads
 
--- src/number.rt:39:8
 is-blank-requires : tie.Need-is-blank-requires
 is-blank-requires c κs = search needs
 
--- src/number.rt:40:9
 returns : tie.Need-returns
 returns c = (grown-blank _ _ _ (sym (c .before .is-blank .ensures) ∙ c .if1 .taken), c .before .before .pre .1)
 
--- src/number.rt:42:13
 mul-v : tie.Need-mul-v
 mul-v c = search needs
 
--- src/number.rt:42:26
 digit-value-requires : tie.Need-digit-value-requires
 digit-value-requires c κs = search needs
 
--- src/number.rt:42:13
 add-v : tie.Need-add-v
 add-v c = search needs
 
--- src/number.rt:35:1
 returns-2 : tie.Need-returns-2
 returns-2 c = (grown-over _ _ _ _ (sym (c .before .before .before .is-blank .ensures) ∙ c .before .before .if1 .left) (c .before .digit-value .ensures .0) (c .if2 .taken), omega arith)
 
--- src/number.rt:35:1
 returns-3 : tie.Need-returns-3
 returns-3 c = (grown-in _ _ _ _ (sym (c .before .before .before .is-blank .ensures) ∙ c .before .before .if1 .left) (c .before .digit-value .ensures .0) (c .if2 .left), c .if2 .left)
 

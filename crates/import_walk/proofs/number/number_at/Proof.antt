@@ -18,39 +18,30 @@ Inv-loop text from most value₀ i₀ value i = Counting text from most value i
 abbrev μ-loop : tie.MeasureT-loop
 μ-loop text from most value₀ i₀ value i = length text - i
 
--- src/number.rt:53:5
 loop-holds : tie.Need-loop-holds Inv-loop μ-loop
 loop-holds c = record { within = c .before .pre .0; on = omega arith; least = omega arith; value = refl; rest = refl }
 
--- src/number.rt:54:17
 shared-slice-read-k : tie.Need-shared-slice-read-k Inv-loop μ-loop
 shared-slice-read-k c = omega arith
 
--- src/number.rt:55:12
 goes-on-requires : tie.Need-goes-on-requires Inv-loop μ-loop
 goes-on-requires c κs = search needs
 
--- src/number.rt:56:13
 grown-requires : tie.Need-grown-requires Inv-loop μ-loop
 grown-requires c κs = (c .before .before .before .before .before .before .pre .1, c .before .before .before .before .loop .inv .least)
 
--- src/number.rt:57:13
 add-i : tie.Need-add-i Inv-loop μ-loop
 add-i c = omega arith
 
--- src/number.rt:53:5
 loop-less : tie.Need-loop-less Inv-loop μ-loop
 loop-less c = omega arith
 
--- src/number.rt:53:5
 loop-again : tie.Need-loop-again Inv-loop μ-loop
 loop-again c = count-on _ _ _ _ _ _ (c .before .before .before .before .before .loop .inv) (c .before .before .before .before .loop-test .taken) (sym (c .before .before .goes-on .ensures) ∙ c .before .if1 .taken) (c .grown .ensures .0) (c .grown .ensures .1)
 
--- src/number.rt:59:13
 returns : tie.Need-returns Inv-loop μ-loop
 returns c = count-here _ _ _ _ _ (c .before .before .before .before .loop .inv) (c .before .before .before .loop-test .taken) (sym (c .before .goes-on .ensures) ∙ c .if1 .left) _ refl refl
 
--- src/number.rt:47:1
 returns-2 : tie.Need-returns-2 Inv-loop μ-loop
 returns-2 c = count-end _ _ _ _ _ (c .before .loop .inv) (c .loop-test .left) _ refl refl
 

@@ -7,15 +7,12 @@ use Rattle.import_walk.proofs.number.setting_at.Lts as lts
 use Rattle.import_walk.proofs.number.number_at.Reads as number-at-reads
 use Rattle.import_walk.proofs.steps.past.Reads as past-reads
 
--- src/number.rt:70:9
 past-requires : tie.Need-past-requires
 past-requires c κs = search needs
 
--- src/number.rt:71:5
 number-at-requires : tie.Need-number-at-requires
 number-at-requires c κs = search needs
 
--- src/number.rt:66:1
 returns : tie.Need-returns
 returns c = setting-joined _ _ _ _ _ (c .before .past .ensures) (c .number-at .ensures)
 

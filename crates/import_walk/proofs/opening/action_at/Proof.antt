@@ -8,19 +8,15 @@ use Rattle.import_walk.proofs.number.number_at.Reads as number-at-reads
 use Rattle.import_walk.proofs.opening.word_len.Reads as word-len-reads
 use Rattle.import_walk.proofs.steps.ahead.Reads as ahead-reads
 
--- src/opening.rt:65:9
 word-len-requires : tie.Need-word-len-requires
 word-len-requires c κs = search needs
 
--- src/opening.rt:66:9
 ahead-requires : tie.Need-ahead-requires
 ahead-requires c κs = search needs
 
--- src/opening.rt:67:5
 number-at-requires : tie.Need-number-at-requires
 number-at-requires c κs = search needs
 
--- src/opening.rt:61:1
 returns : tie.Need-returns
 returns c = action-joined _ _ _ _ _ _ (c .before .before .word-len .ensures .0) (c .before .before .word-len .ensures .1) (c .before .ahead .ensures) (c .number-at .ensures)
 

@@ -6,15 +6,12 @@ use Rattle.import_walk.proofs.opening.behind.Reads as reads
 use Rattle.import_walk.proofs.opening.behind.Lts as lts
 use Rattle.import_walk.proofs.steps.past.Reads as past-reads
 
--- src/opening.rt:120:9
 returns : tie.Need-returns
 returns c = behind-name _ _ _ (c .before .before .pre) (c .if1 .taken)
 
--- src/opening.rt:122:5
 past-requires : tie.Need-past-requires
 past-requires c κs = search needs
 
--- src/opening.rt:115:1
 returns-2 : tie.Need-returns-2
 returns-2 c = behind-other _ _ _ _ (c .before .if1 .left) (c .past .ensures)
 

@@ -7,27 +7,21 @@ use Rattle.import_walk.proofs.opening.index_at.Lts as lts
 use Rattle.import_walk.proofs.opening.digit_value.Reads as digit-value-reads
 use Rattle.import_walk.proofs.steps.byte_at.Reads as byte-at-reads
 
--- src/opening.rt:84:27
 add-byte-at : tie.Need-add-byte-at
 add-byte-at c = search needs
 
--- src/opening.rt:84:9
 byte-at-requires : tie.Need-byte-at-requires
 byte-at-requires c κs = search needs
 
--- src/opening.rt:85:9
 digit-value-requires : tie.Need-digit-value-requires
 digit-value-requires c κs = search needs
 
--- src/opening.rt:87:9
 returns : tie.Need-returns
 returns c = index-chance (c .before .before .before .before .args .text .now) (c .before .before .before .before .args .at) _ _ _ (c .if1 .taken) (c .before .digit-value .ensures) (c .before .before .byte-at .ensures)
 
--- src/opening.rt:90:9
 returns-2 : tie.Need-returns-2
 returns-2 c = index-level (c .before .before .before .before .before .args .text .now) (c .before .before .before .before .before .args .at) _ _ _ (c .before .if1 .left) (c .if2 .taken) (c .before .before .digit-value .ensures) (c .before .before .before .byte-at .ensures)
 
--- src/opening.rt:80:1
 returns-3 : tie.Need-returns-3
 returns-3 c = index-none (c .before .before .before .before .before .args .text .now) (c .before .before .before .before .before .args .at) _ (c .before .if1 .left) (c .if2 .left)
 

@@ -5,27 +5,22 @@ use Rattle.import_walk.proofs.opening.kind_of.Tie as tie
 use Rattle.import_walk.proofs.opening.kind_of.Reads as reads
 use Rattle.import_walk.proofs.opening.kind_of.Lts as lts
 
--- src/opening.rt:31:9
 returns : tie.Need-returns
 unfolding kind-by
 returns c = simp (eq-eqb _ _ (c .if1 .taken))
 
--- src/opening.rt:34:9
 returns-2 : tie.Need-returns-2
 unfolding kind-by
 returns-2 c = simp (eq-eqb _ _ (c .if2 .taken), ne-eqb _ _ (c .before .if1 .left))
 
--- src/opening.rt:37:9
 returns-3 : tie.Need-returns-3
 unfolding kind-by
 returns-3 c = simp (eq-eqb _ _ (c .if3 .taken), ne-eqb _ _ (c .before .if2 .left), ne-eqb _ _ (c .before .before .if1 .left))
 
--- src/opening.rt:40:9
 returns-4 : tie.Need-returns-4
 unfolding kind-by
 returns-4 c = simp (eq-eqb _ _ (c .if4 .taken), ne-eqb _ _ (c .before .if3 .left), ne-eqb _ _ (c .before .before .if2 .left), ne-eqb _ _ (c .before .before .before .if1 .left))
 
--- src/opening.rt:27:1
 returns-5 : tie.Need-returns-5
 unfolding kind-by
 returns-5 c = simp (ne-eqb _ _ (c .if4 .left), ne-eqb _ _ (c .before .if3 .left), ne-eqb _ _ (c .before .before .if2 .left), ne-eqb _ _ (c .before .before .before .if1 .left))

@@ -12,35 +12,27 @@ use Rattle.import_walk.proofs.opening.index_at.Reads as index-at-reads
 use Rattle.import_walk.proofs.opening.kind_of.Reads as kind-of-reads
 use Rattle.import_walk.proofs.steps.byte_at.Reads as byte-at-reads
 
--- src/opening.rt:100:9
 byte-at-requires : tie.Need-byte-at-requires
 byte-at-requires c κs = search needs
 
--- src/opening.rt:101:32
 add-byte-at : tie.Need-add-byte-at
 add-byte-at c = search needs
 
--- src/opening.rt:101:9
 byte-at-requires-2 : tie.Need-byte-at-requires-2
 byte-at-requires-2 c κs = search needs
 
--- src/opening.rt:102:9
 kind-of-requires : tie.Need-kind-of-requires
 kind-of-requires c κs = search needs
 
--- src/opening.rt:103:9
 action-at-requires : tie.Need-action-at-requires
 action-at-requires c κs = search needs
 
--- src/opening.rt:104:9
 index-at-requires : tie.Need-index-at-requires
 index-at-requires c κs = search needs
 
--- src/opening.rt:105:9
 behind-requires : tie.Need-behind-requires
 behind-requires c κs = search needs
 
--- src/opening.rt:96:1
 returns : tie.Need-returns
 returns c = opening-joined _ _ _ _ _ _ _ _ _ (c .before .before .before .before .before .byte-at .ensures) (c .before .before .before .before .byte-at2 .ensures) (c .before .before .before .kind-of .ensures) (c .before .before .action-at .ensures) (c .before .index-at .ensures) (c .behind .ensures) refl refl refl refl
 

@@ -6,22 +6,18 @@ use Rattle.import_walk.proofs.opening.word_len.Tie as tie
 use Rattle.import_walk.proofs.opening.word_len.Reads as reads
 use Rattle.import_walk.proofs.opening.word_len.Lts as lts
 
--- src/opening.rt:49:9
 returns : tie.Need-returns
 unfolding word-of
 returns c = (simp (eq-eqb _ _ (c .if1 .taken)), omega arith)
 
--- src/opening.rt:52:9
 returns-2 : tie.Need-returns-2
 unfolding word-of
 returns-2 c = (simp (eq-eqb _ _ (c .if2 .taken), ne-eqb _ _ (c .before .if1 .left)), omega arith)
 
--- src/opening.rt:55:9
 returns-3 : tie.Need-returns-3
 unfolding word-of
 returns-3 c = (simp (eq-eqb _ _ (c .if3 .taken), ne-eqb _ _ (c .before .if2 .left), ne-eqb _ _ (c .before .before .if1 .left)), omega arith)
 
--- src/opening.rt:45:1
 returns-4 : tie.Need-returns-4
 unfolding word-of
 returns-4 c = (simp (ne-eqb _ _ (c .if3 .left), ne-eqb _ _ (c .before .if2 .left), ne-eqb _ _ (c .before .before .if1 .left)), omega arith)

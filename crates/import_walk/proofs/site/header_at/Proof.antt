@@ -7,23 +7,18 @@ use Rattle.import_walk.proofs.site.header_at.Reads as reads
 use Rattle.import_walk.proofs.site.header_at.Lts as lts
 use Rattle.import_walk.proofs.number.setting_at.Reads as setting-at-reads
 
--- src/site.rt:23:9
 setting-at-requires : tie.Need-setting-at-requires
 setting-at-requires c κs = search needs
 
--- src/site.rt:24:9
 setting-at-requires-2 : tie.Need-setting-at-requires-2
 setting-at-requires-2 c κs = search needs
 
--- src/site.rt:25:9
 setting-at-requires-3 : tie.Need-setting-at-requires-3
 setting-at-requires-3 c κs = search needs
 
--- src/site.rt:26:9
 setting-at-requires-4 : tie.Need-setting-at-requires-4
 setting-at-requires-4 c κs = search needs
 
--- src/site.rt:19:1
 returns : tie.Need-returns
 returns c = site-joined _ _ _ _ _ _ _ (c .before .before .before .setting-at .ensures) (c .before .before .setting-at2 .ensures) (c .before .setting-at3 .ensures) (c .setting-at4 .ensures) refl refl refl refl refl
 

@@ -5,19 +5,15 @@ use Rattle.import_walk.proofs.steps.ahead.Tie as tie
 use Rattle.import_walk.proofs.steps.ahead.Reads as reads
 use Rattle.import_walk.proofs.steps.ahead.Lts as lts
 
--- src/steps.rt:21:16
 sub-left : tie.Need-sub-left
 sub-left c = search needs
 
--- src/steps.rt:22:19
 add-result : tie.Need-add-result
 add-result c = search needs
 
--- src/steps.rt:17:1
 returns : tie.Need-returns
 returns c = ahead-in _ _ _ (c .before .pre) (c .if1 .taken)
 
--- src/steps.rt:17:1
 returns-2 : tie.Need-returns-2
 returns-2 c = ahead-out _ _ _ (c .before .pre) (c .if1 .left)
 

@@ -6,15 +6,12 @@ use Rattle.import_walk.proofs.steps.byte_at.Tie as tie
 use Rattle.import_walk.proofs.steps.byte_at.Reads as reads
 use Rattle.import_walk.proofs.steps.byte_at.Lts as lts
 
--- src/steps.rt:13:26
 shared-slice-read-result : tie.Need-shared-slice-read-result
 shared-slice-read-result c = search needs
 
--- src/steps.rt:10:1
 returns : tie.Need-returns
 returns c = search needs
 
--- src/steps.rt:10:1
 returns-2 : tie.Need-returns-2
 returns-2 c = sym (List·getD-eq-default ((c .before) .args .text .now) 0 (c .if1 .left))
 

@@ -7,19 +7,15 @@ use Rattle.import_walk.proofs.steps.end_of_item.Lts as lts
 use Rattle.import_walk.proofs.steps.next_letter.Reads as next-letter-reads
 use Rattle.import_walk.proofs.steps.past.Reads as past-reads
 
--- src/steps.rt:101:9
 next-letter-requires : tie.Need-next-letter-requires
 next-letter-requires c κs = search needs
 
--- src/steps.rt:102:9
 past-requires : tie.Need-past-requires
 past-requires c κs = search needs
 
--- src/steps.rt:103:5
 next-letter-requires-2 : tie.Need-next-letter-requires-2
 next-letter-requires-2 c κs = search needs
 
--- src/steps.rt:97:1
 returns : tie.Need-returns
 returns c = item-joined _ _ _ _ _ (c .before .before .next-letter .ensures) (c .before .past .ensures) (c .next-letter2 .ensures)
 

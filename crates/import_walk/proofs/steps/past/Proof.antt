@@ -16,31 +16,24 @@ Inv-loop text from c i₀ i = Passing c text from i
 abbrev μ-loop : tie.MeasureT-loop
 μ-loop text from c i₀ i = length text - i
 
--- src/steps.rt:31:5
 loop-holds : tie.Need-loop-holds Inv-loop μ-loop
 loop-holds c = record { within = c .pre; on = omega arith; rest = refl }
 
--- src/steps.rt:32:17
 shared-slice-read-k : tie.Need-shared-slice-read-k Inv-loop μ-loop
 shared-slice-read-k c = omega arith
 
--- src/steps.rt:33:9
 add-i : tie.Need-add-i Inv-loop μ-loop
 add-i c = omega arith
 
--- src/steps.rt:35:13
 returns : tie.Need-returns Inv-loop μ-loop
 returns c = past-found _ _ _ _ (c .before .before .before .loop .inv) (c .before .before .loop-test .taken) (c .if1 .taken)
 
--- src/steps.rt:31:5
 loop-less : tie.Need-loop-less Inv-loop μ-loop
 loop-less c = omega arith
 
--- src/steps.rt:31:5
 loop-again : tie.Need-loop-again Inv-loop μ-loop
 loop-again c = past-on _ _ _ _ (c .before .before .before .loop .inv) (c .before .before .loop-test .taken) (c .if1 .left)
 
--- src/steps.rt:26:1
 returns-2 : tie.Need-returns-2 Inv-loop μ-loop
 returns-2 c = past-end _ _ _ _ (c .before .loop .inv) (c .loop-test .left)
 

@@ -1,21 +1,18 @@
 use borrow.Author.Tests.{ne-eqb, eq-eqb}
 use Rattle.import_parts.specs.Walk.{quoted-after}
-use Rattle.import_walk.proofs.name.quoted_after.Statement.{statement}
-use Rattle.import_walk.proofs.name.quoted_after.Tie as tie
-use Rattle.import_walk.proofs.name.quoted_after.Reads as reads
-use Rattle.import_walk.proofs.name.quoted_after.Lts as lts
+use Rattle.import_walk.proofs.scan.quoted_after.Statement.{statement}
+use Rattle.import_walk.proofs.scan.quoted_after.Tie as tie
+use Rattle.import_walk.proofs.scan.quoted_after.Reads as reads
+use Rattle.import_walk.proofs.scan.quoted_after.Lts as lts
 
--- src/name.rt:27:9
 returns : tie.Need-returns
 unfolding quoted-after
 returns c = simp (eq-eqb _ _ (c .before .if1 .taken), c .if2 .taken)
 
--- src/name.rt:27:9
 returns-2 : tie.Need-returns-2
 unfolding quoted-after
 returns-2 c = simp (eq-eqb _ _ (c .before .if1 .taken), c .if2 .left)
 
--- src/name.rt:23:1
 returns-3 : tie.Need-returns-3
 unfolding quoted-after
 returns-3 c = simp (ne-eqb _ _ (c .if1 .left))

@@ -1,21 +1,18 @@
 use borrow.Author.Tests.{ne-eqb, eq-eqb}
 use Rattle.import_parts.specs.Walk.{inside-after}
-use Rattle.import_walk.proofs.steps.inside_after.Statement.{statement}
-use Rattle.import_walk.proofs.steps.inside_after.Tie as tie
-use Rattle.import_walk.proofs.steps.inside_after.Reads as reads
-use Rattle.import_walk.proofs.steps.inside_after.Lts as lts
+use Rattle.import_walk.proofs.scan.inside_after.Statement.{statement}
+use Rattle.import_walk.proofs.scan.inside_after.Tie as tie
+use Rattle.import_walk.proofs.scan.inside_after.Reads as reads
+use Rattle.import_walk.proofs.scan.inside_after.Lts as lts
 
--- src/steps.rt:71:13
 returns : tie.Need-returns
 unfolding inside-after
 returns c = simp (c .before .if1 .taken, eq-eqb _ _ (c .if2 .taken))
 
--- src/steps.rt:73:9
 returns-2 : tie.Need-returns-2
 unfolding inside-after
 returns-2 c = simp (c .before .if1 .taken, ne-eqb _ _ (c .if2 .left))
 
--- src/steps.rt:66:1
 returns-3 : tie.Need-returns-3
 unfolding inside-after
 returns-3 c = simp (c .if1 .left)

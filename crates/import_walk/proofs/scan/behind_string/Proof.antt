@@ -1,16 +1,14 @@
 use borrow.Author.Tests.{ne-eqb, eq-eqb}
 use Rattle.import_parts.specs.Walk.{behind-string}
-use Rattle.import_walk.proofs.name.behind_string.Statement.{statement}
-use Rattle.import_walk.proofs.name.behind_string.Tie as tie
-use Rattle.import_walk.proofs.name.behind_string.Reads as reads
-use Rattle.import_walk.proofs.name.behind_string.Lts as lts
+use Rattle.import_walk.proofs.scan.behind_string.Statement.{statement}
+use Rattle.import_walk.proofs.scan.behind_string.Tie as tie
+use Rattle.import_walk.proofs.scan.behind_string.Reads as reads
+use Rattle.import_walk.proofs.scan.behind_string.Lts as lts
 
--- src/name.rt:18:9
 returns : tie.Need-returns
 unfolding behind-string
 returns c = simp (eq-eqb _ _ (c .if1 .taken))
 
--- src/name.rt:14:1
 returns-2 : tie.Need-returns-2
 unfolding behind-string
 returns-2 c = simp (ne-eqb _ _ (c .if1 .left))

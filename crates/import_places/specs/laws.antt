@@ -1,0 +1,2 @@
+-- the bits that signs take
+pub mod Signs
