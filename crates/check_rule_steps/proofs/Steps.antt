@@ -38,11 +38,13 @@ empty cap l w some few hl hw z = fresh
     (record {
       good = record { valid = λ i h. absurd (omega arith); distinct = λ i j h. absurd (omega arith) };
       chained = record {
-        some = some;
-        few = few;
-        room = omega arith;
-        words = hl;
-        works = hw;
+        space = record {
+          some = some;
+          few = few;
+          room = omega arith;
+          words = hl;
+          works = hw;
+        };
         hashed = record { heads = λ b h. z b (omega arith); links = λ i h. absurd (omega arith) };
         apart = λ i j h. absurd (omega arith);
       };

@@ -109,7 +109,7 @@ names-more h = ⊎-elim (λ e. inl e) (λ e. inr (e .0, (let q = e .1 in omega a
 pub names-small : {cap : ℕ} {l : List ℤ} {w : List ℕ} {n op p : ℕ} → Bare cap l w n → Names n op p → (op < 65536) × (p < 65536)
 names-small A = ⊎-elim
     (λ e. let a = e .0 in let b = e .2 in (omega arith, omega arith))
-    (λ e. let a = e .0 in let b = e .1 in let q = A .chained .room in let r = A .chained .few in (omega arith, omega arith))
+    (λ e. let a = e .0 in let b = e .1 in let q = A .chained .space .room in let r = A .chained .space .few in (omega arith, omega arith))
 
 -- it stays as the table grows
 pub test-kept : {l l′ : List ℤ} {n n′ : ℕ} {op p : ℕ} → Grown l n l′ n′ → Names n op p → testBy l′ n′ op p ≡ testBy l n op p
@@ -130,7 +130,7 @@ node-11 l p = refl
 pub readable-in : {cap : ℕ} {l : List ℤ} {w : List ℕ} {n op p : ℕ} → Bare cap l w n → Names n op p → Readable l op p
 readable-in {op = op} {p} A = ⊎-elim
     (λ e. record { number = λ _. e .2; words = λ z. absurd (z (e .0)); nums = λ z. absurd (z (e .0)) })
-    (λ e. let a = e .0 in let b = e .1 in let r = A .chained .room in let s = A .chained .words in
+    (λ e. let a = e .0 in let b = e .1 in let r = A .chained .space .room in let s = A .chained .space .words in
     record { number = λ z. absurd (omega arith); words = λ _. omega arith; nums = λ _. A .good .valid p (e .1) .nums })
 
 zero-at : (k : ℕ) → getD (replicate levels-most (pos 0)) k (pos 0) ≡ pos 0

@@ -55,13 +55,17 @@ pub record Hashed (cap : ℕ) (l : List ℤ) (w : List ℕ) (n : ℕ) : Type 0 w
 abbrev pub Apart : List ℤ → ℕ → Type 0
 Apart l n = (i j : ℕ) → i < n → j < n → nodeAt l i ≡ nodeAt l j → i ≡ j
 
--- a table of n nodes with room for cap, and its chains
-pub record Chained (cap : ℕ) (l : List ℤ) (w : List ℕ) (n : ℕ) : Type 0 where
+-- room for cap nodes in the node words and the work words, n of them taken
+pub record Space (cap : ℕ) (l : List ℤ) (w : List ℕ) (n : ℕ) : Type 0 where
   pub some : 0 < cap
   pub few : cap ≤ nodes-most
   pub room : n ≤ cap
   pub words : cap * node-words ≤ length l
   pub works : cap * work-words ≤ length w
+
+-- a table of n nodes with room for cap, and its chains
+pub record Chained (cap : ℕ) (l : List ℤ) (w : List ℕ) (n : ℕ) : Type 0 where
+  pub space : Space cap l w n
   pub hashed : Hashed cap l w n
   pub apart : Apart l n
 

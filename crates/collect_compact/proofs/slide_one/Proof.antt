@@ -1,4 +1,4 @@
-use Rattle.collect_compact.proofs.Moves.{one-no, one-yes, valid-as}
+use Rattle.collect_compact.proofs.Moves.{one-no, one-yes, inside-as}
 use borrow.Author.Needs.{needs}
 use Rattle.collect_compact.proofs.slide_one.Statement.{statement}
 use Rattle.collect_compact.proofs.slide_one.Tie as tie
@@ -16,9 +16,9 @@ returns c =
 get-requires : tie.Need-get-requires
 get-requires c κs = search needs
 
-moved-requires : tie.Need-moved-requires
-moved-requires c κs =
-    let s = (c .before .before .before .before .before .before) in (s .pre .1, s .pre .2, valid-as (c .get .ensures) (s .pre .5))
+renumbered-requires : tie.Need-renumbered-requires
+renumbered-requires c κs =
+    let s = (c .before .before .before .before .before .before) in (s .pre .1, s .pre .2, inside-as (c .get .ensures) (s .pre .5))
 
 put-requires : tie.Need-put-requires
 put-requires c κs = search needs
@@ -46,7 +46,7 @@ same-length-2 c = search needs
 
 returns-2 : tie.Need-returns-2
 returns-2 c =
-    let s = (c .before .before .before .before .before .before .before .before .before .before) in one-yes (s .args .nodes .now) (s .args .work .now) (s .args .cap) (s .args .i) (s .args .j) (c .before .before .before .before .before .before .before .if1 .left) (c .before .before .before .before .get .ensures) (c .before .before .before .moved .ensures) (c .before .put .ensures)
+    let s = (c .before .before .before .before .before .before .before .before .before .before) in one-yes (s .args .nodes .now) (s .args .work .now) (s .args .cap) (s .args .i) (s .args .j) (c .before .before .before .before .before .before .before .if1 .left) (c .before .before .before .before .get .ensures) (c .before .before .before .renumbered .ensures) (c .before .put .ensures)
 
 pub slide-one-spec : {M : Type 1} → statement M
 slide-one-spec =
@@ -56,7 +56,7 @@ slide-one-spec =
     slice-read-if1
     returns
     get-requires
-    moved-requires
+    renumbered-requires
     put-requires
     cast-work
     add-work
