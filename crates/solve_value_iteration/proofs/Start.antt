@@ -14,7 +14,7 @@ use Rattle.theory.specs.Verdict.{verdict, from-to}
 use Rattle.theory.specs.Load.{site-at, model}
 use Rattle.theory.specs.Stage.{model-diagrams}
 use Rattle.theory.specs.laws.Valid.{among-out}
-use Rattle.theory.specs.laws.Loading.{accepted-site}
+use Rattle.theory.specs.laws.AcceptedModel.{accepted-site}
 use Rattle.table_unique.specs.Unique.{lastOf, Space}
 use Rattle.rule_node.specs.Nodes.{trees, treeAt}
 use Rattle.rule_node.specs.Table.{Rule, Table}

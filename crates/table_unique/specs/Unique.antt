@@ -6,21 +6,18 @@ use Prim.Native.Nat.{ℕ, zero, suc, _+_, _-_, _*_, _/_, _%_, _^_, _≤_, _<_}
 use lib.Dec.{eqb}
 use lib.IntN.{ℤ, pos, negsuc}
 use lib.ListN.{length, getD}
+use mir.Syntax.{w64}
+use mir.Val.{ofZ}
 use Rattle.table.specs.Table.{node-words, nodeAt, internR, internW, nodes-most}
 use Rattle.table.specs.declared.Made.{Made}
 use Rattle.table.specs.declared.Node.{Node}
-
--- a word as it is stored, in two's complement
-unfoldable pub bitsOf : ℤ → ℕ
-bitsOf (pos n) = n
-bitsOf (negsuc n) = 18446744073709551615 - n
 
 -- each of a node's words has a share in its hash, by a factor of its own, below this; none waits for another
 abbrev pub factors-end : ℕ
 factors-end = 2147483648
 
 unfoldable pub addedOf : ℕ → ℤ → ℕ → ℕ
-addedOf h z k = (h + bitsOf z * k) % 2 ^ 64
+addedOf h z k = (h + ofZ w64 z * k) % 2 ^ 64
 
 unfoldable pub nextOf : ℕ → ℕ
 nextOf k = k * 69069 % factors-end
