@@ -2,8 +2,6 @@
 ghost use mathlib.Core.Path.{_≡_};
 ghost use Prim.Native.Nat.{_+_, _≤_};
 ghost use lib.ListN.{length};
-ghost use mir.Syntax.{w64};
-ghost use mir.Val.{ofZ};
 ghost use Rattle.text_decimal.specs.Put.{PutAt};
 ghost use Rattle.value_walk.specs.Out.{out as value-out};
 ghost use Rattle.c_answers.specs.Answers.{answered};
@@ -12,18 +10,7 @@ use c_answers::put_le;
 use c_answers::put_pair;
 use c_answers::short;
 use value_walk::Value;
-use whole::limits::mag;
-
-// The bits of z as a number.
-fn bits(z: i64) -> u64
-    ensures { λ r. ⌜ r ≡ ofZ w64 z ⌝ }
-{
-    let m = mag(z);
-    if z < 0 {
-        return 18446744073709551615 - m + 1;
-    }
-    m
-}
+use whole::limits::bits;
 
 // Low word, high word.
 pub fn put_words(out: &mut [u8], at: usize, low: u64, high: i64) -> usize

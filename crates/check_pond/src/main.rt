@@ -7,7 +7,7 @@ ghost use lib.ListN.{length};
 ghost use Rattle.theory.specs.Widths.{bytes-most, roots-most};
 ghost use Rattle.theory.specs.Verdict.{verdict};
 ghost use Rattle.solve_operation.specs.Operation.{Fits, Standing};
-ghost use Rattle.solve_value_iteration.specs.Iteration.{Room};
+ghost use Rattle.table_unique.specs.Unique.{Space};
 use libc::STDOUT_FILENO;
 use solve_operation::Rule;
 use solve_operation::Run;
@@ -227,7 +227,7 @@ fn steps(
 
 // An accepted model in a table with room for 32 nodes: its roots are held.
 fn loaded(model: &[u8], nodes: &mut [i64], work: &mut [u32], roots: &mut [u32]) -> Stand
-    requires { ⌜ (verdict (now model) .number ≡ 0) × (length (now model) ≤ bytes-most) × Room 32 (now nodes) (now work) × (length (now roots) ≡ roots-most) ⌝ }
+    requires { ⌜ (verdict (now model) .number ≡ 0) × (length (now model) ≤ bytes-most) × Space 32 (now nodes) (now work) 0 × (length (now roots) ≡ roots-most) ⌝ }
     ensures { λ s. ⌜ (s .stop ≡ 0 → Standing 32 (now (nodes .exit)) (now (work .exit)) (s .count) (now (roots .exit)) (s .held)) ⌝ }
 {
     table_clear::zeros::words_from(work, 0);
@@ -270,7 +270,7 @@ fn finished(model: &[u8], nodes: &mut [i64], work: &mut [u32], s: Stand, roots: 
 
 // The rows on an accepted model.
 fn planned(model: &[u8], nodes: &mut [i64], work: &mut [u32], roots: &mut [u32], rows: &[u8])
-    requires { ⌜ (verdict (now model) .number ≡ 0) × (length (now model) ≤ bytes-most) × Room 32 (now nodes) (now work) × (length (now roots) ≡ roots-most) ⌝ }
+    requires { ⌜ (verdict (now model) .number ≡ 0) × (length (now model) ≤ bytes-most) × Space 32 (now nodes) (now work) 0 × (length (now roots) ≡ roots-most) ⌝ }
 {
     let s = loaded(model, nodes, work, roots);
     if s.stop != 0 {
@@ -284,7 +284,7 @@ fn planned(model: &[u8], nodes: &mut [i64], work: &mut [u32], roots: &mut [u32],
 }
 
 fn run(model: &[u8], nodes: &mut [i64], work: &mut [u32], roots: &mut [u32], rows: &[u8])
-    requires { ⌜ Room 32 (now nodes) (now work) × (length (now roots) ≡ roots-most) ⌝ }
+    requires { ⌜ Space 32 (now nodes) (now work) 0 × (length (now roots) ≡ roots-most) ⌝ }
 {
     if model.len() > 65535 {
         return;

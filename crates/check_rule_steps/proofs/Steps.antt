@@ -1,28 +1,28 @@
 -- A step leaves the table right; the table begins empty.
-use mathlib.Core.Path.{_≡_, refl, sym, subst}
+use mathlib.Core.Path.{_≡_, sym, subst}
 use mathlib.Core.Bool.{Bool, true, false}
-use mathlib.Core.List.{List, _∷_}
-use Prim.Native.Nat.{ℕ, zero, suc, _*_, _≤_, _<_}
+use mathlib.Core.List.{List}
+use Prim.Native.Nat.{ℕ, _*_, _≤_, _<_}
 use native.Mathlib.Omega.{arith}
 use lib.IntN.{ℤ, pos}
-use lib.ListN.{length, getD, replicate}
+use lib.ListN.{length, getD}
 use mir.Syntax.{w64}
-use mir.Val.{toZ, SFits}
+use mir.Val.{SFits}
 use Rattle.whole.specs.Within.{Small}
-use Rattle.whole.proofs.Signed.{plain, R, back}
+use Rattle.whole.proofs.Signed.{R, back}
 use Rattle.table.specs.declared.Made.{Made}
+use Rattle.table.specs.declared.Node.{Node}
 use Rattle.theory.specs.Computation.{Comp}
 use Rattle.theory.specs.Diagram.{Tree}
-use Rattle.theory.specs.Widths.{levels-most}
 use Rattle.table_unique.specs.Unique.{work-words, lastOf}
 use Rattle.rule_node.specs.Nodes.{Proper}
-use Rattle.table.proofs.Leaf.{condition-as}
-use Rattle.table.specs.Table.{node-words, eqZ}
+use Rattle.rule_node.specs.Roots.{conditionNode}
+use Rattle.table.specs.Table.{node-words}
 use Rattle.rule_node.specs.Table.{Table, Grew}
 use Rattle.rule_node.specs.EntryMeaning.{ruleOf}
 use Rattle.rule_unary_node.specs.Acts.{Acts}
 use Rattle.rule_node.proofs.Outcomes.{lifted, fresh}
-use Rattle.rule_node.proofs.Meanings.{zeros-behind}
+use Rattle.rule_node.proofs.Meanings.{stood-condition}
 
 pub grew : {cap n : ℕ} {l l₁ : List ℤ} {w w₁ : List ℕ} {m : Comp Tree} {r : Made} → Table ruleOf cap l w n → Grew cap l w n m l₁ w₁ r → Table ruleOf cap l₁ w₁ (r .count)
 grew A Q = lifted A Q .table
@@ -38,11 +38,13 @@ empty cap l w some few hl hw z = fresh
     (record {
       good = record { valid = λ i h. absurd (omega arith); distinct = λ i j h. absurd (omega arith) };
       chained = record {
-        some = some;
-        few = few;
-        room = omega arith;
-        words = hl;
-        works = hw;
+        space = record {
+          some = some;
+          few = few;
+          room = omega arith;
+          words = hl;
+          works = hw;
+        };
         hashed = record { heads = λ b h. z b (omega arith); links = λ i h. absurd (omega arith) };
         apart = λ i j h. absurd (omega arith);
       };
@@ -50,20 +52,8 @@ empty cap l w some few hl hw z = fresh
     (λ j h k. z j (omega arith))
 
 -- the test of a condition
-small-number : (n : ℕ) → n ≤ 8 → (k : ℕ) → Small (getD (pos n ∷ replicate levels-most (pos 0)) k (pos 0))
-small-number n h zero = record { small = omega arith }
-small-number n h (suc k) = subst Small (sym (zeros-behind (pos n) (suc k) (omega arith))) (record { small = omega arith })
-
-proper-pos : (k : ℕ) → 0 < k → k ≤ 8 → Proper (record { kind = pos 1; n = pos k ∷ replicate levels-most (pos 0); high = pos 0; low = pos 0 })
-unfolding eqZ
-proper-pos k a b = record {
-  branches = condition-as refl;
-  nums = record { long = refl; each = small-number k b };
-  tested = record { kind = λ e. absurd (let z : _≡_ {A = ℕ} 0 1 = cc in omega arith); long = refl; number = λ _. tt; bounds = λ _. (omega arith, omega arith); rest = λ _. zeros-behind (pos k) };
-}
-
-pub proper-condition : (k : ℕ) → 0 < k → k ≤ 8 → Proper (record { kind = pos 1; n = toZ w64 k ∷ replicate levels-most (pos 0); high = pos 0; low = pos 0 })
-proper-condition k a b = subst (λ z. Proper (record { kind = pos 1; n = z ∷ replicate levels-most (pos 0); high = pos 0; low = pos 0 })) (sym (plain k (omega arith))) (proper-pos k a b)
+pub proper-condition : {x : Node} (k : ℕ) → 0 < k → k ≤ 8 → x ≡ conditionNode k → Proper x
+proper-condition k a b e = subst Proper (sym e) (stood-condition k a b .proper)
 
 -- ---- the numbers of a rule of one diagram
 

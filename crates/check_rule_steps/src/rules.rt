@@ -161,14 +161,7 @@ fn condition(nodes: &mut [i64], work: &mut [u32], cap: usize, count: usize, s: S
     if k > 8 {
         return unknown(count);
     }
-    let mut n = [0i64; NUMBERS];
-    n[0] = k as i64;
-    let t = Node {
-        kind: 1,
-        n,
-        high: 0,
-        low: 0,
-    };
+    let t = rule_tests::condition(k as usize);
     join_test(nodes, work, cap, count, t, s.f, s.g)
 }
 

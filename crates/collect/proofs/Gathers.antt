@@ -11,7 +11,8 @@ use lib.Seq.{take-suc, take-length}
 use Rattle.table.specs.Table.{nodeAt, isLeaf}
 use Rattle.theory.specs.Diagram.{Tree}
 use Rattle.rule_node.specs.Nodes.{testOf, blank, trees, Good}
-use Rattle.collect_mark.specs.Mark.{needed, rootsOf, flag, markOf, Below, Space, Marked}
+use Rattle.table_unique.specs.Unique.{Space}
+use Rattle.collect_mark.specs.Mark.{needed, rootsOf, flag, markOf, Below, Marked}
 use Rattle.rule_node.proofs.Trees.{trees-length, at-branch}
 use Rattle.collect_mark.proofs.Reach.{needed-branch, needed-root}
 use Rattle.collect_compact.specs.Slide.{rank, keepOf, Closed, Slid}

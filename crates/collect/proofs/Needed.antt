@@ -15,7 +15,7 @@ use Rattle.theory.specs.Computation.{Comp, member, run, enter-all}
 use Rattle.theory.specs.Rules.{zero-leaf}
 use Rattle.theory.specs.Events.{Distinct, inside, all-inside}
 use Rattle.theory.specs.laws.Comps.{member-in}
-use Rattle.theory.specs.laws.Counting.{distinct-roots}
+use Rattle.theory.specs.laws.Counts.{distinct-roots}
 use Rattle.theory.specs.laws.Inside.{inside-parts, inside-branch, all-none, all-parts, all-cons, roots-inside, roots-sub}
 use Rattle.collect.proofs.Order.{SameNodes, same-nodes, SameOut, run-order}
 use Rattle.rule_node.specs.Nodes.{leafOf, testOf, blank, trees, Good}

@@ -11,7 +11,7 @@ use Rattle.whole.specs.Within.{small}
 use Rattle.theory.specs.Diagram.{Tree, same}
 use Rattle.theory.specs.Computation.{Comp, ret, named, made, Out, done, stopped, member, run}
 use Rattle.theory.specs.Events.{Distinct}
-use Rattle.theory.specs.laws.Counting.{distinct-fit}
+use Rattle.theory.specs.laws.Counts.{distinct-fit}
 use Rattle.theory.specs.laws.Table.{distinct-add}
 
 -- the same nodes, each once, in any order

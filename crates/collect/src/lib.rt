@@ -3,7 +3,8 @@ ghost use mathlib.Core.Path.{_≡_};
 ghost use Prim.Native.Nat.{_*_, _≤_};
 ghost use lib.ListN.{length};
 ghost use Rattle.rule_node.specs.Nodes.{Good};
-ghost use Rattle.collect_mark.specs.Mark.{Below, Space};
+ghost use Rattle.table_unique.specs.Unique.{Space};
+ghost use Rattle.collect_mark.specs.Mark.{Below};
 ghost use Rattle.collect.specs.Collect.{forwarded, Collected};
 ghost use Rattle.table.specs.Table.{nodes-most};
 

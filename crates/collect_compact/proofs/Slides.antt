@@ -17,9 +17,11 @@ use Rattle.table.specs.Table.{node-words, nodeAt, putAt, isLeaf}
 use Rattle.table.specs.declared.Node.{Node}
 use Rattle.theory.specs.Diagram.{Tree, branch}
 use Rattle.rule_node.specs.Nodes.{linOf, testOf, treeOf, blank, trees, Nums, Tested, Valid, Good}
-use Rattle.collect_mark.specs.Mark.{Space, markOf}
+use Rattle.table_unique.specs.Unique.{Space}
+use Rattle.collect_mark.specs.Mark.{markOf}
 use Rattle.rule_node.proofs.Trees.{tree-at, tree-leaf, tree-branch, trees-same, weaken}
-use Rattle.collect_compact.specs.Slide.{rank, keepOf, renumber, SlidOne, Stayed, Closed, Slid}
+use Rattle.table_peek.specs.Renumber.{renumber}
+use Rattle.collect_compact.specs.Slide.{rank, keepOf, SlidOne, Stayed, Closed, Slid}
 use Rattle.collect_compact.proofs.Ranks.{rank-le, rank-yes, rank-no, rank-all, rank-same, keep-yes, keep-no, keep-at, keep-all, keep-same, unrank}
 
 -- ---- the state of the loop

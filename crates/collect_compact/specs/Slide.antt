@@ -3,10 +3,10 @@ use mathlib.Core.Path.{_≡_}
 use mathlib.Core.Bool.{Bool, true, false, cond}
 use mathlib.Core.List.{List, [], _∷_, _++_}
 use Prim.Native.Nat.{ℕ, zero, suc, _+_, _*_, _≤_, _<_}
-use lib.IntN.{ℤ, pos, natAbs}
+use lib.IntN.{ℤ, natAbs}
 use lib.ListN.{length, getD, set}
 use Rattle.table.specs.Table.{nodeAt, putAt, isLeaf}
-use Rattle.table.specs.declared.Node.{Node}
+use Rattle.table_peek.specs.Renumber.{renumber}
 use Rattle.theory.specs.Diagram.{Tree}
 use Rattle.rule_node.specs.Nodes.{blank, trees, Good}
 use Rattle.collect_mark.specs.Mark.{markOf}
@@ -20,12 +20,6 @@ rank m (suc i) = cond (m i) (rank m i + 1) (rank m i)
 unfoldable pub keepOf : (ℕ → Bool) → List Tree → ℕ → List Tree
 keepOf m X zero = []
 keepOf m X (suc n) = cond (m n) (keepOf m X n ++ (getD X n blank ∷ [])) (keepOf m X n)
-
--- a node with its branches' new indexes
-unfoldable pub renumber : List ℕ → ℕ → Node → Node
-renumber w cap x =
-    cond (isLeaf (x .kind)) x
-    (record { kind = x .kind; n = x .n; high = pos (getD w (cap + natAbs (x .high)) 0); low = pos (getD w (cap + natAbs (x .low)) 0) })
 
 -- node i goes to index j where it is marked, and its new index into the work words
 pub record SlidOne (l : List ℤ) (w : List ℕ) (cap i j : ℕ) (l′ : List ℤ) (w′ : List ℕ) (r : ℕ) : Type 0 where

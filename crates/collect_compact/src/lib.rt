@@ -1,31 +1,12 @@
 // Marked nodes slide down, in order. Work words: a mark for each node at 0 to cap, and for each
 // marked node its new index at cap to 2 cap.
-use table::Node;
 ghost use mathlib.Core.Path.{_≡_};
 ghost use Prim.Native.Nat.{_*_, _≤_, _<_};
 ghost use lib.ListN.{length};
 ghost use Rattle.table.specs.Table.{node-words, nodeAt, nodes-most};
 ghost use Rattle.rule_node.specs.Nodes.{Valid, Good};
-ghost use Rattle.collect_mark.specs.Mark.{Space};
-ghost use Rattle.collect_compact.specs.Slide.{renumber, SlidOne, Stayed, Closed, Slid};
-
-// A node with its branches' new indexes.
-fn moved(work: &[u32], cap: usize, x: Node) -> Node
-    requires { ⌜ (cap * 2 ≤ length (now work)) × (cap ≤ nodes-most) × Valid x cap ⌝ }
-    ensures { λ r. ⌜ r ≡ renumber (now (work .entry)) cap x ⌝ }
-{
-    if table_peek::is_leaf(x) {
-        return x;
-    }
-    let h = cap + table_peek::high(x);
-    let l = cap + table_peek::low(x);
-    let high = work[h] as i64;
-    let low = work[l] as i64;
-    let mut y = x;
-    y.high = high;
-    y.low = low;
-    y
-}
+ghost use Rattle.table_unique.specs.Unique.{Space};
+ghost use Rattle.collect_compact.specs.Slide.{SlidOne, Stayed, Closed, Slid};
 
 // One node: where it is marked it goes to index j. Answers the next such index.
 fn slide_one(nodes: &mut [i64], work: &mut [u32], cap: usize, i: usize, j: usize) -> usize
@@ -35,7 +16,7 @@ fn slide_one(nodes: &mut [i64], work: &mut [u32], cap: usize, i: usize, j: usize
     if work[i] == 0 {
         return j;
     }
-    let x = moved(work, cap, table::get(nodes, i));
+    let x = table_peek::renumbered(work, cap, table::get(nodes, i));
     table::put(nodes, j, x);
     work[cap + i] = j as u32;
     j + 1

@@ -2,12 +2,11 @@
 use mathlib.Core.Path.{_≡_}
 use mathlib.Core.Bool.{Bool, true, false, cond, not, _||_}
 use mathlib.Core.List.{List, [], _∷_}
-use Prim.Native.Nat.{ℕ, zero, suc, _*_, _≤_, _<_}
+use Prim.Native.Nat.{ℕ, zero, suc, _≤_, _<_}
 use lib.Dec.{eqb}
 use lib.IntN.{ℤ, pos, natAbs}
 use lib.ListN.{length, getD, set}
-use Rattle.table.specs.Table.{node-words, isLeaf, nodes-most}
-use Rattle.table_unique.specs.Unique.{work-words}
+use Rattle.table.specs.Table.{isLeaf}
 use Rattle.table.specs.Table.{nodeAt}
 use Rattle.theory.specs.Diagram.{Tree, leaf, branch, same}
 use Rattle.rule_node.specs.Nodes.{blank, trees}
@@ -30,14 +29,6 @@ rootsOf X (r ∷ R) = getD X r blank ∷ rootsOf X R
 -- each root is a node
 pub record Below (R : List ℕ) (n : ℕ) : Type 0 where
   pub at : (j : ℕ) → j < length R → getD R j 0 < n
-
--- room for cap nodes in the node words and the work words
-pub record Space (cap : ℕ) (l : List ℤ) (w : List ℕ) (n : ℕ) : Type 0 where
-  pub some : 0 < cap
-  pub few : cap ≤ nodes-most
-  pub room : n ≤ cap
-  pub words : cap * node-words ≤ length l
-  pub works : cap * work-words ≤ length w
 
 -- ---- marks
 

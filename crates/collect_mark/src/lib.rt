@@ -4,7 +4,8 @@ ghost use Prim.Native.Nat.{_+_, _*_, _≤_, _<_};
 ghost use lib.ListN.{length};
 ghost use Rattle.table.specs.Table.{node-words, nodeAt, nodes-most};
 ghost use Rattle.rule_node.specs.Nodes.{Valid, Good};
-ghost use Rattle.collect_mark.specs.Mark.{Space, Below, markStep, markDown, Marked};
+ghost use Rattle.table_unique.specs.Unique.{Space};
+ghost use Rattle.collect_mark.specs.Mark.{Below, markStep, markDown, Marked};
 
 // The branches of a marked node become marked.
 fn below(nodes: &[i64], work: &mut [u32], i: usize)

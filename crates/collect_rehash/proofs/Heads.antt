@@ -14,11 +14,10 @@ use lib.Seq.{getD-set-same, getD-set-other}
 use Rattle.table.proofs.Look.{split}
 use Rattle.table.specs.Table.{nodeAt}
 use Rattle.table.specs.declared.Node.{Node}
-use Rattle.table_unique.specs.Unique.{work-words, hashOf, lastOf, Hashed}
+use Rattle.table_unique.specs.Unique.{work-words, hashOf, lastOf, Hashed, Space}
 use Rattle.table_unique.proofs.Chain.{H}
 use Rattle.table_clear.specs.Wipe.{wiped}
 use Rattle.table_clear.proofs.Parts.{same-length, before, within, after}
-use Rattle.collect_mark.specs.Mark.{Space}
 use Rattle.collect_rehash.specs.Rehash.{Rehashed}
 
 last-new : (h : ℕ → ℕ) (b n : ℕ) → h n ≡ b → lastOf h b (suc n) ≡ suc n

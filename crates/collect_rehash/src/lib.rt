@@ -1,5 +1,5 @@
 // The hash chains of a table made anew, and its computed cache emptied: for indexes that have moved.
-ghost use Rattle.collect_mark.specs.Mark.{Space};
+ghost use Rattle.table_unique.specs.Unique.{Space};
 ghost use Rattle.collect_rehash.specs.Rehash.{Rehashed};
 
 // Heads at 0 to cap, links at cap to 2 cap, the cache at 2 cap to 8 cap.

@@ -10,7 +10,7 @@ use Rattle.whole.specs.Cases.{by-test, clash}
 use Rattle.theory.specs.Form.{Form}
 use Rattle.theory.specs.Command.{whole, byte-at, width-in, read-in, goes-on, readings-from-in, readings-in}
 use Rattle.theory.specs.Rows.{Whole-in}
-use Rattle.theory.specs.laws.Loading.{behind-in}
+use Rattle.theory.specs.laws.AcceptedModel.{behind-in}
 use Rattle.theory.specs.laws.Rows.{by-read-in, if-no}
 use Rattle.model_command.specs.declared.Read.{Read as CodeRead}
 use Rattle.model_command.specs.CursorReadings.{next-in, read-of-in}

@@ -11,7 +11,7 @@ use Rattle.theory.specs.Form.{Form, forbidden-bytes}
 use Rattle.theory.specs.Command.{byte-at, width-in, read-in, goes-on, readings-from-in, readings-in}
 use Rattle.theory.specs.Verdict.{or}
 use Rattle.theory.specs.Load.{site-in}
-use Rattle.theory.specs.laws.Loading.{behind-in}
+use Rattle.theory.specs.laws.AcceptedModel.{behind-in}
 use Rattle.model_command.specs.declared.Read.{Read as CodeRead}
 use Rattle.model_command.specs.CursorReadings.{next-in, read-of-in}
 use Rattle.convert_model.specs.Conversion.{is-forbidden, forbids, too-large, unfit}

@@ -98,7 +98,7 @@ fn refused(number: u32, place: usize) -> Converted
 }
 
 // A model in another form, at the start of the buffer. Nothing is written before every refusal is out.
-fn convert(from: Form, to: Form, model: &[u8], buffer: &mut [u8]) -> Converted
+pub fn convert(from: Form, to: Form, model: &[u8], buffer: &mut [u8]) -> Converted
     ensures { λ r. ⌜ outcome-as r (now (buffer .exit)) ≡ conversion (form-of from) (form-of to) (now (model .entry)) (now (buffer .entry)) ⌝ }
 {
     let v = own(from, model);

@@ -20,7 +20,8 @@ use Rattle.finish_number.specs.Number.{TableHeld, Roots, treesOf, listOf, Numbe
 use Rattle.rule_node.proofs.Trees.{at-leaf, at-branch}
 use Rattle.finish_number.proofs.Numbers.{number-in}
 use Rattle.finish_number.proofs.Enter.{list-length, numbered-fits}
-use Rattle.finish_arrange.specs.Arrange.{renumber, Inverse, Arranged, Rewritten}
+use Rattle.table_peek.specs.Renumber.{renumber}
+use Rattle.finish_arrange.specs.Arrange.{Inverse, Arranged, Rewritten}
 use Rattle.finish.specs.Finish.{Finished, numbersOf, LaidOut}
 use Rattle.finish.proofs.Rows.{words-of, over, row-leaf, row-branch, rows-take}
 

@@ -12,22 +12,14 @@ use Rattle.table.specs.Table.{node-words, nodeAt, putAt}
 use Rattle.table.specs.declared.Node.{Node}
 use Rattle.rule_node.specs.Nodes.{Valid}
 use Rattle.finish_number.specs.Number.{TableHeld}
-use Rattle.finish_arrange.specs.Arrange.{renumber, Rewritten}
+use Rattle.finish_arrange.specs.Arrange.{Rewritten}
 use Rattle.whole.specs.Linears.{numbers}
-use Rattle.finish_arrange.proofs.Renumber.{numbers-stay}
+use Rattle.table_peek.specs.Renumber.{renumber, Inside}
+use Rattle.table_peek.proofs.Renumber.{numbers-stay}
 
--- what can stand at i can stand further on
-weaken : {x : Node} {i n : ℕ} → i ≤ n → Valid x i → Valid x n
-weaken h v = record {
-  nums = v .nums;
-  high-nat = v .high-nat;
-  low-nat = v .low-nat;
-  none = v .none;
-  leaf-low = v .leaf-low;
-  tested = v .tested;
-  high-below = λ e. let q = v .high-below e in omega arith;
-  low-below = λ e. let q = v .low-below e in omega arith;
-}
+-- branches below i are below what is further on
+further : {x : Node} {i n : ℕ} → i ≤ n → Valid x i → Inside x n
+further h v = record { high = λ e. let q = v .high-below e in omega arith; low = λ e. let q = v .low-below e in omega arith }
 
 pub record Rewrite (cap n : ℕ) (l l′ : List ℤ) (w : List ℕ) (i : ℕ) : Type 0 where
   pub len : length l′ ≡ length l
@@ -41,8 +33,8 @@ module _ {cap n : ℕ} {l l′ : List ℤ} {w : List ℕ} {i : ℕ} (G : TableHe
   pub room : i * node-words + node-words ≤ length l′
   room = let a = S .len in let b = G .room in let c = G .words in omega arith
 
-  pub valid : {x : Node} → x ≡ nodeAt l′ i → Valid x cap
-  valid {x} e = subst (λ (v : Node). Valid v cap) (sym (e ∙ S .after i (omega arith))) (weaken (let r = G .room in omega arith) (G .good .valid i h))
+  pub inside : {x : Node} → x ≡ nodeAt l′ i → Inside x cap
+  inside {x} e = subst (λ (v : Node). Inside v cap) (sym (e ∙ S .after i (omega arith))) (further (let r = G .room in omega arith) (G .good .valid i h))
 
   long : {x y : Node} → x ≡ nodeAt l′ i → y ≡ renumber w cap x → length (y .n) ≡ numbers
   long {x} ex ey = ap (λ (v : Node). length (v .n)) ey ∙ (ap length (numbers-stay w cap x) ∙ (ap (λ (v : Node). length (v .n)) ex ∙ numbers-at l′ i room))

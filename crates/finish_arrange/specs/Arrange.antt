@@ -1,18 +1,11 @@
 -- Nodes brought into an order, in place: at 0 to cap the index of each number's node, at cap to 2 cap each node's number, 0 for none.
 use mathlib.Core.Path.{_≡_}
-use mathlib.Core.Bool.{cond}
 use mathlib.Core.List.{List}
 use Prim.Native.Nat.{ℕ, zero, suc, _+_, _*_, _≤_, _<_}
-use lib.IntN.{ℤ, pos, natAbs}
+use lib.IntN.{ℤ}
 use lib.ListN.{length, getD, set}
-use Rattle.table.specs.Table.{nodeAt, putAt, isLeaf}
-use Rattle.table.specs.declared.Node.{Node}
-
--- a node with its branches' numbers
-unfoldable pub renumber : List ℕ → ℕ → Node → Node
-renumber w cap x =
-    cond (isLeaf (x .kind)) x
-    (record { kind = x .kind; n = x .n; high = pos (getD w (cap + natAbs (x .high)) 0); low = pos (getD w (cap + natAbs (x .low)) 0) })
+use Rattle.table.specs.Table.{nodeAt, putAt}
+use Rattle.table_peek.specs.Renumber.{renumber}
 
 -- nodes k and p in each other's place
 unfoldable pub swapN : List ℤ → ℕ → ℕ → List ℤ

@@ -4,31 +4,8 @@ ghost use Prim.Native.Nat.{_+_, _*_, _≤_, _<_};
 ghost use lib.ListN.{length, getD};
 ghost use Rattle.table.specs.Table.{node-words};
 ghost use Rattle.theory.specs.Widths.{nodes-most};
-ghost use Rattle.rule_node.specs.Nodes.{Valid};
 ghost use Rattle.finish_number.specs.Number.{TableHeld};
-ghost use Rattle.finish_arrange.specs.Arrange.{renumber, swapN, swapW, Inverse, Arranged, Rewritten};
-use rule_node::index;
-use table::Node;
-
-// A node with its branches' numbers.
-fn renumbered(work: &[u32], cap: usize, x: Node) -> Node
-    requires { ⌜ (cap * 2 ≤ length (now work)) × (cap ≤ nodes-most) × Valid x cap ⌝ }
-    ensures { λ r. ⌜ r ≡ renumber (now (work .entry)) cap x ⌝ }
-{
-    let h = x.high;
-    let l = x.low;
-    if table::is_leaf(x.kind) {
-        return x;
-    }
-    let hi = cap + index(h);
-    let lo = cap + index(l);
-    let p = work[hi] as i64;
-    let q = work[lo] as i64;
-    let mut y = x;
-    y.high = p;
-    y.low = q;
-    y
-}
+ghost use Rattle.finish_arrange.specs.Arrange.{swapN, swapW, Inverse, Arranged, Rewritten};
 
 // Each node's branches become their numbers.
 pub fn rewrite(nodes: &mut [i64], work: &[u32], cap: usize, count: usize)
@@ -37,7 +14,7 @@ pub fn rewrite(nodes: &mut [i64], work: &[u32], cap: usize, count: usize)
 {
     let mut i: usize = 0;
     while i < count {
-        let x = renumbered(work, cap, table::get(nodes, i));
+        let x = table_peek::renumbered(work, cap, table::get(nodes, i));
         table::put(nodes, i, x);
         i += 1;
     }

@@ -18,7 +18,7 @@ use Rattle.theory.specs.Computation.{member, enter}
 use Rattle.theory.specs.Events.{Distinct}
 use Rattle.theory.specs.Solve.{number-of}
 use Rattle.theory.specs.laws.Comps.{same-not, member-in, member-cases}
-use Rattle.theory.specs.laws.Counting.{distinct-fit}
+use Rattle.theory.specs.laws.Counts.{distinct-fit}
 use Rattle.theory.specs.laws.Table.{number-last, distinct-add}
 use Rattle.rule_node.specs.Nodes.{testOf, blank, trees, treeAt}
 use Rattle.finish_number.specs.Number.{TableHeld, listOf, Numbered, assigned, TreeNumbered}

@@ -11,6 +11,7 @@ use Rattle.theory.specs.Diagram.{Test}
 use Rattle.theory.specs.Rules.{choose, node}
 use Rattle.rule_node.specs.declared.Sides.{Sides}
 use Rattle.rule_node.specs.Nodes.{testOf, treeAt}
+use Rattle.rule_node.specs.Roots.{Stood}
 use Rattle.rule_node.specs.Table.{Lasting, Table, RuleRan, Grew}
 use Rattle.table_cache.specs.Cache.{slotOf, Key, Entry, storeOf}
 use Rattle.rule_choose.specs.Choice.{choiceOf}
@@ -19,7 +20,7 @@ use Rattle.rule_node.proofs.Outcomes.{ran-as, grew-as, lifted}
 use Rattle.rule_node.proofs.CacheEntries.{answered, kept-run}
 use Rattle.rule_choose.proofs.ChoiceSteps.{Here, Chooses, chooses-as}
 use Rattle.rule_node.proofs.RuleSteps.{index-small}
-use Rattle.load_choose.specs.CommandTest.{Stood, Testing, testAt, loadRule}
+use Rattle.load_choose.specs.CommandTest.{Testing, testAt, loadRule}
 
 rule-is : (B : List ℕ) (l : List ℤ) (n op f g p q : ℕ) → loadRule B l n op f g p q ≡ choose (testAt B p) (treeAt l n f) (treeAt l n g)
 unfolding loadRule

@@ -4,21 +4,15 @@ use mathlib.Core.List.{List, [], _∷_}
 use Prim.Native.Nat.{ℕ, zero, suc, _+_, _-_, _≤_, _<_}
 use native.Mathlib.Omega.{arith}
 use lib.Dec.{leb, leb→le, nleb→lt}
-use lib.IntN.{ℤ, pos}
-use lib.ListN.{getD, replicate}
-use mir.Syntax.{w64}
-use mir.Val.{toZ}
+use lib.IntN.{ℤ}
 use types.Run.{OneOf, miss}
 use denote.Enum.Declared.{tagOf}
 use Rattle.whole.specs.Cases.{if, by-test}
-use Rattle.whole.specs.Within.{Small}
 use Rattle.whole.specs.Linears.{Smalls, divisorL}
 use Rattle.whole.specs.LinearsLaws.{quot-smalls}
-use Rattle.table.proofs.Words.{back}
-use Rattle.table.proofs.Leaf.{leaf-as, condition-as}
-use Rattle.table.specs.Table.{eqZ}
+use Rattle.table.proofs.Leaf.{leaf-as}
 use Rattle.table.specs.declared.Node.{Node}
-use Rattle.theory.specs.Widths.{levels-most, conditions-most}
+use Rattle.theory.specs.Widths.{conditions-most}
 use Rattle.theory.specs.Diagram.{Linear, Test, now, later, quotL, test-of}
 use Rattle.theory.specs.Command.{Command, site, push-leaf, push-condition, push-test, give, name-action, end-model, Read, whole, unknown, short, read-at, linear-at}
 use Rattle.theory.specs.Load.{condition-test}
@@ -32,11 +26,11 @@ use Rattle.model_command.specs.declared.Command.the-variants.{Site, Leaf, Condi
 use Rattle.model_command.specs.declared.Read.{Read as CodeRead}
 use Rattle.model_command.specs.declared.Read.the-variants.{Whole, Unknown, Short}
 use Rattle.model_command.specs.CursorReadings.{with-linear, linear-of, command-of-in, command-of, read-of-in, read-of}
-use Rattle.rule_node.specs.Nodes.{linOf, testOf, conditionOf, Nums, Proper}
-use Rattle.rule_node.specs.Roots.{linearNode, namedNode}
+use Rattle.rule_node.specs.Nodes.{linOf, conditionOf, Nums}
+use Rattle.rule_node.specs.Roots.{conditionNode, linearNode, namedNode, Stood}
 use Rattle.rule_node.proofs.Trees.{later-is, now-is}
-use Rattle.rule_node.proofs.Meanings.{zeros-behind, proper-linear, divided-test, named-leaf}
-use Rattle.load_choose.specs.CommandTest.{Stood, wordsOf, condition-in, condition-read, test-in, test-read, testAt, Testing}
+use Rattle.rule_node.proofs.Meanings.{stood-condition, proper-linear, divided-test, named-leaf}
+use Rattle.load_choose.specs.CommandTest.{wordsOf, condition-in, condition-read, test-in, test-read, testAt, Testing}
 
 -- ---- a condition
 
@@ -45,28 +39,8 @@ unfolding condition-test
 condition-same k = by-test (leb k conditions-most) (λ b. conditionOf k ≡ if b (now k) (later (k - conditions-most)))
     (λ t. now-is k (leb→le k conditions-most t)) (λ t. later-is k (nleb→lt k conditions-most t))
 
-conditionNode : ℕ → Node
-conditionNode k = record { kind = pos 1; n = pos k ∷ replicate levels-most (pos 0); high = pos 0; low = pos 0 }
-
-small-number : (n : ℕ) → n ≤ conditions-most + conditions-most → (k : ℕ) → Small (getD (pos n ∷ replicate levels-most (pos 0)) k (pos 0))
-small-number n h zero = record { small = omega arith }
-small-number n h (suc k) = subst Small (sym (zeros-behind (pos n) (suc k) (omega arith))) (record { small = omega arith })
-
-stood-condition : (k : ℕ) → 0 < k → k ≤ conditions-most + conditions-most → Stood (condition-test k) (conditionNode k)
-unfolding conditionNode testOf eqZ
-stood-condition k a b = record {
-  proper = record {
-    branches = condition-as refl;
-    nums = record { long = refl; each = small-number k b };
-    tested = record { kind = λ e. absurd (let z : _≡_ {A = ℕ} 0 1 = cc in omega arith); long = refl; number = λ _. tt; bounds = λ _. (a, b); rest = λ _. zeros-behind (pos k) };
-  };
-  test = condition-same k;
-}
-
--- with the words that the code has
-pub condition-stood : (k : ℕ) → 0 < k → k ≤ conditions-most + conditions-most → Stood (condition-test k) (record { kind = pos 1; n = toZ w64 k ∷ replicate levels-most (pos 0); high = pos 0; low = pos 0 })
-unfolding conditionNode
-condition-stood k a b = subst (Stood (condition-test k)) (ap (λ (z : ℤ). record { kind = pos 1; n = z ∷ replicate levels-most (pos 0); high = pos 0; low = pos 0 }) (sym (back (pos k) (omega arith)))) (stood-condition k a b)
+pub condition-stood : {x : Node} (k : ℕ) → (0 < k) × (k ≤ conditions-most + conditions-most) → x ≡ conditionNode k → Stood (condition-test k) x
+condition-stood k h e = subst (Stood (condition-test k)) (sym e) (subst (λ (t : Test). Stood t (conditionNode k)) (condition-same k) (stood-condition k (h .0) (h .1)))
 
 -- ---- a linear
 
@@ -129,9 +103,9 @@ module _ (B : List ℕ) (at : ℕ) (r : CodeRead) (e : read-of B at r ≡ read-a
     condition-fits {k} g N = let z : k ≡ condition-read (read-at B at) = ap condition-read (condition-is g) in
         (let a = N .least in omega (arith, z), let b = N .most in omega (arith, z))
 
-    pub condition-test-stood : {k : ℕ} → c ≡ Condition k → {x : Node} → Stood (condition-test k) x → Stood (testAt B at) x
+    pub condition-test-stood : {k : ℕ} → c ≡ Condition k → Testing B at → {x : Node} → x ≡ conditionNode k → Stood (testAt B at) x
     unfolding test-read test-in
-    condition-test-stood {k} g {x} s = subst (λ (t : Test). Stood t x) (ap test-read (condition-is g)) s
+    condition-test-stood {k} g N {x} q = subst (λ (t : Test). Stood t x) (ap test-read (condition-is g)) (condition-stood k (condition-fits g N) q)
 
     -- a linear
     linear-is : c ≡ TestBy → whole (push-test (linear-at B (at + 1))) ≡ read-at B at

@@ -1,5 +1,4 @@
 -- The test that a command of the model gives, in words, and what the five words of a cache entry mean while the model is loaded.
-use mathlib.Core.Path.{_≡_}
 use mathlib.Core.List.{List}
 use Prim.Native.Nat.{ℕ, _+_, _≤_, _<_}
 use lib.IntN.{ℤ, pos}
@@ -9,13 +8,8 @@ use Rattle.theory.specs.Diagram.{Test, test-of}
 use Rattle.theory.specs.Rules.{choose}
 use Rattle.theory.specs.Command.{Command, site, push-leaf, push-condition, push-test, push-forbidden, give, name-action, end-model, Read, whole, unknown, short, read-at}
 use Rattle.theory.specs.Load.{condition-test}
-use Rattle.rule_node.specs.Nodes.{testOf, treeAt, Proper}
+use Rattle.rule_node.specs.Nodes.{treeAt}
 use Rattle.rule_node.specs.Table.{Rule}
-
--- the words of a node are those of a test
-pub record Stood (t : Test) (x : Node) : Type 0 where
-  pub proper : Proper x
-  pub test : testOf x ≡ t
 
 -- a linear as a leaf's words
 unfoldable pub wordsOf : List ℤ → Node

@@ -1,40 +1,24 @@
 // Choices by the commands of a model: the test is read from the bytes again, so that only offsets and indexes live over the calls.
 ghost use mathlib.Core.Path.{_≡_};
-ghost use Prim.Native.Nat.{_+_, _≤_, _<_};
+ghost use Prim.Native.Nat.{_<_};
 ghost use Rattle.theory.specs.Rules.{choose};
-ghost use Rattle.theory.specs.Load.{condition-test};
-ghost use Rattle.theory.specs.Widths.{conditions-most};
 ghost use Rattle.rule_node.specs.Nodes.{treeAt};
+ghost use Rattle.rule_node.specs.Roots.{Stood};
 ghost use Rattle.rule_node.specs.Table.{Table, RuleRan};
-ghost use Rattle.load_choose.specs.CommandTest.{Stood, Testing, wordsOf, testAt, loadRule};
+ghost use Rattle.load_choose.specs.CommandTest.{Testing, wordsOf, testAt, loadRule};
 use model_command::Command;
 use model_command::Read;
 use rule_choose::roots::choice_at;
 use rule_node::codes::CHOOSE_COMMAND;
 use rule_node::making::join;
 use rule_node::making::join_test;
+use rule_tests::condition;
 use rule_tests::named;
 use table::Made;
 use table::Node;
 use table_cache::keep;
 use table_cache::look;
 use whole::NUMBERS;
-
-// Condition k as a test: "1 to n for a condition now, 5 to 4+n for the next step's".
-fn condition(k: u8) -> Node
-    requires { ⌜ (0 < k) × (k ≤ conditions-most + conditions-most) ⌝ }
-    ensures { λ r. ⌜ Stood (condition-test k) r ⌝ }
-{
-    let number = k as i64;
-    let mut n = [0i64; NUMBERS];
-    n[0] = number;
-    Node {
-        kind: 1,
-        n,
-        high: 0,
-        low: 0,
-    }
-}
 
 // A linear as a leaf's words.
 pub fn words(n: [i64; NUMBERS]) -> Node
@@ -58,7 +42,7 @@ fn test_from(model: &[u8], at: usize) -> Node
         return condition(1);
     };
     match c {
-        Command::Condition(k) => condition(k),
+        Command::Condition(k) => condition(k as usize),
         Command::Test => named(words(model_command::linear_at(model, at + 1))),
         _ => condition(1),
     }

@@ -5,17 +5,18 @@ use Prim.Native.Nat.{ℕ, suc, _+_, _-_, _≤_, _<_}
 use lib.Dec.{T}
 use mathlib.Core.Bool.{true}
 use lib.IntN.{ℤ}
-use lib.ListN.{length, drop}
+use lib.ListN.{length, drop, getD}
 use Rattle.table.specs.declared.Made.{Made}
 use Rattle.theory.specs.Widths.{stack-most, conditions-most}
 use Rattle.theory.specs.Diagram.{Tree}
 use Rattle.theory.specs.Computation.{Comp, done, stopped, run}
+use Rattle.theory.specs.Rules.{choose}
 use Rattle.theory.specs.Command.{Command, site, push-leaf, push-condition, push-test, push-forbidden, give, name-action, end-model, whole, read-at, Slot}
 use Rattle.theory.specs.Load.{Entry, Loaded as Loading, load-one}
 use Rattle.model_stack.specs.Held.{held, pushed}
 use Rattle.rule_node.specs.Nodes.{trees, treeAt, Grown}
 use Rattle.rule_node.specs.Table.{Rule, Table, RuleRan, Grew}
-use Rattle.load_choose.specs.CommandTest.{loadRule}
+use Rattle.load_choose.specs.CommandTest.{loadRule, testAt}
 use Rattle.load_command.specs.declared.Loaded.{Loaded}
 
 -- ---- on the stack
@@ -44,6 +45,14 @@ pub record Chosen-on (R : Rule) (cap : ℕ) (l : List ℤ) (w : List ℕ) (n : �
   pub made : Made
   pub ran : RuleRan R cap l w n m l′ w′ made
   pub put : Put K made r
+
+-- the diagram that stands at place k of the stack
+abbrev pub stacked : List ℤ → Loaded → ℕ → Tree
+stacked l s k = treeAt l (s .count) (getD (drop k (held (s .stack))) 0 0)
+
+-- "takes low, then high, off the stack and pushes the choice", by the test of the command at an offset
+abbrev pub ChoiceMade : List ℕ → ℕ → List ℤ → List ℕ → ℕ → Loaded → List ℤ → List ℕ → Loaded → Type 0
+ChoiceMade B cap l w at s l′ w′ r = Chosen-on (loadRule B) cap l w (s .count) (choose (testAt B at) (stacked l s 1) (stacked l s 0)) (drop 1 (drop 1 (held (s .stack)))) l′ w′ r
 
 pub record Popped (s r : Loaded) : Type 0 where
   pub stop : r .stop ≡ s .stop

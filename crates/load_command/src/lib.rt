@@ -3,14 +3,14 @@ ghost use mathlib.Core.Path.{_≡_};
 ghost use Prim.Native.Nat.{_<_};
 ghost use lib.ListN.{drop, getD};
 ghost use Rattle.theory.specs.Diagram.{leaf as leafed, plain};
-ghost use Rattle.theory.specs.Rules.{choose, none-leaf};
+ghost use Rattle.theory.specs.Rules.{none-leaf};
 ghost use Rattle.theory.specs.Computation.{make};
 ghost use Rattle.model_stack.specs.Held.{held};
 ghost use Rattle.model_command.specs.CursorReadings.{linear-of, command-of};
-ghost use Rattle.rule_node.specs.Nodes.{treeAt, Nums};
+ghost use Rattle.rule_node.specs.Nodes.{Nums};
 ghost use Rattle.rule_node.specs.Table.{Bare, Table};
-ghost use Rattle.load_choose.specs.CommandTest.{Testing, testAt, loadRule, wordsOf};
-ghost use Rattle.load_command.specs.CommandStep.{Put, Grown-on, Chosen-on, Popped, StepReady, Stepped};
+ghost use Rattle.load_choose.specs.CommandTest.{Testing, loadRule, wordsOf};
+ghost use Rattle.load_command.specs.CommandStep.{Put, Grown-on, ChoiceMade, Popped, StepReady, Stepped};
 use load_choose::choose_command;
 use load_choose::words;
 use model_command::Command;
@@ -77,7 +77,7 @@ fn choice(
     s: Loaded,
 ) -> Loaded
     requires { ⌜ Table (loadRule (now model)) cap (now nodes) (now work) (s .count) × Testing (now model) at × (getD (drop 1 (held (s .stack))) 0 0 < s .count) × (getD (held (s .stack)) 0 0 < s .count) ⌝ }
-    ensures { λ r. ⌜ Chosen-on (loadRule (now (model .entry))) cap (now (nodes .entry)) (now (work .entry)) (s .count) (choose (testAt (now (model .entry)) at) (treeAt (now (nodes .entry)) (s .count) (getD (drop 1 (held (s .stack))) 0 0)) (treeAt (now (nodes .entry)) (s .count) (getD (held (s .stack)) 0 0))) (drop 1 (drop 1 (held (s .stack)))) (now (nodes .exit)) (now (work .exit)) r ⌝ }
+    ensures { λ r. ⌜ ChoiceMade (now (model .entry)) cap (now (nodes .entry)) (now (work .entry)) at s (now (nodes .exit)) (now (work .exit)) r ⌝ }
 {
     let stack = s.stack;
     let low = stack.top();

@@ -22,7 +22,7 @@ use Rattle.theory.specs.Load.{Entry, Loaded as Loading, load-one-with, load-on,
 use Rattle.theory.specs.Stage.{all-diagrams, model-diagrams}
 use Rattle.theory.specs.laws.Comps.{run-bind, run-result}
 use Rattle.theory.specs.laws.Comps.{after as after-out}
-use Rattle.theory.specs.laws.Loading.{accepted-site, by-reading, behind}
+use Rattle.theory.specs.laws.AcceptedModel.{accepted-site, by-reading, behind}
 use Rattle.model_stack.specs.Held.{held}
 use Rattle.model_command.specs.CursorReadings.{next-at}
 use Rattle.model_command.proofs.Forward.{Bytes, next-whole}

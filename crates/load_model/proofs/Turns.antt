@@ -22,7 +22,7 @@ use Rattle.theory.specs.laws.Comps.{run-bind}
 use Rattle.theory.specs.laws.Comps.{after as after-out}
 use Rattle.theory.specs.laws.Valid.{among-out}
 use Rattle.theory.specs.laws.Rules.{says-of-site}
-use Rattle.theory.specs.laws.Loading.{In-range}
+use Rattle.theory.specs.laws.AcceptedModel.{In-range}
 use Rattle.model_command.proofs.Read.{the-type as read-type}
 use Rattle.model_command.specs.declared.Command.{Command as CodeCommand}
 use Rattle.model_command.specs.declared.Read.{Read as CodeRead}

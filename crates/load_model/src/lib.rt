@@ -15,6 +15,8 @@ use model::is_end;
 use model::site;
 use model_command::Command;
 use model_command::Read;
+use model_command::widening::action_index;
+use model_command::widening::byte_index;
 use model_form::ACTIONS;
 use model_form::CONDITIONS;
 use model_form::LEVELS;
@@ -33,27 +35,14 @@ pub struct Done {
     pub ended: bool,
 }
 
-// A byte, and an action's number, as an index.
-pub fn wide(x: u8) -> usize
-    ensures { λ r. ⌜ (r ≡ x) × (r < 256) ⌝ }
-{
-    x as usize
-}
-
-pub fn wide_action(x: u16) -> usize
-    ensures { λ r. ⌜ (r ≡ x) × (r < 65536) ⌝ }
-{
-    x as usize
-}
-
 // How many actions' roots stand before what is given: those of the actions with lower numbers, or all before the end worth's.
 fn above(actions: u16, command: u8, action: u16) -> usize
     ensures { λ r. ⌜ ((i : ℕ) → r ≡ rows-above actions (record { command = command; action = action; index = i })) × (r < 65536) ⌝ }
 {
     if command == END_WORTH {
-        return wide_action(actions);
+        return action_index(actions);
     }
-    let a = wide_action(action);
+    let a = action_index(action);
     if a == 0 {
         return 0;
     }
@@ -65,7 +54,7 @@ fn row(levels: u8, conditions: u8, above: usize) -> usize
     requires { ⌜ above < 65536 ⌝ }
     ensures { λ r. ⌜ (r ≡ above * (1 + conditions + levels)) × (r < 33554432) ⌝ }
 {
-    let n = 1 + wide(conditions) + wide(levels);
+    let n = 1 + byte_index(conditions) + byte_index(levels);
     above * n
 }
 
@@ -74,9 +63,9 @@ fn offset(conditions: u8, command: u8, index: u8) -> usize
     ensures { λ r. ⌜ ((a : ℕ) → r ≡ offset-of conditions (record { command = command; action = a; index = index })) × (r < 512) ⌝ }
 {
     if command == 0x22 {
-        wide(conditions) + wide(index)
+        byte_index(conditions) + byte_index(index)
     } else {
-        wide(index)
+        byte_index(index)
     }
 }
 

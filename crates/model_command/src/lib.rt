@@ -1,4 +1,6 @@
 // "The site model": a cursor over the lent bytes, one command at a time.
+pub mod widening; // widening.rt: bytes and action numbers in wider types
+
 ghost use mathlib.Core.Path.{_≡_};
 ghost use mathlib.Core.List.{List};
 ghost use Prim.Native.Nat.{ℕ, _+_, _≤_, _<_};
@@ -8,6 +10,8 @@ ghost use Rattle.theory.specs.Command.{width-in as bytes-of};
 ghost use Rattle.model_form.specs.Forms.{form-of};
 ghost use Rattle.model_command.specs.CursorReadings.{linear-bytes, linear-of, site-in, command-of-in, read-of-in, read-of, next-in, next-at};
 ghost use Rattle.whole.specs.Linears.{Smalls};
+use self::widening::byte_action;
+use self::widening::byte_word;
 use model_form::Form;
 use whole::NUMBERS;
 
@@ -41,27 +45,15 @@ pub fn byte_at(model: &[u8], at: usize) -> u8
     if at < model.len() { model[at] } else { 0 }
 }
 
-fn wide(x: u8) -> u32
-    ensures { λ r. ⌜ (r ≡ x) × (r < 256) ⌝ }
-{
-    x as u32
-}
-
-fn as_action(x: u8) -> u16
-    ensures { λ r. ⌜ (r ≡ x) × (r < 256) ⌝ }
-{
-    x as u16
-}
-
 // Four bytes, low byte first.
 pub fn word(model: &[u8], at: usize) -> u32
     requires { ⌜ at + 4 ≤ length (now model) ⌝ }
     ensures { λ r. ⌜ r ≡ word-at (now (model .entry)) at ⌝ }
 {
-    let a = wide(model[at]);
-    let b = wide(model[at + 1]);
-    let c = wide(model[at + 2]);
-    let d = wide(model[at + 3]);
+    let a = byte_word(model[at]);
+    let b = byte_word(model[at + 1]);
+    let c = byte_word(model[at + 2]);
+    let d = byte_word(model[at + 3]);
     a + b * 256 + c * 65536 + d * 16777216
 }
 
@@ -104,10 +96,10 @@ pub fn action_in(form: Form, model: &[u8], at: usize) -> u16
     requires { ⌜ at < 18446744073709551615 ⌝ }
     ensures { λ r. ⌜ r ≡ action-at (form-of form) (now (model .entry)) at ⌝ }
 {
-    let low = as_action(byte_at(model, at));
+    let low = byte_action(byte_at(model, at));
     match form {
         Form::Old => low,
-        Form::New => low + as_action(byte_at(model, at + 1)) * 256,
+        Form::New => low + byte_action(byte_at(model, at + 1)) * 256,
     }
 }
 

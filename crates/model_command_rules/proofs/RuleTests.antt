@@ -73,10 +73,12 @@ module _ {s : CodeProgress} {F : List Bool} {p : Progress} (st : ProgressStands 
   act : (a : ℕ) → not (among (s .site .actions) a) ≡ false → T (among actions-most a)
   act a e = let h = bounds (s .site .actions) a (not-false-T (among (s .site .actions) a) e) in let q = ap (λ (S : Site). S .actions) (st .site) in let m = st .actions in is-among actions-most a (omega arith) (omega arith)
 
-  pub later-leaf : (P : Linear) → first-broken (in-order (beyond (s .site .levels) P) (leb stack-most (s .seen .len)) false false)
-      ≡ first-broken (later-rules (p .site) (p .stack) (p .given) (push-leaf P))
+  pub later-leaf : (P : Linear) {o : Bool} {r : ℕ} → r ≡ first-broken (in-order o (leb stack-most (s .seen .len)) false false) → o ≡ beyond (s .site .levels) P
+      → r ≡ first-broken (later-rules (p .site) (p .stack) (p .given) (push-leaf P))
   unfolding later-rules
-  later-leaf P = stack-only _ _ ∙ ap₂ (λ (S : Site) (n : ℕ). first-broken (rule 4 (beyond (S .levels) P) ∷ rule 5 (leb stack-most n) ∷ [])) (st .site) depth
+  later-leaf P e f =
+      e ∙ ap (λ (o : Bool). first-broken (in-order o (leb stack-most (s .seen .len)) false false)) f ∙ stack-only _ _
+      ∙ ap₂ (λ (S : Site) (n : ℕ). first-broken (rule 4 (beyond (S .levels) P) ∷ rule 5 (leb stack-most n) ∷ [])) (st .site) depth
 
   pub later-condition : (k : ℕ) → first-broken (in-order (not (or (among (s .site .conditions) k) (next-condition (s .site .conditions) k))) (ltb (s .seen .len) 2) false false)
       ≡ first-broken (later-rules (p .site) (p .stack) (p .given) (push-condition k))
@@ -92,9 +94,9 @@ module _ {s : CodeProgress} {F : List Bool} {p : Progress} (st : ProgressStands 
       stack-only _ _ ∙ two-operands _ _ _
       ∙ ap₂ (λ (S : Site) (n : ℕ). first-broken (rule 4 (beyond (S .levels) P) ∷ rule 4 (zeros (P .coeffs)) ∷ rule 5 (ltb n 2) ∷ [])) (st .site) depth
 
-  pub later-forbidden : first-broken (in-order false (leb stack-most (s .seen .len)) false false) ≡ first-broken (later-rules (p .site) (p .stack) (p .given) push-forbidden)
+  pub later-forbidden : {r : ℕ} → r ≡ first-broken (in-order false (leb stack-most (s .seen .len)) false false) → r ≡ first-broken (later-rules (p .site) (p .stack) (p .given) push-forbidden)
   unfolding later-rules
-  later-forbidden = only-stack _ ∙ ap (λ (n : ℕ). first-broken (rule 5 (leb stack-most n) ∷ [])) depth
+  later-forbidden e = e ∙ only-stack _ ∙ ap (λ (n : ℕ). first-broken (rule 5 (leb stack-most n) ∷ [])) depth
 
   pub later-give : (g : Slot) (m : Bool) → (0 < s .seen .len → m ≡ may-be g (top (seen (s .seen))))
       → first-broken (in-order (not (of-site (site-as (s .site)) g)) (ltb (s .seen .len) 1) (getD F (flag-of g) false) (not m))

@@ -11,7 +11,7 @@ use Rattle.theory.specs.Command.{site, push-leaf, push-condition, push-test, pu
 use Rattle.theory.specs.Verdict.{from-to}
 use Rattle.theory.specs.Load.{site-at}
 use Rattle.theory.specs.Rows.{Admitted}
-use Rattle.theory.specs.laws.Loading.{behind}
+use Rattle.theory.specs.laws.AcceptedModel.{behind}
 use Rattle.model_find.specs.declared.Bearers.{Bearers}
 use Rattle.model_find.specs.declared.Bearers.the-variants.{Nobody, One, Several}
 use Rattle.model_find.specs.Find.{FindOut, refused-find, trim, same-name, bearers, found-among}

@@ -14,6 +14,7 @@ ghost use Rattle.model_find.specs.Tally.{told as told-of};
 use model_command::Command;
 use model_command::NAME_BYTES;
 use model_command::Read;
+use model_command::widening::action_word;
 use model_form::Form;
 
 // "refuses a name that no action carries with 18, and one that several carry with 19"
@@ -33,12 +34,6 @@ enum Bearers {
     Nobody,
     One(u32),
     Several,
-}
-
-fn wide(x: u16) -> u32
-    ensures { λ r. ⌜ r ≡ x ⌝ }
-{
-    x as u32
 }
 
 fn refused(number: u32, place: usize) -> Found
@@ -77,7 +72,7 @@ fn with_command(model: &[u8], at: usize, c: Command, name: &[u8], known: Bearers
 {
     if let Command::Name(a) = c {
         if spells(model, at + model_form::behind_action(Form::New), name) {
-            joined(known, wide(a))
+            joined(known, action_word(a))
         } else {
             known
         }

@@ -15,18 +15,13 @@ use model::Verdict;
 use model_command::Command;
 use model_command::NAME_BYTES;
 use model_command::Read;
+use model_command::widening::action_word;
 use model_form::Form;
 
 // A part of the model.
 pub struct Part {
     pub start: usize,
     pub size: usize,
-}
-
-fn wide(x: u16) -> u32
-    ensures { λ r. ⌜ r ≡ x ⌝ }
-{
-    x as u32
 }
 
 // How long n bytes from an offset on are without the spaces at their end.
@@ -49,7 +44,7 @@ fn names(c: Command, action: u32) -> bool
     ensures { λ r. ⌜ ((B : List ℕ) (at : ℕ) → r ≡ names-action action (whole (command-of B at c))) ⌝ }
 {
     if let Command::Name(a) = c {
-        action == wide(a)
+        action == action_word(a)
     } else {
         false
     }
@@ -94,7 +89,7 @@ pub fn name_refusal(model: &[u8], action: u32) -> Verdict
             place: 0,
         };
     }
-    if wide(site.actions) < action {
+    if action_word(site.actions) < action {
         return Verdict {
             number: 16,
             place: 0,

@@ -7,6 +7,8 @@ ghost use Rattle.model_progress.specs.GivenFlags.{base-of, row-given, ac
 ghost use Rattle.model_progress.specs.GivenFlags.{place as place-of};
 use super::Site;
 use model_command::Command;
+use model_command::widening::action_index;
+use model_command::widening::byte_index;
 use model_form::ACTIONS;
 use model_form::CONDITIONS;
 use model_form::LEVELS;
@@ -17,24 +19,12 @@ pub const FLAGS: usize = (2 + CONDITIONS + LEVELS) * ACTIONS + 1;
 // The row of names: those before it are for the reward, the chances and the next levels.
 pub const NAMES: usize = 1 + CONDITIONS + LEVELS;
 
-fn wide(x: u8) -> usize
-    ensures { λ r. ⌜ (r ≡ x) × (r < 256) ⌝ }
-{
-    x as usize
-}
-
-fn wide_action(x: u16) -> usize
-    ensures { λ r. ⌜ (r ≡ x) × (r < 65536) ⌝ }
-{
-    x as usize
-}
-
 // The place of a flag: rewards have base 0 and i 0, chances base 0, next levels the conditions as their base, names their row and i 0; the end worth, of action 0, has all 0.
 pub fn place(base: usize, i: u8, a: u16) -> usize
     requires { ⌜ base < 256 ⌝ }
     ensures { λ r. ⌜ r ≡ place-of base i a ⌝ }
 {
-    (base + wide(i)) * ACTIONS + wide_action(a)
+    (base + byte_index(i)) * ACTIONS + action_index(a)
 }
 
 // The base of what a command gives.

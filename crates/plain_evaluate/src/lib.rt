@@ -17,7 +17,7 @@ ghost use Rattle.theory.specs.Meaning.{end-at as end-of};
 ghost use Rattle.theory.specs.Meaning.{chance-at as chance-of};
 ghost use Rattle.theory.specs.Load.{find-slot, found, site-at};
 ghost use Rattle.theory.specs.Verdict.{verdict, end-slot};
-ghost use Rattle.theory.specs.laws.Loading.{loaded-entries};
+ghost use Rattle.theory.specs.laws.AcceptedModel.{loaded-entries};
 ghost use Rattle.plain_pass.specs.Pass.{slot-of, no-name, point-at, nums-at, Flat, leaf-of, reward-of, StateStands};
 ghost use Rattle.plain_pass.specs.Pass.{numerator as numerator-at};
 ghost use Rattle.plain_pass.specs.Parts.{Parts};

@@ -22,6 +22,7 @@ ghost use Rattle.plain_pass.specs.Pass.{numerator as numerator-at};
 ghost use Rattle.plain_pass.specs.Parts.{Room, Holds, Asks};
 use model_command::Command;
 use model_command::Read;
+use model_command::widening::byte_action;
 use model_stack::STACK_MOST;
 use plain_parts::size;
 use plain_pass::Slot;
@@ -211,18 +212,12 @@ fn index_at(model: &[u8], at: usize, op: u8) -> u8
     if op == 0x20 { 0 } else { model[at + 3] }
 }
 
-fn wide(x: u8) -> u16
-    ensures { λ r. ⌜ (r ≡ x) × (r < 256) ⌝ }
-{
-    x as u16
-}
-
 // An action operand.
 fn action_at(model: &[u8], at: usize) -> u16
     requires { ⌜ at + 2 ≤ length (now model) ⌝ }
     ensures { λ r. ⌜ r ≡ action-at new-form (now (model .entry)) at ⌝ }
 {
-    wide(model[at]) + wide(model[at + 1]) * 256
+    byte_action(model[at]) + byte_action(model[at + 1]) * 256
 }
 
 // Whether the slot is given at an offset, told by the bytes; some gives are left to the general way.

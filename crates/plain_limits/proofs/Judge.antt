@@ -16,7 +16,7 @@ use mir.Val.{SFits, toZ}
 use Rattle.whole.specs.Cases.{if, clash}
 use Rattle.whole.specs.Int.{diff, dif-negsuc}
 use Rattle.whole.specs.Within.{limit, limited, Small}
-use Rattle.whole.specs.WithinLaws.{limited-is, limited-over, limited-gives}
+use Rattle.whole.specs.WithinLaws.{limited-is, limited-over, limited-gives, limited-lacks}
 use Rattle.whole.specs.Numerator.{word}
 use Rattle.whole.specs.NumeratorLaws.{below}
 use Rattle.whole.specs.declared.Within.{Within}
@@ -143,32 +143,39 @@ module _ (z : ℤ) where
       fit (pos k) s t = record { sfits = let v = ltb-false 2147483647 k t in omega arith }
       fit (negsuc k) s t = record { sfits = let v = ltb-false 2147483647 k s in omega arith }
 
--- a number by its magnitude
-module _ (n : ℕ) where
-  pub half-over : 2147483647 < n → level.Over ≡ judged-32 (pos n)
-  half-over h = bits-above (pos n) refl (lt-ltb 2147483647 n h)
+-- with the number as the code has it
+module _ (z : ℤ) (f : SFits w64 z) where
+  read : (F : ℤ → Bool) {b : Bool} → F (R z) ≡ b → F z ≡ b
+  read F t = ap F (sym (back z f)) ∙ t
 
-  pub minus-over : 2147483647 < n → level.Over ≡ judged-32 (negsuc n)
-  minus-over h = bits-below (negsuc n) (lt-ltb 2147483647 n h)
+  pub is-below : ltZ (R z) least ≡ true → level.Over ≡ judged-32 z
+  is-below t = bits-below z (read (λ (y : ℤ). ltZ y least) t)
 
-  module _ (h : n ≤ 2147483647) where
-    half-plain : toZ w32 n ≡ pos n
-    half-plain = back32 (pos n) (record { sfits = omega arith })
+  module _ (s : ltZ (R z) least ≡ false) where
+    pub is-above : ltZ most (R z) ≡ true → level.Over ≡ judged-32 z
+    is-above t = bits-above z (read (λ (y : ℤ). ltZ y least) s) (read (λ (y : ℤ). ltZ most y) t)
 
-    pub half-is : level.Is (toZ w32 n) ≡ judged-32 (pos n)
-    half-is = ap level.Is half-plain ∙ bits-fit (pos n) refl (le-ltb 2147483647 n h) .1
+    module _ (t : ltZ most (R z) ≡ false) where
+      fits-32 : SFits w32 z × (level.Is z ≡ judged-32 z)
+      fits-32 = bits-fit z (read (λ (y : ℤ). ltZ y least) s) (read (λ (y : ℤ). ltZ most y) t)
 
-    minus-plain : negsuc 0 -ℤ toZ w32 n ≡ negsuc n
-    minus-plain = ap (λ (z : ℤ). negsuc 0 -ℤ z) half-plain ∙ less n
+      pub cast-fits : SFits w32 (R z)
+      cast-fits = rw (back z f) (fits-32 .0)
 
-    minus-fit : SFits w32 (negsuc n) × (level.Is (negsuc n) ≡ judged-32 (negsuc n))
-    minus-fit = bits-fit (negsuc n) (le-ltb 2147483647 n h) refl
+      pub cast-is : level.Is (R32 (R z)) ≡ judged-32 z
+      cast-is = ap level.Is (ap R32 (back z f) ∙ back32 z (fits-32 .0)) ∙ fits-32 .1
 
-    pub minus-fits : SFits w32 (negsuc 0 -ℤ toZ w32 n)
-    minus-fits = rw minus-plain (minus-fit .0)
+-- beyond the limits is beyond 32 bits
+limits-over : (z : ℤ) → limit < natAbs z → level.Over ≡ judged-32 z
+limits-over (pos n) h = bits-above (pos n) refl (lt-ltb 2147483647 n (omega arith))
+limits-over (negsuc n) h = bits-below (negsuc n) (lt-ltb 2147483647 n (omega arith))
 
-    pub minus-is : level.Is (R32 (negsuc 0 -ℤ toZ w32 n)) ≡ judged-32 (negsuc n)
-    minus-is = ap level.Is (ap R32 minus-plain ∙ back32 (negsuc n) (minus-fit .0)) ∙ minus-fit .1
+module _ {w : Within} (z : ℤ) (e : w ≡ limited z) where
+  pub not-within : w ≡ within.Over → level.Over ≡ judged-32 z
+  not-within o = limits-over z (limited-lacks z (sym e ∙ o))
+
+  pub within-judged : (q : ℤ) → w ≡ within.Is q → SFits w64 q → {r : Level} → r ≡ judged-32 (R q) → r ≡ judged-32 z
+  within-judged q o f u = u ∙ ap judged-32 (back q f ∙ limited-gives z q (sym e ∙ o) .0)
 
 -- ---- products and sums
 

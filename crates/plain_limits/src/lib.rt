@@ -67,46 +67,31 @@ pub fn narrow(x: Numerator) -> Within
     not_negative(low)
 }
 
-// 2³¹ − 1: the most of 32 bits, and the most that −1 − n is turned from.
-const MOST: u64 = 2147483647;
+// The numbers of 32 bits.
+const LEAST: i64 = -2147483648;
 
-fn high_half(n: u64) -> Level
-    ensures { λ r. ⌜ r ≡ judged-32 (pos n) ⌝ }
-{
-    if n <= MOST {
-        Level::Is(n as i32)
-    } else {
-        Level::Over
-    }
-}
+const MOST: i64 = 2147483647;
 
-// −1 − n.
-fn low_half(n: u64) -> Level
-    ensures { λ r. ⌜ r ≡ judged-32 (negsuc n) ⌝ }
+fn judged(z: i64) -> Level
+    ensures { λ r. ⌜ r ≡ judged-32 z ⌝ }
 {
-    if n <= MOST {
-        Level::Is(-1 - n as i32)
-    } else {
-        Level::Over
+    if z < LEAST {
+        return Level::Over;
     }
+    if MOST < z {
+        return Level::Over;
+    }
+    Level::Is(z as i32)
 }
 
 // "a next state's numerator .. leaves 32 bits"
 pub fn in_32_bits(x: Numerator) -> Level
     ensures { λ r. ⌜ r ≡ judged-32 (number x) ⌝ }
 {
-    let low = x.low;
-    let high = x.high;
-    if 0 < high {
+    let Within::Is(z) = narrow(x) else {
         return Level::Over;
-    }
-    if high < -1 {
-        return Level::Over;
-    }
-    if high < 0 {
-        return low_half(u64::MAX - low);
-    }
-    high_half(low)
+    };
+    judged(z)
 }
 
 // 2³¹ − 1: two such magnitudes have a product within the limits, which no division has to tell.

@@ -15,7 +15,7 @@ use Rattle.theory.specs.Valid.{good-test, level-leaf, weight-leaf}
 use Rattle.theory.specs.Verdict.{chance-slot, from-to, verdict}
 use Rattle.theory.specs.Load.{action-of, find-slot, model, model-of, site-at}
 use Rattle.theory.specs.laws.Expectation.{at-good}
-use Rattle.theory.specs.laws.Loading.{fits, leaf-as, accepted, loaded-entries, model-loaded}
+use Rattle.theory.specs.laws.AcceptedModel.{fits, leaf-as, accepted, loaded-entries, model-loaded}
 
 nth-from : (φ : ℕ → Action) (b k j : ℕ) → j ≤ k → nth-action (φ b) (map φ (from-to (suc b) k)) j ≡ φ (b + j)
 unfolding nth-action from-to

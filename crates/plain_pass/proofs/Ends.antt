@@ -16,7 +16,7 @@ use Rattle.theory.specs.Command.{Read, Slot, read-at}
 use Rattle.theory.specs.Verdict.{same-slot, verdict}
 use Rattle.theory.specs.Load.{Entry, find-slot, found, site-at}
 use Rattle.theory.specs.laws.Values.{zero-level}
-use Rattle.theory.specs.laws.Loading.{loaded-entries}
+use Rattle.theory.specs.laws.AcceptedModel.{loaded-entries}
 use Rattle.plain_pass.specs.declared.Point.{Point}
 use Rattle.plain_pass.specs.Pass.{nums-of, no-name, Flat, leaf-of, numerator, StateStands}
 use Rattle.plain_pass.specs.Parts.{place, Seek, Asks, Parts}

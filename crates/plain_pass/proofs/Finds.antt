@@ -13,7 +13,7 @@ use Rattle.whole.specs.Cases.{if, by-eq, by-test, from-true}
 use Rattle.theory.specs.Widths.{stack-most}
 use Rattle.theory.specs.Command.{Command, site, push-leaf, push-condition, push-test, push-forbidden, give, name-action, end-model, whole, Placed, byte-at, width, command-at, read-at, goes-on, Slot, readings, readings-in, readings-from-in}
 use Rattle.theory.specs.Verdict.{same-slot, verdict, judged, at-start, rule, first-broken, first-rules, judged-in, rules-in, verdict-in}
-use Rattle.theory.specs.laws.Loading.{by-reading, behind}
+use Rattle.theory.specs.laws.AcceptedModel.{by-reading, behind}
 use Rattle.model_command.proofs.Command.{the-type as command-type}
 use Rattle.model_command.proofs.Read.{the-type as read-type}
 use Rattle.model_command.specs.declared.Command.{Command as CodeCommand}

@@ -21,7 +21,7 @@ use Rattle.theory.specs.Command.{Command, site, push-leaf, push-condition, push
 use Rattle.theory.specs.Verdict.{Site, site-of, Facts, Progress, name-slot, same-slot, has-slot, or, Rule, rule, first-broken, beyond, next-condition, joined, site-rules, first-rules, later-rules, after, Verdict, refusal, ended, judged, at-start, verdict, judged-in, rules-in, verdict-in}
 use Rattle.theory.specs.Load.{Entry, Loaded, condition-test, load-choice, load-choice-with, load-entry, load-one, load-one-with, load-on, load-on-with, find-slot, site-at, site-in}
 use Rattle.theory.specs.laws.Comps.{result-bind}
-use Rattle.theory.specs.laws.Loading.{by-reading, behind, loaded-entries, accepted, linear-wide}
+use Rattle.theory.specs.laws.AcceptedModel.{by-reading, behind, loaded-entries, accepted, linear-wide}
 use Rattle.model_stack.specs.Held.{pushed}
 use Rattle.plain_pass.specs.declared.Point.{Point}
 use Rattle.plain_pass.specs.Pass.{no-name, leaf-of, numerator, condition-holds, chosen, stepped, takes, pass, StateStands, Leaf-at, Comes}

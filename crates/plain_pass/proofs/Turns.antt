@@ -24,7 +24,7 @@ use Rattle.theory.specs.Value.{bits}
 use Rattle.theory.specs.Command.{Command, site, push-leaf, push-condition, push-test, push-forbidden, give, name-action, end-model, Read, whole, unknown, short, byte-at, width, read-at, goes-on, readings-from, readings, Slot, linear-at, linear-in, word-at, signed, action-at, readings-in, command-at, command-in, read-in, width-in}
 use Rattle.theory.specs.Verdict.{same-slot}
 use Rattle.theory.specs.Load.{find-slot, site-at}
-use Rattle.theory.specs.laws.Loading.{loaded-entries}
+use Rattle.theory.specs.laws.AcceptedModel.{loaded-entries}
 use Rattle.model_command.proofs.Command.{the-type as command-type}
 use Rattle.model_command.proofs.Read.{the-type as read-type}
 use Rattle.model_command.specs.declared.Command.{Command as CodeCommand}

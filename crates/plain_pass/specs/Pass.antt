@@ -17,7 +17,7 @@ use Rattle.theory.specs.Command.{Command, site, push-leaf, push-condition, push
 use Rattle.theory.specs.Verdict.{same-slot, beyond}
 use Rattle.theory.specs.Load.{find-slot, site-at}
 use Rattle.theory.specs.Value.{bits}
-use Rattle.theory.specs.laws.Loading.{loaded-entries}
+use Rattle.theory.specs.laws.AcceptedModel.{loaded-entries}
 use Rattle.model_command.specs.declared.Command.{Command as CodeCommand}
 use Rattle.model_command.specs.declared.Command.the-variants.{Leaf as LeafBy, Condition, Test, Forbidden}
 use Rattle.model_command.specs.CursorReadings.{with-linear}

@@ -24,7 +24,7 @@ use Rattle.theory.specs.Verdict.{Site, level-slot, from-to}
 use Rattle.theory.specs.Load.{find-slot, action-of, site-at}
 use Rattle.theory.specs.Value.{bits}
 use Rattle.theory.specs.Plain.{in-32-bits}
-use Rattle.theory.specs.laws.Loading.{loaded-entries}
+use Rattle.theory.specs.laws.AcceptedModel.{loaded-entries}
 use Rattle.plain_pass.specs.declared.Point.{Point}
 use Rattle.plain_pass.specs.Pass.{den-of, Flat, StateStands}
 use Rattle.plain_limits.specs.declared.Level.{Level}

@@ -14,7 +14,7 @@ use Rattle.theory.specs.Meaning.{State, env, nth, chance-at, weight}
 use Rattle.theory.specs.Verdict.{chance-slot, from-to}
 use Rattle.theory.specs.Load.{find-slot, action-of, site-at}
 use Rattle.theory.specs.Value.{bits}
-use Rattle.theory.specs.laws.Loading.{loaded-entries}
+use Rattle.theory.specs.laws.AcceptedModel.{loaded-entries}
 use Rattle.model.proofs.Accepted.{site-accepted}
 use Rattle.plain_pass.specs.declared.Point.{Point}
 use Rattle.plain_pass.specs.Pass.{StateStands}

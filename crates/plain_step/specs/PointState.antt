@@ -14,7 +14,7 @@ use Rattle.theory.specs.Verdict.{Site, verdict, chance-slot, level-slot}
 use Rattle.theory.specs.Load.{find-slot, action-of, site-at}
 use Rattle.theory.specs.Value.{bits}
 use Rattle.theory.specs.Plain.{in-32-bits}
-use Rattle.theory.specs.laws.Loading.{loaded-entries}
+use Rattle.theory.specs.laws.AcceptedModel.{loaded-entries}
 use Rattle.plain_pass.specs.declared.Point.{Point}
 use Rattle.plain_pass.specs.Pass.{nums-of, den-of, Flat, StateStands}
 use Rattle.plain_limits.specs.declared.Level.{Level}

@@ -24,7 +24,7 @@ use Rattle.theory.specs.Verdict.{reward-slot, end-slot}
 use Rattle.theory.specs.Load.{find-slot, found, site-at}
 use Rattle.theory.specs.Value.{ValueOut, refused-value, answered}
 use Rattle.theory.specs.Plain.{is, nothing, over, judged, state-worth, worth-out}
-use Rattle.theory.specs.laws.Loading.{loaded-entries, end-found}
+use Rattle.theory.specs.laws.AcceptedModel.{loaded-entries, end-found}
 use Rattle.plain_pass.specs.declared.Point.{Point}
 use Rattle.plain_pass.specs.declared.Reward.{Reward as CodeReward}
 use Rattle.plain_pass.specs.Pass.{reward-of, StateStands}

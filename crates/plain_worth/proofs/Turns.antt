@@ -16,7 +16,7 @@ use Rattle.theory.specs.Verdict.{or, from-to, reward-slot}
 use Rattle.theory.specs.Load.{find-slot, site-at, model, model-of, action-of}
 use Rattle.theory.specs.Value.{bits}
 use Rattle.theory.specs.Plain.{Worth, is, nothing, over, judged, sum-settings, rewarded, action-worth, try-actions, numbered, state-worth}
-use Rattle.theory.specs.laws.Loading.{loaded-entries, model-loaded}
+use Rattle.theory.specs.laws.AcceptedModel.{loaded-entries, model-loaded}
 use Rattle.theory.specs.laws.Plain.{first-action}
 use Rattle.model.proofs.Accepted.{site-accepted}
 use Rattle.plain_pass.specs.declared.Point.{Point}

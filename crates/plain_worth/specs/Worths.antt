@@ -12,7 +12,7 @@ use Rattle.theory.specs.Meaning.{State, env, worth-at, action-at}
 use Rattle.theory.specs.Verdict.{reward-slot}
 use Rattle.theory.specs.Load.{find-slot, site-at, model}
 use Rattle.theory.specs.Plain.{Worth, nothing, over, state-worth, action-worth}
-use Rattle.theory.specs.laws.Loading.{loaded-entries}
+use Rattle.theory.specs.laws.AcceptedModel.{loaded-entries}
 use Rattle.value_walk.specs.declared.Asked.{Asked}
 use Rattle.plain_pass.specs.declared.Point.{Point}
 use Rattle.plain_limits.specs.declared.Total.{Total}

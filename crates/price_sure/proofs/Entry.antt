@@ -25,7 +25,7 @@ use Rattle.theory.specs.Load.{site-at, model}
 use Rattle.theory.specs.Solve.{early}
 use Rattle.theory.specs.Value.{Asked, accepted, state-of}
 use Rattle.theory.specs.Plain.{Worth, over, judged, action-worth, numbered, try-actions, state-worth, if-true}
-use Rattle.theory.specs.laws.Loading.{accepted-site}
+use Rattle.theory.specs.laws.AcceptedModel.{accepted-site}
 use Rattle.model.specs.declared.Verdict.{Verdict as CodeVerdict}
 use Rattle.model.specs.Answers.{shown}
 use Rattle.value_walk.specs.State.{asked}

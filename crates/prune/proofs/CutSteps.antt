@@ -10,7 +10,7 @@ use Rattle.theory.specs.Widths.{steps-most, nodes-most, node-words, work-words}
 use Rattle.theory.specs.Diagram.{Tree}
 use Rattle.theory.specs.Solve.{room, table-of, solved-nodes}
 use Rattle.theory.specs.Listing.{greatest-root}
-use Rattle.theory.specs.laws.Reading.{greatest-least}
+use Rattle.theory.specs.laws.ValueWalk.{greatest-least}
 use Rattle.prune_paths.specs.Prune.{tree-at, fits, GoodRows, path-needs, stages-anew, pruned}
 use Rattle.prune_copy.specs.Copy.{rows-after, Copied}
 use Rattle.prune_tables.specs.Tables.{Rowed, Anew, word-in}

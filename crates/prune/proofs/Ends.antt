@@ -13,7 +13,7 @@ use Rattle.theory.specs.Widths.{conditions-most}
 use Rattle.theory.specs.Verdict.{Verdict}
 use Rattle.theory.specs.Load.{site-at}
 use Rattle.theory.specs.Solve.{room}
-use Rattle.theory.specs.laws.Loading.{accepted}
+use Rattle.theory.specs.laws.AcceptedModel.{accepted}
 use Rattle.model.specs.Answers.{shown}
 use Rattle.model.specs.declared.Verdict.{Verdict as CodeVerdict}
 use Rattle.prune_paths.specs.Prune.{tree-at, along, fits, shaped, prune-refusal, pruned, PruneOut, prune}

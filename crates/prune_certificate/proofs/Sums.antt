@@ -19,7 +19,7 @@ use Rattle.theory.specs.Widths.{levels-most, node-words}
 use Rattle.theory.specs.Value.{node-word, node-linear}
 use Rattle.theory.specs.Rows.{KindFits, fits-leaf, fits-condition, fits-test, fits-none}
 use Rattle.theory.specs.laws.Fits.{part-word}
-use Rattle.theory.specs.laws.Staying.{back-62}
+use Rattle.theory.specs.laws.PlainLimits.{back-62}
 use Rattle.prune_certificate.specs.Path.{GoodNode, is-test, tests, number-at, part, Joined, low-here}
 use Rattle.prune_certificate.proofs.Rows.{node-kind}
 

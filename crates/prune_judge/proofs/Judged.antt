@@ -16,8 +16,8 @@ use Rattle.theory.specs.Load.{site-at}
 use Rattle.theory.specs.Solve.{early}
 use Rattle.theory.specs.Value.{good-row}
 use Rattle.theory.specs.Listing.{greatest-root}
-use Rattle.theory.specs.laws.Loading.{accepted}
-use Rattle.theory.specs.laws.Reading.{greatest-least}
+use Rattle.theory.specs.laws.AcceptedModel.{accepted}
+use Rattle.theory.specs.laws.ValueWalk.{greatest-least}
 use Rattle.theory.specs.laws.Rows.{Passed, by-early, early-some}
 use Rattle.prune_paths.specs.Prune.{tree-at, path-number, path-needs, prune-refusal}
 use Rattle.prune_paths.specs.laws.Foreign.{rows-good}

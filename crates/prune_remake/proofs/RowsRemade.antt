@@ -44,11 +44,13 @@ begins {cap} {rows} {W} w {w₁} some few words works e = record {
     bare = record {
       good = record { valid = λ i h. absurd (omega arith); distinct = λ i j h. absurd (omega arith) };
       chained = record {
-        some = some;
-        few = few;
-        room = omega arith;
-        words = words;
-        works = omega (arith, same-length 0 w 0 cap e (omega arith) (omega arith));
+        space = record {
+          some = some;
+          few = few;
+          room = omega arith;
+          words = words;
+          works = omega (arith, same-length 0 w 0 cap e (omega arith) (omega arith));
+        };
         hashed = record { heads = λ b h. within 0 w 0 cap e (omega arith) (omega arith) 0 b (omega arith) h; links = λ i h. absurd (omega arith) };
         apart = λ i j h. absurd (omega arith);
       };
@@ -71,14 +73,16 @@ bare-set {cap} {w = w} A j v h =
     record {
       good = A .good;
       chained = record {
-        some = c .some;
-        few = c .few;
-        room = c .room;
-        words = c .words;
-        works = simp length-set (c .works);
+        space = record {
+          some = c .space .some;
+          few = c .space .few;
+          room = c .space .room;
+          words = c .space .words;
+          works = simp length-set (c .space .works);
+        };
         hashed = record {
           heads = λ b p. getD-set-other w j b v 0 (omega arith) ∙ c .hashed .heads b p;
-          links = λ i p. getD-set-other w j (cap + i) v 0 (omega (arith, c .room)) ∙ c .hashed .links i p;
+          links = λ i p. getD-set-other w j (cap + i) v 0 (omega (arith, c .space .room)) ∙ c .hashed .links i p;
         };
         apart = c .apart;
       };
@@ -131,7 +135,7 @@ module _ {cap rows : ℕ} {W l : List ℤ} {w : List ℕ} {n i : ℕ} (G : GoodR
     forward-old j p = getD-set-other w′ (cap * 2 + i) (cap * 2 + j) (r .at) 0 (omega arith) ∙ S .beyond (cap * 2 + j) (omega arith)
 
     forward-new : forward cap w″ i ≡ r .at
-    forward-new = getD-set-same w′ (cap * 2 + i) (r .at) 0 (omega (arith, S .bare .chained .works, S .bare .chained .some))
+    forward-new = getD-set-same w′ (cap * 2 + i) (r .at) 0 (omega (arith, S .bare .chained .space .works, S .bare .chained .space .some))
 
     -- what holds of the rows before, and of this one
     each : (P : ℕ → ℕ → Type 0) → ((j : ℕ) → j < i → P j (forward cap w j)) → P i (r .at) → (j : ℕ) → j < i + 1 → P j (forward cap w″ j)

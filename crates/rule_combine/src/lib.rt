@@ -2,13 +2,13 @@
 ghost use mathlib.Core.Path.{_≡_};
 ghost use Prim.Native.Nat.{_<_};
 ghost use lib.IntN.{pos};
-ghost use lib.ListN.{getD, drop};
+ghost use lib.ListN.{getD};
 ghost use Rattle.whole.specs.Linears.{numbers};
 ghost use Rattle.table.specs.Table.{nodeAt};
 ghost use Rattle.rule_node.specs.Nodes.{linOf, treeAt, At};
 ghost use Rattle.rule_node.specs.Table.{Table, RuleRan};
 ghost use Rattle.rule_node.specs.EntryMeaning.{ruleOf};
-ghost use Rattle.rule_combine.specs.Levels.{Levels, levelsAt, addOn};
+ghost use Rattle.rule_combine.specs.Levels.{Levels, levelsAt, levelsAdded, addOn};
 ghost use Rattle.theory.specs.Rules as T;
 use rule_apply::merge;
 use rule_node::codes::SUM;
@@ -59,7 +59,7 @@ fn add_levels(
     levels: &[u32],
 ) -> Made
     requires { ⌜ Table ruleOf cap (now nodes) (now work) count × (i < count) × (f < count) × Levels count (now levels) ⌝ }
-    ensures { λ r. ⌜ RuleRan ruleOf cap (now (nodes .entry)) (now (work .entry)) count (T.sum-on (treeAt (now (nodes .entry)) count f) (drop 1 (linOf (nodeAt (now (nodes .entry)) i) .coeffs)) (drop 1 (levelsAt (now (nodes .entry)) count (now (levels .entry))))) (now (nodes .exit)) (now (work .exit)) r ⌝ }
+    ensures { λ r. ⌜ RuleRan ruleOf cap (now (nodes .entry)) (now (work .entry)) count (levelsAdded (now (nodes .entry)) count i f (now (levels .entry))) (now (nodes .exit)) (now (work .exit)) r ⌝ }
 {
     let mut s = Made {
         stop: 0,

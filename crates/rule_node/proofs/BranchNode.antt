@@ -61,7 +61,7 @@ module _ {cap : ℕ} {s : List ℤ} {w : List ℕ} {n : ℕ} (A : Bare cap s w n
     x′ = record { kind = R (t .kind); n = t .n; high = toZ w64 h; low = toZ w64 k }
 
     is : x′ ≡ over-node t (pos h) (pos k)
-    is = literal t f h k (let q = A .chained .room in let r = A .chained .few in omega arith) (let q = A .chained .room in let r = A .chained .few in omega arith)
+    is = literal t f h k (let q = A .chained .space .room in let r = A .chained .space .few in omega arith) (let q = A .chained .space .room in let r = A .chained .space .few in omega arith)
 
     pub join-valid : Valid x′ n
     join-valid = subst (λ (z : Node). Valid z n) (sym is) valid-over
@@ -80,10 +80,10 @@ pub proper-as : {cap : ℕ} {l : List ℤ} {w : List ℕ} {n t : ℕ} {x : Node}
 proper-as {l = l} {t = t} A q e = subst Proper (sym e) (record { branches = q .branches; nums = A .good .valid t (q .below) .nums; tested = A .good .valid t (q .below) .tested (q .branches) })
 
 pub words-of : {cap : ℕ} {l : List ℤ} {w : List ℕ} {n : ℕ} → Bare cap l w n → n * node-words ≤ length l
-words-of A = let q = A .chained .room in let r = A .chained .words in omega arith
+words-of A = let q = A .chained .space .room in let r = A .chained .space .words in omega arith
 
 pub word-at : {cap : ℕ} {l : List ℤ} {w : List ℕ} {n : ℕ} (t : ℕ) → Bare cap l w n → t < n → t * node-words + node-words ≤ length l
-word-at t A h = let q = A .chained .room in let r = A .chained .words in omega arith
+word-at t A h = let q = A .chained .space .room in let r = A .chained .space .words in omega arith
 
 -- a root stays one as the table grows
 pub root-kept : {l l′ : List ℤ} {n n′ t : ℕ} → Grown l n l′ n′ → Root l n t → Root l′ n′ t

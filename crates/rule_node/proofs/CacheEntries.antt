@@ -23,13 +23,13 @@ use Rattle.rule_node.proofs.Outcomes.{out-ok, grown}
 use Rattle.rule_node.proofs.RuleSteps.{index-small}
 
 pub room-in : {R : Rule} {cap : ℕ} {l : List ℤ} {w : List ℕ} {n : ℕ} → Table R cap l w n → Room cap w
-room-in A = let C = A .bare .chained in record { some = C .some; few = C .few; works = C .works }
+room-in A = let C = A .bare .chained in record { some = C .space .some; few = C .space .few; works = C .space .works }
 
 -- an entry answers what its words mean
 pub answered : {R : Rule} {cap : ℕ} {l : List ℤ} {w : List ℕ} {n : ℕ} → Table R cap l w n → (op f g p q k : ℕ) → Entry w (slotOf cap op f g p q) op f g p q k → RuleRan R cap l w n (R l n op f g p q) l w (record { stop = 0; at = k; count = n })
 unfolding outOf
 answered {cap = cap} {l} {w} {n} A op f g p q k E =
-    let s = slot-at cap op f g p q (A .bare .chained .some) in
+    let s = slot-at cap op f g p q (A .bare .chained .space .some) in
     let S = A .cached (s .0) op f g p q k (s .1) (subst (λ (z : ℕ). Entry w z op f g p q k) (s .2) E) in
     record { ran = sym (S .again l n (grown-not l n)); table = A; within = λ t. S .result; more = omega arith; kept = λ i q. refl }
 
@@ -42,23 +42,25 @@ module _ {R : Rule} {cap : ℕ} {l : List ℤ} {w : List ℕ} {n : ℕ} (A : Tab
   w′ = storeOf w s op f g p q r
 
   room : s + 6 ≤ length w
-  room = let a = slot-lt cap op f g p q (A .bare .chained .some) in let b = A .bare .chained .works in omega arith
+  room = let a = slot-lt cap op f g p q (A .bare .chained .space .some) in let b = A .bare .chained .space .works in omega arith
 
   low : (j : ℕ) → j < cap * 2 → getD w′ j 0 ≡ getD w j 0
-  low j h = let a = slot-at cap op f g p q (A .bare .chained .some) in let e = a .2 in store-other w s op f g p q r room j (inl (omega arith))
+  low j h = let a = slot-at cap op f g p q (A .bare .chained .space .some) in let e = a .2 in store-other w s op f g p q r room j (inl (omega arith))
 
   chained : Chained cap l w′ n
   chained =
       let C = A .bare .chained in
       record {
-        some = C .some;
-        few = C .few;
-        room = C .room;
-        words = C .words;
-        works = let a = C .works in let b = store-length w s op f g p q r room in omega arith;
+        space = record {
+          some = C .space .some;
+          few = C .space .few;
+          room = C .space .room;
+          words = C .space .words;
+          works = let a = C .space .works in let b = store-length w s op f g p q r room in omega arith;
+        };
         hashed = record {
           heads = λ b h. low b (omega arith) ∙ C .hashed .heads b h;
-          links = λ i h. low (cap + i) (let z = C .room in omega arith) ∙ C .hashed .links i h;
+          links = λ i h. low (cap + i) (let z = C .space .room in omega arith) ∙ C .hashed .links i h;
         };
         apart = C .apart;
       }
@@ -67,7 +69,7 @@ module _ {R : Rule} {cap : ℕ} {l : List ℤ} {w : List ℕ} {n : ℕ} (A : Tab
   cached j o a b c d k h E = go (eqb j (z .0)) refl
     where
       z : (j : ℕ) × (j < cap) × (s ≡ cap * 2 + j * 6)
-      z = slot-at cap op f g p q (A .bare .chained .some)
+      z = slot-at cap op f g p q (A .bare .chained .space .some)
 
       away : (j ≡ z .0 → ⊥) → (i : ℕ) → i < 6 → getD w′ (cap * 2 + j * 6 + i) 0 ≡ getD w (cap * 2 + j * 6 + i) 0
       away n i m = side (ltb j (z .0)) refl

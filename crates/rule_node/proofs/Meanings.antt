@@ -21,10 +21,10 @@ use Rattle.table.specs.declared.Node.{Node}
 use Rattle.theory.specs.Widths.{levels-most, conditions-most}
 use Rattle.theory.specs.Diagram.{Test, later, linear, Leaf, lin-of, Tree, leaf, branch, quotL, quotient, divisor, test-of}
 use Rattle.theory.specs.Rules.{choose, over, decide, sum, product, best, scale, shift, complement, number, side, substitute}
-use Rattle.rule_node.specs.Nodes.{linOf, leafOf, testOf, treeAt, Nums, Good, Proper, Grown, Root}
+use Rattle.rule_node.specs.Nodes.{linOf, leafOf, testOf, conditionOf, treeAt, Nums, Good, Proper, Grown, Root}
 use Rattle.rule_node.specs.Table.{Lasting, Bare, Table}
 use Rattle.rule_node.specs.EntryMeaning.{cOf, testIn, testBy, Names, indexes, packed, ruleBy, ruleOf}
-use Rattle.rule_node.specs.Roots.{laterNode, linearNode, namedNode, testNode, Readable}
+use Rattle.rule_node.specs.Roots.{conditionNode, laterNode, linearNode, Stood, namedNode, testNode, Readable}
 use Rattle.rule_node.proofs.Trees.{trees-kept, later-is, leaf-lin, at-leaf, at-branch}
 
 -- ---- the rules, each by its number
@@ -109,7 +109,7 @@ names-more h = ⊎-elim (λ e. inl e) (λ e. inr (e .0, (let q = e .1 in omega a
 pub names-small : {cap : ℕ} {l : List ℤ} {w : List ℕ} {n op p : ℕ} → Bare cap l w n → Names n op p → (op < 65536) × (p < 65536)
 names-small A = ⊎-elim
     (λ e. let a = e .0 in let b = e .2 in (omega arith, omega arith))
-    (λ e. let a = e .0 in let b = e .1 in let q = A .chained .room in let r = A .chained .few in (omega arith, omega arith))
+    (λ e. let a = e .0 in let b = e .1 in let q = A .chained .space .room in let r = A .chained .space .few in (omega arith, omega arith))
 
 -- it stays as the table grows
 pub test-kept : {l l′ : List ℤ} {n n′ : ℕ} {op p : ℕ} → Grown l n l′ n′ → Names n op p → testBy l′ n′ op p ≡ testBy l n op p
@@ -130,13 +130,8 @@ node-11 l p = refl
 pub readable-in : {cap : ℕ} {l : List ℤ} {w : List ℕ} {n op p : ℕ} → Bare cap l w n → Names n op p → Readable l op p
 readable-in {op = op} {p} A = ⊎-elim
     (λ e. record { number = λ _. e .2; words = λ z. absurd (z (e .0)); nums = λ z. absurd (z (e .0)) })
-    (λ e. let a = e .0 in let b = e .1 in let r = A .chained .room in let s = A .chained .words in
+    (λ e. let a = e .0 in let b = e .1 in let r = A .chained .space .room in let s = A .chained .space .words in
     record { number = λ z. absurd (omega arith); words = λ _. omega arith; nums = λ _. A .good .valid p (e .1) .nums })
-
--- the words of a test and the test
-record Stood (x : Node) (t : Test) : Type 0 where
-  pub proper : Proper x
-  pub test : testOf x ≡ t
 
 zero-at : (k : ℕ) → getD (replicate levels-most (pos 0)) k (pos 0) ≡ pos 0
 zero-at k = go levels-most k
@@ -150,20 +145,25 @@ pub zeros-behind : (z : ℤ) (k : ℕ) → 0 < k → getD (z ∷ replicate level
 zeros-behind z zero h = absurd (omega arith)
 zeros-behind z (suc k) h = zero-at k
 
-small-first : {p : ℕ} → p ≤ conditions-most → (k : ℕ) → Small (getD (pos (conditions-most + p) ∷ replicate levels-most (pos 0)) k (pos 0))
+small-first : {p : ℕ} → p ≤ conditions-most + conditions-most → (k : ℕ) → Small (getD (pos p ∷ replicate levels-most (pos 0)) k (pos 0))
 small-first h zero = record { small = omega arith }
 small-first h (suc k) = subst Small (sym (zero-at k)) (record { small = omega arith })
 
-stood-later : (p : ℕ) → 0 < p → p ≤ conditions-most → Stood (laterNode p) (later p)
-unfolding laterNode testOf eqZ
-stood-later p a b = record {
+pub stood-condition : (k : ℕ) → 0 < k → k ≤ conditions-most + conditions-most → Stood (conditionOf k) (conditionNode k)
+unfolding conditionNode testOf eqZ
+stood-condition k a b = record {
   proper = record {
     branches = condition-as refl;
     nums = record { long = refl; each = small-first b };
-    tested = record { kind = λ e. absurd (let z : _≡_ {A = ℕ} 0 1 = cc in omega arith); long = refl; number = λ _. tt; bounds = λ _. (omega arith, omega arith); rest = λ _. zeros-behind _ };
+    tested = record { kind = λ e. absurd (let z : _≡_ {A = ℕ} 0 1 = cc in omega arith); long = refl; number = λ _. tt; bounds = λ _. (a, b); rest = λ _. zeros-behind (pos k) };
   };
-  test = later-is (conditions-most + p) (omega arith) ∙ ap later (let e : conditions-most + p - conditions-most ≡ p = omega arith in e);
+  test = refl;
 }
+
+stood-later : (p : ℕ) → 0 < p → p ≤ conditions-most → Stood (later p) (laterNode p)
+stood-later p a b = subst (λ (t : Test). Stood t (laterNode p))
+    (later-is (conditions-most + p) (omega arith) ∙ ap later (let e : conditions-most + p - conditions-most ≡ p = omega arith in e))
+    (stood-condition (conditions-most + p) (omega arith) (omega arith))
 
 pub proper-linear : (l : List ℤ) → Smalls l → Proper (linearNode l)
 unfolding linearNode eqZ
@@ -194,23 +194,23 @@ named-branch : (x : Node) → isLeaf (x .kind) ≡ false → namedNode x ≡ x
 unfolding namedNode
 named-branch x e = ap (λ (b : Bool). if b (linearNode (quotL (divisorL (x .n)) (x .n))) x) e
 
-stood-named : {l : List ℤ} {n : ℕ} → Good l n → (p : ℕ) → p < n → Stood (namedNode (nodeAt l p)) (testIn (treeAt l n p))
+stood-named : {l : List ℤ} {n : ℕ} → Good l n → (p : ℕ) → p < n → Stood (testIn (treeAt l n p)) (namedNode (nodeAt l p))
 stood-named {l} {n} D p h = go (isLeaf (nodeAt l p .kind)) refl
   where
-    go : (b : Bool) → isLeaf (nodeAt l p .kind) ≡ b → Stood (namedNode (nodeAt l p)) (testIn (treeAt l n p))
-    go true e = subst (λ (x : Node). Stood x (testIn (treeAt l n p))) (sym (named-leaf (nodeAt l p) e)) (record {
+    go : (b : Bool) → isLeaf (nodeAt l p .kind) ≡ b → Stood (testIn (treeAt l n p)) (namedNode (nodeAt l p))
+    go true e = subst (Stood (testIn (treeAt l n p))) (sym (named-leaf (nodeAt l p) e)) (record {
       proper = proper-linear _ (quot-smalls _ _ (D .valid p h .nums));
       test = divided-test (nodeAt l p) (D .valid p h .nums .long) ∙ (ap test-of (sym (leaf-lin (nodeAt l p) (D .valid p h))) ∙ (sym (in-leaf _) ∙ ap testIn (sym (at-leaf D p h e))));
     })
-    go false e = subst (λ (x : Node). Stood x (testIn (treeAt l n p))) (sym (named-branch (nodeAt l p) e)) (record {
+    go false e = subst (Stood (testIn (treeAt l n p))) (sym (named-branch (nodeAt l p) e)) (record {
       proper = record { branches = e; nums = D .valid p h .nums; tested = D .valid p h .tested e };
       test = sym (in-branch _ _ _) ∙ ap testIn (sym (at-branch D p h e));
     })
 
-stood : {l : List ℤ} {n op p : ℕ} → Good l n → Names n op p → Stood (testNode l op p) (testBy l n op p)
+stood : {l : List ℤ} {n op p : ℕ} → Good l n → Names n op p → Stood (testBy l n op p) (testNode l op p)
 stood {l} {n} {op} {p} D = ⊎-elim
-    (λ e. subst (λ (k : ℕ). Stood (testNode l k p) (testBy l n k p)) (sym (e .0)) (subst (λ (x : Node). Stood x (testBy l n 10 p)) (sym (node-10 l p)) (subst (Stood (laterNode p)) (sym (test-10 l n p)) (stood-later p (e .1) (e .2)))))
-    (λ e. subst (λ (k : ℕ). Stood (testNode l k p) (testBy l n k p)) (sym (e .0)) (subst (λ (x : Node). Stood x (testBy l n 11 p)) (sym (node-11 l p)) (subst (Stood (namedNode (nodeAt l p))) (sym (test-11 l n p)) (stood-named D p (e .1)))))
+    (λ e. subst (λ (k : ℕ). Stood (testBy l n k p) (testNode l k p)) (sym (e .0)) (subst (Stood (testBy l n 10 p)) (sym (node-10 l p)) (subst (λ (t : Test). Stood t (laterNode p)) (sym (test-10 l n p)) (stood-later p (e .1) (e .2)))))
+    (λ e. subst (λ (k : ℕ). Stood (testBy l n k p) (testNode l k p)) (sym (e .0)) (subst (Stood (testBy l n 11 p)) (sym (node-11 l p)) (subst (λ (t : Test). Stood t (namedNode (nodeAt l p))) (sym (test-11 l n p)) (stood-named D p (e .1)))))
 
 -- the test's words can be put over branches, and are its words
 pub test-proper : {l : List ℤ} {n op p : ℕ} {z : Node} → Good l n → Names n op p → z ≡ testNode l op p → Proper z
@@ -280,10 +280,10 @@ lasts-substitute l n op f g p q e hf h l′ n′ D =
 
 -- ---- what the code reads is that test
 
-pub later-node : (k : ℕ) → k ≤ conditions-most → _≡_ {A = Node} (record { kind = pos 1; n = toZ w64 (conditions-most + k) ∷ replicate levels-most (pos 0); high = pos 0; low = pos 0 }) (laterNode k)
-unfolding laterNode
-later-node k h =
-    let e : toZ w64 (conditions-most + k) ≡ pos (conditions-most + k) = back (pos (conditions-most + k)) (omega arith) in
+pub condition-node : (k : ℕ) → k ≤ conditions-most + conditions-most → _≡_ {A = Node} (record { kind = pos 1; n = toZ w64 k ∷ replicate levels-most (pos 0); high = pos 0; low = pos 0 }) (conditionNode k)
+unfolding conditionNode
+condition-node k h =
+    let e : toZ w64 k ≡ pos k = back (pos k) (omega arith) in
     λ i. record { kind = pos 1; n = e i ∷ replicate levels-most (pos 0); high = pos 0; low = pos 0 }
 
 pub named-leaf-as : {d : List ℤ} (x : Node) → isLeaf (x .kind) ≡ true → d ≡ quotL (divisorL (x .n)) (x .n) → _≡_ {A = Node} (record { kind = pos 2; n = d; high = pos 0; low = pos 0 }) (namedNode x)

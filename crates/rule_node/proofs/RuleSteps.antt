@@ -23,11 +23,11 @@ use Rattle.rule_node.proofs.TwoOperands.{On}
 
 -- an index of the table can be read
 pub at-in : {cap : ℕ} {l : List ℤ} {w : List ℕ} {n : ℕ} (t : ℕ) → Bare cap l w n → t < n → At l t
-at-in t A h = record { words = let q = A .chained .room in let r = A .chained .words in omega arith; high = A .good .valid t h .high-nat; low = A .good .valid t h .low-nat }
+at-in t A h = record { words = let q = A .chained .space .room in let r = A .chained .space .words in omega arith; high = A .good .valid t h .high-nat; low = A .good .valid t h .low-nat }
 
 -- and fits a word of the cache
 pub index-small : {cap : ℕ} {l : List ℤ} {w : List ℕ} {n : ℕ} (t : ℕ) → Bare cap l w n → t < n → t < 65536
-index-small t A h = let q = A .chained .room in let r = A .chained .few in omega arith
+index-small t A h = let q = A .chained .space .room in let r = A .chained .space .few in omega arith
 
 pub key-of : {op f g p q : ℕ} → op < 65536 → f < 65536 → g < 65536 → p < 65536 → q < 65536 → Key op f g p q
 key-of a b c d e = record { op-fits = omega arith; f-fits = omega arith; g-fits = omega arith; p-fits = omega arith; q-fits = omega arith }

@@ -80,7 +80,7 @@ module _ {cap : ℕ} {l : List ℤ} {w : List ℕ} {n : ℕ} (A : Bare cap l w n
       trees-n = trees-same l l′ n (put-other l n x)
 
       at-n : nodeAt l′ n ≡ x
-      at-n = put-same l n x (let w = A .chained .words in omega arith) (vx .nums .long)
+      at-n = put-same l n x (let w = A .chained .space .words in omega arith) (vx .nums .long)
 
       trees-new : trees l′ (n + 1) ≡ trees l n ++ (tree ∷ [])
       unfolding trees

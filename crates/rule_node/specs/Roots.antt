@@ -12,9 +12,9 @@ unfoldable pub use Rattle.whole.specs.Linears.{ordNum}
 use Rattle.table.specs.Table.{node-words, nodeAt, eqZ, isLeaf}
 use Rattle.table.specs.declared.Node.{Node}
 use Rattle.theory.specs.Widths.{levels-most, conditions-most}
-use Rattle.theory.specs.Diagram.{linear, then, cmpZ, cmpList}
+use Rattle.theory.specs.Diagram.{Test, linear, then, cmpZ, cmpList}
 use Rattle.theory.specs.Rules.{parallel}
-use Rattle.rule_node.specs.Nodes.{linOf, Nums}
+use Rattle.rule_node.specs.Nodes.{linOf, testOf, Nums, Proper}
 use Rattle.rule_node.specs.declared.Sides.{Sides}
 use Rattle.rule_node.specs.declared.Down.{Down}
 use Rattle.rule_node.specs.Codes.{choose-later-code}
@@ -30,8 +30,13 @@ parallelOf x y = eqZ (x .kind) (pos 2) && (eqZ (y .kind) (pos 2) && parallel (li
 
 -- ---- the test of a choice, as a node's words
 
-unfoldable pub laterNode : ℕ → Node
-laterNode k = record { kind = pos 1; n = pos (conditions-most + k) ∷ replicate levels-most (pos 0); high = pos 0; low = pos 0 }
+-- condition k: "1 to n for a condition now, 5 to 4+n for the next step's"
+unfoldable pub conditionNode : ℕ → Node
+conditionNode k = record { kind = pos 1; n = pos k ∷ replicate levels-most (pos 0); high = pos 0; low = pos 0 }
+
+-- the next step's condition k
+abbrev pub laterNode : ℕ → Node
+laterNode k = conditionNode (conditions-most + k)
 
 -- the test of a linear's numbers
 unfoldable pub linearNode : List ℤ → Node
@@ -43,6 +48,11 @@ namedNode x = if (isLeaf (x .kind)) (linearNode (quotL (divisorL (x .n)) (x .n))
 
 unfoldable pub testNode : List ℤ → ℕ → ℕ → Node
 testNode l op p = if (eqb op choose-later-code) (laterNode p) (namedNode (nodeAt l p))
+
+-- the words of a node are those of a test
+pub record Stood (t : Test) (x : Node) : Type 0 where
+  pub proper : Proper x
+  pub test : testOf x ≡ t
 
 -- it can be read
 pub record Readable (l : List ℤ) (op p : ℕ) : Type 0 where

@@ -1,12 +1,12 @@
 // Numbers and tests compared, the test that a choice is given, and what lies below a node.
 ghost use mathlib.Core.Path.{_≡_};
-ghost use Prim.Native.Nat.{_≤_};
+ghost use Prim.Native.Nat.{_+_, _≤_};
 ghost use lib.Dec.{T};
 ghost use lib.Signed.{nonNeg};
 ghost use Rattle.theory.specs.Widths.{conditions-most};
 ghost use Rattle.theory.specs.Diagram.{cmpList};
 ghost use Rattle.rule_node.specs.Nodes.{Nums};
-ghost use Rattle.rule_node.specs.Roots.{ordNum, orderOf, laterNode, namedNode, testNode, Readable, downOf};
+ghost use Rattle.rule_node.specs.Roots.{ordNum, orderOf, conditionNode, laterNode, namedNode, testNode, Readable, downOf};
 use rule_node::Down;
 use rule_node::codes::AFTER;
 use rule_node::codes::BEFORE;
@@ -90,12 +90,12 @@ pub fn order(x: Node, y: Node) -> usize
     order_linears(x.n, y.n)
 }
 
-// The next step's condition k as a test.
-pub fn later(k: usize) -> Node
-    requires { ⌜ k ≤ conditions-most ⌝ }
-    ensures { λ r. ⌜ r ≡ laterNode k ⌝ }
+// Condition k as a test: "1 to n for a condition now, 5 to 4+n for the next step's".
+pub fn condition(k: usize) -> Node
+    requires { ⌜ k ≤ conditions-most + conditions-most ⌝ }
+    ensures { λ r. ⌜ r ≡ conditionNode k ⌝ }
 {
-    let number = (4 + k) as i64;
+    let number = k as i64;
     let mut n = [0i64; NUMBERS];
     n[0] = number;
     Node {
@@ -104,6 +104,14 @@ pub fn later(k: usize) -> Node
         high: 0,
         low: 0,
     }
+}
+
+// The next step's condition k as a test.
+pub fn later(k: usize) -> Node
+    requires { ⌜ k ≤ conditions-most ⌝ }
+    ensures { λ r. ⌜ r ≡ laterNode k ⌝ }
+{
+    condition(4 + k)
 }
 
 // The test that a node names: a branch its own, a leaf its linear's, divided.

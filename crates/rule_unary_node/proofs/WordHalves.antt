@@ -1,15 +1,12 @@
 -- An i64 in two halves, and the numbers of a leaf as the code computes them.
 use mathlib.Core.Path.{_≡_, refl, sym, ap, _∙_, subst}
-use mathlib.Core.Bool.{true, false}
-use native.Mathlib.Numerals.{add-one}
 use Prim.Native.Nat.{ℕ, zero, suc, _+_, _-_, _*_, _/_, _%_, _^_, _≤_, _<_}
 use native.Mathlib.Omega.{arith}
-use lib.IntN.{ℤ, pos, negsuc, natAbs, _-ℤ_, +ℤ-idr}
-use lib.Signed.{ltZ}
+use lib.IntN.{ℤ, pos, negsuc, _-ℤ_, +ℤ-idr}
 use mir.Syntax.{w64}
 use mir.Val.{SFits, toZ, ofZ}
 use mir.ValLaws.{toZ-ofZ, ofZ-fits}
-use Rattle.whole.proofs.Signed.{R, back, negated, not-negative}
+use Rattle.whole.proofs.Signed.{R, back}
 use Rattle.rule_node.specs.EntryMeaning.{cOf}
 use Rattle.rule_unary_node.specs.Acts.{lowOf, highOf}
 
@@ -36,20 +33,6 @@ unfolding highOf
 high-lt c f = half-lt (ofZ w64 c) (ofZ-fits w64 c f .fits)
 
 -- ---- the bits of a number
-
-below : (n m : ℕ) → n < 2 ^ 63 → m ≡ n + 1 → (0 < m) × (m ≤ 9223372036854775808) × (18446744073709551615 - m + 1 ≡ 18446744073709551616 - (n + 1))
-below n m h e = (omega arith, omega arith, omega arith)
-
-module _ (c : ℤ) (f : SFits w64 c) {m : ℕ} (em : m ≡ natAbs (R c)) where
-  pub bits-neg : ltZ (R c) (pos 0) ≡ true → (0 < m) × (m ≤ 9223372036854775808) × (18446744073709551615 - m + 1 ≡ ofZ w64 c)
-  bits-neg t =
-      let d = negated c f t in
-      let e : m ≡ d .n + 1 = em ∙ (ap natAbs (back c f ∙ d .is) ∙ sym (add-one (d .n))) in
-      let b = below (d .n) m (d .small) e in
-      (b .0, b .1, b .2 ∙ (ap (λ (k : ℕ). 18446744073709551616 - k) (add-one (d .n)) ∙ sym (ap (ofZ w64) (d .is))))
-
-  pub bits-pos : ltZ (R c) (pos 0) ≡ false → m ≡ ofZ w64 c
-  bits-pos t = let d = not-negative c f t in em ∙ (ap natAbs (d .3) ∙ sym (ap (ofZ w64) (d .2)))
 
 pub low-is : (c : ℤ) {n : ℕ} → SFits w64 c → n ≡ ofZ w64 (R c) → n % 4294967296 ≡ lowOf c
 unfolding lowOf

@@ -1,11 +1,9 @@
 // An i64 as two words of 32 bits, as an entry of the cache has them.
 ghost use mathlib.Core.Path.{_≡_};
 ghost use Prim.Native.Nat.{_<_};
-ghost use mir.Syntax.{w64};
-ghost use mir.Val.{ofZ};
 ghost use Rattle.rule_node.specs.EntryMeaning.{cOf};
 ghost use Rattle.rule_unary_node.specs.Acts.{lowOf, highOf};
-use whole::limits::mag;
+use whole::limits::bits;
 
 // The i64 with the low half p and the high half q.
 pub(crate) fn number_of(p: usize, q: usize) -> i64
@@ -18,17 +16,6 @@ pub(crate) fn number_of(p: usize, q: usize) -> i64
     }
     let k = 18446744073709551615 - n;
     -1 - (k as i64)
-}
-
-// The bits of c as a number: 2⁶⁴ − |c| where c is negative.
-fn bits(c: i64) -> u64
-    ensures { λ r. ⌜ r ≡ ofZ w64 c ⌝ }
-{
-    let m = mag(c);
-    if c < 0 {
-        return 18446744073709551615 - m + 1;
-    }
-    m
 }
 
 // The low half of c.

@@ -12,7 +12,7 @@ use Rattle.theory.specs.Load.{Loaded, load-choice-with, load-entry, load-one, l
 use Rattle.theory.specs.Solve.{solve-in}
 use Rattle.theory.specs.laws.Comps.{after, run-bind}
 use Rattle.theory.specs.laws.Valid.{among-out}
-use Rattle.theory.specs.laws.Loading.{accepted, entry-trees}
+use Rattle.theory.specs.laws.AcceptedModel.{accepted, entry-trees}
 use Rattle.solve_laws.specs.Outcome.{solve-unloaded}
 
 abbrev nothing : Loaded

@@ -17,7 +17,8 @@ use Rattle.finish.specs.Finish.{Unfinished, Finished}
 use Rattle.solve_laws.specs.Onward.{answered-no}
 use Rattle.solve_stages.specs.declared.Planned.{Planned}
 use Rattle.solve_total.specs.StageTable.{modelSize}
-use Rattle.solve_value_iteration.specs.Iteration.{Room, stageTrees, Plans}
+use Rattle.table_unique.specs.Unique.{Space}
+use Rattle.solve_value_iteration.specs.Iteration.{stageTrees, Plans}
 use Rattle.solve_value_iteration.proofs.Start.{standing-roots}
 use Rattle.solve_in_room.specs.Solves.{Solves}
 use Rattle.solve_in_room.proofs.Empty.{empty-refused}
@@ -93,9 +94,9 @@ no-room B H l s w v e = record {
 }
 
 -- there is some
-pub some-room : (cap : ℕ) {l : List ℤ} {w : List ℕ} → (cap ≡ 0 → ⊥) → cap ≤ nodes-most → cap * node-words ≤ length l → cap * work-words ≤ length w → Room cap l w
+pub some-room : (cap : ℕ) {l : List ℤ} {w : List ℕ} → (cap ≡ 0 → ⊥) → cap ≤ nodes-most → cap * node-words ≤ length l → cap * work-words ≤ length w → Space cap l w 0
 some-room zero off f a b = absurd (off refl)
-some-room (suc n) off f a b = record { some = omega arith; few = f; words = a; works = b }
+some-room (suc n) off f a b = record { some = omega arith; few = f; room = omega arith; words = a; works = b }
 
 -- all the words cleared
 pub cleared : {Q : List ℕ} {m n : ℕ} → Q ≡ replicate m 0 → m ≡ n → Q ≡ replicate n 0

@@ -4,7 +4,7 @@ ghost use Prim.Native.Nat.{_*_, _≤_};
 ghost use lib.ListN.{length, replicate};
 ghost use Rattle.theory.specs.Widths.{bytes-most, steps-most, nodes-most, node-words, work-words, roots-most, peak-words};
 ghost use Rattle.theory.specs.Verdict.{verdict};
-ghost use Rattle.solve_value_iteration.specs.Iteration.{Room};
+ghost use Rattle.table_unique.specs.Unique.{Space};
 ghost use Rattle.solve_in_room.specs.Solves.{Solves};
 use solve_peaks::clear_peaks;
 use solve_stages::Planned;
@@ -23,7 +23,7 @@ fn fill(
     roots: &mut [u32],
     peaks: &mut [u32],
 ) -> Planned
-    requires { ⌜ (verdict (now model) .number ≡ 0) × (length (now model) ≤ bytes-most) × (horizon ≤ steps-most) × (1 ≤ horizon) × Room cap (now nodes) (now work) × (length (now stages) ≡ steps-most) × (length (now roots) ≡ roots-most) × (now peaks ≡ replicate peak-words 0) ⌝ }
+    requires { ⌜ (verdict (now model) .number ≡ 0) × (length (now model) ≤ bytes-most) × (horizon ≤ steps-most) × (1 ≤ horizon) × Space cap (now nodes) (now work) 0 × (length (now stages) ≡ steps-most) × (length (now roots) ≡ roots-most) × (now peaks ≡ replicate peak-words 0) ⌝ }
     ensures { λ r. ⌜ Solves (now (model .entry)) horizon cap (now (nodes .entry)) (now (nodes .exit)) (now (stages .exit)) (now (work .entry)) (now (work .exit)) (now (peaks .exit)) r ⌝ }
 {
     let first = model_size(model);

@@ -11,7 +11,7 @@ use Rattle.theory.specs.Diagram.{Tree, same}
 use Rattle.theory.specs.Computation.{Comp, member, run, enter-all}
 use Rattle.theory.specs.Events.{inside, all-inside}
 use Rattle.theory.specs.laws.Comps.{same-eq, same-refl, member-in, member-find}
-use Rattle.theory.specs.laws.Counting.{distinct-roots}
+use Rattle.theory.specs.laws.Counts.{distinct-roots}
 use Rattle.theory.specs.laws.Inside.{Sub, sub-refl, sub-trans, all-none, all-parts, all-cons, roots-inside, roots-sub}
 use Rattle.collect.proofs.Order.{SameNodes, same-nodes, SameOut, run-order}
 

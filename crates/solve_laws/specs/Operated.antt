@@ -17,7 +17,8 @@ use Rattle.rule_node.specs.Nodes.{blank, trees, treeAt, Good, Grown}
 use Rattle.rule_node.specs.Table.{outOf}
 use Rattle.rule_node.proofs.Trees.{trees-length, trees-kept}
 use Rattle.rule_node.proofs.Outcomes.{out-ok, out-no}
-use Rattle.collect_mark.specs.Mark.{rootsOf, Below, Space}
+use Rattle.table_unique.specs.Unique.{Space}
+use Rattle.collect_mark.specs.Mark.{rootsOf, Below}
 use Rattle.collect.specs.Collect.{Collected}
 use Rattle.collect.proofs.Order.{SameOut, done-as, stopped-as, run-same}
 use Rattle.collect.proofs.Needed.{kept-nodes}

@@ -13,7 +13,8 @@ use Rattle.theory.specs.Meaning.{Action}
 use Rattle.theory.specs.Stage.{action-diagrams, all-diagrams}
 use Rattle.theory.specs.laws.Inside.{Sub, sub-trans}
 use Rattle.rule_node.specs.Nodes.{blank, trees, treeAt, Good}
-use Rattle.collect_mark.specs.Mark.{rootsOf, Below, Space}
+use Rattle.table_unique.specs.Unique.{Space}
+use Rattle.collect_mark.specs.Mark.{rootsOf, Below}
 use Rattle.collect.specs.Collect.{Collected}
 use Rattle.solve_laws.specs.Alike.{Alike, alike-trans, alike-eq, member-left, member-right, member-parts}
 use Rattle.solve_laws.specs.Operated.{roots-at, roots-grown, below-more, RootsHeld, Came, came-grown, collected-space}

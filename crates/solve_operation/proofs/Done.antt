@@ -10,7 +10,8 @@ use lib.Seq.{length-take-le, take-take, take-suc-set, getD-set-same}
 use Rattle.table.specs.declared.Made.{Made}
 use Rattle.theory.specs.Diagram.{Tree}
 use Rattle.rule_node.specs.Nodes.{trees, treeAt, Good}
-use Rattle.collect_mark.specs.Mark.{rootsOf, Below, Space}
+use Rattle.table_unique.specs.Unique.{Space}
+use Rattle.collect_mark.specs.Mark.{rootsOf, Below}
 use Rattle.solve_laws.specs.Onward.{Works}
 use Rattle.solve_laws.specs.Operated.{Came, came-as, collected-space, worked, stops}
 use Rattle.solve_laws.specs.Roots.{Rooted, rooted-held, rooted-collected, rooted-ran, rooted-push, rooted-front, rooted-length}

@@ -22,7 +22,8 @@ use Rattle.rule_node.specs.Table.{Rule as Entries}
 use Rattle.rule_node.specs.EntryMeaning.{ruleOf}
 use Rattle.rule_node.proofs.Trees.{trees-same, tree-at}
 use Rattle.rule_node.proofs.Outcomes.{fresh}
-use Rattle.collect_mark.specs.Mark.{rootsOf, Space}
+use Rattle.table_unique.specs.Unique.{Space}
+use Rattle.collect_mark.specs.Mark.{rootsOf}
 use Rattle.collect_rehash.specs.Rehash.{Rehashed}
 use Rattle.solve_laws.specs.Operated.{Came}
 use Rattle.solve_operation.specs.Operation.{compOf}
@@ -69,11 +70,13 @@ pub rehashed-table : {M : Entries} {part n : ℕ} {l : List ℤ} {w w′ : List 
 rehashed-table {n = n} {l = l} S G H = fresh (record {
   good = G;
   chained = record {
-    some = S .some;
-    few = S .few;
-    room = S .room;
-    words = S .words;
-    works = omega (arith, S .works, H .len);
+    space = record {
+      some = S .some;
+      few = S .few;
+      room = S .room;
+      words = S .words;
+      works = omega (arith, S .works, H .len);
+    };
     hashed = H .hashed;
     apart = λ i j p q e. G .distinct i j p q (tree-at G i p ∙ (ap (λ (x : Node). treeOf x (trees l n)) e ∙ sym (tree-at G j q)));
   };
@@ -81,15 +84,7 @@ rehashed-table {n = n} {l = l} S G H = fresh (record {
 
 pub ran-came : {part n : ℕ} {l l′ : List ℤ} {w w′ : List ℕ} {m : Comp Tree} {r : Made} → RuleRan ruleOf part l w n m l′ w′ r → Came part l n m l′ w′ r
 ran-came Q =
-    let C = Q .table .bare .chained in
-    record {
-      ran = Q .ran;
-      good = Q .table .bare .good;
-      space = record { some = C .some; few = C .few; room = C .room; words = C .words; works = C .works };
-      within = Q .within;
-      more = Q .more;
-      kept = Q .kept;
-    }
+    record { ran = Q .ran; good = Q .table .bare .good; space = Q .table .bare .chained .space; within = Q .within; more = Q .more; kept = Q .kept }
 
 -- ---- parts one after another
 

@@ -11,7 +11,8 @@ use Rattle.theory.specs.Diagram.{Tree}
 use Rattle.theory.specs.Computation.{Comp, make}
 use Rattle.theory.specs.Rules.{best, zero-leaf, substitute, expectation, add-reward}
 use Rattle.rule_node.specs.Nodes.{blank, trees, treeAt, Good}
-use Rattle.collect_mark.specs.Mark.{rootsOf, Below, Space}
+use Rattle.table_unique.specs.Unique.{Space}
+use Rattle.collect_mark.specs.Mark.{rootsOf, Below}
 use Rattle.collect.specs.Collect.{Collected}
 use Rattle.solve_laws.specs.Alike.{Alike}
 use Rattle.solve_laws.specs.Onward.{Works, Stops}

@@ -18,7 +18,7 @@ use Rattle.model_progress.specs.declared.Site.{Site as CodeSite}
 use Rattle.model_progress.specs.GivenFlags.{site-as}
 use Rattle.theory.specs.Stage.{moment, action-total, best-on, stage-over}
 use Rattle.theory.specs.Peaks.{peaks-of}
-use Rattle.theory.specs.laws.Loading.{accepted-site}
+use Rattle.theory.specs.laws.AcceptedModel.{accepted-site}
 use Rattle.rule_node.specs.Nodes.{blank}
 use Rattle.solve_laws.specs.Alike.{Alike, alike-trans, alike-eq}
 use Rattle.solve_laws.specs.Onward.{onward, onward-onward, onward-same, onward-ok, onward-no, run-all-then, answered, answered-ok, answered-no}

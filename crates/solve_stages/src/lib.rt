@@ -8,8 +8,8 @@ ghost use Rattle.theory.specs.Stage.{best-on, stage-over};
 ghost use Rattle.theory.specs.Peaks.{raise};
 ghost use Rattle.solve_total.specs.StageTable.{modelSize, StageReady, Due, beforeOf, totalOf, rootAt, ActionRan};
 ghost use Rattle.solve_stages.specs.Stages.{bettered, joined, Counted, Staged};
-use load_model::wide_action;
 use model::site;
+use model_command::widening::action_index;
 use solve_operation::Rule;
 use solve_operation::Run;
 use solve_operation::larger;
@@ -147,7 +147,7 @@ fn others(
         (now (peaks .entry)) (now (nodes .exit)) (now (work .exit)) (now (roots .exit)) (now (peaks .exit)) r ⌝ }
 {
     let operands = site(model);
-    let actions = wide_action(operands.actions);
+    let actions = action_index(operands.actions);
     let mut r = run;
     let mut a: usize = 2;
     while a <= actions {

@@ -14,7 +14,7 @@ use Rattle.theory.specs.Verdict.{Site, from-to, verdict}
 use Rattle.theory.specs.Load.{Entry, action-of, model, model-of, site-at}
 use Rattle.theory.specs.Stage.{action-diagrams, all-diagrams, model-diagrams}
 use Rattle.theory.specs.laws.Valid.{among-out}
-use Rattle.theory.specs.laws.Loading.{Of-site, accepted-site, loaded-entries, model-loaded}
+use Rattle.theory.specs.laws.AcceptedModel.{Of-site, accepted-site, loaded-entries, model-loaded}
 use Rattle.rule_node.specs.Nodes.{blank}
 use Rattle.model_progress.specs.declared.Site.{Site as CodeSite}
 use Rattle.model_progress.specs.GivenFlags.{site-as}

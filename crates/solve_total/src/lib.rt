@@ -4,9 +4,9 @@ ghost use Prim.Native.Nat.{_<_};
 ghost use Rattle.theory.specs.Computation.{Moment};
 ghost use Rattle.theory.specs.Stage.{sum-out as summed};
 ghost use Rattle.solve_total.specs.StageTable.{modelSize, Sums, chancesOf, Due, beforeOf, totalOf, rootAt, ActionRan};
-use load_model::wide;
-use load_model::wide_action;
 use model::site;
+use model_command::widening::action_index;
+use model_command::widening::byte_index;
 use solve_operation::Rule;
 use solve_operation::Run;
 use solve_operation::operate;
@@ -31,9 +31,9 @@ pub fn model_size(model: &[u8]) -> usize
     ensures { λ r. ⌜ (r ≡ modelSize (now (model .entry))) × (r < 33554432) ⌝ }
 {
     let operands = site(model);
-    let m = wide(operands.levels);
-    let n = wide(operands.conditions);
-    let a = wide_action(operands.actions);
+    let m = byte_index(operands.levels);
+    let n = byte_index(operands.conditions);
+    let a = action_index(operands.actions);
     a * (1 + n + m)
 }
 
@@ -89,8 +89,8 @@ pub fn total(
         (now (nodes .exit)) (now (work .exit)) (now (roots .exit)) r ⌝ }
 {
     let operands = site(model);
-    let m = wide(operands.levels);
-    let n = wide(operands.conditions);
+    let m = byte_index(operands.levels);
+    let n = byte_index(operands.conditions);
     let weights = operands.weights as u32;
     let row = (backup.action - 1) * (1 + n + m);
     let s = operate(

@@ -9,7 +9,7 @@ use lib.ListN.{length}
 use Rattle.theory.specs.Load.{load}
 use Rattle.rule_node.specs.Nodes.{Good}
 use Rattle.rule_node.specs.Table.{Table}
-use Rattle.collect_mark.specs.Mark.{Space}
+use Rattle.table_unique.specs.Unique.{Space}
 use Rattle.collect_rehash.specs.Rehash.{Rehashed}
 use Rattle.load_choose.specs.CommandTest.{loadRule}
 use Rattle.load_model.specs.ModelRoots.{Loads}
@@ -26,10 +26,9 @@ emptied B {l = l} S H = rehashed-table S (none-good l) H
 
 pub brought : {B : List ℕ} {part : ℕ} {l : List ℤ} {w R : List ℕ} {r : Done} → Loads B part l w R r → Brought B part l w R r
 brought L =
-    let C = L .table .bare .chained in
     record {
       good = L .table .bare .good;
-      space = record { some = C .some; few = C .few; room = C .room; words = C .words; works = C .works };
+      space = L .table .bare .chained .space;
       ran = L .ran;
       below = L .below;
       roots = L .roots;

@@ -14,12 +14,12 @@ use Rattle.theory.specs.Verdict.{verdict, from-to}
 use Rattle.theory.specs.Load.{site-at, model}
 use Rattle.theory.specs.Stage.{model-diagrams}
 use Rattle.theory.specs.laws.Valid.{among-out}
-use Rattle.theory.specs.laws.Loading.{accepted-site}
-use Rattle.table_unique.specs.Unique.{lastOf}
+use Rattle.theory.specs.laws.AcceptedModel.{accepted-site}
+use Rattle.table_unique.specs.Unique.{lastOf, Space}
 use Rattle.rule_node.specs.Nodes.{trees, treeAt}
 use Rattle.rule_node.specs.Table.{Rule, Table}
 use Rattle.rule_node.proofs.Outcomes.{fresh}
-use Rattle.collect_mark.specs.Mark.{rootsOf, Space}
+use Rattle.collect_mark.specs.Mark.{rootsOf}
 use Rattle.collect_mark.specs.Mark.{Below as Lower}
 use Rattle.finish.proofs.Fill.{all-wiped}
 use Rattle.load_command.specs.CommandStep.{Below}
@@ -27,12 +27,12 @@ use Rattle.load_model.specs.declared.Done.{Done}
 use Rattle.solve_laws.specs.Operated.{below-cons}
 use Rattle.solve_operation.specs.Operation.{heldTrees, Standing}
 use Rattle.solve_total.specs.StageTable.{modelSize}
-use Rattle.solve_value_iteration.specs.Iteration.{Room, Brought}
+use Rattle.solve_value_iteration.specs.Iteration.{Brought}
 
 -- ---- no node yet
 
 -- zeros are the chains of no node and an empty cache
-zeros-table : (R : Rule) {cap : ℕ} {l : List ℤ} {w : List ℕ} → Room cap l w → {w′ : List ℕ} → w′ ≡ replicate (length w) 0 → length w′ ≡ length w → Table R cap l w′ 0
+zeros-table : (R : Rule) {cap : ℕ} {l : List ℤ} {w : List ℕ} → Space cap l w 0 → {w′ : List ℕ} → w′ ≡ replicate (length w) 0 → length w′ ≡ length w → Table R cap l w′ 0
 unfolding lastOf
 zeros-table R {cap} {l} {w} S {w′} e n =
     let a = S .works in
@@ -40,23 +40,21 @@ zeros-table R {cap} {l} {w} S {w′} e n =
     fresh (record {
       good = record { valid = λ i h. absurd (omega arith); distinct = λ i j h. absurd (omega arith) };
       chained = record {
-        some = S .some;
-        few = S .few;
-        room = omega arith;
-        words = S .words;
-        works = omega arith;
+        space = record {
+          some = S .some;
+          few = S .few;
+          room = omega arith;
+          words = S .words;
+          works = omega arith;
+        };
         hashed = record { heads = λ b h. zero-at b (omega arith); links = λ i h. absurd (omega arith) };
         apart = λ i j h. absurd (omega arith);
       };
     }) (λ j h k. zero-at j (omega arith))
 
 -- the work words filled with zeros
-pub wiped-table : (R : Rule) {cap : ℕ} {l : List ℤ} {w w′ : List ℕ} → Room cap l w → w′ ≡ take 0 w ++ replicate (length w - 0) 0 → length w′ ≡ length w → Table R cap l w′ 0
+pub wiped-table : (R : Rule) {cap : ℕ} {l : List ℤ} {w w′ : List ℕ} → Space cap l w 0 → w′ ≡ take 0 w ++ replicate (length w - 0) 0 → length w′ ≡ length w → Table R cap l w′ 0
 wiped-table R {w = w} S e n = zeros-table R S (all-wiped 0 w e) n
-
--- any words will do
-pub no-nodes : {cap : ℕ} {l : List ℤ} {w : List ℕ} → Room cap l w → Space cap l w 0
-no-nodes S = record { some = S .some; few = S .few; room = omega arith; words = S .words; works = S .works }
 
 -- ---- how many roots a model has
 

@@ -1,10 +1,9 @@
--- Room for a run, and what value iteration leaves.
+-- What value iteration leaves.
 use mathlib.Core.Path.{_≡_}
 use mathlib.Core.List.{List, [], _∷_}
 use Prim.Native.Nat.{ℕ, suc, _+_, _*_, _≤_, _<_}
 use lib.IntN.{ℤ}
 use lib.ListN.{length, take, drop}
-use Rattle.theory.specs.Widths.{nodes-most, node-words, work-words}
 use Rattle.theory.specs.Diagram.{Tree}
 use Rattle.theory.specs.Computation.{done, stopped, run, refused, run-all}
 use Rattle.theory.specs.Load.{site-at, load, model}
@@ -12,7 +11,8 @@ use Rattle.theory.specs.Stage.{model-diagrams, stages-on, all-stages}
 use Rattle.theory.specs.Peaks.{peaks-of, solved-peaks}
 use Rattle.theory.specs.Solve.{solve-in}
 use Rattle.rule_node.specs.Nodes.{trees, Good}
-use Rattle.collect_mark.specs.Mark.{rootsOf, Space}
+use Rattle.table_unique.specs.Unique.{Space}
+use Rattle.collect_mark.specs.Mark.{rootsOf}
 use Rattle.load_command.specs.CommandStep.{standing, Below}
 use Rattle.load_model.specs.ModelRoots.{endOf, rootsOf as numbersOf}
 use Rattle.load_model.specs.declared.Done.{Done}
@@ -21,13 +21,6 @@ use Rattle.solve_operation.specs.Operation.{Standing}
 use Rattle.solve_operation.specs.declared.Run.{Run}
 use Rattle.solve_total.specs.StageTable.{modelSize, rootAt, StageReady}
 use Rattle.solve_stages.specs.declared.Planned.{Planned}
-
--- room for some nodes in the lent words
-pub record Room (cap : ℕ) (l : List ℤ) (w : List ℕ) : Type 0 where
-  pub some : 0 < cap
-  pub few : cap ≤ nodes-most
-  pub words : cap * node-words ≤ length l
-  pub works : cap * work-words ≤ length w
 
 -- what loading leaves, in whatever part of the room: nodes and the roots of the model's diagrams and of its end worth; or it stopped
 pub record Brought (B : List ℕ) (cap : ℕ) (l : List ℤ) (w R : List ℕ) (r : Done) : Type 0 where

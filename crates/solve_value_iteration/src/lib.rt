@@ -4,7 +4,7 @@ ghost use Prim.Native.Nat.{_≤_, _<_};
 ghost use lib.ListN.{length, replicate};
 ghost use Rattle.theory.specs.Widths.{bytes-most, steps-most, loaded-roots-most, roots-most, peak-words};
 ghost use Rattle.theory.specs.Verdict.{verdict};
-ghost use Rattle.collect_mark.specs.Mark.{Space};
+ghost use Rattle.table_unique.specs.Unique.{Space};
 ghost use Rattle.solve_value_iteration.specs.Iteration.{Brought, Grounded, Plans};
 use load_model::Done;
 use load_model::LOADED_ROOTS;

@@ -1,10 +1,10 @@
 -- What stands in a list with a part of it wiped, and a store a turn.
 use mathlib.Core.Path.{_≡_, refl, sym, ap, ap₂, _∙_}
-use mathlib.Core.List.{List, [], _∷_, _++_, append-assoc}
+use mathlib.Core.List.{List, [], _∷_, _++_, append-assoc, append-nil}
 use Prim.Native.Nat.{ℕ, suc, _+_, _-_, _≤_, _<_}
 use native.Mathlib.Numerals.{add-one}
 use native.Mathlib.Omega.{arith}
-use lib.ListN.{length, getD, set, take, drop, replicate, length-append, length-replicate, length-drop, take-append-drop, replicate-append-replicate, List·getD-append, getD-replicate}
+use lib.ListN.{length, getD, set, take, drop, replicate, length-append, length-replicate, length-drop, take-append-drop, replicate-append-replicate, List·getD-append, getD-replicate, drop-of-length-le}
 use lib.Seq.{length-take-le, drop-cons, set-at, getD-append-add, getD-drop, getD-take}
 use Rattle.table_clear.specs.Wipe.{wiped}
 
@@ -46,6 +46,10 @@ module _ {A : Type 0} (z : A) (l : List A) (f : ℕ) where
 
   pub ends : {i t : ℕ} {l′ : List A} → Wiped z l f i t l′ → t ≤ i → l′ ≡ wiped z f t l
   ends {i} {t} W q = W .is ∙ ap (λ (k : ℕ). wiped z f k l) (let u = W .upto in let e : i ≡ t = omega arith in e)
+
+  -- wiped to its end
+  pub to-end : {l′ : List A} → l′ ≡ wiped z f (length l) l → l′ ≡ take f l ++ replicate (length l - f) z
+  to-end e = e ∙ ap (λ (t : List A). take f l ++ t) (ap (λ (t : List A). replicate (length l - f) z ++ t) (drop-of-length-le l (let q : length l ≤ length l = omega arith in q)) ∙ append-nil (replicate (length l - f) z))
 
   -- ---- what is read
   module _ (t : ℕ) {l′ : List A} (e : l′ ≡ wiped z f t l) (p : f ≤ t) (q : t ≤ length l) where

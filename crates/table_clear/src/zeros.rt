@@ -22,9 +22,5 @@ pub fn words_from(words: &mut [u32], from: usize)
     requires { ⌜ from ≤ length (now words) ⌝ }
     ensures { λ _. ⌜ now (words .exit) ≡ take from (now (words .entry)) ++ replicate (length (now (words .entry)) - from) 0 ⌝ }
 {
-    let mut i = from;
-    while i < words.len() {
-        words[i] = 0;
-        i += 1;
-    }
+    super::work(words, from, words.len())
 }

@@ -138,7 +138,7 @@ module _ {cap : ℕ} {l : List ℤ} {w : List ℕ} {n : ℕ} (C : Chained cap l 
     w′ = set (set w (cap + n) (getD w b 0)) b (n + 1)
 
     at-n : nodeAt l′ n ≡ x
-    at-n = put-same l n x (let q = C .words in omega arith) xn
+    at-n = put-same l n x (let q = C .space .words in omega arith) xn
 
     same-hash : (i : ℕ) → i < n → H cap l′ i ≡ H cap l i
     same-hash i q = ap (hashOf cap) (put-other l n x i q)
@@ -152,7 +152,7 @@ module _ {cap : ℕ} {l : List ℤ} {w : List ℕ} {n : ℕ} (C : Chained cap l 
         go : (t : Bool) → eqb k b ≡ t → getD w′ k 0 ≡ lastOf (H cap l′) k (n + 1)
         go true e =
             let d : k ≡ b = eqb-true k b e in
-            ap (λ (z : ℕ). getD w′ z 0) d ∙ (getD-set-same (set w (cap + n) (getD w b 0)) b (n + 1) 0 (simp length-set (let z = C .works in omega arith))
+            ap (λ (z : ℕ). getD w′ z 0) d ∙ (getD-set-same (set w (cap + n) (getD w b 0)) b (n + 1) 0 (simp length-set (let z = C .space .works in omega arith))
             ∙ (add-one n ∙ sym (ap₂ (λ (z m : ℕ). lastOf (H cap l′) z m) d (add-one n) ∙ last-new (H cap l′) b n hash-n)))
         go false e =
             let d : k ≡ b → ⊥ = eqb-false k b e in
@@ -170,7 +170,7 @@ module _ {cap : ℕ} {l : List ℤ} {w : List ℕ} {n : ℕ} (C : Chained cap l 
         new : i ≡ n → getD (set w (cap + n) (getD w b 0)) (cap + i) 0 ≡ lastOf (H cap l′) (H cap l′ i) i
         new s =
             ap (λ (z : ℕ). getD (set w (cap + n) (getD w b 0)) (cap + z) 0) s
-            ∙ (getD-set-same w (cap + n) (getD w b 0) 0 (let z = C .works in omega arith)
+            ∙ (getD-set-same w (cap + n) (getD w b 0) 0 (let z = C .space .works in omega arith)
             ∙ (C .hashed .heads b bc ∙ sym (ap (λ (z : ℕ). lastOf (H cap l′) (H cap l′ z) z) s ∙ (ap (λ (z : ℕ). lastOf (H cap l′) z n) hash-n ∙ last-same (H cap l) (H cap l′) b n same-hash))))
 
     absent : (i : ℕ) → i < n → nodeAt l i ≡ x → ⊥
@@ -194,11 +194,13 @@ module _ {cap : ℕ} {l : List ℤ} {w : List ℕ} {n : ℕ} (C : Chained cap l 
 
     pub chained-new : Chained cap l′ w′ (n + 1)
     chained-new = record {
-      some = C .some;
-      few = C .few;
-      room = omega arith;
-      words = let z = C .words in let e = put-length l n x in omega arith;
-      works = simp length-set (C .works);
+      space = record {
+        some = C .space .some;
+        few = C .space .few;
+        room = omega arith;
+        words = let z = C .space .words in let e = put-length l n x in omega arith;
+        works = simp length-set (C .space .works);
+      };
       hashed = record { heads = heads-new; links = links-new };
       apart = apart-new;
     }

@@ -11,7 +11,7 @@ use Rattle.whole.specs.Linears.{numbers}
 use Rattle.whole.specs.LinearsLaws.{rest}
 use Rattle.table.proofs.Words.{R, back}
 use Rattle.table.specs.declared.Node.{Node}
-use Rattle.table_unique.specs.Unique.{factors-end, bitsOf, addedOf, nextOf, hashL, bucketOf, hashOf}
+use Rattle.table_unique.specs.Unique.{factors-end, addedOf, nextOf, hashL, bucketOf, hashOf}
 
 -- ---- a product by halves, of a factor that is all in its low half
 

@@ -6,21 +6,18 @@ use Prim.Native.Nat.{ℕ, zero, suc, _+_, _-_, _*_, _/_, _%_, _^_, _≤_, _<_}
 use lib.Dec.{eqb}
 use lib.IntN.{ℤ, pos, negsuc}
 use lib.ListN.{length, getD}
+use mir.Syntax.{w64}
+use mir.Val.{ofZ}
 use Rattle.table.specs.Table.{node-words, nodeAt, internR, internW, nodes-most}
 use Rattle.table.specs.declared.Made.{Made}
 use Rattle.table.specs.declared.Node.{Node}
-
--- a word as it is stored, in two's complement
-unfoldable pub bitsOf : ℤ → ℕ
-bitsOf (pos n) = n
-bitsOf (negsuc n) = 18446744073709551615 - n
 
 -- each of a node's words has a share in its hash, by a factor of its own, below this; none waits for another
 abbrev pub factors-end : ℕ
 factors-end = 2147483648
 
 unfoldable pub addedOf : ℕ → ℤ → ℕ → ℕ
-addedOf h z k = (h + bitsOf z * k) % 2 ^ 64
+addedOf h z k = (h + ofZ w64 z * k) % 2 ^ 64
 
 unfoldable pub nextOf : ℕ → ℕ
 nextOf k = k * 69069 % factors-end
@@ -55,13 +52,17 @@ pub record Hashed (cap : ℕ) (l : List ℤ) (w : List ℕ) (n : ℕ) : Type 0 w
 abbrev pub Apart : List ℤ → ℕ → Type 0
 Apart l n = (i j : ℕ) → i < n → j < n → nodeAt l i ≡ nodeAt l j → i ≡ j
 
--- a table of n nodes with room for cap, and its chains
-pub record Chained (cap : ℕ) (l : List ℤ) (w : List ℕ) (n : ℕ) : Type 0 where
+-- room for cap nodes in the node words and the work words, n of them taken
+pub record Space (cap : ℕ) (l : List ℤ) (w : List ℕ) (n : ℕ) : Type 0 where
   pub some : 0 < cap
   pub few : cap ≤ nodes-most
   pub room : n ≤ cap
   pub words : cap * node-words ≤ length l
   pub works : cap * work-words ≤ length w
+
+-- a table of n nodes with room for cap, and its chains
+pub record Chained (cap : ℕ) (l : List ℤ) (w : List ℕ) (n : ℕ) : Type 0 where
+  pub space : Space cap l w n
   pub hashed : Hashed cap l w n
   pub apart : Apart l n
 

@@ -4,10 +4,11 @@ use std::num::wrapping_add_u64;
 use table::Made;
 use table::Node;
 use whole::NUMBERS;
+use whole::limits::bits;
 ghost use mathlib.Core.Path.{_≡_};
 ghost use Prim.Native.Nat.{_*_, _%_, _^_, _≤_, _<_};
 ghost use Rattle.table.specs.Table.{firstNode, nodes-most};
-ghost use Rattle.table_unique.specs.Unique.{factors-end, bitsOf, addedOf, nextOf, bucketOf, hashOf, Chained, NodeEntered};
+ghost use Rattle.table_unique.specs.Unique.{factors-end, addedOf, nextOf, bucketOf, hashOf, Chained, NodeEntered};
 
 // A node's work words: two for the chains, and six for the cache.
 pub const WORK_WORDS: usize = 8;
@@ -25,17 +26,6 @@ const HIGH_FACTOR: u64 = 2024237689;
 const LOW_FACTOR: u64 = 1812433253;
 
 const FACTORS_END: u64 = 2147483648;
-
-// A word as it is stored. The compiler makes nothing of it.
-fn bits(z: i64) -> u64
-    ensures { λ r. ⌜ r ≡ bitsOf z ⌝ }
-{
-    if z < 0 {
-        u64::MAX - (-(z + 1)) as u64
-    } else {
-        z as u64
-    }
-}
 
 // The last 64 bits of a product, by halves, since no product may be longer. The compiler makes one multiplication of it.
 fn times(x: u64, k: u64) -> u64

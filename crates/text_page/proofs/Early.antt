@@ -9,7 +9,7 @@ use Rattle.theory.specs.Valid.{among}
 use Rattle.theory.specs.Verdict.{Verdict}
 use Rattle.theory.specs.Load.{site-at}
 use Rattle.theory.specs.Solve.{early}
-use Rattle.theory.specs.laws.Loading.{accepted-site}
+use Rattle.theory.specs.laws.AcceptedModel.{accepted-site}
 use Rattle.theory.specs.laws.Rows.{Passed, by-early, admitted, admitted-is, early-some}
 
 module _ (B : List ℕ) (words : ℕ) where

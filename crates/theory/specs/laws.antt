@@ -8,7 +8,7 @@ pub mod Safe
 -- which tests and leaves stand in diagrams, in an accepted model and in its stages
 pub mod Nodes
 pub mod Valid
-pub mod Loading
+pub mod AcceptedModel
 pub mod Good
 -- the value that is meant, and what diagrams and stages come to
 pub mod Total
@@ -19,10 +19,10 @@ pub mod Expectation
 pub mod Stages
 -- tables: nodes and their numbers, counts, words, readings
 pub mod Table
-pub mod Counting
+pub mod Counts
 pub mod Peaks
 pub mod Words
-pub mod Reading
+pub mod ValueWalk
 -- refusals, peak and rows
 pub mod Refusals
 pub mod Chain
@@ -33,4 +33,4 @@ pub mod Numbers
 pub mod Name
 -- plain working
 pub mod Plain
-pub mod Staying
+pub mod PlainLimits

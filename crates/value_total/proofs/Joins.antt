@@ -25,7 +25,7 @@ use Rattle.theory.specs.Verdict.{Site, Verdict}
 use Rattle.theory.specs.Load.{site-at}
 use Rattle.theory.specs.Solve.{early}
 use Rattle.theory.specs.Value.{Asked, ValueOut, refused-value, value-of}
-use Rattle.theory.specs.laws.Loading.{accepted-site}
+use Rattle.theory.specs.laws.AcceptedModel.{accepted-site}
 use Rattle.theory.specs.laws.Rows.{Passed, by-early, early-some}
 use Rattle.value_walk.specs.Out.{value-after}
 use Rattle.value_joined.specs.Total.{TotalOut, refused-total, answered-number, both-read, same-scale, total-after, total-of}

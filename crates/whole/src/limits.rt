@@ -2,6 +2,8 @@
 ghost use mathlib.Core.Path.{_≡_};
 ghost use Prim.Native.Nat.{_^_};
 ghost use lib.IntN.{pos, natAbs, _+ℤ_, _*ℤ_};
+ghost use mir.Syntax.{w64};
+ghost use mir.Val.{ofZ};
 ghost use Rattle.whole.specs.Within.{limited, Small};
 use super::Within;
 
@@ -16,6 +18,17 @@ pub fn mag(a: i64) -> u64
         (-(a + 1)) as u64 + 1
     } else {
         a as u64
+    }
+}
+
+// The bits of any i64 as a number: 2⁶⁴ − |z| where it is negative. The compiler makes nothing of it.
+pub fn bits(z: i64) -> u64
+    ensures { λ r. ⌜ r ≡ ofZ w64 z ⌝ }
+{
+    if z < 0 {
+        u64::MAX - (-(z + 1)) as u64
+    } else {
+        z as u64
     }
 }
 

@@ -27,7 +27,7 @@ slice-aggregate-run-5 c = search needs
 
 run-requires : tie.Need-run-requires
 run-requires c κs =
-    (record { some = omega arith; few = omega arith; words = omega arith; works = omega arith }, refl)
+    (record { some = omega arith; few = omega arith; room = omega arith; words = omega arith; works = omega arith }, refl)
 
 returns-2 : tie.Need-returns-2
 returns-2 c = search needs

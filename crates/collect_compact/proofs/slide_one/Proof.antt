@@ -1,5 +1,5 @@
 -- `collect_compact::slide_one` meets its contract: a node that is not marked changes nothing; a marked one gets its branches' new indexes and is stored at j.
-use Rattle.collect_compact.proofs.Moves.{one-no, one-yes, valid-as}
+use Rattle.collect_compact.proofs.Moves.{one-no, one-yes, inside-as}
 use borrow.Author.Needs.{needs}
 use Rattle.collect_compact.proofs.slide_one.Statement.{statement}
 use Rattle.collect_compact.proofs.slide_one.Tie as tie
@@ -17,9 +17,9 @@ returns c =
 get-requires : tie.Need-get-requires
 get-requires c κs = search needs
 
-moved-requires : tie.Need-moved-requires
-moved-requires c κs =
-    let s = (c .before .before .before .before .before .before) in (s .pre .1, s .pre .2, valid-as (c .get .ensures) (s .pre .5))
+renumbered-requires : tie.Need-renumbered-requires
+renumbered-requires c κs =
+    let s = (c .before .before .before .before .before .before) in (s .pre .1, s .pre .2, inside-as (c .get .ensures) (s .pre .5))
 
 put-requires : tie.Need-put-requires
 put-requires c κs = search needs
@@ -47,7 +47,7 @@ same-length-2 c = search needs
 
 returns-2 : tie.Need-returns-2
 returns-2 c =
-    let s = (c .before .before .before .before .before .before .before .before .before .before) in one-yes (s .args .nodes .now) (s .args .work .now) (s .args .cap) (s .args .i) (s .args .j) (c .before .before .before .before .before .before .before .if1 .left) (c .before .before .before .before .get .ensures) (c .before .before .before .moved .ensures) (c .before .put .ensures)
+    let s = (c .before .before .before .before .before .before .before .before .before .before) in one-yes (s .args .nodes .now) (s .args .work .now) (s .args .cap) (s .args .i) (s .args .j) (c .before .before .before .before .before .before .before .if1 .left) (c .before .before .before .before .get .ensures) (c .before .before .before .renumbered .ensures) (c .before .put .ensures)
 
 pub slide-one-spec : {M : Type 1} → statement M
 slide-one-spec =
@@ -57,7 +57,7 @@ slide-one-spec =
     slice-read-if1
     returns
     get-requires
-    moved-requires
+    renumbered-requires
     put-requires
     cast-work
     add-work

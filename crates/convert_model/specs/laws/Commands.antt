@@ -17,7 +17,7 @@ use Rattle.theory.specs.Command.{Command, site, push-leaf, push-condition, push
 use Rattle.theory.specs.Verdict.{Site, Facts, Progress, Verdict, refusal, or, beyond, of-site, same-slot, end-slot, first-broken, first-rules, later-rules, rules-in, after, ended, judged-in}
 use Rattle.theory.specs.laws.Valid.{among-out}
 use Rattle.theory.specs.Rows.{Whole-in}
-use Rattle.theory.specs.laws.Loading.{broken, unbroken, judged-whole, behind-in}
+use Rattle.theory.specs.laws.AcceptedModel.{broken, unbroken, judged-whole, behind-in}
 use Rattle.theory.specs.laws.Rows.{if-yes, if-no, by-read-in, read-whole-in}
 use Rattle.convert_forms.specs.Forms.{converted, converted-all}
 use Rattle.convert_model.specs.Conversion.{is-forbidden, forbids}

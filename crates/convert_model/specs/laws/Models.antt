@@ -17,7 +17,7 @@ use Rattle.theory.specs.Command.{Command, site, push-leaf, push-condition, push
 use Rattle.theory.specs.Verdict.{or, Site, Verdict, refusal, site-of, Rule, rule, first-broken, site-rules, first-rules, rules-in, after, at-start, verdict-in}
 use Rattle.theory.specs.Load.{Loaded, load-one-with, load-on-with, load-in, model-in, model-of, site-in}
 use Rattle.theory.specs.laws.Valid.{among-out, among-in}
-use Rattle.theory.specs.laws.Loading.{broken, unbroken, behind-in}
+use Rattle.theory.specs.laws.AcceptedModel.{broken, unbroken, behind-in}
 use Rattle.theory.specs.laws.Rows.{by-read-in, read-whole-in}
 use Rattle.convert_forms.specs.Forms.{model-as}
 use Rattle.convert_model.specs.Conversion.{forbids, is-forbidden}

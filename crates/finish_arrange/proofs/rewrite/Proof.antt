@@ -1,7 +1,7 @@
 -- `finish_arrange::rewrite` meets its contract: the nodes before i have their branches' numbers, and those from i on are as they were.
 use Prim.Native.Nat.{_-_}
 use native.Mathlib.Omega.{arith}
-use Rattle.finish_arrange.proofs.Rewrites.{Rewrite, rewrites, room, valid, rewrite-more, rewritten}
+use Rattle.finish_arrange.proofs.Rewrites.{Rewrite, rewrites, room, inside, rewrite-more, rewritten}
 use Rattle.finish_arrange.proofs.rewrite.Statement.{statement}
 use Rattle.finish_arrange.proofs.rewrite.Tie as tie
 
@@ -21,7 +21,7 @@ get-requires c κs =
 
 renumbered-requires : tie.Need-renumbered-requires Inv-loop μ-loop
 renumbered-requires c κs =
-    ((c .before .before .before .before .before) .pre .1, (c .before .before .before .before .before) .pre .0 .few, valid ((c .before .before .before .before .before) .pre .0) (c .before .before .before .loop .inv) (c .before .before .loop-test .taken) (c .get .ensures))
+    ((c .before .before .before .before .before) .pre .1, (c .before .before .before .before .before) .pre .0 .few, inside ((c .before .before .before .before .before) .pre .0) (c .before .before .before .loop .inv) (c .before .before .loop-test .taken) (c .get .ensures))
 
 put-requires : tie.Need-put-requires Inv-loop μ-loop
 put-requires c κs =

@@ -17,7 +17,7 @@ use Rattle.theory.specs.Verdict.{Site, Facts, Progress, same-slot, has-slot, na
 use Rattle.theory.specs.Load.{Entry, Loaded, condition-test, load-choice-with, load-entry, load-one, load-one-with}
 use Rattle.theory.specs.Meaning.{Env}
 use Rattle.theory.specs.laws.Comps.{result-bind}
-use Rattle.theory.specs.laws.Loading.{broken, unbroken, judged-whole}
+use Rattle.theory.specs.laws.AcceptedModel.{broken, unbroken, judged-whole}
 use Rattle.import_model.specs.Encode.{placed, command-bytes}
 use Rattle.import_model.specs.Meaning.{Item, item-leaf, leaf-at}
 use Rattle.import_model.specs.laws.Follows.{load-all, loaded}

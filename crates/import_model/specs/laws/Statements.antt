@@ -22,7 +22,7 @@ use Rattle.theory.specs.Listing.{written, ListingOut}
 use Rattle.theory.specs.laws.Comps.{result-bind}
 use Rattle.theory.specs.laws.Valid.{among-out}
 use Rattle.theory.specs.laws.Rows.{verdict-is-in}
-use Rattle.theory.specs.laws.Loading.{In-range, accepted, loaded-entries, model-loaded}
+use Rattle.theory.specs.laws.AcceptedModel.{In-range, accepted, loaded-entries, model-loaded}
 use Rattle.convert_model.specs.Statements.{AdmittedIn, bytes-of}
 use Rattle.import_grammar.specs.Grammar.{Digits, Text, entire, text-bytes, Items, head, closed, named, Opening, reward, chance, next, end, Before, start, case}
 use Rattle.import_grammar.specs.laws.Reads.{one-reading}

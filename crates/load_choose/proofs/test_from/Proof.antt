@@ -1,5 +1,5 @@
 -- `load_choose::test_from` meets its contract.
-use Rattle.load_choose.proofs.Tests.{none-stood, other-stood, condition-fits, condition-test-stood, linear-there, linear-nums, linear-test-stood}
+use Rattle.load_choose.proofs.Tests.{condition-stood, none-stood, other-stood, condition-fits, condition-test-stood, linear-there, linear-nums, linear-test-stood}
 use native.Mathlib.Omega.{arith}
 use mathlib.Core.Path.{sym, subst}
 use Rattle.rule_node.specs.Nodes.{Nums}
@@ -18,14 +18,17 @@ condition-requires c κs = search needs
 
 returns : tie.Need-returns
 returns c =
-    none-stood ((c .before .before .before .before) .args .model .now) ((c .before .before .before .before) .args .at) (c .before .before .command-at .result) (c .before .before .command-at .ensures) (c .before .match .keys2) (c .condition .ensures)
+    none-stood ((c .before .before .before .before) .args .model .now) ((c .before .before .before .before) .args .at) (c .before .before .command-at .result) (c .before .before .command-at .ensures) (c .before .match .keys2) (condition-stood 1 (omega arith, omega arith) (c .condition .ensures))
 
 enum-known-c : tie.Need-enum-known-c
 enum-known-c c = search needs
 
+cast-condition : tie.Need-cast-condition
+cast-condition c = search needs
+
 condition-requires-2 : tie.Need-condition-requires-2
 condition-requires-2 c κs =
-    condition-fits ((c .before .before .before .before .before .before .before .before) .args .model .now) ((c .before .before .before .before .before .before .before .before) .args .at) (c .before .before .before .before .before .before .command-at .result) (c .before .before .before .before .before .before .command-at .ensures) (c .before .before .before .before .read .given .1) (c .before .c .given .1) ((c .before .before .before .before .before .before .before .before) .pre)
+    condition-fits ((c .before .before .before .before .before .before .before .before) .args .model .now) ((c .before .before .before .before .before .before .before .before) .args .at) (c .before .before .before .before .before .before .command-at .result) (c .before .before .before .before .before .before .command-at .ensures) (c .before .before .before .before .read .given .1) (c .before .c .given .1) ((c .before .before .before .before .before .before .before .before) .pre) .1
 
 enum-told : tie.Need-enum-told
 enum-told c = search needs
@@ -50,7 +53,7 @@ condition-requires-3 c κs = search needs
 
 returns-2 : tie.Need-returns-2
 returns-2 c =
-    condition-test-stood ((c .before .before .before .before .before .before .before .before .before) .args .model .now) ((c .before .before .before .before .before .before .before .before .before) .args .at) (c .before .before .before .before .before .before .before .command-at .result) (c .before .before .before .before .before .before .before .command-at .ensures) (c .before .before .before .before .before .read .given .1) (c .before .before .c .given .1) (c .condition2 .ensures)
+    condition-test-stood ((c .before .before .before .before .before .before .before .before .before) .args .model .now) ((c .before .before .before .before .before .before .before .before .before) .args .at) (c .before .before .before .before .before .before .before .command-at .result) (c .before .before .before .before .before .before .before .command-at .ensures) (c .before .before .before .before .before .read .given .1) (c .before .before .c .given .1) ((c .before .before .before .before .before .before .before .before .before) .pre) (c .condition2 .ensures)
 
 returns-3 : tie.Need-returns-3
 returns-3 c =
@@ -58,7 +61,7 @@ returns-3 c =
 
 returns-4 : tie.Need-returns-4
 returns-4 c =
-    other-stood ((c .before .before .before .before .before .before .before) .args .model .now) ((c .before .before .before .before .before .before .before) .args .at) (c .before .before .before .before .before .command-at .result) (c .before .before .before .before .before .command-at .ensures) (c .before .before .before .read .given .1) (c .before .match2 .keys3) (c .condition3 .ensures)
+    other-stood ((c .before .before .before .before .before .before .before) .args .model .now) ((c .before .before .before .before .before .before .before) .args .at) (c .before .before .before .before .before .command-at .result) (c .before .before .before .before .before .command-at .ensures) (c .before .before .before .read .given .1) (c .before .match2 .keys3) (condition-stood 1 (omega arith, omega arith) (c .condition3 .ensures))
 
 pub test-from-spec : {M : Type 1} → statement M
 test-from-spec =
@@ -69,6 +72,7 @@ test-from-spec =
     condition-requires
     returns
     enum-known-c
+    cast-condition
     condition-requires-2
     enum-told
     add-linear-at

@@ -7,8 +7,8 @@ use Rattle.model_command.proofs.action_in.Tie as tie
 byte-at-requires : tie.Need-byte-at-requires
 byte-at-requires c κs = search needs
 
-as-action-requires : tie.Need-as-action-requires
-as-action-requires c κs = search needs
+byte-action-requires : tie.Need-byte-action-requires
+byte-action-requires c κs = search needs
 
 enum-told : tie.Need-enum-told
 enum-told c = search needs
@@ -22,8 +22,8 @@ add-byte-at c = search needs
 byte-at-requires-2 : tie.Need-byte-at-requires-2
 byte-at-requires-2 c κs = search needs
 
-as-action-requires-2 : tie.Need-as-action-requires-2
-as-action-requires-2 c κs = search needs
+byte-action-requires-2 : tie.Need-byte-action-requires-2
+byte-action-requires-2 c κs = search needs
 
 mul-result : tie.Need-mul-result
 mul-result c = search needs
@@ -33,23 +33,23 @@ add-result c = search needs
 
 returns : tie.Need-returns
 returns c =
-    one-byte _ _ _ _ _ (c .enum-told .given .1) (c .before .before .as-action .ensures .0) (c .before .before .before .byte-at .ensures)
+    one-byte _ _ _ _ _ (c .enum-told .given .1) (c .before .before .byte-action .ensures .0) (c .before .before .before .byte-at .ensures)
 
 returns-2 : tie.Need-returns-2
 returns-2 c =
-    two-bytes _ _ _ _ _ _ _ (c .before .before .enum-told2 .given .1) (c .before .before .before .before .as-action .ensures .0) (c .before .before .before .before .before .byte-at .ensures) (c .as-action2 .ensures .0) (c .before .byte-at2 .ensures)
+    two-bytes _ _ _ _ _ _ _ (c .before .before .enum-told2 .given .1) (c .before .before .before .before .byte-action .ensures .0) (c .before .before .before .before .before .byte-at .ensures) (c .byte-action2 .ensures .0) (c .before .byte-at2 .ensures)
 
 pub action-in-spec : {M : Type 1} → statement M
 action-in-spec =
     tie.close
     (tie.spec
     byte-at-requires
-    as-action-requires
+    byte-action-requires
     enum-told
     enum-told-2
     add-byte-at
     byte-at-requires-2
-    as-action-requires-2
+    byte-action-requires-2
     mul-result
     add-result
     returns

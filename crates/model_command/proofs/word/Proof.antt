@@ -4,38 +4,38 @@ use borrow.Author.Needs.{needs}
 use Rattle.model_command.proofs.word.Statement.{statement}
 use Rattle.model_command.proofs.word.Tie as tie
 
-shared-slice-read-wide : tie.Need-shared-slice-read-wide
-shared-slice-read-wide c = search needs
+shared-slice-read-byte-word : tie.Need-shared-slice-read-byte-word
+shared-slice-read-byte-word c = search needs
 
-wide-requires : tie.Need-wide-requires
-wide-requires c κs = search needs
+byte-word-requires : tie.Need-byte-word-requires
+byte-word-requires c κs = search needs
 
-add-wide : tie.Need-add-wide
-add-wide c = search needs
+add-byte-word : tie.Need-add-byte-word
+add-byte-word c = search needs
 
-shared-slice-read-wide-2 : tie.Need-shared-slice-read-wide-2
-shared-slice-read-wide-2 c = search needs
+shared-slice-read-byte-word-2 : tie.Need-shared-slice-read-byte-word-2
+shared-slice-read-byte-word-2 c = search needs
 
-wide-requires-2 : tie.Need-wide-requires-2
-wide-requires-2 c κs = search needs
+byte-word-requires-2 : tie.Need-byte-word-requires-2
+byte-word-requires-2 c κs = search needs
 
-add-wide-2 : tie.Need-add-wide-2
-add-wide-2 c = search needs
+add-byte-word-2 : tie.Need-add-byte-word-2
+add-byte-word-2 c = search needs
 
-shared-slice-read-wide-3 : tie.Need-shared-slice-read-wide-3
-shared-slice-read-wide-3 c = search needs
+shared-slice-read-byte-word-3 : tie.Need-shared-slice-read-byte-word-3
+shared-slice-read-byte-word-3 c = search needs
 
-wide-requires-3 : tie.Need-wide-requires-3
-wide-requires-3 c κs = search needs
+byte-word-requires-3 : tie.Need-byte-word-requires-3
+byte-word-requires-3 c κs = search needs
 
-add-wide-3 : tie.Need-add-wide-3
-add-wide-3 c = search needs
+add-byte-word-3 : tie.Need-add-byte-word-3
+add-byte-word-3 c = search needs
 
-shared-slice-read-wide-4 : tie.Need-shared-slice-read-wide-4
-shared-slice-read-wide-4 c = search needs
+shared-slice-read-byte-word-4 : tie.Need-shared-slice-read-byte-word-4
+shared-slice-read-byte-word-4 c = search needs
 
-wide-requires-4 : tie.Need-wide-requires-4
-wide-requires-4 c κs = search needs
+byte-word-requires-4 : tie.Need-byte-word-requires-4
+byte-word-requires-4 c κs = search needs
 
 mul-result : tie.Need-mul-result
 mul-result c = search needs
@@ -58,23 +58,23 @@ add-result-3 c = search needs
 returns : tie.Need-returns
 unfolding word-at
 returns c =
-    cc (c .before .before .before .before .before .before .wide .ensures .0, c .before .before .before .before .wide2 .ensures .0, c .before .before .wide3 .ensures .0, c .wide4 .ensures .0)
+    cc (c .before .before .before .before .before .before .byte-word .ensures .0, c .before .before .before .before .byte-word2 .ensures .0, c .before .before .byte-word3 .ensures .0, c .byte-word4 .ensures .0)
 
 pub word-spec : {M : Type 1} → statement M
 word-spec =
     tie.close
     (tie.spec
-    shared-slice-read-wide
-    wide-requires
-    add-wide
-    shared-slice-read-wide-2
-    wide-requires-2
-    add-wide-2
-    shared-slice-read-wide-3
-    wide-requires-3
-    add-wide-3
-    shared-slice-read-wide-4
-    wide-requires-4
+    shared-slice-read-byte-word
+    byte-word-requires
+    add-byte-word
+    shared-slice-read-byte-word-2
+    byte-word-requires-2
+    add-byte-word-2
+    shared-slice-read-byte-word-3
+    byte-word-requires-3
+    add-byte-word-3
+    shared-slice-read-byte-word-4
+    byte-word-requires-4
     mul-result
     add-result
     mul-result-2

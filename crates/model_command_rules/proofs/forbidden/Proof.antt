@@ -1,5 +1,4 @@
 -- `model_command_rules::forbidden` meets its contract.
-use mathlib.Core.Path.{_∙_}
 use Rattle.model_command_rules.proofs.RuleTests.{later-forbidden}
 use borrow.Author.Needs.{needs}
 use Rattle.model_command_rules.proofs.forbidden.Statement.{statement}
@@ -10,7 +9,7 @@ ordered-requires c κs = search needs
 
 returns : tie.Need-returns
 returns c =
-    λ F p st. c .ordered .ensures ∙ later-forbidden st
+    λ F p st. later-forbidden st (c .ordered .ensures)
 
 pub forbidden-spec : {M : Type 1} → statement M
 forbidden-spec = tie.close (tie.spec ordered-requires returns)

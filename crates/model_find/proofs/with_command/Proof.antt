@@ -23,8 +23,8 @@ unfolding form-of
 spells-requires c κs =
     let h = room ((c .before .before .before .before .before .before) .args .model .now) ((c .before .before .before .before .before .before) .args .at) _ (c .before .before .c .given .1) ((c .before .before .before .before .before .before) .pre) in omega (arith, c .behind-action .ensures .0)
 
-wide-requires : tie.Need-wide-requires
-wide-requires c κs = search needs
+action-word-requires : tie.Need-action-word-requires
+action-word-requires c κs = search needs
 
 joined-requires : tie.Need-joined-requires
 joined-requires c κs = search needs
@@ -32,7 +32,7 @@ joined-requires c κs = search needs
 returns : tie.Need-returns
 unfolding form-of
 returns c =
-    c .joined .ensures ∙ ap (joined ((c .before .before .before .before .before .before .before .before .before .before) .args .known)) (c .before .wide .ensures) ∙ joins ((c .before .before .before .before .before .before .before .before .before .before) .args .model .now) ((c .before .before .before .before .before .before .before .before .before .before) .args .at) _ (c .before .before .before .before .before .before .c .given .1) ((c .before .before .before .before .before .before .before .before .before .before) .args .name .now) ((c .before .before .before .before .before .before .before .before .before .before) .args .known) (c .before .before .before .spells .result) (c .before .before .before .before .behind-action .result) (c .before .before .before .before .behind-action .ensures .0) (c .before .before .before .spells .ensures) (c .before .before .if1 .taken)
+    c .joined .ensures ∙ ap (joined ((c .before .before .before .before .before .before .before .before .before .before) .args .known)) (c .before .action-word .ensures) ∙ joins ((c .before .before .before .before .before .before .before .before .before .before) .args .model .now) ((c .before .before .before .before .before .before .before .before .before .before) .args .at) _ (c .before .before .before .before .before .before .c .given .1) ((c .before .before .before .before .before .before .before .before .before .before) .args .name .now) ((c .before .before .before .before .before .before .before .before .before .before) .args .known) (c .before .before .before .spells .result) (c .before .before .before .before .behind-action .result) (c .before .before .before .before .behind-action .ensures .0) (c .before .before .before .spells .ensures) (c .before .before .if1 .taken)
 
 returns-2 : tie.Need-returns-2
 unfolding form-of
@@ -51,7 +51,7 @@ with-command-spec =
     behind-action-requires
     add-spells
     spells-requires
-    wide-requires
+    action-word-requires
     joined-requires
     returns
     returns-2

@@ -17,7 +17,7 @@ use Rattle.theory.specs.Load.{site-at, site-in}
 use Rattle.theory.specs.Name.{Part, trimmed, name-part, name}
 use Rattle.theory.specs.Rows.{Range, Admitted, name-0, NamePartRow, name-given, name-empty, name-refused}
 use Rattle.theory.specs.laws.Valid.{among-out}
-use Rattle.theory.specs.laws.Loading.{broken, unbroken, judged-whole, behind}
+use Rattle.theory.specs.laws.AcceptedModel.{broken, unbroken, judged-whole, behind}
 use Rattle.theory.specs.laws.Rows.{by-read, ended-going, verdict-is}
 use Rattle.theory.specs.laws.Name.{trimmed-most, trimmed-spaces, trimmed-last, name-bytes-at, name-part-row, name-part-is}
 use Rattle.model_find.specs.Find.{trim}

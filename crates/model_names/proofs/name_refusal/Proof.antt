@@ -25,22 +25,22 @@ returns-2 c =
     early-passed ((c .before .before .before .before .before .before) .args .model .now) ((c .before .before .before .before .before .before) .args .action) (c .before .before .before .before .early .result) (c .before .site .result .actions) false (c .before .before .before .before .early .ensures) (c .before .before .if1 .left) (sym (ap (λ (S : Site). S .actions) (c .before .site .ensures)))
     (rw (lt-leb 1 _ (c .if2 .taken)))
 
-wide-requires : tie.Need-wide-requires
-wide-requires c κs = search needs
+action-word-requires : tie.Need-action-word-requires
+action-word-requires c κs = search needs
 
 returns-3 : tie.Need-returns-3
 unfolding among
 returns-3 c =
-    early-passed ((c .before .before .before .before .before .before .before .before) .args .model .now) ((c .before .before .before .before .before .before .before .before) .args .action) (c .before .before .before .before .before .before .early .result) (c .before .wide .result) false (c .before .before .before .before .before .before .early .ensures) (c .before .before .before .before .if1 .left) (sym (ap (λ (S : Site). S .actions) (c .before .before .before .site .ensures)) ∙ sym (c .before .wide .ensures))
+    early-passed ((c .before .before .before .before .before .before .before .before) .args .model .now) ((c .before .before .before .before .before .before .before .before) .args .action) (c .before .before .before .before .before .before .early .result) (c .before .action-word .result) false (c .before .before .before .before .before .before .early .ensures) (c .before .before .before .before .if1 .left) (sym (ap (λ (S : Site). S .actions) (c .before .before .before .site .ensures)) ∙ sym (c .before .action-word .ensures))
     (rw (le-leb 1 _ (c .before .before .if2 .left), lt-leb _ _ (c .if3 .taken)))
 
 returns-4 : tie.Need-returns-4
 unfolding among
 returns-4 c =
-    early-passed ((c .before .before .before .before .before .before .before .before) .args .model .now) ((c .before .before .before .before .before .before .before .before) .args .action) (c .before .before .before .before .before .before .early .result) (c .before .wide .result) true (c .before .before .before .before .before .before .early .ensures) (c .before .before .before .before .if1 .left) (sym (ap (λ (S : Site). S .actions) (c .before .before .before .site .ensures)) ∙ sym (c .before .wide .ensures))
+    early-passed ((c .before .before .before .before .before .before .before .before) .args .model .now) ((c .before .before .before .before .before .before .before .before) .args .action) (c .before .before .before .before .before .before .early .result) (c .before .action-word .result) true (c .before .before .before .before .before .before .early .ensures) (c .before .before .before .before .if1 .left) (sym (ap (λ (S : Site). S .actions) (c .before .before .before .site .ensures)) ∙ sym (c .before .action-word .ensures))
     (rw (le-leb 1 _ (c .before .before .if2 .left), le-leb _ _ (c .if3 .left)))
 
 pub name-refusal-spec : {M : Type 1} → statement M
 name-refusal-spec =
     tie.close
-    (tie.spec early-requires returns site-requires returns-2 wide-requires returns-3 returns-4)
+    (tie.spec early-requires returns site-requires returns-2 action-word-requires returns-3 returns-4)

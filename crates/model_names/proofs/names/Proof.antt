@@ -13,17 +13,17 @@ use Rattle.model_names.proofs.names.Tie as tie
 enum-known-c : tie.Need-enum-known-c
 enum-known-c c = search needs
 
-wide-requires : tie.Need-wide-requires
-wide-requires c κs = search needs
+action-word-requires : tie.Need-action-word-requires
+action-word-requires c κs = search needs
 
 returns : tie.Need-returns
 unfolding names-action command-of-in
 returns c =
-    λ B at. ap (eqb ((c .before .before .before .before) .args .action)) (c .wide .ensures) ∙ ap (λ (d : CodeCommand). names-action ((c .before .before .before .before) .args .action) (whole (command-of B at d))) (sym (c .before .before .c .given .1))
+    λ B at. ap (eqb ((c .before .before .before .before) .args .action)) (c .action-word .ensures) ∙ ap (λ (d : CodeCommand). names-action ((c .before .before .before .before) .args .action) (whole (command-of B at d))) (sym (c .before .before .c .given .1))
 
 returns-2 : tie.Need-returns-2
 returns-2 c =
     λ B at. names-other ((c .before) .args .action) B at ((c .before) .args .c) (c .match .keys2)
 
 pub names-spec : {M : Type 1} → statement M
-names-spec = tie.close (tie.spec enum-known-c wide-requires returns returns-2)
+names-spec = tie.close (tie.spec enum-known-c action-word-requires returns returns-2)

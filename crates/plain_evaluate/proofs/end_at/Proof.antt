@@ -4,7 +4,7 @@ use native.Mathlib.Omega.{arith}
 use Rattle.whole.specs.Numerator.{words}
 use Rattle.theory.specs.Verdict.{end-slot}
 use Rattle.theory.specs.Meaning.{env}
-use Rattle.theory.specs.laws.Loading.{loaded-entries}
+use Rattle.theory.specs.laws.AcceptedModel.{loaded-entries}
 use Rattle.table.proofs.Words.{as-long}
 use Rattle.plain_pass.specs.Pass.{nums-at}
 use Rattle.plain_pass.specs.Parts.{row, place}

@@ -5,20 +5,20 @@ use borrow.Author.Needs.{needs}
 use Rattle.plain_leaf.proofs.action_at.Statement.{statement}
 use Rattle.plain_leaf.proofs.action_at.Tie as tie
 
-shared-slice-read-wide : tie.Need-shared-slice-read-wide
-shared-slice-read-wide c = search needs
+shared-slice-read-byte-action : tie.Need-shared-slice-read-byte-action
+shared-slice-read-byte-action c = search needs
 
-wide-requires : tie.Need-wide-requires
-wide-requires c κs = search needs
+byte-action-requires : tie.Need-byte-action-requires
+byte-action-requires c κs = search needs
 
-add-wide : tie.Need-add-wide
-add-wide c = search needs
+add-byte-action : tie.Need-add-byte-action
+add-byte-action c = search needs
 
-shared-slice-read-wide-2 : tie.Need-shared-slice-read-wide-2
-shared-slice-read-wide-2 c = search needs
+shared-slice-read-byte-action-2 : tie.Need-shared-slice-read-byte-action-2
+shared-slice-read-byte-action-2 c = search needs
 
-wide-requires-2 : tie.Need-wide-requires-2
-wide-requires-2 c κs = search needs
+byte-action-requires-2 : tie.Need-byte-action-requires-2
+byte-action-requires-2 c κs = search needs
 
 mul-result : tie.Need-mul-result
 mul-result c = search needs
@@ -28,17 +28,17 @@ add-result c = search needs
 
 returns : tie.Need-returns
 unfolding bytes-at
-returns c = omega (arith, c .before .before .wide .ensures .0, c .wide2 .ensures .0)
+returns c = omega (arith, c .before .before .byte-action .ensures .0, c .byte-action2 .ensures .0)
 
 pub action-at-spec : {M : Type 1} → statement M
 action-at-spec =
     tie.close
     (tie.spec
-    shared-slice-read-wide
-    wide-requires
-    add-wide
-    shared-slice-read-wide-2
-    wide-requires-2
+    shared-slice-read-byte-action
+    byte-action-requires
+    add-byte-action
+    shared-slice-read-byte-action-2
+    byte-action-requires-2
     mul-result
     add-result
     returns)

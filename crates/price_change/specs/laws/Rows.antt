@@ -19,8 +19,8 @@ use Rattle.theory.specs.Plain.{Worth, is, nothing, over, state-worth, if-true}
 use Rattle.theory.specs.Staying.{Stays}
 use Rattle.theory.specs.Rows.{Admitted, asked-state}
 use Rattle.theory.specs.laws.Fits.{state-accepted, state-refused}
-use Rattle.theory.specs.laws.Loading.{accepted-valid}
-use Rattle.theory.specs.laws.Staying.{Fine, answers-stay, stays-answers, over-leaves}
+use Rattle.theory.specs.laws.AcceptedModel.{accepted-valid}
+use Rattle.theory.specs.laws.PlainLimits.{Fine, answers-stay, stays-answers, over-leaves}
 use Rattle.theory.specs.laws.Rows.{admitted, by-early, early-some, early-is, admitted-is, verdict-is, if-yes, if-no, some-not}
 use Rattle.price_change.specs.Sure.{margin, leads, SureOut, refused-sure, said, sure-out, sure-at, sure-of}
 use Rattle.price_change.specs.SureRows.{Asks, IsSure, SureRow, sure-1, sure-0, sure-1-10, sure-13, sure-23, sure-11, SureRows}

@@ -19,7 +19,7 @@ use Rattle.theory.specs.Staying.{Stays}
 use Rattle.theory.specs.Rows.{Range, Admitted, Accepts, asked-state, plain-0}
 use Rattle.theory.specs.laws.Total.{⊑-antisym, none-below, none-⊕}
 use Rattle.theory.specs.laws.Process.{lowest-best-action, lowest-best-total}
-use Rattle.theory.specs.laws.Loading.{accepted-site}
+use Rattle.theory.specs.laws.AcceptedModel.{accepted-site}
 use Rattle.theory.specs.laws.Rows.{verdict-is, plain-is}
 use Rattle.price_change.specs.Sure.{SureOut, margin, sure-of}
 use Rattle.price_change.specs.Prices.{Near, Clear, Repriced, NearModels}

@@ -18,7 +18,7 @@ use Rattle.theory.specs.Verdict.{or}
 use Rattle.theory.specs.Plain.{Worth, is, nothing, over, state-worth}
 use Rattle.theory.specs.laws.Process.{lowest-best-total}
 use Rattle.theory.specs.laws.Plain.{Means, plain-exact, plain-none, plain-action}
-use Rattle.theory.specs.laws.Staying.{Fine}
+use Rattle.theory.specs.laws.PlainLimits.{Fine}
 use Rattle.theory.specs.laws.Rows.{all-from, from-each}
 use Rattle.price_change.specs.Sure.{worth-of, exceeds, leads}
 use Rattle.price_change.specs.Prices.{Clear}

@@ -18,9 +18,9 @@ use Rattle.theory.specs.Meaning.{Action, Model, State, action-at, numbers-from,
 use Rattle.theory.specs.Valid.{all, valid}
 use Rattle.theory.specs.Plain.{Worth, is, nothing, over, judged, in-32-bits, sum-settings, rewarded, action-worth, better, numbered, try-actions, state-worth}
 use Rattle.theory.specs.laws.Total.{⊕-comm, ⊕-assoc, ⊕-zero, zero-⊕, num-⊕, none-⊕, weigh-num, weigh-none, weigh-zero}
-use Rattle.theory.specs.laws.Loading.{positive}
+use Rattle.theory.specs.laws.AcceptedModel.{positive}
 use Rattle.theory.specs.laws.Plain.{actions-in-order, first-action, Means, either, tried, weights-positive, state-exact}
-use Rattle.theory.specs.laws.Staying.{Fine}
+use Rattle.theory.specs.laws.PlainLimits.{Fine}
 use Rattle.price_change.specs.Sure.{worth-of}
 
 -- ---- a sum over settings

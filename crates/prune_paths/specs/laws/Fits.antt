@@ -21,9 +21,9 @@ use Rattle.theory.specs.Listing.{greatest-root}
 use Rattle.prune_paths.specs.Prune.{leaf-at, test-at, high-at, low-at, tree-from, tree-at, cut, remade, stage-anew, stages-anew, path-needs}
 use Rattle.theory.specs.laws.Comps.{same-refl, result-both, member-append}
 use Rattle.theory.specs.laws.Inside.{Sub, inside-parts, inside-branch, inside-root, inside-more, narrowed-inside}
-use Rattle.theory.specs.laws.Counting.{roots-fit}
+use Rattle.theory.specs.laws.Counts.{roots-fit}
 use Rattle.theory.specs.laws.Valid.{among-out, other-above}
-use Rattle.theory.specs.laws.Reading.{greatest-least}
+use Rattle.theory.specs.laws.ValueWalk.{greatest-least}
 use Rattle.theory.specs.laws.Rows.{nodes-length}
 use Rattle.prune_paths.specs.laws.Foreign.{Seen, leaf-seen, branch-seen, seen, Rows-good, tree-by, tree-enough}
 use Rattle.prune_paths.specs.laws.Reads.{Cleared}

@@ -24,7 +24,7 @@ use Rattle.theory.specs.laws.Fits.{zeros-each, each-zeros, part-word, part-each
 use Rattle.theory.specs.laws.Nodes.{branch-good}
 use Rattle.theory.specs.laws.Valid.{among-out, wide-in}
 use Rattle.theory.specs.laws.Words.{Stage-good, by-kind}
-use Rattle.theory.specs.laws.Reading.{asked-env, value-asked}
+use Rattle.theory.specs.laws.ValueWalk.{asked-env, value-asked}
 use Rattle.theory.specs.laws.Rows.{all-from}
 
 -- ---- what a good row says

@@ -27,7 +27,7 @@ use Rattle.theory.specs.laws.Nodes.{Good, parts, branch-good, leaf-good, node-s
 use Rattle.theory.specs.laws.Safe.{any, safe-make, sure}
 use Rattle.theory.specs.laws.Table.{enter-all-grown, enter-has, number-above, number-below}
 use Rattle.theory.specs.laws.Words.{Stage-good}
-use Rattle.theory.specs.laws.Reading.{asked-env, greatest-least, stage-read}
+use Rattle.theory.specs.laws.ValueWalk.{asked-env, greatest-least, stage-read}
 use Rattle.theory.specs.laws.Rows.{Passed, by-early, early-some}
 use Rattle.prune_paths.specs.laws.Excluded.{remade-at, pruned-at}
 use Rattle.prune_paths.specs.laws.Foreign.{Rows-good, rows-good, tree-good, told, foreign-walk}

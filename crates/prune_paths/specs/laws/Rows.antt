@@ -18,7 +18,7 @@ use Rattle.theory.specs.Value.{good-row}
 use Rattle.theory.specs.Listing.{greatest-root}
 use Rattle.theory.specs.Rows.{Admitted, EarlyRow, Room}
 use Rattle.theory.specs.laws.Fits.{node-fits, fits-good, misfits, misfits-bad}
-use Rattle.theory.specs.laws.Loading.{positive}
+use Rattle.theory.specs.laws.AcceptedModel.{positive}
 use Rattle.theory.specs.laws.Rows.{Passed, admitted, by-early, early-some, early-is, admitted-is, room-holds, room-is, if-yes, if-no, some-not, zero-is, not-twice, not-all, all-from, from-each}
 use Rattle.prune_paths.specs.Prune.{along, shaped, proves, path-number, path-needs, PruneOut, prune-refusal, pruned, prune}
 use Rattle.prune_paths.specs.PruneRows.{root-word, last-row, diagram, Rooted, Tabled, Shaped, Proved, untouched, PruneRow, prune-0, prune-1-10, prune-15, prune-14, prune-22, prune-21, prune-12, PruneRows}

@@ -23,7 +23,7 @@ use Rattle.theory.specs.Valid.{good-test, stage-leaf}
 use Rattle.theory.specs.laws.Nodes.{parts}
 use Rattle.theory.specs.laws.Table.{table-of-table}
 use Rattle.theory.specs.laws.Words.{Stage-good, laid, node-good}
-use Rattle.theory.specs.laws.Reading.{greatest-most, greatest-least}
+use Rattle.theory.specs.laws.ValueWalk.{greatest-most, greatest-least}
 use Rattle.theory.specs.laws.Fits.{node-fits}
 use Rattle.theorems.specs.laws.Reduced.{node-numbered, enter-all-each}
 use Rattle.prune_paths.specs.Prune.{PruneOut, prune-refusal, pruned, prune, stages-anew, words-anew}

@@ -36,7 +36,7 @@ cast-work c =
     let h = c .before .before .before .before .before .before .before .loop-test .taken in
     let r = c .before .before .before .before .remake-row .ensures in
     let a = at-in (s .pre .0) (U .remade) h (s .pre .3) r in
-    record { fits = omega (arith, a, r .bare .chained .room, r .bare .chained .few) }
+    record { fits = omega (arith, a, r .bare .chained .space .room, r .bare .chained .space .few) }
 
 mul-work : tie.Need-mul-work Inv-loop μ-loop
 mul-work c =
@@ -56,7 +56,7 @@ mul-work-2 c =
 slice-write-work : tie.Need-slice-write-work Inv-loop μ-loop
 slice-write-work c =
     let s = c .before .before .before .before .before .before .before .before .before .before .before .before .before .before in
-    omega (arith, c .before .before .before .before .remake-row .ensures .bare .chained .works, s .pre .3, c .before .before .before .before .before .before .before .loop-test .taken)
+    omega (arith, c .before .before .before .before .remake-row .ensures .bare .chained .space .works, s .pre .3, c .before .before .before .before .before .before .before .loop-test .taken)
 
 add-i : tie.Need-add-i Inv-loop μ-loop
 add-i c =

@@ -34,7 +34,7 @@ gone-requires : tie.Need-gone-requires
 gone-requires c κs =
     let s = c .before .before .before .before .before .before .before in
     let d = high-in (s .pre .2) (c .before .before .before .before .get .ensures) (c .before .before .before .is-leaf .ensures) (c .before .before .if1 .left) (c .high .ensures) in
-    (d .0, omega (arith, d .1, s .pre .1), s .pre .0 .chained .few, s .pre .0 .chained .works)
+    (d .0, omega (arith, d .1, s .pre .1), s .pre .0 .chained .space .few, s .pre .0 .chained .space .works)
 
 low-requires : tie.Need-low-requires
 low-requires c κs = search needs
@@ -43,7 +43,7 @@ gone-requires-2 : tie.Need-gone-requires-2
 gone-requires-2 c κs =
     let s = c .before .before .before .before .before .before .before .before .before .before in
     let d = low-in (s .pre .2) (c .before .before .before .before .before .before .before .get .ensures) (c .before .before .before .before .before .before .is-leaf .ensures) (c .before .before .before .before .before .if1 .left) (c .low .ensures) in
-    (d .0, omega (arith, d .1, s .pre .1), s .pre .0 .chained .few, s .pre .0 .chained .works)
+    (d .0, omega (arith, d .1, s .pre .1), s .pre .0 .chained .space .few, s .pre .0 .chained .space .works)
 
 join-test-requires : tie.Need-join-test-requires
 join-test-requires c κs =

@@ -1,7 +1,7 @@
 -- `solve_in_room::fill` meets its contract: a run that ends with 0 leaves what `finish` requires (`to-finish`); any other run asks nothing of the tables' words.
 use mathlib.Core.Path.{_∙_}
 use native.Mathlib.Omega.{arith}
-use Rattle.solve_value_iteration.proofs.Start.{size-few, no-nodes}
+use Rattle.solve_value_iteration.proofs.Start.{size-few}
 use Rattle.solve_in_room.proofs.Left.{to-finish, finished, not-finished}
 use Rattle.solve_in_room.proofs.fill.Statement.{statement}
 use Rattle.solve_in_room.proofs.fill.Tie as tie
@@ -11,7 +11,7 @@ model-size-requires c κs = tt
 
 run-stages-requires : tie.Need-run-stages-requires
 run-stages-requires c κs =
-    (c .before .before .before .before .before .before .before .before .before .before .pre .0, c .before .before .before .before .before .before .before .before .before .before .pre .1, c .before .before .before .before .before .before .before .before .before .before .pre .2, no-nodes (c .before .before .before .before .before .before .before .before .before .before .pre .4), c .before .before .before .before .before .before .before .before .before .before .pre .6, c .before .before .before .before .before .before .before .before .before .before .pre .7)
+    (c .before .before .before .before .before .before .before .before .before .before .pre .0, c .before .before .before .before .before .before .before .before .before .before .pre .1, c .before .before .before .before .before .before .before .before .before .before .pre .2, c .before .before .before .before .before .before .before .before .before .before .pre .4, c .before .before .before .before .before .before .before .before .before .before .pre .6, c .before .before .before .before .before .before .before .before .before .before .pre .7)
 
 add-finish : tie.Need-add-finish
 add-finish c = omega (arith, c .before .before .before .before .before .before .before .before .before .before .before .before .before .before .before .before .model-size .ensures .1)

@@ -3,7 +3,7 @@ use mathlib.Core.Path.{sym, subst}
 use Prim.Native.Nat.{ℕ}
 use lib.Seq.{length-take-le}
 use Rattle.solve_operation.proofs.Roots.{prefix-kept, kept-length}
-use Rattle.collect_mark.specs.Mark.{Space}
+use Rattle.table_unique.specs.Unique.{Space}
 use borrow.Author.Needs.{needs}
 use Rattle.solve_operation.proofs.keep_roots.Statement.{statement}
 use Rattle.solve_operation.proofs.keep_roots.Tie as tie

@@ -19,13 +19,13 @@ site-requires : tie.Need-site-requires Inv-loop μ-loop
 site-requires c κs =
     tt
 
-wide-action-requires : tie.Need-wide-action-requires Inv-loop μ-loop
-wide-action-requires c κs =
+action-index-requires : tie.Need-action-index-requires Inv-loop μ-loop
+action-index-requires c κs =
     tt
 
 loop-holds : tie.Need-loop-holds Inv-loop μ-loop
 loop-holds c =
-    (trying-starts (c .before .before .before .before .before .before .pre .0) (c .before .before .before .before .before .before .pre .1) (c .before .before .before .before .before .before .pre .2) (c .before .site .ensures) (c .wide-action .ensures .0), refl, refl, refl, refl)
+    (trying-starts (c .before .before .before .before .before .before .pre .0) (c .before .before .before .before .before .before .pre .1) (c .before .before .before .before .before .before .pre .2) (c .before .site .ensures) (c .action-index .ensures .0), refl, refl, refl, refl)
 
 next-action-requires : tie.Need-next-action-requires Inv-loop μ-loop
 next-action-requires c κs =
@@ -53,7 +53,7 @@ returns c =
 
 add-a : tie.Need-add-a Inv-loop μ-loop
 add-a c =
-    omega (arith, c .before .before .before .before .before .before .before .before .before .before .before .before .before .before .loop-test .taken, c .before .before .before .before .before .before .before .before .before .before .before .before .before .before .before .before .wide-action .ensures .1)
+    omega (arith, c .before .before .before .before .before .before .before .before .before .before .before .before .before .before .loop-test .taken, c .before .before .before .before .before .before .before .before .before .before .before .before .before .before .before .before .action-index .ensures .1)
 
 loop-less : tie.Need-loop-less Inv-loop μ-loop
 loop-less c =
@@ -95,7 +95,7 @@ others-spec =
     Inv-loop
     μ-loop
     site-requires
-    wide-action-requires
+    action-index-requires
     loop-holds
     next-action-requires
     same-length

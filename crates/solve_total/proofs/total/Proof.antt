@@ -10,17 +10,17 @@ site-requires : tie.Need-site-requires
 site-requires c κs =
     tt
 
-wide-requires : tie.Need-wide-requires
-wide-requires c κs =
+byte-index-requires : tie.Need-byte-index-requires
+byte-index-requires c κs =
     tt
 
-wide-requires-2 : tie.Need-wide-requires-2
-wide-requires-2 c κs =
+byte-index-requires-2 : tie.Need-byte-index-requires-2
+byte-index-requires-2 c κs =
     tt
 
 cast-weights : tie.Need-cast-weights
 cast-weights c =
-    let t = totals-of (c .before .before .before .before .before .before .before .args .run) (c .before .before .before .before .before .before .before .pre) (c .before .before .before .site .ensures) (c .before .before .wide .ensures .0) (c .before .wide2 .ensures .0) in
+    let t = totals-of (c .before .before .before .before .before .before .before .args .run) (c .before .before .before .before .before .before .before .pre) (c .before .before .before .site .ensures) (c .before .before .byte-index .ensures .0) (c .before .byte-index2 .ensures .0) in
     let f = total-few t .few-weights in
     omega (arith, f)
 
@@ -30,33 +30,33 @@ sub-row c =
 
 add-row : tie.Need-add-row
 add-row c =
-    omega (arith, c .before .before .wide2 .ensures .1)
+    omega (arith, c .before .before .byte-index2 .ensures .1)
 
 add-row-2 : tie.Need-add-row-2
 add-row-2 c =
-    omega (arith, c .before .before .before .wide .ensures .1, c .before .before .wide2 .ensures .1)
+    omega (arith, c .before .before .before .byte-index .ensures .1, c .before .before .byte-index2 .ensures .1)
 
 mul-row : tie.Need-mul-row
 mul-row c =
-    let t = totals-of (c .before .before .before .before .before .before .before .before .args .run) (c .before .before .before .before .before .before .before .before .pre) (c .before .before .before .before .site .ensures) (c .before .before .before .wide .ensures .0) (c .before .before .wide2 .ensures .0) in
+    let t = totals-of (c .before .before .before .before .before .before .before .before .args .run) (c .before .before .before .before .before .before .before .before .pre) (c .before .before .before .before .site .ensures) (c .before .before .before .byte-index .ensures .0) (c .before .before .byte-index2 .ensures .0) in
     let f = total-few t .small in
     omega (arith, f)
 
 add-t17 : tie.Need-add-t17
 add-t17 c =
-    let t = totals-of (c .before .before .before .before .before .before .before .before .before .before .before .args .run) (c .before .before .before .before .before .before .before .before .before .before .before .pre) (c .before .before .before .before .before .before .before .site .ensures) (c .before .before .before .before .before .before .wide .ensures .0) (c .before .before .before .before .before .wide2 .ensures .0) in
+    let t = totals-of (c .before .before .before .before .before .before .before .before .before .before .before .args .run) (c .before .before .before .before .before .before .before .before .before .before .before .pre) (c .before .before .before .before .before .before .before .site .ensures) (c .before .before .before .before .before .before .byte-index .ensures .0) (c .before .before .before .before .before .byte-index2 .ensures .0) in
     let f = total-few t .small in
     omega (arith, f)
 
 add-t19 : tie.Need-add-t19
 add-t19 c =
-    let t = totals-of (c .before .before .before .before .before .before .before .before .before .before .before .args .run) (c .before .before .before .before .before .before .before .before .before .before .before .pre) (c .before .before .before .before .before .before .before .site .ensures) (c .before .before .before .before .before .before .wide .ensures .0) (c .before .before .before .before .before .wide2 .ensures .0) in
+    let t = totals-of (c .before .before .before .before .before .before .before .before .before .before .before .args .run) (c .before .before .before .before .before .before .before .before .before .before .before .pre) (c .before .before .before .before .before .before .before .site .ensures) (c .before .before .before .before .before .before .byte-index .ensures .0) (c .before .before .before .before .before .byte-index2 .ensures .0) in
     let f = total-few t .small in
-    omega (arith, f, c .before .before .before .before .before .wide2 .ensures .1)
+    omega (arith, f, c .before .before .before .before .before .byte-index2 .ensures .1)
 
 operate-requires : tie.Need-operate-requires
 operate-requires c κs =
-    let t = totals-of (c .before .before .before .before .before .before .before .before .before .before .before .args .run) (c .before .before .before .before .before .before .before .before .before .before .before .pre) (c .before .before .before .before .before .before .before .site .ensures) (c .before .before .before .before .before .before .wide .ensures .0) (c .before .before .before .before .before .wide2 .ensures .0) in
+    let t = totals-of (c .before .before .before .before .before .before .before .before .before .before .before .args .run) (c .before .before .before .before .before .before .before .before .before .before .before .pre) (c .before .before .before .before .before .before .before .site .ensures) (c .before .before .before .before .before .before .byte-index .ensures .0) (c .before .before .before .before .before .byte-index2 .ensures .0) in
     (c .before .before .before .before .before .before .before .before .before .before .before .pre .ready .standing, omega arith, c .before .before .before .before .before .before .before .before .before .before .before .pre .room, levels-fit t)
 
 same-length : tie.Need-same-length
@@ -73,18 +73,18 @@ same-length-3 c =
 
 returns : tie.Need-returns
 returns c =
-    let t = totals-of (c .before .before .before .before .before .before .before .before .before .before .before .before .before .before .before .before .before .before .before .args .run) (c .before .before .before .before .before .before .before .before .before .before .before .before .before .before .before .before .before .before .before .pre) (c .before .before .before .before .before .before .before .before .before .before .before .before .before .before .before .site .ensures) (c .before .before .before .before .before .before .before .before .before .before .before .before .before .before .wide .ensures .0) (c .before .before .before .before .before .before .before .before .before .before .before .before .before .wide2 .ensures .0) in
+    let t = totals-of (c .before .before .before .before .before .before .before .before .before .before .before .before .before .before .before .before .before .before .before .args .run) (c .before .before .before .before .before .before .before .before .before .before .before .before .before .before .before .before .before .before .before .pre) (c .before .before .before .before .before .before .before .before .before .before .before .before .before .before .before .site .ensures) (c .before .before .before .before .before .before .before .before .before .before .before .before .before .before .byte-index .ensures .0) (c .before .before .before .before .before .before .before .before .before .before .before .before .before .byte-index2 .ensures .0) in
     levels-stop t (c .before .before .before .before .before .before .before .operate .ensures) (c .if1 .taken)
 
 add-exponent : tie.Need-add-exponent
 add-exponent c =
-    let t = totals-of (c .before .before .before .before .before .before .before .before .before .before .before .before .before .before .before .before .before .before .before .args .run) (c .before .before .before .before .before .before .before .before .before .before .before .before .before .before .before .before .before .before .before .pre) (c .before .before .before .before .before .before .before .before .before .before .before .before .before .before .before .site .ensures) (c .before .before .before .before .before .before .before .before .before .before .before .before .before .before .wide .ensures .0) (c .before .before .before .before .before .before .before .before .before .before .before .before .before .wide2 .ensures .0) in
+    let t = totals-of (c .before .before .before .before .before .before .before .before .before .before .before .before .before .before .before .before .before .before .before .args .run) (c .before .before .before .before .before .before .before .before .before .before .before .before .before .before .before .before .before .before .before .pre) (c .before .before .before .before .before .before .before .before .before .before .before .before .before .before .before .site .ensures) (c .before .before .before .before .before .before .before .before .before .before .before .before .before .before .byte-index .ensures .0) (c .before .before .before .before .before .before .before .before .before .before .before .before .before .byte-index2 .ensures .0) in
     let f = total-few t .small in
     omega (arith, f)
 
 sum-out-requires : tie.Need-sum-out-requires
 sum-out-requires c κs =
-    let t = totals-of (c .before .before .before .before .before .before .before .before .before .before .before .before .before .before .before .before .before .before .before .before .before .before .args .run) (c .before .before .before .before .before .before .before .before .before .before .before .before .before .before .before .before .before .before .before .before .before .before .pre) (c .before .before .before .before .before .before .before .before .before .before .before .before .before .before .before .before .before .before .site .ensures) (c .before .before .before .before .before .before .before .before .before .before .before .before .before .before .before .before .before .wide .ensures .0) (c .before .before .before .before .before .before .before .before .before .before .before .before .before .before .before .before .wide2 .ensures .0) in
+    let t = totals-of (c .before .before .before .before .before .before .before .before .before .before .before .before .before .before .before .before .before .before .before .before .before .before .args .run) (c .before .before .before .before .before .before .before .before .before .before .before .before .before .before .before .before .before .before .before .before .before .before .pre) (c .before .before .before .before .before .before .before .before .before .before .before .before .before .before .before .before .before .before .site .ensures) (c .before .before .before .before .before .before .before .before .before .before .before .before .before .before .before .before .before .byte-index .ensures .0) (c .before .before .before .before .before .before .before .before .before .before .before .before .before .before .before .before .byte-index2 .ensures .0) in
     let d = levels-replaced t (c .before .before .before .before .before .before .before .before .before .before .operate .ensures) (c .before .before .before .if1 .left) (c .before .before .before .before .before .before .before .before .before .before .operate .kept .1 .1 .1 .1 .0) in
     let f = total-few t in
     let g = f .row in
@@ -104,19 +104,19 @@ same-length-6 c =
 
 returns-2 : tie.Need-returns-2
 returns-2 c =
-    let t = totals-of (c .before .before .before .before .before .before .before .before .before .before .before .before .before .before .before .before .before .before .before .before .before .before .before .before .before .before .before .before .before .before .args .run) (c .before .before .before .before .before .before .before .before .before .before .before .before .before .before .before .before .before .before .before .before .before .before .before .before .before .before .before .before .before .before .pre) (c .before .before .before .before .before .before .before .before .before .before .before .before .before .before .before .before .before .before .before .before .before .before .before .before .before .before .site .ensures) (c .before .before .before .before .before .before .before .before .before .before .before .before .before .before .before .before .before .before .before .before .before .before .before .before .before .wide .ensures .0) (c .before .before .before .before .before .before .before .before .before .before .before .before .before .before .before .before .before .before .before .before .before .before .before .before .wide2 .ensures .0) in
+    let t = totals-of (c .before .before .before .before .before .before .before .before .before .before .before .before .before .before .before .before .before .before .before .before .before .before .before .before .before .before .before .before .before .before .args .run) (c .before .before .before .before .before .before .before .before .before .before .before .before .before .before .before .before .before .before .before .before .before .before .before .before .before .before .before .before .before .before .pre) (c .before .before .before .before .before .before .before .before .before .before .before .before .before .before .before .before .before .before .before .before .before .before .before .before .before .before .site .ensures) (c .before .before .before .before .before .before .before .before .before .before .before .before .before .before .before .before .before .before .before .before .before .before .before .before .before .byte-index .ensures .0) (c .before .before .before .before .before .before .before .before .before .before .before .before .before .before .before .before .before .before .before .before .before .before .before .before .byte-index2 .ensures .0) in
     let d = levels-replaced t (c .before .before .before .before .before .before .before .before .before .before .before .before .before .before .before .before .before .before .operate .ensures) (c .before .before .before .before .before .before .before .before .before .before .before .if1 .left) (c .before .before .before .before .before .before .before .before .before .before .before .before .before .before .before .before .before .before .operate .kept .1 .1 .1 .1 .0) in
     conditions-stop t d (c .before .before .before .before .before .before .before .sum-out .ensures) (c .if2 .taken)
 
 mul-exponent : tie.Need-mul-exponent
 mul-exponent c =
-    let t = totals-of (c .before .before .before .before .before .before .before .before .before .before .before .before .before .before .before .before .before .before .before .before .before .before .before .before .before .before .before .before .before .before .before .args .run) (c .before .before .before .before .before .before .before .before .before .before .before .before .before .before .before .before .before .before .before .before .before .before .before .before .before .before .before .before .before .before .before .pre) (c .before .before .before .before .before .before .before .before .before .before .before .before .before .before .before .before .before .before .before .before .before .before .before .before .before .before .before .site .ensures) (c .before .before .before .before .before .before .before .before .before .before .before .before .before .before .before .before .before .before .before .before .before .before .before .before .before .before .wide .ensures .0) (c .before .before .before .before .before .before .before .before .before .before .before .before .before .before .before .before .before .before .before .before .before .before .before .before .before .wide2 .ensures .0) in
+    let t = totals-of (c .before .before .before .before .before .before .before .before .before .before .before .before .before .before .before .before .before .before .before .before .before .before .before .before .before .before .before .before .before .before .before .args .run) (c .before .before .before .before .before .before .before .before .before .before .before .before .before .before .before .before .before .before .before .before .before .before .before .before .before .before .before .before .before .before .before .pre) (c .before .before .before .before .before .before .before .before .before .before .before .before .before .before .before .before .before .before .before .before .before .before .before .before .before .before .before .site .ensures) (c .before .before .before .before .before .before .before .before .before .before .before .before .before .before .before .before .before .before .before .before .before .before .before .before .before .before .byte-index .ensures .0) (c .before .before .before .before .before .before .before .before .before .before .before .before .before .before .before .before .before .before .before .before .before .before .before .before .before .byte-index2 .ensures .0) in
     let f = exponent-few t in
     omega (arith, f)
 
 cast-exponent : tie.Need-cast-exponent
 cast-exponent c =
-    let t = totals-of (c .before .before .before .before .before .before .before .before .before .before .before .before .before .before .before .before .before .before .before .before .before .before .before .before .before .before .before .before .before .before .before .args .run) (c .before .before .before .before .before .before .before .before .before .before .before .before .before .before .before .before .before .before .before .before .before .before .before .before .before .before .before .before .before .before .before .pre) (c .before .before .before .before .before .before .before .before .before .before .before .before .before .before .before .before .before .before .before .before .before .before .before .before .before .before .before .site .ensures) (c .before .before .before .before .before .before .before .before .before .before .before .before .before .before .before .before .before .before .before .before .before .before .before .before .before .before .wide .ensures .0) (c .before .before .before .before .before .before .before .before .before .before .before .before .before .before .before .before .before .before .before .before .before .before .before .before .before .wide2 .ensures .0) in
+    let t = totals-of (c .before .before .before .before .before .before .before .before .before .before .before .before .before .before .before .before .before .before .before .before .before .before .before .before .before .before .before .before .before .before .before .args .run) (c .before .before .before .before .before .before .before .before .before .before .before .before .before .before .before .before .before .before .before .before .before .before .before .before .before .before .before .before .before .before .before .pre) (c .before .before .before .before .before .before .before .before .before .before .before .before .before .before .before .before .before .before .before .before .before .before .before .before .before .before .before .site .ensures) (c .before .before .before .before .before .before .before .before .before .before .before .before .before .before .before .before .before .before .before .before .before .before .before .before .before .before .byte-index .ensures .0) (c .before .before .before .before .before .before .before .before .before .before .before .before .before .before .before .before .before .before .before .before .before .before .before .before .before .byte-index2 .ensures .0) in
     let f = exponent-few t in
     omega (arith, f)
 
@@ -126,7 +126,7 @@ add-operate c =
 
 operate-requires-2 : tie.Need-operate-requires-2
 operate-requires-2 c κs =
-    let t = totals-of (c .before .before .before .before .before .before .before .before .before .before .before .before .before .before .before .before .before .before .before .before .before .before .before .before .before .before .before .before .before .before .before .before .before .before .before .args .run) (c .before .before .before .before .before .before .before .before .before .before .before .before .before .before .before .before .before .before .before .before .before .before .before .before .before .before .before .before .before .before .before .before .before .before .before .pre) (c .before .before .before .before .before .before .before .before .before .before .before .before .before .before .before .before .before .before .before .before .before .before .before .before .before .before .before .before .before .before .before .site .ensures) (c .before .before .before .before .before .before .before .before .before .before .before .before .before .before .before .before .before .before .before .before .before .before .before .before .before .before .before .before .before .before .wide .ensures .0) (c .before .before .before .before .before .before .before .before .before .before .before .before .before .before .before .before .before .before .before .before .before .before .before .before .before .before .before .before .before .wide2 .ensures .0) in
+    let t = totals-of (c .before .before .before .before .before .before .before .before .before .before .before .before .before .before .before .before .before .before .before .before .before .before .before .before .before .before .before .before .before .before .before .before .before .before .before .args .run) (c .before .before .before .before .before .before .before .before .before .before .before .before .before .before .before .before .before .before .before .before .before .before .before .before .before .before .before .before .before .before .before .before .before .before .before .pre) (c .before .before .before .before .before .before .before .before .before .before .before .before .before .before .before .before .before .before .before .before .before .before .before .before .before .before .before .before .before .before .before .site .ensures) (c .before .before .before .before .before .before .before .before .before .before .before .before .before .before .before .before .before .before .before .before .before .before .before .before .before .before .before .before .before .before .byte-index .ensures .0) (c .before .before .before .before .before .before .before .before .before .before .before .before .before .before .before .before .before .before .before .before .before .before .before .before .before .before .before .before .before .byte-index2 .ensures .0) in
     let d = levels-replaced t (c .before .before .before .before .before .before .before .before .before .before .before .before .before .before .before .before .before .before .before .before .before .before .before .operate .ensures) (c .before .before .before .before .before .before .before .before .before .before .before .before .before .before .before .before .if1 .left) (c .before .before .before .before .before .before .before .before .before .before .before .before .before .before .before .before .before .before .before .before .before .before .before .operate .kept .1 .1 .1 .1 .0) in
     let e = conditions-summed t d (c .before .before .before .before .before .before .before .before .before .before .before .before .sum-out .ensures) (c .before .before .before .before .before .if2 .left) (c .before .before .before .before .before .before .before .before .before .before .before .before .sum-out .kept .1 .1 .1 .1 .0) in
     (on-standing (e .on), omega arith, e .on .room, reward-fits t e)
@@ -145,7 +145,7 @@ same-length-9 c =
 
 returns-3 : tie.Need-returns-3
 returns-3 c =
-    let t = totals-of (c .before .before .before .before .before .before .before .before .before .before .before .before .before .before .before .before .before .before .before .before .before .before .before .before .before .before .before .before .before .before .before .before .before .before .before .before .before .before .before .before .before .args .run) (c .before .before .before .before .before .before .before .before .before .before .before .before .before .before .before .before .before .before .before .before .before .before .before .before .before .before .before .before .before .before .before .before .before .before .before .before .before .before .before .before .before .pre) (c .before .before .before .before .before .before .before .before .before .before .before .before .before .before .before .before .before .before .before .before .before .before .before .before .before .before .before .before .before .before .before .before .before .before .before .before .before .site .ensures) (c .before .before .before .before .before .before .before .before .before .before .before .before .before .before .before .before .before .before .before .before .before .before .before .before .before .before .before .before .before .before .before .before .before .before .before .before .wide .ensures .0) (c .before .before .before .before .before .before .before .before .before .before .before .before .before .before .before .before .before .before .before .before .before .before .before .before .before .before .before .before .before .before .before .before .before .before .before .wide2 .ensures .0) in
+    let t = totals-of (c .before .before .before .before .before .before .before .before .before .before .before .before .before .before .before .before .before .before .before .before .before .before .before .before .before .before .before .before .before .before .before .before .before .before .before .before .before .before .before .before .before .args .run) (c .before .before .before .before .before .before .before .before .before .before .before .before .before .before .before .before .before .before .before .before .before .before .before .before .before .before .before .before .before .before .before .before .before .before .before .before .before .before .before .before .before .pre) (c .before .before .before .before .before .before .before .before .before .before .before .before .before .before .before .before .before .before .before .before .before .before .before .before .before .before .before .before .before .before .before .before .before .before .before .before .before .site .ensures) (c .before .before .before .before .before .before .before .before .before .before .before .before .before .before .before .before .before .before .before .before .before .before .before .before .before .before .before .before .before .before .before .before .before .before .before .before .byte-index .ensures .0) (c .before .before .before .before .before .before .before .before .before .before .before .before .before .before .before .before .before .before .before .before .before .before .before .before .before .before .before .before .before .before .before .before .before .before .before .byte-index2 .ensures .0) in
     let d = levels-replaced t (c .before .before .before .before .before .before .before .before .before .before .before .before .before .before .before .before .before .before .before .before .before .before .before .before .before .before .before .before .before .operate .ensures) (c .before .before .before .before .before .before .before .before .before .before .before .before .before .before .before .before .before .before .before .before .before .before .if1 .left) (c .before .before .before .before .before .before .before .before .before .before .before .before .before .before .before .before .before .before .before .before .before .before .before .before .before .before .before .before .before .operate .kept .1 .1 .1 .1 .0) in
     let e = conditions-summed t d (c .before .before .before .before .before .before .before .before .before .before .before .before .before .before .before .before .before .before .sum-out .ensures) (c .before .before .before .before .before .before .before .before .before .before .before .if2 .left) (c .before .before .before .before .before .before .before .before .before .before .before .before .before .before .before .before .before .before .sum-out .kept .1 .1 .1 .1 .0) in
     reward-added t e (c .before .before .before .before .before .operate2 .ensures)
@@ -155,8 +155,8 @@ total-spec =
     tie.close
     (tie.spec
     site-requires
-    wide-requires
-    wide-requires-2
+    byte-index-requires
+    byte-index-requires-2
     cast-weights
     sub-row
     add-row

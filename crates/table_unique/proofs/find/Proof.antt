@@ -15,13 +15,13 @@ abbrev μ-loop : tie.MeasureT-loop
 μ-loop nodes work cap count x b at₀ at = at
 
 hash-requires : tie.Need-hash-requires Inv-loop μ-loop
-hash-requires c κs = (c .before .pre .some, c .before .pre .few)
+hash-requires c κs = (c .before .pre .space .some, c .before .pre .space .few)
 
 mul-at : tie.Need-mul-at Inv-loop μ-loop
-mul-at c = let q = c .before .before .pre .few in omega (arith, c .hash .ensures .1)
+mul-at c = let q = c .before .before .pre .space .few in omega (arith, c .hash .ensures .1)
 
 shared-slice-read-at : tie.Need-shared-slice-read-at Inv-loop μ-loop
-shared-slice-read-at c = let q = c .before .before .before .pre .works in omega (arith, c .before .hash .ensures .1)
+shared-slice-read-at c = let q = c .before .before .before .pre .space .works in omega (arith, c .before .hash .ensures .1)
 
 cast-at : tie.Need-cast-at Inv-loop μ-loop
 cast-at c = omega (arith, c .shared-slice-known2 .given (c .before .hash .result))
@@ -33,19 +33,19 @@ sub-i : tie.Need-sub-i Inv-loop μ-loop
 sub-i c = omega arith
 
 is-at-requires : tie.Need-is-at-requires Inv-loop μ-loop
-is-at-requires c κs = let q = c .before .loop .inv .within in let r = c .before .before .before .before .before .pre .room in let w = c .before .before .before .before .before .pre .words in omega arith
+is-at-requires c κs = let q = c .before .loop .inv .within in let r = c .before .before .before .before .before .pre .space .room in let w = c .before .before .before .before .before .pre .space .words in omega arith
 
 returns : tie.Need-returns Inv-loop μ-loop
 returns c = hits (c .before .before .before .before .before .before .before .pre) (c .before .before .before .before .before .before .before .args .x) (c .before .before .before .loop .at) (c .before .before .loop-test .taken) (c .before .before .before .loop .inv) (hit refl (c .before .is-at .ensures) (c .if1 .taken))
 
 add-at : tie.Need-add-at Inv-loop μ-loop
-add-at c = let q = c .before .before .before .loop .inv .within in let r = c .before .before .before .before .before .before .before .pre .room in let f = c .before .before .before .before .before .before .before .pre .few in omega arith
+add-at c = let q = c .before .before .before .loop .inv .within in let r = c .before .before .before .before .before .before .before .pre .space .room in let f = c .before .before .before .before .before .before .before .pre .space .few in omega arith
 
 mul-at-2 : tie.Need-mul-at-2 Inv-loop μ-loop
-mul-at-2 c = let q = c .before .before .before .loop .inv .within in let r = c .before .before .before .before .before .before .before .pre .room in let f = c .before .before .before .before .before .before .before .pre .few in omega arith
+mul-at-2 c = let q = c .before .before .before .loop .inv .within in let r = c .before .before .before .before .before .before .before .pre .space .room in let f = c .before .before .before .before .before .before .before .pre .space .few in omega arith
 
 shared-slice-read-at-2 : tie.Need-shared-slice-read-at-2 Inv-loop μ-loop
-shared-slice-read-at-2 c = let q = c .before .before .before .before .loop .inv .within in let r = c .before .before .before .before .before .before .before .before .pre .room in let f = c .before .before .before .before .before .before .before .before .pre .works in let z = c .before .before .before .loop-test .taken in omega arith
+shared-slice-read-at-2 c = let q = c .before .before .before .before .loop .inv .within in let r = c .before .before .before .before .before .before .before .before .pre .space .room in let f = c .before .before .before .before .before .before .before .before .pre .space .works in let z = c .before .before .before .loop-test .taken in omega arith
 
 cast-at-2 : tie.Need-cast-at-2 Inv-loop μ-loop
 cast-at-2 c = omega (arith, c .shared-slice-known3 .given (c .before .before .before .before .before .before .before .before .args .cap + (c .before .before .before .before .loop .at - 1)))

@@ -57,7 +57,7 @@ mul-work-3 : tie.Need-mul-work-3
 mul-work-3 c = search needs
 
 slice-write-work-2 : tie.Need-slice-write-work-2
-slice-write-work-2 c = simp length-set (let q = c .before .before .before .before .before .before .before .before .before .before .before .pre .works in omega (arith, c .before .hash .ensures .1))
+slice-write-work-2 c = simp length-set (let q = c .before .before .before .before .before .before .before .before .before .before .before .pre .space .works in omega (arith, c .before .hash .ensures .1))
 
 add-t19 : tie.Need-add-t19
 add-t19 c = search needs

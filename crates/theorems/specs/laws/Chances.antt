@@ -19,7 +19,7 @@ use Rattle.theory.specs.Valid.{all-nodes, good-test, level-leaf, weight-leaf, v
 use Rattle.theory.specs.Load.{model}
 use Rattle.theory.specs.laws.Rules.{all-each}
 use Rattle.theory.specs.laws.Valid.{level-permitted, weight-level, Accepted, accepted, valid-actions}
-use Rattle.theory.specs.laws.Loading.{accepted-valid}
+use Rattle.theory.specs.laws.AcceptedModel.{accepted-valid}
 use Rattle.theory.specs.laws.Values.{value-constant, permitted-at}
 use Rattle.theory.specs.laws.Expectation.{at-good}
 use Rattle.theory.specs.laws.Plain.{actions-in-order, first-action}

@@ -30,10 +30,10 @@ use Rattle.theory.specs.Listing.{greatest-root, listing}
 use Rattle.theorems.specs.Demands.{Solving, left, Accepted, start, site, reading, Exact, Optimal, StateAccepted, PlainAgrees, SameValue, FirstMet, SolvedExactly, CountsDistinct, PeakDecides, VerdictRows, AsWritten, SolveRows, ValueRows, PlainRows, NameRows, NamePartRows, ListingRows, Formula, ChancesWithin, WeightsSum, SpelledSame, TestsDivided, LoadedOrdered, StagesOrdered, TablesReduced, SideLiteral, TablesHold}
 use Rattle.theorems.specs.Reduced.{Reduced}
 use Rattle.theory.specs.Rows.{VerdictRow, SolveRow, ValueRow, PlainRow, NameRow, NamePartRow, ListingRow}
-use Rattle.theory.specs.laws.Loading.{accepted-valid, accepted-site}
+use Rattle.theory.specs.laws.AcceptedModel.{accepted-valid, accepted-site}
 use Rattle.theory.specs.laws.Good.{stages-good}
 use Rattle.theory.specs.laws.Stages.{Stage, stages-at, stage-of}
-use Rattle.theory.specs.laws.Reading.{reading-exact, root-last}
+use Rattle.theory.specs.laws.ValueWalk.{reading-exact, root-last}
 use Rattle.theory.specs.laws.Rows.{Passed, by-early, early-some, passed-not, solve-runs}
 use Rattle.theory.specs.laws.Fits as Fits
 use Rattle.theory.specs.laws.Rows as Rows
@@ -51,7 +51,7 @@ use Rattle.theory.specs.laws.Plain.{plain-of-exact}
 use Rattle.theorems.specs.laws.SameValue as SameValue
 use Rattle.theory.specs.laws.Refusals.{refused-number}
 use Rattle.theorems.specs.laws.Peak as Peak
-use Rattle.theory.specs.laws.Counting as Counting
+use Rattle.theory.specs.laws.Counts as Counting
 use Rattle.theory.specs.laws.Comps.{run-all-final}
 
 -- ---- what a solve with number 0 has gone through

@@ -14,7 +14,7 @@ use Rattle.theory.specs.Value.{ValueOut, answered}
 use Rattle.theory.specs.laws.Total.{by-has, has-not-none, has-above, weigh-none, weigh-is-none}
 use Rattle.theory.specs.laws.Process.{total-ext, lowest-best-action, none-where-stopped, none-exactly}
 use Rattle.theory.specs.laws.Stages.{action-numbers}
-use Rattle.theory.specs.laws.Loading.{accepted-valid, accepted-site}
+use Rattle.theory.specs.laws.AcceptedModel.{accepted-valid, accepted-site}
 use Rattle.theory.specs.laws.Plain.{weights-positive}
 use Rattle.theorems.specs.Demands.{start, site, reading}
 use Rattle.theorems.specs.Forbidden.{reads-none, NoneExactly, NoTotalExactly, WeightZero, TotalBetters, ForbiddenExactly}

@@ -15,7 +15,7 @@ use Rattle.theory.specs.Load.{Entry, Loaded, condition-test, load-choice, load-
 use Rattle.theory.specs.Solve.{solve-in}
 use Rattle.theorems.specs.Ordered.{Ordered, AllOrdered, ActionOrdered, ActionsOrdered, ModelOrdered}
 use Rattle.theory.specs.laws.Safe.{Safe, safe-ret, safe-make, safe-bind, any, sure, SafeOps, safe-end, safe-operation, safe-then, run-all-safe}
-use Rattle.theory.specs.laws.Loading.{loaded-entries, model-loaded}
+use Rattle.theory.specs.laws.AcceptedModel.{loaded-entries, model-loaded}
 use Rattle.theory.specs.laws.Rows.{solve-runs}
 use Rattle.theorems.specs.laws.Ordered.{zero-ordered, choose-ordered, best-ordered, substitute-ordered, expectation-ordered, reward-ordered}
 

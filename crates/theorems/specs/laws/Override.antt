@@ -17,7 +17,7 @@ use Rattle.theory.specs.Load.{model}
 use Rattle.theory.specs.laws.Total.{num-⊕, pos-⊕, has-above, has-left, weigh-⊕, weigh-times}
 use Rattle.theory.specs.laws.Lists.{mean-pos, sum-most}
 use Rattle.theory.specs.laws.Process.{loses, falls-short, exact-expected, expected-below, gathered}
-use Rattle.theory.specs.laws.Loading.{accepted-valid}
+use Rattle.theory.specs.laws.AcceptedModel.{accepted-valid}
 use Rattle.theorems.specs.Fraction.{plus, divided, weighed}
 use Rattle.theorems.specs.Demands.{start}
 use Rattle.theorems.specs.Override.{over-steps, counted, short, short-after, lost, StepByStep, fraction, LostFormula, Loses, FallsShort, LosesNothing, LosesAtMost, Read}

@@ -3,7 +3,7 @@ use mathlib.Core.Path.{_≡_, sym, _∙_}
 use native.Mathlib.Omega.{arith}
 use Rattle.theory.specs.Widths.{actions-most}
 use Rattle.theory.specs.laws.Valid.{among-out}
-use Rattle.theory.specs.laws.Loading.{accepted-site}
+use Rattle.theory.specs.laws.AcceptedModel.{accepted-site}
 use Rattle.theory.specs.laws.Peaks.{solved-peaks-length, peaks-largest, peaks-beyond}
 use Rattle.theorems.specs.Peaks.{PeakLargest, PeaksLaid}
 use Rattle.theorems.specs.laws.Demands.{solved-exactly}

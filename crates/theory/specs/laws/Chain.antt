@@ -18,9 +18,9 @@ use Rattle.theory.specs.Solve.{solve-in, table-of}
 use Rattle.theory.specs.Events.{events, needed, inside, all-inside, Chained}
 use Rattle.theory.specs.laws.Comps.{run-all-final}
 use Rattle.theory.specs.laws.Events.{run-done}
-use Rattle.theory.specs.laws.Counting.{roots-fit}
+use Rattle.theory.specs.laws.Counts.{roots-fit}
 use Rattle.theory.specs.laws.Refusals.{loaded, solve-passes, run-all-peak}
-use Rattle.theory.specs.laws.Loading.{entry-trees, loaded-entries, diagrams-loaded, end-loaded}
+use Rattle.theory.specs.laws.AcceptedModel.{entry-trees, loaded-entries, diagrams-loaded, end-loaded}
 use Rattle.theory.specs.laws.Inside.{sub-needed, all-none, all-parts, all-cons, all-more, all-left, all-right, roots-inside, bind-gives, Built, builds, leaf-built, zero-built, none-built, choose-built, best-built, substitute-built, expectation-built, reward-built}
 
 -- ---- operations

@@ -19,7 +19,7 @@ use Rattle.theory.specs.Value.{Asked, accepted, node-word, node-linear, 
 use Rattle.theory.specs.Staying.{In62}
 use Rattle.theory.specs.Rows.{Among, StateFits, NumbersFit, BranchesFit, KindFits, fits-leaf, fits-condition, fits-test, fits-none, NodeFits}
 use Rattle.theory.specs.laws.Comps.{cmpZ-eq}
-use Rattle.theory.specs.laws.Staying.{in-62, back-62}
+use Rattle.theory.specs.laws.PlainLimits.{in-62, back-62}
 use Rattle.theory.specs.laws.Words.{by-kind}
 
 -- ---- lists, word by word

@@ -16,7 +16,7 @@ use Rattle.theory.specs.Verdict.{Progress, Verdict, refusal, name-slot, 
 use Rattle.theory.specs.Name.{names-action, Part, no-part, trimmed, named-part, name-refusal, name-part}
 use Rattle.theory.specs.Rows.{NameRow, name-0, name-1-10, name-16, NamePartRow, name-given, name-empty, name-refused}
 use Rattle.theory.specs.laws.Rules.{or-left, or-right, same-self}
-use Rattle.theory.specs.laws.Loading.{unbroken, broken, judged-whole, behind, positive}
+use Rattle.theory.specs.laws.AcceptedModel.{unbroken, broken, judged-whole, behind, positive}
 use Rattle.theory.specs.laws.Rows.{by-read, ended-going, name-row, zero-name, name-is, verdict-is, early-some, some-not, if-yes, if-no}
 
 -- ---- spaces at the end

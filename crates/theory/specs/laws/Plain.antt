@@ -24,7 +24,7 @@ use Rattle.theory.specs.Value.{Asked, accepted, state-of, ValueOut, refu
 use Rattle.theory.specs.Plain.{Worth, is, nothing, over, judged, in-32-bits, sum-settings, rewarded, action-worth, better, try-actions, numbered, state-worth, worth-out, if-true, plain-of}
 use Rattle.theory.specs.laws.Total.{⊕-comm, ⊕-assoc, ⊕-zero, zero-⊕, num-⊕, none-⊕, weigh-num, weigh-none, weigh-zero}
 use Rattle.theory.specs.laws.Valid.{among-out}
-use Rattle.theory.specs.laws.Loading.{positive, accepted-valid}
+use Rattle.theory.specs.laws.AcceptedModel.{positive, accepted-valid}
 
 -- ---- actions and their numbers
 

@@ -15,7 +15,7 @@ use Rattle.theory.specs.Load.{load, model, model-in}
 use Rattle.theory.specs.Solve.{solve-in}
 use Rattle.theory.specs.Events.{events, needed, Refused, Passes, RefusedAt, here, later, PassesAll, peak-of, Chained}
 use Rattle.theory.specs.laws.Events.{run-passes, run-refused, run-cases, stopped-number, refused-eleven-twelve, exceeds}
-use Rattle.theory.specs.laws.Counting.{roots-fit}
+use Rattle.theory.specs.laws.Counts.{roots-fit}
 
 -- the nodes that are there as an operation ends, and as the model is loaded
 abbrev left-by : List Tree → Comp Tree → List Tree

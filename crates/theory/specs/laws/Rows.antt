@@ -36,7 +36,7 @@ use Rattle.theory.specs.Listing.{greatest-root, text, written, ListingOu
 use Rattle.theory.specs.Rows.{Keeps, Range, asks-in, asks-of, Whole-in, Whole, Comes-in, comes-first, comes-next, EndsAt-in, VerdictRow-in, VerdictRow, verdict-0, verdict-3, verdict-2, verdict-2-end, verdict-1-7, verdict-8, Admitted, EarlyRow, early-10, early-9, early-1-8, Room, AdmittedToSolve, EarlySolveRow, peaks-10, early-as, SolveRow, solve-0, solve-1-10, solve-11-12, Among, KindFits, fits-leaf, fits-condition, fits-test, fits-none, OnWalk, first-met, then-met, Stated, ValueRow, value-0, value-none, value-1-10, value-13, value-14, value-15, PlainRow, plain-0, plain-1-10, plain-13, plain-11, NameRow, name-0, name-1-10, name-16, Rooted, Tabled, ListingRow, listing-0, listing-1-10, listing-14, listing-15, listing-17}
 use Rattle.theory.specs.laws.Plain.{worth-exact}
 use Rattle.theory.specs.laws.Process.{lowest-best-action}
-use Rattle.theory.specs.laws.Staying.{Fine, answers-stay, stays-answers, over-leaves}
+use Rattle.theory.specs.laws.PlainLimits.{Fine, answers-stay, stays-answers, over-leaves}
 use Rattle.theory.specs.laws.Rules.{by-rules, kept-zero, broken-number, rules-agree-in, rules-agree}
 use Rattle.theory.specs.laws.Fits.{state-fits, state-accepted, state-refused, node-fits, fits-good, misfits, misfits-bad, part-each, zero-ends, three-ends, ends-kind, kind-other}
 use Rattle.theory.specs.laws.Comps.{run-result, run-all-final}
@@ -45,9 +45,9 @@ use Rattle.theory.specs.laws.Refusals.{refused-number, refused-place}
 use Rattle.theory.specs.laws.Chain.{peak-fits, table-fits}
 use Rattle.theory.specs.laws.Peaks.{solved-peaks-length}
 use Rattle.theory.specs.laws.Words.{rows-length, by-kind}
-use Rattle.theory.specs.laws.Reading.{stages-length}
+use Rattle.theory.specs.laws.ValueWalk.{stages-length}
 use Rattle.theory.specs.laws.Valid.{among-in, among-out, other-above}
-use Rattle.theory.specs.laws.Loading.{positive, behind-in, behind, accepted-site, accepted-valid}
+use Rattle.theory.specs.laws.AcceptedModel.{positive, behind-in, behind, accepted-site, accepted-valid}
 
 -- ---- tests
 

@@ -20,7 +20,7 @@ use Rattle.theory.specs.Valid.{among}
 use Rattle.theory.specs.Verdict.{Site, verdict}
 use Rattle.theory.specs.Load.{model, site-at}
 use Rattle.theory.specs.Value.{Asked, ValueOut, answered}
-use Rattle.theory.specs.laws.Loading.{accepted-site}
+use Rattle.theory.specs.laws.AcceptedModel.{accepted-site}
 use Rattle.theory.specs.laws.Total.{weigh-num, weigh-none, none-⊕, ⊕-comm, num-⊕}
 use Rattle.theory.specs.laws.Process.{policy-equal, policy-lower, expected-below}
 use Rattle.theorems.specs.Demands.{Solving, left, start, site}

@@ -19,16 +19,13 @@ unknown-requires-2 c κs = search needs
 returns-2 : tie.Need-returns-2
 returns-2 c = same (c .unknown2 .ensures) (c .before .before .before .before .before .before .pre .0)
 
-cast-n : tie.Need-cast-n
-cast-n c = search needs
-
-array-set-from-n : tie.Need-array-set-from-n
-array-set-from-n c = search needs
+condition-requires : tie.Need-condition-requires
+condition-requires c κs = search needs
 
 join-test-requires : tie.Need-join-test-requires
 join-test-requires c κs =
-    let h = c .before .before .before .before .before .before .before .pre in
-    (h .0 .bare, proper-condition (c .before .before .before .before .mag .result) (search needs) (search needs), h .1, h .2)
+    let h = c .before .before .before .before .before .before .before .before .pre in
+    (h .0 .bare, proper-condition (c .before .before .before .before .before .mag .result) (search needs) (search needs) (c .before .before .condition .ensures), h .1, h .2)
 
 same-length : tie.Need-same-length
 same-length c = search needs
@@ -37,7 +34,7 @@ same-length-2 : tie.Need-same-length-2
 same-length-2 c = search needs
 
 returns-3 : tie.Need-returns-3
-returns-3 c = grew (c .before .before .before .before .before .before .before .before .before .before .before .pre .0) (c .before .before .before .join-test .ensures)
+returns-3 c = grew (c .before .before .before .before .before .before .before .before .before .before .before .before .pre .0) (c .before .before .before .join-test .ensures)
 
 pub condition-spec : {M : Type 1} → statement M
 condition-spec =
@@ -48,8 +45,7 @@ condition-spec =
     returns
     unknown-requires-2
     returns-2
-    cast-n
-    array-set-from-n
+    condition-requires
     join-test-requires
     same-length
     same-length-2

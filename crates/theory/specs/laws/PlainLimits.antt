@@ -17,7 +17,7 @@ use Rattle.theory.specs.Valid.{all, valid}
 use Rattle.theory.specs.Plain.{Worth, is, nothing, over, judged, in-32-bits, sum-settings, rewarded, action-worth, better, try-actions, numbered, state-worth}
 use Rattle.theory.specs.Staying.{In32, In62, SumStays, RewardStays, ActionStays, Stays}
 use Rattle.theory.specs.laws.Total.{weigh-num, weigh-none, weigh-zero}
-use Rattle.theory.specs.laws.Loading.{positive}
+use Rattle.theory.specs.laws.AcceptedModel.{positive}
 use Rattle.theory.specs.laws.Plain.{Means, either, tried, state-exact}
 
 -- ---- numbers

@@ -1,8 +1,7 @@
--- `load_choose::condition` meets its contract.
-use Rattle.load_choose.proofs.Tests.{condition-stood}
+use Rattle.rule_node.proofs.Meanings.{condition-node}
 use borrow.Author.Needs.{needs}
-use Rattle.load_choose.proofs.condition.Statement.{statement}
-use Rattle.load_choose.proofs.condition.Tie as tie
+use Rattle.rule_tests.proofs.condition.Statement.{statement}
+use Rattle.rule_tests.proofs.condition.Tie as tie
 
 cast-number : tie.Need-cast-number
 cast-number c = search needs
@@ -12,7 +11,7 @@ array-set-from-n c = search needs
 
 returns : tie.Need-returns
 returns c =
-    condition-stood (c .args .k) (c .pre .0) (c .pre .1)
+    condition-node (c .args .k) (c .pre)
 
 pub condition-spec : {M : Type 1} → statement M
 condition-spec = tie.close (tie.spec cast-number array-set-from-n returns)
