@@ -35,9 +35,7 @@ cast-put-site-4 : tie.Need-cast-put-site-4
 cast-put-site-4 c = let z = site-small _ _ _ (c .before .before .before .before .before .before .header-at .ensures) in omega arith
 
 put-site-requires : tie.Need-put-site-requires
-put-site-requires c κs =
-    let s = c .before .before .before .before .before .before .header-at .result in
-    omega (arith, site-length (s .levels) (s .conditions) (s .actions) (s .weights), c .before .before .before .before .before .if1 .left)
+put-site-requires c κs = simp site-length (omega (arith, c .before .before .before .before .before .if1 .left))
 
 same-length : tie.Need-same-length
 same-length c = search needs
