@@ -78,12 +78,12 @@ fn timed(calls: &mut Calls, what: &str, text: &[u8], refusal: (u32, u32)) {
     println!("  library {time:.4} s, reference {our_time:.4} s");
 }
 
-/// Texts at the limits; one of usual items, and the one that takes longest, a tenth as long as it may be.
+/// Texts at the limits; one of usual items, and the one that takes longest, a 32nd as long as it may be.
 pub fn large(calls: &mut Calls, rng: &mut Rng) {
     for (what, text, refusal) in limits() {
         compare(calls, rng, &text);
         timed(calls, what, &text, refusal);
     }
     timed(calls, "400 settings as text", &usual_text(), (0, 0));
-    timed(calls, "the slowest text known", &slowest_text(26_214), (0, 0));
+    timed(calls, "the slowest text known, of 8,192 bytes", &slowest_text(8_192), (0, 0));
 }

@@ -321,7 +321,7 @@ fn texts_at_the_limits() {
     assert_eq!(import(&longest, ANY).map(|model| model.len()), Ok(262_144));
     assert_eq!(import(&more, ANY).map(|model| model.len()), Ok(100_001));
     assert_eq!(import(&models::longest_row(), ANY).map(|model| model.len()), Ok(262_143));
-    assert_eq!(import(&models::slowest_text(26_214), ANY).map(|model| model.len()), Ok(260_439));
+    assert_eq!(import(&models::slowest_text(8_192), ANY).map(|model| model.len()), Ok(260_439));
     assert_eq!(import(&models::usual_text(), ANY).map(|model| model.len()), Ok(252_007));
     let marks = format!("{} name 1 \"{}\"", with_reward("else : 0"), "\"\"".repeat(16));
     let model = import(marks.as_bytes(), ANY).expect("a model without fault");
