@@ -1,28 +1,26 @@
 -- The commands of a condition push one diagram, and at every state it comes to what the reading means there.
-use mathlib.Core.Path.{_≡_, refl, sym, ap, _∙_, subst}
+use mathlib.Core.Path.{_≡_, refl, sym, ap, _∙_}
 use mathlib.Core.Bool.{Bool, true, false, not}
 use mathlib.Core.List.{List, [], _∷_, _++_, append-assoc}
-use Prim.Native.Nat.{ℕ, _<_}
+use Prim.Native.Nat.{ℕ}
 use native.Mathlib.Omega.{arith}
-use native.Mathlib.Nat.{mul-le-mul-right, le-of-mul-le-mul-right}
 use lib.Dec.{ltb, leb, leb→le, nleb→lt, ltb→lt, lt→ltb}
-use lib.IntN.{ℤ, pos, negsuc, _-ℤ_, _*ℤ_, *ℤ-comm}
-use lib.Signed.{_≤ℤ_, leZ, leZ-yes, ltZ}
-use Rattle.whole.specs.Cases.{if, by-test, is-true, same-bool}
+use lib.IntN.{ℤ, pos, negsuc, _*ℤ_, *ℤ-comm}
+use lib.Signed.{leZ, ltZ}
+use Rattle.whole.specs.Cases.{if, by-test, is-true}
 use Rattle.whole.specs.Divisor.{least-positive}
-use Rattle.whole.specs.Int.{atom, up, down, diff, le-in}
 use Rattle.theory.specs.Diagram.{Linear, Test, now as at-now, later as at-later, Leaf, Tree, leaf, _⊟_, quotient, divisor, test-of}
-use Rattle.theory.specs.Computation.{Comp, ret, bind, make, result}
-use Rattle.theory.specs.Rules.{choose, none-leaf, decide}
-use Rattle.theory.specs.Command.{Command, site, push-leaf, push-condition, push-test, push-forbidden, give, Slot, name-action, end-model}
-use Rattle.theory.specs.Load.{Entry, Loaded, condition-test, load-choice-with, load-entry, load-one, load-one-with}
+use Rattle.theory.specs.Computation.{bind, make, result}
+use Rattle.theory.specs.Rules.{choose, none-leaf}
+use Rattle.theory.specs.Command.{Command, push-condition, push-test, give}
+use Rattle.theory.specs.Load.{Entry, Loaded, condition-test, load-choice-with, load-one, load-one-with}
 use Rattle.theory.specs.Meaning.{Env, value, holds, at}
 use Rattle.theory.specs.laws.Comps.{result-bind}
-use Rattle.theory.specs.laws.Values.{choose-at, quotient-exact, value-scale, value-sub}
-use Rattle.import_grammar.specs.Grammar.{Four, f1, f2, f3, f4, Op, lt, le, gt, ge, Nots, unsaid, bang, Atom, now, later, compare, group, Not, negated, And, alone, both, Or, single, either, Result, worth, forbids, Before, start, case, deepest}
+use Rattle.theory.specs.laws.Values.{scale-sign, less-sub, choose-at, quotient-exact, value-scale, value-sub}
+use Rattle.import_grammar.specs.Grammar.{Four, f1, f2, f3, f4, Op, lt, le, gt, ge, Nots, unsaid, bang, Atom, now, later, compare, group, Not, negated, And, alone, both, Or, single, either, Result, worth, forbids}
 use Rattle.import_numbers.specs.Numbers.{linear-of}
 use Rattle.import_model.specs.Commands.{condition-of, later-of, compare-commands, nots-commands, atom-commands, not-commands, and-commands, or-commands, result-command}
-use Rattle.import_model.specs.Meaning.{compared, turned, atom-holds, not-holds, and-holds, or-holds, counting, leaf-of}
+use Rattle.import_model.specs.Meaning.{compared, turned, atom-holds, not-holds, and-holds, or-holds, leaf-of}
 
 -- ---- what commands load, one after another
 
@@ -78,24 +76,6 @@ condition-later f1 = refl
 condition-later f2 = refl
 condition-later f3 = refl
 condition-later f4 = refl
-
-scale-sign : (c : ℤ) (d : ℕ) → 0 < d → leZ (c *ℤ pos d) (pos 0) ≡ leZ c (pos 0)
-scale-sign c d h = same-bool _ _ (λ t. there (leZ-yes t) .le) (λ t. back (leZ-yes t) .le)
-  where
-    there : (c *ℤ pos d) ≤ℤ pos 0 → c ≤ℤ pos 0
-    there t = rw (← atom c) (simp diff (omega (arith, le-of-mul-le-mul-right {m = up c} {n = down c} {k = d} (omega (arith, simp diff at (rw (← atom c) at t))) h)))
-
-    back : c ≤ℤ pos 0 → (c *ℤ pos d) ≤ℤ pos 0
-    back t = rw (← atom c) (simp diff (omega (arith, mul-le-mul-right d (le-in c (pos 0) t))))
-
-less-sub : (a b : ℤ) → leZ (a -ℤ b) (pos 0) ≡ leZ a b
-less-sub a b = same-bool _ _ (λ t. there (leZ-yes t) .le) (λ t. back (leZ-yes t) .le)
-  where
-    there : (a -ℤ b) ≤ℤ pos 0 → a ≤ℤ b
-    there h = rw (← atom a, ← atom b) (simp diff (omega (arith, simp diff at (rw (← atom a, ← atom b) at h))))
-
-    back : a ≤ℤ b → (a -ℤ b) ≤ℤ pos 0
-    back h = rw (← atom a, ← atom b) (simp diff (omega (arith, le-in)))
 
 not-most : (a b : ℕ) → ltb b a ≡ not (leb a b)
 not-most a b = by-test (leb a b) (λ c. ltb b a ≡ not c)

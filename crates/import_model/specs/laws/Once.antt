@@ -1,44 +1,29 @@
 -- "6: given twice": in an accepted model no two entries are for one slot, and so each item of the text is the one that gives its slot.
-use mathlib.Core.Path.{_≡_, refl, sym, ap, ap₂, _∙_, subst}
+use mathlib.Core.Path.{_≡_, refl, sym, ap, _∙_, subst}
 use mathlib.Core.Bool.{Bool, true, false, not, _&&_}
 use mathlib.Core.Logic.{⊎-elim}
-use mathlib.Core.List.{List, [], _∷_, _++_, List·Memᴰ, List·Memᴰ·cases-cons, List·Memᴰ·not-nil}
-use Prim.Native.Nat.{ℕ, _+_}
-use native.Mathlib.Omega.{arith}
-use lib.Dec.{T, T-not, eqb, eqb→eq, eqb-refl}
-use lib.ListN.{length}
+use mathlib.Core.List.{List, [], _∷_, List·Memᴰ, List·Memᴰ·cases-cons, List·Memᴰ·not-nil}
+use Prim.Native.Nat.{ℕ}
+use lib.Dec.{T, T-not}
 use Rattle.whole.specs.Cases.{if, by-test, both, and-in}
 use Rattle.theory.specs.Form.{new-form}
-use Rattle.theory.specs.Diagram.{Test, Leaf, Tree}
+use Rattle.theory.specs.Diagram.{Test, Tree}
 use Rattle.theory.specs.Computation.{ret, bind, make, result}
 use Rattle.theory.specs.Rules.{choose}
 use Rattle.theory.specs.Command.{Command, site, push-leaf, push-condition, push-test, push-forbidden, give, Slot, name-action, end-model}
-use Rattle.theory.specs.Verdict.{Site, Facts, Progress, same-slot, has-slot, name-slot, or, Rule, rule, first-broken, later-rules, first-rules, rules-in, after, ended, Verdict, judged-in, at-start}
-use Rattle.theory.specs.Load.{Entry, Loaded, condition-test, load-choice-with, load-entry, load-one, load-one-with}
+use Rattle.theory.specs.Verdict.{Site, Facts, Progress, same-slot, has-slot, name-slot, or, rule, first-broken, later-rules, first-rules, rules-in, after, ended, judged-in, at-start}
+use Rattle.theory.specs.Load.{Entry, Loaded, condition-test, load-choice-with, load-entry, load-one-with}
 use Rattle.theory.specs.Meaning.{Env}
 use Rattle.theory.specs.laws.Comps.{result-bind}
+use Rattle.theory.specs.laws.Rules.{slot-same, same-self}
 use Rattle.theory.specs.laws.AcceptedModel.{broken, unbroken, judged-whole}
-use Rattle.import_model.specs.Encode.{placed, command-bytes}
+use Rattle.import_model.specs.Encode.{placed}
 use Rattle.import_model.specs.Meaning.{Item, item-leaf, leaf-at}
 use Rattle.import_model.specs.laws.Follows.{load-all, loaded}
 use Rattle.import_model.specs.laws.Items.{capped, Entered, no-entry, one-entry}
-use Rattle.import_model.specs.laws.Decode.{OperandsFit, AllFit, none-left, fits-and, with-end}
+use Rattle.import_model.specs.laws.Decode.{AllFit, none-left, fits-and, with-end}
 
 -- ---- slots
-
-slot-same : (g h : Slot) → T (same-slot g h) → g ≡ h
-unfolding same-slot
-slot-same g h t =
-    let d = both (eqb (g .command) (h .command)) _ t in
-    let e = both (eqb (g .action) (h .action)) _ (d .1) in
-    let c = eqb→eq (g .command) (h .command) (d .0) in
-    let a = eqb→eq (g .action) (h .action) (e .0) in
-    let k = eqb→eq (g .index) (h .index) (e .1) in
-    λ i. record { command = c i; action = a i; index = k i }
-
-slot-itself : (g : Slot) → T (same-slot g g)
-unfolding same-slot
-slot-itself g = and-in (eqb (g .command) (g .command)) _ (eqb-refl (g .command)) (and-in (eqb (g .action) (g .action)) _ (eqb-refl (g .action)) (eqb-refl (g .index)))
 
 -- a slot has an entry
 unfoldable pub has-entry : Slot → List Entry → Bool
@@ -134,7 +119,7 @@ member-has : {E : List Entry} {l : List Item} → Entered E l → (x : Item) →
 unfolding has-entry
 member-has no-entry x m = absurd (List·Memᴰ·not-nil m)
 member-has (one-entry {E = E} t y h d) x m = ⊎-elim
-    (λ e. subst (λ (z : Item). T (or (same-slot (capped (x .slot)) (capped (z .slot))) (has-entry (capped (x .slot)) E))) e (left (same-slot (capped (x .slot)) (capped (x .slot))) _ (slot-itself (capped (x .slot)))))
+    (λ e. subst (λ (z : Item). T (or (same-slot (capped (x .slot)) (capped (z .slot))) (has-entry (capped (x .slot)) E))) e (left (same-slot (capped (x .slot)) (capped (x .slot))) _ (same-self (capped (x .slot)))))
     (λ n. or-more (same-slot (capped (x .slot)) (capped (y .slot))) (has-entry (capped (x .slot)) E) (member-has d x n)) (List·Memᴰ·cases-cons m)
   where
     left : (a b : Bool) → T a → T (or a b)
@@ -151,4 +136,4 @@ each-once (one-entry {E = E} {l = l} t y h d) o e x m =
     by-test (same-slot (x .slot) (y .slot)) (λ b. if b (item-leaf e y) (leaf-at e (x .slot) l) ≡ item-leaf e x)
     (λ s. ⊎-elim (λ q. ap (item-leaf e) (sym q))
     (λ n. absurd (T-not (has-entry (capped (y .slot)) E) (p .0) (subst (λ (g : Slot). T (has-entry (capped g) E)) (slot-same (x .slot) (y .slot) s) (member-has d x n)))) (List·Memᴰ·cases-cons m))
-    (λ s. ⊎-elim (λ q. absurd (T-not (same-slot (x .slot) (y .slot)) s (subst (λ (z : Item). T (same-slot (x .slot) (z .slot))) q (slot-itself (x .slot))))) ih (List·Memᴰ·cases-cons m))
+    (λ s. ⊎-elim (λ q. absurd (T-not (same-slot (x .slot) (y .slot)) s (subst (λ (z : Item). T (same-slot (x .slot) (z .slot))) q (same-self (x .slot))))) ih (List·Memᴰ·cases-cons m))

@@ -179,11 +179,11 @@ module _ (M : Model) (ok : T (valid M)) where
   P = process M
 
   -- an action's total, of the action instead of its number
-  unfoldable action-total : ℕ → (State → Total) → State → Action → Total
+  unfoldable pub action-total : ℕ → (State → Total) → State → Action → Total
   action-total h f s x = weigh (power M (suc h)) (worth-at (env s []) (x .reward))
       ⊕ mean (weight (M .weights) (map (chance-at (env s [])) (x .chances))) (λ r. f (moved s (x .levels) r)) (settings (M .conditions))
 
-  action-exact : (h : ℕ) (worth : State → Worth) (f : State → Total) → ((s : State) → Means (worth s) (f s))
+  pub action-exact : (h : ℕ) (worth : State → Worth) (f : State → Total) → ((s : State) → Means (worth s) (f s))
       → (s : State) (x : Action) → Means (action-worth M (suc h) worth x s) (action-total h f s x)
   unfolding action-worth action-total rewarded
   action-exact h worth f k s x = means-judged _ _ _ (reward (worth-at (env s []) (x .reward)))

@@ -129,7 +129,7 @@ says-all p P f g l = record {
   kept = λ t x m. f x (all-each p l (not-not (all p l) t) x m);
 }
 
-slot-same : (s t : Slot) → T (same-slot s t) → s ≡ t
+pub slot-same : (s t : Slot) → T (same-slot s t) → s ≡ t
 unfolding same-slot
 slot-same s t h =
     let d = both (eqb (s .command) (t .command)) (eqb (s .action) (t .action) && eqb (s .index) (t .index)) h in

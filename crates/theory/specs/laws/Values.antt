@@ -26,7 +26,7 @@ use Rattle.theory.specs.laws.Comps.{cmpZ-eq, cmpList-eq, cmp-eq, same-eq
 zero-step : (c y d : ℤ) → c ≡ pos 0 → d ≡ pos 0 → c *ℤ y +ℤ d ≡ pos 0
 zero-step c y d h k = rw (h, k) (simp ring)
 
-scale-sign : (c : ℤ) (d : ℕ) → 0 < d → leZ (c *ℤ pos d) (pos 0) ≡ leZ c (pos 0)
+pub scale-sign : (c : ℤ) (d : ℕ) → 0 < d → leZ (c *ℤ pos d) (pos 0) ≡ leZ c (pos 0)
 scale-sign c d h = same-bool _ _ (λ t. there (leZ-yes t) .le) (λ t. back (leZ-yes t) .le)
   where
     there : (c *ℤ pos d) ≤ℤ pos 0 → c ≤ℤ pos 0
@@ -35,7 +35,7 @@ scale-sign c d h = same-bool _ _ (λ t. there (leZ-yes t) .le) (λ t. back (leZ-
     back : c ≤ℤ pos 0 → (c *ℤ pos d) ≤ℤ pos 0
     back t = rw (← atom c) (simp diff (omega (arith, mul-le-mul-right d (le-in c (pos 0) t))))
 
-less-sub : (a b : ℤ) → leZ (a -ℤ b) (pos 0) ≡ leZ a b
+pub less-sub : (a b : ℤ) → leZ (a -ℤ b) (pos 0) ≡ leZ a b
 less-sub a b = same-bool _ _ (λ t. there (leZ-yes t) .le) (λ t. back (leZ-yes t) .le)
   where
     there : (a -ℤ b) ≤ℤ pos 0 → a ≤ℤ b
