@@ -10,6 +10,7 @@ use Rattle.text_decimal.specs.Put.{PutAt}
 use Rattle.text_decimal.proofs.Puts.{none, then, rename}
 use Rattle.import_model.specs.Encode.{command-bytes, encode}
 use Rattle.import_model.specs.Import.{model-bytes}
+use Rattle.import_list.specs.Packed.{list-most}
 use Rattle.import_parts.specs.Parts.{Part, site-command, part-commands, parts-commands, Walked}
 use Rattle.import_parts.specs.laws.Order.{text-parts, text-site, text-commands-order}
 use Rattle.import_parts.specs.laws.Within.{parts-within}
@@ -36,7 +37,7 @@ pub record Gone (w out₀ : List ℕ) (start : ℕ) (P : List Part) (e : Spaces)
 
 pub record Going (w : List ℕ) (from : ℕ) (out₀ : List ℕ) (start : ℕ) (l : List ℕ) (i at : ℕ) (out : List ℕ) : Type 0 where
   pub same : length out ≡ length out₀
-  pub long : length l ≡ 131072
+  pub long : length l ≡ list-most
   pub room : at ≤ length out
   pub gone : (P : List Part) (e : Spaces) → Comes w from P e → Gone w out₀ start P e i at out
 
@@ -76,7 +77,7 @@ module _ (w out₀ : List ℕ) (start : ℕ) (s : start ≤ length out₀) (i at
               put = rename (sym (encode-append (g .done) (part-commands x))) (then s (g .put) (q .put x L e c .put f));
             }
 
-    pub going-on : (from : ℕ) (l l′ : List ℕ) → PartsAt w from l out₀ start → length l′ ≡ 131072 → r .wrote .full ≡ false → ((P : List Part) (e : Spaces) → Comes w from P e → Gone w out₀ start P e i at out) → length out ≡ length out₀
+    pub going-on : (from : ℕ) (l l′ : List ℕ) → PartsAt w from l out₀ start → length l′ ≡ list-most → r .wrote .full ≡ false → ((P : List Part) (e : Spaces) → Comes w from P e → Gone w out₀ start P e i at out) → length out ≡ length out₀
         → Going w from out₀ start l′ (r .next) (r .wrote .at) out′
     going-on from l l′ p n f g m = record {
       same = q .same ∙ m;
