@@ -1,4 +1,5 @@
 -- `check_rules::pair` meets its contract: the first staircase stays within the table, for the count only grows; the rule then has both its operands there.
+use mathlib.Core.Path.{_∙_}
 use native.Mathlib.Nat.{lt-of-lt-of-le}
 use Rattle.check_rules.proofs.Steps.{held, held-on}
 use borrow.Author.Needs.{needs}
@@ -47,7 +48,8 @@ show-requires-3 : tie.Need-show-requires-3
 show-requires-3 c κs = search needs
 
 same-length-5 : tie.Need-same-length-5
-same-length-5 c = search needs
+same-length-5 c =
+    c .before .before .before .before .merge .kept .0 ∙ c .before .before .before .before .before .before .before .before .before .before .before .before .before .stairs2 .kept .0 ∙ c .before .before .before .before .before .before .before .before .before .before .before .before .before .before .before .before .before .before .before .before .before .before .stairs .kept .0
 
 same-length-6 : tie.Need-same-length-6
 same-length-6 c = search needs
