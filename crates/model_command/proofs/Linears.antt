@@ -22,12 +22,12 @@ use Rattle.model_command.proofs.Signed.{signed-size}
 abbrev pub number-at : List ℕ → ℕ → ℕ → ℤ
 number-at B at k = signed (word-at B (at + k * 4))
 
-signed-length : (B : List ℕ) (at n : ℕ) → length (signed-from B at n) ≡ n
+pub signed-length : (B : List ℕ) (at n : ℕ) → length (signed-from B at n) ≡ n
 unfolding signed-from
 signed-length B at zero = refl
 signed-length B at (suc n) = ap suc (signed-length B (at + 4) n)
 
-signed-at : (B : List ℕ) (at n k : ℕ) → k < n → getD (signed-from B at n) k (pos 0) ≡ number-at B at k
+pub signed-at : (B : List ℕ) (at n k : ℕ) → k < n → getD (signed-from B at n) k (pos 0) ≡ number-at B at k
 unfolding signed-from
 signed-at B at zero k h = absurd (omega arith)
 signed-at B at (suc n) zero h = ap (λ (j : ℕ). signed (word-at B j)) (omega arith)

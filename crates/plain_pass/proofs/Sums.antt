@@ -1,18 +1,18 @@
 -- The sum of a linear's products, read from the bytes: the levels that a point has, then the constant.
-use mathlib.Core.Path.{_≡_, refl, sym, ap, ap₂, _∙_, subst}
-use mathlib.Core.List.{List, [], _∷_}
+use mathlib.Core.Path.{_≡_, sym, ap, ap₂, _∙_, subst}
+use mathlib.Core.List.{List}
 use Prim.Native.Nat.{ℕ, zero, suc, _+_, _-_, _*_, _≤_, _<_}
 use native.Mathlib.Omega.{arith}
 use lib.IntN.{ℤ, pos, _+ℤ_, _*ℤ_}
 use lib.ListN.{length, getD, drop}
 use Rattle.whole.specs.Int.{ring}
-use Rattle.whole.specs.Linears.{numbers, Smalls, dotL}
+use Rattle.whole.specs.Linears.{numbers, dotL}
 use Rattle.whole.specs.LinearsLaws.{rest}
 use Rattle.whole.proofs.Products.{Added, all-added}
 use Rattle.theory.specs.Widths.{levels-most}
-use Rattle.theory.specs.Command.{word-at, signed, signed-from, linear-at}
+use Rattle.theory.specs.Command.{signed-from, linear-at}
 use Rattle.model_command.specs.CursorReadings.{linear-of}
-use Rattle.model_command.proofs.Linears.{number-at, linear-read}
+use Rattle.model_command.proofs.Linears.{number-at, signed-length, signed-at, linear-read}
 use Rattle.plain_pass.specs.declared.Point.{Point}
 use Rattle.plain_pass.specs.Pass.{Flat, numerator}
 use Rattle.plain_pass.proofs.Turns.{numerator-sum}
@@ -20,17 +20,6 @@ use Rattle.plain_pass.proofs.Turns.{numerator-sum}
 -- a linear's numbers, in their order
 abbrev pub listed : List ℕ → ℕ → List ℤ
 listed B at = signed-from B at numbers
-
-signed-length : (B : List ℕ) (at n : ℕ) → length (signed-from B at n) ≡ n
-unfolding signed-from
-signed-length B at zero = refl
-signed-length B at (suc n) = ap suc (signed-length B (at + 4) n)
-
-signed-at : (B : List ℕ) (at n k : ℕ) → k < n → getD (signed-from B at n) k (pos 0) ≡ number-at B at k
-unfolding signed-from
-signed-at B at zero k h = absurd (omega arith)
-signed-at B at (suc n) zero h = ap (λ (j : ℕ). signed (word-at B j)) (omega arith)
-signed-at B at (suc n) (suc k) h = signed-at B (at + 4) n k (omega arith) ∙ ap (λ (j : ℕ). signed (word-at B j)) (omega arith)
 
 pub listed-long : (B : List ℕ) (at : ℕ) → length (listed B at) ≡ numbers
 listed-long B at = signed-length B at numbers
