@@ -16,7 +16,12 @@ use Rattle.convert_model.specs.Conversion as Conversion
 
 -- one name that unfolds all that the cases compute with
 unfoldable definitions : Unit {0}
-unfolding Diagram.zeros Diagram.padded Valid.all Valid.among Command.width-in Command.word-at Command.signed Command.signed-from Command.bytes-at Command.linear-in Command.command-in Command.read-in Command.goes-on Command.readings-from-in Command.readings-in Verdict.same-slot Verdict.has-slot Verdict.first-broken Verdict.beyond Verdict.next-condition Verdict.printable Verdict.is-weight Verdict.of-site Verdict.may-be Verdict.joined Verdict.from-to Verdict.wanted-by Verdict.wanted Verdict.site-rules Verdict.first-rules Verdict.later-rules Verdict.rules-in Verdict.after Verdict.ended Verdict.judged-in Verdict.verdict-in Load.site-in Listing.written Forms.layout-in Forms.byte-in Forms.copied Forms.fitted Forms.converted Forms.converted-all Forms.model-as Conversion.own-refusal Conversion.too-large Conversion.is-forbidden Conversion.forbids Conversion.unfit Conversion.conversion-refusal Conversion.conversion
+unfolding Diagram.zeros Diagram.padded Valid.all Valid.among Command.width-in Command.word-at Command.signed Command.signed-from Command.bytes-at
+    Command.linear-in Command.command-in Command.read-in Command.goes-on Command.readings-from-in Command.readings-in Verdict.same-slot Verdict.has-slot
+    Verdict.first-broken Verdict.beyond Verdict.next-condition Verdict.printable Verdict.is-weight Verdict.of-site Verdict.may-be Verdict.joined Verdict.from-to
+    Verdict.wanted-by Verdict.wanted Verdict.site-rules Verdict.first-rules Verdict.later-rules Verdict.rules-in Verdict.after Verdict.ended Verdict.judged-in
+    Verdict.verdict-in Load.site-in Listing.written Forms.layout-in Forms.byte-in Forms.copied Forms.fitted Forms.converted Forms.converted-all Forms.model-as
+    Conversion.own-refusal Conversion.too-large Conversion.is-forbidden Conversion.forbids Conversion.unfit Conversion.conversion-refusal Conversion.conversion
 definitions = tt
 
 -- a number of four bytes

@@ -30,7 +30,31 @@ use Rattle.theory.specs.Listing as Listing
 
 -- one name that unfolds all that the cases compute with
 unfoldable pub definitions : Unit {0}
-unfolding Divisor.gcdBy Divisor.gcdOf Divisor.gcd-all Divisor.at-least-one Within.small Numerator.number Numerator.words Diagram.cmpList Diagram.cmpLinear Diagram.cmp Diagram.no-coeffs Diagram.lin-of Diagram.act-of Diagram.same-leaf Diagram.same Diagram.addL Diagram.scaleL Diagram._⊞_ Diagram._⊠_ Diagram._⊟_ Diagram.plus-constant Diagram.zeros Diagram.quotL Diagram.quotient Diagram.divisor Diagram.test-of Computation.bind Computation.result Computation.make Computation.names Computation.judge Computation.both Computation.member Computation.run Computation.enter Computation.enter-all Computation.and-then Computation.final Computation.run-all Rules.parallel Rules.narrowed Rules.node Rules.step Rules.choose Rules.over Rules.merge Rules.make-leaf Rules.leaf-sum Rules.leaf-product Rules.leaf-scale Rules.leaf-shift Rules.leaf-complement Rules.leaf-number Rules.decide Rules.leaf-best Rules.sum Rules.product Rules.scale Rules.shift Rules.complement Rules.number Rules.best Rules.zero-leaf Rules.sum-on Rules.levels-sum Rules.linear-diagram Rules.substitute Rules.is-later Rules.side Rules.expectation Rules.add-reward Total.leT Total._⊕_ Total.weigh Total.maxT Total.mean Total.greatest-from Total.first-best Process.total Process.optimum Process.lowest-best Meaning.nth-action Meaning.action-at Meaning.numbers-from Meaning.nth Meaning.env Meaning.dot Meaning.value Meaning.holds Meaning.at Meaning.leaf-worth Meaning.worth-at Meaning.level-at Meaning.end-at Meaning.doubled Meaning.settings Meaning.chance-at Meaning.weight Meaning.moved Meaning.process Stage.all-diagrams Stage.model-diagrams Stage.sum-out Stage.action-total Stage.best-on Stage.stage-over Stage.stages-on Stage.stages-over-end Stage.all-stages Valid.all Valid.among Valid.small-linear Command.width-in Command.word-at Command.signed Command.signed-from Command.linear-in Command.bytes-at Command.command-in Command.read-in Command.goes-on Command.readings-from-in Command.readings-in Verdict.same-slot Verdict.has-slot Verdict.first-broken Verdict.beyond Verdict.next-condition Verdict.printable Verdict.is-weight Verdict.of-site Verdict.may-be Verdict.joined Verdict.from-to Verdict.wanted-by Verdict.wanted Verdict.site-rules Verdict.first-rules Verdict.later-rules Verdict.rules-in Verdict.after Verdict.ended Verdict.judged-in Verdict.verdict-in Load.condition-test Load.load-choice-with Load.load-entry Load.load-one-with Load.load-on-with Load.find-slot Load.found Load.action-of Load.model-of Load.site-in Load.load-in Load.model-in Solve.room Solve.solve-in Solve.number-of Diagram.padded Solve.test-words Solve.leaf-kind Solve.row Solve.rows Solve.table-of Solve.solved-nodes Solve.solved-stages Solve.solve-left Solve.early Solve.early-with-peaks Solve.solve Events.events Events.needed Peaks.raise Peaks.peaks-of Peaks.solved-peaks Value.accepted Value.bits Value.state-of Value.node-linear Value.amongZ Value.good-branches Value.good-leaf-row Value.good-condition-row Value.good-test-row Value.good-none-row Value.good-row Value.numerator-of Value.taken Value.ends Value.walk Value.answered Value.value-at Value.value-of Plain.judged Plain.in-32-bits Plain.sum-settings Plain.rewarded Plain.action-worth Plain.better Plain.try-actions Plain.numbered Plain.state-worth Plain.worth-out Plain.if-true Plain.plain-of Name.names-action Name.trimmed Name.named-part Name.name-refusal Name.name-part Name.name Listing.digits Listing.spaced Listing.spaced-all Listing.first-line Listing.node-line Listing.stage-line Listing.lines Listing.greatest-root Listing.text Listing.refusal-line Listing.written Listing.listing-refusal Listing.listing
+unfolding Divisor.gcdBy Divisor.gcdOf Divisor.gcd-all Divisor.at-least-one Within.small Numerator.number Numerator.words Diagram.cmpList Diagram.cmpLinear
+    Diagram.cmp Diagram.no-coeffs Diagram.lin-of Diagram.act-of Diagram.same-leaf Diagram.same Diagram.addL Diagram.scaleL Diagram._⊞_ Diagram._⊠_ Diagram._⊟_
+    Diagram.plus-constant Diagram.zeros Diagram.quotL Diagram.quotient Diagram.divisor Diagram.test-of Computation.bind Computation.result Computation.make
+    Computation.names Computation.judge Computation.both Computation.member Computation.run Computation.enter Computation.enter-all Computation.and-then
+    Computation.final Computation.run-all Rules.parallel Rules.narrowed Rules.node Rules.step Rules.choose Rules.over Rules.merge Rules.make-leaf Rules.leaf-sum
+    Rules.leaf-product Rules.leaf-scale Rules.leaf-shift Rules.leaf-complement Rules.leaf-number Rules.decide Rules.leaf-best Rules.sum Rules.product
+    Rules.scale Rules.shift Rules.complement Rules.number Rules.best Rules.zero-leaf Rules.sum-on Rules.levels-sum Rules.linear-diagram Rules.substitute
+    Rules.is-later Rules.side Rules.expectation Rules.add-reward Total.leT Total._⊕_ Total.weigh Total.maxT Total.mean Total.greatest-from Total.first-best
+    Process.total Process.optimum Process.lowest-best Meaning.nth-action Meaning.action-at Meaning.numbers-from Meaning.nth Meaning.env Meaning.dot
+    Meaning.value Meaning.holds Meaning.at Meaning.leaf-worth Meaning.worth-at Meaning.level-at Meaning.end-at Meaning.doubled Meaning.settings
+    Meaning.chance-at Meaning.weight Meaning.moved Meaning.process Stage.all-diagrams Stage.model-diagrams Stage.sum-out Stage.action-total Stage.best-on
+    Stage.stage-over Stage.stages-on Stage.stages-over-end Stage.all-stages Valid.all Valid.among Valid.small-linear Command.width-in Command.word-at
+    Command.signed Command.signed-from Command.linear-in Command.bytes-at Command.command-in Command.read-in Command.goes-on Command.readings-from-in
+    Command.readings-in Verdict.same-slot Verdict.has-slot Verdict.first-broken Verdict.beyond Verdict.next-condition Verdict.printable Verdict.is-weight
+    Verdict.of-site Verdict.may-be Verdict.joined Verdict.from-to Verdict.wanted-by Verdict.wanted Verdict.site-rules Verdict.first-rules Verdict.later-rules
+    Verdict.rules-in Verdict.after Verdict.ended Verdict.judged-in Verdict.verdict-in Load.condition-test Load.load-choice-with Load.load-entry
+    Load.load-one-with Load.load-on-with Load.find-slot Load.found Load.action-of Load.model-of Load.site-in Load.load-in Load.model-in Solve.room
+    Solve.solve-in Solve.number-of Diagram.padded Solve.test-words Solve.leaf-kind Solve.row Solve.rows Solve.table-of Solve.solved-nodes Solve.solved-stages
+    Solve.solve-left Solve.early Solve.early-with-peaks Solve.solve Events.events Events.needed Peaks.raise Peaks.peaks-of Peaks.solved-peaks Value.accepted
+    Value.bits Value.state-of Value.node-linear Value.amongZ Value.good-branches Value.good-leaf-row Value.good-condition-row Value.good-test-row
+    Value.good-none-row Value.good-row Value.numerator-of Value.taken Value.ends Value.walk Value.answered Value.value-at Value.value-of Plain.judged
+    Plain.in-32-bits Plain.sum-settings Plain.rewarded Plain.action-worth Plain.better Plain.try-actions Plain.numbered Plain.state-worth Plain.worth-out
+    Plain.if-true Plain.plain-of Name.names-action Name.trimmed Name.named-part Name.name-refusal Name.name-part Name.name Listing.digits Listing.spaced
+    Listing.spaced-all Listing.first-line Listing.node-line Listing.stage-line Listing.lines Listing.greatest-root Listing.text Listing.refusal-line
+    Listing.written Listing.listing-refusal Listing.listing
 definitions = tt
 
 -- ---- models as bytes

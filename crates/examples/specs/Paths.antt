@@ -37,5 +37,7 @@ pub corner-cut : T (
     && (eqb (corner-path 11 (1 ∷ 1 ∷ 0 ∷ []) ones .number) 12 && (eqb (corner-path 11 (1 ∷ 1 ∷ 0 ∷ []) ones .place) 1
     && (eqb (corner-path 12 (1 ∷ 1 ∷ 1 ∷ []) ones .number) 21 && (eqb (corner-path 12 (1 ∷ 1 ∷ 0 ∷ []) (negsuc 0 ∷ pos 1 ∷ pos 1 ∷ []) .number) 21
     && (eqb (corner-path 12 (1 ∷ 1 ∷ 0 ∷ 0 ∷ []) ones .number) 22 && (eqb (corner-path 12 (1 ∷ 1 ∷ 2 ∷ []) ones .number) 22 && eqb (corner-path 12 [] [] .number) 22)))))))))
-unfolding Examples.definitions Prune.leaf-at Prune.test-at Prune.tree-from Prune.fits Prune.with-side Prune.along Prune.turned Prune.added Prune.low-used Prune.contradicts Prune.proves Prune.cut Prune.remade Prune.stage-anew Prune.stages-anew Prune.words-anew Prune.shaped Prune.path-number Prune.path-needs Prune.prune-refusal Prune.pruned Prune.prune
+unfolding Examples.definitions Prune.leaf-at Prune.test-at Prune.tree-from Prune.fits Prune.with-side Prune.along Prune.turned Prune.added Prune.low-used
+    Prune.contradicts Prune.proves Prune.cut Prune.remade Prune.stage-anew Prune.stages-anew Prune.words-anew Prune.shaped Prune.path-number Prune.path-needs
+    Prune.prune-refusal Prune.pruned Prune.prune
 corner-cut = tt

@@ -1,6 +1,8 @@
 // Conditions, comparisons, cases and results: "the first case that holds counts", "each closed by an else".
 ghost use mathlib.Core.Path.{_≡_};
-ghost use Rattle.import_cases.specs.Cases.{item as item-of, resulted as resulted-of, joined as joined-of, end-left as end-left-of, end-side as end-side-of, ending as ending-of, on-after as on-after-of, open-cond as open-cond-of, on-atom as on-atom-of, on-compared as on-compared-of, on-result as on-result-of};
+ghost use Rattle.import_cases.specs.Cases.{item as item-of, resulted as resulted-of, joined as joined-of, end-left as end-left-of};
+ghost use Rattle.import_cases.specs.Cases.{end-side as end-side-of, ending as ending-of, on-after as on-after-of, open-cond as open-cond-of};
+ghost use Rattle.import_cases.specs.Cases.{on-atom as on-atom-of, on-compared as on-compared-of, on-result as on-result-of};
 use import_state::DEEPEST;
 use import_state::Place;
 use import_state::Side;

@@ -6,7 +6,13 @@ use mathlib.Core.List.{List, [], _∷_}
 use Prim.Native.Nat.{ℕ, zero, suc}
 use lib.Dec.{T, eqb}
 use mathlib.Core.Path.{_≡_, refl, sym, subst}
-use Rattle.import_grammar.specs.Grammar.{Blank, blank, tab, newline, return, Spaces, none, more, Digit, d0, d1, d2, d3, d4, d5, d6, d7, d8, d9, Digits, one, also, Index, i1, i2, i3, i4, i5, i6, i7, i8, Four, f1, f2, f3, f4, Op, lt, le, gt, ge, Sign, adds, takes, ConstFactor, number, kbracket, ConstTerm, kfactor, ktimes, ConstSum, kterm, kneg, kplus, VaryFactor, level, vbracket, VaryTerm, vfactor, vscaled, vby, VarySum, vterm, vneg, plusKV, plusVK, plusVV, Sum, constant, varying, Nots, unsaid, bang, Atom, now, later, compare, group, Not, negated, And, alone, both, Or, single, either, Before, start, case, Items, head, closed, named, Opening, reward, chance, next, end, Result, worth, forbids, Setting, setting, Char, Chars, empty, char, quote, is-plain, Text, entire, deepest, if}
+use Rattle.import_grammar.specs.Grammar.{Blank, blank, tab, newline, return, Spaces, none, more, Digit, d0, d1, d2, d3, d4, d5, d6, d7, d8, d9, Digits}
+use Rattle.import_grammar.specs.Grammar.{one, also, Index, i1, i2, i3, i4, i5, i6, i7, i8, Four, f1, f2, f3, f4, Op, lt, le, gt, ge, Sign, adds, takes}
+use Rattle.import_grammar.specs.Grammar.{ConstFactor, number, kbracket, ConstTerm, kfactor, ktimes, ConstSum, kterm, kneg, kplus, VaryFactor, level}
+use Rattle.import_grammar.specs.Grammar.{vbracket, VaryTerm, vfactor, vscaled, vby, VarySum, vterm, vneg, plusKV, plusVK, plusVV, Sum, constant, varying}
+use Rattle.import_grammar.specs.Grammar.{Nots, unsaid, bang, Atom, now, later, compare, group, Not, negated, And, alone, both, Or, single, either}
+use Rattle.import_grammar.specs.Grammar.{Before, start, case, Items, head, closed, named, Opening, reward, chance, next, end, Result, worth, forbids}
+use Rattle.import_grammar.specs.Grammar.{Setting, setting, Char, Chars, empty, char, quote, is-plain, Text, entire, deepest, if}
 
 -- ---- what stands before the piece that is being read
 

@@ -1,6 +1,9 @@
 // "Whole models in such text (site, names and forbidden too)": the site, items up to their cases, names, and words.
 ghost use mathlib.Core.Path.{_≡_};
-ghost use Rattle.import_items.specs.Items.{setting-letter as setting-letter-of, on-site as on-site-of, settled as settled-of, on-set as on-set-of, opened as opened-of, on-given as on-given-of, on-quoted as on-quoted-of, on-name as on-name-of, worded as worded-of, on-word as on-word-of, on-forbidden as on-forbidden-of, on-next-or-name as on-next-or-name-of};
+ghost use Rattle.import_items.specs.Items.{setting-letter as setting-letter-of, on-site as on-site-of, settled as settled-of, on-set as on-set-of};
+ghost use Rattle.import_items.specs.Items.{opened as opened-of, on-given as on-given-of, on-quoted as on-quoted-of, on-name as on-name-of};
+ghost use Rattle.import_items.specs.Items.{worded as worded-of, on-word as on-word-of, on-forbidden as on-forbidden-of};
+ghost use Rattle.import_items.specs.Items.{on-next-or-name as on-next-or-name-of};
 use import_cases::item;
 use import_state::DEEPEST;
 use import_state::Kind;

@@ -7,7 +7,10 @@ use native.Mathlib.Omega.{arith}
 use lib.Dec.{eqb}
 use lib.ListN.{length, drop, getD}
 use Rattle.whole.specs.Cases.{if}
-use Rattle.import_grammar.specs.Grammar.{Spaces, Digit, d0, d1, d2, d3, d4, d5, d6, d7, d8, d9, Digits, one, also, ConstFactor, number, kbracket, ConstTerm, kfactor, ktimes, ConstSum, kterm, kneg, kplus, VaryFactor, level, vbracket, VaryTerm, vfactor, vscaled, vby, VarySum, vterm, vneg, plusKV, plusVK, plusVV, Sum, constant, varying, digit-byte, index-byte, sign-byte, spaces-bytes, digits-bytes, kfactor-bytes, kterm-bytes, ksum-bytes, vfactor-bytes, vterm-bytes, vsum-bytes, sum-bytes}
+use Rattle.import_grammar.specs.Grammar.{Spaces, Digit, d0, d1, d2, d3, d4, d5, d6, d7, d8, d9, Digits, one, also, ConstFactor, number, kbracket, ConstTerm}
+use Rattle.import_grammar.specs.Grammar.{kfactor, ktimes, ConstSum, kterm, kneg, kplus, VaryFactor, level, vbracket, VaryTerm, vfactor, vscaled, vby, VarySum}
+use Rattle.import_grammar.specs.Grammar.{vterm, vneg, plusKV, plusVK, plusVV, Sum, constant, varying, digit-byte, index-byte, sign-byte, spaces-bytes}
+use Rattle.import_grammar.specs.Grammar.{digits-bytes, kfactor-bytes, kterm-bytes, ksum-bytes, vfactor-bytes, vterm-bytes, vsum-bytes, sum-bytes}
 use Rattle.import_found.specs.laws.Passing.{over-blanks}
 use Rattle.import_look.specs.Looks.{unspaced}
 

@@ -15,7 +15,8 @@ use Rattle.whole.specs.LinearsLaws.{add-length, sub-length}
 use Rattle.theory.specs.Diagram.{Linear, _⊞_, _⊟_, _⊠_}
 use Rattle.theory.specs.Plain.{in-32-bits}
 use Rattle.theory.specs.Command.{Command, push-leaf, push-condition, push-test, push-forbidden, byte-at}
-use Rattle.import_grammar.specs.Grammar.{Spaces, Four, f1, f2, f3, f4, Op, lt, le, gt, ge, Sum, constant, varying, Atom, now, later, compare, group, Result, worth, forbids, four-byte, spaces-bytes, op-bytes, sum-bytes, atom-bytes, result-bytes, deepest}
+use Rattle.import_grammar.specs.Grammar.{Spaces, Four, f1, f2, f3, f4, Op, lt, le, gt, ge, Sum, constant, varying, Atom, now, later, compare, group, Result}
+use Rattle.import_grammar.specs.Grammar.{worth, forbids, four-byte, spaces-bytes, op-bytes, sum-bytes, atom-bytes, result-bytes, deepest}
 use Rattle.import_numbers.specs.Numbers.{linear-of as sum-linear, difference, nine, sum-numbers, atom-numbers, result-numbers, all-within}
 use Rattle.import_model.specs.Commands.{condition-of, later-of, result-command}
 use Rattle.model_command.specs.CursorReadings.{linear-of}

@@ -4,7 +4,9 @@ use Prim.Native.Nat.{ℕ}
 use lib.IntN.{ℤ, pos, _+ℤ_, _-ℤ_, _*ℤ_, negℤ}
 use lib.ListN.{getD}
 use Rattle.theory.specs.Meaning.{Env, value}
-use Rattle.import_grammar.specs.Grammar.{Index, i1, i2, i3, i4, i5, i6, i7, i8, Sign, adds, takes, ConstFactor, number, kbracket, ConstTerm, kfactor, ktimes, ConstSum, kterm, kneg, kplus, VaryFactor, level, vbracket, VaryTerm, vfactor, vscaled, vby, VarySum, vterm, vneg, plusKV, plusVK, plusVV, Sum, constant, varying}
+use Rattle.import_grammar.specs.Grammar.{Index, i1, i2, i3, i4, i5, i6, i7, i8, Sign, adds, takes, ConstFactor, number, kbracket, ConstTerm, kfactor, ktimes}
+use Rattle.import_grammar.specs.Grammar.{ConstSum, kterm, kneg, kplus, VaryFactor, level, vbracket, VaryTerm, vfactor, vscaled, vby, VarySum, vterm, vneg}
+use Rattle.import_grammar.specs.Grammar.{plusKV, plusVK, plusVV, Sum, constant, varying}
 use Rattle.import_numbers.specs.Numbers.{digits-value, linear-of}
 
 -- + or −

@@ -21,18 +21,31 @@ use Rattle.import_model.specs.Import as Import
 
 -- one name that unfolds all that the cases compute with
 unfoldable definitions : Unit {0}
-unfolding Diagram.zeros Diagram.padded Diagram.no-coeffs Diagram.addL Diagram.scaleL Diagram._⊞_ Diagram._⊟_ Diagram._⊠_ Valid.all Valid.among Plain.in-32-bits Command.width-in Command.word-at Command.signed Command.signed-from Command.bytes-at Command.linear-in Command.command-in Command.read-in Command.goes-on Command.readings-from-in Command.readings-in Verdict.same-slot Verdict.has-slot Verdict.first-broken Verdict.beyond Verdict.next-condition Verdict.printable Verdict.is-weight Verdict.of-site Verdict.may-be Verdict.joined Verdict.from-to Verdict.wanted-by Verdict.wanted Verdict.site-rules Verdict.first-rules Verdict.later-rules Verdict.rules-in Verdict.after Verdict.ended Verdict.judged-in Verdict.verdict-in Listing.written Conversion.own-refusal Reader.run Reader.step Reader.step-on Reader.step-mid Reader.finish Reader.extended Reader.cextended Reader.closeLeft Reader.closeCond Reader.colon Reader.elseHere Reader.joined Reader.ending Reader.closeConst Reader.minusHere Reader.cminusHere Reader.coreHere Reader.factorHere Reader.equalsHere Reader.equalsAbove Reader.openCond Reader.openSum Reader.openBehind Reader.openConst Reader.itemHere Reader.resulted Reader.letterHere Reader.settled Reader.hextended Reader.iextended Reader.by-kind Reader.quoteHere Reader.with-plain Reader.charHere Viable.concluded Viable.scan Numbers.digits-value Numbers.kfactor-linear Numbers.vfactor-linear Numbers.linear-of Numbers.kfactor-numbers Numbers.vfactor-numbers Numbers.sum-numbers Numbers.atom-numbers Numbers.result-numbers Numbers.setting-numbers Numbers.before-numbers Numbers.numbers Numbers.all-within Numbers.beyond Commands.condition-of Commands.level-of Commands.later-of Commands.at-most Commands.compare-commands Commands.nots-commands Commands.or-commands Commands.result-command Commands.letters Commands.filled Commands.items-commands Commands.text-commands Encode.low-first Encode.word-of Encode.words-bytes Encode.linear-bytes Encode.slot-bytes Encode.command-bytes Encode.encode Import.model-bytes Import.import-refusal Import.imported Import.import-text
+unfolding Diagram.zeros Diagram.padded Diagram.no-coeffs Diagram.addL Diagram.scaleL Diagram._⊞_ Diagram._⊟_ Diagram._⊠_ Valid.all Valid.among Plain.in-32-bits
+    Command.width-in Command.word-at Command.signed Command.signed-from Command.bytes-at Command.linear-in Command.command-in Command.read-in Command.goes-on
+    Command.readings-from-in Command.readings-in Verdict.same-slot Verdict.has-slot Verdict.first-broken Verdict.beyond Verdict.next-condition Verdict.printable
+    Verdict.is-weight Verdict.of-site Verdict.may-be Verdict.joined Verdict.from-to Verdict.wanted-by Verdict.wanted Verdict.site-rules Verdict.first-rules
+    Verdict.later-rules Verdict.rules-in Verdict.after Verdict.ended Verdict.judged-in Verdict.verdict-in Listing.written Conversion.own-refusal Reader.run
+    Reader.step Reader.step-on Reader.step-mid Reader.finish Reader.extended Reader.cextended Reader.closeLeft Reader.closeCond Reader.colon Reader.elseHere
+    Reader.joined Reader.ending Reader.closeConst Reader.minusHere Reader.cminusHere Reader.coreHere Reader.factorHere Reader.equalsHere Reader.equalsAbove
+    Reader.openCond Reader.openSum Reader.openBehind Reader.openConst Reader.itemHere Reader.resulted Reader.letterHere Reader.settled Reader.hextended
+    Reader.iextended Reader.by-kind Reader.quoteHere Reader.with-plain Reader.charHere Viable.concluded Viable.scan Numbers.digits-value Numbers.kfactor-linear
+    Numbers.vfactor-linear Numbers.linear-of Numbers.kfactor-numbers Numbers.vfactor-numbers Numbers.sum-numbers Numbers.atom-numbers Numbers.result-numbers
+    Numbers.setting-numbers Numbers.before-numbers Numbers.numbers Numbers.all-within Numbers.beyond Commands.condition-of Commands.level-of Commands.later-of
+    Commands.at-most Commands.compare-commands Commands.nots-commands Commands.or-commands Commands.result-command Commands.letters Commands.filled
+    Commands.items-commands Commands.text-commands Encode.low-first Encode.word-of Encode.words-bytes Encode.linear-bytes Encode.slot-bytes Encode.command-bytes
+    Encode.encode Import.model-bytes Import.import-refusal Import.imported Import.import-text
 definitions = tt
 
 -- what an import gives with room for k bytes more than it needs
 abbrev fills : List ℕ → List ℕ → Type 0
-fills w B = Import.import-text w (replicate (length B) 7 ++ (1 ∷ 2 ∷ [])) ≡ record { number = 0; place = 0; size = length B; buffer = B ++ (1 ∷ 2 ∷ []) }
+fills w B = Import.import-text w (replicate (length B) 7 ++ (ascii "\u{1}\u{2}")) ≡ record { number = 0; place = 0; size = length B; buffer = B ++ (ascii "\u{1}\u{2}") }
 
 -- `site m=1 n=0 A=2 W=1 name 2 "a""b" reward 1 = else : 0 next 1 L1 = else : L1 reward 2 = L1 >= 10 : 50 ; else : -1 next 2 L1 = L1 < 10 : L1 ; else : L1 - 10`
 abbrev pond : List ℕ
 pond = 115 ∷ 105 ∷ 116 ∷ 101 ∷ 32 ∷ 109 ∷ 61 ∷ 49 ∷ 32 ∷ 110 ∷ 61 ∷ 48 ∷ 32 ∷ 65 ∷ 61 ∷ 50 ∷ 32 ∷ 87 ∷ 61 ∷ 49 ∷ 32 ∷ 110 ∷ 97 ∷ 109 ∷ 101 ∷ 32 ∷ 50 ∷ 32 ∷ 34 ∷ 97 ∷ 34 ∷ 34 ∷ 98 ∷ 34 ∷ 32 ∷ 114 ∷ 101 ∷ 119 ∷ 97 ∷ 114 ∷ 100 ∷ 32 ∷ 49 ∷ 32 ∷ 61 ∷ 32 ∷ 101 ∷ 108 ∷ 115 ∷ 101 ∷ 32 ∷ 58 ∷ 32 ∷ 48 ∷ 32 ∷ 110 ∷ 101 ∷ 120 ∷ 116 ∷ 32 ∷ 49 ∷ 32 ∷ 76 ∷ 49 ∷ 32 ∷ 61 ∷ 32 ∷ 101 ∷ 108 ∷ 115 ∷ 101 ∷ 32 ∷ 58 ∷ 32 ∷ 76 ∷ 49 ∷ 32 ∷ 114 ∷ 101 ∷ 119 ∷ 97 ∷ 114 ∷ 100 ∷ 32 ∷ 50 ∷ 32 ∷ 61 ∷ 32 ∷ 76 ∷ 49 ∷ 32 ∷ 62 ∷ 61 ∷ 32 ∷ 49 ∷ 48 ∷ 32 ∷ 58 ∷ 32 ∷ 53 ∷ 48 ∷ 32 ∷ 59 ∷ 32 ∷ 101 ∷ 108 ∷ 115 ∷ 101 ∷ 32 ∷ 58 ∷ 32 ∷ 45 ∷ 49 ∷ 32 ∷ 110 ∷ 101 ∷ 120 ∷ 116 ∷ 32 ∷ 50 ∷ 32 ∷ 76 ∷ 49 ∷ 32 ∷ 61 ∷ 32 ∷ 76 ∷ 49 ∷ 32 ∷ 60 ∷ 32 ∷ 49 ∷ 48 ∷ 32 ∷ 58 ∷ 32 ∷ 76 ∷ 49 ∷ 32 ∷ 59 ∷ 32 ∷ 101 ∷ 108 ∷ 115 ∷ 101 ∷ 32 ∷ 58 ∷ 32 ∷ 76 ∷ 49 ∷ 32 ∷ 45 ∷ 32 ∷ 49 ∷ 48 ∷ []
 
-pub pond-bytes : fills pond (2 ∷ 1 ∷ 0 ∷ 2 ∷ 0 ∷ 1 ∷ 48 ∷ 2 ∷ 0 ∷ 97 ∷ 34 ∷ 98 ∷ 32 ∷ 32 ∷ 32 ∷ 32 ∷ 32 ∷ 32 ∷ 32 ∷ 32 ∷ 32 ∷ 32 ∷ 32 ∷ 32 ∷ 32 ∷ 16 ∷ 0 ∷ 0 ∷ 0 ∷ 0 ∷ 0 ∷ 0 ∷ 0 ∷ 0 ∷ 0 ∷ 0 ∷ 0 ∷ 0 ∷ 0 ∷ 0 ∷ 0 ∷ 0 ∷ 0 ∷ 0 ∷ 0 ∷ 0 ∷ 0 ∷ 0 ∷ 0 ∷ 0 ∷ 0 ∷ 0 ∷ 0 ∷ 0 ∷ 0 ∷ 0 ∷ 0 ∷ 0 ∷ 0 ∷ 0 ∷ 0 ∷ 0 ∷ 32 ∷ 1 ∷ 0 ∷ 16 ∷ 1 ∷ 0 ∷ 0 ∷ 0 ∷ 0 ∷ 0 ∷ 0 ∷ 0 ∷ 0 ∷ 0 ∷ 0 ∷ 0 ∷ 0 ∷ 0 ∷ 0 ∷ 0 ∷ 0 ∷ 0 ∷ 0 ∷ 0 ∷ 0 ∷ 0 ∷ 0 ∷ 0 ∷ 0 ∷ 0 ∷ 0 ∷ 0 ∷ 0 ∷ 0 ∷ 0 ∷ 0 ∷ 0 ∷ 0 ∷ 0 ∷ 0 ∷ 34 ∷ 1 ∷ 0 ∷ 1 ∷ 16 ∷ 0 ∷ 0 ∷ 0 ∷ 0 ∷ 0 ∷ 0 ∷ 0 ∷ 0 ∷ 0 ∷ 0 ∷ 0 ∷ 0 ∷ 0 ∷ 0 ∷ 0 ∷ 0 ∷ 0 ∷ 0 ∷ 0 ∷ 0 ∷ 0 ∷ 0 ∷ 0 ∷ 0 ∷ 0 ∷ 0 ∷ 0 ∷ 0 ∷ 0 ∷ 0 ∷ 0 ∷ 0 ∷ 50 ∷ 0 ∷ 0 ∷ 0 ∷ 16 ∷ 0 ∷ 0 ∷ 0 ∷ 0 ∷ 0 ∷ 0 ∷ 0 ∷ 0 ∷ 0 ∷ 0 ∷ 0 ∷ 0 ∷ 0 ∷ 0 ∷ 0 ∷ 0 ∷ 0 ∷ 0 ∷ 0 ∷ 0 ∷ 0 ∷ 0 ∷ 0 ∷ 0 ∷ 0 ∷ 0 ∷ 0 ∷ 0 ∷ 0 ∷ 0 ∷ 0 ∷ 0 ∷ 255 ∷ 255 ∷ 255 ∷ 255 ∷ 18 ∷ 255 ∷ 255 ∷ 255 ∷ 255 ∷ 0 ∷ 0 ∷ 0 ∷ 0 ∷ 0 ∷ 0 ∷ 0 ∷ 0 ∷ 0 ∷ 0 ∷ 0 ∷ 0 ∷ 0 ∷ 0 ∷ 0 ∷ 0 ∷ 0 ∷ 0 ∷ 0 ∷ 0 ∷ 0 ∷ 0 ∷ 0 ∷ 0 ∷ 0 ∷ 0 ∷ 0 ∷ 0 ∷ 10 ∷ 0 ∷ 0 ∷ 0 ∷ 32 ∷ 2 ∷ 0 ∷ 16 ∷ 1 ∷ 0 ∷ 0 ∷ 0 ∷ 0 ∷ 0 ∷ 0 ∷ 0 ∷ 0 ∷ 0 ∷ 0 ∷ 0 ∷ 0 ∷ 0 ∷ 0 ∷ 0 ∷ 0 ∷ 0 ∷ 0 ∷ 0 ∷ 0 ∷ 0 ∷ 0 ∷ 0 ∷ 0 ∷ 0 ∷ 0 ∷ 0 ∷ 0 ∷ 0 ∷ 0 ∷ 0 ∷ 246 ∷ 255 ∷ 255 ∷ 255 ∷ 16 ∷ 1 ∷ 0 ∷ 0 ∷ 0 ∷ 0 ∷ 0 ∷ 0 ∷ 0 ∷ 0 ∷ 0 ∷ 0 ∷ 0 ∷ 0 ∷ 0 ∷ 0 ∷ 0 ∷ 0 ∷ 0 ∷ 0 ∷ 0 ∷ 0 ∷ 0 ∷ 0 ∷ 0 ∷ 0 ∷ 0 ∷ 0 ∷ 0 ∷ 0 ∷ 0 ∷ 0 ∷ 0 ∷ 0 ∷ 0 ∷ 0 ∷ 0 ∷ 18 ∷ 255 ∷ 255 ∷ 255 ∷ 255 ∷ 0 ∷ 0 ∷ 0 ∷ 0 ∷ 0 ∷ 0 ∷ 0 ∷ 0 ∷ 0 ∷ 0 ∷ 0 ∷ 0 ∷ 0 ∷ 0 ∷ 0 ∷ 0 ∷ 0 ∷ 0 ∷ 0 ∷ 0 ∷ 0 ∷ 0 ∷ 0 ∷ 0 ∷ 0 ∷ 0 ∷ 0 ∷ 0 ∷ 10 ∷ 0 ∷ 0 ∷ 0 ∷ 34 ∷ 2 ∷ 0 ∷ 1 ∷ 255 ∷ [])
+pub pond-bytes : fills pond (ascii "\u{2}\u{1}\u{0}\u{2}\u{0}\u{1}0\u{2}\u{0}a\"b             \u{10}\u{0}\u{0}\u{0}\u{0}\u{0}\u{0}\u{0}\u{0}\u{0}\u{0}\u{0}\u{0}\u{0}\u{0}\u{0}\u{0}\u{0}\u{0}\u{0}\u{0}\u{0}\u{0}\u{0}\u{0}\u{0}\u{0}\u{0}\u{0}\u{0}\u{0}\u{0}\u{0}\u{0}\u{0}\u{0}\u{0} \u{1}\u{0}\u{10}\u{1}\u{0}\u{0}\u{0}\u{0}\u{0}\u{0}\u{0}\u{0}\u{0}\u{0}\u{0}\u{0}\u{0}\u{0}\u{0}\u{0}\u{0}\u{0}\u{0}\u{0}\u{0}\u{0}\u{0}\u{0}\u{0}\u{0}\u{0}\u{0}\u{0}\u{0}\u{0}\u{0}\u{0}\u{0}\u{0}\"\u{1}\u{0}\u{1}\u{10}\u{0}\u{0}\u{0}\u{0}\u{0}\u{0}\u{0}\u{0}\u{0}\u{0}\u{0}\u{0}\u{0}\u{0}\u{0}\u{0}\u{0}\u{0}\u{0}\u{0}\u{0}\u{0}\u{0}\u{0}\u{0}\u{0}\u{0}\u{0}\u{0}\u{0}\u{0}\u{0}2\u{0}\u{0}\u{0}\u{10}\u{0}\u{0}\u{0}\u{0}\u{0}\u{0}\u{0}\u{0}\u{0}\u{0}\u{0}\u{0}\u{0}\u{0}\u{0}\u{0}\u{0}\u{0}\u{0}\u{0}\u{0}\u{0}\u{0}\u{0}\u{0}\u{0}\u{0}\u{0}\u{0}\u{0}\u{0}\u{0}\u{ff}\u{ff}\u{ff}\u{ff}\u{12}\u{ff}\u{ff}\u{ff}\u{ff}\u{0}\u{0}\u{0}\u{0}\u{0}\u{0}\u{0}\u{0}\u{0}\u{0}\u{0}\u{0}\u{0}\u{0}\u{0}\u{0}\u{0}\u{0}\u{0}\u{0}\u{0}\u{0}\u{0}\u{0}\u{0}\u{0}\u{0}\u{0}\n\u{0}\u{0}\u{0} \u{2}\u{0}\u{10}\u{1}\u{0}\u{0}\u{0}\u{0}\u{0}\u{0}\u{0}\u{0}\u{0}\u{0}\u{0}\u{0}\u{0}\u{0}\u{0}\u{0}\u{0}\u{0}\u{0}\u{0}\u{0}\u{0}\u{0}\u{0}\u{0}\u{0}\u{0}\u{0}\u{0}\u{0}\u{0}\u{f6}\u{ff}\u{ff}\u{ff}\u{10}\u{1}\u{0}\u{0}\u{0}\u{0}\u{0}\u{0}\u{0}\u{0}\u{0}\u{0}\u{0}\u{0}\u{0}\u{0}\u{0}\u{0}\u{0}\u{0}\u{0}\u{0}\u{0}\u{0}\u{0}\u{0}\u{0}\u{0}\u{0}\u{0}\u{0}\u{0}\u{0}\u{0}\u{0}\u{0}\u{0}\u{12}\u{ff}\u{ff}\u{ff}\u{ff}\u{0}\u{0}\u{0}\u{0}\u{0}\u{0}\u{0}\u{0}\u{0}\u{0}\u{0}\u{0}\u{0}\u{0}\u{0}\u{0}\u{0}\u{0}\u{0}\u{0}\u{0}\u{0}\u{0}\u{0}\u{0}\u{0}\u{0}\u{0}\n\u{0}\u{0}\u{0}\"\u{2}\u{0}\u{1}\u{ff}")
 unfolding definitions
 pond-bytes = refl
 
@@ -40,7 +53,7 @@ pond-bytes = refl
 abbrev logic : List ℕ
 logic = 115 ∷ 105 ∷ 116 ∷ 101 ∷ 32 ∷ 109 ∷ 61 ∷ 49 ∷ 32 ∷ 110 ∷ 61 ∷ 50 ∷ 32 ∷ 65 ∷ 61 ∷ 49 ∷ 32 ∷ 87 ∷ 61 ∷ 55 ∷ 32 ∷ 114 ∷ 101 ∷ 119 ∷ 97 ∷ 114 ∷ 100 ∷ 32 ∷ 49 ∷ 32 ∷ 61 ∷ 32 ∷ 33 ∷ 67 ∷ 49 ∷ 32 ∷ 38 ∷ 32 ∷ 50 ∷ 42 ∷ 40 ∷ 76 ∷ 49 ∷ 45 ∷ 51 ∷ 41 ∷ 32 ∷ 62 ∷ 32 ∷ 53 ∷ 32 ∷ 124 ∷ 32 ∷ 40 ∷ 67 ∷ 50 ∷ 41 ∷ 32 ∷ 58 ∷ 32 ∷ 102 ∷ 111 ∷ 114 ∷ 98 ∷ 105 ∷ 100 ∷ 100 ∷ 101 ∷ 110 ∷ 32 ∷ 59 ∷ 32 ∷ 101 ∷ 108 ∷ 115 ∷ 101 ∷ 32 ∷ 58 ∷ 32 ∷ 40 ∷ 49 ∷ 43 ∷ 50 ∷ 41 ∷ 42 ∷ 76 ∷ 49 ∷ 42 ∷ 52 ∷ 32 ∷ 99 ∷ 104 ∷ 97 ∷ 110 ∷ 99 ∷ 101 ∷ 32 ∷ 49 ∷ 32 ∷ 78 ∷ 49 ∷ 61 ∷ 101 ∷ 108 ∷ 115 ∷ 101 ∷ 58 ∷ 55 ∷ 32 ∷ 99 ∷ 104 ∷ 97 ∷ 110 ∷ 99 ∷ 101 ∷ 32 ∷ 49 ∷ 32 ∷ 78 ∷ 50 ∷ 61 ∷ 101 ∷ 108 ∷ 115 ∷ 101 ∷ 58 ∷ 48 ∷ 32 ∷ 110 ∷ 101 ∷ 120 ∷ 116 ∷ 32 ∷ 49 ∷ 32 ∷ 76 ∷ 49 ∷ 61 ∷ 78 ∷ 50 ∷ 58 ∷ 49 ∷ 59 ∷ 101 ∷ 108 ∷ 115 ∷ 101 ∷ 58 ∷ 76 ∷ 49 ∷ 32 ∷ 101 ∷ 110 ∷ 100 ∷ 32 ∷ 61 ∷ 32 ∷ 76 ∷ 49 ∷ 60 ∷ 61 ∷ 49 ∷ 58 ∷ 50 ∷ 59 ∷ 101 ∷ 108 ∷ 115 ∷ 101 ∷ 58 ∷ 48 ∷ []
 
-pub logic-bytes : fills logic (2 ∷ 1 ∷ 2 ∷ 1 ∷ 0 ∷ 7 ∷ 19 ∷ 16 ∷ 12 ∷ 0 ∷ 0 ∷ 0 ∷ 0 ∷ 0 ∷ 0 ∷ 0 ∷ 0 ∷ 0 ∷ 0 ∷ 0 ∷ 0 ∷ 0 ∷ 0 ∷ 0 ∷ 0 ∷ 0 ∷ 0 ∷ 0 ∷ 0 ∷ 0 ∷ 0 ∷ 0 ∷ 0 ∷ 0 ∷ 0 ∷ 0 ∷ 0 ∷ 0 ∷ 0 ∷ 0 ∷ 0 ∷ 0 ∷ 0 ∷ 0 ∷ 17 ∷ 2 ∷ 19 ∷ 16 ∷ 12 ∷ 0 ∷ 0 ∷ 0 ∷ 0 ∷ 0 ∷ 0 ∷ 0 ∷ 0 ∷ 0 ∷ 0 ∷ 0 ∷ 0 ∷ 0 ∷ 0 ∷ 0 ∷ 0 ∷ 0 ∷ 0 ∷ 0 ∷ 0 ∷ 0 ∷ 0 ∷ 0 ∷ 0 ∷ 0 ∷ 0 ∷ 0 ∷ 0 ∷ 0 ∷ 0 ∷ 0 ∷ 0 ∷ 0 ∷ 0 ∷ 0 ∷ 17 ∷ 2 ∷ 19 ∷ 18 ∷ 2 ∷ 0 ∷ 0 ∷ 0 ∷ 0 ∷ 0 ∷ 0 ∷ 0 ∷ 0 ∷ 0 ∷ 0 ∷ 0 ∷ 0 ∷ 0 ∷ 0 ∷ 0 ∷ 0 ∷ 0 ∷ 0 ∷ 0 ∷ 0 ∷ 0 ∷ 0 ∷ 0 ∷ 0 ∷ 0 ∷ 0 ∷ 0 ∷ 0 ∷ 0 ∷ 0 ∷ 0 ∷ 245 ∷ 255 ∷ 255 ∷ 255 ∷ 17 ∷ 1 ∷ 32 ∷ 1 ∷ 0 ∷ 16 ∷ 0 ∷ 0 ∷ 0 ∷ 0 ∷ 0 ∷ 0 ∷ 0 ∷ 0 ∷ 0 ∷ 0 ∷ 0 ∷ 0 ∷ 0 ∷ 0 ∷ 0 ∷ 0 ∷ 0 ∷ 0 ∷ 0 ∷ 0 ∷ 0 ∷ 0 ∷ 0 ∷ 0 ∷ 0 ∷ 0 ∷ 0 ∷ 0 ∷ 0 ∷ 0 ∷ 0 ∷ 0 ∷ 7 ∷ 0 ∷ 0 ∷ 0 ∷ 33 ∷ 1 ∷ 0 ∷ 1 ∷ 16 ∷ 0 ∷ 0 ∷ 0 ∷ 0 ∷ 0 ∷ 0 ∷ 0 ∷ 0 ∷ 0 ∷ 0 ∷ 0 ∷ 0 ∷ 0 ∷ 0 ∷ 0 ∷ 0 ∷ 0 ∷ 0 ∷ 0 ∷ 0 ∷ 0 ∷ 0 ∷ 0 ∷ 0 ∷ 0 ∷ 0 ∷ 0 ∷ 0 ∷ 0 ∷ 0 ∷ 0 ∷ 0 ∷ 0 ∷ 0 ∷ 0 ∷ 0 ∷ 33 ∷ 1 ∷ 0 ∷ 2 ∷ 16 ∷ 0 ∷ 0 ∷ 0 ∷ 0 ∷ 0 ∷ 0 ∷ 0 ∷ 0 ∷ 0 ∷ 0 ∷ 0 ∷ 0 ∷ 0 ∷ 0 ∷ 0 ∷ 0 ∷ 0 ∷ 0 ∷ 0 ∷ 0 ∷ 0 ∷ 0 ∷ 0 ∷ 0 ∷ 0 ∷ 0 ∷ 0 ∷ 0 ∷ 0 ∷ 0 ∷ 0 ∷ 0 ∷ 1 ∷ 0 ∷ 0 ∷ 0 ∷ 16 ∷ 1 ∷ 0 ∷ 0 ∷ 0 ∷ 0 ∷ 0 ∷ 0 ∷ 0 ∷ 0 ∷ 0 ∷ 0 ∷ 0 ∷ 0 ∷ 0 ∷ 0 ∷ 0 ∷ 0 ∷ 0 ∷ 0 ∷ 0 ∷ 0 ∷ 0 ∷ 0 ∷ 0 ∷ 0 ∷ 0 ∷ 0 ∷ 0 ∷ 0 ∷ 0 ∷ 0 ∷ 0 ∷ 0 ∷ 0 ∷ 0 ∷ 0 ∷ 17 ∷ 6 ∷ 34 ∷ 1 ∷ 0 ∷ 1 ∷ 16 ∷ 0 ∷ 0 ∷ 0 ∷ 0 ∷ 0 ∷ 0 ∷ 0 ∷ 0 ∷ 0 ∷ 0 ∷ 0 ∷ 0 ∷ 0 ∷ 0 ∷ 0 ∷ 0 ∷ 0 ∷ 0 ∷ 0 ∷ 0 ∷ 0 ∷ 0 ∷ 0 ∷ 0 ∷ 0 ∷ 0 ∷ 0 ∷ 0 ∷ 0 ∷ 0 ∷ 0 ∷ 0 ∷ 2 ∷ 0 ∷ 0 ∷ 0 ∷ 16 ∷ 0 ∷ 0 ∷ 0 ∷ 0 ∷ 0 ∷ 0 ∷ 0 ∷ 0 ∷ 0 ∷ 0 ∷ 0 ∷ 0 ∷ 0 ∷ 0 ∷ 0 ∷ 0 ∷ 0 ∷ 0 ∷ 0 ∷ 0 ∷ 0 ∷ 0 ∷ 0 ∷ 0 ∷ 0 ∷ 0 ∷ 0 ∷ 0 ∷ 0 ∷ 0 ∷ 0 ∷ 0 ∷ 0 ∷ 0 ∷ 0 ∷ 0 ∷ 18 ∷ 1 ∷ 0 ∷ 0 ∷ 0 ∷ 0 ∷ 0 ∷ 0 ∷ 0 ∷ 0 ∷ 0 ∷ 0 ∷ 0 ∷ 0 ∷ 0 ∷ 0 ∷ 0 ∷ 0 ∷ 0 ∷ 0 ∷ 0 ∷ 0 ∷ 0 ∷ 0 ∷ 0 ∷ 0 ∷ 0 ∷ 0 ∷ 0 ∷ 0 ∷ 0 ∷ 0 ∷ 0 ∷ 255 ∷ 255 ∷ 255 ∷ 255 ∷ 35 ∷ 255 ∷ [])
+pub logic-bytes : fills logic (ascii "\u{2}\u{1}\u{2}\u{1}\u{0}\u{7}\u{13}\u{10}\u{c}\u{0}\u{0}\u{0}\u{0}\u{0}\u{0}\u{0}\u{0}\u{0}\u{0}\u{0}\u{0}\u{0}\u{0}\u{0}\u{0}\u{0}\u{0}\u{0}\u{0}\u{0}\u{0}\u{0}\u{0}\u{0}\u{0}\u{0}\u{0}\u{0}\u{0}\u{0}\u{0}\u{0}\u{0}\u{0}\u{11}\u{2}\u{13}\u{10}\u{c}\u{0}\u{0}\u{0}\u{0}\u{0}\u{0}\u{0}\u{0}\u{0}\u{0}\u{0}\u{0}\u{0}\u{0}\u{0}\u{0}\u{0}\u{0}\u{0}\u{0}\u{0}\u{0}\u{0}\u{0}\u{0}\u{0}\u{0}\u{0}\u{0}\u{0}\u{0}\u{0}\u{0}\u{0}\u{0}\u{11}\u{2}\u{13}\u{12}\u{2}\u{0}\u{0}\u{0}\u{0}\u{0}\u{0}\u{0}\u{0}\u{0}\u{0}\u{0}\u{0}\u{0}\u{0}\u{0}\u{0}\u{0}\u{0}\u{0}\u{0}\u{0}\u{0}\u{0}\u{0}\u{0}\u{0}\u{0}\u{0}\u{0}\u{0}\u{0}\u{f5}\u{ff}\u{ff}\u{ff}\u{11}\u{1} \u{1}\u{0}\u{10}\u{0}\u{0}\u{0}\u{0}\u{0}\u{0}\u{0}\u{0}\u{0}\u{0}\u{0}\u{0}\u{0}\u{0}\u{0}\u{0}\u{0}\u{0}\u{0}\u{0}\u{0}\u{0}\u{0}\u{0}\u{0}\u{0}\u{0}\u{0}\u{0}\u{0}\u{0}\u{0}\u{7}\u{0}\u{0}\u{0}!\u{1}\u{0}\u{1}\u{10}\u{0}\u{0}\u{0}\u{0}\u{0}\u{0}\u{0}\u{0}\u{0}\u{0}\u{0}\u{0}\u{0}\u{0}\u{0}\u{0}\u{0}\u{0}\u{0}\u{0}\u{0}\u{0}\u{0}\u{0}\u{0}\u{0}\u{0}\u{0}\u{0}\u{0}\u{0}\u{0}\u{0}\u{0}\u{0}\u{0}!\u{1}\u{0}\u{2}\u{10}\u{0}\u{0}\u{0}\u{0}\u{0}\u{0}\u{0}\u{0}\u{0}\u{0}\u{0}\u{0}\u{0}\u{0}\u{0}\u{0}\u{0}\u{0}\u{0}\u{0}\u{0}\u{0}\u{0}\u{0}\u{0}\u{0}\u{0}\u{0}\u{0}\u{0}\u{0}\u{0}\u{1}\u{0}\u{0}\u{0}\u{10}\u{1}\u{0}\u{0}\u{0}\u{0}\u{0}\u{0}\u{0}\u{0}\u{0}\u{0}\u{0}\u{0}\u{0}\u{0}\u{0}\u{0}\u{0}\u{0}\u{0}\u{0}\u{0}\u{0}\u{0}\u{0}\u{0}\u{0}\u{0}\u{0}\u{0}\u{0}\u{0}\u{0}\u{0}\u{0}\u{0}\u{11}\u{6}\"\u{1}\u{0}\u{1}\u{10}\u{0}\u{0}\u{0}\u{0}\u{0}\u{0}\u{0}\u{0}\u{0}\u{0}\u{0}\u{0}\u{0}\u{0}\u{0}\u{0}\u{0}\u{0}\u{0}\u{0}\u{0}\u{0}\u{0}\u{0}\u{0}\u{0}\u{0}\u{0}\u{0}\u{0}\u{0}\u{0}\u{2}\u{0}\u{0}\u{0}\u{10}\u{0}\u{0}\u{0}\u{0}\u{0}\u{0}\u{0}\u{0}\u{0}\u{0}\u{0}\u{0}\u{0}\u{0}\u{0}\u{0}\u{0}\u{0}\u{0}\u{0}\u{0}\u{0}\u{0}\u{0}\u{0}\u{0}\u{0}\u{0}\u{0}\u{0}\u{0}\u{0}\u{0}\u{0}\u{0}\u{0}\u{12}\u{1}\u{0}\u{0}\u{0}\u{0}\u{0}\u{0}\u{0}\u{0}\u{0}\u{0}\u{0}\u{0}\u{0}\u{0}\u{0}\u{0}\u{0}\u{0}\u{0}\u{0}\u{0}\u{0}\u{0}\u{0}\u{0}\u{0}\u{0}\u{0}\u{0}\u{0}\u{0}\u{ff}\u{ff}\u{ff}\u{ff}#\u{ff}")
 unfolding definitions
 logic-bytes = refl
 
@@ -49,32 +62,32 @@ abbrev refuses : List ℕ → ℕ → ℕ → ℕ → Bool
 refuses w room k p = let o = Import.import-text w (replicate room 7) in eqb (o .number) k && (eqb (o .place) p && eqb (o .size) 0)
 
 -- `site m=257 n=0 A=1 W=1`: a setting beyond its operand: the model's 4
-pub refused-1 : T (refuses (115 ∷ 105 ∷ 116 ∷ 101 ∷ 32 ∷ 109 ∷ 61 ∷ 50 ∷ 53 ∷ 55 ∷ 32 ∷ 110 ∷ 61 ∷ 48 ∷ 32 ∷ 65 ∷ 61 ∷ 49 ∷ 32 ∷ 87 ∷ 61 ∷ 49 ∷ []) 0 4 0)
+pub refused-1 : T (refuses (ascii "site m=257 n=0 A=1 W=1") 0 4 0)
 unfolding definitions
 refused-1 = tt
 
 -- `site m=1 n=0 A=1 W=1 end = else : 2147483648`: 2147483648 is itself beyond 32 bits
-pub refused-2 : T (refuses (115 ∷ 105 ∷ 116 ∷ 101 ∷ 32 ∷ 109 ∷ 61 ∷ 49 ∷ 32 ∷ 110 ∷ 61 ∷ 48 ∷ 32 ∷ 65 ∷ 61 ∷ 49 ∷ 32 ∷ 87 ∷ 61 ∷ 49 ∷ 32 ∷ 101 ∷ 110 ∷ 100 ∷ 32 ∷ 61 ∷ 32 ∷ 101 ∷ 108 ∷ 115 ∷ 101 ∷ 32 ∷ 58 ∷ 32 ∷ 50 ∷ 49 ∷ 52 ∷ 55 ∷ 52 ∷ 56 ∷ 51 ∷ 54 ∷ 52 ∷ 56 ∷ []) 0 25 0)
+pub refused-2 : T (refuses (ascii "site m=1 n=0 A=1 W=1 end = else : 2147483648") 0 25 0)
 unfolding definitions
 refused-2 = tt
 
 -- `site m=1 n=0 A=1 W=1 end = else : -2147483647 - 1`: -2147483648 so written is a number; the model lacks the reward
-pub refused-3 : T (refuses (115 ∷ 105 ∷ 116 ∷ 101 ∷ 32 ∷ 109 ∷ 61 ∷ 49 ∷ 32 ∷ 110 ∷ 61 ∷ 48 ∷ 32 ∷ 65 ∷ 61 ∷ 49 ∷ 32 ∷ 87 ∷ 61 ∷ 49 ∷ 32 ∷ 101 ∷ 110 ∷ 100 ∷ 32 ∷ 61 ∷ 32 ∷ 101 ∷ 108 ∷ 115 ∷ 101 ∷ 32 ∷ 58 ∷ 32 ∷ 45 ∷ 50 ∷ 49 ∷ 52 ∷ 55 ∷ 52 ∷ 56 ∷ 51 ∷ 54 ∷ 52 ∷ 55 ∷ 32 ∷ 45 ∷ 32 ∷ 49 ∷ []) 0 7 44)
+pub refused-3 : T (refuses (ascii "site m=1 n=0 A=1 W=1 end = else : -2147483647 - 1") 0 7 44)
 unfolding definitions
 refused-3 = tt
 
 -- `site m=1 n=0 A=1 W=1 end = 1 <= 2 : 0 ; else : 0`: coefficients that cancel: the model's 4, at that command
-pub refused-4 : T (refuses (115 ∷ 105 ∷ 116 ∷ 101 ∷ 32 ∷ 109 ∷ 61 ∷ 49 ∷ 32 ∷ 110 ∷ 61 ∷ 48 ∷ 32 ∷ 65 ∷ 61 ∷ 49 ∷ 32 ∷ 87 ∷ 61 ∷ 49 ∷ 32 ∷ 101 ∷ 110 ∷ 100 ∷ 32 ∷ 61 ∷ 32 ∷ 49 ∷ 32 ∷ 60 ∷ 61 ∷ 32 ∷ 50 ∷ 32 ∷ 58 ∷ 32 ∷ 48 ∷ 32 ∷ 59 ∷ 32 ∷ 101 ∷ 108 ∷ 115 ∷ 101 ∷ 32 ∷ 58 ∷ 32 ∷ 48 ∷ []) 0 4 80)
+pub refused-4 : T (refuses (ascii "site m=1 n=0 A=1 W=1 end = 1 <= 2 : 0 ; else : 0") 0 4 80)
 unfolding definitions
 refused-4 = tt
 
 -- `site m=2147483648 n=0 A=1 W=1 end = else : 0 0`: outside the grammar, before 25: at the second 0
-pub refused-5 : T (refuses (115 ∷ 105 ∷ 116 ∷ 101 ∷ 32 ∷ 109 ∷ 61 ∷ 50 ∷ 49 ∷ 52 ∷ 55 ∷ 52 ∷ 56 ∷ 51 ∷ 54 ∷ 52 ∷ 56 ∷ 32 ∷ 110 ∷ 61 ∷ 48 ∷ 32 ∷ 65 ∷ 61 ∷ 49 ∷ 32 ∷ 87 ∷ 61 ∷ 49 ∷ 32 ∷ 101 ∷ 110 ∷ 100 ∷ 32 ∷ 61 ∷ 32 ∷ 101 ∷ 108 ∷ 115 ∷ 101 ∷ 32 ∷ 58 ∷ 32 ∷ 48 ∷ 32 ∷ 48 ∷ []) 0 24 45)
+pub refused-5 : T (refuses (ascii "site m=2147483648 n=0 A=1 W=1 end = else : 0 0") 0 24 45)
 unfolding definitions
 refused-5 = tt
 
 -- `site m=1 n=0 A=1 W=1 reward 1 = else : 0 next 1 L1 = else : L1`: one byte short
-pub refused-6 : T (refuses (115 ∷ 105 ∷ 116 ∷ 101 ∷ 32 ∷ 109 ∷ 61 ∷ 49 ∷ 32 ∷ 110 ∷ 61 ∷ 48 ∷ 32 ∷ 65 ∷ 61 ∷ 49 ∷ 32 ∷ 87 ∷ 61 ∷ 49 ∷ 32 ∷ 114 ∷ 101 ∷ 119 ∷ 97 ∷ 114 ∷ 100 ∷ 32 ∷ 49 ∷ 32 ∷ 61 ∷ 32 ∷ 101 ∷ 108 ∷ 115 ∷ 101 ∷ 32 ∷ 58 ∷ 32 ∷ 48 ∷ 32 ∷ 110 ∷ 101 ∷ 120 ∷ 116 ∷ 32 ∷ 49 ∷ 32 ∷ 76 ∷ 49 ∷ 32 ∷ 61 ∷ 32 ∷ 101 ∷ 108 ∷ 115 ∷ 101 ∷ 32 ∷ 58 ∷ 32 ∷ 76 ∷ 49 ∷ []) 87 17 0)
+pub refused-6 : T (refuses (ascii "site m=1 n=0 A=1 W=1 reward 1 = else : 0 next 1 L1 = else : L1") 87 17 0)
 unfolding definitions
 refused-6 = tt
 

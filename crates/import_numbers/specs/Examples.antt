@@ -7,8 +7,12 @@ use lib.Dec.{T, eqb}
 use lib.IntN.{ℤ, pos, negsuc}
 use Rattle.theory.specs.Diagram.{Linear, no-coeffs, _⊞_, _⊟_, _⊠_, addL, scaleL}
 use Rattle.theory.specs.Plain.{in-32-bits}
-use Rattle.import_grammar.specs.Grammar.{none, Digits, one, also, Digit, d0, d1, d2, d3, d4, d5, d6, d7, d8, i1, Op, lt, le, gt, ge, Sign, adds, takes, ConstFactor, number, kbracket, ConstTerm, kfactor, ktimes, ConstSum, kterm, kneg, kplus, vfactor, level, vterm, Sum, constant, varying, Atom, compare, Setting, setting, head, worth, end, start, closed, Text, entire, deepest}
-use Rattle.import_numbers.specs.Numbers.{digits-value, linear-of, kfactor-linear, vfactor-linear, kfactor-numbers, vfactor-numbers, sum-numbers, atom-numbers, result-numbers, setting-numbers, before-numbers, numbers, all-within, beyond, difference, constant-linear}
+use Rattle.import_grammar.specs.Grammar.{none, Digits, one, also, Digit, d0, d1, d2, d3, d4, d5, d6, d7, d8, i1, Op, lt, le, gt, ge, Sign, adds, takes}
+use Rattle.import_grammar.specs.Grammar.{ConstFactor, number, kbracket, ConstTerm, kfactor, ktimes, ConstSum, kterm, kneg, kplus, vfactor, level, vterm, Sum}
+use Rattle.import_grammar.specs.Grammar.{constant, varying, Atom, compare, Setting, setting, head, worth, end, start, closed, Text, entire, deepest}
+use Rattle.import_numbers.specs.Numbers.{digits-value, linear-of, kfactor-linear, vfactor-linear, kfactor-numbers, vfactor-numbers, sum-numbers}
+use Rattle.import_numbers.specs.Numbers.{atom-numbers, result-numbers, setting-numbers, before-numbers, numbers, all-within, beyond, difference}
+use Rattle.import_numbers.specs.Numbers.{constant-linear}
 
 -- 2147483647 and 2147483648
 most : Digits
@@ -95,5 +99,6 @@ six′ = refl
 
 -- "written": a number of the site too
 texts : T (beyond (text one-more product) && (not (beyond (text most least)) && beyond (text most over-and-back)))
-unfolding text set product least over-and-back digits most one-more beyond numbers before-numbers result-numbers setting-numbers all-within in-32-bits sum-numbers kfactor-numbers vfactor-numbers kfactor-linear vfactor-linear digits-value _⊞_ _⊟_ _⊠_ addL scaleL no-coeffs
+unfolding text set product least over-and-back digits most one-more beyond numbers before-numbers result-numbers setting-numbers all-within in-32-bits
+    sum-numbers kfactor-numbers vfactor-numbers kfactor-linear vfactor-linear digits-value _⊞_ _⊟_ _⊠_ addL scaleL no-coeffs
 texts = tt

@@ -7,7 +7,12 @@ use lib.IntN.{ℤ, pos, negsuc}
 use Rattle.theory.specs.Widths.{levels-most}
 use Rattle.theory.specs.Diagram.{Linear, no-coeffs, _⊞_, _⊟_, _⊠_}
 use Rattle.theory.specs.Plain.{in-32-bits}
-use Rattle.import_grammar.specs.Grammar.{Digit, d0, d1, d2, d3, d4, d5, d6, d7, d8, d9, Digits, one, also, Index, i1, i2, i3, i4, i5, i6, i7, i8, Op, lt, le, gt, ge, Sign, adds, takes, ConstFactor, number, kbracket, ConstTerm, kfactor, ktimes, ConstSum, kterm, kneg, kplus, VaryFactor, level, vbracket, VaryTerm, vfactor, vscaled, vby, VarySum, vterm, vneg, plusKV, plusVK, plusVV, Sum, constant, varying, Atom, now, later, compare, group, Not, negated, And, alone, both, Or, single, either, Result, worth, forbids, Setting, setting, Items, head, closed, named, Opening, reward, chance, next, end, Before, start, case, Text, entire}
+use Rattle.import_grammar.specs.Grammar.{Digit, d0, d1, d2, d3, d4, d5, d6, d7, d8, d9, Digits, one, also, Index, i1, i2, i3, i4, i5, i6, i7, i8, Op, lt, le}
+use Rattle.import_grammar.specs.Grammar.{gt, ge, Sign, adds, takes, ConstFactor, number, kbracket, ConstTerm, kfactor, ktimes, ConstSum, kterm, kneg, kplus}
+use Rattle.import_grammar.specs.Grammar.{VaryFactor, level, vbracket, VaryTerm, vfactor, vscaled, vby, VarySum, vterm, vneg, plusKV, plusVK, plusVV, Sum}
+use Rattle.import_grammar.specs.Grammar.{constant, varying, Atom, now, later, compare, group, Not, negated, And, alone, both, Or, single, either, Result}
+use Rattle.import_grammar.specs.Grammar.{worth, forbids, Setting, setting, Items, head, closed, named, Opening, reward, chance, next, end, Before, start, case}
+use Rattle.import_grammar.specs.Grammar.{Text, entire}
 
 -- ---- numbers as they are written
 

@@ -2,9 +2,13 @@
 use mathlib.Core.Bool.{Bool, true, false}
 use Prim.Native.Nat.{ℕ, suc}
 use Rattle.import_grammar.specs.Grammar.{Spaces, none, more, ConstFactor, number, kbracket, ConstTerm, kfactor, ktimes, vfactor, vscaled, vby, unsaid, bang, Chars, deepest}
-use Rattle.import_grammar.specs.Reader.{ConstPre, kopens, knegs, kmore, SumPre, kpre, vmore, ConstTermPre, first, timesK, TermPre, free, timesV, Term, kt, vt, no-or, some-or, no-and, some-and, Level, lv, CondCtx, base, inside, ResultCtx, of-case, of-else, Head, q0, q1, q2, q3, Kind, a-reward, a-chance, a-next, a-name, SumCtx, left, right, value, paren, ConstCtx, behind, within}
+use Rattle.import_grammar.specs.Reader.{ConstPre, kopens, knegs, kmore, SumPre, kpre, vmore, ConstTermPre, first, timesK, TermPre, free, timesV, Term, kt, vt}
+use Rattle.import_grammar.specs.Reader.{no-or, some-or, no-and, some-and, Level, lv, CondCtx, base, inside, ResultCtx, of-case, of-else, Head, q0, q1, q2, q3}
+use Rattle.import_grammar.specs.Reader.{Kind, a-reward, a-chance, a-next, a-name, SumCtx, left, right, value, paren, ConstCtx, behind, within}
 use Rattle.import_grammar.specs.Reader.{State as Standing, cond, factor, after, cfactor, cafter, less, greater, held, els, outset, hletter, hequals, hnumber, hdone, inum, idone, iequals, res, forbade, quoted}
-use Rattle.import_grammar.specs.Reader.{Middle, letterC, letterL, reward1, reward2, reward3, reward4, reward5, chance1, chance2, chance3, chance4, chance5, end1, end2, n1, next2, next3, name2, name3, site1, site2, site3, forb1, forb2, forb3, forb4, forb5, forb6, forb7, forb8, letterN, chanceN, nextL, inside-name, el1, el2, el3, Machine, at, mid, dead}
+use Rattle.import_grammar.specs.Reader.{Middle, letterC, letterL, reward1, reward2, reward3, reward4, reward5, chance1, chance2, chance3, chance4, chance5}
+use Rattle.import_grammar.specs.Reader.{end1, end2, n1, next2, next3, name2, name3, site1, site2, site3, forb1, forb2, forb3, forb4, forb5, forb6, forb7}
+use Rattle.import_grammar.specs.Reader.{forb8, letterN, chanceN, nextL, inside-name, el1, el2, el3, Machine, at, mid, dead}
 use Rattle.import_state.specs.Bytes.{no-level}
 use Rattle.import_state.specs.declared.Side.{Side}
 use Rattle.import_state.specs.declared.Side.the-variants.{Left, Right, Case, Last}

@@ -1,6 +1,8 @@
 // Sums: "multiplication, by a constant only, binds before + and −".
 ghost use mathlib.Core.Path.{_≡_};
-ghost use Rattle.import_state.specs.Sums.{begun as begun-of, roomed as roomed-of, levelled as levelled-of, bound as bound-of, next-term as next-term-of, shut as shut-of, closed as closed-of, open-sum as open-sum-of, on-factor as on-factor-of, end-const as end-const-of};
+ghost use Rattle.import_state.specs.Sums.{begun as begun-of, roomed as roomed-of, levelled as levelled-of, bound as bound-of, next-term as next-term-of};
+ghost use Rattle.import_state.specs.Sums.{shut as shut-of, closed as closed-of, open-sum as open-sum-of, on-factor as on-factor-of};
+ghost use Rattle.import_state.specs.Sums.{end-const as end-const-of};
 use super::DEEPEST;
 use super::NO_LEVEL;
 use super::Place;

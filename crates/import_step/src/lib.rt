@@ -1,6 +1,8 @@
 // A step, from any state, on any byte.
 ghost use mathlib.Core.Path.{_≡_};
-ghost use Rattle.import_step.specs.Steps.{only as only-of, spaced as spaced-of, on-place as on-place-of, on-token as on-token-of, next as next-of, is-over, last-side as last-side-of, last-setting as last-setting-of, after-ends as after-ends-of, place-ends as place-ends-of, is-finished};
+ghost use Rattle.import_step.specs.Steps.{only as only-of, spaced as spaced-of, on-place as on-place-of, on-token as on-token-of, next as next-of};
+ghost use Rattle.import_step.specs.Steps.{is-over, last-side as last-side-of, last-setting as last-setting-of, after-ends as after-ends-of};
+ghost use Rattle.import_step.specs.Steps.{place-ends as place-ends-of, is-finished};
 use import_cases::joined;
 use import_cases::on_after;
 use import_cases::on_atom;

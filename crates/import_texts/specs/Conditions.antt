@@ -9,7 +9,10 @@ use lib.IntN.{ℤ, pos, negsuc}
 use Rattle.whole.specs.Cases.{if}
 use Rattle.whole.specs.Linears.{addL, subL, scaleL}
 use Rattle.theory.specs.Plain.{in-32-bits}
-use Rattle.import_grammar.specs.Grammar.{Blank, blank, blank-byte, tab, newline, return, Spaces, none, more, Digits, Four, f1, f2, f3, f4, four-byte, Index, Op, lt, le, gt, ge, op-bytes, Sum, constant, kterm, kfactor, number, Nots, unsaid, bang, Atom, now, later, compare, group, Not, negated, And, alone, both, Or, single, either, spaces-bytes, digits-bytes, kfactor-bytes, sum-bytes, nots-bytes, atom-bytes, not-bytes, and-bytes, or-bytes}
+use Rattle.import_grammar.specs.Grammar.{Blank, blank, blank-byte, tab, newline, return, Spaces, none, more, Digits, Four, f1, f2, f3, f4, four-byte, Index}
+use Rattle.import_grammar.specs.Grammar.{Op, lt, le, gt, ge, op-bytes, Sum, constant, kterm, kfactor, number, Nots, unsaid, bang, Atom, now, later, compare}
+use Rattle.import_grammar.specs.Grammar.{group, Not, negated, And, alone, both, Or, single, either, spaces-bytes, digits-bytes, kfactor-bytes, sum-bytes}
+use Rattle.import_grammar.specs.Grammar.{nots-bytes, atom-bytes, not-bytes, and-bytes, or-bytes}
 use Rattle.import_numbers.specs.Numbers.{difference, linear-of, nine, written, kfactor-numbers, sum-numbers, atom-numbers, not-numbers, and-numbers, or-numbers, all-within}
 use Rattle.import_linears.specs.Nine.{constant9}
 use Rattle.import_frames.specs.declared.Frame.{Frame}

@@ -14,7 +14,8 @@ use Rattle.import_grammar.specs.Grammar.{Blank, blank, tab, newline, return, Sp
 use Rattle.import_numbers.specs.Numbers.{digit-value, digits-value, all-within}
 use Rattle.import_linears.specs.Nine.{most, constant9, multiplied}
 use Rattle.import_frames.specs.declared.Frame.{Frame}
-use Rattle.import_frames.specs.Frames.{zero9, unit9, digit, of-sum, made, idle, over, termed, factor, closed, total, on-sign, on-compare, less, compared-with, finished, on-end, on-equals, on-other, on-mark, grown, on-digit, unless-over, step, entered, popped, stops, opens}
+use Rattle.import_frames.specs.Frames.{zero9, unit9, digit, of-sum, made, idle, over, termed, factor, closed, total, on-sign, on-compare, less, compared-with}
+use Rattle.import_frames.specs.Frames.{finished, on-end, on-equals, on-other, on-mark, grown, on-digit, unless-over, step, entered, popped, stops, opens}
 use Rattle.import_sums.specs.Run.{Out, stopped, ended, final, run}
 use Rattle.import_values.specs.Linears.{clip-judged, all-append, scale-one, by-left}
 

@@ -11,8 +11,13 @@ use Rattle.whole.specs.Cases.{if}
 use Rattle.whole.specs.Linears.{coefficients, numbers, addL, subL, scaleL, clipL}
 use Rattle.theory.specs.Diagram.{Linear, no-coeffs, _⊞_, _⊟_, _⊠_}
 use Rattle.theory.specs.Plain.{in-32-bits}
-use Rattle.import_grammar.specs.Grammar.{Spaces, Digits, Sign, adds, takes, sign-byte, Index, i1, i2, i3, i4, i5, i6, i7, i8, index-byte, ConstFactor, number, kbracket, ConstTerm, kfactor, ktimes, ConstSum, kterm, kneg, kplus, VaryFactor, level, vbracket, VaryTerm, vfactor, vscaled, vby, VarySum, vterm, vneg, plusKV, plusVK, plusVV, Sum, constant, varying, spaces-bytes, digits-bytes, kfactor-bytes, kterm-bytes, ksum-bytes, vfactor-bytes, vterm-bytes, vsum-bytes, sum-bytes}
-use Rattle.import_numbers.specs.Numbers.{digits-value, joined, level-linear, kfactor-linear, kterm-linear, ksum-linear, vfactor-linear, vterm-linear, vsum-linear, linear-of, nine, kfactor-numbers, kterm-numbers, ksum-numbers, vfactor-numbers, vterm-numbers, vsum-numbers, sum-numbers, all-within}
+use Rattle.import_grammar.specs.Grammar.{Spaces, Digits, Sign, adds, takes, sign-byte, Index, i1, i2, i3, i4, i5, i6, i7, i8, index-byte, ConstFactor, number}
+use Rattle.import_grammar.specs.Grammar.{kbracket, ConstTerm, kfactor, ktimes, ConstSum, kterm, kneg, kplus, VaryFactor, level, vbracket, VaryTerm, vfactor}
+use Rattle.import_grammar.specs.Grammar.{vscaled, vby, VarySum, vterm, vneg, plusKV, plusVK, plusVV, Sum, constant, varying, spaces-bytes, digits-bytes}
+use Rattle.import_grammar.specs.Grammar.{kfactor-bytes, kterm-bytes, ksum-bytes, vfactor-bytes, vterm-bytes, vsum-bytes, sum-bytes}
+use Rattle.import_numbers.specs.Numbers.{digits-value, joined, level-linear, kfactor-linear, kterm-linear, ksum-linear, vfactor-linear, vterm-linear}
+use Rattle.import_numbers.specs.Numbers.{vsum-linear, linear-of, nine, kfactor-numbers, kterm-numbers, ksum-numbers, vfactor-numbers, vterm-numbers}
+use Rattle.import_numbers.specs.Numbers.{vsum-numbers, sum-numbers, all-within}
 use Rattle.import_linears.specs.Nine.{most, constant9, level9, multiplied}
 use Rattle.import_frames.specs.declared.Frame.{Frame}
 use Rattle.import_frames.specs.Frames.{zero9, unit9, made, idle, over, valued, factor, closed, total, on-sign, compared-with, finished, on-mark, on-digit, unless-over, step, entered, popped}

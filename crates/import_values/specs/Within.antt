@@ -9,8 +9,12 @@ use Rattle.whole.specs.Linears.{coefficients, addL, scaleL}
 use Rattle.whole.specs.LinearsLaws.{add-length, scale-length}
 use Rattle.theory.specs.Diagram.{Linear, no-coeffs, _⊞_, _⊟_, _⊠_}
 use Rattle.theory.specs.Plain.{in-32-bits}
-use Rattle.import_grammar.specs.Grammar.{Sign, adds, takes, i1, i2, i3, i4, i5, i6, i7, i8, ConstFactor, number, kbracket, ConstTerm, kfactor, ktimes, ConstSum, kterm, kneg, kplus, VaryFactor, level, vbracket, VaryTerm, vfactor, vscaled, vby, VarySum, vterm, vneg, plusKV, plusVK, plusVV}
-use Rattle.import_numbers.specs.Numbers.{digits-value, constant-linear, level-linear, minus, joined, kfactor-linear, kterm-linear, ksum-linear, vfactor-linear, vterm-linear, vsum-linear, nine, kfactor-numbers, kterm-numbers, ksum-numbers, vfactor-numbers, vterm-numbers, vsum-numbers, all-within}
+use Rattle.import_grammar.specs.Grammar.{Sign, adds, takes, i1, i2, i3, i4, i5, i6, i7, i8, ConstFactor, number, kbracket, ConstTerm, kfactor, ktimes}
+use Rattle.import_grammar.specs.Grammar.{ConstSum, kterm, kneg, kplus, VaryFactor, level, vbracket, VaryTerm, vfactor, vscaled, vby, VarySum, vterm, vneg}
+use Rattle.import_grammar.specs.Grammar.{plusKV, plusVK, plusVV}
+use Rattle.import_numbers.specs.Numbers.{digits-value, constant-linear, level-linear, minus, joined, kfactor-linear, kterm-linear, ksum-linear, vfactor-linear}
+use Rattle.import_numbers.specs.Numbers.{vterm-linear, vsum-linear, nine, kfactor-numbers, kterm-numbers, ksum-numbers, vfactor-numbers, vterm-numbers}
+use Rattle.import_numbers.specs.Numbers.{vsum-numbers, all-within}
 use Rattle.import_values.specs.Linears.{and-true, all-last}
 
 -- ---- no level

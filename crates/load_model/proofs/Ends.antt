@@ -16,8 +16,10 @@ use Rattle.theory.specs.Diagram.{Tree}
 use Rattle.theory.specs.Valid.{all}
 use Rattle.theory.specs.Meaning.{Model}
 use Rattle.theory.specs.Computation.{Comp, ret, bind, Out, done, stopped, run}
-use Rattle.theory.specs.Command.{Command, site, push-leaf, push-condition, push-test, push-forbidden, name-action, end-model, Read, whole, Placed, byte-at, width, command-in, command-at, goes-on, readings-from-in, readings-from, readings-in, readings, give, Slot}
-use Rattle.theory.specs.Verdict.{Site, site-of, Progress, reward-slot, chance-slot, level-slot, end-slot, has-slot, first-broken, from-to, wanted-by, wanted, site-rules, first-rules, rules-in, after, ended, judged-in, judged, at-start, verdict-in, verdict}
+use Rattle.theory.specs.Command.{Command, site, push-leaf, push-condition, push-test, push-forbidden, name-action, end-model, Read, whole, Placed, byte-at}
+use Rattle.theory.specs.Command.{width, command-in, command-at, goes-on, readings-from-in, readings-from, readings-in, readings, give, Slot}
+use Rattle.theory.specs.Verdict.{Site, site-of, Progress, reward-slot, chance-slot, level-slot, end-slot, has-slot, first-broken, from-to, wanted-by, wanted}
+use Rattle.theory.specs.Verdict.{site-rules, first-rules, rules-in, after, ended, judged-in, judged, at-start, verdict-in, verdict}
 use Rattle.theory.specs.Load.{Entry, Loaded as Loading, load-one-with, load-on, load-on-with, find-slot, found, action-of, model-of, site-in, site-at, load-in, load, model-in, model}
 use Rattle.theory.specs.Stage.{all-diagrams, model-diagrams}
 use Rattle.theory.specs.laws.Comps.{run-bind, run-result}

@@ -15,7 +15,8 @@ use Rattle.theory.specs.Form.{new-form}
 use Rattle.theory.specs.Diagram.{Tree}
 use Rattle.theory.specs.Valid.{all, among}
 use Rattle.theory.specs.Computation.{Comp, bind, Out, done, stopped, run}
-use Rattle.theory.specs.Command.{Command, site, push-leaf, push-condition, push-test, push-forbidden, name-action, end-model, Read, whole, unknown, short, Placed, byte-at, width, read-at, goes-on, readings-from-in, readings-from, readings, give, Slot}
+use Rattle.theory.specs.Command.{Command, site, push-leaf, push-condition, push-test, push-forbidden, name-action, end-model, Read, whole, unknown, short}
+use Rattle.theory.specs.Command.{Placed, byte-at, width, read-at, goes-on, readings-from-in, readings-from, readings, give, Slot}
 use Rattle.theory.specs.Verdict.{Site, Facts, Progress, end-slot, name-slot, has-slot, same-slot, or, Rule, rule, first-broken, next-condition, joined, wanted, later-rules, rules-in, after, Verdict, refusal, ended, judged-in, judged}
 use Rattle.theory.specs.Load.{Entry, Loaded as Loading, load-one, load-one-with, load-on, load-on-with, site-at}
 use Rattle.theory.specs.laws.Comps.{run-bind}

@@ -11,7 +11,8 @@ use Rattle.whole.specs.Cases.{if}
 use Rattle.theory.specs.Widths.{conditions-most, weights-most, bytes-most, steps-most}
 use Rattle.theory.specs.Form.{Form, old-form, new-form, site-byte, levels-in, actions-in, action-bytes}
 use Rattle.theory.specs.Valid.{among}
-use Rattle.theory.specs.Command.{Command, site, push-leaf, push-condition, push-test, push-forbidden, give, name-action, end-model, Read, whole, unknown, short, byte-at, action-at, width-in, command-in, read-in, goes-on, readings-from-in, readings-in}
+use Rattle.theory.specs.Command.{Command, site, push-leaf, push-condition, push-test, push-forbidden, give, name-action, end-model, Read, whole, unknown}
+use Rattle.theory.specs.Command.{short, byte-at, action-at, width-in, command-in, read-in, goes-on, readings-from-in, readings-in}
 use Rattle.theory.specs.Verdict.{or, Site, site-of, Verdict, refusal, verdict, verdict-in, judged-in, at-start, rule, Rule, first-broken, first-rules, site-rules, rules-in, ended, after}
 use Rattle.theory.specs.Load.{site-at, site-in}
 use Rattle.theory.specs.Solve.{early}

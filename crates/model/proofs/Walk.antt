@@ -11,7 +11,8 @@ use denote.Enum.Declared.{tagOf}
 use Rattle.whole.specs.Cases.{if}
 use Rattle.theory.specs.Widths.{flags-most}
 use Rattle.theory.specs.Form.{Form, new-form}
-use Rattle.theory.specs.Command.{Command, site, push-leaf, push-condition, push-test, push-forbidden, give, name-action, end-model, Read, whole, unknown, short, Placed, byte-at, width, width-in, read-in, read-at, goes-on, readings-from, readings-from-in, readings-in}
+use Rattle.theory.specs.Command.{Command, site, push-leaf, push-condition, push-test, push-forbidden, give, name-action, end-model, Read, whole, unknown}
+use Rattle.theory.specs.Command.{short, Placed, byte-at, width, width-in, read-in, read-at, goes-on, readings-from, readings-from-in, readings-in}
 use Rattle.theory.specs.Verdict.{Progress, at-start, rule, first-broken, first-rules, later-rules, rules-in, after, Verdict, refusal, ended, judged-in, verdict-in}
 use Rattle.model_command.proofs.Command.{the-type}
 use Rattle.model_command.specs.declared.Command.{Command as CodeCommand}

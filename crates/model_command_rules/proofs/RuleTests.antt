@@ -12,7 +12,8 @@ use Rattle.theory.specs.Form.{Form}
 use Rattle.theory.specs.Diagram.{Linear, zeros}
 use Rattle.theory.specs.Valid.{all, among}
 use Rattle.theory.specs.Command.{Command, push-leaf, push-condition, push-test, push-forbidden, give, name-action, end-model, Slot}
-use Rattle.theory.specs.Verdict.{or, Facts, Site, reward-slot, chance-slot, level-slot, name-slot, has-slot, Progress, Rule, rule, first-broken, first-rules, later-rules, rules-in, beyond, next-condition, printable, of-site, may-be, top, from-to, wanted, wanted-by}
+use Rattle.theory.specs.Verdict.{or, Facts, Site, reward-slot, chance-slot, level-slot, name-slot, has-slot, Progress, Rule, rule, first-broken, first-rules}
+use Rattle.theory.specs.Verdict.{later-rules, rules-in, beyond, next-condition, printable, of-site, may-be, top, from-to, wanted, wanted-by}
 use Rattle.model_progress.specs.declared.Progress.{Progress as CodeProgress}
 use Rattle.model_progress.specs.GivenFlags.{site-as, place, names-row, flag-of, for-reward, for-chance, for-level, for-name, ProgressStands, in-order, row-given, action-given, all-given}
 use Rattle.model_progress.proofs.Numbers.{bounds, is-among, not-false-T}

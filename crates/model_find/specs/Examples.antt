@@ -15,7 +15,12 @@ use Rattle.model_find.specs.Find as Find
 
 -- one name that unfolds all that the cases compute with
 unfoldable definitions : Unit {0}
-unfolding Diagram.zeros Diagram.padded Valid.all Valid.among Command.width-in Command.word-at Command.signed Command.signed-from Command.bytes-at Command.linear-in Command.command-in Command.read-in Command.goes-on Command.readings-from-in Command.readings-in Verdict.same-slot Verdict.has-slot Verdict.first-broken Verdict.beyond Verdict.printable Verdict.is-weight Verdict.of-site Verdict.may-be Verdict.from-to Verdict.wanted-by Verdict.wanted Verdict.site-rules Verdict.first-rules Verdict.later-rules Verdict.rules-in Verdict.after Verdict.ended Verdict.judged-in Verdict.verdict-in Load.site-in Solve.early Name.names-action Name.trimmed Name.named-part Name.name-refusal Name.name-part Name.name Find.trim Find.same-name Find.carries Find.bearers Find.found-among Find.find
+unfolding Diagram.zeros Diagram.padded Valid.all Valid.among Command.width-in Command.word-at Command.signed Command.signed-from Command.bytes-at
+    Command.linear-in Command.command-in Command.read-in Command.goes-on Command.readings-from-in Command.readings-in Verdict.same-slot Verdict.has-slot
+    Verdict.first-broken Verdict.beyond Verdict.printable Verdict.is-weight Verdict.of-site Verdict.may-be Verdict.from-to Verdict.wanted-by Verdict.wanted
+    Verdict.site-rules Verdict.first-rules Verdict.later-rules Verdict.rules-in Verdict.after Verdict.ended Verdict.judged-in Verdict.verdict-in Load.site-in
+    Solve.early Name.names-action Name.trimmed Name.named-part Name.name-refusal Name.name-part Name.name Find.trim Find.same-name Find.carries Find.bearers
+    Find.found-among Find.find
 definitions = tt
 
 -- reward 0, next level 0

@@ -17,8 +17,12 @@ use Rattle.theory.specs.Computation.{ret, bind, make, result}
 use Rattle.theory.specs.Rules.{choose, zero-leaf, none-leaf}
 use Rattle.theory.specs.Meaning.{State, Env, env, at}
 use Rattle.theory.specs.Valid.{among, wide}
-use Rattle.theory.specs.Command.{Command, site, push-leaf, push-condition, push-test, push-forbidden, name-action, end-model, Read, whole, Placed, byte-at, width, command-at, read-at, goes-on, readings-from, readings, give, Slot, command-in, readings-from-in, readings-in, action-at}
-use Rattle.theory.specs.Verdict.{Site, site-of, Facts, Progress, name-slot, same-slot, has-slot, or, Rule, rule, first-broken, beyond, next-condition, joined, site-rules, first-rules, later-rules, after, Verdict, refusal, ended, judged, at-start, verdict, judged-in, rules-in, verdict-in}
+use Rattle.theory.specs.Command.{Command, site, push-leaf, push-condition, push-test, push-forbidden, name-action, end-model, Read, whole, Placed, byte-at}
+use Rattle.theory.specs.Command.{width, command-at, read-at, goes-on, readings-from, readings, give, Slot, command-in, readings-from-in, readings-in}
+use Rattle.theory.specs.Command.{action-at}
+use Rattle.theory.specs.Verdict.{Site, site-of, Facts, Progress, name-slot, same-slot, has-slot, or, Rule, rule, first-broken, beyond, next-condition, joined}
+use Rattle.theory.specs.Verdict.{site-rules, first-rules, later-rules, after, Verdict, refusal, ended, judged, at-start, verdict, judged-in, rules-in}
+use Rattle.theory.specs.Verdict.{verdict-in}
 use Rattle.theory.specs.Load.{Entry, Loaded, condition-test, load-choice, load-choice-with, load-entry, load-one, load-one-with, load-on, load-on-with, find-slot, site-at, site-in}
 use Rattle.theory.specs.laws.Comps.{result-bind}
 use Rattle.theory.specs.laws.AcceptedModel.{by-reading, behind, loaded-entries, accepted, linear-wide}

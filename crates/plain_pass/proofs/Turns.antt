@@ -21,7 +21,9 @@ use Rattle.theory.specs.Diagram.{Linear, zero-linear, Leaf, some, forbidden, pe
 use Rattle.theory.specs.Total.{num, none}
 use Rattle.theory.specs.Meaning.{State, Env, env, nth, dot, value, at, leaf-worth, worth-at, level-at, chance-at}
 use Rattle.theory.specs.Value.{bits}
-use Rattle.theory.specs.Command.{Command, site, push-leaf, push-condition, push-test, push-forbidden, give, name-action, end-model, Read, whole, unknown, short, byte-at, width, read-at, goes-on, readings-from, readings, Slot, linear-at, linear-in, word-at, signed, action-at, readings-in, command-at, command-in, read-in, width-in}
+use Rattle.theory.specs.Command.{Command, site, push-leaf, push-condition, push-test, push-forbidden, give, name-action, end-model, Read, whole, unknown}
+use Rattle.theory.specs.Command.{short, byte-at, width, read-at, goes-on, readings-from, readings, Slot, linear-at, linear-in, word-at, signed, action-at}
+use Rattle.theory.specs.Command.{readings-in, command-at, command-in, read-in, width-in}
 use Rattle.theory.specs.Verdict.{same-slot}
 use Rattle.theory.specs.Load.{find-slot, site-at}
 use Rattle.theory.specs.laws.AcceptedModel.{loaded-entries}

@@ -16,7 +16,9 @@ use Rattle.theory.specs.laws.Rows.{verdict-is-in, verdict-row-in}
 use Rattle.theory.specs.laws.Numbers.{verdict-most}
 use Rattle.convert_forms.specs.Forms.{model-as}
 use Rattle.convert_model.specs.Conversion.{conversion}
-use Rattle.convert_model.specs.Statements.{AdmittedIn, FitsIn, wrote, ConversionRow, conversion-0, conversion-10, conversion-1-8, conversion-20, conversion-17, bytes-of, OnlyItsOwn, NothingElse, NewAccepted, OldAccepted, SameBest, SameBack, BackAndForward, ForwardAndBack, NeverTwenty}
+use Rattle.convert_model.specs.Statements.{AdmittedIn, FitsIn, wrote, ConversionRow, conversion-0, conversion-10, conversion-1-8, conversion-20}
+use Rattle.convert_model.specs.Statements.{conversion-17, bytes-of, OnlyItsOwn, NothingElse, NewAccepted, OldAccepted, SameBest, SameBack}
+use Rattle.convert_model.specs.Statements.{BackAndForward, ForwardAndBack, NeverTwenty}
 use Rattle.convert_model.specs.laws.OneCommand.{Turn, turn-new, turn-old}
 use Rattle.convert_model.specs.laws.Commands.{Room}
 use Rattle.convert_model.specs.laws.Models.{Carried, carried, same-model, own-room, own-permits, permits-as}

@@ -9,9 +9,14 @@ use lib.IntN.{ℤ}
 use Rattle.whole.specs.Cases.{if, by-test, both}
 use Rattle.theory.specs.Diagram.{Linear}
 use Rattle.theory.specs.Command.{Command, site, push-leaf, push-condition, push-test, push-forbidden, give, Slot, name-action, end-model}
-use Rattle.import_grammar.specs.Grammar.{Digits, Index, i1, i2, i3, i4, i5, i6, i7, i8, Four, f1, f2, f3, f4, Op, lt, le, gt, ge, Nots, unsaid, bang, Atom, now, later, compare, group, Not, negated, And, alone, both as both-of, Or, single, either, Result, worth, forbids, is-plain, Char, Chars, empty, char, quote, Items, head, closed, named, Opening, reward, chance, next, end, Before, start, case, Text, entire}
+use Rattle.import_grammar.specs.Grammar.{Digits, Index, i1, i2, i3, i4, i5, i6, i7, i8, Four, f1, f2, f3, f4, Op, lt, le, gt, ge, Nots, unsaid, bang, Atom}
+use Rattle.import_grammar.specs.Grammar.{now, later, compare, group, Not, negated, And, alone, both as both-of, Or, single, either, Result, worth, forbids}
+use Rattle.import_grammar.specs.Grammar.{is-plain, Char, Chars, empty, char, quote, Items, head, closed, named, Opening, reward, chance, next, end, Before}
+use Rattle.import_grammar.specs.Grammar.{start, case, Text, entire}
 use Rattle.import_numbers.specs.Numbers.{digits-value, linear-of}
-use Rattle.import_model.specs.Commands.{condition-of, level-of, later-of, at-most, byte-most, byte-of, setting-of, compare-commands, nots-commands, atom-commands, not-commands, and-commands, or-commands, result-command, letters, filled, items-commands, opening-commands, before-commands, text-commands}
+use Rattle.import_model.specs.Commands.{condition-of, level-of, later-of, at-most, byte-most, byte-of, setting-of, compare-commands, nots-commands}
+use Rattle.import_model.specs.Commands.{atom-commands, not-commands, and-commands, or-commands, result-command, letters, filled, items-commands}
+use Rattle.import_model.specs.Commands.{opening-commands, before-commands, text-commands}
 use Rattle.import_model.specs.Encode.{low-first, words-bytes, linear-bytes, slot-bytes, command-bytes, encode}
 use Rattle.import_model.specs.Import.{model-bytes}
 

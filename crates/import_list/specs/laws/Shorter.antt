@@ -7,7 +7,11 @@ use native.Mathlib.Omega.{arith}
 use lib.Dec.{eqb}
 use lib.ListN.{length, drop}
 use Rattle.whole.specs.Cases.{if}
-use Rattle.import_grammar.specs.Grammar.{Spaces, none, more, Digits, one, also, Op, lt, le, gt, ge, ConstFactor, number, kbracket, ConstTerm, kfactor, ktimes, ConstSum, kterm, kneg, kplus, VaryFactor, level, vbracket, VaryTerm, vfactor, vscaled, vby, VarySum, vterm, vneg, plusKV, plusVK, plusVV, Sum, constant, varying, Atom, now, later, compare, group, digit-byte, blank-byte, index-byte, four-byte, sign-byte, op-bytes, spaces-bytes, digits-bytes, kfactor-bytes, kterm-bytes, ksum-bytes, vfactor-bytes, vterm-bytes, vsum-bytes, sum-bytes, atom-bytes}
+use Rattle.import_grammar.specs.Grammar.{Spaces, none, more, Digits, one, also, Op, lt, le, gt, ge, ConstFactor, number, kbracket, ConstTerm, kfactor, ktimes}
+use Rattle.import_grammar.specs.Grammar.{ConstSum, kterm, kneg, kplus, VaryFactor, level, vbracket, VaryTerm, vfactor, vscaled, vby, VarySum, vterm, vneg}
+use Rattle.import_grammar.specs.Grammar.{plusKV, plusVK, plusVV, Sum, constant, varying, Atom, now, later, compare, group, digit-byte, blank-byte, index-byte}
+use Rattle.import_grammar.specs.Grammar.{four-byte, sign-byte, op-bytes, spaces-bytes, digits-bytes, kfactor-bytes, kterm-bytes, ksum-bytes, vfactor-bytes}
+use Rattle.import_grammar.specs.Grammar.{vterm-bytes, vsum-bytes, sum-bytes, atom-bytes}
 use Rattle.import_found.specs.Places.{Place, atom-at, result-at, lost, is-space, is-cond, after-colon, go, next-case, xor, find, Decided}
 use Rattle.import_found.specs.laws.Walks.{pass-spaces, pass-atom}
 use Rattle.import_list.specs.Pending.{size, Reading}

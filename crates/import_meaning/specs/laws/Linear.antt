@@ -9,7 +9,9 @@ use Rattle.whole.specs.Int.{atom, diff, ring, minus-one}
 use Rattle.theory.specs.Diagram.{Linear, no-coeffs, zeros, addL, scaleL, _⊞_, _⊟_, _⊠_}
 use Rattle.theory.specs.Meaning.{Env, dot, value}
 use Rattle.theory.specs.laws.Values.{value-add, value-sub, value-scale, value-constant}
-use Rattle.import_grammar.specs.Grammar.{Index, i1, i2, i3, i4, i5, i6, i7, i8, Sign, adds, takes, ConstFactor, number, kbracket, ConstTerm, kfactor, ktimes, ConstSum, kterm, kneg, kplus, VaryFactor, level, vbracket, VaryTerm, vfactor, vscaled, vby, VarySum, vterm, vneg, plusKV, plusVK, plusVV, Sum, constant, varying}
+use Rattle.import_grammar.specs.Grammar.{Index, i1, i2, i3, i4, i5, i6, i7, i8, Sign, adds, takes, ConstFactor, number, kbracket, ConstTerm, kfactor, ktimes}
+use Rattle.import_grammar.specs.Grammar.{ConstSum, kterm, kneg, kplus, VaryFactor, level, vbracket, VaryTerm, vfactor, vscaled, vby, VarySum, vterm, vneg}
+use Rattle.import_grammar.specs.Grammar.{plusKV, plusVK, plusVV, Sum, constant, varying}
 use Rattle.import_numbers.specs.Numbers.{digits-value, constant-linear, level-coeffs, level-linear, joined, kfactor-linear, kterm-linear, ksum-linear, vfactor-linear, vterm-linear, vsum-linear, linear-of}
 use Rattle.import_meaning.specs.Sums.{by-sign, kfactor-value, kterm-value, ksum-value, level-num, vfactor-value, vterm-value, vsum-value, sum-value, LinearMeans}
 

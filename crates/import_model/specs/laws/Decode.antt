@@ -13,7 +13,9 @@ use Rattle.whole.specs.Cases.{if, by-test, both}
 use Rattle.theory.specs.Form.{new-form}
 use Rattle.theory.specs.Plain.{in-32-bits}
 use Rattle.theory.specs.Diagram.{Linear, padded}
-use Rattle.theory.specs.Command.{Command, site, push-leaf, push-condition, push-test, push-forbidden, give, Slot, name-action, end-model, Read, whole, Placed, byte-at, word-at, signed, signed-from, bytes-at, linear-in, width-in, command-in, read-in, goes-on, readings-from-in, readings-in}
+use Rattle.theory.specs.Command.{Command, site, push-leaf, push-condition, push-test, push-forbidden, give, Slot, name-action, end-model, Read, whole, Placed}
+use Rattle.theory.specs.Command.{byte-at, word-at, signed, signed-from, bytes-at, linear-in, width-in, command-in, read-in, goes-on, readings-from-in}
+use Rattle.theory.specs.Command.{readings-in}
 use Rattle.theory.specs.Verdict.{reward-slot, chance-slot, level-slot, end-slot}
 use Rattle.theory.specs.Rows.{Whole-in}
 use Rattle.theory.specs.laws.Rows.{if-yes, if-no, read-whole-in}

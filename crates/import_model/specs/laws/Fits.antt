@@ -11,9 +11,17 @@ use Rattle.whole.specs.Cases.{if, by-test, both, and-in, not-not}
 use Rattle.theory.specs.Plain.{in-32-bits}
 use Rattle.theory.specs.Diagram.{Linear, no-coeffs, addL, scaleL, _⊞_, _⊟_, _⊠_}
 use Rattle.theory.specs.Command.{Command}
-use Rattle.import_grammar.specs.Grammar.{Digits, Index, i1, i2, i3, i4, i5, i6, i7, i8, Op, lt, le, gt, ge, Sign, adds, takes, ConstFactor, number, kbracket, ConstTerm, kfactor, ktimes, ConstSum, kterm, kneg, kplus, VaryFactor, level, vbracket, VaryTerm, vfactor, vscaled, vby, VarySum, vterm, vneg, plusKV, plusVK, plusVV, Sum, constant, varying, Nots, unsaid, bang, Atom, now, later, compare, group, Not, negated, And, alone, both as both-of, Or, single, either, Result, worth, forbids, Items, head, closed, named, Opening, reward, chance, next, end, Before, start, case, Text, entire}
-use Rattle.import_numbers.specs.Numbers.{digits-value, constant-linear, level-linear, joined, minus, nine, kfactor-linear, kterm-linear, ksum-linear, vfactor-linear, vterm-linear, vsum-linear, linear-of, difference, kfactor-numbers, kterm-numbers, ksum-numbers, vfactor-numbers, vterm-numbers, vsum-numbers, sum-numbers, atom-numbers, not-numbers, and-numbers, or-numbers, result-numbers, items-numbers, opening-numbers, before-numbers, numbers, all-within, beyond}
-use Rattle.import_model.specs.Commands.{at-most, action-most, action-of, setting-of, compare-commands, nots-commands, atom-commands, not-commands, and-commands, or-commands, result-command, letters, filled, items-commands, opening-commands, before-commands}
+use Rattle.import_grammar.specs.Grammar.{Digits, Index, i1, i2, i3, i4, i5, i6, i7, i8, Op, lt, le, gt, ge, Sign, adds, takes, ConstFactor, number, kbracket}
+use Rattle.import_grammar.specs.Grammar.{ConstTerm, kfactor, ktimes, ConstSum, kterm, kneg, kplus, VaryFactor, level, vbracket, VaryTerm, vfactor, vscaled}
+use Rattle.import_grammar.specs.Grammar.{vby, VarySum, vterm, vneg, plusKV, plusVK, plusVV, Sum, constant, varying, Nots, unsaid, bang, Atom, now, later}
+use Rattle.import_grammar.specs.Grammar.{compare, group, Not, negated, And, alone, both as both-of, Or, single, either, Result, worth, forbids, Items, head}
+use Rattle.import_grammar.specs.Grammar.{closed, named, Opening, reward, chance, next, end, Before, start, case, Text, entire}
+use Rattle.import_numbers.specs.Numbers.{digits-value, constant-linear, level-linear, joined, minus, nine, kfactor-linear, kterm-linear, ksum-linear}
+use Rattle.import_numbers.specs.Numbers.{vfactor-linear, vterm-linear, vsum-linear, linear-of, difference, kfactor-numbers, kterm-numbers, ksum-numbers}
+use Rattle.import_numbers.specs.Numbers.{vfactor-numbers, vterm-numbers, vsum-numbers, sum-numbers, atom-numbers, not-numbers, and-numbers, or-numbers}
+use Rattle.import_numbers.specs.Numbers.{result-numbers, items-numbers, opening-numbers, before-numbers, numbers, all-within, beyond}
+use Rattle.import_model.specs.Commands.{at-most, action-most, action-of, setting-of, compare-commands, nots-commands, atom-commands, not-commands}
+use Rattle.import_model.specs.Commands.{and-commands, or-commands, result-command, letters, filled, items-commands, opening-commands, before-commands}
 use Rattle.import_model.specs.laws.Decode.{Eight, eight, LinearFits, fits-reward, fits-chance, fits-level, fits-end, OperandsFit, AllFit, none-left, fits-and}
 
 -- ---- eight coefficients

@@ -8,7 +8,11 @@ use lib.ListN.{length, drop, getD}
 use Rattle.whole.specs.Cases.{if}
 use Rattle.theory.specs.Command.{Slot}
 use Rattle.theory.specs.Verdict.{name-slot}
-use Rattle.import_grammar.specs.Grammar.{Spaces, none, more, Blank, blank-byte, Digits, Index, i1, i2, i3, i4, i5, i6, i7, i8, Four, f1, f2, f3, f4, Op, lt, le, gt, ge, Sum, Nots, unsaid, bang, Atom, now, later, compare, group, Not, negated, And, alone, both, Or, single, either, Result, worth, forbids, Chars, Items, Opening, reward, chance, next, end, Before, start, case, deepest, index-byte, four-byte, op-bytes, spaces-bytes, digits-bytes, sum-bytes, nots-bytes, atom-bytes, not-bytes, and-bytes, or-bytes, result-bytes}
+use Rattle.import_grammar.specs.Grammar.{Spaces, none, more, Blank, blank-byte, Digits, Index, i1, i2, i3, i4, i5, i6, i7, i8, Four, f1, f2, f3, f4, Op, lt}
+use Rattle.import_grammar.specs.Grammar.{le, gt, ge, Sum, Nots, unsaid, bang, Atom, now, later, compare, group, Not, negated, And, alone, both, Or, single}
+use Rattle.import_grammar.specs.Grammar.{either, Result, worth, forbids, Chars, Items, Opening, reward, chance, next, end, Before, start, case, deepest}
+use Rattle.import_grammar.specs.Grammar.{index-byte, four-byte, op-bytes, spaces-bytes, digits-bytes, sum-bytes, nots-bytes, atom-bytes, not-bytes, and-bytes}
+use Rattle.import_grammar.specs.Grammar.{or-bytes, result-bytes}
 use Rattle.import_model.specs.Commands.{action-most, action-of, condition-of, level-of}
 use Rattle.import_found.specs.laws.Passing.{SumByte, s9, s10, s13, s32, s42, s43, s45, s48, s49, s50, s51, s52, s53, s54, s55, s56, s57, s76, over-spaces, over-sum}
 use Rattle.import_found.specs.laws.Found.{cases-bytes}

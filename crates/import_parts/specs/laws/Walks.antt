@@ -13,8 +13,10 @@ use Rattle.import_model.specs.Commands.{byte-of, action-of, setting-of, letters
 use Rattle.import_found.specs.Places.{Emits, go, AfterResult, ends-text, reward-next, chance-next, name-next, end-next}
 use Rattle.import_numbers.specs.Numbers.{all-within, result-numbers}
 use Rattle.import_found.specs.laws.Found.{opening-of, cases-bytes, cases-commands, cases-numbers, item-out}
-use Rattle.import_parts.specs.Parts.{Site, site-with, Part, item, name, site-bytes, site-command, gap, opened-bytes, else-bytes, string-bytes, named-bytes, part-gap, part-bare, parts-bytes, slot-of, part-commands, parts-commands, from-letter, Walked}
-use Rattle.import_parts.specs.Walk.{Stands, next-letter, begins, is-letter, inside-after, item-rest, goes-on, number-value, number-rest, kind-in, slot-in, opening-rest, spells, spelled, behind-string, quoted-after, string-rest, name-byte, name-rest, setting-rest}
+use Rattle.import_parts.specs.Parts.{Site, site-with, Part, item, name, site-bytes, site-command, gap, opened-bytes, else-bytes, string-bytes}
+use Rattle.import_parts.specs.Parts.{named-bytes, part-gap, part-bare, parts-bytes, slot-of, part-commands, parts-commands, from-letter, Walked}
+use Rattle.import_parts.specs.Walk.{Stands, next-letter, begins, is-letter, inside-after, item-rest, goes-on, number-value, number-rest, kind-in}
+use Rattle.import_parts.specs.Walk.{slot-in, opening-rest, spells, spelled, behind-string, quoted-after, string-rest, name-byte, name-rest, setting-rest}
 use Rattle.import_parts.specs.laws.Order.{text-parts, text-site, text-end, text-order, text-commands-order}
 use Rattle.import_parts.specs.laws.Meets.{Ends, ends-spaced, rest-spaces, SiteRead, site-read}
 use Rattle.import_parts.specs.laws.Items.{slot-read, opening-left, name-read, name-left, item-left, next-spaces}

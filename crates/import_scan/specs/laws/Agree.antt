@@ -6,12 +6,23 @@ use native.Mathlib.Numerals.{add-one}
 use native.Mathlib.Omega.{arith}
 use lib.Dec.{eqb, ltb}
 use borrow.Author.Tests.{lt-ltb, le-ltb, ne-eqb, eqb-true}
-use Rattle.import_grammar.specs.Grammar.{if, Spaces, none, more, Digit, Digits, one, Four, Index, i1, i2, i3, i4, i5, i6, i7, i8, Sign, adds, takes, ConstFactor, number, kbracket, ConstTerm, kfactor, ktimes, ConstSum, VaryFactor, level, vbracket, VaryTerm, vfactor, vscaled, vby, VarySum, constant, varying, unsaid, bang, Atom, compare, Result, worth, forbids, Items, Before, Chars, is-plain, named, lt, gt}
+use Rattle.import_grammar.specs.Grammar.{if, Spaces, none, more, Digit, Digits, one, Four, Index, i1, i2, i3, i4, i5, i6, i7, i8, Sign, adds, takes}
+use Rattle.import_grammar.specs.Grammar.{ConstFactor, number, kbracket, ConstTerm, kfactor, ktimes, ConstSum, VaryFactor, level, vbracket, VaryTerm, vfactor}
+use Rattle.import_grammar.specs.Grammar.{vscaled, vby, VarySum, constant, varying, unsaid, bang, Atom, compare, Result, worth, forbids, Items, Before, Chars}
+use Rattle.import_grammar.specs.Grammar.{is-plain, named, lt, gt}
 use Rattle.import_grammar.specs.Grammar.{Sum as GSum}
-use Rattle.import_grammar.specs.Reader.{ConstPre, kopens, knegs, kmore, SumPre, kpre, vmore, ConstTermPre, first, timesK, TermPre, free, timesV, Term, kt, vt, no-or, some-or, no-and, some-and, Level, lv, CondCtx, base, inside, ResultCtx, of-case, of-else, Head, q0, q1, q2, q3, Kind, a-reward, a-chance, a-next, a-name, SumCtx, left, right, value, paren, ConstCtx, behind, within}
+use Rattle.import_grammar.specs.Reader.{ConstPre, kopens, knegs, kmore, SumPre, kpre, vmore, ConstTermPre, first, timesK, TermPre, free, timesV, Term, kt, vt}
+use Rattle.import_grammar.specs.Reader.{no-or, some-or, no-and, some-and, Level, lv, CondCtx, base, inside, ResultCtx, of-case, of-else, Head, q0, q1, q2, q3}
+use Rattle.import_grammar.specs.Reader.{Kind, a-reward, a-chance, a-next, a-name, SumCtx, left, right, value, paren, ConstCtx, behind, within}
 use Rattle.import_grammar.specs.Reader.{State as Standing, cond, factor, after, cfactor, cafter, less, greater, held, els, outset, hletter, hequals, hnumber, hdone, inum, idone, iequals, res, forbade, quoted}
-use Rattle.import_grammar.specs.Reader.{Middle, letterC, letterL, reward1, reward2, reward3, reward4, reward5, chance1, chance2, chance3, chance4, chance5, end1, end2, n1, next2, next3, name2, name3, site1, site2, site3, forb1, forb2, forb3, forb4, forb5, forb6, forb7, forb8, letterN, chanceN, nextL, inside-name, el1, el2, el3, Machine, at, mid, dead}
-use Rattle.import_grammar.specs.Reader.{bare, opens, sum-of, ksum-of, vsum-of, more-of, ktimes-of, vtimes-of, times-const, times-of, bracketed, whole, anded, ored, banged, is-digit, digit-of, is-blank, blank-of, longer, go-on, extended, cextended, closeLeft, closeCond, colon, elseHere, openCond, openSum, openBehind, openConst, joined, itemHere, resulted, letterHere, head-letter, settled, hextended, iextended, by-kind, quoteHere, with-plain, charHere, ending, closeConst, minusHere, cminusHere, coreHere, factorHere, equalsHere, equalsAbove, step-on, step-mid, step}
+use Rattle.import_grammar.specs.Reader.{Middle, letterC, letterL, reward1, reward2, reward3, reward4, reward5, chance1, chance2, chance3, chance4, chance5}
+use Rattle.import_grammar.specs.Reader.{end1, end2, n1, next2, next3, name2, name3, site1, site2, site3, forb1, forb2, forb3, forb4, forb5, forb6, forb7}
+use Rattle.import_grammar.specs.Reader.{forb8, letterN, chanceN, nextL, inside-name, el1, el2, el3, Machine, at, mid, dead}
+use Rattle.import_grammar.specs.Reader.{bare, opens, sum-of, ksum-of, vsum-of, more-of, ktimes-of, vtimes-of, times-const, times-of, bracketed, whole, anded}
+use Rattle.import_grammar.specs.Reader.{ored, banged, is-digit, digit-of, is-blank, blank-of, longer, go-on, extended, cextended, closeLeft, closeCond, colon}
+use Rattle.import_grammar.specs.Reader.{elseHere, openCond, openSum, openBehind, openConst, joined, itemHere, resulted, letterHere, head-letter, settled}
+use Rattle.import_grammar.specs.Reader.{hextended, iextended, by-kind, quoteHere, with-plain, charHere, ending, closeConst, minusHere, cminusHere, coreHere}
+use Rattle.import_grammar.specs.Reader.{factorHere, equalsHere, equalsAbove, step-on, step-mid, step}
 use Rattle.import_grammar.specs.Reader.{Reading, read, unfinished, finish}
 use Rattle.import_grammar.specs.laws.Viable.{alive}
 use Rattle.import_grammar.specs.laws.Case.{by-eq}
@@ -31,7 +42,10 @@ use Rattle.import_cases.specs.Cases.{resulted as resulted-on, joined as joined-
 use Rattle.import_items.specs.Items.{setting-letter, on-site, on-set, opened, on-given, on-quoted, on-name, worded, on-word, on-forbidden, on-next-or-name}
 use Rattle.import_items.specs.Items.{settled as settled-on}
 use Rattle.import_step.specs.Steps.{spaced, only, on-place, on-token, next, is-over, last-side, last-setting, after-ends, place-ends, is-finished}
-use Rattle.import_scan.specs.Shown.{cond-room, room-of, const-room, chars-room, hards, may-else, result-side, side-of, hard-of, top-of, level-of, level-before, sum-at, factor-sum, after-sum, const-side, const-hard, const-top, const-level, const-sum, const-opens, const-starts, sum-opens, starts, is-number, const-ends, ends-number, none-yet, both-true, setting-of, item-of, place-of, token-of, shown}
+use Rattle.import_scan.specs.Shown.{cond-room, room-of, const-room, chars-room, hards, may-else, result-side, side-of, hard-of, top-of, level-of}
+use Rattle.import_scan.specs.Shown.{level-before, sum-at, factor-sum, after-sum, const-side, const-hard, const-top, const-level, const-sum, const-opens}
+use Rattle.import_scan.specs.Shown.{const-starts, sum-opens, starts, is-number, const-ends, ends-number, none-yet, both-true, setting-of, item-of}
+use Rattle.import_scan.specs.Shown.{place-of, token-of, shown}
 
 -- ---- facts of the numbers
 

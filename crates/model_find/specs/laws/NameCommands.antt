@@ -11,7 +11,9 @@ use Rattle.whole.specs.Cases.{if, by-test, not-not}
 use Rattle.theory.specs.Widths.{name-bytes}
 use Rattle.theory.specs.Form.{new-form, site-byte, behind-action}
 use Rattle.theory.specs.Valid.{among}
-use Rattle.theory.specs.Command.{Command, site, push-leaf, push-condition, push-test, push-forbidden, give, name-action, end-model, Read, whole, unknown, short, Placed, byte-at, width, command-at, command-in, read-at, goes-on, readings-from, readings-from-in, readings, readings-in}
+use Rattle.theory.specs.Command.{Command, site, push-leaf, push-condition, push-test, push-forbidden, give, name-action, end-model, Read, whole, unknown}
+use Rattle.theory.specs.Command.{short, Placed, byte-at, width, command-at, command-in, read-at, goes-on, readings-from, readings-from-in, readings}
+use Rattle.theory.specs.Command.{readings-in}
 use Rattle.theory.specs.Verdict.{Site, Progress, Verdict, first-broken, first-rules, later-rules, rules-of, rules-in, after, judged, judged-in, at-start, verdict, verdict-in}
 use Rattle.theory.specs.Load.{site-at, site-in}
 use Rattle.theory.specs.Name.{Part, trimmed, name-part, name}

@@ -27,7 +27,10 @@ use Rattle.theory.specs.Value.{Asked, answered, value-of}
 use Rattle.theory.specs.Plain.{plain-of}
 use Rattle.theory.specs.Name.{name-refusal, name-part}
 use Rattle.theory.specs.Listing.{greatest-root, listing}
-use Rattle.theorems.specs.Demands.{Solving, left, Accepted, start, site, reading, Exact, Optimal, StateAccepted, PlainAgrees, SameValue, FirstMet, SolvedExactly, CountsDistinct, PeakDecides, VerdictRows, AsWritten, SolveRows, ValueRows, PlainRows, NameRows, NamePartRows, ListingRows, Formula, ChancesWithin, WeightsSum, SpelledSame, TestsDivided, LoadedOrdered, StagesOrdered, TablesReduced, SideLiteral, TablesHold}
+use Rattle.theorems.specs.Demands.{Solving, left, Accepted, start, site, reading, Exact, Optimal, StateAccepted, PlainAgrees, SameValue, FirstMet}
+use Rattle.theorems.specs.Demands.{SolvedExactly, CountsDistinct, PeakDecides, VerdictRows, AsWritten, SolveRows, ValueRows, PlainRows, NameRows}
+use Rattle.theorems.specs.Demands.{NamePartRows, ListingRows, Formula, ChancesWithin, WeightsSum, SpelledSame, TestsDivided, LoadedOrdered}
+use Rattle.theorems.specs.Demands.{StagesOrdered, TablesReduced, SideLiteral, TablesHold}
 use Rattle.theorems.specs.Reduced.{Reduced}
 use Rattle.theory.specs.Rows.{VerdictRow, SolveRow, ValueRow, PlainRow, NameRow, NamePartRow, ListingRow}
 use Rattle.theory.specs.laws.AcceptedModel.{accepted-valid, accepted-site}

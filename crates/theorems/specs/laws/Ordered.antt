@@ -10,7 +10,9 @@ use Rattle.whole.specs.Cases.{if, by-test, both, from-true}
 use Rattle.theory.specs.Diagram.{Linear, Test, now, later, linear, Leaf, some, forbidden, lin-of, Tree, leaf, branch, plain, cmpZ, cmp, same, _⊟_, zeros, test-of}
 use Rattle.theory.specs.Computation.{Comp, ret, named, made, make, result}
 use Rattle.theory.specs.Computation as C
-use Rattle.theory.specs.Rules.{narrowed, node, step, choose, over, merge, make-leaf, leaf-sum, leaf-product, leaf-scale, leaf-shift, leaf-complement, leaf-number, decide, leaf-best, sum, product, scale, shift, complement, number, best, zero-leaf, none-leaf, sum-on, levels-sum, linear-diagram, substitute, is-later, side, expectation, add-reward}
+use Rattle.theory.specs.Rules.{narrowed, node, step, choose, over, merge, make-leaf, leaf-sum, leaf-product, leaf-scale, leaf-shift, leaf-complement}
+use Rattle.theory.specs.Rules.{leaf-number, decide, leaf-best, sum, product, scale, shift, complement, number, best, zero-leaf, none-leaf, sum-on, levels-sum}
+use Rattle.theory.specs.Rules.{linear-diagram, substitute, is-later, side, expectation, add-reward}
 use Rattle.theorems.specs.Ordered.{before, Above, Ordered, AllOrdered, replaced}
 use Rattle.theory.specs.laws.Comps.{cmp-eq, cmp-refl, same-refl, result-both}
 use Rattle.theory.specs.laws.Safe.{Safe, safe-ret, safe-named, safe-made, safe-make, safe-bind, safe-both, safe-weaken, safe-judge, any}

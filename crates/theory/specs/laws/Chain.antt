@@ -21,7 +21,8 @@ use Rattle.theory.specs.laws.Events.{run-done}
 use Rattle.theory.specs.laws.Counts.{roots-fit}
 use Rattle.theory.specs.laws.Refusals.{loaded, solve-passes, run-all-peak}
 use Rattle.theory.specs.laws.AcceptedModel.{entry-trees, loaded-entries, diagrams-loaded, end-loaded}
-use Rattle.theory.specs.laws.Inside.{sub-needed, all-none, all-parts, all-cons, all-more, all-left, all-right, roots-inside, bind-gives, Built, builds, leaf-built, zero-built, none-built, choose-built, best-built, substitute-built, expectation-built, reward-built}
+use Rattle.theory.specs.laws.Inside.{sub-needed, all-none, all-parts, all-cons, all-more, all-left, all-right, roots-inside, bind-gives, Built, builds}
+use Rattle.theory.specs.laws.Inside.{leaf-built, zero-built, none-built, choose-built, best-built, substitute-built, expectation-built, reward-built}
 
 -- ---- operations
 

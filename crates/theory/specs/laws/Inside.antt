@@ -11,7 +11,9 @@ use Rattle.whole.specs.Cases.{if, by-test, by-order, both, and-in, is-true, fro
 use Rattle.theory.specs.Diagram.{Linear, Test, now, later, linear, Leaf, some, forbidden, lin-of, Tree, leaf, branch, plain, cmp, cmpZ, same, _⊟_, zeros, test-of}
 use Rattle.theory.specs.Computation.{Comp, ret, named, bind, result, make, names, judge, member, enter, enter-all}
 use Rattle.theory.specs.Computation as C
-use Rattle.theory.specs.Rules.{parallel, narrowed, node, step, choose, over, merge, make-leaf, leaf-sum, leaf-product, leaf-scale, leaf-shift, leaf-complement, leaf-number, decide, leaf-best, none-leaf, sum, product, scale, shift, complement, number, best, zero-leaf, sum-on, levels-sum, linear-diagram, substitute, is-later, side, expectation, add-reward}
+use Rattle.theory.specs.Rules.{parallel, narrowed, node, step, choose, over, merge, make-leaf, leaf-sum, leaf-product, leaf-scale, leaf-shift}
+use Rattle.theory.specs.Rules.{leaf-complement, leaf-number, decide, leaf-best, none-leaf, sum, product, scale, shift, complement, number, best}
+use Rattle.theory.specs.Rules.{zero-leaf, sum-on, levels-sum, linear-diagram, substitute, is-later, side, expectation, add-reward}
 use Rattle.theory.specs.Events.{Event, makes, events, needed, inside, all-inside}
 use Rattle.theory.specs.Events as E
 use Rattle.theory.specs.laws.Comps.{result-bind, member-more, member-cases, member-last, with-made, with-made-more, with-made-in}

@@ -11,7 +11,9 @@ use lib.ListN.{length, getD, take, drop, replicate, getD-replicate, replicate-ap
 use lib.Seq.{take-suc, getD-take, length-take-le, getD-append-add}
 use Rattle.whole.specs.Cases.{if, by-test}
 use Rattle.theory.specs.Form.{new-form, site-byte}
-use Rattle.theory.specs.Command.{Command, site, push-leaf, push-condition, push-test, push-forbidden, name-action, end-model, Read, whole, unknown, short, Placed, byte-at, width, command-at, read-at, goes-on, readings-from, readings, give, Slot, command-in, readings-from-in, readings-in, width-in}
+use Rattle.theory.specs.Command.{Command, site, push-leaf, push-condition, push-test, push-forbidden, name-action, end-model, Read, whole, unknown}
+use Rattle.theory.specs.Command.{short, Placed, byte-at, width, command-at, read-at, goes-on, readings-from, readings, give, Slot, command-in}
+use Rattle.theory.specs.Command.{readings-from-in, readings-in, width-in}
 use Rattle.theory.specs.Verdict.{Progress, Verdict, refusal, name-slot, same-slot, has-slot, first-broken, first-rules, later-rules, rules-of, after, judged, verdict, at-start, judged-in, rules-in, verdict-in}
 use Rattle.theory.specs.Name.{names-action, Part, no-part, trimmed, named-part, name-refusal, name-part}
 use Rattle.theory.specs.Rows.{NameRow, name-0, name-1-10, name-16, NamePartRow, name-given, name-empty, name-refused}

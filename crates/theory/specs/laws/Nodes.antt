@@ -9,7 +9,9 @@ use Rattle.whole.specs.Cases.{if, by-test, by-order, both, and-in}
 use Rattle.theory.specs.Diagram.{Linear, Test, now, later, linear, Leaf, some, forbidden, lin-of, zero-linear, Tree, leaf, branch, plain, cmpZ, cmp, same, _⊞_, _⊠_, _⊟_, plus-constant, zeros, test-of}
 use Rattle.theory.specs.Computation.{Comp, ret, make}
 use Rattle.theory.specs.Computation as C
-use Rattle.theory.specs.Rules.{parallel, narrowed, node, step, choose, over, merge, make-leaf, leaf-sum, leaf-product, leaf-scale, leaf-shift, leaf-complement, leaf-number, decide, leaf-best, sum, product, scale, shift, complement, number, best, zero-leaf, none-leaf, sum-on, levels-sum, linear-diagram, substitute, is-later, side, expectation, add-reward}
+use Rattle.theory.specs.Rules.{parallel, narrowed, node, step, choose, over, merge, make-leaf, leaf-sum, leaf-product, leaf-scale, leaf-shift}
+use Rattle.theory.specs.Rules.{leaf-complement, leaf-number, decide, leaf-best, sum, product, scale, shift, complement, number, best, zero-leaf}
+use Rattle.theory.specs.Rules.{none-leaf, sum-on, levels-sum, linear-diagram, substitute, is-later, side, expectation, add-reward}
 use Rattle.theory.specs.Valid.{all, all-nodes}
 use Rattle.theory.specs.laws.Safe.{Safe, safe-ret, safe-named, safe-make, safe-bind, safe-both, safe-judge, any}
 

@@ -12,7 +12,9 @@ use Rattle.theory.specs.Diagram.{Linear, zeros}
 use Rattle.theory.specs.Valid.{all, among}
 use Rattle.theory.specs.Form.{Form, new-form, levels-in, actions-in}
 use Rattle.theory.specs.Command.{Command, site, push-leaf, push-condition, push-test, push-forbidden, give, name-action, end-model, Slot}
-use Rattle.theory.specs.Verdict.{Site, Facts, Progress, Rule, rule, first-broken, same-slot, has-slot, reward-slot, chance-slot, level-slot, end-slot, from-to, wanted-by, or, beyond, next-condition, printable, of-site, may-be, top, wanted, site-rules, first-rules, later-rules, rules-of, rules-in}
+use Rattle.theory.specs.Verdict.{Site, Facts, Progress, Rule, rule, first-broken, same-slot, has-slot, reward-slot, chance-slot, level-slot, end-slot}
+use Rattle.theory.specs.Verdict.{from-to, wanted-by, or, beyond, next-condition, printable, of-site, may-be, top, wanted, site-rules, first-rules}
+use Rattle.theory.specs.Verdict.{later-rules, rules-of, rules-in}
 use Rattle.theory.specs.Rows.{Rules, AllGiven, OfSite, MayBe, none, asks, Keeps, Breaks, Range, first-asks-in, later-asks, asks-in, asks-of}
 use Rattle.theory.specs.laws.AcceptedModel.{from-all, wanted-each}
 use Rattle.theory.specs.laws.Valid.{among-in, among-out}

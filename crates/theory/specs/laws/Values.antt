@@ -11,7 +11,9 @@ use lib.Signed.{_≤ℤ_, leZ, leZ-yes, ltZ, ltZ-yes, clashℤ}
 use Rattle.whole.specs.Cases.{if, by-test, by-eq, by-order, both, same-bool, is-true, clash}
 use Rattle.whole.specs.Int.{atom, up, down, diff, ring, le-in, minus-one, not-le}
 use Rattle.whole.specs.Divisor.{gcdOf, gcd-all, at-least-one, Divides, gcd-left, gcd-right, divides-trans, least-divides, least-positive, quot-exact}
-use Rattle.theory.specs.Diagram.{Linear, Test, now, later, linear, Leaf, some, forbidden, lin-of, act-of, permitted, no-coeffs, zero-linear, Tree, leaf, branch, plain, cmpZ, cmpList, cmp, same, addL, scaleL, _⊞_, _⊠_, _⊟_, plus-constant, zeros, quotL, quotient, divisor, test-of}
+use Rattle.theory.specs.Diagram.{Linear, Test, now, later, linear, Leaf, some, forbidden, lin-of, act-of, permitted, no-coeffs, zero-linear, Tree, leaf}
+use Rattle.theory.specs.Diagram.{branch, plain, cmpZ, cmpList, cmp, same, addL, scaleL, _⊞_, _⊠_, _⊟_, plus-constant, zeros, quotL, quotient, divisor}
+use Rattle.theory.specs.Diagram.{test-of}
 use Rattle.theory.specs.Computation.{Comp, ret, make, result}
 use Rattle.theory.specs.Computation as C
 use Rattle.theory.specs.Rules.{parallel, narrowed, node, step, choose, over, merge, make-leaf, leaf-sum, leaf-product, leaf-scale, leaf-shift, leaf-complement, leaf-number, decide, leaf-best, sum}
