@@ -1,5 +1,4 @@
 // The answer of a name: place, length, the name, zeros up to 16.
-ghost use mathlib.Core.Path.{_≡_};
 ghost use Prim.Native.Nat.{_+_, _≤_};
 ghost use lib.ListN.{length};
 ghost use Rattle.text_decimal.specs.Put.{PutAt};

@@ -2,7 +2,6 @@
 // what depends on the widths of operands, so that a change of them changes the letters' meaning here and no text:
 // S for the byte of a site; A, behind the low byte of an action, for its other bytes; K, behind the coefficients of L1 to
 // L4, for those of further levels; P for a leaf 0. Other characters stand for nothing. And what such programs print.
-ghost use mathlib.Core.Path.{_≡_};
 ghost use Prim.Native.Nat.{_≤_, _<_};
 ghost use lib.ListN.{length};
 

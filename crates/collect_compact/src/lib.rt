@@ -1,6 +1,5 @@
 // Marked nodes slide down, in order. Work words: a mark for each node at 0 to cap, and for each
 // marked node its new index at cap to 2 cap.
-ghost use mathlib.Core.Path.{_≡_};
 ghost use Prim.Native.Nat.{_*_, _≤_, _<_};
 ghost use lib.ListN.{length};
 ghost use Rattle.table.specs.Table.{node-words, nodeAt, nodes-most};

@@ -6,7 +6,7 @@ use Prim.Native.Nat.{ℕ}
 use types.Run.{OneOf, miss}
 use denote.Enum.Declared.{tagOf}
 use Rattle.theory.specs.Form.{Form}
-use Rattle.theory.specs.Command.{read-in, goes-on}
+use Rattle.theory.specs.Command.{read-in}
 use Rattle.model_command.proofs.Command.{the-type as command-type}
 use Rattle.model_command.proofs.Read.{the-type as read-type}
 use Rattle.model_command.specs.declared.Command.{Command as CodeCommand}

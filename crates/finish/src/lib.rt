@@ -1,7 +1,6 @@
 // The tables after solving: the nodes of the stages in canonical order, the stages' numbers, zeros elsewhere.
 mod stages; // stages.rt: the stage words
 
-ghost use mathlib.Core.Path.{_≡_};
 ghost use Prim.Native.Nat.{_*_, _≤_};
 ghost use lib.ListN.{length};
 ghost use Rattle.table.specs.Table.{node-words};

@@ -5,14 +5,14 @@ use mathlib.Core.List.{List, [], _∷_}
 use Prim.Native.Nat.{ℕ}
 use lib.ListN.{drop}
 use Rattle.whole.specs.Cases.{if}
-use Rattle.import_grammar.specs.Grammar.{Text, text-bytes, deepest}
+use Rattle.import_grammar.specs.Grammar.{deepest}
 use Rattle.import_numbers.specs.Numbers.{numbers, all-within, beyond}
 use Rattle.import_frames.specs.declared.Frame.{Frame}
 use Rattle.import_frames.specs.Frames.{idle, closed, finished, stops}
 use Rattle.import_frames.proofs.Laws.{yes, no}
 use Rattle.import_sums.specs.Run.{Out, stopped, ended, final, run}
 use Rattle.import_sums.specs.declared.Walked.{Walked}
-use Rattle.import_sums.specs.Walks.{resting, Reaches, Walks}
+use Rattle.import_sums.specs.Walks.{resting, Walks}
 use Rattle.import_values.specs.Reads.{guard}
 use Rattle.import_texts.specs.Conditions.{judged}
 use Rattle.import_texts.specs.Texts.{text-read}

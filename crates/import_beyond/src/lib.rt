@@ -1,5 +1,4 @@
 // 25: whether a number of a text lies beyond 32 bits, in one pass.
-ghost use mathlib.Core.Path.{_≡_};
 ghost use Rattle.import_beyond.specs.Beyond.{Judges};
 use import_frames::closed;
 use import_frames::finished;

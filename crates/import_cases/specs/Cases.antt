@@ -1,6 +1,6 @@
 -- Steps in conditions, comparisons, cases and results.
 use mathlib.Core.Bool.{Bool, true, false}
-use Prim.Native.Nat.{ℕ, suc, _+_, _-_}
+use Prim.Native.Nat.{ℕ, _+_, _-_}
 use lib.Dec.{eqb, ltb}
 use Rattle.import_grammar.specs.Grammar.{if, deepest}
 use Rattle.import_state.specs.declared.Side.{Side}

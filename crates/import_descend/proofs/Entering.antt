@@ -1,14 +1,13 @@
 -- An atom goes on the list; a result is reached.
 use mathlib.Core.Path.{_≡_, refl, sym, ap, _∙_, subst}
-use mathlib.Core.Bool.{Bool, true, false, not}
-use mathlib.Core.List.{List, [], _∷_}
-use Prim.Native.Nat.{ℕ, zero, suc, _+_, _-_, _*_, _≤_, _<_}
+use mathlib.Core.Bool.{Bool, true, false}
+use mathlib.Core.List.{List, _∷_}
+use Prim.Native.Nat.{ℕ, zero, suc, _+_, _-_, _≤_, _<_}
 use native.Mathlib.Numerals.{add-one}
 use native.Mathlib.Omega.{arith}
 use lib.ListN.{length, drop}
 use Rattle.theory.specs.Command.{Command}
-use Rattle.import_grammar.specs.Grammar.{deepest}
-use Rattle.import_found.specs.Places.{Place, atom-at, result-at, lost, find, xor, TooDeep}
+use Rattle.import_found.specs.Places.{Place, find, xor}
 use Rattle.import_places.specs.Walking.{signs, two-to}
 use Rattle.import_places.specs.laws.Signs.{signs-length, mask-bound}
 use Rattle.import_going.specs.declared.start.Spot.{Spot}
@@ -17,7 +16,7 @@ use Rattle.import_going.specs.Turns.{Spotted}
 use Rattle.import_list.specs.declared.Entry.{Entry}
 use Rattle.import_list.specs.Pending.{Visits, Beyond, size}
 use Rattle.import_list.specs.Packed.{entries, Fits, Pushed}
-use Rattle.import_list.specs.laws.Steps.{atom-told, first-entry, visit-atom, visit-result, not-deep, not-lost, few, rises, ResultFirst}
+use Rattle.import_list.specs.laws.Steps.{atom-told, first-entry, visit-atom, visit-result, not-deep, not-lost, few, rises}
 use Rattle.import_look.specs.declared.Told.{Told}
 use Rattle.import_look.specs.Looks.{Looks}
 use Rattle.import_descend.specs.declared.Down.{Down}

@@ -1,12 +1,12 @@
 -- The way from a place to the result that comes first.
 use mathlib.Core.Path.{_≡_}
 use mathlib.Core.Bool.{false}
-use mathlib.Core.List.{List, [], _∷_}
-use Prim.Native.Nat.{ℕ, suc, _+_, _≤_, _<_}
+use mathlib.Core.List.{List}
+use Prim.Native.Nat.{ℕ, suc, _≤_, _<_}
 use lib.ListN.{length, drop}
 use Rattle.theory.specs.Command.{Command}
 use Rattle.import_model.specs.Import.{text-most}
-use Rattle.import_found.specs.Places.{Place, atom-at, result-at, lost}
+use Rattle.import_found.specs.Places.{Place, atom-at}
 use Rattle.import_places.specs.Walking.{signs, two-to}
 use Rattle.import_going.specs.declared.start.Spot.{Spot}
 use Rattle.import_going.specs.declared.start.Spot.the-variants.{Atom as AtomAt, Result as ResultAt, Lost as LostAt, Deep as DeepAt}

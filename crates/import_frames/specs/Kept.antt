@@ -1,7 +1,7 @@
 -- Frames stay within 32 bits.
-use mathlib.Core.Path.{_≡_, refl, sym, ap, _∙_}
+use mathlib.Core.Path.{_≡_, refl, sym, _∙_}
 use mathlib.Core.Bool.{Bool, true, false}
-use mathlib.Core.List.{List, [], _∷_}
+use mathlib.Core.List.{List}
 use Prim.Native.Nat.{ℕ, _+_, _*_, _-_, _≤_}
 use native.Mathlib.Omega.{arith}
 use borrow.Author.Tests.{leb-true, ltb-false}
@@ -15,9 +15,9 @@ use Rattle.theory.specs.Plain.{in-32-bits}
 use Rattle.import_numbers.specs.Numbers.{all-within}
 use Rattle.import_linears.specs.Nine.{most, Nine, constant9, level9, last, flat, multiplied}
 use Rattle.import_frames.specs.declared.Frame.{Frame}
-use Rattle.import_frames.specs.Frames.{Sound, zero9, unit9, digit, blank, made, idle, over, termed, moded, numbered, summed, sided, valued, factor}
+use Rattle.import_frames.specs.Frames.{Sound, zero9, unit9, digit, blank, made, idle, over, moded, numbered, summed, factor}
 use Rattle.import_frames.specs.Frames.{closed, total, on-sign, on-compare, less, compared-with, finished, behind, on-end, on-equals, on-other, on-mark}
-use Rattle.import_frames.specs.Frames.{grown, on-digit, unless-over, step, entered, popped}
+use Rattle.import_frames.specs.Frames.{grown, on-digit, step, entered, popped}
 
 sound-if : (b : Bool) {x y : Frame} → (b ≡ true → Sound x) → (b ≡ false → Sound y) → Sound (if b x y)
 sound-if true f g = f refl

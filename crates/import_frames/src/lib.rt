@@ -1,9 +1,7 @@
 // What a text's sums and comparisons are worked in: a frame for each open bracket. A step takes a byte; a number beyond 32
 // bits ends the work.
 ghost use mathlib.Core.Path.{_≡_};
-ghost use mathlib.Core.Bool.{Bool, true};
-ghost use Prim.Native.Nat.{ℕ};
-ghost use lib.IntN.{ℤ};
+ghost use mathlib.Core.Bool.{true};
 ghost use lib.ListN.{length};
 ghost use Rattle.whole.specs.Linears.{numbers};
 ghost use Rattle.import_linears.specs.Nine.{Nine};

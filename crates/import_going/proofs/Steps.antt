@@ -10,11 +10,10 @@ use lib.ListN.{length, getD, drop, drop-of-length-le}
 use lib.Seq.{drop-cons}
 use borrow.Author.Tests.{ne-eqb, eq-eqb}
 use Rattle.whole.specs.Cases.{if}
-use Rattle.import_found.specs.Places.{Place, lost, is-cond}
+use Rattle.import_found.specs.Places.{Place, is-cond}
 use Rattle.import_places.proofs.Steps.{not-zero, less-one}
 use Rattle.import_going.specs.declared.bracket.Seen.{Seen}
 use Rattle.import_going.specs.declared.bracket.Seen.the-variants.{On, Is}
-use Rattle.import_going.specs.declared.behind.Found.{Found}
 use Rattle.import_going.specs.declared.behind.Found.the-variants.{At, Nothing}
 use Rattle.import_going.specs.Going.{is-mark, seen-of, upto, found-at, reached, Behind}
 

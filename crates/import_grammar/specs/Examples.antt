@@ -1,12 +1,11 @@
 -- Texts and where each stops: the machine says the same.
-use mathlib.Core.Bool.{Bool, true, false, _&&_}
+use mathlib.Core.Bool.{Bool, true, _&&_}
 use mathlib.Core.List.{List, [], _∷_}
 use Prim.Native.Nat.{ℕ}
 use Prim.Native.String.{String}
 use lib.Dec.{T, eqb}
 use Rattle.import_grammar.specs.Ascii.{ascii}
-use Rattle.import_grammar.specs.Grammar.{Text, spaces-bytes}
-use Rattle.import_grammar.specs.Reader.{Machine, begin, run, step, step-on, step-mid, finish, extended, cextended, closeLeft, closeCond, colon, elseHere}
+use Rattle.import_grammar.specs.Reader.{begin, run, step, step-on, step-mid, finish, extended, cextended, closeLeft, closeCond, colon, elseHere}
 use Rattle.import_grammar.specs.Reader.{joined, ending, closeConst, minusHere, cminusHere, coreHere, factorHere, equalsHere, equalsAbove, openCond}
 use Rattle.import_grammar.specs.Reader.{openSum, openBehind, openConst, itemHere, resulted, letterHere, settled, hextended, iextended, by-kind}
 use Rattle.import_grammar.specs.Reader.{quoteHere, with-plain, charHere}

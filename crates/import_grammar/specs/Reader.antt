@@ -12,7 +12,7 @@ use Rattle.import_grammar.specs.Grammar.{ConstFactor, number, kbracket, 
 use Rattle.import_grammar.specs.Grammar.{vbracket, VaryTerm, vfactor, vscaled, vby, VarySum, vterm, vneg, plusKV, plusVK, plusVV, Sum, constant, varying}
 use Rattle.import_grammar.specs.Grammar.{Nots, unsaid, bang, Atom, now, later, compare, group, Not, negated, And, alone, both, Or, single, either}
 use Rattle.import_grammar.specs.Grammar.{Before, start, case, Items, head, closed, named, Opening, reward, chance, next, end, Result, worth, forbids}
-use Rattle.import_grammar.specs.Grammar.{Setting, setting, Char, Chars, empty, char, quote, is-plain, Text, entire, deepest, if}
+use Rattle.import_grammar.specs.Grammar.{Setting, setting, Chars, empty, char, quote, is-plain, Text, entire, deepest, if}
 
 -- ---- what stands before the piece that is being read
 

@@ -1,5 +1,5 @@
 -- Steps in the site, items up to their cases, names and words.
-use mathlib.Core.Bool.{Bool, true, false}
+use mathlib.Core.Bool.{Bool, true}
 use Prim.Native.Nat.{ℕ, _-_}
 use lib.Dec.{eqb, ltb}
 use Rattle.import_grammar.specs.Grammar.{if, deepest}

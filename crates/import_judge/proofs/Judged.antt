@@ -1,13 +1,12 @@
 -- What the passes answer, in the terms of the definition.
-use mathlib.Core.Path.{_≡_, refl, sym, ap, _∙_, subst}
-use mathlib.Core.Bool.{Bool, true, false}
+use mathlib.Core.Path.{_≡_, sym, ap, _∙_, subst}
+use mathlib.Core.Bool.{Bool}
 use mathlib.Core.List.{List}
 use Prim.Native.Nat.{ℕ, _≤_, _<_}
 use borrow.Author.Tests.{lt-ltb, le-ltb}
-use lib.Dec.{ltb}
 use lib.ListN.{length}
 use Rattle.whole.specs.Cases.{if}
-use Rattle.theory.specs.Verdict.{Verdict, refusal}
+use Rattle.theory.specs.Verdict.{refusal}
 use Rattle.model.specs.declared.Verdict.{Verdict as CodeVerdict}
 use Rattle.model.specs.Answers.{shown}
 use Rattle.import_grammar.specs.Reader.{begin}

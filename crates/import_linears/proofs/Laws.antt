@@ -1,23 +1,22 @@
 -- What a test of 32 bits says, the loop over nine numbers, and products as they are read back.
-use mathlib.Core.Path.{_≡_, refl, sym, ap, ap₂, _∙_}
+use mathlib.Core.Path.{_≡_, sym, ap, _∙_}
 use mathlib.Core.Bool.{Bool, true, false, _&&_, not}
-use mathlib.Core.List.{List, [], _∷_}
+use mathlib.Core.List.{List}
 use Prim.Native.Nat.{ℕ, _+_, _-_, _≤_, _<_, _^_}
 use native.Mathlib.Omega.{arith}
 use borrow.Author.Tests.{ltb-true, ltb-false, lt-leb, le-leb, lt-ltb, le-ltb}
-use lib.Dec.{leb, ltb}
 use lib.IntN.{ℤ, pos, negsuc}
 use lib.ListN.{length, getD, set, drop, drop-of-length-le}
 use lib.Signed.{mag, leZ, ltZ}
 use mir.Syntax.{w64}
 use mir.Val.{SFits}
 use Rattle.whole.specs.Cases.{if}
-use Rattle.whole.specs.Linears.{coefficients, numbers, clipL, eqL}
+use Rattle.whole.specs.Linears.{numbers, clipL, eqL}
 use Rattle.whole.specs.LinearsLaws.{rest}
-use Rattle.whole.proofs.Signed.{R, back, plain}
+use Rattle.whole.proofs.Signed.{R, back}
 use Rattle.theory.specs.Plain.{in-32-bits}
 use Rattle.import_numbers.specs.Numbers.{all-within}
-use Rattle.import_linears.specs.Nine.{most, constant9, level9, last, flat, multiplied}
+use Rattle.import_linears.specs.Nine.{constant9, level9, last, flat, multiplied}
 
 abbrev least : ℤ
 least = negsuc 2147483647

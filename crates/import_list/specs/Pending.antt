@@ -4,11 +4,10 @@ use mathlib.Core.List.{List, [], _∷_, _++_}
 use mathlib.Core.Path.{_≡_}
 use Prim.Native.Nat.{ℕ, _+_, _≤_, _<_}
 use lib.ListN.{length, drop}
-use Rattle.whole.specs.Cases.{if}
 use Rattle.theory.specs.Command.{Command, push-condition, push-test, push-forbidden}
 use Rattle.import_grammar.specs.Grammar.{Spaces, Op, lt, le, gt, ge, Atom, now, later, compare, group, Result, spaces-bytes, atom-bytes, result-bytes, deepest}
 use Rattle.import_numbers.specs.Numbers.{linear-of, difference, atom-numbers, result-numbers, all-within}
-use Rattle.import_model.specs.Commands.{condition-of, later-of, result-command}
+use Rattle.import_model.specs.Commands.{condition-of, later-of}
 use Rattle.import_found.specs.Places.{Place, atom-at, result-at, lost, find, xor, AfterAtom, AfterResult, Decided, Emits}
 use Rattle.import_places.specs.Walking.{signs, two-to}
 use Rattle.import_list.specs.declared.Entry.{Entry}

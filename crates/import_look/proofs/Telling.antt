@@ -2,37 +2,36 @@
 use mathlib.Core.Path.{_≡_, refl, sym, ap, _∙_, subst}
 use mathlib.Core.Bool.{Bool, true, false, not}
 use mathlib.Core.List.{List, [], _∷_, _++_}
-use Prim.Native.Nat.{ℕ, zero, suc, _+_, _-_, _≤_, _<_}
+use Prim.Native.Nat.{ℕ, _+_, _-_, _≤_, _<_}
 use native.Mathlib.Omega.{arith}
 use borrow.Author.Tests.{lt-ltb, le-ltb, le-leb, lt-leb, eq-eqb, ne-eqb, eqb-false}
 use lib.Dec.{eqb, ltb, leb}
 use lib.IntN.{ℤ, pos}
-use lib.ListN.{length, drop, getD, length-append}
+use lib.ListN.{length, drop, length-append}
 use lib.Seq.{take-at, getD-at}
 use Rattle.whole.specs.Cases.{if}
 use Rattle.whole.specs.Linears.{subL, coefficients}
-use Rattle.whole.specs.LinearsLaws.{add-length, sub-length}
-use Rattle.theory.specs.Diagram.{Linear, _⊞_, _⊟_, _⊠_}
+use Rattle.whole.specs.LinearsLaws.{sub-length}
+use Rattle.theory.specs.Diagram.{Linear, _⊟_}
 use Rattle.theory.specs.Plain.{in-32-bits}
-use Rattle.theory.specs.Command.{Command, push-leaf, push-condition, push-test, push-forbidden, byte-at}
+use Rattle.theory.specs.Command.{push-leaf, push-condition, push-test, byte-at}
 use Rattle.import_grammar.specs.Grammar.{Spaces, Four, f1, f2, f3, f4, Op, lt, le, gt, ge, Sum, constant, varying, Atom, now, later, compare, group, Result}
 use Rattle.import_grammar.specs.Grammar.{worth, forbids, four-byte, spaces-bytes, op-bytes, sum-bytes, atom-bytes, result-bytes, deepest}
 use Rattle.import_numbers.specs.Numbers.{linear-of as sum-linear, difference, nine, sum-numbers, atom-numbers, result-numbers, all-within}
 use Rattle.import_model.specs.Commands.{condition-of, later-of, result-command}
 use Rattle.model_command.specs.CursorReadings.{linear-of}
 use Rattle.import_linears.specs.Nine.{constant9}
-use Rattle.import_frames.specs.Frames.{digit, blank, of-sum}
 use Rattle.import_values.specs.Linears.{nine-sub}
 use Rattle.import_values.specs.Within.{Eight, same-long, ksum-within, vsum-within}
 use Rattle.import_values.specs.Sums.{sum-eight}
 use Rattle.import_sum_at.specs.declared.Worked.{Worked}
-use Rattle.import_sum_at.specs.SumAt.{Behind, nothing, other, Found, Works}
+use Rattle.import_sum_at.specs.SumAt.{Behind, nothing, other, Works}
 use Rattle.import_found.specs.Places.{AfterAtom, and-behind, or-behind, close-behind, colon-behind, AfterResult, ends-text, ends-case, reward-next, chance-next, name-next, end-next, Decided}
 use Rattle.import_found.specs.laws.Found.{within-apart}
-use Rattle.import_list.specs.Pending.{op-first, first-holds, own, Reading, ResultReading}
+use Rattle.import_list.specs.Pending.{op-first, first-holds, own}
 use Rattle.import_look.specs.declared.Told.{Told}
 use Rattle.import_look.specs.declared.Operator.{Operator}
-use Rattle.import_look.specs.Looks.{unspaced, Skips, operator-of, tested-of, condition-told, command-told, Tells, Looks, Compares, LeafTells, LeafLooks}
+use Rattle.import_look.specs.Looks.{unspaced, Skips, operator-of, tested-of, condition-told, command-told, Tells, Looks, Compares, LeafLooks}
 use Rattle.import_look.proofs.Laws.{unspaced-spaces, Starts, sum-starts}
 use Rattle.import_look.proofs.Places.{if-yes, if-no, Head, head}
 

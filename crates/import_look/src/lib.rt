@@ -1,7 +1,7 @@
 // The command of an atom or of a result, read where it stands in the text.
 ghost use mathlib.Core.Path.{_≡_};
 ghost use Prim.Native.Nat.{_≤_, _<_};
-ghost use lib.ListN.{length, drop};
+ghost use lib.ListN.{length};
 ghost use Rattle.whole.specs.Linears.{numbers};
 ghost use Rattle.import_model.specs.Import.{text-most};
 ghost use Rattle.import_look.specs.Looks.{Skips, operator-of, condition-told, tested-of, Compares, Looks, LeafLooks};

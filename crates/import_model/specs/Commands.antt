@@ -5,11 +5,11 @@ use lib.Dec.{ltb}
 use Rattle.whole.specs.Cases.{if}
 use Rattle.theory.specs.Widths.{conditions-most, name-bytes}
 use Rattle.theory.specs.Diagram.{Linear}
-use Rattle.theory.specs.Command.{Command, site, push-leaf, push-condition, push-test, push-forbidden, give, Slot, name-action, end-model}
+use Rattle.theory.specs.Command.{Command, site, push-leaf, push-condition, push-test, push-forbidden, give, name-action, end-model}
 use Rattle.theory.specs.Verdict.{reward-slot, chance-slot, level-slot, end-slot}
-use Rattle.import_grammar.specs.Grammar.{Digits, Index, i1, i2, i3, i4, i5, i6, i7, i8, Four, f1, f2, f3, f4, Op, lt, le, gt, ge, Sum, Nots, unsaid, bang}
+use Rattle.import_grammar.specs.Grammar.{Digits, Index, i1, i2, i3, i4, i5, i6, i7, i8, Four, f1, f2, f3, f4, Op, lt, le, gt, ge, Nots, unsaid, bang}
 use Rattle.import_grammar.specs.Grammar.{Atom, now, later, compare, group, Not, negated, And, alone, both, Or, single, either, Result, worth, forbids, Setting}
-use Rattle.import_grammar.specs.Grammar.{setting, Char, Chars, empty, char, quote, Items, head, closed, named, Opening, reward, chance, next, end, Before}
+use Rattle.import_grammar.specs.Grammar.{setting, Chars, empty, char, quote, Items, head, closed, named, Opening, reward, chance, next, end, Before}
 use Rattle.import_grammar.specs.Grammar.{start, case, Text, entire, deepest}
 use Rattle.import_numbers.specs.Numbers.{digits-value, linear-of, difference}
 

@@ -5,7 +5,7 @@ use lib.Dec.{eqb}
 use lib.IntN.{ℤ, pos, negsuc}
 use lib.ListN.{length}
 use Rattle.whole.specs.Cases.{if}
-use Rattle.theory.specs.Form.{Form, new-form, site-byte, action-bytes}
+use Rattle.theory.specs.Form.{new-form, site-byte, action-bytes}
 use Rattle.theory.specs.Diagram.{Linear}
 use Rattle.theory.specs.Command.{Command, site, push-leaf, push-condition, push-test, push-forbidden, give, Slot, name-action, end-model, whole, Placed}
 

@@ -12,8 +12,8 @@ use Rattle.theory.specs.Verdict.{Site, site-of, same-slot, reward-slot, chance-
 use Rattle.theory.specs.Total.{weigh}
 use Rattle.theory.specs.Process.{Process}
 use Rattle.theory.specs.Meaning.{State, Env, env, value, leaf-worth, settings, weight}
-use Rattle.import_grammar.specs.Grammar.{Digits, Op, lt, le, gt, ge, Nots, unsaid, bang, Atom, now, later, compare, group, Not, negated, And, alone, both, Or}
-use Rattle.import_grammar.specs.Grammar.{single, either, Result, worth, forbids, Setting, setting, Items, head, closed, named, Opening, reward, chance, next}
+use Rattle.import_grammar.specs.Grammar.{Op, lt, le, gt, ge, Nots, unsaid, bang, Atom, now, later, compare, group, Not, negated, And, alone, both, Or}
+use Rattle.import_grammar.specs.Grammar.{single, either, Result, worth, forbids, Items, head, closed, named, Opening, reward, chance, next}
 use Rattle.import_grammar.specs.Grammar.{end, Before, start, case, Text, entire, deepest}
 use Rattle.import_numbers.specs.Numbers.{digits-value, linear-of}
 use Rattle.import_model.specs.Commands.{condition-of, level-of, setting-of}

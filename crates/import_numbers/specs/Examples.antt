@@ -1,14 +1,14 @@
 -- Numbers at the edge of 32 bits, computed.
-use mathlib.Core.Bool.{Bool, true, false, _&&_, not}
-use mathlib.Core.List.{List, [], _∷_}
+use mathlib.Core.Bool.{Bool, _&&_, not}
+use mathlib.Core.List.{[], _∷_}
 use mathlib.Core.Path.{_≡_, refl}
-use Prim.Native.Nat.{ℕ, suc}
-use lib.Dec.{T, eqb}
-use lib.IntN.{ℤ, pos, negsuc}
-use Rattle.theory.specs.Diagram.{Linear, no-coeffs, _⊞_, _⊟_, _⊠_, addL, scaleL}
+use Prim.Native.Nat.{ℕ}
+use lib.Dec.{T}
+use lib.IntN.{pos, negsuc}
+use Rattle.theory.specs.Diagram.{no-coeffs, _⊞_, _⊟_, _⊠_, addL, scaleL}
 use Rattle.theory.specs.Plain.{in-32-bits}
-use Rattle.import_grammar.specs.Grammar.{none, Digits, one, also, Digit, d0, d1, d2, d3, d4, d5, d6, d7, d8, i1, Op, lt, le, gt, ge, Sign, adds, takes}
-use Rattle.import_grammar.specs.Grammar.{ConstFactor, number, kbracket, ConstTerm, kfactor, ktimes, ConstSum, kterm, kneg, kplus, vfactor, level, vterm, Sum}
+use Rattle.import_grammar.specs.Grammar.{none, Digits, one, also, d0, d1, d2, d3, d4, d5, d6, d7, d8, i1, Op, lt, le, gt, ge, adds, takes}
+use Rattle.import_grammar.specs.Grammar.{number, kbracket, ConstTerm, kfactor, ktimes, kterm, kneg, kplus, vfactor, level, vterm, Sum}
 use Rattle.import_grammar.specs.Grammar.{constant, varying, Atom, compare, Setting, setting, head, worth, end, start, closed, Text, entire, deepest}
 use Rattle.import_numbers.specs.Numbers.{digits-value, linear-of, kfactor-linear, vfactor-linear, kfactor-numbers, vfactor-numbers, sum-numbers}
 use Rattle.import_numbers.specs.Numbers.{atom-numbers, result-numbers, setting-numbers, before-numbers, numbers, all-within, beyond, difference}

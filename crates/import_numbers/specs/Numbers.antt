@@ -1,5 +1,5 @@
 -- The numbers of a text: what linear a sum means, and "a number beyond signed 32 bits, written, worked out or as a comparison's difference". Whole numbers without bound: what is beyond is only named.
-use mathlib.Core.Bool.{Bool, true, false, _&&_, not}
+use mathlib.Core.Bool.{Bool, true, _&&_, not}
 use mathlib.Core.List.{List, [], _∷_, _++_}
 use Prim.Native.Nat.{ℕ, _+_, _*_}
 use lib.Dec.{T}

@@ -7,7 +7,7 @@ use Rattle.theory.specs.Widths.{name-bytes}
 use Rattle.theory.specs.Command.{Command, site, give, Slot, name-action, end-model}
 use Rattle.theory.specs.Verdict.{reward-slot, chance-slot, level-slot, end-slot}
 use Rattle.import_grammar.specs.Grammar.{Spaces, Digits, Result, Setting, Chars, Items, head, closed, named, Opening, reward, chance, next, end, Before, start}
-use Rattle.import_grammar.specs.Grammar.{case, Text, entire, four-byte, index-byte, spaces-bytes, digits-bytes, result-bytes, setting-bytes, chars-bytes}
+use Rattle.import_grammar.specs.Grammar.{case, four-byte, index-byte, spaces-bytes, digits-bytes, result-bytes, setting-bytes, chars-bytes}
 use Rattle.import_model.specs.Commands.{condition-of, level-of, byte-of, action-of, setting-of, result-command, letters, filled}
 use Rattle.import_found.specs.laws.Found.{opening-of, cases-bytes, cases-commands}
 

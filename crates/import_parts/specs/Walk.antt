@@ -2,13 +2,13 @@
 use mathlib.Core.Bool.{Bool, true, false, not}
 use mathlib.Core.List.{List, [], _∷_}
 use mathlib.Core.Path.{_≡_}
-use Prim.Native.Nat.{ℕ, zero, suc, _+_, _*_, _-_, _≤_}
+use Prim.Native.Nat.{ℕ, _+_, _*_, _-_, _≤_}
 use lib.Dec.{eqb}
 use lib.ListN.{length, drop, getD}
 use Rattle.whole.specs.Cases.{if}
 use Rattle.theory.specs.Command.{Slot}
 use Rattle.import_grammar.specs.Reader.{is-digit, is-blank}
-use Rattle.import_model.specs.Commands.{at-most, byte-most, action-most}
+use Rattle.import_model.specs.Commands.{at-most, action-most}
 
 -- an offset of the text w at which l stands
 pub record Stands (w : List ℕ) (i : ℕ) (l : List ℕ) : Type 0 where

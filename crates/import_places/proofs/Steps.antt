@@ -8,9 +8,8 @@ use native.Mathlib.Omega.{arith}
 use lib.Dec.{eqb}
 use lib.ListN.{length, getD, drop, drop-of-length-le}
 use lib.Seq.{drop-cons}
-use borrow.Author.Tests.{ne-eqb, eq-eqb}
+use borrow.Author.Tests.{ne-eqb}
 use Rattle.whole.specs.Cases.{if}
-use Rattle.whole.specs.Cases.{by-eq}
 use Rattle.import_found.specs.Places.{Place, lost, result-at, go, next-case, xor, find}
 use Rattle.import_places.specs.declared.Walk.{Walk}
 use Rattle.import_places.specs.declared.Step.{Step}

@@ -1,6 +1,6 @@
 -- Steps in a sum.
 use mathlib.Core.Bool.{Bool, true, false}
-use Prim.Native.Nat.{ℕ, suc, _+_, _-_}
+use Prim.Native.Nat.{ℕ, _+_, _-_}
 use lib.Dec.{eqb, ltb}
 use Rattle.import_grammar.specs.Grammar.{if}
 use Rattle.import_state.specs.declared.Side.{Side}

@@ -1,25 +1,24 @@
 -- Where a walk over a sum rests, and what its frame holds.
-use mathlib.Core.Path.{_≡_, refl, sym, ap, _∙_, subst}
-use mathlib.Core.Bool.{Bool, true, false, _&&_}
+use mathlib.Core.Path.{_≡_, refl, sym, ap, _∙_}
+use mathlib.Core.Bool.{Bool, true, false}
 use mathlib.Core.List.{List, [], _∷_}
-use Prim.Native.Nat.{ℕ, suc, _≤_}
+use Prim.Native.Nat.{ℕ, _≤_}
 use native.Mathlib.Omega.{arith}
 use lib.Dec.{eqb}
 use lib.IntN.{ℤ}
-use lib.ListN.{length, drop}
+use lib.ListN.{drop}
 use Rattle.whole.specs.Cases.{if}
 use Rattle.import_grammar.specs.Grammar.{Spaces, Sum, deepest, spaces-bytes, sum-bytes}
 use Rattle.import_numbers.specs.Numbers.{linear-of, nine, sum-numbers, all-within}
 use Rattle.import_frames.specs.declared.Frame.{Frame}
-use Rattle.import_frames.specs.Frames.{Sound, zero9, unit9, of-sum, idle, over, closed, total, step, popped, stops, opens}
+use Rattle.import_frames.specs.Frames.{zero9, of-sum, idle, over, closed, total, stops}
 use Rattle.import_frames.proofs.Laws.{yes, no}
 use Rattle.import_sums.specs.Run.{Out, stopped, ended, final, run}
 use Rattle.import_sums.specs.declared.Walked.{Walked}
-use Rattle.import_sums.specs.Walks.{resting, Reaches, Walks}
-use Rattle.import_values.specs.Reads.{guard, full, Follows, at-end, mark, spaces-follow, spaced, calm-full}
+use Rattle.import_sums.specs.Walks.{resting, Walks}
+use Rattle.import_values.specs.Reads.{guard, Follows, at-end, mark, spaces-follow, spaced, calm-full}
 use Rattle.import_values.specs.Sums.{sum-X, sum-m, sum-t, sum-before, behind-sum, sum-total, sum-split, sum-read}
-use Rattle.import_sum_at.specs.declared.Worked.{Worked}
-use Rattle.import_sum_at.specs.SumAt.{Behind, nothing, other, Found, Works}
+use Rattle.import_sum_at.specs.SumAt.{Behind, nothing, other, Works}
 
 -- ---- a frame that rests ends
 

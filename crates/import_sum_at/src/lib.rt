@@ -1,5 +1,4 @@
 // A sum of a text that is in the grammar, worked out where it stands.
-ghost use mathlib.Core.Path.{_≡_};
 ghost use Prim.Native.Nat.{_≤_};
 ghost use lib.ListN.{length};
 ghost use Rattle.import_sum_at.specs.SumAt.{Works};

@@ -2,16 +2,15 @@
 use mathlib.Core.Path.{_≡_, refl, sym, ap, _∙_, subst}
 use mathlib.Core.Bool.{Bool, true, false}
 use mathlib.Core.List.{List, [], _∷_}
-use Prim.Native.Nat.{ℕ, zero, suc, _+_, _≤_, _<_}
+use Prim.Native.Nat.{ℕ, suc, _+_, _≤_, _<_}
 use native.Mathlib.Numerals.{add-one}
 use native.Mathlib.Omega.{arith}
-use lib.Dec.{eqb}
 use lib.ListN.{length, getD, drop, drop-of-length-le}
 use lib.Seq.{drop-cons}
 use Rattle.whole.specs.Cases.{if}
 use Rattle.import_frames.specs.declared.Frame.{Frame}
 use Rattle.import_frames.specs.Frames.{Sound, idle, over, step, popped, stops, opens}
-use Rattle.import_sums.specs.Run.{Out, stopped, ended, run}
+use Rattle.import_sums.specs.Run.{stopped, run}
 use Rattle.import_frames.specs.Kept as kept
 use Rattle.import_frames.proofs.Laws.{yes, no, hit, miss}
 use Rattle.import_sums.specs.declared.Walked.{Walked}

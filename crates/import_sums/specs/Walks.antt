@@ -1,13 +1,12 @@
 -- What a walk over a text's bytes ends with.
-use mathlib.Core.Path.{_≡_, refl, sym, ap, _∙_}
-use mathlib.Core.Bool.{Bool, true, false}
+use mathlib.Core.Path.{_≡_}
+use mathlib.Core.Bool.{Bool, true}
 use mathlib.Core.List.{List, [], _∷_}
-use Prim.Native.Nat.{ℕ, zero, suc, _≤_}
-use lib.Dec.{eqb}
+use Prim.Native.Nat.{ℕ, suc, _≤_}
 use lib.ListN.{length, drop}
 use Rattle.whole.specs.Cases.{if}
 use Rattle.import_frames.specs.declared.Frame.{Frame}
-use Rattle.import_frames.specs.Frames.{Sound, idle, over, step, popped, stops, opens}
+use Rattle.import_frames.specs.Frames.{Sound, idle, over, step, stops}
 use Rattle.import_sums.specs.Run.{run}
 use Rattle.import_sums.specs.declared.Walked.{Walked}
 

@@ -1,7 +1,7 @@
 // Sums and comparisons of a text worked where they stand: one pass over the bytes, a call for each bracket.
 ghost use mathlib.Core.Path.{_≡_};
-ghost use mathlib.Core.Bool.{Bool, true};
-ghost use Prim.Native.Nat.{ℕ, _≤_};
+ghost use mathlib.Core.Bool.{true};
+ghost use Prim.Native.Nat.{_≤_};
 ghost use lib.ListN.{length, drop};
 ghost use Rattle.import_frames.specs.Frames as f;
 ghost use Rattle.import_frames.specs.Frames.{Sound};

@@ -1,25 +1,23 @@
 -- The run over a text's bytes judges the text's numbers.
-use mathlib.Core.Path.{_≡_, refl, sym, ap, ap₂, _∙_, subst}
-use mathlib.Core.Bool.{Bool, true, false, _&&_}
+use mathlib.Core.Path.{_≡_, refl, ap, _∙_}
+use mathlib.Core.Bool.{Bool, true, false}
 use mathlib.Core.List.{List, [], _∷_, _++_}
 use Prim.Native.Nat.{ℕ, zero, suc, _≤_}
 use native.Mathlib.Omega.{arith}
-use lib.Dec.{eqb, leb}
-use lib.IntN.{ℤ, pos, negsuc}
+use lib.IntN.{ℤ}
 use Rattle.whole.specs.Cases.{if}
-use Rattle.whole.specs.Linears.{addL, subL, scaleL}
+use Rattle.whole.specs.Linears.{addL, subL}
 use Rattle.theory.specs.Plain.{in-32-bits}
-use Rattle.import_grammar.specs.Grammar.{Blank, blank, blank-byte, tab, newline, return, Spaces, none, more, Digits, Four, f1, f2, f3, f4, four-byte, Index}
-use Rattle.import_grammar.specs.Grammar.{Op, lt, le, gt, ge, op-bytes, Sum, constant, kterm, kfactor, number, Nots, unsaid, bang, Atom, now, later, compare}
-use Rattle.import_grammar.specs.Grammar.{group, Not, negated, And, alone, both, Or, single, either, spaces-bytes, digits-bytes, kfactor-bytes, sum-bytes}
+use Rattle.import_grammar.specs.Grammar.{Blank, blank, blank-byte, tab, newline, return, Spaces, Four, f1, f2, f3, f4, four-byte}
+use Rattle.import_grammar.specs.Grammar.{Op, lt, le, gt, ge, op-bytes, Sum, Nots, unsaid, bang, Atom, now, later, compare}
+use Rattle.import_grammar.specs.Grammar.{group, Not, negated, And, alone, both, Or, single, either, spaces-bytes, sum-bytes}
 use Rattle.import_grammar.specs.Grammar.{nots-bytes, atom-bytes, not-bytes, and-bytes, or-bytes}
-use Rattle.import_numbers.specs.Numbers.{difference, linear-of, nine, written, kfactor-numbers, sum-numbers, atom-numbers, not-numbers, and-numbers, or-numbers, all-within}
-use Rattle.import_linears.specs.Nine.{constant9}
+use Rattle.import_numbers.specs.Numbers.{difference, linear-of, nine, sum-numbers, atom-numbers, not-numbers, and-numbers, or-numbers, all-within}
 use Rattle.import_frames.specs.declared.Frame.{Frame}
-use Rattle.import_frames.specs.Frames.{zero9, unit9, made, idle, over, valued, sided, closed, total, on-compare, less, compared-with, finished, on-end, on-equals, on-other, on-mark, on-digit, unless-over, step, entered, popped}
+use Rattle.import_frames.specs.Frames.{zero9, unit9, idle, over, valued, sided, closed, total, on-compare, less, compared-with, finished, on-end, on-equals, on-other, on-mark, on-digit, unless-over, step, entered, popped}
 use Rattle.import_sums.specs.Run.{Out, stopped, ended, run}
 use Rattle.import_values.specs.Linears.{nine-sub}
-use Rattle.import_values.specs.Within.{Eight, same-long}
+use Rattle.import_values.specs.Within.{same-long}
 use Rattle.import_values.specs.Reads.{guard, g-append, open9, full, Follows, at-end, mark, spaces-follow, run-over, run-if, spaced, calm-open, calm-full}
 use Rattle.import_values.specs.Sums.{sum-X, sum-m, sum-t, sum-before, behind-sum, sum-total, sum-split, sum-eight, sum-read, open-read, none-deep, g-three}
 

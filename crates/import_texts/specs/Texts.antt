@@ -1,32 +1,32 @@
 -- The run over a whole text judges all its numbers.
-use mathlib.Core.Path.{_≡_, refl, sym, ap, ap₂, _∙_, subst}
-use mathlib.Core.Bool.{Bool, true, false, _&&_, not}
+use mathlib.Core.Path.{_≡_, refl, ap, ap₂, _∙_, subst}
+use mathlib.Core.Bool.{Bool, true, false}
 use mathlib.Core.List.{List, [], _∷_, _++_}
-use Prim.Native.Nat.{ℕ, suc, _≤_}
+use Prim.Native.Nat.{ℕ}
 use native.Mathlib.Omega.{arith}
 use lib.Dec.{T, eqb, leb}
 use lib.IntN.{ℤ, pos, *ℤ-zero, *ℤ-one}
 use Rattle.whole.specs.Cases.{if}
 use Rattle.whole.specs.Linears.{addL, scaleL}
-use Rattle.theory.specs.Diagram.{Linear, no-coeffs, _⊠_}
+use Rattle.theory.specs.Diagram.{no-coeffs, _⊠_}
 use Rattle.theory.specs.Plain.{in-32-bits}
 use Rattle.import_grammar.specs.Grammar.{Spaces, Digits, Four, four-byte, Index, i1, i2, i3, i4, i5, i6, i7, i8, index-byte, number, kfactor, kterm, constant}
-use Rattle.import_grammar.specs.Grammar.{Sum, Or, Result, worth, forbids, Setting, setting, Char, Chars, empty, char, quote, is-plain, Items, head, closed}
+use Rattle.import_grammar.specs.Grammar.{Result, worth, forbids, setting, Chars, empty, char, quote, is-plain, Items, head, closed}
 use Rattle.import_grammar.specs.Grammar.{named, Opening, reward, chance, next, end, Before, start, case, Text, entire, deepest, spaces-bytes, digits-bytes}
 use Rattle.import_grammar.specs.Grammar.{kfactor-bytes, sum-bytes, or-bytes, result-bytes, setting-bytes, chars-bytes, items-bytes, opening-bytes}
 use Rattle.import_grammar.specs.Grammar.{before-bytes, text-bytes}
 use Rattle.import_numbers.specs.Numbers.{digits-value, level-linear, nine, written, kfactor-linear, kfactor-numbers, sum-numbers, or-numbers, result-numbers, setting-numbers, items-numbers, opening-numbers, before-numbers, numbers, all-within}
 use Rattle.import_linears.specs.Nine.{constant9, multiplied}
 use Rattle.import_frames.specs.declared.Frame.{Frame}
-use Rattle.import_frames.specs.Frames.{zero9, unit9, idle, over, on-mark, on-other, on-equals, on-end, on-digit, finished, compared-with, total, step}
+use Rattle.import_frames.specs.Frames.{zero9, idle, over, on-mark, on-other, on-equals, on-end, finished, compared-with, total, step}
 use Rattle.import_frames.specs.Frames as f
-use Rattle.import_sums.specs.Run.{Out, stopped, ended, run}
+use Rattle.import_sums.specs.Run.{Out, ended, run}
 use Rattle.import_values.specs.Linears.{by-left, nine-scale}
 use Rattle.import_values.specs.Within.{Eight}
-use Rattle.import_values.specs.Reads.{guard, g-append, g-implied, open9, full, Follows, mark, spaces-follow}
+use Rattle.import_values.specs.Reads.{guard, g-append, g-implied, open9, full, mark, spaces-follow}
 use Rattle.import_values.specs.Sums.{g-three, first-tot, product-read, level-digit, kterm-read}
-use Rattle.import_texts.specs.Conditions.{judged, G, lift, tot, Mark, semi, colon, equals, small-m, small-n, big-A, big-W, small-r, small-c, small-e}
-use Rattle.import_texts.specs.Conditions.{quotes, big-N, mark-byte, mark-behind, reset-idle, reset-held, idle-spaced, held-spaced, full-spaced}
+use Rattle.import_texts.specs.Conditions.{judged, G, lift, semi, colon, equals, small-m, small-n, big-A, big-W, small-r, small-c, small-e}
+use Rattle.import_texts.specs.Conditions.{quotes, big-N, reset-idle, reset-held, idle-spaced, held-spaced, full-spaced}
 use Rattle.import_texts.specs.Conditions.{condition-digit, Ends, mark-ends, spaces-end, nothing-ends, sum-closed, spaces-hold, colon-holds, or-read}
 
 abbrev here : Frame → List ℕ → Out

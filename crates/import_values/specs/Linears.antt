@@ -1,21 +1,21 @@
 -- The nine numbers of linears worked as lists, and lists of numbers judged.
-use mathlib.Core.Path.{_≡_, refl, sym, ap, ap₂, _∙_, subst}
+use mathlib.Core.Path.{_≡_, refl, sym, ap, ap₂, _∙_}
 use mathlib.Core.Bool.{Bool, true, false, _&&_}
 use mathlib.Core.List.{List, [], _∷_, _++_, map}
-use Prim.Native.Nat.{ℕ, zero, suc, _≤_}
+use Prim.Native.Nat.{ℕ, suc}
 use native.Mathlib.Omega.{arith}
 use borrow.Author.Tests.{leb-true, le-leb}
-use lib.Dec.{eqb, leb}
+use lib.Dec.{leb}
 use lib.IntN.{ℤ, pos, negsuc, _+ℤ_, _*ℤ_, +ℤ-idl, *ℤ-zero, *ℤ-comm}
-use lib.ListN.{length, getD, length-append}
+use lib.ListN.{length}
 use Rattle.whole.specs.Cases.{if}
 use Rattle.whole.specs.Int.{atom, diff}
 use Rattle.whole.specs.Within.{limit, small}
-use Rattle.whole.specs.Linears.{coefficients, numbers, addL, subL, scaleL, clipL, clipped, eqL}
+use Rattle.whole.specs.Linears.{numbers, addL, subL, scaleL, clipL, clipped, eqL}
 use Rattle.whole.specs.LinearsLaws.{scale-length, eqL-true, eqL-refl}
 use Rattle.theory.specs.Diagram.{Linear, no-coeffs, _⊞_, _⊟_, _⊠_}
 use Rattle.theory.specs.Plain.{in-32-bits}
-use Rattle.import_numbers.specs.Numbers.{nine, constant-linear, all-within}
+use Rattle.import_numbers.specs.Numbers.{nine, all-within}
 use Rattle.import_linears.specs.Nine.{constant9, last, flat, multiplied}
 
 -- ---- sums and products of nine numbers

@@ -1,23 +1,21 @@
 -- Run over the bytes of a sum, a frame comes to hold the sum's linear, each number judged on the way.
-use mathlib.Core.Path.{_≡_, refl, sym, ap, ap₂, _∙_, subst}
+use mathlib.Core.Path.{_≡_, refl, sym, ap, _∙_}
 use mathlib.Core.Bool.{Bool, true, false, _&&_}
-use mathlib.Core.List.{List, [], _∷_, _++_, map}
-use Prim.Native.Nat.{ℕ, zero, suc, _+_, _*_, _≤_}
+use mathlib.Core.List.{List, [], _∷_, _++_}
+use Prim.Native.Nat.{ℕ, zero, suc, _+_, _*_}
 use native.Mathlib.Omega.{arith}
 use borrow.Author.Tests.{leb-true, le-leb}
 use lib.Dec.{eqb, leb}
 use lib.IntN.{ℤ, pos}
 use Rattle.whole.specs.Cases.{if}
-use Rattle.whole.specs.Linears.{scaleL, clipped}
-use Rattle.theory.specs.Plain.{in-32-bits}
 use Rattle.import_grammar.specs.Grammar.{Blank, blank, tab, newline, return, Spaces, none, more, Digit, d0, d1, d2, d3, d4, d5, d6, d7, d8, d9, Digits, one, also, blank-byte, digit-byte, spaces-bytes, digits-bytes}
 use Rattle.import_numbers.specs.Numbers.{digit-value, digits-value, all-within}
 use Rattle.import_linears.specs.Nine.{most, constant9, multiplied}
 use Rattle.import_frames.specs.declared.Frame.{Frame}
-use Rattle.import_frames.specs.Frames.{zero9, unit9, digit, of-sum, made, idle, over, termed, factor, closed, total, on-sign, on-compare, less, compared-with}
-use Rattle.import_frames.specs.Frames.{finished, on-end, on-equals, on-other, on-mark, grown, on-digit, unless-over, step, entered, popped, stops, opens}
+use Rattle.import_frames.specs.Frames.{digit, of-sum, made, idle, over, factor, closed}
+use Rattle.import_frames.specs.Frames.{finished, on-mark, grown, on-digit, unless-over, step, entered, popped}
 use Rattle.import_sums.specs.Run.{Out, stopped, ended, final, run}
-use Rattle.import_values.specs.Linears.{clip-judged, all-append, scale-one, by-left}
+use Rattle.import_values.specs.Linears.{all-append}
 
 -- ---- judged results
 

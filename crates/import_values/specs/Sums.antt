@@ -1,15 +1,15 @@
 -- Run over the bytes of a sum, a frame comes to hold the sum's linear, each number judged on the way.
-use mathlib.Core.Path.{_≡_, refl, sym, ap, ap₂, _∙_, subst}
-use mathlib.Core.Bool.{Bool, true, false, _&&_}
+use mathlib.Core.Path.{_≡_, refl, sym, ap, _∙_}
+use mathlib.Core.Bool.{Bool, true, false}
 use mathlib.Core.List.{List, [], _∷_, _++_}
 use Prim.Native.Nat.{ℕ, zero, suc, _+_, _≤_}
 use native.Mathlib.Omega.{arith}
-use lib.Dec.{eqb, leb}
+use lib.Dec.{leb}
 use lib.IntN.{ℤ, pos, negsuc}
 use lib.ListN.{length, length-append}
 use Rattle.whole.specs.Cases.{if}
-use Rattle.whole.specs.Linears.{coefficients, numbers, addL, subL, scaleL, clipL}
-use Rattle.theory.specs.Diagram.{Linear, no-coeffs, _⊞_, _⊟_, _⊠_}
+use Rattle.whole.specs.Linears.{numbers, addL, subL, scaleL, clipL}
+use Rattle.theory.specs.Diagram.{Linear, no-coeffs, _⊠_}
 use Rattle.theory.specs.Plain.{in-32-bits}
 use Rattle.import_grammar.specs.Grammar.{Spaces, Digits, Sign, adds, takes, sign-byte, Index, i1, i2, i3, i4, i5, i6, i7, i8, index-byte, ConstFactor, number}
 use Rattle.import_grammar.specs.Grammar.{kbracket, ConstTerm, kfactor, ktimes, ConstSum, kterm, kneg, kplus, VaryFactor, level, vbracket, VaryTerm, vfactor}
@@ -20,11 +20,11 @@ use Rattle.import_numbers.specs.Numbers.{vsum-linear, linear-of, nine, kfactor-
 use Rattle.import_numbers.specs.Numbers.{vsum-numbers, sum-numbers, all-within}
 use Rattle.import_linears.specs.Nine.{most, constant9, level9, multiplied}
 use Rattle.import_frames.specs.declared.Frame.{Frame}
-use Rattle.import_frames.specs.Frames.{zero9, unit9, made, idle, over, valued, factor, closed, total, on-sign, compared-with, finished, on-mark, on-digit, unless-over, step, entered, popped}
+use Rattle.import_frames.specs.Frames.{zero9, unit9, over, valued, factor, closed, total, on-sign, compared-with, finished, on-mark, on-digit, unless-over, step, entered, popped}
 use Rattle.import_sums.specs.Run.{Out, stopped, run}
 use Rattle.import_values.specs.Linears.{nine-scale, nine-add, nine-sub, zero-add, zero-sub, scale-one, by-left, by-right, clip-judged}
-use Rattle.import_values.specs.Within.{Flat, kfactor-flat, kterm-flat, ksum-flat, Eight, flat-eight, same-long, vfactor-eight, vterm-eight, vsum-eight, kfactor-within, kterm-within, ksum-within, vfactor-within, vterm-within, vsum-within}
-use Rattle.import_values.specs.Reads.{guard, g-and, g-append, g-implied, and-end, open9, full, num, Follows, at-end, mark, spaces-follow, run-over, run-if, spaced, calm-open, calm-full, digits-read, number-whole}
+use Rattle.import_values.specs.Within.{Flat, kfactor-flat, kterm-flat, ksum-flat, Eight, flat-eight, same-long, vterm-eight, vsum-eight, kfactor-within, kterm-within, vfactor-within, vterm-within}
+use Rattle.import_values.specs.Reads.{guard, g-append, g-implied, and-end, open9, full, Follows, mark, spaces-follow, run-over, run-if, spaced, calm-open, calm-full, digits-read, number-whole}
 
 -- ---- numbers judged in the order of the bytes
 

@@ -1,9 +1,9 @@
 -- Where the numbers of a sum lie within 32 bits, those of its linear do; linears have eight coefficients, constants none but 0.
 use mathlib.Core.Path.{_≡_, refl, sym, ap, ap₂, _∙_}
-use mathlib.Core.Bool.{Bool, true, false, _&&_}
-use mathlib.Core.List.{List, [], _∷_, _++_}
-use Prim.Native.Nat.{ℕ, suc}
-use lib.IntN.{ℤ, pos, negsuc, *ℤ-zero}
+use mathlib.Core.Bool.{true}
+use mathlib.Core.List.{List, _++_}
+use Prim.Native.Nat.{ℕ}
+use lib.IntN.{ℤ, negsuc, *ℤ-zero}
 use lib.ListN.{length}
 use Rattle.whole.specs.Linears.{coefficients, addL, scaleL}
 use Rattle.whole.specs.LinearsLaws.{add-length, scale-length}
@@ -12,10 +12,10 @@ use Rattle.theory.specs.Plain.{in-32-bits}
 use Rattle.import_grammar.specs.Grammar.{Sign, adds, takes, i1, i2, i3, i4, i5, i6, i7, i8, ConstFactor, number, kbracket, ConstTerm, kfactor, ktimes}
 use Rattle.import_grammar.specs.Grammar.{ConstSum, kterm, kneg, kplus, VaryFactor, level, vbracket, VaryTerm, vfactor, vscaled, vby, VarySum, vterm, vneg}
 use Rattle.import_grammar.specs.Grammar.{plusKV, plusVK, plusVV}
-use Rattle.import_numbers.specs.Numbers.{digits-value, constant-linear, level-linear, minus, joined, kfactor-linear, kterm-linear, ksum-linear, vfactor-linear}
+use Rattle.import_numbers.specs.Numbers.{joined, kfactor-linear, kterm-linear, ksum-linear, vfactor-linear}
 use Rattle.import_numbers.specs.Numbers.{vterm-linear, vsum-linear, nine, kfactor-numbers, kterm-numbers, ksum-numbers, vfactor-numbers, vterm-numbers}
 use Rattle.import_numbers.specs.Numbers.{vsum-numbers, all-within}
-use Rattle.import_values.specs.Linears.{and-true, all-last}
+use Rattle.import_values.specs.Linears.{all-last}
 
 -- ---- no level
 

@@ -1,7 +1,7 @@
 -- The answers put together.
 use mathlib.Core.Path.{_≡_, refl, sym, ap, _∙_, subst}
-use mathlib.Core.Bool.{Bool, true, false}
-use mathlib.Core.List.{List, [], _∷_}
+use mathlib.Core.Bool.{Bool, false}
+use mathlib.Core.List.{List}
 use Prim.Native.Nat.{ℕ, _+_, _-_, _≤_, _<_}
 use native.Mathlib.Omega.{arith}
 use lib.Dec.{eqb}
@@ -10,12 +10,12 @@ use lib.Seq.{getD-drop}
 use borrow.Author.Tests.{ne-eqb, eq-eqb}
 use Rattle.whole.specs.Cases.{if}
 use Rattle.import_model.specs.Commands.{byte-most, action-most}
-use Rattle.import_parts.specs.Walk.{Stands, past, next-letter, item-rest, number-value, number-rest, setting-value, setting-rest, kind-in, word-of, action-in, action-rest, index-in, opening-rest, slot-in, spelled, string-rest, name-byte, name-rest}
+use Rattle.import_parts.specs.Walk.{past, next-letter, item-rest, number-value, number-rest, setting-value, setting-rest, kind-in, word-of, action-in, action-rest, index-in, opening-rest, slot-in, spelled, string-rest, name-byte, name-rest}
 use Rattle.import_walk.specs.declared.number.Number.{Number}
 use Rattle.import_walk.specs.declared.site.Site.{Site}
 use Rattle.import_walk.specs.declared.opening.Opening.{Opening}
 use Rattle.import_walk.specs.Onward.{Onward, Ahead, NumberAt, SettingAt}
-use Rattle.import_walk.specs.Answers.{SiteAt, kind-by, ActionAt, BehindAt, slot-said, OpeningAt}
+use Rattle.import_walk.specs.Answers.{SiteAt, kind-by, ActionAt, BehindAt, OpeningAt}
 
 further : (F : List ℕ → List ℕ) (w : List ℕ) (from a b : ℕ) (l : List ℕ) → Onward w from a l → Onward w a b (F (drop a w)) → Onward w from b (F l)
 further F w from a b l p q = record {

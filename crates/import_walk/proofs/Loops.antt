@@ -1,6 +1,6 @@
 -- The loops' invariants, and what keeps them.
 use mathlib.Core.Path.{_≡_, refl, sym, ap, _∙_, subst}
-use mathlib.Core.Bool.{Bool, true, false, not}
+use mathlib.Core.Bool.{Bool, true, false}
 use mathlib.Core.List.{List, [], _∷_}
 use Prim.Native.Nat.{ℕ, zero, suc, _+_, _*_, _-_, _≤_, _<_}
 use native.Mathlib.Numerals.{add-one}
@@ -12,7 +12,7 @@ use borrow.Author.Tests.{ne-eqb, eq-eqb}
 use Rattle.whole.specs.Cases.{if}
 use Rattle.import_model.specs.Commands.{at-most}
 use Rattle.import_state.specs.Bytes.{blank, digit}
-use Rattle.import_parts.specs.Walk.{Stands, past, is-letter, next-letter, goes-on, grown, number-value, number-rest, spells, spelled, string-rest}
+use Rattle.import_parts.specs.Walk.{past, is-letter, next-letter, goes-on, grown, number-value, number-rest, spells, spelled, string-rest}
 use Rattle.import_parts.specs.laws.Meets.{small, great}
 use Rattle.import_walk.specs.declared.number.Number.{Number}
 use Rattle.import_walk.specs.Onward.{Onward, Ahead, NumberAt}

@@ -1,7 +1,7 @@
 -- What the walk answers, equal to what is read at the offset.
 use mathlib.Core.List.{List}
 use mathlib.Core.Path.{_≡_}
-use Prim.Native.Nat.{ℕ, _≤_, _<_}
+use Prim.Native.Nat.{ℕ, _<_}
 use lib.Dec.{eqb}
 use lib.ListN.{length, drop}
 use Rattle.whole.specs.Cases.{if}

@@ -1,19 +1,19 @@
 -- The answers are the reading's: one step of a walk over a text, for every reading.
-use mathlib.Core.Path.{_≡_, refl, sym, ap, _∙_, subst}
+use mathlib.Core.Path.{_≡_, sym, ap, _∙_, subst}
 use mathlib.Core.Bool.{true, false}
 use mathlib.Core.List.{List, [], _∷_, _++_}
-use Prim.Native.Nat.{ℕ, _≤_, _<_}
+use Prim.Native.Nat.{ℕ, _<_}
 use native.Mathlib.Omega.{arith}
 use lib.ListN.{length, drop, getD}
 use Rattle.theory.specs.Widths.{name-bytes}
 use Rattle.theory.specs.Command.{Command, site}
 use Rattle.theory.specs.Verdict.{name-slot}
-use Rattle.import_grammar.specs.Grammar.{Spaces, none, Digits, Result, Chars, Before, Text, text-bytes}
+use Rattle.import_grammar.specs.Grammar.{Spaces, Digits, Result, Chars, Before, Text, text-bytes}
 use Rattle.import_model.specs.Commands.{action-of, letters, filled, result-command, text-commands}
 use Rattle.import_found.specs.Places.{Emits, go}
 use Rattle.import_numbers.specs.Numbers.{all-within, result-numbers}
 use Rattle.import_found.specs.laws.Found.{opening-of, cases-commands, cases-numbers}
-use Rattle.import_parts.specs.Parts.{site-with, Part, item, name, site-command, slot-of, part-commands, Walked}
+use Rattle.import_parts.specs.Parts.{Part, item, name, site-command, slot-of, part-commands, Walked}
 use Rattle.import_parts.specs.Walk.{item-rest, name-byte, name-rest}
 use Rattle.import_parts.specs.laws.Order.{text-parts, text-site, text-end}
 use Rattle.import_parts.specs.laws.Walks.{SiteWalked, site-walked, walk-begins, cases-at, item-walked, name-walked, walk-on}

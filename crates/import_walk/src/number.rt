@@ -1,7 +1,7 @@
 // Numbers, cut off at the greatest that their operand holds.
 ghost use mathlib.Core.Path.{_≡_};
 ghost use Prim.Native.Nat.{_≤_, _<_, _-_};
-ghost use lib.ListN.{length, drop};
+ghost use lib.ListN.{length};
 ghost use Rattle.import_parts.specs.Walk.{goes-on as goes-on-of, grown as grown-of};
 ghost use Rattle.import_walk.specs.Onward.{NumberAt, SettingAt};
 use crate::steps::past;

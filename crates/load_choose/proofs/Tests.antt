@@ -1,7 +1,7 @@
 -- The test that a command gives, as a node's words.
 use mathlib.Core.Path.{_≡_, refl, sym, ap, _∙_, subst}
 use mathlib.Core.List.{List, [], _∷_}
-use Prim.Native.Nat.{ℕ, zero, suc, _+_, _-_, _≤_, _<_}
+use Prim.Native.Nat.{ℕ, _+_, _-_, _≤_, _<_}
 use native.Mathlib.Omega.{arith}
 use lib.Dec.{leb, leb→le, nleb→lt}
 use lib.IntN.{ℤ}
@@ -14,7 +14,7 @@ use Rattle.table.proofs.Leaf.{leaf-as}
 use Rattle.table.specs.declared.Node.{Node}
 use Rattle.theory.specs.Widths.{conditions-most}
 use Rattle.theory.specs.Diagram.{Linear, Test, now, later, quotL, test-of}
-use Rattle.theory.specs.Command.{Command, site, push-leaf, push-condition, push-test, give, name-action, end-model, Read, whole, unknown, short, read-at, linear-at}
+use Rattle.theory.specs.Command.{push-condition, push-test, whole, read-at, linear-at}
 use Rattle.theory.specs.Load.{condition-test}
 use Rattle.theory.specs.Form.{new-form}
 use lib.ListN.{length}

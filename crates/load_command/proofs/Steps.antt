@@ -29,7 +29,7 @@ use Rattle.model_command.specs.declared.Command.{Command as CodeCommand}
 use Rattle.model_command.specs.declared.Command.the-variants.{Site, Leaf, Condition, Test as TestBy, Forbidden, Give, Name, End}
 use Rattle.model_stack.specs.Held.{held, pushed}
 use Rattle.model_command.specs.CursorReadings.{with-linear, linear-of, command-of-in, command-of}
-use Rattle.rule_node.specs.Nodes.{blank, linOf, treeOf, trees, treeAt, Nums, Valid, Grown}
+use Rattle.rule_node.specs.Nodes.{linOf, treeOf, trees, treeAt, Nums, Valid, Grown}
 use Rattle.rule_node.specs.Table.{Rule, Bare, Table, RuleRan, Grew}
 use Rattle.rule_node.proofs.Trees.{trees-kept, grown-not, tree-leaf, leaf-some}
 use Rattle.rule_node.proofs.Outcomes.{out-ok, out-no, grown, ran-as, grew-as, lifted}

@@ -1,8 +1,8 @@
 // Site models: "What a refusal gives", numbers 1 to 10, and the site. One pass over the bytes, and no table.
 ghost use mathlib.Core.Path.{_≡_};
 ghost use mathlib.Core.Bool.{false, true};
-ghost use Prim.Native.Nat.{ℕ, _<_};
-ghost use lib.ListN.{length, replicate};
+ghost use Prim.Native.Nat.{_<_};
+ghost use lib.ListN.{replicate};
 ghost use Rattle.theory.specs.Widths.{flags-most};
 ghost use Rattle.theory.specs.Command.{end-model};
 ghost use Rattle.theory.specs.Verdict.{verdict, verdict-in};

@@ -6,7 +6,7 @@ use Prim.Native.Nat.{ℕ, zero, suc, _+_, _≤_, _<_}
 use native.Mathlib.Omega.{arith}
 use borrow.Author.Tests.{lt-ltb, le-ltb, ltb-false}
 use lib.Dec.{T, ltb, leb}
-use lib.ListN.{length, length-map, getD}
+use lib.ListN.{length, getD}
 use Rattle.theory.specs.Widths.{levels-most, conditions-most, actions-most, stack-most}
 use Rattle.theory.specs.Form.{Form}
 use Rattle.theory.specs.Diagram.{Linear, zeros}

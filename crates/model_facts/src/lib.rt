@@ -3,14 +3,14 @@ ghost use mathlib.Core.Path.{_≡_};
 ghost use mathlib.Core.List.{[], _∷_};
 ghost use Prim.Native.Nat.{ℕ, _+_, _*_, _%_, _≤_, _<_};
 ghost use lib.Dec.{eqb};
-ghost use lib.ListN.{length, drop};
+ghost use lib.ListN.{drop};
 ghost use Rattle.whole.specs.Cases.{if};
 ghost use mathlib.Core.Bool.{_&&_};
 ghost use Rattle.theory.specs.Widths.{stack-most};
 ghost use Rattle.theory.specs.Verdict.{or, top};
 ghost use Rattle.theory.specs.Verdict.{joined as joined-facts};
 ghost use Rattle.theory.specs.Verdict.{may-be as may-be-given};
-ghost use Rattle.model_facts.specs.Seen.{seen-in, seen};
+ghost use Rattle.model_facts.specs.Seen.{seen};
 use model_stack::STACK_MOST;
 
 // The three facts of each diagram on the stack, a word of bits for each fact, the top's lowest.

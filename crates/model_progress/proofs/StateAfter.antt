@@ -1,10 +1,10 @@
 -- What a command that breaks no rule leaves in the code stands for what document 01 says it leaves.
 use mathlib.Core.Path.{_≡_, refl, sym, ap, ap₂, _∙_, subst}
-use mathlib.Core.Bool.{Bool, true, false, not, _&&_}
+use mathlib.Core.Bool.{Bool, true, false, not}
 use mathlib.Core.List.{List, [], _∷_}
 use Prim.Native.Nat.{ℕ, suc, _+_, _≤_, _<_}
 use native.Mathlib.Omega.{arith}
-use borrow.Author.Tests.{lt-ltb, leb-false, ltb-false}
+use borrow.Author.Tests.{leb-false, ltb-false}
 use lib.Dec.{T, ltb}
 use lib.ListN.{length, length-set, length-replicate, getD, set, drop, replicate}
 use Rattle.whole.specs.Cases.{if}
@@ -13,7 +13,7 @@ use Rattle.theory.specs.Form.{Form, old-form, new-form, levels-in, actions-in, 
 use Rattle.theory.specs.Diagram.{Linear}
 use Rattle.theory.specs.Valid.{among}
 use Rattle.theory.specs.Command.{Command, site, push-leaf, push-condition, push-test, push-forbidden, give, name-action, end-model, Slot, whole, read-in}
-use Rattle.theory.specs.Verdict.{or, Facts, Site, site-of, has-slot, Progress, with-stack, with-slot, at-start, Rule, rule, first-broken, first-rules, later-rules, site-rules, rules-in, after, joined, is-weight, of-site}
+use Rattle.theory.specs.Verdict.{Facts, Site, site-of, has-slot, Progress, with-stack, with-slot, at-start, Rule, rule, first-broken, first-rules, later-rules, site-rules, rules-in, after, joined, is-weight, of-site}
 use Rattle.model_command.specs.declared.Command.{Command as CodeCommand}
 use Rattle.model_command.proofs.Command.{the-type}
 use types.Run.{OneOf, miss}
@@ -23,7 +23,7 @@ use Rattle.model_command.proofs.Forward.{has-linear, linear-room}
 use Rattle.model_facts.specs.declared.Seen.{Seen}
 use Rattle.model_command.specs.CursorReadings.{command-of-in}
 use Rattle.model_progress.specs.declared.Progress.{Progress as CodeProgress}
-use Rattle.model_progress.specs.GivenFlags.{site-as, place, names-row, flag-of, noted, Slotted, for-name, ProgressStands, Leaves, Later}
+use Rattle.model_progress.specs.GivenFlags.{site-as, place, names-row, flag-of, Slotted, for-name, ProgressStands, Leaves, Later}
 use Rattle.model_progress.proofs.Numbers.{bounds, is-among, not-false-T}
 use Rattle.model_progress.proofs.Flags.{flag-more, no-flag, slotted-given}
 use Rattle.model_facts.specs.Seen.{seen-in, seen}

@@ -1,7 +1,7 @@
 // "Every reward, chance and next level is given exactly once", the end worth at most once: a flag for each, and for each name.
 ghost use mathlib.Core.Path.{_≡_};
 ghost use mathlib.Core.Bool.{true, false};
-ghost use Prim.Native.Nat.{_≤_, _<_};
+ghost use Prim.Native.Nat.{_<_};
 ghost use lib.ListN.{getD, set};
 ghost use Rattle.model_progress.specs.GivenFlags.{base-of, row-given, action-given, all-given, site-as, noted};
 ghost use Rattle.model_progress.specs.GivenFlags.{place as place-of};

@@ -1,13 +1,12 @@
 // The rules that need only a command and the site: "operands 4".
 ghost use mathlib.Core.Path.{_≡_};
 ghost use mathlib.Core.Bool.{_&&_, not, true};
-ghost use mathlib.Core.List.{[]};
-ghost use lib.Dec.{eqb, ltb};
+ghost use lib.Dec.{eqb};
 ghost use Prim.Native.Nat.{_+_, _*_, _≤_};
 ghost use lib.IntN.{pos};
 ghost use lib.ListN.{length, take, drop};
 ghost use lib.Signed.{leZ};
-ghost use Rattle.theory.specs.Widths.{conditions-most, name-bytes};
+ghost use Rattle.theory.specs.Widths.{name-bytes};
 ghost use Rattle.theory.specs.Form.{linear-bytes};
 ghost use Rattle.model_form.specs.Forms.{form-of};
 ghost use Rattle.theory.specs.Diagram.{zeros as zeros-in};

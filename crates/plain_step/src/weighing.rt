@@ -1,6 +1,5 @@
 // The weight of a setting of the next conditions: "the product over conditions of w or W − w".
 ghost use mathlib.Core.Path.{_≡_};
-ghost use mathlib.Core.List.{List, [], _∷_};
 ghost use Prim.Native.Nat.{_-_, _≤_};
 ghost use lib.Dec.{leb};
 ghost use Rattle.whole.specs.Cases.{if};

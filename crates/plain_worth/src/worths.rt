@@ -1,5 +1,4 @@
 // The worth of a state and the worth of an action, which call each other, steps left falling.
-ghost use mathlib.Core.Path.{_≡_};
 ghost use Prim.Native.Nat.{_≤_};
 ghost use Rattle.plain_pass.specs.Parts.{Blank, Parts};
 ghost use Rattle.plain_step.specs.PointState.{Standing, Acts};

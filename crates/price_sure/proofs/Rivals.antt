@@ -1,8 +1,7 @@
 -- The best and the largest of the others, kept over one pass: the best leads every other action exactly where it leads that one.
 use mathlib.Core.Path.{_≡_, refl, sym, ap, ap₂, _∙_, subst}
 use mathlib.Core.Bool.{Bool, true, false, not, _&&_}
-use mathlib.Core.List.{List, [], _∷_, map}
-use Prim.Native.Nat.{ℕ, zero, suc, _+_, _-_, _*_, _^_, _≤_, _<_}
+use Prim.Native.Nat.{ℕ, zero, suc, _+_, _-_, _≤_, _<_}
 use native.Mathlib.Omega.{arith}
 use borrow.Author.Tests.{ne-eqb, eq-eqb}
 use lib.Dec.{T, eqb, ltb, ltb→lt, nltb→le}
@@ -14,10 +13,9 @@ use Rattle.whole.specs.Int.{add-mono, ≤-trans, not-le}
 use Rattle.theory.specs.Meaning.{Model, State}
 use Rattle.theory.specs.Valid.{all}
 use Rattle.theory.specs.Verdict.{or, from-to}
-use Rattle.theory.specs.Load.{site-at, model}
-use Rattle.theory.specs.Plain.{Worth, is, nothing, over, better, numbered, state-worth}
+use Rattle.theory.specs.Plain.{Worth, is, nothing, over, better, numbered}
 use Rattle.theory.specs.laws.Rows.{all-from, from-each}
-use Rattle.plain_limits.specs.Totals.{total-of, tried, is-over}
+use Rattle.plain_limits.specs.Totals.{tried, is-over}
 use Rattle.price_change.specs.Sure.{exceeds, worth-of, leads}
 use Rattle.price_margin.specs.Rivals.{beats, rival}
 

@@ -4,17 +4,17 @@ use mathlib.Core.Bool.{Bool, true, false}
 use mathlib.Core.List.{List}
 use Prim.Native.Nat.{ℕ, suc, _+_, _-_, _*_, _^_, _≤_}
 use native.Mathlib.Omega.{arith}
-use lib.Dec.{T, ltb, ltb→lt}
+use lib.Dec.{ltb, ltb→lt}
 use lib.IntN.{ℤ}
 use lib.ListN.{length}
 use mir.Syntax.{w64}
 use mir.Val.{SFits}
-use Rattle.whole.specs.Cases.{from-true, clash}
+use Rattle.whole.specs.Cases.{from-true}
 use Rattle.whole.proofs.Signed.{R, back}
 use Rattle.theory.specs.Meaning.{State}
 use Rattle.theory.specs.Verdict.{or}
 use Rattle.theory.specs.Load.{site-at, model}
-use Rattle.theory.specs.Plain.{Worth, is, nothing, over, numbered, state-worth}
+use Rattle.theory.specs.Plain.{Worth, is, nothing, over, numbered}
 use Rattle.theory.specs.laws.AcceptedModel.{accepted-site}
 use Rattle.plain_pass.specs.declared.Point.{Point}
 use Rattle.plain_limits.specs.declared.Total.{Total}

@@ -1,6 +1,6 @@
 -- "Paths that no state can take": the certificate, the cut, the diagrams made anew, and the call as one function of its inputs.
 use mathlib.Core.Bool.{Bool, true, false, not, _&&_}
-use mathlib.Core.List.{List, [], _∷_, _++_}
+use mathlib.Core.List.{List, [], _∷_}
 use Prim.Native.Nat.{ℕ, zero, suc, _+_, _-_, _≤_}
 use lib.Dec.{T, eqb, ltb, isEq}
 use lib.IntN.{ℤ, pos, natAbs, negℤ}

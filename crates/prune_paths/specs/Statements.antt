@@ -13,7 +13,7 @@ use Rattle.theory.specs.Listing.{greatest-root}
 use Rattle.theory.specs.Rows.{Range, NodeFits}
 use Rattle.theorems.specs.Demands.{Solving, left}
 use Rattle.theorems.specs.Advice.{Exact, Optimal, ReadsNone, Override}
-use Rattle.prune_paths.specs.Prune.{along, proves, takes, PruneOut, prune}
+use Rattle.prune_paths.specs.Prune.{along, proves, takes, prune}
 
 -- "Paths that no state can take": no state takes every turn of an accepted one
 abbrev pub NoStateTakes : Type 0

@@ -2,30 +2,27 @@
 use mathlib.Core.Path.{_≡_, refl, sym, ap, ap₂, _∙_, subst}
 use mathlib.Core.Bool.{Bool, true, false}
 use mathlib.Core.Logic.{inl}
-use mathlib.Core.List.{List, [], _∷_}
-use Prim.Native.Nat.{ℕ, zero, suc, _+_, _-_, _*_, _/_, _%_, _^_, _≤_, _<_}
+use mathlib.Core.List.{List}
+use Prim.Native.Nat.{ℕ, _-_, _/_, _≤_, _<_}
 use native.Mathlib.Nat.{lt-of-lt-of-le}
 use native.Mathlib.Omega.{arith}
-use borrow.Author.Tests.{eq-eqb, ne-eqb, lt-ltb, le-ltb, ltb-true, ltb-false}
+use borrow.Author.Tests.{eq-eqb, ne-eqb, ltb-true, ltb-false}
 use lib.Dec.{ltb}
 use lib.IntN.{ℤ, pos, natAbs}
-use lib.Signed.{mag}
-use lib.ListN.{length, getD, take}
-use mir.Syntax.{w64}
-use mir.Val.{ofZ}
+use lib.ListN.{getD}
 use Rattle.whole.specs.Cases.{if}
 use Rattle.table.specs.Table.{nodeAt, eqZ, isLeaf, isNone}
 use Rattle.table.specs.declared.Node.{Node}
 use Rattle.table.specs.declared.Made.{Made}
-use Rattle.theory.specs.Widths.{levels-most, conditions-most}
+use Rattle.theory.specs.Widths.{conditions-most}
 use Rattle.theory.specs.Diagram.{Linear, Test, now, later, linear, forbidden, lin-of, Tree, leaf, branch}
 use Rattle.theory.specs.Computation.{Comp, ret, make, bind, both}
 use Rattle.theory.specs.Rules.{over, choose, decide, linear-diagram, substitute}
 use Rattle.rule_node.specs.declared.Down.{Down}
-use Rattle.rule_node.specs.Nodes.{firstOf, linOf, conditionOf, testOf, treeAt, Tested, Grown}
+use Rattle.rule_node.specs.Nodes.{firstOf, linOf, testOf, treeAt, Tested, Grown}
 use Rattle.rule_node.specs.Table.{Rule, Lasting, Table, RuleRan}
-use Rattle.table_cache.specs.Cache.{Room, Key}
-use Rattle.rule_node.specs.EntryMeaning.{testBy, Names, halves, indexes, ruleOf}
+use Rattle.table_cache.specs.Cache.{Room}
+use Rattle.rule_node.specs.EntryMeaning.{testBy, Names, ruleOf}
 use Rattle.rule_node.specs.Roots.{downOf}
 use Rattle.rule_node.proofs.Trees.{trees-kept, grown-on, leaf-none, leaf-some, at-leaf, at-branch}
 use Rattle.rule_node.proofs.TreeMade.{grew-there}

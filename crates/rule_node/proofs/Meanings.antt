@@ -21,7 +21,7 @@ use Rattle.table.specs.declared.Node.{Node}
 use Rattle.theory.specs.Widths.{levels-most, conditions-most}
 use Rattle.theory.specs.Diagram.{Test, later, linear, Leaf, lin-of, Tree, leaf, branch, quotL, quotient, divisor, test-of}
 use Rattle.theory.specs.Rules.{choose, over, decide, sum, product, best, scale, shift, complement, number, side, substitute}
-use Rattle.rule_node.specs.Nodes.{linOf, leafOf, testOf, conditionOf, treeAt, Nums, Good, Proper, Grown, Root}
+use Rattle.rule_node.specs.Nodes.{linOf, testOf, conditionOf, treeAt, Good, Proper, Grown, Root}
 use Rattle.rule_node.specs.Table.{Lasting, Bare, Table}
 use Rattle.rule_node.specs.EntryMeaning.{cOf, testIn, testBy, Names, indexes, packed, ruleBy, ruleOf}
 use Rattle.rule_node.specs.Roots.{conditionNode, laterNode, linearNode, Stood, namedNode, testNode, Readable}

@@ -8,7 +8,7 @@ use lib.Dec.{eqb}
 use lib.ListN.{length}
 use Rattle.whole.specs.Cases.{if}
 use Rattle.theory.specs.Diagram.{Tree}
-use Rattle.theory.specs.Computation.{Comp, result, Out, done, stopped, run, enter-all, Moment, Ops, end, operation, and-then, final, Solved, solved, refused, run-all}
+use Rattle.theory.specs.Computation.{Comp, result, Out, done, stopped, run, enter-all, Moment, Ops, end, operation, and-then, final, solved, refused, run-all}
 use Rattle.theory.specs.Meaning.{Action, Model}
 use Rattle.theory.specs.Stage.{model-diagrams, moment, sum-out, action-total, best-on, stage-over, stages-on}
 use Rattle.theory.specs.Events.{events, needed, peak-of}

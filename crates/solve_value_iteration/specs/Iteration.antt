@@ -1,9 +1,9 @@
 -- What value iteration leaves.
 use mathlib.Core.Path.{_≡_}
 use mathlib.Core.List.{List, [], _∷_}
-use Prim.Native.Nat.{ℕ, suc, _+_, _*_, _≤_, _<_}
+use Prim.Native.Nat.{ℕ, suc, _+_}
 use lib.IntN.{ℤ}
-use lib.ListN.{length, take, drop}
+use lib.ListN.{take, drop}
 use Rattle.theory.specs.Diagram.{Tree}
 use Rattle.theory.specs.Computation.{done, stopped, run, refused, run-all}
 use Rattle.theory.specs.Load.{site-at, load, model}

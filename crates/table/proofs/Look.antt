@@ -1,19 +1,18 @@
 -- The equality test of nodes, and the first index at which a test holds.
-use mathlib.Core.Path.{_≡_, refl, sym, ap, _∙_, subst}
+use mathlib.Core.Path.{_≡_, refl, sym, ap, _∙_}
 use mathlib.Core.Bool.{Bool, true, false, cond, _&&_}
 use mathlib.Core.Logic.{_⊎_, inl, inr, ⊎-elim}
 use Prim.Native.Nat.{ℕ, zero, suc, _+_, _≤_, _<_}
 use native.Mathlib.Omega.{arith}
 use borrow.Author.Tests.{lt-ltb, le-ltb, ltb-true, ltb-false}
 use lib.Dec.{ltb}
-use lib.IntN.{ℤ, pos}
-use Rattle.whole.specs.Linears.{eqL}
+use lib.IntN.{ℤ}
 use Rattle.whole.specs.LinearsLaws.{eqL-true, eqL-refl}
 pub use Rattle.whole.specs.LinearsLaws.{eqZ-true, eqZ-refl}
 use Rattle.table.specs.declared.Node.{Node}
 use mathlib.Core.List.{List}
 use Rattle.table.specs.declared.Made.{Made}
-use Rattle.table.specs.Table.{nodeAt, putAt, firstNode, internR, internW, eqZ, eqN, firstAt, SameNode, same, other}
+use Rattle.table.specs.Table.{putAt, firstNode, internR, internW, eqZ, eqN, firstAt, SameNode, same, other}
 
 clash : {X : Type 0} → false ≡ true → X
 clash e = absurd (let z : _≡_ {A = ℕ} 0 1 = cc in omega arith)

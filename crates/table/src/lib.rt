@@ -1,8 +1,6 @@
 // The node table: nodes of NODE_WORDS words each, one after another.
 ghost use mathlib.Core.Path.{_≡_};
-ghost use mathlib.Core.Bool.{Bool};
-ghost use Prim.Native.Nat.{ℕ, _+_, _*_, _≤_};
-ghost use lib.IntN.{ℤ};
+ghost use Prim.Native.Nat.{_+_, _*_, _≤_};
 ghost use lib.ListN.{length};
 ghost use Rattle.table.specs.Table.{node-words, nodeAt, putAt, SameNode, isLeaf, isNone};
 use whole::COEFFICIENTS;

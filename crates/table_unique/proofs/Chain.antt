@@ -3,12 +3,12 @@ use mathlib.Core.Path.{_≡_, refl, sym, ap, ap₂, _∙_, subst}
 use mathlib.Core.Bool.{Bool, true, false, cond}
 use mathlib.Core.Logic.{⊎-elim, _⊎_, inl, inr}
 use mathlib.Core.List.{List}
-use Prim.Native.Nat.{ℕ, zero, suc, _+_, _-_, _*_, _%_, _≤_, _<_}
-use native.Mathlib.Numerals.{add-one, sub-one}
+use Prim.Native.Nat.{ℕ, zero, suc, _+_, _-_, _*_, _≤_, _<_}
+use native.Mathlib.Numerals.{add-one}
 use native.Mathlib.Omega.{arith}
 use borrow.Author.Tests.{eqb-true, eqb-false, eq-eqb, ne-eqb, ltb-true, ltb-false}
 use lib.Dec.{eqb, ltb}
-use lib.IntN.{ℤ, natAbs}
+use lib.IntN.{ℤ}
 use lib.ListN.{length, getD, set, length-set}
 use lib.Seq.{getD-set-same, getD-set-other}
 use Rattle.table.proofs.Look.{split, eqN-true, eqN-refl, first-found, first-none, first-out}
@@ -16,7 +16,7 @@ use Rattle.table.proofs.Store.{put-length, put-other, put-same}
 use Rattle.table.specs.Table.{nodeAt, putAt, eqN, firstNode}
 use Rattle.table.specs.declared.Node.{Node}
 use Rattle.whole.specs.Linears.{numbers}
-use Rattle.table_unique.specs.Unique.{hashOf, lastOf, Hashed, Chained, Apart}
+use Rattle.table_unique.specs.Unique.{hashOf, lastOf, Chained, Apart}
 
 -- ---- the last index in a bucket
 

@@ -1,15 +1,13 @@
 -- The hash of a node: products by halves, and what is left of its numbers decides.
-use mathlib.Core.Path.{_≡_, refl, sym, ap, _∙_}
-use mathlib.Core.List.{List, [], _∷_}
+use mathlib.Core.Path.{_≡_, sym, ap, _∙_}
+use mathlib.Core.List.{List}
 use Prim.Native.Nat.{ℕ, _+_, _*_, _/_, _%_, _≤_, _<_, _^_}
 use native.Mathlib.Nat.{add-mul, mul-right-comm, mul-le-mul}
 use native.Mathlib.Omega.{arith}
 use lib.IntN.{ℤ, pos}
 use lib.ListN.{length, getD, drop, drop-of-length-le}
-use lib.Signed.{mag}
 use Rattle.whole.specs.Linears.{numbers}
 use Rattle.whole.specs.LinearsLaws.{rest}
-use Rattle.table.proofs.Words.{R, back}
 use Rattle.table.specs.declared.Node.{Node}
 use Rattle.table_unique.specs.Unique.{factors-end, addedOf, nextOf, hashL, bucketOf, hashOf}
 

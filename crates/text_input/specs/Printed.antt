@@ -6,9 +6,9 @@ use lib.IntN.{ℤ, pos}
 use lib.ListN.{length, replicate}
 use Rattle.whole.specs.Cases.{if}
 use Rattle.theory.specs.Widths.{node-words, work-words, steps-most, peak-words}
-use Rattle.theory.specs.Verdict.{Verdict, refusal}
+use Rattle.theory.specs.Verdict.{refusal}
 use Rattle.theory.specs.Load.{site-at}
-use Rattle.theory.specs.Solve.{SolveOut, solve}
+use Rattle.theory.specs.Solve.{solve}
 use Rattle.theory.specs.Listing.{text, refusal-line, listing-refusal}
 
 -- the text that fits into so many bytes, or the listing's refusal

@@ -18,10 +18,9 @@ use Rattle.whole.specs.Cases.{if, both, by-test, from-true}
 use Rattle.whole.specs.Int.{up}
 use Rattle.whole.proofs.Signed.{R32, back32}
 use Rattle.whole.specs.Numerator.{number, words}
-use Rattle.whole.specs.declared.Numerator.{Numerator}
 use Rattle.theory.specs.Widths.{levels-most, steps-most}
 use Rattle.theory.specs.Diagram.{zeros}
-use Rattle.theory.specs.Verdict.{Verdict, Site, from-to}
+use Rattle.theory.specs.Verdict.{Site, from-to}
 use Rattle.theory.specs.Listing.{lines}
 use Rattle.theory.specs.Load.{site-at}
 use Rattle.theory.specs.Solve.{early}
@@ -30,7 +29,6 @@ use Rattle.theory.specs.Value.{Asked, accepted, node-linear, high-of, numerator
 use Rattle.value_walk.specs.declared.Asked.{Asked as CodeAsked}
 use Rattle.value_walk.specs.State.{asked}
 use Rattle.value_walk.specs.Out.{value-after}
-use Rattle.text_decimal.specs.Put.{PutAt}
 use Rattle.whole_division.specs.Floor.{floor-by}
 use Rattle.text_page_lines.specs.Page.{page-line, whole-part, line-at, page-text}
 use Rattle.text_page_lines.specs.Columns.{Fitting}

@@ -1,5 +1,5 @@
 -- The line of a stage whose value is "none": ""None" reads as .. action 0 and an empty name", "`none` right-aligned on the page".
-use mathlib.Core.Path.{_≡_, refl, sym, ap, _∙_}
+use mathlib.Core.Path.{_≡_, refl, ap, _∙_}
 use mathlib.Core.Bool.{Bool, true, false}
 use mathlib.Core.List.{List, [], _∷_, _++_}
 use Prim.Native.Nat.{ℕ}

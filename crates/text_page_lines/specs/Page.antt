@@ -14,7 +14,7 @@ use Rattle.theory.specs.Valid.{all}
 use Rattle.theory.specs.Verdict.{Verdict, refusal, from-to}
 use Rattle.theory.specs.Load.{site-at}
 use Rattle.theory.specs.Solve.{early}
-use Rattle.theory.specs.Value.{Asked, ValueOut, value-of}
+use Rattle.theory.specs.Value.{Asked, value-of}
 use Rattle.theory.specs.Name.{name}
 use Rattle.theory.specs.Listing.{digits, lines, written, ListingOut}
 use Rattle.whole_division.specs.Floor.{floor-by}

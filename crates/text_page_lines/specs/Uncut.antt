@@ -5,9 +5,9 @@ use mathlib.Core.List.{List, [], _∷_}
 use Prim.Native.Nat.{ℕ, zero, suc, _+_, _-_, _*_, _^_, _≤_, _<_}
 use native.Mathlib.Nat.{mul-le-mul, mul-le-mul-right}
 use native.Mathlib.Omega.{arith}
-use borrow.Author.Tests.{eq-eqb, eqb-true}
-use lib.Dec.{T, T-not, eqb, leb, leb→le}
-use lib.IntN.{ℤ, pos, negsuc, natAbs, _*ℤ_}
+use borrow.Author.Tests.{eq-eqb}
+use lib.Dec.{T, T-not, eqb, leb→le}
+use lib.IntN.{ℤ, pos, natAbs, _*ℤ_}
 use lib.ListN.{length, getD, take, drop, length-append, length-take}
 use Rattle.whole.specs.Cases.{if, by-test, both, from-true}
 use Rattle.whole.specs.Int.{up}

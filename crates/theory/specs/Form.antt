@@ -1,6 +1,6 @@
 -- How a model is written: the form of K5, which the planner reads, and the one before it, which old models are in. What differs is named here and nowhere else.
 use Prim.Native.Nat.{ℕ, _+_, _*_}
-use Rattle.theory.specs.Widths.{levels-most, actions-most, bytes-most, name-bytes}
+use Rattle.theory.specs.Widths.{levels-most, actions-most, bytes-most}
 
 pub data Form : Type 0 where
   old-form : Form

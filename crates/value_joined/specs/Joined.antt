@@ -2,7 +2,7 @@
 use mathlib.Core.Bool.{Bool}
 use mathlib.Core.List.{List, [], _∷_, _++_, map}
 use Prim.Native.Nat.{ℕ, suc, _*_}
-use lib.IntN.{ℤ, pos, _+ℤ_, _*ℤ_}
+use lib.IntN.{pos, _+ℤ_, _*ℤ_}
 use Rattle.theory.specs.Total.{_⊕_, weigh}
 use Rattle.theory.specs.Process.{Process}
 use Rattle.theory.specs.Meaning.{Model, State, action-at, numbers-from, settings, env, worth-at, end-at, power, process}

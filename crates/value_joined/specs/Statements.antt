@@ -4,11 +4,10 @@ use mathlib.Core.Logic.{_↔_, _⊎_}
 use mathlib.Core.Bool.{Bool}
 use mathlib.Core.List.{List}
 use Prim.Native.Nat.{ℕ, suc, _*_, _^_, _≤_}
-use lib.IntN.{ℤ}
-use Rattle.theory.specs.Total.{Total, num, none, Has, _⊑_, _⊏_}
+use Rattle.theory.specs.Total.{none, Has, _⊑_, _⊏_}
 use Rattle.theory.specs.Loss.{sum}
 use Rattle.theory.specs.Process.{Process, Policy, Action, total, optimum, lowest-best, expected, Sound}
-use Rattle.theory.specs.Meaning.{Model, State, power}
+use Rattle.theory.specs.Meaning.{State, power}
 use Rattle.theory.specs.Verdict.{verdict}
 use Rattle.theory.specs.Load.{model, site-at}
 use Rattle.theory.specs.Value.{Asked}

@@ -1,5 +1,5 @@
 -- "Given both models, both tables, the same W, D and steps left, the planner gives both actions and the total's numerator": the outcome, as one function of its inputs.
-use mathlib.Core.Bool.{Bool, true, false, _&&_}
+use mathlib.Core.Bool.{Bool, _&&_}
 use mathlib.Core.List.{List}
 use Prim.Native.Nat.{ℕ, _*_, _^_}
 use lib.Dec.{eqb}

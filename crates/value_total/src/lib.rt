@@ -5,7 +5,7 @@ ghost use Rattle.theory.specs.Widths.{steps-most};
 ghost use Rattle.model_progress.specs.GivenFlags.{site-as};
 ghost use Rattle.value_walk.specs.State.{asked};
 ghost use Rattle.value_walk.specs.Out.{out};
-ghost use Rattle.value_joined.specs.Total.{refused-total, both-read, same-scale, total-after, total-of};
+ghost use Rattle.value_joined.specs.Total.{refused-total, both-read, same-scale, total-of};
 ghost use Rattle.value_total.specs.Out.{total-out};
 use model_progress::Site;
 use value_walk::Asked;

@@ -3,19 +3,17 @@ use mathlib.Core.Path.{_≡_, refl, sym, ap, ap₂, _∙_, subst}
 use mathlib.Core.Bool.{Bool, true, false, _&&_}
 use mathlib.Core.List.{List, [], _∷_}
 use Prim.Native.Nat.{ℕ, _+_, _-_, _≤_, _<_, _^_}
-use native.Mathlib.Nat.{le-refl}
 use native.Mathlib.Omega.{arith}
 use borrow.Author.Tests.{le-leb, lt-leb}
-use lib.Dec.{leb}
 use lib.IntN.{ℤ, pos, natAbs, _+ℤ_, _-ℤ_, _*ℤ_}
-use lib.ListN.{length, getD, set, take, drop, drop-of-length-le}
+use lib.ListN.{length, getD, take, drop, drop-of-length-le}
 use lib.Seq.{length-take-le}
 use lib.Signed.{mag, quotZ}
 use mir.Syntax.{w64}
 use mir.Val.{SFits, ofZ}
 use Rattle.whole.specs.Divisor.{gcdOf, gcd-all, at-least-one, least-positive}
 use Rattle.whole.specs.Linears.{coefficients, numbers, Smalls, smalls, addL, subL, clipped, clipL, quotL, divisorL, eqZ, eqL}
-use Rattle.whole.specs.LinearsLaws.{add-length, add-at, sub-length, sub-at, clip-length, clip-at, quot-length, quot-at, rest, small-quot, eqZ-true, eqZ-refl}
+use Rattle.whole.specs.LinearsLaws.{add-length, add-at, sub-length, sub-at, clip-length, clip-at, quot-length, quot-at, rest, eqZ-true, eqZ-refl}
 use Rattle.whole.specs.Within.{limit, Small, small}
 use Rattle.whole.proofs.Clipped.{times-back}
 use Rattle.whole.proofs.Euclid.{gcd-small}

@@ -1,12 +1,11 @@
 -- The loops of a dot product: the sum so far, in two words and in one.
-use mathlib.Core.Path.{_≡_, refl, sym, ap, ap₂, _∙_, subst}
+use mathlib.Core.Path.{_≡_, sym, ap, ap₂, _∙_, subst}
 use mathlib.Core.List.{List}
-use Prim.Native.Nat.{ℕ, _+_, _*_, _≤_, _<_, _^_}
+use Prim.Native.Nat.{ℕ, _+_, _*_, _≤_, _<_}
 use native.Mathlib.Nat.{mul-le-mul}
 use native.Mathlib.Omega.{arith}
 use lib.IntN.{ℤ, pos, natAbs, _+ℤ_, _*ℤ_, +ℤ-assoc, +ℤ-idl, +ℤ-idr}
 use lib.ListN.{length, getD, drop, drop-of-length-le}
-use lib.Signed.{mag}
 use mir.Syntax.{w32, w64}
 use mir.Val.{SFits}
 use Rattle.whole.specs.declared.Numerator.{Numerator}
@@ -16,7 +15,7 @@ use Rattle.whole.specs.Magnitude.{abs-add, abs-mul}
 use Rattle.whole.specs.Numerator.{word, number, words}
 use Rattle.whole.specs.NumeratorLaws.{Product, Sum, words-of}
 use Rattle.whole.specs.Within.{Small}
-use Rattle.whole.proofs.Signed.{R, R32, back, back32, by-abs, small-back, small-fits, widens}
+use Rattle.whole.proofs.Signed.{R, R32, back, back32, by-abs, small-back, widens}
 use Rattle.whole.proofs.TwoWords.{abs-i32, times-back}
 
 -- 2²⁷, and the most that a product is

@@ -1,15 +1,14 @@
 -- The greatest common divisor, and its laws: it divides each number, each common divisor divides it, and division by it is exact.
-use mathlib.Core.Path.{_≡_, refl, sym, ap, ap₂, _∙_}
-use mathlib.Core.Bool.{Bool, true, false, not}
+use mathlib.Core.Path.{_≡_, refl, sym, ap, _∙_}
+use mathlib.Core.Bool.{not}
 use mathlib.Core.List.{List, [], _∷_, List·Memᴰ, List·Memᴰ·head, List·Memᴰ·tail, List·Memᴰ·cases-cons, List·Memᴰ·not-nil}
 use mathlib.Core.Logic.{⊎-elim}
 use Prim.Native.Nat.{ℕ, zero, suc, _+_, _-_, _*_, _/_, _%_, _≤_, _<_}
 use native.Mathlib.Omega.{arith}
 use native.Mathlib.Nat as N
-use lib.Dec.{T, eqb, eqb→eq}
 use lib.IntN.{ℤ, pos, negsuc, negℤ, _*ℤ_, natAbs}
 use lib.Signed.{quotZ}
-use Rattle.whole.specs.Int.{atom, diff, mul-neg}
+use Rattle.whole.specs.Int.{mul-neg}
 
 -- Euclid's rule, with at most as many turns as the first argument says
 unfoldable pub gcdBy : ℕ → ℕ → ℕ → ℕ

@@ -1,10 +1,10 @@
 -- Integers: differences of naturals, and the laws by `simp` into differences and `omega`.
-use mathlib.Core.Path.{_≡_, refl, sym, ap, ap₂, _∙_, subst}
-use mathlib.Core.Logic.{_↔_, _⊎_, inl, inr, ⊎-elim}
+use mathlib.Core.Path.{_≡_, refl, ap, _∙_}
+use mathlib.Core.Logic.{_↔_}
 use mathlib.Core.Bool.{Bool, true, false, not, cond}
 use Prim.Native.Nat.{ℕ, zero, suc, _+_, _*_, _-_, _≤_, _<_}
 use native.Mathlib.Omega.{arith}
-use lib.Dec.{T, ltb, leb, ltb→lt, nltb→le, leb→le, le→leb, nleb→lt}
+use lib.Dec.{T, ltb, ltb→lt, nltb→le, leb→le, le→leb, nleb→lt}
 use lib.IntN.{ℤ, pos, negsuc, negℤ, _+ℤ_, _-ℤ_, _*ℤ_, subℕ, negℤ-+ℤ, negℤ-negℤ, +ℤ-assoc, +ℤ-comm, *ℤ-comm, +ℤ-idl, +ℤ-idr, zero-*ℤ, *ℤ-zero}
 use native.Mathlib.Nat.{mul-le-mul-left}
 use lib.Signed

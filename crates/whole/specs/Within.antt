@@ -1,5 +1,5 @@
 -- The limits of whole numbers, ±(2⁶² − 1).
-use mathlib.Core.Bool.{Bool, true, false}
+use mathlib.Core.Bool.{Bool}
 use Prim.Native.Nat.{ℕ, _≤_}
 use lib.Dec.{leb}
 use lib.IntN.{ℤ, natAbs}

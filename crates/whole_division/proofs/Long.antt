@@ -3,7 +3,6 @@ use mathlib.Core.Path.{_≡_, sym, ap, _∙_}
 use Prim.Native.Nat.{ℕ, _+_, _*_, _/_, _%_, _<_}
 use native.Mathlib.Nat.{mod-lt, mod-eq-of-lt, div-add-mod', div-eq-of-lt, div-lt-iff-lt-mul, mul-add-div-right, mul-add-mod-self-right, add-mul, mul-right-comm}
 use native.Mathlib.Omega.{arith}
-use Rattle.whole_division.specs.declared.Quotient.{Quotient}
 use Rattle.whole_division.specs.Words.{two-words, Divided}
 
 -- 2³²

@@ -8,8 +8,8 @@ use lib.Dec.{leb, leb→le, le→leb}
 use lib.IntN.{ℤ, pos, negsuc, _-ℤ_, _+ℤ_, _*ℤ_, +ℤ-idr}
 use lib.Signed.{mag}
 use mir.Syntax.{w64}
-use mir.Val.{SFits, toZ, ofZ}
-use Rattle.whole.specs.Cases.{if, is-true, by-test, clash, from-true}
+use mir.Val.{SFits, toZ}
+use Rattle.whole.specs.Cases.{if, is-true, by-test, clash}
 use Rattle.whole.specs.declared.Numerator.{Numerator}
 use Rattle.whole.specs.Numerator.{word, number, words}
 use Rattle.whole.specs.NumeratorLaws.{below, words-of}
@@ -17,7 +17,6 @@ use Rattle.whole.proofs.Signed.{R, back, plain}
 use Rattle.whole_division.specs.declared.Whole.{Whole}
 use Rattle.whole_division.specs.Words.{two-words, whole-as}
 use Rattle.whole_wide.specs.declared.Wide.{Wide}
-use Rattle.whole_wide.specs.declared.Fitted.{Fitted}
 use Rattle.whole_wide.specs.declared.Fitted.the-variants.{Is, Outside}
 use Rattle.whole_wide.specs.Wide.{outside-from, in-two-words, fitted, Holds, Taken, Fits}
 

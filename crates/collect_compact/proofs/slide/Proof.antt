@@ -1,7 +1,6 @@
 -- `collect_compact::slide` meets its contract: of the first i nodes the marked ones are the first j, with the trees that they had and forwarded; from i on nothing has changed (`State`).
 use Prim.Native.Nat.{_-_}
 use native.Mathlib.Omega.{arith}
-use borrow.Author.Needs.{needs}
 use Rattle.collect_compact.proofs.Slides.{State, begins, space-after, closed-after, slid-before, steps, ends, valid-here, j-le}
 use Rattle.collect_compact.proofs.slide.Statement.{statement}
 use Rattle.collect_compact.proofs.slide.Tie as tie

@@ -14,7 +14,7 @@ use Rattle.theory.specs.Computation.{Comp, ret, bind, result}
 use Rattle.theory.specs.Rules.{choose}
 use Rattle.theory.specs.Valid.{among}
 use Rattle.theory.specs.Command.{Command, site, push-leaf, push-condition, push-test, push-forbidden, give, name-action, end-model, Read, whole, unknown}
-use Rattle.theory.specs.Command.{short, Placed, byte-at, width-in, command-in, read-in, goes-on, readings-from-in, readings-in, bytes-at}
+use Rattle.theory.specs.Command.{short, Placed, byte-at, width-in, command-in, goes-on, readings-from-in, readings-in, bytes-at}
 use Rattle.theory.specs.Verdict.{or, Site, Verdict, refusal, site-of, Rule, rule, first-broken, site-rules, first-rules, rules-in, after, at-start, verdict-in}
 use Rattle.theory.specs.Load.{Loaded, load-one-with, load-on-with, load-in, model-in, model-of, site-in}
 use Rattle.theory.specs.laws.Valid.{among-out, among-in}

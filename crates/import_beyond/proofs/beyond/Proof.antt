@@ -1,4 +1,4 @@
-use mathlib.Core.Path.{_≡_, refl, sym, ap, _∙_, subst}
+use mathlib.Core.Path.{sym, subst}
 use Rattle.import_frames.specs.Frames.{Sound}
 use Rattle.import_frames.specs.Kept as kept
 use Rattle.import_beyond.proofs.Laws.{frame-over, number-over, at-last}

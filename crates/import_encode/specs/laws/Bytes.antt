@@ -1,17 +1,16 @@
 -- What a text becomes is a list of bytes: each number of it is below 256.
 use mathlib.Core.List.{List, [], _∷_, _++_}
 use mathlib.Core.Bool.{Bool, true, false}
-use mathlib.Core.Path.{_≡_}
-use Prim.Native.Nat.{ℕ, zero, suc, _/_, _%_, _≤_, _<_}
+use Prim.Native.Nat.{ℕ, zero, suc, _/_, _%_, _<_}
 use native.Mathlib.Omega.{arith}
 use lib.Dec.{T, eqb, leb, ltb, leb→le, nltb→le}
 use lib.IntN.{ℤ}
-use Rattle.whole.specs.Cases.{if, by-test, both}
+use Rattle.whole.specs.Cases.{if, by-test}
 use Rattle.theory.specs.Diagram.{Linear}
-use Rattle.theory.specs.Command.{Command, site, push-leaf, push-condition, push-test, push-forbidden, give, Slot, name-action, end-model}
+use Rattle.theory.specs.Command.{Command, site, push-leaf, push-condition, push-test, push-forbidden, give, name-action, end-model}
 use Rattle.import_grammar.specs.Grammar.{Digits, Index, i1, i2, i3, i4, i5, i6, i7, i8, Four, f1, f2, f3, f4, Op, lt, le, gt, ge, Nots, unsaid, bang, Atom}
 use Rattle.import_grammar.specs.Grammar.{now, later, compare, group, Not, negated, And, alone, both as both-of, Or, single, either, Result, worth, forbids}
-use Rattle.import_grammar.specs.Grammar.{is-plain, Char, Chars, empty, char, quote, Items, head, closed, named, Opening, reward, chance, next, end, Before}
+use Rattle.import_grammar.specs.Grammar.{is-plain, Chars, empty, char, quote, Items, head, closed, named, Opening, reward, chance, next, end, Before}
 use Rattle.import_grammar.specs.Grammar.{start, case, Text, entire}
 use Rattle.import_numbers.specs.Numbers.{digits-value, linear-of}
 use Rattle.import_model.specs.Commands.{condition-of, level-of, later-of, at-most, byte-most, byte-of, setting-of, compare-commands, nots-commands}

@@ -1,14 +1,14 @@
 -- A place behind more brackets than a text may have has no commands.
 use mathlib.Core.Bool.{Bool, true, false, not}
 use mathlib.Core.List.{List, [], _∷_}
-use Prim.Native.Nat.{ℕ, _≤_, _<_}
+use Prim.Native.Nat.{ℕ, _<_}
 use native.Mathlib.Omega.{arith}
 use lib.Dec.{eqb}
 use lib.ListN.{length}
 use Rattle.whole.specs.Cases.{if}
 use Rattle.theory.specs.Command.{Command}
 use Rattle.import_grammar.specs.Grammar.{deepest}
-use Rattle.import_found.specs.Places.{Place, atom-at, result-at, lost, is-space, is-cond, after-colon, go, Emits, by-result, by-atom, TooDeep}
+use Rattle.import_found.specs.Places.{Place, lost, is-space, is-cond, after-colon, go, Emits, by-result, by-atom, TooDeep}
 
 deep-if : (b : Bool) (x y : Place) → TooDeep x → TooDeep y → TooDeep (if b x y)
 deep-if true x y p q = p

@@ -2,28 +2,28 @@
 use mathlib.Core.Path.{_≡_, refl, sym, ap, ap₂, _∙_, subst}
 use mathlib.Core.Bool.{Bool, true, false, not, _&&_}
 use mathlib.Core.List.{List, [], _∷_, _++_}
-use Prim.Native.Nat.{ℕ, zero, suc, _+_, _≤_}
+use Prim.Native.Nat.{ℕ, _+_, _≤_}
 use native.Mathlib.Omega.{arith}
 use lib.Dec.{eqb}
 use lib.ListN.{length}
-use lib.IntN.{ℤ, pos, negsuc}
+use lib.IntN.{ℤ}
 use Rattle.whole.specs.Cases.{if}
 use Rattle.theory.specs.Diagram.{Linear, _⊠_}
 use Rattle.theory.specs.Command.{Command}
 use Rattle.theory.specs.Plain.{in-32-bits}
-use Rattle.import_grammar.specs.Grammar.{Spaces, none, Digit, d0, d1, d2, d3, d4, d5, d6, d7, d8, d9, Digits, one, also, Index, i1, i2, i3, i4, i5, i6, i7, i8}
-use Rattle.import_grammar.specs.Grammar.{Four, f1, f2, f3, f4, Op, lt, le, gt, ge, Sign, adds, takes, ConstFactor, number, kbracket, ConstTerm, kfactor}
+use Rattle.import_grammar.specs.Grammar.{Spaces, none, Digit, d0, d1, d2, d3, d4, d5, d6, d7, d8, d9, Digits, one, also}
+use Rattle.import_grammar.specs.Grammar.{Four, Op, ConstFactor, number, kbracket, ConstTerm, kfactor}
 use Rattle.import_grammar.specs.Grammar.{ktimes, ConstSum, kterm, kneg, kplus, VaryFactor, level, vbracket, VaryTerm, vfactor, vscaled, vby, VarySum, vterm}
 use Rattle.import_grammar.specs.Grammar.{vneg, plusKV, plusVK, plusVV, Sum, constant, varying, Nots, unsaid, bang, Atom, now, later, compare, group, Not}
-use Rattle.import_grammar.specs.Grammar.{negated, And, alone, both, Or, single, either, Result, worth, forbids, Before, start, case, Opening, digit-byte}
+use Rattle.import_grammar.specs.Grammar.{negated, And, alone, both, Or, single, either, Result, Before, start, case, Opening, digit-byte}
 use Rattle.import_grammar.specs.Grammar.{index-byte, four-byte, sign-byte, op-bytes, spaces-bytes, digits-bytes, kfactor-bytes, kterm-bytes, ksum-bytes}
 use Rattle.import_grammar.specs.Grammar.{vfactor-bytes, vterm-bytes, vsum-bytes, sum-bytes, nots-bytes, atom-bytes, not-bytes, and-bytes, or-bytes}
 use Rattle.import_grammar.specs.Grammar.{result-bytes, opening-bytes, before-bytes, deepest}
-use Rattle.import_numbers.specs.Numbers.{minus, joined, kfactor-linear, kterm-linear, ksum-linear, vfactor-linear, vterm-linear, vsum-linear, linear-of}
+use Rattle.import_numbers.specs.Numbers.{joined, kfactor-linear, kterm-linear, ksum-linear, vfactor-linear, vterm-linear, vsum-linear, linear-of}
 use Rattle.import_numbers.specs.Numbers.{difference, nine, kfactor-numbers, kterm-numbers, ksum-numbers, vfactor-numbers, vterm-numbers, vsum-numbers}
 use Rattle.import_numbers.specs.Numbers.{sum-numbers, atom-numbers, not-numbers, and-numbers, or-numbers, result-numbers, all-within}
 use Rattle.import_model.specs.Commands.{compare-commands, nots-commands, atom-commands, not-commands, and-commands, or-commands, result-command, opening-commands, before-commands}
-use Rattle.import_found.specs.Places.{Place, atom-at, result-at, lost, is-space, is-cond, after-colon, go, next-case, xor, find, AfterAtom, and-behind}
+use Rattle.import_found.specs.Places.{Place, atom-at, is-space, is-cond, after-colon, go, next-case, xor, find, AfterAtom, and-behind}
 use Rattle.import_found.specs.Places.{or-behind, close-behind, colon-behind, AfterResult, ends-case, Decided, Emits, by-result, by-atom}
 use Rattle.import_found.specs.laws.Passing.{over-blanks}
 use Rattle.import_found.specs.laws.Walks.{pass-spaces, pass-atom, pass-not, pass-and, not-cond, cond-or, skip-spaces, skip-result, colon-spaces}

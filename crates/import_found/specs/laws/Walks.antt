@@ -1,25 +1,19 @@
 -- How the three walks of the emitter pass over parts of a condition.
-use mathlib.Core.Path.{_≡_, refl, sym, ap, ap₂, _∙_, subst}
+use mathlib.Core.Path.{_≡_, refl, _∙_}
 use mathlib.Core.Bool.{Bool, true, false, not}
-use mathlib.Core.List.{List, [], _∷_, _++_}
+use mathlib.Core.List.{List, _∷_}
 use Prim.Native.Nat.{ℕ, zero, suc}
 use lib.Dec.{eqb}
-use lib.IntN.{ℤ, pos, negsuc}
 use Rattle.whole.specs.Cases.{if}
-use Rattle.theory.specs.Diagram.{Linear, _⊠_}
-use Rattle.theory.specs.Command.{Command}
-use Rattle.import_grammar.specs.Grammar.{Spaces, none, Digit, d0, d1, d2, d3, d4, d5, d6, d7, d8, d9, Digits, one, also, Index, i1, i2, i3, i4, i5, i6, i7, i8}
-use Rattle.import_grammar.specs.Grammar.{Four, f1, f2, f3, f4, Op, lt, le, gt, ge, Sign, adds, takes, ConstFactor, number, kbracket, ConstTerm, kfactor}
-use Rattle.import_grammar.specs.Grammar.{ktimes, ConstSum, kterm, kneg, kplus, VaryFactor, level, vbracket, VaryTerm, vfactor, vscaled, vby, VarySum, vterm}
-use Rattle.import_grammar.specs.Grammar.{vneg, plusKV, plusVK, plusVV, Sum, constant, varying, Nots, unsaid, bang, Atom, now, later, compare, group, Not}
-use Rattle.import_grammar.specs.Grammar.{negated, And, alone, both, Or, single, either, Result, worth, forbids, Before, start, case, Opening, digit-byte}
-use Rattle.import_grammar.specs.Grammar.{index-byte, four-byte, sign-byte, op-bytes, spaces-bytes, digits-bytes, kfactor-bytes, kterm-bytes, ksum-bytes}
-use Rattle.import_grammar.specs.Grammar.{vfactor-bytes, vterm-bytes, vsum-bytes, sum-bytes, nots-bytes, atom-bytes, not-bytes, and-bytes, or-bytes}
-use Rattle.import_grammar.specs.Grammar.{result-bytes, opening-bytes, before-bytes}
-use Rattle.import_numbers.specs.Numbers.{joined, kfactor-linear, kterm-linear, ksum-linear, vfactor-linear, vterm-linear, vsum-linear, linear-of}
-use Rattle.import_model.specs.Commands.{compare-commands, nots-commands, atom-commands, not-commands, and-commands, or-commands, result-command, opening-commands, before-commands}
-use Rattle.import_found.specs.Places.{Place, atom-at, result-at, lost, is-space, is-cond, after-colon, go, next-case, xor, find}
-use Rattle.import_found.specs.laws.Passing.{SumByte, s9, s10, s13, s32, s42, s43, s45, s48, s49, s50, s51, s52, s53, s54, s55, s56, s57, s76, over-blanks, blank-in, over-spaces, over-close, over-sum}
+use Rattle.import_grammar.specs.Grammar.{Spaces, none, one}
+use Rattle.import_grammar.specs.Grammar.{Four, f1, f2, f3, f4, Op, lt, le, gt, ge}
+use Rattle.import_grammar.specs.Grammar.{Sum, Nots, unsaid, bang, Atom, now, later, compare, group, Not}
+use Rattle.import_grammar.specs.Grammar.{negated, And, alone, both, Or, single, either, Result, worth, forbids, case}
+use Rattle.import_grammar.specs.Grammar.{four-byte, op-bytes, spaces-bytes}
+use Rattle.import_grammar.specs.Grammar.{sum-bytes, nots-bytes, atom-bytes, not-bytes, and-bytes, or-bytes}
+use Rattle.import_grammar.specs.Grammar.{result-bytes}
+use Rattle.import_found.specs.Places.{is-cond, after-colon, go, next-case, xor, find}
+use Rattle.import_found.specs.laws.Passing.{SumByte, s9, s10, s13, s32, s42, s43, s45, s48, s49, s50, s51, s52, s53, s54, s55, s56, s57, s76, over-blanks, over-spaces, over-close, over-sum}
 
 -- ---- what comes next
 

@@ -1,12 +1,12 @@
 -- A byte string stops at one place at most, and a text of the grammar at none.
-use mathlib.Core.Path.{_≡_, refl, sym, ap, _∙_, subst}
+use mathlib.Core.Path.{_≡_, refl, sym, _∙_, subst}
 use mathlib.Core.List.{List, [], _∷_, _++_, append-assoc, append-nil}
 use Prim.Native.Nat.{ℕ, suc, _<_}
 use native.Mathlib.Omega.{arith}
 use lib.Dec.{ltb}
 use lib.ListN.{length}
 use borrow.Author.Tests.{ltb-true, ltb-false}
-use Rattle.import_grammar.specs.Grammar.{Text, text-bytes, InGrammar}
+use Rattle.import_grammar.specs.Grammar.{InGrammar}
 use Rattle.import_grammar.specs.laws.Case.{by-eq}
 use Rattle.import_grammar.specs.laws.Viable.{Begins, Impossible, Stopped}
 

@@ -1,8 +1,8 @@
 -- Where an atom's outcome goes on is two bytes or more behind the atom.
-use mathlib.Core.Path.{_≡_, refl, sym, ap, _∙_, subst}
+use mathlib.Core.Path.{_≡_, ap, _∙_}
 use mathlib.Core.Bool.{Bool, true, false, not}
 use mathlib.Core.List.{List, [], _∷_}
-use Prim.Native.Nat.{ℕ, zero, suc, _+_, _-_, _≤_, _<_}
+use Prim.Native.Nat.{ℕ, zero, suc, _+_, _-_, _≤_}
 use native.Mathlib.Omega.{arith}
 use lib.Dec.{eqb}
 use lib.ListN.{length, drop}
@@ -12,7 +12,7 @@ use Rattle.import_grammar.specs.Grammar.{ConstSum, kterm, kneg, kplus, VaryFact
 use Rattle.import_grammar.specs.Grammar.{plusKV, plusVK, plusVV, Sum, constant, varying, Atom, now, later, compare, group, digit-byte, blank-byte, index-byte}
 use Rattle.import_grammar.specs.Grammar.{four-byte, sign-byte, op-bytes, spaces-bytes, digits-bytes, kfactor-bytes, kterm-bytes, ksum-bytes, vfactor-bytes}
 use Rattle.import_grammar.specs.Grammar.{vterm-bytes, vsum-bytes, sum-bytes, atom-bytes}
-use Rattle.import_found.specs.Places.{Place, atom-at, result-at, lost, is-space, is-cond, after-colon, go, next-case, xor, find, Decided}
+use Rattle.import_found.specs.Places.{Place, result-at, lost, is-space, is-cond, after-colon, go, next-case, xor, find, Decided}
 use Rattle.import_found.specs.laws.Walks.{pass-spaces, pass-atom}
 use Rattle.import_list.specs.Pending.{size, Reading}
 

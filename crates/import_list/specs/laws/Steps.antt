@@ -2,12 +2,12 @@
 use mathlib.Core.Path.{_≡_, refl, sym, ap, _∙_, subst}
 use mathlib.Core.Bool.{Bool, true, false, not}
 use mathlib.Core.List.{List, [], _∷_, _++_, append-assoc}
-use Prim.Native.Nat.{ℕ, zero, suc, _+_, _-_, _*_, _≤_, _<_}
+use Prim.Native.Nat.{ℕ, _+_, _-_, _*_, _≤_, _<_}
 use native.Mathlib.Omega.{arith}
 use lib.ListN.{length, drop, length-drop}
 use Rattle.whole.specs.Cases.{if}
 use Rattle.theory.specs.Command.{Command}
-use Rattle.import_grammar.specs.Grammar.{Op, lt, le, gt, ge, Atom, now, later, compare, group, deepest}
+use Rattle.import_grammar.specs.Grammar.{lt, le, gt, ge, Atom, now, later, compare, group, deepest}
 use Rattle.import_model.specs.Commands.{compare-commands, atom-commands, result-command}
 use Rattle.import_found.specs.Places.{Place, atom-at, result-at, lost, find, xor, Decided, Emits, by-result, by-atom, TooDeep}
 use Rattle.import_found.specs.laws.Depth.{never-deep}

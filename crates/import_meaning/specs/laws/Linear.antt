@@ -1,17 +1,17 @@
 -- The linear of a sum has the sum's value at every state.
-use mathlib.Core.Path.{_≡_, refl, sym, ap, ap₂, _∙_}
+use mathlib.Core.Path.{_≡_, refl, ap, ap₂, _∙_}
 use mathlib.Core.List.{List, [], _∷_}
 use Prim.Native.Nat.{ℕ, zero, suc}
 use native.Mathlib.Omega.{arith}
-use lib.IntN.{ℤ, pos, negsuc, _+ℤ_, _-ℤ_, _*ℤ_, negℤ, *ℤ-comm}
+use lib.IntN.{ℤ, pos, negsuc, _+ℤ_, _*ℤ_, negℤ, *ℤ-comm}
 use lib.ListN.{getD}
 use Rattle.whole.specs.Int.{atom, diff, ring, minus-one}
-use Rattle.theory.specs.Diagram.{Linear, no-coeffs, zeros, addL, scaleL, _⊞_, _⊟_, _⊠_}
+use Rattle.theory.specs.Diagram.{Linear, no-coeffs, zeros, _⊞_, _⊟_, _⊠_}
 use Rattle.theory.specs.Meaning.{Env, dot, value}
 use Rattle.theory.specs.laws.Values.{value-add, value-sub, value-scale, value-constant}
 use Rattle.import_grammar.specs.Grammar.{Index, i1, i2, i3, i4, i5, i6, i7, i8, Sign, adds, takes, ConstFactor, number, kbracket, ConstTerm, kfactor, ktimes}
 use Rattle.import_grammar.specs.Grammar.{ConstSum, kterm, kneg, kplus, VaryFactor, level, vbracket, VaryTerm, vfactor, vscaled, vby, VarySum, vterm, vneg}
-use Rattle.import_grammar.specs.Grammar.{plusKV, plusVK, plusVV, Sum, constant, varying}
+use Rattle.import_grammar.specs.Grammar.{plusKV, plusVK, plusVV, constant, varying}
 use Rattle.import_numbers.specs.Numbers.{digits-value, constant-linear, level-coeffs, level-linear, joined, kfactor-linear, kterm-linear, ksum-linear, vfactor-linear, vterm-linear, vsum-linear, linear-of}
 use Rattle.import_meaning.specs.Sums.{by-sign, kfactor-value, kterm-value, ksum-value, level-num, vfactor-value, vterm-value, vsum-value, sum-value, LinearMeans}
 

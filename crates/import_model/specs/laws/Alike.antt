@@ -1,9 +1,8 @@
 -- Two processes that agree on their actions have the same optimum, the same lowest best actions, and the same totals of policies.
-use mathlib.Core.Path.{_≡_, refl, sym, ap, ap₂, _∙_, subst}
+use mathlib.Core.Path.{_≡_, refl, ap, ap₂, _∙_}
 use mathlib.Core.List.{List, [], _∷_, List·Memᴰ, List·Memᴰ·head, List·Memᴰ·tail}
 use mathlib.Core.Bool.{Bool}
 use Prim.Native.Nat.{ℕ, zero, suc}
-use lib.IntN.{ℤ}
 use Rattle.whole.specs.Cases.{if, by-test}
 use Rattle.theory.specs.Total.{Total, num, leT, _⊕_, maxT, mean, greatest-from, first-best}
 use Rattle.theory.specs.Process.{Process, Action, total, optimum, lowest-best, Policy, expected}

@@ -1,13 +1,13 @@
 -- The operands of a text's commands fit their bytes, where no number of it is beyond 32 bits.
 use mathlib.Core.Path.{_≡_, refl, ap}
-use mathlib.Core.Bool.{Bool, true, false, not, _&&_}
+use mathlib.Core.Bool.{not}
 use mathlib.Core.List.{List, [], _∷_, _++_}
 use Prim.Native.Nat.{ℕ, zero, suc, _<_}
 use native.Mathlib.Omega.{arith}
 use lib.Dec.{T, ltb, nltb→le}
 use lib.IntN.{ℤ, pos, negsuc}
 use lib.ListN.{length}
-use Rattle.whole.specs.Cases.{if, by-test, both, and-in, not-not}
+use Rattle.whole.specs.Cases.{if, by-test, both, and-in}
 use Rattle.theory.specs.Plain.{in-32-bits}
 use Rattle.theory.specs.Diagram.{Linear, no-coeffs, addL, scaleL, _⊞_, _⊟_, _⊠_}
 use Rattle.theory.specs.Command.{Command}
@@ -15,11 +15,11 @@ use Rattle.import_grammar.specs.Grammar.{Digits, Index, i1, i2, i3, i4, i5, i6,
 use Rattle.import_grammar.specs.Grammar.{ConstTerm, kfactor, ktimes, ConstSum, kterm, kneg, kplus, VaryFactor, level, vbracket, VaryTerm, vfactor, vscaled}
 use Rattle.import_grammar.specs.Grammar.{vby, VarySum, vterm, vneg, plusKV, plusVK, plusVV, Sum, constant, varying, Nots, unsaid, bang, Atom, now, later}
 use Rattle.import_grammar.specs.Grammar.{compare, group, Not, negated, And, alone, both as both-of, Or, single, either, Result, worth, forbids, Items, head}
-use Rattle.import_grammar.specs.Grammar.{closed, named, Opening, reward, chance, next, end, Before, start, case, Text, entire}
-use Rattle.import_numbers.specs.Numbers.{digits-value, constant-linear, level-linear, joined, minus, nine, kfactor-linear, kterm-linear, ksum-linear}
+use Rattle.import_grammar.specs.Grammar.{closed, named, Opening, reward, chance, next, end, Before, start, case}
+use Rattle.import_numbers.specs.Numbers.{digits-value, constant-linear, level-linear, joined, nine, kfactor-linear, kterm-linear, ksum-linear}
 use Rattle.import_numbers.specs.Numbers.{vfactor-linear, vterm-linear, vsum-linear, linear-of, difference, kfactor-numbers, kterm-numbers, ksum-numbers}
 use Rattle.import_numbers.specs.Numbers.{vfactor-numbers, vterm-numbers, vsum-numbers, sum-numbers, atom-numbers, not-numbers, and-numbers, or-numbers}
-use Rattle.import_numbers.specs.Numbers.{result-numbers, items-numbers, opening-numbers, before-numbers, numbers, all-within, beyond}
+use Rattle.import_numbers.specs.Numbers.{result-numbers, items-numbers, opening-numbers, before-numbers, all-within, beyond}
 use Rattle.import_model.specs.Commands.{at-most, action-most, action-of, setting-of, compare-commands, nots-commands, atom-commands, not-commands}
 use Rattle.import_model.specs.Commands.{and-commands, or-commands, result-command, letters, filled, items-commands, opening-commands, before-commands}
 use Rattle.import_model.specs.laws.Decode.{Eight, eight, LinearFits, fits-reward, fits-chance, fits-level, fits-end, OperandsFit, AllFit, none-left, fits-and}

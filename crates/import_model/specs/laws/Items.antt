@@ -1,24 +1,21 @@
 -- The commands of a text load one diagram for each item, which comes to what the item means.
-use mathlib.Core.Path.{_≡_, refl, sym, ap, _∙_, subst}
-use mathlib.Core.Bool.{Bool, true, false, not, _&&_}
+use mathlib.Core.Path.{_≡_, refl, sym, ap, _∙_}
+use mathlib.Core.Bool.{not}
 use mathlib.Core.List.{List, [], _∷_, _++_, append-assoc}
 use Prim.Native.Nat.{ℕ, _<_}
-use native.Mathlib.Omega.{arith}
-use lib.Dec.{eqb, ltb, ltb→lt, eqb→eq, eqb-refl}
-use lib.IntN.{pos}
-use Rattle.whole.specs.Cases.{if, by-test, same-bool}
-use Rattle.theory.specs.Diagram.{Linear, Leaf, lin-of, Tree, leaf, plain, zero-linear}
-use Rattle.theory.specs.Computation.{ret, result}
-use Rattle.theory.specs.Rules.{zero-leaf}
-use Rattle.theory.specs.Command.{Command, site, give, Slot, name-action, end-model}
-use Rattle.theory.specs.Verdict.{same-slot, end-slot, reward-slot, chance-slot, level-slot}
-use Rattle.theory.specs.Load.{Entry, Loaded, load-entry, load-one, load-one-with, find-slot, found}
-use Rattle.theory.specs.Meaning.{Env, value, at, level-at, end-at}
+use lib.Dec.{ltb}
+use Rattle.whole.specs.Cases.{if}
+use Rattle.theory.specs.Diagram.{Leaf, Tree}
+use Rattle.theory.specs.Computation.{result}
+use Rattle.theory.specs.Command.{Command, give, Slot, end-model}
+use Rattle.theory.specs.Verdict.{end-slot, reward-slot, chance-slot, level-slot}
+use Rattle.theory.specs.Load.{Entry, Loaded, load-entry, load-one, load-one-with}
+use Rattle.theory.specs.Meaning.{Env, value, at}
 use Rattle.theory.specs.laws.Values.{if-ap}
 use Rattle.import_grammar.specs.Grammar.{Or, Result, Items, head, closed, named, Opening, reward, chance, next, end, Before, start, case, Text, entire}
 use Rattle.import_numbers.specs.Numbers.{digits-value}
-use Rattle.import_model.specs.Commands.{condition-of, level-of, at-most, action-most, action-of, or-commands, result-command, items-commands, opening-commands, before-commands, text-commands}
-use Rattle.import_model.specs.Meaning.{or-holds, counting, leaf-of, Item, opening-slot, before-slot, items-of, items-opening, items-before, text-items, item-leaf, leaf-at, end-worth}
+use Rattle.import_model.specs.Commands.{condition-of, level-of, at-most, action-most, or-commands, result-command, items-commands, opening-commands, before-commands, text-commands}
+use Rattle.import_model.specs.Meaning.{or-holds, counting, leaf-of, Item, opening-slot, before-slot, items-of, items-opening, items-before, text-items, item-leaf}
 use Rattle.import_model.specs.laws.Follows.{load-all, loaded, Gives, or-gives, result-gives}
 
 -- a slot as it is written into the model

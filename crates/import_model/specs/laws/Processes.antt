@@ -1,22 +1,22 @@
 -- The process of the model that a text's commands load is the text's process.
 use mathlib.Core.Path.{_≡_, refl, sym, ap, ap₂, _∙_, subst}
-use mathlib.Core.Bool.{Bool, true, false, not, _&&_}
+use mathlib.Core.Bool.{Bool, not, _&&_}
 use mathlib.Core.Logic.{⊎-elim}
 use mathlib.Core.List.{List, [], _∷_, map, List·Memᴰ, List·Memᴰ·head, List·Memᴰ·tail, List·Memᴰ·cases-cons, List·Memᴰ·not-nil}
 use Prim.Native.Nat.{ℕ, zero, suc, _+_, _-_, _*_, _^_, _≤_, _<_}
 use native.Mathlib.Omega.{arith}
 use lib.Dec.{T, eqb, ltb, ltb→lt, eqb→eq}
-use lib.IntN.{ℤ, pos}
+use lib.IntN.{ℤ}
 use Rattle.whole.specs.Cases.{if, by-test, same-bool}
 use Rattle.whole.specs.Int.{up}
-use Rattle.theory.specs.Diagram.{Leaf, lin-of, Tree, leaf}
+use Rattle.theory.specs.Diagram.{Leaf, lin-of}
 use Rattle.theory.specs.Rules.{zero-leaf}
 use Rattle.theory.specs.Command.{Slot}
 use Rattle.theory.specs.Verdict.{Site, same-slot, reward-slot, chance-slot, level-slot, end-slot, from-to}
 use Rattle.theory.specs.Load.{Entry, find-slot, found, action-of, model-of}
-use Rattle.theory.specs.Process.{Process, Action}
+use Rattle.theory.specs.Process.{Action}
 use Rattle.theory.specs.Total.{weigh}
-use Rattle.theory.specs.Meaning.{Action as ModelAction, Model, nth-action, action-at, numbers-from, State, Env, env, value, at, leaf-worth, worth-at, level-at, end-at, chance-at, weight, moved, process}
+use Rattle.theory.specs.Meaning.{Action as ModelAction, Model, nth-action, action-at, numbers-from, Env, env, value, at, leaf-worth, worth-at, level-at, end-at, chance-at, weight, moved, process}
 use Rattle.theory.specs.laws.Valid.{other-above}
 use Rattle.import_model.specs.Commands.{at-most, action-most}
 use Rattle.import_model.specs.Meaning.{Item, item-leaf, leaf-at, end-worth, process-of}

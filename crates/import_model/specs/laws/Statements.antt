@@ -1,6 +1,6 @@
 -- Proofs of the statements, of what the call returns.
-use mathlib.Core.Path.{_≡_, refl, sym, ap, ap₂, _∙_, subst}
-use mathlib.Core.Bool.{Bool, true, false, not}
+use mathlib.Core.Path.{_≡_, refl, sym, ap, _∙_, subst}
+use mathlib.Core.Bool.{not}
 use mathlib.Core.List.{List, [], _∷_, _++_, map, append-nil}
 use Prim.Native.Nat.{ℕ, _+_, _≤_, _<_}
 use native.Mathlib.Omega.{arith}
@@ -10,7 +10,7 @@ use lib.Seq.{take-append-seam}
 use Rattle.whole.specs.Cases.{if, by-test, not-not}
 use Rattle.theory.specs.Widths.{levels-most, conditions-most, actions-most, weights-most}
 use Rattle.theory.specs.Form.{new-form}
-use Rattle.theory.specs.Computation.{bind, ret, result}
+use Rattle.theory.specs.Computation.{result}
 use Rattle.theory.specs.Command.{Command, site, Placed, bytes-at, readings}
 use Rattle.theory.specs.Verdict.{Site, site-of, Verdict, at-start, judged-in, verdict, verdict-in}
 use Rattle.theory.specs.Valid.{among}
@@ -24,16 +24,16 @@ use Rattle.theory.specs.laws.Valid.{among-out}
 use Rattle.theory.specs.laws.Rows.{verdict-is-in}
 use Rattle.theory.specs.laws.AcceptedModel.{In-range, accepted, loaded-entries, model-loaded}
 use Rattle.convert_model.specs.Statements.{AdmittedIn, bytes-of}
-use Rattle.import_grammar.specs.Grammar.{Digits, Text, entire, text-bytes, Items, head, closed, named, Opening, reward, chance, next, end, Before, start, case}
+use Rattle.import_grammar.specs.Grammar.{Text, entire, text-bytes, Items, head, closed, named, Opening, reward, chance, next, end, Before, start, case}
 use Rattle.import_grammar.specs.laws.Reads.{one-reading}
-use Rattle.import_numbers.specs.Numbers.{digits-value, numbers, all-within, beyond}
+use Rattle.import_numbers.specs.Numbers.{numbers, all-within, beyond}
 use Rattle.import_model.specs.Commands.{at-most, byte-most, action-most, items-commands, opening-commands, before-commands, text-commands}
 use Rattle.import_model.specs.Encode.{low-first, encode, command-bytes, placed}
 use Rattle.import_model.specs.Import.{model-bytes, filled-with, import-text}
-use Rattle.import_model.specs.Statements.{ReadAs, NumbersFit, ImportRow, import-0, import-10, import-24, import-25, import-10-model, import-1-8, import-17, Follows, ModelFollows}
+use Rattle.import_model.specs.Statements.{ImportRow, import-0, import-10, import-24, import-25, import-10-model, import-1-8, import-17, Follows, ModelFollows}
 use Rattle.import_model.specs.Meaning.{text-items, text-site, items-site, opening-site, before-site, process-of, text-process}
 use Rattle.import_model.specs.laws.Follows.{load-all, loaded}
-use Rattle.import_model.specs.laws.Items.{Entered, Loads, text-loads}
+use Rattle.import_model.specs.laws.Items.{Entered, text-loads}
 use Rattle.import_model.specs.laws.Decode.{two-back, readings-placed, AllFit, fits-and, with-end}
 use Rattle.import_model.specs.laws.Fits.{items-fit}
 use Rattle.import_model.specs.laws.Alike.{Alike, optimum-as, lowest-best-as, expected-as}

@@ -1,16 +1,14 @@
 -- The walk reads an item's opening, and finds its end.
-use mathlib.Core.Path.{_≡_, refl, sym, ap, ap₂, _∙_, subst}
-use mathlib.Core.Bool.{Bool, true, false, not}
-use mathlib.Core.List.{List, [], _∷_}
-use Prim.Native.Nat.{ℕ, zero, suc, _+_, _*_, _-_}
-use lib.Dec.{eqb}
-use lib.ListN.{length, drop, getD}
-use Rattle.whole.specs.Cases.{if}
+use mathlib.Core.Path.{_≡_, refl, ap, ap₂, _∙_}
+use mathlib.Core.Bool.{false}
+use mathlib.Core.List.{List, _∷_}
+use Prim.Native.Nat.{ℕ, _-_}
+use lib.ListN.{getD}
 use Rattle.theory.specs.Command.{Slot}
 use Rattle.theory.specs.Verdict.{name-slot}
-use Rattle.import_grammar.specs.Grammar.{Spaces, none, more, Blank, blank-byte, Digits, Index, i1, i2, i3, i4, i5, i6, i7, i8, Four, f1, f2, f3, f4, Op, lt}
+use Rattle.import_grammar.specs.Grammar.{Spaces, none, Digits, Index, i1, i2, i3, i4, i5, i6, i7, i8, Four, f1, f2, f3, f4, Op, lt}
 use Rattle.import_grammar.specs.Grammar.{le, gt, ge, Sum, Nots, unsaid, bang, Atom, now, later, compare, group, Not, negated, And, alone, both, Or, single}
-use Rattle.import_grammar.specs.Grammar.{either, Result, worth, forbids, Chars, Items, Opening, reward, chance, next, end, Before, start, case, deepest}
+use Rattle.import_grammar.specs.Grammar.{either, Result, worth, forbids, Chars, Opening, reward, chance, next, end, Before, start, case}
 use Rattle.import_grammar.specs.Grammar.{index-byte, four-byte, op-bytes, spaces-bytes, digits-bytes, sum-bytes, nots-bytes, atom-bytes, not-bytes, and-bytes}
 use Rattle.import_grammar.specs.Grammar.{or-bytes, result-bytes}
 use Rattle.import_model.specs.Commands.{action-most, action-of, condition-of, level-of}
@@ -18,7 +16,7 @@ use Rattle.import_found.specs.laws.Passing.{SumByte, s9, s10, s13, s32, s42, s4
 use Rattle.import_found.specs.laws.Found.{cases-bytes}
 use Rattle.import_parts.specs.Parts.{opened-bytes, else-bytes, string-bytes, named-bytes, slot-of}
 use Rattle.import_parts.specs.Walk.{past, is-letter, begins, inside-after, next-letter, item-rest, goes-on, number-value, number-rest, kind-in, word-of, action-rest, action-in, index-in, opening-rest, slot-in}
-use Rattle.import_parts.specs.laws.Meets.{past-spaces, past-equals, colon-spaces, rest-spaces, number-read, number-left, Ends, ends-spaced}
+use Rattle.import_parts.specs.laws.Meets.{past-equals, colon-spaces, rest-spaces, number-read, number-left, Ends, ends-spaced}
 
 -- ---- behind an action
 

@@ -1,30 +1,22 @@
 -- The walk reads numbers, and the four of the site.
-use mathlib.Core.Path.{_≡_, refl, sym, ap, ap₂, _∙_, subst}
-use mathlib.Core.Bool.{Bool, true, false, not}
-use mathlib.Core.List.{List, [], _∷_, _++_, append-assoc}
-use Prim.Native.Nat.{ℕ, zero, suc, _+_, _*_, _-_, _≤_, _<_}
+use mathlib.Core.Path.{_≡_, refl, sym, ap, _∙_, subst}
+use mathlib.Core.Bool.{Bool}
+use mathlib.Core.List.{List, _∷_}
+use Prim.Native.Nat.{ℕ, _+_, _*_, _-_, _≤_}
 use native.Mathlib.Omega.{arith}
-use lib.Dec.{T, eqb, ltb, ltb→lt, nltb→le}
-use lib.ListN.{length, drop, getD}
+use lib.Dec.{T, ltb, ltb→lt, nltb→le}
 use Rattle.whole.specs.Cases.{if, by-test, by-eq}
-use Rattle.theory.specs.Widths.{name-bytes}
-use Rattle.theory.specs.Command.{Slot}
-use Rattle.theory.specs.Verdict.{name-slot}
-use Rattle.import_grammar.specs.Grammar.{Spaces, Digit, d0, d1, d2, d3, d4, d5, d6, d7, d8, d9, Digits, one, also, Index, i1, i2, i3, i4, i5, i6, i7, i8, Four}
-use Rattle.import_grammar.specs.Grammar.{f1, f2, f3, f4, Op, lt, le, gt, ge, Sum, Nots, unsaid, bang, Atom, now, later, compare, group, Not, negated, And}
-use Rattle.import_grammar.specs.Grammar.{alone, both, Or, single, either, Result, worth, forbids, Setting, setting, Char, Chars, empty, char, quote, is-plain}
-use Rattle.import_grammar.specs.Grammar.{Opening, reward, chance, next, end, Before, start, case, digit-byte, index-byte, four-byte, op-bytes, spaces-bytes}
-use Rattle.import_grammar.specs.Grammar.{digits-bytes, sum-bytes, nots-bytes, atom-bytes, not-bytes, and-bytes, or-bytes, result-bytes, setting-bytes}
-use Rattle.import_grammar.specs.Grammar.{chars-bytes}
-use Rattle.import_grammar.specs.Reader.{is-digit, is-blank}
+use Rattle.import_grammar.specs.Grammar.{Spaces, Digit, d0, d1, d2, d3, d4, d5, d6, d7, d8, d9, Digits, one, also}
+use Rattle.import_grammar.specs.Grammar.{f1, f2, f3}
+use Rattle.import_grammar.specs.Grammar.{Setting, setting}
+use Rattle.import_grammar.specs.Grammar.{digit-byte, spaces-bytes}
+use Rattle.import_grammar.specs.Grammar.{digits-bytes, setting-bytes}
 use Rattle.import_numbers.specs.Numbers.{digit-value, digits-value}
-use Rattle.import_model.specs.Commands.{at-most, byte-most, action-most, byte-of, action-of, setting-of, condition-of, level-of, letters, filled}
-use Rattle.import_found.specs.laws.Passing.{SumByte, s9, s10, s13, s32, s42, s43, s45, s48, s49, s50, s51, s52, s53, s54, s55, s56, s57, s76, over-blanks, over-sum}
-use Rattle.import_found.specs.laws.Found.{opening-of, cases-bytes}
-use Rattle.import_parts.specs.Parts.{Site, site-with, Part, item, name, site-bytes, opened-bytes, else-bytes, string-bytes, named-bytes, part-gap, part-bare, part-bytes, parts-bytes, slot-of, from-letter}
-use Rattle.import_parts.specs.Walk.{past, is-letter, begins, inside-after, next-letter, item-rest, goes-on, grown, number-value, number-rest}
-use Rattle.import_parts.specs.Walk.{setting-value, setting-rest, kind-in, word-of, action-rest, action-in, index-in, opening-rest, slot-in, spelled}
-use Rattle.import_parts.specs.Walk.{string-rest, name-byte, name-rest}
+use Rattle.import_model.specs.Commands.{at-most, byte-most, action-most, byte-of, action-of, setting-of}
+use Rattle.import_found.specs.laws.Passing.{over-blanks}
+use Rattle.import_parts.specs.Parts.{site-with, site-bytes}
+use Rattle.import_parts.specs.Walk.{past, goes-on, grown, number-value, number-rest}
+use Rattle.import_parts.specs.Walk.{setting-value, setting-rest}
 
 -- ---- behind "=" and ":"
 

@@ -8,7 +8,7 @@ use lib.Dec.{T, eqb, leb}
 use lib.ListN.{drop, getD}
 use Rattle.whole.specs.Cases.{if, by-eq}
 use Rattle.theory.specs.Widths.{name-bytes}
-use Rattle.import_grammar.specs.Grammar.{Blank, blank, tab, newline, return, Spaces, none, more, Char, Chars, empty, char, quote, is-plain, blank-byte, spaces-bytes, chars-bytes}
+use Rattle.import_grammar.specs.Grammar.{Blank, blank, tab, newline, return, Spaces, none, more, Chars, empty, char, quote, is-plain, blank-byte, spaces-bytes, chars-bytes}
 use Rattle.import_model.specs.Commands.{letters, filled}
 use Rattle.import_parts.specs.Parts.{string-bytes}
 use Rattle.import_parts.specs.Walk.{next-letter, spells, spelled, behind-string, quoted-after, string-rest, name-byte, name-rest}

@@ -3,12 +3,12 @@ use mathlib.Core.Path.{_≡_, refl, sym, ap, _∙_}
 use mathlib.Core.List.{List, [], _∷_, _++_, append-assoc}
 use Prim.Native.Nat.{ℕ}
 use Rattle.theory.specs.Command.{Command, give, end-model}
-use Rattle.import_grammar.specs.Grammar.{Spaces, Result, Items, head, closed, named, Opening, reward, chance, next, end, Before, start, case, Text, entire, spaces-bytes, or-bytes, result-bytes, items-bytes, opening-bytes, before-bytes, text-bytes}
+use Rattle.import_grammar.specs.Grammar.{Spaces, Items, head, closed, named, Opening, reward, chance, next, end, Before, start, case, Text, entire, spaces-bytes, or-bytes, result-bytes, items-bytes, opening-bytes, before-bytes, text-bytes}
 use Rattle.import_model.specs.Commands.{or-commands, result-command, items-commands, opening-commands, before-commands, text-commands}
 use Rattle.import_found.specs.laws.Found.{opening-of, cases-bytes, cases-commands}
 use Rattle.import_parts.specs.Parts.{Site, Part, item, name, site-of, opening-site, before-site, parts, opening-parts, before-parts, site-bytes, gap}
-use Rattle.import_parts.specs.Parts.{opened-bytes, else-bytes, string-bytes, named-bytes, part-gap, part-bare, part-bytes, parts-bytes, site-command}
-use Rattle.import_parts.specs.Parts.{slot-of, part-commands, parts-commands, from-letter}
+use Rattle.import_parts.specs.Parts.{opened-bytes, else-bytes, string-bytes, named-bytes, part-gap, part-bare, parts-bytes, site-command}
+use Rattle.import_parts.specs.Parts.{slot-of, part-commands, parts-commands}
 
 mutual
   unfolding site-of parts site-bytes gap opened-bytes else-bytes string-bytes named-bytes part-gap part-bare parts-bytes before-bytes opening-of cases-bytes

@@ -1,6 +1,6 @@
 -- Each item stands where the one before ends: one step of a walk over a text.
 use mathlib.Core.Path.{_≡_, refl, sym, ap, _∙_, subst}
-use mathlib.Core.Bool.{Bool, true, false}
+use mathlib.Core.Bool.{true, false}
 use mathlib.Core.List.{List, [], _∷_, _++_, append-assoc}
 use Prim.Native.Nat.{ℕ, zero, suc, _≤_, _<_}
 use native.Mathlib.Omega.{arith}
@@ -8,12 +8,12 @@ use lib.ListN.{length, drop, getD, drop-of-length-le}
 use Rattle.theory.specs.Widths.{name-bytes}
 use Rattle.theory.specs.Command.{Command, end-model}
 use Rattle.theory.specs.Verdict.{name-slot}
-use Rattle.import_grammar.specs.Grammar.{Spaces, none, Digits, Result, Setting, Chars, Items, Opening, reward, chance, next, end, Before, start, case, Text, entire, text-bytes, spaces-bytes, result-bytes}
+use Rattle.import_grammar.specs.Grammar.{Spaces, none, Digits, Result, Setting, Chars, Opening, reward, chance, next, end, Before, Text, text-bytes, spaces-bytes}
 use Rattle.import_model.specs.Commands.{byte-of, action-of, setting-of, letters, filled, result-command, text-commands}
 use Rattle.import_found.specs.Places.{Emits, go, AfterResult, ends-text, reward-next, chance-next, name-next, end-next}
 use Rattle.import_numbers.specs.Numbers.{all-within, result-numbers}
 use Rattle.import_found.specs.laws.Found.{opening-of, cases-bytes, cases-commands, cases-numbers, item-out}
-use Rattle.import_parts.specs.Parts.{Site, site-with, Part, item, name, site-bytes, site-command, gap, opened-bytes, else-bytes, string-bytes}
+use Rattle.import_parts.specs.Parts.{Site, site-with, Part, item, name, site-bytes, site-command, opened-bytes, else-bytes, string-bytes}
 use Rattle.import_parts.specs.Parts.{named-bytes, part-gap, part-bare, parts-bytes, slot-of, part-commands, parts-commands, from-letter, Walked}
 use Rattle.import_parts.specs.Walk.{Stands, next-letter, begins, is-letter, inside-after, item-rest, goes-on, number-value, number-rest, kind-in}
 use Rattle.import_parts.specs.Walk.{slot-in, opening-rest, spells, spelled, behind-string, quoted-after, string-rest, name-byte, name-rest, setting-rest}

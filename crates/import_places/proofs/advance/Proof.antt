@@ -1,6 +1,6 @@
 -- `import_places::advance` meets its contract: the cases of `step-of`: brackets change the depth, and other bytes count at depth 0 alone.
 use Rattle.import_places.specs.Walking.{step-of}
-use borrow.Author.Tests.{ne-eqb, eq-eqb, le-leb, lt-leb, lt-ltb, le-ltb, not-true, not-false}
+use borrow.Author.Tests.{ne-eqb, eq-eqb}
 use borrow.Author.Needs.{needs}
 use Rattle.import_places.proofs.advance.Statement.{statement}
 use Rattle.import_places.proofs.advance.Tie as tie

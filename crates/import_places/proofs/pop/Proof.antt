@@ -1,5 +1,5 @@
 use Rattle.import_places.specs.Walking.{popped}
-use borrow.Author.Tests.{ne-eqb, eq-eqb, le-leb, lt-leb, lt-ltb, le-ltb, not-true, not-false}
+use borrow.Author.Tests.{ne-eqb, eq-eqb}
 use borrow.Author.Needs.{needs}
 use Rattle.import_places.proofs.pop.Statement.{statement}
 use Rattle.import_places.proofs.pop.Tie as tie

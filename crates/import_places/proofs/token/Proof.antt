@@ -1,7 +1,7 @@
 -- `import_places::token` meets its contract: the cases of `token-of` by byte, and by the value so far.
 use Rattle.import_places.proofs.Steps.{token-bar}
 use Rattle.import_places.specs.Walking.{token-of}
-use borrow.Author.Tests.{ne-eqb, eq-eqb, le-leb, lt-leb, lt-ltb, le-ltb, not-true, not-false}
+use borrow.Author.Tests.{ne-eqb, eq-eqb}
 use Rattle.import_places.proofs.token.Statement.{statement}
 use Rattle.import_places.proofs.token.Tie as tie
 use Rattle.import_places.proofs.token.Reads as reads

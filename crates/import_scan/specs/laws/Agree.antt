@@ -6,10 +6,10 @@ use native.Mathlib.Numerals.{add-one}
 use native.Mathlib.Omega.{arith}
 use lib.Dec.{eqb, ltb}
 use borrow.Author.Tests.{lt-ltb, le-ltb, ne-eqb, eqb-true}
-use Rattle.import_grammar.specs.Grammar.{if, Spaces, none, more, Digit, Digits, one, Four, Index, i1, i2, i3, i4, i5, i6, i7, i8, Sign, adds, takes}
-use Rattle.import_grammar.specs.Grammar.{ConstFactor, number, kbracket, ConstTerm, kfactor, ktimes, ConstSum, VaryFactor, level, vbracket, VaryTerm, vfactor}
-use Rattle.import_grammar.specs.Grammar.{vscaled, vby, VarySum, constant, varying, unsaid, bang, Atom, compare, Result, worth, forbids, Items, Before, Chars}
-use Rattle.import_grammar.specs.Grammar.{is-plain, named, lt, gt}
+use Rattle.import_grammar.specs.Grammar.{if, Spaces, none, more, Digit, Digits, one, i1, i2, i3, i4, i5, i6, i7, i8, Sign, adds, takes}
+use Rattle.import_grammar.specs.Grammar.{ConstFactor, number, kbracket, ConstTerm, kfactor, ktimes, ConstSum, VaryFactor, level, VaryTerm, vfactor}
+use Rattle.import_grammar.specs.Grammar.{vscaled, vby, constant, varying, unsaid, bang, Atom, Result, forbids, Items, Chars}
+use Rattle.import_grammar.specs.Grammar.{is-plain, lt, gt}
 use Rattle.import_grammar.specs.Grammar.{Sum as GSum}
 use Rattle.import_grammar.specs.Reader.{ConstPre, kopens, knegs, kmore, SumPre, kpre, vmore, ConstTermPre, first, timesK, TermPre, free, timesV, Term, kt, vt}
 use Rattle.import_grammar.specs.Reader.{no-or, some-or, no-and, some-and, Level, lv, CondCtx, base, inside, ResultCtx, of-case, of-else, Head, q0, q1, q2, q3}
@@ -18,18 +18,18 @@ use Rattle.import_grammar.specs.Reader.{State as Standing, cond, factor, after,
 use Rattle.import_grammar.specs.Reader.{Middle, letterC, letterL, reward1, reward2, reward3, reward4, reward5, chance1, chance2, chance3, chance4, chance5}
 use Rattle.import_grammar.specs.Reader.{end1, end2, n1, next2, next3, name2, name3, site1, site2, site3, forb1, forb2, forb3, forb4, forb5, forb6, forb7}
 use Rattle.import_grammar.specs.Reader.{forb8, letterN, chanceN, nextL, inside-name, el1, el2, el3, Machine, at, mid, dead}
-use Rattle.import_grammar.specs.Reader.{bare, opens, sum-of, ksum-of, vsum-of, more-of, ktimes-of, vtimes-of, times-const, times-of, bracketed, whole, anded}
-use Rattle.import_grammar.specs.Reader.{ored, banged, is-digit, digit-of, is-blank, blank-of, longer, go-on, extended, cextended, closeLeft, closeCond, colon}
-use Rattle.import_grammar.specs.Reader.{elseHere, openCond, openSum, openBehind, openConst, joined, itemHere, resulted, letterHere, head-letter, settled}
+use Rattle.import_grammar.specs.Reader.{bare, opens, sum-of, ksum-of, more-of, ktimes-of, vtimes-of, times-const, times-of, bracketed, anded}
+use Rattle.import_grammar.specs.Reader.{ored, banged, is-digit, digit-of, is-blank, blank-of, extended, cextended, closeLeft, closeCond, colon}
+use Rattle.import_grammar.specs.Reader.{elseHere, openCond, openSum, openBehind, openConst, joined, itemHere, resulted, letterHere, settled}
 use Rattle.import_grammar.specs.Reader.{hextended, iextended, by-kind, quoteHere, with-plain, charHere, ending, closeConst, minusHere, cminusHere, coreHere}
 use Rattle.import_grammar.specs.Reader.{factorHere, equalsHere, equalsAbove, step-on, step-mid, step}
 use Rattle.import_grammar.specs.Reader.{Reading, read, unfinished, finish}
 use Rattle.import_grammar.specs.laws.Viable.{alive}
 use Rattle.import_grammar.specs.laws.Case.{by-eq}
 use Rattle.import_state.specs.declared.Side.{Side}
-use Rattle.import_state.specs.declared.Side.the-variants.{Left, Right, Case, Last}
+use Rattle.import_state.specs.declared.Side.the-variants.{Left, Right, Case}
 use Rattle.import_state.specs.declared.Sum.{Sum}
-use Rattle.import_state.specs.declared.Place.the-variants.{Set, Given, Opener, Quoted, Factor, After, Compared, Held, Forbade}
+use Rattle.import_state.specs.declared.Place.the-variants.{Set, Given, Factor, After, Held}
 use Rattle.import_state.specs.declared.Place.the-variants.{Atom as AtomAt, Result as ResultAt}
 use Rattle.import_state.specs.declared.Token.the-variants as tokens
 use Rattle.import_state.specs.declared.State.{State}
@@ -43,8 +43,8 @@ use Rattle.import_items.specs.Items.{setting-letter, on-site, on-set, opened, o
 use Rattle.import_items.specs.Items.{settled as settled-on}
 use Rattle.import_step.specs.Steps.{spaced, only, on-place, on-token, next, is-over, last-side, last-setting, after-ends, place-ends, is-finished}
 use Rattle.import_scan.specs.Shown.{cond-room, room-of, const-room, chars-room, hards, may-else, result-side, side-of, hard-of, top-of, level-of}
-use Rattle.import_scan.specs.Shown.{level-before, sum-at, factor-sum, after-sum, const-side, const-hard, const-top, const-level, const-sum, const-opens}
-use Rattle.import_scan.specs.Shown.{const-starts, sum-opens, starts, is-number, const-ends, ends-number, none-yet, both-true, setting-of, item-of}
+use Rattle.import_scan.specs.Shown.{level-before, sum-at, factor-sum, after-sum, const-side, const-hard, const-top, const-level, const-sum}
+use Rattle.import_scan.specs.Shown.{const-starts, starts, is-number, const-ends, ends-number, none-yet, both-true, setting-of, item-of}
 use Rattle.import_scan.specs.Shown.{place-of, token-of, shown}
 
 -- ---- facts of the numbers

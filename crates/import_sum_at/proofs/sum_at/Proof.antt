@@ -1,5 +1,5 @@
 -- `import_sum_at::sum_at` meets its contract: the frame is over, or its last number is, or the total's numbers decide; closing keeps the frame sound, as `total` requires.
-use mathlib.Core.Path.{_≡_, refl, sym, ap, _∙_, subst}
+use mathlib.Core.Path.{sym, subst}
 use Rattle.import_frames.specs.Frames.{Sound}
 use Rattle.import_frames.specs.Kept as kept
 use Rattle.import_sum_at.proofs.Laws.{frame-over, number-over, all-fits, some-out}

@@ -1,13 +1,6 @@
 -- `import_sums::closing` meets its contract: the inner frame is over, or ")" follows and pops it, or another byte or the text's end makes it over; each continues the outer run.
-use mathlib.Core.Path.{_≡_, refl, sym, ap, _∙_, subst}
-use mathlib.Core.Bool.{Bool}
-use mathlib.Core.List.{List}
-use native.Mathlib.Omega.{arith}
-use lib.ListN.{length}
 use Rattle.import_frames.specs.Frames as f
-use Rattle.import_frames.proofs.Laws.{yes, no, hit, miss}
-use Rattle.import_sums.specs.Walks.{Reaches}
-use Rattle.import_sums.proofs.Laws.{begins, at-over, at-end, at-stop, goes-on, too-deep, comes-back, closes-over, closes-end, closes-odd, closes-well}
+use Rattle.import_sums.proofs.Laws.{closes-over, closes-end, closes-odd, closes-well}
 use borrow.Author.Needs.{needs}
 use Rattle.import_sums.proofs.closing.Statement.{statement}
 use Rattle.import_sums.proofs.closing.Tie as tie

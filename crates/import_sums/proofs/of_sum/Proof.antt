@@ -1,13 +1,7 @@
 -- `import_sums::of_sum` meets its contract: the cases of `of-sum` by byte, in the code's order.
-use mathlib.Core.Path.{_≡_, refl, sym, ap, _∙_, subst}
-use mathlib.Core.Bool.{Bool}
-use mathlib.Core.List.{List}
-use native.Mathlib.Omega.{arith}
-use lib.ListN.{length}
+use mathlib.Core.Path.{refl}
 use Rattle.import_frames.specs.Frames as f
 use Rattle.import_frames.proofs.Laws.{yes, no, hit, miss}
-use Rattle.import_sums.specs.Walks.{Reaches}
-use Rattle.import_sums.proofs.Laws.{begins, at-over, at-end, at-stop, goes-on, too-deep, comes-back, closes-over, closes-end, closes-odd, closes-well}
 use borrow.Author.Needs.{needs}
 use Rattle.import_sums.proofs.of_sum.Statement.{statement}
 use Rattle.import_sums.proofs.of_sum.Tie as tie

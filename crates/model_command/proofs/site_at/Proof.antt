@@ -1,5 +1,4 @@
 -- `model_command::site_at` meets its contract.
-use native.Mathlib.Omega.{arith}
 use Rattle.model_command.specs.CursorReadings.{command-of-in}
 use borrow.Author.Needs.{needs}
 use Rattle.model_command.proofs.site_at.Statement.{statement}

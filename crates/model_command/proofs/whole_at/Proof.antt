@@ -1,6 +1,5 @@
 -- `model_command::whole_at` meets its contract.
 use mathlib.Core.Path.{refl, _∙_, sym}
-use native.Mathlib.Omega.{arith}
 use borrow.Author.Tests.{ne-eqb, eq-eqb}
 use Rattle.theory.specs.Command.{command-in}
 use Rattle.model_command.specs.CursorReadings.{command-of-in}

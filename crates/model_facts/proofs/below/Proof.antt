@@ -1,5 +1,4 @@
 -- `model_facts::below` meets its contract.
-use mathlib.Core.Path.{_≡_}
 use native.Mathlib.Omega.{arith}
 use borrow.Author.Needs.{needs}
 use Rattle.model_facts.proofs.below.Statement.{statement}

@@ -1,6 +1,6 @@
 -- `model_form::linear_bytes` meets its contract.
 use mathlib.Core.Path.{ap}
-use Prim.Native.Nat.{ℕ, _+_, _*_, _<_}
+use Prim.Native.Nat.{ℕ, _+_, _*_}
 use native.Mathlib.Omega.{arith}
 use borrow.Author.Needs.{needs}
 use Rattle.model_form.proofs.linear_bytes.Statement.{statement}

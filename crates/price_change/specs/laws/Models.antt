@@ -1,12 +1,11 @@
 -- An accepted model's process meets what the laws of two processes ask, with every model near it.
-use mathlib.Core.Path.{_≡_, refl, sym, ap, ap₂, _∙_}
-use mathlib.Core.Bool.{Bool}
+use mathlib.Core.Path.{_≡_, refl, ap, ap₂}
 use mathlib.Core.List.{List, [], _∷_}
-use Prim.Native.Nat.{ℕ, zero, suc, _*_, _^_}
+use Prim.Native.Nat.{ℕ, suc, _*_, _^_}
 use native.Mathlib.Omega.{arith}
 use lib.IntN.{ℤ}
 use lib.ListN.{length}
-use Rattle.theory.specs.Meaning.{Model, State, settings, numbers-from, weight, moved, power, process}
+use Rattle.theory.specs.Meaning.{Model, settings, numbers-from, weight, moved, power, process}
 use Rattle.theory.specs.Meaning.{Action as ModelAction}
 use Rattle.theory.specs.Verdict.{verdict}
 use Rattle.theory.specs.Load.{model}

@@ -1,10 +1,8 @@
 -- Each statement, proved.
-use mathlib.Core.Path.{_≡_, refl, sym, ap, ap₂, _∙_, subst}
-use mathlib.Core.Logic.{_↔_}
+use mathlib.Core.Path.{_≡_, refl, sym, ap, _∙_, subst}
 use mathlib.Core.List.{List}
 use Prim.Native.Nat.{ℕ, suc, _-_, _*_}
 use native.Mathlib.Omega.{arith}
-use lib.Dec.{T}
 use lib.IntN.{ℤ, pos}
 use lib.ListN.{length}
 use Rattle.whole.specs.Int.{up}
@@ -13,7 +11,7 @@ use Rattle.theory.specs.Process.{Process, Action, total, optimum, lowest-best}
 use Rattle.theory.specs.Meaning.{Model, State, power, process}
 use Rattle.theory.specs.Verdict.{Verdict, verdict}
 use Rattle.theory.specs.Load.{site-at, model}
-use Rattle.theory.specs.Value.{Asked, ValueOut, accepted, state-of, answered}
+use Rattle.theory.specs.Value.{Asked, ValueOut, accepted, answered}
 use Rattle.theory.specs.Plain.{plain-of}
 use Rattle.theory.specs.Staying.{Stays}
 use Rattle.theory.specs.Rows.{Range, Admitted, Accepts, asked-state, plain-0}
@@ -21,7 +19,7 @@ use Rattle.theory.specs.laws.Total.{⊑-antisym, none-below, none-⊕}
 use Rattle.theory.specs.laws.Process.{lowest-best-action, lowest-best-total}
 use Rattle.theory.specs.laws.AcceptedModel.{accepted-site}
 use Rattle.theory.specs.laws.Rows.{verdict-is, plain-is}
-use Rattle.price_change.specs.Sure.{SureOut, margin, sure-of}
+use Rattle.price_change.specs.Sure.{SureOut, margin}
 use Rattle.price_change.specs.Prices.{Near, Clear, Repriced, NearModels}
 use Rattle.price_change.specs.SureRows.{SureRow, sure-1, sure-0, sure-1-10, sure-13, sure-23, sure-11}
 use Rattle.price_change.specs.Statements.{Moves, StaysBest, ValueMoves, SameActionBest}

@@ -1,16 +1,16 @@
 -- What the call says is what is meant: an action leads exactly where it is clear.
-use mathlib.Core.Path.{_≡_, refl, sym, ap, _∙_, subst}
+use mathlib.Core.Path.{_≡_, sym, ap, _∙_, subst}
 use mathlib.Core.Logic.{_↔_, _⊎_, inl, inr}
 use mathlib.Core.Bool.{Bool, true, false}
-use Prim.Native.Nat.{ℕ, zero, suc, _+_, _-_, _≤_, _<_}
+use Prim.Native.Nat.{ℕ, zero, suc, _+_, _-_, _≤_}
 use native.Mathlib.Omega.{arith}
 use borrow.Author.Tests.{eq-eqb}
 use lib.Dec.{T, eqb, eqb→eq}
 use lib.IntN.{ℤ, pos, _+ℤ_}
 use lib.ListN.{length}
 use lib.Signed.{leZ}
-use Rattle.whole.specs.Cases.{by-test, from-true}
-use Rattle.theory.specs.Total.{Total, num, none, leT, _⊑_, Has, _⊕_}
+use Rattle.whole.specs.Cases.{by-test}
+use Rattle.theory.specs.Total.{Total, num, leT, _⊑_, Has, _⊕_}
 use Rattle.theory.specs.Process.{Action, total, optimum, lowest-best}
 use Rattle.theory.specs.Meaning.{Model, State, process}
 use Rattle.theory.specs.Valid.{valid}

@@ -1,19 +1,18 @@
 -- Paths that no state can take: an accepted certificate excludes every state, and neither the cut nor making anew changes what a state reads.
-use mathlib.Core.Path.{_≡_, refl, sym, ap, ap₂, _∙_}
+use mathlib.Core.Path.{_≡_, refl, ap, _∙_}
 use mathlib.Core.Bool.{Bool, true, false, not, _&&_}
-use mathlib.Core.List.{List, [], _∷_, _++_}
+use mathlib.Core.List.{List, [], _∷_}
 use Prim.Native.Nat.{ℕ, zero, suc, _+_, _-_, _*_, _≤_, _<_}
 use native.Mathlib.Omega.{arith}
 use native.Mathlib.Nat.{mul-le-mul-left, mul-le-mul-right}
-use lib.Dec.{T, eqb, leb, isEq}
+use lib.Dec.{T, eqb, isEq}
 use lib.IntN.{ℤ, pos, negsuc, negℤ, _+ℤ_, _*ℤ_}
-use lib.ListN.{length, getD}
 use lib.Signed.{_≤ℤ_, leZ, leZ-yes}
-use Rattle.whole.specs.Cases.{if, by-test, by-eq, both, and-in, is-true, from-true, clash}
-use Rattle.whole.specs.Int.{atom, up, down, diff, ring, le-in, not-le}
-use Rattle.theory.specs.Diagram.{Linear, Test, now, later, linear, Leaf, Tree, leaf, branch, cmpZ, _⊞_, _⊠_, zeros}
-use Rattle.theory.specs.Computation.{Comp, make, result}
-use Rattle.theory.specs.Rules.{node, over}
+use Rattle.whole.specs.Cases.{if, both, and-in, from-true}
+use Rattle.whole.specs.Int.{atom, up, down, diff, ring, le-in}
+use Rattle.theory.specs.Diagram.{Test, now, later, linear, Tree, leaf, branch, cmpZ, zeros}
+use Rattle.theory.specs.Computation.{make, result}
+use Rattle.theory.specs.Rules.{node}
 use Rattle.theory.specs.Meaning.{Env, dot, value, holds, at}
 use Rattle.theory.specs.Valid.{all}
 use Rattle.theory.specs.Verdict.{or}

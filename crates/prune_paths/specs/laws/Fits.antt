@@ -1,16 +1,16 @@
 -- What a path leaves fits where 12 is not given: no more nodes than there were, and one for each turn but the last.
-use mathlib.Core.Path.{_≡_, refl, sym, ap, ap₂, _∙_, subst}
-use mathlib.Core.Bool.{Bool, true, false, not, _&&_}
+use mathlib.Core.Path.{_≡_, refl, sym, ap, subst}
+use mathlib.Core.Bool.{Bool, true, false, not}
 use mathlib.Core.List.{List, [], _∷_, _++_, map}
-use Prim.Native.Nat.{ℕ, zero, suc, _+_, _-_, _*_, _≤_, _<_}
+use Prim.Native.Nat.{ℕ, zero, suc, _+_, _-_, _≤_, _<_}
 use native.Mathlib.Omega.{arith}
-use lib.Dec.{T, eqb, ltb, eqb→eq, nltb→le}
+use lib.Dec.{T, eqb, eqb→eq}
 use lib.IntN.{ℤ, natAbs}
 use lib.ListN.{length, getD, length-append, length-map}
-use Rattle.whole.specs.Cases.{if, by-test, by-eq, both, and-in, is-true, from-true, clash}
+use Rattle.whole.specs.Cases.{if, by-test, by-eq, and-in, is-true, from-true, clash}
 use Rattle.theory.specs.Widths.{steps-most}
 use Rattle.theory.specs.Diagram.{Test, Leaf, Tree, leaf, branch, same}
-use Rattle.theory.specs.Computation.{Comp, ret, make, result, member, enter-all}
+use Rattle.theory.specs.Computation.{ret, make, result, member}
 use Rattle.theory.specs.Rules.{narrowed, node, over}
 use Rattle.theory.specs.Verdict.{from-to}
 use Rattle.theory.specs.Load.{site-at}
@@ -20,7 +20,7 @@ use Rattle.theory.specs.Value.{node-word, ends}
 use Rattle.theory.specs.Listing.{greatest-root}
 use Rattle.prune_paths.specs.Prune.{leaf-at, test-at, high-at, low-at, tree-from, tree-at, cut, remade, stage-anew, stages-anew, path-needs}
 use Rattle.theory.specs.laws.Comps.{same-refl, result-both, member-append}
-use Rattle.theory.specs.laws.Inside.{Sub, inside-parts, inside-branch, inside-root, inside-more, narrowed-inside}
+use Rattle.theory.specs.laws.Inside.{inside-branch, narrowed-inside}
 use Rattle.theory.specs.laws.Counts.{roots-fit}
 use Rattle.theory.specs.laws.Valid.{among-out, other-above}
 use Rattle.theory.specs.laws.ValueWalk.{greatest-least}

@@ -13,14 +13,14 @@ use lib.Signed.{leZ}
 use Rattle.whole.specs.Cases.{if, by-test, by-eq, both, and-in, is-true, from-true, clash}
 use Rattle.whole.specs.Numerator.{words}
 use Rattle.theory.specs.Widths.{levels-most, node-words}
-use Rattle.theory.specs.Diagram.{Linear, Test, now, later, linear, Leaf, some, forbidden, lin-of, act-of, Tree, leaf, branch, zeros}
-use Rattle.theory.specs.Meaning.{Env, nth, env, value, holds, at, leaf-worth, worth-at}
+use Rattle.theory.specs.Diagram.{now, linear, Leaf, some, forbidden, lin-of, act-of, Tree, leaf, branch, zeros}
+use Rattle.theory.specs.Meaning.{Env, nth, env, value, holds, at, leaf-worth}
 use Rattle.theory.specs.Valid.{all, all-nodes, among, small-linear, wide, good-test, stage-leaf}
 use Rattle.theory.specs.Verdict.{or, from-to}
 use Rattle.theory.specs.Value.{Asked, accepted, bits, state-of, node-word, node-linear, high-of, low-of, amongZ, good-branches, good-leaf-row}
 use Rattle.theory.specs.Value.{good-condition-row, good-test-row, good-none-row, good-row, ends, numerator-of, taken, walk, ValueOut, refused-value, answered}
 use Rattle.theory.specs.Value.{value-at}
-use Rattle.prune_paths.specs.Prune.{leaf-at, test-at, high-at, low-at, tree-from, tree-at}
+use Rattle.prune_paths.specs.Prune.{leaf-at, test-at, high-at, low-at, tree-from}
 use Rattle.theory.specs.laws.Values.{if-ap, value-constant}
 use Rattle.theory.specs.laws.Fits.{zeros-each, each-zeros, part-word, part-each}
 use Rattle.theory.specs.laws.Nodes.{branch-good}

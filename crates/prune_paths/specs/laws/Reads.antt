@@ -1,16 +1,15 @@
 -- What a path leaves: every state reads the same value and action as before, whatever wrote the tables.
-use mathlib.Core.Path.{_≡_, refl, sym, ap, ap₂, _∙_, subst}
-use mathlib.Core.Bool.{Bool, true, false, not, _&&_}
+use mathlib.Core.Path.{_≡_, refl, sym, ap, _∙_, subst}
+use mathlib.Core.Bool.{Bool, true, false, not}
 use mathlib.Core.Logic.{⊎-elim}
 use mathlib.Core.List.{List, [], _∷_, List·Memᴰ, List·Memᴰ·cases-cons, List·Memᴰ·not-nil}
-use Prim.Native.Nat.{ℕ, zero, suc, _+_, _-_, _*_, _≤_, _<_}
+use Prim.Native.Nat.{ℕ, zero, suc, _+_, _-_, _≤_, _<_}
 use native.Mathlib.Omega.{arith}
 use borrow.Author.Tests.{ne-eqb}
 use lib.Dec.{T, eqb, ltb, eqb→eq, nltb→le}
 use lib.IntN.{ℤ}
 use lib.ListN.{length, getD}
-use Rattle.whole.specs.Cases.{if, by-test, by-eq, both, is-true, from-true, clash}
-use Rattle.whole.specs.Numerator.{words}
+use Rattle.whole.specs.Cases.{if, by-test, by-eq, from-true, clash}
 use Rattle.theory.specs.Widths.{steps-most}
 use Rattle.theory.specs.Diagram.{Test, Leaf, Tree, leaf, branch}
 use Rattle.theory.specs.Computation.{make, result, member, enter, enter-all}
@@ -22,7 +21,7 @@ use Rattle.theory.specs.Load.{site-at}
 use Rattle.theory.specs.Solve.{room, early, number-of, table-of, solved-nodes}
 use Rattle.theory.specs.Value.{Asked, accepted, good-row, walk, ValueOut, refused-value, value-at, value-of}
 use Rattle.theory.specs.Listing.{greatest-root}
-use Rattle.prune_paths.specs.Prune.{tree-at, along, fits, shaped, proves, cut, remade, stage-anew, stages-anew, words-anew, path-number, path-needs, prune-refusal, pruned, PruneOut, prune}
+use Rattle.prune_paths.specs.Prune.{tree-at, along, shaped, proves, cut, remade, stage-anew, stages-anew, words-anew, path-number, path-needs, prune-refusal, pruned, PruneOut, prune}
 use Rattle.theory.specs.laws.Nodes.{Good, parts, branch-good, leaf-good, node-safe, over-safe}
 use Rattle.theory.specs.laws.Safe.{any, safe-make, sure}
 use Rattle.theory.specs.laws.Table.{enter-all-grown, enter-has, number-above, number-below}

@@ -2,24 +2,22 @@
 use mathlib.Core.Path.{_≡_, refl, sym, ap, _∙_, subst}
 use mathlib.Core.Bool.{Bool, true, false, not}
 use mathlib.Core.List.{List}
-use Prim.Native.Nat.{ℕ, _-_, _≤_, _<_}
+use Prim.Native.Nat.{ℕ, _-_}
 use native.Mathlib.Omega.{arith}
 use borrow.Author.Tests.{ne-eqb}
 use lib.Dec.{T, T-not, eqb, ltb, eqb→eq, ltb→lt, lt→ltb, nltb→le}
 use lib.IntN.{ℤ}
-use lib.ListN.{length, getD}
+use lib.ListN.{length}
 use Rattle.whole.specs.Cases.{if, by-test, is-true}
-use Rattle.theory.specs.Widths.{steps-most}
 use Rattle.theory.specs.Valid.{all}
 use Rattle.theory.specs.Verdict.{Verdict, refusal, from-to}
 use Rattle.theory.specs.Load.{site-at}
 use Rattle.theory.specs.Solve.{room, early}
 use Rattle.theory.specs.Value.{good-row}
-use Rattle.theory.specs.Listing.{greatest-root}
-use Rattle.theory.specs.Rows.{Admitted, EarlyRow, Room}
-use Rattle.theory.specs.laws.Fits.{node-fits, fits-good, misfits, misfits-bad}
+use Rattle.theory.specs.Rows.{Admitted, EarlyRow}
+use Rattle.theory.specs.laws.Fits.{node-fits, fits-good, misfits}
 use Rattle.theory.specs.laws.AcceptedModel.{positive}
-use Rattle.theory.specs.laws.Rows.{Passed, admitted, by-early, early-some, early-is, admitted-is, room-holds, room-is, if-yes, if-no, some-not, zero-is, not-twice, not-all, all-from, from-each}
+use Rattle.theory.specs.laws.Rows.{Passed, admitted, by-early, early-some, early-is, admitted-is, room-holds, room-is, if-yes, if-no, some-not, zero-is, not-all, all-from, from-each}
 use Rattle.prune_paths.specs.Prune.{along, shaped, proves, path-number, path-needs, PruneOut, prune-refusal, pruned, prune}
 use Rattle.prune_paths.specs.PruneRows.{root-word, last-row, diagram, Rooted, Tabled, Shaped, Proved, untouched, PruneRow, prune-0, prune-1-10, prune-15, prune-14, prune-22, prune-21, prune-12, PruneRows}
 use Rattle.prune_paths.specs.laws.Reads.{refusal-by}

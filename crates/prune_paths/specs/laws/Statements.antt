@@ -1,23 +1,21 @@
 -- A proof of each statement.
 use mathlib.Core.Path.{_≡_, refl, sym, ap, _∙_, subst}
-use mathlib.Core.Bool.{Bool, true, false}
+use mathlib.Core.Bool.{false}
 use mathlib.Core.List.{List, [], _∷_}
-use Prim.Native.Nat.{ℕ, zero, suc, _+_, _-_, _≤_, _<_}
+use Prim.Native.Nat.{ℕ, _+_, _-_}
 use native.Mathlib.Omega.{arith}
 use lib.Dec.{T, eqb}
 use lib.IntN.{ℤ, pos}
 use lib.ListN.{length, getD, replicate, length-replicate}
-use Rattle.whole.specs.Cases.{if, by-eq, by-test, clash, from-true}
+use Rattle.whole.specs.Cases.{if, by-eq, clash}
 use Rattle.theory.specs.Widths.{steps-most}
-use Rattle.theory.specs.Diagram.{Tree}
-use Rattle.theory.specs.Computation.{member, enter-all}
+use Rattle.theory.specs.Computation.{member}
 use Rattle.theory.specs.Load.{site-at}
-use Rattle.theory.specs.Solve.{room, number-of, rows, table-of, solved-nodes}
-use Rattle.theory.specs.Value.{Asked, ValueOut, value-of, good-row}
+use Rattle.theory.specs.Solve.{room, rows, table-of, solved-nodes}
+use Rattle.theory.specs.Value.{Asked, value-of, good-row}
 use Rattle.theory.specs.Listing.{greatest-root}
 use Rattle.theory.specs.Rows.{Range, NodeFits}
-use Rattle.theorems.specs.Demands.{Solving, left}
-use Rattle.theorems.specs.Advice.{Exact, Optimal, ReadsNone, Override}
+use Rattle.theorems.specs.Demands.{left}
 use Rattle.theorems.specs.laws.Advice.{value-given}
 use Rattle.theory.specs.Valid.{good-test, stage-leaf}
 use Rattle.theory.specs.laws.Nodes.{parts}

@@ -1,6 +1,6 @@
 -- `rule_combine::add_levels` meets its contract: the computation so far, then the levels from k on, is the sum of all levels onto the diagram at f (`Adding`); a level that stops ends both alike.
 use mathlib.Core.Path.{_∙_}
-use Prim.Native.Nat.{ℕ, _-_}
+use Prim.Native.Nat.{_-_}
 use native.Mathlib.Omega.{arith}
 use lib.ListN.{length}
 use borrow.Author.Needs.{needs}

@@ -1,6 +1,4 @@
 -- `rule_compose_entry::key` meets its contract: each word of the record is a call's contract; `wordsOf` is that record.
-use mathlib.Core.Path.{_≡_, refl, sym, ap, ap₂, _∙_}
-use native.Mathlib.Omega.{arith}
 use Rattle.rule_compose_entry.specs.Entry.{wordsOf}
 use borrow.Author.Needs.{needs}
 use Rattle.rule_compose_entry.proofs.key.Statement.{statement}

@@ -1,5 +1,3 @@
-use mathlib.Core.Path.{_≡_, refl, sym, ap, ap₂, _∙_}
-use native.Mathlib.Omega.{arith}
 use Rattle.rule_compose_entry.proofs.Entries.{key-fits, held-as}
 use borrow.Author.Needs.{needs}
 use Rattle.rule_compose_entry.proofs.recall.Statement.{statement}

@@ -1,7 +1,6 @@
 -- `table::get` meets its contract: the first k numbers are the words behind the kind; kind, high and low are read after them.
-use Prim.Native.Nat.{ℕ, _+_, _-_, _*_, _≤_}
+use Prim.Native.Nat.{_+_, _-_, _*_}
 use native.Mathlib.Omega.{arith}
-use borrow.Author.Needs.{needs}
 use mathlib.Core.Path.{refl}
 use lib.IntN.{pos}
 use lib.ListN.{getD}

@@ -1,10 +1,7 @@
 -- `table::put` meets its contract: the first k numbers stand behind the kind, and no other word has changed since the kind was stored; high and low come last.
-use Prim.Native.Nat.{ℕ, _+_, _-_, _*_, _≤_}
+use Prim.Native.Nat.{_+_, _-_, _*_}
 use native.Mathlib.Omega.{arith}
-use borrow.Author.Needs.{needs}
-use mathlib.Core.Path.{refl, sym, _∙_}
-use lib.IntN.{ℤ, pos}
-use lib.ListN.{getD, length, length-set}
+use lib.ListN.{length-set}
 use Rattle.whole.specs.Linears.{numbers}
 use Rattle.table.specs.Table.{node-words}
 use Rattle.table.proofs.Words.{back, as-long}

@@ -1,7 +1,6 @@
 -- `table_unique::find` meets its contract: no node of x's bucket from `at` on equals x, and each link is below the one before it (`Walk`).
 use mathlib.Core.Path.{refl}
-use Prim.Native.Nat.{ℕ, _+_, _-_}
-use borrow.Author.Needs.{needs}
+use Prim.Native.Nat.{_+_, _-_}
 use native.Mathlib.Omega.{arith}
 use Rattle.table.proofs.Look.{hit, miss}
 use Rattle.table_unique.proofs.Chain.{Walk, begins, goes-on, less, hits, misses}

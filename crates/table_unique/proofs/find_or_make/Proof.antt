@@ -5,7 +5,6 @@ use lib.ListN.{length, length-set}
 use Rattle.table.proofs.Store.{put-length}
 use Rattle.table.proofs.Words.{as-long}
 use Rattle.table.proofs.Look.{intern-old, intern-new, intern-full}
-use Rattle.table_unique.specs.Unique.{Chained}
 use Rattle.table_unique.proofs.Chain.{chained-new, chained-as, frame}
 use borrow.Author.Needs.{needs}
 use Rattle.table_unique.proofs.find_or_make.Statement.{statement}

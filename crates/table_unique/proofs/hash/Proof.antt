@@ -1,6 +1,6 @@
 -- `table_unique::hash` meets its contract: the sum so far, the factor, and the numbers from i on give the sum of all numbers; each factor is below 2³¹.
 use mathlib.Core.Path.{_≡_, refl}
-use Prim.Native.Nat.{ℕ, _+_, _-_, _*_, _≤_, _<_}
+use Prim.Native.Nat.{_+_, _-_, _≤_, _<_}
 use native.Mathlib.Omega.{arith}
 use lib.ListN.{drop}
 use Rattle.whole.specs.Linears.{numbers}

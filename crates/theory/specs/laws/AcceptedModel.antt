@@ -23,10 +23,10 @@ use Rattle.theory.specs.Command.{short, Placed, byte-at, word-at, signed
 use Rattle.theory.specs.Command.{readings, give, Slot, command-in, linear-in, read-in, readings-from-in, readings-in, action-at, width-in}
 use Rattle.theory.specs.Verdict.{Site, Facts, Progress, reward-slot, chance-slot, level-slot, end-slot, name-slot, same-slot, has-slot, or, Rule, rule}
 use Rattle.theory.specs.Verdict.{first-broken, next-condition, is-weight, top, joined, from-to, wanted-by, wanted, site-rules, site-of, first-rules}
-use Rattle.theory.specs.Verdict.{later-rules, rules-of, after, Verdict, refusal, ended, judged, at-start, verdict, may-be, judged-in, rules-in}
+use Rattle.theory.specs.Verdict.{later-rules, after, Verdict, refusal, ended, judged, at-start, verdict, may-be, judged-in, rules-in}
 use Rattle.theory.specs.Verdict.{verdict-in}
 use Rattle.theory.specs.Load.{Entry, Loaded, condition-test, load-choice, load-choice-with, load-entry, load-one, load-one-with, load-on, load-on-with}
-use Rattle.theory.specs.Load.{find-slot, found, action-of, model-of, site-at, load-with, model, load-in, model-in, site-in}
+use Rattle.theory.specs.Load.{find-slot, found, action-of, model-of, site-at, model, load-in, model-in, site-in}
 use Rattle.theory.specs.laws.Comps.{result-bind}
 use Rattle.theory.specs.laws.Safe.{any, sure}
 use Rattle.theory.specs.laws.Nodes.{widen, choose-safe}

@@ -13,7 +13,7 @@ use Rattle.theory.specs.Meaning.{Action, Model, power}
 use Rattle.theory.specs.Stage.{action-diagrams, all-diagrams, model-diagrams, sum-out, action-total, best-on, stage-over, stages-on, stages-over-end, all-stages, moment}
 use Rattle.theory.specs.Command.{Command, site, push-leaf, push-condition, push-test, push-forbidden, name-action, end-model, Read, whole, unknown, short, Placed, readings, give, Slot}
 use Rattle.theory.specs.Verdict.{verdict}
-use Rattle.theory.specs.Load.{Entry, Loaded, condition-test, load-choice, load-choice-with, load-entry, load-one, load-one-with, load-on, load-on-with, model-of, site-at, load, load-with, model, load-in, model-in}
+use Rattle.theory.specs.Load.{Entry, Loaded, condition-test, load-choice, load-choice-with, load-entry, load-one, load-one-with, load-on, load-on-with, model-of, site-at, load, model, load-in, model-in}
 use Rattle.theory.specs.Solve.{solve-in, table-of}
 use Rattle.theory.specs.Events.{events, needed, inside, all-inside, Chained}
 use Rattle.theory.specs.laws.Comps.{run-all-final}

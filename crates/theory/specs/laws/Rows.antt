@@ -25,13 +25,13 @@ use Rattle.theory.specs.Stage.{all-stages}
 use Rattle.theory.specs.Valid.{all, among, small-linear, valid}
 use Rattle.theory.specs.Form.{Form, new-form}
 use Rattle.theory.specs.Command.{Command, site, push-leaf, push-condition, push-test, push-forbidden, name-action, end-model, Read, whole, unknown}
-use Rattle.theory.specs.Command.{short, byte-at, width, command-at, read-at, goes-on, readings-from, readings, give, width-in, command-in, read-in}
+use Rattle.theory.specs.Command.{short, byte-at, width, command-at, read-at, goes-on, give, width-in, command-in, read-in}
 use Rattle.theory.specs.Command.{readings-from-in, readings-in}
 use Rattle.theory.specs.Verdict.{Verdict, Site, refusal, Progress, first-broken, rules-of, after, ended, judged, at-start, verdict, from-to, or, rules-in, judged-in, verdict-in}
 use Rattle.theory.specs.Load.{site-at, load, model, model-in}
 use Rattle.theory.specs.Solve.{room, solve-in, table-of, rows, SolveOut, solved-nodes, solve-left, early, early-with-peaks, solve}
 use Rattle.theory.specs.Value.{Asked, accepted, bits, numerator-of, state-of, node-word, node-linear, high-of, low-of, amongZ, good-branches}
-use Rattle.theory.specs.Value.{good-leaf-row, good-condition-row, good-test-row, good-row, taken, ends, walk, ValueOut, refused-value, answered}
+use Rattle.theory.specs.Value.{good-condition-row, good-test-row, good-row, taken, ends, walk, ValueOut, refused-value, answered}
 use Rattle.theory.specs.Value.{value-at, value-of}
 use Rattle.theory.specs.Plain.{Worth, is, nothing, over, state-worth, worth-out, if-true, plain-of}
 use Rattle.theory.specs.Staying.{Stays}
@@ -39,7 +39,7 @@ use Rattle.theory.specs.Name.{name-refusal}
 use Rattle.theory.specs.Listing.{greatest-root, text, written, ListingOut, listing-refusal, listing}
 use Rattle.theory.specs.Rows.{Keeps, Range, asks-in, asks-of, Whole-in, Whole, Comes-in, comes-first, comes-next, EndsAt-in, VerdictRow-in, VerdictRow}
 use Rattle.theory.specs.Rows.{verdict-0, verdict-3, verdict-2, verdict-2-end, verdict-1-7, verdict-8, Admitted, EarlyRow, early-10, early-9, early-1-8}
-use Rattle.theory.specs.Rows.{Room, AdmittedToSolve, EarlySolveRow, peaks-10, early-as, SolveRow, solve-0, solve-1-10, solve-11-12, Among, KindFits}
+use Rattle.theory.specs.Rows.{Room, peaks-10, early-as, SolveRow, solve-0, solve-1-10, solve-11-12, Among, KindFits}
 use Rattle.theory.specs.Rows.{fits-leaf, fits-condition, fits-test, fits-none, OnWalk, first-met, then-met, Stated, ValueRow, value-0, value-none}
 use Rattle.theory.specs.Rows.{value-1-10, value-13, value-14, value-15, PlainRow, plain-0, plain-1-10, plain-13, plain-11, NameRow, name-0, name-1-10}
 use Rattle.theory.specs.Rows.{name-16, Rooted, Tabled, ListingRow, listing-0, listing-1-10, listing-14, listing-15, listing-17}

@@ -10,7 +10,7 @@ use lib.ListN.{length, getD, take, drop, length-append, length-drop, List·getD-
 use lib.Seq.{getD-drop, drop-drop, drop-append-le, drop-append-add, take-append-le, take-length, getD-append-add}
 use Rattle.whole.specs.Cases.{if, both, and-in}
 use Rattle.theory.specs.Widths.{levels-most, node-words}
-use Rattle.theory.specs.Diagram.{Linear, Test, now, later, linear, Leaf, some, forbidden, lin-of, act-of, no-coeffs, zero-linear, Tree, leaf, branch, zeros, padded}
+use Rattle.theory.specs.Diagram.{Linear, Test, now, later, linear, Leaf, some, forbidden, lin-of, act-of, no-coeffs, Tree, leaf, branch, zeros, padded}
 use Rattle.theory.specs.Computation.{member}
 use Rattle.theory.specs.Rules.{zero-leaf, none-leaf}
 use Rattle.theory.specs.Valid.{all-nodes, among, small-linear, wide, good-test, stage-leaf}

@@ -3,7 +3,7 @@ use mathlib.Core.Path.{_≡_, refl, sym, ap, ap₂, _∙_}
 use mathlib.Core.List.{List, [], _∷_, _++_, map}
 use Prim.Native.Nat.{ℕ, zero, suc, _+_, _*_}
 use native.Mathlib.Omega.{arith}
-use lib.IntN.{ℤ, pos, _+ℤ_, _*ℤ_}
+use lib.IntN.{pos, _+ℤ_, _*ℤ_}
 use lib.Signed.{leZ-yes}
 use Rattle.whole.specs.Int.{distrib-r, add-mono}
 use Rattle.theory.specs.Total.{Total, num, none, leT, _⊑_, _⊕_, weigh, mean}

@@ -6,7 +6,7 @@ use mathlib.Core.List.{List}
 use Prim.Native.Nat.{ℕ, zero, suc, _≤_}
 use native.Mathlib.Omega.{arith}
 use borrow.Author.Tests.{eq-eqb}
-use lib.Dec.{T, eqb, eqb→eq}
+use lib.Dec.{eqb, eqb→eq}
 use lib.IntN.{ℤ, pos, negsuc}
 use lib.Signed.{leZ}
 use Rattle.whole.specs.Cases.{if, both, and-in, is-true, from-true, clash}
@@ -14,7 +14,6 @@ use Rattle.whole.specs.Linears.{eqZ}
 use Rattle.whole.specs.LinearsLaws.{eqZ-true, eqZ-refl}
 use Rattle.whole.specs.Numerator.{words}
 use Rattle.whole_wide.specs.Wide.{in-two-words}
-use Rattle.theory.specs.Verdict.{Site}
 use Rattle.theory.specs.Load.{site-at}
 use Rattle.theory.specs.Value.{Asked, ValueOut, value-of}
 use Rattle.theory.specs.Rows.{ValueRow}

@@ -2,14 +2,14 @@
 use mathlib.Core.Path.{_≡_, sym, ap, ap₂, _∙_, subst}
 use mathlib.Core.Logic.{_↔_, _⊎_, ⊎-elim}
 use mathlib.Core.List.{List, [], _∷_, _++_, map, List·Memᴰ, List·Memᴰ·cases-cons, List·Memᴰ·not-nil}
-use Prim.Native.Nat.{ℕ, zero, suc, _+_, _*_, _^_, _≤_, _<_}
+use Prim.Native.Nat.{ℕ, suc, _+_, _*_, _^_, _≤_}
 use native.Mathlib.Omega.{arith}
 use native.Mathlib.Nat.{pow-zero, one-le-pow}
 use lib.IntN.{ℤ, pos, _+ℤ_, _*ℤ_}
 use Rattle.whole.specs.Int.{atom, diff}
 use Rattle.theory.specs.Total.{Total, none, _⊕_, weigh}
 use Rattle.theory.specs.Loss.{sum}
-use Rattle.theory.specs.Process.{Process, Action, total, optimum, lowest-best}
+use Rattle.theory.specs.Process.{Action, total, optimum, lowest-best}
 use Rattle.theory.specs.Meaning.{Model, State, numbers-from, env, worth-at, action-at, end-at, power, process}
 use Rattle.theory.specs.Verdict.{verdict}
 use Rattle.theory.specs.Load.{model}

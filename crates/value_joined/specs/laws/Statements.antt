@@ -1,8 +1,7 @@
 -- The statements, proved.
-use mathlib.Core.Path.{_≡_, refl, sym, ap, ap₂, _∙_, subst}
+use mathlib.Core.Path.{_≡_, refl, sym, ap, ap₂, _∙_}
 use mathlib.Core.Bool.{true, _&&_}
-use mathlib.Core.List.{List}
-use Prim.Native.Nat.{ℕ, suc, _+_, _*_, _^_, _≤_, _<_}
+use Prim.Native.Nat.{ℕ, _+_, _*_, _^_, _≤_, _<_}
 use native.Mathlib.Nat.{one-le-pow}
 use native.Mathlib.Omega.{arith}
 use borrow.Author.Tests.{eq-eqb}
@@ -14,20 +13,19 @@ use Rattle.whole.specs.LinearsLaws.{eqZ-refl}
 use Rattle.whole.specs.Numerator.{number, words}
 use Rattle.whole.specs.NumeratorLaws.{number-words}
 use Rattle.theory.specs.Total.{Total, num, none, _⊕_, weigh}
-use Rattle.theory.specs.Process.{optimum, lowest-best}
-use Rattle.theory.specs.Meaning.{Model, State, power, process}
+use Rattle.theory.specs.Process.{optimum}
+use Rattle.theory.specs.Meaning.{Model, power, process}
 use Rattle.theory.specs.Valid.{among}
 use Rattle.theory.specs.Verdict.{Site, verdict}
 use Rattle.theory.specs.Load.{model, site-at}
-use Rattle.theory.specs.Value.{Asked, ValueOut, answered}
+use Rattle.theory.specs.Value.{Asked, answered}
 use Rattle.theory.specs.laws.AcceptedModel.{accepted-site}
 use Rattle.theory.specs.laws.Total.{weigh-num, weigh-none, none-⊕, ⊕-comm, num-⊕}
 use Rattle.theory.specs.laws.Process.{policy-equal, policy-lower, expected-below}
-use Rattle.theorems.specs.Demands.{Solving, left, start, site}
+use Rattle.theorems.specs.Demands.{site}
 use Rattle.theorems.specs.laws.Demands.{went, exact}
-use Rattle.value_joined.specs.Joined.{joined-site}
 use Rattle.value_joined.specs.Total.{answered-number, answered-total, crosswise, both-read, same-scale, total-after, total-of}
-use Rattle.value_joined.specs.Statements.{Asking, answer, both as both-sites, begins, best-pair, BestTotal, BestPair, NoneOfEither, OfAllPolicies, PairsSum}
+use Rattle.value_joined.specs.Statements.{Asking, both as both-sites, begins, best-pair, BestTotal, BestPair, NoneOfEither, OfAllPolicies, PairsSum}
 use Rattle.value_joined.specs.laws.Cases.{past-scale, first-none, second-none, both-some}
 use Rattle.value_joined.specs.laws.Sites.{site-optimum, site-best, site-none, site-weights, lowest-some}
 

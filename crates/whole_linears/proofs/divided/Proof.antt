@@ -1,10 +1,9 @@
 -- `whole_linears::divided` meets its contract: dividing by 1 changes nothing; else the loop has filled so many quotients.
 use mathlib.Core.Path.{_≡_, refl, sym, ap, _∙_}
-use Prim.Native.Nat.{ℕ, _+_, _-_, _≤_}
+use Prim.Native.Nat.{ℕ, _-_}
 use native.Mathlib.Omega.{arith}
-use borrow.Author.Needs.{needs}
-use lib.IntN.{ℤ, pos, _+ℤ_, _-ℤ_, _*ℤ_}
-use lib.ListN.{length, getD, take, drop}
+use lib.IntN.{pos}
+use lib.ListN.{getD, take}
 use lib.Signed.{quotZ}
 use Rattle.whole.specs.Linears.{numbers, quotL, divisorL}
 use Rattle.whole.specs.LinearsLaws.{quot-one}

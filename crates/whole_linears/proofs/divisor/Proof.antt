@@ -1,13 +1,10 @@
 -- `whole_linears::divisor` meets its contract: the constant's magnitude and the coefficients' divisor have the divisor of all nine (`divisor-is`).
-use mathlib.Core.Path.{_≡_, refl, sym, ap, _∙_}
-use Prim.Native.Nat.{ℕ, _+_, _-_, _≤_}
-use native.Mathlib.Omega.{arith}
+use mathlib.Core.Path.{_≡_}
+use Prim.Native.Nat.{_-_}
 use borrow.Author.Needs.{needs}
-use lib.IntN.{ℤ, pos, _+ℤ_, _-ℤ_, _*ℤ_}
-use lib.ListN.{length, getD, take, drop}
-use lib.Signed.{quotZ}
-use Rattle.whole.specs.Divisor.{gcdOf, gcd-all, at-least-one}
-use Rattle.whole.specs.Linears.{coefficients, divisorL}
+use lib.ListN.{take}
+use Rattle.whole.specs.Divisor.{at-least-one}
+use Rattle.whole.specs.Linears.{coefficients}
 use Rattle.whole.proofs.Loops.{divisor-is}
 use Rattle.whole_linears.proofs.divisor.Statement.{statement}
 use Rattle.whole_linears.proofs.divisor.Tie as tie

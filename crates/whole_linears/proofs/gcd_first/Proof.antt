@@ -1,11 +1,8 @@
 -- `whole_linears::gcd_first` meets its contract: g is the divisor of the coefficients from i on, and i falls.
-use mathlib.Core.Path.{_≡_, refl, sym, ap, _∙_}
-use Prim.Native.Nat.{ℕ, _+_, _-_, _≤_}
+use mathlib.Core.Path.{_≡_, ap, _∙_}
+use Prim.Native.Nat.{ℕ, _-_, _≤_}
 use native.Mathlib.Omega.{arith}
-use borrow.Author.Needs.{needs}
-use lib.IntN.{ℤ, pos, _+ℤ_, _-ℤ_, _*ℤ_}
-use lib.ListN.{length, getD, take, drop}
-use lib.Signed.{quotZ}
+use lib.ListN.{take, drop}
 use Rattle.whole.specs.Divisor.{gcd-all}
 use Rattle.whole.specs.Linears.{coefficients}
 use Rattle.whole.proofs.Loops.{gcd-none, gcd-more}

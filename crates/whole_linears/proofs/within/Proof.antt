@@ -1,11 +1,8 @@
 -- `whole_linears::within` meets its contract: all numbers lie within the limits where those from i on do; the first that does not ends the loop.
-use mathlib.Core.Path.{_≡_, refl, sym, ap, _∙_}
-use Prim.Native.Nat.{ℕ, _+_, _-_, _≤_}
+use mathlib.Core.Path.{_≡_, refl}
+use Prim.Native.Nat.{_-_, _≤_}
 use native.Mathlib.Omega.{arith}
-use borrow.Author.Needs.{needs}
-use lib.IntN.{ℤ, pos, _+ℤ_, _-ℤ_, _*ℤ_}
-use lib.ListN.{length, getD, take, drop}
-use lib.Signed.{quotZ}
+use lib.ListN.{take, drop}
 use Rattle.whole.specs.Linears.{numbers, smalls}
 use Rattle.whole.proofs.Loops.{one-over, one-fine, all-fine}
 use Rattle.whole_linears.proofs.within.Statement.{statement}

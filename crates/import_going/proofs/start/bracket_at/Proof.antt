@@ -1,5 +1,4 @@
-use mathlib.Core.Path.{sym, _∙_}
-use Rattle.import_going.specs.Turns.{cond-at}
+use mathlib.Core.Path.{_∙_}
 use Rattle.import_going.proofs.Reaching.{cond-yes, cond-not}
 use borrow.Author.Needs.{needs}
 use Rattle.import_going.proofs.start.bracket_at.Statement.{statement}

@@ -3,7 +3,7 @@ use mathlib.Core.Path.{sym, _∙_}
 use mathlib.Core.Bool.{true, false}
 use Rattle.import_going.specs.Turns.{turn-of}
 use Rattle.import_going.proofs.Reaching.{turn-bang, turn-open, turn-else, turn-other}
-use borrow.Author.Tests.{ne-eqb, eq-eqb, le-leb, lt-leb}
+use borrow.Author.Tests.{ne-eqb, eq-eqb}
 use borrow.Author.Needs.{needs}
 use Rattle.import_going.proofs.turning.after_byte.Statement.{statement}
 use Rattle.import_going.proofs.turning.after_byte.Tie as tie

@@ -1,5 +1,4 @@
 use native.Mathlib.Omega.{arith}
-use Rattle.import_going.specs.Turns.{opened-of}
 use Rattle.import_places.specs.laws.Signs.{mask-bound}
 use Rattle.import_going.proofs.Reaching.{bit-most, too-deep, not-deep}
 use borrow.Author.Needs.{needs}

@@ -1,6 +1,6 @@
 use Rattle.import_found.specs.Places.{is-space}
 use Rattle.import_going.proofs.Reaching.{not-space}
-use borrow.Author.Tests.{ne-eqb, eq-eqb, le-leb, lt-leb}
+use borrow.Author.Tests.{ne-eqb, eq-eqb}
 use Rattle.import_going.proofs.turning.space.Statement.{statement}
 use Rattle.import_going.proofs.turning.space.Tie as tie
 use Rattle.import_going.proofs.turning.space.Reads as reads

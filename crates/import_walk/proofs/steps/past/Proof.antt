@@ -1,9 +1,8 @@
 -- `import_walk::steps::past` meets its contract: what is behind the first c is the same from i as from the start (`Passing`).
-use mathlib.Core.Path.{refl, sym, _∙_}
+use mathlib.Core.Path.{refl}
 use Prim.Native.Nat.{_-_}
 use native.Mathlib.Omega.{arith}
 use lib.ListN.{length}
-use borrow.Author.Needs.{needs}
 use Rattle.import_walk.proofs.Loops.{Passing, past-on, past-found, past-end}
 use Rattle.import_walk.proofs.steps.past.Statement.{statement}
 use Rattle.import_walk.proofs.steps.past.Tie as tie

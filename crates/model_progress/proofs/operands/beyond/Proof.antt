@@ -5,7 +5,7 @@ use Rattle.theory.specs.Diagram.{zeros}
 use Rattle.theory.specs.Command.{signed-from}
 use Rattle.model_form.specs.Forms.{form-of}
 use mathlib.Core.Path.{ap, _∙_}
-use mathlib.Core.Bool.{Bool, not}
+use mathlib.Core.Bool.{not}
 use Rattle.model_progress.proofs.Numbers.{beyond-from, none-beyond}
 use borrow.Author.Needs.{needs}
 use Rattle.model_progress.proofs.operands.beyond.Statement.{statement}

@@ -1,6 +1,6 @@
 -- `rule_leaves::numbers::is_constant` meets its contract: all coefficients are 0 where those from i on are; the first that is not ends the loop.
 use mathlib.Core.Path.{_≡_, refl}
-use Prim.Native.Nat.{ℕ, _-_, _≤_}
+use Prim.Native.Nat.{_-_, _≤_}
 use native.Mathlib.Omega.{arith}
 use lib.ListN.{take, drop}
 use Rattle.table.proofs.Words.{as-long}

@@ -1,4 +1,3 @@
-use mathlib.Core.Path.{ap, _∙_}
 use Rattle.rule_leaves.proofs.Sums.{product-as}
 use borrow.Author.Needs.{needs}
 use Rattle.rule_leaves.proofs.numbers.product.Statement.{statement}

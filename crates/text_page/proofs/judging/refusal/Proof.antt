@@ -3,7 +3,6 @@ use mathlib.Core.Path.{sym, _∙_}
 use Rattle.model_progress.specs.GivenFlags.{site-as}
 use Rattle.value_walk.specs.State.{asked}
 use Rattle.text_page.proofs.Outcome.{stages-13, stages-15, stages-14, stages-none}
-use borrow.Author.Needs.{needs}
 use Rattle.text_page.proofs.judging.refusal.Statement.{statement}
 use Rattle.text_page.proofs.judging.refusal.Tie as tie
 

@@ -7,7 +7,6 @@ use Rattle.text_decimal.proofs.Puts.{rename}
 use Rattle.text_plan.proofs.Joined.{Lined, upon, lined-none, lined-room, lined-more, part-room}
 use Rattle.text_page_lines.specs.Page.{line-at}
 use Rattle.text_page.proofs.Read.{lines-room, lines-are}
-use borrow.Author.Needs.{needs}
 use Rattle.text_page.proofs.writing.write_lines.Statement.{statement}
 use Rattle.text_page.proofs.writing.write_lines.Tie as tie
 

@@ -1,5 +1,5 @@
 -- `whole::dot_product::wide` meets its contract.
-use mathlib.Core.Path.{refl, sym, subst}
+use mathlib.Core.Path.{sym, subst}
 use Prim.Native.Nat.{_-_}
 use native.Mathlib.Omega.{arith}
 use Rattle.whole.specs.Linears.{numbers}

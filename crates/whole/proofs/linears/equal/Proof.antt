@@ -1,11 +1,8 @@
 -- `whole::linears::equal` meets its contract: the lists are equal where their rests from i on are; the loop keeps that, and the first difference ends it.
-use mathlib.Core.Path.{_≡_, refl, sym, ap, _∙_}
-use Prim.Native.Nat.{ℕ, _+_, _-_, _≤_}
+use mathlib.Core.Path.{_≡_, refl}
+use Prim.Native.Nat.{_+_, _-_, _≤_}
 use native.Mathlib.Omega.{arith}
-use borrow.Author.Needs.{needs}
-use lib.IntN.{ℤ, pos, _+ℤ_, _-ℤ_, _*ℤ_}
-use lib.ListN.{length, getD, take, drop}
-use lib.Signed.{quotZ}
+use lib.ListN.{drop}
 use Rattle.whole.specs.Linears.{numbers, eqL}
 use Rattle.whole.proofs.Loops.{one-differs, one-same, all-same}
 use Rattle.whole.proofs.linears.equal.Statement.{statement}
