@@ -10,14 +10,16 @@ put-le-requires c κs = search needs
 
 put-le-requires-2 : tie.Need-put-le-requires-2
 put-le-requires-2 c κs =
-    omega (arith, c .before .before .before .before .before .before .pre, c .before .before .before .put-le .ensures .behind, c .before .before .before .put-le .kept .0, le-length 4 (c .before .before .before .before .before .before .args .place))
+    let at-put-le = c .before .before .before in let start = at-put-le .before .before .before in
+    omega (arith, start .pre, at-put-le .put-le .ensures .behind, at-put-le .put-le .kept .0, le-length 4 (start .args .place))
 
 same-length : tie.Need-same-length
 same-length c = search needs
 
 returns : tie.Need-returns
 returns c =
-    pair-put (c .before .before .before .before .before .before .before .before .before .args .place) (c .before .before .before .before .before .before .before .before .before .args .second) (c .before .before .before .before .before .before .put-le .ensures) (c .before .before .put-le2 .ensures)
+    let at-put-le = c .before .before .before .before .before .before in let start = at-put-le .before .before .before in
+    pair-put (start .args .place) (start .args .second) (at-put-le .put-le .ensures) (c .before .before .put-le2 .ensures)
 
 pub put-pair-spec : {M : Type 1} → statement M
 put-pair-spec = tie.close (tie.spec put-le-requires put-le-requires-2 same-length returns)

@@ -24,8 +24,9 @@ same-length c = search needs
 
 returns : tie.Need-returns
 returns c =
-    let a = c .before .before .before .before .before .before .before .before .before .args in
-    conversion-short (form-of (a .from)) (form-of (a .to)) (a .model .now) (a .buffer .now) (c .before .before .before .before .before .if1 .taken) (c .before .before .before .convert .ensures) (c .before .before .before .convert .kept .1 .1 .1 .0) (c .short .ensures)
+    let at-convert = c .before .before .before in let at-if1 = at-convert .before .before in let start = at-if1 .before .before .before .before in
+    let a = start .args in
+    conversion-short (form-of (a .from)) (form-of (a .to)) (a .model .now) (a .buffer .now) (at-if1 .if1 .taken) (at-convert .convert .ensures) (at-convert .convert .kept .1 .1 .1 .0) (c .short .ensures)
 
 convert-requires-2 : tie.Need-convert-requires-2
 convert-requires-2 c κs = search needs
@@ -41,8 +42,9 @@ same-length-3 c = search needs
 
 returns-2 : tie.Need-returns-2
 returns-2 c =
-    let a = c .before .before .before .before .before .before .before .before .before .before .before .before .args in
-    text-whole (conversion (form-of (a .from)) (form-of (a .to)) (a .model .now) (a .buffer .now)) (a .buffer .now) (a .out .now) (c .before .before .before .before .before .before .before .before .if1 .left) (c .before .before .before .before .before .before .convert2 .ensures) (c .before .before .put-pair .ensures .0)
+    let at-convert2 = c .before .before .before .before .before .before in let at-if1 = at-convert2 .before .before in let start = at-if1 .before .before .before .before in
+    let a = start .args in
+    text-whole (conversion (form-of (a .from)) (form-of (a .to)) (a .model .now) (a .buffer .now)) (a .buffer .now) (a .out .now) (at-if1 .if1 .left) (at-convert2 .convert2 .ensures) (c .before .before .put-pair .ensures .0)
 
 pub answered-spec : {M : Type 1} → statement M
 answered-spec =

@@ -23,8 +23,9 @@ same-length c = search needs
 
 returns : tie.Need-returns
 returns c =
-    let a = c .before .before .before .before .before .before .before .before .before .args in
-    import-short (a .text .now) (a .buffer .now) (c .before .before .before .before .before .if1 .taken) (c .before .before .before .import .ensures) (c .before .before .before .import .kept .1 .0) (c .short .ensures)
+    let at-import = c .before .before .before in let at-if1 = at-import .before .before in let start = at-if1 .before .before .before .before in
+    let a = start .args in
+    import-short (a .text .now) (a .buffer .now) (at-if1 .if1 .taken) (at-import .import .ensures) (at-import .import .kept .1 .0) (c .short .ensures)
 
 import-requires-2 : tie.Need-import-requires-2
 import-requires-2 c κs = search needs
@@ -40,8 +41,9 @@ same-length-3 c = search needs
 
 returns-2 : tie.Need-returns-2
 returns-2 c =
-    let a = c .before .before .before .before .before .before .before .before .before .before .before .before .args in
-    text-whole (import-text (a .text .now) (a .buffer .now)) (a .buffer .now) (a .out .now) (c .before .before .before .before .before .before .before .before .if1 .left) (c .before .before .before .before .before .before .import2 .ensures) (c .before .before .put-pair .ensures .0)
+    let at-import2 = c .before .before .before .before .before .before in let at-if1 = at-import2 .before .before in let start = at-if1 .before .before .before .before in
+    let a = start .args in
+    text-whole (import-text (a .text .now) (a .buffer .now)) (a .buffer .now) (a .out .now) (at-if1 .if1 .left) (at-import2 .import2 .ensures) (c .before .before .put-pair .ensures .0)
 
 pub import-spec : {M : Type 1} → statement M
 import-spec =

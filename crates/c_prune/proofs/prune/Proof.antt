@@ -24,9 +24,10 @@ same-length-2 c = search needs
 
 returns : tie.Need-returns
 returns c =
-    let a = c .before .before .before .before .before .before .before .before .before .before .before .args in
-    prune-short (a .model .now) (a .nodes .now) (a .stages .now) (a .work .now) (a .stage) (a .turns .now) (a .multipliers .now) (c .before .before .before .before .before .if1 .taken)
-    (c .before .refusal .ensures ∙ ap (λ (N : ℕ). prune-refusal (a .model .now) (a .nodes .now) (a .stages .now) N (a .stage) (a .turns .now) (a .multipliers .now)) (c .before .before .before .before .room .ensures)) (c .short .ensures)
+    let at-room = c .before .before .before .before in let at-if1 = at-room .before in let start = at-if1 .before .before .before .before .before .before in
+    let a = start .args in
+    prune-short (a .model .now) (a .nodes .now) (a .stages .now) (a .work .now) (a .stage) (a .turns .now) (a .multipliers .now) (at-if1 .if1 .taken)
+    (c .before .refusal .ensures ∙ ap (λ (N : ℕ). prune-refusal (a .model .now) (a .nodes .now) (a .stages .now) N (a .stage) (a .turns .now) (a .multipliers .now)) (at-room .room .ensures)) (c .short .ensures)
 
 prune-requires : tie.Need-prune-requires
 prune-requires c κs = search needs
@@ -48,11 +49,12 @@ same-length-6 c = search needs
 
 returns-2 : tie.Need-returns-2
 returns-2 c =
-    let a = c .before .before .before .before .before .before .before .before .before .before .before .before .before .before .before .before .before .before .before .args in
-    let v = c .before .before .before .before .before .before .before .before .before .prune in
+    let at-prune = c .before .before .before .before .before .before .before .before .before in let at-if1 = at-prune .before .before .before .before in
+    let start = at-if1 .before .before .before .before .before .before in let a = start .args in
+    let v = at-prune .prune in
     prune-whole (a .nodes .now) (a .stages .now) (a .work .now) (a .out .now)
     {o = record { number = v .result .number; place = v .result .place; nodes = v .last .1 .0; stages = v .last .1 .1 .0; work = v .last .1 .1 .1 .0 }}
-    {v = prune (a .model .now) (a .nodes .now) (a .stages .now) (a .work .now) (a .stage) (a .turns .now) (a .multipliers .now)} (c .before .before .before .before .before .before .before .before .before .before .before .before .before .if1 .left) (v .ensures) (c .before .before .put-le .ensures)
+    {v = prune (a .model .now) (a .nodes .now) (a .stages .now) (a .work .now) (a .stage) (a .turns .now) (a .multipliers .now)} (at-if1 .if1 .left) (v .ensures) (c .before .before .put-le .ensures)
 
 pub prune-spec : {M : Type 1} → statement M
 prune-spec =

@@ -20,14 +20,19 @@ put-le-requires : tie.Need-put-le-requires
 put-le-requires c κs = search needs
 
 put-words-requires : tie.Need-put-words-requires
-put-words-requires c κs = omega (arith, c .before .before .before .before .before .before .before .before .before .before .before .before .before .pre, c .before .before .before .before .before .before .before .before .before .put-pair .ensures .1, c .before .before .before .before .before .before .before .before .before .put-pair .kept .0, c .before .before .before .before .put-le .ensures .behind, c .before .before .before .before .put-le .kept .0, le-length 4 (c .before .before .before .before .before .before .before .before .before .before .before .before .before .args .t .second))
+put-words-requires c κs =
+    let at-put-le = c .before .before .before .before in let at-put-pair = at-put-le .before .before .before .before .before in
+    let start = at-put-pair .before .before .before .before in
+    omega (arith, start .pre, at-put-pair .put-pair .ensures .1, at-put-pair .put-pair .kept .0, at-put-le .put-le .ensures .behind, at-put-le .put-le .kept .0, le-length 4 (start .args .t .second))
 
 same-length : tie.Need-same-length
 same-length c = search needs
 
 returns : tie.Need-returns
 returns c =
-    total-put (total-out (c .before .before .before .before .before .before .before .before .before .before .before .before .before .before .before .before .args .t)) (omega (arith, c .before .before .before .before .before .before .before .before .before .before .before .before .before .before .before .before .pre, c .before .before .before .before .before .before .before .before .before .before .before .before .put-pair .ensures .1, c .before .before .before .before .before .before .before .before .before .before .before .before .put-pair .kept .0)) (record { sfits = c .before .before .before .struct-told .given .1 .1 .1 .1 .0 .1 .1 .1 .0 .1 }) (c .before .before .before .before .before .before .before .before .before .before .before .before .put-pair .ensures .0) (c .before .before .before .before .before .before .before .put-le .ensures) (c .before .before .put-words .ensures)
+    let at-struct-told = c .before .before .before in let at-put-le = at-struct-told .before .before .before .before in
+    let at-put-pair = at-put-le .before .before .before .before .before in let start = at-put-pair .before .before .before .before in
+    total-put (total-out (start .args .t)) (omega (arith, start .pre, at-put-pair .put-pair .ensures .1, at-put-pair .put-pair .kept .0)) (record { sfits = at-struct-told .struct-told .given .1 .1 .1 .1 .0 .1 .1 .1 .0 .1 }) (at-put-pair .put-pair .ensures .0) (at-put-le .put-le .ensures) (c .before .before .put-words .ensures)
 
 pub put-total-spec : {M : Type 1} → statement M
 put-total-spec =

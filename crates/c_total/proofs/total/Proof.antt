@@ -23,12 +23,12 @@ same-length c = search needs
 
 returns : tie.Need-returns
 returns c =
-    let s = c .before .before .before .before .before .before .before .before .before .before in
+    let at-total = c .before .before .before in let place = at-total .before .before .before .before .before .before .before in let s = place in
     let a = s .args in
     let n : List ℤ = a .l1 ∷ a .l2 ∷ a .l3 ∷ a .l4 ∷ a .l5 ∷ a .l6 ∷ a .l7 ∷ a .l8 ∷ a .d ∷ [] in
     let m : List ℤ = a .k1 ∷ a .k2 ∷ a .k3 ∷ a .k4 ∷ a .k5 ∷ a .k6 ∷ a .k7 ∷ a .k8 ∷ a .e ∷ [] in
     total-found (λ (q r : Asked). total-of (a .bytes .now) (a .nodes .now) (a .stages .now) q (a .bytes2 .now) (a .nodes2 .now) (a .stages2 .now) r (a .steps))
-    {p = asked-by (a .mask) (map R32 n)} {q = asked-by (a .mask) n} {r = asked-by (a .mask2) (map R32 m)} {s = asked-by (a .mask2) m} (a .out .now) (c .before .before .give .ensures) (c .before .before .before .total .ensures)
+    {p = asked-by (a .mask) (map R32 n)} {q = asked-by (a .mask) n} {r = asked-by (a .mask2) (map R32 m)} {s = asked-by (a .mask2) m} (a .out .now) (c .before .before .give .ensures) (at-total .total .ensures)
     (ap (asked-by (a .mask)) (read-back n (s .fits .l1, (s .fits .l2, (s .fits .l3, (s .fits .l4, (s .fits .l5, (s .fits .l6, (s .fits .l7, (s .fits .l8, (s .fits .d, tt)))))))))))
     (ap (asked-by (a .mask2)) (read-back m (s .fits .k1, (s .fits .k2, (s .fits .k3, (s .fits .k4, (s .fits .k5, (s .fits .k6, (s .fits .k7, (s .fits .k8, (s .fits .e, tt)))))))))))
 

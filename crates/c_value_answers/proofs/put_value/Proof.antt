@@ -19,7 +19,8 @@ same-length c = search needs
 
 returns : tie.Need-returns
 returns c =
-    value-put (value-out (c .before .before .before .before .before .before .before .before .before .before .before .args .v)) (record { sfits = c .before .before .before .struct-told .given .1 .1 .1 .0 .1 .1 .1 .0 .1 }) (c .before .before .before .before .before .before .before .put-pair .ensures .0) (c .before .before .put-words .ensures)
+    let at-struct-told = c .before .before .before in let at-put-pair = at-struct-told .before .before .before .before in let start = at-put-pair .before .before .before .before in
+    value-put (value-out (start .args .v)) (record { sfits = at-struct-told .struct-told .given .1 .1 .1 .0 .1 .1 .1 .0 .1 }) (at-put-pair .put-pair .ensures .0) (c .before .before .put-words .ensures)
 
 pub put-value-spec : {M : Type 1} → statement M
 put-value-spec =

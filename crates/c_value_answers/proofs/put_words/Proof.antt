@@ -16,15 +16,17 @@ bits-requires c κs = search needs
 
 put-le-requires-2 : tie.Need-put-le-requires-2
 put-le-requires-2 c κs =
-    omega (arith, c .before .before .before .before .before .before .before .pre, c .before .before .before .before .put-le .ensures .behind, c .before .before .before .before .put-le .kept .0, le-length 8 (c .before .before .before .before .before .before .before .args .low))
+    let at-put-le = c .before .before .before .before in let start = at-put-le .before .before .before in
+    omega (arith, start .pre, at-put-le .put-le .ensures .behind, at-put-le .put-le .kept .0, le-length 8 (start .args .low))
 
 same-length : tie.Need-same-length
 same-length c = search needs
 
 returns : tie.Need-returns
 returns c =
-    let h : c .before .before .before .before .before .before .before .before .before .before .args .at ≤ length (c .before .before .before .before .before .before .before .before .before .before .args .out .now) = omega (arith, c .before .before .before .before .before .before .before .before .before .before .pre) in
-    words-put (c .before .before .before .before .before .before .before .before .before .before .args .low) (c .before .before .before .before .before .before .before .before .before .before .args .high) h (c .before .before .before .before .before .before .before .before .before .before .fits .high) (c .before .before .before .bits .ensures) (c .before .before .before .before .before .before .before .put-le .ensures) (c .before .before .put-le2 .ensures)
+    let at-bits = c .before .before .before in let at-put-le = at-bits .before .before .before .before in let start = at-put-le .before .before .before in
+    let h : start .args .at ≤ length (start .args .out .now) = omega (arith, start .pre) in
+    words-put (start .args .low) (start .args .high) h (start .fits .high) (at-bits .bits .ensures) (at-put-le .put-le .ensures) (c .before .before .put-le2 .ensures)
 
 pub put-words-spec : {M : Type 1} → statement M
 put-words-spec =

@@ -10,7 +10,7 @@ short-requires c κs = search needs
 
 returns : tie.Need-returns
 returns c =
-    value-short (value-out (c .before .before .before .args .v)) (c .before .before .before .args .out .now) (c .before .if1 .taken) (c .short .ensures)
+    let start = c .before .before .before in value-short (value-out (start .args .v)) (start .args .out .now) (c .before .if1 .taken) (c .short .ensures)
 
 put-value-requires : tie.Need-put-value-requires
 put-value-requires c κs = search needs
@@ -20,7 +20,8 @@ same-length c = search needs
 
 returns-2 : tie.Need-returns-2
 returns-2 c =
-    value-whole (value-out (c .before .before .before .before .before .before .args .v)) (c .before .before .before .before .before .before .args .out .now) (c .before .before .before .before .if1 .left) (c .before .before .put-value .ensures)
+    let at-if1 = c .before .before .before .before in let start = at-if1 .before .before in
+    value-whole (value-out (start .args .v)) (start .args .out .now) (at-if1 .if1 .left) (c .before .before .put-value .ensures)
 
 pub value-spec : {M : Type 1} → statement M
 value-spec = tie.close (tie.spec short-requires returns put-value-requires same-length returns-2)

@@ -10,7 +10,7 @@ returns c = search needs
 
 slice-aggregate-early : tie.Need-slice-aggregate-early
 slice-aggregate-early c =
-    sym (length-take-le ((c .before .before .before .before) .args .n) ((c .before .before .before .before) .args .room .now) (c .before .if1 .left))
+    let start = c .before .before .before .before in sym (length-take-le (start .args .n) (start .args .room .now) (c .before .if1 .left))
 
 early-requires : tie.Need-early-requires
 early-requires c κs = search needs

@@ -43,7 +43,7 @@ loop-less c =
 
 loop-again : tie.Need-loop-again Inv-loop μ-loop
 loop-again c =
-    c .before .before .add2 .kept .0 ∙ c .before .before .before .before .before .before .loop .inv
+    let at-loop = c .before .before .before .before .before .before in c .before .before .add2 .kept .0 ∙ at-loop .loop .inv
 
 slice-aggregate-add-3 : tie.Need-slice-aggregate-add-3 Inv-loop μ-loop
 slice-aggregate-add-3 c =
@@ -55,7 +55,8 @@ add-requires-3 c κs =
 
 same-length : tie.Need-same-length Inv-loop μ-loop
 same-length c =
-    c .before .before .add3 .kept .0 ∙ c .before .before .before .before .before .before .loop .inv ∙ c .before .before .before .before .before .before .before .before .before .add .kept .0
+    let at-loop = c .before .before .before .before .before .before in let at-add = at-loop .before .before .before in
+    c .before .before .add3 .kept .0 ∙ at-loop .loop .inv ∙ at-add .add .kept .0
 
 returns : tie.Need-returns Inv-loop μ-loop
 returns c =

@@ -10,7 +10,7 @@ returns c = search needs
 
 slice-aggregate-validate : tie.Need-slice-aggregate-validate
 slice-aggregate-validate c =
-    sym (length-take-le ((c .before .before .before .before) .args .n) ((c .before .before .before .before) .args .room .now) (c .before .if1 .left))
+    let start = c .before .before .before .before in sym (length-take-le (start .args .n) (start .args .room .now) (c .before .if1 .left))
 
 validate-requires : tie.Need-validate-requires
 validate-requires c κs = search needs

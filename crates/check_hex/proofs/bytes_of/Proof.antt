@@ -38,7 +38,8 @@ returns c =
 
 add-char-at : tie.Need-add-char-at Inv-loop μ-loop
 add-char-at c =
-    omega (arith, c .before .before .before .loop-test .taken, (c .before .before .before .before .before .before .before) .good)
+    let at-loop-test = c .before .before .before in let start = at-loop-test .before .before .before .before in
+    omega (arith, at-loop-test .loop-test .taken, start .good)
 
 char-at-requires : tie.Need-char-at-requires Inv-loop μ-loop
 char-at-requires c κs =
@@ -54,7 +55,8 @@ put-requires c κs =
 
 add-at : tie.Need-add-at Inv-loop μ-loop
 add-at c =
-    let v = c .before .before .before .before .before .before .before .before .before .before .loop .inv in omega (arith, v .0, v .1, c .before .before .before .before .before .before .if1 .left, (c .before .before .before .before .before .before .before .before .before .before .before .before .before) .good)
+    let at-if1 = c .before .before .before .before .before .before in let at-loop = at-if1 .before .before .before .before in let start = at-loop .before .before .before in
+    let v = at-loop .loop .inv in omega (arith, v .0, v .1, at-if1 .if1 .left, start .good)
 
 step-requires : tie.Need-step-requires Inv-loop μ-loop
 step-requires c κs =
@@ -62,17 +64,20 @@ step-requires c κs =
 
 add-i : tie.Need-add-i Inv-loop μ-loop
 add-i c =
-    omega (arith, c .step .ensures .0, c .step .ensures .1, c .before .before .before .before .before .before .before .before .before .before .loop-test .taken, (c .before .before .before .before .before .before .before .before .before .before .before .before .before .before) .good)
+    let at-loop-test = c .before .before .before .before .before .before .before .before .before .before in let start = at-loop-test .before .before .before .before in
+    omega (arith, c .step .ensures .0, c .step .ensures .1, at-loop-test .loop-test .taken, start .good)
 
 loop-less : tie.Need-loop-less Inv-loop μ-loop
 loop-less c =
-    omega (arith, c .step .ensures .0, c .before .before .before .before .before .before .before .before .before .before .loop-test .taken)
+    let at-loop-test = c .before .before .before .before .before .before .before .before .before .before in
+    omega (arith, c .step .ensures .0, at-loop-test .loop-test .taken)
 
 loop-again : tie.Need-loop-again Inv-loop μ-loop
 loop-again c =
-    let v = c .before .before .before .before .before .before .before .before .before .before .before .loop .inv in
-    let k = c .before .before .before .put .kept .0 in
-    (omega (arith, v .0, k, c .before .before .before .before .before .before .before .if1 .left), k ∙ v .1)
+    let at-put = c .before .before .before in let at-if1 = at-put .before .before .before .before in let at-loop = at-if1 .before .before .before .before in
+    let v = at-loop .loop .inv in
+    let k = at-put .put .kept .0 in
+    (omega (arith, v .0, k, at-if1 .if1 .left), k ∙ v .1)
 
 same-length-2 : tie.Need-same-length-2 Inv-loop μ-loop
 same-length-2 c =

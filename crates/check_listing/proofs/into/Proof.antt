@@ -13,7 +13,7 @@ slice-relend-prefix-listing c = search needs
 
 slice-aggregate-listing : tie.Need-slice-aggregate-listing
 slice-aggregate-listing c =
-    sym (length-take-le ((c .before .before .before .before .before) .args .n) ((c .before .before .before .before .before) .args .room .now) (c .before .if1 .left))
+    let start = c .before .before .before .before .before in sym (length-take-le (start .args .n) (start .args .room .now) (c .before .if1 .left))
 
 listing-requires : tie.Need-listing-requires
 listing-requires c κs = search needs

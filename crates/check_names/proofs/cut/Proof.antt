@@ -7,7 +7,7 @@ use Rattle.check_names.proofs.cut.Tie as tie
 
 slice-aggregate-show : tie.Need-slice-aggregate-show
 slice-aggregate-show c =
-    sym (length-take-le ((c .before .before .before .before) .args .n) ((c .before .before .before .before) .args .input .now) (c .before .if1 .taken))
+    let start = c .before .before .before .before in sym (length-take-le (start .args .n) (start .args .input .now) (c .before .if1 .taken))
 
 show-requires : tie.Need-show-requires
 show-requires c κs = search needs

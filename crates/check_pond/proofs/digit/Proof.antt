@@ -16,7 +16,7 @@ shared-slice-read-b c = search needs
 
 cast-result : tie.Need-cast-result
 cast-result c =
-    omega (arith, c .before .shared-slice-known .given (c .before .before .before .before .before .args .at + c .before .before .before .before .before .args .i))
+    let start = c .before .before .before .before .before in omega (arith, c .before .shared-slice-known .given (start .args .at + start .args .i))
 
 returns : tie.Need-returns
 returns c = search needs

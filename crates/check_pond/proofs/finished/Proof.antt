@@ -22,7 +22,8 @@ slice-aggregate-finish c = search needs
 
 finish-requires : tie.Need-finish-requires
 finish-requires c κs =
-    last-two (c .before .before .before .before .before .before .before .before .before .pre) (c .before .before .before .before .if1 .left) refl
+    let at-if1 = c .before .before .before .before in let start = at-if1 .before .before .before .before .before in
+    last-two (start .pre) (at-if1 .if1 .left) refl
 
 slice-aggregate-list : tie.Need-slice-aggregate-list
 slice-aggregate-list c = search needs

@@ -46,7 +46,8 @@ returns-6 c =
 
 returns-7 : tie.Need-returns-7
 returns-7 c =
-    λ t. levels-fit (c .before .before .before .before .before .args .held) (c .before .before .before .before .before .args .rule) _ _ _ (c .before .before .before .rule .given .1) (c .before .if1 .left) (omega (arith, c .if2 .left)) t
+    let at-rule = c .before .before .before in let start = at-rule .before .before in
+    λ t. levels-fit (start .args .held) (start .args .rule) _ _ _ (at-rule .rule .given .1) (c .before .if1 .left) (omega (arith, c .if2 .left)) t
 
 returns-8 : tie.Need-returns-8
 returns-8 c =
@@ -54,11 +55,13 @@ returns-8 c =
 
 returns-9 : tie.Need-returns-9
 returns-9 c =
-    λ t. reward-fits (c .before .before .before .before .before .args .held) (c .before .before .before .before .before .args .rule) _ _ _ _ _ (c .before .before .before .rule2 .given .1) (omega (arith, c .before .if3 .left)) (omega (arith, c .if4 .left)) t
+    let at-rule2 = c .before .before .before in let start = at-rule2 .before .before in
+    λ t. reward-fits (start .args .held) (start .args .rule) _ _ _ _ _ (at-rule2 .rule2 .given .1) (omega (arith, c .before .if3 .left)) (omega (arith, c .if4 .left)) t
 
 returns-10 : tie.Need-returns-10
 returns-10 c =
-    λ t. best-fits (c .before .before .before .before .args .held) (c .before .before .before .before .args .rule) _ _ (c .before .before .rule3 .given .1) (omega (arith, c .if5 .left)) t
+    let start = c .before .before .before .before in
+    λ t. best-fits (start .args .held) (start .args .rule) _ _ (c .before .before .rule3 .given .1) (omega (arith, c .if5 .left)) t
 
 pub fits-spec : {M : Type 1} → statement M
 fits-spec =

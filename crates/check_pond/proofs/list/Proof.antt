@@ -32,7 +32,8 @@ array-share-prefix-room c = search needs
 
 slice-aggregate-text-2 : tie.Need-slice-aggregate-text-2
 slice-aggregate-text-2 c =
-    sym (length-take-le (c .before .before .before .before .before .before .before .listing .result .size) (c .before .before .before .before .before .before .before .listing .last .1 .1 .1 .1 .0) (omega (arith, c .before .if1 .taken, c .before .before .before .before .before .before .before .listing .kept .1 .1 .1 .1 .0)))
+    let at-listing = c .before .before .before .before .before .before .before in
+    sym (length-take-le (at-listing .listing .result .size) (at-listing .listing .last .1 .1 .1 .1 .0) (omega (arith, c .before .if1 .taken, at-listing .listing .kept .1 .1 .1 .1 .0)))
 
 text-requires-2 : tie.Need-text-requires-2
 text-requires-2 c κs = search needs

@@ -13,7 +13,8 @@ words-from-requires c κs = search needs
 
 load-requires : tie.Need-load-requires
 load-requires c κs =
-    (c .before .before .before .before .before .before .before .before .before .before .pre .0, c .before .before .before .before .before .before .before .before .before .before .pre .1, wiped-table (loadRule (c .before .before .before .before .before .before .before .before .before .before .args .model .now)) (c .before .before .before .before .before .before .before .before .before .before .pre .2) (c .before .before .before .before .before .words-from .ensures) (c .before .before .before .before .before .words-from .kept .0), omega (arith, c .before .before .before .before .before .before .before .before .before .before .pre .3))
+    let at-words-from = c .before .before .before .before .before in let start = at-words-from .before .before .before .before .before in
+    (start .pre .0, start .pre .1, wiped-table (loadRule (start .args .model .now)) (start .pre .2) (at-words-from .words-from .ensures) (at-words-from .words-from .kept .0), omega (arith, start .pre .3))
 
 model-size-requires : tie.Need-model-size-requires
 model-size-requires c κs = search needs
@@ -38,7 +39,9 @@ same-length-3 c = search needs
 
 returns : tie.Need-returns
 returns c =
-    λ ok. loaded (c .before .before .before .before .before .before .before .before .before .before .before .before .before .before .before .before .before .before .before .before .pre .0) (c .before .before .before .before .before .before .before .before .before .load .ensures) (c .before .before .before .before .before .before .before .before .before .load .kept .1 .1 .1 .1 .0 ∙ c .before .before .before .before .before .before .before .before .before .before .before .before .before .before .before .before .before .before .before .before .pre .3) (c .before .before .before .model-size .ensures .0) ok
+    let at-model-size = c .before .before .before in let at-load = at-model-size .before .before .before .before .before .before in
+    let start = at-load .before .before .before .before .before .before .before .before .before .before .before in
+    λ ok. loaded (start .pre .0) (at-load .load .ensures) (at-load .load .kept .1 .1 .1 .1 .0 ∙ start .pre .3) (at-model-size .model-size .ensures .0) ok
 
 pub loaded-spec : {M : Type 1} → statement M
 loaded-spec =

@@ -20,7 +20,8 @@ returns c = search needs
 
 steps-requires : tie.Need-steps-requires
 steps-requires c κs =
-    (c .before .before .before .if1 .left, c .before .before .before .before .before .before .before .before .before .before .loaded .ensures (c .before .before .before .if1 .left))
+    let at-if1 = c .before .before .before in let at-loaded = at-if1 .before .before .before .before .before .before .before in
+    (at-if1 .if1 .left, at-loaded .loaded .ensures (at-if1 .if1 .left))
 
 same-length-4 : tie.Need-same-length-4
 same-length-4 c = search needs
@@ -36,7 +37,8 @@ returns-2 c = search needs
 
 finished-requires : tie.Need-finished-requires
 finished-requires c κs =
-    c .before .before .before .before .before .before .before .before .before .before .steps .ensures (c .before .before .before .if2 .left)
+    let at-if2 = c .before .before .before in let at-steps = at-if2 .before .before .before .before .before .before .before in
+    at-steps .steps .ensures (at-if2 .if2 .left)
 
 same-length-7 : tie.Need-same-length-7
 same-length-7 c = search needs

@@ -11,7 +11,7 @@ returns c = search needs
 
 slice-aggregate-run : tie.Need-slice-aggregate-run
 slice-aggregate-run c =
-    sym (length-take-le (c .before .before .before .args .n) (c .before .before .before .args .room .now) (c .before .if1 .left))
+    let start = c .before .before .before in sym (length-take-le (start .args .n) (start .args .room .now) (c .before .if1 .left))
 
 slice-aggregate-run-2 : tie.Need-slice-aggregate-run-2
 slice-aggregate-run-2 c = search needs

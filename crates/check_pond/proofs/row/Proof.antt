@@ -21,7 +21,9 @@ fits-requires c κs = search needs
 
 step-requires : tie.Need-step-requires
 step-requires c κs =
-    (c .before .before .before .before .before .before .before .before .before .before .before .before .before .pre, omega (arith, c .before .before .before .before .before .if2 .left), omega (arith, c .before .before .before .before .before .before .before .if1 .left), c .before .before .before .before .fits2 .ensures (c .before .before .before .if3 .taken))
+    let at-if3 = c .before .before .before in let at-fits2 = at-if3 .before in let at-if2 = at-fits2 .before in let at-if1 = at-if2 .before .before in
+    let start = at-if1 .before .before .before .before .before .before in
+    (start .pre, omega (arith, at-if2 .if2 .left), omega (arith, at-if1 .if1 .left), at-fits2 .fits2 .ensures (at-if3 .if3 .taken))
 
 same-length : tie.Need-same-length
 same-length c = search needs

@@ -16,7 +16,9 @@ returns-2 c = search needs
 
 planned-requires : tie.Need-planned-requires
 planned-requires c κs =
-    (judged (c .before .before .before .before .before .before .before .before .before .before .before .args .model .now) (c .before .before .before .before .before .validate .result) (c .before .before .before .before .before .validate .ensures) (c .before .before .before .if2 .left), omega (arith, c .before .before .before .before .before .before .if1 .left), c .before .before .before .before .before .before .before .before .before .before .before .pre .0, c .before .before .before .before .before .before .before .before .before .before .before .pre .1)
+    let at-if2 = c .before .before .before in let at-validate = at-if2 .before .before in let at-if1 = at-validate .before in
+    let start = at-if1 .before .before .before .before .before in
+    (judged (start .args .model .now) (at-validate .validate .result) (at-validate .validate .ensures) (at-if2 .if2 .left), omega (arith, at-if1 .if1 .left), start .pre .0, start .pre .1)
 
 same-length : tie.Need-same-length
 same-length c = search needs

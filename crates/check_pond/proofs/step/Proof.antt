@@ -30,7 +30,8 @@ same-length-3 c = search needs
 
 returns : tie.Need-returns
 returns c =
-    λ ok. stepped (c .before .before .before .before .before .before .before .before .operate .ensures) (c .before .before .before .before .before .before .before .before .operate .kept .1 .1 .1 .1 .0) (c .before .before .before .before .before .before .before .before .before .before .before .before .before .before .pre .2) ok
+    let at-operate = c .before .before .before .before .before .before .before .before in let start = at-operate .before .before .before .before .before .before in
+    λ ok. stepped (at-operate .operate .ensures) (at-operate .operate .kept .1 .1 .1 .1 .0) (start .pre .2) ok
 
 pub step-spec : {M : Type 1} → statement M
 step-spec =

@@ -17,7 +17,7 @@ abbrev μ-loop : tie.MeasureT-loop
 
 loop-holds : tie.Need-loop-holds Inv-loop μ-loop
 loop-holds c =
-    record { stop = c .before .before .before .pre .0; standing = c .before .before .before .pre .1; nodes-kept = refl; work-kept = refl; roots-kept = refl }
+    let start = c .before .before .before in record { stop = start .pre .0; standing = start .pre .1; nodes-kept = refl; work-kept = refl; roots-kept = refl }
 
 row-requires : tie.Need-row-requires Inv-loop μ-loop
 row-requires c κs =
@@ -25,15 +25,18 @@ row-requires c κs =
 
 same-length : tie.Need-same-length Inv-loop μ-loop
 same-length c =
-    c .before .before .before .before .before .before .before .row .kept .0 ∙ c .before .before .before .before .before .before .before .before .before .before .before .before .loop .inv .nodes-kept
+    let at-row = c .before .before .before .before .before .before .before in let at-loop = at-row .before .before .before .before .before in
+    at-row .row .kept .0 ∙ at-loop .loop .inv .nodes-kept
 
 same-length-2 : tie.Need-same-length-2 Inv-loop μ-loop
 same-length-2 c =
-    c .before .before .before .before .before .before .before .row .kept .1 .0 ∙ c .before .before .before .before .before .before .before .before .before .before .before .before .loop .inv .work-kept
+    let at-row = c .before .before .before .before .before .before .before in let at-loop = at-row .before .before .before .before .before in
+    at-row .row .kept .1 .0 ∙ at-loop .loop .inv .work-kept
 
 same-length-3 : tie.Need-same-length-3 Inv-loop μ-loop
 same-length-3 c =
-    c .before .before .before .before .before .before .before .row .kept .1 .1 .1 .1 .0 ∙ c .before .before .before .before .before .before .before .before .before .before .before .before .loop .inv .roots-kept
+    let at-row = c .before .before .before .before .before .before .before in let at-loop = at-row .before .before .before .before .before in
+    at-row .row .kept .1 .1 .1 .1 .0 ∙ at-loop .loop .inv .roots-kept
 
 returns : tie.Need-returns Inv-loop μ-loop
 returns c =
@@ -41,7 +44,8 @@ returns c =
 
 add-at : tie.Need-add-at Inv-loop μ-loop
 add-at c =
-    omega (arith, c .before .before .before .before .before .before .before .before .before .before .before .before .before .before .before .before .good .1 .1 .1 .1 .1 .0 .1)
+    let start = c .before .before .before .before .before .before .before .before .before .before .before .before .before .before .before .before in
+    omega (arith, start .good .1 .1 .1 .1 .1 .0 .1)
 
 loop-less : tie.Need-loop-less Inv-loop μ-loop
 loop-less c =
@@ -49,7 +53,8 @@ loop-less c =
 
 loop-again : tie.Need-loop-again Inv-loop μ-loop
 loop-again c =
-    record { stop = c .if1 .left; standing = c .before .before .before .before .before .before .before .row .ensures (c .if1 .left); nodes-kept = c .before .before .before .before .before .before .before .row .kept .0 ∙ c .before .before .before .before .before .before .before .before .before .before .before .before .loop .inv .nodes-kept; work-kept = c .before .before .before .before .before .before .before .row .kept .1 .0 ∙ c .before .before .before .before .before .before .before .before .before .before .before .before .loop .inv .work-kept; roots-kept = c .before .before .before .before .before .before .before .row .kept .1 .1 .1 .1 .0 ∙ c .before .before .before .before .before .before .before .before .before .before .before .before .loop .inv .roots-kept }
+    let at-row = c .before .before .before .before .before .before .before in let at-loop = at-row .before .before .before .before .before in
+    record { stop = c .if1 .left; standing = at-row .row .ensures (c .if1 .left); nodes-kept = at-row .row .kept .0 ∙ at-loop .loop .inv .nodes-kept; work-kept = at-row .row .kept .1 .0 ∙ at-loop .loop .inv .work-kept; roots-kept = at-row .row .kept .1 .1 .1 .1 .0 ∙ at-loop .loop .inv .roots-kept }
 
 same-length-4 : tie.Need-same-length-4 Inv-loop μ-loop
 same-length-4 c =

@@ -20,7 +20,8 @@ same-length-2 c = search needs
 
 returns : tie.Need-returns
 returns c =
-    held-grew ((c .before .before .before .before .before .before .before) .pre .0) (c .before .before .before .make-leaf .ensures)
+    let at-make-leaf = c .before .before .before in let start = at-make-leaf .before .before .before .before in
+    held-grew (start .pre .0) (at-make-leaf .make-leaf .ensures)
 
 pub leaf-spec : {M : Type 1} → statement M
 leaf-spec = tie.close (tie.spec cast-n array-set-from-n make-leaf-requires same-length same-length-2 returns)

@@ -20,7 +20,7 @@ same-length-2 c = search needs
 
 returns : tie.Need-returns
 returns c =
-    c .before .before .before .before .before .before .stairs .ensures
+    let at-stairs = c .before .before .before .before .before .before in at-stairs .stairs .ensures
 
 stairs-requires-2 : tie.Need-stairs-requires-2
 stairs-requires-2 c κs = search needs
@@ -36,27 +36,34 @@ same-length-4 c = search needs
 
 returns-2 : tie.Need-returns-2
 returns-2 c =
-    held-on (c .before .before .before .before .before .before .before .before .before .before .before .before .before .before .before .stairs .ensures .more) (c .before .before .before .before .before .before .stairs2 .ensures)
+    let at-stairs2 = c .before .before .before .before .before .before in let at-stairs = at-stairs2 .before .before .before .before .before .before .before .before .before in
+    held-on (at-stairs .stairs .ensures .more) (at-stairs2 .stairs2 .ensures)
 
 merge-requires : tie.Need-merge-requires
 merge-requires c κs =
-    let F = c .before .before .before .before .before .before .before .before .before .before .before .before .before .before .before .before .before .stairs .ensures in
-    let G = c .before .before .before .before .before .before .before .before .stairs2 .ensures in
-    (G .table, (c .before .before .before .before .before .before .before .before .before .before .before .before .before .before .before .before .before .before .before .before .before) .pre .1, lt-of-lt-of-le (F .within (c .before .before .before .before .before .before .before .before .before .before .before .if1 .left)) (G .more), G .within (c .before .before .if2 .left))
+    let at-stairs2 = c .before .before .before .before .before .before .before .before in let at-if1 = at-stairs2 .before .before .before in
+    let at-stairs = at-if1 .before .before .before .before .before .before in let start = at-stairs .before .before .before .before in
+    let F = at-stairs .stairs .ensures in
+    let G = at-stairs2 .stairs2 .ensures in
+    (G .table, start .pre .1, lt-of-lt-of-le (F .within (at-if1 .if1 .left)) (G .more), G .within (c .before .before .if2 .left))
 
 show-requires-3 : tie.Need-show-requires-3
 show-requires-3 c κs = search needs
 
 same-length-5 : tie.Need-same-length-5
 same-length-5 c =
-    c .before .before .before .before .merge .kept .0 ∙ c .before .before .before .before .before .before .before .before .before .before .before .before .before .stairs2 .kept .0 ∙ c .before .before .before .before .before .before .before .before .before .before .before .before .before .before .before .before .before .before .before .before .before .before .stairs .kept .0
+    let at-merge = c .before .before .before .before in let at-stairs2 = at-merge .before .before .before .before .before .before .before .before .before in
+    let at-stairs = at-stairs2 .before .before .before .before .before .before .before .before .before in
+    at-merge .merge .kept .0 ∙ at-stairs2 .stairs2 .kept .0 ∙ at-stairs .stairs .kept .0
 
 same-length-6 : tie.Need-same-length-6
 same-length-6 c = search needs
 
 returns-3 : tie.Need-returns-3
 returns-3 c =
-    held-on (c .before .before .before .before .before .before .before .before .before .before .before .before .before .before .before .before .before .before .before .before .before .before .stairs .ensures .more) (held-on (c .before .before .before .before .before .before .before .before .before .before .before .before .before .stairs2 .ensures .more) (held (c .before .before .before .before .merge .ensures)))
+    let at-merge = c .before .before .before .before in let at-stairs2 = at-merge .before .before .before .before .before .before .before .before .before in
+    let at-stairs = at-stairs2 .before .before .before .before .before .before .before .before .before in
+    held-on (at-stairs .stairs .ensures .more) (held-on (at-stairs2 .stairs2 .ensures .more) (held (at-merge .merge .ensures)))
 
 pub pair-spec : {M : Type 1} → statement M
 pair-spec =

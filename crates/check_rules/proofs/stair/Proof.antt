@@ -28,8 +28,8 @@ array-set-from-n c = search needs
 
 join-test-requires : tie.Need-join-test-requires
 join-test-requires c κs =
-    let s = (c .before .before .before .before .before .before .before .before .before .before .before) in
-    let A = c .before .before .before .before .before .before .before .leaf .ensures in
+    let at-leaf = c .before .before .before .before .before .before .before in let place-2 = at-leaf .before .before .before .before in let s = place-2 in
+    let A = at-leaf .leaf .ensures in
     (A .table .bare, proper-at (s .args .at) (s .pre .1), lt-of-lt-of-le (s .pre .3) (A .more), A .within (c .before .before .if1 .left))
 
 same-length-3 : tie.Need-same-length-3
@@ -40,8 +40,9 @@ same-length-4 c = search needs
 
 returns-2 : tie.Need-returns-2
 returns-2 c =
-    let A = c .before .before .before .before .before .before .before .before .before .before .before .leaf .ensures in
-    held-on (A .more) (held-grew (A .table) (c .before .before .before .join-test .ensures))
+    let at-join-test = c .before .before .before in let at-leaf = at-join-test .before .before .before .before .before .before .before .before in
+    let A = at-leaf .leaf .ensures in
+    held-on (A .more) (held-grew (A .table) (at-join-test .join-test .ensures))
 
 pub stair-spec : {M : Type 1} → statement M
 stair-spec =

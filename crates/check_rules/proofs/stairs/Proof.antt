@@ -29,11 +29,13 @@ loop-holds c =
 
 same-length : tie.Need-same-length Inv-loop μ-loop
 same-length c =
-    search (needs, c .before .before .before .loop .inv .1, c .before .before .before .loop .inv .2, c .before .before .before .before .before .before .before .leaf .kept)
+    let at-loop = c .before .before .before in let at-leaf = at-loop .before .before .before .before in
+    search (needs, at-loop .loop .inv .1, at-loop .loop .inv .2, at-leaf .leaf .kept)
 
 same-length-2 : tie.Need-same-length-2 Inv-loop μ-loop
 same-length-2 c =
-    search (needs, c .before .before .before .loop .inv .1, c .before .before .before .loop .inv .2, c .before .before .before .before .before .before .before .leaf .kept)
+    let at-loop = c .before .before .before in let at-leaf = at-loop .before .before .before .before in
+    search (needs, at-loop .loop .inv .1, at-loop .loop .inv .2, at-leaf .leaf .kept)
 
 returns : tie.Need-returns Inv-loop μ-loop
 returns c =
@@ -53,12 +55,14 @@ rem-stair c = search needs
 
 add-stair : tie.Need-add-stair Inv-loop μ-loop
 add-stair c =
-    omega (arith, mod-le (c .before .before .before .before .before .loop .i) ((c .before .before .before .before .before .before .before .before .before .before .before .before .before) .args .values))
+    let at-loop = c .before .before .before .before .before in let start = at-loop .before .before .before .before .before .before .before .before in
+    omega (arith, mod-le (at-loop .loop .i) (start .args .values))
 
 stair-requires : tie.Need-stair-requires Inv-loop μ-loop
 stair-requires c κs =
-    let v = c .before .before .before .before .before .loop .inv in
-    (v .0 .table, search needs, omega (arith, mod-le (c .before .before .before .before .before .loop .i) ((c .before .before .before .before .before .before .before .before .before .before .before .before .before) .args .values)), v .0 .within (c .before .before .if1 .left))
+    let at-loop = c .before .before .before .before .before in let start = at-loop .before .before .before .before .before .before .before .before in
+    let v = at-loop .loop .inv in
+    (v .0 .table, search needs, omega (arith, mod-le (at-loop .loop .i) (start .args .values)), v .0 .within (c .before .before .if1 .left))
 
 add-i : tie.Need-add-i Inv-loop μ-loop
 add-i c = search needs
@@ -68,7 +72,8 @@ loop-less c = search needs
 
 loop-again : tie.Need-loop-again Inv-loop μ-loop
 loop-again c =
-    (held-on (c .before .before .before .before .before .before .before .before .before .loop .inv .0 .more) (c .before .before .before .stair .ensures), search (needs, c .before .before .before .stair .kept, c .before .before .before .before .before .before .before .before .before .loop .inv .1), search (needs, c .before .before .before .stair .kept, c .before .before .before .before .before .before .before .before .before .loop .inv .2), search needs)
+    let at-stair = c .before .before .before in let at-loop = at-stair .before .before .before .before .before .before in
+    (held-on (at-loop .loop .inv .0 .more) (at-stair .stair .ensures), search (needs, at-stair .stair .kept, at-loop .loop .inv .1), search (needs, at-stair .stair .kept, at-loop .loop .inv .2), search needs)
 
 same-length-3 : tie.Need-same-length-3 Inv-loop μ-loop
 same-length-3 c =

@@ -28,7 +28,8 @@ slice-aggregate-numbers c = search needs
 
 slice-aggregate-numbers-2 : tie.Need-slice-aggregate-numbers-2
 slice-aggregate-numbers-2 c =
-    sym (length-take-le (c .before .before .before .before .before .before .before .before .before .before .args .n) (c .before .before .before .before .before .before .before .before .before .before .args .stages .now) (c .before .before .if1 .taken))
+    let start = c .before .before .before .before .before .before .before .before .before .before in
+    sym (length-take-le (start .args .n) (start .args .stages .now) (c .before .before .if1 .taken))
 
 numbers-requires : tie.Need-numbers-requires
 numbers-requires c κs = search needs

@@ -30,7 +30,8 @@ rain-values-requires c κs = search needs
 
 slice-aggregate-refused-values : tie.Need-slice-aggregate-refused-values
 slice-aggregate-refused-values c =
-    sym (length-take-le 317 ((c .before .before .before .before .before .before .before) .args .models .now) (omega (arith, c .before .before .before .before .if1 .left)))
+    let at-if1 = c .before .before .before .before in let start = at-if1 .before .before .before in
+    sym (length-take-le 317 (start .args .models .now) (omega (arith, at-if1 .if1 .left)))
 
 refused-values-requires : tie.Need-refused-values-requires
 refused-values-requires c κs = search needs

@@ -47,21 +47,24 @@ slice-relend-prefix-solve-lent c = search needs
 
 slice-aggregate-solve-lent : tie.Need-slice-aggregate-solve-lent
 slice-aggregate-solve-lent c =
-    sym (length-take-le (c .before .before .before .before .node-words .result) (c .before .before .before .before .before .before .before .before .before .before .before .args .nodes .now) (le-trans (c .before .before .before .before .node-words .ensures) (c .before .before .before .before .before .before .before .before .before .before .before .pre .1)))
+    let at-node-words = c .before .before .before .before in let start = at-node-words .before .before .before .before .before .before .before in
+    sym (length-take-le (at-node-words .node-words .result) (start .args .nodes .now) (le-trans (at-node-words .node-words .ensures) (start .pre .1)))
 
 slice-relend-prefix-solve-lent-2 : tie.Need-slice-relend-prefix-solve-lent-2
 slice-relend-prefix-solve-lent-2 c = search needs
 
 slice-aggregate-solve-lent-2 : tie.Need-slice-aggregate-solve-lent-2
 slice-aggregate-solve-lent-2 c =
-    sym (length-take-le (c .before .before .before .least .result) (c .before .before .before .before .before .before .before .before .before .before .before .before .args .stages .now) (le-trans (c .before .before .before .least .ensures) (c .before .before .before .before .before .before .before .before .before .before .before .before .pre .2)))
+    let at-least = c .before .before .before in let start = at-least .before .before .before .before .before .before .before .before .before in
+    sym (length-take-le (at-least .least .result) (start .args .stages .now) (le-trans (at-least .least .ensures) (start .pre .2)))
 
 slice-relend-prefix-solve-lent-3 : tie.Need-slice-relend-prefix-solve-lent-3
 slice-relend-prefix-solve-lent-3 c = search needs
 
 slice-aggregate-solve-lent-3 : tie.Need-slice-aggregate-solve-lent-3
 slice-aggregate-solve-lent-3 c =
-    sym (length-take-le (c .before .before .before .before .before .work-words .result) (c .before .before .before .before .before .before .before .before .before .before .before .before .before .args .work .now) (le-trans (c .before .before .before .before .before .work-words .ensures) (c .before .before .before .before .before .before .before .before .before .before .before .before .before .pre .3)))
+    let at-work-words = c .before .before .before .before .before in let start = at-work-words .before .before .before .before .before .before .before .before in
+    sym (length-take-le (at-work-words .work-words .result) (start .args .work .now) (le-trans (at-work-words .work-words .ensures) (start .pre .3)))
 
 solve-lent-requires : tie.Need-solve-lent-requires
 solve-lent-requires c κs = search needs

@@ -10,11 +10,14 @@ mark-requires c κs =
 
 slide-requires : tie.Need-slide-requires
 slide-requires c κs =
-    let s = (c .before .before .before .before .before .before .before .before .before .before) in (space₁ (s .pre .0) (s .pre .1) (s .pre .2) (c .before .before .before .before .mark .ensures), s .pre .1, closed (s .pre .0) (s .pre .1) (s .pre .2) (c .before .before .before .before .mark .ensures))
+    let at-mark = c .before .before .before .before in let place = at-mark .before .before .before .before .before .before in
+    let s = place in (space₁ (s .pre .0) (s .pre .1) (s .pre .2) (at-mark .mark .ensures), s .pre .1, closed (s .pre .0) (s .pre .1) (s .pre .2) (at-mark .mark .ensures))
 
 forward-requires : tie.Need-forward-requires
 forward-requires c κs =
-    let s = (c .before .before .before .before .before .before .before .before .before .before .before .before .before .before .before .before) in asks (s .pre .0) (s .pre .1) (s .pre .2) (c .before .before .before .before .before .before .before .before .before .before .mark .ensures) (c .before .before .before .before .before .slide .ensures)
+    let at-slide = c .before .before .before .before .before in let at-mark = at-slide .before .before .before .before .before in
+    let place = at-mark .before .before .before .before .before .before in
+    let s = place in asks (s .pre .0) (s .pre .1) (s .pre .2) (at-mark .mark .ensures) (at-slide .slide .ensures)
 
 same-length : tie.Need-same-length
 same-length c = search needs
@@ -27,7 +30,9 @@ same-length-3 c = search needs
 
 returns : tie.Need-returns
 returns c =
-    let s = c .before .before .before .before .before .before .before .before .before .before .before .before .before .before .before .before .before .before .before in collected (s .pre .0) (s .pre .1) (s .pre .2) (c .before .before .before .before .before .before .before .before .before .before .before .before .before .mark .ensures) (c .before .before .before .before .before .before .before .before .slide .ensures) (c .before .before .forward .ensures)
+    let at-slide = c .before .before .before .before .before .before .before .before in let at-mark = at-slide .before .before .before .before .before in
+    let place = at-mark .before .before .before .before .before .before in
+    let s = place in collected (s .pre .0) (s .pre .1) (s .pre .2) (at-mark .mark .ensures) (at-slide .slide .ensures) (c .before .before .forward .ensures)
 
 pub collect-spec : {M : Type 1} → statement M
 collect-spec =

@@ -16,13 +16,14 @@ stay-requires c κs =
     let z = c .before .before .pre .0 in (omega (arith, z .works), z .few, z .room)
 
 loop-holds : tie.Need-loop-holds Inv-loop μ-loop
-loop-holds c = begins (c .before .before .stay .ensures) (c .before .before .before .before .before .pre .0) (c .before .before .before .before .before .pre .1)
+loop-holds c =
+    let start = c .before .before .before .before .before in begins (c .before .before .stay .ensures) (start .pre .0) (start .pre .1)
 
 slide-one-requires : tie.Need-slide-one-requires Inv-loop μ-loop
 slide-one-requires c κs =
-    let s = c .before .before .before .before .before .before .before .before .before in
-    let v = c .before .before .before .loop .inv in
-    let t = c .before .before .before .before .before .before .stay .ensures in
+    let at-loop = c .before .before .before in let at-stay = at-loop .before .before .before in let place = at-stay .before .before .before in let s = place in
+    let v = at-loop .loop .inv in
+    let t = at-stay .stay .ensures in
     let z = space-after t (s .pre .0) in
     let d = closed-after t (s .pre .0) (s .pre .1) (s .pre .2) in
     let h = c .before .before .loop-test .taken in
@@ -30,16 +31,18 @@ slide-one-requires c κs =
 
 add-i : tie.Need-add-i Inv-loop μ-loop
 add-i c =
-    let z = c .before .before .before .before .before .before .before .before .before .before .before .before .before .pre .0 in omega (arith, z .room, z .few)
+    let start = c .before .before .before .before .before .before .before .before .before .before .before .before .before in
+    let z = start .pre .0 in omega (arith, z .room, z .few)
 
 loop-less : tie.Need-loop-less Inv-loop μ-loop
 loop-less c = omega arith
 
 loop-again : tie.Need-loop-again Inv-loop μ-loop
 loop-again c =
-    let s = c .before .before .before .before .before .before .before .before .before .before .before .before .before in
-    let t = c .before .before .before .before .before .before .before .before .before .before .stay .ensures in
-    steps (space-after t (s .pre .0)) (s .pre .1) (closed-after t (s .pre .0) (s .pre .1) (s .pre .2)) (c .before .before .before .before .before .before .before .loop .inv) (c .before .before .before .before .before .before .loop-test .taken) (c .before .before .before .slide-one .ensures)
+    let at-slide-one = c .before .before .before in let at-loop-test = at-slide-one .before .before .before in let at-loop = at-loop-test .before in
+    let at-stay = at-loop .before .before .before in let place = at-stay .before .before .before in let s = place in
+    let t = at-stay .stay .ensures in
+    steps (space-after t (s .pre .0)) (s .pre .1) (closed-after t (s .pre .0) (s .pre .1) (s .pre .2)) (at-loop .loop .inv) (at-loop-test .loop-test .taken) (at-slide-one .slide-one .ensures)
 
 same-length : tie.Need-same-length Inv-loop μ-loop
 same-length c = c .before .loop .inv .len
@@ -49,8 +52,8 @@ same-length-2 c = omega (arith, c .before .loop .inv .lenw, c .before .before .b
 
 returns : tie.Need-returns Inv-loop μ-loop
 returns c =
-    let s = c .before .before .before .before .before .before .before in
-    let t = c .before .before .before .before .stay .ensures in
+    let at-stay = c .before .before .before .before in let place = at-stay .before .before .before in let s = place in
+    let t = at-stay .stay .ensures in
     slid-before t (s .pre .0) (ends (space-after t (s .pre .0)) (s .pre .1) (closed-after t (s .pre .0) (s .pre .1) (s .pre .2)) (c .before .loop .inv) (c .loop-test .left))
 
 pub slide-spec : {M : Type 1} → statement M

@@ -20,7 +20,8 @@ mul-if1 : tie.Need-mul-if1 Inv-loop μ-loop
 mul-if1 c = search needs
 
 slice-read-if1 : tie.Need-slice-read-if1 Inv-loop μ-loop
-slice-read-if1 c = omega (arith, c .before .before .loop .inv .len, c .before .before .before .pre .0, c .before .before .before .pre .2, c .before .loop-test .taken)
+slice-read-if1 c =
+    let start = c .before .before .before in omega (arith, c .before .before .loop .inv .len, start .pre .0, start .pre .2, c .before .loop-test .taken)
 
 same-length : tie.Need-same-length Inv-loop μ-loop
 same-length c = c .before .before .before .loop .inv .len
@@ -32,22 +33,29 @@ cast-work : tie.Need-cast-work Inv-loop μ-loop
 cast-work c = search needs
 
 add-work : tie.Need-add-work Inv-loop μ-loop
-add-work c = omega (arith, c .before .before .before .before .pre .1, c .before .before .before .before .pre .2, c .before .before .loop-test .taken)
+add-work c =
+    let start = c .before .before .before .before in omega (arith, start .pre .1, start .pre .2, c .before .before .loop-test .taken)
 
 mul-work : tie.Need-mul-work Inv-loop μ-loop
-mul-work c = omega (arith, c .before .before .before .before .pre .1, c .before .before .before .before .pre .2, c .before .before .loop-test .taken)
+mul-work c =
+    let start = c .before .before .before .before in omega (arith, start .pre .1, start .pre .2, c .before .before .loop-test .taken)
 
 slice-write-work : tie.Need-slice-write-work Inv-loop μ-loop
-slice-write-work c = omega (arith, c .before .before .before .loop .inv .len, c .before .before .before .before .pre .0, c .before .before .before .before .pre .2, c .before .before .loop-test .taken)
+slice-write-work c =
+    let at-loop = c .before .before .before in let start = at-loop .before in
+    omega (arith, at-loop .loop .inv .len, start .pre .0, start .pre .2, c .before .before .loop-test .taken)
 
 add-i : tie.Need-add-i Inv-loop μ-loop
-add-i c = omega (arith, c .before .before .before .before .pre .1, c .before .before .before .before .pre .2, c .before .before .loop-test .taken)
+add-i c =
+    let start = c .before .before .before .before in omega (arith, start .pre .1, start .pre .2, c .before .before .loop-test .taken)
 
 loop-less : tie.Need-loop-less Inv-loop μ-loop
 loop-less c = omega arith
 
 loop-again : tie.Need-loop-again Inv-loop μ-loop
-loop-again c = one-more (c .before .before .before .loop .inv) (c .before .before .loop-test .taken) (c .before .before .before .before .pre .2) (c .before .before .before .before .pre .0) (c .if1 .left)
+loop-again c =
+    let at-loop = c .before .before .before in let start = at-loop .before in
+    one-more (at-loop .loop .inv) (c .before .before .loop-test .taken) (start .pre .2) (start .pre .0) (c .if1 .left)
 
 same-length-2 : tie.Need-same-length-2 Inv-loop μ-loop
 same-length-2 c = c .before .loop .inv .len

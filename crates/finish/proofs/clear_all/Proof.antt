@@ -25,10 +25,11 @@ same-length-3 c = search needs
 
 returns : tie.Need-returns
 returns c =
-    record {
-      nodes = all-wiped (pos 0) ((c .before .before .before .before .before .before .before .before .before .before .before .before .before) .args .nodes .now) (c .before .before .before .before .before .before .before .before .before .nodes-from .ensures);
-      stages = all-wiped 0 ((c .before .before .before .before .before .before .before .before .before .before .before .before .before) .args .stages .now) (c .before .before .before .before .before .before .words-from .ensures);
-      work = all-wiped 0 ((c .before .before .before .before .before .before .before .before .before .before .before .before .before) .args .work .now) (c .before .before .words-from2 .ensures);
+    let at-words-from = c .before .before .before .before .before .before in let at-nodes-from = at-words-from .before .before .before in
+    let start = at-nodes-from .before .before .before .before in record {
+      nodes = all-wiped (pos 0) (start .args .nodes .now) (at-nodes-from .nodes-from .ensures);
+      stages = all-wiped 0 (start .args .stages .now) (at-words-from .words-from .ensures);
+      work = all-wiped 0 (start .args .work .now) (c .before .before .words-from2 .ensures);
     }
 
 pub clear-all-spec : {M : Type 1} → statement M

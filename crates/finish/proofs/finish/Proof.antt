@@ -13,11 +13,14 @@ rewrite-requires c κs = search needs
 
 stage-words-requires : tie.Need-stage-words-requires
 stage-words-requires c κs =
-    (c .before .before .before .before .before .before .before .before .number-stages .ensures .state .works, (c .before .before .before .before .before .before .before .before .before .before .before .before .before .before) .pre .held .few, wide ((c .before .before .before .before .before .before .before .before .before .before .before .before .before .before) .pre .held) (c .before .before .before .before .before .before .before .before .number-stages .ensures .state) ((c .before .before .before .before .before .before .before .before .before .before .before .before .before .before) .pre .roots), omega (arith, (c .before .before .before .before .before .before .before .before .before .before .before .before .before .before) .pre .few, (c .before .before .before .before .before .before .before .before .before .before .before .before .before .before) .pre .stages))
+    let at-number-stages = c .before .before .before .before .before .before .before .before in let start = at-number-stages .before .before .before .before .before .before in
+    (at-number-stages .number-stages .ensures .state .works, start .pre .held .few, wide (start .pre .held) (at-number-stages .number-stages .ensures .state) (start .pre .roots), omega (arith, start .pre .few, start .pre .stages))
 
 lay-out-requires : tie.Need-lay-out-requires
 lay-out-requires c κs =
-    (inverse ((c .before .before .before .before .before .before .before .before .before .before .before .before .before .before .before .before .before .before .before) .pre .held) (c .before .before .before .before .before .before .before .before .before .before .before .before .before .number-stages .ensures .state), (c .before .before .before .before .before .before .before .before .before .before .before .before .before .before .before .before .before .before .before) .pre .held .few, omega (arith, (c .before .before .before .before .before .before .before .before .before .before .before .before .before .before .before .before .before .before .before) .pre .held .words, c .before .before .before .before .before .before .before .before .rewrite .ensures .len))
+    let at-rewrite = c .before .before .before .before .before .before .before .before in let at-number-stages = at-rewrite .before .before .before .before .before in
+    let start = at-number-stages .before .before .before .before .before .before in
+    (inverse (start .pre .held) (at-number-stages .number-stages .ensures .state), start .pre .held .few, omega (arith, start .pre .held .words, at-rewrite .rewrite .ensures .len))
 
 same-length : tie.Need-same-length
 same-length c = search needs
@@ -30,7 +33,10 @@ same-length-3 c = search needs
 
 returns : tie.Need-returns
 returns c =
-    finished ((c .before .before .before .before .before .before .before .before .before .before .before .before .before .before .before .before .before .before .before .before .before .before .before) .pre .held) ((c .before .before .before .before .before .before .before .before .before .before .before .before .before .before .before .before .before .before .before .before .before .before .before) .args .stages .now) ((c .before .before .before .before .before .before .before .before .before .before .before .before .before .before .before .before .before .before .before .before .before .before .before) .pre .roots) ((c .before .before .before .before .before .before .before .before .before .before .before .before .before .before .before .before .before .before .before .before .before .before .before) .pre .stages) (c .before .before .before .before .before .before .before .before .before .before .before .before .before .before .before .before .before .number-stages .ensures) (c .before .before .before .before .before .before .before .before .before .before .before .before .rewrite .ensures) (c .before .before .before .lay-out .ensures) (c .before .before .before .before .before .before .before .before .stage-words .ensures) (c .before .before .before .before .before .before .before .before .before .before .before .before .before .before .before .before .before .number-stages .kept .1 .0)
+    let at-lay-out = c .before .before .before in let at-stage-words = at-lay-out .before .before .before .before .before in
+    let at-rewrite = at-stage-words .before .before .before .before in let at-number-stages = at-rewrite .before .before .before .before .before in
+    let start = at-number-stages .before .before .before .before .before .before in
+    finished (start .pre .held) (start .args .stages .now) (start .pre .roots) (start .pre .stages) (at-number-stages .number-stages .ensures) (at-rewrite .rewrite .ensures) (at-lay-out .lay-out .ensures) (at-stage-words .stage-words .ensures) (at-number-stages .number-stages .kept .1 .0)
 
 pub finish-spec : {M : Type 1} → statement M
 finish-spec =

@@ -27,11 +27,11 @@ same-length-2 c = search needs
 
 returns : tie.Need-returns
 returns c =
-    record {
-      ordered = c .before .before .before .before .before .before .before .before .before .before .arrange .last .0;
-      arranged = c .before .before .before .before .before .before .before .before .before .before .arrange .ensures;
-      nodes = c .before .before .before .before .before .nodes-from .ensures;
-      work = all-wiped 0 (c .before .before .before .before .before .before .before .before .before .before .arrange .last .1 .0) (c .before .before .words-from .ensures) ∙ ap (λ (k : ℕ). replicate k 0) (c .before .before .before .before .before .before .before .before .before .before .arrange .kept .1 .0);
+    let at-nodes-from = c .before .before .before .before .before in let at-arrange = at-nodes-from .before .before .before .before .before in record {
+      ordered = at-arrange .arrange .last .0;
+      arranged = at-arrange .arrange .ensures;
+      nodes = at-nodes-from .nodes-from .ensures;
+      work = all-wiped 0 (at-arrange .arrange .last .1 .0) (c .before .before .words-from .ensures) ∙ ap (λ (k : ℕ). replicate k 0) (at-arrange .arrange .kept .1 .0);
     }
 
 pub lay-out-spec : {M : Type 1} → statement M

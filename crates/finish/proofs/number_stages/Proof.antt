@@ -13,10 +13,10 @@ work-requires c κs = let s = c .before .before .before in (omega arith, omega (
 
 number-all-requires : tie.Need-number-all-requires
 number-all-requires c κs =
-    let s = c .before .before .before .before .before .before .before in (
+    let at-work = c .before .before .before in let place = at-work .before .before .before .before in let s = place in (
       s .pre .0,
-      omega (arith, s .pre .1, c .before .before .before .work .kept .0),
-      λ i h. within 0 (s .args .work .now) (s .args .cap) (s .args .cap + s .args .count) (c .before .before .before .work .ensures) (omega arith) (omega (arith, s .pre .0 .room, s .pre .1)) 0 (s .args .cap + i) (omega arith) (omega arith),
+      omega (arith, s .pre .1, at-work .work .kept .0),
+      λ i h. within 0 (s .args .work .now) (s .args .cap) (s .args .cap + s .args .count) (at-work .work .ensures) (omega arith) (omega (arith, s .pre .0 .room, s .pre .1)) 0 (s .args .cap + i) (omega arith) (omega arith),
       s .pre .2,
     )
 

@@ -17,15 +17,18 @@ loop-holds c =
 
 mul-p : tie.Need-mul-p Inv-loop μ-loop
 mul-p c =
-    let q = roomy (c .before .loop .inv) (c .loop-test .taken) ((c .before .before .before) .pre .2) .2 in let f = (c .before .before .before) .pre .1 in omega arith
+    let start = c .before .before .before in
+    let q = roomy (c .before .loop .inv) (c .loop-test .taken) (start .pre .2) .2 in let f = start .pre .1 in omega arith
 
 slice-read-p : tie.Need-slice-read-p Inv-loop μ-loop
 slice-read-p c =
-    let q = roomy (c .before .before .loop .inv) (c .before .loop-test .taken) ((c .before .before .before .before) .pre .2) .2 in let f = roomy (c .before .before .loop .inv) (c .before .loop-test .taken) ((c .before .before .before .before) .pre .2) .4 in omega arith
+    let start = c .before .before .before .before in
+    let q = roomy (c .before .before .loop .inv) (c .before .loop-test .taken) (start .pre .2) .2 in let f = roomy (c .before .before .loop .inv) (c .before .loop-test .taken) (start .pre .2) .4 in omega arith
 
 cast-p : tie.Need-cast-p Inv-loop μ-loop
 cast-p c =
-    let q = roomy (c .before .before .loop .inv) (c .before .loop-test .taken) ((c .before .before .before .before) .pre .2) .3 in let f = (c .before .before .before .before) .pre .1 in omega arith
+    let start = c .before .before .before .before in
+    let q = roomy (c .before .before .loop .inv) (c .before .loop-test .taken) (start .pre .2) .3 in let f = start .pre .1 in omega arith
 
 swap-nodes-requires : tie.Need-swap-nodes-requires Inv-loop μ-loop
 swap-nodes-requires c κs =
@@ -33,19 +36,23 @@ swap-nodes-requires c κs =
 
 swap-work-requires : tie.Need-swap-work-requires Inv-loop μ-loop
 swap-work-requires c κs =
-    let q = roomy (c .before .before .before .before .before .before .loop .inv) (c .before .before .before .before .before .loop-test .taken) ((c .before .before .before .before .before .before .before .before) .pre .2) in (q .4, (c .before .before .before .before .before .before .before .before) .pre .1, q .2, q .3, q-small (c .before .before .before .before .before .before .loop .inv) (c .before .before .before .before .before .loop-test .taken))
+    let at-loop-test = c .before .before .before .before .before in let at-loop = at-loop-test .before in let start = at-loop .before .before in
+    let q = roomy (at-loop .loop .inv) (at-loop-test .loop-test .taken) (start .pre .2) in (q .4, start .pre .1, q .2, q .3, q-small (at-loop .loop .inv) (at-loop-test .loop-test .taken))
 
 add-k : tie.Need-add-k Inv-loop μ-loop
 add-k c =
-    let q = roomy (c .before .before .before .before .before .before .before .before .before .loop .inv) (c .before .before .before .before .before .before .before .before .loop-test .taken) ((c .before .before .before .before .before .before .before .before .before .before .before) .pre .2) .2 in let f = (c .before .before .before .before .before .before .before .before .before .before .before) .pre .1 in omega arith
+    let at-loop-test = c .before .before .before .before .before .before .before .before in let at-loop = at-loop-test .before in let start = at-loop .before .before in
+    let q = roomy (at-loop .loop .inv) (at-loop-test .loop-test .taken) (start .pre .2) .2 in let f = start .pre .1 in omega arith
 
 loop-less : tie.Need-loop-less Inv-loop μ-loop
 loop-less c =
-    omega (arith, c .before .before .before .before .before .before .before .before .loop-test .taken)
+    let at-loop-test = c .before .before .before .before .before .before .before .before in omega (arith, at-loop-test .loop-test .taken)
 
 loop-again : tie.Need-loop-again Inv-loop μ-loop
 loop-again c =
-    steps-as (c .before .before .before .before .before .before .before .before .before .loop .inv) (c .before .before .before .before .before .before .before .before .loop-test .taken) ((c .before .before .before .before .before .before .before .before .before .before .before) .pre .2) (c .before .before .before .before .before .swap-nodes .ensures) (c .before .before .swap-work .ensures)
+    let at-swap-nodes = c .before .before .before .before .before in let at-loop-test = at-swap-nodes .before .before .before in let at-loop = at-loop-test .before in
+    let start = at-loop .before .before in
+    steps-as (at-loop .loop .inv) (at-loop-test .loop-test .taken) (start .pre .2) (at-swap-nodes .swap-nodes .ensures) (c .before .before .swap-work .ensures)
 
 same-length : tie.Need-same-length Inv-loop μ-loop
 same-length c =

@@ -21,23 +21,28 @@ get-requires c κs =
 
 renumbered-requires : tie.Need-renumbered-requires Inv-loop μ-loop
 renumbered-requires c κs =
-    ((c .before .before .before .before .before) .pre .1, (c .before .before .before .before .before) .pre .0 .few, inside ((c .before .before .before .before .before) .pre .0) (c .before .before .before .loop .inv) (c .before .before .loop-test .taken) (c .get .ensures))
+    let at-loop = c .before .before .before in let start = at-loop .before .before in
+    (start .pre .1, start .pre .0 .few, inside (start .pre .0) (at-loop .loop .inv) (c .before .before .loop-test .taken) (c .get .ensures))
 
 put-requires : tie.Need-put-requires Inv-loop μ-loop
 put-requires c κs =
-    room ((c .before .before .before .before .before .before .before) .pre .0) (c .before .before .before .before .before .loop .inv) (c .before .before .before .before .loop-test .taken)
+    let at-loop-test = c .before .before .before .before in let at-loop = at-loop-test .before in let start = at-loop .before .before in
+    room (start .pre .0) (at-loop .loop .inv) (at-loop-test .loop-test .taken)
 
 add-i : tie.Need-add-i Inv-loop μ-loop
 add-i c =
-    let r = (c .before .before .before .before .before .before .before .before .before) .pre .0 .room in let f = (c .before .before .before .before .before .before .before .before .before) .pre .0 .few in omega (arith, c .before .before .before .before .before .before .loop-test .taken)
+    let at-loop-test = c .before .before .before .before .before .before in let start = at-loop-test .before .before .before in
+    let r = start .pre .0 .room in let f = start .pre .0 .few in omega (arith, at-loop-test .loop-test .taken)
 
 loop-less : tie.Need-loop-less Inv-loop μ-loop
 loop-less c =
-    omega (arith, c .before .before .before .before .before .before .loop-test .taken)
+    let at-loop-test = c .before .before .before .before .before .before in omega (arith, at-loop-test .loop-test .taken)
 
 loop-again : tie.Need-loop-again Inv-loop μ-loop
 loop-again c =
-    rewrite-more ((c .before .before .before .before .before .before .before .before .before) .pre .0) (c .before .before .before .before .before .before .before .loop .inv) (c .before .before .before .before .before .before .loop-test .taken) (c .before .before .before .before .get .ensures) (c .before .before .before .renumbered .ensures) (c .before .put .ensures)
+    let at-renumbered = c .before .before .before in let at-get = at-renumbered .before in let at-loop-test = at-get .before .before in let at-loop = at-loop-test .before in
+    let start = at-loop .before .before in
+    rewrite-more (start .pre .0) (at-loop .loop .inv) (at-loop-test .loop-test .taken) (at-get .get .ensures) (at-renumbered .renumbered .ensures) (c .before .put .ensures)
 
 same-length : tie.Need-same-length Inv-loop μ-loop
 same-length c =

@@ -20,7 +20,8 @@ same-length c = search needs
 
 returns : tie.Need-returns
 returns c =
-    swap-is ((c .before .before .before .before .before .before .before .before .before .before) .args .nodes .now) ((c .before .before .before .before .before .before .before .before .before .before) .args .k) ((c .before .before .before .before .before .before .before .before .before .before) .args .p) (c .before .before .before .before .before .before .before .before .get .ensures) (c .before .before .before .before .before .before .get2 .ensures) (c .before .before .before .before .put .ensures) (c .before .put2 .ensures)
+    let at-put = c .before .before .before .before in let at-get2 = at-put .before .before in let at-get = at-get2 .before .before in let start = at-get .before .before in
+    swap-is (start .args .nodes .now) (start .args .k) (start .args .p) (at-get .get .ensures) (at-get2 .get2 .ensures) (at-put .put .ensures) (c .before .put2 .ensures)
 
 pub swap-nodes-spec : {M : Type 1} → statement M
 swap-nodes-spec =

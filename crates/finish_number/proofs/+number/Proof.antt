@@ -51,11 +51,13 @@ number-slice-read-if1 t c =
 
 number-is-leaf-requires : (t : ℕ) → number-lts.Need-is-leaf-requires (number-claims t) (number-at t) number.Post
 number-is-leaf-requires t c κs =
-    let g = (c .before .before .before) .pre .1 .0 .room in let f = (c .before .before .before) .pre .1 .0 .few in let i = (c .before .before .before) .pre .1 .1 in let v = (c .before .before .before) .pre .1 .2 .works in let q = (c .before .before .before) .pre .1 .0 .words in omega arith
+    let start = c .before .before .before in
+    let g = start .pre .1 .0 .room in let f = start .pre .1 .0 .few in let i = start .pre .1 .1 in let v = start .pre .1 .2 .works in let q = start .pre .1 .0 .words in omega arith
 
 number-assign-requires : (t : ℕ) → number-lts.Need-assign-requires (number-claims t) (number-at t) number.Post
 number-assign-requires t c κs =
-    let g = (c .before .before .before .before .before .before) .pre .1 .0 .room in let i = (c .before .before .before .before .before .before) .pre .1 .1 in let q = c-lt ((c .before .before .before .before .before .before) .pre .1 .0) ((c .before .before .before .before .before .before) .pre .1 .2) _ i (c .before .before .before .if1 .taken) in ((c .before .before .before .before .before .before) .pre .1 .2 .works, (c .before .before .before .before .before .before) .pre .1 .0 .few, omega arith, omega arith)
+    let at-if1 = c .before .before .before in let start = at-if1 .before .before .before in
+    let g = start .pre .1 .0 .room in let i = start .pre .1 .1 in let q = c-lt (start .pre .1 .0) (start .pre .1 .2) _ i (at-if1 .if1 .taken) in (start .pre .1 .2 .works, start .pre .1 .0 .few, omega arith, omega arith)
 
 number-same-length : (t : ℕ) → number-lts.Need-same-length (number-claims t) (number-at t) number.Post
 number-same-length t c =
@@ -63,45 +65,58 @@ number-same-length t c =
 
 number-returns : (t : ℕ) → number-lts.Need-returns (number-claims t) (number-at t) number.Post
 number-returns t c =
-    leaf-new ((c .before .before .before .before .before .before .before .before .before) .pre .1 .0) ((c .before .before .before .before .before .before .before .before .before) .pre .1 .2) _ ((c .before .before .before .before .before .before .before .before .before) .pre .1 .1) (c .before .before .before .before .before .before .if1 .taken) (sym (c .before .before .before .before .before .is-leaf .ensures) ∙ c .before .before .before .before .if2 .taken) (c .before .before .assign .ensures .0) (c .before .before .assign .ensures .1)
+    let at-if2 = c .before .before .before .before in let at-is-leaf = at-if2 .before in let at-if1 = at-is-leaf .before in let start = at-if1 .before .before .before in
+    leaf-new (start .pre .1 .0) (start .pre .1 .2) _ (start .pre .1 .1) (at-if1 .if1 .taken) (sym (at-is-leaf .is-leaf .ensures) ∙ at-if2 .if2 .taken) (c .before .before .assign .ensures .0) (c .before .before .assign .ensures .1)
 
 number-branch-requires : (t : ℕ) → number-lts.Need-branch-requires (number-claims t) (number-at t) number.Post
 unfolding nodeAt
 number-branch-requires t c κs =
-    let g = (c .before .before .before .before .before .before) .pre .1 .0 .room in let i = (c .before .before .before .before .before .before) .pre .1 .1 in let q = (c .before .before .before .before .before .before) .pre .1 .0 .words in (omega arith, omega arith, (c .before .before .before .before .before .before) .pre .1 .0 .good .valid _ i .high-nat)
+    let start = c .before .before .before .before .before .before in
+    let g = start .pre .1 .0 .room in let i = start .pre .1 .1 in let q = start .pre .1 .0 .words in (omega arith, omega arith, start .pre .1 .0 .good .valid _ i .high-nat)
 
 number-number-requires : (t : ℕ) → number-lts.Need-number-requires (number-claims t) (number-at t) number.Post
 unfolding nodeAt
 number-number-requires t c κs =
-    let e = c .branch .ensures in let i = (c .before .before .before .before .before .before .before) .pre .1 .1 in let b = (c .before .before .before .before .before .before .before) .pre .1 .0 .good .valid _ i .high-below (sym (c .before .before .before .is-leaf .ensures) ∙ c .before .before .if2 .left) in (omega (arith, (c .before .before .before .before .before .before .before) .pre .0), ((c .before .before .before .before .before .before .before) .pre .1 .0, omega arith, (c .before .before .before .before .before .before .before) .pre .1 .2))
+    let at-is-leaf = c .before .before .before in let start = at-is-leaf .before .before .before .before in
+    let e = c .branch .ensures in let i = start .pre .1 .1 in let b = start .pre .1 .0 .good .valid _ i .high-below (sym (at-is-leaf .is-leaf .ensures) ∙ c .before .before .if2 .left) in (omega (arith, start .pre .0), (start .pre .1 .0, omega arith, start .pre .1 .2))
 
 number-branch-requires-2 : (t : ℕ) → number-lts.Need-branch-requires-2 (number-claims t) (number-at t) number.Post
 unfolding nodeAt
 number-branch-requires-2 t c κs =
-    let g = (c .before .before .before .before .before .before .before .before .before .before .before) .pre .1 .0 .room in let i = (c .before .before .before .before .before .before .before .before .before .before .before) .pre .1 .1 in let q = (c .before .before .before .before .before .before .before .before .before .before .before) .pre .1 .0 .words in (omega arith, omega arith, (c .before .before .before .before .before .before .before .before .before .before .before) .pre .1 .0 .good .valid _ i .low-nat)
+    let start = c .before .before .before .before .before .before .before .before .before .before .before in
+    let g = start .pre .1 .0 .room in let i = start .pre .1 .1 in let q = start .pre .1 .0 .words in (omega arith, omega arith, start .pre .1 .0 .good .valid _ i .low-nat)
 
 number-number-requires-2 : (t : ℕ) → number-lts.Need-number-requires-2 (number-claims t) (number-at t) number.Post
 unfolding nodeAt
 number-number-requires-2 t c κs =
-    let e = c .branch2 .ensures in let i = (c .before .before .before .before .before .before .before .before .before .before .before .before) .pre .1 .1 in let b = (c .before .before .before .before .before .before .before .before .before .before .before .before) .pre .1 .0 .good .valid _ i .low-below (sym (c .before .before .before .before .before .before .before .before .is-leaf .ensures) ∙ c .before .before .before .before .before .before .before .if2 .left) in (omega (arith, (c .before .before .before .before .before .before .before .before .before .before .before .before) .pre .0), ((c .before .before .before .before .before .before .before .before .before .before .before .before) .pre .1 .0, omega arith, c .before .before .before .before .number .ensures .state))
+    let at-number = c .before .before .before .before in let at-if2 = at-number .before .before .before in let at-is-leaf = at-if2 .before in
+    let start = at-is-leaf .before .before .before .before in
+    let e = c .branch2 .ensures in let i = start .pre .1 .1 in let b = start .pre .1 .0 .good .valid _ i .low-below (sym (at-is-leaf .is-leaf .ensures) ∙ at-if2 .if2 .left) in (omega (arith, start .pre .0), (start .pre .1 .0, omega arith, at-number .number .ensures .state))
 
 number-assign-requires-2 : (t : ℕ) → number-lts.Need-assign-requires-2 (number-claims t) (number-at t) number.Post
 unfolding nodeAt
 number-assign-requires-2 t c κs =
-    let g = (c .before .before .before .before .before .before .before .before .before .before .before .before .before .before .before .before) .pre .1 .0 .room in let i = (c .before .before .before .before .before .before .before .before .before .before .before .before .before .before .before .before) .pre .1 .1 in let q = branch-lt ((c .before .before .before .before .before .before .before .before .before .before .before .before .before .before .before .before) .pre .1 .0) ((c .before .before .before .before .before .before .before .before .before .before .before .before .before .before .before .before) .pre .1 .2) _ i (c .before .before .before .before .before .before .before .before .before .before .before .before .before .if1 .taken) (sym (c .before .before .before .before .before .before .before .before .before .before .before .before .is-leaf .ensures) ∙ c .before .before .before .before .before .before .before .before .before .before .before .if2 .left) (c .before .before .before .before .before .before .before .before .before .branch .ensures) (c .before .before .before .before .branch2 .ensures) (c .before .before .before .before .before .before .before .before .number .ensures) (c .before .before .before .number2 .ensures) in (c .before .before .before .number2 .ensures .state .works, (c .before .before .before .before .before .before .before .before .before .before .before .before .before .before .before .before) .pre .1 .0 .few, omega arith, omega arith)
+    let at-number2 = c .before .before .before in let at-branch2 = at-number2 .before in let at-number = at-branch2 .before .before .before .before in
+    let at-branch = at-number .before in let at-if2 = at-branch .before .before in let at-is-leaf = at-if2 .before in let at-if1 = at-is-leaf .before in
+    let start = at-if1 .before .before .before in
+    let g = start .pre .1 .0 .room in let i = start .pre .1 .1 in let q = branch-lt (start .pre .1 .0) (start .pre .1 .2) _ i (at-if1 .if1 .taken) (sym (at-is-leaf .is-leaf .ensures) ∙ at-if2 .if2 .left) (at-branch .branch .ensures) (at-branch2 .branch2 .ensures) (at-number .number .ensures) (at-number2 .number2 .ensures) in (at-number2 .number2 .ensures .state .works, start .pre .1 .0 .few, omega arith, omega arith)
 
 number-same-length-2 : (t : ℕ) → number-lts.Need-same-length-2 (number-claims t) (number-at t) number.Post
 number-same-length-2 t c =
-    c .before .before .assign2 .kept .0 ∙ (c .before .before .before .before .before .before .number2 .kept .1 .0 ∙ c .before .before .before .before .before .before .before .before .before .before .before .number .kept .1 .0)
+    let at-number2 = c .before .before .before .before .before .before in let at-number = at-number2 .before .before .before .before .before in
+    c .before .before .assign2 .kept .0 ∙ (at-number2 .number2 .kept .1 .0 ∙ at-number .number .kept .1 .0)
 
 number-returns-2 : (t : ℕ) → number-lts.Need-returns-2 (number-claims t) (number-at t) number.Post
 unfolding nodeAt
 number-returns-2 t c =
-    branch-new ((c .before .before .before .before .before .before .before .before .before .before .before .before .before .before .before .before .before .before .before) .pre .1 .0) ((c .before .before .before .before .before .before .before .before .before .before .before .before .before .before .before .before .before .before .before) .pre .1 .2) _ ((c .before .before .before .before .before .before .before .before .before .before .before .before .before .before .before .before .before .before .before) .pre .1 .1) (c .before .before .before .before .before .before .before .before .before .before .before .before .before .before .before .before .if1 .taken) (sym (c .before .before .before .before .before .before .before .before .before .before .before .before .before .before .before .is-leaf .ensures) ∙ c .before .before .before .before .before .before .before .before .before .before .before .before .before .before .if2 .left) (c .before .before .before .before .before .before .before .before .before .before .before .before .branch .ensures) (c .before .before .before .before .before .before .before .branch2 .ensures) (c .before .before .before .before .before .before .before .before .before .before .before .number .ensures) (c .before .before .before .before .before .before .number2 .ensures) (c .before .before .assign2 .ensures .0) (c .before .before .assign2 .ensures .1)
+    let at-number2 = c .before .before .before .before .before .before in let at-branch2 = at-number2 .before in let at-number = at-branch2 .before .before .before .before in
+    let at-branch = at-number .before in let at-if2 = at-branch .before .before in let at-is-leaf = at-if2 .before in let at-if1 = at-is-leaf .before in
+    let start = at-if1 .before .before .before in
+    branch-new (start .pre .1 .0) (start .pre .1 .2) _ (start .pre .1 .1) (at-if1 .if1 .taken) (sym (at-is-leaf .is-leaf .ensures) ∙ at-if2 .if2 .left) (at-branch .branch .ensures) (at-branch2 .branch2 .ensures) (at-number .number .ensures) (at-number2 .number2 .ensures) (c .before .before .assign2 .ensures .0) (c .before .before .assign2 .ensures .1)
 
 number-returns-3 : (t : ℕ) → number-lts.Need-returns-3 (number-claims t) (number-at t) number.Post
 number-returns-3 t c =
-    was-there ((c .before .before .before) .pre .1 .0) ((c .before .before .before) .pre .1 .2) _ ((c .before .before .before) .pre .1 .1) (c .if1 .left)
+    let start = c .before .before .before in was-there (start .pre .1 .0) (start .pre .1 .2) _ (start .pre .1 .1) (c .if1 .left)
 
 pub +number-spec : {M : Type 1} → statement M
 +number-spec = close μ-number λ t. number-lts.spec (number-claims t)

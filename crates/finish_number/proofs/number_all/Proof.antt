@@ -27,11 +27,13 @@ shared-slice-read-r c =
 
 cast-r : tie.Need-cast-r Inv-loop μ-loop
 cast-r c =
-    let q = (c .before .before .before .before .before) .pre .3 .below _ (c .before .loop-test .taken) in let r = (c .before .before .before .before .before) .pre .0 .room in let f = (c .before .before .before .before .before) .pre .0 .few in omega arith
+    let start = c .before .before .before .before .before in
+    let q = start .pre .3 .below _ (c .before .loop-test .taken) in let r = start .pre .0 .room in let f = start .pre .0 .few in omega arith
 
 number-requires : tie.Need-number-requires Inv-loop μ-loop
 number-requires c κs =
-    ((c .before .before .before .before .before .before) .pre .0, (c .before .before .before .before .before .before) .pre .3 .below _ (c .before .before .loop-test .taken), c .before .before .before .loop .inv .state)
+    let at-loop = c .before .before .before in let start = at-loop .before .before .before in
+    (start .pre .0, start .pre .3 .below _ (c .before .before .loop-test .taken), at-loop .loop .inv .state)
 
 add-j : tie.Need-add-j Inv-loop μ-loop
 add-j c =
@@ -43,7 +45,8 @@ loop-less c =
 
 loop-again : tie.Need-loop-again Inv-loop μ-loop
 loop-again c =
-    goes (c .before .before .before .before .before .before .loop .inv) (c .before .before .before .before .before .loop-test .taken) (c .before .before .number .kept .1 .0) (c .before .before .number .ensures)
+    let at-loop-test = c .before .before .before .before .before in let at-loop = at-loop-test .before in
+    goes (at-loop .loop .inv) (at-loop-test .loop-test .taken) (c .before .before .number .kept .1 .0) (c .before .before .number .ensures)
 
 same-length : tie.Need-same-length Inv-loop μ-loop
 same-length c =

@@ -46,11 +46,15 @@ returns-5 c = simp (c .before .match .keys3, ← c .next-term2 .ensures)
 
 returns-6 : tie.Need-returns-6
 unfolding on-after
-returns-6 c = simp (c .before .if3 .taken, ne-eqb _ _ (c .before .before .before .match .rest .0 .0 .1), ne-eqb _ _ (c .before .before .before .match .rest .0 .1), ne-eqb _ _ (c .before .before .before .match .rest .1), c .before .before .before .before .if1 .left, ← c .before .before .bound .ensures, ← c .before .before .before .before .before .is-digit .ensures) (c .end-const .ensures)
+returns-6 c =
+    let at-match = c .before .before .before in
+    simp (c .before .if3 .taken, ne-eqb _ _ (at-match .match .rest .0 .0 .1), ne-eqb _ _ (at-match .match .rest .0 .1), ne-eqb _ _ (at-match .match .rest .1), c .before .before .before .before .if1 .left, ← c .before .before .bound .ensures, ← c .before .before .before .before .before .is-digit .ensures) (c .end-const .ensures)
 
 returns-7 : tie.Need-returns-7
 unfolding on-after
-returns-7 c = simp (c .before .if3 .left, ne-eqb _ _ (c .before .before .before .match .rest .0 .0 .1), ne-eqb _ _ (c .before .before .before .match .rest .0 .1), ne-eqb _ _ (c .before .before .before .match .rest .1), c .before .before .before .before .if1 .left, ← c .before .before .bound .ensures, ← c .before .before .before .before .before .is-digit .ensures) (c .ending .ensures)
+returns-7 c =
+    let at-match = c .before .before .before in
+    simp (c .before .if3 .left, ne-eqb _ _ (at-match .match .rest .0 .0 .1), ne-eqb _ _ (at-match .match .rest .0 .1), ne-eqb _ _ (at-match .match .rest .1), c .before .before .before .before .if1 .left, ← c .before .before .bound .ensures, ← c .before .before .before .before .before .is-digit .ensures) (c .ending .ensures)
 
 pub on-after-spec : {M : Type 1} → statement M
 on-after-spec =

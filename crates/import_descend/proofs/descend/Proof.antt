@@ -31,27 +31,38 @@ nothing-requires c κs = search needs
 
 -- src/lib.rt:68:21
 same-length : tie.Need-same-length Inv-loop μ-loop
-same-length c = c .before .before .before .before .before .before .loop .inv .same
+same-length c =
+    let at-loop = c .before .before .before .before .before .before in at-loop .loop .inv .same
 
 -- src/lib.rt:68:21
 returns : tie.Need-returns Inv-loop μ-loop
-returns c = as-none (c .nothing .ensures) (no-room _ _ _ _ _ _ _ (c .before .before .before .before .before .before .before .before .before .pre) (c .before .before .before .before .before .before .loop .inv) _ _ _ _ (c .before .before .before .s .given .1) (c .before .if1 .taken))
+returns c =
+    let at-s = c .before .before .before in let at-loop = at-s .before .before .before in let start = at-loop .before .before .before in
+    as-none (c .nothing .ensures) (no-room _ _ _ _ _ _ _ (start .pre) (at-loop .loop .inv) _ _ _ _ (at-s .s .given .1) (c .before .if1 .taken))
 
 -- src/lib.rt:77:17
 enter-requires : tie.Need-enter-requires Inv-loop μ-loop
-enter-requires c κs = ready _ _ _ _ _ _ _ (c .before .before .before .before .before .before .before .before .before .pre) (c .before .before .before .before .before .before .loop .inv) _ _ _ _ (c .before .before .before .s .given .1) (c .before .if1 .left)
+enter-requires c κs =
+    let at-s = c .before .before .before in let at-loop = at-s .before .before .before in let start = at-loop .before .before .before in
+    ready _ _ _ _ _ _ _ (start .pre) (at-loop .loop .inv) _ _ _ _ (at-s .s .given .1) (c .before .if1 .left)
 
 -- src/lib.rt:78:17
 add-n : tie.Need-add-n Inv-loop μ-loop
-add-n c = let f = c .before .before .before .before .before .before .before .before .before .loop .inv .few in let o = c .before .before .before .before .before .before .before .before .before .before .before .before .pre .long in omega (arith, f, o)
+add-n c =
+    let at-loop = c .before .before .before .before .before .before .before .before .before in let start = at-loop .before .before .before in
+    let f = at-loop .loop .inv .few in let o = start .pre .long in omega (arith, f, o)
 
 -- src/lib.rt:64:5
 loop-less : tie.Need-loop-less Inv-loop μ-loop
-loop-less c = let f = c .before .before .before .before .before .before .before .before .before .loop .inv .few in omega (arith, f)
+loop-less c =
+    let at-loop = c .before .before .before .before .before .before .before .before .before in let f = at-loop .loop .inv .few in omega (arith, f)
 
 -- src/lib.rt:64:5
 loop-again : tie.Need-loop-again Inv-loop μ-loop
-loop-again c = walk-on _ _ _ _ _ _ _ (c .before .before .before .before .before .before .before .before .before .before .before .before .pre) (c .before .before .before .before .before .before .before .before .before .loop .inv) _ _ _ _ (c .before .before .before .before .before .before .s .given .1) (c .before .before .before .before .if1 .left) (c .before .before .enter .result) _ (c .before .before .enter .ensures)
+loop-again c =
+    let at-if1 = c .before .before .before .before in let at-s = at-if1 .before .before in let at-loop = at-s .before .before .before in
+    let start = at-loop .before .before .before in
+    walk-on _ _ _ _ _ _ _ (start .pre) (at-loop .loop .inv) _ _ _ _ (at-s .s .given .1) (at-if1 .if1 .left) (c .before .before .enter .result) _ (c .before .before .enter .ensures)
 
 -- src/lib.rt:80:26
 enum-known-s-2 : tie.Need-enum-known-s-2 Inv-loop μ-loop
@@ -63,7 +74,9 @@ same-length-2 c = c .before .before .before .before .loop .inv .same
 
 -- src/lib.rt:81:17
 returns-2 : tie.Need-returns-2 Inv-loop μ-loop
-returns-2 c = reached _ _ _ _ _ _ _ (c .before .before .before .before .before .before .before .pre) (c .before .before .before .before .loop .inv) _ (c .before .s2 .given .1)
+returns-2 c =
+    let at-loop = c .before .before .before .before in let start = at-loop .before .before .before in
+    reached _ _ _ _ _ _ _ (start .pre) (at-loop .loop .inv) _ (c .before .s2 .given .1)
 
 -- src/lib.rt:88:17
 enum-told : tie.Need-enum-told Inv-loop μ-loop
@@ -79,7 +92,9 @@ same-length-3 c = c .before .before .before .before .loop .inv .same
 
 -- src/lib.rt:88:17
 returns-3 : tie.Need-returns-3 Inv-loop μ-loop
-returns-3 c = as-none (c .nothing2 .ensures) (lost-here _ _ _ _ _ _ _ (c .before .before .before .before .before .before .before .pre) (c .before .before .before .before .loop .inv) (c .before .enum-told .given .1))
+returns-3 c =
+    let at-loop = c .before .before .before .before in let start = at-loop .before .before .before in
+    as-none (c .nothing2 .ensures) (lost-here _ _ _ _ _ _ _ (start .pre) (at-loop .loop .inv) (c .before .enum-told .given .1))
 
 -- src/lib.rt:91:17
 enum-told-2 : tie.Need-enum-told-2 Inv-loop μ-loop
@@ -95,7 +110,9 @@ same-length-4 c = c .before .before .before .before .loop .inv .same
 
 -- src/lib.rt:91:17
 returns-4 : tie.Need-returns-4 Inv-loop μ-loop
-returns-4 c = as-none (c .nothing3 .ensures) (deep-here _ _ _ _ _ _ _ (c .before .before .before .before .before .before .before .pre) (c .before .before .before .before .loop .inv) (c .before .enum-told2 .given .1))
+returns-4 c =
+    let at-loop = c .before .before .before .before in let start = at-loop .before .before .before in
+    as-none (c .nothing3 .ensures) (deep-here _ _ _ _ _ _ _ (start .pre) (at-loop .loop .inv) (c .before .enum-told2 .given .1))
 
 -- src/lib.rt:95:5
 nothing-requires-4 : tie.Need-nothing-requires-4 Inv-loop μ-loop

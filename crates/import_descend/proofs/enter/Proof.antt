@@ -17,15 +17,19 @@ returns c = too-wide _ _ _ _ (c .before .before .before .before .pre) (c .if1 .t
 
 -- src/lib.rt:44:9
 returns-2 : tie.Need-returns-2
-returns-2 c = too-deep _ _ _ _ (c .before .before .before .before .before .before .pre) (c .if2 .taken)
+returns-2 c =
+    let start-2 = c .before .before .before .before .before .before in too-deep _ _ _ _ (start-2 .pre) (c .if2 .taken)
 
 -- src/lib.rt:46:9
 look-requires : tie.Need-look-requires
-look-requires c κs = let a = c .before .before .before .before .before .before .pre .inside in (omega (arith, a), c .before .before .before .before .before .before .pre .short)
+look-requires c κs =
+    let start-2 = c .before .before .before .before .before .before in let a = start-2 .pre .inside in (omega (arith, a), start-2 .pre .short)
 
 -- src/lib.rt:47:5
 push-requires : tie.Need-push-requires
-push-requires c κs = (c .before .before .before .before .before .before .before .before .pre .room, fits _ _ _ _ (c .before .before .before .before .before .before .before .before .pre) (c .before .before .before .before .if1 .left) (c .before .before .if2 .left))
+push-requires c κs =
+    let at-if1 = c .before .before .before .before in let start-2 = at-if1 .before .before .before .before in
+    (start-2 .pre .room, fits _ _ _ _ (start-2 .pre) (at-if1 .if1 .left) (c .before .before .if2 .left))
 
 -- src/lib.rt:48:25
 first-value-requires : tie.Need-first-value-requires
@@ -33,7 +37,9 @@ first-value-requires c κs = search needs
 
 -- src/lib.rt:48:5
 decided-requires : tie.Need-decided-requires
-decided-requires c κs = let a = c .before .before .before .before .before .before .before .before .before .before .before .before .pre .inside in (omega (arith, a), c .before .before .before .before .before .before .before .before .before .before .before .before .pre .short, c .before .before .before .before .before .before .before .before .before .before .before .before .pre .low)
+decided-requires c κs =
+    let start-2 = c .before .before .before .before .before .before .before .before .before .before .before .before in
+    let a = start-2 .pre .inside in (omega (arith, a), start-2 .pre .short, start-2 .pre .low)
 
 -- src/lib.rt:36:1
 same-length : tie.Need-same-length
@@ -41,7 +47,9 @@ same-length c = search needs
 
 -- src/lib.rt:36:1
 returns-3 : tie.Need-returns-3
-returns-3 c = entered _ _ _ _ (c .before .before .before .before .before .before .look .result) _ (c .decided .result) _ (c .before .before .before .before .before .before .before .before .before .before .before .before .before .pre) (c .before .before .before .before .before .before .look .ensures) (c .before .before .before .before .push .ensures) (c .before .first-value .ensures) (c .decided .ensures)
+returns-3 c =
+    let at-push = c .before .before .before .before in let at-look = at-push .before .before in let start-2 = at-look .before .before .before .before .before .before .before in
+    entered _ _ _ _ (at-look .look .result) _ (c .decided .result) _ (start-2 .pre) (at-look .look .ensures) (at-push .push .ensures) (c .before .first-value .ensures) (c .decided .ensures)
 
 pub enter-spec : {M : Type 1} → statement M
 enter-spec =

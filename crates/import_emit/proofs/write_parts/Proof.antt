@@ -18,51 +18,62 @@ loop-holds c = begun _ _ _ _ _ (c .before .before .before .pre)
 
 put-part-requires : tie.Need-put-part-requires Inv-loop μ-loop
 put-part-requires c κs =
-    let p = c .before .before .before .before .before .before .before .pre in
-    let v = c .before .before .before .loop .inv in
+    let at-loop = c .before .before .before in let start-2 = at-loop .before .before .before .before in let p = start-2 .pre in
+    let v = at-loop .loop .inv in
     some-part _ _ _ (p .lent .room) _ _ _ _ (p .parts) (p .spaces) (c .before .before .loop-test .taken) (record { short = p .lent .short; long = v .long; room = v .room }) (v .gone (p .parts) (p .spaces) (p .comes))
 
 same-length : tie.Need-same-length Inv-loop μ-loop
-same-length c = omega (arith, c .before .before .before .before .before .before .put-part .kept .1 .1 .0, c .before .before .before .before .before .before .before .before .before .before .loop .inv .long, c .before .before .before .before .before .before .before .before .before .before .before .before .before .before .pre .lent .long)
+same-length c =
+    let at-put-part = c .before .before .before .before .before .before in let at-loop = at-put-part .before .before .before .before in
+    let start-2 = at-loop .before .before .before .before in
+    omega (arith, at-put-part .put-part .kept .1 .1 .0, at-loop .loop .inv .long, start-2 .pre .lent .long)
 
 same-length-2 : tie.Need-same-length-2 Inv-loop μ-loop
-same-length-2 c = omega (arith, c .before .before .before .before .before .before .put-part .ensures .same, c .before .before .before .before .before .before .before .before .before .before .loop .inv .same)
+same-length-2 c =
+    let at-put-part = c .before .before .before .before .before .before in let at-loop = at-put-part .before .before .before .before in
+    omega (arith, at-put-part .put-part .ensures .same, at-loop .loop .inv .same)
 
 returns : tie.Need-returns Inv-loop μ-loop
 returns c =
-    let q = c .before .before .before .before .before .before .put-part .ensures in
-    let v = c .before .before .before .before .before .before .before .before .before .before .loop .inv in
-    let r = c .before .before .before .before .before .before .before .before .before .before .before .before .before .before .pre .lent .room in
-    let h = c .before .before .before .before .before .before .before .before .before .loop-test .taken in
+    let at-put-part = c .before .before .before .before .before .before in let at-loop-test = at-put-part .before .before .before in let at-loop = at-loop-test .before in
+    let start-2 = at-loop .before .before .before .before in let q = at-put-part .put-part .ensures in
+    let v = at-loop .loop .inv in
+    let r = start-2 .pre .lent .room in
+    let h = at-loop-test .loop-test .taken in
     record { same = q .same ∙ v .same; put = λ P e k. gone-full _ _ _ r _ _ _ _ _ q h P e (v .same) (c .if1 .taken) (v .gone P e k) }
 
 loop-less : tie.Need-loop-less Inv-loop μ-loop
 loop-less c =
-    let h = c .before .before .before .before .before .before .before .before .before .loop-test .taken in
-    omega (arith, c .before .before .before .before .before .before .put-part .ensures .further h, h)
+    let at-put-part = c .before .before .before .before .before .before in let at-loop-test = at-put-part .before .before .before in
+    let h = at-loop-test .loop-test .taken in
+    omega (arith, at-put-part .put-part .ensures .further h, h)
 
 loop-again : tie.Need-loop-again Inv-loop μ-loop
 loop-again c =
-    let p = c .before .before .before .before .before .before .before .before .before .before .before .before .before .before .pre in
-    let v = c .before .before .before .before .before .before .before .before .before .before .loop .inv in
-    let q = c .before .before .before .before .before .before .put-part in
-    going-on _ _ _ (p .lent .room) _ _ _ _ _ (q .ensures) (c .before .before .before .before .before .before .before .before .before .loop-test .taken) _ _ _ p (omega (arith, q .kept .1 .1 .0, v .long)) (c .if1 .left) (v .gone) (v .same)
+    let at-put-part = c .before .before .before .before .before .before in let at-loop-test = at-put-part .before .before .before in let at-loop = at-loop-test .before in
+    let start-2 = at-loop .before .before .before .before in let p = start-2 .pre in
+    let v = at-loop .loop .inv in
+    let q = at-put-part .put-part in
+    going-on _ _ _ (p .lent .room) _ _ _ _ _ (q .ensures) (at-loop-test .loop-test .taken) _ _ _ p (omega (arith, q .kept .1 .1 .0, v .long)) (c .if1 .left) (v .gone) (v .same)
 
 write-end-requires : tie.Need-write-end-requires Inv-loop μ-loop
 write-end-requires c κs = c .before .before .loop .inv .room
 
 same-length-3 : tie.Need-same-length-3 Inv-loop μ-loop
-same-length-3 c = omega (arith, c .before .before .before .before .before .loop .inv .long, c .before .before .before .before .before .before .before .before .before .pre .lent .long)
+same-length-3 c =
+    let at-loop = c .before .before .before .before .before in let start-2 = at-loop .before .before .before .before in
+    omega (arith, at-loop .loop .inv .long, start-2 .pre .lent .long)
 
 same-length-4 : tie.Need-same-length-4 Inv-loop μ-loop
 same-length-4 c = omega (arith, c .before .before .write-end .ensures .same, c .before .before .before .before .before .loop .inv .same)
 
 returns-2 : tie.Need-returns-2 Inv-loop μ-loop
 returns-2 c =
+    let at-loop-test = c .before .before .before .before in let at-loop = at-loop-test .before in let start-2 = at-loop .before .before .before .before in
     let p = c .before .before .write-end .ensures in
-    let v = c .before .before .before .before .before .loop .inv in
-    let r = c .before .before .before .before .before .before .before .before .before .pre .lent .room in
-    record { same = p .same ∙ v .same; put = λ P e k. gone-all _ _ _ r _ _ _ P e (c .before .before .before .before .loop-test .left) (v .same) p (v .gone P e k) }
+    let v = at-loop .loop .inv in
+    let r = start-2 .pre .lent .room in
+    record { same = p .same ∙ v .same; put = λ P e k. gone-all _ _ _ r _ _ _ P e (at-loop-test .loop-test .left) (v .same) p (v .gone P e k) }
 
 pub write-parts-spec : {M : Type 1} → statement M
 write-parts-spec =

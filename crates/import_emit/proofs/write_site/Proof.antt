@@ -32,7 +32,8 @@ cast-put-site-3 : tie.Need-cast-put-site-3
 cast-put-site-3 c = let z = site-small _ _ _ (c .before .before .before .before .before .header-at .ensures) in omega arith
 
 cast-put-site-4 : tie.Need-cast-put-site-4
-cast-put-site-4 c = let z = site-small _ _ _ (c .before .before .before .before .before .before .header-at .ensures) in omega arith
+cast-put-site-4 c =
+    let at-header-at = c .before .before .before .before .before .before in let z = site-small _ _ _ (at-header-at .header-at .ensures) in omega arith
 
 put-site-requires : tie.Need-put-site-requires
 put-site-requires c κs = simp site-length (omega (arith, c .before .before .before .before .before .if1 .left))
@@ -42,7 +43,7 @@ same-length c = search needs
 
 returns-2 : tie.Need-returns-2
 returns-2 c =
-    let s = c .before .before .before .before .before .before .before .before .before .header-at .ensures in
+    let at-header-at = c .before .before .before .before .before .before .before .before .before in let s = at-header-at .header-at .ensures in
     record {
       same = c .before .before .put-site .kept .0;
       put = λ t. put-as (ap command-bytes (site-is _ _ s t)) (fits refl (c .before .before .put-site .ensures));

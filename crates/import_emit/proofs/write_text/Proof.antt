@@ -21,9 +21,10 @@ returns c =
 
 write-parts-requires : tie.Need-write-parts-requires
 write-parts-requires c κs =
-    let s = c .before .before .before .before .before .before .write-site .ensures in
-    let t = c .before .before .before .before .before .before .before .before .before .before .before .pre .0 in
-    record { lent = record { short = t .bytes; long = c .before .before .before .before .before .before .before .before .before .before .before .pre .1; room = inside (omega arith) (s .put t .put (c .before .before .if1 .left)) }; parts = text-parts (t .text); spaces = text-end (t .text); comes = s .on t }
+    let at-write-site = c .before .before .before .before .before .before in let start = at-write-site .before .before .before .before .before in
+    let s = at-write-site .write-site .ensures in
+    let t = start .pre .0 in
+    record { lent = record { short = t .bytes; long = start .pre .1; room = inside (omega arith) (s .put t .put (c .before .before .if1 .left)) }; parts = text-parts (t .text); spaces = text-end (t .text); comes = s .on t }
 
 same-length-2 : tie.Need-same-length-2
 same-length-2 c = search needs
@@ -33,9 +34,10 @@ same-length-3 c = search needs
 
 returns-2 : tie.Need-returns-2
 returns-2 c =
-    let s = c .before .before .before .before .before .before .before .before .before .before .before .write-site .ensures in
-    let p = c .before .before .before .before .write-parts .ensures in
-    record { same = p .same ∙ s .same; put = λ t. put-as (whole-text t) (behind (omega arith) (s .same) (s .put t .put (c .before .before .before .before .before .before .before .if1 .left)) (p .put _ _ (s .on t))) }
+    let at-write-parts = c .before .before .before .before in let at-if1 = at-write-parts .before .before .before in let at-write-site = at-if1 .before .before .before .before in
+    let s = at-write-site .write-site .ensures in
+    let p = at-write-parts .write-parts .ensures in
+    record { same = p .same ∙ s .same; put = λ t. put-as (whole-text t) (behind (omega arith) (s .same) (s .put t .put (at-if1 .if1 .left)) (p .put _ _ (s .on t))) }
 
 pub write-text-spec : {M : Type 1} → statement M
 write-text-spec =

@@ -5,10 +5,13 @@ use Rattle.import_emit_cases.proofs.emit_cases.Statement.{statement}
 use Rattle.import_emit_cases.proofs.emit_cases.Tie as tie
 
 go-requires : tie.Need-go-requires
-go-requires c κs = (c .before .before .before .pre .inside, c .before .before .before .pre .short, no-signs)
+go-requires c κs =
+    let start = c .before .before .before in (start .pre .inside, start .pre .short, no-signs)
 
 write-leaf-requires : tie.Need-write-leaf-requires
-write-leaf-requires c κs = first-lent _ _ _ _ _ (c .before .before .before .before .before .before .pre) (c .before .before .go .result) (c .before .before .go .ensures)
+write-leaf-requires c κs =
+    let start = c .before .before .before .before .before .before in
+    first-lent _ _ _ _ _ (start .pre) (c .before .before .go .result) (c .before .before .go .ensures)
 
 same-length : tie.Need-same-length
 same-length c = search needs
@@ -17,10 +20,15 @@ same-length-2 : tie.Need-same-length-2
 same-length-2 c = search needs
 
 returns : tie.Need-returns
-returns c = first-full _ _ _ _ _ (c .before .before .before .before .before .before .before .before .before .before .before .before .pre) (c .before .before .before .before .before .before .before .before .go .result) (c .before .before .before .before .before .before .before .before .go .ensures) (c .before .before .before .before .before .write-leaf .result) _ _ (c .before .before .before .before .before .write-leaf .ensures) (c .before .before .before .before .before .write-leaf .kept .1 .1 .1 .1 .0) (c .if1 .taken)
+returns c =
+    let at-write-leaf = c .before .before .before .before .before in let at-go = at-write-leaf .before .before .before in let start = at-go .before .before .before .before in
+    first-full _ _ _ _ _ (start .pre) (at-go .go .result) (at-go .go .ensures) (at-write-leaf .write-leaf .result) _ _ (at-write-leaf .write-leaf .ensures) (at-write-leaf .write-leaf .kept .1 .1 .1 .1 .0) (c .if1 .taken)
 
 finish-requires : tie.Need-finish-requires
-finish-requires c κs = rest-lent _ _ _ _ _ (c .before .before .before .before .before .before .before .before .before .before .before .before .before .before .pre) (c .before .before .before .before .before .before .before .before .before .before .go .result) (c .before .before .before .before .before .before .before .before .before .before .go .ensures) (c .before .before .before .before .before .before .before .write-leaf .result) _ _ (c .before .before .before .before .before .before .before .write-leaf .ensures) (c .before .before .before .before .before .before .before .write-leaf .kept .1 .1 .1 .1 .0) (c .before .before .if1 .left) (c .before .before .before .before .before .before .before .write-leaf .kept .1 .1 .0)
+finish-requires c κs =
+    let at-write-leaf = c .before .before .before .before .before .before .before in let at-go = at-write-leaf .before .before .before in
+    let start = at-go .before .before .before .before in
+    rest-lent _ _ _ _ _ (start .pre) (at-go .go .result) (at-go .go .ensures) (at-write-leaf .write-leaf .result) _ _ (at-write-leaf .write-leaf .ensures) (at-write-leaf .write-leaf .kept .1 .1 .1 .1 .0) (c .before .before .if1 .left) (at-write-leaf .write-leaf .kept .1 .1 .0)
 
 same-length-3 : tie.Need-same-length-3
 same-length-3 c = search needs
@@ -29,7 +37,10 @@ same-length-4 : tie.Need-same-length-4
 same-length-4 c = search needs
 
 returns-2 : tie.Need-returns-2
-returns-2 c = then-rest _ _ _ _ _ (c .before .before .before .before .before .before .before .before .before .before .before .before .before .before .before .before .before .before .before .pre) (c .before .before .before .before .before .before .before .before .before .before .before .before .before .before .before .go .result) (c .before .before .before .before .before .before .before .before .before .before .before .before .before .before .before .go .ensures) (c .before .before .before .before .before .before .before .before .before .before .before .before .write-leaf .result) _ _ (c .before .before .before .before .before .before .before .before .before .before .before .before .write-leaf .ensures) (c .before .before .before .before .before .before .before .before .before .before .before .before .write-leaf .kept .1 .1 .1 .1 .0) (c .before .before .before .before .before .before .before .if1 .left) (c .before .before .before .before .finish .result) _ (c .before .before .before .before .finish .kept .1 .1 .1 .0) (c .before .before .before .before .finish .ensures)
+returns-2 c =
+    let at-finish = c .before .before .before .before in let at-if1 = at-finish .before .before .before in let at-write-leaf = at-if1 .before .before .before .before .before in
+    let at-go = at-write-leaf .before .before .before in let start = at-go .before .before .before .before in
+    then-rest _ _ _ _ _ (start .pre) (at-go .go .result) (at-go .go .ensures) (at-write-leaf .write-leaf .result) _ _ (at-write-leaf .write-leaf .ensures) (at-write-leaf .write-leaf .kept .1 .1 .1 .1 .0) (at-if1 .if1 .left) (at-finish .finish .result) _ (at-finish .finish .kept .1 .1 .1 .0) (at-finish .finish .ensures)
 
 pub emit-cases-spec : {M : Type 1} → statement M
 emit-cases-spec =

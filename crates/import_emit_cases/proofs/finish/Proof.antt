@@ -18,22 +18,34 @@ loop-holds : tie.Need-loop-holds Inv-loop μ-loop
 loop-holds c = start _ _ _ _ _ (c .before .before .before .pre)
 
 step-requires : tie.Need-step-requires Inv-loop μ-loop
-step-requires c κs = (omega (arith, c .before .before .loop-test .taken), still _ _ _ _ _ (c .before .before .before .before .before .before .before .pre) _ _ _ _ (c .before .before .before .loop .inv))
+step-requires c κs =
+    let at-loop = c .before .before .before in let start-2 = at-loop .before .before .before .before in
+    (omega (arith, c .before .before .loop-test .taken), still _ _ _ _ _ (start-2 .pre) _ _ _ _ (at-loop .loop .inv))
 
 same-length : tie.Need-same-length Inv-loop μ-loop
-same-length c = c .before .before .before .before .before .step .kept .1 .0 ∙ c .before .before .before .before .before .before .before .before .before .loop .inv .listed
+same-length c =
+    let at-step = c .before .before .before .before .before in let at-loop = at-step .before .before .before .before in
+    at-step .step .kept .1 .0 ∙ at-loop .loop .inv .listed
 
 same-length-2 : tie.Need-same-length-2 Inv-loop μ-loop
-same-length-2 c = c .before .before .before .before .before .step .kept .1 .1 .1 .0 ∙ c .before .before .before .before .before .before .before .before .before .loop .inv .same
+same-length-2 c =
+    let at-step = c .before .before .before .before .before in let at-loop = at-step .before .before .before .before in
+    at-step .step .kept .1 .1 .1 .0 ∙ at-loop .loop .inv .same
 
 returns : tie.Need-returns Inv-loop μ-loop
-returns c = stops _ _ _ _ _ (c .before .before .before .before .before .before .before .before .before .before .before .before .before .pre) _ _ _ _ (c .before .before .before .before .before .before .before .before .before .loop .inv) (c .before .before .before .before .before .step .result) _ _ (c .before .before .before .before .before .step .ensures) (c .if1 .taken)
+returns c =
+    let at-step = c .before .before .before .before .before in let at-loop = at-step .before .before .before .before in let start-2 = at-loop .before .before .before .before in
+    stops _ _ _ _ _ (start-2 .pre) _ _ _ _ (at-loop .loop .inv) (at-step .step .result) _ _ (at-step .step .ensures) (c .if1 .taken)
 
 loop-less : tie.Need-loop-less Inv-loop μ-loop
-loop-less c = let f = c .before .before .before .before .before .step .ensures .grows (c .if1 .left) in let g = c .before .before .before .before .before .step .ensures .within in let k = c .before .before .before .before .before .before .before .before .before .loop .inv .same in omega (arith, f, g, k)
+loop-less c =
+    let at-step = c .before .before .before .before .before in let at-loop = at-step .before .before .before .before in
+    let f = at-step .step .ensures .grows (c .if1 .left) in let g = at-step .step .ensures .within in let k = at-loop .loop .inv .same in omega (arith, f, g, k)
 
 loop-again : tie.Need-loop-again Inv-loop μ-loop
-loop-again c = on _ _ _ _ _ (c .before .before .before .before .before .before .before .before .before .before .before .before .before .pre) _ _ _ _ (c .before .before .before .before .before .before .before .before .before .loop .inv) (c .before .before .before .before .before .step .result) _ _ (c .before .before .before .before .before .step .ensures) (c .if1 .left) (c .before .before .before .before .before .step .kept .1 .0) (c .before .before .before .before .before .step .kept .1 .1 .1 .0)
+loop-again c =
+    let at-step = c .before .before .before .before .before in let at-loop = at-step .before .before .before .before in let start-2 = at-loop .before .before .before .before in
+    on _ _ _ _ _ (start-2 .pre) _ _ _ _ (at-loop .loop .inv) (at-step .step .result) _ _ (at-step .step .ensures) (c .if1 .left) (at-step .step .kept .1 .0) (at-step .step .kept .1 .1 .1 .0)
 
 same-length-3 : tie.Need-same-length-3 Inv-loop μ-loop
 same-length-3 c = c .before .loop .inv .listed

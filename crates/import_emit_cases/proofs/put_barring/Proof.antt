@@ -16,7 +16,9 @@ same-length : tie.Need-same-length
 same-length c = search needs
 
 returns-2 : tie.Need-returns-2
-returns-2 c = put-one _ _ 1 _ forbidden-length _ _ (omega arith) (omega (arith, c .before .before .before .before .if1 .left, c .before .before .before .before .before .before .pre)) (c .before .before .put-forbidden .ensures)
+returns-2 c =
+    let at-if1 = c .before .before .before .before in let start = at-if1 .before .before in
+    put-one _ _ 1 _ forbidden-length _ _ (omega arith) (omega (arith, at-if1 .if1 .left, start .pre)) (c .before .before .put-forbidden .ensures)
 
 pub put-barring-spec : {M : Type 1} → statement M
 put-barring-spec = tie.close (tie.spec returns put-forbidden-requires same-length returns-2)

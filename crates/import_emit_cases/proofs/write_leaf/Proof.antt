@@ -5,13 +5,16 @@ use Rattle.import_emit_cases.proofs.write_leaf.Statement.{statement}
 use Rattle.import_emit_cases.proofs.write_leaf.Tie as tie
 
 descend-requires : tie.Need-descend-requires
-descend-requires c κs = starting _ (c .before .before .before .before .args .spot) _ _ _ _ (c .before .before .before .before .pre)
+descend-requires c κs =
+    let start = c .before .before .before .before in starting _ (start .args .spot) _ _ _ _ (start .pre)
 
 leaf-requires : tie.Need-leaf-requires
 leaf-requires c κs = search needs
 
 put-told-requires : tie.Need-put-told-requires
-put-told-requires c κs = (leaf-fits _ (c .before .before .before .before .before .before .before .before .before .args .spot) _ _ _ _ (c .before .before .before .before .before .before .before .before .before .pre) (c .before .before .before .before .descend .result) _ (c .before .before .before .before .descend .ensures) (c .before .leaf .result) (c .before .leaf .ensures), c .before .before .before .before .before .before .before .before .before .pre .room)
+put-told-requires c κs =
+    let at-descend = c .before .before .before .before in let start = at-descend .before .before .before .before .before in
+    (leaf-fits _ (start .args .spot) _ _ _ _ (start .pre) (at-descend .descend .result) _ (at-descend .descend .ensures) (c .before .leaf .result) (c .before .leaf .ensures), start .pre .room)
 
 same-length : tie.Need-same-length
 same-length c = search needs
@@ -20,7 +23,9 @@ same-length-2 : tie.Need-same-length-2
 same-length-2 c = search needs
 
 returns : tie.Need-returns
-returns c = leaf-writes _ (c .before .before .before .before .before .before .before .before .before .before .before .before .args .spot) _ _ _ _ (c .before .before .before .before .before .before .before .before .before .before .before .before .pre) (c .before .before .before .before .before .before .before .descend .result) _ (c .before .before .before .before .before .before .before .descend .ensures) (c .before .before .before .before .leaf .result) (c .before .before .before .before .leaf .ensures) (c .before .before .put-told .result) _ (c .before .before .put-told .ensures)
+returns c =
+    let at-leaf = c .before .before .before .before in let at-descend = at-leaf .before .before .before in let start = at-descend .before .before .before .before .before in
+    leaf-writes _ (start .args .spot) _ _ _ _ (start .pre) (at-descend .descend .result) _ (at-descend .descend .ensures) (at-leaf .leaf .result) (at-leaf .leaf .ensures) (c .before .before .put-told .result) _ (c .before .before .put-told .ensures)
 
 pub write-leaf-spec : {M : Type 1} → statement M
 write-leaf-spec =

@@ -17,13 +17,17 @@ refused-requires : tie.Need-refused-requires
 refused-requires c κs = search needs
 
 returns : tie.Need-returns
-returns c = refused-as (c .refused .result) _ _ (c .before .before .before .before .before .before .args .buffer .now) (c .refused .ensures) ∙ refused-so (c .before .before .before .before .before .before .args .buffer .now) (c .before .before .before .before .before .before .args .text .now) (shown (c .before .before .before .judge .result)) (c .before .before .before .judge .ensures) (c .before .if1 .taken)
+returns c =
+    let at-judge = c .before .before .before in let start = at-judge .before .before .before in
+    refused-as (c .refused .result) _ _ (start .args .buffer .now) (c .refused .ensures) ∙ refused-so (start .args .buffer .now) (start .args .text .now) (shown (at-judge .judge .result)) (at-judge .judge .ensures) (c .before .if1 .taken)
 
 slice-aggregate-emitted : tie.Need-slice-aggregate-emitted
 slice-aggregate-emitted c = search needs
 
 emitted-requires : tie.Need-emitted-requires
-emitted-requires c κs = (sound-so (c .before .before .before .before .before .before .before .args .text .now) (shown (c .before .before .before .before .judge .result)) (c .before .before .before .before .judge .ensures) (c .before .before .if1 .left), length-replicate {A = ℕ} text-most 0)
+emitted-requires c κs =
+    let at-judge = c .before .before .before .before in let start = at-judge .before .before .before in
+    (sound-so (start .args .text .now) (shown (at-judge .judge .result)) (at-judge .judge .ensures) (c .before .before .if1 .left), length-replicate {A = ℕ} text-most 0)
 
 same-length : tie.Need-same-length
 same-length c = search needs

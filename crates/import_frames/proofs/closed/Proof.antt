@@ -19,7 +19,9 @@ factor-requires c κs = search needs
 
 returns : tie.Need-returns
 unfolding closed
-returns c = hit (c .before .before .before .before .args .s .mode) 1 _ _ (c .before .before .if1 .taken) (c .factor .ensures ∙ ap (factor (c .before .before .before .before .args .s)) (c .before .constant .ensures))
+returns c =
+    let start = c .before .before .before .before in
+    hit (start .args .s .mode) 1 _ _ (c .before .before .if1 .taken) (c .factor .ensures ∙ ap (factor (start .args .s)) (c .before .constant .ensures))
 
 returns-2 : tie.Need-returns-2
 unfolding closed

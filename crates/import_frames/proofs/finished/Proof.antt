@@ -29,18 +29,24 @@ all-fit-requires : tie.Need-all-fit-requires
 all-fit-requires c κs = search needs
 
 compared-with-requires : tie.Need-compared-with-requires
-compared-with-requires c κs = (c .before .before .before .before .before .pre, record { long = ap (λ (l : List ℤ). length l) (c .before .before .total .ensures) ∙ kept.total-long (c .before .before .before .before .before .args .s) (c .before .before .before .before .before .pre); within = sym (c .before .all-fit .ensures) ∙ c .if2 .taken })
+compared-with-requires c κs =
+    let start = c .before .before .before .before .before in
+    (start .pre, record { long = ap (λ (l : List ℤ). length l) (c .before .before .total .ensures) ∙ kept.total-long (start .args .s) (start .pre); within = sym (c .before .all-fit .ensures) ∙ c .if2 .taken })
 
 returns-2 : tie.Need-returns-2
 unfolding finished
-returns-2 c = miss (c .before .before .before .before .before .before .args .s .mode) 4 _ _ (c .before .before .before .before .if1 .left) (yes (all-within (total (c .before .before .before .before .before .before .args .s))) _ _ (c .before .before .all-fit .ensures ∙ ap all-within (c .before .before .before .total .ensures)) (c .before .if2 .taken) (c .compared-with .ensures ∙ ap (compared-with (c .before .before .before .before .before .before .args .s)) (c .before .before .before .total .ensures)))
+returns-2 c =
+    let at-total = c .before .before .before in let at-if1 = at-total .before in let start = at-if1 .before .before in
+    miss (start .args .s .mode) 4 _ _ (at-if1 .if1 .left) (yes (all-within (total (start .args .s))) _ _ (c .before .before .all-fit .ensures ∙ ap all-within (at-total .total .ensures)) (c .before .if2 .taken) (c .compared-with .ensures ∙ ap (compared-with (start .args .s)) (at-total .total .ensures)))
 
 over-requires : tie.Need-over-requires
 over-requires c κs = search needs
 
 returns-3 : tie.Need-returns-3
 unfolding finished
-returns-3 c = miss (c .before .before .before .before .before .before .args .s .mode) 4 _ _ (c .before .before .before .before .if1 .left) (no (all-within (total (c .before .before .before .before .before .before .args .s))) _ _ (c .before .before .all-fit .ensures ∙ ap all-within (c .before .before .before .total .ensures)) (c .before .if2 .left) (c .over .ensures))
+returns-3 c =
+    let at-total = c .before .before .before in let at-if1 = at-total .before in let start = at-if1 .before .before in
+    miss (start .args .s .mode) 4 _ _ (at-if1 .if1 .left) (no (all-within (total (start .args .s))) _ _ (c .before .before .all-fit .ensures ∙ ap all-within (at-total .total .ensures)) (c .before .if2 .left) (c .over .ensures))
 
 pub finished-spec : {M : Type 1} → statement M
 finished-spec =

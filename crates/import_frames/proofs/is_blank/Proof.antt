@@ -15,10 +15,14 @@ returns-2 : tie.Need-returns-2
 returns-2 c = miss (c .before .before .args .k) 32 _ _ (c .before .if1 .left) (hit (c .before .before .args .k) 9 _ _ (c .if2 .taken) (refl))
 
 returns-3 : tie.Need-returns-3
-returns-3 c = miss (c .before .before .before .args .k) 32 _ _ (c .before .before .if1 .left) (miss (c .before .before .before .args .k) 9 _ _ (c .before .if2 .left) (hit (c .before .before .before .args .k) 10 _ _ (c .if3 .taken) (refl)))
+returns-3 c =
+    let start = c .before .before .before in
+    miss (start .args .k) 32 _ _ (c .before .before .if1 .left) (miss (start .args .k) 9 _ _ (c .before .if2 .left) (hit (start .args .k) 10 _ _ (c .if3 .taken) (refl)))
 
 returns-4 : tie.Need-returns-4
-returns-4 c = miss (c .before .before .before .args .k) 32 _ _ (c .before .before .if1 .left) (miss (c .before .before .before .args .k) 9 _ _ (c .before .if2 .left) (miss (c .before .before .before .args .k) 10 _ _ (c .if3 .left) (refl)))
+returns-4 c =
+    let start = c .before .before .before in
+    miss (start .args .k) 32 _ _ (c .before .before .if1 .left) (miss (start .args .k) 9 _ _ (c .before .if2 .left) (miss (start .args .k) 10 _ _ (c .if3 .left) (refl)))
 
 pub is-blank-spec : {M : Type 1} → statement M
 is-blank-spec = tie.close (tie.spec returns returns-2 returns-3 returns-4)

@@ -10,25 +10,32 @@ use Rattle.import_frames.proofs.less.Lts as lts
 use Rattle.whole_linears.proofs.sub.Reads as sub-reads
 
 sub-requires : tie.Need-sub-requires
-sub-requires c κs = (nine-smalls (c .before .before .before .pre .1), nine-smalls (c .before .before .before .pre .0 .left-nine))
+sub-requires c κs =
+    let start = c .before .before .before in (nine-smalls (start .pre .1), nine-smalls (start .pre .0 .left-nine))
 
 returns : tie.Need-returns
 unfolding less
 returns c = hit (c .before .before .before .before .args .s .compared) 1 _ _ (c .before .if1 .taken) (c .sub .ensures)
 
 sub-requires-2 : tie.Need-sub-requires-2
-sub-requires-2 c κs = (nine-smalls (c .before .before .before .before .before .pre .1), nine-smalls (c .before .before .before .before .before .pre .0 .left-nine))
+sub-requires-2 c κs =
+    let start = c .before .before .before .before .before in (nine-smalls (start .pre .1), nine-smalls (start .pre .0 .left-nine))
 
 returns-2 : tie.Need-returns-2
 unfolding less
-returns-2 c = miss (c .before .before .before .before .before .before .args .s .compared) 1 _ _ (c .before .before .before .if1 .left) (hit (c .before .before .before .before .before .before .args .s .compared) 4 _ _ (c .before .if2 .taken) (c .sub2 .ensures))
+returns-2 c =
+    let at-if1 = c .before .before .before in let start = at-if1 .before .before .before in
+    miss (start .args .s .compared) 1 _ _ (at-if1 .if1 .left) (hit (start .args .s .compared) 4 _ _ (c .before .if2 .taken) (c .sub2 .ensures))
 
 sub-requires-3 : tie.Need-sub-requires-3
-sub-requires-3 c κs = (nine-smalls (c .before .before .before .before .before .pre .0 .left-nine), nine-smalls (c .before .before .before .before .before .pre .1))
+sub-requires-3 c κs =
+    let start = c .before .before .before .before .before in (nine-smalls (start .pre .0 .left-nine), nine-smalls (start .pre .1))
 
 returns-3 : tie.Need-returns-3
 unfolding less
-returns-3 c = miss (c .before .before .before .before .before .before .args .s .compared) 1 _ _ (c .before .before .before .if1 .left) (miss (c .before .before .before .before .before .before .args .s .compared) 4 _ _ (c .before .if2 .left) (c .sub3 .ensures))
+returns-3 c =
+    let at-if1 = c .before .before .before in let start = at-if1 .before .before .before in
+    miss (start .args .s .compared) 1 _ _ (at-if1 .if1 .left) (miss (start .args .s .compared) 4 _ _ (c .before .if2 .left) (c .sub3 .ensures))
 
 pub less-spec : {M : Type 1} → statement M
 less-spec =

@@ -28,7 +28,9 @@ sided-requires c κs = search needs
 
 returns : tie.Need-returns
 unfolding on-compare
-returns c = yes (all-within (total (c .before .before .before .before .args .s))) _ _ (c .before .before .all-fit .ensures ∙ ap all-within (c .before .before .before .total .ensures)) (c .before .if1 .taken) (c .sided .ensures ∙ ap (λ (t : List ℤ). f.sided t (c .before .before .before .before .args .compared)) (c .before .before .before .total .ensures))
+returns c =
+    let at-total = c .before .before .before in let start = at-total .before in
+    yes (all-within (total (start .args .s))) _ _ (c .before .before .all-fit .ensures ∙ ap all-within (at-total .total .ensures)) (c .before .if1 .taken) (c .sided .ensures ∙ ap (λ (t : List ℤ). f.sided t (start .args .compared)) (at-total .total .ensures))
 
 over-requires : tie.Need-over-requires
 over-requires c κs = search needs

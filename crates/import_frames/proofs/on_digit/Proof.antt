@@ -29,7 +29,8 @@ mul-grown : tie.Need-mul-grown
 mul-grown c = let g = c .before .before .before .pre .0 .number-within in omega arith
 
 add-grown : tie.Need-add-grown
-add-grown c = let h = kept.digit-small (c .before .before .before .args .k) (c .before .before .before .pre .1) in let g = c .before .before .before .pre .0 .number-within in omega arith
+add-grown c =
+    let start = c .before .before .before in let h = kept.digit-small (start .args .k) (start .pre .1) in let g = start .pre .0 .number-within in omega arith
 
 grown-requires : tie.Need-grown-requires
 grown-requires c κs = search needs
@@ -42,25 +43,33 @@ level-requires : tie.Need-level-requires
 level-requires c κs = search needs
 
 factor-requires : tie.Need-factor-requires
-factor-requires c κs = (c .before .before .before .before .before .pre .0, ap (λ (l : List ℤ). length l) (c .level .ensures) ∙ kept.level-long (c .before .before .before .before .before .args .k))
+factor-requires c κs =
+    let start = c .before .before .before .before .before in
+    (start .pre .0, ap (λ (l : List ℤ). length l) (c .level .ensures) ∙ kept.level-long (start .args .k))
 
 returns-2 : tie.Need-returns-2
 unfolding on-digit
-returns-2 c = miss (c .before .before .before .before .before .before .args .s .mode) 1 _ _ (c .before .before .before .before .if1 .left) (hit (c .before .before .before .before .before .before .args .s .mode) 3 _ _ (c .before .before .if2 .taken) (c .factor .ensures ∙ ap (factor (c .before .before .before .before .before .before .args .s)) (c .before .level .ensures)))
+returns-2 c =
+    let at-if1 = c .before .before .before .before in let start = at-if1 .before .before in
+    miss (start .args .s .mode) 1 _ _ (at-if1 .if1 .left) (hit (start .args .s .mode) 3 _ _ (c .before .before .if2 .taken) (c .factor .ensures ∙ ap (factor (start .args .s)) (c .before .level .ensures)))
 
 idle-requires : tie.Need-idle-requires
 idle-requires c κs = search needs
 
 returns-3 : tie.Need-returns-3
 unfolding on-digit
-returns-3 c = miss (c .before .before .before .before .before .before .before .args .s .mode) 1 _ _ (c .before .before .before .before .before .if1 .left) (miss (c .before .before .before .before .before .before .before .args .s .mode) 3 _ _ (c .before .before .before .if2 .left) (hit (c .before .before .before .before .before .before .before .args .s .mode) 5 _ _ (c .before .if3 .taken) (c .idle .ensures)))
+returns-3 c =
+    let at-if2 = c .before .before .before in let at-if1 = at-if2 .before .before in let start = at-if1 .before .before in
+    miss (start .args .s .mode) 1 _ _ (at-if1 .if1 .left) (miss (start .args .s .mode) 3 _ _ (at-if2 .if2 .left) (hit (start .args .s .mode) 5 _ _ (c .before .if3 .taken) (c .idle .ensures)))
 
 numbered-requires : tie.Need-numbered-requires
 numbered-requires c κs = search needs
 
 returns-4 : tie.Need-returns-4
 unfolding on-digit
-returns-4 c = miss (c .before .before .before .before .before .before .before .args .s .mode) 1 _ _ (c .before .before .before .before .before .if1 .left) (miss (c .before .before .before .before .before .before .before .args .s .mode) 3 _ _ (c .before .before .before .if2 .left) (miss (c .before .before .before .before .before .before .before .args .s .mode) 5 _ _ (c .before .if3 .left) (c .numbered .ensures)))
+returns-4 c =
+    let at-if2 = c .before .before .before in let at-if1 = at-if2 .before .before in let start = at-if1 .before .before in
+    miss (start .args .s .mode) 1 _ _ (at-if1 .if1 .left) (miss (start .args .s .mode) 3 _ _ (at-if2 .if2 .left) (miss (start .args .s .mode) 5 _ _ (c .before .if3 .left) (c .numbered .ensures)))
 
 pub on-digit-spec : {M : Type 1} → statement M
 on-digit-spec =

@@ -16,21 +16,27 @@ with-comparison-requires c κs = search needs
 
 returns : tie.Need-returns
 unfolding on-equals
-returns c = hit (c .before .before .before .before .before .args .s .mode) 0 _ _ (c .before .before .before .if1 .taken) (hit (c .before .before .before .before .before .args .s .compared) 1 _ _ (c .before .if2 .taken) (c .with-comparison .ensures))
+returns c =
+    let at-if1 = c .before .before .before in let start = at-if1 .before .before in
+    hit (start .args .s .mode) 0 _ _ (at-if1 .if1 .taken) (hit (start .args .s .compared) 1 _ _ (c .before .if2 .taken) (c .with-comparison .ensures))
 
 with-comparison-requires-2 : tie.Need-with-comparison-requires-2
 with-comparison-requires-2 c κs = search needs
 
 returns-2 : tie.Need-returns-2
 unfolding on-equals
-returns-2 c = hit (c .before .before .before .before .before .before .before .args .s .mode) 0 _ _ (c .before .before .before .before .before .if1 .taken) (miss (c .before .before .before .before .before .before .before .args .s .compared) 1 _ _ (c .before .before .before .if2 .left) (hit (c .before .before .before .before .before .before .before .args .s .compared) 3 _ _ (c .before .if3 .taken) (c .with-comparison2 .ensures)))
+returns-2 c =
+    let at-if2 = c .before .before .before in let at-if1 = at-if2 .before .before in let start = at-if1 .before .before in
+    hit (start .args .s .mode) 0 _ _ (at-if1 .if1 .taken) (miss (start .args .s .compared) 1 _ _ (at-if2 .if2 .left) (hit (start .args .s .compared) 3 _ _ (c .before .if3 .taken) (c .with-comparison2 .ensures)))
 
 on-end-requires : tie.Need-on-end-requires
 on-end-requires c κs = search needs
 
 returns-3 : tie.Need-returns-3
 unfolding on-equals
-returns-3 c = hit (c .before .before .before .before .before .before .before .args .s .mode) 0 _ _ (c .before .before .before .before .before .if1 .taken) (miss (c .before .before .before .before .before .before .before .args .s .compared) 1 _ _ (c .before .before .before .if2 .left) (miss (c .before .before .before .before .before .before .before .args .s .compared) 3 _ _ (c .before .if3 .left) (c .on-end .ensures)))
+returns-3 c =
+    let at-if2 = c .before .before .before in let at-if1 = at-if2 .before .before in let start = at-if1 .before .before in
+    hit (start .args .s .mode) 0 _ _ (at-if1 .if1 .taken) (miss (start .args .s .compared) 1 _ _ (at-if2 .if2 .left) (miss (start .args .s .compared) 3 _ _ (c .before .if3 .left) (c .on-end .ensures)))
 
 on-end-requires-2 : tie.Need-on-end-requires-2
 on-end-requires-2 c κs = search needs

@@ -24,21 +24,27 @@ on-compare-requires c κs = search needs
 
 returns-2 : tie.Need-returns-2
 unfolding on-other
-returns-2 c = miss (c .before .before .before .args .k) 61 _ _ (c .before .before .if1 .left) (hit (c .before .before .before .args .k) 60 _ _ (c .before .if2 .taken) (c .on-compare .ensures))
+returns-2 c =
+    let start = c .before .before .before in
+    miss (start .args .k) 61 _ _ (c .before .before .if1 .left) (hit (start .args .k) 60 _ _ (c .before .if2 .taken) (c .on-compare .ensures))
 
 on-compare-requires-2 : tie.Need-on-compare-requires-2
 on-compare-requires-2 c κs = search needs
 
 returns-3 : tie.Need-returns-3
 unfolding on-other
-returns-3 c = miss (c .before .before .before .before .args .k) 61 _ _ (c .before .before .before .if1 .left) (miss (c .before .before .before .before .args .k) 60 _ _ (c .before .before .if2 .left) (hit (c .before .before .before .before .args .k) 62 _ _ (c .before .if3 .taken) (c .on-compare2 .ensures)))
+returns-3 c =
+    let at-if1 = c .before .before .before in let start = at-if1 .before in
+    miss (start .args .k) 61 _ _ (at-if1 .if1 .left) (miss (start .args .k) 60 _ _ (c .before .before .if2 .left) (hit (start .args .k) 62 _ _ (c .before .if3 .taken) (c .on-compare2 .ensures)))
 
 on-end-requires : tie.Need-on-end-requires
 on-end-requires c κs = search needs
 
 returns-4 : tie.Need-returns-4
 unfolding on-other
-returns-4 c = miss (c .before .before .before .before .args .k) 61 _ _ (c .before .before .before .if1 .left) (miss (c .before .before .before .before .args .k) 60 _ _ (c .before .before .if2 .left) (miss (c .before .before .before .before .args .k) 62 _ _ (c .before .if3 .left) (c .on-end .ensures)))
+returns-4 c =
+    let at-if1 = c .before .before .before in let start = at-if1 .before in
+    miss (start .args .k) 61 _ _ (at-if1 .if1 .left) (miss (start .args .k) 60 _ _ (c .before .before .if2 .left) (miss (start .args .k) 62 _ _ (c .before .if3 .left) (c .on-end .ensures)))
 
 pub on-other-spec : {M : Type 1} → statement M
 on-other-spec =

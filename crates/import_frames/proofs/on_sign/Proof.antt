@@ -35,14 +35,18 @@ summed-requires-2 c κs = search needs
 
 returns-2 : tie.Need-returns-2
 unfolding on-sign
-returns-2 c = miss (c .before .before .before .before .before .before .args .s .mode) 0 _ _ (c .before .before .before .before .if1 .left) (yes (all-within (total (c .before .before .before .before .before .before .args .s))) _ _ (c .before .before .all-fit .ensures ∙ ap all-within (c .before .before .before .total .ensures)) (c .before .if2 .taken) (c .summed2 .ensures ∙ ap (λ (t : List ℤ). f.summed (c .before .before .before .before .before .before .args .s) t (c .before .before .before .before .before .before .args .minus)) (c .before .before .before .total .ensures)))
+returns-2 c =
+    let at-total = c .before .before .before in let at-if1 = at-total .before in let start = at-if1 .before .before in
+    miss (start .args .s .mode) 0 _ _ (at-if1 .if1 .left) (yes (all-within (total (start .args .s))) _ _ (c .before .before .all-fit .ensures ∙ ap all-within (at-total .total .ensures)) (c .before .if2 .taken) (c .summed2 .ensures ∙ ap (λ (t : List ℤ). f.summed (start .args .s) t (start .args .minus)) (at-total .total .ensures)))
 
 over-requires : tie.Need-over-requires
 over-requires c κs = search needs
 
 returns-3 : tie.Need-returns-3
 unfolding on-sign
-returns-3 c = miss (c .before .before .before .before .before .before .args .s .mode) 0 _ _ (c .before .before .before .before .if1 .left) (no (all-within (total (c .before .before .before .before .before .before .args .s))) _ _ (c .before .before .all-fit .ensures ∙ ap all-within (c .before .before .before .total .ensures)) (c .before .if2 .left) (c .over .ensures))
+returns-3 c =
+    let at-total = c .before .before .before in let at-if1 = at-total .before in let start = at-if1 .before .before in
+    miss (start .args .s .mode) 0 _ _ (at-if1 .if1 .left) (no (all-within (total (start .args .s))) _ _ (c .before .before .all-fit .ensures ∙ ap all-within (at-total .total .ensures)) (c .before .if2 .left) (c .over .ensures))
 
 pub on-sign-spec : {M : Type 1} → statement M
 on-sign-spec =

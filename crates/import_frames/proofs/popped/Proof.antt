@@ -26,14 +26,20 @@ finished-requires c κs = subst Sound (sym (c .before .closed .ensures)) (kept.c
 
 returns-2 : tie.Need-returns-2
 unfolding popped
-returns-2 c = no (closed (c .before .before .before .before .args .s) .beyond) _ _ (ap (λ (g : Frame). g .beyond) (c .before .before .before .closed .ensures)) (c .before .before .if1 .left) (yes (finished (closed (c .before .before .before .before .args .s)) .beyond) _ _ (ap (λ (g : Frame). g .beyond) (c .before .finished .ensures ∙ ap finished (c .before .before .before .closed .ensures))) (c .if2 .taken) (c .before .finished .ensures ∙ ap finished (c .before .before .before .closed .ensures)))
+returns-2 c =
+    let at-closed = c .before .before .before in let start = at-closed .before in
+    no (closed (start .args .s) .beyond) _ _ (ap (λ (g : Frame). g .beyond) (at-closed .closed .ensures)) (c .before .before .if1 .left) (yes (finished (closed (start .args .s)) .beyond) _ _ (ap (λ (g : Frame). g .beyond) (c .before .finished .ensures ∙ ap finished (at-closed .closed .ensures))) (c .if2 .taken) (c .before .finished .ensures ∙ ap finished (at-closed .closed .ensures)))
 
 entered-requires : tie.Need-entered-requires
-entered-requires c κs = (c .before .before .before .before .pre .0, subst Sound (sym (c .before .finished .ensures ∙ ap finished (c .before .before .before .closed .ensures))) (kept.finished-sound (closed (c .before .before .before .before .args .s)) (kept.closed-sound (c .before .before .before .before .args .s) (c .before .before .before .before .pre .1))))
+entered-requires c κs =
+    let at-closed = c .before .before .before in let start = at-closed .before in
+    (start .pre .0, subst Sound (sym (c .before .finished .ensures ∙ ap finished (at-closed .closed .ensures))) (kept.finished-sound (closed (start .args .s)) (kept.closed-sound (start .args .s) (start .pre .1))))
 
 returns-3 : tie.Need-returns-3
 unfolding popped
-returns-3 c = no (closed (c .before .before .before .before .before .args .s) .beyond) _ _ (ap (λ (g : Frame). g .beyond) (c .before .before .before .before .closed .ensures)) (c .before .before .before .if1 .left) (no (finished (closed (c .before .before .before .before .before .args .s)) .beyond) _ _ (ap (λ (g : Frame). g .beyond) (c .before .before .finished .ensures ∙ ap finished (c .before .before .before .before .closed .ensures))) (c .before .if2 .left) (c .entered .ensures ∙ ap (entered (c .before .before .before .before .before .args .o)) (c .before .before .finished .ensures ∙ ap finished (c .before .before .before .before .closed .ensures))))
+returns-3 c =
+    let at-if1 = c .before .before .before in let at-closed = at-if1 .before in let start = at-closed .before in
+    no (closed (start .args .s) .beyond) _ _ (ap (λ (g : Frame). g .beyond) (at-closed .closed .ensures)) (at-if1 .if1 .left) (no (finished (closed (start .args .s)) .beyond) _ _ (ap (λ (g : Frame). g .beyond) (c .before .before .finished .ensures ∙ ap finished (at-closed .closed .ensures))) (c .before .if2 .left) (c .entered .ensures ∙ ap (entered (start .args .o)) (c .before .before .finished .ensures ∙ ap finished (at-closed .closed .ensures))))
 
 pub popped-spec : {M : Type 1} → statement M
 popped-spec =

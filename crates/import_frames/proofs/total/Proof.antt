@@ -11,14 +11,16 @@ use Rattle.whole_linears.proofs.add.Reads as add-reads
 use Rattle.whole_linears.proofs.sub.Reads as sub-reads
 
 sub-requires : tie.Need-sub-requires
-sub-requires c κs = (nine-smalls (c .before .before .before .pre .sum-nine), nine-smalls (c .before .before .before .pre .term-nine))
+sub-requires c κs =
+    let start = c .before .before .before in (nine-smalls (start .pre .sum-nine), nine-smalls (start .pre .term-nine))
 
 returns : tie.Need-returns
 unfolding total
 returns c = yes ((c .before .before .before .before .args .s) .minus) _ _ refl (c .before .if1 .taken) (c .sub .ensures)
 
 add-requires : tie.Need-add-requires
-add-requires c κs = (nine-smalls (c .before .before .before .pre .sum-nine), nine-smalls (c .before .before .before .pre .term-nine))
+add-requires c κs =
+    let start = c .before .before .before in (nine-smalls (start .pre .sum-nine), nine-smalls (start .pre .term-nine))
 
 returns-2 : tie.Need-returns-2
 unfolding total

@@ -25,8 +25,9 @@ refusal-requires-2 c κs = search needs
 
 returns-2 : tie.Need-returns-2
 returns-2 c =
+    let at-scan = c .before .before .before .before in let at-if1 = at-scan .before in let start = at-if1 .before .before in
     shown-as (c .refusal2 .result) _ _ (c .refusal2 .ensures)
-    ∙ outside (c .before .before .before .before .before .before .before .args .text .now) (c .before .before .before .before .before .if1 .left) _ (sym (c .before .before .before .before .scan .ensures) ∙ c .before .before .i .given .1)
+    ∙ outside (start .args .text .now) (at-if1 .if1 .left) _ (sym (at-scan .scan .ensures) ∙ c .before .before .i .given .1)
 
 enum-told : tie.Need-enum-told
 enum-told c = search needs
@@ -42,15 +43,17 @@ refusal-requires-4 c κs = search needs
 
 returns-3 : tie.Need-returns-3
 returns-3 c =
+    let at-enum-told = c .before .before .before in let at-scan = at-enum-told .before .before in let at-if1 = at-scan .before in let start = at-if1 .before .before in
     shown-as (c .refusal3 .result) _ _ (c .refusal3 .ensures)
     ∙ ap (λ (b : Bool). if b (refusal 25 0) (refusal 0 0)) (sym (c .before .if2 .taken))
-    ∙ inside (c .before .before .before .before .before .before .before .before .args .text .now) (c .before .before .before .before .before .before .if1 .left) (sym (c .before .before .before .before .before .scan .ensures) ∙ c .before .before .before .enum-told .given .1) (c .before .before .beyond .result) (c .before .before .beyond .ensures)
+    ∙ inside (start .args .text .now) (at-if1 .if1 .left) (sym (at-scan .scan .ensures) ∙ at-enum-told .enum-told .given .1) (c .before .before .beyond .result) (c .before .before .beyond .ensures)
 
 returns-4 : tie.Need-returns-4
 returns-4 c =
+    let at-enum-told = c .before .before .before in let at-scan = at-enum-told .before .before in let at-if1 = at-scan .before in let start = at-if1 .before .before in
     shown-as (c .refusal4 .result) _ _ (c .refusal4 .ensures)
     ∙ ap (λ (b : Bool). if b (refusal 25 0) (refusal 0 0)) (sym (c .before .if2 .left))
-    ∙ inside (c .before .before .before .before .before .before .before .before .args .text .now) (c .before .before .before .before .before .before .if1 .left) (sym (c .before .before .before .before .before .scan .ensures) ∙ c .before .before .before .enum-told .given .1) (c .before .before .beyond .result) (c .before .before .beyond .ensures)
+    ∙ inside (start .args .text .now) (at-if1 .if1 .left) (sym (at-scan .scan .ensures) ∙ at-enum-told .enum-told .given .1) (c .before .before .beyond .result) (c .before .before .beyond .ensures)
 
 pub judge-spec : {M : Type 1} → statement M
 judge-spec =

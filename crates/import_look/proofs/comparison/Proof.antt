@@ -24,13 +24,17 @@ difference-requires : tie.Need-difference-requires
 difference-requires c κs = search needs
 
 returns : tie.Need-returns
-returns c = compared _ _ _ _ (c .before .before .before .before .before .operator-at .result) _ (c .before .before .before .before .before .before .sum-at .ensures) (c .before .before .before .before .before .operator-at .ensures .0) (c .before .before .before .before .sum-at2 .ensures) (c .difference .ensures ∙ sym (if-yes (c .before .before .before .before .before .operator-at .result .turned) _ _ (c .before .if1 .taken)))
+returns c =
+    let at-sum-at2 = c .before .before .before .before in let at-operator-at = at-sum-at2 .before in let at-sum-at = at-operator-at .before in
+    compared _ _ _ _ (at-operator-at .operator-at .result) _ (at-sum-at .sum-at .ensures) (at-operator-at .operator-at .ensures .0) (at-sum-at2 .sum-at2 .ensures) (c .difference .ensures ∙ sym (if-yes (at-operator-at .operator-at .result .turned) _ _ (c .before .if1 .taken)))
 
 difference-requires-2 : tie.Need-difference-requires-2
 difference-requires-2 c κs = search needs
 
 returns-2 : tie.Need-returns-2
-returns-2 c = compared _ _ _ _ (c .before .before .before .before .before .operator-at .result) _ (c .before .before .before .before .before .before .sum-at .ensures) (c .before .before .before .before .before .operator-at .ensures .0) (c .before .before .before .before .sum-at2 .ensures) (c .difference2 .ensures ∙ sym (if-no (c .before .before .before .before .before .operator-at .result .turned) _ _ (c .before .if1 .left)))
+returns-2 c =
+    let at-sum-at2 = c .before .before .before .before in let at-operator-at = at-sum-at2 .before in let at-sum-at = at-operator-at .before in
+    compared _ _ _ _ (at-operator-at .operator-at .result) _ (at-sum-at .sum-at .ensures) (at-operator-at .operator-at .ensures .0) (at-sum-at2 .sum-at2 .ensures) (c .difference2 .ensures ∙ sym (if-no (at-operator-at .operator-at .result .turned) _ _ (c .before .if1 .left)))
 
 pub comparison-spec : {M : Type 1} → statement M
 comparison-spec =

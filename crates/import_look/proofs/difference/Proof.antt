@@ -17,10 +17,11 @@ all-fit-requires-2 : tie.Need-all-fit-requires-2
 all-fit-requires-2 c κs = search needs
 
 sub-requires : tie.Need-sub-requires
-sub-requires c κs = (
-  nine-smalls (record { long = c .before .before .before .before .pre .0; within = sym (c .before .before .before .all-fit .ensures) ∙ c .before .before .if1 .taken }),
-  nine-smalls (record { long = c .before .before .before .before .pre .1; within = sym (c .before .all-fit2 .ensures) ∙ c .if2 .taken }),
-)
+sub-requires c κs =
+    let at-all-fit = c .before .before .before in let start = at-all-fit .before in (
+      nine-smalls (record { long = start .pre .0; within = sym (at-all-fit .all-fit .ensures) ∙ c .before .before .if1 .taken }),
+      nine-smalls (record { long = start .pre .1; within = sym (c .before .all-fit2 .ensures) ∙ c .if2 .taken }),
+    )
 
 returns : tie.Need-returns
 returns c = test-both _ _ _ _ (c .before .before .before .before .all-fit .ensures) (c .before .before .before .if1 .taken) (c .before .before .all-fit2 .ensures) (c .before .if2 .taken) (c .sub .ensures)

@@ -24,13 +24,17 @@ add-t11 : tie.Need-add-t11
 add-t11 c = search needs
 
 returns : tie.Need-returns
-returns c = (op-equals _ _ _ _ (c .before .before .byte-at .ensures) (c .before .byte-at2 .ensures) (c .before .before .before .if1 .taken) (c .if2 .taken), let h = c .before .before .before .if1 .taken in omega (arith, h))
+returns c =
+    let at-if1 = c .before .before .before in
+    (op-equals _ _ _ _ (c .before .before .byte-at .ensures) (c .before .byte-at2 .ensures) (at-if1 .if1 .taken) (c .if2 .taken), let h = at-if1 .if1 .taken in omega (arith, h))
 
 add-t8 : tie.Need-add-t8
 add-t8 c = search needs
 
 returns-2 : tie.Need-returns-2
-returns-2 c = (op-bare _ _ _ _ (c .before .before .byte-at .ensures) (c .before .byte-at2 .ensures) (c .before .before .before .if1 .taken) (c .if2 .left), let h = c .before .before .before .if1 .taken in omega (arith, h))
+returns-2 c =
+    let at-if1 = c .before .before .before in
+    (op-bare _ _ _ _ (c .before .before .byte-at .ensures) (c .before .byte-at2 .ensures) (at-if1 .if1 .taken) (c .if2 .left), let h = at-if1 .if1 .taken in omega (arith, h))
 
 returns-3 : tie.Need-returns-3
 returns-3 c = (op-none _ _ (c .if1 .left), c .before .before .pre .0)

@@ -40,14 +40,15 @@ loop-less c = omega arith
 
 loop-again : tie.Need-loop-again Inv-loop μ-loop
 loop-again c =
-    let e = sym (c .before .t .given .1) ∙ c .before .before .before .advance .ensures in
-    let d = on-depth (c .before .before .before .before .before .before .loop .s) (c .before .t .given .0 .0) _ e in
-    let h = c .before .before .before .before .before .before .loop .inv .shallows in
+    let at-advance = c .before .before .before in let at-loop-test = at-advance .before .before in let at-loop = at-loop-test .before in
+    let e = sym (c .before .t .given .1) ∙ at-advance .advance .ensures in
+    let d = on-depth (at-loop .loop .s) (c .before .t .given .0 .0) _ e in
+    let h = at-loop .loop .inv .shallows in
     record {
-      within = omega (arith, c .before .before .before .before .before .loop-test .taken);
+      within = omega (arith, at-loop-test .loop-test .taken);
       shallows = omega arith;
-      low = on-low (c .before .before .before .before .before .before .loop .s) (c .before .t .given .0 .0) _ e (c .before .before .before .before .before .before .loop .inv .low);
-      rest = sym (on-byte _ (c .before .before .before .before .before .before .loop .s) (c .before .before .before .before .before .before .loop .i) _ (c .before .before .before .before .before .loop-test .taken) e) ∙ c .before .before .before .before .before .before .loop .inv .rest;
+      low = on-low (at-loop .loop .s) (c .before .t .given .0 .0) _ e (at-loop .loop .inv .low);
+      rest = sym (on-byte _ (at-loop .loop .s) (at-loop .loop .i) _ (at-loop-test .loop-test .taken) e) ∙ at-loop .loop .inv .rest;
     }
 
 enum-told : tie.Need-enum-told Inv-loop μ-loop
@@ -55,28 +56,36 @@ enum-told c = search needs
 
 returns : tie.Need-returns Inv-loop μ-loop
 unfolding meant
-returns c = record { place = sym (on-byte _ (c .before .before .before .before .before .loop .s) (c .before .before .before .before .before .loop .i) _ (c .before .before .before .before .loop-test .taken) (sym (c .enum-told .given .1) ∙ c .before .before .advance .ensures)) ∙ c .before .before .before .before .before .loop .inv .rest; inside = (omega (arith, c .before .before .before .before .loop-test .taken), c .before .before .before .before .before .loop .inv .low) }
+returns c =
+    let at-loop-test = c .before .before .before .before in let at-loop = at-loop-test .before in
+    record { place = sym (on-byte _ (at-loop .loop .s) (at-loop .loop .i) _ (at-loop-test .loop-test .taken) (sym (c .enum-told .given .1) ∙ c .before .before .advance .ensures)) ∙ at-loop .loop .inv .rest; inside = (omega (arith, at-loop-test .loop-test .taken), at-loop .loop .inv .low) }
 
 enum-told-2 : tie.Need-enum-told-2 Inv-loop μ-loop
 enum-told-2 c = search needs
 
 returns-2 : tie.Need-returns-2 Inv-loop μ-loop
 unfolding meant
-returns-2 c = record { place = sym (on-byte _ (c .before .before .before .before .before .loop .s) (c .before .before .before .before .before .loop .i) _ (c .before .before .before .before .loop-test .taken) (sym (c .enum-told2 .given .1) ∙ c .before .before .advance .ensures)) ∙ c .before .before .before .before .before .loop .inv .rest; inside = omega (arith, c .before .before .before .before .loop-test .taken) }
+returns-2 c =
+    let at-loop-test = c .before .before .before .before in let at-loop = at-loop-test .before in
+    record { place = sym (on-byte _ (at-loop .loop .s) (at-loop .loop .i) _ (at-loop-test .loop-test .taken) (sym (c .enum-told2 .given .1) ∙ c .before .before .advance .ensures)) ∙ at-loop .loop .inv .rest; inside = omega (arith, at-loop-test .loop-test .taken) }
 
 enum-told-3 : tie.Need-enum-told-3 Inv-loop μ-loop
 enum-told-3 c = search needs
 
 returns-3 : tie.Need-returns-3 Inv-loop μ-loop
 unfolding meant
-returns-3 c = record { place = sym (on-byte _ (c .before .before .before .before .before .loop .s) (c .before .before .before .before .before .loop .i) _ (c .before .before .before .before .loop-test .taken) (sym (c .enum-told3 .given .1) ∙ c .before .before .advance .ensures)) ∙ c .before .before .before .before .before .loop .inv .rest; inside = omega (arith, c .before .before .before .before .loop-test .taken) }
+returns-3 c =
+    let at-loop-test = c .before .before .before .before in let at-loop = at-loop-test .before in
+    record { place = sym (on-byte _ (at-loop .loop .s) (at-loop .loop .i) _ (at-loop-test .loop-test .taken) (sym (c .enum-told3 .given .1) ∙ c .before .before .advance .ensures)) ∙ at-loop .loop .inv .rest; inside = omega (arith, at-loop-test .loop-test .taken) }
 
 enum-told-4 : tie.Need-enum-told-4 Inv-loop μ-loop
 enum-told-4 c = search needs
 
 returns-4 : tie.Need-returns-4 Inv-loop μ-loop
 unfolding meant
-returns-4 c = record { place = sym (on-byte _ (c .before .before .before .before .before .loop .s) (c .before .before .before .before .before .loop .i) _ (c .before .before .before .before .loop-test .taken) (sym (c .enum-told4 .given .1) ∙ c .before .before .advance .ensures)) ∙ c .before .before .before .before .before .loop .inv .rest; inside = tt }
+returns-4 c =
+    let at-loop-test = c .before .before .before .before in let at-loop = at-loop-test .before in
+    record { place = sym (on-byte _ (at-loop .loop .s) (at-loop .loop .i) _ (at-loop-test .loop-test .taken) (sym (c .enum-told4 .given .1) ∙ c .before .before .advance .ensures)) ∙ at-loop .loop .inv .rest; inside = tt }
 
 returns-5 : tie.Need-returns-5 Inv-loop μ-loop
 unfolding meant

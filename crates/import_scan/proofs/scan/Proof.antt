@@ -28,7 +28,9 @@ over-requires : tie.Need-over-requires Inv-loop μ-loop
 over-requires c κs = search needs
 
 returns : tie.Need-returns Inv-loop μ-loop
-returns c = stopped _ (c .before .before .before .before .before .loop .s) (c .before .before .before .before .before .loop .i) (c .before .before .before .before .before .loop .inv) (c .before .before .before .before .loop-test .taken) (c .before .before .next .result) (c .before .before .next .ensures) (sym (c .before .over .ensures) ∙ c .if1 .taken)
+returns c =
+    let at-loop-test = c .before .before .before .before in let at-loop = at-loop-test .before in
+    stopped _ (at-loop .loop .s) (at-loop .loop .i) (at-loop .loop .inv) (at-loop-test .loop-test .taken) (c .before .before .next .result) (c .before .before .next .ensures) (sym (c .before .over .ensures) ∙ c .if1 .taken)
 
 add-i : tie.Need-add-i Inv-loop μ-loop
 add-i c = omega arith
@@ -37,16 +39,22 @@ loop-less : tie.Need-loop-less Inv-loop μ-loop
 loop-less c = omega arith
 
 loop-again : tie.Need-loop-again Inv-loop μ-loop
-loop-again c = turned _ (c .before .before .before .before .before .loop .s) (c .before .before .before .before .before .loop .i) (c .before .before .before .before .before .loop .inv) (c .before .before .before .before .loop-test .taken) (c .before .before .next .result) (c .before .before .next .ensures) (sym (c .before .over .ensures) ∙ c .if1 .left)
+loop-again c =
+    let at-loop-test = c .before .before .before .before in let at-loop = at-loop-test .before in
+    turned _ (at-loop .loop .s) (at-loop .loop .i) (at-loop .loop .inv) (at-loop-test .loop-test .taken) (c .before .before .next .result) (c .before .before .next .ensures) (sym (c .before .over .ensures) ∙ c .if1 .left)
 
 finished-requires : tie.Need-finished-requires Inv-loop μ-loop
 finished-requires c κs = search needs
 
 returns-2 : tie.Need-returns-2 Inv-loop μ-loop
-returns-2 c = sym (ended _ (c .before .before .before .loop .s) (c .before .before .before .loop .i) (c .before .before .before .loop .inv) (c .before .before .loop-test .left) true (sym (c .before .finished .ensures) ∙ c .if2 .taken))
+returns-2 c =
+    let at-loop = c .before .before .before in
+    sym (ended _ (at-loop .loop .s) (at-loop .loop .i) (at-loop .loop .inv) (c .before .before .loop-test .left) true (sym (c .before .finished .ensures) ∙ c .if2 .taken))
 
 returns-3 : tie.Need-returns-3 Inv-loop μ-loop
-returns-3 c = sym (ended _ (c .before .before .before .loop .s) (c .before .before .before .loop .i) (c .before .before .before .loop .inv) (c .before .before .loop-test .left) false (sym (c .before .finished .ensures) ∙ c .if2 .left))
+returns-3 c =
+    let at-loop = c .before .before .before in
+    sym (ended _ (at-loop .loop .s) (at-loop .loop .i) (at-loop .loop .inv) (c .before .before .loop-test .left) false (sym (c .before .finished .ensures) ∙ c .if2 .left))
 
 pub scan-spec : {M : Type 1} → statement M
 scan-spec =

@@ -32,10 +32,14 @@ all-fit-requires : tie.Need-all-fit-requires
 all-fit-requires c κs = search needs
 
 returns-3 : tie.Need-returns-3
-returns-3 c = all-fits (c .before .before .before .before .before .before .before .walk .ensures) (c .before .before .before .before .before .if1 .left) (c .before .before .before .before .closed .ensures) (c .before .before .before .if2 .left) (c .before .before .total .ensures) (c .before .all-fit .ensures) (c .if3 .taken)
+returns-3 c =
+    let at-if2 = c .before .before .before in let at-closed = at-if2 .before in let at-if1 = at-closed .before in let at-walk = at-if1 .before .before in
+    all-fits (at-walk .walk .ensures) (at-if1 .if1 .left) (at-closed .closed .ensures) (at-if2 .if2 .left) (c .before .before .total .ensures) (c .before .all-fit .ensures) (c .if3 .taken)
 
 returns-4 : tie.Need-returns-4
-returns-4 c = some-out (c .before .before .before .before .before .before .before .walk .ensures) (c .before .before .before .before .before .if1 .left) (c .before .before .before .before .closed .ensures) (c .before .before .before .if2 .left) (c .before .before .total .ensures) (c .before .all-fit .ensures) (c .if3 .left)
+returns-4 c =
+    let at-if2 = c .before .before .before in let at-closed = at-if2 .before in let at-if1 = at-closed .before in let at-walk = at-if1 .before .before in
+    some-out (at-walk .walk .ensures) (at-if1 .if1 .left) (at-closed .closed .ensures) (at-if2 .if2 .left) (c .before .before .total .ensures) (c .before .all-fit .ensures) (c .if3 .left)
 
 pub sum-at-spec : {M : Type 1} → statement M
 sum-at-spec =

@@ -194,7 +194,10 @@ walk-returns-3 : (t : ℕ) → walk-lts.Need-returns-3 (
   step-reads.Asked,
   step-reads.Learnt,
 ) (walk-at t) walk.Post walk-Inv-loop walk-μ-loop
-walk-returns-3 t c = too-deep (c .before .before .before .before .before .before .before .before .before .loop .inv) (c .before .before .before .before .before .before .before .before .loop-test .taken) (c .before .before .before .before .before .before .if1 .left) (c .before .before .before .before .before .stops .ensures) (c .before .before .before .before .if2 .left) (c .before .before .before .opens .ensures) (c .before .before .if3 .taken) (c .before .if4 .taken) (c .over .ensures)
+walk-returns-3 t c =
+    let at-opens = c .before .before .before in let at-if2 = at-opens .before in let at-stops = at-if2 .before in let at-if1 = at-stops .before in
+    let at-loop-test = at-if1 .before .before in let at-loop = at-loop-test .before in
+    too-deep (at-loop .loop .inv) (at-loop-test .loop-test .taken) (at-if1 .if1 .left) (at-stops .stops .ensures) (at-if2 .if2 .left) (at-opens .opens .ensures) (c .before .before .if3 .taken) (c .before .if4 .taken) (c .over .ensures)
 
 walk-add-walk : (t : ℕ) → walk-lts.Need-add-walk (
   idle-reads.Asked,
@@ -248,7 +251,9 @@ walk-walk-requires : (t : ℕ) → walk-lts.Need-walk-requires (
   step-reads.Asked,
   step-reads.Learnt,
 ) (walk-at t) walk.Post walk-Inv-loop walk-μ-loop
-walk-walk-requires t c κs = (omega (arith, c .before .before .before .before .before .before .before .before .before .before .before .pre .0, c .if4 .left), omega arith)
+walk-walk-requires t c κs =
+    let start = c .before .before .before .before .before .before .before .before .before .before .before in
+    (omega (arith, start .pre .0, c .if4 .left), omega arith)
 
 walk-closing-requires : (t : ℕ) → walk-lts.Need-closing-requires (
   idle-reads.Asked,
@@ -266,7 +271,9 @@ walk-closing-requires : (t : ℕ) → walk-lts.Need-closing-requires (
   step-reads.Asked,
   step-reads.Learnt,
 ) (walk-at t) walk.Post walk-Inv-loop walk-μ-loop
-walk-closing-requires t c κs = ((c .before .before .before .before .before .before .before .before .before .loop .inv) .sound, (c .walk .ensures .reaches .sound, (c .walk .ensures .reaches .within, c .walk .ensures .rests)))
+walk-closing-requires t c κs =
+    let at-loop = c .before .before .before .before .before .before .before .before .before in
+    ((at-loop .loop .inv) .sound, (c .walk .ensures .reaches .sound, (c .walk .ensures .reaches .within, c .walk .ensures .rests)))
 
 walk-loop-less : (t : ℕ) → walk-lts.Need-loop-less (
   idle-reads.Asked,
@@ -302,7 +309,10 @@ walk-loop-again : (t : ℕ) → walk-lts.Need-loop-again (
   step-reads.Asked,
   step-reads.Learnt,
 ) (walk-at t) walk.Post walk-Inv-loop walk-μ-loop
-walk-loop-again t c = comes-back (c .before .before .before .before .before .before .before .before .before .before .before .loop .inv) (c .before .before .before .before .before .before .before .before .before .before .loop-test .taken) (c .before .before .before .before .before .before .before .before .if1 .left) (c .before .before .before .before .before .before .before .stops .ensures) (c .before .before .before .before .before .before .if2 .left) (c .before .before .before .before .before .opens .ensures) (c .before .before .before .before .if3 .taken) _ (omega (arith, c .before .before .before .if4 .left)) (c .before .before .walk .ensures) (c .before .closing .ensures)
+walk-loop-again t c =
+    let at-if4 = c .before .before .before in let at-if3 = at-if4 .before in let at-opens = at-if3 .before in let at-if2 = at-opens .before in let at-stops = at-if2 .before in
+    let at-if1 = at-stops .before in let at-loop-test = at-if1 .before .before in let at-loop = at-loop-test .before in
+    comes-back (at-loop .loop .inv) (at-loop-test .loop-test .taken) (at-if1 .if1 .left) (at-stops .stops .ensures) (at-if2 .if2 .left) (at-opens .opens .ensures) (at-if3 .if3 .taken) _ (omega (arith, at-if4 .if4 .left)) (c .before .before .walk .ensures) (c .before .closing .ensures)
 
 walk-step-requires : (t : ℕ) → walk-lts.Need-step-requires (
   idle-reads.Asked,
@@ -320,7 +330,8 @@ walk-step-requires : (t : ℕ) → walk-lts.Need-step-requires (
   step-reads.Asked,
   step-reads.Learnt,
 ) (walk-at t) walk.Post walk-Inv-loop walk-μ-loop
-walk-step-requires t c κs = (c .before .before .before .before .before .before .before .loop .inv) .sound
+walk-step-requires t c κs =
+    let at-loop = c .before .before .before .before .before .before .before in (at-loop .loop .inv) .sound
 
 walk-add-i : (t : ℕ) → walk-lts.Need-add-i (
   idle-reads.Asked,
@@ -374,7 +385,10 @@ walk-loop-again-2 : (t : ℕ) → walk-lts.Need-loop-again-2 (
   step-reads.Asked,
   step-reads.Learnt,
 ) (walk-at t) walk.Post walk-Inv-loop walk-μ-loop
-walk-loop-again-2 t c = goes-on (c .before .before .before .before .before .before .before .before .loop .inv) (c .before .before .before .before .before .before .before .loop-test .taken) (c .before .before .before .before .before .if1 .left) (c .before .before .before .before .stops .ensures) (c .before .before .before .if2 .left) (c .before .before .opens .ensures) (c .before .if3 .left) (c .step .ensures)
+walk-loop-again-2 t c =
+    let at-if2 = c .before .before .before in let at-stops = at-if2 .before in let at-if1 = at-stops .before in let at-loop-test = at-if1 .before .before in
+    let at-loop = at-loop-test .before in
+    goes-on (at-loop .loop .inv) (at-loop-test .loop-test .taken) (at-if1 .if1 .left) (at-stops .stops .ensures) (at-if2 .if2 .left) (c .before .before .opens .ensures) (c .before .if3 .left) (c .step .ensures)
 
 walk-returns-4 : (t : ℕ) → walk-lts.Need-returns-4 (
   idle-reads.Asked,

@@ -17,7 +17,9 @@ same-length : tie.Need-same-length
 same-length c = search needs
 
 returns : tie.Need-returns
-returns c = rename (as-low-first 4 (c .before .before .before .word .result) ∙ ap (low-first 4) (word-back (c .before .before .before .before .before .before .args .z) (c .before .before .before .before .before .before .fits .z) (c .before .before .before .word .ensures))) (c .before .before .put-le .ensures)
+returns c =
+    let at-word = c .before .before .before in let start = at-word .before .before .before in
+    rename (as-low-first 4 (at-word .word .result) ∙ ap (low-first 4) (word-back (start .args .z) (start .fits .z) (at-word .word .ensures))) (c .before .before .put-le .ensures)
 
 pub put-word-spec : {M : Type 1} → statement M
 put-word-spec = tie.close (tie.spec word-requires put-le-requires same-length returns)

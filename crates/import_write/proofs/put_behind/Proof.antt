@@ -10,13 +10,17 @@ put-action-requires : tie.Need-put-action-requires
 put-action-requires c κs = search needs
 
 put-byte-requires : tie.Need-put-byte-requires
-put-byte-requires c κs = omega (arith, c .before .before .before .before .before .before .pre, c .before .before .before .put-action .ensures .behind, action-length (c .before .before .before .before .before .before .args .action), c .before .before .before .put-action .kept .0)
+put-byte-requires c κs =
+    let at-put-action = c .before .before .before in let start = at-put-action .before .before .before in
+    omega (arith, start .pre, at-put-action .put-action .ensures .behind, action-length (start .args .action), at-put-action .put-action .kept .0)
 
 same-length : tie.Need-same-length
 same-length c = search needs
 
 returns : tie.Need-returns
-returns c = then (omega (arith, c .before .before .before .before .before .before .before .before .before .pre)) (c .before .before .before .before .before .before .put-action .ensures) (c .before .before .put-byte .ensures)
+returns c =
+    let at-put-action = c .before .before .before .before .before .before in let start = at-put-action .before .before .before in
+    then (omega (arith, start .pre)) (at-put-action .put-action .ensures) (c .before .before .put-byte .ensures)
 
 pub put-behind-spec : {M : Type 1} → statement M
 put-behind-spec = tie.close (tie.spec put-action-requires put-byte-requires same-length returns)

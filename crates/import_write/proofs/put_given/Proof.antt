@@ -7,34 +7,49 @@ use Rattle.import_write.proofs.put_given.Statement.{statement}
 use Rattle.import_write.proofs.put_given.Tie as tie
 
 put-acting-requires : tie.Need-put-acting-requires
-put-acting-requires c κs = omega (arith, c .before .before .before .pre, reward-length (c .before .before .before .args .command) (c .before .before .before .args .action) (c .before .before .before .args .index) (c .before .if1 .taken))
+put-acting-requires c κs =
+    let start = c .before .before .before in
+    omega (arith, start .pre, reward-length (start .args .command) (start .args .action) (start .args .index) (c .before .if1 .taken))
 
 same-length : tie.Need-same-length
 same-length c = search needs
 
 returns : tie.Need-returns
-returns c = rename (reward-is (c .before .before .before .before .before .before .args .command) (c .before .before .before .before .before .before .args .action) (c .before .before .before .before .before .before .args .index) (c .before .before .before .before .if1 .taken)) (c .before .before .put-acting .ensures)
+returns c =
+    let at-if1 = c .before .before .before .before in let start = at-if1 .before .before in
+    rename (reward-is (start .args .command) (start .args .action) (start .args .index) (at-if1 .if1 .taken)) (c .before .before .put-acting .ensures)
 
 put-byte-requires : tie.Need-put-byte-requires
-put-byte-requires c κs = omega (arith, c .before .before .before .before .pre, end-worth-length (c .before .before .before .before .args .command) (c .before .before .before .before .args .action) (c .before .before .before .before .args .index) (c .before .before .if1 .left) (c .before .if2 .taken))
+put-byte-requires c κs =
+    let start = c .before .before .before .before in
+    omega (arith, start .pre, end-worth-length (start .args .command) (start .args .action) (start .args .index) (c .before .before .if1 .left) (c .before .if2 .taken))
 
 same-length-2 : tie.Need-same-length-2
 same-length-2 c = search needs
 
 returns-2 : tie.Need-returns-2
-returns-2 c = rename (end-worth-is (c .before .before .before .before .before .before .before .args .command) (c .before .before .before .before .before .before .before .args .action) (c .before .before .before .before .before .before .before .args .index) (c .before .before .before .before .before .if1 .left) (c .before .before .before .before .if2 .taken)) (c .before .before .put-byte .ensures)
+returns-2 c =
+    let at-if2 = c .before .before .before .before in let at-if1 = at-if2 .before in let start = at-if1 .before .before in
+    rename (end-worth-is (start .args .command) (start .args .action) (start .args .index) (at-if1 .if1 .left) (at-if2 .if2 .taken)) (c .before .before .put-byte .ensures)
 
 put-byte-requires-2 : tie.Need-put-byte-requires-2
-put-byte-requires-2 c κs = omega (arith, c .before .before .before .before .pre, indexed-length (c .before .before .before .before .args .command) (c .before .before .before .before .args .action) (c .before .before .before .before .args .index) (c .before .before .if1 .left) (c .before .if2 .left))
+put-byte-requires-2 c κs =
+    let start = c .before .before .before .before in
+    omega (arith, start .pre, indexed-length (start .args .command) (start .args .action) (start .args .index) (c .before .before .if1 .left) (c .before .if2 .left))
 
 put-behind-requires : tie.Need-put-behind-requires
-put-behind-requires c κs = omega (arith, c .before .before .before .before .before .before .before .before .pre, indexed-length (c .before .before .before .before .before .before .before .before .args .command) (c .before .before .before .before .before .before .before .before .args .action) (c .before .before .before .before .before .before .before .before .args .index) (c .before .before .before .before .before .before .if1 .left) (c .before .before .before .before .before .if2 .left), c .before .before .before .put-byte2 .ensures .behind, c .before .before .before .put-byte2 .kept .0)
+put-behind-requires c κs =
+    let at-put-byte2 = c .before .before .before in let at-if2 = at-put-byte2 .before .before in let at-if1 = at-if2 .before in let start = at-if1 .before .before in
+    omega (arith, start .pre, indexed-length (start .args .command) (start .args .action) (start .args .index) (at-if1 .if1 .left) (at-if2 .if2 .left), at-put-byte2 .put-byte2 .ensures .behind, at-put-byte2 .put-byte2 .kept .0)
 
 same-length-3 : tie.Need-same-length-3
 same-length-3 c = search needs
 
 returns-3 : tie.Need-returns-3
-returns-3 c = rename (indexed-is (c .before .before .before .before .before .before .before .before .before .before .before .args .command) (c .before .before .before .before .before .before .before .before .before .before .before .args .action) (c .before .before .before .before .before .before .before .before .before .before .before .args .index) (c .before .before .before .before .before .before .before .before .before .if1 .left) (c .before .before .before .before .before .before .before .before .if2 .left)) (then (omega (arith, c .before .before .before .before .before .before .before .before .before .before .before .pre)) (c .before .before .before .before .before .before .put-byte2 .ensures) (c .before .before .put-behind .ensures))
+returns-3 c =
+    let at-put-byte2 = c .before .before .before .before .before .before in let at-if2 = at-put-byte2 .before .before in let at-if1 = at-if2 .before in
+    let start = at-if1 .before .before in
+    rename (indexed-is (start .args .command) (start .args .action) (start .args .index) (at-if1 .if1 .left) (at-if2 .if2 .left)) (then (omega (arith, start .pre)) (at-put-byte2 .put-byte2 .ensures) (c .before .before .put-behind .ensures))
 
 pub put-given-spec : {M : Type 1} → statement M
 put-given-spec =

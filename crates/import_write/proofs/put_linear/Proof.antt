@@ -16,7 +16,9 @@ same-length : tie.Need-same-length
 same-length c = search needs
 
 returns : tie.Need-returns
-returns c = then (omega (arith, c .before .before .before .before .before .before .before .before .before .pre .1)) (c .before .before .before .before .before .before .put-byte .ensures) (rename (linear-is (c .before .before .before .before .before .before .before .before .before .args .a) (c .before .before .before .before .before .before .before .before .before .good .1 .1 .1 .0 .1 .0 .1)) (c .before .before .put-words .ensures))
+returns c =
+    let at-put-byte = c .before .before .before .before .before .before in let start = at-put-byte .before .before .before in
+    then (omega (arith, start .pre .1)) (at-put-byte .put-byte .ensures) (rename (linear-is (start .args .a) (start .good .1 .1 .1 .0 .1 .0 .1)) (c .before .before .put-words .ensures))
 
 pub put-linear-spec : {M : Type 1} → statement M
 put-linear-spec = tie.close (tie.spec put-byte-requires put-words-requires same-length returns)

@@ -18,7 +18,8 @@ condition-requires c κs = search needs
 
 returns : tie.Need-returns
 returns c =
-    none-stood ((c .before .before .before .before) .args .model .now) ((c .before .before .before .before) .args .at) (c .before .before .command-at .result) (c .before .before .command-at .ensures) (c .before .match .keys2) (condition-stood 1 (omega arith, omega arith) (c .condition .ensures))
+    let start = c .before .before .before .before in
+    none-stood (start .args .model .now) (start .args .at) (c .before .before .command-at .result) (c .before .before .command-at .ensures) (c .before .match .keys2) (condition-stood 1 (omega arith, omega arith) (c .condition .ensures))
 
 enum-known-c : tie.Need-enum-known-c
 enum-known-c c = search needs
@@ -28,40 +29,48 @@ cast-condition c = search needs
 
 condition-requires-2 : tie.Need-condition-requires-2
 condition-requires-2 c κs =
-    condition-fits ((c .before .before .before .before .before .before .before .before) .args .model .now) ((c .before .before .before .before .before .before .before .before) .args .at) (c .before .before .before .before .before .before .command-at .result) (c .before .before .before .before .before .before .command-at .ensures) (c .before .before .before .before .read .given .1) (c .before .c .given .1) ((c .before .before .before .before .before .before .before .before) .pre) .1
+    let at-read = c .before .before .before .before in let at-command-at = at-read .before .before in let start = at-command-at .before .before in
+    condition-fits (start .args .model .now) (start .args .at) (at-command-at .command-at .result) (at-command-at .command-at .ensures) (at-read .read .given .1) (c .before .c .given .1) (start .pre) .1
 
 enum-told : tie.Need-enum-told
 enum-told c = search needs
 
 add-linear-at : tie.Need-add-linear-at
 add-linear-at c =
-    let h = linear-there (c .before .before .before .before .before .before .before .args .model .now) (c .before .before .before .before .before .before .before .args .at) (c .before .before .before .before .before .command-at .result) (c .before .before .before .before .before .command-at .ensures) (c .before .before .before .read .given .1) (c .enum-told .given .1) in omega arith
+    let at-read = c .before .before .before in let at-command-at = at-read .before .before in let start = at-command-at .before .before in
+    let h = linear-there (start .args .model .now) (start .args .at) (at-command-at .command-at .result) (at-command-at .command-at .ensures) (at-read .read .given .1) (c .enum-told .given .1) in omega arith
 
 linear-at-requires : tie.Need-linear-at-requires
 linear-at-requires c κs =
-    let h = linear-there (c .before .before .before .before .before .before .before .args .model .now) (c .before .before .before .before .before .before .before .args .at) (c .before .before .before .before .before .command-at .result) (c .before .before .before .before .before .command-at .ensures) (c .before .before .before .read .given .1) (c .enum-told .given .1) in omega arith
+    let at-read = c .before .before .before in let at-command-at = at-read .before .before in let start = at-command-at .before .before in
+    let h = linear-there (start .args .model .now) (start .args .at) (at-command-at .command-at .result) (at-command-at .command-at .ensures) (at-read .read .given .1) (c .enum-told .given .1) in omega arith
 
 words-requires : tie.Need-words-requires
 words-requires c κs = search needs
 
 named-requires : tie.Need-named-requires
 named-requires c κs =
-    subst Nums (sym (c .words .ensures)) (linear-nums (c .before .before .before .before .before .before .before .before .before .args .model .now) (c .before .before .before .before .before .before .before .before .before .args .at) (c .before .before .before .before .before .before .before .command-at .result) (c .before .before .before .before .before .before .before .command-at .ensures) (c .before .before .before .before .before .read .given .1) (c .before .before .enum-told .given .1) (c .before .linear-at .ensures))
+    let at-read = c .before .before .before .before .before in let at-command-at = at-read .before .before in let start = at-command-at .before .before in
+    subst Nums (sym (c .words .ensures)) (linear-nums (start .args .model .now) (start .args .at) (at-command-at .command-at .result) (at-command-at .command-at .ensures) (at-read .read .given .1) (c .before .before .enum-told .given .1) (c .before .linear-at .ensures))
 
 condition-requires-3 : tie.Need-condition-requires-3
 condition-requires-3 c κs = search needs
 
 returns-2 : tie.Need-returns-2
 returns-2 c =
-    condition-test-stood ((c .before .before .before .before .before .before .before .before .before) .args .model .now) ((c .before .before .before .before .before .before .before .before .before) .args .at) (c .before .before .before .before .before .before .before .command-at .result) (c .before .before .before .before .before .before .before .command-at .ensures) (c .before .before .before .before .before .read .given .1) (c .before .before .c .given .1) ((c .before .before .before .before .before .before .before .before .before) .pre) (c .condition2 .ensures)
+    let at-read = c .before .before .before .before .before in let at-command-at = at-read .before .before in let start = at-command-at .before .before in
+    condition-test-stood (start .args .model .now) (start .args .at) (at-command-at .command-at .result) (at-command-at .command-at .ensures) (at-read .read .given .1) (c .before .before .c .given .1) (start .pre) (c .condition2 .ensures)
 
 returns-3 : tie.Need-returns-3
 returns-3 c =
-    linear-test-stood (c .before .before .before .before .before .before .before .before .before .before .args .model .now) (c .before .before .before .before .before .before .before .before .before .before .args .at) (c .before .before .before .before .before .before .before .before .command-at .result) (c .before .before .before .before .before .before .before .before .command-at .ensures) (c .before .before .before .before .before .before .read .given .1) (c .before .before .before .enum-told .given .1) (c .before .before .linear-at .ensures) (c .before .words .ensures) (c .named .ensures)
+    let at-enum-told = c .before .before .before in let at-read = at-enum-told .before .before .before in let at-command-at = at-read .before .before in
+    let start = at-command-at .before .before in
+    linear-test-stood (start .args .model .now) (start .args .at) (at-command-at .command-at .result) (at-command-at .command-at .ensures) (at-read .read .given .1) (at-enum-told .enum-told .given .1) (c .before .before .linear-at .ensures) (c .before .words .ensures) (c .named .ensures)
 
 returns-4 : tie.Need-returns-4
 returns-4 c =
-    other-stood ((c .before .before .before .before .before .before .before) .args .model .now) ((c .before .before .before .before .before .before .before) .args .at) (c .before .before .before .before .before .command-at .result) (c .before .before .before .before .before .command-at .ensures) (c .before .before .before .read .given .1) (c .before .match2 .keys3) (condition-stood 1 (omega arith, omega arith) (c .condition3 .ensures))
+    let at-read = c .before .before .before in let at-command-at = at-read .before .before in let start = at-command-at .before .before in
+    other-stood (start .args .model .now) (start .args .at) (at-command-at .command-at .result) (at-command-at .command-at .ensures) (at-read .read .given .1) (c .before .match2 .keys3) (condition-stood 1 (omega arith, omega arith) (c .condition3 .ensures))
 
 pub test-from-spec : {M : Type 1} → statement M
 test-from-spec =

@@ -23,7 +23,8 @@ cast-choose-command-2 c = search needs
 
 choose-command-requires : tie.Need-choose-command-requires
 choose-command-requires c κs =
-    ((c .before .before .before .before .before .before .before .before) .pre .0, (c .before .before .before .before .before .before .before .before) .pre .1, high-fits (held ((c .before .before .before .before .before .before .before .before) .args .s .stack)) (held (c .before .before .before .pop .result)) (c .before .before .before .pop .ensures) (c .before .before .top2 .ensures) ((c .before .before .before .before .before .before .before .before) .pre .2), low-fits (held ((c .before .before .before .before .before .before .before .before) .args .s .stack)) (c .before .before .before .before .top .ensures) ((c .before .before .before .before .before .before .before .before) .pre .3))
+    let at-pop = c .before .before .before in let at-top = at-pop .before in let start = at-top .before .before .before .before in
+    (start .pre .0, start .pre .1, high-fits (held (start .args .s .stack)) (held (at-pop .pop .result)) (at-pop .pop .ensures) (c .before .before .top2 .ensures) (start .pre .2), low-fits (held (start .args .s .stack)) (at-top .top .ensures) (start .pre .3))
 
 pop-requires-2 : tie.Need-pop-requires-2
 pop-requires-2 c κs = search needs
@@ -40,7 +41,9 @@ same-length-2 c = search needs
 
 returns : tie.Need-returns
 returns c =
-    chosen (testAt ((c .before .before .before .before .before .before .before .before .before .before .before .before .before .before) .args .model .now) ((c .before .before .before .before .before .before .before .before .before .before .before .before .before .before) .args .at)) (held ((c .before .before .before .before .before .before .before .before .before .before .before .before .before .before) .args .s .stack)) (held (c .before .before .before .before .before .before .before .before .before .pop .result)) (held (c .before .pop2 .result)) (c .before .before .before .before .before .before .before .before .before .before .top .ensures) (c .before .before .before .before .before .before .before .before .before .pop .ensures) (c .before .before .before .before .before .before .before .before .top2 .ensures) (c .before .pop2 .ensures) (c .before .before .before .before .before .choose-command .ensures) (c .put .ensures)
+    let at-choose-command = c .before .before .before .before .before in let at-top2 = at-choose-command .before .before .before in let at-pop = at-top2 .before in
+    let at-top = at-pop .before in let start = at-top .before .before .before .before in
+    chosen (testAt (start .args .model .now) (start .args .at)) (held (start .args .s .stack)) (held (at-pop .pop .result)) (held (c .before .pop2 .result)) (at-top .top .ensures) (at-pop .pop .ensures) (at-top2 .top2 .ensures) (c .before .pop2 .ensures) (at-choose-command .choose-command .ensures) (c .put .ensures)
 
 pub choice-spec : {M : Type 1} → statement M
 choice-spec =

@@ -20,7 +20,8 @@ same-length-2 c = search needs
 
 returns : tie.Need-returns
 returns c =
-    record { made = c .before .before .before .before .make-none .result; grew = c .before .before .before .before .make-none .ensures; put = c .put .ensures }
+    let at-make-none = c .before .before .before .before in
+    record { made = at-make-none .make-none .result; grew = at-make-none .make-none .ensures; put = c .put .ensures }
 
 pub forbidden-spec : {M : Type 1} → statement M
 forbidden-spec = tie.close (tie.spec make-none-requires put-requires same-length same-length-2 returns)

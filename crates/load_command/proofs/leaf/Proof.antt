@@ -9,7 +9,7 @@ words-requires c κs = search needs
 
 intern-requires : tie.Need-intern-requires
 intern-requires c κs =
-    ((c .before .before .before .before .before) .pre .0, leaf-valid ((c .before .before .before .before .before) .args .p) _ (c .words .ensures) ((c .before .before .before .before .before) .pre .1))
+    let start = c .before .before .before .before .before in (start .pre .0, leaf-valid (start .args .p) _ (c .words .ensures) (start .pre .1))
 
 put-requires : tie.Need-put-requires
 put-requires c κs =
@@ -23,7 +23,8 @@ same-length-2 c = search needs
 
 returns : tie.Need-returns
 returns c =
-    record { made = c .before .before .before .before .intern .result; grew = leaf-grew ((c .before .before .before .before .before .before .before .before .before .before) .args .p) (c .before .before .before .before .before .words .ensures) (c .before .before .before .before .intern .ensures); put = c .put .ensures }
+    let at-intern = c .before .before .before .before in let at-words = at-intern .before in let start = at-words .before .before .before .before .before in
+    record { made = at-intern .intern .result; grew = leaf-grew (start .args .p) (at-words .words .ensures) (at-intern .intern .ensures); put = c .put .ensures }
 
 pub leaf-spec : {M : Type 1} → statement M
 leaf-spec =

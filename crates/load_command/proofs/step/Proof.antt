@@ -12,17 +12,20 @@ enum-told c = search needs
 add-linear-at : tie.Need-add-linear-at
 unfolding command-of-in
 add-linear-at c =
-    let h = leaf-there (ready-as _ _ (c .before .before .enum-told .given .1) (c .before .before .before .before .before .before .pre)) in omega arith
+    let start = c .before .before .before .before .before .before in
+    let h = leaf-there (ready-as _ _ (c .before .before .enum-told .given .1) (start .pre)) in omega arith
 
 linear-at-requires : tie.Need-linear-at-requires
 unfolding command-of-in
 linear-at-requires c κs =
-    let h = leaf-there (ready-as _ _ (c .before .before .enum-told .given .1) (c .before .before .before .before .before .before .pre)) in omega arith
+    let start = c .before .before .before .before .before .before in
+    let h = leaf-there (ready-as _ _ (c .before .before .enum-told .given .1) (start .pre)) in omega arith
 
 leaf-requires : tie.Need-leaf-requires
 unfolding command-of-in
 leaf-requires c κs =
-    leaf-read (ready-as _ _ (c .before .before .before .enum-told .given .1) (c .before .before .before .before .before .before .before .pre)) (c .linear-at .result) (c .linear-at .ensures)
+    let at-enum-told = c .before .before .before in let start = at-enum-told .before .before .before .before in
+    leaf-read (ready-as _ _ (at-enum-told .enum-told .given .1) (start .pre)) (c .linear-at .result) (c .linear-at .ensures)
 
 enum-told-2 : tie.Need-enum-told-2
 enum-told-2 c = search needs
@@ -30,7 +33,7 @@ enum-told-2 c = search needs
 choice-requires : tie.Need-choice-requires
 unfolding command-of-in
 choice-requires c κs =
-    condition-asks _ (ready-as _ _ (c .before .before .enum-told2 .given .1) (c .before .before .before .before .before .before .pre))
+    let start = c .before .before .before .before .before .before in condition-asks _ (ready-as _ _ (c .before .before .enum-told2 .given .1) (start .pre))
 
 enum-told-3 : tie.Need-enum-told-3
 enum-told-3 c = search needs
@@ -38,7 +41,7 @@ enum-told-3 c = search needs
 choice-requires-2 : tie.Need-choice-requires-2
 unfolding command-of-in
 choice-requires-2 c κs =
-    test-asks _ (ready-as _ _ (c .before .before .enum-told3 .given .1) (c .before .before .before .before .before .before .pre))
+    let start = c .before .before .before .before .before .before in test-asks _ (ready-as _ _ (c .before .before .enum-told3 .given .1) (start .pre))
 
 enum-told-4 : tie.Need-enum-told-4
 enum-told-4 c = search needs
@@ -46,7 +49,7 @@ enum-told-4 c = search needs
 forbidden-requires : tie.Need-forbidden-requires
 unfolding command-of-in
 forbidden-requires c κs =
-    ready-as _ _ (c .before .before .enum-told4 .given .1) ((c .before .before .before .before .before .before) .pre) .table .bare
+    let start = c .before .before .before .before .before .before in ready-as _ _ (c .before .before .enum-told4 .given .1) (start .pre) .table .bare
 
 enum-told-5 : tie.Need-enum-told-5
 enum-told-5 c = search needs
@@ -63,7 +66,9 @@ same-length-2 c = search needs
 returns : tie.Need-returns
 unfolding command-of-in
 returns c =
-    step-as _ _ (c .before .before .before .before .before .before .before .enum-told .given .1) (c .before .before .before .before .before .before .before .before .before .before .before .pre) (λ y. leaf-loaded y (c .before .before .before .before .linear-at .result) (c .before .before .before .before .linear-at .ensures) (c .before .before .before .leaf .ensures))
+    let at-leaf = c .before .before .before in let at-linear-at = at-leaf .before in let at-enum-told = at-linear-at .before .before .before in
+    let start = at-enum-told .before .before .before .before in
+    step-as _ _ (at-enum-told .enum-told .given .1) (start .pre) (λ y. leaf-loaded y (at-linear-at .linear-at .result) (at-linear-at .linear-at .ensures) (at-leaf .leaf .ensures))
 
 same-length-3 : tie.Need-same-length-3
 same-length-3 c = search needs
@@ -74,7 +79,8 @@ same-length-4 c = search needs
 returns-2 : tie.Need-returns-2
 unfolding command-of-in
 returns-2 c =
-    step-as _ _ (c .before .before .before .before .before .before .enum-told2 .given .1) (c .before .before .before .before .before .before .before .before .before .before .pre) (λ y. condition-step _ _ _ y (c .before .before .before .choice .ensures))
+    let at-choice = c .before .before .before in let at-enum-told2 = at-choice .before .before .before in let start = at-enum-told2 .before .before .before .before in
+    step-as _ _ (at-enum-told2 .enum-told2 .given .1) (start .pre) (λ y. condition-step _ _ _ y (at-choice .choice .ensures))
 
 same-length-5 : tie.Need-same-length-5
 same-length-5 c = search needs
@@ -85,7 +91,8 @@ same-length-6 c = search needs
 returns-3 : tie.Need-returns-3
 unfolding command-of-in
 returns-3 c =
-    step-as _ _ (c .before .before .before .before .before .before .enum-told3 .given .1) (c .before .before .before .before .before .before .before .before .before .before .pre) (λ y. test-step _ _ _ y (c .before .before .before .choice2 .ensures))
+    let at-choice2 = c .before .before .before in let at-enum-told3 = at-choice2 .before .before .before in let start = at-enum-told3 .before .before .before .before in
+    step-as _ _ (at-enum-told3 .enum-told3 .given .1) (start .pre) (λ y. test-step _ _ _ y (at-choice2 .choice2 .ensures))
 
 same-length-7 : tie.Need-same-length-7
 same-length-7 c = search needs
@@ -96,7 +103,8 @@ same-length-8 c = search needs
 returns-4 : tie.Need-returns-4
 unfolding command-of-in
 returns-4 c =
-    step-as _ _ (c .before .before .before .before .before .before .enum-told4 .given .1) ((c .before .before .before .before .before .before .before .before .before .before) .pre) (λ y. forbidden-step _ _ y (c .before .before .before .forbidden .ensures))
+    let at-forbidden = c .before .before .before in let at-enum-told4 = at-forbidden .before .before .before in let start = at-enum-told4 .before .before .before .before in
+    step-as _ _ (at-enum-told4 .enum-told4 .given .1) (start .pre) (λ y. forbidden-step _ _ y (at-forbidden .forbidden .ensures))
 
 returns-5 : tie.Need-returns-5
 unfolding command-of-in
@@ -105,7 +113,7 @@ returns-5 c =
 
 returns-6 : tie.Need-returns-6
 returns-6 c =
-    other-step (c .before .before .before .args .c) (c .match .keys6) (c .before .before .before .pre)
+    let start = c .before .before .before in other-step (start .args .c) (c .match .keys6) (start .pre)
 
 pub step-spec : {M : Type 1} → statement M
 step-spec =

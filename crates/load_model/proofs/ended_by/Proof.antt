@@ -17,12 +17,14 @@ enum-known-c c = search needs
 returns : tie.Need-returns
 unfolding ended-by command-of-in
 returns c =
-    λ B at. sym (ap (λ (d : CodeCommand). ended-by ((c .before .before .before .before) .args .ended) (command-of B at d)) (c .before .before .c .given .1) ∙ ap (λ (b : Bool). or b ((c .before .before .before .before) .args .ended)) (eq-eqb _ _ (c .if1 .taken)))
+    let start = c .before .before .before .before in
+    λ B at. sym (ap (λ (d : CodeCommand). ended-by (start .args .ended) (command-of B at d)) (c .before .before .c .given .1) ∙ ap (λ (b : Bool). or b (start .args .ended)) (eq-eqb _ _ (c .if1 .taken)))
 
 returns-2 : tie.Need-returns-2
 unfolding ended-by command-of-in
 returns-2 c =
-    λ B at. sym (ap (λ (d : CodeCommand). ended-by ((c .before .before .before .before) .args .ended) (command-of B at d)) (c .before .before .c .given .1) ∙ ap (λ (b : Bool). or b ((c .before .before .before .before) .args .ended)) (ne-eqb _ _ (c .if1 .left)))
+    let start = c .before .before .before .before in
+    λ B at. sym (ap (λ (d : CodeCommand). ended-by (start .args .ended) (command-of B at d)) (c .before .before .c .given .1) ∙ ap (λ (b : Bool). or b (start .args .ended)) (ne-eqb _ _ (c .if1 .left)))
 
 returns-3 : tie.Need-returns-3
 returns-3 c =

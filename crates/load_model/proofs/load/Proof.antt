@@ -32,7 +32,8 @@ start-requires c κs =
 
 loop-holds : tie.Need-loop-holds Inv-loop μ-loop
 loop-holds c =
-    (walk-starts ((c .before .before .before .before .before .before) .pre .0) ((c .before .before .before .before .before .before) .pre .1) ((c .before .before .before .before .before .before) .pre .2) ((c .before .before .before .before .before .before) .pre .3) (c .before .next-after .ensures) (c .start .ensures), refl, refl, refl)
+    let start-2 = c .before .before .before .before .before .before in
+    (walk-starts (start-2 .pre .0) (start-2 .pre .1) (start-2 .pre .2) (start-2 .pre .3) (c .before .next-after .ensures) (c .start .ensures), refl, refl, refl)
 
 command-at-requires : tie.Need-command-at-requires Inv-loop μ-loop
 command-at-requires c κs =
@@ -64,21 +65,23 @@ is-end-requires c κs =
 
 same-length-4 : tie.Need-same-length-4 Inv-loop μ-loop
 same-length-4 c =
-    c .before .before .before .before .before .before .loop .inv .1
+    let at-loop = c .before .before .before .before .before .before in at-loop .loop .inv .1
 
 same-length-5 : tie.Need-same-length-5 Inv-loop μ-loop
 same-length-5 c =
-    c .before .before .before .before .before .before .loop .inv .2
+    let at-loop = c .before .before .before .before .before .before in at-loop .loop .inv .2
 
 same-length-6 : tie.Need-same-length-6 Inv-loop μ-loop
 same-length-6 c =
-    c .before .before .before .before .before .before .loop .inv .3
+    let at-loop = c .before .before .before .before .before .before in at-loop .loop .inv .3
 
 returns-2 : tie.Need-returns-2 Inv-loop μ-loop
 returns-2 c =
-    let e = whole-is ((c .before .before .before .before .before .before .before .before .before .before .before .before .before) .args .model .now) (c .before .before .before .before .before .before .loop .at) (c .before .before .before .before .before .command-at .ensures) (c .before .before .before .read .given .1) in
-    let t = turn-end (c .before .before .before .before .before .before .loop .inv .0) _ e (sym (c .before .is-end .ensures) ∙ c .if1 .taken) in
-    ends-loaded (c .before .before .before .before .before .before .loop .inv .0) (t .0) (t .1)
+    let at-read = c .before .before .before in let at-command-at = at-read .before .before in let at-loop = at-command-at .before in
+    let start-2 = at-loop .before .before .before .before .before .before .before in
+    let e = whole-is (start-2 .args .model .now) (at-loop .loop .at) (at-command-at .command-at .ensures) (at-read .read .given .1) in
+    let t = turn-end (at-loop .loop .inv .0) _ e (sym (c .before .is-end .ensures) ∙ c .if1 .taken) in
+    ends-loaded (at-loop .loop .inv .0) (t .0) (t .1)
 
 top-requires : tie.Need-top-requires Inv-loop μ-loop
 top-requires c κs =
@@ -90,7 +93,7 @@ place-requires c κs =
 
 store-requires : tie.Need-store-requires Inv-loop μ-loop
 store-requires c κs =
-    c .before .before .before .before .before .before .before .before .before .before .loop .inv .0 .room
+    let at-loop = c .before .before .before .before .before .before .before .before .before .before in at-loop .loop .inv .0 .room
 
 ended-by-requires : tie.Need-ended-by-requires Inv-loop μ-loop
 ended-by-requires c κs =
@@ -98,24 +101,35 @@ ended-by-requires c κs =
 
 step-requires : tie.Need-step-requires Inv-loop μ-loop
 step-requires c κs =
-    ready (c .before .before .before .before .before .before .before .before .before .before .before .before .before .before .before .before .loop .inv .0) _ (whole-is ((c .before .before .before .before .before .before .before .before .before .before .before .before .before .before .before .before .before .before .before .before .before .before .before) .args .model .now) (c .before .before .before .before .before .before .before .before .before .before .before .before .before .before .before .before .loop .at) (c .before .before .before .before .before .before .before .before .before .before .before .before .before .before .before .command-at .ensures) (c .before .before .before .before .before .before .before .before .before .before .before .before .before .read .given .1))
+    let at-read = c .before .before .before .before .before .before .before .before .before .before .before .before .before in let at-command-at = at-read .before .before in
+    let at-loop = at-command-at .before in let start-2 = at-loop .before .before .before .before .before .before .before in
+    ready (at-loop .loop .inv .0) _ (whole-is (start-2 .args .model .now) (at-loop .loop .at) (at-command-at .command-at .ensures) (at-read .read .given .1))
 
 same-length-7 : tie.Need-same-length-7 Inv-loop μ-loop
 same-length-7 c =
-    search (needs, c .before .before .before .before .before .before .before .before .before .before .before .store .kept, c .before .before .before .before .before .step .kept, c .before .before .before .before .before .before .before .before .before .before .before .before .before .before .before .before .before .before .before .before .before .before .loop .inv .1, c .before .before .before .before .before .before .before .before .before .before .before .before .before .before .before .before .before .before .before .before .before .before .loop .inv .2, c .before .before .before .before .before .before .before .before .before .before .before .before .before .before .before .before .before .before .before .before .before .before .loop .inv .3)
+    let at-step = c .before .before .before .before .before in let at-store = at-step .before .before .before .before .before .before in
+    let at-loop = at-store .before .before .before .before .before .before .before .before .before .before .before in
+    search (needs, at-store .store .kept, at-step .step .kept, at-loop .loop .inv .1, at-loop .loop .inv .2, at-loop .loop .inv .3)
 
 same-length-8 : tie.Need-same-length-8 Inv-loop μ-loop
 same-length-8 c =
-    search (needs, c .before .before .before .before .before .before .before .before .before .before .before .store .kept, c .before .before .before .before .before .step .kept, c .before .before .before .before .before .before .before .before .before .before .before .before .before .before .before .before .before .before .before .before .before .before .loop .inv .1, c .before .before .before .before .before .before .before .before .before .before .before .before .before .before .before .before .before .before .before .before .before .before .loop .inv .2, c .before .before .before .before .before .before .before .before .before .before .before .before .before .before .before .before .before .before .before .before .before .before .loop .inv .3)
+    let at-step = c .before .before .before .before .before in let at-store = at-step .before .before .before .before .before .before in
+    let at-loop = at-store .before .before .before .before .before .before .before .before .before .before .before in
+    search (needs, at-store .store .kept, at-step .step .kept, at-loop .loop .inv .1, at-loop .loop .inv .2, at-loop .loop .inv .3)
 
 same-length-9 : tie.Need-same-length-9 Inv-loop μ-loop
 same-length-9 c =
-    search (needs, c .before .before .before .before .before .before .before .before .before .before .before .store .kept, c .before .before .before .before .before .step .kept, c .before .before .before .before .before .before .before .before .before .before .before .before .before .before .before .before .before .before .before .before .before .before .loop .inv .1, c .before .before .before .before .before .before .before .before .before .before .before .before .before .before .before .before .before .before .before .before .before .before .loop .inv .2, c .before .before .before .before .before .before .before .before .before .before .before .before .before .before .before .before .before .before .before .before .before .before .loop .inv .3)
+    let at-step = c .before .before .before .before .before in let at-store = at-step .before .before .before .before .before .before in
+    let at-loop = at-store .before .before .before .before .before .before .before .before .before .before .before in
+    search (needs, at-store .store .kept, at-step .step .kept, at-loop .loop .inv .1, at-loop .loop .inv .2, at-loop .loop .inv .3)
 
 returns-3 : tie.Need-returns-3 Inv-loop μ-loop
 returns-3 c =
-    let e = whole-is ((c .before .before .before .before .before .before .before .before .before .before .before .before .before .before .before .before .before .before .before .before .before .before .before .before .before .before .before .before .before) .args .model .now) (c .before .before .before .before .before .before .before .before .before .before .before .before .before .before .before .before .before .before .before .before .before .before .loop .at) (c .before .before .before .before .before .before .before .before .before .before .before .before .before .before .before .before .before .before .before .before .before .command-at .ensures) (c .before .before .before .before .before .before .before .before .before .before .before .before .before .before .before .before .before .before .before .read .given .1) in
-    stops-loaded _ (c .before .before .before .before .before .step .ensures .table) (turn-stops (c .before .before .before .before .before .before .before .before .before .before .before .before .before .before .before .before .before .before .before .before .before .before .loop .inv .0) _ e (c .before .before .before .before .before .step .ensures) (c .if2 .taken)) (c .if2 .taken)
+    let at-step = c .before .before .before .before .before in
+    let at-read = at-step .before .before .before .before .before .before .before .before .before .before .before .before .before .before in
+    let at-command-at = at-read .before .before in let at-loop = at-command-at .before in let start-2 = at-loop .before .before .before .before .before .before .before in
+    let e = whole-is (start-2 .args .model .now) (at-loop .loop .at) (at-command-at .command-at .ensures) (at-read .read .given .1) in
+    stops-loaded _ (at-step .step .ensures .table) (turn-stops (at-loop .loop .inv .0) _ e (at-step .step .ensures) (c .if2 .taken)) (c .if2 .taken)
 
 next-after-requires-2 : tie.Need-next-after-requires-2 Inv-loop μ-loop
 next-after-requires-2 c κs =
@@ -123,18 +137,24 @@ next-after-requires-2 c κs =
 
 loop-less : tie.Need-loop-less Inv-loop μ-loop
 loop-less c =
-    let f = forward ((c .before .before .before .before .before .before .before .before .before .before .before .before .before .before .before .before .before .before .before .before .before .before .before .before .before .before .before .before .before .before) .args .model .now) (c .before .before .before .before .before .before .before .before .before .before .before .before .before .before .before .before .before .before .before .before .before .before .before .loop .at) _ (c .next-after2 .result) (whole-is ((c .before .before .before .before .before .before .before .before .before .before .before .before .before .before .before .before .before .before .before .before .before .before .before .before .before .before .before .before .before .before) .args .model .now) (c .before .before .before .before .before .before .before .before .before .before .before .before .before .before .before .before .before .before .before .before .before .before .before .loop .at) (c .before .before .before .before .before .before .before .before .before .before .before .before .before .before .before .before .before .before .before .before .before .before .command-at .ensures) (c .before .before .before .before .before .before .before .before .before .before .before .before .before .before .before .before .before .before .before .before .read .given .1)) (c .next-after2 .ensures) in
+    let at-read = c .before .before .before .before .before .before .before .before .before .before .before .before .before .before .before .before .before .before .before .before in
+    let at-command-at = at-read .before .before in let at-loop = at-command-at .before in let start-2 = at-loop .before .before .before .before .before .before .before in
+    let f = forward (start-2 .args .model .now) (at-loop .loop .at) _ (c .next-after2 .result) (whole-is (start-2 .args .model .now) (at-loop .loop .at) (at-command-at .command-at .ensures) (at-read .read .given .1)) (c .next-after2 .ensures) in
     omega (arith, f .1, f .2)
 
 loop-again : tie.Need-loop-again Inv-loop μ-loop
 loop-again c =
-    let e = whole-is ((c .before .before .before .before .before .before .before .before .before .before .before .before .before .before .before .before .before .before .before .before .before .before .before .before .before .before .before .before .before .before) .args .model .now) (c .before .before .before .before .before .before .before .before .before .before .before .before .before .before .before .before .before .before .before .before .before .before .before .loop .at) (c .before .before .before .before .before .before .before .before .before .before .before .before .before .before .before .before .before .before .before .before .before .before .command-at .ensures) (c .before .before .before .before .before .before .before .before .before .before .before .before .before .before .before .before .before .before .before .before .read .given .1) in (
-      turn-on (c .before .before .before .before .before .before .before .before .before .before .before .before .before .before .before .before .before .before .before .before .before .before .before .loop .inv .0) _ e (c .before .before .before .before .before .before .step .ensures) (c .next-after2 .result) (c .before .before .before .before .before .before .before .before .before .before .before .before .before .before .before .top .result) (sym (c .before .before .before .before .before .before .before .before .before .before .before .before .before .before .before .before .before .before .is-end .ensures) ∙ c .before .before .before .before .before .before .before .before .before .before .before .before .before .before .before .before .before .if1 .left) (c .next-after2 .ensures) (c .before .if2 .left) (c .before .before .before .before .before .before .before .before .before .before .before .before .before .before .before .top .ensures)
-          (placed ((c .before .before .before .before .before .before .before .before .before .before .before .before .before .before .before .before .before .before .before .before .before .before .before .before .before .before .before .before .before .before) .args .model .now) (c .before .before .before .before .before .before .before .before .before .before .before .before .before .before .before .before .before .before .before .before .before .before .before .before .before .before .site .result) _ (c .before .before .before .before .before .before .before .before .before .before .before .before .before .before .before .before .before .before .before .before .before .before .before .loop .roots) (c .before .before .before .before .before .before .before .before .before .before .before .before .before .before .before .top .result) (c .before .before .before .before .before .before .before .before .before .before .before .before .before .before .before .before .before .before .before .before .before .before .before .before .before .before .site .ensures) (c .before .before .before .before .before .before .before .before .before .before .before .before .before .place .ensures ((c .before .before .before .before .before .before .before .before .before .before .before .before .before .before .before .before .before .before .before .before .before .before .before .before .before .before .before .before .before .before) .args .model .now) (c .before .before .before .before .before .before .before .before .before .before .before .before .before .before .before .before .before .before .before .before .before .before .before .loop .at)) (c .before .before .before .before .before .before .before .before .before .before .before .before .store .ensures))
-          (c .before .before .before .before .before .before .before .before .before .ended-by .ensures ((c .before .before .before .before .before .before .before .before .before .before .before .before .before .before .before .before .before .before .before .before .before .before .before .before .before .before .before .before .before .before) .args .model .now) (c .before .before .before .before .before .before .before .before .before .before .before .before .before .before .before .before .before .before .before .before .before .before .before .loop .at)),
-      c .before .before .before .before .before .before .step .kept .1 .0 ∙ c .before .before .before .before .before .before .before .before .before .before .before .before .before .before .before .before .before .before .before .before .before .before .before .loop .inv .1,
-      c .before .before .before .before .before .before .step .kept .1 .1 .0 ∙ c .before .before .before .before .before .before .before .before .before .before .before .before .before .before .before .before .before .before .before .before .before .before .before .loop .inv .2,
-      c .before .before .before .before .before .before .before .before .before .before .before .before .store .kept .0 ∙ c .before .before .before .before .before .before .before .before .before .before .before .before .before .before .before .before .before .before .before .before .before .before .before .loop .inv .3,
+    let at-step = c .before .before .before .before .before .before in let at-ended-by = at-step .before .before .before in let at-store = at-ended-by .before .before .before in
+    let at-place = at-store .before in let at-top = at-place .before .before in let at-if1 = at-top .before .before in let at-is-end = at-if1 .before in
+    let at-read = at-is-end .before .before in let at-command-at = at-read .before .before in let at-loop = at-command-at .before in
+    let at-site = at-loop .before .before .before in let start-2 = at-site .before .before .before .before in
+    let e = whole-is (start-2 .args .model .now) (at-loop .loop .at) (at-command-at .command-at .ensures) (at-read .read .given .1) in (
+      turn-on (at-loop .loop .inv .0) _ e (at-step .step .ensures) (c .next-after2 .result) (at-top .top .result) (sym (at-is-end .is-end .ensures) ∙ at-if1 .if1 .left) (c .next-after2 .ensures) (c .before .if2 .left) (at-top .top .ensures)
+          (placed (start-2 .args .model .now) (at-site .site .result) _ (at-loop .loop .roots) (at-top .top .result) (at-site .site .ensures) (at-place .place .ensures (start-2 .args .model .now) (at-loop .loop .at)) (at-store .store .ensures))
+          (at-ended-by .ended-by .ensures (start-2 .args .model .now) (at-loop .loop .at)),
+      at-step .step .kept .1 .0 ∙ at-loop .loop .inv .1,
+      at-step .step .kept .1 .1 .0 ∙ at-loop .loop .inv .2,
+      at-store .store .kept .0 ∙ at-loop .loop .inv .3,
     )
 
 pub load-spec : {M : Type 1} → statement M

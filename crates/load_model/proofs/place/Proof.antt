@@ -27,9 +27,9 @@ add-result c = search needs
 returns : tie.Need-returns
 unfolding place-of command-of-in
 returns c =
-    λ B at.
-    ap₂ (λ (x y : ℕ). x + y) (c .before .row .ensures .0 ∙ ap (λ (x : ℕ). x * (1 + (c .before .before .before .before .before .before) .args .conditions + (c .before .before .before .before .before .before) .args .levels)) (c .before .before .above .ensures .0 _)) (c .offset .ensures .0 _)
-    ∙ ap (λ (d : CodeCommand). place-of ((c .before .before .before .before .before .before) .args .levels) ((c .before .before .before .before .before .before) .args .conditions) ((c .before .before .before .before .before .before) .args .actions) (command-of B at d)) (sym (c .before .before .before .before .c .given .1))
+    let at-c = c .before .before .before .before in let start = at-c .before .before in λ B at.
+    ap₂ (λ (x y : ℕ). x + y) (c .before .row .ensures .0 ∙ ap (λ (x : ℕ). x * (1 + start .args .conditions + start .args .levels)) (c .before .before .above .ensures .0 _)) (c .offset .ensures .0 _)
+    ∙ ap (λ (d : CodeCommand). place-of (start .args .levels) (start .args .conditions) (start .args .actions) (command-of B at d)) (sym (at-c .c .given .1))
 
 returns-2 : tie.Need-returns-2
 returns-2 c =

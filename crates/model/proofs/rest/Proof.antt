@@ -20,7 +20,7 @@ abbrev μ-loop : tie.MeasureT-loop
 
 loop-holds : tie.Need-loop-holds Inv-loop μ-loop
 loop-holds c =
-    same-begun (form-of (c .before .before .before .before .args .form)) (c .before .before .before .before .pre .0) (c .before .before .before .before .pre .1)
+    let start = c .before .before .before .before in same-begun (form-of (start .args .form)) (start .pre .0) (start .pre .1)
 
 command-in-requires : tie.Need-command-in-requires Inv-loop μ-loop
 command-in-requires c κs =
@@ -32,7 +32,8 @@ enum-known-read c =
 
 broken-requires : tie.Need-broken-requires Inv-loop μ-loop
 broken-requires c κs =
-    whole-is-in (form-of (c .before .before .before .before .before .before .before .before .before .before .args .form)) (c .before .before .before .before .before .before .before .before .before .before .args .model .now) (c .before .before .before .before .before .loop .at) (c .before .before .before .before .command-in .ensures) (c .before .before .read .given .1)
+    let at-command-in = c .before .before .before .before in let at-loop = at-command-in .before in let start = at-loop .before .before .before .before .before in
+    whole-is-in (form-of (start .args .form)) (start .args .model .now) (at-loop .loop .at) (at-command-in .command-in .ensures) (c .before .before .read .given .1)
 
 refusal-requires : tie.Need-refusal-requires Inv-loop μ-loop
 refusal-requires c κs =
@@ -40,12 +41,14 @@ refusal-requires c κs =
 
 same-length : tie.Need-same-length Inv-loop μ-loop
 same-length c =
-    c .before .before .before .before .before .before .before .before .loop .inv .stands .flags ∙ sym (c .before .before .before .before .before .before .before .before .before .before .before .before .before .pre .1 .stands .flags)
+    let at-loop = c .before .before .before .before .before .before .before .before in let start = at-loop .before .before .before .before .before in
+    at-loop .loop .inv .stands .flags ∙ sym (start .pre .1 .stands .flags)
 
 returns : tie.Need-returns Inv-loop μ-loop
 returns c =
-    let w = c .before .before .before .before .before .before .before .before .loop .inv in
-    c .refusal .ensures ∙ turn-broken w _ (c .before .before .broken .result) (whole-is-in (form-of (c .before .before .before .before .before .before .before .before .before .before .before .before .before .args .form)) (c .before .before .before .before .before .before .before .before .before .before .before .before .before .args .model .now) (c .before .before .before .before .before .before .before .before .loop .at) (c .before .before .before .before .before .before .before .command-in .ensures) (c .before .before .before .before .before .read .given .1)) (c .before .before .broken .ensures (w .so-far) (w .stands)) (c .before .if1 .taken)
+    let at-read = c .before .before .before .before .before in let at-command-in = at-read .before .before in let at-loop = at-command-in .before in
+    let start = at-loop .before .before .before .before .before in let w = at-loop .loop .inv in
+    c .refusal .ensures ∙ turn-broken w _ (c .before .before .broken .result) (whole-is-in (form-of (start .args .form)) (start .args .model .now) (at-loop .loop .at) (at-command-in .command-in .ensures) (at-read .read .given .1)) (c .before .before .broken .ensures (w .so-far) (w .stands)) (c .before .if1 .taken)
 
 is-end-requires : tie.Need-is-end-requires Inv-loop μ-loop
 is-end-requires c κs =
@@ -53,16 +56,20 @@ is-end-requires c κs =
 
 ended-requires : tie.Need-ended-requires Inv-loop μ-loop
 ended-requires c κs =
-    whole-bytes (form-of (c .before .before .before .before .before .before .before .before .before .before .before .before .before .before .args .form)) (c .before .before .before .before .before .before .before .before .before .before .before .before .before .before .args .model .now) (c .before .before .before .before .before .before .before .before .before .loop .at) _ (whole-is-in (form-of (c .before .before .before .before .before .before .before .before .before .before .before .before .before .before .args .form)) (c .before .before .before .before .before .before .before .before .before .before .before .before .before .before .args .model .now) (c .before .before .before .before .before .before .before .before .before .loop .at) (c .before .before .before .before .before .before .before .before .command-in .ensures) (c .before .before .before .before .before .before .read .given .1)) .0 .starts
+    let at-read = c .before .before .before .before .before .before in let at-command-in = at-read .before .before in let at-loop = at-command-in .before in
+    let start = at-loop .before .before .before .before .before in
+    whole-bytes (form-of (start .args .form)) (start .args .model .now) (at-loop .loop .at) _ (whole-is-in (form-of (start .args .form)) (start .args .model .now) (at-loop .loop .at) (at-command-in .command-in .ensures) (at-read .read .given .1)) .0 .starts
 
 same-length-2 : tie.Need-same-length-2 Inv-loop μ-loop
 same-length-2 c =
-    c .before .before .before .before .before .before .before .before .before .before .loop .inv .stands .flags ∙ sym (c .before .before .before .before .before .before .before .before .before .before .before .before .before .before .before .pre .1 .stands .flags)
+    let at-loop = c .before .before .before .before .before .before .before .before .before .before in let start = at-loop .before .before .before .before .before in
+    at-loop .loop .inv .stands .flags ∙ sym (start .pre .1 .stands .flags)
 
 returns-2 : tie.Need-returns-2 Inv-loop μ-loop
 returns-2 c =
-    let w = c .before .before .before .before .before .before .before .before .before .before .loop .inv in
-    turn-end w _ (c .before .before .before .before .broken .result) _ (whole-is-in (form-of (c .before .before .before .before .before .before .before .before .before .before .before .before .before .before .before .args .form)) (c .before .before .before .before .before .before .before .before .before .before .before .before .before .before .before .args .model .now) (c .before .before .before .before .before .before .before .before .before .before .loop .at) (c .before .before .before .before .before .before .before .before .before .command-in .ensures) (c .before .before .before .before .before .before .before .read .given .1)) (c .before .before .before .before .broken .ensures (w .so-far) (w .stands)) (c .before .before .before .if1 .left) (sym (c .before .before .is-end .ensures) ∙ c .before .if2 .taken) (c .ended .ensures)
+    let at-if1 = c .before .before .before in let at-broken = at-if1 .before in let at-read = at-broken .before .before .before in let at-command-in = at-read .before .before in
+    let at-loop = at-command-in .before in let start = at-loop .before .before .before .before .before in let w = at-loop .loop .inv in
+    turn-end w _ (at-broken .broken .result) _ (whole-is-in (form-of (start .args .form)) (start .args .model .now) (at-loop .loop .at) (at-command-in .command-in .ensures) (at-read .read .given .1)) (at-broken .broken .ensures (w .so-far) (w .stands)) (at-if1 .if1 .left) (sym (c .before .before .is-end .ensures) ∙ c .before .if2 .taken) (c .ended .ensures)
 
 note-requires : tie.Need-note-requires Inv-loop μ-loop
 note-requires c κs =
@@ -70,7 +77,9 @@ note-requires c κs =
 
 after-requires : tie.Need-after-requires Inv-loop μ-loop
 after-requires c κs =
-    whole-is-in (form-of (c .before .before .before .before .before .before .before .before .before .before .before .before .before .before .before .before .before .before .args .form)) (c .before .before .before .before .before .before .before .before .before .before .before .before .before .before .before .before .before .before .args .model .now) (c .before .before .before .before .before .before .before .before .before .before .before .before .before .loop .at) (c .before .before .before .before .before .before .before .before .before .before .before .before .command-in .ensures) (c .before .before .before .before .before .before .before .before .before .before .read .given .1)
+    let at-read = c .before .before .before .before .before .before .before .before .before .before in let at-command-in = at-read .before .before in
+    let at-loop = at-command-in .before in let start = at-loop .before .before .before .before .before in
+    whole-is-in (form-of (start .args .form)) (start .args .model .now) (at-loop .loop .at) (at-command-in .command-in .ensures) (at-read .read .given .1)
 
 size-in-requires : tie.Need-size-in-requires Inv-loop μ-loop
 size-in-requires c κs =
@@ -78,19 +87,25 @@ size-in-requires c κs =
 
 add-at : tie.Need-add-at Inv-loop μ-loop
 add-at c =
-    let f = forward-in (form-of (c .before .before .before .before .before .before .before .before .before .before .before .before .before .before .before .before .before .before .before .before .before .args .form)) (c .before .before .before .before .before .before .before .before .before .before .before .before .before .before .before .before .before .before .before .before .before .args .model .now) (c .before .before .before .before .before .before .before .before .before .before .before .before .before .before .before .before .loop .at) _ _ (whole-is-in (form-of (c .before .before .before .before .before .before .before .before .before .before .before .before .before .before .before .before .before .before .before .before .before .args .form)) (c .before .before .before .before .before .before .before .before .before .before .before .before .before .before .before .before .before .before .before .before .before .args .model .now) (c .before .before .before .before .before .before .before .before .before .before .before .before .before .before .before .before .loop .at) (c .before .before .before .before .before .before .before .before .before .before .before .before .before .before .before .command-in .ensures) (c .before .before .before .before .before .before .before .before .before .before .before .before .before .read .given .1)) (past (form-of (c .before .before .before .before .before .before .before .before .before .before .before .before .before .before .before .before .before .before .before .before .before .args .form)) (c .before .before .before .before .before .before .before .before .before .before .before .before .before .before .before .before .before .before .before .before .before .args .model .now) (c .before .before .before .before .before .before .before .before .before .before .before .before .before .before .before .before .loop .at) _ (c .size-in .result) (whole-is-in (form-of (c .before .before .before .before .before .before .before .before .before .before .before .before .before .before .before .before .before .before .before .before .before .args .form)) (c .before .before .before .before .before .before .before .before .before .before .before .before .before .before .before .before .before .before .before .before .before .args .model .now) (c .before .before .before .before .before .before .before .before .before .before .before .before .before .before .before .before .loop .at) (c .before .before .before .before .before .before .before .before .before .before .before .before .before .before .before .command-in .ensures) (c .before .before .before .before .before .before .before .before .before .before .before .before .before .read .given .1)) (c .size-in .ensures)) in
-    omega (arith, f .1, f .2, c .before .before .before .before .before .before .before .before .before .before .before .before .before .before .before .before .before .before .before .before .before .good)
+    let at-read = c .before .before .before .before .before .before .before .before .before .before .before .before .before in let at-command-in = at-read .before .before in
+    let at-loop = at-command-in .before in let start = at-loop .before .before .before .before .before in
+    let f = forward-in (form-of (start .args .form)) (start .args .model .now) (at-loop .loop .at) _ _ (whole-is-in (form-of (start .args .form)) (start .args .model .now) (at-loop .loop .at) (at-command-in .command-in .ensures) (at-read .read .given .1)) (past (form-of (start .args .form)) (start .args .model .now) (at-loop .loop .at) _ (c .size-in .result) (whole-is-in (form-of (start .args .form)) (start .args .model .now) (at-loop .loop .at) (at-command-in .command-in .ensures) (at-read .read .given .1)) (c .size-in .ensures)) in
+    omega (arith, f .1, f .2, start .good)
 
 loop-less : tie.Need-loop-less Inv-loop μ-loop
 loop-less c =
-    let f = forward-in (form-of (c .before .before .before .before .before .before .before .before .before .before .before .before .before .before .before .before .before .before .before .before .before .args .form)) (c .before .before .before .before .before .before .before .before .before .before .before .before .before .before .before .before .before .before .before .before .before .args .model .now) (c .before .before .before .before .before .before .before .before .before .before .before .before .before .before .before .before .loop .at) _ _ (whole-is-in (form-of (c .before .before .before .before .before .before .before .before .before .before .before .before .before .before .before .before .before .before .before .before .before .args .form)) (c .before .before .before .before .before .before .before .before .before .before .before .before .before .before .before .before .before .before .before .before .before .args .model .now) (c .before .before .before .before .before .before .before .before .before .before .before .before .before .before .before .before .loop .at) (c .before .before .before .before .before .before .before .before .before .before .before .before .before .before .before .command-in .ensures) (c .before .before .before .before .before .before .before .before .before .before .before .before .before .read .given .1)) (past (form-of (c .before .before .before .before .before .before .before .before .before .before .before .before .before .before .before .before .before .before .before .before .before .args .form)) (c .before .before .before .before .before .before .before .before .before .before .before .before .before .before .before .before .before .before .before .before .before .args .model .now) (c .before .before .before .before .before .before .before .before .before .before .before .before .before .before .before .before .loop .at) _ (c .size-in .result) (whole-is-in (form-of (c .before .before .before .before .before .before .before .before .before .before .before .before .before .before .before .before .before .before .before .before .before .args .form)) (c .before .before .before .before .before .before .before .before .before .before .before .before .before .before .before .before .before .before .before .before .before .args .model .now) (c .before .before .before .before .before .before .before .before .before .before .before .before .before .before .before .before .loop .at) (c .before .before .before .before .before .before .before .before .before .before .before .before .before .before .before .command-in .ensures) (c .before .before .before .before .before .before .before .before .before .before .before .before .before .read .given .1)) (c .size-in .ensures)) in
+    let at-read = c .before .before .before .before .before .before .before .before .before .before .before .before .before in let at-command-in = at-read .before .before in
+    let at-loop = at-command-in .before in let start = at-loop .before .before .before .before .before in
+    let f = forward-in (form-of (start .args .form)) (start .args .model .now) (at-loop .loop .at) _ _ (whole-is-in (form-of (start .args .form)) (start .args .model .now) (at-loop .loop .at) (at-command-in .command-in .ensures) (at-read .read .given .1)) (past (form-of (start .args .form)) (start .args .model .now) (at-loop .loop .at) _ (c .size-in .result) (whole-is-in (form-of (start .args .form)) (start .args .model .now) (at-loop .loop .at) (at-command-in .command-in .ensures) (at-read .read .given .1)) (c .size-in .ensures)) in
     omega (arith, f .1, f .2)
 
 loop-again : tie.Need-loop-again Inv-loop μ-loop
 loop-again c =
-    let w = c .before .before .before .before .before .before .before .before .before .before .before .before .before .before .before .before .loop .inv in
-    let e = whole-is-in (form-of (c .before .before .before .before .before .before .before .before .before .before .before .before .before .before .before .before .before .before .before .before .before .args .form)) (c .before .before .before .before .before .before .before .before .before .before .before .before .before .before .before .before .before .before .before .before .before .args .model .now) (c .before .before .before .before .before .before .before .before .before .before .before .before .before .before .before .before .loop .at) (c .before .before .before .before .before .before .before .before .before .before .before .before .before .before .before .command-in .ensures) (c .before .before .before .before .before .before .before .before .before .before .before .before .before .read .given .1) in
-    turn-on w refl _ (c .before .before .before .before .before .before .before .before .before .before .broken .result) _ (c .before .before .after .result) _ e (c .before .before .before .before .before .before .before .before .before .before .broken .ensures (w .so-far) (w .stands)) (c .before .before .before .before .before .before .before .before .before .if1 .left) (sym (c .before .before .before .before .before .before .before .before .is-end .ensures) ∙ c .before .before .before .before .before .before .before .if2 .left) (past (form-of (c .before .before .before .before .before .before .before .before .before .before .before .before .before .before .before .before .before .before .before .before .before .args .form)) (c .before .before .before .before .before .before .before .before .before .before .before .before .before .before .before .before .before .before .before .before .before .args .model .now) (c .before .before .before .before .before .before .before .before .before .before .before .before .before .before .before .before .loop .at) _ (c .size-in .result) e (c .size-in .ensures)) (c .before .before .before .before .before .note .ensures) (c .before .before .after .ensures)
+    let at-note = c .before .before .before .before .before in let at-if2 = at-note .before .before in let at-is-end = at-if2 .before in let at-if1 = at-is-end .before in
+    let at-broken = at-if1 .before in let at-read = at-broken .before .before .before in let at-command-in = at-read .before .before in let at-loop = at-command-in .before in
+    let start = at-loop .before .before .before .before .before in let w = at-loop .loop .inv in
+    let e = whole-is-in (form-of (start .args .form)) (start .args .model .now) (at-loop .loop .at) (at-command-in .command-in .ensures) (at-read .read .given .1) in
+    turn-on w refl _ (at-broken .broken .result) _ (c .before .before .after .result) _ e (at-broken .broken .ensures (w .so-far) (w .stands)) (at-if1 .if1 .left) (sym (at-is-end .is-end .ensures) ∙ at-if2 .if2 .left) (past (form-of (start .args .form)) (start .args .model .now) (at-loop .loop .at) _ (c .size-in .result) e (c .size-in .ensures)) (at-note .note .ensures) (c .before .before .after .ensures)
 
 enum-told : tie.Need-enum-told Inv-loop μ-loop
 enum-told c =
@@ -102,11 +117,13 @@ refusal-requires-2 c κs =
 
 same-length-3 : tie.Need-same-length-3 Inv-loop μ-loop
 same-length-3 c =
-    c .before .before .before .before .loop .inv .stands .flags ∙ sym (c .before .before .before .before .before .before .before .before .before .pre .1 .stands .flags)
+    let at-loop = c .before .before .before .before in let start = at-loop .before .before .before .before .before in
+    at-loop .loop .inv .stands .flags ∙ sym (start .pre .1 .stands .flags)
 
 returns-3 : tie.Need-returns-3 Inv-loop μ-loop
 returns-3 c =
-    c .refusal2 .ensures ∙ turn-unknown (c .before .before .before .before .loop .inv) (unknown-is (form-of (c .before .before .before .before .before .before .before .before .before .args .form)) (c .before .before .before .before .before .before .before .before .before .args .model .now) (c .before .before .before .before .loop .at) (c .before .before .before .command-in .ensures) (c .before .enum-told .given .1))
+    let at-command-in = c .before .before .before in let at-loop = at-command-in .before in let start = at-loop .before .before .before .before .before in
+    c .refusal2 .ensures ∙ turn-unknown (at-loop .loop .inv) (unknown-is (form-of (start .args .form)) (start .args .model .now) (at-loop .loop .at) (at-command-in .command-in .ensures) (c .before .enum-told .given .1))
 
 enum-told-2 : tie.Need-enum-told-2 Inv-loop μ-loop
 enum-told-2 c =
@@ -118,11 +135,13 @@ refusal-requires-3 c κs =
 
 same-length-4 : tie.Need-same-length-4 Inv-loop μ-loop
 same-length-4 c =
-    c .before .before .before .before .loop .inv .stands .flags ∙ sym (c .before .before .before .before .before .before .before .before .before .pre .1 .stands .flags)
+    let at-loop = c .before .before .before .before in let start = at-loop .before .before .before .before .before in
+    at-loop .loop .inv .stands .flags ∙ sym (start .pre .1 .stands .flags)
 
 returns-4 : tie.Need-returns-4 Inv-loop μ-loop
 returns-4 c =
-    c .refusal3 .ensures ∙ turn-short (c .before .before .before .before .loop .inv) (short-is (form-of (c .before .before .before .before .before .before .before .before .before .args .form)) (c .before .before .before .before .before .before .before .before .before .args .model .now) (c .before .before .before .before .loop .at) (c .before .before .before .command-in .ensures) (c .before .enum-told2 .given .1))
+    let at-command-in = c .before .before .before in let at-loop = at-command-in .before in let start = at-loop .before .before .before .before .before in
+    c .refusal3 .ensures ∙ turn-short (at-loop .loop .inv) (short-is (form-of (start .args .form)) (start .args .model .now) (at-loop .loop .at) (at-command-in .command-in .ensures) (c .before .enum-told2 .given .1))
 
 pub rest-spec : {M : Type 1} → statement M
 rest-spec =

@@ -31,8 +31,9 @@ sub-if3 c = search needs
 returns-3 : tie.Need-returns-3
 unfolding read-of-in read-in
 returns-3 c =
-    let h : length ((c .before .before .before .before .before .before) .args .model .now) < (c .before .before .before .before .before .before) .args .at + c .before .before .width-in .result = omega arith in
-    simp (lt-leb _ _ (c .before .before .before .before .if1 .left), ← c .before .before .width-in .ensures .0, ne-eqb _ _ (c .before .if2 .left), lt-ltb _ _ h)
+    let at-if1 = c .before .before .before .before in let start = at-if1 .before .before in
+    let h : length (start .args .model .now) < start .args .at + c .before .before .width-in .result = omega arith in
+    simp (lt-leb _ _ (at-if1 .if1 .left), ← c .before .before .width-in .ensures .0, ne-eqb _ _ (c .before .if2 .left), lt-ltb _ _ h)
 
 whole-at-requires : tie.Need-whole-at-requires
 whole-at-requires c κs = search needs
@@ -40,8 +41,9 @@ whole-at-requires c κs = search needs
 returns-4 : tie.Need-returns-4
 unfolding read-of-in read-in
 returns-4 c =
-    let h : (c .before .before .before .before .before .before .before) .args .at + c .before .before .before .width-in .result ≤ length ((c .before .before .before .before .before .before .before) .args .model .now) = omega arith in
-    simp (lt-leb _ _ (c .before .before .before .before .before .if1 .left), ← c .before .before .before .width-in .ensures .0, ne-eqb _ _ (c .before .before .if2 .left), le-ltb _ _ h, c .whole-at .ensures)
+    let at-width-in = c .before .before .before in let at-if1 = at-width-in .before .before in let start = at-if1 .before .before in
+    let h : start .args .at + at-width-in .width-in .result ≤ length (start .args .model .now) = omega arith in
+    simp (lt-leb _ _ (at-if1 .if1 .left), ← at-width-in .width-in .ensures .0, ne-eqb _ _ (c .before .before .if2 .left), le-ltb _ _ h, c .whole-at .ensures)
 
 pub command-in-spec : {M : Type 1} → statement M
 command-in-spec =

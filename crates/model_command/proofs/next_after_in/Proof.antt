@@ -25,8 +25,9 @@ sub-if2 c = search needs
 returns-2 : tie.Need-returns-2
 unfolding next-in
 returns-2 c =
-    let h : length ((c .before .before .before .before .before) .args .model .now) < (c .before .before .before .before .before) .args .at + c .before .width-in .result = omega arith in
-    simp (lt-leb _ _ (c .before .before .before .if1 .left), ← c .before .width-in .ensures .0, lt-ltb _ _ h)
+    let at-if1 = c .before .before .before in let start = at-if1 .before .before in
+    let h : length (start .args .model .now) < start .args .at + c .before .width-in .result = omega arith in
+    simp (lt-leb _ _ (at-if1 .if1 .left), ← c .before .width-in .ensures .0, lt-ltb _ _ h)
 
 add-result : tie.Need-add-result
 add-result c = search needs
@@ -34,8 +35,9 @@ add-result c = search needs
 returns-3 : tie.Need-returns-3
 unfolding next-in
 returns-3 c =
-    let h : (c .before .before .before .before .before) .args .at + c .before .width-in .result ≤ length ((c .before .before .before .before .before) .args .model .now) = omega arith in
-    simp (lt-leb _ _ (c .before .before .before .if1 .left), ← c .before .width-in .ensures .0, le-ltb _ _ h)
+    let at-if1 = c .before .before .before in let start = at-if1 .before .before in
+    let h : start .args .at + c .before .width-in .result ≤ length (start .args .model .now) = omega arith in
+    simp (lt-leb _ _ (at-if1 .if1 .left), ← c .before .width-in .ensures .0, le-ltb _ _ h)
 
 pub next-after-in-spec : {M : Type 1} → statement M
 next-after-in-spec =

@@ -68,7 +68,8 @@ returns-2 c =
 returns-3 : tie.Need-returns-3
 unfolding command-of-in command-in
 returns-3 c =
-    rw (← (c .before .before .before .before .before .before) .pre .0, ne-eqb _ _ (λ e. c .before .before .before .if1 .left (e ∙ sym (c .before .before .before .before .site-byte .ensures))), c .before .match .keys2) (simp (c .byte-at .ensures))
+    let at-if1 = c .before .before .before in let at-site-byte = at-if1 .before in let start = at-site-byte .before .before in
+    rw (← start .pre .0, ne-eqb _ _ (λ e. at-if1 .if1 .left (e ∙ sym (at-site-byte .site-byte .ensures))), c .before .match .keys2) (simp (c .byte-at .ensures))
 
 returns-4 : tie.Need-returns-4
 unfolding command-of-in command-in
@@ -83,17 +84,20 @@ returns-5 c =
 returns-6 : tie.Need-returns-6
 unfolding command-of-in command-in
 returns-6 c =
-    rw (← (c .before .before .before .before .before .before) .pre .0, ne-eqb _ _ (λ e. c .before .before .before .if1 .left (e ∙ sym (c .before .before .before .before .site-byte .ensures))), c .before .match .keys5) (simp (c .action-in .ensures))
+    let at-if1 = c .before .before .before in let at-site-byte = at-if1 .before in let start = at-site-byte .before .before in
+    rw (← start .pre .0, ne-eqb _ _ (λ e. at-if1 .if1 .left (e ∙ sym (at-site-byte .site-byte .ensures))), c .before .match .keys5) (simp (c .action-in .ensures))
 
 returns-7 : tie.Need-returns-7
 unfolding command-of-in command-in
 returns-7 c =
-    rw (← (c .before .before .before .before .before .before .before) .pre .0, ne-eqb _ _ (λ e. c .before .before .before .before .if1 .left (e ∙ sym (c .before .before .before .before .before .site-byte .ensures))), c .before .before .match .keys6) (simp (c .before .action-in2 .ensures, c .byte-at2 .ensures, c .before .before .before .behind-action .ensures .0))
+    let at-behind-action = c .before .before .before in let at-if1 = at-behind-action .before in let at-site-byte = at-if1 .before in let start = at-site-byte .before .before in
+    rw (← start .pre .0, ne-eqb _ _ (λ e. at-if1 .if1 .left (e ∙ sym (at-site-byte .site-byte .ensures))), c .before .before .match .keys6) (simp (c .before .action-in2 .ensures, c .byte-at2 .ensures, at-behind-action .behind-action .ensures .0))
 
 returns-8 : tie.Need-returns-8
 unfolding command-of-in command-in
 returns-8 c =
-    rw (← (c .before .before .before .before .before .before .before) .pre .0, ne-eqb _ _ (λ e. c .before .before .before .before .if1 .left (e ∙ sym (c .before .before .before .before .before .site-byte .ensures))), c .before .before .match .keys7) (simp (c .before .action-in3 .ensures, c .byte-at3 .ensures, c .before .before .before .behind-action .ensures .0))
+    let at-behind-action = c .before .before .before in let at-if1 = at-behind-action .before in let at-site-byte = at-if1 .before in let start = at-site-byte .before .before in
+    rw (← start .pre .0, ne-eqb _ _ (λ e. at-if1 .if1 .left (e ∙ sym (at-site-byte .site-byte .ensures))), c .before .before .match .keys7) (simp (c .before .action-in3 .ensures, c .byte-at3 .ensures, at-behind-action .behind-action .ensures .0))
 
 returns-9 : tie.Need-returns-9
 unfolding command-of-in command-in
@@ -103,7 +107,8 @@ returns-9 c =
 returns-10 : tie.Need-returns-10
 unfolding command-of-in command-in
 returns-10 c =
-    rw (← (c .before .before .before .before .before .before) .pre .0, ne-eqb _ _ (λ e. c .before .before .before .if1 .left (e ∙ sym (c .before .before .before .before .site-byte .ensures))), c .before .match .keys9) (simp (c .action-in4 .ensures))
+    let at-if1 = c .before .before .before in let at-site-byte = at-if1 .before in let start = at-site-byte .before .before in
+    rw (← start .pre .0, ne-eqb _ _ (λ e. at-if1 .if1 .left (e ∙ sym (at-site-byte .site-byte .ensures))), c .before .match .keys9) (simp (c .action-in4 .ensures))
 
 returns-11 : tie.Need-returns-11
 unfolding command-of-in command-in

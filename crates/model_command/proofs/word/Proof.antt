@@ -58,7 +58,8 @@ add-result-3 c = search needs
 returns : tie.Need-returns
 unfolding word-at
 returns c =
-    cc (c .before .before .before .before .before .before .byte-word .ensures .0, c .before .before .before .before .byte-word2 .ensures .0, c .before .before .byte-word3 .ensures .0, c .byte-word4 .ensures .0)
+    let at-byte-word2 = c .before .before .before .before in let at-byte-word = at-byte-word2 .before .before in
+    cc (at-byte-word .byte-word .ensures .0, at-byte-word2 .byte-word2 .ensures .0, c .before .before .byte-word3 .ensures .0, c .byte-word4 .ensures .0)
 
 pub word-spec : {M : Type 1} → statement M
 word-spec =

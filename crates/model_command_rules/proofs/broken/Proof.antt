@@ -18,7 +18,8 @@ returns c =
 
 returns-2 : tie.Need-returns-2
 returns-2 c =
-    λ p st. c .first .ensures ((c .before .before .before .before) .args .model .now) ((c .before .before .before .before) .args .at) ∙ first-rules-of st (form-of ((c .before .before .before .before) .args .form)) _ (c .before .if1 .left)
+    let start = c .before .before .before .before in
+    λ p st. c .first .ensures (start .args .model .now) (start .args .at) ∙ first-rules-of st (form-of (start .args .form)) _ (c .before .if1 .left)
 
 pub broken-spec : {M : Type 1} → statement M
 broken-spec = tie.close (tie.spec later-requires first-requires returns returns-2)

@@ -17,7 +17,8 @@ ordered-requires c κs = search needs
 
 returns : tie.Need-returns
 returns c =
-    λ F p st. c .ordered .ensures ∙ ap (λ (o : Bool). first-broken (in-order (not o) (ltb (c .before .before .before .args .s .seen .len) 2) false false)) (c .before .condition .ensures) ∙ later-condition st (c .before .before .before .args .k)
+    let start = c .before .before .before in
+    λ F p st. c .ordered .ensures ∙ ap (λ (o : Bool). first-broken (in-order (not o) (ltb (start .args .s .seen .len) 2) false false)) (c .before .condition .ensures) ∙ later-condition st (start .args .k)
 
 pub condition-spec : {M : Type 1} → statement M
 condition-spec = tie.close (tie.spec condition-requires ordered-requires returns)

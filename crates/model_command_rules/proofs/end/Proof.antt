@@ -14,11 +14,13 @@ returns c =
 
 returns-2 : tie.Need-returns-2
 returns-2 c =
-    λ p st. end-held _ (c .before .before .before .before .before .before .args .s .seen .len) (sym (c .before .before .before .complete .ensures) ∙ c .before .before .if1 .taken) (c .if2 .taken) ∙ later-end st
+    let at-complete = c .before .before .before in let start = at-complete .before .before .before in
+    λ p st. end-held _ (start .args .s .seen .len) (sym (at-complete .complete .ensures) ∙ c .before .before .if1 .taken) (c .if2 .taken) ∙ later-end st
 
 returns-3 : tie.Need-returns-3
 returns-3 c =
-    λ p st. end-done _ (c .before .before .before .before .before .before .args .s .seen .len) (sym (c .before .before .before .complete .ensures) ∙ c .before .before .if1 .taken) (c .if2 .left) ∙ later-end st
+    let at-complete = c .before .before .before in let start = at-complete .before .before .before in
+    λ p st. end-done _ (start .args .s .seen .len) (sym (at-complete .complete .ensures) ∙ c .before .before .if1 .taken) (c .if2 .left) ∙ later-end st
 
 pub end-spec : {M : Type 1} → statement M
 end-spec = tie.close (tie.spec complete-requires returns returns-2 returns-3)

@@ -18,7 +18,8 @@ site-requires c κs = search needs
 returns : tie.Need-returns
 unfolding command-of-in first-rules
 returns c =
-    λ B at. c .site .ensures ∙ ap (λ (d : CodeCommand). first-broken (first-rules (form-of ((c .before .before .before .before) .args .form)) (command-of-in (form-of ((c .before .before .before .before) .args .form)) B at d))) (sym (c .before .before .c .given .1))
+    let start = c .before .before .before .before in
+    λ B at. c .site .ensures ∙ ap (λ (d : CodeCommand). first-broken (first-rules (form-of (start .args .form)) (command-of-in (form-of (start .args .form)) B at d))) (sym (c .before .before .c .given .1))
 
 returns-2 : tie.Need-returns-2
 returns-2 c =

@@ -32,12 +32,13 @@ ordered-requires c κs = search needs
 
 returns : tie.Need-returns
 returns c =
+    let at-has = c .before .before .before in let at-place = at-has .before in let at-base = at-place .before in let start = at-base .before .before .before .before .before in
     λ p st.
-    let g : Slot = record { command = c .before .before .before .before .before .before .before .before .before .before .args .c; action = c .before .before .before .before .before .before .before .before .before .before .args .a; index = c .before .before .before .before .before .before .before .before .before .before .args .i } in
-    let i = c .before .before .before .before .place .ensures ∙ ap (λ (b : ℕ). place b (c .before .before .before .before .before .before .before .before .before .before .args .i) (c .before .before .before .before .before .before .before .before .before .before .args .a)) (c .before .before .before .before .before .base .ensures .0) in
-    let t = c .before .before .before .has .ensures ∙ ap (λ (k : ℕ). getD (c .before .before .before .before .before .before .before .before .before .before .args .flags .now) k false) i in
-    c .ordered .ensures ∙ (λ j. first-broken (in-order (not (c .before .before .slot .ensures j)) (ltb (c .before .before .before .before .before .before .before .before .before .before .args .s .seen .len) 1) (t j) (not (c .before .may-be .result))))
-    ∙ later-give st g (c .before .may-be .result) (λ h. c .before .may-be .ensures h (c .before .before .before .before .before .before .before .before .before .before .args .a) (c .before .before .before .before .before .before .before .before .before .before .args .i))
+    let g : Slot = record { command = start .args .c; action = start .args .a; index = start .args .i } in
+    let i = at-place .place .ensures ∙ ap (λ (b : ℕ). place b (start .args .i) (start .args .a)) (at-base .base .ensures .0) in
+    let t = at-has .has .ensures ∙ ap (λ (k : ℕ). getD (start .args .flags .now) k false) i in
+    c .ordered .ensures ∙ (λ j. first-broken (in-order (not (c .before .before .slot .ensures j)) (ltb (start .args .s .seen .len) 1) (t j) (not (c .before .may-be .result))))
+    ∙ later-give st g (c .before .may-be .result) (λ h. c .before .may-be .ensures h (start .args .a) (start .args .i))
 
 pub give-spec : {M : Type 1} → statement M
 give-spec =

@@ -23,11 +23,13 @@ enum-told-2 c = search needs
 
 add-leaf : tie.Need-add-leaf
 add-leaf c =
-    let h = leaf-there (form-of ((c .before .before .before .before) .args .form)) ((c .before .before .before .before) .args .model .now) ((c .before .before .before .before) .args .at) (c .enum-told2 .given .1) ((c .before .before .before .before) .pre) in omega arith
+    let start = c .before .before .before .before in
+    let h = leaf-there (form-of (start .args .form)) (start .args .model .now) (start .args .at) (c .enum-told2 .given .1) (start .pre) in omega arith
 
 leaf-requires : tie.Need-leaf-requires
 leaf-requires c κs =
-    let h = leaf-there (form-of ((c .before .before .before .before) .args .form)) ((c .before .before .before .before) .args .model .now) ((c .before .before .before .before) .args .at) (c .enum-told2 .given .1) ((c .before .before .before .before) .pre) in omega arith
+    let start = c .before .before .before .before in
+    let h = leaf-there (form-of (start .args .form)) (start .args .model .now) (start .args .at) (c .enum-told2 .given .1) (start .pre) in omega arith
 
 enum-known-c : tie.Need-enum-known-c
 enum-known-c c = search needs
@@ -40,11 +42,13 @@ enum-told-3 c = search needs
 
 add-test : tie.Need-add-test
 add-test c =
-    let h = test-there (form-of ((c .before .before .before .before) .args .form)) ((c .before .before .before .before) .args .model .now) ((c .before .before .before .before) .args .at) (c .enum-told3 .given .1) ((c .before .before .before .before) .pre) in omega arith
+    let start = c .before .before .before .before in
+    let h = test-there (form-of (start .args .form)) (start .args .model .now) (start .args .at) (c .enum-told3 .given .1) (start .pre) in omega arith
 
 test-requires : tie.Need-test-requires
 test-requires c κs =
-    let h = test-there (form-of ((c .before .before .before .before) .args .form)) ((c .before .before .before .before) .args .model .now) ((c .before .before .before .before) .args .at) (c .enum-told3 .given .1) ((c .before .before .before .before) .pre) in omega arith
+    let start = c .before .before .before .before in
+    let h = test-there (form-of (start .args .form)) (start .args .model .now) (start .args .at) (c .enum-told3 .given .1) (start .pre) in omega arith
 
 enum-told-4 : tie.Need-enum-told-4
 enum-told-4 c = search needs
@@ -66,7 +70,8 @@ behind-action-requires c κs = search needs
 
 add-text : tie.Need-add-text
 add-text c =
-    let h = whole-bytes (form-of ((c .before .before .before .before .before .before) .args .form)) ((c .before .before .before .before .before .before) .args .model .now) ((c .before .before .before .before .before .before) .args .at) _ ((c .before .before .before .before .before .before) .pre) .0 .starts in omega (arith, c .behind-action .ensures .1)
+    let start = c .before .before .before .before .before .before in
+    let h = whole-bytes (form-of (start .args .form)) (start .args .model .now) (start .args .at) _ (start .pre) .0 .starts in omega (arith, c .behind-action .ensures .1)
 
 text-requires : tie.Need-text-requires
 text-requires c κs = search needs
@@ -83,42 +88,50 @@ end-requires c κs = search needs
 returns : tie.Need-returns
 unfolding command-of-in later-rules first-broken
 returns c =
-    known-command (form-of ((c .before .before .before .before) .args .form)) ((c .before .before .before .before) .args .s) ((c .before .before .before .before) .args .flags .now) ((c .before .before .before .before) .args .model .now) ((c .before .before .before .before) .args .at) _ (c .enum-told .given .1) (λ p st. refl)
+    let start = c .before .before .before .before in
+    known-command (form-of (start .args .form)) (start .args .s) (start .args .flags .now) (start .args .model .now) (start .args .at) _ (c .enum-told .given .1) (λ p st. refl)
 
 returns-2 : tie.Need-returns-2
 unfolding command-of-in
 returns-2 c =
-    known-command (form-of ((c .before .before .before .before .before) .args .form)) ((c .before .before .before .before .before) .args .s) ((c .before .before .before .before .before) .args .flags .now) ((c .before .before .before .before .before) .args .model .now) ((c .before .before .before .before .before) .args .at) _ (c .before .enum-told2 .given .1) (c .leaf .ensures ((c .before .before .before .before .before) .args .flags .now))
+    let start = c .before .before .before .before .before in
+    known-command (form-of (start .args .form)) (start .args .s) (start .args .flags .now) (start .args .model .now) (start .args .at) _ (c .before .enum-told2 .given .1) (c .leaf .ensures (start .args .flags .now))
 
 returns-3 : tie.Need-returns-3
 unfolding command-of-in
 returns-3 c =
-    known-command (form-of ((c .before .before .before .before .before .before) .args .form)) ((c .before .before .before .before .before .before) .args .s) ((c .before .before .before .before .before .before) .args .flags .now) ((c .before .before .before .before .before .before) .args .model .now) ((c .before .before .before .before .before .before) .args .at) _ (c .before .before .c .given .1) (c .condition .ensures ((c .before .before .before .before .before .before) .args .flags .now))
+    let start = c .before .before .before .before .before .before in
+    known-command (form-of (start .args .form)) (start .args .s) (start .args .flags .now) (start .args .model .now) (start .args .at) _ (c .before .before .c .given .1) (c .condition .ensures (start .args .flags .now))
 
 returns-4 : tie.Need-returns-4
 unfolding command-of-in
 returns-4 c =
-    known-command (form-of ((c .before .before .before .before .before) .args .form)) ((c .before .before .before .before .before) .args .s) ((c .before .before .before .before .before) .args .flags .now) ((c .before .before .before .before .before) .args .model .now) ((c .before .before .before .before .before) .args .at) _ (c .before .enum-told3 .given .1) (c .test .ensures ((c .before .before .before .before .before) .args .flags .now))
+    let start = c .before .before .before .before .before in
+    known-command (form-of (start .args .form)) (start .args .s) (start .args .flags .now) (start .args .model .now) (start .args .at) _ (c .before .enum-told3 .given .1) (c .test .ensures (start .args .flags .now))
 
 returns-5 : tie.Need-returns-5
 unfolding command-of-in
 returns-5 c =
-    known-command (form-of ((c .before .before .before .before .before) .args .form)) ((c .before .before .before .before .before) .args .s) ((c .before .before .before .before .before) .args .flags .now) ((c .before .before .before .before .before) .args .model .now) ((c .before .before .before .before .before) .args .at) _ (c .before .enum-told4 .given .1) (c .forbidden .ensures ((c .before .before .before .before .before) .args .flags .now))
+    let start = c .before .before .before .before .before in
+    known-command (form-of (start .args .form)) (start .args .s) (start .args .flags .now) (start .args .model .now) (start .args .at) _ (c .before .enum-told4 .given .1) (c .forbidden .ensures (start .args .flags .now))
 
 returns-6 : tie.Need-returns-6
 unfolding command-of-in
 returns-6 c =
-    known-command (form-of ((c .before .before .before .before .before .before) .args .form)) ((c .before .before .before .before .before .before) .args .s) ((c .before .before .before .before .before .before) .args .flags .now) ((c .before .before .before .before .before .before) .args .model .now) ((c .before .before .before .before .before .before) .args .at) _ (c .before .before .c2 .given .1) (c .give .ensures)
+    let start = c .before .before .before .before .before .before in
+    known-command (form-of (start .args .form)) (start .args .s) (start .args .flags .now) (start .args .model .now) (start .args .at) _ (c .before .before .c2 .given .1) (c .give .ensures)
 
 returns-7 : tie.Need-returns-7
 unfolding command-of-in
 returns-7 c =
-    known-command (form-of ((c .before .before .before .before .before .before .before .before) .args .form)) ((c .before .before .before .before .before .before .before .before) .args .s) ((c .before .before .before .before .before .before .before .before) .args .flags .now) ((c .before .before .before .before .before .before .before .before) .args .model .now) ((c .before .before .before .before .before .before .before .before) .args .at) _ (c .before .before .before .before .c3 .given .1) (c .name .ensures (take name-bytes (drop ((c .before .before .before .before .before .before .before .before) .args .at + behind-action (form-of ((c .before .before .before .before .before .before .before .before) .args .form))) ((c .before .before .before .before .before .before .before .before) .args .model .now))) (c .before .text .ensures ∙ ap (λ (k : ℕ). all printable (take name-bytes (drop ((c .before .before .before .before .before .before .before .before) .args .at + k) ((c .before .before .before .before .before .before .before .before) .args .model .now)))) (c .before .before .behind-action .ensures .0)))
+    let at-c3 = c .before .before .before .before in let start = at-c3 .before .before .before .before in
+    known-command (form-of (start .args .form)) (start .args .s) (start .args .flags .now) (start .args .model .now) (start .args .at) _ (at-c3 .c3 .given .1) (c .name .ensures (take name-bytes (drop (start .args .at + behind-action (form-of (start .args .form))) (start .args .model .now))) (c .before .text .ensures ∙ ap (λ (k : ℕ). all printable (take name-bytes (drop (start .args .at + k) (start .args .model .now)))) (c .before .before .behind-action .ensures .0)))
 
 returns-8 : tie.Need-returns-8
 unfolding command-of-in
 returns-8 c =
-    known-command (form-of ((c .before .before .before .before .before) .args .form)) ((c .before .before .before .before .before) .args .s) ((c .before .before .before .before .before) .args .flags .now) ((c .before .before .before .before .before) .args .model .now) ((c .before .before .before .before .before) .args .at) _ (c .before .enum-told5 .given .1) (c .end .ensures)
+    let start = c .before .before .before .before .before in
+    known-command (form-of (start .args .form)) (start .args .s) (start .args .flags .now) (start .args .model .now) (start .args .at) _ (c .before .enum-told5 .given .1) (c .end .ensures)
 
 pub later-spec : {M : Type 1} → statement M
 later-spec =

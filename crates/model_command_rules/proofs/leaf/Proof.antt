@@ -14,7 +14,8 @@ ordered-requires c κs = search needs
 
 returns : tie.Need-returns
 returns c =
-    λ F p st. later-leaf st (linear-in (form-of ((c .before .before .before .before) .args .form)) ((c .before .before .before .before) .args .model .now) ((c .before .before .before .before) .args .from)) (c .ordered .ensures) (c .before .beyond .ensures)
+    let start = c .before .before .before .before in
+    λ F p st. later-leaf st (linear-in (form-of (start .args .form)) (start .args .model .now) (start .args .from)) (c .ordered .ensures) (c .before .beyond .ensures)
 
 pub leaf-spec : {M : Type 1} → statement M
 leaf-spec = tie.close (tie.spec beyond-requires ordered-requires returns)

@@ -30,10 +30,10 @@ ordered-requires c κs = search needs
 
 returns : tie.Need-returns
 returns c =
-    λ b e p st.
+    let at-has = c .before .before .before .before in let at-place = at-has .before in let start = at-place .before .before in λ b e p st.
     let o = c .before .either .ensures ∙ (λ i. or (not (c .before .before .among .ensures i)) (not (e i))) in
-    let t = c .before .before .before .before .has .ensures ∙ ap (λ (k : ℕ). getD ((c .before .before .before .before .before .before .before) .args .flags .now) k false) (c .before .before .before .before .before .place .ensures) in
-    c .ordered .ensures ∙ (λ i. first-broken (in-order (o i) false (t i) false)) ∙ later-name st ((c .before .before .before .before .before .before .before) .args .a) b
+    let t = at-has .has .ensures ∙ ap (λ (k : ℕ). getD (start .args .flags .now) k false) (at-place .place .ensures) in
+    c .ordered .ensures ∙ (λ i. first-broken (in-order (o i) false (t i) false)) ∙ later-name st (start .args .a) b
 
 pub name-spec : {M : Type 1} → statement M
 name-spec =

@@ -25,9 +25,9 @@ ordered-requires c κs = search needs
 
 returns : tie.Need-returns
 returns c =
-    λ F p st.
-    let o = c .before .either .ensures ∙ (λ i. or (c .before .before .before .beyond .ensures i) (c .before .before .is-constant .ensures i)) in
-    c .ordered .ensures ∙ ap (λ (o : Bool). first-broken (in-order o (ltb ((c .before .before .before .before .before .before) .args .s .seen .len) 2) false false)) o ∙ later-test st (linear-in (form-of ((c .before .before .before .before .before .before) .args .form)) ((c .before .before .before .before .before .before) .args .model .now) ((c .before .before .before .before .before .before) .args .from))
+    let at-beyond = c .before .before .before in let start = at-beyond .before .before .before in λ F p st.
+    let o = c .before .either .ensures ∙ (λ i. or (at-beyond .beyond .ensures i) (c .before .before .is-constant .ensures i)) in
+    c .ordered .ensures ∙ ap (λ (o : Bool). first-broken (in-order o (ltb (start .args .s .seen .len) 2) false false)) o ∙ later-test st (linear-in (form-of (start .args .form)) (start .args .model .now) (start .args .from))
 
 pub test-spec : {M : Type 1} → statement M
 test-spec =

@@ -49,11 +49,14 @@ either-requires-3 c κs = search needs
 
 returns : tie.Need-returns
 returns c =
-    let x = c .before .before .before .before .before .before .before .either2 .ensures ∙ ap (or (c .before .before .before .before .before .before .before .before .before .before .before .before .before .args .later)) (c .before .before .before .before .before .before .before .before .either .ensures ∙ ap₂ or (c .before .before .before .before .before .before .before .before .before .before .low .ensures) (c .before .before .before .before .before .before .before .before .before .low2 .ensures)) in
-    let y = c .before .before .before .before .both .ensures ∙ ap₂ _&&_ (c .before .before .before .before .before .before .low3 .ensures) (c .before .before .before .before .before .low4 .ensures) in
-    let z = c .before .either3 .ensures ∙ ap₂ or (c .before .before .before .low5 .ensures) (c .before .before .low6 .ensures) in
-    seen-joined (c .before .before .before .before .before .before .before .before .before .before .before .before .before .args .later) (c .before .before .before .before .before .before .before .before .before .before .before .before .before .args .t) (c .before .before .before .before .before .before .before .before .before .before .before .before .popped .result) (c .before .before .before .before .before .before .before .before .before .before .before .popped2 .result) (c .before .before .before .before .before .before .before .before .before .before .before .before .popped .ensures .1 .1) (c .before .before .before .before .before .before .before .before .before .before .before .popped2 .ensures .1 .1)
-    (c .before .before .before .before .before .before .before .either2 .result) (c .before .before .before .before .both .result) (c .before .either3 .result) (seen (c .pushed .result)) x y z (c .pushed .ensures)
+    let at-low5 = c .before .before .before in let at-both = at-low5 .before in let at-low4 = at-both .before in let at-low3 = at-low4 .before in
+    let at-either2 = at-low3 .before in let at-either = at-either2 .before in let at-low2 = at-either .before in let at-low = at-low2 .before in let at-popped2 = at-low .before in
+    let at-popped = at-popped2 .before in let start = at-popped .before in
+    let x = at-either2 .either2 .ensures ∙ ap (or (start .args .later)) (at-either .either .ensures ∙ ap₂ or (at-low .low .ensures) (at-low2 .low2 .ensures)) in
+    let y = at-both .both .ensures ∙ ap₂ _&&_ (at-low3 .low3 .ensures) (at-low4 .low4 .ensures) in
+    let z = c .before .either3 .ensures ∙ ap₂ or (at-low5 .low5 .ensures) (c .before .before .low6 .ensures) in
+    seen-joined (start .args .later) (start .args .t) (at-popped .popped .result) (at-popped2 .popped2 .result) (at-popped .popped .ensures .1 .1) (at-popped2 .popped2 .ensures .1 .1)
+    (at-either2 .either2 .result) (at-both .both .result) (c .before .either3 .result) (seen (c .pushed .result)) x y z (c .pushed .ensures)
 
 pub joined-spec : {M : Type 1} → statement M
 joined-spec =

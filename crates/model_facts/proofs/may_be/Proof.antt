@@ -35,12 +35,13 @@ both-requires-2 c κs = search needs
 returns : tie.Need-returns
 unfolding may-be
 returns c =
-    λ h a i.
-    let op = c .before .before .before .before .before .before .before .before .args .command in
-    let t = c .before .before .before .before .before .before .before .before .args .t in
-    let x = c .before .before .before .before .before .before .either .ensures ∙ (λ k. or (eqb op 0x22) (not (c .before .before .before .before .before .before .before .low .ensures k))) in
-    let y = c .before .before .before .before .either2 .ensures ∙ (λ k. or (not (eqb op 0x21)) (c .before .before .before .before .before .low2 .ensures k)) in
-    let z = c .before .before .either3 .ensures ∙ (λ k. or (eqb op 0x20) (not (c .before .before .before .low3 .ensures k))) in
+    let at-low3 = c .before .before .before in let at-either2 = at-low3 .before in let at-low2 = at-either2 .before in let at-either = at-low2 .before in
+    let at-low = at-either .before in let start = at-low .before in λ h a i.
+    let op = start .args .command in
+    let t = start .args .t in
+    let x = at-either .either .ensures ∙ (λ k. or (eqb op 0x22) (not (at-low .low .ensures k))) in
+    let y = at-either2 .either2 .ensures ∙ (λ k. or (not (eqb op 0x21)) (at-low2 .low2 .ensures k)) in
+    let z = c .before .before .either3 .ensures ∙ (λ k. or (eqb op 0x20) (not (at-low3 .low3 .ensures k))) in
     c .both2 .ensures
     ∙ ap₂ _&&_ x (c .before .both .ensures ∙ ap₂ _&&_ y z)
     ∙ ap (may-be (record { command = op; action = a; index = i })) (sym (seen-top (t .later) (t .weights) (t .forbids) (t .len) h))

@@ -10,7 +10,8 @@ sub-t7 c = search needs
 
 returns : tie.Need-returns
 returns c =
-    (omega arith, (λ h. omega arith, seen-popped (c .before .before .before .args .t .later) (c .before .before .before .args .t .weights) (c .before .before .before .args .t .forbids) (c .before .before .before .args .t .len) (c .before .if1 .taken)))
+    let start = c .before .before .before in
+    (omega arith, (λ h. omega arith, seen-popped (start .args .t .later) (start .args .t .weights) (start .args .t .forbids) (start .args .t .len) (c .before .if1 .taken)))
 
 returns-2 : tie.Need-returns-2
 returns-2 c =

@@ -34,23 +34,29 @@ is-end-requires c κs = tt
 
 returns-2 : tie.Need-returns-2 Inv-loop μ-loop
 returns-2 c =
-    pass-ends (c .before .before .before .before .before .before .loop .inv) _ (whole-is (c .before .before .before .before .before .before .before .before .before .args .model .now) (c .before .before .before .before .before .before .loop .at) (c .before .before .before .before .before .command-at .ensures) (c .before .before .before .read .given .1)) (sym (c .before .is-end .ensures) ∙ c .if1 .taken)
+    let at-read = c .before .before .before in let at-command-at = at-read .before .before in let at-loop = at-command-at .before in let start = at-loop .before .before .before in
+    pass-ends (at-loop .loop .inv) _ (whole-is (start .args .model .now) (at-loop .loop .at) (at-command-at .command-at .ensures) (at-read .read .given .1)) (sym (c .before .is-end .ensures) ∙ c .if1 .taken)
 
 with-command-requires : tie.Need-with-command-requires Inv-loop μ-loop
 with-command-requires c κs =
-    whole-is (c .before .before .before .before .before .before .before .before .before .args .model .now) (c .before .before .before .before .before .before .loop .at) (c .before .before .before .before .before .command-at .ensures) (c .before .before .before .read .given .1)
+    let at-read = c .before .before .before in let at-command-at = at-read .before .before in let at-loop = at-command-at .before in let start = at-loop .before .before .before in
+    whole-is (start .args .model .now) (at-loop .loop .at) (at-command-at .command-at .ensures) (at-read .read .given .1)
 
 next-after-requires : tie.Need-next-after-requires Inv-loop μ-loop
 next-after-requires c κs = tt
 
 loop-less : tie.Need-loop-less Inv-loop μ-loop
 loop-less c =
-    let f = forward (c .before .before .before .before .before .before .before .before .before .before .before .args .model .now) (c .before .before .before .before .before .before .before .before .loop .at) _ (c .next-after .result) (whole-is (c .before .before .before .before .before .before .before .before .before .before .before .args .model .now) (c .before .before .before .before .before .before .before .before .loop .at) (c .before .before .before .before .before .before .before .command-at .ensures) (c .before .before .before .before .before .read .given .1)) (c .next-after .ensures) in
+    let at-read = c .before .before .before .before .before in let at-command-at = at-read .before .before in let at-loop = at-command-at .before in
+    let start = at-loop .before .before .before in
+    let f = forward (start .args .model .now) (at-loop .loop .at) _ (c .next-after .result) (whole-is (start .args .model .now) (at-loop .loop .at) (at-command-at .command-at .ensures) (at-read .read .given .1)) (c .next-after .ensures) in
     omega (arith, f .1, f .2)
 
 loop-again : tie.Need-loop-again Inv-loop μ-loop
 loop-again c =
-    pass-on (c .before .before .before .before .before .before .before .before .loop .inv) _ (c .next-after .result) (whole-is (c .before .before .before .before .before .before .before .before .before .before .before .args .model .now) (c .before .before .before .before .before .before .before .before .loop .at) (c .before .before .before .before .before .before .before .command-at .ensures) (c .before .before .before .before .before .read .given .1)) (sym (c .before .before .before .is-end .ensures) ∙ c .before .before .if1 .left) (c .next-after .ensures) (c .before .with-command .ensures)
+    let at-is-end = c .before .before .before in let at-read = at-is-end .before .before in let at-command-at = at-read .before .before in let at-loop = at-command-at .before in
+    let start = at-loop .before .before .before in
+    pass-on (at-loop .loop .inv) _ (c .next-after .result) (whole-is (start .args .model .now) (at-loop .loop .at) (at-command-at .command-at .ensures) (at-read .read .given .1)) (sym (at-is-end .is-end .ensures) ∙ c .before .before .if1 .left) (c .next-after .ensures) (c .before .with-command .ensures)
 
 pub bearers-of-spec : {M : Type 1} → statement M
 bearers-of-spec =

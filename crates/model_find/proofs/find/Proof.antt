@@ -13,7 +13,8 @@ refused-requires c κs = search needs
 
 returns : tie.Need-returns
 returns c =
-    c .refused .ensures ∙ find-refused (c .before .before .before .before .before .before .args .model .now) (c .before .before .before .before .before .before .args .name .now) (c .before .before .before .early .result) (c .before .before .before .early .ensures) (c .before .if1 .taken)
+    let at-early = c .before .before .before in let start = at-early .before .before .before in
+    c .refused .ensures ∙ find-refused (start .args .model .now) (start .args .name .now) (at-early .early .result) (at-early .early .ensures) (c .before .if1 .taken)
 
 trimmed-len-requires : tie.Need-trimmed-len-requires
 trimmed-len-requires c κs = search needs
@@ -23,11 +24,13 @@ refused-requires-2 c κs = search needs
 
 returns-2 : tie.Need-returns-2
 returns-2 c =
-    c .refused2 .ensures ∙ find-empty (c .before .before .before .before .before .before .before .before .args .model .now) (c .before .before .before .before .before .before .before .before .args .name .now) (c .before .before .before .before .before .early .result) (c .before .before .before .before .before .early .ensures) (c .before .before .before .if1 .left) (c .before .before .trimmed-len .result) (c .before .before .trimmed-len .ensures .1) (c .before .if2 .taken)
+    let at-if1 = c .before .before .before in let at-early = at-if1 .before .before in let start = at-early .before .before .before in
+    c .refused2 .ensures ∙ find-empty (start .args .model .now) (start .args .name .now) (at-early .early .result) (at-early .early .ensures) (at-if1 .if1 .left) (c .before .before .trimmed-len .result) (c .before .before .trimmed-len .ensures .1) (c .before .if2 .taken)
 
 slice-aggregate-bearers-of : tie.Need-slice-aggregate-bearers-of
 slice-aggregate-bearers-of c =
-    front-length (c .before .before .before .before .before .before .before .before .args .name .now) (c .before .before .trimmed-len .result) (c .before .before .trimmed-len .ensures .0)
+    let start = c .before .before .before .before .before .before .before .before in
+    front-length (start .args .name .now) (c .before .before .trimmed-len .result) (c .before .before .trimmed-len .ensures .0)
 
 bearers-of-requires : tie.Need-bearers-of-requires
 bearers-of-requires c κs = search needs
@@ -37,7 +40,9 @@ told-requires c κs = search needs
 
 returns-3 : tie.Need-returns-3
 returns-3 c =
-    c .told .ensures ∙ find-met (c .before .before .before .before .before .before .before .before .before .before .args .model .now) (c .before .before .before .before .before .before .before .before .before .before .args .name .now) (c .before .before .before .before .before .before .before .early .result) (c .before .before .before .before .before .before .before .early .ensures) (c .before .before .before .before .before .if1 .left) (c .before .before .before .before .trimmed-len .result) (c .before .before .before .before .trimmed-len .ensures .1) (c .before .before .before .if2 .left) (c .before .bearers-of .ensures)
+    let at-if2 = c .before .before .before in let at-trimmed-len = at-if2 .before in let at-if1 = at-trimmed-len .before in let at-early = at-if1 .before .before in
+    let start = at-early .before .before .before in
+    c .told .ensures ∙ find-met (start .args .model .now) (start .args .name .now) (at-early .early .result) (at-early .early .ensures) (at-if1 .if1 .left) (at-trimmed-len .trimmed-len .result) (at-trimmed-len .trimmed-len .ensures .1) (at-if2 .if2 .left) (c .before .bearers-of .ensures)
 
 pub find-spec : {M : Type 1} → statement M
 find-spec =

@@ -17,8 +17,9 @@ slice-aggregate-result c = search needs
 
 returns : tie.Need-returns
 returns c =
-    let n = part-refused ((c .before .before .before .before .before) .args .model .now) ((c .before .before .before .before .before) .args .action) (c .before .before .before .name-refusal .result) (c .before .before .before .name-refusal .ensures) (c .before .if1 .taken) in
-    (name-empty ((c .before .before .before .before .before) .args .model .now) ((c .before .before .before .before .before) .args .action) n, (refl, sym (ap (λ (p : Part). (c .before .before .before .before .before) .args .model .ptr .1 + p .start) n ∙ add-zero _)))
+    let at-name-refusal = c .before .before .before in let start-2 = at-name-refusal .before .before in
+    let n = part-refused (start-2 .args .model .now) (start-2 .args .action) (at-name-refusal .name-refusal .result) (at-name-refusal .name-refusal .ensures) (c .before .if1 .taken) in
+    (name-empty (start-2 .args .model .now) (start-2 .args .action) n, (refl, sym (ap (λ (p : Part). start-2 .args .model .ptr .1 + p .start) n ∙ add-zero _)))
 
 named-part-requires : tie.Need-named-part-requires
 named-part-requires c κs = search needs
@@ -37,8 +38,9 @@ part-result-end c = search needs
 
 returns-2 : tie.Need-returns-2
 returns-2 c =
-    let n = part-passed ((c .before .before .before .before .before .before .before) .args .model .now) ((c .before .before .before .before .before .before .before) .args .action) (c .before .before .before .before .before .name-refusal .result) (c .before .before .before .before .before .name-refusal .ensures) (c .before .before .before .if1 .left) ∙ sym (c .before .before .named-part .ensures .0) in
-    (name-bytes-are ((c .before .before .before .before .before .before .before) .args .model .now) ((c .before .before .before .before .before .before .before) .args .action) (part-as (c .before .before .named-part .result)) n, (refl, add-comm _ _ ∙ ap (λ (p : Part). (c .before .before .before .before .before .before .before) .args .model .ptr .1 + p .start) (sym n)))
+    let at-if1 = c .before .before .before in let at-name-refusal = at-if1 .before .before in let start-2 = at-name-refusal .before .before in
+    let n = part-passed (start-2 .args .model .now) (start-2 .args .action) (at-name-refusal .name-refusal .result) (at-name-refusal .name-refusal .ensures) (at-if1 .if1 .left) ∙ sym (c .before .before .named-part .ensures .0) in
+    (name-bytes-are (start-2 .args .model .now) (start-2 .args .action) (part-as (c .before .before .named-part .result)) n, (refl, add-comm _ _ ∙ ap (λ (p : Part). start-2 .args .model .ptr .1 + p .start) (sym n)))
 
 pub name-spec : {M : Type 1} → statement M
 name-spec =

@@ -19,7 +19,8 @@ action-word-requires c κs = search needs
 returns : tie.Need-returns
 unfolding names-action command-of-in
 returns c =
-    λ B at. ap (eqb ((c .before .before .before .before) .args .action)) (c .action-word .ensures) ∙ ap (λ (d : CodeCommand). names-action ((c .before .before .before .before) .args .action) (whole (command-of B at d))) (sym (c .before .before .c .given .1))
+    let start = c .before .before .before .before in
+    λ B at. ap (eqb (start .args .action)) (c .action-word .ensures) ∙ ap (λ (d : CodeCommand). names-action (start .args .action) (whole (command-of B at d))) (sym (c .before .before .c .given .1))
 
 returns-2 : tie.Need-returns-2
 returns-2 c =

@@ -32,7 +32,8 @@ shared-slice-read-if1 c =
 
 returns : tie.Need-returns Inv-loop μ-loop
 returns c =
-    (c .before .before .before .loop .inv .0, trim-stay ((c .before .before .before .before) .args .model .now) ((c .before .before .before .before) .args .from) (c .before .before .before .loop .k) (c .before .before .loop-test .taken) (c .if1 .taken) ∙ c .before .before .before .loop .inv .1)
+    let at-loop = c .before .before .before in let start = at-loop .before in
+    (at-loop .loop .inv .0, trim-stay (start .args .model .now) (start .args .from) (at-loop .loop .k) (c .before .before .loop-test .taken) (c .if1 .taken) ∙ at-loop .loop .inv .1)
 
 sub-k : tie.Need-sub-k Inv-loop μ-loop
 sub-k c =
@@ -44,7 +45,8 @@ loop-less c =
 
 loop-again : tie.Need-loop-again Inv-loop μ-loop
 loop-again c =
-    (omega arith, trim-down ((c .before .before .before .before) .args .model .now) ((c .before .before .before .before) .args .from) (c .before .before .before .loop .k) (c .before .before .loop-test .taken) (c .if1 .left) ∙ c .before .before .before .loop .inv .1)
+    let at-loop = c .before .before .before in let start = at-loop .before in
+    (omega arith, trim-down (start .args .model .now) (start .args .from) (at-loop .loop .k) (c .before .before .loop-test .taken) (c .if1 .left) ∙ at-loop .loop .inv .1)
 
 returns-2 : tie.Need-returns-2 Inv-loop μ-loop
 unfolding trimmed

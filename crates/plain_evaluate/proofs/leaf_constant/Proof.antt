@@ -18,26 +18,31 @@ code-requires c κs = search needs
 
 add-number : tie.Need-add-number
 add-number c =
-    let r = code-room (c .before .before .before .before .args .model .now) (c .before .before .before .before .args .at) 16 (omega arith) (sym (c .if1 .taken) ∙ c .before .code .ensures) in omega (arith, r .0, c .before .before .before .before .good)
+    let start = c .before .before .before .before in
+    let r = code-room (start .args .model .now) (start .args .at) 16 (omega arith) (sym (c .if1 .taken) ∙ c .before .code .ensures) in omega (arith, r .0, start .good)
 
 mul-number : tie.Need-mul-number
 mul-number c = search needs
 
 add-number-2 : tie.Need-add-number-2
 add-number-2 c =
-    let r = code-room (c .before .before .before .before .args .model .now) (c .before .before .before .before .args .at) 16 (omega arith) (sym (c .if1 .taken) ∙ c .before .code .ensures) in omega (arith, r .0, c .before .before .before .before .good)
+    let start = c .before .before .before .before in
+    let r = code-room (start .args .model .now) (start .args .at) 16 (omega arith) (sym (c .if1 .taken) ∙ c .before .code .ensures) in omega (arith, r .0, start .good)
 
 number-requires : tie.Need-number-requires
 number-requires c κs =
-    let r = code-room (c .before .before .before .before .args .model .now) (c .before .before .before .before .args .at) 16 (omega arith) (sym (c .if1 .taken) ∙ c .before .code .ensures) in omega (arith, r .0)
+    let start = c .before .before .before .before in
+    let r = code-room (start .args .model .now) (start .args .at) 16 (omega arith) (sym (c .if1 .taken) ∙ c .before .code .ensures) in omega (arith, r .0)
 
 returns : tie.Need-returns
 returns c =
-    toZ-ofZ w64 _ (record { sfits = c .number .ok }) ∙ c .number .ensures ∙ (leaf-constant (c .before .before .before .before .before .args .model .now) (c .before .before .before .before .before .args .at) (sym (c .before .if1 .taken) ∙ c .before .before .code .ensures))
+    let start = c .before .before .before .before .before in
+    toZ-ofZ w64 _ (record { sfits = c .number .ok }) ∙ c .number .ensures ∙ (leaf-constant (start .args .model .now) (start .args .at) (sym (c .before .if1 .taken) ∙ c .before .before .code .ensures))
 
 returns-2 : tie.Need-returns-2
 returns-2 c =
-    ap (λ (p : Linear). p .const) (no-leaf (c .before .before .before .before .args .model .now) (c .before .before .before .before .args .at) (λ e. c .if1 .left (c .before .code .ensures ∙ e)))
+    let start = c .before .before .before .before in
+    ap (λ (p : Linear). p .const) (no-leaf (start .args .model .now) (start .args .at) (λ e. c .if1 .left (c .before .code .ensures ∙ e)))
 
 pub leaf-constant-spec : {M : Type 1} → statement M
 leaf-constant-spec =

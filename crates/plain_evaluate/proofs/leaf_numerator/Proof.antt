@@ -19,20 +19,24 @@ code-requires c κs =
 
 add-numerator-at : tie.Need-add-numerator-at
 add-numerator-at c =
-    let r = code-room (c .before .before .before .before .args .model .now) (c .before .before .before .before .args .at) 16 (omega arith) (sym (c .if1 .taken) ∙ c .before .code .ensures) in omega (arith, r .0, c .before .before .before .before .good)
+    let start = c .before .before .before .before in
+    let r = code-room (start .args .model .now) (start .args .at) 16 (omega arith) (sym (c .if1 .taken) ∙ c .before .code .ensures) in omega (arith, r .0, start .good)
 
 numerator-at-requires : tie.Need-numerator-at-requires
 numerator-at-requires c κs =
-    let r = code-room (c .before .before .before .before .args .model .now) (c .before .before .before .before .args .at) 16 (omega arith) (sym (c .if1 .taken) ∙ c .before .code .ensures) in (omega (arith, r .0), c .before .before .before .before .pre .0, c .before .before .before .before .pre .1)
+    let start = c .before .before .before .before in
+    let r = code-room (start .args .model .now) (start .args .at) 16 (omega arith) (sym (c .if1 .taken) ∙ c .before .code .ensures) in (omega (arith, r .0), start .pre .0, start .pre .1)
 
 returns : tie.Need-returns
 returns c =
-    c .numerator-at .ensures ∙ ap (λ (p : Linear). words (numerator (nums-at (c .before .before .before .before .before .args .n .now)) p)) (leaf-reads (c .before .before .before .before .before .args .model .now) (c .before .before .before .before .before .args .at) (sym (c .before .if1 .taken) ∙ c .before .before .code .ensures))
+    let start = c .before .before .before .before .before in
+    c .numerator-at .ensures ∙ ap (λ (p : Linear). words (numerator (nums-at (start .args .n .now)) p)) (leaf-reads (start .args .model .now) (start .args .at) (sym (c .before .if1 .taken) ∙ c .before .before .code .ensures))
 
 returns-2 : tie.Need-returns-2
 unfolding words
 returns-2 c =
-    ap words (sym (none-worth (nums-at (c .before .before .before .before .args .n .now)))) ∙ ap (λ (p : Linear). words (numerator (nums-at (c .before .before .before .before .args .n .now)) p)) (no-leaf (c .before .before .before .before .args .model .now) (c .before .before .before .before .args .at) (λ e. c .if1 .left (c .before .code .ensures ∙ e)))
+    let start = c .before .before .before .before in
+    ap words (sym (none-worth (nums-at (start .args .n .now)))) ∙ ap (λ (p : Linear). words (numerator (nums-at (start .args .n .now)) p)) (no-leaf (start .args .model .now) (start .args .at) (λ e. c .if1 .left (c .before .code .ensures ∙ e)))
 
 pub leaf-numerator-spec : {M : Type 1} → statement M
 leaf-numerator-spec =

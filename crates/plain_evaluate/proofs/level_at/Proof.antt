@@ -18,18 +18,21 @@ slice-aggregate-leaf-at c = search needs
 
 leaf-at-requires : tie.Need-leaf-at-requires
 leaf-at-requires c κs =
-    part-asks (c .before .before .before .before .before .args .model .now) (c .before .before .before .before .before .args .parts .now) (slot-of (c .before .before .before .before .before .args .g)) (c .before .before .before .before .before .args .x) _ (c .before .before .before .before .before .pre .0) (c .before .before .before .before .before .pre .1) (c .before .before .before .before .before .pre .2) (c .before .before .before .before .before .pre .3) (c .before .before .before .before .before .pre .4) (as-long (c .before .before .before .before .before .args .x .n) (c .before .before .before .before .before .good .1 .1 .1 .0 .1 .1 .1 .1 .0 .1 .0 .1)) (c .before .begin .ensures)
+    let start = c .before .before .before .before .before in
+    part-asks (start .args .model .now) (start .args .parts .now) (slot-of (start .args .g)) (start .args .x) _ (start .pre .0) (start .pre .1) (start .pre .2) (start .pre .3) (start .pre .4) (as-long (start .args .x .n) (start .good .1 .1 .1 .0 .1 .1 .1 .1 .0 .1 .0 .1)) (c .before .begin .ensures)
 
 slice-aggregate-leaf-numerator : tie.Need-slice-aggregate-leaf-numerator
 slice-aggregate-leaf-numerator c = search needs
 
 leaf-numerator-requires : tie.Need-leaf-numerator-requires
 leaf-numerator-requires c κs =
-    (flat-alone (c .before .before .before .before .before .before .before .args .x) _ refl refl (c .before .before .before .before .before .before .before .pre .4), (as-long (c .before .before .before .before .before .before .before .args .x .n) (c .before .before .before .before .before .before .before .good .1 .1 .1 .0 .1 .1 .1 .1 .0 .1 .0 .1)))
+    let start = c .before .before .before .before .before .before .before in
+    (flat-alone (start .args .x) _ refl refl (start .pre .4), (as-long (start .args .x .n) (start .good .1 .1 .1 .0 .1 .1 .1 .1 .0 .1 .0 .1)))
 
 returns : tie.Need-returns
 returns c =
-    λ s z st. c .leaf-numerator .ensures ∙ (ap words (numbers-alone (nums-at _) (c .before .before .before .before .before .before .before .before .args .x) refl _) ∙ ap words (level-is (c .before .before .before .before .before .before .before .before .args .model .now) (slot-of (c .before .before .before .before .before .before .before .before .args .g)) (c .before .before .before .before .before .before .before .before .args .x) _ (c .before .before .leaf-at .ensures) s z st _ refl))
+    let start = c .before .before .before .before .before .before .before .before in
+    λ s z st. c .leaf-numerator .ensures ∙ (ap words (numbers-alone (nums-at _) (start .args .x) refl _) ∙ ap words (level-is (start .args .model .now) (slot-of (start .args .g)) (start .args .x) _ (c .before .before .leaf-at .ensures) s z st _ refl))
 
 pub level-at-spec : {M : Type 1} → statement M
 level-at-spec = tie.close (tie.spec begin-requires slice-aggregate-leaf-at leaf-at-requires slice-aggregate-leaf-numerator leaf-numerator-requires returns)

@@ -20,7 +20,8 @@ slice-aggregate-leaf-at c = search needs
 
 leaf-at-requires : tie.Need-leaf-at-requires
 leaf-at-requires c κs =
-    part-asks (c .before .before .before .before .before .args .model .now) (c .before .before .before .before .before .args .parts .now) (slot-of (c .before .before .before .before .before .args .g)) (c .before .before .before .before .before .args .x) _ (c .before .before .before .before .before .pre .0) (c .before .before .before .before .before .pre .1) (c .before .before .before .before .before .pre .2) (c .before .before .before .before .before .pre .3) (c .before .before .before .before .before .pre .4) (as-long (c .before .before .before .before .before .args .x .n) (c .before .before .before .before .before .good .1 .1 .1 .0 .1 .1 .1 .1 .0 .1 .0 .1)) (c .before .begin .ensures)
+    let start = c .before .before .before .before .before in
+    part-asks (start .args .model .now) (start .args .parts .now) (slot-of (start .args .g)) (start .args .x) _ (start .pre .0) (start .pre .1) (start .pre .2) (start .pre .3) (start .pre .4) (as-long (start .args .x .n) (start .good .1 .1 .1 .0 .1 .1 .1 .1 .0 .1 .0 .1)) (c .before .begin .ensures)
 
 byte-at-requires : tie.Need-byte-at-requires
 byte-at-requires c κs = search needs
@@ -28,20 +29,23 @@ byte-at-requires c κs = search needs
 returns : tie.Need-returns
 unfolding reward-of words
 returns c =
-    λ t z st. reward-forbidden (c .before .before .before .before .before .before .before .before .args .model .now) (slot-of (c .before .before .before .before .before .before .before .before .args .g)) (c .before .before .before .before .before .before .before .before .args .x) _ (c .before .before .leaf-at .ensures) t z st (sym (c .before .byte-at .ensures) ∙ c .if1 .taken)
+    let start = c .before .before .before .before .before .before .before .before in
+    λ t z st. reward-forbidden (start .args .model .now) (slot-of (start .args .g)) (start .args .x) _ (c .before .before .leaf-at .ensures) t z st (sym (c .before .byte-at .ensures) ∙ c .if1 .taken)
 
 slice-aggregate-leaf-numerator : tie.Need-slice-aggregate-leaf-numerator
 slice-aggregate-leaf-numerator c = search needs
 
 leaf-numerator-requires : tie.Need-leaf-numerator-requires
 leaf-numerator-requires c κs =
-    (flat-alone (c .before .before .before .before .before .before .before .before .before .args .x) _ refl refl (c .before .before .before .before .before .before .before .before .before .pre .4), (as-long (c .before .before .before .before .before .before .before .before .before .args .x .n) (c .before .before .before .before .before .before .before .before .before .good .1 .1 .1 .0 .1 .1 .1 .1 .0 .1 .0 .1)))
+    let start = c .before .before .before .before .before .before .before .before .before in
+    (flat-alone (start .args .x) _ refl refl (start .pre .4), (as-long (start .args .x .n) (start .good .1 .1 .1 .0 .1 .1 .1 .1 .0 .1 .0 .1)))
 
 returns-2 : tie.Need-returns-2
 unfolding reward-of
 returns-2 c =
-    λ t z st. ap (λ (n : Numerator). record { forbidden = false; worth = n }) (c .leaf-numerator .ensures ∙ ap words (numbers-alone (nums-at _) (c .before .before .before .before .before .before .before .before .before .before .args .x) refl _))
-    ∙ reward-is (c .before .before .before .before .before .before .before .before .before .before .args .model .now) (slot-of (c .before .before .before .before .before .before .before .before .before .before .args .g)) (c .before .before .before .before .before .before .before .before .before .before .args .x) _ (c .before .before .before .before .leaf-at .ensures) t z st (λ e. c .before .before .if1 .left (c .before .before .before .byte-at .ensures ∙ e))
+    let at-byte-at = c .before .before .before in let at-leaf-at = at-byte-at .before in let start = at-leaf-at .before .before .before .before .before .before in
+    λ t z st. ap (λ (n : Numerator). record { forbidden = false; worth = n }) (c .leaf-numerator .ensures ∙ ap words (numbers-alone (nums-at _) (start .args .x) refl _))
+    ∙ reward-is (start .args .model .now) (slot-of (start .args .g)) (start .args .x) _ (at-leaf-at .leaf-at .ensures) t z st (λ e. c .before .before .if1 .left (at-byte-at .byte-at .ensures ∙ e))
 
 pub reward-at-spec : {M : Type 1} → statement M
 reward-at-spec =

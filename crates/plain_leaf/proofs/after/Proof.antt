@@ -20,7 +20,8 @@ enum-told c = search needs
 
 cast-push : tie.Need-cast-push
 cast-push c =
-    let h = leaf-there (c .before .before .before .before .before .args .model .now) (c .before .before .before .before .before .args .at) (c .before .enum-told .given .1) (c .before .before .before .before .before .pre .1) in omega (arith, c .before .before .before .before .before .pre .2)
+    let start = c .before .before .before .before .before in
+    let h = leaf-there (start .args .model .now) (start .args .at) (c .before .enum-told .given .1) (start .pre .1) in omega (arith, start .pre .2)
 
 push-requires : tie.Need-push-requires
 push-requires c κs = search needs
@@ -39,15 +40,17 @@ enum-told-2 c = search needs
 
 add-linear-at : tie.Need-add-linear-at
 add-linear-at c =
-    let h = test-there (c .before .before .before .before .before .args .model .now) (c .before .before .before .before .before .args .at) (c .before .enum-told2 .given .1) (c .before .before .before .before .before .pre .1) in omega arith
+    let start = c .before .before .before .before .before in
+    let h = test-there (start .args .model .now) (start .args .at) (c .before .enum-told2 .given .1) (start .pre .1) in omega arith
 
 linear-at-requires : tie.Need-linear-at-requires
 linear-at-requires c κs =
-    let h = test-there (c .before .before .before .before .before .args .model .now) (c .before .before .before .before .before .args .at) (c .before .enum-told2 .given .1) (c .before .before .before .before .before .pre .1) in omega arith
+    let start = c .before .before .before .before .before in
+    let h = test-there (start .args .model .now) (start .args .at) (c .before .enum-told2 .given .1) (start .pre .1) in omega arith
 
 test-requires : tie.Need-test-requires
 test-requires c κs =
-    (c .linear-at .ensures .0, c .before .before .before .before .before .before .pre .3)
+    let start = c .before .before .before .before .before .before in (c .linear-at .ensures .0, start .pre .3)
 
 choose-requires-2 : tie.Need-choose-requires-2
 choose-requires-2 c κs = search needs
@@ -72,7 +75,8 @@ enum-told-7 c = search needs
 
 cast-push-2 : tie.Need-cast-push-2
 cast-push-2 c =
-    let h = whole-there (c .before .before .before .before .before .args .model .now) (c .before .before .before .before .before .args .at) _ (c .before .before .before .before .before .pre .1) in omega (arith, c .before .before .before .before .before .pre .2)
+    let start = c .before .before .before .before .before in
+    let h = whole-there (start .args .model .now) (start .args .at) _ (start .pre .1) in omega (arith, start .pre .2)
 
 push-requires-2 : tie.Need-push-requires-2
 push-requires-2 c κs = search needs
@@ -83,7 +87,8 @@ same-length c = search needs
 returns : tie.Need-returns
 unfolding stepped command-of-in
 returns c =
-    holds-as (c .before .before .push .ensures) (ap (λ (d : CodeCommand). stepped (point-at (c .before .before .before .before .before .before .before .before .args .mask) (c .before .before .before .before .before .before .before .before .args .setting) (c .before .before .before .before .before .before .before .before .args .n .now) 0) (c .before .before .before .before .before .before .before .before .args .at) (command-of (c .before .before .before .before .before .before .before .before .args .model .now) (c .before .before .before .before .before .before .before .before .args .at) d) (last-first (c .before .before .before .before .before .before .before .before .args .items .now) (c .before .before .before .before .before .before .before .before .args .len))) (sym (c .before .before .before .before .enum-told .given .1)))
+    let at-enum-told = c .before .before .before .before in let start = at-enum-told .before .before .before .before in
+    holds-as (c .before .before .push .ensures) (ap (λ (d : CodeCommand). stepped (point-at (start .args .mask) (start .args .setting) (start .args .n .now) 0) (start .args .at) (command-of (start .args .model .now) (start .args .at) d) (last-first (start .args .items .now) (start .args .len))) (sym (at-enum-told .enum-told .given .1)))
 
 same-length-2 : tie.Need-same-length-2
 same-length-2 c = search needs
@@ -91,7 +96,8 @@ same-length-2 c = search needs
 returns-2 : tie.Need-returns-2
 unfolding stepped command-of-in
 returns-2 c =
-    holds-as (c .before .before .choose .ensures) (ap (λ (b : Bool). chosen b (last-first (c .before .before .before .before .before .before .before .before .before .before .args .items .now) (c .before .before .before .before .before .before .before .before .before .before .args .len))) (c .before .before .before .condition .ensures _ _) ∙ ap (λ (d : CodeCommand). stepped (point-at (c .before .before .before .before .before .before .before .before .before .before .args .mask) (c .before .before .before .before .before .before .before .before .before .before .args .setting) (c .before .before .before .before .before .before .before .before .before .before .args .n .now) 0) (c .before .before .before .before .before .before .before .before .before .before .args .at) (command-of (c .before .before .before .before .before .before .before .before .before .before .args .model .now) (c .before .before .before .before .before .before .before .before .before .before .args .at) d) (last-first (c .before .before .before .before .before .before .before .before .before .before .args .items .now) (c .before .before .before .before .before .before .before .before .before .before .args .len))) (sym (c .before .before .before .before .before .before .c .given .1)))
+    let at-condition = c .before .before .before in let at-c = at-condition .before .before .before in let start = at-c .before .before .before .before in
+    holds-as (c .before .before .choose .ensures) (ap (λ (b : Bool). chosen b (last-first (start .args .items .now) (start .args .len))) (at-condition .condition .ensures _ _) ∙ ap (λ (d : CodeCommand). stepped (point-at (start .args .mask) (start .args .setting) (start .args .n .now) 0) (start .args .at) (command-of (start .args .model .now) (start .args .at) d) (last-first (start .args .items .now) (start .args .len))) (sym (at-c .c .given .1)))
 
 same-length-3 : tie.Need-same-length-3
 same-length-3 c = search needs
@@ -99,7 +105,9 @@ same-length-3 c = search needs
 returns-3 : tie.Need-returns-3
 unfolding stepped command-of-in numerator
 returns-3 c =
-    holds-as (c .before .before .choose2 .ensures) (ap (λ (b : Bool). chosen b (last-first (c .before .before .before .before .before .before .before .before .before .before .args .items .now) (c .before .before .before .before .before .before .before .before .before .before .args .len))) (c .before .before .before .test .ensures ∙ ap (λ (p : Linear). leZ (numerator (point-at (c .before .before .before .before .before .before .before .before .before .before .args .mask) (c .before .before .before .before .before .before .before .before .before .before .args .setting) (c .before .before .before .before .before .before .before .before .before .before .args .n .now) 0) p) (pos 0)) (c .before .before .before .before .linear-at .ensures .1)) ∙ ap (λ (d : CodeCommand). stepped (point-at (c .before .before .before .before .before .before .before .before .before .before .args .mask) (c .before .before .before .before .before .before .before .before .before .before .args .setting) (c .before .before .before .before .before .before .before .before .before .before .args .n .now) 0) (c .before .before .before .before .before .before .before .before .before .before .args .at) (command-of (c .before .before .before .before .before .before .before .before .before .before .args .model .now) (c .before .before .before .before .before .before .before .before .before .before .args .at) d) (last-first (c .before .before .before .before .before .before .before .before .before .before .args .items .now) (c .before .before .before .before .before .before .before .before .before .before .args .len))) (sym (c .before .before .before .before .before .before .enum-told2 .given .1)))
+    let at-test = c .before .before .before in let at-linear-at = at-test .before in let at-enum-told2 = at-linear-at .before .before in
+    let start = at-enum-told2 .before .before .before .before in
+    holds-as (c .before .before .choose2 .ensures) (ap (λ (b : Bool). chosen b (last-first (start .args .items .now) (start .args .len))) (at-test .test .ensures ∙ ap (λ (p : Linear). leZ (numerator (point-at (start .args .mask) (start .args .setting) (start .args .n .now) 0) p) (pos 0)) (at-linear-at .linear-at .ensures .1)) ∙ ap (λ (d : CodeCommand). stepped (point-at (start .args .mask) (start .args .setting) (start .args .n .now) 0) (start .args .at) (command-of (start .args .model .now) (start .args .at) d) (last-first (start .args .items .now) (start .args .len))) (sym (at-enum-told2 .enum-told2 .given .1)))
 
 same-length-4 : tie.Need-same-length-4
 same-length-4 c = search needs
@@ -107,22 +115,26 @@ same-length-4 c = search needs
 returns-4 : tie.Need-returns-4
 unfolding stepped command-of-in
 returns-4 c =
-    holds-as (c .pop .ensures) (ap (λ (d : CodeCommand). stepped (point-at (c .before .before .before .before .before .before .args .mask) (c .before .before .before .before .before .before .args .setting) (c .before .before .before .before .before .before .args .n .now) 0) (c .before .before .before .before .before .before .args .at) (command-of (c .before .before .before .before .before .before .args .model .now) (c .before .before .before .before .before .before .args .at) d) (last-first (c .before .before .before .before .before .before .args .items .now) (c .before .before .before .before .before .before .args .len))) (sym (c .before .before .enum-told3 .given .1)))
+    let start = c .before .before .before .before .before .before in
+    holds-as (c .pop .ensures) (ap (λ (d : CodeCommand). stepped (point-at (start .args .mask) (start .args .setting) (start .args .n .now) 0) (start .args .at) (command-of (start .args .model .now) (start .args .at) d) (last-first (start .args .items .now) (start .args .len))) (sym (c .before .before .enum-told3 .given .1)))
 
 returns-5 : tie.Need-returns-5
 unfolding stepped command-of-in
 returns-5 c =
-    holds-as (record { room = c .before .before .before .before .pre .0; holds = refl }) (ap (λ (d : CodeCommand). stepped (point-at (c .before .before .before .before .args .mask) (c .before .before .before .before .args .setting) (c .before .before .before .before .args .n .now) 0) (c .before .before .before .before .args .at) (command-of (c .before .before .before .before .args .model .now) (c .before .before .before .before .args .at) d) (last-first (c .before .before .before .before .args .items .now) (c .before .before .before .before .args .len))) (sym (c .enum-told4 .given .1)))
+    let start = c .before .before .before .before in
+    holds-as (record { room = start .pre .0; holds = refl }) (ap (λ (d : CodeCommand). stepped (point-at (start .args .mask) (start .args .setting) (start .args .n .now) 0) (start .args .at) (command-of (start .args .model .now) (start .args .at) d) (last-first (start .args .items .now) (start .args .len))) (sym (c .enum-told4 .given .1)))
 
 returns-6 : tie.Need-returns-6
 unfolding stepped command-of-in
 returns-6 c =
-    holds-as (record { room = c .before .before .before .before .pre .0; holds = refl }) (ap (λ (d : CodeCommand). stepped (point-at (c .before .before .before .before .args .mask) (c .before .before .before .before .args .setting) (c .before .before .before .before .args .n .now) 0) (c .before .before .before .before .args .at) (command-of (c .before .before .before .before .args .model .now) (c .before .before .before .before .args .at) d) (last-first (c .before .before .before .before .args .items .now) (c .before .before .before .before .args .len))) (sym (c .enum-told5 .given .1)))
+    let start = c .before .before .before .before in
+    holds-as (record { room = start .pre .0; holds = refl }) (ap (λ (d : CodeCommand). stepped (point-at (start .args .mask) (start .args .setting) (start .args .n .now) 0) (start .args .at) (command-of (start .args .model .now) (start .args .at) d) (last-first (start .args .items .now) (start .args .len))) (sym (c .enum-told5 .given .1)))
 
 returns-7 : tie.Need-returns-7
 unfolding stepped command-of-in
 returns-7 c =
-    holds-as (record { room = c .before .before .before .before .pre .0; holds = refl }) (ap (λ (d : CodeCommand). stepped (point-at (c .before .before .before .before .args .mask) (c .before .before .before .before .args .setting) (c .before .before .before .before .args .n .now) 0) (c .before .before .before .before .args .at) (command-of (c .before .before .before .before .args .model .now) (c .before .before .before .before .args .at) d) (last-first (c .before .before .before .before .args .items .now) (c .before .before .before .before .args .len))) (sym (c .enum-told6 .given .1)))
+    let start = c .before .before .before .before in
+    holds-as (record { room = start .pre .0; holds = refl }) (ap (λ (d : CodeCommand). stepped (point-at (start .args .mask) (start .args .setting) (start .args .n .now) 0) (start .args .at) (command-of (start .args .model .now) (start .args .at) d) (last-first (start .args .items .now) (start .args .len))) (sym (c .enum-told6 .given .1)))
 
 same-length-5 : tie.Need-same-length-5
 same-length-5 c = search needs
@@ -130,7 +142,8 @@ same-length-5 c = search needs
 returns-8 : tie.Need-returns-8
 unfolding stepped command-of-in
 returns-8 c =
-    holds-as (c .before .before .push2 .ensures) (ap (λ (d : CodeCommand). stepped (point-at (c .before .before .before .before .before .before .before .before .args .mask) (c .before .before .before .before .before .before .before .before .args .setting) (c .before .before .before .before .before .before .before .before .args .n .now) 0) (c .before .before .before .before .before .before .before .before .args .at) (command-of (c .before .before .before .before .before .before .before .before .args .model .now) (c .before .before .before .before .before .before .before .before .args .at) d) (last-first (c .before .before .before .before .before .before .before .before .args .items .now) (c .before .before .before .before .before .before .before .before .args .len))) (sym (c .before .before .before .before .enum-told7 .given .1)))
+    let at-enum-told7 = c .before .before .before .before in let start = at-enum-told7 .before .before .before .before in
+    holds-as (c .before .before .push2 .ensures) (ap (λ (d : CodeCommand). stepped (point-at (start .args .mask) (start .args .setting) (start .args .n .now) 0) (start .args .at) (command-of (start .args .model .now) (start .args .at) d) (last-first (start .args .items .now) (start .args .len))) (sym (at-enum-told7 .enum-told7 .given .1)))
 
 pub after-spec : {M : Type 1} → statement M
 after-spec =

@@ -16,22 +16,26 @@ returns-2 c = λ e. clash (sym e)
 
 add-action-at : tie.Need-add-action-at
 add-action-at c =
-    let r = code-room (c .before .before .before .args .model .now) (c .before .before .before .args .at) (c .before .before .before .args .op) (omega (arith, c .before .if1 .left)) (c .before .before .before .pre) in omega (arith, r .0, c .before .before .before .good)
+    let start = c .before .before .before in
+    let r = code-room (start .args .model .now) (start .args .at) (start .args .op) (omega (arith, c .before .if1 .left)) (start .pre) in omega (arith, r .0, start .good)
 
 action-at-requires : tie.Need-action-at-requires
 action-at-requires c κs =
-    let r = code-room (c .before .before .before .args .model .now) (c .before .before .before .args .at) (c .before .before .before .args .op) (omega (arith, c .before .if1 .left)) (c .before .before .before .pre) in omega (arith, r .0, c .before .before .before .good)
+    let start = c .before .before .before in
+    let r = code-room (start .args .model .now) (start .args .at) (start .args .op) (omega (arith, c .before .if1 .left)) (start .pre) in omega (arith, r .0, start .good)
 
 index-at-requires : tie.Need-index-at-requires
 index-at-requires c κs =
-    let r = code-room (c .before .before .before .before .args .model .now) (c .before .before .before .before .args .at) (c .before .before .before .before .args .op) (omega (arith, c .before .before .if1 .left)) (c .before .before .before .before .pre) in r .0
+    let start = c .before .before .before .before in
+    let r = code-room (start .args .model .now) (start .args .at) (start .args .op) (omega (arith, c .before .before .if1 .left)) (start .pre) in r .0
 
 same-requires : tie.Need-same-requires
 same-requires c κs = search needs
 
 returns-3 : tie.Need-returns-3
 returns-3 c =
-    λ e. given-whole (c .before .before .before .before .before .before .args .model .now) (c .before .before .before .before .before .before .args .at) (c .before .before .before .before .before .before .args .op) (slot-of (c .before .before .before .before .before .before .args .g)) (c .before .before .before .before .before .before .pre) (c .before .before .before .before .if1 .left) (c .before .before .before .if2 .left) _ _ (c .before .before .action-at .ensures) (c .before .index-at .ensures) (sym (c .same .ensures) ∙ e)
+    let at-if2 = c .before .before .before in let at-if1 = at-if2 .before in let start = at-if1 .before .before in
+    λ e. given-whole (start .args .model .now) (start .args .at) (start .args .op) (slot-of (start .args .g)) (start .pre) (at-if1 .if1 .left) (at-if2 .if2 .left) _ _ (c .before .before .action-at .ensures) (c .before .index-at .ensures) (sym (c .same .ensures) ∙ e)
 
 pub gives-spec : {M : Type 1} → statement M
 gives-spec =

@@ -28,7 +28,7 @@ code-end-requires c κs =
 loop-holds : tie.Need-loop-holds Inv-loop μ-loop
 unfolding last-first
 loop-holds c =
-    (c .before .before .before .pre .1, c .before .before .before .pre .0 .seeks)
+    let start = c .before .before .before in (start .pre .1, start .pre .0 .seeks)
 
 code-requires : tie.Need-code-requires Inv-loop μ-loop
 code-requires c κs =
@@ -36,7 +36,8 @@ code-requires c κs =
 
 cast-push : tie.Need-cast-push Inv-loop μ-loop
 cast-push c =
-    let r = code-room (c .before .before .before .before .before .before .before .args .model .now) (c .before .before .before .loop .at) 16 (omega arith) (sym (c .before .if1 .taken) ∙ c .before .before .code .ensures) in omega (arith, r .0, c .before .before .before .before .before .before .before .pre .0 .short)
+    let at-loop = c .before .before .before in let start = at-loop .before .before .before .before in
+    let r = code-room (start .args .model .now) (at-loop .loop .at) 16 (omega arith) (sym (c .before .if1 .taken) ∙ c .before .before .code .ensures) in omega (arith, r .0, start .pre .0 .short)
 
 push-requires : tie.Need-push-requires Inv-loop μ-loop
 push-requires c κs =
@@ -44,15 +45,18 @@ push-requires c κs =
 
 add-at : tie.Need-add-at Inv-loop μ-loop
 add-at c =
-    let r = code-room (c .before .before .before .before .before .before .before .before .before .before .args .model .now) (c .before .before .before .before .before .before .loop .at) 16 (omega arith) (sym (c .before .before .before .before .if1 .taken) ∙ c .before .before .before .before .before .code .ensures) in omega (arith, r .0, c .before .before .before .before .before .before .before .before .before .before .pre .0 .short)
+    let at-if1 = c .before .before .before .before in let at-code = at-if1 .before in let at-loop = at-code .before in let start = at-loop .before .before .before .before in
+    let r = code-room (start .args .model .now) (at-loop .loop .at) 16 (omega arith) (sym (at-if1 .if1 .taken) ∙ at-code .code .ensures) in omega (arith, r .0, start .pre .0 .short)
 
 loop-less : tie.Need-loop-less Inv-loop μ-loop
 loop-less c =
-    let r = code-room (c .before .before .before .before .before .before .before .before .before .before .args .model .now) (c .before .before .before .before .before .before .loop .at) 16 (omega arith) (sym (c .before .before .before .before .if1 .taken) ∙ c .before .before .before .before .before .code .ensures) in omega (arith, r .0)
+    let at-if1 = c .before .before .before .before in let at-code = at-if1 .before in let at-loop = at-code .before in let start = at-loop .before .before .before .before in
+    let r = code-room (start .args .model .now) (at-loop .loop .at) 16 (omega arith) (sym (at-if1 .if1 .taken) ∙ at-code .code .ensures) in omega (arith, r .0)
 
 loop-again : tie.Need-loop-again Inv-loop μ-loop
 loop-again c =
-    let h = c .before .before .push .ensures in (h .room, seek-leaf (c .before .before .before .before .before .before .loop .inv .1) _ (sym (c .before .before .before .before .if1 .taken) ∙ c .before .before .before .before .before .code .ensures) (h .holds))
+    let at-if1 = c .before .before .before .before in let at-code = at-if1 .before in let at-loop = at-code .before in
+    let h = c .before .before .push .ensures in (h .room, seek-leaf (at-loop .loop .inv .1) _ (sym (at-if1 .if1 .taken) ∙ at-code .code .ensures) (h .holds))
 
 is-push-requires : tie.Need-is-push-requires Inv-loop μ-loop
 is-push-requires c κs =
@@ -60,15 +64,20 @@ is-push-requires c κs =
 
 push-by-requires : tie.Need-push-by-requires Inv-loop μ-loop
 push-by-requires c κs =
-    let r = code-room (c .before .before .before .before .before .before .before .before .before .args .model .now) (c .before .before .before .before .before .loop .at) _ (push-least _ (sym (c .before .before .is-push .ensures) ∙ c .before .if2 .taken)) (c .before .before .before .before .code .ensures) in (c .before .before .before .before .before .loop .inv .0, r .0, c .before .before .before .before .before .before .before .before .before .pre .0 .short, c .before .before .before .before .before .before .before .before .before .pre .0 .flat, c .before .before .before .before .before .before .before .before .before .pre .0 .long, λ e. c .before .before .before .if1 .left (sym (r .1) ∙ e))
+    let at-if1 = c .before .before .before in let at-code = at-if1 .before in let at-loop = at-code .before in let start = at-loop .before .before .before .before in
+    let r = code-room (start .args .model .now) (at-loop .loop .at) _ (push-least _ (sym (c .before .before .is-push .ensures) ∙ c .before .if2 .taken)) (at-code .code .ensures) in (at-loop .loop .inv .0, r .0, start .pre .0 .short, start .pre .0 .flat, start .pre .0 .long, λ e. at-if1 .if1 .left (sym (r .1) ∙ e))
 
 loop-less-2 : tie.Need-loop-less-2 Inv-loop μ-loop
 loop-less-2 c =
-    let r = code-room (c .before .before .before .before .before .before .before .before .before .before .before .before .args .model .now) (c .before .before .before .before .before .before .before .before .loop .at) _ (push-least _ (sym (c .before .before .before .before .before .is-push .ensures) ∙ c .before .before .before .before .if2 .taken)) (c .before .before .before .before .before .before .before .code .ensures) in let w = push-wide (byte-at (c .before .before .before .before .before .before .before .before .before .before .before .before .args .model .now) (c .before .before .before .before .before .before .before .before .loop .at)) in omega (arith, r .0, c .before .before .push-by .ensures .1, w .0, w .1)
+    let at-if2 = c .before .before .before .before in let at-is-push = at-if2 .before in let at-code = at-is-push .before .before in let at-loop = at-code .before in
+    let start = at-loop .before .before .before .before in
+    let r = code-room (start .args .model .now) (at-loop .loop .at) _ (push-least _ (sym (at-is-push .is-push .ensures) ∙ at-if2 .if2 .taken)) (at-code .code .ensures) in let w = push-wide (byte-at (start .args .model .now) (at-loop .loop .at)) in omega (arith, r .0, c .before .before .push-by .ensures .1, w .0, w .1)
 
 loop-again-2 : tie.Need-loop-again-2 Inv-loop μ-loop
 loop-again-2 c =
-    let r = code-room (c .before .before .before .before .before .before .before .before .before .before .before .before .args .model .now) (c .before .before .before .before .before .before .before .before .loop .at) _ (push-least _ (sym (c .before .before .before .before .before .is-push .ensures) ∙ c .before .before .before .before .if2 .taken)) (c .before .before .before .before .before .before .before .code .ensures) in let h = c .before .before .push-by .ensures in (h .0 .room, seek-push (c .before .before .before .before .before .before .before .before .loop .inv .1) (byte-at (c .before .before .before .before .before .before .before .before .before .before .before .before .args .model .now) (c .before .before .before .before .before .before .before .before .loop .at)) _ _ (r .1 ∙ c .before .before .before .before .before .before .before .code .ensures) (ap pushes (r .1) ∙ (sym (c .before .before .before .before .before .is-push .ensures) ∙ c .before .before .before .before .if2 .taken)) (h .1) (h .0 .holds))
+    let at-if2 = c .before .before .before .before in let at-is-push = at-if2 .before in let at-code = at-is-push .before .before in let at-loop = at-code .before in
+    let start = at-loop .before .before .before .before in
+    let r = code-room (start .args .model .now) (at-loop .loop .at) _ (push-least _ (sym (at-is-push .is-push .ensures) ∙ at-if2 .if2 .taken)) (at-code .code .ensures) in let h = c .before .before .push-by .ensures in (h .0 .room, seek-push (at-loop .loop .inv .1) (byte-at (start .args .model .now) (at-loop .loop .at)) _ _ (r .1 ∙ at-code .code .ensures) (ap pushes (r .1) ∙ (sym (at-is-push .is-push .ensures) ∙ at-if2 .if2 .taken)) (h .1) (h .0 .holds))
 
 gives-requires : tie.Need-gives-requires Inv-loop μ-loop
 gives-requires c κs =
@@ -76,7 +85,7 @@ gives-requires c κs =
 
 top-requires : tie.Need-top-requires Inv-loop μ-loop
 top-requires c κs =
-    c .before .before .before .before .before .before .before .loop .inv .0
+    let at-loop = c .before .before .before .before .before .before .before in at-loop .loop .inv .0
 
 cast-result : tie.Need-cast-result Inv-loop μ-loop
 cast-result c =
@@ -88,7 +97,8 @@ same-length c =
 
 returns : tie.Need-returns Inv-loop μ-loop
 returns c =
-    pass-comes (c .before .before .before .before .before .before .before .before .before .before .before .before .args .model .now) (point-at (c .before .before .before .before .before .before .before .before .before .before .before .before .args .mask) (c .before .before .before .before .before .before .before .before .before .before .before .before .args .setting) (c .before .before .before .before .before .before .before .before .before .before .before .before .args .n .now) (c .before .before .before .before .before .before .before .before .before .before .before .before .args .m)) (slot-of (c .before .before .before .before .before .before .before .before .before .before .before .before .args .g)) _ (c .before .before .before .before .before .before .before .before .before .before .before .before .pre .0 .accepted) (c .before .before .before .before .before .before .before .before .before .before .before .before .pre .0 .diagram) (seek-found (c .before .before .before .before .before .before .before .before .loop .inv .1) _ _ (c .before .before .before .gives .ensures (c .before .before .if3 .taken)) (takes-own (slot-of (c .before .before .before .before .before .before .before .before .before .before .before .before .args .g))) (c .top .ensures))
+    let at-gives = c .before .before .before in let at-loop = at-gives .before .before .before .before .before in let start = at-loop .before .before .before .before in
+    pass-comes (start .args .model .now) (point-at (start .args .mask) (start .args .setting) (start .args .n .now) (start .args .m)) (slot-of (start .args .g)) _ (start .pre .0 .accepted) (start .pre .0 .diagram) (seek-found (at-loop .loop .inv .1) _ _ (at-gives .gives .ensures (c .before .before .if3 .taken)) (takes-own (slot-of (start .args .g))) (c .top .ensures))
 
 command-at-requires : tie.Need-command-at-requires Inv-loop μ-loop
 command-at-requires c κs =
@@ -104,7 +114,8 @@ same-length-2 c =
 
 returns-2 : tie.Need-returns-2 Inv-loop μ-loop
 returns-2 c =
-    pass-comes (c .before .before .before .before .before .before .before .before .before .before .before .before .args .model .now) (point-at (c .before .before .before .before .before .before .before .before .before .before .before .before .args .mask) (c .before .before .before .before .before .before .before .before .before .before .before .before .args .setting) (c .before .before .before .before .before .before .before .before .before .before .before .before .args .n .now) (c .before .before .before .before .before .before .before .before .before .before .before .before .args .m)) (slot-of (c .before .before .before .before .before .before .before .before .before .before .before .before .args .g)) 0 (c .before .before .before .before .before .before .before .before .before .before .before .before .pre .0 .accepted) (c .before .before .before .before .before .before .before .before .before .before .before .before .pre .0 .diagram) (seek-stops (c .before .before .before .before .before .before .before .before .loop .inv .1) (c .before .command-at .result) (c .match .keys2) (c .before .command-at .ensures))
+    let at-loop = c .before .before .before .before .before .before .before .before in let start = at-loop .before .before .before .before in
+    pass-comes (start .args .model .now) (point-at (start .args .mask) (start .args .setting) (start .args .n .now) (start .args .m)) (slot-of (start .args .g)) 0 (start .pre .0 .accepted) (start .pre .0 .diagram) (seek-stops (at-loop .loop .inv .1) (c .before .command-at .result) (c .match .keys2) (c .before .command-at .ensures))
 
 takes-requires : tie.Need-takes-requires Inv-loop μ-loop
 takes-requires c κs =
@@ -112,7 +123,7 @@ takes-requires c κs =
 
 top-requires-2 : tie.Need-top-requires-2 Inv-loop μ-loop
 top-requires-2 c κs =
-    c .before .before .before .before .before .before .before .before .before .before .before .before .before .loop .inv .0
+    let at-loop = c .before .before .before .before .before .before .before .before .before .before .before .before .before in at-loop .loop .inv .0
 
 cast-result-2 : tie.Need-cast-result-2 Inv-loop μ-loop
 cast-result-2 c =
@@ -124,7 +135,9 @@ same-length-3 c =
 
 returns-3 : tie.Need-returns-3 Inv-loop μ-loop
 returns-3 c =
-    pass-comes (c .before .before .before .before .before .before .before .before .before .before .before .before .before .before .before .before .before .before .args .model .now) (point-at (c .before .before .before .before .before .before .before .before .before .before .before .before .before .before .before .before .before .before .args .mask) (c .before .before .before .before .before .before .before .before .before .before .before .before .before .before .before .before .before .before .args .setting) (c .before .before .before .before .before .before .before .before .before .before .before .before .before .before .before .before .before .before .args .n .now) (c .before .before .before .before .before .before .before .before .before .before .before .before .before .before .before .before .before .before .args .m)) (slot-of (c .before .before .before .before .before .before .before .before .before .before .before .before .before .before .before .before .before .before .args .g)) _ (c .before .before .before .before .before .before .before .before .before .before .before .before .before .before .before .before .before .before .pre .0 .accepted) (c .before .before .before .before .before .before .before .before .before .before .before .before .before .before .before .before .before .before .pre .0 .diagram) (seek-found (c .before .before .before .before .before .before .before .before .before .before .before .before .before .before .loop .inv .1) _ _ (whole-is (c .before .before .before .before .before .before .before .before .before .before .before .before .before .before .before .before .before .before .args .model .now) (c .before .before .before .before .before .before .before .before .before .before .before .before .before .before .loop .at) (c .before .before .before .before .before .before .before .command-at .ensures) (c .before .before .before .before .before .read .given .1)) (sym (c .before .before .before .takes .ensures (c .before .before .before .before .before .before .before .before .before .before .before .before .before .before .before .before .before .before .args .model .now) (c .before .before .before .before .before .before .before .before .before .before .before .before .before .before .loop .at)) ∙ c .before .before .if4 .taken) (c .top2 .ensures))
+    let at-takes = c .before .before .before in let at-read = at-takes .before .before in let at-command-at = at-read .before .before in
+    let at-loop = at-command-at .before .before .before .before .before .before .before in let start = at-loop .before .before .before .before in
+    pass-comes (start .args .model .now) (point-at (start .args .mask) (start .args .setting) (start .args .n .now) (start .args .m)) (slot-of (start .args .g)) _ (start .pre .0 .accepted) (start .pre .0 .diagram) (seek-found (at-loop .loop .inv .1) _ _ (whole-is (start .args .model .now) (at-loop .loop .at) (at-command-at .command-at .ensures) (at-read .read .given .1)) (sym (at-takes .takes .ensures (start .args .model .now) (at-loop .loop .at)) ∙ c .before .before .if4 .taken) (c .top2 .ensures))
 
 is-end-requires : tie.Need-is-end-requires Inv-loop μ-loop
 is-end-requires c κs =
@@ -136,11 +149,15 @@ same-length-4 c =
 
 returns-4 : tie.Need-returns-4 Inv-loop μ-loop
 returns-4 c =
-    pass-comes (c .before .before .before .before .before .before .before .before .before .before .before .before .before .before .before .before .before .before .args .model .now) (point-at (c .before .before .before .before .before .before .before .before .before .before .before .before .before .before .before .before .before .before .args .mask) (c .before .before .before .before .before .before .before .before .before .before .before .before .before .before .before .before .before .before .args .setting) (c .before .before .before .before .before .before .before .before .before .before .before .before .before .before .before .before .before .before .args .n .now) (c .before .before .before .before .before .before .before .before .before .before .before .before .before .before .before .before .before .before .args .m)) (slot-of (c .before .before .before .before .before .before .before .before .before .before .before .before .before .before .before .before .before .before .args .g)) 0 (c .before .before .before .before .before .before .before .before .before .before .before .before .before .before .before .before .before .before .pre .0 .accepted) (c .before .before .before .before .before .before .before .before .before .before .before .before .before .before .before .before .before .before .pre .0 .diagram) (seek-ends (c .before .before .before .before .before .before .before .before .before .before .before .before .before .before .loop .inv .1) _ (whole-is (c .before .before .before .before .before .before .before .before .before .before .before .before .before .before .before .before .before .before .args .model .now) (c .before .before .before .before .before .before .before .before .before .before .before .before .before .before .loop .at) (c .before .before .before .before .before .before .before .command-at .ensures) (c .before .before .before .before .before .read .given .1)) (sym (c .before .is-end .ensures) ∙ c .if5 .taken))
+    let at-read = c .before .before .before .before .before in let at-command-at = at-read .before .before in
+    let at-loop = at-command-at .before .before .before .before .before .before .before in let start = at-loop .before .before .before .before in
+    pass-comes (start .args .model .now) (point-at (start .args .mask) (start .args .setting) (start .args .n .now) (start .args .m)) (slot-of (start .args .g)) 0 (start .pre .0 .accepted) (start .pre .0 .diagram) (seek-ends (at-loop .loop .inv .1) _ (whole-is (start .args .model .now) (at-loop .loop .at) (at-command-at .command-at .ensures) (at-read .read .given .1)) (sym (c .before .is-end .ensures) ∙ c .if5 .taken))
 
 after-requires : tie.Need-after-requires Inv-loop μ-loop
 after-requires c κs =
-    (c .before .before .before .before .before .before .before .before .before .before .before .before .before .before .before .loop .inv .0, (whole-is (c .before .before .before .before .before .before .before .before .before .before .before .before .before .before .before .before .before .before .before .args .model .now) (c .before .before .before .before .before .before .before .before .before .before .before .before .before .before .before .loop .at) (c .before .before .before .before .before .before .before .before .command-at .ensures) (c .before .before .before .before .before .before .read .given .1)), c .before .before .before .before .before .before .before .before .before .before .before .before .before .before .before .before .before .before .before .pre .0 .short, c .before .before .before .before .before .before .before .before .before .before .before .before .before .before .before .before .before .before .before .pre .0 .long)
+    let at-read = c .before .before .before .before .before .before in let at-command-at = at-read .before .before in
+    let at-loop = at-command-at .before .before .before .before .before .before .before in let start = at-loop .before .before .before .before in
+    (at-loop .loop .inv .0, (whole-is (start .args .model .now) (at-loop .loop .at) (at-command-at .command-at .ensures) (at-read .read .given .1)), start .pre .0 .short, start .pre .0 .long)
 
 size-requires : tie.Need-size-requires Inv-loop μ-loop
 size-requires c κs =
@@ -148,15 +165,22 @@ size-requires c κs =
 
 add-at-2 : tie.Need-add-at-2 Inv-loop μ-loop
 add-at-2 c =
-    let f = forward (c .before .before .before .before .before .before .before .before .before .before .before .before .before .before .before .before .before .before .before .before .before .before .before .args .model .now) (c .before .before .before .before .before .before .before .before .before .before .before .before .before .before .before .before .before .before .before .loop .at) _ _ (whole-is (c .before .before .before .before .before .before .before .before .before .before .before .before .before .before .before .before .before .before .before .before .before .before .before .args .model .now) (c .before .before .before .before .before .before .before .before .before .before .before .before .before .before .before .before .before .before .before .loop .at) (c .before .before .before .before .before .before .before .before .before .before .before .before .command-at .ensures) (c .before .before .before .before .before .before .before .before .before .before .read .given .1)) (past new-form (c .before .before .before .before .before .before .before .before .before .before .before .before .before .before .before .before .before .before .before .before .before .before .before .args .model .now) (c .before .before .before .before .before .before .before .before .before .before .before .before .before .before .before .before .before .before .before .loop .at) _ (c .size .result) (whole-is (c .before .before .before .before .before .before .before .before .before .before .before .before .before .before .before .before .before .before .before .before .before .before .before .args .model .now) (c .before .before .before .before .before .before .before .before .before .before .before .before .before .before .before .before .before .before .before .loop .at) (c .before .before .before .before .before .before .before .before .before .before .before .before .command-at .ensures) (c .before .before .before .before .before .before .before .before .before .before .read .given .1)) (c .size .ensures)) in omega (arith, f .1, f .2, c .before .before .before .before .before .before .before .before .before .before .before .before .before .before .before .before .before .before .before .before .before .before .before .pre .0 .short)
+    let at-read = c .before .before .before .before .before .before .before .before .before .before in let at-command-at = at-read .before .before in
+    let at-loop = at-command-at .before .before .before .before .before .before .before in let start = at-loop .before .before .before .before in
+    let f = forward (start .args .model .now) (at-loop .loop .at) _ _ (whole-is (start .args .model .now) (at-loop .loop .at) (at-command-at .command-at .ensures) (at-read .read .given .1)) (past new-form (start .args .model .now) (at-loop .loop .at) _ (c .size .result) (whole-is (start .args .model .now) (at-loop .loop .at) (at-command-at .command-at .ensures) (at-read .read .given .1)) (c .size .ensures)) in omega (arith, f .1, f .2, start .pre .0 .short)
 
 loop-less-3 : tie.Need-loop-less-3 Inv-loop μ-loop
 loop-less-3 c =
-    let f = forward (c .before .before .before .before .before .before .before .before .before .before .before .before .before .before .before .before .before .before .before .before .before .before .before .args .model .now) (c .before .before .before .before .before .before .before .before .before .before .before .before .before .before .before .before .before .before .before .loop .at) _ _ (whole-is (c .before .before .before .before .before .before .before .before .before .before .before .before .before .before .before .before .before .before .before .before .before .before .before .args .model .now) (c .before .before .before .before .before .before .before .before .before .before .before .before .before .before .before .before .before .before .before .loop .at) (c .before .before .before .before .before .before .before .before .before .before .before .before .command-at .ensures) (c .before .before .before .before .before .before .before .before .before .before .read .given .1)) (past new-form (c .before .before .before .before .before .before .before .before .before .before .before .before .before .before .before .before .before .before .before .before .before .before .before .args .model .now) (c .before .before .before .before .before .before .before .before .before .before .before .before .before .before .before .before .before .before .before .loop .at) _ (c .size .result) (whole-is (c .before .before .before .before .before .before .before .before .before .before .before .before .before .before .before .before .before .before .before .before .before .before .before .args .model .now) (c .before .before .before .before .before .before .before .before .before .before .before .before .before .before .before .before .before .before .before .loop .at) (c .before .before .before .before .before .before .before .before .before .before .before .before .command-at .ensures) (c .before .before .before .before .before .before .before .before .before .before .read .given .1)) (c .size .ensures)) in omega (arith, f .1, f .2)
+    let at-read = c .before .before .before .before .before .before .before .before .before .before in let at-command-at = at-read .before .before in
+    let at-loop = at-command-at .before .before .before .before .before .before .before in let start = at-loop .before .before .before .before in
+    let f = forward (start .args .model .now) (at-loop .loop .at) _ _ (whole-is (start .args .model .now) (at-loop .loop .at) (at-command-at .command-at .ensures) (at-read .read .given .1)) (past new-form (start .args .model .now) (at-loop .loop .at) _ (c .size .result) (whole-is (start .args .model .now) (at-loop .loop .at) (at-command-at .command-at .ensures) (at-read .read .given .1)) (c .size .ensures)) in omega (arith, f .1, f .2)
 
 loop-again-3 : tie.Need-loop-again-3 Inv-loop μ-loop
 loop-again-3 c =
-    let h = c .before .before .before .after .ensures in (h .room, seek-on (c .before .before .before .before .before .before .before .before .before .before .before .before .before .before .before .before .before .before .before .loop .inv .1) _ _ _ (whole-is (c .before .before .before .before .before .before .before .before .before .before .before .before .before .before .before .before .before .before .before .before .before .before .before .args .model .now) (c .before .before .before .before .before .before .before .before .before .before .before .before .before .before .before .before .before .before .before .loop .at) (c .before .before .before .before .before .before .before .before .before .before .before .before .command-at .ensures) (c .before .before .before .before .before .before .before .before .before .before .read .given .1)) (sym (c .before .before .before .before .before .before .before .before .takes .ensures (c .before .before .before .before .before .before .before .before .before .before .before .before .before .before .before .before .before .before .before .before .before .before .before .args .model .now) (c .before .before .before .before .before .before .before .before .before .before .before .before .before .before .before .before .before .before .before .loop .at)) ∙ c .before .before .before .before .before .before .before .if4 .left) (sym (c .before .before .before .before .before .before .is-end .ensures) ∙ c .before .before .before .before .before .if5 .left) (past new-form (c .before .before .before .before .before .before .before .before .before .before .before .before .before .before .before .before .before .before .before .before .before .before .before .args .model .now) (c .before .before .before .before .before .before .before .before .before .before .before .before .before .before .before .before .before .before .before .loop .at) _ (c .size .result) (whole-is (c .before .before .before .before .before .before .before .before .before .before .before .before .before .before .before .before .before .before .before .before .before .before .before .args .model .now) (c .before .before .before .before .before .before .before .before .before .before .before .before .before .before .before .before .before .before .before .loop .at) (c .before .before .before .before .before .before .before .before .before .before .before .before .command-at .ensures) (c .before .before .before .before .before .before .before .before .before .before .read .given .1)) (c .size .ensures)) (h .holds ∙ levels-apart _ _ _ _ _ _ _))
+    let at-after = c .before .before .before in let at-if5 = at-after .before .before in let at-is-end = at-if5 .before in let at-if4 = at-is-end .before in
+    let at-takes = at-if4 .before in let at-read = at-takes .before .before in let at-command-at = at-read .before .before in
+    let at-loop = at-command-at .before .before .before .before .before .before .before in let start = at-loop .before .before .before .before in
+    let h = at-after .after .ensures in (h .room, seek-on (at-loop .loop .inv .1) _ _ _ (whole-is (start .args .model .now) (at-loop .loop .at) (at-command-at .command-at .ensures) (at-read .read .given .1)) (sym (at-takes .takes .ensures (start .args .model .now) (at-loop .loop .at)) ∙ at-if4 .if4 .left) (sym (at-is-end .is-end .ensures) ∙ at-if5 .if5 .left) (past new-form (start .args .model .now) (at-loop .loop .at) _ (c .size .result) (whole-is (start .args .model .now) (at-loop .loop .at) (at-command-at .command-at .ensures) (at-read .read .given .1)) (c .size .ensures)) (h .holds ∙ levels-apart _ _ _ _ _ _ _))
 
 pub pass-from-spec : {M : Type 1} → statement M
 pass-from-spec =

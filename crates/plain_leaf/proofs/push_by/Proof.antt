@@ -19,11 +19,11 @@ shared-slice-read-op c =
 
 add-condition : tie.Need-add-condition
 add-condition c =
-    omega (arith, c .before .before .before .before .before .pre .1, c .before .before .before .before .before .pre .2)
+    let start = c .before .before .before .before .before in omega (arith, start .pre .1, start .pre .2)
 
 shared-slice-read-condition : tie.Need-shared-slice-read-condition
 shared-slice-read-condition c =
-    omega (arith, c .before .before .before .before .before .before .pre .1)
+    let start = c .before .before .before .before .before .before in omega (arith, start .pre .1)
 
 condition-requires : tie.Need-condition-requires
 condition-requires c κs =
@@ -31,60 +31,63 @@ condition-requires c κs =
 
 choose-requires : tie.Need-choose-requires
 choose-requires c κs =
-    c .before .before .before .before .before .before .before .pre .0
+    let start = c .before .before .before .before .before .before .before in start .pre .0
 
 add-t19 : tie.Need-add-t19
 add-t19 c =
-    omega (arith, c .before .before .before .before .before .before .before .before .before .before .pre .1, c .before .before .before .before .before .before .before .before .before .before .pre .2)
+    let start = c .before .before .before .before .before .before .before .before .before .before in omega (arith, start .pre .1, start .pre .2)
 
 same-length : tie.Need-same-length
 same-length c = search needs
 
 returns : tie.Need-returns
 returns c =
-    (holds-as (c .before .before .choose .ensures) (condition-left (c .before .before .before .before .before .before .before .before .before .before .args .model .now) (point-at (c .before .before .before .before .before .before .before .before .before .before .args .mask) (c .before .before .before .before .before .before .before .before .before .before .args .setting) (c .before .before .before .before .before .before .before .before .before .before .args .n .now) (c .before .before .before .before .before .before .before .before .before .before .args .m)) (c .before .before .before .before .before .before .before .before .before .before .args .at) (byte-at (c .before .before .before .before .before .before .before .before .before .before .args .model .now) (c .before .before .before .before .before .before .before .before .before .before .args .at)) (last-first (c .before .before .before .before .before .before .before .before .before .before .args .items .now) (c .before .before .before .before .before .before .before .before .before .before .args .len)) (c .before .before .before .before .before .before .before .before .before .before .pre .5) (c .before .before .before .before .before .before .if1 .taken) _ (c .before .before .before .condition .ensures _ _)), condition-wide (c .before .before .before .before .before .before .before .before .before .before .args .at) (byte-at (c .before .before .before .before .before .before .before .before .before .before .args .model .now) (c .before .before .before .before .before .before .before .before .before .before .args .at)) (c .before .before .before .before .before .before .if1 .taken))
+    let at-condition = c .before .before .before in let at-if1 = at-condition .before .before .before in let start = at-if1 .before .before .before .before in
+    (holds-as (c .before .before .choose .ensures) (condition-left (start .args .model .now) (point-at (start .args .mask) (start .args .setting) (start .args .n .now) (start .args .m)) (start .args .at) (byte-at (start .args .model .now) (start .args .at)) (last-first (start .args .items .now) (start .args .len)) (start .pre .5) (at-if1 .if1 .taken) _ (at-condition .condition .ensures _ _)), condition-wide (start .args .at) (byte-at (start .args .model .now) (start .args .at)) (at-if1 .if1 .taken))
 
 cast-push : tie.Need-cast-push
 cast-push c =
-    omega (arith, c .before .before .before .before .before .before .pre .1, c .before .before .before .before .before .before .pre .2)
+    let start = c .before .before .before .before .before .before in omega (arith, start .pre .1, start .pre .2)
 
 push-requires : tie.Need-push-requires
 push-requires c κs =
-    c .before .before .before .before .before .before .pre .0
+    let start = c .before .before .before .before .before .before in start .pre .0
 
 add-t25 : tie.Need-add-t25
 add-t25 c =
-    omega (arith, c .before .before .before .before .before .before .before .before .before .pre .1, c .before .before .before .before .before .before .before .before .before .pre .2)
+    let start = c .before .before .before .before .before .before .before .before .before in omega (arith, start .pre .1, start .pre .2)
 
 same-length-2 : tie.Need-same-length-2
 same-length-2 c = search needs
 
 returns-2 : tie.Need-returns-2
 returns-2 c =
-    (holds-as (c .before .before .push .ensures) (forbidden-left (c .before .before .before .before .before .before .before .before .before .args .model .now) (point-at (c .before .before .before .before .before .before .before .before .before .args .mask) (c .before .before .before .before .before .before .before .before .before .args .setting) (c .before .before .before .before .before .before .before .before .before .args .n .now) (c .before .before .before .before .before .before .before .before .before .args .m)) (c .before .before .before .before .before .before .before .before .before .args .at) (byte-at (c .before .before .before .before .before .before .before .before .before .args .model .now) (c .before .before .before .before .before .before .before .before .before .args .at)) (last-first (c .before .before .before .before .before .before .before .before .before .args .items .now) (c .before .before .before .before .before .before .before .before .before .args .len)) (c .before .before .before .before .before .before .before .before .before .pre .5) (c .before .before .before .before .before .if1 .left) (c .before .before .before .before .if2 .taken)), forbidden-wide (c .before .before .before .before .before .before .before .before .before .args .at) (byte-at (c .before .before .before .before .before .before .before .before .before .args .model .now) (c .before .before .before .before .before .before .before .before .before .args .at)) (c .before .before .before .before .before .if1 .left) (c .before .before .before .before .if2 .taken))
+    let at-if2 = c .before .before .before .before in let at-if1 = at-if2 .before in let start = at-if1 .before .before .before .before in
+    (holds-as (c .before .before .push .ensures) (forbidden-left (start .args .model .now) (point-at (start .args .mask) (start .args .setting) (start .args .n .now) (start .args .m)) (start .args .at) (byte-at (start .args .model .now) (start .args .at)) (last-first (start .args .items .now) (start .args .len)) (start .pre .5) (at-if1 .if1 .left) (at-if2 .if2 .taken)), forbidden-wide (start .args .at) (byte-at (start .args .model .now) (start .args .at)) (at-if1 .if1 .left) (at-if2 .if2 .taken))
 
 add-test-at : tie.Need-add-test-at
 add-test-at c =
-    omega (arith, c .before .before .before .before .before .before .pre .1, c .before .before .before .before .before .before .pre .2)
+    let start = c .before .before .before .before .before .before in omega (arith, start .pre .1, start .pre .2)
 
 test-at-requires : tie.Need-test-at-requires
 test-at-requires c κs =
-    (omega (arith, c .before .before .before .before .before .before .pre .1), flat-alone _ _ refl refl (c .before .before .before .before .before .before .pre .3), c .before .before .before .before .before .before .pre .4)
+    let start = c .before .before .before .before .before .before in (omega (arith, start .pre .1), flat-alone _ _ refl refl (start .pre .3), start .pre .4)
 
 choose-requires-2 : tie.Need-choose-requires-2
 choose-requires-2 c κs =
-    c .before .before .before .before .before .before .before .pre .0
+    let start = c .before .before .before .before .before .before .before in start .pre .0
 
 add-t28 : tie.Need-add-t28
 add-t28 c =
-    omega (arith, c .before .before .before .before .before .before .before .before .before .before .pre .1, c .before .before .before .before .before .before .before .before .before .before .pre .2)
+    let start = c .before .before .before .before .before .before .before .before .before .before in omega (arith, start .pre .1, start .pre .2)
 
 same-length-3 : tie.Need-same-length-3
 same-length-3 c = search needs
 
 returns-3 : tie.Need-returns-3
 returns-3 c =
-    (holds-as (c .before .before .choose2 .ensures) (test-left (c .before .before .before .before .before .before .before .before .before .before .args .model .now) (point-at (c .before .before .before .before .before .before .before .before .before .before .args .mask) (c .before .before .before .before .before .before .before .before .before .before .args .setting) (c .before .before .before .before .before .before .before .before .before .before .args .n .now) (c .before .before .before .before .before .before .before .before .before .before .args .m)) (c .before .before .before .before .before .before .before .before .before .before .args .at) (byte-at (c .before .before .before .before .before .before .before .before .before .before .args .model .now) (c .before .before .before .before .before .before .before .before .before .before .args .at)) (last-first (c .before .before .before .before .before .before .before .before .before .before .args .items .now) (c .before .before .before .before .before .before .before .before .before .before .args .len)) (c .before .before .before .before .before .before .before .before .before .before .pre .5) (c .before .before .before .before .before .before .if1 .left) (c .before .before .before .before .before .if2 .left) _ (c .before .before .before .test-at .ensures ∙ ap (λ (z : ℤ). leZ z (pos 0)) (numbers-alone (nums-at _) _ refl _))), test-wide (c .before .before .before .before .before .before .before .before .before .before .args .at) (byte-at (c .before .before .before .before .before .before .before .before .before .before .args .model .now) (c .before .before .before .before .before .before .before .before .before .before .args .at)) (c .before .before .before .before .before .before .if1 .left) (c .before .before .before .before .before .if2 .left))
+    let at-test-at = c .before .before .before in let at-if2 = at-test-at .before .before in let at-if1 = at-if2 .before in let start = at-if1 .before .before .before .before in
+    (holds-as (c .before .before .choose2 .ensures) (test-left (start .args .model .now) (point-at (start .args .mask) (start .args .setting) (start .args .n .now) (start .args .m)) (start .args .at) (byte-at (start .args .model .now) (start .args .at)) (last-first (start .args .items .now) (start .args .len)) (start .pre .5) (at-if1 .if1 .left) (at-if2 .if2 .left) _ (at-test-at .test-at .ensures ∙ ap (λ (z : ℤ). leZ z (pos 0)) (numbers-alone (nums-at _) _ refl _))), test-wide (start .args .at) (byte-at (start .args .model .now) (start .args .at)) (at-if1 .if1 .left) (at-if2 .if2 .left))
 
 pub push-by-spec : {M : Type 1} → statement M
 push-by-spec =

@@ -15,11 +15,13 @@ enum-told-2 c = search needs
 
 returns : tie.Need-returns
 returns c =
-    larger-stays ((c .before .before .before .before) .args .v) _ _ ((c .before .before .before .before) .args .t) _ _ (c .before .before .t .given .1) ((c .before .before .before .before) .fits .v) (record { sfits = c .before .known-told .given .0 .1 }) (c .if1 .taken)
+    let start = c .before .before .before .before in
+    larger-stays (start .args .v) _ _ (start .args .t) _ _ (c .before .before .t .given .1) (start .fits .v) (record { sfits = c .before .known-told .given .0 .1 }) (c .if1 .taken)
 
 returns-2 : tie.Need-returns-2
 returns-2 c =
-    larger-moves ((c .before .before .before .before) .args .v) _ _ ((c .before .before .before .before) .args .t) _ _ (c .before .before .t .given .1) ((c .before .before .before .before) .fits .v) (record { sfits = c .before .known-told .given .0 .1 }) (c .if1 .left)
+    let start = c .before .before .before .before in
+    larger-moves (start .args .v) _ _ (start .args .t) _ _ (c .before .before .t .given .1) (start .fits .v) (record { sfits = c .before .known-told .given .0 .1 }) (c .if1 .left)
 
 returns-3 : tie.Need-returns-3
 returns-3 c =

@@ -12,7 +12,7 @@ mul-within-requires c κs = search needs
 
 returns : tie.Need-returns
 returns c =
-    product-as (c .before .before .before .args .a) (c .before .before .before .args .b) (c .before .before .before .fits .a) (c .before .before .before .fits .b) (c .mul-within .ensures)
+    let start = c .before .before .before in product-as (start .args .a) (start .args .b) (start .fits .a) (start .fits .b) (c .mul-within .ensures)
 
 mag-requires-2 : tie.Need-mag-requires-2
 mag-requires-2 c κs = search needs
@@ -22,15 +22,18 @@ mul-within-requires-2 c κs = search needs
 
 returns-2 : tie.Need-returns-2
 returns-2 c =
-    product-as (c .before .before .before .before .before .args .a) (c .before .before .before .before .before .args .b) (c .before .before .before .before .before .fits .a) (c .before .before .before .before .before .fits .b) (c .mul-within2 .ensures)
+    let start = c .before .before .before .before .before in
+    product-as (start .args .a) (start .args .b) (start .fits .a) (start .fits .b) (c .mul-within2 .ensures)
 
 mul-t5 : tie.Need-mul-t5
 mul-t5 c =
-    short-fits (c .before .before .before .before .args .a) (c .before .before .before .before .args .b) (c .before .before .before .before .fits .a) (c .before .before .before .before .fits .b) (c .before .before .before .mag .ensures) (c .before .mag2 .ensures) (c .before .before .if1 .left) (c .if2 .left)
+    let at-mag = c .before .before .before in let start = at-mag .before in
+    short-fits (start .args .a) (start .args .b) (start .fits .a) (start .fits .b) (at-mag .mag .ensures) (c .before .mag2 .ensures) (c .before .before .if1 .left) (c .if2 .left)
 
 returns-3 : tie.Need-returns-3
 returns-3 c =
-    short-is (c .before .before .before .before .args .a) (c .before .before .before .before .args .b) (c .before .before .before .before .fits .a) (c .before .before .before .before .fits .b) (c .before .before .before .mag .ensures) (c .before .mag2 .ensures) (c .before .before .if1 .left) (c .if2 .left)
+    let at-mag = c .before .before .before in let start = at-mag .before in
+    short-is (start .args .a) (start .args .b) (start .fits .a) (start .fits .b) (at-mag .mag .ensures) (c .before .mag2 .ensures) (c .before .before .if1 .left) (c .if2 .left)
 
 pub product-spec : {M : Type 1} → statement M
 product-spec =

@@ -22,14 +22,16 @@ enum-told-2 c = search needs
 
 returns-2 : tie.Need-returns-2
 returns-2 c =
-    times-none ((c .before .before .before .before .before) .args .p) ((c .before .before .before .before .before) .args .z) _ (c .before .before .before .p .given .1) (record { sfits = c .before .before .known-told .given .0 .1 }) (c .enum-told2 .given .1)
+    let at-p = c .before .before .before in let start = at-p .before .before in
+    times-none (start .args .p) (start .args .z) _ (at-p .p .given .1) (record { sfits = c .before .before .known-told .given .0 .1 }) (c .enum-told2 .given .1)
 
 product-requires : tie.Need-product-requires
 product-requires c κs = search needs
 
 returns-3 : tie.Need-returns-3
 returns-3 c =
-    times-is ((c .before .before .before .before .before .before .before) .args .p) ((c .before .before .before .before .before .before .before) .args .z) _ (c .before .before .before .before .before .p .given .1) (record { sfits = c .before .before .before .before .known-told .given .0 .1 }) _ (c .before .before .z .given .1) (record { sfits = c .before .known-told2 .given .0 .1 }) (c .product .ensures)
+    let at-known-told = c .before .before .before .before in let at-p = at-known-told .before in let start = at-p .before .before in
+    times-is (start .args .p) (start .args .z) _ (at-p .p .given .1) (record { sfits = at-known-told .known-told .given .0 .1 }) _ (c .before .before .z .given .1) (record { sfits = c .before .known-told2 .given .0 .1 }) (c .product .ensures)
 
 pub times-spec : {M : Type 1} → statement M
 times-spec =

@@ -26,7 +26,8 @@ returns c =
 
 returns-2 : tie.Need-returns-2
 returns-2 c =
-    sym (List·getD-eq-default (c .before .before .before .args .parts .now) 0 (c .if1 .left)) ∙ ap (λ (k : ℕ). getD (c .before .before .before .args .parts .now) k 0) (c .before .place .ensures)
+    let start = c .before .before .before in
+    sym (List·getD-eq-default (start .args .parts .now) 0 (c .if1 .left)) ∙ ap (λ (k : ℕ). getD (start .args .parts .now) k 0) (c .before .place .ensures)
 
 pub begin-spec : {M : Type 1} → statement M
 begin-spec =

@@ -23,11 +23,13 @@ next-after-requires c κs =
 
 cast-begin : tie.Need-cast-begin Inv-loop μ-loop
 cast-begin c =
-    let f = finds-starts (c .before .before .before .args .model .now) (c .before .before .before .args .parts .now) (c .next-after .result) (c .before .before .before .pre .0) (c .before .before .before .pre .2) (c .next-after .ensures) .1 in omega (arith, c .before .before .before .pre .1)
+    let start = c .before .before .before in
+    let f = finds-starts (start .args .model .now) (start .args .parts .now) (c .next-after .result) (start .pre .0) (start .pre .2) (c .next-after .ensures) .1 in omega (arith, start .pre .1)
 
 loop-holds : tie.Need-loop-holds Inv-loop μ-loop
 loop-holds c =
-    finds-starts (c .before .before .before .args .model .now) (c .before .before .before .args .parts .now) (c .next-after .result) (c .before .before .before .pre .0) (c .before .before .before .pre .2) (c .next-after .ensures) .0
+    let start = c .before .before .before in
+    finds-starts (start .args .model .now) (start .args .parts .now) (c .next-after .result) (start .pre .0) (start .pre .2) (c .next-after .ensures) .0
 
 command-at-requires : tie.Need-command-at-requires Inv-loop μ-loop
 command-at-requires c κs =
@@ -51,15 +53,19 @@ is-end-requires c κs =
 
 same-length-2 : tie.Need-same-length-2 Inv-loop μ-loop
 same-length-2 c =
-    c .before .before .before .before .before .before .loop .inv .long
+    let at-loop = c .before .before .before .before .before .before in at-loop .loop .inv .long
 
 returns-2 : tie.Need-returns-2 Inv-loop μ-loop
 returns-2 c =
-    finds-end (c .before .before .before .before .before .before .loop .inv) _ (whole-is (c .before .before .before .before .before .before .before .before .before .before .args .model .now) (c .before .before .before .before .before .before .loop .at) (c .before .before .before .before .before .command-at .ensures) (c .before .before .before .read .given .1)) (sym (c .before .is-end .ensures) ∙ c .if1 .taken)
+    let at-read = c .before .before .before in let at-command-at = at-read .before .before in let at-loop = at-command-at .before in
+    let start = at-loop .before .before .before .before in
+    finds-end (at-loop .loop .inv) _ (whole-is (start .args .model .now) (at-loop .loop .at) (at-command-at .command-at .ensures) (at-read .read .given .1)) (sym (c .before .is-end .ensures) ∙ c .if1 .taken)
 
 cast-last-empty : tie.Need-cast-last-empty Inv-loop μ-loop
 cast-last-empty c =
-    let h = whole-bytes new-form (c .before .before .before .before .before .before .before .before .before .before .args .model .now) (c .before .before .before .before .before .before .loop .at) _ (whole-is (c .before .before .before .before .before .before .before .before .before .before .args .model .now) (c .before .before .before .before .before .before .loop .at) (c .before .before .before .before .before .command-at .ensures) (c .before .before .before .read .given .1)) .0 .starts in omega (arith, c .before .before .before .before .before .before .before .before .before .before .pre .1)
+    let at-read = c .before .before .before in let at-command-at = at-read .before .before in let at-loop = at-command-at .before in
+    let start = at-loop .before .before .before .before in
+    let h = whole-bytes new-form (start .args .model .now) (at-loop .loop .at) _ (whole-is (start .args .model .now) (at-loop .loop .at) (at-command-at .command-at .ensures) (at-read .read .given .1)) .0 .starts in omega (arith, start .pre .1)
 
 last-empty-requires : tie.Need-last-empty-requires Inv-loop μ-loop
 last-empty-requires c κs =
@@ -79,15 +85,22 @@ size-requires c κs =
 
 add-at : tie.Need-add-at Inv-loop μ-loop
 add-at c =
-    let f = forward (c .before .before .before .before .before .before .before .before .before .before .before .before .before .before .before .before .before .args .model .now) (c .before .before .before .before .before .before .before .before .before .before .before .before .before .loop .at) _ _ (whole-is (c .before .before .before .before .before .before .before .before .before .before .before .before .before .before .before .before .before .args .model .now) (c .before .before .before .before .before .before .before .before .before .before .before .before .before .loop .at) (c .before .before .before .before .before .before .before .before .before .before .before .before .command-at .ensures) (c .before .before .before .before .before .before .before .before .before .before .read .given .1)) (past new-form (c .before .before .before .before .before .before .before .before .before .before .before .before .before .before .before .before .before .args .model .now) (c .before .before .before .before .before .before .before .before .before .before .before .before .before .loop .at) _ (c .size .result) (whole-is (c .before .before .before .before .before .before .before .before .before .before .before .before .before .before .before .before .before .args .model .now) (c .before .before .before .before .before .before .before .before .before .before .before .before .before .loop .at) (c .before .before .before .before .before .before .before .before .before .before .before .before .command-at .ensures) (c .before .before .before .before .before .before .before .before .before .before .read .given .1)) (c .size .ensures)) in omega (arith, f .1, f .2, c .before .before .before .before .before .before .before .before .before .before .before .before .before .before .before .before .before .pre .1)
+    let at-read = c .before .before .before .before .before .before .before .before .before .before in let at-command-at = at-read .before .before in
+    let at-loop = at-command-at .before in let start = at-loop .before .before .before .before in
+    let f = forward (start .args .model .now) (at-loop .loop .at) _ _ (whole-is (start .args .model .now) (at-loop .loop .at) (at-command-at .command-at .ensures) (at-read .read .given .1)) (past new-form (start .args .model .now) (at-loop .loop .at) _ (c .size .result) (whole-is (start .args .model .now) (at-loop .loop .at) (at-command-at .command-at .ensures) (at-read .read .given .1)) (c .size .ensures)) in omega (arith, f .1, f .2, start .pre .1)
 
 loop-less : tie.Need-loop-less Inv-loop μ-loop
 loop-less c =
-    let f = forward (c .before .before .before .before .before .before .before .before .before .before .before .before .before .before .before .before .before .args .model .now) (c .before .before .before .before .before .before .before .before .before .before .before .before .before .loop .at) _ _ (whole-is (c .before .before .before .before .before .before .before .before .before .before .before .before .before .before .before .before .before .args .model .now) (c .before .before .before .before .before .before .before .before .before .before .before .before .before .loop .at) (c .before .before .before .before .before .before .before .before .before .before .before .before .command-at .ensures) (c .before .before .before .before .before .before .before .before .before .before .read .given .1)) (past new-form (c .before .before .before .before .before .before .before .before .before .before .before .before .before .before .before .before .before .args .model .now) (c .before .before .before .before .before .before .before .before .before .before .before .before .before .loop .at) _ (c .size .result) (whole-is (c .before .before .before .before .before .before .before .before .before .before .before .before .before .before .before .before .before .args .model .now) (c .before .before .before .before .before .before .before .before .before .before .before .before .before .loop .at) (c .before .before .before .before .before .before .before .before .before .before .before .before .command-at .ensures) (c .before .before .before .before .before .before .before .before .before .before .read .given .1)) (c .size .ensures)) in omega (arith, f .1, f .2)
+    let at-read = c .before .before .before .before .before .before .before .before .before .before in let at-command-at = at-read .before .before in
+    let at-loop = at-command-at .before in let start = at-loop .before .before .before .before in
+    let f = forward (start .args .model .now) (at-loop .loop .at) _ _ (whole-is (start .args .model .now) (at-loop .loop .at) (at-command-at .command-at .ensures) (at-read .read .given .1)) (past new-form (start .args .model .now) (at-loop .loop .at) _ (c .size .result) (whole-is (start .args .model .now) (at-loop .loop .at) (at-command-at .command-at .ensures) (at-read .read .given .1)) (c .size .ensures)) in omega (arith, f .1, f .2)
 
 loop-again : tie.Need-loop-again Inv-loop μ-loop
 loop-again c =
-    finds-on (c .before .before .before .before .before .before .before .before .before .before .before .before .before .loop .inv) _ (whole-is (c .before .before .before .before .before .before .before .before .before .before .before .before .before .before .before .before .before .args .model .now) (c .before .before .before .before .before .before .before .before .before .before .before .before .before .loop .at) (c .before .before .before .before .before .before .before .before .before .before .before .before .command-at .ensures) (c .before .before .before .before .before .before .before .before .before .before .read .given .1)) (going (c .before .before .before .before .before .before .before .before .before .before .before .before .before .before .before .before .before .args .model .now) (c .before .before .before .before .before .before .before .before .before .before .before .before .before .loop .at) _ (sym (c .before .before .before .before .before .before .before .before .is-end .ensures) ∙ c .before .before .before .before .before .before .before .if1 .left) .0) (past new-form (c .before .before .before .before .before .before .before .before .before .before .before .before .before .before .before .before .before .args .model .now) (c .before .before .before .before .before .before .before .before .before .before .before .before .before .loop .at) _ (c .size .result) (whole-is (c .before .before .before .before .before .before .before .before .before .before .before .before .before .before .before .before .before .args .model .now) (c .before .before .before .before .before .before .before .before .before .before .before .before .before .loop .at) (c .before .before .before .before .before .before .before .before .before .before .before .before .command-at .ensures) (c .before .before .before .before .before .before .before .before .before .before .read .given .1)) (c .size .ensures)) (c .before .before .before .before .before .before .last-empty .ensures) (c .before .depth .ensures (c .before .before .before .before .before .before .before .before .before .before .before .before .before .before .before .before .before .args .model .now) (c .before .before .before .before .before .before .before .before .before .before .before .before .before .loop .at)) (c .before .before .before .before .note .ensures (c .before .before .before .before .before .before .before .before .before .before .before .before .before .before .before .before .before .args .model .now) (c .before .before .before .before .before .before .before .before .before .before .before .before .before .loop .at))
+    let at-note = c .before .before .before .before in let at-last-empty = at-note .before .before in let at-if1 = at-last-empty .before in let at-is-end = at-if1 .before in
+    let at-read = at-is-end .before .before in let at-command-at = at-read .before .before in let at-loop = at-command-at .before in
+    let start = at-loop .before .before .before .before in
+    finds-on (at-loop .loop .inv) _ (whole-is (start .args .model .now) (at-loop .loop .at) (at-command-at .command-at .ensures) (at-read .read .given .1)) (going (start .args .model .now) (at-loop .loop .at) _ (sym (at-is-end .is-end .ensures) ∙ at-if1 .if1 .left) .0) (past new-form (start .args .model .now) (at-loop .loop .at) _ (c .size .result) (whole-is (start .args .model .now) (at-loop .loop .at) (at-command-at .command-at .ensures) (at-read .read .given .1)) (c .size .ensures)) (at-last-empty .last-empty .ensures) (c .before .depth .ensures (start .args .model .now) (at-loop .loop .at)) (at-note .note .ensures (start .args .model .now) (at-loop .loop .at))
 
 pub find-spec : {M : Type 1} → statement M
 find-spec =

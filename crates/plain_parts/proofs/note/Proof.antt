@@ -20,7 +20,8 @@ same-length c = search needs
 returns : tie.Need-returns
 unfolding noted command-of-in
 returns c =
-    λ B i. c .before .before .enter .ensures ∙ ap (λ (d : CodeCommand). noted (command-of B i d) (c .before .before .before .before .before .before .before .before .args .begin) (c .before .before .before .before .before .before .before .before .args .parts .now)) (sym (c .before .before .before .before .before .c .given .1))
+    let at-c = c .before .before .before .before .before in let start = at-c .before .before .before in
+    λ B i. c .before .before .enter .ensures ∙ ap (λ (d : CodeCommand). noted (command-of B i d) (start .args .begin) (start .args .parts .now)) (sym (at-c .c .given .1))
 
 returns-2 : tie.Need-returns-2
 returns-2 c =

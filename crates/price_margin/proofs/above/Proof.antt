@@ -16,11 +16,13 @@ mag-requires-2 c κs = search needs
 
 sub-result : tie.Need-sub-result
 sub-result c =
-    high-fits (c .before .before .before .before .args .v) (c .before .before .before .before .args .u) (c .before .before .before .before .fits .v) (c .before .before .before .before .fits .u) (c .before .mag .ensures) (c .mag2 .ensures) (c .before .before .before .if1 .left) (c .before .before .if2 .taken)
+    let at-if1 = c .before .before .before in let start = at-if1 .before in
+    high-fits (start .args .v) (start .args .u) (start .fits .v) (start .fits .u) (c .before .mag .ensures) (c .mag2 .ensures) (at-if1 .if1 .left) (c .before .before .if2 .taken)
 
 returns-2 : tie.Need-returns-2
 returns-2 c =
-    high-is (c .before .before .before .before .args .v) (c .before .before .before .before .args .u) (c .before .before .before .before .fits .v) (c .before .before .before .before .fits .u) (c .before .mag .ensures) (c .mag2 .ensures) (c .before .before .before .if1 .left) (c .before .before .if2 .taken)
+    let at-if1 = c .before .before .before in let start = at-if1 .before in
+    high-is (start .args .v) (start .args .u) (start .fits .v) (start .fits .u) (c .before .mag .ensures) (c .mag2 .ensures) (at-if1 .if1 .left) (c .before .before .if2 .taken)
 
 mag-requires-3 : tie.Need-mag-requires-3
 mag-requires-3 c κs = search needs
@@ -30,11 +32,13 @@ mag-requires-4 c κs = search needs
 
 add-result : tie.Need-add-result
 add-result c =
-    across-fits (c .before .before .before .before .before .args .v) (c .before .before .before .before .before .args .u) (c .before .before .before .before .before .fits .v) (c .before .before .before .before .before .fits .u) (c .before .mag3 .ensures) (c .mag4 .ensures) (c .before .before .if3 .taken)
+    let start = c .before .before .before .before .before in
+    across-fits (start .args .v) (start .args .u) (start .fits .v) (start .fits .u) (c .before .mag3 .ensures) (c .mag4 .ensures) (c .before .before .if3 .taken)
 
 returns-3 : tie.Need-returns-3
 returns-3 c =
-    across-is (c .before .before .before .before .before .args .v) (c .before .before .before .before .before .args .u) (c .before .before .before .before .before .fits .v) (c .before .before .before .before .before .fits .u) (c .before .mag3 .ensures) (c .mag4 .ensures) (c .before .before .before .if2 .left) (c .before .before .if3 .taken)
+    let at-if2 = c .before .before .before in let start = at-if2 .before .before in
+    across-is (start .args .v) (start .args .u) (start .fits .v) (start .fits .u) (c .before .mag3 .ensures) (c .mag4 .ensures) (at-if2 .if2 .left) (c .before .before .if3 .taken)
 
 mag-requires-5 : tie.Need-mag-requires-5
 mag-requires-5 c κs = search needs
@@ -44,11 +48,13 @@ mag-requires-6 c κs = search needs
 
 sub-result-2 : tie.Need-sub-result-2
 sub-result-2 c =
-    low-fits (c .before .before .before .before .before .args .v) (c .before .before .before .before .before .args .u) (c .before .before .before .before .before .fits .v) (c .before .before .before .before .before .fits .u) (c .mag6 .ensures) (c .before .mag5 .ensures) (c .before .before .before .before .if1 .left) (c .before .before .before .if2 .left) (c .before .before .if3 .left)
+    let at-if2 = c .before .before .before in let at-if1 = at-if2 .before in let start = at-if1 .before in
+    low-fits (start .args .v) (start .args .u) (start .fits .v) (start .fits .u) (c .mag6 .ensures) (c .before .mag5 .ensures) (at-if1 .if1 .left) (at-if2 .if2 .left) (c .before .before .if3 .left)
 
 returns-4 : tie.Need-returns-4
 returns-4 c =
-    low-is (c .before .before .before .before .before .args .v) (c .before .before .before .before .before .args .u) (c .before .before .before .before .before .fits .v) (c .before .before .before .before .before .fits .u) (c .mag6 .ensures) (c .before .mag5 .ensures) (c .before .before .before .before .if1 .left) (c .before .before .before .if2 .left) (c .before .before .if3 .left)
+    let at-if2 = c .before .before .before in let at-if1 = at-if2 .before in let start = at-if1 .before in
+    low-is (start .args .v) (start .args .u) (start .fits .v) (start .fits .u) (c .mag6 .ensures) (c .before .mag5 .ensures) (at-if1 .if1 .left) (at-if2 .if2 .left) (c .before .before .if3 .left)
 
 pub above-spec : {M : Type 1} → statement M
 above-spec =

@@ -17,11 +17,13 @@ enum-known-best c = search needs
 
 returns-2 : tie.Need-returns-2
 returns-2 c =
-    beats-none (c .before .before .before .before .args .t) (c .before .before .before .before .args .best) _ _ (c .before .before .t .given .1) (no-number (c .before .before .before .before .args .best) (c .match2 .keys2))
+    let start = c .before .before .before .before in
+    beats-none (start .args .t) (start .args .best) _ _ (c .before .before .t .given .1) (no-number (start .args .best) (c .match2 .keys2))
 
 returns-3 : tie.Need-returns-3
 returns-3 c =
-    beats-is (c .before .before .before .before .before .before .args .t) (c .before .before .before .before .before .before .args .best) _ _ (c .before .before .before .before .t .given .1) _ _ (c .before .best .given .1) (record { sfits = c .known-told2 .given .0 .1 }) (record { sfits = c .before .before .before .known-told .given .0 .1 })
+    let at-known-told = c .before .before .before in let at-t = at-known-told .before in let start = at-t .before .before in
+    beats-is (start .args .t) (start .args .best) _ _ (at-t .t .given .1) _ _ (c .before .best .given .1) (record { sfits = c .known-told2 .given .0 .1 }) (record { sfits = at-known-told .known-told .given .0 .1 })
 
 pub beats-spec : {M : Type 1} → statement M
 beats-spec = tie.close (tie.spec enum-known-t returns enum-known-best returns-2 returns-3)

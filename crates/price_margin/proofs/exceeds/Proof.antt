@@ -21,7 +21,8 @@ enum-told-2 c = search needs
 
 returns : tie.Need-returns
 returns c =
-    exceeds-is _ (c .before .before .before .before .before .args .v) (c .before .before .before .before .before .args .t) _ _ (c .before .before .before .t .given .1) (c .before .before .before .before .before .fits .v) (record { sfits = c .before .before .known-told .given .0 .1 }) (c .before .above .ensures) (c .more-than .ensures)
+    let at-t = c .before .before .before in let start = at-t .before .before in
+    exceeds-is _ (start .args .v) (start .args .t) _ _ (at-t .t .given .1) (start .fits .v) (record { sfits = c .before .before .known-told .given .0 .1 }) (c .before .above .ensures) (c .more-than .ensures)
 
 returns-2 : tie.Need-returns-2
 returns-2 c =

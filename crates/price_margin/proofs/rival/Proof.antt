@@ -16,7 +16,8 @@ better-requires c κs = search needs
 
 returns-2 : tie.Need-returns-2
 returns-2 c =
-    rival-tried (c .before .before .before .args .best) (c .before .before .before .args .other) (c .before .before .before .args .t) (c .before .before .beats .ensures) (c .before .if1 .left) (c .better .ensures)
+    let start = c .before .before .before in
+    rival-tried (start .args .best) (start .args .other) (start .args .t) (c .before .before .beats .ensures) (c .before .if1 .left) (c .better .ensures)
 
 pub rival-spec : {M : Type 1} → statement M
 rival-spec = tie.close (tie.spec beats-requires returns better-requires returns-2)

@@ -27,15 +27,16 @@ refused-requires c κs = search needs
 
 returns : tie.Need-returns
 returns c =
-    answer-is _ (c .before .before .before .before .before .args .best) (c .before .before .before .before .before .args .other) _ _ (c .before .before .before .best .given .1) (record { sfits = c .before .before .known-told .given .0 .1 }) (c .before .exceeds .ensures) (c .answered .ensures)
+    let at-best = c .before .before .before in let start = at-best .before .before in
+    answer-is _ (start .args .best) (start .args .other) _ _ (at-best .best .given .1) (record { sfits = c .before .before .known-told .given .0 .1 }) (c .before .exceeds .ensures) (c .answered .ensures)
 
 returns-2 : tie.Need-returns-2
 returns-2 c =
-    answer-none _ (c .before .before .before .args .best) (c .before .before .before .args .other) (c .before .enum-told .given .1) (c .answered2 .ensures)
+    let start = c .before .before .before in answer-none _ (start .args .best) (start .args .other) (c .before .enum-told .given .1) (c .answered2 .ensures)
 
 returns-3 : tie.Need-returns-3
 returns-3 c =
-    answer-over _ (c .before .before .before .args .best) (c .before .before .before .args .other) (c .before .enum-told2 .given .1) (c .refused .ensures)
+    let start = c .before .before .before in answer-over _ (start .args .best) (start .args .other) (c .before .enum-told2 .given .1) (c .refused .ensures)
 
 pub answer-spec : {M : Type 1} → statement M
 answer-spec =

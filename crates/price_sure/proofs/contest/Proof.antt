@@ -22,7 +22,8 @@ actions-requires c κs =
 
 action-worth-requires : tie.Need-action-worth-requires Inv-loop μ-loop
 action-worth-requires c κs =
-    (c .before .before .before .pre .0, (omega arith, site-accepted (c .before .before .before .args .model .now) (c .before .before .before .pre .0 .ready .accepted) .actions .0), c .before .before .before .pre .1, c .before .before .before .pre .2, c .before .before .before .pre .3)
+    let start = c .before .before .before in
+    (start .pre .0, (omega arith, site-accepted (start .args .model .now) (start .pre .0 .ready .accepted) .actions .0), start .pre .1, start .pre .2, start .pre .3)
 
 numbered-requires : tie.Need-numbered-requires Inv-loop μ-loop
 numbered-requires c κs =
@@ -30,7 +31,8 @@ numbered-requires c κs =
 
 loop-holds : tie.Need-loop-holds Inv-loop μ-loop
 loop-holds c =
-    contests-start (c .before .before .before .before .before .args .model .now) (c .before .before .before .before .before .args .steps) (c .before .before .before .before .before .args .x) _ (c .before .before .actions .ensures) (c .before .before .before .before .before .pre .0 .ready) (λ z. omega (arith, c .before .before .before .before .before .pre .1)) _ (c .before .action-worth .ensures) _ (c .numbered .ensures)
+    let start = c .before .before .before .before .before in
+    contests-start (start .args .model .now) (start .args .steps) (start .args .x) _ (c .before .before .actions .ensures) (start .pre .0 .ready) (λ z. omega (arith, start .pre .1)) _ (c .before .action-worth .ensures) _ (c .numbered .ensures)
 
 actions-done-requires : tie.Need-actions-done-requires Inv-loop μ-loop
 actions-done-requires c κs =
@@ -38,16 +40,18 @@ actions-done-requires c κs =
 
 answer-requires : tie.Need-answer-requires Inv-loop μ-loop
 answer-requires c κs =
-    (c .before .before .before .before .before .before .before .before .pre .1, c .before .before .before .before .before .before .before .before .pre .2, c .before .before .before .before .before .before .before .before .pre .4 .den .least)
+    let start = c .before .before .before .before .before .before .before .before in (start .pre .1, start .pre .2, start .pre .4 .den .least)
 
 returns : tie.Need-returns Inv-loop μ-loop
 returns c =
-    contests-end (c .before .before .before .before .before .before .before .before .before .args .model .now) (c .before .before .before .before .before .before .before .before .before .args .steps) (c .before .before .before .before .before .before .before .before .before .args .x) _ (c .before .before .before .before .before .before .actions .ensures) _ _ _ (c .before .before .before .loop .inv) (c .before .before .before .before .before .before .before .before .before .pre .0 .ready) _ _ _ (c .before .before .before .before .before .before .before .before .before .pre .4) (c .before .before .actions-done .ensures) (c .before .if1 .taken) _ (c .answer .ensures)
+    let at-loop = c .before .before .before in let at-actions = at-loop .before .before .before in let start = at-actions .before .before .before in
+    contests-end (start .args .model .now) (start .args .steps) (start .args .x) _ (at-actions .actions .ensures) _ _ _ (at-loop .loop .inv) (start .pre .0 .ready) _ _ _ (start .pre .4) (c .before .before .actions-done .ensures) (c .before .if1 .taken) _ (c .answer .ensures)
 
 action-worth-requires-2 : tie.Need-action-worth-requires-2 Inv-loop μ-loop
 action-worth-requires-2 c κs =
-    let h = not-last (is-over (total-of (c .before .before .loop .best))) (c .before .before .before .before .before .actions .result) (c .before .before .loop .a) _ (c .before .actions-done .ensures) (c .if1 .left) in
-    (c .before .before .before .before .before .before .before .before .pre .0, (omega (arith, c .before .before .loop .inv .tries .low), omega (arith, h, c .before .before .before .before .before .actions .ensures)), c .before .before .before .before .before .before .before .before .pre .1, c .before .before .before .before .before .before .before .before .pre .2, c .before .before .before .before .before .before .before .before .pre .3)
+    let at-actions = c .before .before .before .before .before in let start = at-actions .before .before .before in
+    let h = not-last (is-over (total-of (c .before .before .loop .best))) (at-actions .actions .result) (c .before .before .loop .a) _ (c .before .actions-done .ensures) (c .if1 .left) in
+    (start .pre .0, (omega (arith, c .before .before .loop .inv .tries .low), omega (arith, h, at-actions .actions .ensures)), start .pre .1, start .pre .2, start .pre .3)
 
 rival-requires : tie.Need-rival-requires Inv-loop μ-loop
 rival-requires c κs =
@@ -59,15 +63,20 @@ better-requires c κs =
 
 add-a : tie.Need-add-a Inv-loop μ-loop
 add-a c =
-    omega (arith, not-last (is-over (total-of (c .before .before .before .before .before .loop .best))) (c .before .before .before .before .before .before .before .before .actions .result) (c .before .before .before .before .before .loop .a) _ (c .before .before .before .before .actions-done .ensures) (c .before .before .before .if1 .left), c .before .before .before .before .before .before .before .before .actions .ensures, site-accepted (c .before .before .before .before .before .before .before .before .before .before .before .args .model .now) (c .before .before .before .before .before .before .before .before .before .before .before .pre .0 .ready .accepted) .actions .1)
+    let at-if1 = c .before .before .before in let at-actions-done = at-if1 .before in let at-loop = at-actions-done .before in let at-actions = at-loop .before .before .before in
+    let start = at-actions .before .before .before in
+    omega (arith, not-last (is-over (total-of (at-loop .loop .best))) (at-actions .actions .result) (at-loop .loop .a) _ (at-actions-done .actions-done .ensures) (at-if1 .if1 .left), at-actions .actions .ensures, site-accepted (start .args .model .now) (start .pre .0 .ready .accepted) .actions .1)
 
 loop-less : tie.Need-loop-less Inv-loop μ-loop
 loop-less c =
-    omega (arith, not-last (is-over (total-of (c .before .before .before .before .before .loop .best))) (c .before .before .before .before .before .before .before .before .actions .result) (c .before .before .before .before .before .loop .a) _ (c .before .before .before .before .actions-done .ensures) (c .before .before .before .if1 .left))
+    let at-if1 = c .before .before .before in let at-actions-done = at-if1 .before in let at-loop = at-actions-done .before in let at-actions = at-loop .before .before .before in
+    omega (arith, not-last (is-over (total-of (at-loop .loop .best))) (at-actions .actions .result) (at-loop .loop .a) _ (at-actions-done .actions-done .ensures) (at-if1 .if1 .left))
 
 loop-again : tie.Need-loop-again Inv-loop μ-loop
 loop-again c =
-    contests-on (c .before .before .before .before .before .before .before .before .before .before .before .args .model .now) (c .before .before .before .before .before .before .before .before .before .before .before .args .steps) (c .before .before .before .before .before .before .before .before .before .before .before .args .x) _ (c .before .before .before .before .before .before .before .before .actions .ensures) _ _ _ (c .before .before .before .before .before .loop .inv) (c .before .before .before .before .actions-done .ensures) (c .before .before .before .if1 .left) (not-last (is-over (total-of (c .before .before .before .before .before .loop .best))) (c .before .before .before .before .before .before .before .before .actions .result) (c .before .before .before .before .before .loop .a) _ (c .before .before .before .before .actions-done .ensures) (c .before .before .before .if1 .left)) _ (c .before .before .action-worth2 .ensures) _ (c .before .rival .ensures) _ (c .better .ensures)
+    let at-if1 = c .before .before .before in let at-actions-done = at-if1 .before in let at-loop = at-actions-done .before in let at-actions = at-loop .before .before .before in
+    let start = at-actions .before .before .before in
+    contests-on (start .args .model .now) (start .args .steps) (start .args .x) _ (at-actions .actions .ensures) _ _ _ (at-loop .loop .inv) (at-actions-done .actions-done .ensures) (at-if1 .if1 .left) (not-last (is-over (total-of (at-loop .loop .best))) (at-actions .actions .result) (at-loop .loop .a) _ (at-actions-done .actions-done .ensures) (at-if1 .if1 .left)) _ (c .before .before .action-worth2 .ensures) _ (c .before .rival .ensures) _ (c .better .ensures)
 
 pub contest-spec : {M : Type 1} → statement M
 contest-spec =

@@ -20,7 +20,8 @@ cast-power-within c = search needs
 
 mul-power-within : tie.Need-mul-power-within
 mul-power-within c =
-    omega (arith, exponent-fits (c .before .before .before .args .model .now) (c .before .before .before .pre .0 .ready) _ (c .before .before .before .args .steps) (c .before .conditions .ensures) (c .before .before .before .pre .2))
+    let start = c .before .before .before in
+    omega (arith, exponent-fits (start .args .model .now) (start .pre .0 .ready) _ (start .args .steps) (c .before .conditions .ensures) (start .pre .2))
 
 power-within-requires : tie.Need-power-within-requires
 power-within-requires c κs = search needs
@@ -36,14 +37,18 @@ refused-requires c κs = search needs
 
 returns : tie.Need-returns
 returns c =
-    worked-over (c .before .before .before .before .before .before .before .args .model .now) (c .before .before .before .before .before .before .before .pre .0 .ready) (c .before .before .before .before .before .before .before .args .steps) (c .before .before .before .before .before .before .before .args .x) (c .before .before .before .before .before .conditions .ensures) (c .before .before .before .before .weights .ensures) (c .before .before .before .power-within .ensures) (c .before .before .before .before .before .before .before .pre .1) (c .before .enum-told .given .1) _ _ (c .refused .ensures)
+    let at-power-within = c .before .before .before in let at-weights = at-power-within .before in let at-conditions = at-weights .before in
+    let start = at-conditions .before .before in
+    worked-over (start .args .model .now) (start .pre .0 .ready) (start .args .steps) (start .args .x) (at-conditions .conditions .ensures) (at-weights .weights .ensures) (at-power-within .power-within .ensures) (start .pre .1) (c .before .enum-told .given .1) _ _ (c .refused .ensures)
 
 mag-requires : tie.Need-mag-requires
 mag-requires c κs = search needs
 
 roomed-requires : tie.Need-roomed-requires
 roomed-requires c κs =
-    (c .before .before .before .before .before .before .before .before .pre .0, c .before .before .before .before .before .before .before .before .pre .1, c .before .before .before .before .before .before .before .before .pre .2, worked-priced (c .before .before .before .before .before .before .before .before .args .model .now) (c .before .before .before .before .before .before .before .before .pre .0 .ready) (c .before .before .before .before .before .before .before .before .args .steps) (c .before .before .before .before .before .before .before .before .args .x) (c .before .before .before .before .before .before .conditions .ensures) (c .before .before .before .before .before .weights .ensures) (c .before .before .before .before .power-within .ensures) _ (c .before .before .p .given .1) (record { sfits = c .before .known-told .given .0 .1 }) _ (c .before .before .before .before .before .before .before .before .pre .3) (c .mag .ensures))
+    let at-power-within = c .before .before .before .before in let at-weights = at-power-within .before in let at-conditions = at-weights .before in
+    let start = at-conditions .before .before in
+    (start .pre .0, start .pre .1, start .pre .2, worked-priced (start .args .model .now) (start .pre .0 .ready) (start .args .steps) (start .args .x) (at-conditions .conditions .ensures) (at-weights .weights .ensures) (at-power-within .power-within .ensures) _ (c .before .before .p .given .1) (record { sfits = c .before .known-told .given .0 .1 }) _ (start .pre .3) (c .mag .ensures))
 
 returns-2 : tie.Need-returns-2
 returns-2 c = search needs

@@ -33,11 +33,12 @@ cast-root c =
 
 copy-path-requires : tie.Need-copy-path-requires
 copy-path-requires c κs =
-    to-copy (c .before .before .before .before .before .before .before .pre) (c .before .before .greatest-root .ensures)
+    let start = c .before .before .before .before .before .before .before in to-copy (start .pre) (c .before .before .greatest-root .ensures)
 
 cast-stages : tie.Need-cast-stages
 cast-stages c =
-    let h = holds (c .before .before .before .before .before .before .before .before .before .pre) (c .before .before .before .before .greatest-root .ensures) in
+    let at-greatest-root = c .before .before .before .before in let start = at-greatest-root .before .before .before .before .before in
+    let h = holds (start .pre) (at-greatest-root .greatest-root .ensures) in
     record { fits = omega (arith, c .before .copy-path .ensures .within, h .few) }
 
 mul-stages : tie.Need-mul-stages
@@ -51,27 +52,34 @@ sub-tables-anew c = search needs
 
 add-tables-anew : tie.Need-add-tables-anew
 add-tables-anew c =
-    let t = to-copy (c .before .before .before .before .before .before .before .before .before .before .before .before .pre) (c .before .before .before .before .before .before .before .greatest-root .ensures) in
-    let h = holds (c .before .before .before .before .before .before .before .before .before .before .before .before .pre) (c .before .before .before .before .before .before .before .greatest-root .ensures) in
+    let at-greatest-root = c .before .before .before .before .before .before .before in let start = at-greatest-root .before .before .before .before .before in
+    let t = to-copy (start .pre) (at-greatest-root .greatest-root .ensures) in
+    let h = holds (start .pre) (at-greatest-root .greatest-root .ensures) in
     record { fits = omega (arith, t .2, h .few) }
 
 tables-anew-requires : tie.Need-tables-anew-requires
 tables-anew-requires c κs =
-    to-make (c .before .before .before .before .before .before .before .before .before .before .before .before .pre) (c .before .before .before .before .before .before .before .greatest-root .ensures) (c .before .before .before .before .copy-path .ensures) (c .before .before .before .before .copy-path .kept .0)
+    let at-copy-path = c .before .before .before .before in let at-greatest-root = at-copy-path .before .before .before in
+    let start = at-greatest-root .before .before .before .before .before in
+    to-make (start .pre) (at-greatest-root .greatest-root .ensures) (at-copy-path .copy-path .ensures) (at-copy-path .copy-path .kept .0)
 
 same-length : tie.Need-same-length
 same-length c = search needs
 
 same-length-2 : tie.Need-same-length-2
 same-length-2 c =
-    c .before .before .before .before .before .tables-anew .kept .1 .0 ∙ length-set (c .before .before .before .before .before .before .before .before .before .before .before .before .before .before .before .before .before .before .args .stages .now) (c .before .before .before .before .before .before .before .before .before .before .before .before .before .before .before .before .before .before .args .stage - 1) (c .before .before .before .before .before .before .before .before .before .before .copy-path .result)
+    let at-tables-anew = c .before .before .before .before .before in let at-copy-path = at-tables-anew .before .before .before .before .before in
+    let start = at-copy-path .before .before .before .before .before .before .before .before in
+    at-tables-anew .tables-anew .kept .1 .0 ∙ length-set (start .args .stages .now) (start .args .stage - 1) (at-copy-path .copy-path .result)
 
 same-length-3 : tie.Need-same-length-3
 same-length-3 c = search needs
 
 returns : tie.Need-returns
 returns c =
-    cut-left (c .before .before .before .before .before .before .before .before .before .before .before .before .before .before .before .before .before .before .pre) (c .before .before .before .before .before .before .before .before .before .before .before .before .before .greatest-root .ensures) (c .before .before .before .before .before .before .before .before .before .before .copy-path .ensures) (c .before .before .before .before .before .before .before .before .before .before .copy-path .kept .0) (c .before .before .before .before .before .tables-anew .ensures)
+    let at-tables-anew = c .before .before .before .before .before in let at-copy-path = at-tables-anew .before .before .before .before .before in
+    let at-greatest-root = at-copy-path .before .before .before in let start = at-greatest-root .before .before .before .before .before in
+    cut-left (start .pre) (at-greatest-root .greatest-root .ensures) (at-copy-path .copy-path .ensures) (at-copy-path .copy-path .kept .0) (at-tables-anew .tables-anew .ensures)
 
 pub cut-off-spec : {M : Type 1} → statement M
 cut-off-spec =

@@ -31,7 +31,8 @@ shared-slice-copy-out-k c =
 
 returns : tie.Need-returns Inv-loop μ-loop
 returns c =
-    signs-stops (c .before .before .before .before .args .ks .now) (c .before .before .before .loop .i) _ (c .before .before .loop-test .taken) (c .before .before .before .loop .inv .1) (back32 _ (record { sfits = c .before .k .given })) (c .if1 .left)
+    let at-loop = c .before .before .before in
+    signs-stops (c .before .before .before .before .args .ks .now) (at-loop .loop .i) _ (c .before .before .loop-test .taken) (at-loop .loop .inv .1) (back32 _ (record { sfits = c .before .k .given })) (c .if1 .left)
 
 add-i : tie.Need-add-i Inv-loop μ-loop
 add-i c =
@@ -43,7 +44,8 @@ loop-less c =
 
 loop-again : tie.Need-loop-again Inv-loop μ-loop
 loop-again c =
-    (omega (arith, c .before .before .loop-test .taken), signs-goes (c .before .before .before .before .args .ks .now) (c .before .before .before .loop .i) _ (c .before .before .loop-test .taken) (c .before .before .before .loop .inv .1) (back32 _ (record { sfits = c .before .k .given })) (c .if1 .taken))
+    let at-loop = c .before .before .before in
+    (omega (arith, c .before .before .loop-test .taken), signs-goes (c .before .before .before .before .args .ks .now) (at-loop .loop .i) _ (c .before .before .loop-test .taken) (at-loop .loop .inv .1) (back32 _ (record { sfits = c .before .k .given })) (c .if1 .taken))
 
 returns-2 : tie.Need-returns-2 Inv-loop μ-loop
 returns-2 c =

@@ -16,39 +16,47 @@ shape-requires c κs = search needs
 
 returns-2 : tie.Need-returns-2
 returns-2 c =
-    no-fit (c .before .before .before .before .args .turns .now) (tree-at (c .before .before .before .before .args .nodes .now) (c .before .before .before .before .args .root)) (c .before .before .before .before .args .ks .now) (c .before .shape .result) (c .before .shape .ensures) (c .if2 .taken)
+    let start = c .before .before .before .before in
+    no-fit (start .args .turns .now) (tree-at (start .args .nodes .now) (start .args .root)) (start .args .ks .now) (c .before .shape .result) (c .before .shape .ensures) (c .if2 .taken)
 
 sub-if3 : tie.Need-sub-if3
 sub-if3 c = search needs
 
 returns-3 : tie.Need-returns-3
 returns-3 c =
-    no-count (c .before .before .before .before .before .args .turns .now) (tree-at (c .before .before .before .before .before .args .nodes .now) (c .before .before .before .before .before .args .root)) (c .before .before .before .before .before .args .ks .now) (c .before .before .shape .result) (c .before .before .shape .ensures) (c .before .if2 .left) (c .if3 .taken)
+    let start = c .before .before .before .before .before in
+    no-count (start .args .turns .now) (tree-at (start .args .nodes .now) (start .args .root)) (start .args .ks .now) (c .before .before .shape .result) (c .before .before .shape .ensures) (c .before .if2 .left) (c .if3 .taken)
 
 none-negative-requires : tie.Need-none-negative-requires
 none-negative-requires c κs = search needs
 
 returns-4 : tie.Need-returns-4
 returns-4 c =
-    a-negative (c .before .before .before .before .before .before .before .args .turns .now) (tree-at (c .before .before .before .before .before .before .before .args .nodes .now) (c .before .before .before .before .before .before .before .args .root)) (c .before .before .before .before .before .before .before .args .ks .now) (c .before .before .before .before .shape .result) (c .before .before .before .before .shape .ensures) (c .before .before .before .before .before .if1 .left) (c .before .before .before .if2 .left) (c .before .before .if3 .left) (c .before .none-negative .result) (c .before .none-negative .ensures) (c .if4 .left)
+    let at-if2 = c .before .before .before in let at-shape = at-if2 .before in let at-if1 = at-shape .before in let start = at-if1 .before .before in
+    a-negative (start .args .turns .now) (tree-at (start .args .nodes .now) (start .args .root)) (start .args .ks .now) (at-shape .shape .result) (at-shape .shape .ensures) (at-if1 .if1 .left) (at-if2 .if2 .left) (c .before .before .if3 .left) (c .before .none-negative .result) (c .before .none-negative .ensures) (c .if4 .left)
 
 contradicts-requires : tie.Need-contradicts-requires
 contradicts-requires c κs =
-    let F = tree-at (c .before .before .before .before .before .before .before .args .nodes .now) (c .before .before .before .before .before .before .before .args .root) in
+    let at-if2 = c .before .before .before in let at-shape = at-if2 .before in let at-if1 = at-shape .before in let start = at-if1 .before .before in
+    let F = tree-at (start .args .nodes .now) (start .args .root) in
     record {
-      node = c .before .before .before .before .before .before .before .pre;
-      fit = fit-is (c .before .before .before .before .before .before .before .args .turns .now) F (c .before .before .before .before .before .before .before .args .ks .now) (c .before .before .before .before .shape .result) (c .before .before .before .before .shape .ensures) (c .before .before .before .before .before .if1 .left) (c .before .before .before .if2 .left) (c .before .before .if3 .left);
-      count = count-is (c .before .before .before .before .before .before .before .args .turns .now) F (c .before .before .before .before .before .before .before .args .ks .now) (c .before .before .before .before .shape .result) (c .before .before .before .before .shape .ensures) (c .before .before .before .before .before .if1 .left) (c .before .before .before .if2 .left) (c .before .before .if3 .left);
+      node = start .pre;
+      fit = fit-is (start .args .turns .now) F (start .args .ks .now) (at-shape .shape .result) (at-shape .shape .ensures) (at-if1 .if1 .left) (at-if2 .if2 .left) (c .before .before .if3 .left);
+      count = count-is (start .args .turns .now) F (start .args .ks .now) (at-shape .shape .result) (at-shape .shape .ensures) (at-if1 .if1 .left) (at-if2 .if2 .left) (c .before .before .if3 .left);
       signs = from-true (sym (c .before .none-negative .ensures) ∙ c .if4 .taken);
     }
 
 returns-5 : tie.Need-returns-5
 returns-5 c =
-    accepted (c .before .before .before .before .before .before .before .before .before .args .turns .now) (tree-at (c .before .before .before .before .before .before .before .before .before .args .nodes .now) (c .before .before .before .before .before .before .before .before .before .args .root)) (c .before .before .before .before .before .before .before .before .before .args .ks .now) (c .before .before .before .before .before .before .shape .result) (c .before .before .before .before .before .before .shape .ensures) (c .before .before .before .before .before .before .before .if1 .left) (c .before .before .before .before .before .if2 .left) (c .before .before .before .before .if3 .left) (c .before .before .before .none-negative .result) (c .before .before .before .none-negative .ensures) (c .before .before .if4 .taken) (c .before .contradicts .result) (c .before .contradicts .ensures) (c .if5 .taken)
+    let at-none-negative = c .before .before .before in let at-if3 = at-none-negative .before in let at-if2 = at-if3 .before in let at-shape = at-if2 .before in
+    let at-if1 = at-shape .before in let start = at-if1 .before .before in
+    accepted (start .args .turns .now) (tree-at (start .args .nodes .now) (start .args .root)) (start .args .ks .now) (at-shape .shape .result) (at-shape .shape .ensures) (at-if1 .if1 .left) (at-if2 .if2 .left) (at-if3 .if3 .left) (at-none-negative .none-negative .result) (at-none-negative .none-negative .ensures) (c .before .before .if4 .taken) (c .before .contradicts .result) (c .before .contradicts .ensures) (c .if5 .taken)
 
 returns-6 : tie.Need-returns-6
 returns-6 c =
-    not-proved (c .before .before .before .before .before .before .before .before .before .args .turns .now) (tree-at (c .before .before .before .before .before .before .before .before .before .args .nodes .now) (c .before .before .before .before .before .before .before .before .before .args .root)) (c .before .before .before .before .before .before .before .before .before .args .ks .now) (c .before .before .before .before .before .before .shape .result) (c .before .before .before .before .before .before .shape .ensures) (c .before .before .before .before .before .before .before .if1 .left) (c .before .before .before .before .before .if2 .left) (c .before .before .before .before .if3 .left) (c .before .before .before .none-negative .result) (c .before .before .before .none-negative .ensures) (c .before .before .if4 .taken) (c .before .contradicts .result) (c .before .contradicts .ensures) (c .if5 .left)
+    let at-none-negative = c .before .before .before in let at-if3 = at-none-negative .before in let at-if2 = at-if3 .before in let at-shape = at-if2 .before in
+    let at-if1 = at-shape .before in let start = at-if1 .before .before in
+    not-proved (start .args .turns .now) (tree-at (start .args .nodes .now) (start .args .root)) (start .args .ks .now) (at-shape .shape .result) (at-shape .shape .ensures) (at-if1 .if1 .left) (at-if2 .if2 .left) (at-if3 .if3 .left) (at-none-negative .none-negative .result) (at-none-negative .none-negative .ensures) (c .before .before .if4 .taken) (c .before .contradicts .result) (c .before .contradicts .ensures) (c .if5 .left)
 
 pub path-number-spec : {M : Type 1} → statement M
 path-number-spec =

@@ -28,8 +28,8 @@ get-requires c κs = search needs
 
 turned-requires : tie.Need-turned-requires
 turned-requires c κs =
-    let s = c .before .before .before .before .before .before .before .before in
-    omega (arith, lower-is (s .pre) (c .before .before .before .before .branch .ensures) (c .before .before .stand-in .ensures), s .pre .copy .within)
+    let at-branch = c .before .before .before .before in let place = at-branch .before .before .before .before in let s = place in
+    omega (arith, lower-is (s .pre) (at-branch .branch .ensures) (c .before .before .stand-in .ensures), s .pre .copy .within)
 
 sub-put : tie.Need-sub-put
 sub-put c = search needs
@@ -42,7 +42,9 @@ same-length c = search needs
 
 returns : tie.Need-returns
 returns c =
-    stepped (c .before .before .before .before .before .before .before .before .before .before .before .before .pre) (c .before .before .before .before .before .before .before .before .branch .ensures) (c .before .before .before .before .before .before .stand-in .ensures) (c .before .before .before .before .get .ensures) (c .before .before .before .turned .ensures) (c .before .put .ensures)
+    let at-turned = c .before .before .before in let at-get = at-turned .before in let at-stand-in = at-get .before .before in let at-branch = at-stand-in .before .before in
+    let start = at-branch .before .before .before .before in
+    stepped (start .pre) (at-branch .branch .ensures) (at-stand-in .stand-in .ensures) (at-get .get .ensures) (at-turned .turned .ensures) (c .before .put .ensures)
 
 pub copy-row-spec : {M : Type 1} → statement M
 copy-row-spec =

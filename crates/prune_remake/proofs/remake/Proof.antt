@@ -24,54 +24,61 @@ loop-holds c =
 
 remake-row-requires : tie.Need-remake-row-requires Inv-loop μ-loop
 remake-row-requires c κs =
-    let s = c .before .before .before .before .before .before .before .before .before in
-    let U = c .before .before .before .loop .inv in
+    let at-loop = c .before .before .before in let place = at-loop .before .before .before .before .before .before in let s = place in
+    let U = at-loop .loop .inv in
     let h = c .before .before .loop-test .taken in
     (U .remade .bare, omega (arith, h, s .pre .3), fits-here (s .pre .0) (U .remade) h (s .pre .3), U .remade .there)
 
 cast-work : tie.Need-cast-work Inv-loop μ-loop
 cast-work c =
-    let s = c .before .before .before .before .before .before .before .before .before .before .before .before .before .before in
-    let U = c .before .before .before .before .before .before .before .before .loop .inv in
-    let h = c .before .before .before .before .before .before .before .loop-test .taken in
-    let r = c .before .before .before .before .remake-row .ensures in
+    let at-remake-row = c .before .before .before .before in let at-loop-test = at-remake-row .before .before .before in let at-loop = at-loop-test .before in
+    let place = at-loop .before .before .before .before .before .before in let s = place in
+    let U = at-loop .loop .inv in
+    let h = at-loop-test .loop-test .taken in
+    let r = at-remake-row .remake-row .ensures in
     let a = at-in (s .pre .0) (U .remade) h (s .pre .3) r in
     record { fits = omega (arith, a, r .bare .chained .space .room, r .bare .chained .space .few) }
 
 mul-work : tie.Need-mul-work Inv-loop μ-loop
 mul-work c =
-    let s = c .before .before .before .before .before .before .before .before .before .before .before .before .before .before in
-    record { fits = omega (arith, s .pre .2, s .pre .3, c .before .before .before .before .before .before .before .loop-test .taken) }
+    let at-loop-test = c .before .before .before .before .before .before .before in let place = at-loop-test .before .before .before .before .before .before .before in
+    let s = place in
+    record { fits = omega (arith, s .pre .2, s .pre .3, at-loop-test .loop-test .taken) }
 
 add-work : tie.Need-add-work Inv-loop μ-loop
 add-work c =
-    let s = c .before .before .before .before .before .before .before .before .before .before .before .before .before .before in
-    record { fits = omega (arith, s .pre .2, s .pre .3, c .before .before .before .before .before .before .before .loop-test .taken) }
+    let at-loop-test = c .before .before .before .before .before .before .before in let place = at-loop-test .before .before .before .before .before .before .before in
+    let s = place in
+    record { fits = omega (arith, s .pre .2, s .pre .3, at-loop-test .loop-test .taken) }
 
 mul-work-2 : tie.Need-mul-work-2 Inv-loop μ-loop
 mul-work-2 c =
-    let s = c .before .before .before .before .before .before .before .before .before .before .before .before .before .before in
-    record { fits = omega (arith, s .pre .2, s .pre .3, c .before .before .before .before .before .before .before .loop-test .taken) }
+    let at-loop-test = c .before .before .before .before .before .before .before in let place = at-loop-test .before .before .before .before .before .before .before in
+    let s = place in
+    record { fits = omega (arith, s .pre .2, s .pre .3, at-loop-test .loop-test .taken) }
 
 slice-write-work : tie.Need-slice-write-work Inv-loop μ-loop
 slice-write-work c =
-    let s = c .before .before .before .before .before .before .before .before .before .before .before .before .before .before in
-    omega (arith, c .before .before .before .before .remake-row .ensures .bare .chained .space .works, s .pre .3, c .before .before .before .before .before .before .before .loop-test .taken)
+    let at-remake-row = c .before .before .before .before in let at-loop-test = at-remake-row .before .before .before in
+    let place = at-loop-test .before .before .before .before .before .before .before in let s = place in
+    omega (arith, at-remake-row .remake-row .ensures .bare .chained .space .works, s .pre .3, at-loop-test .loop-test .taken)
 
 add-i : tie.Need-add-i Inv-loop μ-loop
 add-i c =
-    let s = c .before .before .before .before .before .before .before .before .before .before .before .before .before .before in
-    record { fits = omega (arith, s .pre .2, s .pre .3, c .before .before .before .before .before .before .before .loop-test .taken) }
+    let at-loop-test = c .before .before .before .before .before .before .before in let place = at-loop-test .before .before .before .before .before .before .before in
+    let s = place in
+    record { fits = omega (arith, s .pre .2, s .pre .3, at-loop-test .loop-test .taken) }
 
 loop-less : tie.Need-loop-less Inv-loop μ-loop
 loop-less c =
-    omega (arith, c .before .before .before .before .before .before .before .loop-test .taken)
+    let at-loop-test = c .before .before .before .before .before .before .before in omega (arith, at-loop-test .loop-test .taken)
 
 loop-again : tie.Need-loop-again Inv-loop μ-loop
 loop-again c =
-    let s = c .before .before .before .before .before .before .before .before .before .before .before .before .before .before in
-    let U = c .before .before .before .before .before .before .before .before .loop .inv in
-    step (s .pre .0) (U .remade) (c .before .before .before .before .before .before .before .loop-test .taken) (s .pre .3) (c .before .before .before .before .remake-row .ensures) U (c .before .before .before .before .remake-row .kept .0) (c .before .before .before .before .remake-row .kept .1 .0)
+    let at-remake-row = c .before .before .before .before in let at-loop-test = at-remake-row .before .before .before in let at-loop = at-loop-test .before in
+    let place = at-loop .before .before .before .before .before .before in let s = place in
+    let U = at-loop .loop .inv in
+    step (s .pre .0) (U .remade) (at-loop-test .loop-test .taken) (s .pre .3) (at-remake-row .remake-row .ensures) U (at-remake-row .remake-row .kept .0) (at-remake-row .remake-row .kept .1 .0)
 
 same-length : tie.Need-same-length Inv-loop μ-loop
 same-length c =

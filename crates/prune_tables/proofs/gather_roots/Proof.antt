@@ -32,15 +32,16 @@ cast-r c =
 
 gone-requires : tie.Need-gone-requires Inv-loop μ-loop
 gone-requires c κs =
-    let s = c .before .before .before .before .before .before .before in
-    let w = s .pre .0 .words (c .before .before .before .loop .h) (c .before .before .loop-test .taken) in
+    let at-loop = c .before .before .before in let place = at-loop .before .before .before .before in let s = place in
+    let w = s .pre .0 .words (at-loop .loop .h) (c .before .before .loop-test .taken) in
     (omega (arith, c .if1 .taken), w, s .pre .0 .few, s .pre .0 .works)
 
 cast-roots : tie.Need-cast-roots Inv-loop μ-loop
 cast-roots c =
-    let s = c .before .before .before .before .before .before .before .before in
-    let r = getD (s .args .stages .now) (c .before .before .before .before .loop .h) 0 in
-    let w = s .pre .0 .words (c .before .before .before .before .loop .h) (c .before .before .before .loop-test .taken) in
+    let at-loop-test = c .before .before .before in let at-loop = at-loop-test .before in let place = at-loop .before .before .before .before in
+    let s = place in
+    let r = getD (s .args .stages .now) (at-loop .loop .h) 0 in
+    let w = s .pre .0 .words (at-loop .loop .h) (at-loop-test .loop-test .taken) in
     record { fits = omega (arith, s .pre .0 .gone (r - 1) (omega (arith, c .before .if1 .taken)), s .pre .0 .few, c .gone .ensures) }
 
 mul-roots : tie.Need-mul-roots Inv-loop μ-loop
@@ -50,8 +51,9 @@ mul-roots c =
 
 slice-write-roots : tie.Need-slice-write-roots Inv-loop μ-loop
 slice-write-roots c =
-    let G = c .before .before .before .before .loop .inv in
-    omega (arith, few-gathered G, G .len, c .before .before .before .before .before .before .before .before .pre .1, c .before .before .before .loop-test .taken)
+    let at-loop-test = c .before .before .before in let at-loop = at-loop-test .before in let start = at-loop .before .before .before .before in
+    let G = at-loop .loop .inv in
+    omega (arith, few-gathered G, G .len, start .pre .1, at-loop-test .loop-test .taken)
 
 add-k : tie.Need-add-k Inv-loop μ-loop
 add-k c =
@@ -68,8 +70,8 @@ loop-less c =
 
 loop-again : tie.Need-loop-again Inv-loop μ-loop
 loop-again c =
-    let s = c .before .before .before .before .before .before .before in
-    let G = c .before .before .before .loop .inv in
+    let at-loop = c .before .before .before in let place = at-loop .before .before .before .before in let s = place in
+    let G = at-loop .loop .inv in
     let h = c .before .before .loop-test .taken in
     ⊎-elim (λ w. gather-root G (s .pre .1) h (w .0 .taken) (w .1 .ensures) (w .2) (w .3)) (λ w. gather-none G h (w .0 .left) (w .1) (w .2)) (c .if1 .came)
 

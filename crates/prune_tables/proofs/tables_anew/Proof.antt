@@ -15,24 +15,28 @@ slice-aggregate-gather-roots c = search needs
 
 gather-roots-requires : tie.Need-gather-roots-requires
 gather-roots-requires c κs =
-    let r = c .before .before .before .before .before .before .remake .ensures in
-    standing (c .before .before .before .before .before .before .before .before .before .before .before .pre) (r .0) (r .1) (r .2)
+    let at-remake = c .before .before .before .before .before .before in let start = at-remake .before .before .before .before .before in
+    let r = at-remake .remake .ensures in
+    standing (start .pre) (r .0) (r .1) (r .2)
 
 array-share-prefix-roots : tie.Need-array-share-prefix-roots
 array-share-prefix-roots c = search needs
 
 slice-aggregate-finish : tie.Need-slice-aggregate-finish
 slice-aggregate-finish c =
-    let g = c .before .before .before .before .gather-roots in
-    sym (length-take-le (g .result) (g .last .1 .1 .1 .0) (omega (arith, g .ensures .few, g .kept .1 .1 .1 .0, c .before .before .before .before .before .before .before .before .before .before .before .before .before .before .before .before .pre .eight)))
+    let at-gather-roots = c .before .before .before .before in
+    let start = at-gather-roots .before .before .before .before .before .before .before .before .before .before .before .before in
+    let g = at-gather-roots .gather-roots in
+    sym (length-take-le (g .result) (g .last .1 .1 .1 .0) (omega (arith, g .ensures .few, g .kept .1 .1 .1 .0, start .pre .eight)))
 
 slice-aggregate-finish-2 : tie.Need-slice-aggregate-finish-2
 slice-aggregate-finish-2 c = search needs
 
 finish-requires : tie.Need-finish-requires
 finish-requires c κs =
-    let r = c .before .before .before .before .before .before .before .before .before .before .before .before .remake .ensures in
-    to-finish (c .before .before .before .before .before .before .before .before .before .before .before .before .before .before .before .before .before .pre) (r .0) (r .1) (r .2) (c .before .before .before .before .before .gather-roots .ensures) refl
+    let at-gather-roots = c .before .before .before .before .before in let at-remake = at-gather-roots .before .before .before .before .before .before .before in
+    let start = at-remake .before .before .before .before .before in let r = at-remake .remake .ensures in
+    to-finish (start .pre) (r .0) (r .1) (r .2) (at-gather-roots .gather-roots .ensures) refl
 
 slice-aggregate-spread-numbers : tie.Need-slice-aggregate-spread-numbers
 slice-aggregate-spread-numbers c = search needs
@@ -51,8 +55,10 @@ same-length-3 c = search needs
 
 returns : tie.Need-returns
 returns c =
-    let r = c .before .before .before .before .before .before .before .before .before .before .before .before .before .before .before .before .before .before .before .before .before .before .remake .ensures in
-    all-anew (c .before .before .before .before .before .before .before .before .before .before .before .before .before .before .before .before .before .before .before .before .before .before .before .before .before .before .before .pre) (r .0) (r .1) (r .2) (c .before .before .before .before .before .before .before .before .before .before .before .before .before .before .before .gather-roots .ensures) (c .before .before .before .before .before .before .before .before .before .finish .ensures) (c .before .before .spread-numbers .ensures)
+    let at-finish = c .before .before .before .before .before .before .before .before .before in let at-gather-roots = at-finish .before .before .before .before .before .before in
+    let at-remake = at-gather-roots .before .before .before .before .before .before .before in let start = at-remake .before .before .before .before .before in
+    let r = at-remake .remake .ensures in
+    all-anew (start .pre) (r .0) (r .1) (r .2) (at-gather-roots .gather-roots .ensures) (at-finish .finish .ensures) (c .before .before .spread-numbers .ensures)
 
 pub tables-anew-spec : {M : Type 1} → statement M
 tables-anew-spec =

@@ -52,8 +52,8 @@ merge-sides-at-requires t c κs =
 
 merge-combine-requires : (t : ℕ) → merge-lts.Need-combine-requires (merge-claims t) (merge-at t) merge.Post
 merge-combine-requires t c κs =
-    let s = (c .before .before .before .before .before .before) in
-    let o = merge-goes (s .pre .1 .0) (s .pre .1 .1) (s .args .f) (s .args .g) (s .pre .1 .2) (s .pre .1 .3) (c .before .before .before .sides-at .ensures) .0 (c .before .before .if1 .taken) in
+    let at-sides-at = c .before .before .before in let place = at-sides-at .before .before .before in let s = place in
+    let o = merge-goes (s .pre .1 .0) (s .pre .1 .1) (s .args .f) (s .args .g) (s .pre .1 .2) (s .pre .1 .3) (at-sides-at .sides-at .ensures) .0 (c .before .before .if1 .taken) in
     (s .pre .1 .0 .bare, left-leaf (s .pre .1 .0) (s .pre .1 .1) (s .args .f) (s .args .g) (s .pre .1 .2) (s .pre .1 .3) o, right-leaf (s .pre .1 .0) (s .pre .1 .1) (s .args .f) (s .args .g) (s .pre .1 .2) (s .pre .1 .3) o)
 
 merge-same-length : (t : ℕ) → merge-lts.Need-same-length (merge-claims t) (merge-at t) merge.Post
@@ -64,9 +64,10 @@ merge-same-length-2 t c = search needs
 
 merge-returns : (t : ℕ) → merge-lts.Need-returns (merge-claims t) (merge-at t) merge.Post
 merge-returns t c =
-    let s = (c .before .before .before .before .before .before .before .before .before .before) in
-    let o = merge-goes (s .pre .1 .0) (s .pre .1 .1) (s .args .f) (s .args .g) (s .pre .1 .2) (s .pre .1 .3) (c .before .before .before .before .before .before .before .sides-at .ensures) .0 (c .before .before .before .before .before .before .if1 .taken) in
-    merge-ends (s .pre .1 .0) (s .pre .1 .1) (s .args .f) (s .args .g) (s .pre .1 .2) (s .pre .1 .3) o (c .before .before .before .combine .ensures)
+    let at-combine = c .before .before .before in let at-if1 = at-combine .before .before .before in let at-sides-at = at-if1 .before in
+    let place = at-sides-at .before .before .before in let s = place in
+    let o = merge-goes (s .pre .1 .0) (s .pre .1 .1) (s .args .f) (s .args .g) (s .pre .1 .2) (s .pre .1 .3) (at-sides-at .sides-at .ensures) .0 (at-if1 .if1 .taken) in
+    merge-ends (s .pre .1 .0) (s .pre .1 .1) (s .args .f) (s .args .g) (s .pre .1 .2) (s .pre .1 .3) o (at-combine .combine .ensures)
 
 merge-look-requires : (t : ℕ) → merge-lts.Need-look-requires (merge-claims t) (merge-at t) merge.Post
 merge-look-requires t c κs =
@@ -84,13 +85,14 @@ merge-same-length-4 t c = search needs
 
 merge-returns-2 : (t : ℕ) → merge-lts.Need-returns-2 (merge-claims t) (merge-at t) merge.Post
 merge-returns-2 t c =
-    let s = (c .before .before .before .before .before .before .before) in
+    let place = c .before .before .before .before .before .before .before in let s = place in
     answered (s .pre .1 .0) (s .args .op) (s .args .f) (s .args .g) 0 0 _ (c .before .look .ensures (c .if2 .taken))
 
 merge-merge-requires : (t : ℕ) → merge-lts.Need-merge-requires (merge-claims t) (merge-at t) merge.Post
 merge-merge-requires t c κs =
-    let s = (c .before .before .before .before .before .before .before .before .before) in
-    let o = merge-goes (s .pre .1 .0) (s .pre .1 .1) (s .args .f) (s .args .g) (s .pre .1 .2) (s .pre .1 .3) (c .before .before .before .before .before .before .sides-at .ensures) .1 (c .before .before .before .before .before .if1 .left) in
+    let at-if1 = c .before .before .before .before .before in let at-sides-at = at-if1 .before in let place = at-sides-at .before .before .before in
+    let s = place in
+    let o = merge-goes (s .pre .1 .0) (s .pre .1 .1) (s .args .f) (s .args .g) (s .pre .1 .2) (s .pre .1 .3) (at-sides-at .sides-at .ensures) .1 (at-if1 .if1 .left) in
     (omega (arith, o .high, s .pre .0), (s .pre .1 .0, s .pre .1 .1, o .fh, o .gh))
 
 merge-same-length-5 : (t : ℕ) → merge-lts.Need-same-length-5 (merge-claims t) (merge-at t) merge.Post
@@ -101,15 +103,17 @@ merge-same-length-6 t c = search needs
 
 merge-returns-3 : (t : ℕ) → merge-lts.Need-returns-3 (merge-claims t) (merge-at t) merge.Post
 merge-returns-3 t c =
-    let s = (c .before .before .before .before .before .before .before .before .before .before .before .before .before .before .before) in
-    let o = merge-goes (s .pre .1 .0) (s .pre .1 .1) (s .args .f) (s .args .g) (s .pre .1 .2) (s .pre .1 .3) (c .before .before .before .before .before .before .before .before .before .before .before .before .sides-at .ensures) .1 (c .before .before .before .before .before .before .before .before .before .before .before .if1 .left) in
-    high-ended (s .pre .1 .1) (s .args .f) (s .args .g) o (c .before .before .before .before .before .merge .ensures) (c .if3 .taken)
+    let at-merge = c .before .before .before .before .before in let at-if1 = at-merge .before .before .before .before .before .before in let at-sides-at = at-if1 .before in
+    let place = at-sides-at .before .before .before in let s = place in
+    let o = merge-goes (s .pre .1 .0) (s .pre .1 .1) (s .args .f) (s .args .g) (s .pre .1 .2) (s .pre .1 .3) (at-sides-at .sides-at .ensures) .1 (at-if1 .if1 .left) in
+    high-ended (s .pre .1 .1) (s .args .f) (s .args .g) o (at-merge .merge .ensures) (c .if3 .taken)
 
 merge-merge-requires-2 : (t : ℕ) → merge-lts.Need-merge-requires-2 (merge-claims t) (merge-at t) merge.Post
 merge-merge-requires-2 t c κs =
-    let s = (c .before .before .before .before .before .before .before .before .before .before .before .before .before .before .before .before .before) in
-    let o = merge-goes (s .pre .1 .0) (s .pre .1 .1) (s .args .f) (s .args .g) (s .pre .1 .2) (s .pre .1 .3) (c .before .before .before .before .before .before .before .before .before .before .before .before .before .before .sides-at .ensures) .1 (c .before .before .before .before .before .before .before .before .before .before .before .before .before .if1 .left) in
-    (omega (arith, o .low, s .pre .0), low-asks (s .pre .1 .1) (s .args .f) (s .args .g) o (c .before .before .before .before .before .before .before .merge .ensures))
+    let at-merge = c .before .before .before .before .before .before .before in let at-if1 = at-merge .before .before .before .before .before .before in
+    let at-sides-at = at-if1 .before in let place = at-sides-at .before .before .before in let s = place in
+    let o = merge-goes (s .pre .1 .0) (s .pre .1 .1) (s .args .f) (s .args .g) (s .pre .1 .2) (s .pre .1 .3) (at-sides-at .sides-at .ensures) .1 (at-if1 .if1 .left) in
+    (omega (arith, o .low, s .pre .0), low-asks (s .pre .1 .1) (s .args .f) (s .args .g) o (at-merge .merge .ensures))
 
 merge-same-length-7 : (t : ℕ) → merge-lts.Need-same-length-7 (merge-claims t) (merge-at t) merge.Post
 merge-same-length-7 t c = search needs
@@ -119,15 +123,19 @@ merge-same-length-8 t c = search needs
 
 merge-returns-4 : (t : ℕ) → merge-lts.Need-returns-4 (merge-claims t) (merge-at t) merge.Post
 merge-returns-4 t c =
-    let s = (c .before .before .before .before .before .before .before .before .before .before .before .before .before .before .before .before .before .before .before .before .before .before .before) in
-    let o = merge-goes (s .pre .1 .0) (s .pre .1 .1) (s .args .f) (s .args .g) (s .pre .1 .2) (s .pre .1 .3) (c .before .before .before .before .before .before .before .before .before .before .before .before .before .before .before .before .before .before .before .before .sides-at .ensures) .1 (c .before .before .before .before .before .before .before .before .before .before .before .before .before .before .before .before .before .before .before .if1 .left) in
-    low-ended (s .pre .1 .1) (s .args .f) (s .args .g) o (c .before .before .before .before .before .before .before .before .before .before .before .before .before .merge .ensures) (c .before .before .before .before .before .before .before .before .if3 .left) (c .before .before .before .before .before .merge2 .ensures) (c .if4 .taken)
+    let at-merge2 = c .before .before .before .before .before in let at-if3 = at-merge2 .before .before .before in let at-merge = at-if3 .before .before .before .before .before in
+    let at-if1 = at-merge .before .before .before .before .before .before in let at-sides-at = at-if1 .before in let place = at-sides-at .before .before .before in
+    let s = place in
+    let o = merge-goes (s .pre .1 .0) (s .pre .1 .1) (s .args .f) (s .args .g) (s .pre .1 .2) (s .pre .1 .3) (at-sides-at .sides-at .ensures) .1 (at-if1 .if1 .left) in
+    low-ended (s .pre .1 .1) (s .args .f) (s .args .g) o (at-merge .merge .ensures) (at-if3 .if3 .left) (at-merge2 .merge2 .ensures) (c .if4 .taken)
 
 merge-over-root-requires : (t : ℕ) → merge-lts.Need-over-root-requires (merge-claims t) (merge-at t) merge.Post
 merge-over-root-requires t c κs =
-    let s = (c .before .before .before .before .before .before .before .before .before .before .before .before .before .before .before .before .before .before .before .before .before .before .before .before .before) in
-    let o = merge-goes (s .pre .1 .0) (s .pre .1 .1) (s .args .f) (s .args .g) (s .pre .1 .2) (s .pre .1 .3) (c .before .before .before .before .before .before .before .before .before .before .before .before .before .before .before .before .before .before .before .before .before .before .sides-at .ensures) .1 (c .before .before .before .before .before .before .before .before .before .before .before .before .before .before .before .before .before .before .before .before .before .if1 .left) in
-    root-asks (s .pre .1 .1) (s .args .f) (s .args .g) o (c .before .before .before .before .before .before .before .before .before .before .before .before .before .before .before .merge .ensures) (c .before .before .before .before .before .before .before .before .before .before .if3 .left) (c .before .before .before .before .before .before .before .merge2 .ensures) (c .before .before .if4 .left)
+    let at-merge2 = c .before .before .before .before .before .before .before in let at-if3 = at-merge2 .before .before .before in
+    let at-merge = at-if3 .before .before .before .before .before in let at-if1 = at-merge .before .before .before .before .before .before in let at-sides-at = at-if1 .before in
+    let place = at-sides-at .before .before .before in let s = place in
+    let o = merge-goes (s .pre .1 .0) (s .pre .1 .1) (s .args .f) (s .args .g) (s .pre .1 .2) (s .pre .1 .3) (at-sides-at .sides-at .ensures) .1 (at-if1 .if1 .left) in
+    root-asks (s .pre .1 .1) (s .args .f) (s .args .g) o (at-merge .merge .ensures) (at-if3 .if3 .left) (at-merge2 .merge2 .ensures) (c .before .before .if4 .left)
 
 merge-same-length-9 : (t : ℕ) → merge-lts.Need-same-length-9 (merge-claims t) (merge-at t) merge.Post
 merge-same-length-9 t c = search needs
@@ -137,31 +145,46 @@ merge-same-length-10 t c = search needs
 
 merge-returns-5 : (t : ℕ) → merge-lts.Need-returns-5 (merge-claims t) (merge-at t) merge.Post
 merge-returns-5 t c =
-    let s = (c .before .before .before .before .before .before .before .before .before .before .before .before .before .before .before .before .before .before .before .before .before .before .before .before .before .before .before .before .before .before .before) in
-    let o = merge-goes (s .pre .1 .0) (s .pre .1 .1) (s .args .f) (s .args .g) (s .pre .1 .2) (s .pre .1 .3) (c .before .before .before .before .before .before .before .before .before .before .before .before .before .before .before .before .before .before .before .before .before .before .before .before .before .before .before .before .sides-at .ensures) .1 (c .before .before .before .before .before .before .before .before .before .before .before .before .before .before .before .before .before .before .before .before .before .before .before .before .before .before .before .if1 .left) in
-    root-made (s .pre .1 .1) (s .args .f) (s .args .g) o (c .before .before .before .before .before .before .before .before .before .before .before .before .before .before .before .before .before .before .before .before .before .merge .ensures) (c .before .before .before .before .before .before .before .before .before .before .before .before .before .before .before .before .if3 .left) (c .before .before .before .before .before .before .before .before .before .before .before .before .before .merge2 .ensures) (c .before .before .before .before .before .before .before .before .if4 .left) (c .before .before .before .before .before .over-root .ensures)
+    let at-over-root = c .before .before .before .before .before in let at-if4 = at-over-root .before .before .before in
+    let at-merge2 = at-if4 .before .before .before .before .before in let at-if3 = at-merge2 .before .before .before in
+    let at-merge = at-if3 .before .before .before .before .before in let at-if1 = at-merge .before .before .before .before .before .before in let at-sides-at = at-if1 .before in
+    let place = at-sides-at .before .before .before in let s = place in
+    let o = merge-goes (s .pre .1 .0) (s .pre .1 .1) (s .args .f) (s .args .g) (s .pre .1 .2) (s .pre .1 .3) (at-sides-at .sides-at .ensures) .1 (at-if1 .if1 .left) in
+    root-made (s .pre .1 .1) (s .args .f) (s .args .g) o (at-merge .merge .ensures) (at-if3 .if3 .left) (at-merge2 .merge2 .ensures) (at-if4 .if4 .left) (at-over-root .over-root .ensures)
 
 merge-keep-requires : (t : ℕ) → merge-lts.Need-keep-requires (merge-claims t) (merge-at t) merge.Post
 merge-keep-requires t c κs =
-    let s = (c .before .before .before .before .before .before .before .before .before .before .before .before .before .before .before .before .before .before .before .before .before .before .before .before .before .before .before .before .before .before .before .before) in
-    let o = merge-goes (s .pre .1 .0) (s .pre .1 .1) (s .args .f) (s .args .g) (s .pre .1 .2) (s .pre .1 .3) (c .before .before .before .before .before .before .before .before .before .before .before .before .before .before .before .before .before .before .before .before .before .before .before .before .before .before .before .before .before .sides-at .ensures) .1 (c .before .before .before .before .before .before .before .before .before .before .before .before .before .before .before .before .before .before .before .before .before .before .before .before .before .before .before .before .if1 .left) in
-    let J = root-made (s .pre .1 .1) (s .args .f) (s .args .g) o (c .before .before .before .before .before .before .before .before .before .before .before .before .before .before .before .before .before .before .before .before .before .before .merge .ensures) (c .before .before .before .before .before .before .before .before .before .before .before .before .before .before .before .before .before .if3 .left) (c .before .before .before .before .before .before .before .before .before .before .before .before .before .before .merge2 .ensures) (c .before .before .before .before .before .before .before .before .before .if4 .left) (c .before .before .before .before .before .before .over-root .ensures) in
+    let at-over-root = c .before .before .before .before .before .before in let at-if4 = at-over-root .before .before .before in
+    let at-merge2 = at-if4 .before .before .before .before .before in let at-if3 = at-merge2 .before .before .before in
+    let at-merge = at-if3 .before .before .before .before .before in let at-if1 = at-merge .before .before .before .before .before .before in let at-sides-at = at-if1 .before in
+    let place = at-sides-at .before .before .before in let s = place in
+    let o = merge-goes (s .pre .1 .0) (s .pre .1 .1) (s .args .f) (s .args .g) (s .pre .1 .2) (s .pre .1 .3) (at-sides-at .sides-at .ensures) .1 (at-if1 .if1 .left) in
+    let J = root-made (s .pre .1 .1) (s .args .f) (s .args .g) o (at-merge .merge .ensures) (at-if3 .if3 .left) (at-merge2 .merge2 .ensures) (at-if4 .if4 .left) (at-over-root .over-root .ensures) in
     keepable J (c .before .if5 .left) (merge-key (s .pre .1 .0) (s .pre .1 .1) (s .args .f) (s .args .g) (s .pre .1 .2) (s .pre .1 .3))
 
 merge-same-length-11 : (t : ℕ) → merge-lts.Need-same-length-11 (merge-claims t) (merge-at t) merge.Post
 merge-same-length-11 t c =
-    search (needs, c .before .before .before .before .before .before .before .before .before .before .before .before .before .before .before .before .before .before .before .before .before .before .before .before .before .merge .kept, c .before .before .before .before .before .before .before .before .before .before .before .before .before .before .before .before .before .merge2 .kept, c .before .before .before .before .before .before .before .before .before .over-root .kept, c .before .before .keep .kept)
+    let at-over-root = c .before .before .before .before .before .before .before .before .before in
+    let at-merge2 = at-over-root .before .before .before .before .before .before .before .before in
+    let at-merge = at-merge2 .before .before .before .before .before .before .before .before in
+    search (needs, at-merge .merge .kept, at-merge2 .merge2 .kept, at-over-root .over-root .kept, c .before .before .keep .kept)
 
 merge-same-length-12 : (t : ℕ) → merge-lts.Need-same-length-12 (merge-claims t) (merge-at t) merge.Post
 merge-same-length-12 t c =
-    search (needs, c .before .before .before .before .before .before .before .before .before .before .before .before .before .before .before .before .before .before .before .before .before .before .before .before .before .merge .kept, c .before .before .before .before .before .before .before .before .before .before .before .before .before .before .before .before .before .merge2 .kept, c .before .before .before .before .before .before .before .before .before .over-root .kept, c .before .before .keep .kept)
+    let at-over-root = c .before .before .before .before .before .before .before .before .before in
+    let at-merge2 = at-over-root .before .before .before .before .before .before .before .before in
+    let at-merge = at-merge2 .before .before .before .before .before .before .before .before in
+    search (needs, at-merge .merge .kept, at-merge2 .merge2 .kept, at-over-root .over-root .kept, c .before .before .keep .kept)
 
 merge-returns-6 : (t : ℕ) → merge-lts.Need-returns-6 (merge-claims t) (merge-at t) merge.Post
 merge-returns-6 t c =
-    let s = (c .before .before .before .before .before .before .before .before .before .before .before .before .before .before .before .before .before .before .before .before .before .before .before .before .before .before .before .before .before .before .before .before .before .before .before) in
-    let o = merge-goes (s .pre .1 .0) (s .pre .1 .1) (s .args .f) (s .args .g) (s .pre .1 .2) (s .pre .1 .3) (c .before .before .before .before .before .before .before .before .before .before .before .before .before .before .before .before .before .before .before .before .before .before .before .before .before .before .before .before .before .before .before .before .sides-at .ensures) .1 (c .before .before .before .before .before .before .before .before .before .before .before .before .before .before .before .before .before .before .before .before .before .before .before .before .before .before .before .before .before .before .before .if1 .left) in
-    let J = root-made (s .pre .1 .1) (s .args .f) (s .args .g) o (c .before .before .before .before .before .before .before .before .before .before .before .before .before .before .before .before .before .before .before .before .before .before .before .before .before .merge .ensures) (c .before .before .before .before .before .before .before .before .before .before .before .before .before .before .before .before .before .before .before .before .if3 .left) (c .before .before .before .before .before .before .before .before .before .before .before .before .before .before .before .before .before .merge2 .ensures) (c .before .before .before .before .before .before .before .before .before .before .before .before .if4 .left) (c .before .before .before .before .before .before .before .before .before .over-root .ensures) in
-    kept-run (lasts-merge _ _ (s .args .f) (s .args .g) (s .pre .1 .2) (s .pre .1 .3) (s .args .op) (s .pre .1 .1)) J (c .before .before .before .before .if5 .left) (c .before .before .keep .ensures)
+    let at-if5 = c .before .before .before .before in let at-over-root = at-if5 .before .before .before .before .before in let at-if4 = at-over-root .before .before .before in
+    let at-merge2 = at-if4 .before .before .before .before .before in let at-if3 = at-merge2 .before .before .before in
+    let at-merge = at-if3 .before .before .before .before .before in let at-if1 = at-merge .before .before .before .before .before .before in let at-sides-at = at-if1 .before in
+    let place = at-sides-at .before .before .before in let s = place in
+    let o = merge-goes (s .pre .1 .0) (s .pre .1 .1) (s .args .f) (s .args .g) (s .pre .1 .2) (s .pre .1 .3) (at-sides-at .sides-at .ensures) .1 (at-if1 .if1 .left) in
+    let J = root-made (s .pre .1 .1) (s .args .f) (s .args .g) o (at-merge .merge .ensures) (at-if3 .if3 .left) (at-merge2 .merge2 .ensures) (at-if4 .if4 .left) (at-over-root .over-root .ensures) in
+    kept-run (lasts-merge _ _ (s .args .f) (s .args .g) (s .pre .1 .2) (s .pre .1 .3) (s .args .op) (s .pre .1 .1)) J (at-if5 .if5 .left) (c .before .before .keep .ensures)
 
 pub +merge-spec : {M : Type 1} → statement M
 +merge-spec = close μ-merge λ t. merge-lts.spec (merge-claims t)

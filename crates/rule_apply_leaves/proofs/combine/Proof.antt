@@ -16,7 +16,8 @@ same-length-2 c = search needs
 
 returns : tie.Need-returns
 returns c =
-    grew-as (is-sum ((c .before .before .before .before .before .before .before .before) .args .op) _ _ (c .before .before .before .before .before .before .if1 .taken)) (c .before .before .before .sum-leaves .ensures)
+    let at-sum-leaves = c .before .before .before in let at-if1 = at-sum-leaves .before .before .before in let start = at-if1 .before .before in
+    grew-as (is-sum (start .args .op) _ _ (at-if1 .if1 .taken)) (at-sum-leaves .sum-leaves .ensures)
 
 product-leaves-requires : tie.Need-product-leaves-requires
 product-leaves-requires c κs = search needs
@@ -29,7 +30,9 @@ same-length-4 c = search needs
 
 returns-2 : tie.Need-returns-2
 returns-2 c =
-    grew-as (is-product ((c .before .before .before .before .before .before .before .before .before) .args .op) _ _ (c .before .before .before .before .before .before .before .if1 .left) (c .before .before .before .before .before .before .if2 .taken)) (c .before .before .before .product-leaves .ensures)
+    let at-product-leaves = c .before .before .before in let at-if2 = at-product-leaves .before .before .before in let at-if1 = at-if2 .before in
+    let start = at-if1 .before .before in
+    grew-as (is-product (start .args .op) _ _ (at-if1 .if1 .left) (at-if2 .if2 .taken)) (at-product-leaves .product-leaves .ensures)
 
 best-leaves-requires : tie.Need-best-leaves-requires
 best-leaves-requires c κs = search needs
@@ -42,7 +45,8 @@ same-length-6 c = search needs
 
 returns-3 : tie.Need-returns-3
 returns-3 c =
-    grew-as (is-best ((c .before .before .before .before .before .before .before .before .before) .args .op) _ _ (c .before .before .before .before .before .before .before .if1 .left) (c .before .before .before .before .before .before .if2 .left)) (c .before .before .before .best-leaves .ensures)
+    let at-best-leaves = c .before .before .before in let at-if2 = at-best-leaves .before .before .before in let at-if1 = at-if2 .before in let start = at-if1 .before .before in
+    grew-as (is-best (start .args .op) _ _ (at-if1 .if1 .left) (at-if2 .if2 .left)) (at-best-leaves .best-leaves .ensures)
 
 pub combine-spec : {M : Type 1} → statement M
 combine-spec =

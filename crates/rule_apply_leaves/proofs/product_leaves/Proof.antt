@@ -18,7 +18,8 @@ same-length c = search needs
 
 returns : tie.Need-returns
 returns c =
-    let s = c .before .before .before .before .before .before .before in product-stays (s .pre .0) (s .args .f) (s .args .g) (s .pre .1) (s .pre .2) (c .before .before .before .before .get .ensures) (c .before .before .before .constant .ensures) (c .before .stays-none .ensures) (c .if1 .taken)
+    let at-constant = c .before .before .before in let at-get = at-constant .before in let place = at-get .before .before .before in
+    let s = place in product-stays (s .pre .0) (s .args .f) (s .args .g) (s .pre .1) (s .pre .2) (at-get .get .ensures) (at-constant .constant .ensures) (c .before .stays-none .ensures) (c .if1 .taken)
 
 get-requires-2 : tie.Need-get-requires-2
 get-requires-2 c κs = search needs
@@ -27,7 +28,9 @@ product-requires : tie.Need-product-requires
 product-requires c κs = search needs
 
 make-leaf-requires : tie.Need-make-leaf-requires
-make-leaf-requires c κs = (c .before .before .before .before .before .before .before .before .before .before .before .before .pre .0, plain-product _ _ (c .before .before .product .ensures))
+make-leaf-requires c κs =
+    let start = c .before .before .before .before .before .before .before .before .before .before .before .before in
+    (start .pre .0, plain-product _ _ (c .before .before .product .ensures))
 
 same-length-2 : tie.Need-same-length-2
 same-length-2 c = search needs
@@ -37,7 +40,10 @@ same-length-3 c = search needs
 
 returns-2 : tie.Need-returns-2
 returns-2 c =
-    let s = c .before .before .before .before .before .before .before .before .before .before .before .before .before .before .before .before in product-made (s .pre .0) (s .args .f) (s .args .g) (s .pre .1) (s .pre .2) (c .before .before .before .before .before .before .before .before .before .before .before .before .before .get .ensures) (c .before .before .before .before .before .before .before .before .before .before .before .before .constant .ensures) (c .before .before .before .before .before .before .before .before .before .before .stays-none .ensures) (c .before .before .before .before .before .before .before .before .before .if1 .left) (c .before .before .before .before .before .before .product .result) (c .before .before .before .before .before .before .before .get2 .ensures) (c .before .before .before .make-leaf .ensures) (c .before .before .before .before .before .before .product .ensures)
+    let at-make-leaf = c .before .before .before in let at-product = at-make-leaf .before .before .before in let at-get2 = at-product .before in
+    let at-if1 = at-get2 .before .before in let at-stays-none = at-if1 .before in let at-constant = at-stays-none .before .before in let at-get = at-constant .before in
+    let place = at-get .before .before .before in
+    let s = place in product-made (s .pre .0) (s .args .f) (s .args .g) (s .pre .1) (s .pre .2) (at-get .get .ensures) (at-constant .constant .ensures) (at-stays-none .stays-none .ensures) (at-if1 .if1 .left) (at-product .product .result) (at-get2 .get2 .ensures) (at-make-leaf .make-leaf .ensures) (at-product .product .ensures)
 
 pub product-leaves-spec : {M : Type 1} → statement M
 product-leaves-spec =

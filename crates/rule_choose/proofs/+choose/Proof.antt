@@ -58,17 +58,20 @@ choose-test-at-requires t c κs =
 
 choose-choice-at-requires : (t : ℕ) → choose-lts.Need-choice-at-requires (choose-claims t) (choose-at t) choose.Post
 choose-choice-at-requires t c κs =
-    (at-in ((c .before .before .before) .args .f) ((c .before .before .before) .pre .1 .0 .bare) ((c .before .before .before) .pre .1 .2), at-in ((c .before .before .before) .args .g) ((c .before .before .before) .pre .1 .0 .bare) ((c .before .before .before) .pre .1 .3))
+    let start = c .before .before .before in
+    (at-in (start .args .f) (start .pre .1 .0 .bare) (start .pre .1 .2), at-in (start .args .g) (start .pre .1 .0 .bare) (start .pre .1 .3))
 
 choose-test-at-requires-2 : (t : ℕ) → choose-lts.Need-test-at-requires-2 (choose-claims t) (choose-at t) choose.Post
 choose-test-at-requires-2 t c κs =
-    readable-in ((c .before .before .before .before .before .before .before .before) .pre .1 .0 .bare) ((c .before .before .before .before .before .before .before .before) .pre .1 .1)
+    let start = c .before .before .before .before .before .before .before .before in readable-in (start .pre .1 .0 .bare) (start .pre .1 .1)
 
 choose-join-test-requires : (t : ℕ) → choose-lts.Need-join-test-requires (choose-claims t) (choose-at t) choose.Post
 choose-join-test-requires t c κs =
-    let w = choice-goes ((c .before .before .before .before .before .before .before .before .before) .pre .1 .0) ((c .before .before .before .before .before .before .before .before .before) .pre .1 .1) ((c .before .before .before .before .before .before .before .before .before) .args .f) ((c .before .before .before .before .before .before .before .before .before) .args .g) ((c .before .before .before .before .before .before .before .before .before) .pre .1 .2) ((c .before .before .before .before .before .before .before .before .before) .pre .1 .3) (c .before .before .before .before .before .before .test-at .ensures) (c .before .before .before .before .before .choice-at .ensures) in
-    let o = w .0 (c .before .before .before .before .if1 .taken) in
-    ((c .before .before .before .before .before .before .before .before .before) .pre .1 .0 .bare, test-proper ((c .before .before .before .before .before .before .before .before .before) .pre .1 .0 .bare .good) ((c .before .before .before .before .before .before .before .before .before) .pre .1 .1) (c .test-at2 .ensures), o .fh, o .gl)
+    let at-if1 = c .before .before .before .before in let at-choice-at = at-if1 .before in let at-test-at = at-choice-at .before in
+    let start = at-test-at .before .before .before in
+    let w = choice-goes (start .pre .1 .0) (start .pre .1 .1) (start .args .f) (start .args .g) (start .pre .1 .2) (start .pre .1 .3) (at-test-at .test-at .ensures) (at-choice-at .choice-at .ensures) in
+    let o = w .0 (at-if1 .if1 .taken) in
+    (start .pre .1 .0 .bare, test-proper (start .pre .1 .0 .bare .good) (start .pre .1 .1) (c .test-at2 .ensures), o .fh, o .gl)
 
 choose-same-length : (t : ℕ) → choose-lts.Need-same-length (choose-claims t) (choose-at t) choose.Post
 choose-same-length t c = search needs
@@ -78,13 +81,16 @@ choose-same-length-2 t c = search needs
 
 choose-returns : (t : ℕ) → choose-lts.Need-returns (choose-claims t) (choose-at t) choose.Post
 choose-returns t c =
-    let w = choice-goes ((c .before .before .before .before .before .before .before .before .before .before .before .before .before) .pre .1 .0) ((c .before .before .before .before .before .before .before .before .before .before .before .before .before) .pre .1 .1) ((c .before .before .before .before .before .before .before .before .before .before .before .before .before) .args .f) ((c .before .before .before .before .before .before .before .before .before .before .before .before .before) .args .g) ((c .before .before .before .before .before .before .before .before .before .before .before .before .before) .pre .1 .2) ((c .before .before .before .before .before .before .before .before .before .before .before .before .before) .pre .1 .3) (c .before .before .before .before .before .before .before .before .before .before .test-at .ensures) (c .before .before .before .before .before .before .before .before .before .choice-at .ensures) in
-    let o = w .0 (c .before .before .before .before .before .before .before .before .if1 .taken) in
-    choice-ends ((c .before .before .before .before .before .before .before .before .before .before .before .before .before) .pre .1 .0) ((c .before .before .before .before .before .before .before .before .before .before .before .before .before) .pre .1 .1) ((c .before .before .before .before .before .before .before .before .before .before .before .before .before) .args .f) ((c .before .before .before .before .before .before .before .before .before .before .before .before .before) .args .g) ((c .before .before .before .before .before .before .before .before .before .before .before .before .before) .pre .1 .2) ((c .before .before .before .before .before .before .before .before .before .before .before .before .before) .pre .1 .3) o (c .before .before .before .before .test-at2 .ensures) (c .before .before .before .join-test .ensures)
+    let at-join-test = c .before .before .before in let at-test-at2 = at-join-test .before in let at-if1 = at-test-at2 .before .before .before .before in
+    let at-choice-at = at-if1 .before in let at-test-at = at-choice-at .before in let start = at-test-at .before .before .before in
+    let w = choice-goes (start .pre .1 .0) (start .pre .1 .1) (start .args .f) (start .args .g) (start .pre .1 .2) (start .pre .1 .3) (at-test-at .test-at .ensures) (at-choice-at .choice-at .ensures) in
+    let o = w .0 (at-if1 .if1 .taken) in
+    choice-ends (start .pre .1 .0) (start .pre .1 .1) (start .args .f) (start .args .g) (start .pre .1 .2) (start .pre .1 .3) o (at-test-at2 .test-at2 .ensures) (at-join-test .join-test .ensures)
 
 choose-look-requires : (t : ℕ) → choose-lts.Need-look-requires (choose-claims t) (choose-at t) choose.Post
 choose-look-requires t c κs =
-    (room-in ((c .before .before .before .before .before .before) .pre .1 .0), choice-key ((c .before .before .before .before .before .before) .pre .1 .0) ((c .before .before .before .before .before .before) .pre .1 .1) ((c .before .before .before .before .before .before) .args .f) ((c .before .before .before .before .before .before) .args .g) ((c .before .before .before .before .before .before) .pre .1 .2) ((c .before .before .before .before .before .before) .pre .1 .3))
+    let start = c .before .before .before .before .before .before in
+    (room-in (start .pre .1 .0), choice-key (start .pre .1 .0) (start .pre .1 .1) (start .args .f) (start .args .g) (start .pre .1 .2) (start .pre .1 .3))
 
 choose-sub-t29 : (t : ℕ) → choose-lts.Need-sub-t29 (choose-claims t) (choose-at t) choose.Post
 choose-sub-t29 t c = omega arith
@@ -97,13 +103,16 @@ choose-same-length-4 t c = search needs
 
 choose-returns-2 : (t : ℕ) → choose-lts.Need-returns-2 (choose-claims t) (choose-at t) choose.Post
 choose-returns-2 t c =
-    choice-answered ((c .before .before .before .before .before .before .before .before) .pre .1 .0) ((c .before .before .before .before .before .before .before .before) .pre .1 .1) ((c .before .before .before .before .before .before .before .before) .args .f) ((c .before .before .before .before .before .before .before .before) .args .g) ((c .before .before .before .before .before .before .before .before) .pre .1 .2) ((c .before .before .before .before .before .before .before .before) .pre .1 .3) _ (c .before .look .ensures (c .if2 .taken))
+    let start = c .before .before .before .before .before .before .before .before in
+    choice-answered (start .pre .1 .0) (start .pre .1 .1) (start .args .f) (start .args .g) (start .pre .1 .2) (start .pre .1 .3) _ (c .before .look .ensures (c .if2 .taken))
 
 choose-choose-requires : (t : ℕ) → choose-lts.Need-choose-requires (choose-claims t) (choose-at t) choose.Post
 choose-choose-requires t c κs =
-    let w = choice-goes ((c .before .before .before .before .before .before .before .before .before .before) .pre .1 .0) ((c .before .before .before .before .before .before .before .before .before .before) .pre .1 .1) ((c .before .before .before .before .before .before .before .before .before .before) .args .f) ((c .before .before .before .before .before .before .before .before .before .before) .args .g) ((c .before .before .before .before .before .before .before .before .before .before) .pre .1 .2) ((c .before .before .before .before .before .before .before .before .before .before) .pre .1 .3) (c .before .before .before .before .before .before .before .test-at .ensures) (c .before .before .before .before .before .before .choice-at .ensures) in
-    let o = w .1 (c .before .before .before .before .before .if1 .left) in
-    (omega (arith, o .high, (c .before .before .before .before .before .before .before .before .before .before) .pre .0), ((c .before .before .before .before .before .before .before .before .before .before) .pre .1 .0, (c .before .before .before .before .before .before .before .before .before .before) .pre .1 .1, o .fh, o .gh))
+    let at-if1 = c .before .before .before .before .before in let at-choice-at = at-if1 .before in let at-test-at = at-choice-at .before in
+    let start = at-test-at .before .before .before in
+    let w = choice-goes (start .pre .1 .0) (start .pre .1 .1) (start .args .f) (start .args .g) (start .pre .1 .2) (start .pre .1 .3) (at-test-at .test-at .ensures) (at-choice-at .choice-at .ensures) in
+    let o = w .1 (at-if1 .if1 .left) in
+    (omega (arith, o .high, start .pre .0), (start .pre .1 .0, start .pre .1 .1, o .fh, o .gh))
 
 choose-same-length-5 : (t : ℕ) → choose-lts.Need-same-length-5 (choose-claims t) (choose-at t) choose.Post
 choose-same-length-5 t c = search needs
@@ -113,17 +122,21 @@ choose-same-length-6 t c = search needs
 
 choose-returns-3 : (t : ℕ) → choose-lts.Need-returns-3 (choose-claims t) (choose-at t) choose.Post
 choose-returns-3 t c =
-    let w = choice-goes ((c .before .before .before .before .before .before .before .before .before .before .before .before .before .before .before .before) .pre .1 .0) ((c .before .before .before .before .before .before .before .before .before .before .before .before .before .before .before .before) .pre .1 .1) ((c .before .before .before .before .before .before .before .before .before .before .before .before .before .before .before .before) .args .f) ((c .before .before .before .before .before .before .before .before .before .before .before .before .before .before .before .before) .args .g) ((c .before .before .before .before .before .before .before .before .before .before .before .before .before .before .before .before) .pre .1 .2) ((c .before .before .before .before .before .before .before .before .before .before .before .before .before .before .before .before) .pre .1 .3) (c .before .before .before .before .before .before .before .before .before .before .before .before .before .test-at .ensures) (c .before .before .before .before .before .before .before .before .before .before .before .before .choice-at .ensures) in
-    let o = w .1 (c .before .before .before .before .before .before .before .before .before .before .before .if1 .left) in
-    let Q = c .before .before .before .before .before .choose .ensures in
+    let at-choose = c .before .before .before .before .before in let at-if1 = at-choose .before .before .before .before .before .before in let at-choice-at = at-if1 .before in
+    let at-test-at = at-choice-at .before in let start = at-test-at .before .before .before in
+    let w = choice-goes (start .pre .1 .0) (start .pre .1 .1) (start .args .f) (start .args .g) (start .pre .1 .2) (start .pre .1 .3) (at-test-at .test-at .ensures) (at-choice-at .choice-at .ensures) in
+    let o = w .1 (at-if1 .if1 .left) in
+    let Q = at-choose .choose .ensures in
     high-stops _ _ _ _ _ _ _ _ _ _ _ o _ Q (c .if3 .taken)
 
 choose-choose-requires-2 : (t : ℕ) → choose-lts.Need-choose-requires-2 (choose-claims t) (choose-at t) choose.Post
 choose-choose-requires-2 t c κs =
-    let w = choice-goes ((c .before .before .before .before .before .before .before .before .before .before .before .before .before .before .before .before .before .before) .pre .1 .0) ((c .before .before .before .before .before .before .before .before .before .before .before .before .before .before .before .before .before .before) .pre .1 .1) ((c .before .before .before .before .before .before .before .before .before .before .before .before .before .before .before .before .before .before) .args .f) ((c .before .before .before .before .before .before .before .before .before .before .before .before .before .before .before .before .before .before) .args .g) ((c .before .before .before .before .before .before .before .before .before .before .before .before .before .before .before .before .before .before) .pre .1 .2) ((c .before .before .before .before .before .before .before .before .before .before .before .before .before .before .before .before .before .before) .pre .1 .3) (c .before .before .before .before .before .before .before .before .before .before .before .before .before .before .before .test-at .ensures) (c .before .before .before .before .before .before .before .before .before .before .before .before .before .before .choice-at .ensures) in
-    let o = w .1 (c .before .before .before .before .before .before .before .before .before .before .before .before .before .if1 .left) in
-    let Q = c .before .before .before .before .before .before .before .choose .ensures in
-    (omega (arith, o .low, (c .before .before .before .before .before .before .before .before .before .before .before .before .before .before .before .before .before .before) .pre .0), (Q .table, names-more (Q .more) ((c .before .before .before .before .before .before .before .before .before .before .before .before .before .before .before .before .before .before) .pre .1 .1), lt-of-lt-of-le (o .fl) (Q .more), lt-of-lt-of-le (o .gl) (Q .more)))
+    let at-choose = c .before .before .before .before .before .before .before in let at-if1 = at-choose .before .before .before .before .before .before in
+    let at-choice-at = at-if1 .before in let at-test-at = at-choice-at .before in let start = at-test-at .before .before .before in
+    let w = choice-goes (start .pre .1 .0) (start .pre .1 .1) (start .args .f) (start .args .g) (start .pre .1 .2) (start .pre .1 .3) (at-test-at .test-at .ensures) (at-choice-at .choice-at .ensures) in
+    let o = w .1 (at-if1 .if1 .left) in
+    let Q = at-choose .choose .ensures in
+    (omega (arith, o .low, start .pre .0), (Q .table, names-more (Q .more) (start .pre .1 .1), lt-of-lt-of-le (o .fl) (Q .more), lt-of-lt-of-le (o .gl) (Q .more)))
 
 choose-same-length-7 : (t : ℕ) → choose-lts.Need-same-length-7 (choose-claims t) (choose-at t) choose.Post
 choose-same-length-7 t c = search needs
@@ -133,19 +146,25 @@ choose-same-length-8 t c = search needs
 
 choose-returns-4 : (t : ℕ) → choose-lts.Need-returns-4 (choose-claims t) (choose-at t) choose.Post
 choose-returns-4 t c =
-    let w = choice-goes ((c .before .before .before .before .before .before .before .before .before .before .before .before .before .before .before .before .before .before .before .before .before .before .before .before) .pre .1 .0) ((c .before .before .before .before .before .before .before .before .before .before .before .before .before .before .before .before .before .before .before .before .before .before .before .before) .pre .1 .1) ((c .before .before .before .before .before .before .before .before .before .before .before .before .before .before .before .before .before .before .before .before .before .before .before .before) .args .f) ((c .before .before .before .before .before .before .before .before .before .before .before .before .before .before .before .before .before .before .before .before .before .before .before .before) .args .g) ((c .before .before .before .before .before .before .before .before .before .before .before .before .before .before .before .before .before .before .before .before .before .before .before .before) .pre .1 .2) ((c .before .before .before .before .before .before .before .before .before .before .before .before .before .before .before .before .before .before .before .before .before .before .before .before) .pre .1 .3) (c .before .before .before .before .before .before .before .before .before .before .before .before .before .before .before .before .before .before .before .before .before .test-at .ensures) (c .before .before .before .before .before .before .before .before .before .before .before .before .before .before .before .before .before .before .before .before .choice-at .ensures) in
-    let o = w .1 (c .before .before .before .before .before .before .before .before .before .before .before .before .before .before .before .before .before .before .before .if1 .left) in
-    let Q = c .before .before .before .before .before .before .before .before .before .before .before .before .before .choose .ensures in
-    let S = choice-kept (grown Q) ((c .before .before .before .before .before .before .before .before .before .before .before .before .before .before .before .before .before .before .before .before .before .before .before .before) .pre .1 .1) (treeAt (c .before .before .before .before .before .before .before .before .before .before .before .before .before .choose .last .0) (c .before .before .before .before .before .before .before .before .before .before .before .before .before .choose .result .count) (c .before .before .before .before .before .before .before .before .before .before .before .before .before .before .before .before .before .before .before .before .choice-at .result .fl)) (treeAt (c .before .before .before .before .before .before .before .before .before .before .before .before .before .choose .last .0) (c .before .before .before .before .before .before .before .before .before .before .before .before .before .choose .result .count) (c .before .before .before .before .before .before .before .before .before .before .before .before .before .before .before .before .before .before .before .before .choice-at .result .gl)) (c .before .before .before .before .before .choose2 .ensures) in
-    low-stops _ _ _ _ _ _ _ _ _ _ _ o _ Q (c .before .before .before .before .before .before .before .before .if3 .left) _ _ _ S (c .if4 .taken)
+    let at-choose2 = c .before .before .before .before .before in let at-if3 = at-choose2 .before .before .before in
+    let at-choose = at-if3 .before .before .before .before .before in let at-if1 = at-choose .before .before .before .before .before .before in let at-choice-at = at-if1 .before in
+    let at-test-at = at-choice-at .before in let start = at-test-at .before .before .before in
+    let w = choice-goes (start .pre .1 .0) (start .pre .1 .1) (start .args .f) (start .args .g) (start .pre .1 .2) (start .pre .1 .3) (at-test-at .test-at .ensures) (at-choice-at .choice-at .ensures) in
+    let o = w .1 (at-if1 .if1 .left) in
+    let Q = at-choose .choose .ensures in
+    let S = choice-kept (grown Q) (start .pre .1 .1) (treeAt (at-choose .choose .last .0) (at-choose .choose .result .count) (at-choice-at .choice-at .result .fl)) (treeAt (at-choose .choose .last .0) (at-choose .choose .result .count) (at-choice-at .choice-at .result .gl)) (at-choose2 .choose2 .ensures) in
+    low-stops _ _ _ _ _ _ _ _ _ _ _ o _ Q (at-if3 .if3 .left) _ _ _ S (c .if4 .taken)
 
 choose-join-requires : (t : ℕ) → choose-lts.Need-join-requires (choose-claims t) (choose-at t) choose.Post
 choose-join-requires t c κs =
-    let w = choice-goes ((c .before .before .before .before .before .before .before .before .before .before .before .before .before .before .before .before .before .before .before .before .before .before .before .before .before .before) .pre .1 .0) ((c .before .before .before .before .before .before .before .before .before .before .before .before .before .before .before .before .before .before .before .before .before .before .before .before .before .before) .pre .1 .1) ((c .before .before .before .before .before .before .before .before .before .before .before .before .before .before .before .before .before .before .before .before .before .before .before .before .before .before) .args .f) ((c .before .before .before .before .before .before .before .before .before .before .before .before .before .before .before .before .before .before .before .before .before .before .before .before .before .before) .args .g) ((c .before .before .before .before .before .before .before .before .before .before .before .before .before .before .before .before .before .before .before .before .before .before .before .before .before .before) .pre .1 .2) ((c .before .before .before .before .before .before .before .before .before .before .before .before .before .before .before .before .before .before .before .before .before .before .before .before .before .before) .pre .1 .3) (c .before .before .before .before .before .before .before .before .before .before .before .before .before .before .before .before .before .before .before .before .before .before .before .test-at .ensures) (c .before .before .before .before .before .before .before .before .before .before .before .before .before .before .before .before .before .before .before .before .before .before .choice-at .ensures) in
-    let o = w .1 (c .before .before .before .before .before .before .before .before .before .before .before .before .before .before .before .before .before .before .before .before .before .if1 .left) in
-    let Q = c .before .before .before .before .before .before .before .before .before .before .before .before .before .before .before .choose .ensures in
-    let S = choice-kept (grown Q) ((c .before .before .before .before .before .before .before .before .before .before .before .before .before .before .before .before .before .before .before .before .before .before .before .before .before .before) .pre .1 .1) (treeAt (c .before .before .before .before .before .before .before .before .before .before .before .before .before .before .before .choose .last .0) (c .before .before .before .before .before .before .before .before .before .before .before .before .before .before .before .choose .result .count) (c .before .before .before .before .before .before .before .before .before .before .before .before .before .before .before .before .before .before .before .before .before .before .choice-at .result .fl)) (treeAt (c .before .before .before .before .before .before .before .before .before .before .before .before .before .before .before .choose .last .0) (c .before .before .before .before .before .before .before .before .before .before .before .before .before .before .before .choose .result .count) (c .before .before .before .before .before .before .before .before .before .before .before .before .before .before .before .before .before .before .before .before .before .before .choice-at .result .gl)) (c .before .before .before .before .before .before .before .choose2 .ensures) in
-    (S .table .bare, root-on _ _ _ _ _ _ _ _ _ _ _ o _ Q (c .before .before .before .before .before .before .before .before .before .before .if3 .left) _ _ _ S, high-in _ _ _ _ _ _ _ _ _ _ _ o _ Q (c .before .before .before .before .before .before .before .before .before .before .if3 .left) _ _ _ S, S .within (c .before .before .if4 .left))
+    let at-choose2 = c .before .before .before .before .before .before .before in let at-if3 = at-choose2 .before .before .before in
+    let at-choose = at-if3 .before .before .before .before .before in let at-if1 = at-choose .before .before .before .before .before .before in let at-choice-at = at-if1 .before in
+    let at-test-at = at-choice-at .before in let start = at-test-at .before .before .before in
+    let w = choice-goes (start .pre .1 .0) (start .pre .1 .1) (start .args .f) (start .args .g) (start .pre .1 .2) (start .pre .1 .3) (at-test-at .test-at .ensures) (at-choice-at .choice-at .ensures) in
+    let o = w .1 (at-if1 .if1 .left) in
+    let Q = at-choose .choose .ensures in
+    let S = choice-kept (grown Q) (start .pre .1 .1) (treeAt (at-choose .choose .last .0) (at-choose .choose .result .count) (at-choice-at .choice-at .result .fl)) (treeAt (at-choose .choose .last .0) (at-choose .choose .result .count) (at-choice-at .choice-at .result .gl)) (at-choose2 .choose2 .ensures) in
+    (S .table .bare, root-on _ _ _ _ _ _ _ _ _ _ _ o _ Q (at-if3 .if3 .left) _ _ _ S, high-in _ _ _ _ _ _ _ _ _ _ _ o _ Q (at-if3 .if3 .left) _ _ _ S, S .within (c .before .before .if4 .left))
 
 choose-same-length-9 : (t : ℕ) → choose-lts.Need-same-length-9 (choose-claims t) (choose-at t) choose.Post
 choose-same-length-9 t c = search needs
@@ -155,37 +174,55 @@ choose-same-length-10 t c = search needs
 
 choose-returns-5 : (t : ℕ) → choose-lts.Need-returns-5 (choose-claims t) (choose-at t) choose.Post
 choose-returns-5 t c =
-    let w = choice-goes ((c .before .before .before .before .before .before .before .before .before .before .before .before .before .before .before .before .before .before .before .before .before .before .before .before .before .before .before .before .before .before .before .before) .pre .1 .0) ((c .before .before .before .before .before .before .before .before .before .before .before .before .before .before .before .before .before .before .before .before .before .before .before .before .before .before .before .before .before .before .before .before) .pre .1 .1) ((c .before .before .before .before .before .before .before .before .before .before .before .before .before .before .before .before .before .before .before .before .before .before .before .before .before .before .before .before .before .before .before .before) .args .f) ((c .before .before .before .before .before .before .before .before .before .before .before .before .before .before .before .before .before .before .before .before .before .before .before .before .before .before .before .before .before .before .before .before) .args .g) ((c .before .before .before .before .before .before .before .before .before .before .before .before .before .before .before .before .before .before .before .before .before .before .before .before .before .before .before .before .before .before .before .before) .pre .1 .2) ((c .before .before .before .before .before .before .before .before .before .before .before .before .before .before .before .before .before .before .before .before .before .before .before .before .before .before .before .before .before .before .before .before) .pre .1 .3) (c .before .before .before .before .before .before .before .before .before .before .before .before .before .before .before .before .before .before .before .before .before .before .before .before .before .before .before .before .before .test-at .ensures) (c .before .before .before .before .before .before .before .before .before .before .before .before .before .before .before .before .before .before .before .before .before .before .before .before .before .before .before .before .choice-at .ensures) in
-    let o = w .1 (c .before .before .before .before .before .before .before .before .before .before .before .before .before .before .before .before .before .before .before .before .before .before .before .before .before .before .before .if1 .left) in
-    let Q = c .before .before .before .before .before .before .before .before .before .before .before .before .before .before .before .before .before .before .before .before .before .choose .ensures in
-    let S = choice-kept (grown Q) ((c .before .before .before .before .before .before .before .before .before .before .before .before .before .before .before .before .before .before .before .before .before .before .before .before .before .before .before .before .before .before .before .before) .pre .1 .1) (treeAt (c .before .before .before .before .before .before .before .before .before .before .before .before .before .before .before .before .before .before .before .before .before .choose .last .0) (c .before .before .before .before .before .before .before .before .before .before .before .before .before .before .before .before .before .before .before .before .before .choose .result .count) (c .before .before .before .before .before .before .before .before .before .before .before .before .before .before .before .before .before .before .before .before .before .before .before .before .before .before .before .before .choice-at .result .fl)) (treeAt (c .before .before .before .before .before .before .before .before .before .before .before .before .before .before .before .before .before .before .before .before .before .choose .last .0) (c .before .before .before .before .before .before .before .before .before .before .before .before .before .before .before .before .before .before .before .before .before .choose .result .count) (c .before .before .before .before .before .before .before .before .before .before .before .before .before .before .before .before .before .before .before .before .before .before .before .before .before .before .before .before .choice-at .result .gl)) (c .before .before .before .before .before .before .before .before .before .before .before .before .before .choose2 .ensures) in
-    joined _ _ _ _ _ _ _ _ _ _ _ o _ Q (c .before .before .before .before .before .before .before .before .before .before .before .before .before .before .before .before .if3 .left) _ _ _ S (c .before .before .before .before .before .before .before .before .if4 .left) _ _ _ (lifted (S .table) (c .before .before .before .before .before .join .ensures))
+    let at-join = c .before .before .before .before .before in let at-if4 = at-join .before .before .before in let at-choose2 = at-if4 .before .before .before .before .before in
+    let at-if3 = at-choose2 .before .before .before in let at-choose = at-if3 .before .before .before .before .before in
+    let at-if1 = at-choose .before .before .before .before .before .before in let at-choice-at = at-if1 .before in let at-test-at = at-choice-at .before in
+    let start = at-test-at .before .before .before in
+    let w = choice-goes (start .pre .1 .0) (start .pre .1 .1) (start .args .f) (start .args .g) (start .pre .1 .2) (start .pre .1 .3) (at-test-at .test-at .ensures) (at-choice-at .choice-at .ensures) in
+    let o = w .1 (at-if1 .if1 .left) in
+    let Q = at-choose .choose .ensures in
+    let S = choice-kept (grown Q) (start .pre .1 .1) (treeAt (at-choose .choose .last .0) (at-choose .choose .result .count) (at-choice-at .choice-at .result .fl)) (treeAt (at-choose .choose .last .0) (at-choose .choose .result .count) (at-choice-at .choice-at .result .gl)) (at-choose2 .choose2 .ensures) in
+    joined _ _ _ _ _ _ _ _ _ _ _ o _ Q (at-if3 .if3 .left) _ _ _ S (at-if4 .if4 .left) _ _ _ (lifted (S .table) (at-join .join .ensures))
 
 choose-keep-requires : (t : ℕ) → choose-lts.Need-keep-requires (choose-claims t) (choose-at t) choose.Post
 choose-keep-requires t c κs =
-    let w = choice-goes ((c .before .before .before .before .before .before .before .before .before .before .before .before .before .before .before .before .before .before .before .before .before .before .before .before .before .before .before .before .before .before .before .before .before) .pre .1 .0) ((c .before .before .before .before .before .before .before .before .before .before .before .before .before .before .before .before .before .before .before .before .before .before .before .before .before .before .before .before .before .before .before .before .before) .pre .1 .1) ((c .before .before .before .before .before .before .before .before .before .before .before .before .before .before .before .before .before .before .before .before .before .before .before .before .before .before .before .before .before .before .before .before .before) .args .f) ((c .before .before .before .before .before .before .before .before .before .before .before .before .before .before .before .before .before .before .before .before .before .before .before .before .before .before .before .before .before .before .before .before .before) .args .g) ((c .before .before .before .before .before .before .before .before .before .before .before .before .before .before .before .before .before .before .before .before .before .before .before .before .before .before .before .before .before .before .before .before .before) .pre .1 .2) ((c .before .before .before .before .before .before .before .before .before .before .before .before .before .before .before .before .before .before .before .before .before .before .before .before .before .before .before .before .before .before .before .before .before) .pre .1 .3) (c .before .before .before .before .before .before .before .before .before .before .before .before .before .before .before .before .before .before .before .before .before .before .before .before .before .before .before .before .before .before .test-at .ensures) (c .before .before .before .before .before .before .before .before .before .before .before .before .before .before .before .before .before .before .before .before .before .before .before .before .before .before .before .before .before .choice-at .ensures) in
-    let o = w .1 (c .before .before .before .before .before .before .before .before .before .before .before .before .before .before .before .before .before .before .before .before .before .before .before .before .before .before .before .before .if1 .left) in
-    let Q = c .before .before .before .before .before .before .before .before .before .before .before .before .before .before .before .before .before .before .before .before .before .before .choose .ensures in
-    let S = choice-kept (grown Q) ((c .before .before .before .before .before .before .before .before .before .before .before .before .before .before .before .before .before .before .before .before .before .before .before .before .before .before .before .before .before .before .before .before .before) .pre .1 .1) (treeAt (c .before .before .before .before .before .before .before .before .before .before .before .before .before .before .before .before .before .before .before .before .before .before .choose .last .0) (c .before .before .before .before .before .before .before .before .before .before .before .before .before .before .before .before .before .before .before .before .before .before .choose .result .count) (c .before .before .before .before .before .before .before .before .before .before .before .before .before .before .before .before .before .before .before .before .before .before .before .before .before .before .before .before .before .choice-at .result .fl)) (treeAt (c .before .before .before .before .before .before .before .before .before .before .before .before .before .before .before .before .before .before .before .before .before .before .choose .last .0) (c .before .before .before .before .before .before .before .before .before .before .before .before .before .before .before .before .before .before .before .before .before .before .choose .result .count) (c .before .before .before .before .before .before .before .before .before .before .before .before .before .before .before .before .before .before .before .before .before .before .before .before .before .before .before .before .before .choice-at .result .gl)) (c .before .before .before .before .before .before .before .before .before .before .before .before .before .before .choose2 .ensures) in
-    let J = joined _ _ _ _ _ _ _ _ _ _ _ o _ Q (c .before .before .before .before .before .before .before .before .before .before .before .before .before .before .before .before .before .if3 .left) _ _ _ S (c .before .before .before .before .before .before .before .before .before .if4 .left) _ _ _ (lifted (S .table) (c .before .before .before .before .before .before .join .ensures)) in
-    keepable J (c .before .if5 .left) (choice-key ((c .before .before .before .before .before .before .before .before .before .before .before .before .before .before .before .before .before .before .before .before .before .before .before .before .before .before .before .before .before .before .before .before .before) .pre .1 .0) ((c .before .before .before .before .before .before .before .before .before .before .before .before .before .before .before .before .before .before .before .before .before .before .before .before .before .before .before .before .before .before .before .before .before) .pre .1 .1) ((c .before .before .before .before .before .before .before .before .before .before .before .before .before .before .before .before .before .before .before .before .before .before .before .before .before .before .before .before .before .before .before .before .before) .args .f) ((c .before .before .before .before .before .before .before .before .before .before .before .before .before .before .before .before .before .before .before .before .before .before .before .before .before .before .before .before .before .before .before .before .before) .args .g) ((c .before .before .before .before .before .before .before .before .before .before .before .before .before .before .before .before .before .before .before .before .before .before .before .before .before .before .before .before .before .before .before .before .before) .pre .1 .2) ((c .before .before .before .before .before .before .before .before .before .before .before .before .before .before .before .before .before .before .before .before .before .before .before .before .before .before .before .before .before .before .before .before .before) .pre .1 .3))
+    let at-join = c .before .before .before .before .before .before in let at-if4 = at-join .before .before .before in
+    let at-choose2 = at-if4 .before .before .before .before .before in let at-if3 = at-choose2 .before .before .before in
+    let at-choose = at-if3 .before .before .before .before .before in let at-if1 = at-choose .before .before .before .before .before .before in let at-choice-at = at-if1 .before in
+    let at-test-at = at-choice-at .before in let start = at-test-at .before .before .before in
+    let w = choice-goes (start .pre .1 .0) (start .pre .1 .1) (start .args .f) (start .args .g) (start .pre .1 .2) (start .pre .1 .3) (at-test-at .test-at .ensures) (at-choice-at .choice-at .ensures) in
+    let o = w .1 (at-if1 .if1 .left) in
+    let Q = at-choose .choose .ensures in
+    let S = choice-kept (grown Q) (start .pre .1 .1) (treeAt (at-choose .choose .last .0) (at-choose .choose .result .count) (at-choice-at .choice-at .result .fl)) (treeAt (at-choose .choose .last .0) (at-choose .choose .result .count) (at-choice-at .choice-at .result .gl)) (at-choose2 .choose2 .ensures) in
+    let J = joined _ _ _ _ _ _ _ _ _ _ _ o _ Q (at-if3 .if3 .left) _ _ _ S (at-if4 .if4 .left) _ _ _ (lifted (S .table) (at-join .join .ensures)) in
+    keepable J (c .before .if5 .left) (choice-key (start .pre .1 .0) (start .pre .1 .1) (start .args .f) (start .args .g) (start .pre .1 .2) (start .pre .1 .3))
 
 choose-same-length-11 : (t : ℕ) → choose-lts.Need-same-length-11 (choose-claims t) (choose-at t) choose.Post
 choose-same-length-11 t c =
-    search (needs, c .before .before .before .before .before .before .before .before .before .before .before .before .before .before .before .before .before .before .before .before .before .before .before .before .before .choose .kept, c .before .before .before .before .before .before .before .before .before .before .before .before .before .before .before .before .before .choose2 .kept, c .before .before .before .before .before .before .before .before .before .join .kept, c .before .before .keep .kept)
+    let at-join = c .before .before .before .before .before .before .before .before .before in
+    let at-choose2 = at-join .before .before .before .before .before .before .before .before in
+    let at-choose = at-choose2 .before .before .before .before .before .before .before .before in
+    search (needs, at-choose .choose .kept, at-choose2 .choose2 .kept, at-join .join .kept, c .before .before .keep .kept)
 
 choose-same-length-12 : (t : ℕ) → choose-lts.Need-same-length-12 (choose-claims t) (choose-at t) choose.Post
 choose-same-length-12 t c =
-    search (needs, c .before .before .before .before .before .before .before .before .before .before .before .before .before .before .before .before .before .before .before .before .before .before .before .before .before .choose .kept, c .before .before .before .before .before .before .before .before .before .before .before .before .before .before .before .before .before .choose2 .kept, c .before .before .before .before .before .before .before .before .before .join .kept, c .before .before .keep .kept)
+    let at-join = c .before .before .before .before .before .before .before .before .before in
+    let at-choose2 = at-join .before .before .before .before .before .before .before .before in
+    let at-choose = at-choose2 .before .before .before .before .before .before .before .before in
+    search (needs, at-choose .choose .kept, at-choose2 .choose2 .kept, at-join .join .kept, c .before .before .keep .kept)
 
 choose-returns-6 : (t : ℕ) → choose-lts.Need-returns-6 (choose-claims t) (choose-at t) choose.Post
 choose-returns-6 t c =
-    let w = choice-goes ((c .before .before .before .before .before .before .before .before .before .before .before .before .before .before .before .before .before .before .before .before .before .before .before .before .before .before .before .before .before .before .before .before .before .before .before .before) .pre .1 .0) ((c .before .before .before .before .before .before .before .before .before .before .before .before .before .before .before .before .before .before .before .before .before .before .before .before .before .before .before .before .before .before .before .before .before .before .before .before) .pre .1 .1) ((c .before .before .before .before .before .before .before .before .before .before .before .before .before .before .before .before .before .before .before .before .before .before .before .before .before .before .before .before .before .before .before .before .before .before .before .before) .args .f) ((c .before .before .before .before .before .before .before .before .before .before .before .before .before .before .before .before .before .before .before .before .before .before .before .before .before .before .before .before .before .before .before .before .before .before .before .before) .args .g) ((c .before .before .before .before .before .before .before .before .before .before .before .before .before .before .before .before .before .before .before .before .before .before .before .before .before .before .before .before .before .before .before .before .before .before .before .before) .pre .1 .2) ((c .before .before .before .before .before .before .before .before .before .before .before .before .before .before .before .before .before .before .before .before .before .before .before .before .before .before .before .before .before .before .before .before .before .before .before .before) .pre .1 .3) (c .before .before .before .before .before .before .before .before .before .before .before .before .before .before .before .before .before .before .before .before .before .before .before .before .before .before .before .before .before .before .before .before .before .test-at .ensures) (c .before .before .before .before .before .before .before .before .before .before .before .before .before .before .before .before .before .before .before .before .before .before .before .before .before .before .before .before .before .before .before .before .choice-at .ensures) in
-    let o = w .1 (c .before .before .before .before .before .before .before .before .before .before .before .before .before .before .before .before .before .before .before .before .before .before .before .before .before .before .before .before .before .before .before .if1 .left) in
-    let Q = c .before .before .before .before .before .before .before .before .before .before .before .before .before .before .before .before .before .before .before .before .before .before .before .before .before .choose .ensures in
-    let S = choice-kept (grown Q) ((c .before .before .before .before .before .before .before .before .before .before .before .before .before .before .before .before .before .before .before .before .before .before .before .before .before .before .before .before .before .before .before .before .before .before .before .before) .pre .1 .1) (treeAt (c .before .before .before .before .before .before .before .before .before .before .before .before .before .before .before .before .before .before .before .before .before .before .before .before .before .choose .last .0) (c .before .before .before .before .before .before .before .before .before .before .before .before .before .before .before .before .before .before .before .before .before .before .before .before .before .choose .result .count) (c .before .before .before .before .before .before .before .before .before .before .before .before .before .before .before .before .before .before .before .before .before .before .before .before .before .before .before .before .before .before .before .before .choice-at .result .fl)) (treeAt (c .before .before .before .before .before .before .before .before .before .before .before .before .before .before .before .before .before .before .before .before .before .before .before .before .before .choose .last .0) (c .before .before .before .before .before .before .before .before .before .before .before .before .before .before .before .before .before .before .before .before .before .before .before .before .before .choose .result .count) (c .before .before .before .before .before .before .before .before .before .before .before .before .before .before .before .before .before .before .before .before .before .before .before .before .before .before .before .before .before .before .before .before .choice-at .result .gl)) (c .before .before .before .before .before .before .before .before .before .before .before .before .before .before .before .before .before .choose2 .ensures) in
-    let J = joined _ _ _ _ _ _ _ _ _ _ _ o _ Q (c .before .before .before .before .before .before .before .before .before .before .before .before .before .before .before .before .before .before .before .before .if3 .left) _ _ _ S (c .before .before .before .before .before .before .before .before .before .before .before .before .if4 .left) _ _ _ (lifted (S .table) (c .before .before .before .before .before .before .before .before .before .join .ensures)) in
-    choice-stored ((c .before .before .before .before .before .before .before .before .before .before .before .before .before .before .before .before .before .before .before .before .before .before .before .before .before .before .before .before .before .before .before .before .before .before .before .before) .pre .1 .0) ((c .before .before .before .before .before .before .before .before .before .before .before .before .before .before .before .before .before .before .before .before .before .before .before .before .before .before .before .before .before .before .before .before .before .before .before .before) .pre .1 .1) ((c .before .before .before .before .before .before .before .before .before .before .before .before .before .before .before .before .before .before .before .before .before .before .before .before .before .before .before .before .before .before .before .before .before .before .before .before) .args .f) ((c .before .before .before .before .before .before .before .before .before .before .before .before .before .before .before .before .before .before .before .before .before .before .before .before .before .before .before .before .before .before .before .before .before .before .before .before) .args .g) ((c .before .before .before .before .before .before .before .before .before .before .before .before .before .before .before .before .before .before .before .before .before .before .before .before .before .before .before .before .before .before .before .before .before .before .before .before) .pre .1 .2) ((c .before .before .before .before .before .before .before .before .before .before .before .before .before .before .before .before .before .before .before .before .before .before .before .before .before .before .before .before .before .before .before .before .before .before .before .before) .pre .1 .3) J (c .before .before .before .before .if5 .left) (c .before .before .keep .ensures)
+    let at-if5 = c .before .before .before .before in let at-join = at-if5 .before .before .before .before .before in let at-if4 = at-join .before .before .before in
+    let at-choose2 = at-if4 .before .before .before .before .before in let at-if3 = at-choose2 .before .before .before in
+    let at-choose = at-if3 .before .before .before .before .before in let at-if1 = at-choose .before .before .before .before .before .before in let at-choice-at = at-if1 .before in
+    let at-test-at = at-choice-at .before in let start = at-test-at .before .before .before in
+    let w = choice-goes (start .pre .1 .0) (start .pre .1 .1) (start .args .f) (start .args .g) (start .pre .1 .2) (start .pre .1 .3) (at-test-at .test-at .ensures) (at-choice-at .choice-at .ensures) in
+    let o = w .1 (at-if1 .if1 .left) in
+    let Q = at-choose .choose .ensures in
+    let S = choice-kept (grown Q) (start .pre .1 .1) (treeAt (at-choose .choose .last .0) (at-choose .choose .result .count) (at-choice-at .choice-at .result .fl)) (treeAt (at-choose .choose .last .0) (at-choose .choose .result .count) (at-choice-at .choice-at .result .gl)) (at-choose2 .choose2 .ensures) in
+    let J = joined _ _ _ _ _ _ _ _ _ _ _ o _ Q (at-if3 .if3 .left) _ _ _ S (at-if4 .if4 .left) _ _ _ (lifted (S .table) (at-join .join .ensures)) in
+    choice-stored (start .pre .1 .0) (start .pre .1 .1) (start .args .f) (start .args .g) (start .pre .1 .2) (start .pre .1 .3) J (at-if5 .if5 .left) (c .before .before .keep .ensures)
 
 pub +choose-spec : {M : Type 1} → statement M
 +choose-spec = close μ-choose λ t. choose-lts.spec (choose-claims t)

@@ -22,8 +22,9 @@ loop-holds c =
 
 number-requires : tie.Need-number-requires Inv-loop μ-loop
 number-requires c κs =
-    let h = adding-number ((c .before .before .before .before .before) .pre .0) ((c .before .before .before .before .before) .args .i) ((c .before .before .before .before .before) .pre .1) ((c .before .before .before .before .before) .pre .3) (c .before .before .loop .inv) (c .before .loop-test .taken) in
-    (at-in ((c .before .before .before .before .before) .args .i) (c .before .before .loop .inv .ran .table .bare) (h .0), h .1)
+    let start = c .before .before .before .before .before in
+    let h = adding-number (start .pre .0) (start .args .i) (start .pre .1) (start .pre .3) (c .before .before .loop .inv) (c .before .loop-test .taken) in
+    (at-in (start .args .i) (c .before .before .loop .inv .ran .table .bare) (h .0), h .1)
 
 mul-d : tie.Need-mul-d Inv-loop μ-loop
 mul-d c =
@@ -39,19 +40,24 @@ cast-d c =
 
 add-level-requires : tie.Need-add-level-requires Inv-loop μ-loop
 add-level-requires c κs =
-    adding-asks ((c .before .before .before .before .before .before .before .before .before) .pre .0) ((c .before .before .before .before .before .before .before .before .before) .args .i) ((c .before .before .before .before .before .before .before .before .before) .pre .1) ((c .before .before .before .before .before .before .before .before .before) .pre .3) (c .before .before .before .before .before .before .loop .inv) (c .before .before .before .before .before .loop-test .taken)
+    let at-loop-test = c .before .before .before .before .before in let at-loop = at-loop-test .before in let start = at-loop .before .before .before in
+    adding-asks (start .pre .0) (start .args .i) (start .pre .1) (start .pre .3) (at-loop .loop .inv) (at-loop-test .loop-test .taken)
 
 same-length : tie.Need-same-length Inv-loop μ-loop
 same-length c =
-    search (needs, c .before .before .before .before .before .add-level .kept, c .before .before .before .before .before .before .before .before .before .before .before .before .loop .inv .nodes-length, c .before .before .before .before .before .before .before .before .before .before .before .before .loop .inv .work-length)
+    let at-add-level = c .before .before .before .before .before in let at-loop = at-add-level .before .before .before .before .before .before .before in
+    search (needs, at-add-level .add-level .kept, at-loop .loop .inv .nodes-length, at-loop .loop .inv .work-length)
 
 same-length-2 : tie.Need-same-length-2 Inv-loop μ-loop
 same-length-2 c =
-    search (needs, c .before .before .before .before .before .add-level .kept, c .before .before .before .before .before .before .before .before .before .before .before .before .loop .inv .nodes-length, c .before .before .before .before .before .before .before .before .before .before .before .before .loop .inv .work-length)
+    let at-add-level = c .before .before .before .before .before in let at-loop = at-add-level .before .before .before .before .before .before .before in
+    search (needs, at-add-level .add-level .kept, at-loop .loop .inv .nodes-length, at-loop .loop .inv .work-length)
 
 returns : tie.Need-returns Inv-loop μ-loop
 returns c =
-    adding-stops ((c .before .before .before .before .before .before .before .before .before .before .before .before .before .before .before) .pre .0) ((c .before .before .before .before .before .before .before .before .before .before .before .before .before .before .before) .args .i) ((c .before .before .before .before .before .before .before .before .before .before .before .before .before .before .before) .pre .1) ((c .before .before .before .before .before .before .before .before .before .before .before .before .before .before .before) .pre .3) (c .before .before .before .before .before .before .before .before .before .before .before .before .loop .inv) (c .before .before .before .before .before .before .before .before .before .before .before .loop-test .taken) (back (c .before .before .before .before .before .before .before .before .before .number .result) (c .before .before .before .before .before .before .before .before .before .number .ok) ∙ c .before .before .before .before .before .before .before .before .before .number .ensures) (c .before .before .before .before .before .add-level .ensures) (c .if1 .taken)
+    let at-add-level = c .before .before .before .before .before in let at-number = at-add-level .before .before .before .before in let at-loop-test = at-number .before .before in
+    let at-loop = at-loop-test .before in let start = at-loop .before .before .before in
+    adding-stops (start .pre .0) (start .args .i) (start .pre .1) (start .pre .3) (at-loop .loop .inv) (at-loop-test .loop-test .taken) (back (at-number .number .result) (at-number .number .ok) ∙ at-number .number .ensures) (at-add-level .add-level .ensures) (c .if1 .taken)
 
 add-k : tie.Need-add-k Inv-loop μ-loop
 add-k c =
@@ -63,7 +69,9 @@ loop-less c =
 
 loop-again : tie.Need-loop-again Inv-loop μ-loop
 loop-again c =
-    adding-one ((c .before .before .before .before .before .before .before .before .before .before .before .before .before .before .before) .pre .0) ((c .before .before .before .before .before .before .before .before .before .before .before .before .before .before .before) .args .i) ((c .before .before .before .before .before .before .before .before .before .before .before .before .before .before .before) .pre .1) ((c .before .before .before .before .before .before .before .before .before .before .before .before .before .before .before) .pre .3) (c .before .before .before .before .before .before .before .before .before .before .before .before .loop .inv) (c .before .before .before .before .before .before .before .before .before .before .before .loop-test .taken) (back (c .before .before .before .before .before .before .before .before .before .number .result) (c .before .before .before .before .before .before .before .before .before .number .ok) ∙ c .before .before .before .before .before .before .before .before .before .number .ensures) (c .before .before .before .before .before .add-level .ensures) (c .if1 .left) (c .before .before .before .before .before .add-level .kept .0) (c .before .before .before .before .before .add-level .kept .1 .0)
+    let at-add-level = c .before .before .before .before .before in let at-number = at-add-level .before .before .before .before in let at-loop-test = at-number .before .before in
+    let at-loop = at-loop-test .before in let start = at-loop .before .before .before in
+    adding-one (start .pre .0) (start .args .i) (start .pre .1) (start .pre .3) (at-loop .loop .inv) (at-loop-test .loop-test .taken) (back (at-number .number .result) (at-number .number .ok) ∙ at-number .number .ensures) (at-add-level .add-level .ensures) (c .if1 .left) (at-add-level .add-level .kept .0) (at-add-level .add-level .kept .1 .0)
 
 same-length-3 : tie.Need-same-length-3 Inv-loop μ-loop
 same-length-3 c =
@@ -75,7 +83,8 @@ same-length-4 c =
 
 returns-2 : tie.Need-returns-2 Inv-loop μ-loop
 returns-2 c =
-    added-all ((c .before .before .before .before) .pre .0) ((c .before .before .before .before) .args .i) ((c .before .before .before .before) .pre .1) ((c .before .before .before .before) .pre .3) (c .before .loop .inv) (c .loop-test .left)
+    let start = c .before .before .before .before in
+    added-all (start .pre .0) (start .args .i) (start .pre .1) (start .pre .3) (c .before .loop .inv) (c .loop-test .left)
 
 pub add-levels-spec : {M : Type 1} → statement M
 add-levels-spec =

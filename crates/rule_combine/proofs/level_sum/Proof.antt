@@ -10,7 +10,7 @@ use Rattle.rule_combine.proofs.level_sum.Tie as tie
 
 number-requires : tie.Need-number-requires
 number-requires c κs =
-    (at-in ((c .before .before .before) .args .i) ((c .before .before .before) .pre .0 .bare) ((c .before .before .before) .pre .1), omega arith)
+    let start = c .before .before .before in (at-in (start .args .i) (start .pre .0 .bare) (start .pre .1), omega arith)
 
 shared-slice-read-d : tie.Need-shared-slice-read-d
 shared-slice-read-d c =
@@ -22,7 +22,7 @@ cast-d c =
 
 scale-requires : tie.Need-scale-requires
 scale-requires c κs =
-    ((c .before .before .before .before .before .before .before) .pre .0, (c .before .before .before .before .before .before .before) .pre .2 .below 0)
+    let start = c .before .before .before .before .before .before .before in (start .pre .0, start .pre .2 .below 0)
 
 same-length : tie.Need-same-length
 same-length c =
@@ -34,11 +34,14 @@ same-length-2 c =
 
 returns : tie.Need-returns
 returns c =
-    levels-stop ((c .before .before .before .before .before .before .before .before .before .before .before .before .before) .pre .0) ((c .before .before .before .before .before .before .before .before .before .before .before .before .before) .args .i) ((c .before .before .before .before .before .before .before .before .before .before .before .before .before) .pre .1) ((c .before .before .before .before .before .before .before .before .before .before .before .before .before) .pre .2) (back (c .before .before .before .before .before .before .before .before .before .number .result) (c .before .before .before .before .before .before .before .before .before .number .ok) ∙ c .before .before .before .before .before .before .before .before .before .number .ensures) (c .before .before .before .before .before .scale .ensures) (c .if1 .taken)
+    let at-scale = c .before .before .before .before .before in let at-number = at-scale .before .before .before .before in let start = at-number .before .before .before .before in
+    levels-stop (start .pre .0) (start .args .i) (start .pre .1) (start .pre .2) (back (at-number .number .result) (at-number .number .ok) ∙ at-number .number .ensures) (at-scale .scale .ensures) (c .if1 .taken)
 
 add-levels-requires : tie.Need-add-levels-requires
 add-levels-requires c κs =
-    levels-ask ((c .before .before .before .before .before .before .before .before .before .before .before .before .before .before .before) .pre .0) ((c .before .before .before .before .before .before .before .before .before .before .before .before .before .before .before) .args .i) ((c .before .before .before .before .before .before .before .before .before .before .before .before .before .before .before) .pre .1) ((c .before .before .before .before .before .before .before .before .before .before .before .before .before .before .before) .pre .2) (back (c .before .before .before .before .before .before .before .before .before .before .before .number .result) (c .before .before .before .before .before .before .before .before .before .before .before .number .ok) ∙ c .before .before .before .before .before .before .before .before .before .before .before .number .ensures) (c .before .before .before .before .before .before .before .scale .ensures) (c .before .before .if1 .left)
+    let at-scale = c .before .before .before .before .before .before .before in let at-number = at-scale .before .before .before .before in
+    let start = at-number .before .before .before .before in
+    levels-ask (start .pre .0) (start .args .i) (start .pre .1) (start .pre .2) (back (at-number .number .result) (at-number .number .ok) ∙ at-number .number .ensures) (at-scale .scale .ensures) (c .before .before .if1 .left)
 
 same-length-3 : tie.Need-same-length-3
 same-length-3 c =
@@ -50,7 +53,9 @@ same-length-4 c =
 
 returns-2 : tie.Need-returns-2
 returns-2 c =
-    levels-made ((c .before .before .before .before .before .before .before .before .before .before .before .before .before .before .before .before .before .before .before) .pre .0) ((c .before .before .before .before .before .before .before .before .before .before .before .before .before .before .before .before .before .before .before) .args .i) ((c .before .before .before .before .before .before .before .before .before .before .before .before .before .before .before .before .before .before .before) .pre .1) ((c .before .before .before .before .before .before .before .before .before .before .before .before .before .before .before .before .before .before .before) .pre .2) (back (c .before .before .before .before .before .before .before .before .before .before .before .before .before .before .before .number .result) (c .before .before .before .before .before .before .before .before .before .before .before .before .before .before .before .number .ok) ∙ c .before .before .before .before .before .before .before .before .before .before .before .before .before .before .before .number .ensures) (c .before .before .before .before .before .before .before .before .before .before .before .scale .ensures) (c .before .before .before .before .before .before .if1 .left) (c .before .before .before .add-levels .ensures)
+    let at-add-levels = c .before .before .before in let at-if1 = at-add-levels .before .before .before in let at-scale = at-if1 .before .before .before .before .before in
+    let at-number = at-scale .before .before .before .before in let start = at-number .before .before .before .before in
+    levels-made (start .pre .0) (start .args .i) (start .pre .1) (start .pre .2) (back (at-number .number .result) (at-number .number .ok) ∙ at-number .number .ensures) (at-scale .scale .ensures) (at-if1 .if1 .left) (at-add-levels .add-levels .ensures)
 
 pub level-sum-spec : {M : Type 1} → statement M
 level-sum-spec =

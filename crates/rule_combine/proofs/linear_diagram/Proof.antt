@@ -23,15 +23,19 @@ same-length-2 c =
 
 returns : tie.Need-returns
 returns c =
-    linear-stops ((c .before .before .before .before .before .before .before .before .before .before) .args .i) ((c .before .before .before .before .before .before .before .before .before .before) .pre .1) _ (c .before .before .before .before .before .level-sum .ensures) (c .if1 .taken)
+    let at-level-sum = c .before .before .before .before .before in let start = at-level-sum .before .before .before .before .before in
+    linear-stops (start .args .i) (start .pre .1) _ (at-level-sum .level-sum .ensures) (c .if1 .taken)
 
 number-requires : tie.Need-number-requires
 number-requires c κs =
-    (at-in ((c .before .before .before .before .before .before .before .before .before .before .before) .args .i) (c .before .before .before .before .before .before .level-sum .ensures .table .bare) (lt-of-lt-of-le ((c .before .before .before .before .before .before .before .before .before .before .before) .pre .1) (c .before .before .before .before .before .before .level-sum .ensures .more)), omega arith)
+    let at-level-sum = c .before .before .before .before .before .before in let start = at-level-sum .before .before .before .before .before in
+    (at-in (start .args .i) (at-level-sum .level-sum .ensures .table .bare) (lt-of-lt-of-le (start .pre .1) (at-level-sum .level-sum .ensures .more)), omega arith)
 
 shift-requires : tie.Need-shift-requires
 shift-requires c κs =
-    shift-asks ((c .before .before .before .before .before .before .before .before .before .before .before .before .before .before) .args .i) ((c .before .before .before .before .before .before .before .before .before .before .before .before .before .before) .pre .1) _ (c .before .before .before .before .before .before .before .before .before .level-sum .ensures) (c .before .before .before .before .if1 .left) (back (c .before .before .number .result) (c .before .before .number .ok) ∙ c .before .before .number .ensures)
+    let at-if1 = c .before .before .before .before in let at-level-sum = at-if1 .before .before .before .before .before in
+    let start = at-level-sum .before .before .before .before .before in
+    shift-asks (start .args .i) (start .pre .1) _ (at-level-sum .level-sum .ensures) (at-if1 .if1 .left) (back (c .before .before .number .result) (c .before .before .number .ok) ∙ c .before .before .number .ensures)
 
 same-length-3 : tie.Need-same-length-3
 same-length-3 c =
@@ -43,7 +47,9 @@ same-length-4 c =
 
 returns-2 : tie.Need-returns-2
 returns-2 c =
-    linear-made ((c .before .before .before .before .before .before .before .before .before .before .before .before .before .before .before .before .before .before) .args .i) ((c .before .before .before .before .before .before .before .before .before .before .before .before .before .before .before .before .before .before) .pre .1) _ (c .before .before .before .before .before .before .before .before .before .before .before .before .before .level-sum .ensures) (c .before .before .before .before .before .before .before .before .if1 .left) (back (c .before .before .before .before .before .before .number .result) (c .before .before .before .before .before .before .number .ok) ∙ c .before .before .before .before .before .before .number .ensures) (c .before .before .before .shift .ensures)
+    let at-shift = c .before .before .before in let at-number = at-shift .before .before .before in let at-if1 = at-number .before .before in
+    let at-level-sum = at-if1 .before .before .before .before .before in let start = at-level-sum .before .before .before .before .before in
+    linear-made (start .args .i) (start .pre .1) _ (at-level-sum .level-sum .ensures) (at-if1 .if1 .left) (back (at-number .number .result) (at-number .number .ok) ∙ at-number .number .ensures) (at-shift .shift .ensures)
 
 pub linear-diagram-spec : {M : Type 1} → statement M
 linear-diagram-spec =

@@ -18,7 +18,8 @@ array-copy-out-z c = search needs
 
 returns : tie.Need-returns
 returns c =
-    back (getD (c .before .before .get .result .n) (c .before .before .before .args .k) (pos 0)) (c .z .given) ∙ ap (λ (x : Node). getD (x .n) (c .before .before .before .args .k) (pos 0)) (c .before .before .get .ensures)
+    let start = c .before .before .before in
+    back (getD (c .before .before .get .result .n) (start .args .k) (pos 0)) (c .z .given) ∙ ap (λ (x : Node). getD (x .n) (start .args .k) (pos 0)) (c .before .before .get .ensures)
 
 pub number-spec : {M : Type 1} → statement M
 number-spec = tie.close (tie.spec get-requires mul-z array-copy-out-z returns)

@@ -15,8 +15,9 @@ same-length-2 c = search needs
 
 returns : tie.Need-returns
 returns c =
-    let s = (c .before .before .before .before .before .before .before .before .before) in
-    ran-as (head-linear (s .args .k) _ _ _ (c .before .before .before .before .before .before .if1 .taken)) (c .before .before .before .linear-diagram .ensures)
+    let at-linear-diagram = c .before .before .before in let at-if1 = at-linear-diagram .before .before .before in let place = at-if1 .before .before .before in
+    let s = place in
+    ran-as (head-linear (s .args .k) _ _ _ (at-if1 .if1 .taken)) (at-linear-diagram .linear-diagram .ensures)
 
 returns-2 : tie.Need-returns-2
 returns-2 c =

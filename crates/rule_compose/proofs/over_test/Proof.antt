@@ -16,8 +16,8 @@ same-length-2 c = search needs
 
 returns : tie.Need-returns
 returns c =
-    let s = (c .before .before .before .before .before .before .before .before) in
-    ran-as (over-walk (s .args .k) _ _ (s .args .p) (s .args .h) (s .args .l) (c .before .before .before .before .before .before .if1 .taken)) (c .before .before .before .walk .ensures)
+    let at-walk = c .before .before .before in let at-if1 = at-walk .before .before .before in let place = at-if1 .before .before in let s = place in
+    ran-as (over-walk (s .args .k) _ _ (s .args .p) (s .args .h) (s .args .l) (at-if1 .if1 .taken)) (at-walk .walk .ensures)
 
 choose-requires : tie.Need-choose-requires
 choose-requires c κs =
@@ -32,8 +32,8 @@ same-length-4 c = search needs
 
 returns-2 : tie.Need-returns-2
 returns-2 c =
-    let s = (c .before .before .before .before .before .before .before .before) in
-    ran-as (over-choice (s .args .k) _ _ (s .args .p) (s .args .h) (s .args .l) (c .before .before .before .before .before .before .if1 .left)) (c .before .before .before .choose .ensures)
+    let at-choose = c .before .before .before in let at-if1 = at-choose .before .before .before in let place = at-if1 .before .before in let s = place in
+    ran-as (over-choice (s .args .k) _ _ (s .args .p) (s .args .h) (s .args .l) (at-if1 .if1 .left)) (at-choose .choose .ensures)
 
 pub over-test-spec : {M : Type 1} → statement M
 over-test-spec =

@@ -8,11 +8,13 @@ key-requires c κs = search needs
 
 look-requires : tie.Need-look-requires
 look-requires c κs =
-    (c .before .before .before .pre .0, key-fits (c .before .before .before .args .f) (c .before .before .before .args .levels .now) (c .before .before .before .pre .1) (c .before .before .before .pre .2) (c .key .ensures))
+    let start = c .before .before .before in
+    (start .pre .0, key-fits (start .args .f) (start .args .levels .now) (start .pre .1) (start .pre .2) (c .key .ensures))
 
 returns : tie.Need-returns
 returns c =
-    λ some. held-as (c .before .before .before .before .args .cap) _ (c .before .before .before .before .args .work .now) (c .before .key .ensures) (c .look .ensures some)
+    let start = c .before .before .before .before in
+    λ some. held-as (start .args .cap) _ (start .args .work .now) (c .before .key .ensures) (c .look .ensures some)
 
 pub recall-spec : {M : Type 1} → statement M
 recall-spec = tie.close (tie.spec key-requires look-requires returns)

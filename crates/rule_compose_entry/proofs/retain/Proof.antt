@@ -8,14 +8,16 @@ key-requires c κs = search needs
 
 keep-requires : tie.Need-keep-requires
 keep-requires c κs =
-    (c .before .before .before .before .pre .0, key-fits (c .before .before .before .before .args .f) (c .before .before .before .before .args .levels .now) (c .before .before .before .before .pre .1) (c .before .before .before .before .pre .2) (c .before .key .ensures), c .before .before .before .before .pre .3)
+    let start = c .before .before .before .before in
+    (start .pre .0, key-fits (start .args .f) (start .args .levels .now) (start .pre .1) (start .pre .2) (c .before .key .ensures), start .pre .3)
 
 same-length : tie.Need-same-length
 same-length c = search needs
 
 returns : tie.Need-returns
 returns c =
-    stored-as (c .before .before .before .before .before .before .before .args .cap) (c .before .before .before .before .before .before .before .args .r) (c .before .before .before .before .before .before .before .args .work .now) (c .before .before .before .before .key .ensures) (c .before .before .keep .ensures)
+    let at-key = c .before .before .before .before in let start = at-key .before .before .before in
+    stored-as (start .args .cap) (start .args .r) (start .args .work .now) (at-key .key .ensures) (c .before .before .keep .ensures)
 
 pub retain-spec : {M : Type 1} → statement M
 retain-spec = tie.close (tie.spec key-requires keep-requires same-length returns)

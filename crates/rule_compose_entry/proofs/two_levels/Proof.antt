@@ -19,7 +19,8 @@ with-level-requires c κs =
 
 returns : tie.Need-returns
 returns c =
-    c .with-level .ensures ∙ ap (λ (x : ℕ). pair x (getD (c .before .before .before .args .levels .now) (c .before .before .before .args .k + 1) 0)) (c .before .level .ensures)
+    let start = c .before .before .before in
+    c .with-level .ensures ∙ ap (λ (x : ℕ). pair x (getD (start .args .levels .now) (start .args .k + 1) 0)) (c .before .level .ensures)
 
 pub two-levels-spec : {M : Type 1} → statement M
 two-levels-spec = tie.close (tie.spec level-requires add-with-level with-level-requires returns)

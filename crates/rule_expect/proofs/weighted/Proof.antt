@@ -15,13 +15,13 @@ same-length-2 c = search needs
 
 returns : tie.Need-returns
 returns c =
-    let s = (c .before .before .before .before .before .before .before .before .before) in
-    weighted-stops (s .args .w) (s .pre .2) (c .before .before .before .before .before .side .ensures) (c .if1 .taken)
+    let at-side = c .before .before .before .before .before in let place = at-side .before .before .before .before in let s = place in
+    weighted-stops (s .args .w) (s .pre .2) (at-side .side .ensures) (c .if1 .taken)
 
 merge-requires : tie.Need-merge-requires
 merge-requires c κs =
-    let s = (c .before .before .before .before .before .before .before .before .before .before .before) in
-    weighted-asks (s .args .w) (s .pre .2) (c .before .before .before .before .before .before .before .side .ensures) (c .before .before .if1 .left)
+    let at-side = c .before .before .before .before .before .before .before in let place = at-side .before .before .before .before in let s = place in
+    weighted-asks (s .args .w) (s .pre .2) (at-side .side .ensures) (c .before .before .if1 .left)
 
 same-length-3 : tie.Need-same-length-3
 same-length-3 c = search needs
@@ -31,8 +31,9 @@ same-length-4 c = search needs
 
 returns-2 : tie.Need-returns-2
 returns-2 c =
-    let s = (c .before .before .before .before .before .before .before .before .before .before .before .before .before .before .before) in
-    weighted-made (s .args .w) (s .pre .2) (c .before .before .before .before .before .before .before .before .before .before .before .side .ensures) (c .before .before .before .before .before .before .if1 .left) (c .before .before .before .merge .ensures)
+    let at-merge = c .before .before .before in let at-if1 = at-merge .before .before .before in let at-side = at-if1 .before .before .before .before .before in
+    let place = at-side .before .before .before .before in let s = place in
+    weighted-made (s .args .w) (s .pre .2) (at-side .side .ensures) (at-if1 .if1 .left) (at-merge .merge .ensures)
 
 pub weighted-spec : {M : Type 1} → statement M
 weighted-spec =

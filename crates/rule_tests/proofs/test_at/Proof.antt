@@ -23,7 +23,8 @@ named-requires c κs =
 
 returns-2 : tie.Need-returns-2
 returns-2 c =
-    test-named ((c .before .before .before) .args .nodes .now) ((c .before .before .before) .args .op) ((c .before .before .before) .args .p) (c .before .before .if1 .left) (c .before .get .ensures) (c .named .ensures)
+    let start = c .before .before .before in
+    test-named (start .args .nodes .now) (start .args .op) (start .args .p) (c .before .before .if1 .left) (c .before .get .ensures) (c .named .ensures)
 
 pub test-at-spec : {M : Type 1} → statement M
 test-at-spec = tie.close (tie.spec later-requires returns get-requires named-requires returns-2)

@@ -52,8 +52,8 @@ walk-down-at-requires t c κs =
 
 walk-decide-at-requires : (t : ℕ) → walk-lts.Need-decide-at-requires (walk-claims t) (walk-at t) walk.Post
 walk-decide-at-requires t c κs =
-    let s = (c .before .before .before .before .before .before) in
-    (s .pre .1 .0, walk-leaf (s .pre .1 .0) (s .args .f) (s .args .g) (s .args .p) (s .pre .1 .1) (s .pre .1 .2) (s .pre .1 .3) (c .before .before .before .down-at .ensures) (c .before .before .if1 .taken), s .pre .1 .2, s .pre .1 .3)
+    let at-down-at = c .before .before .before in let place = at-down-at .before .before .before in let s = place in
+    (s .pre .1 .0, walk-leaf (s .pre .1 .0) (s .args .f) (s .args .g) (s .args .p) (s .pre .1 .1) (s .pre .1 .2) (s .pre .1 .3) (at-down-at .down-at .ensures) (c .before .before .if1 .taken), s .pre .1 .2, s .pre .1 .3)
 
 walk-same-length : (t : ℕ) → walk-lts.Need-same-length (walk-claims t) (walk-at t) walk.Post
 walk-same-length t c =
@@ -65,8 +65,9 @@ walk-same-length-2 t c =
 
 walk-returns : (t : ℕ) → walk-lts.Need-returns (walk-claims t) (walk-at t) walk.Post
 walk-returns t c =
-    let s = (c .before .before .before .before .before .before .before .before .before .before) in
-    walk-ends (s .pre .1 .0) (s .args .f) (s .args .g) (s .args .p) (s .pre .1 .1) (s .pre .1 .2) (s .pre .1 .3) (c .before .before .before .before .before .before .before .down-at .ensures) (c .before .before .before .before .before .before .if1 .taken) (c .before .before .before .decide-at .ensures)
+    let at-decide-at = c .before .before .before in let at-if1 = at-decide-at .before .before .before in let at-down-at = at-if1 .before in
+    let place = at-down-at .before .before .before in let s = place in
+    walk-ends (s .pre .1 .0) (s .args .f) (s .args .g) (s .args .p) (s .pre .1 .1) (s .pre .1 .2) (s .pre .1 .3) (at-down-at .down-at .ensures) (at-if1 .if1 .taken) (at-decide-at .decide-at .ensures)
 
 walk-look-requires : (t : ℕ) → walk-lts.Need-look-requires (walk-claims t) (walk-at t) walk.Post
 walk-look-requires t c κs =
@@ -87,13 +88,14 @@ walk-same-length-4 t c =
 
 walk-returns-2 : (t : ℕ) → walk-lts.Need-returns-2 (walk-claims t) (walk-at t) walk.Post
 walk-returns-2 t c =
-    let s = (c .before .before .before .before .before .before .before) in
+    let place = c .before .before .before .before .before .before .before in let s = place in
     answered (s .pre .1 .0) 9 (s .args .f) (s .args .g) (s .args .p) 0 _ (c .before .look .ensures (c .if2 .taken))
 
 walk-walk-requires : (t : ℕ) → walk-lts.Need-walk-requires (walk-claims t) (walk-at t) walk.Post
 walk-walk-requires t c κs =
-    let s = (c .before .before .before .before .before .before .before .before .before) in
-    let o = walk-on (s .pre .1 .0) (s .args .f) (s .args .g) (s .args .p) (s .pre .1 .1) (s .pre .1 .2) (s .pre .1 .3) (c .before .before .before .before .before .before .down-at .ensures) (c .before .before .before .before .before .if1 .left) in
+    let at-if1 = c .before .before .before .before .before in let at-down-at = at-if1 .before in let place = at-down-at .before .before .before in
+    let s = place in
+    let o = walk-on (s .pre .1 .0) (s .args .f) (s .args .g) (s .args .p) (s .pre .1 .1) (s .pre .1 .2) (s .pre .1 .3) (at-down-at .down-at .ensures) (at-if1 .if1 .left) in
     (omega (arith, o .high, s .pre .0), (s .pre .1 .0, o .fh, o .gh, s .pre .1 .3))
 
 walk-same-length-5 : (t : ℕ) → walk-lts.Need-same-length-5 (walk-claims t) (walk-at t) walk.Post
@@ -106,15 +108,17 @@ walk-same-length-6 t c =
 
 walk-returns-3 : (t : ℕ) → walk-lts.Need-returns-3 (walk-claims t) (walk-at t) walk.Post
 walk-returns-3 t c =
-    let s = (c .before .before .before .before .before .before .before .before .before .before .before .before .before .before .before) in
-    let o = walk-on (s .pre .1 .0) (s .args .f) (s .args .g) (s .args .p) (s .pre .1 .1) (s .pre .1 .2) (s .pre .1 .3) (c .before .before .before .before .before .before .before .before .before .before .before .before .down-at .ensures) (c .before .before .before .before .before .before .before .before .before .before .before .if1 .left) in
-    high-ended (s .args .f) (s .args .g) (s .args .p) (s .pre .1 .3) o (c .before .before .before .before .before .walk .ensures) (c .if3 .taken)
+    let at-walk = c .before .before .before .before .before in let at-if1 = at-walk .before .before .before .before .before .before in let at-down-at = at-if1 .before in
+    let place = at-down-at .before .before .before in let s = place in
+    let o = walk-on (s .pre .1 .0) (s .args .f) (s .args .g) (s .args .p) (s .pre .1 .1) (s .pre .1 .2) (s .pre .1 .3) (at-down-at .down-at .ensures) (at-if1 .if1 .left) in
+    high-ended (s .args .f) (s .args .g) (s .args .p) (s .pre .1 .3) o (at-walk .walk .ensures) (c .if3 .taken)
 
 walk-walk-requires-2 : (t : ℕ) → walk-lts.Need-walk-requires-2 (walk-claims t) (walk-at t) walk.Post
 walk-walk-requires-2 t c κs =
-    let s = (c .before .before .before .before .before .before .before .before .before .before .before .before .before .before .before .before .before) in
-    let o = walk-on (s .pre .1 .0) (s .args .f) (s .args .g) (s .args .p) (s .pre .1 .1) (s .pre .1 .2) (s .pre .1 .3) (c .before .before .before .before .before .before .before .before .before .before .before .before .before .before .down-at .ensures) (c .before .before .before .before .before .before .before .before .before .before .before .before .before .if1 .left) in
-    (omega (arith, o .low, s .pre .0), low-asks (s .args .f) (s .args .g) (s .args .p) (s .pre .1 .3) o (c .before .before .before .before .before .before .before .walk .ensures))
+    let at-walk = c .before .before .before .before .before .before .before in let at-if1 = at-walk .before .before .before .before .before .before in
+    let at-down-at = at-if1 .before in let place = at-down-at .before .before .before in let s = place in
+    let o = walk-on (s .pre .1 .0) (s .args .f) (s .args .g) (s .args .p) (s .pre .1 .1) (s .pre .1 .2) (s .pre .1 .3) (at-down-at .down-at .ensures) (at-if1 .if1 .left) in
+    (omega (arith, o .low, s .pre .0), low-asks (s .args .f) (s .args .g) (s .args .p) (s .pre .1 .3) o (at-walk .walk .ensures))
 
 walk-same-length-7 : (t : ℕ) → walk-lts.Need-same-length-7 (walk-claims t) (walk-at t) walk.Post
 walk-same-length-7 t c =
@@ -126,15 +130,19 @@ walk-same-length-8 t c =
 
 walk-returns-4 : (t : ℕ) → walk-lts.Need-returns-4 (walk-claims t) (walk-at t) walk.Post
 walk-returns-4 t c =
-    let s = (c .before .before .before .before .before .before .before .before .before .before .before .before .before .before .before .before .before .before .before .before .before .before .before) in
-    let o = walk-on (s .pre .1 .0) (s .args .f) (s .args .g) (s .args .p) (s .pre .1 .1) (s .pre .1 .2) (s .pre .1 .3) (c .before .before .before .before .before .before .before .before .before .before .before .before .before .before .before .before .before .before .before .before .down-at .ensures) (c .before .before .before .before .before .before .before .before .before .before .before .before .before .before .before .before .before .before .before .if1 .left) in
-    low-ended (s .args .f) (s .args .g) (s .args .p) (s .pre .1 .3) o (c .before .before .before .before .before .before .before .before .before .before .before .before .before .walk .ensures) (c .before .before .before .before .before .before .before .before .if3 .left) (c .before .before .before .before .before .walk2 .ensures) (c .if4 .taken)
+    let at-walk2 = c .before .before .before .before .before in let at-if3 = at-walk2 .before .before .before in let at-walk = at-if3 .before .before .before .before .before in
+    let at-if1 = at-walk .before .before .before .before .before .before in let at-down-at = at-if1 .before in let place = at-down-at .before .before .before in
+    let s = place in
+    let o = walk-on (s .pre .1 .0) (s .args .f) (s .args .g) (s .args .p) (s .pre .1 .1) (s .pre .1 .2) (s .pre .1 .3) (at-down-at .down-at .ensures) (at-if1 .if1 .left) in
+    low-ended (s .args .f) (s .args .g) (s .args .p) (s .pre .1 .3) o (at-walk .walk .ensures) (at-if3 .if3 .left) (at-walk2 .walk2 .ensures) (c .if4 .taken)
 
 walk-choose-requires : (t : ℕ) → walk-lts.Need-choose-requires (walk-claims t) (walk-at t) walk.Post
 walk-choose-requires t c κs =
-    let s = (c .before .before .before .before .before .before .before .before .before .before .before .before .before .before .before .before .before .before .before .before .before .before .before .before .before) in
-    let o = walk-on (s .pre .1 .0) (s .args .f) (s .args .g) (s .args .p) (s .pre .1 .1) (s .pre .1 .2) (s .pre .1 .3) (c .before .before .before .before .before .before .before .before .before .before .before .before .before .before .before .before .before .before .before .before .before .before .down-at .ensures) (c .before .before .before .before .before .before .before .before .before .before .before .before .before .before .before .before .before .before .before .before .before .if1 .left) in
-    root-asks (s .args .f) (s .args .g) (s .args .p) (s .pre .1 .3) o (c .before .before .before .before .before .before .before .before .before .before .before .before .before .before .before .walk .ensures) (c .before .before .before .before .before .before .before .before .before .before .if3 .left) (c .before .before .before .before .before .before .before .walk2 .ensures) (c .before .before .if4 .left)
+    let at-walk2 = c .before .before .before .before .before .before .before in let at-if3 = at-walk2 .before .before .before in
+    let at-walk = at-if3 .before .before .before .before .before in let at-if1 = at-walk .before .before .before .before .before .before in let at-down-at = at-if1 .before in
+    let place = at-down-at .before .before .before in let s = place in
+    let o = walk-on (s .pre .1 .0) (s .args .f) (s .args .g) (s .args .p) (s .pre .1 .1) (s .pre .1 .2) (s .pre .1 .3) (at-down-at .down-at .ensures) (at-if1 .if1 .left) in
+    root-asks (s .args .f) (s .args .g) (s .args .p) (s .pre .1 .3) o (at-walk .walk .ensures) (at-if3 .if3 .left) (at-walk2 .walk2 .ensures) (c .before .before .if4 .left)
 
 walk-same-length-9 : (t : ℕ) → walk-lts.Need-same-length-9 (walk-claims t) (walk-at t) walk.Post
 walk-same-length-9 t c =
@@ -146,31 +154,46 @@ walk-same-length-10 t c =
 
 walk-returns-5 : (t : ℕ) → walk-lts.Need-returns-5 (walk-claims t) (walk-at t) walk.Post
 walk-returns-5 t c =
-    let s = (c .before .before .before .before .before .before .before .before .before .before .before .before .before .before .before .before .before .before .before .before .before .before .before .before .before .before .before .before .before .before .before) in
-    let o = walk-on (s .pre .1 .0) (s .args .f) (s .args .g) (s .args .p) (s .pre .1 .1) (s .pre .1 .2) (s .pre .1 .3) (c .before .before .before .before .before .before .before .before .before .before .before .before .before .before .before .before .before .before .before .before .before .before .before .before .before .before .before .before .down-at .ensures) (c .before .before .before .before .before .before .before .before .before .before .before .before .before .before .before .before .before .before .before .before .before .before .before .before .before .before .before .if1 .left) in
-    root-made (s .args .f) (s .args .g) (s .args .p) (s .pre .1 .3) o (c .before .before .before .before .before .before .before .before .before .before .before .before .before .before .before .before .before .before .before .before .before .walk .ensures) (c .before .before .before .before .before .before .before .before .before .before .before .before .before .before .before .before .if3 .left) (c .before .before .before .before .before .before .before .before .before .before .before .before .before .walk2 .ensures) (c .before .before .before .before .before .before .before .before .if4 .left) (c .before .before .before .before .before .choose .ensures)
+    let at-choose = c .before .before .before .before .before in let at-if4 = at-choose .before .before .before in let at-walk2 = at-if4 .before .before .before .before .before in
+    let at-if3 = at-walk2 .before .before .before in let at-walk = at-if3 .before .before .before .before .before in
+    let at-if1 = at-walk .before .before .before .before .before .before in let at-down-at = at-if1 .before in let place = at-down-at .before .before .before in
+    let s = place in
+    let o = walk-on (s .pre .1 .0) (s .args .f) (s .args .g) (s .args .p) (s .pre .1 .1) (s .pre .1 .2) (s .pre .1 .3) (at-down-at .down-at .ensures) (at-if1 .if1 .left) in
+    root-made (s .args .f) (s .args .g) (s .args .p) (s .pre .1 .3) o (at-walk .walk .ensures) (at-if3 .if3 .left) (at-walk2 .walk2 .ensures) (at-if4 .if4 .left) (at-choose .choose .ensures)
 
 walk-keep-requires : (t : ℕ) → walk-lts.Need-keep-requires (walk-claims t) (walk-at t) walk.Post
 walk-keep-requires t c κs =
-    let s = (c .before .before .before .before .before .before .before .before .before .before .before .before .before .before .before .before .before .before .before .before .before .before .before .before .before .before .before .before .before .before .before .before) in
-    let o = walk-on (s .pre .1 .0) (s .args .f) (s .args .g) (s .args .p) (s .pre .1 .1) (s .pre .1 .2) (s .pre .1 .3) (c .before .before .before .before .before .before .before .before .before .before .before .before .before .before .before .before .before .before .before .before .before .before .before .before .before .before .before .before .before .down-at .ensures) (c .before .before .before .before .before .before .before .before .before .before .before .before .before .before .before .before .before .before .before .before .before .before .before .before .before .before .before .before .if1 .left) in
-    let J = root-made (s .args .f) (s .args .g) (s .args .p) (s .pre .1 .3) o (c .before .before .before .before .before .before .before .before .before .before .before .before .before .before .before .before .before .before .before .before .before .before .walk .ensures) (c .before .before .before .before .before .before .before .before .before .before .before .before .before .before .before .before .before .if3 .left) (c .before .before .before .before .before .before .before .before .before .before .before .before .before .before .walk2 .ensures) (c .before .before .before .before .before .before .before .before .before .if4 .left) (c .before .before .before .before .before .before .choose .ensures) in
+    let at-choose = c .before .before .before .before .before .before in let at-if4 = at-choose .before .before .before in
+    let at-walk2 = at-if4 .before .before .before .before .before in let at-if3 = at-walk2 .before .before .before in
+    let at-walk = at-if3 .before .before .before .before .before in let at-if1 = at-walk .before .before .before .before .before .before in let at-down-at = at-if1 .before in
+    let place = at-down-at .before .before .before in let s = place in
+    let o = walk-on (s .pre .1 .0) (s .args .f) (s .args .g) (s .args .p) (s .pre .1 .1) (s .pre .1 .2) (s .pre .1 .3) (at-down-at .down-at .ensures) (at-if1 .if1 .left) in
+    let J = root-made (s .args .f) (s .args .g) (s .args .p) (s .pre .1 .3) o (at-walk .walk .ensures) (at-if3 .if3 .left) (at-walk2 .walk2 .ensures) (at-if4 .if4 .left) (at-choose .choose .ensures) in
     keepable J (c .before .if5 .left) (walk-key (s .pre .1 .0) (s .args .f) (s .args .g) (s .args .p) (s .pre .1 .1) (s .pre .1 .2) (s .pre .1 .3))
 
 walk-same-length-11 : (t : ℕ) → walk-lts.Need-same-length-11 (walk-claims t) (walk-at t) walk.Post
 walk-same-length-11 t c =
-    search (needs, c .before .before .before .before .before .before .before .before .before .before .before .before .before .before .before .before .before .before .before .before .before .before .before .before .before .walk .kept, c .before .before .before .before .before .before .before .before .before .before .before .before .before .before .before .before .before .walk2 .kept, c .before .before .before .before .before .before .before .before .before .choose .kept, c .before .before .keep .kept)
+    let at-choose = c .before .before .before .before .before .before .before .before .before in
+    let at-walk2 = at-choose .before .before .before .before .before .before .before .before in
+    let at-walk = at-walk2 .before .before .before .before .before .before .before .before in
+    search (needs, at-walk .walk .kept, at-walk2 .walk2 .kept, at-choose .choose .kept, c .before .before .keep .kept)
 
 walk-same-length-12 : (t : ℕ) → walk-lts.Need-same-length-12 (walk-claims t) (walk-at t) walk.Post
 walk-same-length-12 t c =
-    search (needs, c .before .before .before .before .before .before .before .before .before .before .before .before .before .before .before .before .before .before .before .before .before .before .before .before .before .walk .kept, c .before .before .before .before .before .before .before .before .before .before .before .before .before .before .before .before .before .walk2 .kept, c .before .before .before .before .before .before .before .before .before .choose .kept, c .before .before .keep .kept)
+    let at-choose = c .before .before .before .before .before .before .before .before .before in
+    let at-walk2 = at-choose .before .before .before .before .before .before .before .before in
+    let at-walk = at-walk2 .before .before .before .before .before .before .before .before in
+    search (needs, at-walk .walk .kept, at-walk2 .walk2 .kept, at-choose .choose .kept, c .before .before .keep .kept)
 
 walk-returns-6 : (t : ℕ) → walk-lts.Need-returns-6 (walk-claims t) (walk-at t) walk.Post
 walk-returns-6 t c =
-    let s = (c .before .before .before .before .before .before .before .before .before .before .before .before .before .before .before .before .before .before .before .before .before .before .before .before .before .before .before .before .before .before .before .before .before .before .before) in
-    let o = walk-on (s .pre .1 .0) (s .args .f) (s .args .g) (s .args .p) (s .pre .1 .1) (s .pre .1 .2) (s .pre .1 .3) (c .before .before .before .before .before .before .before .before .before .before .before .before .before .before .before .before .before .before .before .before .before .before .before .before .before .before .before .before .before .before .before .before .down-at .ensures) (c .before .before .before .before .before .before .before .before .before .before .before .before .before .before .before .before .before .before .before .before .before .before .before .before .before .before .before .before .before .before .before .if1 .left) in
-    let J = root-made (s .args .f) (s .args .g) (s .args .p) (s .pre .1 .3) o (c .before .before .before .before .before .before .before .before .before .before .before .before .before .before .before .before .before .before .before .before .before .before .before .before .before .walk .ensures) (c .before .before .before .before .before .before .before .before .before .before .before .before .before .before .before .before .before .before .before .before .if3 .left) (c .before .before .before .before .before .before .before .before .before .before .before .before .before .before .before .before .before .walk2 .ensures) (c .before .before .before .before .before .before .before .before .before .before .before .before .if4 .left) (c .before .before .before .before .before .before .before .before .before .choose .ensures) in
-    kept-run (lasts-walk _ _ (s .args .f) (s .pre .1 .1) (s .args .g) (s .pre .1 .2) (s .args .p) 0 (s .pre .1 .3)) J (c .before .before .before .before .if5 .left) (c .before .before .keep .ensures)
+    let at-if5 = c .before .before .before .before in let at-choose = at-if5 .before .before .before .before .before in let at-if4 = at-choose .before .before .before in
+    let at-walk2 = at-if4 .before .before .before .before .before in let at-if3 = at-walk2 .before .before .before in
+    let at-walk = at-if3 .before .before .before .before .before in let at-if1 = at-walk .before .before .before .before .before .before in let at-down-at = at-if1 .before in
+    let place = at-down-at .before .before .before in let s = place in
+    let o = walk-on (s .pre .1 .0) (s .args .f) (s .args .g) (s .args .p) (s .pre .1 .1) (s .pre .1 .2) (s .pre .1 .3) (at-down-at .down-at .ensures) (at-if1 .if1 .left) in
+    let J = root-made (s .args .f) (s .args .g) (s .args .p) (s .pre .1 .3) o (at-walk .walk .ensures) (at-if3 .if3 .left) (at-walk2 .walk2 .ensures) (at-if4 .if4 .left) (at-choose .choose .ensures) in
+    kept-run (lasts-walk _ _ (s .args .f) (s .pre .1 .1) (s .args .g) (s .pre .1 .2) (s .args .p) 0 (s .pre .1 .3)) J (at-if5 .if5 .left) (c .before .before .keep .ensures)
 
 pub +walk-spec : {M : Type 1} → statement M
 +walk-spec = close μ-walk λ t. walk-lts.spec (walk-claims t)

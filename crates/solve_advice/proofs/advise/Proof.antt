@@ -24,8 +24,9 @@ same-length-4 c = search needs
 
 returns : tie.Need-returns
 returns c =
-    let a = c .before .before .before .before .before .before .before .before .before .before .before .before .before .before .before .before .before .before .args in
-    refusal-given (a .model .now) (a .horizon) (a .nodes .now) (a .stages .now) (a .work .now) (a .peaks .now) (c .before .before .before .before .before .before .before .before .before .solve .ensures) (a .steps) (asked (a .q)) (c .if1 .taken)
+    let at-solve = c .before .before .before .before .before .before .before .before .before in
+    let start = at-solve .before .before .before .before .before .before .before .before .before in let a = start .args in
+    refusal-given (a .model .now) (a .horizon) (a .nodes .now) (a .stages .now) (a .work .now) (a .peaks .now) (at-solve .solve .ensures) (a .steps) (asked (a .q)) (c .if1 .taken)
 
 value-requires : tie.Need-value-requires
 value-requires c κs = search needs
@@ -44,8 +45,9 @@ same-length-8 c = search needs
 
 returns-2 : tie.Need-returns-2
 returns-2 c =
-    let a = c .before .before .before .before .before .before .before .before .before .before .before .before .before .before .before .before .before .before .before .before .before .args in
-    value-given (a .model .now) (a .horizon) (a .nodes .now) (a .stages .now) (a .work .now) (a .peaks .now) (c .before .before .before .before .before .before .before .before .before .before .before .before .solve .ensures) (a .steps) (asked (a .q)) _ (out (c .value .result)) (c .before .before .before .if1 .left)
+    let at-if1 = c .before .before .before in let at-solve = at-if1 .before .before .before .before .before .before .before .before .before in
+    let start = at-solve .before .before .before .before .before .before .before .before .before in let a = start .args in
+    value-given (a .model .now) (a .horizon) (a .nodes .now) (a .stages .now) (a .work .now) (a .peaks .now) (at-solve .solve .ensures) (a .steps) (asked (a .q)) _ (out (c .value .result)) (at-if1 .if1 .left)
     refl (c .value .ensures)
 
 pub advise-spec : {M : Type 1} → statement M

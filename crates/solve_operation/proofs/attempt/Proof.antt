@@ -8,8 +8,8 @@ rehash-requires c κs = c .before .before .before .before .pre .0
 
 compute-requires : tie.Need-compute-requires
 compute-requires c κs =
-    let s = c .before .before .before .before .before .before .before .before .before in
-    (rehashed-table (s .pre .0) (s .pre .1) (c .before .before .before .before .rehash .ensures), s .pre .2, s .pre .3)
+    let at-rehash = c .before .before .before .before in let place = at-rehash .before .before .before .before .before in let s = place in
+    (rehashed-table (s .pre .0) (s .pre .1) (at-rehash .rehash .ensures), s .pre .2, s .pre .3)
 
 same-length : tie.Need-same-length
 same-length c = search needs

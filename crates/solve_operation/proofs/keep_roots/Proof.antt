@@ -16,12 +16,12 @@ slice-relend-prefix-collect c = c .before .before .before .before .before .pre .
 
 slice-aggregate-collect : tie.Need-slice-aggregate-collect
 slice-aggregate-collect c =
-    let s = c .before .before .before .before .before .before in
+    let place = c .before .before .before .before .before .before in let s = place in
     sym (length-take-le (s .args .held) (s .args .roots .now) (s .pre .3))
 
 collect-requires : tie.Need-collect-requires
 collect-requires c κs =
-    let s = c .before .before .before .before .before .before in
+    let place = c .before .before .before .before .before .before in let s = place in
     (subst (λ (k : ℕ). Space k (s .args .nodes .now) (s .args .work .now) (s .args .count)) (sym (c .before .larger .ensures)) (s .pre .0), s .pre .1, s .pre .2)
 
 same-length : tie.Need-same-length
@@ -31,10 +31,14 @@ same-length-2 : tie.Need-same-length-2
 same-length-2 c = search needs
 
 same-length-3 : tie.Need-same-length-3
-same-length-3 c = kept-length (prefix-kept (c .before .before .before .before .before .before .before .before .before .before .before .before .pre .3) (c .before .before .before .before .before .collect .ensures))
+same-length-3 c =
+    let at-collect = c .before .before .before .before .before in let start = at-collect .before .before .before .before .before .before .before in
+    kept-length (prefix-kept (start .pre .3) (at-collect .collect .ensures))
 
 returns : tie.Need-returns
-returns c = prefix-kept (c .before .before .before .before .before .before .before .before .before .before .before .before .pre .3) (c .before .before .before .before .before .collect .ensures)
+returns c =
+    let at-collect = c .before .before .before .before .before in let start = at-collect .before .before .before .before .before .before .before in
+    prefix-kept (start .pre .3) (at-collect .collect .ensures)
 
 pub keep-roots-spec : {M : Type 1} → statement M
 keep-roots-spec =

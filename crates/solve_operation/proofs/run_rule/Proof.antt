@@ -18,12 +18,13 @@ first-part-requires c κs =
     (z .some, z .few, z .room)
 
 loop-holds : tie.Need-loop-holds Inv-loop μ-loop
-loop-holds c = trying-starts (c .before .before .before .pre .0) (c .before .before .before .pre .1) (c .first-part .ensures)
+loop-holds c =
+    let start = c .before .before .before in trying-starts (start .pre .0) (start .pre .1) (c .first-part .ensures)
 
 attempt-requires : tie.Need-attempt-requires Inv-loop μ-loop
 attempt-requires c κs =
-    let s = c .before .before .before .before .before .before .before in
-    let t = trying-asks (c .before .before .before .loop .inv) in
+    let at-loop = c .before .before .before in let place = at-loop .before .before .before .before in let s = place in
+    let t = trying-asks (at-loop .loop .inv) in
     (t .0, t .1, s .pre .2, s .pre .3)
 
 same-length : tie.Need-same-length Inv-loop μ-loop
@@ -34,26 +35,31 @@ same-length-2 c = search needs
 
 returns : tie.Need-returns Inv-loop μ-loop
 returns c =
-    let s = c .before .before .before .before .before .before .before .before .before .before .before .before .before in
-    part-ends (c .before .before .before .before .before .before .before .before .before .loop .inv) (s .args .roots .now) (s .args .rule) (c .before .before .before .before .before .attempt .ensures) (c .before .before .before .before .before .attempt .kept .0) (c .before .before .before .before .before .attempt .kept .1 .0) (c .if1 .taken)
+    let at-attempt = c .before .before .before .before .before in let at-loop = at-attempt .before .before .before .before in let place = at-loop .before .before .before .before in
+    let s = place in
+    part-ends (at-loop .loop .inv) (s .args .roots .now) (s .args .rule) (at-attempt .attempt .ensures) (at-attempt .attempt .kept .0) (at-attempt .attempt .kept .1 .0) (c .if1 .taken)
 
 wider-part-requires : tie.Need-wider-part-requires Inv-loop μ-loop
 wider-part-requires c κs =
-    let s = c .before .before .before .before .before .before .before .before .before .before .before .before .before in
-    (c .before .before .before .before .before .before .before .before .before .loop .inv .some, s .pre .0 .few, c .before .before .before .before .before .before .before .before .loop-test .taken)
+    let at-loop-test = c .before .before .before .before .before .before .before .before in let at-loop = at-loop-test .before in
+    let place = at-loop .before .before .before .before in let s = place in
+    (at-loop .loop .inv .some, s .pre .0 .few, at-loop-test .loop-test .taken)
 
 loop-less : tie.Need-loop-less Inv-loop μ-loop
-loop-less c = omega (arith, c .wider-part .ensures .0, c .before .before .before .before .before .before .before .before .before .loop-test .taken)
+loop-less c =
+    let at-loop-test = c .before .before .before .before .before .before .before .before .before in
+    omega (arith, c .wider-part .ensures .0, at-loop-test .loop-test .taken)
 
 loop-again : tie.Need-loop-again Inv-loop μ-loop
 loop-again c =
-    let s = c .before .before .before .before .before .before .before .before .before .before .before .before .before .before in
-    trying-again (c .before .before .before .before .before .before .before .before .before .before .loop .inv) (s .args .roots .now) (s .args .rule) (c .before .before .before .before .before .before .attempt .ensures) (c .before .before .before .before .before .before .attempt .kept .0) (c .before .before .before .before .before .before .attempt .kept .1 .0) (c .wider-part .ensures)
+    let at-attempt = c .before .before .before .before .before .before in let at-loop = at-attempt .before .before .before .before in
+    let place = at-loop .before .before .before .before in let s = place in
+    trying-again (at-loop .loop .inv) (s .args .roots .now) (s .args .rule) (at-attempt .attempt .ensures) (at-attempt .attempt .kept .0) (at-attempt .attempt .kept .1 .0) (c .wider-part .ensures)
 
 attempt-requires-2 : tie.Need-attempt-requires-2 Inv-loop μ-loop
 attempt-requires-2 c κs =
-    let s = c .before .before .before .before .before .before .before in
-    let t = whole-asks (c .before .before .before .loop .inv) in
+    let at-loop = c .before .before .before in let place = at-loop .before .before .before .before in let s = place in
+    let t = whole-asks (at-loop .loop .inv) in
     (t .0, t .1, s .pre .2, s .pre .3)
 
 same-length-3 : tie.Need-same-length-3 Inv-loop μ-loop
@@ -64,8 +70,9 @@ same-length-4 c = search needs
 
 returns-2 : tie.Need-returns-2 Inv-loop μ-loop
 returns-2 c =
-    let s = c .before .before .before .before .before .before .before .before .before .before .before in
-    whole-ends (c .before .before .before .before .before .before .before .loop .inv) (s .args .roots .now) (s .args .rule) (c .before .before .before .attempt2 .ensures)
+    let at-attempt2 = c .before .before .before in let at-loop = at-attempt2 .before .before .before .before in let place = at-loop .before .before .before .before in
+    let s = place in
+    whole-ends (at-loop .loop .inv) (s .args .roots .now) (s .args .rule) (at-attempt2 .attempt2 .ensures)
 
 pub run-rule-spec : {M : Type 1} → statement M
 run-rule-spec =

@@ -7,55 +7,68 @@ use Rattle.solve_stages.proofs.better.Tie as tie
 
 add-operate : tie.Need-add-operate
 add-operate c =
-    omega (arith, c .before .before .before .before .pre .room, c .before .before .before .before .good .1 .1 .1 .1 .1 .0 .0)
+    let start = c .before .before .before .before in omega (arith, start .pre .room, start .good .1 .1 .1 .1 .1 .0 .0)
 
 total-requires : tie.Need-total-requires
 total-requires c κs =
-    behind-due (c .before .before .before .before .before .before .before .pre)
+    let start = c .before .before .before .before .before .before .before in behind-due (start .pre)
 
 same-length : tie.Need-same-length
 same-length c =
-    c .before .before .before .before .before .before .before .total .kept .1 .0
+    let at-total = c .before .before .before .before .before .before .before in at-total .total .kept .1 .0
 
 same-length-2 : tie.Need-same-length-2
 same-length-2 c =
-    c .before .before .before .before .before .before .before .total .kept .1 .1 .0
+    let at-total = c .before .before .before .before .before .before .before in at-total .total .kept .1 .1 .0
 
 same-length-3 : tie.Need-same-length-3
 same-length-3 c =
-    c .before .before .before .before .before .before .before .total .kept .1 .1 .1 .1 .1 .0
+    let at-total = c .before .before .before .before .before .before .before in at-total .total .kept .1 .1 .1 .1 .1 .0
 
 returns : tie.Need-returns
 returns c =
-    better-stopped (c .before .before .before .before .before .before .before .before .before .before .before .before .before .before .before .pre) (c .before .before .before .before .before .before .before .total .ensures) (c .if1 .taken)
+    let at-total = c .before .before .before .before .before .before .before in let start = at-total .before .before .before .before .before .before .before .before in
+    better-stopped (start .pre) (at-total .total .ensures) (c .if1 .taken)
 
 add-operate-2 : tie.Need-add-operate-2
 add-operate-2 c =
-    omega (arith, c .before .before .before .before .before .before .before .before .before .before .before .before .before .before .before .before .before .before .before .pre .room, c .before .before .before .before .before .before .before .before .before .before .before .before .before .before .before .before .before .before .before .good .1 .1 .1 .1 .1 .0 .0)
+    let start = c .before .before .before .before .before .before .before .before .before .before .before .before .before .before .before .before .before .before .before in
+    omega (arith, start .pre .room, start .good .1 .1 .1 .1 .1 .0 .0)
 
 add-t24 : tie.Need-add-t24
 add-t24 c =
-    omega (arith, c .before .before .before .before .before .before .before .before .before .before .before .before .before .before .before .before .before .before .before .before .pre .room, c .before .before .before .before .before .before .before .before .before .before .before .before .before .before .before .before .before .before .before .before .good .1 .1 .1 .1 .1 .0 .0)
+    let start = c .before .before .before .before .before .before .before .before .before .before .before .before .before .before .before .before .before .before .before .before in
+    omega (arith, start .pre .room, start .good .1 .1 .1 .1 .1 .0 .0)
 
 operate-requires : tie.Need-operate-requires
 operate-requires c κs =
-    better-ready (c .before .before .before .before .before .before .before .before .before .before .before .before .before .before .before .before .before .before .before .before .pre) (c .before .before .before .before .before .before .before .before .before .before .before .before .total .ensures) (c .before .before .before .before .before .if1 .left) (omega (arith, c .before .before .before .before .before .before .before .before .before .before .before .before .before .before .before .before .before .before .before .before .pre .room, c .before .before .before .before .before .before .before .before .before .before .before .before .total .kept .1 .1 .1 .1 .1 .0))
+    let at-if1 = c .before .before .before .before .before in let at-total = at-if1 .before .before .before .before .before .before .before in
+    let start = at-total .before .before .before .before .before .before .before .before in
+    better-ready (start .pre) (at-total .total .ensures) (at-if1 .if1 .left) (omega (arith, start .pre .room, at-total .total .kept .1 .1 .1 .1 .1 .0))
 
 same-length-4 : tie.Need-same-length-4
 same-length-4 c =
-    c .before .before .before .before .before .operate .kept .0 ∙ c .before .before .before .before .before .before .before .before .before .before .before .before .before .before .before .before .before .before .total .kept .1 .0
+    let at-operate = c .before .before .before .before .before in
+    let at-total = at-operate .before .before .before .before .before .before .before .before .before .before .before .before .before in
+    at-operate .operate .kept .0 ∙ at-total .total .kept .1 .0
 
 same-length-5 : tie.Need-same-length-5
 same-length-5 c =
-    c .before .before .before .before .before .operate .kept .1 .0 ∙ c .before .before .before .before .before .before .before .before .before .before .before .before .before .before .before .before .before .before .total .kept .1 .1 .0
+    let at-operate = c .before .before .before .before .before in
+    let at-total = at-operate .before .before .before .before .before .before .before .before .before .before .before .before .before in
+    at-operate .operate .kept .1 .0 ∙ at-total .total .kept .1 .1 .0
 
 same-length-6 : tie.Need-same-length-6
 same-length-6 c =
-    c .before .before .before .before .before .operate .kept .1 .1 .1 .1 .0 ∙ c .before .before .before .before .before .before .before .before .before .before .before .before .before .before .before .before .before .before .total .kept .1 .1 .1 .1 .1 .0
+    let at-operate = c .before .before .before .before .before in
+    let at-total = at-operate .before .before .before .before .before .before .before .before .before .before .before .before .before in
+    at-operate .operate .kept .1 .1 .1 .1 .0 ∙ at-total .total .kept .1 .1 .1 .1 .1 .0
 
 returns-2 : tie.Need-returns-2
 returns-2 c =
-    better-done (c .before .before .before .before .before .before .before .before .before .before .before .before .before .before .before .before .before .before .before .before .before .before .before .before .before .before .pre) (c .before .before .before .before .before .before .before .before .before .before .before .before .before .before .before .before .before .before .total .ensures) (c .before .before .before .before .before .before .before .before .before .before .before .if1 .left) (c .before .before .before .before .before .operate .ensures)
+    let at-operate = c .before .before .before .before .before in let at-if1 = at-operate .before .before .before .before .before .before in
+    let at-total = at-if1 .before .before .before .before .before .before .before in let start = at-total .before .before .before .before .before .before .before .before in
+    better-done (start .pre) (at-total .total .ensures) (at-if1 .if1 .left) (at-operate .operate .ensures)
 
 pub better-spec : {M : Type 1} → statement M
 better-spec =

@@ -12,16 +12,21 @@ larger-requires : tie.Need-larger-requires
 larger-requires c κs = search needs
 
 raise-peak-requires : tie.Need-raise-peak-requires
-raise-peak-requires c κs = (c .before .before .before .before .before .pre .0, c .before .before .before .before .before .pre .1 (c .before .if1 .taken))
+raise-peak-requires c κs =
+    let start = c .before .before .before .before .before in (start .pre .0, start .pre .1 (c .before .if1 .taken))
 
 same-length : tie.Need-same-length
 same-length c = search needs
 
 returns : tie.Need-returns
-returns c = (joined-as (c .before .before .before .before .before .before .before .before .args .run) (c .before .before .before .before .before .before .before .before .args .own) (c .before .before .before .before .before .before .larger .ensures), λ ok. c .before .before .raise-peak .ensures)
+returns c =
+    let at-larger = c .before .before .before .before .before .before in let start = at-larger .before .before in
+    (joined-as (start .args .run) (start .args .own) (at-larger .larger .ensures), λ ok. c .before .before .raise-peak .ensures)
 
 returns-2 : tie.Need-returns-2
-returns-2 c = (joined-as (c .before .before .before .before .args .run) (c .before .before .before .before .args .own) (c .before .before .larger .ensures), λ ok. absurd (c .if1 .left ok))
+returns-2 c =
+    let start = c .before .before .before .before in
+    (joined-as (start .args .run) (start .args .own) (c .before .before .larger .ensures), λ ok. absurd (c .if1 .left ok))
 
 pub counted-spec : {M : Type 1} → statement M
 counted-spec =

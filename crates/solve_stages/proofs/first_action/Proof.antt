@@ -13,7 +13,9 @@ total-requires : tie.Need-total-requires
 total-requires c κs = search needs
 
 counted-requires : tie.Need-counted-requires
-counted-requires c κs = (c .before .before .before .before .before .before .before .before .before .before .before .before .before .before .pre .1, own-fits (c .before .before .before .before .before .before .total .ensures))
+counted-requires c κs =
+    let at-total = c .before .before .before .before .before .before in let start = at-total .before .before .before .before .before .before .before .before in
+    (start .pre .1, own-fits (at-total .total .ensures))
 
 same-length : tie.Need-same-length
 same-length c = search needs
@@ -28,7 +30,10 @@ same-length-4 : tie.Need-same-length-4
 same-length-4 c = search needs
 
 returns : tie.Need-returns
-returns c = action-counted (c .before .before .before .before .before .before .before .before .before .total .ensures) (c .before .before .before .before .before .before .before .before .before .before .before .before .before .before .before .before .before .args .backup .action) (c .before .before .before .before .before .before .before .before .before .before .before .before .before .before .before .before .before .args .run) (λ K. total-own _ _ K _ _ _) (c .before .before .counted .ensures .0) (c .before .before .counted .ensures .1)
+returns c =
+    let at-total = c .before .before .before .before .before .before .before .before .before in
+    let start = at-total .before .before .before .before .before .before .before .before in
+    action-counted (at-total .total .ensures) (start .args .backup .action) (start .args .run) (λ K. total-own _ _ K _ _ _) (c .before .before .counted .ensures .0) (c .before .before .counted .ensures .1)
 
 pub first-action-spec : {M : Type 1} → statement M
 first-action-spec =

@@ -12,7 +12,9 @@ better-requires : tie.Need-better-requires
 better-requires c κs = search needs
 
 counted-requires : tie.Need-counted-requires
-counted-requires c κs = (c .before .before .before .before .before .before .before .before .before .before .before .before .before .before .pre .1, own-fits (c .before .before .before .before .before .before .better .ensures))
+counted-requires c κs =
+    let at-better = c .before .before .before .before .before .before in let start = at-better .before .before .before .before .before .before .before .before in
+    (start .pre .1, own-fits (at-better .better .ensures))
 
 same-length : tie.Need-same-length
 same-length c = search needs
@@ -27,7 +29,10 @@ same-length-4 : tie.Need-same-length-4
 same-length-4 c = search needs
 
 returns : tie.Need-returns
-returns c = action-counted (c .before .before .before .before .before .before .before .before .before .better .ensures) (c .before .before .before .before .before .before .before .before .before .before .before .before .before .before .before .before .before .args .backup .action) (c .before .before .before .before .before .before .before .before .before .before .before .before .before .before .before .before .before .args .run) (λ K. bettered-own _ _ _ _ _ K) (c .before .before .counted .ensures .0) (c .before .before .counted .ensures .1)
+returns c =
+    let at-better = c .before .before .before .before .before .before .before .before .before in
+    let start = at-better .before .before .before .before .before .before .before .before in
+    action-counted (at-better .better .ensures) (start .args .backup .action) (start .args .run) (λ K. bettered-own _ _ _ _ _ K) (c .before .before .counted .ensures .0) (c .before .before .counted .ensures .1)
 
 pub next-action-spec : {M : Type 1} → statement M
 next-action-spec =

@@ -25,48 +25,61 @@ action-index-requires c κs =
 
 loop-holds : tie.Need-loop-holds Inv-loop μ-loop
 loop-holds c =
-    (trying-starts (c .before .before .before .before .before .before .pre .0) (c .before .before .before .before .before .before .pre .1) (c .before .before .before .before .before .before .pre .2) (c .before .site .ensures) (c .action-index .ensures .0), refl, refl, refl, refl)
+    let start = c .before .before .before .before .before .before in
+    (trying-starts (start .pre .0) (start .pre .1) (start .pre .2) (c .before .site .ensures) (c .action-index .ensures .0), refl, refl, refl, refl)
 
 next-action-requires : tie.Need-next-action-requires Inv-loop μ-loop
 next-action-requires c κs =
-    (trying-due (c .before .before .before .before .before .loop .inv .0) (c .before .before .before .before .before .before .before .before .before .before .before .before .pre .0) (omega (arith, c .before .before .before .before .loop-test .taken)) (c .before .before .before .before .before .loop .inv .3), trying-word (c .before .before .before .before .before .loop .inv .0) (omega (arith, c .before .before .before .before .loop-test .taken)) (c .before .before .before .before .before .loop .inv .4 ∙ c .before .before .before .before .before .before .before .before .before .before .before .before .pre .3))
+    let at-loop-test = c .before .before .before .before in let at-loop = at-loop-test .before in let start = at-loop .before .before .before .before .before .before .before in
+    (trying-due (at-loop .loop .inv .0) (start .pre .0) (omega (arith, at-loop-test .loop-test .taken)) (at-loop .loop .inv .3), trying-word (at-loop .loop .inv .0) (omega (arith, at-loop-test .loop-test .taken)) (at-loop .loop .inv .4 ∙ start .pre .3))
 
 same-length : tie.Need-same-length Inv-loop μ-loop
 same-length c =
-    c .before .before .before .before .before .before .before .before .before .next-action .kept .1 .0 ∙ c .before .before .before .before .before .before .before .before .before .before .before .before .before .before .before .loop .inv .1
+    let at-next-action = c .before .before .before .before .before .before .before .before .before in
+    let at-loop = at-next-action .before .before .before .before .before .before in at-next-action .next-action .kept .1 .0 ∙ at-loop .loop .inv .1
 
 same-length-2 : tie.Need-same-length-2 Inv-loop μ-loop
 same-length-2 c =
-    c .before .before .before .before .before .before .before .before .before .next-action .kept .1 .1 .0 ∙ c .before .before .before .before .before .before .before .before .before .before .before .before .before .before .before .loop .inv .2
+    let at-next-action = c .before .before .before .before .before .before .before .before .before in
+    let at-loop = at-next-action .before .before .before .before .before .before in at-next-action .next-action .kept .1 .1 .0 ∙ at-loop .loop .inv .2
 
 same-length-3 : tie.Need-same-length-3 Inv-loop μ-loop
 same-length-3 c =
-    c .before .before .before .before .before .before .before .before .before .next-action .kept .1 .1 .1 .1 .1 .0 ∙ c .before .before .before .before .before .before .before .before .before .before .before .before .before .before .before .loop .inv .3
+    let at-next-action = c .before .before .before .before .before .before .before .before .before in
+    let at-loop = at-next-action .before .before .before .before .before .before in at-next-action .next-action .kept .1 .1 .1 .1 .1 .0 ∙ at-loop .loop .inv .3
 
 same-length-4 : tie.Need-same-length-4 Inv-loop μ-loop
 same-length-4 c =
-    c .before .before .before .before .before .before .before .before .before .next-action .kept .1 .1 .1 .1 .1 .1 .0 ∙ c .before .before .before .before .before .before .before .before .before .before .before .before .before .before .before .loop .inv .4
+    let at-next-action = c .before .before .before .before .before .before .before .before .before in
+    let at-loop = at-next-action .before .before .before .before .before .before in
+    at-next-action .next-action .kept .1 .1 .1 .1 .1 .1 .0 ∙ at-loop .loop .inv .4
 
 returns : tie.Need-returns Inv-loop μ-loop
 returns c =
-    trying-stops (c .before .before .before .before .before .before .before .before .before .before .before .before .before .before .before .loop .inv .0) (omega (arith, c .before .before .before .before .before .before .before .before .before .before .before .before .before .before .loop-test .taken)) (c .before .before .before .before .before .before .before .before .before .next-action .ensures) (c .if1 .taken)
+    let at-next-action = c .before .before .before .before .before .before .before .before .before in let at-loop-test = at-next-action .before .before .before .before .before in
+    let at-loop = at-loop-test .before in
+    trying-stops (at-loop .loop .inv .0) (omega (arith, at-loop-test .loop-test .taken)) (at-next-action .next-action .ensures) (c .if1 .taken)
 
 add-a : tie.Need-add-a Inv-loop μ-loop
 add-a c =
-    omega (arith, c .before .before .before .before .before .before .before .before .before .before .before .before .before .before .loop-test .taken, c .before .before .before .before .before .before .before .before .before .before .before .before .before .before .before .before .action-index .ensures .1)
+    let at-loop-test = c .before .before .before .before .before .before .before .before .before .before .before .before .before .before in
+    let at-action-index = at-loop-test .before .before in omega (arith, at-loop-test .loop-test .taken, at-action-index .action-index .ensures .1)
 
 loop-less : tie.Need-loop-less Inv-loop μ-loop
 loop-less c =
-    omega (arith, c .before .before .before .before .before .before .before .before .before .before .before .before .before .before .loop-test .taken)
+    let at-loop-test = c .before .before .before .before .before .before .before .before .before .before .before .before .before .before in
+    omega (arith, at-loop-test .loop-test .taken)
 
 loop-again : tie.Need-loop-again Inv-loop μ-loop
-loop-again c = (
-  trying-on (c .before .before .before .before .before .before .before .before .before .before .before .before .before .before .before .loop .inv .0) (omega (arith, c .before .before .before .before .before .before .before .before .before .before .before .before .before .before .loop-test .taken)) (c .before .before .before .before .before .before .before .before .before .next-action .ensures) (c .if1 .left) (omega (arith, c .before .before .before .before .before .before .before .before .before .before .before .before .before .before .before .before .before .before .before .before .before .before .pre .0 .room, c .before .before .before .before .before .before .before .before .before .before .before .before .before .before .before .loop .inv .3, c .before .before .before .before .before .before .before .before .before .next-action .kept .1 .1 .1 .1 .1 .0)),
-  c .before .before .before .before .before .before .before .before .before .next-action .kept .1 .0 ∙ c .before .before .before .before .before .before .before .before .before .before .before .before .before .before .before .loop .inv .1,
-  c .before .before .before .before .before .before .before .before .before .next-action .kept .1 .1 .0 ∙ c .before .before .before .before .before .before .before .before .before .before .before .before .before .before .before .loop .inv .2,
-  c .before .before .before .before .before .before .before .before .before .next-action .kept .1 .1 .1 .1 .1 .0 ∙ c .before .before .before .before .before .before .before .before .before .before .before .before .before .before .before .loop .inv .3,
-  c .before .before .before .before .before .before .before .before .before .next-action .kept .1 .1 .1 .1 .1 .1 .0 ∙ c .before .before .before .before .before .before .before .before .before .before .before .before .before .before .before .loop .inv .4,
-)
+loop-again c =
+    let at-next-action = c .before .before .before .before .before .before .before .before .before in let at-loop-test = at-next-action .before .before .before .before .before in
+    let at-loop = at-loop-test .before in let start = at-loop .before .before .before .before .before .before .before in (
+      trying-on (at-loop .loop .inv .0) (omega (arith, at-loop-test .loop-test .taken)) (at-next-action .next-action .ensures) (c .if1 .left) (omega (arith, start .pre .0 .room, at-loop .loop .inv .3, at-next-action .next-action .kept .1 .1 .1 .1 .1 .0)),
+      at-next-action .next-action .kept .1 .0 ∙ at-loop .loop .inv .1,
+      at-next-action .next-action .kept .1 .1 .0 ∙ at-loop .loop .inv .2,
+      at-next-action .next-action .kept .1 .1 .1 .1 .1 .0 ∙ at-loop .loop .inv .3,
+      at-next-action .next-action .kept .1 .1 .1 .1 .1 .1 .0 ∙ at-loop .loop .inv .4,
+    )
 
 same-length-5 : tie.Need-same-length-5 Inv-loop μ-loop
 same-length-5 c =

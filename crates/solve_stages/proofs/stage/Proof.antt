@@ -7,55 +7,70 @@ use Rattle.solve_stages.proofs.stage.Tie as tie
 
 first-action-requires : tie.Need-first-action-requires
 first-action-requires c κs =
-    (c .before .before .before .before .before .before .before .before .pre .0, omega (arith, c .before .before .before .before .before .before .before .before .pre .1, c .before .before .before .before .before .before .before .before .pre .3))
+    let start = c .before .before .before .before .before .before .before .before in (start .pre .0, omega (arith, start .pre .1, start .pre .3))
 
 same-length : tie.Need-same-length
 same-length c =
-    c .before .before .before .before .before .before .before .before .before .first-action .kept .1 .0
+    let at-first-action = c .before .before .before .before .before .before .before .before .before in at-first-action .first-action .kept .1 .0
 
 same-length-2 : tie.Need-same-length-2
 same-length-2 c =
-    c .before .before .before .before .before .before .before .before .before .first-action .kept .1 .1 .0
+    let at-first-action = c .before .before .before .before .before .before .before .before .before in at-first-action .first-action .kept .1 .1 .0
 
 same-length-3 : tie.Need-same-length-3
 same-length-3 c =
-    c .before .before .before .before .before .before .before .before .before .first-action .kept .1 .1 .1 .1 .1 .0
+    let at-first-action = c .before .before .before .before .before .before .before .before .before in at-first-action .first-action .kept .1 .1 .1 .1 .1 .0
 
 same-length-4 : tie.Need-same-length-4
 same-length-4 c =
-    c .before .before .before .before .before .before .before .before .before .first-action .kept .1 .1 .1 .1 .1 .1 .0
+    let at-first-action = c .before .before .before .before .before .before .before .before .before in at-first-action .first-action .kept .1 .1 .1 .1 .1 .1 .0
 
 returns : tie.Need-returns
 returns c =
-    first-stops (c .before .before .before .before .before .before .before .before .before .before .before .before .before .before .before .before .before .before .pre .0) (c .before .before .before .before .before .before .before .before .before .before .before .before .before .before .before .before .before .before .pre .1) (c .before .before .before .before .before .before .before .before .before .first-action .ensures) (c .if1 .taken)
+    let at-first-action = c .before .before .before .before .before .before .before .before .before in
+    let start = at-first-action .before .before .before .before .before .before .before .before .before in
+    first-stops (start .pre .0) (start .pre .1) (at-first-action .first-action .ensures) (c .if1 .taken)
 
 others-requires : tie.Need-others-requires
-others-requires c κs = (
-  others-due (c .before .before .before .before .before .before .before .before .before .before .before .before .before .before .before .before .before .before .before .before .before .before .pre .0) (c .before .before .before .before .before .before .before .before .before .before .before .before .before .before .before .before .before .before .before .before .before .before .pre .1) (c .before .before .before .before .before .before .before .before .before .before .before .before .before .first-action .ensures) (c .before .before .before .before .if1 .left) (omega (arith, c .before .before .before .before .before .before .before .before .before .before .before .before .before .before .before .before .before .before .before .before .before .before .pre .2, c .before .before .before .before .before .before .before .before .before .before .before .before .before .first-action .kept .1 .1 .1 .1 .1 .0)),
-  c .before .before .before .before .if1 .left,
-  c .before .before .before .before .before .before .before .before .before .before .before .before .before .before .before .before .before .before .before .before .before .before .pre .0 .ready .first,
-  c .before .before .before .before .before .before .before .before .before .before .before .before .before .first-action .kept .1 .1 .1 .1 .1 .1 .0 ∙ c .before .before .before .before .before .before .before .before .before .before .before .before .before .before .before .before .before .before .before .before .before .before .pre .3,
-)
+others-requires c κs =
+    let at-if1 = c .before .before .before .before in let at-first-action = at-if1 .before .before .before .before .before .before .before .before .before in
+    let start = at-first-action .before .before .before .before .before .before .before .before .before in (
+      others-due (start .pre .0) (start .pre .1) (at-first-action .first-action .ensures) (at-if1 .if1 .left) (omega (arith, start .pre .2, at-first-action .first-action .kept .1 .1 .1 .1 .1 .0)),
+      at-if1 .if1 .left,
+      start .pre .0 .ready .first,
+      at-first-action .first-action .kept .1 .1 .1 .1 .1 .1 .0 ∙ start .pre .3,
+    )
 
 same-length-5 : tie.Need-same-length-5
 same-length-5 c =
-    c .before .before .before .before .before .before .before .others .kept .1 .0 ∙ c .before .before .before .before .before .before .before .before .before .before .before .before .before .before .before .before .before .before .before .before .before .first-action .kept .1 .0
+    let at-others = c .before .before .before .before .before .before .before in
+    let at-first-action = at-others .before .before .before .before .before .before .before .before .before .before .before .before .before .before in
+    at-others .others .kept .1 .0 ∙ at-first-action .first-action .kept .1 .0
 
 same-length-6 : tie.Need-same-length-6
 same-length-6 c =
-    c .before .before .before .before .before .before .before .others .kept .1 .1 .0 ∙ c .before .before .before .before .before .before .before .before .before .before .before .before .before .before .before .before .before .before .before .before .before .first-action .kept .1 .1 .0
+    let at-others = c .before .before .before .before .before .before .before in
+    let at-first-action = at-others .before .before .before .before .before .before .before .before .before .before .before .before .before .before in
+    at-others .others .kept .1 .1 .0 ∙ at-first-action .first-action .kept .1 .1 .0
 
 same-length-7 : tie.Need-same-length-7
 same-length-7 c =
-    c .before .before .before .before .before .before .before .others .kept .1 .1 .1 .1 .1 .0 ∙ c .before .before .before .before .before .before .before .before .before .before .before .before .before .before .before .before .before .before .before .before .before .first-action .kept .1 .1 .1 .1 .1 .0
+    let at-others = c .before .before .before .before .before .before .before in
+    let at-first-action = at-others .before .before .before .before .before .before .before .before .before .before .before .before .before .before in
+    at-others .others .kept .1 .1 .1 .1 .1 .0 ∙ at-first-action .first-action .kept .1 .1 .1 .1 .1 .0
 
 same-length-8 : tie.Need-same-length-8
 same-length-8 c =
-    c .before .before .before .before .before .before .before .others .kept .1 .1 .1 .1 .1 .1 .0 ∙ c .before .before .before .before .before .before .before .before .before .before .before .before .before .before .before .before .before .before .before .before .before .first-action .kept .1 .1 .1 .1 .1 .1 .0
+    let at-others = c .before .before .before .before .before .before .before in
+    let at-first-action = at-others .before .before .before .before .before .before .before .before .before .before .before .before .before .before in
+    at-others .others .kept .1 .1 .1 .1 .1 .1 .0 ∙ at-first-action .first-action .kept .1 .1 .1 .1 .1 .1 .0
 
 returns-2 : tie.Need-returns-2
 returns-2 c =
-    stage-ends (c .before .before .before .before .before .before .before .before .before .before .before .before .before .before .before .before .before .before .before .before .before .before .before .before .before .before .before .before .before .before .pre .0) (c .before .before .before .before .before .before .before .before .before .before .before .before .before .before .before .before .before .before .before .before .before .before .before .before .before .before .before .before .before .before .pre .1) (c .before .before .before .before .before .before .before .before .before .before .before .before .before .before .before .before .before .before .before .before .before .first-action .ensures) (c .before .before .before .before .before .before .before .before .before .before .before .before .if1 .left) (omega (arith, c .before .before .before .before .before .before .before .before .before .before .before .before .before .before .before .before .before .before .before .before .before .before .before .before .before .before .before .before .before .before .pre .2, c .before .before .before .before .before .before .before .before .before .before .before .before .before .before .before .before .before .before .before .before .before .first-action .kept .1 .1 .1 .1 .1 .0)) (c .before .before .before .before .before .before .before .others .ensures)
+    let at-others = c .before .before .before .before .before .before .before in let at-if1 = at-others .before .before .before .before .before in
+    let at-first-action = at-if1 .before .before .before .before .before .before .before .before .before in
+    let start = at-first-action .before .before .before .before .before .before .before .before .before in
+    stage-ends (start .pre .0) (start .pre .1) (at-first-action .first-action .ensures) (at-if1 .if1 .left) (omega (arith, start .pre .2, at-first-action .first-action .kept .1 .1 .1 .1 .1 .0)) (at-others .others .ensures)
 
 pub stage-spec : {M : Type 1} → statement M
 stage-spec =

@@ -21,72 +21,91 @@ model-size-requires c κs =
 
 loop-holds : tie.Need-loop-holds Inv-loop μ-loop
 loop-holds c =
-    (staging-starts (c .before .before .before .before .before .args .horizon) (c .before .before .before .before .before .args .run) (c .before .before .before .before .before .pre .0) (c .model-size .ensures .0) (c .before .before .before .before .before .args .peaks .now) (c .before .before .before .before .before .pre .1), refl, refl, refl, refl)
+    let start = c .before .before .before .before .before in
+    (staging-starts (start .args .horizon) (start .args .run) (start .pre .0) (c .model-size .ensures .0) (start .args .peaks .now) (start .pre .1), refl, refl, refl, refl)
 
 add-t14 : tie.Need-add-t14 Inv-loop μ-loop
 add-t14 c =
-    omega (arith, c .loop-test .taken, c .before .before .before .before .before .before .before .pre .2, c .before .before .model-size .ensures .1)
+    let start = c .before .before .before .before .before .before .before in
+    omega (arith, c .loop-test .taken, start .pre .2, c .before .before .model-size .ensures .1)
 
 add-t15 : tie.Need-add-t15 Inv-loop μ-loop
 add-t15 c =
-    omega (arith, c .loop-test .taken, c .before .before .before .before .before .before .before .pre .2, c .before .before .model-size .ensures .1)
+    let start = c .before .before .before .before .before .before .before in
+    omega (arith, c .loop-test .taken, start .pre .2, c .before .before .model-size .ensures .1)
 
 add-t16 : tie.Need-add-t16 Inv-loop μ-loop
 add-t16 c =
-    omega (arith, c .loop-test .taken, c .before .before .before .before .before .before .before .pre .2, c .before .before .model-size .ensures .1)
+    let start = c .before .before .before .before .before .before .before in
+    omega (arith, c .loop-test .taken, start .pre .2, c .before .before .model-size .ensures .1)
 
 add-t17 : tie.Need-add-t17 Inv-loop μ-loop
 add-t17 c =
-    omega (arith, c .loop-test .taken, c .before .before .before .before .before .before .before .pre .2, c .before .before .model-size .ensures .1)
+    let start = c .before .before .before .before .before .before .before in
+    omega (arith, c .loop-test .taken, start .pre .2, c .before .before .model-size .ensures .1)
 
 stage-requires : tie.Need-stage-requires Inv-loop μ-loop
-stage-requires c κs = (
-  staging-due (c .before .before .before .before .before .loop .inv .0) (omega arith) (omega (arith, c .before .before .before .before .loop-test .taken)) (c .before .before .before .before .before .before .before .before .before .before .before .pre .2) (omega (arith, c .before .before .before .before .before .before .before .before .before .before .before .pre .3, c .before .before .before .before .before .loop .inv .3)),
-  refl,
-  omega (arith, c .before .before .before .before .loop-test .taken, c .before .before .before .before .before .before .before .before .before .before .before .pre .3, c .before .before .before .before .before .loop .inv .3, c .before .before .before .before .before .loop .inv .0 .place),
-  c .before .before .before .before .before .loop .inv .4 ∙ c .before .before .before .before .before .before .before .before .before .before .before .pre .4,
-)
+stage-requires c κs =
+    let at-loop-test = c .before .before .before .before in let at-loop = at-loop-test .before in let start = at-loop .before .before .before .before .before .before in (
+      staging-due (at-loop .loop .inv .0) (omega arith) (omega (arith, at-loop-test .loop-test .taken)) (start .pre .2) (omega (arith, start .pre .3, at-loop .loop .inv .3)),
+      refl,
+      omega (arith, at-loop-test .loop-test .taken, start .pre .3, at-loop .loop .inv .3, at-loop .loop .inv .0 .place),
+      at-loop .loop .inv .4 ∙ start .pre .4,
+    )
 
 add-t26 : tie.Need-add-t26 Inv-loop μ-loop
 add-t26 c =
-    omega (arith, c .before .before .before .before .before .before .before .before .before .before .before .before .before .before .loop-test .taken, c .before .before .before .before .before .before .before .before .before .before .before .before .before .before .before .before .before .before .before .before .before .pre .2, c .before .before .before .before .before .before .before .before .before .before .before .before .before .before .before .before .model-size .ensures .1)
+    let at-loop-test = c .before .before .before .before .before .before .before .before .before .before .before .before .before .before in
+    let at-model-size = at-loop-test .before .before in let start = at-model-size .before .before .before .before .before in
+    omega (arith, at-loop-test .loop-test .taken, start .pre .2, at-model-size .model-size .ensures .1)
 
 same-length : tie.Need-same-length Inv-loop μ-loop
 same-length c =
-    c .before .before .before .before .before .before .before .before .before .stage .kept .1 .0 ∙ c .before .before .before .before .before .before .before .before .before .before .before .before .before .before .before .loop .inv .1
+    let at-stage = c .before .before .before .before .before .before .before .before .before in let at-loop = at-stage .before .before .before .before .before .before in
+    at-stage .stage .kept .1 .0 ∙ at-loop .loop .inv .1
 
 same-length-2 : tie.Need-same-length-2 Inv-loop μ-loop
 same-length-2 c =
-    c .before .before .before .before .before .before .before .before .before .stage .kept .1 .1 .0 ∙ c .before .before .before .before .before .before .before .before .before .before .before .before .before .before .before .loop .inv .2
+    let at-stage = c .before .before .before .before .before .before .before .before .before in let at-loop = at-stage .before .before .before .before .before .before in
+    at-stage .stage .kept .1 .1 .0 ∙ at-loop .loop .inv .2
 
 same-length-3 : tie.Need-same-length-3 Inv-loop μ-loop
 same-length-3 c =
-    c .before .before .before .before .before .before .before .before .before .stage .kept .1 .1 .1 .1 .1 .0 ∙ c .before .before .before .before .before .before .before .before .before .before .before .before .before .before .before .loop .inv .3
+    let at-stage = c .before .before .before .before .before .before .before .before .before in let at-loop = at-stage .before .before .before .before .before .before in
+    at-stage .stage .kept .1 .1 .1 .1 .1 .0 ∙ at-loop .loop .inv .3
 
 same-length-4 : tie.Need-same-length-4 Inv-loop μ-loop
 same-length-4 c =
-    c .before .before .before .before .before .before .before .before .before .stage .kept .1 .1 .1 .1 .1 .1 .0 ∙ c .before .before .before .before .before .before .before .before .before .before .before .before .before .before .before .loop .inv .4
+    let at-stage = c .before .before .before .before .before .before .before .before .before in let at-loop = at-stage .before .before .before .before .before .before in
+    at-stage .stage .kept .1 .1 .1 .1 .1 .1 .0 ∙ at-loop .loop .inv .4
 
 returns : tie.Need-returns Inv-loop μ-loop
 returns c =
-    staging-stops (c .before .before .before .before .before .before .before .before .before .before .before .before .before .before .before .loop .inv .0) (omega (arith, c .before .before .before .before .before .before .before .before .before .before .before .before .before .before .loop-test .taken)) (c .before .before .before .before .before .before .before .before .before .stage .ensures) (c .if1 .taken)
+    let at-stage = c .before .before .before .before .before .before .before .before .before in let at-loop-test = at-stage .before .before .before .before .before in
+    let at-loop = at-loop-test .before in
+    staging-stops (at-loop .loop .inv .0) (omega (arith, at-loop-test .loop-test .taken)) (at-stage .stage .ensures) (c .if1 .taken)
 
 add-h : tie.Need-add-h Inv-loop μ-loop
 add-h c =
-    omega (arith, c .before .before .before .before .before .before .before .before .before .before .before .before .before .before .loop-test .taken, c .before .before .before .before .before .before .before .before .before .before .before .before .before .before .before .before .before .before .before .before .before .pre .2, c .before .before .before .before .before .before .before .before .before .before .before .before .before .before .before .before .model-size .ensures .1)
+    let at-loop-test = c .before .before .before .before .before .before .before .before .before .before .before .before .before .before in
+    let at-model-size = at-loop-test .before .before in let start = at-model-size .before .before .before .before .before in
+    omega (arith, at-loop-test .loop-test .taken, start .pre .2, at-model-size .model-size .ensures .1)
 
 loop-less : tie.Need-loop-less Inv-loop μ-loop
 loop-less c =
-    omega (arith, c .before .before .before .before .before .before .before .before .before .before .before .before .before .before .loop-test .taken)
+    let at-loop-test = c .before .before .before .before .before .before .before .before .before .before .before .before .before .before in
+    omega (arith, at-loop-test .loop-test .taken)
 
 loop-again : tie.Need-loop-again Inv-loop μ-loop
-loop-again c = (
-  staging-on (c .before .before .before .before .before .before .before .before .before .before .before .before .before .before .before .loop .inv .0) (omega (arith, c .before .before .before .before .before .before .before .before .before .before .before .before .before .before .loop-test .taken)) (c .before .before .before .before .before .before .before .before .before .stage .ensures) (c .if1 .left) (omega (arith, c .before .before .before .before .before .before .before .before .before .before .before .before .before .before .loop-test .taken, c .before .before .before .before .before .before .before .before .before .before .before .before .before .before .before .before .before .before .before .before .before .pre .3, c .before .before .before .before .before .before .before .before .before .before .before .before .before .before .before .loop .inv .3, c .before .before .before .before .before .before .before .before .before .before .before .before .before .before .before .loop .inv .0 .place, c .before .before .before .before .before .before .before .before .before .stage .kept .1 .1 .1 .1 .1 .0)),
-  c .before .before .before .before .before .before .before .before .before .stage .kept .1 .0 ∙ c .before .before .before .before .before .before .before .before .before .before .before .before .before .before .before .loop .inv .1,
-  c .before .before .before .before .before .before .before .before .before .stage .kept .1 .1 .0 ∙ c .before .before .before .before .before .before .before .before .before .before .before .before .before .before .before .loop .inv .2,
-  c .before .before .before .before .before .before .before .before .before .stage .kept .1 .1 .1 .1 .1 .0 ∙ c .before .before .before .before .before .before .before .before .before .before .before .before .before .before .before .loop .inv .3,
-  c .before .before .before .before .before .before .before .before .before .stage .kept .1 .1 .1 .1 .1 .1 .0 ∙ c .before .before .before .before .before .before .before .before .before .before .before .before .before .before .before .loop .inv .4,
-)
+loop-again c =
+    let at-stage = c .before .before .before .before .before .before .before .before .before in let at-loop-test = at-stage .before .before .before .before .before in
+    let at-loop = at-loop-test .before in let start = at-loop .before .before .before .before .before .before in (
+      staging-on (at-loop .loop .inv .0) (omega (arith, at-loop-test .loop-test .taken)) (at-stage .stage .ensures) (c .if1 .left) (omega (arith, at-loop-test .loop-test .taken, start .pre .3, at-loop .loop .inv .3, at-loop .loop .inv .0 .place, at-stage .stage .kept .1 .1 .1 .1 .1 .0)),
+      at-stage .stage .kept .1 .0 ∙ at-loop .loop .inv .1,
+      at-stage .stage .kept .1 .1 .0 ∙ at-loop .loop .inv .2,
+      at-stage .stage .kept .1 .1 .1 .1 .1 .0 ∙ at-loop .loop .inv .3,
+      at-stage .stage .kept .1 .1 .1 .1 .1 .1 .0 ∙ at-loop .loop .inv .4,
+    )
 
 same-length-5 : tie.Need-same-length-5 Inv-loop μ-loop
 same-length-5 c =

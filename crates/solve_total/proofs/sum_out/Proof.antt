@@ -25,43 +25,51 @@ add-operate c =
 
 add-t18 : tie.Need-add-t18 Inv-loop μ-loop
 add-t18 c =
-    omega (arith, c .before .before .before .before .before .before .loop .inv .0 .on .room, c .before .before .before .before .before .before .loop .inv .0 .from .ends)
+    let at-loop = c .before .before .before .before .before .before in omega (arith, at-loop .loop .inv .0 .on .room, at-loop .loop .inv .0 .from .ends)
 
 add-t19 : tie.Need-add-t19 Inv-loop μ-loop
 add-t19 c =
-    omega (arith, c .before .before .before .before .before .before .loop .inv .0 .from .few-conditions)
+    let at-loop = c .before .before .before .before .before .before in omega (arith, at-loop .loop .inv .0 .from .few-conditions)
 
 operate-requires : tie.Need-operate-requires Inv-loop μ-loop
 operate-requires c κs =
-    (on-standing (c .before .before .before .before .before .before .loop .inv .0 .on), omega arith, c .before .before .before .before .before .before .loop .inv .0 .on .room, summing-fits (c .before .before .before .before .before .before .loop .inv .0) (c .before .before .before .before .if1 .taken))
+    let at-if1 = c .before .before .before .before in let at-loop = at-if1 .before .before in
+    (on-standing (at-loop .loop .inv .0 .on), omega arith, at-loop .loop .inv .0 .on .room, summing-fits (at-loop .loop .inv .0) (at-if1 .if1 .taken))
 
 same-length : tie.Need-same-length Inv-loop μ-loop
 same-length c =
-    c .before .before .before .before .before .before .before .operate .kept .0 ∙ c .before .before .before .before .before .before .before .before .before .before .before .before .before .before .loop .inv .1
+    let at-operate = c .before .before .before .before .before .before .before in let at-loop = at-operate .before .before .before .before .before .before .before in
+    at-operate .operate .kept .0 ∙ at-loop .loop .inv .1
 
 same-length-2 : tie.Need-same-length-2 Inv-loop μ-loop
 same-length-2 c =
-    c .before .before .before .before .before .before .before .operate .kept .1 .0 ∙ c .before .before .before .before .before .before .before .before .before .before .before .before .before .before .loop .inv .2
+    let at-operate = c .before .before .before .before .before .before .before in let at-loop = at-operate .before .before .before .before .before .before .before in
+    at-operate .operate .kept .1 .0 ∙ at-loop .loop .inv .2
 
 same-length-3 : tie.Need-same-length-3 Inv-loop μ-loop
 same-length-3 c =
-    c .before .before .before .before .before .before .before .operate .kept .1 .1 .1 .1 .0 ∙ c .before .before .before .before .before .before .before .before .before .before .before .before .before .before .loop .inv .3
+    let at-operate = c .before .before .before .before .before .before .before in let at-loop = at-operate .before .before .before .before .before .before .before in
+    at-operate .operate .kept .1 .1 .1 .1 .0 ∙ at-loop .loop .inv .3
 
 returns : tie.Need-returns Inv-loop μ-loop
 returns c =
-    summing-stops (c .before .before .before .before .before .before .before .before .before .before .before .before .before .before .loop .inv .0) (c .before .before .before .before .before .before .before .before .before .before .before .before .if1 .taken) (c .before .before .before .before .before .before .before .operate .ensures) (c .if2 .taken)
+    let at-operate = c .before .before .before .before .before .before .before in let at-if1 = at-operate .before .before .before .before .before in
+    let at-loop = at-if1 .before .before in summing-stops (at-loop .loop .inv .0) (at-if1 .if1 .taken) (at-operate .operate .ensures) (c .if2 .taken)
 
 add-k : tie.Need-add-k Inv-loop μ-loop
 add-k c =
-    omega (arith, c .before .before .before .before .before .before .before .before .before .before .before .before .before .before .loop .inv .0 .from .few-conditions)
+    let at-loop = c .before .before .before .before .before .before .before .before .before .before .before .before .before .before in
+    omega (arith, at-loop .loop .inv .0 .from .few-conditions)
 
 loop-less : tie.Need-loop-less Inv-loop μ-loop
 loop-less c =
-    omega (arith, c .before .before .before .before .before .before .before .before .before .before .before .before .if1 .taken)
+    let at-if1 = c .before .before .before .before .before .before .before .before .before .before .before .before in omega (arith, at-if1 .if1 .taken)
 
 loop-again : tie.Need-loop-again Inv-loop μ-loop
 loop-again c =
-    (summing-again (c .before .before .before .before .before .before .before .before .before .before .before .before .before .before .loop .inv .0) (c .before .before .before .before .before .before .before .before .before .before .before .before .if1 .taken) (c .before .before .before .before .before .before .before .operate .ensures) (c .if2 .left) (c .before .before .before .before .before .before .before .operate .kept .1 .1 .1 .1 .0), c .before .before .before .before .before .before .before .operate .kept .0 ∙ c .before .before .before .before .before .before .before .before .before .before .before .before .before .before .loop .inv .1, c .before .before .before .before .before .before .before .operate .kept .1 .0 ∙ c .before .before .before .before .before .before .before .before .before .before .before .before .before .before .loop .inv .2, c .before .before .before .before .before .before .before .operate .kept .1 .1 .1 .1 .0 ∙ c .before .before .before .before .before .before .before .before .before .before .before .before .before .before .loop .inv .3)
+    let at-operate = c .before .before .before .before .before .before .before in let at-if1 = at-operate .before .before .before .before .before in
+    let at-loop = at-if1 .before .before in
+    (summing-again (at-loop .loop .inv .0) (at-if1 .if1 .taken) (at-operate .operate .ensures) (c .if2 .left) (at-operate .operate .kept .1 .1 .1 .1 .0), at-operate .operate .kept .0 ∙ at-loop .loop .inv .1, at-operate .operate .kept .1 .0 ∙ at-loop .loop .inv .2, at-operate .operate .kept .1 .1 .1 .1 .0 ∙ at-loop .loop .inv .3)
 
 same-length-4 : tie.Need-same-length-4 Inv-loop μ-loop
 same-length-4 c =

@@ -20,13 +20,14 @@ byte-index-requires-2 c κs =
 
 cast-weights : tie.Need-cast-weights
 cast-weights c =
-    let t = totals-of (c .before .before .before .before .before .before .before .args .run) (c .before .before .before .before .before .before .before .pre) (c .before .before .before .site .ensures) (c .before .before .byte-index .ensures .0) (c .before .byte-index2 .ensures .0) in
+    let at-site = c .before .before .before in let start = at-site .before .before .before .before in
+    let t = totals-of (start .args .run) (start .pre) (at-site .site .ensures) (c .before .before .byte-index .ensures .0) (c .before .byte-index2 .ensures .0) in
     let f = total-few t .few-weights in
     omega (arith, f)
 
 sub-row : tie.Need-sub-row
 sub-row c =
-    c .before .before .before .before .before .before .before .before .pre .some-action
+    let start = c .before .before .before .before .before .before .before .before in start .pre .some-action
 
 add-row : tie.Need-add-row
 add-row c =
@@ -38,117 +39,162 @@ add-row-2 c =
 
 mul-row : tie.Need-mul-row
 mul-row c =
-    let t = totals-of (c .before .before .before .before .before .before .before .before .args .run) (c .before .before .before .before .before .before .before .before .pre) (c .before .before .before .before .site .ensures) (c .before .before .before .byte-index .ensures .0) (c .before .before .byte-index2 .ensures .0) in
+    let at-byte-index = c .before .before .before in let at-site = at-byte-index .before in let start = at-site .before .before .before .before in
+    let t = totals-of (start .args .run) (start .pre) (at-site .site .ensures) (at-byte-index .byte-index .ensures .0) (c .before .before .byte-index2 .ensures .0) in
     let f = total-few t .small in
     omega (arith, f)
 
 add-t17 : tie.Need-add-t17
 add-t17 c =
-    let t = totals-of (c .before .before .before .before .before .before .before .before .before .before .before .args .run) (c .before .before .before .before .before .before .before .before .before .before .before .pre) (c .before .before .before .before .before .before .before .site .ensures) (c .before .before .before .before .before .before .byte-index .ensures .0) (c .before .before .before .before .before .byte-index2 .ensures .0) in
+    let at-byte-index2 = c .before .before .before .before .before in let at-byte-index = at-byte-index2 .before in let at-site = at-byte-index .before in
+    let start = at-site .before .before .before .before in
+    let t = totals-of (start .args .run) (start .pre) (at-site .site .ensures) (at-byte-index .byte-index .ensures .0) (at-byte-index2 .byte-index2 .ensures .0) in
     let f = total-few t .small in
     omega (arith, f)
 
 add-t19 : tie.Need-add-t19
 add-t19 c =
-    let t = totals-of (c .before .before .before .before .before .before .before .before .before .before .before .args .run) (c .before .before .before .before .before .before .before .before .before .before .before .pre) (c .before .before .before .before .before .before .before .site .ensures) (c .before .before .before .before .before .before .byte-index .ensures .0) (c .before .before .before .before .before .byte-index2 .ensures .0) in
+    let at-byte-index2 = c .before .before .before .before .before in let at-byte-index = at-byte-index2 .before in let at-site = at-byte-index .before in
+    let start = at-site .before .before .before .before in
+    let t = totals-of (start .args .run) (start .pre) (at-site .site .ensures) (at-byte-index .byte-index .ensures .0) (at-byte-index2 .byte-index2 .ensures .0) in
     let f = total-few t .small in
-    omega (arith, f, c .before .before .before .before .before .byte-index2 .ensures .1)
+    omega (arith, f, at-byte-index2 .byte-index2 .ensures .1)
 
 operate-requires : tie.Need-operate-requires
 operate-requires c κs =
-    let t = totals-of (c .before .before .before .before .before .before .before .before .before .before .before .args .run) (c .before .before .before .before .before .before .before .before .before .before .before .pre) (c .before .before .before .before .before .before .before .site .ensures) (c .before .before .before .before .before .before .byte-index .ensures .0) (c .before .before .before .before .before .byte-index2 .ensures .0) in
-    (c .before .before .before .before .before .before .before .before .before .before .before .pre .ready .standing, omega arith, c .before .before .before .before .before .before .before .before .before .before .before .pre .room, levels-fit t)
+    let at-byte-index2 = c .before .before .before .before .before in let at-byte-index = at-byte-index2 .before in let at-site = at-byte-index .before in
+    let start = at-site .before .before .before .before in
+    let t = totals-of (start .args .run) (start .pre) (at-site .site .ensures) (at-byte-index .byte-index .ensures .0) (at-byte-index2 .byte-index2 .ensures .0) in
+    (start .pre .ready .standing, omega arith, start .pre .room, levels-fit t)
 
 same-length : tie.Need-same-length
 same-length c =
-    c .before .before .before .before .before .before .before .operate .kept .0
+    let at-operate = c .before .before .before .before .before .before .before in at-operate .operate .kept .0
 
 same-length-2 : tie.Need-same-length-2
 same-length-2 c =
-    c .before .before .before .before .before .before .before .operate .kept .1 .0
+    let at-operate = c .before .before .before .before .before .before .before in at-operate .operate .kept .1 .0
 
 same-length-3 : tie.Need-same-length-3
 same-length-3 c =
-    c .before .before .before .before .before .before .before .operate .kept .1 .1 .1 .1 .0
+    let at-operate = c .before .before .before .before .before .before .before in at-operate .operate .kept .1 .1 .1 .1 .0
 
 returns : tie.Need-returns
 returns c =
-    let t = totals-of (c .before .before .before .before .before .before .before .before .before .before .before .before .before .before .before .before .before .before .before .args .run) (c .before .before .before .before .before .before .before .before .before .before .before .before .before .before .before .before .before .before .before .pre) (c .before .before .before .before .before .before .before .before .before .before .before .before .before .before .before .site .ensures) (c .before .before .before .before .before .before .before .before .before .before .before .before .before .before .byte-index .ensures .0) (c .before .before .before .before .before .before .before .before .before .before .before .before .before .byte-index2 .ensures .0) in
-    levels-stop t (c .before .before .before .before .before .before .before .operate .ensures) (c .if1 .taken)
+    let at-operate = c .before .before .before .before .before .before .before in let at-byte-index2 = at-operate .before .before .before .before .before .before in
+    let at-byte-index = at-byte-index2 .before in let at-site = at-byte-index .before in let start = at-site .before .before .before .before in
+    let t = totals-of (start .args .run) (start .pre) (at-site .site .ensures) (at-byte-index .byte-index .ensures .0) (at-byte-index2 .byte-index2 .ensures .0) in
+    levels-stop t (at-operate .operate .ensures) (c .if1 .taken)
 
 add-exponent : tie.Need-add-exponent
 add-exponent c =
-    let t = totals-of (c .before .before .before .before .before .before .before .before .before .before .before .before .before .before .before .before .before .before .before .args .run) (c .before .before .before .before .before .before .before .before .before .before .before .before .before .before .before .before .before .before .before .pre) (c .before .before .before .before .before .before .before .before .before .before .before .before .before .before .before .site .ensures) (c .before .before .before .before .before .before .before .before .before .before .before .before .before .before .byte-index .ensures .0) (c .before .before .before .before .before .before .before .before .before .before .before .before .before .byte-index2 .ensures .0) in
+    let at-byte-index2 = c .before .before .before .before .before .before .before .before .before .before .before .before .before in let at-byte-index = at-byte-index2 .before in
+    let at-site = at-byte-index .before in let start = at-site .before .before .before .before in
+    let t = totals-of (start .args .run) (start .pre) (at-site .site .ensures) (at-byte-index .byte-index .ensures .0) (at-byte-index2 .byte-index2 .ensures .0) in
     let f = total-few t .small in
     omega (arith, f)
 
 sum-out-requires : tie.Need-sum-out-requires
 sum-out-requires c κs =
-    let t = totals-of (c .before .before .before .before .before .before .before .before .before .before .before .before .before .before .before .before .before .before .before .before .before .before .args .run) (c .before .before .before .before .before .before .before .before .before .before .before .before .before .before .before .before .before .before .before .before .before .before .pre) (c .before .before .before .before .before .before .before .before .before .before .before .before .before .before .before .before .before .before .site .ensures) (c .before .before .before .before .before .before .before .before .before .before .before .before .before .before .before .before .before .byte-index .ensures .0) (c .before .before .before .before .before .before .before .before .before .before .before .before .before .before .before .before .byte-index2 .ensures .0) in
-    let d = levels-replaced t (c .before .before .before .before .before .before .before .before .before .before .operate .ensures) (c .before .before .before .if1 .left) (c .before .before .before .before .before .before .before .before .before .before .operate .kept .1 .1 .1 .1 .0) in
+    let at-if1 = c .before .before .before in let at-operate = at-if1 .before .before .before .before .before .before .before in
+    let at-byte-index2 = at-operate .before .before .before .before .before .before in let at-byte-index = at-byte-index2 .before in let at-site = at-byte-index .before in
+    let start = at-site .before .before .before .before in
+    let t = totals-of (start .args .run) (start .pre) (at-site .site .ensures) (at-byte-index .byte-index .ensures .0) (at-byte-index2 .byte-index2 .ensures .0) in
+    let d = levels-replaced t (at-operate .operate .ensures) (at-if1 .if1 .left) (at-operate .operate .kept .1 .1 .1 .1 .0) in
     let f = total-few t in
     let g = f .row in
-    record { standing = on-standing (d .on); none-yet = c .before .before .before .if1 .left; ends = omega (arith, g); few-conditions = f .few-conditions; few-weights = f .few-weights }
+    record { standing = on-standing (d .on); none-yet = at-if1 .if1 .left; ends = omega (arith, g); few-conditions = f .few-conditions; few-weights = f .few-weights }
 
 same-length-4 : tie.Need-same-length-4
 same-length-4 c =
-    c .before .before .before .before .before .before .before .sum-out .kept .0 ∙ c .before .before .before .before .before .before .before .before .before .before .before .before .before .before .before .before .before .before .operate .kept .0
+    let at-sum-out = c .before .before .before .before .before .before .before in
+    let at-operate = at-sum-out .before .before .before .before .before .before .before .before .before .before .before in
+    at-sum-out .sum-out .kept .0 ∙ at-operate .operate .kept .0
 
 same-length-5 : tie.Need-same-length-5
 same-length-5 c =
-    c .before .before .before .before .before .before .before .sum-out .kept .1 .0 ∙ c .before .before .before .before .before .before .before .before .before .before .before .before .before .before .before .before .before .before .operate .kept .1 .0
+    let at-sum-out = c .before .before .before .before .before .before .before in
+    let at-operate = at-sum-out .before .before .before .before .before .before .before .before .before .before .before in
+    at-sum-out .sum-out .kept .1 .0 ∙ at-operate .operate .kept .1 .0
 
 same-length-6 : tie.Need-same-length-6
 same-length-6 c =
-    c .before .before .before .before .before .before .before .sum-out .kept .1 .1 .1 .1 .0 ∙ c .before .before .before .before .before .before .before .before .before .before .before .before .before .before .before .before .before .before .operate .kept .1 .1 .1 .1 .0
+    let at-sum-out = c .before .before .before .before .before .before .before in
+    let at-operate = at-sum-out .before .before .before .before .before .before .before .before .before .before .before in
+    at-sum-out .sum-out .kept .1 .1 .1 .1 .0 ∙ at-operate .operate .kept .1 .1 .1 .1 .0
 
 returns-2 : tie.Need-returns-2
 returns-2 c =
-    let t = totals-of (c .before .before .before .before .before .before .before .before .before .before .before .before .before .before .before .before .before .before .before .before .before .before .before .before .before .before .before .before .before .before .args .run) (c .before .before .before .before .before .before .before .before .before .before .before .before .before .before .before .before .before .before .before .before .before .before .before .before .before .before .before .before .before .before .pre) (c .before .before .before .before .before .before .before .before .before .before .before .before .before .before .before .before .before .before .before .before .before .before .before .before .before .before .site .ensures) (c .before .before .before .before .before .before .before .before .before .before .before .before .before .before .before .before .before .before .before .before .before .before .before .before .before .byte-index .ensures .0) (c .before .before .before .before .before .before .before .before .before .before .before .before .before .before .before .before .before .before .before .before .before .before .before .before .byte-index2 .ensures .0) in
-    let d = levels-replaced t (c .before .before .before .before .before .before .before .before .before .before .before .before .before .before .before .before .before .before .operate .ensures) (c .before .before .before .before .before .before .before .before .before .before .before .if1 .left) (c .before .before .before .before .before .before .before .before .before .before .before .before .before .before .before .before .before .before .operate .kept .1 .1 .1 .1 .0) in
-    conditions-stop t d (c .before .before .before .before .before .before .before .sum-out .ensures) (c .if2 .taken)
+    let at-sum-out = c .before .before .before .before .before .before .before in let at-if1 = at-sum-out .before .before .before .before in
+    let at-operate = at-if1 .before .before .before .before .before .before .before in let at-byte-index2 = at-operate .before .before .before .before .before .before in
+    let at-byte-index = at-byte-index2 .before in let at-site = at-byte-index .before in let start = at-site .before .before .before .before in
+    let t = totals-of (start .args .run) (start .pre) (at-site .site .ensures) (at-byte-index .byte-index .ensures .0) (at-byte-index2 .byte-index2 .ensures .0) in
+    let d = levels-replaced t (at-operate .operate .ensures) (at-if1 .if1 .left) (at-operate .operate .kept .1 .1 .1 .1 .0) in
+    conditions-stop t d (at-sum-out .sum-out .ensures) (c .if2 .taken)
 
 mul-exponent : tie.Need-mul-exponent
 mul-exponent c =
-    let t = totals-of (c .before .before .before .before .before .before .before .before .before .before .before .before .before .before .before .before .before .before .before .before .before .before .before .before .before .before .before .before .before .before .before .args .run) (c .before .before .before .before .before .before .before .before .before .before .before .before .before .before .before .before .before .before .before .before .before .before .before .before .before .before .before .before .before .before .before .pre) (c .before .before .before .before .before .before .before .before .before .before .before .before .before .before .before .before .before .before .before .before .before .before .before .before .before .before .before .site .ensures) (c .before .before .before .before .before .before .before .before .before .before .before .before .before .before .before .before .before .before .before .before .before .before .before .before .before .before .byte-index .ensures .0) (c .before .before .before .before .before .before .before .before .before .before .before .before .before .before .before .before .before .before .before .before .before .before .before .before .before .byte-index2 .ensures .0) in
+    let at-byte-index2 = c .before .before .before .before .before .before .before .before .before .before .before .before .before .before .before .before .before .before .before .before .before .before .before .before .before in
+    let at-byte-index = at-byte-index2 .before in let at-site = at-byte-index .before in let start = at-site .before .before .before .before in
+    let t = totals-of (start .args .run) (start .pre) (at-site .site .ensures) (at-byte-index .byte-index .ensures .0) (at-byte-index2 .byte-index2 .ensures .0) in
     let f = exponent-few t in
     omega (arith, f)
 
 cast-exponent : tie.Need-cast-exponent
 cast-exponent c =
-    let t = totals-of (c .before .before .before .before .before .before .before .before .before .before .before .before .before .before .before .before .before .before .before .before .before .before .before .before .before .before .before .before .before .before .before .args .run) (c .before .before .before .before .before .before .before .before .before .before .before .before .before .before .before .before .before .before .before .before .before .before .before .before .before .before .before .before .before .before .before .pre) (c .before .before .before .before .before .before .before .before .before .before .before .before .before .before .before .before .before .before .before .before .before .before .before .before .before .before .before .site .ensures) (c .before .before .before .before .before .before .before .before .before .before .before .before .before .before .before .before .before .before .before .before .before .before .before .before .before .before .byte-index .ensures .0) (c .before .before .before .before .before .before .before .before .before .before .before .before .before .before .before .before .before .before .before .before .before .before .before .before .before .byte-index2 .ensures .0) in
+    let at-byte-index2 = c .before .before .before .before .before .before .before .before .before .before .before .before .before .before .before .before .before .before .before .before .before .before .before .before .before in
+    let at-byte-index = at-byte-index2 .before in let at-site = at-byte-index .before in let start = at-site .before .before .before .before in
+    let t = totals-of (start .args .run) (start .pre) (at-site .site .ensures) (at-byte-index .byte-index .ensures .0) (at-byte-index2 .byte-index2 .ensures .0) in
     let f = exponent-few t in
     omega (arith, f)
 
 add-operate : tie.Need-add-operate
 add-operate c =
-    omega (arith, c .before .before .before .before .before .before .before .before .before .before .before .before .before .before .before .before .before .before .before .before .before .before .before .before .before .before .before .before .before .before .before .before .before .before .before .pre .room, c .before .before .before .before .before .before .before .before .before .before .before .before .before .before .before .before .before .before .before .before .before .before .before .before .before .before .before .before .before .before .before .before .before .before .before .good .1 .1 .1 .1 .1 .0 .0)
+    let start = c .before .before .before .before .before .before .before .before .before .before .before .before .before .before .before .before .before .before .before .before .before .before .before .before .before .before .before .before .before .before .before .before .before .before .before in
+    omega (arith, start .pre .room, start .good .1 .1 .1 .1 .1 .0 .0)
 
 operate-requires-2 : tie.Need-operate-requires-2
 operate-requires-2 c κs =
-    let t = totals-of (c .before .before .before .before .before .before .before .before .before .before .before .before .before .before .before .before .before .before .before .before .before .before .before .before .before .before .before .before .before .before .before .before .before .before .before .args .run) (c .before .before .before .before .before .before .before .before .before .before .before .before .before .before .before .before .before .before .before .before .before .before .before .before .before .before .before .before .before .before .before .before .before .before .before .pre) (c .before .before .before .before .before .before .before .before .before .before .before .before .before .before .before .before .before .before .before .before .before .before .before .before .before .before .before .before .before .before .before .site .ensures) (c .before .before .before .before .before .before .before .before .before .before .before .before .before .before .before .before .before .before .before .before .before .before .before .before .before .before .before .before .before .before .byte-index .ensures .0) (c .before .before .before .before .before .before .before .before .before .before .before .before .before .before .before .before .before .before .before .before .before .before .before .before .before .before .before .before .before .byte-index2 .ensures .0) in
-    let d = levels-replaced t (c .before .before .before .before .before .before .before .before .before .before .before .before .before .before .before .before .before .before .before .before .before .before .before .operate .ensures) (c .before .before .before .before .before .before .before .before .before .before .before .before .before .before .before .before .if1 .left) (c .before .before .before .before .before .before .before .before .before .before .before .before .before .before .before .before .before .before .before .before .before .before .before .operate .kept .1 .1 .1 .1 .0) in
-    let e = conditions-summed t d (c .before .before .before .before .before .before .before .before .before .before .before .before .sum-out .ensures) (c .before .before .before .before .before .if2 .left) (c .before .before .before .before .before .before .before .before .before .before .before .before .sum-out .kept .1 .1 .1 .1 .0) in
+    let at-if2 = c .before .before .before .before .before in let at-sum-out = at-if2 .before .before .before .before .before .before .before in
+    let at-if1 = at-sum-out .before .before .before .before in let at-operate = at-if1 .before .before .before .before .before .before .before in
+    let at-byte-index2 = at-operate .before .before .before .before .before .before in let at-byte-index = at-byte-index2 .before in let at-site = at-byte-index .before in
+    let start = at-site .before .before .before .before in
+    let t = totals-of (start .args .run) (start .pre) (at-site .site .ensures) (at-byte-index .byte-index .ensures .0) (at-byte-index2 .byte-index2 .ensures .0) in
+    let d = levels-replaced t (at-operate .operate .ensures) (at-if1 .if1 .left) (at-operate .operate .kept .1 .1 .1 .1 .0) in
+    let e = conditions-summed t d (at-sum-out .sum-out .ensures) (at-if2 .if2 .left) (at-sum-out .sum-out .kept .1 .1 .1 .1 .0) in
     (on-standing (e .on), omega arith, e .on .room, reward-fits t e)
 
 same-length-7 : tie.Need-same-length-7
 same-length-7 c =
-    c .before .before .before .before .before .operate2 .kept .0 ∙ (c .before .before .before .before .before .before .before .before .before .before .before .before .before .before .before .before .before .before .sum-out .kept .0 ∙ c .before .before .before .before .before .before .before .before .before .before .before .before .before .before .before .before .before .before .before .before .before .before .before .before .before .before .before .before .before .operate .kept .0)
+    let at-operate2 = c .before .before .before .before .before in
+    let at-sum-out = at-operate2 .before .before .before .before .before .before .before .before .before .before .before .before .before in
+    let at-operate = at-sum-out .before .before .before .before .before .before .before .before .before .before .before in
+    at-operate2 .operate2 .kept .0 ∙ (at-sum-out .sum-out .kept .0 ∙ at-operate .operate .kept .0)
 
 same-length-8 : tie.Need-same-length-8
 same-length-8 c =
-    c .before .before .before .before .before .operate2 .kept .1 .0 ∙ (c .before .before .before .before .before .before .before .before .before .before .before .before .before .before .before .before .before .before .sum-out .kept .1 .0 ∙ c .before .before .before .before .before .before .before .before .before .before .before .before .before .before .before .before .before .before .before .before .before .before .before .before .before .before .before .before .before .operate .kept .1 .0)
+    let at-operate2 = c .before .before .before .before .before in
+    let at-sum-out = at-operate2 .before .before .before .before .before .before .before .before .before .before .before .before .before in
+    let at-operate = at-sum-out .before .before .before .before .before .before .before .before .before .before .before in
+    at-operate2 .operate2 .kept .1 .0 ∙ (at-sum-out .sum-out .kept .1 .0 ∙ at-operate .operate .kept .1 .0)
 
 same-length-9 : tie.Need-same-length-9
 same-length-9 c =
-    c .before .before .before .before .before .operate2 .kept .1 .1 .1 .1 .0 ∙ (c .before .before .before .before .before .before .before .before .before .before .before .before .before .before .before .before .before .before .sum-out .kept .1 .1 .1 .1 .0 ∙ c .before .before .before .before .before .before .before .before .before .before .before .before .before .before .before .before .before .before .before .before .before .before .before .before .before .before .before .before .before .operate .kept .1 .1 .1 .1 .0)
+    let at-operate2 = c .before .before .before .before .before in
+    let at-sum-out = at-operate2 .before .before .before .before .before .before .before .before .before .before .before .before .before in
+    let at-operate = at-sum-out .before .before .before .before .before .before .before .before .before .before .before in
+    at-operate2 .operate2 .kept .1 .1 .1 .1 .0 ∙ (at-sum-out .sum-out .kept .1 .1 .1 .1 .0 ∙ at-operate .operate .kept .1 .1 .1 .1 .0)
 
 returns-3 : tie.Need-returns-3
 returns-3 c =
-    let t = totals-of (c .before .before .before .before .before .before .before .before .before .before .before .before .before .before .before .before .before .before .before .before .before .before .before .before .before .before .before .before .before .before .before .before .before .before .before .before .before .before .before .before .before .args .run) (c .before .before .before .before .before .before .before .before .before .before .before .before .before .before .before .before .before .before .before .before .before .before .before .before .before .before .before .before .before .before .before .before .before .before .before .before .before .before .before .before .before .pre) (c .before .before .before .before .before .before .before .before .before .before .before .before .before .before .before .before .before .before .before .before .before .before .before .before .before .before .before .before .before .before .before .before .before .before .before .before .before .site .ensures) (c .before .before .before .before .before .before .before .before .before .before .before .before .before .before .before .before .before .before .before .before .before .before .before .before .before .before .before .before .before .before .before .before .before .before .before .before .byte-index .ensures .0) (c .before .before .before .before .before .before .before .before .before .before .before .before .before .before .before .before .before .before .before .before .before .before .before .before .before .before .before .before .before .before .before .before .before .before .before .byte-index2 .ensures .0) in
-    let d = levels-replaced t (c .before .before .before .before .before .before .before .before .before .before .before .before .before .before .before .before .before .before .before .before .before .before .before .before .before .before .before .before .before .operate .ensures) (c .before .before .before .before .before .before .before .before .before .before .before .before .before .before .before .before .before .before .before .before .before .before .if1 .left) (c .before .before .before .before .before .before .before .before .before .before .before .before .before .before .before .before .before .before .before .before .before .before .before .before .before .before .before .before .before .operate .kept .1 .1 .1 .1 .0) in
-    let e = conditions-summed t d (c .before .before .before .before .before .before .before .before .before .before .before .before .before .before .before .before .before .before .sum-out .ensures) (c .before .before .before .before .before .before .before .before .before .before .before .if2 .left) (c .before .before .before .before .before .before .before .before .before .before .before .before .before .before .before .before .before .before .sum-out .kept .1 .1 .1 .1 .0) in
-    reward-added t e (c .before .before .before .before .before .operate2 .ensures)
+    let at-operate2 = c .before .before .before .before .before in let at-if2 = at-operate2 .before .before .before .before .before .before in
+    let at-sum-out = at-if2 .before .before .before .before .before .before .before in let at-if1 = at-sum-out .before .before .before .before in
+    let at-operate = at-if1 .before .before .before .before .before .before .before in let at-byte-index2 = at-operate .before .before .before .before .before .before in
+    let at-byte-index = at-byte-index2 .before in let at-site = at-byte-index .before in let start = at-site .before .before .before .before in
+    let t = totals-of (start .args .run) (start .pre) (at-site .site .ensures) (at-byte-index .byte-index .ensures .0) (at-byte-index2 .byte-index2 .ensures .0) in
+    let d = levels-replaced t (at-operate .operate .ensures) (at-if1 .if1 .left) (at-operate .operate .kept .1 .1 .1 .1 .0) in
+    let e = conditions-summed t d (at-sum-out .sum-out .ensures) (at-if2 .if2 .left) (at-sum-out .sum-out .kept .1 .1 .1 .1 .0) in
+    reward-added t e (at-operate2 .operate2 .ensures)
 
 pub total-spec : {M : Type 1} → statement M
 total-spec =

@@ -19,7 +19,9 @@ loop-holds : tie.Need-loop-holds Inv-loop μ-loop
 loop-holds c = filling-starts (c .before .before .before .before .pre .2) (c .first-part .ensures)
 
 load-within-requires : tie.Need-load-within-requires Inv-loop μ-loop
-load-within-requires c κs = (c .before .before .before .before .before .before .before .before .before .pre .0, c .before .before .before .before .before .before .before .before .before .pre .1, part-space (c .before .before .before .before .loop .inv), omega (arith, c .before .before .before .before .before .before .before .before .before .pre .3, c .before .before .before .before .loop .inv .roots-length))
+load-within-requires c κs =
+    let at-loop = c .before .before .before .before in let start = at-loop .before .before .before .before .before in
+    (start .pre .0, start .pre .1, part-space (at-loop .loop .inv), omega (arith, start .pre .3, at-loop .loop .inv .roots-length))
 
 same-length : tie.Need-same-length Inv-loop μ-loop
 same-length c = search needs
@@ -31,19 +33,29 @@ same-length-3 : tie.Need-same-length-3 Inv-loop μ-loop
 same-length-3 c = search needs
 
 returns : tie.Need-returns Inv-loop μ-loop
-returns c = part-loads (c .before .before .before .before .before .before .before .before .before .before .before .before .loop .inv) (c .before .before .before .before .before .before .before .load-within .kept .1 .0) (c .before .before .before .before .before .before .before .load-within .kept .1 .1 .0) (c .before .before .before .before .before .before .before .load-within .ensures) (c .if1 .taken)
+returns c =
+    let at-load-within = c .before .before .before .before .before .before .before in let at-loop = at-load-within .before .before .before .before .before in
+    part-loads (at-loop .loop .inv) (at-load-within .load-within .kept .1 .0) (at-load-within .load-within .kept .1 .1 .0) (at-load-within .load-within .ensures) (c .if1 .taken)
 
 wider-part-requires : tie.Need-wider-part-requires Inv-loop μ-loop
-wider-part-requires c κs = (c .before .before .before .before .before .before .before .before .before .before .before .before .loop .inv .some, c .before .before .before .before .before .before .before .before .before .before .before .before .before .before .before .before .before .pre .2 .few, c .before .before .before .before .before .before .before .before .before .before .before .loop-test .taken)
+wider-part-requires c κs =
+    let at-loop-test = c .before .before .before .before .before .before .before .before .before .before .before in let at-loop = at-loop-test .before in
+    let start = at-loop .before .before .before .before .before in (at-loop .loop .inv .some, start .pre .2 .few, at-loop-test .loop-test .taken)
 
 loop-less : tie.Need-loop-less Inv-loop μ-loop
-loop-less c = omega (arith, c .wider-part .ensures .0, c .before .before .before .before .before .before .before .before .before .before .before .before .loop-test .taken)
+loop-less c =
+    let at-loop-test = c .before .before .before .before .before .before .before .before .before .before .before .before in
+    omega (arith, c .wider-part .ensures .0, at-loop-test .loop-test .taken)
 
 loop-again : tie.Need-loop-again Inv-loop μ-loop
-loop-again c = filling-again (c .before .before .before .before .before .before .before .before .before .before .before .before .before .loop .inv) (c .before .before .before .before .before .before .before .before .load-within .kept .1 .0) (c .before .before .before .before .before .before .before .before .load-within .kept .1 .1 .0) (c .before .before .before .before .before .before .before .before .load-within .kept .1 .1 .1 .1 .0) (c .wider-part .ensures)
+loop-again c =
+    let at-load-within = c .before .before .before .before .before .before .before .before in let at-loop = at-load-within .before .before .before .before .before in
+    filling-again (at-loop .loop .inv) (at-load-within .load-within .kept .1 .0) (at-load-within .load-within .kept .1 .1 .0) (at-load-within .load-within .kept .1 .1 .1 .1 .0) (c .wider-part .ensures)
 
 load-within-requires-2 : tie.Need-load-within-requires-2 Inv-loop μ-loop
-load-within-requires-2 c κs = (c .before .before .before .before .before .before .before .before .before .pre .0, c .before .before .before .before .before .before .before .before .before .pre .1, c .before .before .before .before .loop .inv .space, omega (arith, c .before .before .before .before .before .before .before .before .before .pre .3, c .before .before .before .before .loop .inv .roots-length))
+load-within-requires-2 c κs =
+    let at-loop = c .before .before .before .before in let start = at-loop .before .before .before .before .before in
+    (start .pre .0, start .pre .1, at-loop .loop .inv .space, omega (arith, start .pre .3, at-loop .loop .inv .roots-length))
 
 same-length-4 : tie.Need-same-length-4 Inv-loop μ-loop
 same-length-4 c = search needs

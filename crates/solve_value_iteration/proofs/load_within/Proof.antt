@@ -7,7 +7,9 @@ rehash-requires : tie.Need-rehash-requires
 rehash-requires c κs = c .before .before .before .before .before .pre .2
 
 load-requires : tie.Need-load-requires
-load-requires c κs = (c .before .before .before .before .before .before .before .before .before .before .before .pre .0, c .before .before .before .before .before .before .before .before .before .before .before .pre .1, emptied (c .before .before .before .before .before .before .before .before .before .before .before .args .model .now) (c .before .before .before .before .before .before .before .before .before .before .before .pre .2) (c .before .before .before .before .before .rehash .ensures), c .before .before .before .before .before .before .before .before .before .before .before .pre .3)
+load-requires c κs =
+    let at-rehash = c .before .before .before .before .before in let start = at-rehash .before .before .before .before .before .before in
+    (start .pre .0, start .pre .1, emptied (start .args .model .now) (start .pre .2) (at-rehash .rehash .ensures), start .pre .3)
 
 same-length : tie.Need-same-length
 same-length c = search needs

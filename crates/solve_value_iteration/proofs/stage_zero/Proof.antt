@@ -11,16 +11,23 @@ use Rattle.solve_operation.proofs.operate.Reads as operate-reads
 use Rattle.solve_total.proofs.model_size.Reads as model-size-reads
 
 returns : tie.Need-returns
-returns c = end-grounded (c .before .before .before .before .before .args .model .now) (c .before .before .before .before .before .pre .0) (c .before .before .before .before .before .pre .2) (c .before .before .before .before .before .pre .3) (c .before .before .before .before .before .pre .4) (c .if1 .taken) (c .before .before .before .before .before .pre .1)
+returns c =
+    let start = c .before .before .before .before .before in
+    end-grounded (start .args .model .now) (start .pre .0) (start .pre .2) (start .pre .3) (start .pre .4) (c .if1 .taken) (start .pre .1)
 
 model-size-requires : tie.Need-model-size-requires
 model-size-requires c κs = search needs
 
 operate-requires : tie.Need-operate-requires
-operate-requires c κs = zero-ready (c .before .before .before .before .before .before .before .before .before .args .model .now) (c .before .before .before .before .before .before .before .before .before .pre .0) (c .before .before .before .before .before .before .before .before .before .pre .2) (c .before .before .before .before .before .before .before .before .before .pre .3) (c .before .before .before .before .before .before .before .before .before .pre .4) (c .before .before .before .model-size .ensures .0)
+operate-requires c κs =
+    let at-model-size = c .before .before .before in let start = at-model-size .before .before .before .before .before .before in
+    zero-ready (start .args .model .now) (start .pre .0) (start .pre .2) (start .pre .3) (start .pre .4) (at-model-size .model-size .ensures .0)
 
 raise-peak-requires : tie.Need-raise-peak-requires
-raise-peak-requires c κs = (omega (arith, c .before .before .before .before .before .before .before .before .before .before .before .before .before .before .before .before .before .before .pre .5), zero-fits (c .before .before .before .before .before .before .before .before .before .before .before .before .before .before .before .before .before .before .args .model .now) (c .before .before .before .before .before .before .before .before .before .before .before .before .before .before .before .before .before .before .pre .0) (c .before .before .before .before .before .before .before .before .before .before .before .before .before .before .before .before .before .before .pre .2) (c .before .before .before .before .before .before .before .before .before .before .before .before .before .before .before .before .before .before .pre .3) (c .before .before .before .before .before .before .before .before .before .before .before .before .before .before .before .before .before .before .pre .4) (c .before .before .before .before .before .before .before .before .before .before .before .before .before .if1 .left) (c .before .before .before .before .before .before .before .before .before .before .before .before .before .before .before .before .before .before .pre .1) (c .before .before .before .before .before .before .before .before .before .before .before .before .model-size .ensures .0) (c .before .before .before .before .before .before .before .before .operate .ensures) (c .before .before .before .before .before .before .before .before .operate .kept .1 .1 .1 .1 .0) (c .before .if2 .taken))
+raise-peak-requires c κs =
+    let at-operate = c .before .before .before .before .before .before .before .before in let at-model-size = at-operate .before .before .before .before in
+    let at-if1 = at-model-size .before in let start = at-if1 .before .before .before .before .before in
+    (omega (arith, start .pre .5), zero-fits (start .args .model .now) (start .pre .0) (start .pre .2) (start .pre .3) (start .pre .4) (at-if1 .if1 .left) (start .pre .1) (at-model-size .model-size .ensures .0) (at-operate .operate .ensures) (at-operate .operate .kept .1 .1 .1 .1 .0) (c .before .if2 .taken))
 
 same-length : tie.Need-same-length
 same-length c = search needs
@@ -35,7 +42,10 @@ same-length-4 : tie.Need-same-length-4
 same-length-4 c = search needs
 
 returns-2 : tie.Need-returns-2
-returns-2 c = zero-grounded (c .before .before .before .before .before .before .before .before .before .before .before .before .before .before .before .before .before .before .before .before .before .args .model .now) (c .before .before .before .before .before .before .before .before .before .before .before .before .before .before .before .before .before .before .before .before .before .pre .0) (c .before .before .before .before .before .before .before .before .before .before .before .before .before .before .before .before .before .before .before .before .before .pre .2) (c .before .before .before .before .before .before .before .before .before .before .before .before .before .before .before .before .before .before .before .before .before .pre .3) (c .before .before .before .before .before .before .before .before .before .before .before .before .before .before .before .before .before .before .before .before .before .pre .4) (c .before .before .before .before .before .before .before .before .before .before .before .before .before .before .before .before .if1 .left) (c .before .before .before .before .before .before .before .before .before .before .before .before .before .before .before .before .before .before .before .before .before .pre .1) (c .before .before .before .before .before .before .before .before .before .before .before .before .before .before .before .model-size .ensures .0) (c .before .before .before .before .before .before .before .before .before .before .before .operate .ensures) (c .before .before .before .before .before .before .before .before .before .before .before .operate .kept .1 .1 .1 .1 .0) (λ ok. c .before .before .raise-peak .ensures)
+returns-2 c =
+    let at-operate = c .before .before .before .before .before .before .before .before .before .before .before in let at-model-size = at-operate .before .before .before .before in
+    let at-if1 = at-model-size .before in let start = at-if1 .before .before .before .before .before in
+    zero-grounded (start .args .model .now) (start .pre .0) (start .pre .2) (start .pre .3) (start .pre .4) (at-if1 .if1 .left) (start .pre .1) (at-model-size .model-size .ensures .0) (at-operate .operate .ensures) (at-operate .operate .kept .1 .1 .1 .1 .0) (λ ok. c .before .before .raise-peak .ensures)
 
 same-length-5 : tie.Need-same-length-5
 same-length-5 c = search needs
@@ -47,7 +57,10 @@ same-length-7 : tie.Need-same-length-7
 same-length-7 c = search needs
 
 returns-3 : tie.Need-returns-3
-returns-3 c = zero-grounded (c .before .before .before .before .before .before .before .before .before .before .before .before .before .before .before .before .before .args .model .now) (c .before .before .before .before .before .before .before .before .before .before .before .before .before .before .before .before .before .pre .0) (c .before .before .before .before .before .before .before .before .before .before .before .before .before .before .before .before .before .pre .2) (c .before .before .before .before .before .before .before .before .before .before .before .before .before .before .before .before .before .pre .3) (c .before .before .before .before .before .before .before .before .before .before .before .before .before .before .before .before .before .pre .4) (c .before .before .before .before .before .before .before .before .before .before .before .before .if1 .left) (c .before .before .before .before .before .before .before .before .before .before .before .before .before .before .before .before .before .pre .1) (c .before .before .before .before .before .before .before .before .before .before .before .model-size .ensures .0) (c .before .before .before .before .before .before .before .operate .ensures) (c .before .before .before .before .before .before .before .operate .kept .1 .1 .1 .1 .0) (λ ok. absurd (c .if2 .left ok))
+returns-3 c =
+    let at-operate = c .before .before .before .before .before .before .before in let at-model-size = at-operate .before .before .before .before in
+    let at-if1 = at-model-size .before in let start = at-if1 .before .before .before .before .before in
+    zero-grounded (start .args .model .now) (start .pre .0) (start .pre .2) (start .pre .3) (start .pre .4) (at-if1 .if1 .left) (start .pre .1) (at-model-size .model-size .ensures .0) (at-operate .operate .ensures) (at-operate .operate .kept .1 .1 .1 .1 .0) (λ ok. absurd (c .if2 .left ok))
 
 pub stage-zero-spec : {M : Type 1} → statement M
 stage-zero-spec =

@@ -44,19 +44,19 @@ shared-slice-copy-out-z c =
 
 mul-n : tie.Need-mul-n Inv-loop μ-loop
 mul-n c =
-    let g = (c .before .before .before) .good .0 in let p = (c .before .before .before) .pre in omega arith
+    let start = c .before .before .before in let g = start .good .0 in let p = start .pre in omega arith
 
 array-set-from-n : tie.Need-array-set-from-n Inv-loop μ-loop
 array-set-from-n c =
-    let g = (c .before .before .before) .good .0 in let p = (c .before .before .before) .pre in omega arith
+    let start = c .before .before .before in let g = start .good .0 in let p = start .pre in omega arith
 
 add-k : tie.Need-add-k Inv-loop μ-loop
 add-k c =
-    let g = (c .before .before .before) .good .0 in let p = (c .before .before .before) .pre in omega arith
+    let start = c .before .before .before in let g = start .good .0 in let p = start .pre in omega arith
 
 loop-less : tie.Need-loop-less Inv-loop μ-loop
 loop-less c =
-    let g = (c .before .before .before) .good .0 in let p = (c .before .before .before) .pre in omega arith
+    let start = c .before .before .before in let g = start .good .0 in let p = start .pre in omega arith
 
 loop-again : tie.Need-loop-again Inv-loop μ-loop
 loop-again c =
@@ -72,31 +72,32 @@ shared-slice-copy-out-kind c =
 
 add-high : tie.Need-add-high Inv-loop μ-loop
 add-high c =
-    let g = (c .before .before .before) .good .0 in let p = (c .before .before .before) .pre in omega arith
+    let start = c .before .before .before in let g = start .good .0 in let p = start .pre in omega arith
 
 mul-high : tie.Need-mul-high Inv-loop μ-loop
 mul-high c =
-    let g = (c .before .before .before) .good .0 in let p = (c .before .before .before) .pre in omega arith
+    let start = c .before .before .before in let g = start .good .0 in let p = start .pre in omega arith
 
 shared-slice-copy-out-high : tie.Need-shared-slice-copy-out-high Inv-loop μ-loop
 shared-slice-copy-out-high c =
-    let g = (c .before .before .before) .good .0 in let p = (c .before .before .before) .pre in omega arith
+    let start = c .before .before .before in let g = start .good .0 in let p = start .pre in omega arith
 
 add-low : tie.Need-add-low Inv-loop μ-loop
 add-low c =
-    let g = (c .before .before .before .before) .good .0 in let p = (c .before .before .before .before) .pre in omega arith
+    let start = c .before .before .before .before in let g = start .good .0 in let p = start .pre in omega arith
 
 mul-low : tie.Need-mul-low Inv-loop μ-loop
 mul-low c =
-    let g = (c .before .before .before .before) .good .0 in let p = (c .before .before .before .before) .pre in omega arith
+    let start = c .before .before .before .before in let g = start .good .0 in let p = start .pre in omega arith
 
 shared-slice-copy-out-low : tie.Need-shared-slice-copy-out-low Inv-loop μ-loop
 shared-slice-copy-out-low c =
-    let g = (c .before .before .before .before) .good .0 in let p = (c .before .before .before .before) .pre in omega arith
+    let start = c .before .before .before .before in let g = start .good .0 in let p = start .pre in omega arith
 
 returns : tie.Need-returns Inv-loop μ-loop
 returns c =
-    get-as _ ((c .before .before .before .before .before) .args .i) ((c .before .before .before .before .before) .pre) (back _ (c .before .before .kind .given)) (back _ (c .before .high .given)) (back _ (c .low .given)) (c .before .before .before .before .loop .inv) (c .before .before .before .loop-test .left)
+    let at-loop-test = c .before .before .before in let at-loop = at-loop-test .before in let start = at-loop .before in
+    get-as _ (start .args .i) (start .pre) (back _ (c .before .before .kind .given)) (back _ (c .before .high .given)) (back _ (c .low .given)) (at-loop .loop .inv) (at-loop-test .loop-test .left)
 
 pub get-spec : {M : Type 1} → statement M
 get-spec =

@@ -46,7 +46,7 @@ shared-slice-copy-out-constant c = search needs
 
 returns-2 : tie.Need-returns-2
 returns-2 c =
-    let a = (c .before .before .before .before .before .before .before .before) .args in
+    let start = c .before .before .before .before .before .before .before .before in let a = start .args in
     other (λ e. c .if2 .taken (ap (ofZ w64) (sym (number-at (a .nodes .now) (a .i) coefficients (omega arith))) ∙ ap (λ (n : Node). ofZ w64 (getD (n .n) coefficients (pos 0))) e))
 
 get-requires : tie.Need-get-requires
@@ -56,7 +56,9 @@ same-requires : tie.Need-same-requires
 same-requires c κs = search needs
 
 returns-3 : tie.Need-returns-3
-returns-3 c = subst (λ (n : Node). SameNode n (c .before .before .before .before .before .before .before .before .before .before .args .x) (c .same .result)) (c .before .get .ensures) (c .same .ensures)
+returns-3 c =
+    let start = c .before .before .before .before .before .before .before .before .before .before in
+    subst (λ (n : Node). SameNode n (start .args .x) (c .same .result)) (c .before .get .ensures) (c .same .ensures)
 
 pub is-at-spec : {M : Type 1} → statement M
 is-at-spec =

@@ -23,47 +23,56 @@ mul-at c =
 
 mul-kind : tie.Need-mul-kind Inv-loop μ-loop
 mul-kind c =
-    let g = (c .before .before .before .before) .good .0 in let p = (c .before .before .before .before) .pre in omega arith
+    let start = c .before .before .before .before in let g = start .good .0 in let p = start .pre in omega arith
 
 slice-set-from-kind : tie.Need-slice-set-from-kind Inv-loop μ-loop
 slice-set-from-kind c =
-    let g = (c .before .before .before .before) .good .0 in let p = (c .before .before .before .before) .pre in omega arith
+    let start = c .before .before .before .before in let g = start .good .0 in let p = start .pre in omega arith
 
 loop-holds : tie.Need-loop-holds Inv-loop μ-loop
 loop-holds c =
-    none-stored _ _ ((c .before .before .before .before) .args .x .n) (as-long ((c .before .before .before .before) .args .x .n) (c .before .before .before .struct-told .given .1 .0 .1 .0 .1))
+    let at-struct-told = c .before .before .before in let start = at-struct-told .before in
+    none-stored _ _ (start .args .x .n) (as-long (start .args .x .n) (at-struct-told .struct-told .given .1 .0 .1 .0 .1))
 
 mul-z : tie.Need-mul-z Inv-loop μ-loop
 mul-z c =
-    let g = (c .before .before .before .before .before .before) .good .0 in let p = (c .before .before .before .before .before .before) .pre in let q = storing-length ((c .before .before .before .before .before .before) .args .nodes .now) ((c .before .before .before .before .before .before) .args .i * node-words) (toZ w64 (ofZ w64 ((c .before .before .before .before .before .before) .args .x .kind))) (c .before .loop .inv) in omega arith
+    let start = c .before .before .before .before .before .before in
+    let g = start .good .0 in let p = start .pre in let q = storing-length (start .args .nodes .now) (start .args .i * node-words) (toZ w64 (ofZ w64 (start .args .x .kind))) (c .before .loop .inv) in omega arith
 
 array-copy-out-z : tie.Need-array-copy-out-z Inv-loop μ-loop
 array-copy-out-z c =
-    let g = (c .before .before .before .before .before .before) .good .0 in let p = (c .before .before .before .before .before .before) .pre in let q = storing-length ((c .before .before .before .before .before .before) .args .nodes .now) ((c .before .before .before .before .before .before) .args .i * node-words) (toZ w64 (ofZ w64 ((c .before .before .before .before .before .before) .args .x .kind))) (c .before .loop .inv) in omega arith
+    let start = c .before .before .before .before .before .before in
+    let g = start .good .0 in let p = start .pre in let q = storing-length (start .args .nodes .now) (start .args .i * node-words) (toZ w64 (ofZ w64 (start .args .x .kind))) (c .before .loop .inv) in omega arith
 
 add-z : tie.Need-add-z Inv-loop μ-loop
 add-z c =
-    let g = (c .before .before .before .before .before .before .before) .good .0 in let p = (c .before .before .before .before .before .before .before) .pre in let q = storing-length ((c .before .before .before .before .before .before .before) .args .nodes .now) ((c .before .before .before .before .before .before .before) .args .i * node-words) (toZ w64 (ofZ w64 ((c .before .before .before .before .before .before .before) .args .x .kind))) (c .before .before .loop .inv) in omega arith
+    let start = c .before .before .before .before .before .before .before in
+    let g = start .good .0 in let p = start .pre in let q = storing-length (start .args .nodes .now) (start .args .i * node-words) (toZ w64 (ofZ w64 (start .args .x .kind))) (c .before .before .loop .inv) in omega arith
 
 add-z-2 : tie.Need-add-z-2 Inv-loop μ-loop
 add-z-2 c =
-    let g = (c .before .before .before .before .before .before .before) .good .0 in let p = (c .before .before .before .before .before .before .before) .pre in let q = storing-length ((c .before .before .before .before .before .before .before) .args .nodes .now) ((c .before .before .before .before .before .before .before) .args .i * node-words) (toZ w64 (ofZ w64 ((c .before .before .before .before .before .before .before) .args .x .kind))) (c .before .before .loop .inv) in omega arith
+    let start = c .before .before .before .before .before .before .before in
+    let g = start .good .0 in let p = start .pre in let q = storing-length (start .args .nodes .now) (start .args .i * node-words) (toZ w64 (ofZ w64 (start .args .x .kind))) (c .before .before .loop .inv) in omega arith
 
 mul-z-2 : tie.Need-mul-z-2 Inv-loop μ-loop
 mul-z-2 c =
-    let g = (c .before .before .before .before .before .before .before) .good .0 in let p = (c .before .before .before .before .before .before .before) .pre in let q = storing-length ((c .before .before .before .before .before .before .before) .args .nodes .now) ((c .before .before .before .before .before .before .before) .args .i * node-words) (toZ w64 (ofZ w64 ((c .before .before .before .before .before .before .before) .args .x .kind))) (c .before .before .loop .inv) in omega arith
+    let start = c .before .before .before .before .before .before .before in
+    let g = start .good .0 in let p = start .pre in let q = storing-length (start .args .nodes .now) (start .args .i * node-words) (toZ w64 (ofZ w64 (start .args .x .kind))) (c .before .before .loop .inv) in omega arith
 
 slice-set-from-z : tie.Need-slice-set-from-z Inv-loop μ-loop
 slice-set-from-z c =
-    let g = (c .before .before .before .before .before .before .before) .good .0 in let p = (c .before .before .before .before .before .before .before) .pre in let q = storing-length ((c .before .before .before .before .before .before .before) .args .nodes .now) ((c .before .before .before .before .before .before .before) .args .i * node-words) (toZ w64 (ofZ w64 ((c .before .before .before .before .before .before .before) .args .x .kind))) (c .before .before .loop .inv) in omega arith
+    let start = c .before .before .before .before .before .before .before in
+    let g = start .good .0 in let p = start .pre in let q = storing-length (start .args .nodes .now) (start .args .i * node-words) (toZ w64 (ofZ w64 (start .args .x .kind))) (c .before .before .loop .inv) in omega arith
 
 add-k : tie.Need-add-k Inv-loop μ-loop
 add-k c =
-    let g = (c .before .before .before .before .before .before .before) .good .0 in let p = (c .before .before .before .before .before .before .before) .pre in let q = storing-length ((c .before .before .before .before .before .before .before) .args .nodes .now) ((c .before .before .before .before .before .before .before) .args .i * node-words) (toZ w64 (ofZ w64 ((c .before .before .before .before .before .before .before) .args .x .kind))) (c .before .before .loop .inv) in omega arith
+    let start = c .before .before .before .before .before .before .before in
+    let g = start .good .0 in let p = start .pre in let q = storing-length (start .args .nodes .now) (start .args .i * node-words) (toZ w64 (ofZ w64 (start .args .x .kind))) (c .before .before .loop .inv) in omega arith
 
 loop-less : tie.Need-loop-less Inv-loop μ-loop
 loop-less c =
-    let g = (c .before .before .before .before .before .before .before) .good .0 in let p = (c .before .before .before .before .before .before .before) .pre in let q = storing-length ((c .before .before .before .before .before .before .before) .args .nodes .now) ((c .before .before .before .before .before .before .before) .args .i * node-words) (toZ w64 (ofZ w64 ((c .before .before .before .before .before .before .before) .args .x .kind))) (c .before .before .loop .inv) in omega arith
+    let start = c .before .before .before .before .before .before .before in
+    let g = start .good .0 in let p = start .pre in let q = storing-length (start .args .nodes .now) (start .args .i * node-words) (toZ w64 (ofZ w64 (start .args .x .kind))) (c .before .before .loop .inv) in omega arith
 
 loop-again : tie.Need-loop-again Inv-loop μ-loop
 loop-again c =
@@ -71,35 +80,43 @@ loop-again c =
 
 add-high : tie.Need-add-high Inv-loop μ-loop
 add-high c =
-    let g = (c .before .before .before .before .before .before) .good .0 in let p = (c .before .before .before .before .before .before) .pre in let q = storing-length ((c .before .before .before .before .before .before) .args .nodes .now) ((c .before .before .before .before .before .before) .args .i * node-words) (toZ w64 (ofZ w64 ((c .before .before .before .before .before .before) .args .x .kind))) (c .before .loop .inv) in omega arith
+    let start = c .before .before .before .before .before .before in
+    let g = start .good .0 in let p = start .pre in let q = storing-length (start .args .nodes .now) (start .args .i * node-words) (toZ w64 (ofZ w64 (start .args .x .kind))) (c .before .loop .inv) in omega arith
 
 mul-high : tie.Need-mul-high Inv-loop μ-loop
 mul-high c =
-    let g = (c .before .before .before .before .before .before) .good .0 in let p = (c .before .before .before .before .before .before) .pre in let q = storing-length ((c .before .before .before .before .before .before) .args .nodes .now) ((c .before .before .before .before .before .before) .args .i * node-words) (toZ w64 (ofZ w64 ((c .before .before .before .before .before .before) .args .x .kind))) (c .before .loop .inv) in omega arith
+    let start = c .before .before .before .before .before .before in
+    let g = start .good .0 in let p = start .pre in let q = storing-length (start .args .nodes .now) (start .args .i * node-words) (toZ w64 (ofZ w64 (start .args .x .kind))) (c .before .loop .inv) in omega arith
 
 slice-set-from-high : tie.Need-slice-set-from-high Inv-loop μ-loop
 slice-set-from-high c =
-    let g = (c .before .before .before .before .before .before) .good .0 in let p = (c .before .before .before .before .before .before) .pre in let q = storing-length ((c .before .before .before .before .before .before) .args .nodes .now) ((c .before .before .before .before .before .before) .args .i * node-words) (toZ w64 (ofZ w64 ((c .before .before .before .before .before .before) .args .x .kind))) (c .before .loop .inv) in omega arith
+    let start = c .before .before .before .before .before .before in
+    let g = start .good .0 in let p = start .pre in let q = storing-length (start .args .nodes .now) (start .args .i * node-words) (toZ w64 (ofZ w64 (start .args .x .kind))) (c .before .loop .inv) in omega arith
 
 add-low : tie.Need-add-low Inv-loop μ-loop
 add-low c =
-    let g = (c .before .before .before .before .before .before) .good .0 in let p = (c .before .before .before .before .before .before) .pre in let q = storing-length ((c .before .before .before .before .before .before) .args .nodes .now) ((c .before .before .before .before .before .before) .args .i * node-words) (toZ w64 (ofZ w64 ((c .before .before .before .before .before .before) .args .x .kind))) (c .before .loop .inv) in omega arith
+    let start = c .before .before .before .before .before .before in
+    let g = start .good .0 in let p = start .pre in let q = storing-length (start .args .nodes .now) (start .args .i * node-words) (toZ w64 (ofZ w64 (start .args .x .kind))) (c .before .loop .inv) in omega arith
 
 mul-low : tie.Need-mul-low Inv-loop μ-loop
 mul-low c =
-    let g = (c .before .before .before .before .before .before) .good .0 in let p = (c .before .before .before .before .before .before) .pre in let q = storing-length ((c .before .before .before .before .before .before) .args .nodes .now) ((c .before .before .before .before .before .before) .args .i * node-words) (toZ w64 (ofZ w64 ((c .before .before .before .before .before .before) .args .x .kind))) (c .before .loop .inv) in omega arith
+    let start = c .before .before .before .before .before .before in
+    let g = start .good .0 in let p = start .pre in let q = storing-length (start .args .nodes .now) (start .args .i * node-words) (toZ w64 (ofZ w64 (start .args .x .kind))) (c .before .loop .inv) in omega arith
 
 slice-set-from-low : tie.Need-slice-set-from-low Inv-loop μ-loop
 slice-set-from-low c =
-    let g = (c .before .before .before .before .before .before) .good .0 in let p = (c .before .before .before .before .before .before) .pre in let q = storing-length ((c .before .before .before .before .before .before) .args .nodes .now) ((c .before .before .before .before .before .before) .args .i * node-words) (toZ w64 (ofZ w64 ((c .before .before .before .before .before .before) .args .x .kind))) (c .before .loop .inv) in simp length-set (omega arith)
+    let start = c .before .before .before .before .before .before in
+    let g = start .good .0 in let p = start .pre in let q = storing-length (start .args .nodes .now) (start .args .i * node-words) (toZ w64 (ofZ w64 (start .args .x .kind))) (c .before .loop .inv) in simp length-set (omega arith)
 
 same-length : tie.Need-same-length Inv-loop μ-loop
 same-length c =
-    two-more ((c .before .before .before .before .before .before) .args .nodes .now) (c .before .loop .nodes) _ _ _ _ (storing-length ((c .before .before .before .before .before .before) .args .nodes .now) ((c .before .before .before .before .before .before) .args .i * node-words) (toZ w64 (ofZ w64 ((c .before .before .before .before .before .before) .args .x .kind))) (c .before .loop .inv))
+    let start = c .before .before .before .before .before .before in
+    two-more (start .args .nodes .now) (c .before .loop .nodes) _ _ _ _ (storing-length (start .args .nodes .now) (start .args .i * node-words) (toZ w64 (ofZ w64 (start .args .x .kind))) (c .before .loop .inv))
 
 returns : tie.Need-returns Inv-loop μ-loop
 returns c =
-    put-as _ ((c .before .before .before .before .before .before) .args .i) ((c .before .before .before .before .before .before) .args .x) (back _ (c .before .before .before .before .before .struct-told .given .0 .1)) (back _ (c .before .before .before .before .before .struct-told .given .1 .1 .0 .1)) (back _ (c .before .before .before .before .before .struct-told .given .1 .1 .1 .0 .1)) (c .before .loop .inv) (c .loop-test .left)
+    let at-struct-told = c .before .before .before .before .before in let start = at-struct-told .before in
+    put-as _ (start .args .i) (start .args .x) (back _ (at-struct-told .struct-told .given .0 .1)) (back _ (at-struct-told .struct-told .given .1 .1 .0 .1)) (back _ (at-struct-told .struct-told .given .1 .1 .1 .0 .1)) (c .before .loop .inv) (c .loop-test .left)
 
 pub put-spec : {M : Type 1} → statement M
 put-spec =

@@ -51,13 +51,14 @@ shared-slice-read-result c = search needs
 
 cast-result : tie.Need-cast-result
 cast-result c =
-    omega (arith, c .shared-slice-known3 .given (c .before .before .before .before .before .before .before .slot .result + 5))
+    let at-slot = c .before .before .before .before .before .before .before in omega (arith, c .shared-slice-known3 .given (at-slot .slot .result + 5))
 
 returns-4 : tie.Need-returns-4
 returns-4 c =
-    let u = c .before .before .before .before .before .before .differ .ensures (c .before .before .before .before .before .if1 .left) in
-    let v = c .before .before .before .before .differ2 .ensures (c .before .before .before .if2 .left) in
-    λ z. entry-is (c .before .before .before .before .before .before .before .slot .ensures .0) (u .0) (u .1) (v .0) (v .1) (c .before .if3 .left) z
+    let at-if2 = c .before .before .before in let at-differ2 = at-if2 .before in let at-if1 = at-differ2 .before in let at-differ = at-if1 .before in
+    let at-slot = at-differ .before in let u = at-differ .differ .ensures (at-if1 .if1 .left) in
+    let v = at-differ2 .differ2 .ensures (at-if2 .if2 .left) in
+    λ z. entry-is (at-slot .slot .ensures .0) (u .0) (u .1) (v .0) (v .1) (c .before .if3 .left) z
 
 pub look-spec : {M : Type 1} → statement M
 look-spec =

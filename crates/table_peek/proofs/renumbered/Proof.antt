@@ -33,30 +33,36 @@ mul-p c =
 
 shared-slice-read-p : tie.Need-shared-slice-read-p
 shared-slice-read-p c =
-    let s = (c .before .before .before .before .before .before) in let b = high-less (s .args .work .now) (s .args .cap) (s .args .x) (c .before .before .before .before .is-leaf .ensures) (c .before .before .before .if1 .left) (s .pre .2) (c .before .before .high .ensures) in let f = s .pre .0 in omega arith
+    let at-if1 = c .before .before .before in let at-is-leaf = at-if1 .before in let place = at-is-leaf .before .before in
+    let s = place in let b = high-less (s .args .work .now) (s .args .cap) (s .args .x) (at-is-leaf .is-leaf .ensures) (at-if1 .if1 .left) (s .pre .2) (c .before .before .high .ensures) in let f = s .pre .0 in omega arith
 
 cast-p : tie.Need-cast-p
 cast-p c =
-    record { sfits = omega (arith, c .shared-slice-known2 .given ((c .before .before .before .before .before .before) .args .cap + c .before .before .high .result)) }
+    let start = c .before .before .before .before .before .before in
+    record { sfits = omega (arith, c .shared-slice-known2 .given (start .args .cap + c .before .before .high .result)) }
 
 mul-q : tie.Need-mul-q
 mul-q c =
-    let s = (c .before .before .before .before .before .before) in let b = low-less (s .args .work .now) (s .args .cap) (s .args .x) (c .before .before .before .before .is-leaf .ensures) (c .before .before .before .if1 .left) (s .pre .2) (c .before .low .ensures) in let f = s .pre .1 in omega arith
+    let at-if1 = c .before .before .before in let at-is-leaf = at-if1 .before in let place = at-is-leaf .before .before in
+    let s = place in let b = low-less (s .args .work .now) (s .args .cap) (s .args .x) (at-is-leaf .is-leaf .ensures) (at-if1 .if1 .left) (s .pre .2) (c .before .low .ensures) in let f = s .pre .1 in omega arith
 
 shared-slice-read-q : tie.Need-shared-slice-read-q
 shared-slice-read-q c =
-    let s = (c .before .before .before .before .before .before .before) in let b = low-less (s .args .work .now) (s .args .cap) (s .args .x) (c .before .before .before .before .before .is-leaf .ensures) (c .before .before .before .before .if1 .left) (s .pre .2) (c .before .before .low .ensures) in let f = s .pre .0 in omega arith
+    let at-if1 = c .before .before .before .before in let at-is-leaf = at-if1 .before in let place = at-is-leaf .before .before in
+    let s = place in let b = low-less (s .args .work .now) (s .args .cap) (s .args .x) (at-is-leaf .is-leaf .ensures) (at-if1 .if1 .left) (s .pre .2) (c .before .before .low .ensures) in let f = s .pre .0 in omega arith
 
 cast-q : tie.Need-cast-q
 cast-q c =
-    record { sfits = omega (arith, c .shared-slice-known3 .given ((c .before .before .before .before .before .before .before) .args .cap + c .before .before .low .result)) }
+    let start = c .before .before .before .before .before .before .before in
+    record { sfits = omega (arith, c .shared-slice-known3 .given (start .args .cap + c .before .before .low .result)) }
 
 returns-2 : tie.Need-returns-2
 returns-2 c =
-    let s = (c .before .before .before .before .before .before .before) in
-    branch-moves (s .args .work .now) (s .args .cap) (s .args .x) (c .before .before .before .before .before .is-leaf .ensures) (c .before .before .before .before .if1 .left) (s .pre .2)
-    (c .before .before .before .high .ensures) (c .before .before .low .ensures)
-    (c .before .shared-slice-known2 .given (s .args .cap + c .before .before .before .high .result) .fits) (c .shared-slice-known3 .given (s .args .cap + c .before .before .low .result) .fits)
+    let at-high = c .before .before .before in let at-if1 = at-high .before in let at-is-leaf = at-if1 .before in let place = at-is-leaf .before .before in
+    let s = place in
+    branch-moves (s .args .work .now) (s .args .cap) (s .args .x) (at-is-leaf .is-leaf .ensures) (at-if1 .if1 .left) (s .pre .2)
+    (at-high .high .ensures) (c .before .before .low .ensures)
+    (c .before .shared-slice-known2 .given (s .args .cap + at-high .high .result) .fits) (c .shared-slice-known3 .given (s .args .cap + c .before .before .low .result) .fits)
 
 pub renumbered-spec : {M : Type 1} → statement M
 renumbered-spec =

@@ -33,7 +33,8 @@ kind-if-requires-2 c κs = search needs
 
 returns-4 : tie.Need-returns-4
 returns-4 c =
-    as-condition _ _ _ _ (c .before .before .before .before .before .before .if1 .left) (c .before .before .before .before .before .if2 .left) (c .before .before .before .before .kind .ensures) (c .before .before .before .if3 .left) (c .before .before .if4 .taken) (c .before .good-condition .ensures) (c .kind-if2 .ensures)
+    let at-if3 = c .before .before .before in let at-kind = at-if3 .before in let at-if2 = at-kind .before in let at-if1 = at-if2 .before in
+    as-condition _ _ _ _ (at-if1 .if1 .left) (at-if2 .if2 .left) (at-kind .kind .ensures) (at-if3 .if3 .left) (c .before .before .if4 .taken) (c .before .good-condition .ensures) (c .kind-if2 .ensures)
 
 good-test-requires : tie.Need-good-test-requires
 good-test-requires c κs = search needs
@@ -43,7 +44,8 @@ kind-if-requires-3 c κs = search needs
 
 returns-5 : tie.Need-returns-5
 returns-5 c =
-    as-test _ _ _ _ (c .before .before .before .before .before .before .before .if1 .left) (c .before .before .before .before .before .before .if2 .left) (c .before .before .before .before .before .kind .ensures) (c .before .before .before .before .if3 .left) (c .before .before .before .if4 .left) (c .before .before .if5 .taken) (c .before .good-test .ensures) (c .kind-if3 .ensures)
+    let at-if4 = c .before .before .before in let at-if3 = at-if4 .before in let at-kind = at-if3 .before in let at-if2 = at-kind .before in let at-if1 = at-if2 .before in
+    as-test _ _ _ _ (at-if1 .if1 .left) (at-if2 .if2 .left) (at-kind .kind .ensures) (at-if3 .if3 .left) (at-if4 .if4 .left) (c .before .before .if5 .taken) (c .before .good-test .ensures) (c .kind-if3 .ensures)
 
 good-none-requires : tie.Need-good-none-requires
 good-none-requires c κs = search needs
@@ -53,11 +55,14 @@ kind-if-requires-4 c κs = search needs
 
 returns-6 : tie.Need-returns-6
 returns-6 c =
-    as-none _ _ _ _ (c .before .before .before .before .before .before .before .before .if1 .left) (c .before .before .before .before .before .before .before .if2 .left) (c .before .before .before .before .before .before .kind .ensures) (c .before .before .before .before .before .if3 .left) (c .before .before .before .before .if4 .left) (c .before .before .before .if5 .left) (c .before .before .if6 .taken) (c .before .good-none .ensures) (c .kind-if4 .ensures)
+    let at-if5 = c .before .before .before in let at-if4 = at-if5 .before in let at-if3 = at-if4 .before in let at-kind = at-if3 .before in let at-if2 = at-kind .before in
+    let at-if1 = at-if2 .before in
+    as-none _ _ _ _ (at-if1 .if1 .left) (at-if2 .if2 .left) (at-kind .kind .ensures) (at-if3 .if3 .left) (at-if4 .if4 .left) (at-if5 .if5 .left) (c .before .before .if6 .taken) (c .before .good-none .ensures) (c .kind-if4 .ensures)
 
 returns-7 : tie.Need-returns-7
 returns-7 c =
-    as-bad _ _ _ _ (c .before .before .before .before .before .before .if1 .left) (c .before .before .before .before .before .if2 .left) (c .before .before .before .before .kind .ensures) (c .before .before .before .if3 .left) (c .before .before .if4 .left) (c .before .if5 .left) (c .if6 .left)
+    let at-if3 = c .before .before .before in let at-kind = at-if3 .before in let at-if2 = at-kind .before in let at-if1 = at-if2 .before in
+    as-bad _ _ _ _ (at-if1 .if1 .left) (at-if2 .if2 .left) (at-kind .kind .ensures) (at-if3 .if3 .left) (c .before .before .if4 .left) (c .before .if5 .left) (c .if6 .left)
 
 pub row-kind-spec : {M : Type 1} → statement M
 row-kind-spec =

@@ -26,37 +26,56 @@ cast-at : tie.Need-cast-at Inv-loop μ-loop
 cast-at c = omega (arith, c .shared-slice-known2 .given (c .before .hash .result))
 
 loop-holds : tie.Need-loop-holds Inv-loop μ-loop
-loop-holds c = begins (c .before .before .before .pre) (c .before .before .before .args .x) _ (c .before .hash .ensures .1) (c .before .hash .ensures .0)
+loop-holds c =
+    let start = c .before .before .before in begins (start .pre) (start .args .x) _ (c .before .hash .ensures .1) (c .before .hash .ensures .0)
 
 sub-i : tie.Need-sub-i Inv-loop μ-loop
 sub-i c = omega arith
 
 is-at-requires : tie.Need-is-at-requires Inv-loop μ-loop
-is-at-requires c κs = let q = c .before .loop .inv .within in let r = c .before .before .before .before .before .pre .space .room in let w = c .before .before .before .before .before .pre .space .words in omega arith
+is-at-requires c κs =
+    let start = c .before .before .before .before .before in
+    let q = c .before .loop .inv .within in let r = start .pre .space .room in let w = start .pre .space .words in omega arith
 
 returns : tie.Need-returns Inv-loop μ-loop
-returns c = hits (c .before .before .before .before .before .before .before .pre) (c .before .before .before .before .before .before .before .args .x) (c .before .before .before .loop .at) (c .before .before .loop-test .taken) (c .before .before .before .loop .inv) (hit refl (c .before .is-at .ensures) (c .if1 .taken))
+returns c =
+    let at-loop = c .before .before .before in let start = at-loop .before .before .before .before in
+    hits (start .pre) (start .args .x) (at-loop .loop .at) (c .before .before .loop-test .taken) (at-loop .loop .inv) (hit refl (c .before .is-at .ensures) (c .if1 .taken))
 
 add-at : tie.Need-add-at Inv-loop μ-loop
-add-at c = let q = c .before .before .before .loop .inv .within in let r = c .before .before .before .before .before .before .before .pre .space .room in let f = c .before .before .before .before .before .before .before .pre .space .few in omega arith
+add-at c =
+    let at-loop = c .before .before .before in let start = at-loop .before .before .before .before in
+    let q = at-loop .loop .inv .within in let r = start .pre .space .room in let f = start .pre .space .few in omega arith
 
 mul-at-2 : tie.Need-mul-at-2 Inv-loop μ-loop
-mul-at-2 c = let q = c .before .before .before .loop .inv .within in let r = c .before .before .before .before .before .before .before .pre .space .room in let f = c .before .before .before .before .before .before .before .pre .space .few in omega arith
+mul-at-2 c =
+    let at-loop = c .before .before .before in let start = at-loop .before .before .before .before in
+    let q = at-loop .loop .inv .within in let r = start .pre .space .room in let f = start .pre .space .few in omega arith
 
 shared-slice-read-at-2 : tie.Need-shared-slice-read-at-2 Inv-loop μ-loop
-shared-slice-read-at-2 c = let q = c .before .before .before .before .loop .inv .within in let r = c .before .before .before .before .before .before .before .before .pre .space .room in let f = c .before .before .before .before .before .before .before .before .pre .space .works in let z = c .before .before .before .loop-test .taken in omega arith
+shared-slice-read-at-2 c =
+    let at-loop-test = c .before .before .before in let at-loop = at-loop-test .before in let start = at-loop .before .before .before .before in
+    let q = at-loop .loop .inv .within in let r = start .pre .space .room in let f = start .pre .space .works in let z = at-loop-test .loop-test .taken in omega arith
 
 cast-at-2 : tie.Need-cast-at-2 Inv-loop μ-loop
-cast-at-2 c = omega (arith, c .shared-slice-known3 .given (c .before .before .before .before .before .before .before .before .args .cap + (c .before .before .before .before .loop .at - 1)))
+cast-at-2 c =
+    let at-loop = c .before .before .before .before in let start = at-loop .before .before .before .before in
+    omega (arith, c .shared-slice-known3 .given (start .args .cap + (at-loop .loop .at - 1)))
 
 loop-less : tie.Need-loop-less Inv-loop μ-loop
-loop-less c = less (c .before .before .before .before .before .before .before .before .pre) (c .before .before .before .before .before .before .before .before .args .x) (c .before .before .before .before .loop .at) (c .before .before .before .loop-test .taken) (c .before .before .before .before .loop .inv)
+loop-less c =
+    let at-loop-test = c .before .before .before in let at-loop = at-loop-test .before in let start = at-loop .before .before .before .before in
+    less (start .pre) (start .args .x) (at-loop .loop .at) (at-loop-test .loop-test .taken) (at-loop .loop .inv)
 
 loop-again : tie.Need-loop-again Inv-loop μ-loop
-loop-again c = goes-on (c .before .before .before .before .before .before .before .before .pre) (c .before .before .before .before .before .before .before .before .args .x) (c .before .before .before .before .loop .at) (c .before .before .before .loop-test .taken) (c .before .before .before .before .loop .inv) (miss refl (c .before .before .is-at .ensures) (c .before .if1 .left))
+loop-again c =
+    let at-loop-test = c .before .before .before in let at-loop = at-loop-test .before in let start = at-loop .before .before .before .before in
+    goes-on (start .pre) (start .args .x) (at-loop .loop .at) (at-loop-test .loop-test .taken) (at-loop .loop .inv) (miss refl (c .before .before .is-at .ensures) (c .before .if1 .left))
 
 returns-2 : tie.Need-returns-2 Inv-loop μ-loop
-returns-2 c = misses (c .before .before .before .before .before .pre) (c .before .before .before .before .before .args .x) (c .before .loop .at) (c .loop-test .left) (c .before .loop .inv)
+returns-2 c =
+    let start = c .before .before .before .before .before in
+    misses (start .pre) (start .args .x) (c .before .loop .at) (c .loop-test .left) (c .before .loop .inv)
 
 pub find-spec : {M : Type 1} → statement M
 find-spec =

@@ -56,7 +56,9 @@ mul-work-3 : tie.Need-mul-work-3
 mul-work-3 c = search needs
 
 slice-write-work-2 : tie.Need-slice-write-work-2
-slice-write-work-2 c = simp length-set (let q = c .before .before .before .before .before .before .before .before .before .before .before .pre .space .works in omega (arith, c .before .hash .ensures .1))
+slice-write-work-2 c =
+    let start = c .before .before .before .before .before .before .before .before .before .before .before in
+    simp length-set (let q = start .pre .space .works in omega (arith, c .before .hash .ensures .1))
 
 add-t19 : tie.Need-add-t19
 add-t19 c = search needs
@@ -69,15 +71,16 @@ same-length-4 c = search needs
 
 returns-2 : tie.Need-returns-2
 returns-2 c =
-    let s = c .before .before .before .before .before .before .before .before .before .before .before in
-    let w = intern-new (s .args .cap) (s .args .nodes .now) (s .args .count) (s .args .x) _ (c .before .before .before .before .before .before .before .find .ensures) (c .before .before .before .before .before .before .if1 .left) (c .before .before .before .before .before .if2 .taken) in
-    let n = chained-new (s .pre) (s .args .x) (as-long (s .args .x .n) (s .good .1 .1 .1 .1 .0 .1 .1 .1 .0 .1 .0 .1)) _ (c .before .before .before .before .before .before .before .find .ensures) (c .before .before .before .before .before .before .if1 .left) (c .before .before .before .before .before .if2 .taken) _ (c .before .hash .ensures .0) (c .before .hash .ensures .1) in
+    let at-put = c .before .before .before in let at-if2 = at-put .before .before in let at-if1 = at-if2 .before in let at-find = at-if1 .before in
+    let place = at-find .before .before .before .before in let s = place in
+    let w = intern-new (s .args .cap) (s .args .nodes .now) (s .args .count) (s .args .x) _ (at-find .find .ensures) (at-if1 .if1 .left) (at-if2 .if2 .taken) in
+    let n = chained-new (s .pre) (s .args .x) (as-long (s .args .x .n) (s .good .1 .1 .1 .1 .0 .1 .1 .1 .0 .1 .0 .1)) _ (at-find .find .ensures) (at-if1 .if1 .left) (at-if2 .if2 .taken) _ (c .before .hash .ensures .0) (c .before .hash .ensures .1) in
     record {
       answer = w .0;
-      nodes = c .before .before .before .put .ensures ∙ w .1;
-      chained = chained-as (c .before .before .before .put .ensures) n;
-      beyond = frame (s .args .work .now) (s .args .cap) (s .args .count) _ _ _ (c .before .before .before .before .before .if2 .taken) (c .before .hash .ensures .1);
-      nodes-length = ap length (c .before .before .before .put .ensures) ∙ put-length _ _ _;
+      nodes = at-put .put .ensures ∙ w .1;
+      chained = chained-as (at-put .put .ensures) n;
+      beyond = frame (s .args .work .now) (s .args .cap) (s .args .count) _ _ _ (at-if2 .if2 .taken) (c .before .hash .ensures .1);
+      nodes-length = ap length (at-put .put .ensures) ∙ put-length _ _ _;
       work-length = simp length-set;
     }
 
@@ -89,7 +92,7 @@ same-length-6 c = search needs
 
 returns-3 : tie.Need-returns-3
 returns-3 c =
-    let s = c .before .before .before .before .before .before in
+    let place = c .before .before .before .before .before .before in let s = place in
     let w = intern-full (s .args .cap) (s .args .nodes .now) (s .args .count) (s .args .x) _ (c .before .before .find .ensures) (c .before .if1 .left) (c .if2 .left) in
     record { answer = w .0; nodes = w .1; chained = s .pre; beyond = λ j q. refl; nodes-length = refl; work-length = refl }
 

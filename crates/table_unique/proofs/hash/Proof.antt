@@ -41,7 +41,10 @@ loop-less : tie.Need-loop-less Inv-loop μ-loop
 loop-less c = omega arith
 
 loop-again : tie.Need-loop-again Inv-loop μ-loop
-loop-again c = (omega arith, c .next .ensures .1, hash-goes (c .before .before .before .before .before .before .before .before .args .x .n) (as-long (c .before .before .before .before .before .before .before .before .args .x .n) (c .before .before .before .before .before .before .struct-told .given .1 .0 .1 .0 .1)) _ _ (c .before .before .before .before .loop .h) (c .before .before .before .before .loop .k) (c .before .before .before .before .loop .i) (c .before .before .before .before .loop .inv .2) (c .before .before .before .loop-test .taken) (back _ (c .before .before .z .given)) (c .before .added2 .ensures) (c .next .ensures .0))
+loop-again c =
+    let at-loop-test = c .before .before .before in let at-loop = at-loop-test .before in let at-struct-told = at-loop .before .before in
+    let start = at-struct-told .before .before in
+    (omega arith, c .next .ensures .1, hash-goes (start .args .x .n) (as-long (start .args .x .n) (at-struct-told .struct-told .given .1 .0 .1 .0 .1)) _ _ (at-loop .loop .h) (at-loop .loop .k) (at-loop .loop .i) (at-loop .loop .inv .2) (at-loop-test .loop-test .taken) (back _ (c .before .before .z .given)) (c .before .added2 .ensures) (c .next .ensures .0))
 
 added-requires-3 : tie.Need-added-requires-3 Inv-loop μ-loop
 added-requires-3 c κs = omega arith
@@ -50,12 +53,15 @@ added-requires-4 : tie.Need-added-requires-4 Inv-loop μ-loop
 added-requires-4 c κs = omega arith
 
 bucket-requires : tie.Need-bucket-requires Inv-loop μ-loop
-bucket-requires c κs = c .before .before .before .before .before .before .before .before .before .pre
+bucket-requires c κs =
+    let start = c .before .before .before .before .before .before .before .before .before in start .pre
 
 returns : tie.Need-returns Inv-loop μ-loop
 returns c =
-    let n = hash-ends (c .before .before .before .before .before .before .before .before .before .before .args .x .n) (as-long (c .before .before .before .before .before .before .before .before .before .before .args .x .n) (c .before .before .before .before .before .before .before .before .struct-told .given .1 .0 .1 .0 .1)) _ _ (c .before .before .before .before .before .before .loop .h) (c .before .before .before .before .before .before .loop .k) (c .before .before .before .before .before .before .loop .i) (c .before .before .before .before .before .before .loop .inv .2) (c .before .before .before .before .before .loop-test .left) in
-    let e = hash-as (c .before .before .before .before .before .before .before .before .before .before .args .cap) (c .before .before .before .before .before .before .before .before .before .before .args .x) (back _ (c .before .before .before .before .before .before .before .before .struct-told .given .0 .1)) (back _ (c .before .before .before .before .struct-told2 .given .1 .1 .0 .1)) (back _ (c .before .before .struct-told3 .given .1 .1 .1 .0 .1)) (c .before .before .before .before .before .before .before .added .ensures) n (c .before .before .before .added3 .ensures) (c .before .added4 .ensures) (c .bucket .ensures .0) in
+    let at-added3 = c .before .before .before in let at-struct-told2 = at-added3 .before in let at-loop-test = at-struct-told2 .before in let at-loop = at-loop-test .before in
+    let at-added = at-loop .before in let at-struct-told = at-added .before in let start = at-struct-told .before .before in
+    let n = hash-ends (start .args .x .n) (as-long (start .args .x .n) (at-struct-told .struct-told .given .1 .0 .1 .0 .1)) _ _ (at-loop .loop .h) (at-loop .loop .k) (at-loop .loop .i) (at-loop .loop .inv .2) (at-loop-test .loop-test .left) in
+    let e = hash-as (start .args .cap) (start .args .x) (back _ (at-struct-told .struct-told .given .0 .1)) (back _ (at-struct-told2 .struct-told2 .given .1 .1 .0 .1)) (back _ (c .before .before .struct-told3 .given .1 .1 .1 .0 .1)) (at-added .added .ensures) n (at-added3 .added3 .ensures) (c .before .added4 .ensures) (c .bucket .ensures .0) in
     (e, c .bucket .ensures .1)
 
 pub hash-spec : {M : Type 1} → statement M

@@ -111,18 +111,18 @@ put-digits-put-digits-requires t c κs =
 
 put-digits-slice-write-out-3 : (t : ℕ) → put-digits-lts.Need-slice-write-out-3 (put-digits-claims t) (put-digits-at t) put-digits.Post
 put-digits-slice-write-out-3 t c =
-    let s = (c .before .before .before .before .before .before .before) in
+    let at-if2 = c .before .before .before .before in let at-if1 = at-if2 .before in let place = at-if1 .before .before in let s = place in
     let a = s .args in
     let q = c .before .before .put-digits in
-    let e = digits-longer (a .left) (a .x) (c .before .before .before .before .before .if1 .left) (c .before .before .before .before .if2 .left) in
+    let e = digits-longer (a .left) (a .x) (at-if1 .if1 .left) (at-if2 .if2 .left) in
     omega (arith, s .pre .1, q .ensures .behind, q .kept .0)
 
 put-digits-add-result-3 : (t : ℕ) → put-digits-lts.Need-add-result-3 (put-digits-claims t) (put-digits-at t) put-digits.Post
 put-digits-add-result-3 t c =
-    let s = (c .before .before .before .before .before .before .before) in
+    let at-if2 = c .before .before .before .before in let at-if1 = at-if2 .before in let place = at-if1 .before .before in let s = place in
     let a = s .args in
     let q = c .before .before .put-digits in
-    let e = digits-longer (a .left) (a .x) (c .before .before .before .before .before .if1 .left) (c .before .before .before .before .if2 .left) in
+    let e = digits-longer (a .left) (a .x) (at-if1 .if1 .left) (at-if2 .if2 .left) in
     omega (arith, s .pre .1, q .ensures .behind, q .kept .0)
 
 put-digits-same-length-3 : (t : ℕ) → put-digits-lts.Need-same-length-3 (put-digits-claims t) (put-digits-at t) put-digits.Post
@@ -131,13 +131,13 @@ put-digits-same-length-3 t c =
 
 put-digits-returns-3 : (t : ℕ) → put-digits-lts.Need-returns-3 (put-digits-claims t) (put-digits-at t) put-digits.Post
 put-digits-returns-3 t c =
-    let s = (c .before .before .before .before .before .before .before) in
+    let at-if2 = c .before .before .before .before in let at-if1 = at-if2 .before in let place = at-if1 .before .before in let s = place in
     let a = s .args in
     let q = c .before .before .put-digits in
-    let e = digits-longer (a .left) (a .x) (c .before .before .before .before .before .if1 .left) (c .before .before .before .before .if2 .left) in
+    let e = digits-longer (a .left) (a .x) (at-if1 .if1 .left) (at-if2 .if2 .left) in
     let h : q .result < length (a .out .now) = omega (arith, s .pre .1, q .ensures .behind) in
     put-next (a .out .now) (digits (a .left - 1) (a .x / 10)) (digits (a .left) (a .x)) (q .last .0) (a .at) (q .result) (48 + a .x % 10) (q .ensures) h
-    (digits-more (a .left) (a .x) (c .before .before .before .before .before .if1 .left) (c .before .before .before .before .if2 .left))
+    (digits-more (a .left) (a .x) (at-if1 .if1 .left) (at-if2 .if2 .left))
 
 pub +put-digits-spec : {M : Type 1} → statement M
 +put-digits-spec = close μ-put-digits λ t. put-digits-lts.spec (put-digits-claims t)

@@ -14,20 +14,21 @@ slice-aggregate-put-bytes c = search needs
 
 put-bytes-requires : tie.Need-put-bytes-requires
 put-bytes-requires c κs =
-    omega (arith, (c .before .before .before) .pre, ap length (spaced-plain ((c .before .before .before) .args .x)))
+    let start = c .before .before .before in omega (arith, start .pre, ap length (spaced-plain (start .args .x)))
 
 put-digits-requires : tie.Need-put-digits-requires
 put-digits-requires c κs =
-    omega (arith, (c .before .before .before .before .before .before .before) .pre, ap length (spaced-plain ((c .before .before .before .before .before .before .before) .args .x)), c .before .before .before .put-bytes .ensures .behind, c .before .before .before .put-bytes .kept .0)
+    let at-put-bytes = c .before .before .before in let start = at-put-bytes .before .before .before .before in
+    omega (arith, start .pre, ap length (spaced-plain (start .args .x)), at-put-bytes .put-bytes .ensures .behind, at-put-bytes .put-bytes .kept .0)
 
 same-length : tie.Need-same-length
 same-length c = search needs
 
 returns : tie.Need-returns
 returns c =
-    let a = (c .before .before .before .before .before .before .before .before .before .before) .args in
-    let h : a .at ≤ length (a .out .now) = omega (arith, (c .before .before .before .before .before .before .before .before .before .before) .pre) in
-    rename (sym (spaced-plain (a .x))) (then h (c .before .before .before .before .before .before .put-bytes .ensures) (c .before .before .put-digits .ensures))
+    let at-put-bytes = c .before .before .before .before .before .before in let start = at-put-bytes .before .before .before .before in let a = start .args in
+    let h : a .at ≤ length (a .out .now) = omega (arith, start .pre) in
+    rename (sym (spaced-plain (a .x))) (then h (at-put-bytes .put-bytes .ensures) (c .before .before .put-digits .ensures))
 
 pub put-number-spec : {M : Type 1} → statement M
 put-number-spec =

@@ -17,35 +17,40 @@ slice-aggregate-put-bytes c = search needs
 
 put-bytes-requires : tie.Need-put-bytes-requires
 put-bytes-requires c κs =
-    let e = spaced-negative ((c .before .before .before .before .before) .args .z) (c .before .before .before .mag .result) ((c .before .before .before .before .before) .fits .z) (c .before .before .before .mag .ensures) (c .before .before .if1 .taken) in
-    omega (arith, (c .before .before .before .before .before) .pre, ap length e)
+    let at-mag = c .before .before .before in let start = at-mag .before .before in
+    let e = spaced-negative (start .args .z) (at-mag .mag .result) (start .fits .z) (at-mag .mag .ensures) (c .before .before .if1 .taken) in
+    omega (arith, start .pre, ap length e)
 
 put-digits-requires : tie.Need-put-digits-requires
 put-digits-requires c κs =
-    let e = spaced-negative ((c .before .before .before .before .before .before .before .before .before) .args .z) (c .before .before .before .before .before .before .before .mag .result) ((c .before .before .before .before .before .before .before .before .before) .fits .z) (c .before .before .before .before .before .before .before .mag .ensures) (c .before .before .before .before .before .before .if1 .taken) in
-    omega (arith, (c .before .before .before .before .before .before .before .before .before) .pre, ap length e, c .before .before .before .put-bytes .ensures .behind, c .before .before .before .put-bytes .kept .0)
+    let at-put-bytes = c .before .before .before in let at-if1 = at-put-bytes .before .before .before in let at-mag = at-if1 .before in let start = at-mag .before .before in
+    let e = spaced-negative (start .args .z) (at-mag .mag .result) (start .fits .z) (at-mag .mag .ensures) (at-if1 .if1 .taken) in
+    omega (arith, start .pre, ap length e, at-put-bytes .put-bytes .ensures .behind, at-put-bytes .put-bytes .kept .0)
 
 same-length : tie.Need-same-length
 same-length c = search needs
 
 returns : tie.Need-returns
 returns c =
-    let a = (c .before .before .before .before .before .before .before .before .before .before .before .before) .args in
-    let e = spaced-negative (a .z) (c .before .before .before .before .before .before .before .before .before .before .mag .result) ((c .before .before .before .before .before .before .before .before .before .before .before .before) .fits .z) (c .before .before .before .before .before .before .before .before .before .before .mag .ensures) (c .before .before .before .before .before .before .before .before .before .if1 .taken) in
-    let h : a .at ≤ length (a .out .now) = omega (arith, (c .before .before .before .before .before .before .before .before .before .before .before .before) .pre) in
-    rename (sym e) (then h (c .before .before .before .before .before .before .put-bytes .ensures) (c .before .before .put-digits .ensures))
+    let at-put-bytes = c .before .before .before .before .before .before in let at-if1 = at-put-bytes .before .before .before in let at-mag = at-if1 .before in
+    let start = at-mag .before .before in let a = start .args in
+    let e = spaced-negative (a .z) (at-mag .mag .result) (start .fits .z) (at-mag .mag .ensures) (at-if1 .if1 .taken) in
+    let h : a .at ≤ length (a .out .now) = omega (arith, start .pre) in
+    rename (sym e) (then h (at-put-bytes .put-bytes .ensures) (c .before .before .put-digits .ensures))
 
 put-number-requires : tie.Need-put-number-requires
 put-number-requires c κs =
-    let e = spaced-positive ((c .before .before .before .before) .args .z) (c .before .before .mag .result) ((c .before .before .before .before) .fits .z) (c .before .before .mag .ensures) (c .before .if1 .left) in
-    omega (arith, (c .before .before .before .before) .pre, ap length e)
+    let start = c .before .before .before .before in
+    let e = spaced-positive (start .args .z) (c .before .before .mag .result) (start .fits .z) (c .before .before .mag .ensures) (c .before .if1 .left) in
+    omega (arith, start .pre, ap length e)
 
 same-length-2 : tie.Need-same-length-2
 same-length-2 c = search needs
 
 returns-2 : tie.Need-returns-2
 returns-2 c =
-    let e = spaced-positive ((c .before .before .before .before .before .before .before) .args .z) (c .before .before .before .before .before .mag .result) ((c .before .before .before .before .before .before .before) .fits .z) (c .before .before .before .before .before .mag .ensures) (c .before .before .before .before .if1 .left) in
+    let at-if1 = c .before .before .before .before in let at-mag = at-if1 .before in let start = at-mag .before .before in
+    let e = spaced-positive (start .args .z) (at-mag .mag .result) (start .fits .z) (at-mag .mag .ensures) (at-if1 .if1 .left) in
     rename (sym e) (c .before .before .put-number .ensures)
 
 pub put-signed-spec : {M : Type 1} → statement M

@@ -18,14 +18,14 @@ add-result c = search needs
 
 returns : tie.Need-returns
 returns c =
-    let n = c .before .number-len .ensures in
-    let e = spaced-negative ((c .before .before .before) .args .z) (c .before .before .mag .result) ((c .before .before .before) .fits .z) (c .before .before .mag .ensures) (c .if1 .taken) in
+    let start = c .before .before .before in let n = c .before .number-len .ensures in
+    let e = spaced-negative (start .args .z) (c .before .before .mag .result) (start .fits .z) (c .before .before .mag .ensures) (c .if1 .taken) in
     (omega (arith, ap length e, ap length (spaced-plain (c .before .before .mag .result)), n .0), omega (arith, n .1))
 
 returns-2 : tie.Need-returns-2
 returns-2 c =
-    let n = c .before .number-len .ensures in
-    let e = spaced-positive ((c .before .before .before) .args .z) (c .before .before .mag .result) ((c .before .before .before) .fits .z) (c .before .before .mag .ensures) (c .if1 .left) in
+    let start = c .before .before .before in let n = c .before .number-len .ensures in
+    let e = spaced-positive (start .args .z) (c .before .before .mag .result) (start .fits .z) (c .before .before .mag .ensures) (c .if1 .left) in
     (omega (arith, ap length e, n .0), omega (arith, n .1))
 
 pub signed-len-spec : {M : Type 1} → statement M

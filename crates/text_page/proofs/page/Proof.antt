@@ -16,7 +16,9 @@ refused-requires : tie.Need-refused-requires
 refused-requires c κs = search needs
 
 returns : tie.Need-returns
-returns c = page-stopped (c .before .before .before .before .before .before .before .args .model .now) (c .before .before .before .before .before .before .before .args .horizon) (c .before .before .before .before .before .before .before .args .nodes .now) (c .before .before .before .before .before .before .before .args .stages .now) (asked (c .before .before .before .before .before .before .before .args .q)) (c .before .before .before .before .before .before .before .args .text .now) (c .before .before .before .before .before .before .before .args .place) (c .before .before .before .early .ensures) (c .before .if1 .taken) (ap (λ (x : Listed). outcome x (c .before .before .before .before .before .before .before .args .text .now)) (c .refused .ensures))
+returns c =
+    let at-early = c .before .before .before in let start = at-early .before .before .before .before in
+    page-stopped (start .args .model .now) (start .args .horizon) (start .args .nodes .now) (start .args .stages .now) (asked (start .args .q)) (start .args .text .now) (start .args .place) (at-early .early .ensures) (c .before .if1 .taken) (ap (λ (x : Listed). outcome x (start .args .text .now)) (c .refused .ensures))
 
 site-requires : tie.Need-site-requires
 site-requires c κs = search needs

@@ -19,14 +19,16 @@ slice-aggregate-put-line-2 c = search needs
 
 put-line-requires : tie.Need-put-line-requires
 put-line-requires c κs =
-    omega (arith, (c .before .before .before .before .before) .pre, ap length (first-is ((c .before .before .before .before .before) .args .site) ((c .before .before .before .before .before) .args .horizon) (c .before .before .before .first-numbers .ensures)))
+    let at-first-numbers = c .before .before .before in let start = at-first-numbers .before .before in
+    omega (arith, start .pre, ap length (first-is (start .args .site) (start .args .horizon) (at-first-numbers .first-numbers .ensures)))
 
 same-length : tie.Need-same-length
 same-length c = search needs
 
 returns : tie.Need-returns
 returns c =
-    rename (first-is ((c .before .before .before .before .before .before .before .before) .args .site) ((c .before .before .before .before .before .before .before .before) .args .horizon) (c .before .before .before .before .before .before .first-numbers .ensures)) (c .before .before .put-line .ensures)
+    let at-first-numbers = c .before .before .before .before .before .before in let start = at-first-numbers .before .before in
+    rename (first-is (start .args .site) (start .args .horizon) (at-first-numbers .first-numbers .ensures)) (c .before .before .put-line .ensures)
 
 pub first-line-spec : {M : Type 1} → statement M
 first-line-spec =

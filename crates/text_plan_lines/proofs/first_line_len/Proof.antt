@@ -21,7 +21,8 @@ line-len-requires c κs = search needs
 
 returns : tie.Need-returns
 returns c =
-    (c .line-len .ensures .0 ∙ ap length (first-is ((c .before .before .before .before) .args .site) ((c .before .before .before .before) .args .horizon) (c .before .before .before .first-numbers .ensures)), omega (arith, c .line-len .ensures .1, ap length (c .before .before .before .first-numbers .ensures)))
+    let at-first-numbers = c .before .before .before in let start = at-first-numbers .before in
+    (c .line-len .ensures .0 ∙ ap length (first-is (start .args .site) (start .args .horizon) (at-first-numbers .first-numbers .ensures)), omega (arith, c .line-len .ensures .1, ap length (at-first-numbers .first-numbers .ensures)))
 
 pub first-line-len-spec : {M : Type 1} → statement M
 first-line-len-spec =

@@ -14,24 +14,27 @@ slice-aggregate-put-bytes c = search needs
 
 put-bytes-requires : tie.Need-put-bytes-requires
 put-bytes-requires c κs =
-    omega (arith, (c .before .before .before) .pre .1, node-length ((c .before .before .before) .args .nodes .now) ((c .before .before .before) .args .r) ((c .before .before .before) .pre .0))
+    let start = c .before .before .before in omega (arith, start .pre .1, node-length (start .args .nodes .now) (start .args .r) (start .pre .0))
 
 put-number-requires : tie.Need-put-number-requires
 put-number-requires c κs =
-    omega (arith, (c .before .before .before .before .before .before .before) .pre .1, node-length ((c .before .before .before .before .before .before .before) .args .nodes .now) ((c .before .before .before .before .before .before .before) .args .r) ((c .before .before .before .before .before .before .before) .pre .0), c .before .before .before .put-bytes .ensures .behind, c .before .before .before .put-bytes .kept .0)
+    let at-put-bytes = c .before .before .before in let start = at-put-bytes .before .before .before .before in
+    omega (arith, start .pre .1, node-length (start .args .nodes .now) (start .args .r) (start .pre .0), at-put-bytes .put-bytes .ensures .behind, at-put-bytes .put-bytes .kept .0)
 
 node-rest-requires : tie.Need-node-rest-requires
 node-rest-requires c κs =
-    let e = node-length ((c .before .before .before .before .before .before .before .before .before .before .before) .args .nodes .now) ((c .before .before .before .before .before .before .before .before .before .before .before) .args .r) ((c .before .before .before .before .before .before .before .before .before .before .before) .pre .0) in
-    ((c .before .before .before .before .before .before .before .before .before .before .before) .pre .0, omega (arith, (c .before .before .before .before .before .before .before .before .before .before .before) .pre .1, e, c .before .before .before .before .before .before .before .put-bytes .ensures .behind, c .before .before .before .before .before .before .before .put-bytes .kept .0, c .before .before .before .put-number .ensures .behind, c .before .before .before .put-number .kept .0))
+    let at-put-number = c .before .before .before in let at-put-bytes = at-put-number .before .before .before .before in let start = at-put-bytes .before .before .before .before in
+    let e = node-length (start .args .nodes .now) (start .args .r) (start .pre .0) in
+    (start .pre .0, omega (arith, start .pre .1, e, at-put-bytes .put-bytes .ensures .behind, at-put-bytes .put-bytes .kept .0, at-put-number .put-number .ensures .behind, at-put-number .put-number .kept .0))
 
 same-length : tie.Need-same-length
 same-length c = search needs
 
 returns : tie.Need-returns
 returns c =
-    let h : 0 ≤ length ((c .before .before .before .before .before .before .before .before .before .before .before .before .before .before) .args .out .now) = omega arith in
-    rename (sym (node-is ((c .before .before .before .before .before .before .before .before .before .before .before .before .before .before) .args .nodes .now) ((c .before .before .before .before .before .before .before .before .before .before .before .before .before .before) .args .r) ((c .before .before .before .before .before .before .before .before .before .before .before .before .before .before) .pre .0))) (then h (then h (c .before .before .before .before .before .before .before .before .before .before .put-bytes .ensures) (c .before .before .before .before .before .before .put-number .ensures)) (c .before .before .node-rest .ensures))
+    let at-put-number = c .before .before .before .before .before .before in let at-put-bytes = at-put-number .before .before .before .before in
+    let start = at-put-bytes .before .before .before .before in let h : 0 ≤ length (start .args .out .now) = omega arith in
+    rename (sym (node-is (start .args .nodes .now) (start .args .r) (start .pre .0))) (then h (then h (at-put-bytes .put-bytes .ensures) (at-put-number .put-number .ensures)) (c .before .before .node-rest .ensures))
 
 pub node-line-spec : {M : Type 1} → statement M
 node-line-spec =

@@ -22,15 +22,19 @@ slice-aggregate-put-words-line-2 c = search needs
 
 put-words-line-requires : tie.Need-put-words-line-requires
 put-words-line-requires c κs =
-    let e = rest-condition (c .before .before .before .before .before .before .before .args .nodes .now) (c .before .before .before .before .before .before .before .args .r) (c .before .before .before .before .before .magnitude .result) (c .before .before .before .before .before .magnitude .ensures) (c .before .before .before .before .if1 .taken) (c .before .before .before .condition-numbers .ensures) in
-    omega (arith, c .before .before .before .before .before .before .before .pre .1, ap length e)
+    let at-condition-numbers = c .before .before .before in let at-if1 = at-condition-numbers .before in let at-magnitude = at-if1 .before in
+    let start = at-magnitude .before .before in
+    let e = rest-condition (start .args .nodes .now) (start .args .r) (at-magnitude .magnitude .result) (at-magnitude .magnitude .ensures) (at-if1 .if1 .taken) (at-condition-numbers .condition-numbers .ensures) in
+    omega (arith, start .pre .1, ap length e)
 
 same-length : tie.Need-same-length
 same-length c = search needs
 
 returns : tie.Need-returns
 returns c =
-    let e = rest-condition (c .before .before .before .before .before .before .before .before .before .before .args .nodes .now) (c .before .before .before .before .before .before .before .before .before .before .args .r) (c .before .before .before .before .before .before .before .before .magnitude .result) (c .before .before .before .before .before .before .before .before .magnitude .ensures) (c .before .before .before .before .before .before .before .if1 .taken) (c .before .before .before .before .before .before .condition-numbers .ensures) in
+    let at-condition-numbers = c .before .before .before .before .before .before in let at-if1 = at-condition-numbers .before in let at-magnitude = at-if1 .before in
+    let start = at-magnitude .before .before in
+    let e = rest-condition (start .args .nodes .now) (start .args .r) (at-magnitude .magnitude .result) (at-magnitude .magnitude .ensures) (at-if1 .if1 .taken) (at-condition-numbers .condition-numbers .ensures) in
     rename e (c .before .before .put-words-line .ensures)
 
 slice-aggregate-put-bytes : tie.Need-slice-aggregate-put-bytes
@@ -38,15 +42,17 @@ slice-aggregate-put-bytes c = search needs
 
 put-bytes-requires : tie.Need-put-bytes-requires
 put-bytes-requires c κs =
-    let e = rest-none (c .before .before .before .before .before .before .args .nodes .now) (c .before .before .before .before .before .before .args .r) (c .before .before .before .before .magnitude .result) (c .before .before .before .before .magnitude .ensures) (c .before .before .before .if1 .left) (c .before .before .if2 .taken) in
-    omega (arith, c .before .before .before .before .before .before .pre .1, ap length e)
+    let at-if1 = c .before .before .before in let at-magnitude = at-if1 .before in let start = at-magnitude .before .before in
+    let e = rest-none (start .args .nodes .now) (start .args .r) (at-magnitude .magnitude .result) (at-magnitude .magnitude .ensures) (at-if1 .if1 .left) (c .before .before .if2 .taken) in
+    omega (arith, start .pre .1, ap length e)
 
 same-length-2 : tie.Need-same-length-2
 same-length-2 c = search needs
 
 returns-2 : tie.Need-returns-2
 returns-2 c =
-    let e = rest-none (c .before .before .before .before .before .before .before .before .before .args .nodes .now) (c .before .before .before .before .before .before .before .before .before .args .r) (c .before .before .before .before .before .before .before .magnitude .result) (c .before .before .before .before .before .before .before .magnitude .ensures) (c .before .before .before .before .before .before .if1 .left) (c .before .before .before .before .before .if2 .taken) in
+    let at-if2 = c .before .before .before .before .before in let at-if1 = at-if2 .before in let at-magnitude = at-if1 .before in let start = at-magnitude .before .before in
+    let e = rest-none (start .args .nodes .now) (start .args .r) (at-magnitude .magnitude .result) (at-magnitude .magnitude .ensures) (at-if1 .if1 .left) (at-if2 .if2 .taken) in
     rename e (c .before .before .put-bytes .ensures)
 
 sub-first : tie.Need-sub-first
@@ -78,15 +84,17 @@ part-put-words-line-end c = search needs
 
 put-words-line-requires-2 : tie.Need-put-words-line-requires-2
 put-words-line-requires-2 c κs =
-    let e = rest-leaf (c .before .before .before .before .before .before .before .before .args .nodes .now) (c .before .before .before .before .before .before .before .before .args .r) (c .before .before .before .before .before .before .magnitude .result) (c .before .before .before .before .before .before .magnitude .ensures) (c .before .before .before .if3 .taken) in
-    omega (arith, c .before .before .before .before .before .before .before .before .pre .1, ap length e)
+    let at-if3 = c .before .before .before in let at-magnitude = at-if3 .before .before .before in let start = at-magnitude .before .before in
+    let e = rest-leaf (start .args .nodes .now) (start .args .r) (at-magnitude .magnitude .result) (at-magnitude .magnitude .ensures) (at-if3 .if3 .taken) in
+    omega (arith, start .pre .1, ap length e)
 
 same-length-3 : tie.Need-same-length-3
 same-length-3 c = search needs
 
 returns-3 : tie.Need-returns-3
 returns-3 c =
-    let e = rest-leaf (c .before .before .before .before .before .before .before .before .before .before .before .args .nodes .now) (c .before .before .before .before .before .before .before .before .before .before .before .args .r) (c .before .before .before .before .before .before .before .before .before .magnitude .result) (c .before .before .before .before .before .before .before .before .before .magnitude .ensures) (c .before .before .before .before .before .before .if3 .taken) in
+    let at-if3 = c .before .before .before .before .before .before in let at-magnitude = at-if3 .before .before .before in let start = at-magnitude .before .before in
+    let e = rest-leaf (start .args .nodes .now) (start .args .r) (at-magnitude .magnitude .result) (at-magnitude .magnitude .ensures) (at-if3 .if3 .taken) in
     rename e (c .before .before .put-words-line2 .ensures)
 
 add-end-2 : tie.Need-add-end-2
@@ -109,15 +117,19 @@ part-put-words-line-end-2 c = search needs
 
 put-words-line-requires-3 : tie.Need-put-words-line-requires-3
 put-words-line-requires-3 c κs =
-    let e = rest-test (c .before .before .before .before .before .before .before .before .args .nodes .now) (c .before .before .before .before .before .before .before .before .args .r) (c .before .before .before .before .before .before .magnitude .result) (c .before .before .before .before .before .before .magnitude .ensures) (c .before .before .before .before .before .if1 .left) (c .before .before .before .before .if2 .left) (c .before .before .before .if3 .left) in
-    omega (arith, c .before .before .before .before .before .before .before .before .pre .1, ap length e)
+    let at-if3 = c .before .before .before in let at-if2 = at-if3 .before in let at-if1 = at-if2 .before in let at-magnitude = at-if1 .before in
+    let start = at-magnitude .before .before in
+    let e = rest-test (start .args .nodes .now) (start .args .r) (at-magnitude .magnitude .result) (at-magnitude .magnitude .ensures) (at-if1 .if1 .left) (at-if2 .if2 .left) (at-if3 .if3 .left) in
+    omega (arith, start .pre .1, ap length e)
 
 same-length-4 : tie.Need-same-length-4
 same-length-4 c = search needs
 
 returns-4 : tie.Need-returns-4
 returns-4 c =
-    let e = rest-test (c .before .before .before .before .before .before .before .before .before .before .before .args .nodes .now) (c .before .before .before .before .before .before .before .before .before .before .before .args .r) (c .before .before .before .before .before .before .before .before .before .magnitude .result) (c .before .before .before .before .before .before .before .before .before .magnitude .ensures) (c .before .before .before .before .before .before .before .before .if1 .left) (c .before .before .before .before .before .before .before .if2 .left) (c .before .before .before .before .before .before .if3 .left) in
+    let at-if3 = c .before .before .before .before .before .before in let at-if2 = at-if3 .before in let at-if1 = at-if2 .before in let at-magnitude = at-if1 .before in
+    let start = at-magnitude .before .before in
+    let e = rest-test (start .args .nodes .now) (start .args .r) (at-magnitude .magnitude .result) (at-magnitude .magnitude .ensures) (at-if1 .if1 .left) (at-if2 .if2 .left) (at-if3 .if3 .left) in
     rename e (c .before .before .put-words-line3 .ensures)
 
 pub node-rest-spec : {M : Type 1} → statement M

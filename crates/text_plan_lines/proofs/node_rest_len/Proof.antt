@@ -26,12 +26,14 @@ words-line-len-requires c κs = search needs
 
 returns : tie.Need-returns
 returns c =
-    let e = rest-condition (c .before .before .before .before .before .before .args .nodes .now) (c .before .before .before .before .before .before .args .r) (c .before .before .before .before .before .magnitude .result) (c .before .before .before .before .before .magnitude .ensures) (c .before .before .before .before .if1 .taken) (c .before .before .before .condition-numbers .ensures) in
-    (c .words-line-len .ensures .0 ∙ ap length e, omega (arith, c .words-line-len .ensures .1, ap length (c .before .before .before .condition-numbers .ensures)))
+    let at-condition-numbers = c .before .before .before in let at-if1 = at-condition-numbers .before in let at-magnitude = at-if1 .before in let start = at-magnitude .before in
+    let e = rest-condition (start .args .nodes .now) (start .args .r) (at-magnitude .magnitude .result) (at-magnitude .magnitude .ensures) (at-if1 .if1 .taken) (at-condition-numbers .condition-numbers .ensures) in
+    (c .words-line-len .ensures .0 ∙ ap length e, omega (arith, c .words-line-len .ensures .1, ap length (at-condition-numbers .condition-numbers .ensures)))
 
 returns-2 : tie.Need-returns-2
 returns-2 c =
-    let e = rest-none (c .before .before .before .args .nodes .now) (c .before .before .before .args .r) (c .before .before .magnitude .result) (c .before .before .magnitude .ensures) (c .before .if1 .left) (c .if2 .taken) in
+    let start = c .before .before .before in
+    let e = rest-none (start .args .nodes .now) (start .args .r) (c .before .before .magnitude .result) (c .before .before .magnitude .ensures) (c .before .if1 .left) (c .if2 .taken) in
     (ap length e, omega arith)
 
 sub-first : tie.Need-sub-first
@@ -66,8 +68,9 @@ words-line-len-requires-2 c κs = search needs
 
 returns-3 : tie.Need-returns-3
 returns-3 c =
-    let e = rest-leaf (c .before .before .before .before .before .before .before .args .nodes .now) (c .before .before .before .before .before .before .before .args .r) (c .before .before .before .before .before .before .magnitude .result) (c .before .before .before .before .before .before .magnitude .ensures) (c .before .before .before .if3 .taken) in
-    (c .words-line-len2 .ensures .0 ∙ ap length e, omega (arith, c .words-line-len2 .ensures .1, part-few (c .before .before .before .before .before .before .before .args .nodes .now) (from (c .before .before .before .before .before .before .before .args .r)) (levels-most + 2)))
+    let at-if3 = c .before .before .before in let at-magnitude = at-if3 .before .before .before in let start = at-magnitude .before in
+    let e = rest-leaf (start .args .nodes .now) (start .args .r) (at-magnitude .magnitude .result) (at-magnitude .magnitude .ensures) (at-if3 .if3 .taken) in
+    (c .words-line-len2 .ensures .0 ∙ ap length e, omega (arith, c .words-line-len2 .ensures .1, part-few (start .args .nodes .now) (from (start .args .r)) (levels-most + 2)))
 
 add-end-2 : tie.Need-add-end-2
 add-end-2 c = search needs
@@ -92,8 +95,9 @@ words-line-len-requires-3 c κs = search needs
 
 returns-4 : tie.Need-returns-4
 returns-4 c =
-    let e = rest-test (c .before .before .before .before .before .before .before .args .nodes .now) (c .before .before .before .before .before .before .before .args .r) (c .before .before .before .before .before .before .magnitude .result) (c .before .before .before .before .before .before .magnitude .ensures) (c .before .before .before .before .before .if1 .left) (c .before .before .before .before .if2 .left) (c .before .before .before .if3 .left) in
-    (c .words-line-len3 .ensures .0 ∙ ap length e, omega (arith, c .words-line-len3 .ensures .1, part-few (c .before .before .before .before .before .before .before .args .nodes .now) (from (c .before .before .before .before .before .before .before .args .r)) (levels-most + 3)))
+    let at-if3 = c .before .before .before in let at-if2 = at-if3 .before in let at-if1 = at-if2 .before in let at-magnitude = at-if1 .before in let start = at-magnitude .before in
+    let e = rest-test (start .args .nodes .now) (start .args .r) (at-magnitude .magnitude .result) (at-magnitude .magnitude .ensures) (at-if1 .if1 .left) (at-if2 .if2 .left) (at-if3 .if3 .left) in
+    (c .words-line-len3 .ensures .0 ∙ ap length e, omega (arith, c .words-line-len3 .ensures .1, part-few (start .args .nodes .now) (from (start .args .r)) (levels-most + 3)))
 
 pub node-rest-len-spec : {M : Type 1} → statement M
 node-rest-len-spec =

@@ -16,14 +16,15 @@ slice-aggregate-put-line-2 c = search needs
 
 put-line-requires : tie.Need-put-line-requires
 put-line-requires c κs =
-    omega (arith, (c .before .before .before .before) .pre, ap length (refusal-is ((c .before .before .before .before) .args .number) ((c .before .before .before .before) .args .place)))
+    let start = c .before .before .before .before in omega (arith, start .pre, ap length (refusal-is (start .args .number) (start .args .place)))
 
 same-length : tie.Need-same-length
 same-length c = search needs
 
 returns : tie.Need-returns
 returns c =
-    rename (refusal-is ((c .before .before .before .before .before .before .before) .args .number) ((c .before .before .before .before .before .before .before) .args .place)) (c .before .before .put-line .ensures)
+    let start = c .before .before .before .before .before .before .before in
+    rename (refusal-is (start .args .number) (start .args .place)) (c .before .before .put-line .ensures)
 
 pub refusal-line-spec : {M : Type 1} → statement M
 refusal-line-spec =

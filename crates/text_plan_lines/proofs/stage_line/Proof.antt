@@ -19,14 +19,16 @@ slice-aggregate-put-line-2 c = search needs
 
 put-line-requires : tie.Need-put-line-requires
 put-line-requires c κs =
-    omega (arith, (c .before .before .before .before .before .before) .pre .2, ap length (stage-is ((c .before .before .before .before .before .before) .args .stages .now) ((c .before .before .before .before .before .before) .args .h) (c .before .before .before .stage-numbers .ensures)))
+    let at-stage-numbers = c .before .before .before in let start = at-stage-numbers .before .before .before in
+    omega (arith, start .pre .2, ap length (stage-is (start .args .stages .now) (start .args .h) (at-stage-numbers .stage-numbers .ensures)))
 
 same-length : tie.Need-same-length
 same-length c = search needs
 
 returns : tie.Need-returns
 returns c =
-    rename (stage-is ((c .before .before .before .before .before .before .before .before .before) .args .stages .now) ((c .before .before .before .before .before .before .before .before .before) .args .h) (c .before .before .before .before .before .before .stage-numbers .ensures)) (c .before .before .put-line .ensures)
+    let at-stage-numbers = c .before .before .before .before .before .before in let start = at-stage-numbers .before .before .before in
+    rename (stage-is (start .args .stages .now) (start .args .h) (at-stage-numbers .stage-numbers .ensures)) (c .before .before .put-line .ensures)
 
 pub stage-line-spec : {M : Type 1} → statement M
 stage-line-spec =

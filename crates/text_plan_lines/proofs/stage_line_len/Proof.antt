@@ -21,7 +21,8 @@ line-len-requires c κs = search needs
 
 returns : tie.Need-returns
 returns c =
-    (c .line-len .ensures .0 ∙ ap length (stage-is ((c .before .before .before .before .before) .args .stages .now) ((c .before .before .before .before .before) .args .h) (c .before .before .before .stage-numbers .ensures)), omega (arith, c .line-len .ensures .1, ap length (c .before .before .before .stage-numbers .ensures)))
+    let at-stage-numbers = c .before .before .before in let start = at-stage-numbers .before .before in
+    (c .line-len .ensures .0 ∙ ap length (stage-is (start .args .stages .now) (start .args .h) (at-stage-numbers .stage-numbers .ensures)), omega (arith, c .line-len .ensures .1, ap length (at-stage-numbers .stage-numbers .ensures)))
 
 pub stage-line-len-spec : {M : Type 1} → statement M
 stage-line-len-spec =

@@ -18,8 +18,9 @@ same-length c = search needs
 
 returns : tie.Need-returns
 returns c =
+    let at-horizon = c .before .before .before .before in let at-model = at-horizon .before in let start = at-model .before .before .before in
     let p = c .before .before .plan in
-    (p .ensures .0, given (c .before .before .before .before .before .before .before .before .args .input .now) (c .before .before .before .before .before .model .ensures) (c .before .before .before .before .horizon .ensures) (p .ensures .1))
+    (p .ensures .0, given (start .args .input .now) (at-model .model .ensures) (at-horizon .horizon .ensures) (p .ensures .1))
 
 pub answer-spec : {M : Type 1} → statement M
 answer-spec =

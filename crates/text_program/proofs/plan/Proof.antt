@@ -17,9 +17,9 @@ same-length c = search needs
 
 returns : tie.Need-returns
 returns c =
-    let s = c .before .before .before .before .before .before .before .before in
+    let at-if1 = c .before .before .before .before in let at-too-long = at-if1 .before in let place = at-too-long .before .before .before in let s = place in
     let r = c .before .before .refusal .ensures in
-    (omega (arith, r .0, s .pre), longer (s .args .model .now) (s .args .horizon) (sym (c .before .before .before .before .before .too-long .ensures) ∙ c .before .before .before .before .if1 .taken) (r .1))
+    (omega (arith, r .0, s .pre), longer (s .args .model .now) (s .args .horizon) (sym (at-too-long .too-long .ensures) ∙ at-if1 .if1 .taken) (r .1))
 
 tabled-requires : tie.Need-tabled-requires
 tabled-requires c κs = search needs
@@ -29,9 +29,9 @@ same-length-2 c = search needs
 
 returns-2 : tie.Need-returns-2
 returns-2 c =
-    let s = c .before .before .before .before .before .before .before .before in
+    let at-if1 = c .before .before .before .before in let at-too-long = at-if1 .before in let place = at-too-long .before .before .before in let s = place in
     let r = c .before .before .tabled .ensures in
-    (r .0, no-longer (s .args .model .now) (s .args .horizon) (sym (c .before .before .before .before .before .too-long .ensures) ∙ c .before .before .before .before .if1 .left) (r .1))
+    (r .0, no-longer (s .args .model .now) (s .args .horizon) (sym (at-too-long .too-long .ensures) ∙ at-if1 .if1 .left) (r .1))
 
 pub plan-spec : {M : Type 1} → statement M
 plan-spec =

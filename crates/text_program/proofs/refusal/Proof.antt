@@ -14,7 +14,8 @@ same-length c = search needs
 
 returns : tie.Need-returns
 returns c =
-    put-front (c .before .before .refusal-line .ensures) (refusal-short (c .before .before .before .before .before .args .number) (c .before .before .before .before .before .args .place) (length (c .before .before .before .before .before .args .text .now)) (c .before .before .before .before .before .pre))
+    let start = c .before .before .before .before .before in
+    put-front (c .before .before .refusal-line .ensures) (refusal-short (start .args .number) (start .args .place) (length (start .args .text .now)) (start .pre))
 
 pub refusal-spec : {M : Type 1} → statement M
 refusal-spec = tie.close (tie.spec refusal-line-requires same-length returns)

@@ -47,7 +47,8 @@ value-after-requires c κs = search needs
 
 returns-2 : tie.Need-returns-2
 returns-2 c =
-    read-early _ _ _ _ _ (c .before .before .before .before .before .before .before .before .early .ensures) (c .before .before .before .before .before .before .if1 .left) (c .before .before .before .before .before .site .ensures) refl (c .value-after .ensures)
+    let at-site = c .before .before .before .before .before in let at-if1 = at-site .before in let at-early = at-if1 .before .before in
+    read-early _ _ _ _ _ (at-early .early .ensures) (at-if1 .if1 .left) (at-site .site .ensures) refl (c .value-after .ensures)
 
 pub value-spec : {M : Type 1} → statement M
 value-spec =

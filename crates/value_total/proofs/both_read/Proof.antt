@@ -36,13 +36,17 @@ cast-total-2 : tie.Need-cast-total-2
 cast-total-2 c = search needs
 
 mul-total : tie.Need-mul-total
-mul-total c = omega (arith, mul-le-mul {n₁ = c .before .before .before .before .before .before .args .r .conditions} {m₁ = c .before .before .before .before .before .before .args .steps} {n₂ = 255} {m₂ = steps-most} (omega arith) (c .before .before .before .before .before .before .pre .1))
+mul-total c =
+    let start = c .before .before .before .before .before .before in
+    omega (arith, mul-le-mul {n₁ = start .args .r .conditions} {m₁ = start .args .steps} {n₂ = 255} {m₂ = steps-most} (omega arith) (start .pre .1))
 
 cast-total-3 : tie.Need-cast-total-3
 cast-total-3 c = search needs
 
 mul-total-2 : tie.Need-mul-total-2
-mul-total-2 c = omega (arith, mul-le-mul {n₁ = c .before .before .before .before .before .before .before .args .s .conditions} {m₁ = c .before .before .before .before .before .before .before .args .steps} {n₂ = 255} {m₂ = steps-most} (omega arith) (c .before .before .before .before .before .before .before .pre .1))
+mul-total-2 c =
+    let start = c .before .before .before .before .before .before .before in
+    omega (arith, mul-le-mul {n₁ = start .args .s .conditions} {m₁ = start .args .steps} {n₂ = 255} {m₂ = steps-most} (omega arith) (start .pre .1))
 
 total-requires : tie.Need-total-requires
 total-requires c κs = search needs
@@ -59,14 +63,16 @@ refused-requires-3 c κs = search needs
 returns-3 : tie.Need-returns-3
 unfolding crosswise
 returns-3 c =
-    let a = c .before .before .before .before .before .before .before .before .before .before .before .args in
-    outside-is (crosswise (site-as (a .s)) (site-as (a .r)) (a .steps) (number (a .v .numerator)) (number (a .w .numerator))) (a .v .action) (a .w .action) (c .before .before .before .total .ensures) (c .before .enum-told .given .1) (c .refused3 .ensures) ∙ sym (both-some (site-as (a .s)) (site-as (a .r)) (a .steps) (out (a .v)) (out (a .w)) (c .before .before .before .before .before .before .before .before .before .if1 .left) (c .before .before .before .before .before .before .before .if2 .left))
+    let at-total = c .before .before .before in let at-if2 = at-total .before .before .before .before in let at-if1 = at-if2 .before .before in
+    let start = at-if1 .before .before in let a = start .args in
+    outside-is (crosswise (site-as (a .s)) (site-as (a .r)) (a .steps) (number (a .v .numerator)) (number (a .w .numerator))) (a .v .action) (a .w .action) (at-total .total .ensures) (c .before .enum-told .given .1) (c .refused3 .ensures) ∙ sym (both-some (site-as (a .s)) (site-as (a .r)) (a .steps) (out (a .v)) (out (a .w)) (at-if1 .if1 .left) (at-if2 .if2 .left))
 
 returns-4 : tie.Need-returns-4
 unfolding crosswise
 returns-4 c =
-    let a = c .before .before .before .before .before .before .before .before .before .before .before .args in
-    inside-is (crosswise (site-as (a .s)) (site-as (a .r)) (a .steps) (number (a .v .numerator)) (number (a .w .numerator))) (a .v .action) (a .w .action) (c .before .before .before .total .ensures) (c .before .x .given .1) ∙ sym (both-some (site-as (a .s)) (site-as (a .r)) (a .steps) (out (a .v)) (out (a .w)) (c .before .before .before .before .before .before .before .before .before .if1 .left) (c .before .before .before .before .before .before .before .if2 .left))
+    let at-total = c .before .before .before in let at-if2 = at-total .before .before .before .before in let at-if1 = at-if2 .before .before in
+    let start = at-if1 .before .before in let a = start .args in
+    inside-is (crosswise (site-as (a .s)) (site-as (a .r)) (a .steps) (number (a .v .numerator)) (number (a .w .numerator))) (a .v .action) (a .w .action) (at-total .total .ensures) (c .before .x .given .1) ∙ sym (both-some (site-as (a .s)) (site-as (a .r)) (a .steps) (out (a .v)) (out (a .w)) (at-if1 .if1 .left) (at-if2 .if2 .left))
 
 pub both-read-spec : {M : Type 1} → statement M
 both-read-spec =

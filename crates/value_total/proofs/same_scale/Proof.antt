@@ -14,13 +14,13 @@ array-copy-out-e c = search needs
 
 returns : tie.Need-returns
 returns c =
-    let a = c .before .before .before .before .before .before .before .args in
+    let start = c .before .before .before .before .before .before .before in let a = start .args in
     other-weights (site-as (a .s)) (site-as (a .r)) (asked (a .q)) (asked (a .p)) (c .if1 .taken)
 
 returns-2 : tie.Need-returns-2
 returns-2 c =
-    let a = c .before .before .before .before .before .before .before .args in
-    by-dens (site-as (a .s)) (site-as (a .r)) (asked (a .q)) (asked (a .p)) (c .if1 .left) (record { sfits = c .before .before .before .before .d .given }) (record { sfits = c .before .before .before .e .given })
+    let at-e = c .before .before .before in let at-d = at-e .before in let start = at-d .before .before .before in let a = start .args in
+    by-dens (site-as (a .s)) (site-as (a .r)) (asked (a .q)) (asked (a .p)) (c .if1 .left) (record { sfits = at-d .d .given }) (record { sfits = at-e .e .given })
 
 pub same-scale-spec : {M : Type 1} → statement M
 same-scale-spec = tie.close (tie.spec array-copy-out-d array-copy-out-e returns returns-2)

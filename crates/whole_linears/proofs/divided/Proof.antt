@@ -60,7 +60,8 @@ loop-less c =
 
 loop-again : tie.Need-loop-again Inv-loop μ-loop
 loop-again c =
-    one-filled (c .before .before .before .loop .inv) (c .before .before .loop-test .taken) (part-is _ (c .before .before .before .before .before .before .pre) (c .before .before .before .loop .i) _ (c .before .before .before .before .before .divisor .ensures) (c .quot .ensures))
+    let at-loop = c .before .before .before in let at-divisor = at-loop .before .before in let start = at-divisor .before in
+    one-filled (at-loop .loop .inv) (c .before .before .loop-test .taken) (part-is _ (start .pre) (at-loop .loop .i) _ (at-divisor .divisor .ensures) (c .quot .ensures))
 
 returns-2 : tie.Need-returns-2 Inv-loop μ-loop
 returns-2 c =

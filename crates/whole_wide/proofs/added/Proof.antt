@@ -26,7 +26,8 @@ returns-3 : tie.Need-returns-3
 returns-3 c = λ z v h k _. (c .added-alike .ensures) z v h k
 
 returns-4 : tie.Need-returns-4
-returns-4 c = added-turned (c .before .before .before .before .before .args .x) (c .before .before .before .before .before .args .y) (c .added-across .result) (c .added-across .ensures)
+returns-4 c =
+    let start = c .before .before .before .before .before in added-turned (start .args .x) (start .args .y) (c .added-across .result) (c .added-across .ensures)
 
 returns-5 : tie.Need-returns-5
 returns-5 c = λ z v h k _. (c .added-across2 .ensures) z v h k

@@ -16,8 +16,8 @@ sum-requires c κs = search needs
 
 returns : tie.Need-returns
 returns c =
-    let a = c .before .before .before .before .before .args in
-    let r = c .before .before .before .before .before .pre in
+    let start = c .before .before .before .before .before in let a = start .args in
+    let r = start .pre in
     across-above (a .x) (a .y) (c .before .before .sum .result) (r .0) (r .1) (r .2) (r .3) (omega arith) (omega arith) (omega arith) (omega arith) (omega arith) (omega arith) (c .before .before .sum .ensures) (c .if1 .taken)
 
 sub-t4 : tie.Need-sub-t4
@@ -28,9 +28,9 @@ sub-t5 c = search needs
 
 returns-2 : tie.Need-returns-2
 returns-2 c =
-    let a = c .before .before .before .before .before .before .before .args in
-    let r = c .before .before .before .before .before .before .before .pre in
-    across-below (a .x) (a .y) (c .before .before .before .before .sum .result) (r .0) (r .1) (r .2) (r .3) (omega arith) (omega arith) (omega arith) (omega arith) (omega arith) (omega arith) (c .before .before .before .before .sum .ensures) (c .before .before .if1 .left)
+    let at-sum = c .before .before .before .before in let start = at-sum .before .before .before in let a = start .args in
+    let r = start .pre in
+    across-below (a .x) (a .y) (at-sum .sum .result) (r .0) (r .1) (r .2) (r .3) (omega arith) (omega arith) (omega arith) (omega arith) (omega arith) (omega arith) (at-sum .sum .ensures) (c .before .before .if1 .left)
 
 pub added-across-spec : {M : Type 1} → statement M
 added-across-spec =

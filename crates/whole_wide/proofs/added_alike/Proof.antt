@@ -12,8 +12,8 @@ sum-requires c κs = search needs
 
 returns : tie.Need-returns
 returns c =
-    let a = c .before .before .before .args in
-    let r = c .before .before .before .pre in
+    let start = c .before .before .before in let a = start .args in
+    let r = start .pre in
     alike-holds (a .x) (a .y) (c .before .before .when-below .result) (c .before .sum .result) (r .0) (r .1) (r .2) (c .before .before .when-below .ensures) (c .before .sum .ensures)
 
 pub added-alike-spec : {M : Type 1} → statement M

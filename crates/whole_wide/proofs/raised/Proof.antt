@@ -25,7 +25,9 @@ loop-less : tie.Need-loop-less Inv-loop μ-loop
 loop-less c = omega arith
 
 loop-again : tie.Need-loop-again Inv-loop μ-loop
-loop-again c = (omega arith, scaled-more (c .before .before .before .args .x) (c .before .before .loop .y) (c .times .result) (c .before .before .before .args .w) (c .before .before .loop .i) (c .before .before .loop .inv .1) (c .times .ensures))
+loop-again c =
+    let start = c .before .before .before in
+    (omega arith, scaled-more (start .args .x) (c .before .before .loop .y) (c .times .result) (start .args .w) (c .before .before .loop .i) (c .before .before .loop .inv .1) (c .times .ensures))
 
 returns : tie.Need-returns Inv-loop μ-loop
 returns c = scaled-at (c .before .before .args .x) (c .before .loop .y) (c .before .before .args .w) (c .before .loop .i) (c .before .before .args .k) (omega arith) (c .before .loop .inv .1)

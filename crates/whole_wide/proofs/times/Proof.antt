@@ -18,8 +18,8 @@ product-requires c κs = search needs
 
 returns-2 : tie.Need-returns-2
 returns-2 c =
-    let a = c .before .before .before .before .args in
-    times-holds (a .x) (a .w) (c .before .before .when-below .result) (c .before .product .result) (c .before .before .before .before .pre) (c .before .before .before .if1 .left) (c .before .before .when-below .ensures) (c .before .product .ensures)
+    let at-if1 = c .before .before .before in let start = at-if1 .before in let a = start .args in
+    times-holds (a .x) (a .w) (c .before .before .when-below .result) (c .before .product .result) (start .pre) (at-if1 .if1 .left) (c .before .before .when-below .ensures) (c .before .product .ensures)
 
 pub times-spec : {M : Type 1} → statement M
 times-spec =

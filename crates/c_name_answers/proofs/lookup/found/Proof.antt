@@ -10,7 +10,7 @@ short-requires c κs = search needs
 
 returns : tie.Need-returns
 returns c =
-    find-short (found-as (c .before .before .before .args .v)) (c .before .before .before .args .out .now) (c .before .if1 .taken) (c .short .ensures)
+    let start = c .before .before .before in find-short (found-as (start .args .v)) (start .args .out .now) (c .before .if1 .taken) (c .short .ensures)
 
 cast-put-pair : tie.Need-cast-put-pair
 cast-put-pair c = search needs
@@ -23,7 +23,8 @@ same-length c = search needs
 
 returns-2 : tie.Need-returns-2
 returns-2 c =
-    find-whole (found-as (c .before .before .before .before .before .before .before .args .v)) (c .before .before .before .before .before .before .before .args .out .now) (c .before .before .before .before .before .if1 .left) (c .before .before .put-pair .ensures .0)
+    let at-if1 = c .before .before .before .before .before in let start = at-if1 .before .before in
+    find-whole (found-as (start .args .v)) (start .args .out .now) (at-if1 .if1 .left) (c .before .before .put-pair .ensures .0)
 
 pub found-spec : {M : Type 1} → statement M
 found-spec = tie.close (tie.spec short-requires returns cast-put-pair put-pair-requires same-length returns-2)

@@ -15,7 +15,8 @@ same-length c = search needs
 
 returns : tie.Need-returns
 returns c =
-    named-put (c .before .before .before .before .before .before .before .before .before .before .args .place) (c .before .before .before .before .before .before .before .before .before .before .args .name .now) (c .before .before .before .before .before .before .put-pair .ensures .0) (c .before .before .put-padded .ensures)
+    let at-put-pair = c .before .before .before .before .before .before in let start = at-put-pair .before .before .before .before in
+    named-put (start .args .place) (start .args .name .now) (at-put-pair .put-pair .ensures .0) (c .before .before .put-padded .ensures)
 
 pub put-name-spec : {M : Type 1} → statement M
 put-name-spec = tie.close (tie.spec put-pair-requires put-padded-requires same-length returns)

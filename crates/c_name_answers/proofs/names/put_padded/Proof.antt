@@ -21,8 +21,9 @@ same-length c = search needs
 
 returns : tie.Need-returns
 returns c =
-    let h : c .before .before .before .before .before .before .before .before .before .before .args .at ≤ length (c .before .before .before .before .before .before .before .before .before .before .args .out .now) = omega (arith, c .before .before .before .before .before .before .before .before .before .before .pre) in
-    padded-put (c .before .before .before .before .before .before .before .before .before .before .args .name .now) h (c .before .before .before .before .before .before .put-bytes .ensures) (c .before .before .put-le .ensures)
+    let at-put-bytes = c .before .before .before .before .before .before in let start = at-put-bytes .before .before .before .before in
+    let h : start .args .at ≤ length (start .args .out .now) = omega (arith, start .pre) in
+    padded-put (start .args .name .now) h (at-put-bytes .put-bytes .ensures) (c .before .before .put-le .ensures)
 
 pub put-padded-spec : {M : Type 1} → statement M
 put-padded-spec =

@@ -8,7 +8,8 @@ test-of-requires c κs = search needs
 
 choose-requires : tie.Need-choose-requires
 choose-requires c κs =
-    (c .before .before .before .before .before .pre .0, c .before .before .before .test-of .ensures (c .before .before .if1 .taken), c .before .before .before .before .before .pre .1, c .before .before .before .before .before .pre .2)
+    let at-test-of = c .before .before .before in let start = at-test-of .before .before in
+    (start .pre .0, at-test-of .test-of .ensures (c .before .before .if1 .taken), start .pre .1, start .pre .2)
 
 same-length : tie.Need-same-length
 same-length c = search needs

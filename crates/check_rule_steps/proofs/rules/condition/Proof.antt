@@ -17,15 +17,16 @@ unknown-requires-2 : tie.Need-unknown-requires-2
 unknown-requires-2 c κs = search needs
 
 returns-2 : tie.Need-returns-2
-returns-2 c = same (c .unknown2 .ensures) (c .before .before .before .before .before .before .pre .0)
+returns-2 c =
+    let start = c .before .before .before .before .before .before in same (c .unknown2 .ensures) (start .pre .0)
 
 condition-requires : tie.Need-condition-requires
 condition-requires c κs = search needs
 
 join-test-requires : tie.Need-join-test-requires
 join-test-requires c κs =
-    let h = c .before .before .before .before .before .before .before .before .pre in
-    (h .0 .bare, proper-condition (c .before .before .before .before .before .mag .result) (search needs) (search needs) (c .before .before .condition .ensures), h .1, h .2)
+    let at-mag = c .before .before .before .before .before in let start = at-mag .before .before .before in let h = start .pre in
+    (h .0 .bare, proper-condition (at-mag .mag .result) (search needs) (search needs) (c .before .before .condition .ensures), h .1, h .2)
 
 same-length : tie.Need-same-length
 same-length c = search needs
@@ -34,7 +35,9 @@ same-length-2 : tie.Need-same-length-2
 same-length-2 c = search needs
 
 returns-3 : tie.Need-returns-3
-returns-3 c = grew (c .before .before .before .before .before .before .before .before .before .before .before .before .pre .0) (c .before .before .before .join-test .ensures)
+returns-3 c =
+    let at-join-test = c .before .before .before in let start = at-join-test .before .before .before .before .before .before .before .before .before in
+    grew (start .pre .0) (at-join-test .join-test .ensures)
 
 pub condition-spec : {M : Type 1} → statement M
 condition-spec =

@@ -19,7 +19,9 @@ same-length-2 : tie.Need-same-length-2
 same-length-2 c = search needs
 
 returns : tie.Need-returns
-returns c = grew (c .before .before .before .before .before .before .before .pre) (c .before .before .before .make-leaf .ensures)
+returns c =
+    let at-make-leaf = c .before .before .before in let start = at-make-leaf .before .before .before .before in
+    grew (start .pre) (at-make-leaf .make-leaf .ensures)
 
 pub leaf-spec : {M : Type 1} → statement M
 leaf-spec = tie.close (tie.spec array-set-from-n array-set-from-n-2 make-leaf-requires same-length same-length-2 returns)

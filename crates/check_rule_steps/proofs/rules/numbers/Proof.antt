@@ -16,7 +16,8 @@ high-half-requires c κs = search needs
 
 returns : tie.Need-returns
 returns c =
-    λ _. scales (c .before .before .before .before .pre .0) (c .before .before .if1 .taken) (scale-acts (c .before .before .before .before .args .c) (c .before .before .before .before .fits .c) (c .before .low-half .ensures) (c .high-half .ensures))
+    let start = c .before .before .before .before in
+    λ _. scales (start .pre .0) (c .before .before .if1 .taken) (scale-acts (start .args .c) (start .fits .c) (c .before .low-half .ensures) (c .high-half .ensures))
 
 none-requires : tie.Need-none-requires
 none-requires c κs = search needs
@@ -33,7 +34,8 @@ high-half-requires-2 c κs = search needs
 
 returns-3 : tie.Need-returns-3
 returns-3 c =
-    λ _. shifts (c .before .before .before .before .if1 .left) (c .before .before .before .if2 .taken) (shift-acts (c .before .before .before .before .before .before .args .c) (c .before .before .before .before .before .before .fits .c) (c .before .low-half2 .ensures) (c .high-half2 .ensures) (small-back (c .before .before .before .before .before .before .args .c) (c .before .before .before .before .before .before .fits .c) (search needs)))
+    let at-if2 = c .before .before .before in let at-if1 = at-if2 .before in let start = at-if1 .before .before in
+    λ _. shifts (at-if1 .if1 .left) (at-if2 .if2 .taken) (shift-acts (start .args .c) (start .fits .c) (c .before .low-half2 .ensures) (c .high-half2 .ensures) (small-back (start .args .c) (start .fits .c) (search needs)))
 
 none-requires-2 : tie.Need-none-requires-2
 none-requires-2 c κs = search needs

@@ -20,7 +20,8 @@ unknown-requires : tie.Need-unknown-requires
 unknown-requires c κs = search needs
 
 returns-2 : tie.Need-returns-2
-returns-2 c = same (c .unknown .ensures) (c .before .before .before .before .before .before .pre)
+returns-2 c =
+    let start = c .before .before .before .before .before .before in same (c .unknown .ensures) (start .pre)
 
 unary-step-requires : tie.Need-unary-step-requires
 unary-step-requires c κs = search needs

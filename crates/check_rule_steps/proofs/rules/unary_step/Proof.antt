@@ -8,7 +8,8 @@ numbers-requires c κs = search needs
 
 over-requires : tie.Need-over-requires
 over-requires c κs =
-    (c .before .before .before .before .before .before .pre .0, c .before .before .before .numbers .ensures (c .before .before .if1 .taken), c .before .before .before .before .before .before .pre .1)
+    let at-numbers = c .before .before .before in let start = at-numbers .before .before .before in
+    (start .pre .0, at-numbers .numbers .ensures (c .before .before .if1 .taken), start .pre .1)
 
 same-length : tie.Need-same-length
 same-length c = search needs

@@ -17,24 +17,28 @@ layout-in-requires-2 c κs = search needs
 
 add-result : tie.Need-add-result
 add-result c =
-    let x = few-as _ _ (c .before .before .before .before .layout-in .result) (c .before .before .before .before .layout-in .ensures) in
+    let at-layout-in = c .before .before .before .before in let x = few-as _ _ (at-layout-in .layout-in .result) (at-layout-in .layout-in .ensures) in
     let y = few-as _ _ (c .before .before .layout-in2 .result) (c .before .before .layout-in2 .ensures) in
     omega (arith, x .before, x .behind, y .differing)
 
 add-result-2 : tie.Need-add-result-2
 add-result-2 c =
-    let x = few-as _ _ (c .before .before .before .before .before .layout-in .result) (c .before .before .before .before .before .layout-in .ensures) in
-    let y = few-as _ _ (c .before .before .before .layout-in2 .result) (c .before .before .before .layout-in2 .ensures) in
+    let at-layout-in2 = c .before .before .before in let at-layout-in = at-layout-in2 .before .before in
+    let x = few-as _ _ (at-layout-in .layout-in .result) (at-layout-in .layout-in .ensures) in
+    let y = few-as _ _ (at-layout-in2 .layout-in2 .result) (at-layout-in2 .layout-in2 .ensures) in
     omega (arith, x .before, x .behind, y .differing)
 
 add-result-3 : tie.Need-add-result-3
 add-result-3 c =
-    let x = few-as _ _ (c .before .before .before .before .before .layout-in .result) (c .before .before .before .before .before .layout-in .ensures) in
-    let y = few-as _ _ (c .before .before .before .layout-in2 .result) (c .before .before .before .layout-in2 .ensures) in
+    let at-layout-in2 = c .before .before .before in let at-layout-in = at-layout-in2 .before .before in
+    let x = few-as _ _ (at-layout-in .layout-in .result) (at-layout-in .layout-in .ensures) in
+    let y = few-as _ _ (at-layout-in2 .layout-in2 .result) (at-layout-in2 .layout-in2 .ensures) in
     omega (arith, x .before, x .behind, y .differing)
 
 returns : tie.Need-returns
-returns c = parts-sum (form-of (c .before .before .before .before .before .before .args .from)) (form-of (c .before .before .before .before .before .before .args .to)) (c .before .before .before .before .before .before .args .op) (c .before .before .before .before .byte-in .result) (c .before .before .before .before .before .layout-in .result) (c .before .before .before .layout-in2 .result) (c .before .before .before .before .before .layout-in .ensures) (c .before .before .before .before .byte-in .ensures) (c .before .before .before .layout-in2 .ensures)
+returns c =
+    let at-layout-in2 = c .before .before .before in let at-byte-in = at-layout-in2 .before in let at-layout-in = at-byte-in .before in let start = at-layout-in .before in
+    parts-sum (form-of (start .args .from)) (form-of (start .args .to)) (start .args .op) (at-byte-in .byte-in .result) (at-layout-in .layout-in .result) (at-layout-in2 .layout-in2 .result) (at-layout-in .layout-in .ensures) (at-byte-in .byte-in .ensures) (at-layout-in2 .layout-in2 .ensures)
 
 pub command-len-spec : {M : Type 1} → statement M
 command-len-spec =

@@ -25,31 +25,39 @@ layout-in-requires-2 c κs = search needs
 
 add-differing : tie.Need-add-differing
 add-differing c =
+    let start = c .before .before .before .before .before .before .before in
     let x = few-as _ _ (c .before .before .layout-in .result) (c .before .before .layout-in .ensures) in
-    omega (arith, x .before, x .differing, c .before .before .before .before .before .before .before .pre .1)
+    omega (arith, x .before, x .differing, start .pre .1)
 
 add-differing-2 : tie.Need-add-differing-2
 add-differing-2 c =
+    let start = c .before .before .before .before .before .before .before in
     let x = few-as _ _ (c .before .before .layout-in .result) (c .before .before .layout-in .ensures) in
-    omega (arith, x .before, x .differing, c .before .before .before .before .before .before .before .pre .1)
+    omega (arith, x .before, x .differing, start .pre .1)
 
 add-behind : tie.Need-add-behind
 add-behind c =
-    let x = few-as _ _ (c .before .before .before .layout-in .result) (c .before .before .before .layout-in .ensures) in
-    omega (arith, x .before, x .differing, c .before .before .before .before .before .before .before .before .pre .1)
+    let at-layout-in = c .before .before .before in let start = at-layout-in .before .before .before .before .before in
+    let x = few-as _ _ (at-layout-in .layout-in .result) (at-layout-in .layout-in .ensures) in
+    omega (arith, x .before, x .differing, start .pre .1)
 
 add-behind-2 : tie.Need-add-behind-2
 add-behind-2 c =
-    let x = few-as _ _ (c .before .before .before .before .layout-in .result) (c .before .before .before .before .layout-in .ensures) in
-    omega (arith, x .before, x .differing, c .before .before .before .before .before .before .before .before .before .pre .1)
+    let at-layout-in = c .before .before .before .before in let start = at-layout-in .before .before .before .before .before in
+    let x = few-as _ _ (at-layout-in .layout-in .result) (at-layout-in .layout-in .ensures) in
+    omega (arith, x .before, x .differing, start .pre .1)
 
 add-behind-3 : tie.Need-add-behind-3
 add-behind-3 c =
-    let x = few-as _ _ (c .before .before .before .before .layout-in .result) (c .before .before .before .before .layout-in .ensures) in
-    omega (arith, x .before, x .differing, c .before .before .before .before .before .before .before .before .before .pre .1)
+    let at-layout-in = c .before .before .before .before in let start = at-layout-in .before .before .before .before .before in
+    let x = few-as _ _ (at-layout-in .layout-in .result) (at-layout-in .layout-in .ensures) in
+    omega (arith, x .before, x .differing, start .pre .1)
 
 slice-write-out : tie.Need-slice-write-out
-slice-write-out c = omega (arith, c .before .before .before .before .before .before .before .before .before .pre .0, parts-long (form-of (c .before .before .before .before .before .before .before .before .before .args .from)) (form-of (c .before .before .before .before .before .before .before .before .before .args .to)) (c .before .before .before .before .before .before .before .before .before .args .model .now) (c .before .before .before .before .before .before .before .before .before .args .at) (c .before .before .before .before .before .before .byte-at .result) (c .before .before .before .before .before .byte-in .result) (c .before .before .before .before .layout-in .result) (c .before .before .before .layout-in2 .result) (c .before .before .before .before .before .before .byte-at .ensures) (c .before .before .before .before .before .byte-in .ensures) (c .before .before .before .before .layout-in .ensures) (c .before .before .before .layout-in2 .ensures))
+slice-write-out c =
+    let at-layout-in2 = c .before .before .before in let at-layout-in = at-layout-in2 .before in let at-byte-in = at-layout-in .before in let at-byte-at = at-byte-in .before in
+    let start = at-byte-at .before .before .before in
+    omega (arith, start .pre .0, parts-long (form-of (start .args .from)) (form-of (start .args .to)) (start .args .model .now) (start .args .at) (at-byte-at .byte-at .result) (at-byte-in .byte-in .result) (at-layout-in .layout-in .result) (at-layout-in2 .layout-in2 .result) (at-byte-at .byte-at .ensures) (at-byte-in .byte-in .ensures) (at-layout-in .layout-in .ensures) (at-layout-in2 .layout-in2 .ensures))
 
 add-put-fitted : tie.Need-add-put-fitted
 add-put-fitted c = search needs
@@ -59,29 +67,42 @@ add-put-fitted-2 c = search needs
 
 put-fitted-requires : tie.Need-put-fitted-requires
 put-fitted-requires c κs =
-    let x = few-as _ _ (c .before .before .before .before .before .layout-in .result) (c .before .before .before .before .before .layout-in .ensures) in
-    (omega (arith, c .before .before .before .before .before .before .before .before .before .before .pre .0, parts-long (form-of (c .before .before .before .before .before .before .before .before .before .before .args .from)) (form-of (c .before .before .before .before .before .before .before .before .before .before .args .to)) (c .before .before .before .before .before .before .before .before .before .before .args .model .now) (c .before .before .before .before .before .before .before .before .before .before .args .at) (c .before .before .before .before .before .before .before .byte-at .result) (c .before .before .before .before .before .before .byte-in .result) (c .before .before .before .before .before .layout-in .result) (c .before .before .before .before .layout-in2 .result) (c .before .before .before .before .before .before .before .byte-at .ensures) (c .before .before .before .before .before .before .byte-in .ensures) (c .before .before .before .before .before .layout-in .ensures) (c .before .before .before .before .layout-in2 .ensures), length-set (c .before .before .before .before .before .before .before .before .before .before .args .out .now) (c .before .before .before .before .before .before .before .before .before .before .args .next) (c .before .before .before .before .before .before .byte-in .result)), omega (arith, x .before, c .before .before .before .before .before .before .before .before .before .before .pre .1))
+    let at-layout-in2 = c .before .before .before .before in let at-layout-in = at-layout-in2 .before in let at-byte-in = at-layout-in .before in
+    let at-byte-at = at-byte-in .before in let start = at-byte-at .before .before .before in
+    let x = few-as _ _ (at-layout-in .layout-in .result) (at-layout-in .layout-in .ensures) in
+    (omega (arith, start .pre .0, parts-long (form-of (start .args .from)) (form-of (start .args .to)) (start .args .model .now) (start .args .at) (at-byte-at .byte-at .result) (at-byte-in .byte-in .result) (at-layout-in .layout-in .result) (at-layout-in2 .layout-in2 .result) (at-byte-at .byte-at .ensures) (at-byte-in .byte-in .ensures) (at-layout-in .layout-in .ensures) (at-layout-in2 .layout-in2 .ensures), length-set (start .args .out .now) (start .args .next) (at-byte-in .byte-in .result)), omega (arith, x .before, start .pre .1))
 
 put-fitted-requires-2 : tie.Need-put-fitted-requires-2
 put-fitted-requires-2 c κs =
-    let x = few-as _ _ (c .before .before .before .before .before .before .before .before .before .layout-in .result) (c .before .before .before .before .before .before .before .before .before .layout-in .ensures) in
-    (omega (arith, c .before .before .before .before .before .before .before .before .before .before .before .before .before .before .pre .0, parts-long (form-of (c .before .before .before .before .before .before .before .before .before .before .before .before .before .before .args .from)) (form-of (c .before .before .before .before .before .before .before .before .before .before .before .before .before .before .args .to)) (c .before .before .before .before .before .before .before .before .before .before .before .before .before .before .args .model .now) (c .before .before .before .before .before .before .before .before .before .before .before .before .before .before .args .at) (c .before .before .before .before .before .before .before .before .before .before .before .byte-at .result) (c .before .before .before .before .before .before .before .before .before .before .byte-in .result) (c .before .before .before .before .before .before .before .before .before .layout-in .result) (c .before .before .before .before .before .before .before .before .layout-in2 .result) (c .before .before .before .before .before .before .before .before .before .before .before .byte-at .ensures) (c .before .before .before .before .before .before .before .before .before .before .byte-in .ensures) (c .before .before .before .before .before .before .before .before .before .layout-in .ensures) (c .before .before .before .before .before .before .before .before .layout-in2 .ensures), length-set (c .before .before .before .before .before .before .before .before .before .before .before .before .before .before .args .out .now) (c .before .before .before .before .before .before .before .before .before .before .before .before .before .before .args .next) (c .before .before .before .before .before .before .before .before .before .before .byte-in .result), c .before .before .before .put-fitted .ensures .behind, fitted-length (c .before .before .before .before .before .before .before .before .before .layout-in .result .before) (copied (c .before .before .before .before .before .before .before .before .before .before .before .before .before .before .args .model .now) (c .before .before .before .before .before .before .before .before .before .before .before .before .before .before .args .at + 1) (c .before .before .before .before .before .before .before .before .before .layout-in .result .before)), c .before .before .before .put-fitted .kept .0), omega (arith, x .before, x .differing, c .before .before .before .before .before .before .before .before .before .before .before .before .before .before .pre .1))
+    let at-put-fitted = c .before .before .before in let at-layout-in2 = at-put-fitted .before .before .before .before .before in let at-layout-in = at-layout-in2 .before in
+    let at-byte-in = at-layout-in .before in let at-byte-at = at-byte-in .before in let start = at-byte-at .before .before .before in
+    let x = few-as _ _ (at-layout-in .layout-in .result) (at-layout-in .layout-in .ensures) in
+    (omega (arith, start .pre .0, parts-long (form-of (start .args .from)) (form-of (start .args .to)) (start .args .model .now) (start .args .at) (at-byte-at .byte-at .result) (at-byte-in .byte-in .result) (at-layout-in .layout-in .result) (at-layout-in2 .layout-in2 .result) (at-byte-at .byte-at .ensures) (at-byte-in .byte-in .ensures) (at-layout-in .layout-in .ensures) (at-layout-in2 .layout-in2 .ensures), length-set (start .args .out .now) (start .args .next) (at-byte-in .byte-in .result), at-put-fitted .put-fitted .ensures .behind, fitted-length (at-layout-in .layout-in .result .before) (copied (start .args .model .now) (start .args .at + 1) (at-layout-in .layout-in .result .before)), at-put-fitted .put-fitted .kept .0), omega (arith, x .before, x .differing, start .pre .1))
 
 put-fitted-requires-3 : tie.Need-put-fitted-requires-3
 put-fitted-requires-3 c κs =
-    let x = few-as _ _ (c .before .before .before .before .before .before .before .before .before .before .before .before .before .layout-in .result) (c .before .before .before .before .before .before .before .before .before .before .before .before .before .layout-in .ensures) in
-    (omega (arith, c .before .before .before .before .before .before .before .before .before .before .before .before .before .before .before .before .before .before .pre .0, parts-long (form-of (c .before .before .before .before .before .before .before .before .before .before .before .before .before .before .before .before .before .before .args .from)) (form-of (c .before .before .before .before .before .before .before .before .before .before .before .before .before .before .before .before .before .before .args .to)) (c .before .before .before .before .before .before .before .before .before .before .before .before .before .before .before .before .before .before .args .model .now) (c .before .before .before .before .before .before .before .before .before .before .before .before .before .before .before .before .before .before .args .at) (c .before .before .before .before .before .before .before .before .before .before .before .before .before .before .before .byte-at .result) (c .before .before .before .before .before .before .before .before .before .before .before .before .before .before .byte-in .result) (c .before .before .before .before .before .before .before .before .before .before .before .before .before .layout-in .result) (c .before .before .before .before .before .before .before .before .before .before .before .before .layout-in2 .result) (c .before .before .before .before .before .before .before .before .before .before .before .before .before .before .before .byte-at .ensures) (c .before .before .before .before .before .before .before .before .before .before .before .before .before .before .byte-in .ensures) (c .before .before .before .before .before .before .before .before .before .before .before .before .before .layout-in .ensures) (c .before .before .before .before .before .before .before .before .before .before .before .before .layout-in2 .ensures), length-set (c .before .before .before .before .before .before .before .before .before .before .before .before .before .before .before .before .before .before .args .out .now) (c .before .before .before .before .before .before .before .before .before .before .before .before .before .before .before .before .before .before .args .next) (c .before .before .before .before .before .before .before .before .before .before .before .before .before .before .byte-in .result), c .before .before .before .before .before .before .before .put-fitted .ensures .behind, fitted-length (c .before .before .before .before .before .before .before .before .before .before .before .before .before .layout-in .result .before) (copied (c .before .before .before .before .before .before .before .before .before .before .before .before .before .before .before .before .before .before .args .model .now) (c .before .before .before .before .before .before .before .before .before .before .before .before .before .before .before .before .before .before .args .at + 1) (c .before .before .before .before .before .before .before .before .before .before .before .before .before .layout-in .result .before)), c .before .before .before .before .before .before .before .put-fitted .kept .0, c .before .before .before .put-fitted2 .ensures .behind, fitted-length (c .before .before .before .before .before .before .before .before .before .before .before .before .layout-in2 .result .differing) (copied (c .before .before .before .before .before .before .before .before .before .before .before .before .before .before .before .before .before .before .args .model .now) (c .before .before .before .before .before .before .before .before .before .before .before .before .before .before .before .before .before .before .args .at + (1 + c .before .before .before .before .before .before .before .before .before .before .before .before .before .layout-in .result .before)) (c .before .before .before .before .before .before .before .before .before .before .before .before .before .layout-in .result .differing)), c .before .before .before .put-fitted2 .kept .0), omega (arith, x .before, x .differing, x .behind, c .before .before .before .before .before .before .before .before .before .before .before .before .before .before .before .before .before .before .pre .1))
+    let at-put-fitted2 = c .before .before .before in let at-put-fitted = at-put-fitted2 .before .before .before .before in
+    let at-layout-in2 = at-put-fitted .before .before .before .before .before in let at-layout-in = at-layout-in2 .before in let at-byte-in = at-layout-in .before in
+    let at-byte-at = at-byte-in .before in let start = at-byte-at .before .before .before in
+    let x = few-as _ _ (at-layout-in .layout-in .result) (at-layout-in .layout-in .ensures) in
+    (omega (arith, start .pre .0, parts-long (form-of (start .args .from)) (form-of (start .args .to)) (start .args .model .now) (start .args .at) (at-byte-at .byte-at .result) (at-byte-in .byte-in .result) (at-layout-in .layout-in .result) (at-layout-in2 .layout-in2 .result) (at-byte-at .byte-at .ensures) (at-byte-in .byte-in .ensures) (at-layout-in .layout-in .ensures) (at-layout-in2 .layout-in2 .ensures), length-set (start .args .out .now) (start .args .next) (at-byte-in .byte-in .result), at-put-fitted .put-fitted .ensures .behind, fitted-length (at-layout-in .layout-in .result .before) (copied (start .args .model .now) (start .args .at + 1) (at-layout-in .layout-in .result .before)), at-put-fitted .put-fitted .kept .0, at-put-fitted2 .put-fitted2 .ensures .behind, fitted-length (at-layout-in2 .layout-in2 .result .differing) (copied (start .args .model .now) (start .args .at + (1 + at-layout-in .layout-in .result .before)) (at-layout-in .layout-in .result .differing)), at-put-fitted2 .put-fitted2 .kept .0), omega (arith, x .before, x .differing, x .behind, start .pre .1))
 
 same-length : tie.Need-same-length
-same-length c = c .before .before .put-fitted3 .kept .0 ∙ c .before .before .before .before .before .before .put-fitted2 .kept .0 ∙ c .before .before .before .before .before .before .before .before .before .before .put-fitted .kept .0 ∙ length-set (c .before .before .before .before .before .before .before .before .before .before .before .before .before .before .before .before .before .before .before .before .before .args .out .now) (c .before .before .before .before .before .before .before .before .before .before .before .before .before .before .before .before .before .before .before .before .before .args .next) (c .before .before .before .before .before .before .before .before .before .before .before .before .before .before .before .before .before .byte-in .result)
+same-length c =
+    let at-put-fitted2 = c .before .before .before .before .before .before in let at-put-fitted = at-put-fitted2 .before .before .before .before in
+    let at-byte-in = at-put-fitted .before .before .before .before .before .before .before in let start = at-byte-in .before .before .before .before in
+    c .before .before .put-fitted3 .kept .0 ∙ at-put-fitted2 .put-fitted2 .kept .0 ∙ at-put-fitted .put-fitted .kept .0 ∙ length-set (start .args .out .now) (start .args .next) (at-byte-in .byte-in .result)
 
 returns : tie.Need-returns
 returns c =
-    let u = parts-long (form-of (c .before .before .before .before .before .before .before .before .before .before .before .before .before .before .before .before .before .before .before .before .before .args .from)) (form-of (c .before .before .before .before .before .before .before .before .before .before .before .before .before .before .before .before .before .before .before .before .before .args .to)) (c .before .before .before .before .before .before .before .before .before .before .before .before .before .before .before .before .before .before .before .before .before .args .model .now) (c .before .before .before .before .before .before .before .before .before .before .before .before .before .before .before .before .before .before .before .before .before .args .at) (c .before .before .before .before .before .before .before .before .before .before .before .before .before .before .before .before .before .before .byte-at .result) (c .before .before .before .before .before .before .before .before .before .before .before .before .before .before .before .before .before .byte-in .result) (c .before .before .before .before .before .before .before .before .before .before .before .before .before .before .before .before .layout-in .result) (c .before .before .before .before .before .before .before .before .before .before .before .before .before .before .before .layout-in2 .result) (c .before .before .before .before .before .before .before .before .before .before .before .before .before .before .before .before .before .before .byte-at .ensures) (c .before .before .before .before .before .before .before .before .before .before .before .before .before .before .before .before .before .byte-in .ensures) (c .before .before .before .before .before .before .before .before .before .before .before .before .before .before .before .before .layout-in .ensures) (c .before .before .before .before .before .before .before .before .before .before .before .before .before .before .before .layout-in2 .ensures) in
-    let v = length-set (c .before .before .before .before .before .before .before .before .before .before .before .before .before .before .before .before .before .before .before .before .before .args .out .now) (c .before .before .before .before .before .before .before .before .before .before .before .before .before .before .before .before .before .before .before .before .before .args .next) (c .before .before .before .before .before .before .before .before .before .before .before .before .before .before .before .before .before .byte-in .result) in
-    command-put (form-of (c .before .before .before .before .before .before .before .before .before .before .before .before .before .before .before .before .before .before .before .before .before .args .from)) (form-of (c .before .before .before .before .before .before .before .before .before .before .before .before .before .before .before .before .before .before .before .before .before .args .to)) (c .before .before .before .before .before .before .before .before .before .before .before .before .before .before .before .before .before .before .before .before .before .args .model .now) (c .before .before .before .before .before .before .before .before .before .before .before .before .before .before .before .before .before .before .before .before .before .args .at) (c .before .before .before .before .before .before .before .before .before .before .before .before .before .before .before .before .before .before .byte-at .result) (c .before .before .before .before .before .before .before .before .before .before .before .before .before .before .before .before .before .byte-in .result) (c .before .before .before .before .before .before .before .before .before .before .before .before .before .before .before .before .layout-in .result) (c .before .before .before .before .before .before .before .before .before .before .before .before .before .before .before .layout-in2 .result) (c .before .before .before .before .before .before .before .before .before .before .before .before .before .before .before .before .before .before .byte-at .ensures) (c .before .before .before .before .before .before .before .before .before .before .before .before .before .before .before .before .before .byte-in .ensures) (c .before .before .before .before .before .before .before .before .before .before .before .before .before .before .before .before .layout-in .ensures) (c .before .before .before .before .before .before .before .before .before .before .before .before .before .before .before .layout-in2 .ensures)
-    (omega (arith, c .before .before .before .before .before .before .before .before .before .before .before .before .before .before .before .before .before .before .before .before .before .pre .0, u)) (omega (arith, v, c .before .before .before .before .before .before .before .before .before .before .put-fitted .kept .0)) (omega (arith, c .before .before .before .before .before .before .before .before .before .before .before .before .before .before .before .before .before .before .before .before .before .pre .0, u, c .before .before .before .before .before .before .before .before .before .before .put-fitted .ensures .behind, fitted-length (c .before .before .before .before .before .before .before .before .before .before .before .before .before .before .before .before .layout-in .result .before) (copied (c .before .before .before .before .before .before .before .before .before .before .before .before .before .before .before .before .before .before .before .before .before .args .model .now) (c .before .before .before .before .before .before .before .before .before .before .before .before .before .before .before .before .before .before .before .before .before .args .at + 1) (c .before .before .before .before .before .before .before .before .before .before .before .before .before .before .before .before .layout-in .result .before)), c .before .before .before .before .before .before .before .before .before .before .put-fitted .kept .0))
-    (omega (arith, v, c .before .before .before .before .before .before .before .before .before .before .put-fitted .kept .0, c .before .before .before .before .before .before .put-fitted2 .kept .0)) (omega (arith, c .before .before .before .before .before .before .before .before .before .before .before .before .before .before .before .before .before .before .before .before .before .pre .0, u, c .before .before .before .before .before .before .before .before .before .before .put-fitted .ensures .behind, fitted-length (c .before .before .before .before .before .before .before .before .before .before .before .before .before .before .before .before .layout-in .result .before) (copied (c .before .before .before .before .before .before .before .before .before .before .before .before .before .before .before .before .before .before .before .before .before .args .model .now) (c .before .before .before .before .before .before .before .before .before .before .before .before .before .before .before .before .before .before .before .before .before .args .at + 1) (c .before .before .before .before .before .before .before .before .before .before .before .before .before .before .before .before .layout-in .result .before)), c .before .before .before .before .before .before .before .before .before .before .put-fitted .kept .0, c .before .before .before .before .before .before .put-fitted2 .ensures .behind, fitted-length (c .before .before .before .before .before .before .before .before .before .before .before .before .before .before .before .layout-in2 .result .differing) (copied (c .before .before .before .before .before .before .before .before .before .before .before .before .before .before .before .before .before .before .before .before .before .args .model .now) (c .before .before .before .before .before .before .before .before .before .before .before .before .before .before .before .before .before .before .before .before .before .args .at + (1 + c .before .before .before .before .before .before .before .before .before .before .before .before .before .before .before .before .layout-in .result .before)) (c .before .before .before .before .before .before .before .before .before .before .before .before .before .before .before .before .layout-in .result .differing)), c .before .before .before .before .before .before .put-fitted2 .kept .0)) (c .before .before .before .before .before .before .before .before .before .before .put-fitted .ensures) (c .before .before .before .before .before .before .put-fitted2 .ensures) (c .before .before .put-fitted3 .ensures)
+    let at-put-fitted2 = c .before .before .before .before .before .before in let at-put-fitted = at-put-fitted2 .before .before .before .before in
+    let at-layout-in2 = at-put-fitted .before .before .before .before .before in let at-layout-in = at-layout-in2 .before in let at-byte-in = at-layout-in .before in
+    let at-byte-at = at-byte-in .before in let start = at-byte-at .before .before .before in
+    let u = parts-long (form-of (start .args .from)) (form-of (start .args .to)) (start .args .model .now) (start .args .at) (at-byte-at .byte-at .result) (at-byte-in .byte-in .result) (at-layout-in .layout-in .result) (at-layout-in2 .layout-in2 .result) (at-byte-at .byte-at .ensures) (at-byte-in .byte-in .ensures) (at-layout-in .layout-in .ensures) (at-layout-in2 .layout-in2 .ensures) in
+    let v = length-set (start .args .out .now) (start .args .next) (at-byte-in .byte-in .result) in
+    command-put (form-of (start .args .from)) (form-of (start .args .to)) (start .args .model .now) (start .args .at) (at-byte-at .byte-at .result) (at-byte-in .byte-in .result) (at-layout-in .layout-in .result) (at-layout-in2 .layout-in2 .result) (at-byte-at .byte-at .ensures) (at-byte-in .byte-in .ensures) (at-layout-in .layout-in .ensures) (at-layout-in2 .layout-in2 .ensures)
+    (omega (arith, start .pre .0, u)) (omega (arith, v, at-put-fitted .put-fitted .kept .0)) (omega (arith, start .pre .0, u, at-put-fitted .put-fitted .ensures .behind, fitted-length (at-layout-in .layout-in .result .before) (copied (start .args .model .now) (start .args .at + 1) (at-layout-in .layout-in .result .before)), at-put-fitted .put-fitted .kept .0))
+    (omega (arith, v, at-put-fitted .put-fitted .kept .0, at-put-fitted2 .put-fitted2 .kept .0)) (omega (arith, start .pre .0, u, at-put-fitted .put-fitted .ensures .behind, fitted-length (at-layout-in .layout-in .result .before) (copied (start .args .model .now) (start .args .at + 1) (at-layout-in .layout-in .result .before)), at-put-fitted .put-fitted .kept .0, at-put-fitted2 .put-fitted2 .ensures .behind, fitted-length (at-layout-in2 .layout-in2 .result .differing) (copied (start .args .model .now) (start .args .at + (1 + at-layout-in .layout-in .result .before)) (at-layout-in .layout-in .result .differing)), at-put-fitted2 .put-fitted2 .kept .0)) (at-put-fitted .put-fitted .ensures) (at-put-fitted2 .put-fitted2 .ensures) (c .before .before .put-fitted3 .ensures)
 
 pub put-command-spec : {M : Type 1} → statement M
 put-command-spec =

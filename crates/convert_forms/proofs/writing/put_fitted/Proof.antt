@@ -18,7 +18,8 @@ operand-byte-requires : tie.Need-operand-byte-requires Inv-loop μ-loop
 operand-byte-requires c κs = c .before .before .before .before .pre .1
 
 add-out : tie.Need-add-out Inv-loop μ-loop
-add-out c = omega (arith, c .before .before .before .before .before .pre .0, c .before .loop-test .taken, c .before .before .before .before .before .good)
+add-out c =
+    let start = c .before .before .before .before .before in omega (arith, start .pre .0, c .before .loop-test .taken, start .good)
 
 slice-write-out : tie.Need-slice-write-out Inv-loop μ-loop
 slice-write-out c = omega (arith, c .before .before .before .before .before .pre .0, c .before .loop-test .taken, c .before .before .loop .inv .long)
@@ -30,7 +31,9 @@ loop-less : tie.Need-loop-less Inv-loop μ-loop
 loop-less c = omega (arith, c .before .loop-test .taken)
 
 loop-again : tie.Need-loop-again Inv-loop μ-loop
-loop-again c = fill-on (c .before .before .before .before .before .args .out .now) (c .before .before .before .before .before .args .at) (c .before .before .before .before .before .args .model .now) (c .before .before .before .before .before .args .from) (c .before .before .before .before .before .args .size) (c .before .before .before .before .before .args .wanted) (c .before .before .before .before .before .pre .0) (c .before .before .loop .j) (c .operand-byte .result) (c .before .before .loop .out) (c .before .before .loop .inv) (c .before .loop-test .taken) (c .operand-byte .ensures)
+loop-again c =
+    let start = c .before .before .before .before .before in
+    fill-on (start .args .out .now) (start .args .at) (start .args .model .now) (start .args .from) (start .args .size) (start .args .wanted) (start .pre .0) (c .before .before .loop .j) (c .operand-byte .result) (c .before .before .loop .out) (c .before .before .loop .inv) (c .before .loop-test .taken) (c .operand-byte .ensures)
 
 add-result : tie.Need-add-result Inv-loop μ-loop
 add-result c = omega (arith, c .before .before .before .before .pre .0, c .before .loop .inv .most)
@@ -39,7 +42,9 @@ same-length : tie.Need-same-length Inv-loop μ-loop
 same-length c = c .before .loop .inv .long
 
 returns : tie.Need-returns Inv-loop μ-loop
-returns c = fill-ends (c .before .before .before .before .args .out .now) (c .before .before .before .before .args .at) (c .before .before .before .before .args .model .now) (c .before .before .before .before .args .from) (c .before .before .before .before .args .size) (c .before .before .before .before .args .wanted) (c .before .before .before .before .pre .0) (c .before .loop .j) (c .before .loop .out) (c .before .loop .inv) (c .loop-test .left)
+returns c =
+    let start = c .before .before .before .before in
+    fill-ends (start .args .out .now) (start .args .at) (start .args .model .now) (start .args .from) (start .args .size) (start .args .wanted) (start .pre .0) (c .before .loop .j) (c .before .loop .out) (c .before .loop .inv) (c .loop-test .left)
 
 pub put-fitted-spec : {M : Type 1} → statement M
 put-fitted-spec =

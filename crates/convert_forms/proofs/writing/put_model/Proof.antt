@@ -19,7 +19,9 @@ loop-holds : tie.Need-loop-holds Inv-loop μ-loop
 loop-holds c = write-starts (form-of (c .before .before .args .from)) (form-of (c .before .before .args .to)) (c .before .before .args .model .now) (c .before .before .args .out .now)
 
 put-command-requires : tie.Need-put-command-requires Inv-loop μ-loop
-put-command-requires c κs = (write-room (c .before .loop .inv) (c .before .before .before .before .pre .0), omega (arith, c .before .loop .inv .pass .inside, c .before .before .before .before .pre .1))
+put-command-requires c κs =
+    let start = c .before .before .before .before in
+    (write-room (c .before .loop .inv) (start .pre .0), omega (arith, c .before .loop .inv .pass .inside, start .pre .1))
 
 command-in-requires : tie.Need-command-in-requires Inv-loop μ-loop
 command-in-requires c κs = tt
@@ -32,17 +34,26 @@ next-after-in-requires c κs = tt
 
 loop-less : tie.Need-loop-less Inv-loop μ-loop
 loop-less c =
-    let q = write-on (c .before .before .before .before .before .before .before .before .loop .inv) (c .before .before .before .before .before .before .put-command .result) (c .before .before .before .before .before .before .put-command .last .0) (c .before .before .before .before .before .before .put-command .ensures) (c .before .before .before .before .before .before .put-command .kept .0) (goes (form-of (c .before .before .before .before .before .before .before .before .before .before .before .args .from)) (c .before .before .before .before .before .before .before .before .before .before .before .args .model .now) (c .before .before .before .before .before .before .before .before .loop .at) (c .before .before .before .command-in .result) (c .before .before .goes-on .result) true (c .before .before .before .command-in .ensures) (c .before .before .goes-on .ensures) (c .before .if1 .taken)) (c .next-after-in .result) (c .next-after-in .ensures) in
+    let at-command-in = c .before .before .before in let at-put-command = at-command-in .before .before .before in let at-loop = at-put-command .before .before in
+    let start = at-loop .before .before .before in
+    let q = write-on (at-loop .loop .inv) (at-put-command .put-command .result) (at-put-command .put-command .last .0) (at-put-command .put-command .ensures) (at-put-command .put-command .kept .0) (goes (form-of (start .args .from)) (start .args .model .now) (at-loop .loop .at) (at-command-in .command-in .result) (c .before .before .goes-on .result) true (at-command-in .command-in .ensures) (c .before .before .goes-on .ensures) (c .before .if1 .taken)) (c .next-after-in .result) (c .next-after-in .ensures) in
     omega (arith, q .1, q .0 .pass .inside)
 
 loop-again : tie.Need-loop-again Inv-loop μ-loop
-loop-again c = write-on (c .before .before .before .before .before .before .before .before .loop .inv) (c .before .before .before .before .before .before .put-command .result) (c .before .before .before .before .before .before .put-command .last .0) (c .before .before .before .before .before .before .put-command .ensures) (c .before .before .before .before .before .before .put-command .kept .0) (goes (form-of (c .before .before .before .before .before .before .before .before .before .before .before .args .from)) (c .before .before .before .before .before .before .before .before .before .before .before .args .model .now) (c .before .before .before .before .before .before .before .before .loop .at) (c .before .before .before .command-in .result) (c .before .before .goes-on .result) true (c .before .before .before .command-in .ensures) (c .before .before .goes-on .ensures) (c .before .if1 .taken)) (c .next-after-in .result) (c .next-after-in .ensures) .0
+loop-again c =
+    let at-command-in = c .before .before .before in let at-put-command = at-command-in .before .before .before in let at-loop = at-put-command .before .before in
+    let start = at-loop .before .before .before in
+    write-on (at-loop .loop .inv) (at-put-command .put-command .result) (at-put-command .put-command .last .0) (at-put-command .put-command .ensures) (at-put-command .put-command .kept .0) (goes (form-of (start .args .from)) (start .args .model .now) (at-loop .loop .at) (at-command-in .command-in .result) (c .before .before .goes-on .result) true (at-command-in .command-in .ensures) (c .before .before .goes-on .ensures) (c .before .if1 .taken)) (c .next-after-in .result) (c .next-after-in .ensures) .0
 
 same-length : tie.Need-same-length Inv-loop μ-loop
-same-length c = c .before .before .before .before .before .put-command .kept .0 ∙ c .before .before .before .before .before .before .before .loop .inv .long
+same-length c =
+    let at-put-command = c .before .before .before .before .before in let at-loop = at-put-command .before .before in
+    at-put-command .put-command .kept .0 ∙ at-loop .loop .inv .long
 
 returns : tie.Need-returns Inv-loop μ-loop
-returns c = write-ends (c .before .before .before .before .before .before .before .loop .inv) (c .before .before .before .before .before .put-command .result) (c .before .before .before .before .before .put-command .last .0) (c .before .before .before .before .before .put-command .ensures) (c .before .before .before .before .before .put-command .kept .0) (goes (form-of (c .before .before .before .before .before .before .before .before .before .before .args .from)) (c .before .before .before .before .before .before .before .before .before .before .args .model .now) (c .before .before .before .before .before .before .before .loop .at) (c .before .before .command-in .result) (c .before .goes-on .result) false (c .before .before .command-in .ensures) (c .before .goes-on .ensures) (c .if1 .left))
+returns c =
+    let at-put-command = c .before .before .before .before .before in let at-loop = at-put-command .before .before in let start = at-loop .before .before .before in
+    write-ends (at-loop .loop .inv) (at-put-command .put-command .result) (at-put-command .put-command .last .0) (at-put-command .put-command .ensures) (at-put-command .put-command .kept .0) (goes (form-of (start .args .from)) (start .args .model .now) (at-loop .loop .at) (c .before .before .command-in .result) (c .before .goes-on .result) false (c .before .before .command-in .ensures) (c .before .goes-on .ensures) (c .if1 .left))
 
 pub put-model-spec : {M : Type 1} → statement M
 put-model-spec =

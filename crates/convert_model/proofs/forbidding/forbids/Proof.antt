@@ -25,7 +25,9 @@ is-forbidden-requires : tie.Need-is-forbidden-requires Inv-loop μ-loop
 is-forbidden-requires c κs = tt
 
 returns : tie.Need-returns Inv-loop μ-loop
-returns c = search-found (c .before .before .before .loop .inv) (met (form-of (c .before .before .before .before .before .args .form)) (c .before .before .before .before .before .args .model .now) (c .before .before .before .loop .at) (c .before .before .command-in .result) (c .before .is-forbidden .result) true (c .before .before .command-in .ensures) (c .before .is-forbidden .ensures) (c .if1 .taken))
+returns c =
+    let at-loop = c .before .before .before in let start = at-loop .before .before in
+    search-found (at-loop .loop .inv) (met (form-of (start .args .form)) (start .args .model .now) (at-loop .loop .at) (c .before .before .command-in .result) (c .before .is-forbidden .result) true (c .before .before .command-in .ensures) (c .before .is-forbidden .ensures) (c .if1 .taken))
 
 goes-on-requires : tie.Need-goes-on-requires Inv-loop μ-loop
 goes-on-requires c κs = tt
@@ -35,22 +37,25 @@ next-after-in-requires c κs = tt
 
 loop-less : tie.Need-loop-less Inv-loop μ-loop
 loop-less c =
-    let F = form-of (c .before .before .before .before .before .before .before .before .args .form) in
-    let B = c .before .before .before .before .before .before .before .before .args .model .now in
-    let q = search-on (c .before .before .before .before .before .before .loop .inv) (met F B (c .before .before .before .before .before .before .loop .at) (c .before .before .before .before .before .command-in .result) (c .before .before .before .before .is-forbidden .result) false (c .before .before .before .before .before .command-in .ensures) (c .before .before .before .before .is-forbidden .ensures) (c .before .before .before .if1 .left)) (goes F B (c .before .before .before .before .before .before .loop .at) (c .before .before .before .before .before .command-in .result) (c .before .before .goes-on .result) true (c .before .before .before .before .before .command-in .ensures) (c .before .before .goes-on .ensures) (c .before .if2 .taken)) (c .next-after-in .result) (c .next-after-in .ensures) in
+    let at-if1 = c .before .before .before in let at-is-forbidden = at-if1 .before in let at-command-in = at-is-forbidden .before in let at-loop = at-command-in .before in
+    let start = at-loop .before .before in let F = form-of (start .args .form) in
+    let B = start .args .model .now in
+    let q = search-on (at-loop .loop .inv) (met F B (at-loop .loop .at) (at-command-in .command-in .result) (at-is-forbidden .is-forbidden .result) false (at-command-in .command-in .ensures) (at-is-forbidden .is-forbidden .ensures) (at-if1 .if1 .left)) (goes F B (at-loop .loop .at) (at-command-in .command-in .result) (c .before .before .goes-on .result) true (at-command-in .command-in .ensures) (c .before .before .goes-on .ensures) (c .before .if2 .taken)) (c .next-after-in .result) (c .next-after-in .ensures) in
     omega (arith, q .1, q .0 .inside)
 
 loop-again : tie.Need-loop-again Inv-loop μ-loop
 loop-again c =
-    let F = form-of (c .before .before .before .before .before .before .before .before .args .form) in
-    let B = c .before .before .before .before .before .before .before .before .args .model .now in
-    search-on (c .before .before .before .before .before .before .loop .inv) (met F B (c .before .before .before .before .before .before .loop .at) (c .before .before .before .before .before .command-in .result) (c .before .before .before .before .is-forbidden .result) false (c .before .before .before .before .before .command-in .ensures) (c .before .before .before .before .is-forbidden .ensures) (c .before .before .before .if1 .left)) (goes F B (c .before .before .before .before .before .before .loop .at) (c .before .before .before .before .before .command-in .result) (c .before .before .goes-on .result) true (c .before .before .before .before .before .command-in .ensures) (c .before .before .goes-on .ensures) (c .before .if2 .taken)) (c .next-after-in .result) (c .next-after-in .ensures) .0
+    let at-if1 = c .before .before .before in let at-is-forbidden = at-if1 .before in let at-command-in = at-is-forbidden .before in let at-loop = at-command-in .before in
+    let start = at-loop .before .before in let F = form-of (start .args .form) in
+    let B = start .args .model .now in
+    search-on (at-loop .loop .inv) (met F B (at-loop .loop .at) (at-command-in .command-in .result) (at-is-forbidden .is-forbidden .result) false (at-command-in .command-in .ensures) (at-is-forbidden .is-forbidden .ensures) (at-if1 .if1 .left)) (goes F B (at-loop .loop .at) (at-command-in .command-in .result) (c .before .before .goes-on .result) true (at-command-in .command-in .ensures) (c .before .before .goes-on .ensures) (c .before .if2 .taken)) (c .next-after-in .result) (c .next-after-in .ensures) .0
 
 returns-2 : tie.Need-returns-2 Inv-loop μ-loop
 returns-2 c =
-    let F = form-of (c .before .before .before .before .before .before .before .args .form) in
-    let B = c .before .before .before .before .before .before .before .args .model .now in
-    search-ends (c .before .before .before .before .before .loop .inv) (met F B (c .before .before .before .before .before .loop .at) (c .before .before .before .before .command-in .result) (c .before .before .before .is-forbidden .result) false (c .before .before .before .before .command-in .ensures) (c .before .before .before .is-forbidden .ensures) (c .before .before .if1 .left)) (goes F B (c .before .before .before .before .before .loop .at) (c .before .before .before .before .command-in .result) (c .before .goes-on .result) false (c .before .before .before .before .command-in .ensures) (c .before .goes-on .ensures) (c .if2 .left))
+    let at-is-forbidden = c .before .before .before in let at-command-in = at-is-forbidden .before in let at-loop = at-command-in .before in let start = at-loop .before .before in
+    let F = form-of (start .args .form) in
+    let B = start .args .model .now in
+    search-ends (at-loop .loop .inv) (met F B (at-loop .loop .at) (at-command-in .command-in .result) (at-is-forbidden .is-forbidden .result) false (at-command-in .command-in .ensures) (at-is-forbidden .is-forbidden .ensures) (c .before .before .if1 .left)) (goes F B (at-loop .loop .at) (at-command-in .command-in .result) (c .before .goes-on .result) false (at-command-in .command-in .ensures) (c .before .goes-on .ensures) (c .if2 .left))
 
 pub forbids-spec : {M : Type 1} → statement M
 forbids-spec =

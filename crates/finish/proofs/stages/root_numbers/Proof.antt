@@ -28,19 +28,23 @@ shared-slice-read-r c =
 
 cast-r : tie.Need-cast-r Inv-loop μ-loop
 cast-r c =
-    let q = (c .before .before .before) .pre .2 .below _ (c .before .loop-test .taken) in let a = (c .before .before .before) .pre .1 in let b = (c .before .before .before) .pre .0 in omega arith
+    let start = c .before .before .before in
+    let q = start .pre .2 .below _ (c .before .loop-test .taken) in let a = start .pre .1 in let b = start .pre .0 in omega arith
 
 add-stages : tie.Need-add-stages Inv-loop μ-loop
 add-stages c =
-    let q = (c .before .before .before) .pre .2 .below _ (c .before .loop-test .taken) in let a = (c .before .before .before) .pre .1 in let b = (c .before .before .before) .pre .0 in omega arith
+    let start = c .before .before .before in
+    let q = start .pre .2 .below _ (c .before .loop-test .taken) in let a = start .pre .1 in let b = start .pre .0 in omega arith
 
 mul-stages : tie.Need-mul-stages Inv-loop μ-loop
 mul-stages c =
-    let q = (c .before .before .before) .pre .2 .below _ (c .before .loop-test .taken) in let a = (c .before .before .before) .pre .1 in let b = (c .before .before .before) .pre .0 in omega arith
+    let start = c .before .before .before in
+    let q = start .pre .2 .below _ (c .before .loop-test .taken) in let a = start .pre .1 in let b = start .pre .0 in omega arith
 
 shared-slice-read-stages : tie.Need-shared-slice-read-stages Inv-loop μ-loop
 shared-slice-read-stages c =
-    let q = (c .before .before .before .before) .pre .2 .below _ (c .before .before .loop-test .taken) in let a = (c .before .before .before .before) .pre .1 in let b = (c .before .before .before .before) .pre .0 in omega arith
+    let start = c .before .before .before .before in
+    let q = start .pre .2 .below _ (c .before .before .loop-test .taken) in let a = start .pre .1 in let b = start .pre .0 in omega arith
 
 mul-stages-2 : tie.Need-mul-stages-2 Inv-loop μ-loop
 mul-stages-2 c =
@@ -60,7 +64,8 @@ loop-less c =
 
 loop-again : tie.Need-loop-again Inv-loop μ-loop
 loop-again c =
-    (numbers-go ((c .before .before .before .before) .args .work .now) ((c .before .before .before .before) .args .cap) ((c .before .before .before .before) .args .roots .now) ((c .before .before .before .before) .args .stages .now) ((c .before .before .before .before) .pre .3) (c .before .before .before .loop .inv .0) (c .before .before .loop-test .taken), omega (arith, c .before .before .loop-test .taken))
+    let at-loop = c .before .before .before in let start = at-loop .before in
+    (numbers-go (start .args .work .now) (start .args .cap) (start .args .roots .now) (start .args .stages .now) (start .pre .3) (at-loop .loop .inv .0) (c .before .before .loop-test .taken), omega (arith, c .before .before .loop-test .taken))
 
 same-length : tie.Need-same-length Inv-loop μ-loop
 same-length c =

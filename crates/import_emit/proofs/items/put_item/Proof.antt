@@ -19,9 +19,10 @@ returns c = cases-full (c .before .before .before .before .before .emit-cases .e
 
 put-slot-requires : tie.Need-put-slot-requires
 put-slot-requires c κs =
-    let p = c .before .before .before .before .before .before .before .before .before .before .before .before .pre in
+    let at-emit-cases = c .before .before .before .before .before .before in let start = at-emit-cases .before .before .before .before .before .before in
+    let p = start .pre in
     let b = p .begins in
-    record { action = p .action; room = inside (b .room) (c .before .before .before .before .before .before .emit-cases .ensures .commands (b .commands) (b .emits) .put (c .before .if1 .left)) }
+    record { action = p .action; room = inside (b .room) (at-emit-cases .emit-cases .ensures .commands (b .commands) (b .emits) .put (c .before .if1 .left)) }
 
 same-length-3 : tie.Need-same-length-3
 same-length-3 c = search needs
@@ -30,7 +31,10 @@ same-length-4 : tie.Need-same-length-4
 same-length-4 c = search needs
 
 returns-2 : tie.Need-returns-2
-returns-2 c = cases-then (c .before .before .before .before .before .before .before .before .before .emit-cases .ensures) (c .before .before .before .before .before .before .before .before .before .before .before .before .before .before .before .pre .begins .room) (c .before .before .before .before .if1 .left) (c .before .before .put-slot .ensures)
+returns-2 c =
+    let at-if1 = c .before .before .before .before in let at-emit-cases = at-if1 .before .before .before .before .before in
+    let start = at-emit-cases .before .before .before .before .before .before in
+    cases-then (at-emit-cases .emit-cases .ensures) (start .pre .begins .room) (at-if1 .if1 .left) (c .before .before .put-slot .ensures)
 
 pub put-item-spec : {M : Type 1} → statement M
 put-item-spec =

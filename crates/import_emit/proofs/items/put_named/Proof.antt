@@ -29,19 +29,20 @@ slice-aggregate-put-name c = search needs
 
 put-name-requires : tie.Need-put-name-requires
 put-name-requires c κs =
-    let s = c .before .before .before .before .before .before .before in
-    let b = c .before .before .before .spell in
-    omega (arith, name-length (s .args .o .action) (b .result), b .ensures .long, c .before .before .before .before .if1 .left, s .pre .0 .room)
+    let at-spell = c .before .before .before in let at-if1 = at-spell .before in let place = at-if1 .before .before .before in let s = place in
+    let b = at-spell .spell in
+    omega (arith, name-length (s .args .o .action) (b .result), b .ensures .long, at-if1 .if1 .left, s .pre .0 .room)
 
 same-length : tie.Need-same-length
 same-length c = search needs
 
 returns-2 : tie.Need-returns-2
 returns-2 c =
-    let a = c .before .before .before .before .before .before .before .before .before .before .args .o .action in
+    let at-spell = c .before .before .before .before .before .before in let start = at-spell .before .before .before .before in
+    let a = start .args .o .action in
     record {
       same = c .before .before .put-name .kept .0;
-      put = λ b s. put-as (ap (λ (x : List ℕ). command-bytes (name-action a x)) (spelt-same (c .before .before .before .before .before .before .spell .ensures) s)) (fits refl (c .before .before .put-name .ensures));
+      put = λ b s. put-as (ap (λ (x : List ℕ). command-bytes (name-action a x)) (spelt-same (at-spell .spell .ensures) s)) (fits refl (c .before .before .put-name .ensures));
     }
 
 pub put-named-spec : {M : Type 1} → statement M

@@ -9,8 +9,8 @@ opening-at-requires c κs = search needs
 
 put-named-requires : tie.Need-put-named-requires
 put-named-requires c κs =
-    let a = c .before .before .before .opening-at .ensures in
-    (record { action = action-small _ _ _ a; room = c .before .before .before .before .before .before .before .pre .lent .room }, a .next .stands .within)
+    let at-opening-at = c .before .before .before in let start = at-opening-at .before .before .before .before in let a = at-opening-at .opening-at .ensures in
+    (record { action = action-small _ _ _ a; room = start .pre .lent .room }, a .next .stands .within)
 
 end-of-name-requires : tie.Need-end-of-name-requires
 end-of-name-requires c κs = search needs
@@ -20,16 +20,18 @@ same-length c = search needs
 
 returns : tie.Need-returns
 returns c =
-    let a = c .before .before .before .before .before .before .before .opening-at .ensures in
+    let at-put-named = c .before .before .before in let at-if1 = at-put-named .before .before in let at-opening-at = at-if1 .before .before in
+    let a = at-opening-at .opening-at .ensures in
     let b = c .end-of-name .ensures in
-    let p = c .before .before .before .put-named .ensures in
-    let k = c .before .before .before .before .before .if1 .taken in
+    let p = at-put-named .put-named .ensures in
+    let k = at-if1 .if1 .taken in
     record { same = p .same; further = further-on a b; put = name-puts _ _ _ a k _ b p; on = name-on _ _ _ a k _ b }
 
 put-item-requires : tie.Need-put-item-requires
 put-item-requires c κs =
-    let a = c .before .before .before .before .opening-at .ensures in
-    let p = c .before .before .before .before .before .before .before .before .pre in
+    let at-opening-at = c .before .before .before .before in let start = at-opening-at .before .before .before .before in
+    let a = at-opening-at .opening-at .ensures in
+    let p = start .pre in
     record { action = action-small _ _ _ a; begins = item-begins _ _ _ a (c .before .before .if1 .left) _ _ _ (p .lent) (p .part) (p .parts) (p .spaces) (p .comes) }
 
 end-of-item-requires : tie.Need-end-of-item-requires
@@ -43,10 +45,11 @@ same-length-3 c = search needs
 
 returns-2 : tie.Need-returns-2
 returns-2 c =
-    let a = c .before .before .before .before .before .before .before .before .before .before .opening-at .ensures in
+    let at-put-item = c .before .before .before .before .before in let at-if1 = at-put-item .before .before .before in let at-opening-at = at-if1 .before .before in
+    let a = at-opening-at .opening-at .ensures in
     let b = c .end-of-item .ensures in
-    let p = c .before .before .before .before .before .put-item .ensures in
-    let k = c .before .before .before .before .before .before .before .before .if1 .left in
+    let p = at-put-item .put-item .ensures in
+    let k = at-if1 .if1 .left in
     record { same = p .same; further = further-on a b; put = item-puts _ _ _ a k _ b p; on = item-on _ _ _ a k _ b }
 
 pub put-part-spec : {M : Type 1} → statement M

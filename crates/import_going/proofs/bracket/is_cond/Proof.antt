@@ -38,20 +38,23 @@ loop-less c = omega arith
 
 loop-again : tie.Need-loop-again Inv-loop μ-loop
 loop-again c =
-    let e = sym (c .before .s .given .1) ∙ c .before .before .before .see .ensures in
-    let d = on-depth (c .before .before .before .before .before .before .loop .depth) (c .before .s .given .0 .0) _ e in
-    let h = c .before .before .before .before .before .before .loop .inv .shallows in
+    let at-see = c .before .before .before in let at-loop-test = at-see .before .before in let at-loop = at-loop-test .before in
+    let e = sym (c .before .s .given .1) ∙ at-see .see .ensures in
+    let d = on-depth (at-loop .loop .depth) (c .before .s .given .0 .0) _ e in
+    let h = at-loop .loop .inv .shallows in
     record {
-      within = omega (arith, c .before .before .before .before .before .loop-test .taken);
+      within = omega (arith, at-loop-test .loop-test .taken);
       shallows = omega arith;
-      rest = sym (on-seen _ (c .before .before .before .before .before .before .loop .depth) (c .before .before .before .before .before .before .loop .i) _ (c .before .before .before .before .before .loop-test .taken) e) ∙ c .before .before .before .before .before .before .loop .inv .rest;
+      rest = sym (on-seen _ (at-loop .loop .depth) (at-loop .loop .i) _ (at-loop-test .loop-test .taken) e) ∙ at-loop .loop .inv .rest;
     }
 
 enum-known-s-2 : tie.Need-enum-known-s-2 Inv-loop μ-loop
 enum-known-s-2 c = search needs
 
 returns : tie.Need-returns Inv-loop μ-loop
-returns c = sym (on-seen _ (c .before .before .before .before .before .before .loop .depth) (c .before .before .before .before .before .before .loop .i) _ (c .before .before .before .before .before .loop-test .taken) (sym (c .before .s2 .given .1) ∙ c .before .before .before .see .ensures)) ∙ c .before .before .before .before .before .before .loop .inv .rest
+returns c =
+    let at-see = c .before .before .before in let at-loop-test = at-see .before .before in let at-loop = at-loop-test .before in
+    sym (on-seen _ (at-loop .loop .depth) (at-loop .loop .i) _ (at-loop-test .loop-test .taken) (sym (c .before .s2 .given .1) ∙ at-see .see .ensures)) ∙ at-loop .loop .inv .rest
 
 returns-2 : tie.Need-returns-2 Inv-loop μ-loop
 returns-2 c = seen-end _ _ (c .before .loop .depth) (c .before .loop .i) (c .before .loop .inv) (c .loop-test .left)

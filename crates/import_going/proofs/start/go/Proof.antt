@@ -44,13 +44,18 @@ loop-less : tie.Need-loop-less Inv-loop μ-loop
 loop-less c = omega arith
 
 loop-again : tie.Need-loop-again Inv-loop μ-loop
-loop-again c = goes-on _ _ _ _ _ _ (c .before .before .before .before .before .before .loop-test .taken) (c .before .before .before .before .bracket-at .ensures) (sym (c .before .t .given .1) ∙ c .before .before .before .after-byte .ensures) (c .before .before .before .before .before .before .before .loop .inv)
+loop-again c =
+    let at-after-byte = c .before .before .before in let at-bracket-at = at-after-byte .before in let at-loop-test = at-bracket-at .before .before in
+    let at-loop = at-loop-test .before in
+    goes-on _ _ _ _ _ _ (at-loop-test .loop-test .taken) (at-bracket-at .bracket-at .ensures) (sym (c .before .t .given .1) ∙ at-after-byte .after-byte .ensures) (at-loop .loop .inv)
 
 enum-told : tie.Need-enum-told Inv-loop μ-loop
 enum-told c = search needs
 
 returns : tie.Need-returns Inv-loop μ-loop
-returns c = atom-spotted _ _ (c .before .before .before .before .before .before .loop .s) _ _ (c .before .before .before .before .before .loop-test .taken) (c .before .before .before .bracket-at .ensures) (sym (c .enum-told .given .1) ∙ c .before .before .after-byte .ensures) (c .before .before .before .before .before .before .loop .inv)
+returns c =
+    let at-bracket-at = c .before .before .before in let at-loop-test = at-bracket-at .before .before in let at-loop = at-loop-test .before in
+    atom-spotted _ _ (at-loop .loop .s) _ _ (at-loop-test .loop-test .taken) (at-bracket-at .bracket-at .ensures) (sym (c .enum-told .given .1) ∙ c .before .before .after-byte .ensures) (at-loop .loop .inv)
 
 enum-told-2 : tie.Need-enum-told-2 Inv-loop μ-loop
 enum-told-2 c = search needs
@@ -62,19 +67,26 @@ result-behind-requires : tie.Need-result-behind-requires Inv-loop μ-loop
 result-behind-requires c κs = let h = c .before .before .before .before .before .loop-test .taken in omega arith
 
 returns-2 : tie.Need-returns-2 Inv-loop μ-loop
-returns-2 c = else-spotted _ _ (c .before .before .before .before .before .before .before .loop .s) _ _ (c .result-behind .result) (c .before .before .before .before .before .before .loop-test .taken) (c .before .before .before .before .bracket-at .ensures) (sym (c .before .enum-told2 .given .1) ∙ c .before .before .before .after-byte .ensures) (c .before .before .before .before .before .before .before .loop .inv) (c .result-behind .ensures)
+returns-2 c =
+    let at-after-byte = c .before .before .before in let at-bracket-at = at-after-byte .before in let at-loop-test = at-bracket-at .before .before in
+    let at-loop = at-loop-test .before in
+    else-spotted _ _ (at-loop .loop .s) _ _ (c .result-behind .result) (at-loop-test .loop-test .taken) (at-bracket-at .bracket-at .ensures) (sym (c .before .enum-told2 .given .1) ∙ at-after-byte .after-byte .ensures) (at-loop .loop .inv) (c .result-behind .ensures)
 
 enum-told-3 : tie.Need-enum-told-3 Inv-loop μ-loop
 enum-told-3 c = search needs
 
 returns-3 : tie.Need-returns-3 Inv-loop μ-loop
-returns-3 c = deep-spotted _ _ (c .before .before .before .before .before .before .loop .s) _ _ (c .before .before .before .before .before .loop-test .taken) (c .before .before .before .bracket-at .ensures) (sym (c .enum-told3 .given .1) ∙ c .before .before .after-byte .ensures) (c .before .before .before .before .before .before .loop .inv)
+returns-3 c =
+    let at-bracket-at = c .before .before .before in let at-loop-test = at-bracket-at .before .before in let at-loop = at-loop-test .before in
+    deep-spotted _ _ (at-loop .loop .s) _ _ (at-loop-test .loop-test .taken) (at-bracket-at .bracket-at .ensures) (sym (c .enum-told3 .given .1) ∙ c .before .before .after-byte .ensures) (at-loop .loop .inv)
 
 enum-told-4 : tie.Need-enum-told-4 Inv-loop μ-loop
 enum-told-4 c = search needs
 
 returns-4 : tie.Need-returns-4 Inv-loop μ-loop
-returns-4 c = lost-spotted _ _ (c .before .before .before .before .before .before .loop .s) _ _ (c .before .before .before .before .before .loop-test .taken) (c .before .before .before .bracket-at .ensures) (sym (c .enum-told4 .given .1) ∙ c .before .before .after-byte .ensures) (c .before .before .before .before .before .before .loop .inv)
+returns-4 c =
+    let at-bracket-at = c .before .before .before in let at-loop-test = at-bracket-at .before .before in let at-loop = at-loop-test .before in
+    lost-spotted _ _ (at-loop .loop .s) _ _ (at-loop-test .loop-test .taken) (at-bracket-at .bracket-at .ensures) (sym (c .enum-told4 .given .1) ∙ c .before .before .after-byte .ensures) (at-loop .loop .inv)
 
 returns-5 : tie.Need-returns-5 Inv-loop μ-loop
 returns-5 c = end-spotted _ _ (c .before .loop .s) (c .before .loop .i) (c .before .loop .inv) (c .loop-test .left)

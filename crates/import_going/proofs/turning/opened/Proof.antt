@@ -18,7 +18,9 @@ mul-t4 : tie.Need-mul-t4
 mul-t4 c = omega (arith, mask-bound _ _ (c .before .before .before .before .pre) (omega (arith, c .before .before .if1 .left)))
 
 add-t5 : tie.Need-add-t5
-add-t5 c = omega (arith, mask-bound _ _ (c .before .before .before .before .pre) (omega (arith, c .before .before .if1 .left)), c .before .bit .ensures, bit-most (c .before .before .before .before .args .s .sign))
+add-t5 c =
+    let start = c .before .before .before .before in
+    omega (arith, mask-bound _ _ (start .pre) (omega (arith, c .before .before .if1 .left)), c .before .bit .ensures, bit-most (start .args .s .sign))
 
 add-t6 : tie.Need-add-t6
 add-t6 c = search needs

@@ -28,7 +28,8 @@ goes-on-requires : tie.Need-goes-on-requires Inv-loop μ-loop
 goes-on-requires c κs = search needs
 
 grown-requires : tie.Need-grown-requires Inv-loop μ-loop
-grown-requires c κs = (c .before .before .before .before .before .before .pre .1, c .before .before .before .before .loop .inv .least)
+grown-requires c κs =
+    let at-loop = c .before .before .before .before in let start = at-loop .before .before in (start .pre .1, at-loop .loop .inv .least)
 
 add-i : tie.Need-add-i Inv-loop μ-loop
 add-i c = omega arith

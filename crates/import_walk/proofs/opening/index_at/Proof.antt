@@ -17,13 +17,18 @@ digit-value-requires : tie.Need-digit-value-requires
 digit-value-requires c κs = search needs
 
 returns : tie.Need-returns
-returns c = index-chance (c .before .before .before .before .args .text .now) (c .before .before .before .before .args .at) _ _ _ (c .if1 .taken) (c .before .digit-value .ensures) (c .before .before .byte-at .ensures)
+returns c =
+    let start = c .before .before .before .before in
+    index-chance (start .args .text .now) (start .args .at) _ _ _ (c .if1 .taken) (c .before .digit-value .ensures) (c .before .before .byte-at .ensures)
 
 returns-2 : tie.Need-returns-2
-returns-2 c = index-level (c .before .before .before .before .before .args .text .now) (c .before .before .before .before .before .args .at) _ _ _ (c .before .if1 .left) (c .if2 .taken) (c .before .before .digit-value .ensures) (c .before .before .before .byte-at .ensures)
+returns-2 c =
+    let at-byte-at = c .before .before .before in let start = at-byte-at .before .before in
+    index-level (start .args .text .now) (start .args .at) _ _ _ (c .before .if1 .left) (c .if2 .taken) (c .before .before .digit-value .ensures) (at-byte-at .byte-at .ensures)
 
 returns-3 : tie.Need-returns-3
-returns-3 c = index-none (c .before .before .before .before .before .args .text .now) (c .before .before .before .before .before .args .at) _ (c .before .if1 .left) (c .if2 .left)
+returns-3 c =
+    let start = c .before .before .before .before .before in index-none (start .args .text .now) (start .args .at) _ (c .before .if1 .left) (c .if2 .left)
 
 pub index-at-spec : {M : Type 1} → statement M
 index-at-spec =

@@ -29,14 +29,16 @@ row-requires-2 c κs = search needs
 returns-2 : tie.Need-returns-2
 unfolding action-given
 returns-2 c =
-    let h = sym (c .before .before .before .before .has .ensures ∙ ap (λ (k : ℕ). getD ((c .before .before .before .before .before .before .before) .args .flags .now) k false) (c .before .before .before .before .before .place .ensures)) ∙ c .before .before .before .if1 .taken in
+    let at-if1 = c .before .before .before in let at-has = at-if1 .before in let at-place = at-has .before in let start = at-place .before .before in
+    let h = sym (at-has .has .ensures ∙ ap (λ (k : ℕ). getD (start .args .flags .now) k false) (at-place .place .ensures)) ∙ at-if1 .if1 .taken in
     let r = sym (c .before .before .row .ensures) ∙ c .before .if2 .taken in
     rw (h, r) (c .row2 .ensures)
 
 returns-3 : tie.Need-returns-3
 unfolding action-given
 returns-3 c =
-    let h = sym (c .before .before .before .has .ensures ∙ ap (λ (k : ℕ). getD ((c .before .before .before .before .before .before) .args .flags .now) k false) (c .before .before .before .before .place .ensures)) ∙ c .before .before .if1 .taken in
+    let at-has = c .before .before .before in let at-place = at-has .before in let start = at-place .before .before in
+    let h = sym (at-has .has .ensures ∙ ap (λ (k : ℕ). getD (start .args .flags .now) k false) (at-place .place .ensures)) ∙ c .before .before .if1 .taken in
     let r = sym (c .before .row .ensures) ∙ c .if2 .left in
     rw (h, r)
 

@@ -34,19 +34,22 @@ loop-less c =
 
 loop-again : tie.Need-loop-again Inv-loop μ-loop
 loop-again c =
-    let t = run-turn (action-given ((c .before .before .before .before .before) .args .flags .now) (site-as ((c .before .before .before .before .before) .args .site))) (c .before .before .before .loop .a) ((c .before .before .before .before .before) .args .site .actions) (c .before .before .loop-test .taken) in
+    let at-loop = c .before .before .before in let start = at-loop .before .before in
+    let t = run-turn (action-given (start .args .flags .now) (site-as (start .args .site))) (at-loop .loop .a) (start .args .site .actions) (c .before .before .loop-test .taken) in
     let p = sym (c .before .action .ensures) ∙ c .if1 .taken in
-    (omega arith, sym (rw p at t) ∙ c .before .before .before .loop .inv .1)
+    (omega arith, sym (rw p at t) ∙ at-loop .loop .inv .1)
 
 returns : tie.Need-returns Inv-loop μ-loop
 returns c =
-    let t = run-turn (action-given ((c .before .before .before .before .before) .args .flags .now) (site-as ((c .before .before .before .before .before) .args .site))) (c .before .before .before .loop .a) ((c .before .before .before .before .before) .args .site .actions) (c .before .before .loop-test .taken) in
+    let at-loop = c .before .before .before in let start = at-loop .before .before in
+    let t = run-turn (action-given (start .args .flags .now) (site-as (start .args .site))) (at-loop .loop .a) (start .args .site .actions) (c .before .before .loop-test .taken) in
     let p = sym (c .before .action .ensures) ∙ c .if1 .left in
-    sym (rw p at t) ∙ c .before .before .before .loop .inv .1
+    sym (rw p at t) ∙ at-loop .loop .inv .1
 
 returns-2 : tie.Need-returns-2 Inv-loop μ-loop
 returns-2 c =
-    sym (run-done (action-given ((c .before .before .before) .args .flags .now) (site-as ((c .before .before .before) .args .site))) (c .before .loop .a) ((c .before .before .before) .args .site .actions) (c .loop-test .left)) ∙ c .before .loop .inv .1
+    let start = c .before .before .before in
+    sym (run-done (action-given (start .args .flags .now) (site-as (start .args .site))) (c .before .loop .a) (start .args .site .actions) (c .loop-test .left)) ∙ c .before .loop .inv .1
 
 pub complete-spec : {M : Type 1} → statement M
 complete-spec =

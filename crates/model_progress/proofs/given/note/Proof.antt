@@ -37,9 +37,10 @@ same-length c = search needs
 returns : tie.Need-returns
 unfolding noted
 returns c =
+    let at-place = c .before .before .before in let at-base = at-place .before in let at-c = at-base .before .before .before in let start = at-c .before .before .before in
     c .before .before .raise .ensures
-    ∙ ap (λ (k : ℕ). set (c .before .before .before .before .before .before .before .before .before .before .args .flags .now) k true) (c .before .before .before .place .ensures ∙ ap (λ (b : ℕ). place b (c .before .before .before .before .before .before .before .c .given .0 .1 .1 .0) (c .before .before .before .before .before .before .before .c .given .0 .1 .0)) (c .before .before .before .before .base .ensures .0))
-    ∙ ap (λ (d : CodeCommand). noted d (c .before .before .before .before .before .before .before .before .before .before .args .flags .now)) (sym (c .before .before .before .before .before .before .before .c .given .1))
+    ∙ ap (λ (k : ℕ). set (start .args .flags .now) k true) (at-place .place .ensures ∙ ap (λ (b : ℕ). place b (at-c .c .given .0 .1 .1 .0) (at-c .c .given .0 .1 .0)) (at-base .base .ensures .0))
+    ∙ ap (λ (d : CodeCommand). noted d (start .args .flags .now)) (sym (at-c .c .given .1))
 
 same-length-2 : tie.Need-same-length-2
 same-length-2 c = search needs
@@ -47,9 +48,10 @@ same-length-2 c = search needs
 returns-2 : tie.Need-returns-2
 unfolding noted
 returns-2 c =
+    let at-place2 = c .before .before .before in let at-c2 = at-place2 .before .before .before in let start = at-c2 .before .before .before in
     c .before .before .raise2 .ensures
-    ∙ ap (λ (k : ℕ). set (c .before .before .before .before .before .before .before .before .before .args .flags .now) k true) (c .before .before .before .place2 .ensures)
-    ∙ ap (λ (d : CodeCommand). noted d (c .before .before .before .before .before .before .before .before .before .args .flags .now)) (sym (c .before .before .before .before .before .before .c2 .given .1))
+    ∙ ap (λ (k : ℕ). set (start .args .flags .now) k true) (at-place2 .place2 .ensures)
+    ∙ ap (λ (d : CodeCommand). noted d (start .args .flags .now)) (sym (at-c2 .c2 .given .1))
 
 returns-3 : tie.Need-returns-3
 returns-3 c =

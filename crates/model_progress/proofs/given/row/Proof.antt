@@ -40,19 +40,22 @@ loop-less c =
 
 loop-again : tie.Need-loop-again Inv-loop μ-loop
 loop-again c =
-    let t = run-turn (λ k. getD ((c .before .before .before .before .before .before) .args .flags .now) (place ((c .before .before .before .before .before .before) .args .base) k ((c .before .before .before .before .before .before) .args .a)) false) (c .before .before .before .before .loop .i) ((c .before .before .before .before .before .before) .args .n) (c .before .before .before .loop-test .taken) in
-    let p = sym (c .before .has .ensures ∙ ap (λ k. getD ((c .before .before .before .before .before .before) .args .flags .now) k false) (c .before .before .place .ensures)) ∙ c .if1 .taken in
-    (omega arith, sym (rw p at t) ∙ c .before .before .before .before .loop .inv .1)
+    let at-loop-test = c .before .before .before in let at-loop = at-loop-test .before in let start = at-loop .before .before in
+    let t = run-turn (λ k. getD (start .args .flags .now) (place (start .args .base) k (start .args .a)) false) (at-loop .loop .i) (start .args .n) (at-loop-test .loop-test .taken) in
+    let p = sym (c .before .has .ensures ∙ ap (λ k. getD (start .args .flags .now) k false) (c .before .before .place .ensures)) ∙ c .if1 .taken in
+    (omega arith, sym (rw p at t) ∙ at-loop .loop .inv .1)
 
 returns : tie.Need-returns Inv-loop μ-loop
 returns c =
-    let t = run-turn (λ k. getD ((c .before .before .before .before .before .before) .args .flags .now) (place ((c .before .before .before .before .before .before) .args .base) k ((c .before .before .before .before .before .before) .args .a)) false) (c .before .before .before .before .loop .i) ((c .before .before .before .before .before .before) .args .n) (c .before .before .before .loop-test .taken) in
-    let p = sym (c .before .has .ensures ∙ ap (λ k. getD ((c .before .before .before .before .before .before) .args .flags .now) k false) (c .before .before .place .ensures)) ∙ c .if1 .left in
-    sym (rw p at t) ∙ c .before .before .before .before .loop .inv .1
+    let at-loop-test = c .before .before .before in let at-loop = at-loop-test .before in let start = at-loop .before .before in
+    let t = run-turn (λ k. getD (start .args .flags .now) (place (start .args .base) k (start .args .a)) false) (at-loop .loop .i) (start .args .n) (at-loop-test .loop-test .taken) in
+    let p = sym (c .before .has .ensures ∙ ap (λ k. getD (start .args .flags .now) k false) (c .before .before .place .ensures)) ∙ c .if1 .left in
+    sym (rw p at t) ∙ at-loop .loop .inv .1
 
 returns-2 : tie.Need-returns-2 Inv-loop μ-loop
 returns-2 c =
-    sym (run-done (λ k. getD ((c .before .before .before) .args .flags .now) (place ((c .before .before .before) .args .base) k ((c .before .before .before) .args .a)) false) (c .before .loop .i) ((c .before .before .before) .args .n) (c .loop-test .left)) ∙ c .before .loop .inv .1
+    let start = c .before .before .before in
+    sym (run-done (λ k. getD (start .args .flags .now) (place (start .args .base) k (start .args .a)) false) (c .before .loop .i) (start .args .n) (c .loop-test .left)) ∙ c .before .loop .inv .1
 
 pub row-spec : {M : Type 1} → statement M
 row-spec =

@@ -28,11 +28,13 @@ zeros-requires c κs = search needs
 
 returns : tie.Need-returns
 returns c =
-    ap not (c .zeros .ensures ∙ ap (λ (k : ℕ). zeros (signed-from ((c .before .before .before .before) .args .model .now) ((c .before .before .before .before) .args .from + (c .before .before .before .before) .args .m * 4) (k - (c .before .before .before .before) .args .m))) (c .before .before .levels .ensures .0)) ∙ beyond-from ((c .before .before .before .before) .args .model .now) (form-of ((c .before .before .before .before) .args .form)) ((c .before .before .before .before) .args .m) ((c .before .before .before .before) .args .from)
+    let start = c .before .before .before .before in
+    ap not (c .zeros .ensures ∙ ap (λ (k : ℕ). zeros (signed-from (start .args .model .now) (start .args .from + start .args .m * 4) (k - start .args .m))) (c .before .before .levels .ensures .0)) ∙ beyond-from (start .args .model .now) (form-of (start .args .form)) (start .args .m) (start .args .from)
 
 returns-2 : tie.Need-returns-2
 returns-2 c =
-    none-beyond ((c .before .before .before) .args .model .now) (form-of ((c .before .before .before) .args .form)) ((c .before .before .before) .args .m) ((c .before .before .before) .args .from) (let h = c .if1 .left in omega (arith, c .before .levels .ensures .0))
+    let start = c .before .before .before in
+    none-beyond (start .args .model .now) (form-of (start .args .form)) (start .args .m) (start .args .from) (let h = c .if1 .left in omega (arith, c .before .levels .ensures .0))
 
 pub beyond-spec : {M : Type 1} → statement M
 beyond-spec =

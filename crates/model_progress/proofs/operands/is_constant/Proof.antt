@@ -17,7 +17,8 @@ zeros-requires c κs = search needs
 
 returns : tie.Need-returns
 returns c =
-    c .zeros .ensures ∙ ap (λ (k : ℕ). zeros (signed-from ((c .before .before .before) .args .model .now) ((c .before .before .before) .args .from) k)) (c .before .levels .ensures .0) ∙ constant-from ((c .before .before .before) .args .model .now) (form-of ((c .before .before .before) .args .form)) ((c .before .before .before) .args .from)
+    let start = c .before .before .before in
+    c .zeros .ensures ∙ ap (λ (k : ℕ). zeros (signed-from (start .args .model .now) (start .args .from) k)) (c .before .levels .ensures .0) ∙ constant-from (start .args .model .now) (form-of (start .args .form)) (start .args .from)
 
 pub is-constant-spec : {M : Type 1} → statement M
 is-constant-spec = tie.close (tie.spec levels-requires zeros-requires returns)

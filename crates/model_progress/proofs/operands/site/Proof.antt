@@ -33,7 +33,8 @@ among-requires-2 c κs = search needs
 returns-3 : tie.Need-returns-3
 unfolding first-broken site-rules
 returns-3 c =
-    simp (sym (c .before .before .before .before .before .among .ensures ∙ ap (λ (n : ℕ). is-among n ((c .before .before .before .before .before .before .before) .args .m)) (c .before .before .before .before .before .before .levels .ensures .0)) ∙ c .before .before .before .before .if1 .taken, le-ltb _ _ (c .before .before .before .if2 .left), sym (c .before .among2 .ensures ∙ ap (λ (n : ℕ). is-among n ((c .before .before .before .before .before .before .before) .args .a)) (c .before .before .actions .ensures)) ∙ c .if3 .left)
+    let at-if2 = c .before .before .before in let at-if1 = at-if2 .before in let at-among = at-if1 .before in let at-levels = at-among .before in let start = at-levels .before in
+    simp (sym (at-among .among .ensures ∙ ap (λ (n : ℕ). is-among n (start .args .m)) (at-levels .levels .ensures .0)) ∙ at-if1 .if1 .taken, le-ltb _ _ (at-if2 .if2 .left), sym (c .before .among2 .ensures ∙ ap (λ (n : ℕ). is-among n (start .args .a)) (c .before .before .actions .ensures)) ∙ c .if3 .left)
 
 among-requires-3 : tie.Need-among-requires-3
 among-requires-3 c κs = search needs
@@ -41,12 +42,16 @@ among-requires-3 c κs = search needs
 returns-4 : tie.Need-returns-4
 unfolding first-broken site-rules
 returns-4 c =
-    simp (sym (c .before .before .before .before .before .before .before .among .ensures ∙ ap (λ (n : ℕ). is-among n ((c .before .before .before .before .before .before .before .before .before) .args .m)) (c .before .before .before .before .before .before .before .before .levels .ensures .0)) ∙ c .before .before .before .before .before .before .if1 .taken, le-ltb _ _ (c .before .before .before .before .before .if2 .left), sym (c .before .before .before .among2 .ensures ∙ ap (λ (n : ℕ). is-among n ((c .before .before .before .before .before .before .before .before .before) .args .a)) (c .before .before .before .before .actions .ensures)) ∙ c .before .before .if3 .taken, sym (c .before .among3 .ensures) ∙ c .if4 .taken)
+    let at-among2 = c .before .before .before in let at-actions = at-among2 .before in let at-if2 = at-actions .before in let at-if1 = at-if2 .before in
+    let at-among = at-if1 .before in let at-levels = at-among .before in let start = at-levels .before in
+    simp (sym (at-among .among .ensures ∙ ap (λ (n : ℕ). is-among n (start .args .m)) (at-levels .levels .ensures .0)) ∙ at-if1 .if1 .taken, le-ltb _ _ (at-if2 .if2 .left), sym (at-among2 .among2 .ensures ∙ ap (λ (n : ℕ). is-among n (start .args .a)) (at-actions .actions .ensures)) ∙ c .before .before .if3 .taken, sym (c .before .among3 .ensures) ∙ c .if4 .taken)
 
 returns-5 : tie.Need-returns-5
 unfolding first-broken site-rules
 returns-5 c =
-    simp (sym (c .before .before .before .before .before .before .before .among .ensures ∙ ap (λ (n : ℕ). is-among n ((c .before .before .before .before .before .before .before .before .before) .args .m)) (c .before .before .before .before .before .before .before .before .levels .ensures .0)) ∙ c .before .before .before .before .before .before .if1 .taken, le-ltb _ _ (c .before .before .before .before .before .if2 .left), sym (c .before .before .before .among2 .ensures ∙ ap (λ (n : ℕ). is-among n ((c .before .before .before .before .before .before .before .before .before) .args .a)) (c .before .before .before .before .actions .ensures)) ∙ c .before .before .if3 .taken, sym (c .before .among3 .ensures) ∙ c .if4 .left)
+    let at-among2 = c .before .before .before in let at-actions = at-among2 .before in let at-if2 = at-actions .before in let at-if1 = at-if2 .before in
+    let at-among = at-if1 .before in let at-levels = at-among .before in let start = at-levels .before in
+    simp (sym (at-among .among .ensures ∙ ap (λ (n : ℕ). is-among n (start .args .m)) (at-levels .levels .ensures .0)) ∙ at-if1 .if1 .taken, le-ltb _ _ (at-if2 .if2 .left), sym (at-among2 .among2 .ensures ∙ ap (λ (n : ℕ). is-among n (start .args .a)) (at-actions .actions .ensures)) ∙ c .before .before .if3 .taken, sym (c .before .among3 .ensures) ∙ c .if4 .left)
 
 pub site-spec : {M : Type 1} → statement M
 site-spec =

@@ -32,9 +32,10 @@ printable-requires c κs =
 
 returns-2 : tie.Need-returns-2 Inv-loop μ-loop
 returns-2 c =
-    let t = part-turn printable ((c .before .before .before .before .before .before .before) .args .model .now) (c .before .before .before .before .before .loop .at) (c .before .before .before .before .before .loop .left) (c .before .before .before .if1 .left) (c .before .before .before .before .loop-test .taken) in
+    let at-if1 = c .before .before .before in let at-loop-test = at-if1 .before in let at-loop = at-loop-test .before in let start = at-loop .before .before in
+    let t = part-turn printable (start .args .model .now) (at-loop .loop .at) (at-loop .loop .left) (at-if1 .if1 .left) (at-loop-test .loop-test .taken) in
     let p = sym (c .before .printable .ensures) ∙ c .if2 .left in
-    sym (rw p at t) ∙ c .before .before .before .before .before .loop .inv
+    sym (rw p at t) ∙ at-loop .loop .inv
 
 add-at : tie.Need-add-at Inv-loop μ-loop
 add-at c =
@@ -50,9 +51,10 @@ loop-less c =
 
 loop-again : tie.Need-loop-again Inv-loop μ-loop
 loop-again c =
-    let t = part-turn printable ((c .before .before .before .before .before .before .before) .args .model .now) (c .before .before .before .before .before .loop .at) (c .before .before .before .before .before .loop .left) (c .before .before .before .if1 .left) (c .before .before .before .before .loop-test .taken) in
+    let at-if1 = c .before .before .before in let at-loop-test = at-if1 .before in let at-loop = at-loop-test .before in let start = at-loop .before .before in
+    let t = part-turn printable (start .args .model .now) (at-loop .loop .at) (at-loop .loop .left) (at-if1 .if1 .left) (at-loop-test .loop-test .taken) in
     let p = sym (c .before .printable .ensures) ∙ c .if2 .taken in
-    sym (rw p at t) ∙ c .before .before .before .before .before .loop .inv
+    sym (rw p at t) ∙ at-loop .loop .inv
 
 returns-3 : tie.Need-returns-3 Inv-loop μ-loop
 unfolding all

@@ -34,7 +34,8 @@ both-requires c κs = search needs
 
 returns : tie.Need-returns
 returns c =
-    c .both .ensures ∙ weight-from ((c .before .before .before .before .before .before) .args .model .now) (form-of ((c .before .before .before .before .before .before) .args .form)) ((c .before .before .before .before .before .before) .args .w) ((c .before .before .before .before .before .before) .args .from) (c .before .before .before .is-constant .result) (c .before .weight-of .result) (c .before .before .before .is-constant .ensures) (c .before .weight-of .ensures ∙ ap (λ (n : ℕ). leZ (pos 0) (signed n) && leZ (signed n) (pos ((c .before .before .before .before .before .before) .args .w))) (c .before .before .word .ensures ∙ ap (λ (k : ℕ). word-at ((c .before .before .before .before .before .before) .args .model .now) ((c .before .before .before .before .before .before) .args .from + k * 4)) (c .before .before .before .before .levels .ensures .0)))
+    let at-is-constant = c .before .before .before in let at-levels = at-is-constant .before in let start = at-levels .before .before in
+    c .both .ensures ∙ weight-from (start .args .model .now) (form-of (start .args .form)) (start .args .w) (start .args .from) (at-is-constant .is-constant .result) (c .before .weight-of .result) (at-is-constant .is-constant .ensures) (c .before .weight-of .ensures ∙ ap (λ (n : ℕ). leZ (pos 0) (signed n) && leZ (signed n) (pos (start .args .w))) (c .before .before .word .ensures ∙ ap (λ (k : ℕ). word-at (start .args .model .now) (start .args .from + k * 4)) (at-levels .levels .ensures .0)))
 
 pub weight-spec : {M : Type 1} → statement M
 weight-spec =

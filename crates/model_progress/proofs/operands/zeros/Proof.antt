@@ -28,9 +28,10 @@ word-requires c κs =
 
 returns : tie.Need-returns Inv-loop μ-loop
 returns c =
-    let t = zeros-turn (c .before .before .before .before .before .args .model .now) (c .before .before .before .loop .at) (c .before .before .before .loop .left) (c .before .before .loop-test .taken) in
+    let at-loop = c .before .before .before in
+    let t = zeros-turn (c .before .before .before .before .before .args .model .now) (at-loop .loop .at) (at-loop .loop .left) (c .before .before .loop-test .taken) in
     let p = ne-eqb _ _ (λ z. c .if1 .taken (c .before .word .ensures ∙ z)) in
-    sym (rw p at t) ∙ c .before .before .before .loop .inv .1
+    sym (rw p at t) ∙ at-loop .loop .inv .1
 
 add-at : tie.Need-add-at Inv-loop μ-loop
 add-at c =
@@ -46,10 +47,11 @@ loop-less c =
 
 loop-again : tie.Need-loop-again Inv-loop μ-loop
 loop-again c =
-    let t = zeros-turn (c .before .before .before .before .before .args .model .now) (c .before .before .before .loop .at) (c .before .before .before .loop .left) (c .before .before .loop-test .taken) in
+    let at-loop = c .before .before .before in
+    let t = zeros-turn (c .before .before .before .before .before .args .model .now) (at-loop .loop .at) (at-loop .loop .left) (c .before .before .loop-test .taken) in
     let p = eq-eqb _ _ (sym (c .before .word .ensures) ∙ c .if1 .left) in
-    let h = c .before .before .before .loop .inv .0 in
-    (omega (arith, c .before .before .loop-test .taken), sym (rw p at t) ∙ c .before .before .before .loop .inv .1)
+    let h = at-loop .loop .inv .0 in
+    (omega (arith, c .before .before .loop-test .taken), sym (rw p at t) ∙ at-loop .loop .inv .1)
 
 returns-2 : tie.Need-returns-2 Inv-loop μ-loop
 returns-2 c =

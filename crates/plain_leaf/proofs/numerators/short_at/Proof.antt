@@ -35,11 +35,11 @@ mul-number c =
 
 add-number : tie.Need-add-number Inv-loop μ-loop
 add-number c =
-    omega (arith, c .before .before .before .pre .0, c .loop-test .taken, c .before .before .before .pre .1 .few, c .before .before .before .good)
+    let start = c .before .before .before in omega (arith, start .pre .0, c .loop-test .taken, start .pre .1 .few, start .good)
 
 number-requires : tie.Need-number-requires Inv-loop μ-loop
 number-requires c κs =
-    let f = c .before .before .before .pre .1 .few in let p = c .before .before .before .pre .0 in omega arith
+    let start = c .before .before .before in let f = start .pre .1 .few in let p = start .pre .0 in omega arith
 
 few-requires : tie.Need-few-requires Inv-loop μ-loop
 few-requires c κs =
@@ -51,27 +51,32 @@ returns c =
 
 mul-b : tie.Need-mul-b Inv-loop μ-loop
 mul-b c =
-    omega (arith, c .before .before .before .before .loop .inv .1, c .before .before .before .before .before .before .pre .1 .few)
+    let at-loop = c .before .before .before .before in let start = at-loop .before .before in omega (arith, at-loop .loop .inv .1, start .pre .1 .few)
 
 shared-slice-copy-out-b : tie.Need-shared-slice-copy-out-b Inv-loop μ-loop
 shared-slice-copy-out-b c =
-    omega (arith, c .before .before .before .loop-test .taken, c .before .before .before .before .before .before .pre .1 .few)
+    let at-loop-test = c .before .before .before in let start = at-loop-test .before .before .before in
+    omega (arith, at-loop-test .loop-test .taken, start .pre .1 .few)
 
 cast-b : tie.Need-cast-b Inv-loop μ-loop
 cast-b c =
-    widens (getD (c .before .before .before .before .before .before .before .args .n .now) (c .before .before .before .before .before .loop .i) (pos 0)) (record { sfits = c .b .given })
+    let at-loop = c .before .before .before .before .before in let start = at-loop .before .before in
+    widens (getD (start .args .n .now) (at-loop .loop .i) (pos 0)) (record { sfits = c .b .given })
 
 mul-p : tie.Need-mul-p Inv-loop μ-loop
 mul-p c =
-    product-fits (c .before .before .before .number .result) (getD (c .before .before .before .before .before .before .before .args .n .now) (c .before .before .before .before .before .loop .i) (pos 0)) (subst Small (sym (c .before .before .before .number .ensures)) (signed-small _)) (record { sfits = c .b .given }) refl (leb-true _ _ (sym (c .before .before .few .ensures) ∙ c .before .if1 .taken))
+    let at-number = c .before .before .before in let at-loop = at-number .before .before in let start = at-loop .before .before in
+    product-fits (at-number .number .result) (getD (start .args .n .now) (at-loop .loop .i) (pos 0)) (subst Small (sym (at-number .number .ensures)) (signed-small _)) (record { sfits = c .b .given }) refl (leb-true _ _ (sym (c .before .before .few .ensures) ∙ c .before .if1 .taken))
 
 add-s : tie.Need-add-s Inv-loop μ-loop
 add-s c =
-    sum-fits (c .before .before .before .number .result) (getD (c .before .before .before .before .before .before .before .args .n .now) (c .before .before .before .before .before .loop .i) (pos 0)) (subst Small (sym (c .before .before .before .number .ensures)) (signed-small _)) (record { sfits = c .b .given }) refl (leb-true _ _ (sym (c .before .before .few .ensures) ∙ c .before .if1 .taken)) (c .before .before .before .before .before .loop .inv .0) (let f = c .before .before .before .before .before .before .before .pre .1 .few in let h = c .before .before .before .before .loop-test .taken in omega arith)
+    let at-number = c .before .before .before in let at-loop-test = at-number .before in let at-loop = at-loop-test .before in let start = at-loop .before .before in
+    sum-fits (at-number .number .result) (getD (start .args .n .now) (at-loop .loop .i) (pos 0)) (subst Small (sym (at-number .number .ensures)) (signed-small _)) (record { sfits = c .b .given }) refl (leb-true _ _ (sym (c .before .before .few .ensures) ∙ c .before .if1 .taken)) (at-loop .loop .inv .0) (let f = start .pre .1 .few in let h = at-loop-test .loop-test .taken in omega arith)
 
 add-i : tie.Need-add-i Inv-loop μ-loop
 add-i c =
-    omega (arith, c .before .before .before .before .loop-test .taken, c .before .before .before .before .before .before .before .pre .1 .few)
+    let at-loop-test = c .before .before .before .before in let start = at-loop-test .before .before .before in
+    omega (arith, at-loop-test .loop-test .taken, start .pre .1 .few)
 
 loop-less : tie.Need-loop-less Inv-loop μ-loop
 loop-less c =
@@ -79,7 +84,8 @@ loop-less c =
 
 loop-again : tie.Need-loop-again Inv-loop μ-loop
 loop-again c =
-    let f = c .before .before .before .before .before .before .before .pre .1 .few in let h = c .before .before .before .before .loop-test .taken in (one-added (c .before .before .before .number .result) (getD (c .before .before .before .before .before .before .before .args .n .now) (c .before .before .before .before .before .loop .i) (pos 0)) (subst Small (sym (c .before .before .before .number .ensures)) (signed-small _)) (record { sfits = c .b .given }) refl (leb-true _ _ (sym (c .before .before .few .ensures) ∙ c .before .if1 .taken)) (c .before .before .before .before .before .loop .inv .0) (omega arith) (listed-long _ _) (c .before .before .before .before .before .before .before .pre .2) (c .before .before .before .number .ensures ∙ sym (listed-at (c .before .before .before .before .before .before .before .args .model .now) (c .before .before .before .before .before .before .before .args .at) (c .before .before .before .before .before .loop .i) (omega arith))) refl, omega arith)
+    let at-number = c .before .before .before in let at-loop-test = at-number .before in let at-loop = at-loop-test .before in let start = at-loop .before .before in
+    let f = start .pre .1 .few in let h = at-loop-test .loop-test .taken in (one-added (at-number .number .result) (getD (start .args .n .now) (at-loop .loop .i) (pos 0)) (subst Small (sym (at-number .number .ensures)) (signed-small _)) (record { sfits = c .b .given }) refl (leb-true _ _ (sym (c .before .before .few .ensures) ∙ c .before .if1 .taken)) (at-loop .loop .inv .0) (omega arith) (listed-long _ _) (start .pre .2) (at-number .number .ensures ∙ sym (listed-at (start .args .model .now) (start .args .at) (at-loop .loop .i) (omega arith))) refl, omega arith)
 
 mul-number-2 : tie.Need-mul-number-2 Inv-loop μ-loop
 mul-number-2 c =
@@ -87,7 +93,7 @@ mul-number-2 c =
 
 add-number-2 : tie.Need-add-number-2 Inv-loop μ-loop
 add-number-2 c =
-    omega (arith, c .before .before .before .pre .0, c .before .before .before .good)
+    let start = c .before .before .before in omega (arith, start .pre .0, start .good)
 
 number-requires-2 : tie.Need-number-requires-2 Inv-loop μ-loop
 number-requires-2 c κs =
@@ -107,19 +113,23 @@ shared-slice-copy-out-d c =
 
 cast-d : tie.Need-cast-d Inv-loop μ-loop
 cast-d c =
-    widens (getD (c .before .before .before .before .before .before .before .args .n .now) levels-most (pos 0)) (record { sfits = c .d .given })
+    let start = c .before .before .before .before .before .before .before in
+    widens (getD (start .args .n .now) levels-most (pos 0)) (record { sfits = c .d .given })
 
 mul-q : tie.Need-mul-q Inv-loop μ-loop
 mul-q c =
-    product-fits (c .before .before .before .number2 .result) (getD (c .before .before .before .before .before .before .before .args .n .now) levels-most (pos 0)) (subst Small (sym (c .before .before .before .number2 .ensures)) (signed-small _)) (record { sfits = c .d .given }) refl (leb-true _ _ (sym (c .before .before .few2 .ensures) ∙ c .before .if2 .taken))
+    let at-number2 = c .before .before .before in let start = at-number2 .before .before .before .before in
+    product-fits (at-number2 .number2 .result) (getD (start .args .n .now) levels-most (pos 0)) (subst Small (sym (at-number2 .number2 .ensures)) (signed-small _)) (record { sfits = c .d .given }) refl (leb-true _ _ (sym (c .before .before .few2 .ensures) ∙ c .before .if2 .taken))
 
 add-s-2 : tie.Need-add-s-2 Inv-loop μ-loop
 add-s-2 c =
-    sum-fits (c .before .before .before .number2 .result) (getD (c .before .before .before .before .before .before .before .args .n .now) levels-most (pos 0)) (subst Small (sym (c .before .before .before .number2 .ensures)) (signed-small _)) (record { sfits = c .d .given }) refl (leb-true _ _ (sym (c .before .before .few2 .ensures) ∙ c .before .if2 .taken)) (flat-added _ (point-at 0 0 (c .before .before .before .before .before .before .before .args .n .now) (c .before .before .before .before .before .before .before .args .m)) (listed-long _ _) (c .before .before .before .before .before .before .before .pre .2) (c .before .before .before .before .before .before .before .pre .1) (c .before .before .before .before .before .loop .inv .1) (c .before .before .before .before .loop-test .left) (c .before .before .before .before .before .loop .inv .0)) (omega arith)
+    let at-number2 = c .before .before .before in let at-loop-test = at-number2 .before in let at-loop = at-loop-test .before in let start = at-loop .before .before in
+    sum-fits (at-number2 .number2 .result) (getD (start .args .n .now) levels-most (pos 0)) (subst Small (sym (at-number2 .number2 .ensures)) (signed-small _)) (record { sfits = c .d .given }) refl (leb-true _ _ (sym (c .before .before .few2 .ensures) ∙ c .before .if2 .taken)) (flat-added _ (point-at 0 0 (start .args .n .now) (start .args .m)) (listed-long _ _) (start .pre .2) (start .pre .1) (at-loop .loop .inv .1) (at-loop-test .loop-test .left) (at-loop .loop .inv .0)) (omega arith)
 
 returns-3 : tie.Need-returns-3 Inv-loop μ-loop
 returns-3 c =
-    λ e. sum-is (c .before .before .before .before .before .before .before .args .model .now) (c .before .before .before .before .before .before .before .args .at) (point-at 0 0 (c .before .before .before .before .before .before .before .args .n .now) (c .before .before .before .before .before .before .before .args .m)) (c .before .before .before .before .before .before .before .pre .2) (one-added (c .before .before .before .number2 .result) (getD (c .before .before .before .before .before .before .before .args .n .now) levels-most (pos 0)) (subst Small (sym (c .before .before .before .number2 .ensures)) (signed-small _)) (record { sfits = c .d .given }) refl (leb-true _ _ (sym (c .before .before .few2 .ensures) ∙ c .before .if2 .taken)) (flat-added _ (point-at 0 0 (c .before .before .before .before .before .before .before .args .n .now) (c .before .before .before .before .before .before .before .args .m)) (listed-long _ _) (c .before .before .before .before .before .before .before .pre .2) (c .before .before .before .before .before .before .before .pre .1) (c .before .before .before .before .before .loop .inv .1) (c .before .before .before .before .loop-test .left) (c .before .before .before .before .before .loop .inv .0)) (omega arith) (listed-long _ _) (c .before .before .before .before .before .before .before .pre .2) (c .before .before .before .number2 .ensures ∙ sym (listed-at (c .before .before .before .before .before .before .before .args .model .now) (c .before .before .before .before .before .before .before .args .at) levels-most (omega arith))) refl) ∙ numbers-alone (point-at 0 0 (c .before .before .before .before .before .before .before .args .n .now) (c .before .before .before .before .before .before .before .args .m)) (nums-at (c .before .before .before .before .before .before .before .args .n .now)) refl _
+    let at-number2 = c .before .before .before in let at-loop-test = at-number2 .before in let at-loop = at-loop-test .before in let start = at-loop .before .before in
+    λ e. sum-is (start .args .model .now) (start .args .at) (point-at 0 0 (start .args .n .now) (start .args .m)) (start .pre .2) (one-added (at-number2 .number2 .result) (getD (start .args .n .now) levels-most (pos 0)) (subst Small (sym (at-number2 .number2 .ensures)) (signed-small _)) (record { sfits = c .d .given }) refl (leb-true _ _ (sym (c .before .before .few2 .ensures) ∙ c .before .if2 .taken)) (flat-added _ (point-at 0 0 (start .args .n .now) (start .args .m)) (listed-long _ _) (start .pre .2) (start .pre .1) (at-loop .loop .inv .1) (at-loop-test .loop-test .left) (at-loop .loop .inv .0)) (omega arith) (listed-long _ _) (start .pre .2) (at-number2 .number2 .ensures ∙ sym (listed-at (start .args .model .now) (start .args .at) levels-most (omega arith))) refl) ∙ numbers-alone (point-at 0 0 (start .args .n .now) (start .args .m)) (nums-at (start .args .n .now)) refl _
 
 pub short-at-spec : {M : Type 1} → statement M
 short-at-spec =

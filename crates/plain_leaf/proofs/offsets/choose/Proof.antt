@@ -42,7 +42,8 @@ same-length c = search needs
 
 returns-4 : tie.Need-returns-4
 returns-4 c =
-    low-held (c .before .before .before .args .items .now) (c .before .before .before .args .len) (c .before .before .before .pre) (c .before .if3 .left) (c .before .before .before .args .high) (c .before .before .if1 .left)
+    let start = c .before .before .before in
+    low-held (start .args .items .now) (start .args .len) (start .pre) (c .before .if3 .left) (start .args .high) (c .before .before .if1 .left)
 
 pub choose-spec : {M : Type 1} → statement M
 choose-spec =

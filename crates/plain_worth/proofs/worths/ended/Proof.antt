@@ -16,7 +16,8 @@ worth-of-requires c κs = search needs
 
 returns : tie.Need-returns
 returns c =
-    ended-is (c .before .before .before .before .before .args .model .now) (c .before .before .before .before .before .args .x) (c .before .before .before .before .before .pre .0) (c .before .before .end-at .ensures) (c .before .narrow .ensures) (c .worth-of .ensures)
+    let start = c .before .before .before .before .before in
+    ended-is (start .args .model .now) (start .args .x) (start .pre .0) (c .before .before .end-at .ensures) (c .before .narrow .ensures) (c .worth-of .ensures)
 
 pub ended-spec : {M : Type 1} → statement M
 ended-spec = tie.close (tie.spec end-at-requires narrow-requires worth-of-requires returns)

@@ -15,7 +15,8 @@ same-length c = search needs
 
 returns : tie.Need-returns
 returns c =
-    find-given (c .before .before .before .before .before .before .before .before .args .out .now) (c .before .before .found .ensures) (c .before .before .before .find .ensures)
+    let at-find = c .before .before .before in let start = at-find .before .before .before .before .before in
+    find-given (start .args .out .now) (c .before .before .found .ensures) (at-find .find .ensures)
 
 pub planner-find-spec : {M : Type 1} → statement M
 planner-find-spec = tie.close (tie.spec find-requires found-requires same-length returns)

@@ -21,10 +21,10 @@ same-length-2 c = search needs
 
 returns : tie.Need-returns
 returns c =
-    let s = c .before .before .before .before .before .before .before .before .before .before .before in
+    let at-page = c .before .before .before .before in let place-2 = at-page .before .before .before .before .before .before .before in let s = place-2 in
     let a = s .args in
     let n : List ℤ = a .l1 ∷ a .l2 ∷ a .l3 ∷ a .l4 ∷ a .l5 ∷ a .l6 ∷ a .l7 ∷ a .l8 ∷ a .d ∷ [] in
-    c .before .before .before .before .page .ensures
+    at-page .page .ensures
     ∙ ap (λ (l : List ℤ). listing-answer (page (a .bytes .now) (a .horizon) (a .nodes .now) (a .stages .now) (asked-by (a .mask) l) (a .text .now) (a .place)) (a .text .now) (a .out .now))
     (read-back n (s .fits .l1, (s .fits .l2, (s .fits .l3, (s .fits .l4, (s .fits .l5, (s .fits .l6, (s .fits .l7, (s .fits .l8, (s .fits .d, tt))))))))))
 

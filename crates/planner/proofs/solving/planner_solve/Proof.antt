@@ -13,7 +13,7 @@ short-requires c κs = search needs
 
 returns : tie.Need-returns
 returns c =
-    let a = c .before .before .before .before .before .before .before .before .args in
+    let start = c .before .before .before .before .before .before .before .before in let a = start .args in
     solve-short (a .bytes .now) (a .horizon) (a .nodes .now) (a .stages .now) (a .work .now) (a .peaks .now) (c .before .before .if1 .taken) (c .before .early .ensures) (c .short .ensures)
 
 solve-requires : tie.Need-solve-requires
@@ -39,11 +39,12 @@ same-length-5 c = search needs
 
 returns-2 : tie.Need-returns-2
 returns-2 c =
-    let a = c .before .before .before .before .before .before .before .before .before .before .before .before .before .before .before .before .before .before .before .before .before .before .args in
-    let v = c .before .before .before .before .before .before .before .before .before .before .before .solve in
+    let at-solve = c .before .before .before .before .before .before .before .before .before .before .before in let at-if1 = at-solve .before .before .before .before .before in
+    let start = at-if1 .before .before .before .before .before .before in let a = start .args in
+    let v = at-solve .solve in
     solve-whole (a .nodes .now) (a .stages .now) (a .work .now) (a .peaks .now) (a .out .now)
     {o = record { number = v .result .number; place = v .result .place; peak = v .result .peak; nodes = v .last .1 .1 .0; stages = v .last .1 .1 .1 .0; work = v .last .1 .1 .1 .1 .0; peaks = v .last .1 .1 .1 .1 .1 .0 }}
-    {v = solve (a .bytes .now) (a .horizon) (a .nodes .now) (a .stages .now) (a .work .now) (a .peaks .now)} (c .before .before .before .before .before .before .before .before .before .before .before .before .before .before .before .before .if1 .left) (v .ensures) (c .before .before .put-pair .ensures .0)
+    {v = solve (a .bytes .now) (a .horizon) (a .nodes .now) (a .stages .now) (a .work .now) (a .peaks .now)} (at-if1 .if1 .left) (v .ensures) (c .before .before .put-pair .ensures .0)
 
 pub planner-solve-spec : {M : Type 1} → statement M
 planner-solve-spec =

@@ -22,8 +22,9 @@ same-length c = search needs
 
 returns : tie.Need-returns
 returns c =
-    let a = c .before .before .before .before .before .before .before .before .before .before .args in
-    listing-short (a .bytes .now) (a .horizon) (a .nodes .now) (a .stages .now) (a .place) (a .text .now) (c .before .before .before .before .before .if1 .taken) (c .before .before .before .listing .ensures) (c .before .before .before .listing .kept .1 .1 .1 .1 .0) (c .short .ensures)
+    let at-listing = c .before .before .before in let at-if1 = at-listing .before .before in let start = at-if1 .before .before .before .before .before in
+    let a = start .args in
+    listing-short (a .bytes .now) (a .horizon) (a .nodes .now) (a .stages .now) (a .place) (a .text .now) (at-if1 .if1 .taken) (at-listing .listing .ensures) (at-listing .listing .kept .1 .1 .1 .1 .0) (c .short .ensures)
 
 listing-requires-2 : tie.Need-listing-requires-2
 listing-requires-2 c κs = search needs
@@ -39,8 +40,9 @@ same-length-3 c = search needs
 
 returns-2 : tie.Need-returns-2
 returns-2 c =
-    let a = c .before .before .before .before .before .before .before .before .before .before .before .before .before .args in
-    text-whole (listing (a .bytes .now) (a .horizon) (a .nodes .now) (a .stages .now) (a .text .now) (a .place)) (a .text .now) (a .out .now) (c .before .before .before .before .before .before .before .before .if1 .left) (c .before .before .before .before .before .before .listing2 .ensures) (c .before .before .put-pair .ensures .0)
+    let at-listing2 = c .before .before .before .before .before .before in let at-if1 = at-listing2 .before .before in let start = at-if1 .before .before .before .before .before in
+    let a = start .args in
+    text-whole (listing (a .bytes .now) (a .horizon) (a .nodes .now) (a .stages .now) (a .text .now) (a .place)) (a .text .now) (a .out .now) (at-if1 .if1 .left) (at-listing2 .listing2 .ensures) (c .before .before .put-pair .ensures .0)
 
 pub planner-listing-spec : {M : Type 1} → statement M
 planner-listing-spec =

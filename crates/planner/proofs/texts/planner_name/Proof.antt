@@ -12,21 +12,25 @@ short-requires c κs = search needs
 
 returns : tie.Need-returns
 returns c =
-    name-short (c .before .before .before .before .before .args .bytes .now) (c .before .before .before .before .before .args .action) (c .before .before .before .before .before .args .out .now) (c .before .before .name-refusal .ensures) (c .before .if1 .taken) (c .short .ensures)
+    let start = c .before .before .before .before .before in
+    name-short (start .args .bytes .now) (start .args .action) (start .args .out .now) (c .before .before .name-refusal .ensures) (c .before .if1 .taken) (c .short .ensures)
 
 name-requires : tie.Need-name-requires
 name-requires c κs = search needs
 
 put-name-requires : tie.Need-put-name-requires
 put-name-requires c κs =
-    (name-most (c .before .before .before .before .before .before .args .bytes .now) (c .before .before .before .before .before .before .args .action) (c .name .ensures .0), c .before .before .if1 .left)
+    let start = c .before .before .before .before .before .before in
+    (name-most (start .args .bytes .now) (start .args .action) (c .name .ensures .0), c .before .before .if1 .left)
 
 same-length : tie.Need-same-length
 same-length c = search needs
 
 returns-2 : tie.Need-returns-2
 returns-2 c =
-    name-whole (c .before .before .before .before .before .before .before .before .before .args .bytes .now) (c .before .before .before .before .before .before .before .before .before .args .action) (c .before .before .before .before .before .before .before .before .before .args .out .now) (c .before .before .before .before .before .before .name-refusal .ensures) (c .before .before .before .before .before .if1 .left) (c .before .before .before .name .ensures .0) (c .before .before .put-name .ensures)
+    let at-name = c .before .before .before in let at-if1 = at-name .before .before in let at-name-refusal = at-if1 .before in
+    let start = at-name-refusal .before .before .before in
+    name-whole (start .args .bytes .now) (start .args .action) (start .args .out .now) (at-name-refusal .name-refusal .ensures) (at-if1 .if1 .left) (at-name .name .ensures .0) (c .before .before .put-name .ensures)
 
 pub planner-name-spec : {M : Type 1} → statement M
 planner-name-spec =

@@ -23,7 +23,8 @@ shared-slice-read-turn c =
 
 with-test-requires : tie.Need-with-test-requires Inv-loop μ-loop
 with-test-requires c κs =
-    (adding-small _ _ _ _ _ _ _ _ _ (c .before .before .loop .inv) (c .before .loop-test .taken) (omega (arith, c .before .before .before .before .fits .root)), c .before .before .loop .inv .way .node, c .before .before .before .before .pre .1, c .before .before .before .before .pre .2, way-given _ _ _ _ _ _ _ (c .before .before .loop .inv .way) (c .before .loop-test .taken))
+    let start = c .before .before .before .before in
+    (adding-small _ _ _ _ _ _ _ _ _ (c .before .before .loop .inv) (c .before .loop-test .taken) (omega (arith, start .fits .root)), c .before .before .loop .inv .way .node, start .pre .1, start .pre .2, way-given _ _ _ _ _ _ _ (c .before .before .loop .inv .way) (c .before .loop-test .taken))
 
 tests-requires : tie.Need-tests-requires Inv-loop μ-loop
 tests-requires c κs =
@@ -31,7 +32,8 @@ tests-requires c κs =
 
 add-j : tie.Need-add-j Inv-loop μ-loop
 add-j c =
-    let t = tests-most (c .before .before .before .before .before .before .args .nodes .now) (c .before .before .before .before .loop .r) (c .tests .result) (c .tests .ensures) in let m = c .before .before .before .before .loop .inv .way .used in omega (arith, c .before .before .before .loop-test .taken)
+    let at-loop-test = c .before .before .before in let at-loop = at-loop-test .before in let start = at-loop .before .before in
+    let t = tests-most (start .args .nodes .now) (at-loop .loop .r) (c .tests .result) (c .tests .ensures) in let m = at-loop .loop .inv .way .used in omega (arith, at-loop-test .loop-test .taken)
 
 goes-requires : tie.Need-goes-requires Inv-loop μ-loop
 goes-requires c κs =
@@ -47,7 +49,8 @@ loop-less c =
 
 loop-again : tie.Need-loop-again Inv-loop μ-loop
 loop-again c =
-    adding-goes _ _ _ _ _ _ _ _ _ (c .before .before .before .before .before .loop .inv) (c .before .before .before .before .loop-test .taken) (c .before .before .with-test .result) (c .goes .result) (c .before .tests .result) (c .before .before .before .before .before .before .before .pre .1) (c .before .before .before .before .before .before .before .pre .2) (c .before .before .with-test .ensures) (c .goes .ensures) (c .before .tests .ensures)
+    let at-loop-test = c .before .before .before .before in let at-loop = at-loop-test .before in let start = at-loop .before .before in
+    adding-goes _ _ _ _ _ _ _ _ _ (at-loop .loop .inv) (at-loop-test .loop-test .taken) (c .before .before .with-test .result) (c .goes .result) (c .before .tests .result) (start .pre .1) (start .pre .2) (c .before .before .with-test .ensures) (c .goes .ensures) (c .before .tests .ensures)
 
 returns : tie.Need-returns Inv-loop μ-loop
 returns c =

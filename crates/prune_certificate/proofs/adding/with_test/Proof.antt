@@ -25,22 +25,25 @@ shared-slice-copy-out-k c =
 
 word-requires : tie.Need-word-requires
 word-requires c κs =
-    (row-inside (c .before .before .before .pre .1), omega (arith, c .before .before .before .pre .3))
+    let start = c .before .before .before in (row-inside (start .pre .1), omega (arith, start .pre .3))
 
 signed-requires : tie.Need-signed-requires
 signed-requires c κs =
-    rw (back32 _ (record { sfits = c .before .k .given })) (c .before .before .before .before .pre .4 .sign (so-test (c .before .before .before .before .args .nodes .now) (c .before .before .before .before .args .r) _ (c .before .before .before .tests .ensures) (c .before .before .if1 .taken)))
+    let at-tests = c .before .before .before in let start = at-tests .before in
+    rw (back32 _ (record { sfits = c .before .k .given })) (start .pre .4 .sign (so-test (start .args .nodes .now) (start .args .r) _ (at-tests .tests .ensures) (c .before .before .if1 .taken)))
 
 product-requires : tie.Need-product-requires
 product-requires c κs =
-    rw (back _ (record { sfits = c .before .word .ok }), c .before .word .ensures) (word-small (c .before .before .before .before .before .args .nodes .now) (c .before .before .before .before .before .args .r) (c .before .before .before .before .before .args .w) (c .before .before .before .before .before .pre .1) (c .before .before .before .before .before .pre .2) (c .before .before .before .before .before .pre .3) (so-test (c .before .before .before .before .before .args .nodes .now) (c .before .before .before .before .before .args .r) _ (c .before .before .before .before .tests .ensures) (c .before .before .before .if1 .taken)))
+    let at-if1 = c .before .before .before in let at-tests = at-if1 .before in let start = at-tests .before in
+    rw (back _ (record { sfits = c .before .word .ok }), c .before .word .ensures) (word-small (start .args .nodes .now) (start .args .r) (start .args .w) (start .pre .1) (start .pre .2) (start .pre .3) (so-test (start .args .nodes .now) (start .args .r) _ (at-tests .tests .ensures) (at-if1 .if1 .taken)))
 
 sum-requires : tie.Need-sum-requires
 sum-requires c κs = search needs
 
 returns : tie.Need-returns
 returns c =
-    joined-test (c .before .before .before .before .before .before .before .args .nodes .now) (c .before .before .before .before .before .before .before .args .r) (c .before .before .before .before .before .before .before .args .w) (c .before .before .before .before .before .before .before .args .turn) _ (c .before .before .before .before .before .before .before .args .total) (c .before .product .result) (c .sum .result) _ _ (so-test (c .before .before .before .before .before .before .before .args .nodes .now) (c .before .before .before .before .before .before .before .args .r) _ (c .before .before .before .before .before .before .tests .ensures) (c .before .before .before .before .before .if1 .taken)) (back _ (record { sfits = c .before .before .before .word .ok }) ∙ c .before .before .before .word .ensures) (back32 _ (record { sfits = c .before .before .signed .ok }) ∙ (c .before .before .signed .ensures ∙ ap (λ (k : ℤ). if (eqb (c .before .before .before .before .before .before .before .args .turn) 1) k (negℤ k)) (back32 (getD (c .before .before .before .before .before .before .before .args .ks .now) (c .before .before .before .before .before .before .before .args .j) (pos 0)) (record { sfits = c .before .before .before .before .k .given })))) (c .before .product .ensures) (c .sum .ensures)
+    let at-word = c .before .before .before in let at-k = at-word .before in let at-if1 = at-k .before in let at-tests = at-if1 .before in let start = at-tests .before in
+    joined-test (start .args .nodes .now) (start .args .r) (start .args .w) (start .args .turn) _ (start .args .total) (c .before .product .result) (c .sum .result) _ _ (so-test (start .args .nodes .now) (start .args .r) _ (at-tests .tests .ensures) (at-if1 .if1 .taken)) (back _ (record { sfits = at-word .word .ok }) ∙ at-word .word .ensures) (back32 _ (record { sfits = c .before .before .signed .ok }) ∙ (c .before .before .signed .ensures ∙ ap (λ (k : ℤ). if (eqb (start .args .turn) 1) k (negℤ k)) (back32 (getD (start .args .ks .now) (start .args .j) (pos 0)) (record { sfits = at-k .k .given })))) (c .before .product .ensures) (c .sum .ensures)
 
 returns-2 : tie.Need-returns-2
 returns-2 c =

@@ -23,7 +23,8 @@ shared-slice-copy-out-k c =
 
 returns-3 : tie.Need-returns-3
 returns-3 c =
-    low-low (c .before .before .before .args .n) (c .before .before .before .args .turn) _ _ (back32 _ (record { sfits = c .k .given })) (c .before .before .if1 .taken) (c .before .if2 .left)
+    let start = c .before .before .before in
+    low-low (start .args .n) (start .args .turn) _ _ (back32 _ (record { sfits = c .k .given })) (c .before .before .if1 .taken) (c .before .if2 .left)
 
 pub low-here-spec : {M : Type 1} → statement M
 low-here-spec = tie.close (tie.spec returns returns-2 mul-k shared-slice-copy-out-k returns-3)

@@ -35,7 +35,8 @@ returns c =
 
 add-j : tie.Need-add-j Inv-loop μ-loop
 add-j c =
-    let t = tests-most (c .before .before .before .before .before .before .before .args .nodes .now) (c .before .before .before .before .before .loop .r) (c .before .before .tests .result) (c .before .before .tests .ensures) in let m = c .before .before .before .before .before .loop .inv .way .used in omega (arith, c .before .before .before .before .loop-test .taken)
+    let at-loop-test = c .before .before .before .before in let at-loop = at-loop-test .before in let start = at-loop .before .before in
+    let t = tests-most (start .args .nodes .now) (at-loop .loop .r) (c .before .before .tests .result) (c .before .before .tests .ensures) in let m = at-loop .loop .inv .way .used in omega (arith, at-loop-test .loop-test .taken)
 
 goes-requires : tie.Need-goes-requires Inv-loop μ-loop
 goes-requires c κs =
@@ -51,7 +52,8 @@ loop-less c =
 
 loop-again : tie.Need-loop-again Inv-loop μ-loop
 loop-again c =
-    looking-goes _ _ _ _ _ _ _ (c .before .before .before .before .before .before .loop .inv) (c .before .before .before .before .before .loop-test .taken) (c .goes .result) (c .before .before .before .tests .result) (c .before .before .low-here .result) (c .goes .ensures) (c .before .before .before .tests .ensures) (c .before .before .low-here .ensures) (c .before .if1 .left)
+    let at-tests = c .before .before .before in let at-loop-test = at-tests .before .before in let at-loop = at-loop-test .before in
+    looking-goes _ _ _ _ _ _ _ (at-loop .loop .inv) (at-loop-test .loop-test .taken) (c .goes .result) (at-tests .tests .result) (c .before .before .low-here .result) (c .goes .ensures) (at-tests .tests .ensures) (c .before .before .low-here .ensures) (c .before .if1 .left)
 
 returns-2 : tie.Need-returns-2 Inv-loop μ-loop
 returns-2 c =

@@ -18,7 +18,8 @@ magnitude-requires c κs =
 
 returns-2 : tie.Need-returns-2
 returns-2 c =
-    goes-high _ (c .before .before .before .before .args .r) (c .before .before .before .before .args .turn) (c .before .before .before .is-leaf .result) (c .before .before .before .is-leaf .ensures) (c .before .before .if1 .left) (c .magnitude .result) (c .before .if2 .taken) (c .magnitude .ensures)
+    let at-is-leaf = c .before .before .before in let start = at-is-leaf .before in
+    goes-high _ (start .args .r) (start .args .turn) (at-is-leaf .is-leaf .result) (at-is-leaf .is-leaf .ensures) (c .before .before .if1 .left) (c .magnitude .result) (c .before .if2 .taken) (c .magnitude .ensures)
 
 magnitude-requires-2 : tie.Need-magnitude-requires-2
 magnitude-requires-2 c κs =
@@ -26,11 +27,13 @@ magnitude-requires-2 c κs =
 
 returns-3 : tie.Need-returns-3
 returns-3 c =
-    goes-low _ (c .before .before .before .before .before .args .r) (c .before .before .before .before .before .args .turn) (c .before .before .before .before .is-leaf .result) (c .before .before .before .before .is-leaf .ensures) (c .before .before .before .if1 .left) (c .magnitude2 .result) (c .before .before .if2 .left) (c .before .if3 .taken) (c .magnitude2 .ensures)
+    let at-if1 = c .before .before .before in let at-is-leaf = at-if1 .before in let start = at-is-leaf .before in
+    goes-low _ (start .args .r) (start .args .turn) (at-is-leaf .is-leaf .result) (at-is-leaf .is-leaf .ensures) (at-if1 .if1 .left) (c .magnitude2 .result) (c .before .before .if2 .left) (c .before .if3 .taken) (c .magnitude2 .ensures)
 
 returns-4 : tie.Need-returns-4
 returns-4 c =
-    goes-none _ (c .before .before .before .before .args .r) (c .before .before .before .before .args .turn) (c .before .before .before .is-leaf .result) (c .before .before .before .is-leaf .ensures) (c .before .before .if1 .left) (c .before .if2 .left) (c .if3 .left)
+    let at-is-leaf = c .before .before .before in let start = at-is-leaf .before in
+    goes-none _ (start .args .r) (start .args .turn) (at-is-leaf .is-leaf .result) (at-is-leaf .is-leaf .ensures) (c .before .before .if1 .left) (c .before .if2 .left) (c .if3 .left)
 
 pub goes-spec : {M : Type 1} → statement M
 goes-spec =

@@ -35,7 +35,8 @@ returns c =
 
 add-count : tie.Need-add-count Inv-loop μ-loop
 add-count c =
-    let t = tests-most (c .before .before .before .before .before .before .before .args .nodes .now) (c .before .before .before .before .before .loop .r) (c .before .before .before .tests .result) (c .before .before .before .tests .ensures) in let m = c .before .before .before .before .before .loop .inv .most in omega (arith, c .before .before .before .before .loop-test .taken)
+    let at-tests = c .before .before .before in let at-loop-test = at-tests .before in let at-loop = at-loop-test .before in let start = at-loop .before .before in
+    let t = tests-most (start .args .nodes .now) (at-loop .loop .r) (at-tests .tests .result) (at-tests .tests .ensures) in let m = at-loop .loop .inv .most in omega (arith, at-loop-test .loop-test .taken)
 
 add-i : tie.Need-add-i Inv-loop μ-loop
 add-i c =
@@ -47,7 +48,8 @@ loop-less c =
 
 loop-again : tie.Need-loop-again Inv-loop μ-loop
 loop-again c =
-    counting-goes _ _ _ _ _ _ (c .before .before .before .before .before .loop .inv) (c .before .before .before .before .loop-test .taken) (c .before .goes .result) (c .before .before .before .tests .result) (c .before .goes .ensures) (c .before .before .before .tests .ensures) (c .if1 .left)
+    let at-tests = c .before .before .before in
+    counting-goes _ _ _ _ _ _ (c .before .before .before .before .before .loop .inv) (c .before .before .before .before .loop-test .taken) (c .before .goes .result) (at-tests .tests .result) (c .before .goes .ensures) (at-tests .tests .ensures) (c .if1 .left)
 
 returns-2 : tie.Need-returns-2 Inv-loop μ-loop
 returns-2 c =

@@ -26,14 +26,16 @@ below-requires c κs =
 
 below-requires-2 : tie.Need-below-requires-2
 below-requires-2 c κs =
-    at-as (c .before .before .before .before .get2 .ensures) ((c .before .before .before .before .before .before) .pre .1)
+    let at-get2 = c .before .before .before .before in let start = at-get2 .before .before in at-as (at-get2 .get2 .ensures) (start .pre .1)
 
 pick-requires : tie.Need-pick-requires
 pick-requires c κs = search needs
 
 returns : tie.Need-returns
 returns c =
-    choice-as ((c .before .before .before .before .before .before .before .before) .args .z) ((c .before .before .before .before .before .before .before .before) .args .f) ((c .before .before .before .before .before .before .before .before) .args .g) (c .before .before .before .before .before .before .before .get .ensures) (c .before .before .before .before .before .before .get2 .ensures) (c .before .before .below .ensures) (c .before .below2 .ensures) (c .before .before .before .before .before .order .ensures) (c .before .before .before .before .order2 .ensures) (c .before .before .before .order3 .ensures) (c .pick .ensures)
+    let at-order3 = c .before .before .before in let at-order2 = at-order3 .before in let at-order = at-order2 .before in let at-get2 = at-order .before in
+    let at-get = at-get2 .before in let start = at-get .before in
+    choice-as (start .args .z) (start .args .f) (start .args .g) (at-get .get .ensures) (at-get2 .get2 .ensures) (c .before .before .below .ensures) (c .before .below2 .ensures) (at-order .order .ensures) (at-order2 .order2 .ensures) (at-order3 .order3 .ensures) (c .pick .ensures)
 
 pub choice-at-spec : {M : Type 1} → statement M
 choice-at-spec =

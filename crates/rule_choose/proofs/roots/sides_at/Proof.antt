@@ -27,7 +27,8 @@ split-requires c κs = search needs
 
 returns : tie.Need-returns
 returns c =
-    sides-as ((c .before .before .before .before .before .before) .args .f) ((c .before .before .before .before .before .before) .args .g) (c .before .before .before .before .before .get .ensures) (c .before .before .before .before .get2 .ensures) (c .before .before .below .ensures) (c .before .below2 .ensures) (c .before .before .before .order .ensures) (c .split .ensures)
+    let at-order = c .before .before .before in let at-get2 = at-order .before in let at-get = at-get2 .before in let start = at-get .before in
+    sides-as (start .args .f) (start .args .g) (at-get .get .ensures) (at-get2 .get2 .ensures) (c .before .before .below .ensures) (c .before .below2 .ensures) (at-order .order .ensures) (c .split .ensures)
 
 pub sides-at-spec : {M : Type 1} → statement M
 sides-at-spec =

@@ -32,7 +32,8 @@ array-copy-out-z c =
 returns : tie.Need-returns Inv-loop μ-loop
 unfolding linOf
 returns c =
-    let s = (c .before .before .before .before .before) in one-not-zero (s .args .x .n) (as-long (s .args .x .n) (s .good .0 .1 .1 .1 .0 .1 .0 .1)) (c .before .before .before .loop .i) (c .before .before .before .loop .inv .1) (c .before .before .loop-test .taken) (c .if1 .taken)
+    let at-loop = c .before .before .before in
+    let s = (c .before .before .before .before .before) in one-not-zero (s .args .x .n) (as-long (s .args .x .n) (s .good .0 .1 .1 .1 .0 .1 .0 .1)) (at-loop .loop .i) (at-loop .loop .inv .1) (c .before .before .loop-test .taken) (c .if1 .taken)
 
 add-i : tie.Need-add-i Inv-loop μ-loop
 add-i c =
@@ -44,7 +45,8 @@ loop-less c =
 
 loop-again : tie.Need-loop-again Inv-loop μ-loop
 loop-again c =
-    let s = (c .before .before .before .before .before) in (omega arith, one-zero (s .args .x .n) (as-long (s .args .x .n) (s .good .0 .1 .1 .1 .0 .1 .0 .1)) (c .before .before .before .loop .i) (c .before .before .before .loop .inv .1) (c .before .before .loop-test .taken) (c .before .z .given) (c .if1 .left))
+    let at-loop = c .before .before .before in
+    let s = (c .before .before .before .before .before) in (omega arith, one-zero (s .args .x .n) (as-long (s .args .x .n) (s .good .0 .1 .1 .1 .0 .1 .0 .1)) (at-loop .loop .i) (at-loop .loop .inv .1) (c .before .before .loop-test .taken) (c .before .z .given) (c .if1 .left))
 
 returns-2 : tie.Need-returns-2 Inv-loop μ-loop
 unfolding linOf

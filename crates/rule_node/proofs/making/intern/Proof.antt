@@ -15,7 +15,8 @@ same-length-2 c = search needs
 
 returns : tie.Need-returns
 returns c =
-    interned-as ((c .before .before .before .before .before .before .before) .pre .0) ((c .before .before .before .before .before .before .before) .args .x) ((c .before .before .before .before .before .before .before) .pre .1) (c .before .before .before .find-or-make .ensures)
+    let at-find-or-make = c .before .before .before in let start = at-find-or-make .before .before .before .before in
+    interned-as (start .pre .0) (start .args .x) (start .pre .1) (at-find-or-make .find-or-make .ensures)
 
 pub intern-spec : {M : Type 1} → statement M
 intern-spec = tie.close (tie.spec find-or-make-requires same-length same-length-2 returns)

@@ -14,7 +14,8 @@ get-requires c κs = search needs
 
 join-test-requires : tie.Need-join-test-requires
 join-test-requires c κs =
-    ((c .before .before .before .before .before) .pre .0, proper-as ((c .before .before .before .before .before) .pre .0) ((c .before .before .before .before .before) .pre .1) (c .before .before .get .ensures), (c .before .before .before .before .before) .pre .2, (c .before .before .before .before .before) .pre .3)
+    let start = c .before .before .before .before .before in
+    (start .pre .0, proper-as (start .pre .0) (start .pre .1) (c .before .before .get .ensures), start .pre .2, start .pre .3)
 
 same-length : tie.Need-same-length
 same-length c = search needs
@@ -24,7 +25,8 @@ same-length-2 c = search needs
 
 returns : tie.Need-returns
 returns c =
-    grew-as (ap (λ (x : Node). node (testOf x) (treeAt ((c .before .before .before .before .before .before .before .before .before) .args .nodes .now) ((c .before .before .before .before .before .before .before .before .before) .args .count) ((c .before .before .before .before .before .before .before .before .before) .args .h)) (treeAt ((c .before .before .before .before .before .before .before .before .before) .args .nodes .now) ((c .before .before .before .before .before .before .before .before .before) .args .count) ((c .before .before .before .before .before .before .before .before .before) .args .l))) (c .before .before .before .before .before .before .get .ensures)) (c .before .before .before .join-test .ensures)
+    let at-join-test = c .before .before .before in let at-get = at-join-test .before .before .before in let start = at-get .before .before .before in
+    grew-as (ap (λ (x : Node). node (testOf x) (treeAt (start .args .nodes .now) (start .args .count) (start .args .h)) (treeAt (start .args .nodes .now) (start .args .count) (start .args .l))) (at-get .get .ensures)) (at-join-test .join-test .ensures)
 
 pub join-spec : {M : Type 1} → statement M
 join-spec = tie.close (tie.spec get-requires join-test-requires same-length same-length-2 returns)

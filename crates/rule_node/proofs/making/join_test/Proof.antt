@@ -26,9 +26,9 @@ cast-t15 c = search needs
 
 intern-requires : tie.Need-intern-requires
 intern-requires c κs =
-    let s = c .before .before .before .before .before .before .before .before in
-    let k = c .before .before .before .before .before .narrowed in
-    (s .pre .0, join-valid (s .pre .0) (s .args .t) (s .pre .1) (s .args .h) (s .args .l) (k .result) (s .pre .2) (k .ensures .0) (k .ensures .1) (c .before .before .struct-told .given .0 .1) (c .before .before .before .before .if1 .left))
+    let at-if1 = c .before .before .before .before in let at-narrowed = at-if1 .before in let place = at-narrowed .before .before .before in let s = place in
+    let k = at-narrowed .narrowed in
+    (s .pre .0, join-valid (s .pre .0) (s .args .t) (s .pre .1) (s .args .h) (s .args .l) (k .result) (s .pre .2) (k .ensures .0) (k .ensures .1) (c .before .before .struct-told .given .0 .1) (at-if1 .if1 .left))
 
 same-length-2 : tie.Need-same-length-2
 same-length-2 c = search needs
@@ -38,9 +38,10 @@ same-length-3 c = search needs
 
 returns-2 : tie.Need-returns-2
 returns-2 c =
-    let s = c .before .before .before .before .before .before .before .before .before .before .before .before in
-    let k = c .before .before .before .before .before .before .before .before .before .narrowed in
-    join-made (s .pre .0) (s .args .t) (s .pre .1) (s .args .h) (s .args .l) (k .result) (s .pre .2) (k .ensures .0) (k .ensures .1) (c .before .before .before .before .before .before .struct-told .given .0 .1) (c .before .before .before .before .before .before .before .before .if1 .left) (c .before .before .before .intern .ensures)
+    let at-intern = c .before .before .before in let at-struct-told = at-intern .before .before .before in let at-if1 = at-struct-told .before .before in
+    let at-narrowed = at-if1 .before in let place = at-narrowed .before .before .before in let s = place in
+    let k = at-narrowed .narrowed in
+    join-made (s .pre .0) (s .args .t) (s .pre .1) (s .args .h) (s .args .l) (k .result) (s .pre .2) (k .ensures .0) (k .ensures .1) (at-struct-told .struct-told .given .0 .1) (at-if1 .if1 .left) (at-intern .intern .ensures)
 
 pub join-test-spec : {M : Type 1} → statement M
 join-test-spec =

@@ -33,24 +33,26 @@ returns c =
 
 index-requires : tie.Need-index-requires Inv-loop μ-loop
 index-requires c κs =
-    let s = c .before .before .before .before .before in
+    let at-get = c .before .before .before in let s = c .before .before .before .before .before in
     let L = c .before .before .before .before .loop in
-    nat-back (c .before .before .before .get .result .low) (c .struct-told .given .1 .1 .1 .0 .1)
-    (low-nat (s .pre .0) (s .args .t) (s .pre .2) (L .at) (L .inv .0) (c .before .before .before .get .ensures) (c .before .before .parallel .ensures))
+    nat-back (at-get .get .result .low) (c .struct-told .given .1 .1 .1 .0 .1)
+    (low-nat (s .pre .0) (s .args .t) (s .pre .2) (L .at) (L .inv .0) (at-get .get .ensures) (c .before .before .parallel .ensures))
 
 loop-less : tie.Need-loop-less Inv-loop μ-loop
 loop-less c =
-    let s = c .before .before .before .before .before .before in
-    let L = c .before .before .before .before .before .loop in
-    (goes-to (s .pre .0) (s .args .t) (s .pre .2) (L .at) (L .inv .0) (c .before .before .before .before .get .ensures) (c .before .before .before .parallel .ensures) (c .before .before .if1 .taken)
-    (abs-of (c .before .before .before .before .get .result .low) (c .before .struct-told .given .1 .1 .1 .0 .1) (c .index .ensures))) .0
+    let at-parallel = c .before .before .before in let at-get = at-parallel .before in let at-loop = at-get .before in let place = at-loop .before in
+    let s = place in
+    let L = at-loop .loop in
+    (goes-to (s .pre .0) (s .args .t) (s .pre .2) (L .at) (L .inv .0) (at-get .get .ensures) (at-parallel .parallel .ensures) (c .before .before .if1 .taken)
+    (abs-of (at-get .get .result .low) (c .before .struct-told .given .1 .1 .1 .0 .1) (c .index .ensures))) .0
 
 loop-again : tie.Need-loop-again Inv-loop μ-loop
 loop-again c =
-    let s = c .before .before .before .before .before .before in
-    let L = c .before .before .before .before .before .loop in
-    let g = goes-to (s .pre .0) (s .args .t) (s .pre .2) (L .at) (L .inv .0) (c .before .before .before .before .get .ensures) (c .before .before .before .parallel .ensures) (c .before .before .if1 .taken)
-    (abs-of (c .before .before .before .before .get .result .low) (c .before .struct-told .given .1 .1 .1 .0 .1) (c .index .ensures)) in
+    let at-parallel = c .before .before .before in let at-get = at-parallel .before in let at-loop = at-get .before in let place = at-loop .before in
+    let s = place in
+    let L = at-loop .loop in
+    let g = goes-to (s .pre .0) (s .args .t) (s .pre .2) (L .at) (L .inv .0) (at-get .get .ensures) (at-parallel .parallel .ensures) (c .before .before .if1 .taken)
+    (abs-of (at-get .get .result .low) (c .before .struct-told .given .1 .1 .1 .0 .1) (c .index .ensures)) in
     (omega (arith, g .0, L .inv .0), g .1 ∙ L .inv .1)
 
 pub narrowed-spec : {M : Type 1} → statement M

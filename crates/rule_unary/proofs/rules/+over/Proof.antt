@@ -51,7 +51,8 @@ over-way-at-requires t c κs =
 
 over-at-leaf-requires : (t : ℕ) → over-lts.Need-at-leaf-requires (over-claims t) (over-at t) over.Post
 over-at-leaf-requires t c κs =
-    ((c .before .before .before .before .before .before) .pre .1 .0 .bare, (c .before .before .before .before .before .before) .pre .1 .1, walk-ends ((c .before .before .before .before .before .before) .pre .1 .0) ((c .before .before .before .before .before .before) .pre .1 .1) ((c .before .before .before .before .before .before) .args .f) ((c .before .before .before .before .before .before) .pre .1 .2) (c .before .before .before .way-at .ensures) (c .before .before .if1 .taken))
+    let at-way-at = c .before .before .before in let start = at-way-at .before .before .before in
+    (start .pre .1 .0 .bare, start .pre .1 .1, walk-ends (start .pre .1 .0) (start .pre .1 .1) (start .args .f) (start .pre .1 .2) (at-way-at .way-at .ensures) (c .before .before .if1 .taken))
 
 over-same-length : (t : ℕ) → over-lts.Need-same-length (over-claims t) (over-at t) over.Post
 over-same-length t c = search needs
@@ -61,12 +62,14 @@ over-same-length-2 t c = search needs
 
 over-returns : (t : ℕ) → over-lts.Need-returns (over-claims t) (over-at t) over.Post
 over-returns t c =
-    walk-ended ((c .before .before .before .before .before .before .before .before .before .before) .pre .1 .0) ((c .before .before .before .before .before .before .before .before .before .before) .pre .1 .1) ((c .before .before .before .before .before .before .before .before .before .before) .args .f) ((c .before .before .before .before .before .before .before .before .before .before) .pre .1 .2) (c .before .before .before .before .before .before .before .way-at .ensures) (c .before .before .before .at-leaf .ensures)
+    let at-at-leaf = c .before .before .before in let at-way-at = at-at-leaf .before .before .before .before in let start = at-way-at .before .before .before in
+    walk-ended (start .pre .1 .0) (start .pre .1 .1) (start .args .f) (start .pre .1 .2) (at-way-at .way-at .ensures) (at-at-leaf .at-leaf .ensures)
 
 over-over-requires : (t : ℕ) → over-lts.Need-over-requires (over-claims t) (over-at t) over.Post
 over-over-requires t c κs =
-    let h = pick-falls ((c .before .before .before .before .before .before .before) .pre .1 .0) ((c .before .before .before .before .before .before .before) .pre .1 .1) ((c .before .before .before .before .before .before .before) .args .f) ((c .before .before .before .before .before .before .before) .pre .1 .2) (c .before .before .before .before .way-at .ensures) (c .before .before .before .if1 .left) (c .before .before .if2 .taken) in
-    (omega (arith, h, (c .before .before .before .before .before .before .before) .pre .0), ((c .before .before .before .before .before .before .before) .pre .1 .0, (c .before .before .before .before .before .before .before) .pre .1 .1, pick-in ((c .before .before .before .before .before .before .before) .pre .1 .0) ((c .before .before .before .before .before .before .before) .pre .1 .1) ((c .before .before .before .before .before .before .before) .args .f) ((c .before .before .before .before .before .before .before) .pre .1 .2) (c .before .before .before .before .way-at .ensures) (c .before .before .before .if1 .left) (c .before .before .if2 .taken)))
+    let at-if1 = c .before .before .before in let at-way-at = at-if1 .before in let start = at-way-at .before .before .before in
+    let h = pick-falls (start .pre .1 .0) (start .pre .1 .1) (start .args .f) (start .pre .1 .2) (at-way-at .way-at .ensures) (at-if1 .if1 .left) (c .before .before .if2 .taken) in
+    (omega (arith, h, start .pre .0), (start .pre .1 .0, start .pre .1 .1, pick-in (start .pre .1 .0) (start .pre .1 .1) (start .args .f) (start .pre .1 .2) (at-way-at .way-at .ensures) (at-if1 .if1 .left) (c .before .before .if2 .taken)))
 
 over-same-length-3 : (t : ℕ) → over-lts.Need-same-length-3 (over-claims t) (over-at t) over.Post
 over-same-length-3 t c = search needs
@@ -76,11 +79,14 @@ over-same-length-4 t c = search needs
 
 over-returns-2 : (t : ℕ) → over-lts.Need-returns-2 (over-claims t) (over-at t) over.Post
 over-returns-2 t c =
-    walk-picked ((c .before .before .before .before .before .before .before .before .before .before .before) .pre .1 .0) ((c .before .before .before .before .before .before .before .before .before .before .before) .pre .1 .1) ((c .before .before .before .before .before .before .before .before .before .before .before) .args .f) ((c .before .before .before .before .before .before .before .before .before .before .before) .pre .1 .2) (c .before .before .before .before .before .before .before .before .way-at .ensures) (c .before .before .before .before .before .before .before .if1 .left) (c .before .before .before .before .before .before .if2 .taken) (c .before .before .before .over .ensures)
+    let at-over = c .before .before .before in let at-if2 = at-over .before .before .before in let at-if1 = at-if2 .before in let at-way-at = at-if1 .before in
+    let start = at-way-at .before .before .before in
+    walk-picked (start .pre .1 .0) (start .pre .1 .1) (start .args .f) (start .pre .1 .2) (at-way-at .way-at .ensures) (at-if1 .if1 .left) (at-if2 .if2 .taken) (at-over .over .ensures)
 
 over-look-requires : (t : ℕ) → over-lts.Need-look-requires (over-claims t) (over-at t) over.Post
 over-look-requires t c κs =
-    (room-in ((c .before .before .before .before .before .before) .pre .1 .0), act-key ((c .before .before .before .before .before .before) .pre .1 .1) ((c .before .before .before .before .before .before) .pre .1 .0 .bare) ((c .before .before .before .before .before .before) .args .f) ((c .before .before .before .before .before .before) .pre .1 .2))
+    let start = c .before .before .before .before .before .before in
+    (room-in (start .pre .1 .0), act-key (start .pre .1 .1) (start .pre .1 .0 .bare) (start .args .f) (start .pre .1 .2))
 
 over-sub-t27 : (t : ℕ) → over-lts.Need-sub-t27 (over-claims t) (over-at t) over.Post
 over-sub-t27 t c = omega arith
@@ -93,12 +99,14 @@ over-same-length-6 t c = search needs
 
 over-returns-3 : (t : ℕ) → over-lts.Need-returns-3 (over-claims t) (over-at t) over.Post
 over-returns-3 t c =
-    answered ((c .before .before .before .before .before .before .before .before) .pre .1 .0) ((c .before .before .before .before .before .before .before .before) .args .op) ((c .before .before .before .before .before .before .before .before) .args .f) 0 ((c .before .before .before .before .before .before .before .before) .args .p) ((c .before .before .before .before .before .before .before .before) .args .q) _ (c .before .look .ensures (c .if3 .taken))
+    let start = c .before .before .before .before .before .before .before .before in
+    answered (start .pre .1 .0) (start .args .op) (start .args .f) 0 (start .args .p) (start .args .q) _ (c .before .look .ensures (c .if3 .taken))
 
 over-over-requires-2 : (t : ℕ) → over-lts.Need-over-requires-2 (over-claims t) (over-at t) over.Post
 over-over-requires-2 t c κs =
-    let h = high-falls ((c .before .before .before .before .before .before .before .before .before .before) .pre .1 .0) ((c .before .before .before .before .before .before .before .before .before .before) .pre .1 .1) ((c .before .before .before .before .before .before .before .before .before .before) .args .f) ((c .before .before .before .before .before .before .before .before .before .before) .pre .1 .2) (c .before .before .before .before .before .before .before .way-at .ensures) (c .before .before .before .before .before .before .if1 .left) (c .before .before .before .before .before .if2 .left) in
-    (omega (arith, h, (c .before .before .before .before .before .before .before .before .before .before) .pre .0), ((c .before .before .before .before .before .before .before .before .before .before) .pre .1 .0, (c .before .before .before .before .before .before .before .before .before .before) .pre .1 .1, walk-high ((c .before .before .before .before .before .before .before .before .before .before) .pre .1 .0) ((c .before .before .before .before .before .before .before .before .before .before) .pre .1 .1) ((c .before .before .before .before .before .before .before .before .before .before) .args .f) ((c .before .before .before .before .before .before .before .before .before .before) .pre .1 .2) (c .before .before .before .before .before .before .before .way-at .ensures) (c .before .before .before .before .before .before .if1 .left) (c .before .before .before .before .before .if2 .left)))
+    let at-if2 = c .before .before .before .before .before in let at-if1 = at-if2 .before in let at-way-at = at-if1 .before in let start = at-way-at .before .before .before in
+    let h = high-falls (start .pre .1 .0) (start .pre .1 .1) (start .args .f) (start .pre .1 .2) (at-way-at .way-at .ensures) (at-if1 .if1 .left) (at-if2 .if2 .left) in
+    (omega (arith, h, start .pre .0), (start .pre .1 .0, start .pre .1 .1, walk-high (start .pre .1 .0) (start .pre .1 .1) (start .args .f) (start .pre .1 .2) (at-way-at .way-at .ensures) (at-if1 .if1 .left) (at-if2 .if2 .left)))
 
 over-same-length-7 : (t : ℕ) → over-lts.Need-same-length-7 (over-claims t) (over-at t) over.Post
 over-same-length-7 t c = search needs
@@ -108,58 +116,92 @@ over-same-length-8 t c = search needs
 
 over-returns-4 : (t : ℕ) → over-lts.Need-returns-4 (over-claims t) (over-at t) over.Post
 over-returns-4 t c =
-    high-stopped ((c .before .before .before .before .before .before .before .before .before .before .before .before .before .before .before .before) .pre .1 .0) ((c .before .before .before .before .before .before .before .before .before .before .before .before .before .before .before .before) .pre .1 .1) ((c .before .before .before .before .before .before .before .before .before .before .before .before .before .before .before .before) .args .f) ((c .before .before .before .before .before .before .before .before .before .before .before .before .before .before .before .before) .pre .1 .2) (c .before .before .before .before .before .before .before .before .before .before .before .before .before .way-at .ensures) (c .before .before .before .before .before .before .before .before .before .before .before .before .if1 .left) (c .before .before .before .before .before .before .before .before .before .before .before .if2 .left) (c .before .before .before .before .before .over2 .ensures) (c .if4 .taken)
+    let at-over2 = c .before .before .before .before .before in let at-if2 = at-over2 .before .before .before .before .before .before in let at-if1 = at-if2 .before in
+    let at-way-at = at-if1 .before in let start = at-way-at .before .before .before in
+    high-stopped (start .pre .1 .0) (start .pre .1 .1) (start .args .f) (start .pre .1 .2) (at-way-at .way-at .ensures) (at-if1 .if1 .left) (at-if2 .if2 .left) (at-over2 .over2 .ensures) (c .if4 .taken)
 
 over-over-requires-3 : (t : ℕ) → over-lts.Need-over-requires-3 (over-claims t) (over-at t) over.Post
 over-over-requires-3 t c κs =
-    let h = low-falls ((c .before .before .before .before .before .before .before .before .before .before .before .before .before .before .before .before .before .before) .pre .1 .0) ((c .before .before .before .before .before .before .before .before .before .before .before .before .before .before .before .before .before .before) .pre .1 .1) ((c .before .before .before .before .before .before .before .before .before .before .before .before .before .before .before .before .before .before) .args .f) ((c .before .before .before .before .before .before .before .before .before .before .before .before .before .before .before .before .before .before) .pre .1 .2) (c .before .before .before .before .before .before .before .before .before .before .before .before .before .before .before .way-at .ensures) (c .before .before .before .before .before .before .before .before .before .before .before .before .before .before .if1 .left) (c .before .before .before .before .before .before .before .before .before .before .before .before .before .if2 .left) in
-    (omega (arith, h, (c .before .before .before .before .before .before .before .before .before .before .before .before .before .before .before .before .before .before) .pre .0), (c .before .before .before .before .before .before .before .over2 .ensures .table, (c .before .before .before .before .before .before .before .before .before .before .before .before .before .before .before .before .before .before) .pre .1 .1, walk-low ((c .before .before .before .before .before .before .before .before .before .before .before .before .before .before .before .before .before .before) .pre .1 .0) ((c .before .before .before .before .before .before .before .before .before .before .before .before .before .before .before .before .before .before) .pre .1 .1) ((c .before .before .before .before .before .before .before .before .before .before .before .before .before .before .before .before .before .before) .args .f) ((c .before .before .before .before .before .before .before .before .before .before .before .before .before .before .before .before .before .before) .pre .1 .2) (c .before .before .before .before .before .before .before .before .before .before .before .before .before .before .before .way-at .ensures) (c .before .before .before .before .before .before .before .before .before .before .before .before .before .before .if1 .left) (c .before .before .before .before .before .before .before .before .before .before .before .before .before .if2 .left) (c .before .before .before .before .before .before .before .over2 .ensures)))
+    let at-over2 = c .before .before .before .before .before .before .before in let at-if2 = at-over2 .before .before .before .before .before .before in
+    let at-if1 = at-if2 .before in let at-way-at = at-if1 .before in let start = at-way-at .before .before .before in
+    let h = low-falls (start .pre .1 .0) (start .pre .1 .1) (start .args .f) (start .pre .1 .2) (at-way-at .way-at .ensures) (at-if1 .if1 .left) (at-if2 .if2 .left) in
+    (omega (arith, h, start .pre .0), (at-over2 .over2 .ensures .table, start .pre .1 .1, walk-low (start .pre .1 .0) (start .pre .1 .1) (start .args .f) (start .pre .1 .2) (at-way-at .way-at .ensures) (at-if1 .if1 .left) (at-if2 .if2 .left) (at-over2 .over2 .ensures)))
 
 over-same-length-9 : (t : ℕ) → over-lts.Need-same-length-9 (over-claims t) (over-at t) over.Post
 over-same-length-9 t c =
-    search (needs, c .before .before .before .before .before .before .before .before .before .before .before .before .before .over2 .kept, c .before .before .before .before .before .over3 .kept)
+    let at-over3 = c .before .before .before .before .before in let at-over2 = at-over3 .before .before .before .before .before .before .before .before in
+    search (needs, at-over2 .over2 .kept, at-over3 .over3 .kept)
 
 over-same-length-10 : (t : ℕ) → over-lts.Need-same-length-10 (over-claims t) (over-at t) over.Post
 over-same-length-10 t c =
-    search (needs, c .before .before .before .before .before .before .before .before .before .before .before .before .before .over2 .kept, c .before .before .before .before .before .over3 .kept)
+    let at-over3 = c .before .before .before .before .before in let at-over2 = at-over3 .before .before .before .before .before .before .before .before in
+    search (needs, at-over2 .over2 .kept, at-over3 .over3 .kept)
 
 over-returns-5 : (t : ℕ) → over-lts.Need-returns-5 (over-claims t) (over-at t) over.Post
 over-returns-5 t c =
-    low-stopped ((c .before .before .before .before .before .before .before .before .before .before .before .before .before .before .before .before .before .before .before .before .before .before .before .before) .pre .1 .0) ((c .before .before .before .before .before .before .before .before .before .before .before .before .before .before .before .before .before .before .before .before .before .before .before .before) .pre .1 .1) ((c .before .before .before .before .before .before .before .before .before .before .before .before .before .before .before .before .before .before .before .before .before .before .before .before) .args .f) ((c .before .before .before .before .before .before .before .before .before .before .before .before .before .before .before .before .before .before .before .before .before .before .before .before) .pre .1 .2) (c .before .before .before .before .before .before .before .before .before .before .before .before .before .before .before .before .before .before .before .before .before .way-at .ensures) (c .before .before .before .before .before .before .before .before .before .before .before .before .before .before .before .before .before .before .before .before .if1 .left) (c .before .before .before .before .before .before .before .before .before .before .before .before .before .before .before .before .before .before .before .if2 .left) (c .before .before .before .before .before .before .before .before .before .before .before .before .before .over2 .ensures) (c .before .before .before .before .before .before .before .before .if4 .left) (c .before .before .before .before .before .over3 .ensures) (c .if5 .taken)
+    let at-over3 = c .before .before .before .before .before in let at-if4 = at-over3 .before .before .before in let at-over2 = at-if4 .before .before .before .before .before in
+    let at-if2 = at-over2 .before .before .before .before .before .before in let at-if1 = at-if2 .before in let at-way-at = at-if1 .before in
+    let start = at-way-at .before .before .before in
+    low-stopped (start .pre .1 .0) (start .pre .1 .1) (start .args .f) (start .pre .1 .2) (at-way-at .way-at .ensures) (at-if1 .if1 .left) (at-if2 .if2 .left) (at-over2 .over2 .ensures) (at-if4 .if4 .left) (at-over3 .over3 .ensures) (c .if5 .taken)
 
 over-join-requires : (t : ℕ) → over-lts.Need-join-requires (over-claims t) (over-at t) over.Post
 over-join-requires t c κs =
-    join-asks ((c .before .before .before .before .before .before .before .before .before .before .before .before .before .before .before .before .before .before .before .before .before .before .before .before .before .before) .pre .1 .0) ((c .before .before .before .before .before .before .before .before .before .before .before .before .before .before .before .before .before .before .before .before .before .before .before .before .before .before) .pre .1 .1) ((c .before .before .before .before .before .before .before .before .before .before .before .before .before .before .before .before .before .before .before .before .before .before .before .before .before .before) .args .f) ((c .before .before .before .before .before .before .before .before .before .before .before .before .before .before .before .before .before .before .before .before .before .before .before .before .before .before) .pre .1 .2) (c .before .before .before .before .before .before .before .before .before .before .before .before .before .before .before .before .before .before .before .before .before .before .before .way-at .ensures) (c .before .before .before .before .before .before .before .before .before .before .before .before .before .before .before .before .before .before .before .before .before .before .if1 .left) (c .before .before .before .before .before .before .before .before .before .before .before .before .before .before .before .before .before .before .before .before .before .if2 .left) (c .before .before .before .before .before .before .before .before .before .before .before .before .before .before .before .over2 .ensures) (c .before .before .before .before .before .before .before .before .before .before .if4 .left) (c .before .before .before .before .before .before .before .over3 .ensures) (c .before .before .if5 .left)
+    let at-over3 = c .before .before .before .before .before .before .before in let at-if4 = at-over3 .before .before .before in
+    let at-over2 = at-if4 .before .before .before .before .before in let at-if2 = at-over2 .before .before .before .before .before .before in let at-if1 = at-if2 .before in
+    let at-way-at = at-if1 .before in let start = at-way-at .before .before .before in
+    join-asks (start .pre .1 .0) (start .pre .1 .1) (start .args .f) (start .pre .1 .2) (at-way-at .way-at .ensures) (at-if1 .if1 .left) (at-if2 .if2 .left) (at-over2 .over2 .ensures) (at-if4 .if4 .left) (at-over3 .over3 .ensures) (c .before .before .if5 .left)
 
 over-same-length-11 : (t : ℕ) → over-lts.Need-same-length-11 (over-claims t) (over-at t) over.Post
 over-same-length-11 t c =
-    search (needs, c .before .before .before .before .before .before .before .before .before .before .before .before .before .before .before .before .before .before .before .before .before .over2 .kept, c .before .before .before .before .before .before .before .before .before .before .before .before .before .over3 .kept, c .before .before .before .before .before .join .kept)
+    let at-join = c .before .before .before .before .before in let at-over3 = at-join .before .before .before .before .before .before .before .before in
+    let at-over2 = at-over3 .before .before .before .before .before .before .before .before in
+    search (needs, at-over2 .over2 .kept, at-over3 .over3 .kept, at-join .join .kept)
 
 over-same-length-12 : (t : ℕ) → over-lts.Need-same-length-12 (over-claims t) (over-at t) over.Post
 over-same-length-12 t c =
-    search (needs, c .before .before .before .before .before .before .before .before .before .before .before .before .before .before .before .before .before .before .before .before .before .over2 .kept, c .before .before .before .before .before .before .before .before .before .before .before .before .before .over3 .kept, c .before .before .before .before .before .join .kept)
+    let at-join = c .before .before .before .before .before in let at-over3 = at-join .before .before .before .before .before .before .before .before in
+    let at-over2 = at-over3 .before .before .before .before .before .before .before .before in
+    search (needs, at-over2 .over2 .kept, at-over3 .over3 .kept, at-join .join .kept)
 
 over-returns-6 : (t : ℕ) → over-lts.Need-returns-6 (over-claims t) (over-at t) over.Post
 over-returns-6 t c =
-    walk-joined ((c .before .before .before .before .before .before .before .before .before .before .before .before .before .before .before .before .before .before .before .before .before .before .before .before .before .before .before .before .before .before .before .before) .pre .1 .0) ((c .before .before .before .before .before .before .before .before .before .before .before .before .before .before .before .before .before .before .before .before .before .before .before .before .before .before .before .before .before .before .before .before) .pre .1 .1) ((c .before .before .before .before .before .before .before .before .before .before .before .before .before .before .before .before .before .before .before .before .before .before .before .before .before .before .before .before .before .before .before .before) .args .f) ((c .before .before .before .before .before .before .before .before .before .before .before .before .before .before .before .before .before .before .before .before .before .before .before .before .before .before .before .before .before .before .before .before) .pre .1 .2) (c .before .before .before .before .before .before .before .before .before .before .before .before .before .before .before .before .before .before .before .before .before .before .before .before .before .before .before .before .before .way-at .ensures) (c .before .before .before .before .before .before .before .before .before .before .before .before .before .before .before .before .before .before .before .before .before .before .before .before .before .before .before .before .if1 .left) (c .before .before .before .before .before .before .before .before .before .before .before .before .before .before .before .before .before .before .before .before .before .before .before .before .before .before .before .if2 .left) (c .before .before .before .before .before .before .before .before .before .before .before .before .before .before .before .before .before .before .before .before .before .over2 .ensures) (c .before .before .before .before .before .before .before .before .before .before .before .before .before .before .before .before .if4 .left) (c .before .before .before .before .before .before .before .before .before .before .before .before .before .over3 .ensures) (c .before .before .before .before .before .before .before .before .if5 .left) (c .before .before .before .before .before .join .ensures)
+    let at-join = c .before .before .before .before .before in let at-if5 = at-join .before .before .before in let at-over3 = at-if5 .before .before .before .before .before in
+    let at-if4 = at-over3 .before .before .before in let at-over2 = at-if4 .before .before .before .before .before in
+    let at-if2 = at-over2 .before .before .before .before .before .before in let at-if1 = at-if2 .before in let at-way-at = at-if1 .before in
+    let start = at-way-at .before .before .before in
+    walk-joined (start .pre .1 .0) (start .pre .1 .1) (start .args .f) (start .pre .1 .2) (at-way-at .way-at .ensures) (at-if1 .if1 .left) (at-if2 .if2 .left) (at-over2 .over2 .ensures) (at-if4 .if4 .left) (at-over3 .over3 .ensures) (at-if5 .if5 .left) (at-join .join .ensures)
 
 over-keep-requires : (t : ℕ) → over-lts.Need-keep-requires (over-claims t) (over-at t) over.Post
 over-keep-requires t c κs =
-    let J = walk-joined ((c .before .before .before .before .before .before .before .before .before .before .before .before .before .before .before .before .before .before .before .before .before .before .before .before .before .before .before .before .before .before .before .before .before) .pre .1 .0) ((c .before .before .before .before .before .before .before .before .before .before .before .before .before .before .before .before .before .before .before .before .before .before .before .before .before .before .before .before .before .before .before .before .before) .pre .1 .1) ((c .before .before .before .before .before .before .before .before .before .before .before .before .before .before .before .before .before .before .before .before .before .before .before .before .before .before .before .before .before .before .before .before .before) .args .f) ((c .before .before .before .before .before .before .before .before .before .before .before .before .before .before .before .before .before .before .before .before .before .before .before .before .before .before .before .before .before .before .before .before .before) .pre .1 .2) (c .before .before .before .before .before .before .before .before .before .before .before .before .before .before .before .before .before .before .before .before .before .before .before .before .before .before .before .before .before .before .way-at .ensures) (c .before .before .before .before .before .before .before .before .before .before .before .before .before .before .before .before .before .before .before .before .before .before .before .before .before .before .before .before .before .if1 .left) (c .before .before .before .before .before .before .before .before .before .before .before .before .before .before .before .before .before .before .before .before .before .before .before .before .before .before .before .before .if2 .left) (c .before .before .before .before .before .before .before .before .before .before .before .before .before .before .before .before .before .before .before .before .before .before .over2 .ensures) (c .before .before .before .before .before .before .before .before .before .before .before .before .before .before .before .before .before .if4 .left) (c .before .before .before .before .before .before .before .before .before .before .before .before .before .before .over3 .ensures) (c .before .before .before .before .before .before .before .before .before .if5 .left) (c .before .before .before .before .before .before .join .ensures) in
-    keepable J (c .before .if6 .left) (act-key ((c .before .before .before .before .before .before .before .before .before .before .before .before .before .before .before .before .before .before .before .before .before .before .before .before .before .before .before .before .before .before .before .before .before) .pre .1 .1) ((c .before .before .before .before .before .before .before .before .before .before .before .before .before .before .before .before .before .before .before .before .before .before .before .before .before .before .before .before .before .before .before .before .before) .pre .1 .0 .bare) ((c .before .before .before .before .before .before .before .before .before .before .before .before .before .before .before .before .before .before .before .before .before .before .before .before .before .before .before .before .before .before .before .before .before) .args .f) ((c .before .before .before .before .before .before .before .before .before .before .before .before .before .before .before .before .before .before .before .before .before .before .before .before .before .before .before .before .before .before .before .before .before) .pre .1 .2))
+    let at-join = c .before .before .before .before .before .before in let at-if5 = at-join .before .before .before in
+    let at-over3 = at-if5 .before .before .before .before .before in let at-if4 = at-over3 .before .before .before in
+    let at-over2 = at-if4 .before .before .before .before .before in let at-if2 = at-over2 .before .before .before .before .before .before in let at-if1 = at-if2 .before in
+    let at-way-at = at-if1 .before in let start = at-way-at .before .before .before in
+    let J = walk-joined (start .pre .1 .0) (start .pre .1 .1) (start .args .f) (start .pre .1 .2) (at-way-at .way-at .ensures) (at-if1 .if1 .left) (at-if2 .if2 .left) (at-over2 .over2 .ensures) (at-if4 .if4 .left) (at-over3 .over3 .ensures) (at-if5 .if5 .left) (at-join .join .ensures) in
+    keepable J (c .before .if6 .left) (act-key (start .pre .1 .1) (start .pre .1 .0 .bare) (start .args .f) (start .pre .1 .2))
 
 over-same-length-13 : (t : ℕ) → over-lts.Need-same-length-13 (over-claims t) (over-at t) over.Post
 over-same-length-13 t c =
-    search (needs, c .before .before .before .before .before .before .before .before .before .before .before .before .before .before .before .before .before .before .before .before .before .before .before .before .before .over2 .kept, c .before .before .before .before .before .before .before .before .before .before .before .before .before .before .before .before .before .over3 .kept, c .before .before .before .before .before .before .before .before .before .join .kept, c .before .before .keep .kept)
+    let at-join = c .before .before .before .before .before .before .before .before .before in
+    let at-over3 = at-join .before .before .before .before .before .before .before .before in
+    let at-over2 = at-over3 .before .before .before .before .before .before .before .before in
+    search (needs, at-over2 .over2 .kept, at-over3 .over3 .kept, at-join .join .kept, c .before .before .keep .kept)
 
 over-same-length-14 : (t : ℕ) → over-lts.Need-same-length-14 (over-claims t) (over-at t) over.Post
 over-same-length-14 t c =
-    search (needs, c .before .before .before .before .before .before .before .before .before .before .before .before .before .before .before .before .before .before .before .before .before .before .before .before .before .over2 .kept, c .before .before .before .before .before .before .before .before .before .before .before .before .before .before .before .before .before .over3 .kept, c .before .before .before .before .before .before .before .before .before .join .kept, c .before .before .keep .kept)
+    let at-join = c .before .before .before .before .before .before .before .before .before in
+    let at-over3 = at-join .before .before .before .before .before .before .before .before in
+    let at-over2 = at-over3 .before .before .before .before .before .before .before .before in
+    search (needs, at-over2 .over2 .kept, at-over3 .over3 .kept, at-join .join .kept, c .before .before .keep .kept)
 
 over-returns-7 : (t : ℕ) → over-lts.Need-returns-7 (over-claims t) (over-at t) over.Post
 over-returns-7 t c =
-    let J = walk-joined ((c .before .before .before .before .before .before .before .before .before .before .before .before .before .before .before .before .before .before .before .before .before .before .before .before .before .before .before .before .before .before .before .before .before .before .before .before) .pre .1 .0) ((c .before .before .before .before .before .before .before .before .before .before .before .before .before .before .before .before .before .before .before .before .before .before .before .before .before .before .before .before .before .before .before .before .before .before .before .before) .pre .1 .1) ((c .before .before .before .before .before .before .before .before .before .before .before .before .before .before .before .before .before .before .before .before .before .before .before .before .before .before .before .before .before .before .before .before .before .before .before .before) .args .f) ((c .before .before .before .before .before .before .before .before .before .before .before .before .before .before .before .before .before .before .before .before .before .before .before .before .before .before .before .before .before .before .before .before .before .before .before .before) .pre .1 .2) (c .before .before .before .before .before .before .before .before .before .before .before .before .before .before .before .before .before .before .before .before .before .before .before .before .before .before .before .before .before .before .before .before .before .way-at .ensures) (c .before .before .before .before .before .before .before .before .before .before .before .before .before .before .before .before .before .before .before .before .before .before .before .before .before .before .before .before .before .before .before .before .if1 .left) (c .before .before .before .before .before .before .before .before .before .before .before .before .before .before .before .before .before .before .before .before .before .before .before .before .before .before .before .before .before .before .before .if2 .left) (c .before .before .before .before .before .before .before .before .before .before .before .before .before .before .before .before .before .before .before .before .before .before .before .before .before .over2 .ensures) (c .before .before .before .before .before .before .before .before .before .before .before .before .before .before .before .before .before .before .before .before .if4 .left) (c .before .before .before .before .before .before .before .before .before .before .before .before .before .before .before .before .before .over3 .ensures) (c .before .before .before .before .before .before .before .before .before .before .before .before .if5 .left) (c .before .before .before .before .before .before .before .before .before .join .ensures) in
-    kept-run (act-lasts ((c .before .before .before .before .before .before .before .before .before .before .before .before .before .before .before .before .before .before .before .before .before .before .before .before .before .before .before .before .before .before .before .before .before .before .before .before) .pre .1 .1) ((c .before .before .before .before .before .before .before .before .before .before .before .before .before .before .before .before .before .before .before .before .before .before .before .before .before .before .before .before .before .before .before .before .before .before .before .before) .args .nodes .now) ((c .before .before .before .before .before .before .before .before .before .before .before .before .before .before .before .before .before .before .before .before .before .before .before .before .before .before .before .before .before .before .before .before .before .before .before .before) .args .count) ((c .before .before .before .before .before .before .before .before .before .before .before .before .before .before .before .before .before .before .before .before .before .before .before .before .before .before .before .before .before .before .before .before .before .before .before .before) .args .f) ((c .before .before .before .before .before .before .before .before .before .before .before .before .before .before .before .before .before .before .before .before .before .before .before .before .before .before .before .before .before .before .before .before .before .before .before .before) .pre .1 .2)) J (c .before .before .before .before .if6 .left) (c .before .before .keep .ensures)
+    let at-if6 = c .before .before .before .before in let at-join = at-if6 .before .before .before .before .before in let at-if5 = at-join .before .before .before in
+    let at-over3 = at-if5 .before .before .before .before .before in let at-if4 = at-over3 .before .before .before in
+    let at-over2 = at-if4 .before .before .before .before .before in let at-if2 = at-over2 .before .before .before .before .before .before in let at-if1 = at-if2 .before in
+    let at-way-at = at-if1 .before in let start = at-way-at .before .before .before in
+    let J = walk-joined (start .pre .1 .0) (start .pre .1 .1) (start .args .f) (start .pre .1 .2) (at-way-at .way-at .ensures) (at-if1 .if1 .left) (at-if2 .if2 .left) (at-over2 .over2 .ensures) (at-if4 .if4 .left) (at-over3 .over3 .ensures) (at-if5 .if5 .left) (at-join .join .ensures) in
+    kept-run (act-lasts (start .pre .1 .1) (start .args .nodes .now) (start .args .count) (start .args .f) (start .pre .1 .2)) J (at-if6 .if6 .left) (c .before .before .keep .ensures)
 
 pub +over-spec : {M : Type 1} → statement M
 +over-spec = close μ-over λ t. over-lts.spec (over-claims t)

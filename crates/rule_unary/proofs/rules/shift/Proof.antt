@@ -11,7 +11,8 @@ high-half-requires c κs = search needs
 
 over-requires : tie.Need-over-requires
 over-requires c κs =
-    ((c .before .before .before .before .before) .pre .0, shift-acts ((c .before .before .before .before .before) .args .c) ((c .before .before .before .before .before) .fits .c) (c .before .low-half .ensures) (c .high-half .ensures) ((c .before .before .before .before .before) .pre .2), (c .before .before .before .before .before) .pre .1)
+    let start = c .before .before .before .before .before in
+    (start .pre .0, shift-acts (start .args .c) (start .fits .c) (c .before .low-half .ensures) (c .high-half .ensures) (start .pre .2), start .pre .1)
 
 same-length : tie.Need-same-length
 same-length c = search needs
@@ -21,7 +22,9 @@ same-length-2 c = search needs
 
 returns : tie.Need-returns
 returns c =
-    shift-ran ((c .before .before .before .before .before .before .before .before .before) .args .c) ((c .before .before .before .before .before .before .before .before .before) .fits .c) (c .before .before .before .before .before .low-half .ensures) (c .before .before .before .before .high-half .ensures) ((c .before .before .before .before .before .before .before .before .before) .args .f) (c .before .before .before .over .ensures)
+    let at-over = c .before .before .before in let at-high-half = at-over .before in let at-low-half = at-high-half .before in
+    let start = at-low-half .before .before .before .before in
+    shift-ran (start .args .c) (start .fits .c) (at-low-half .low-half .ensures) (at-high-half .high-half .ensures) (start .args .f) (at-over .over .ensures)
 
 pub shift-spec : {M : Type 1} → statement M
 shift-spec =

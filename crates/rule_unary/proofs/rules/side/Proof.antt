@@ -5,7 +5,7 @@ use Rattle.rule_unary.proofs.rules.side.Tie as tie
 
 over-requires : tie.Need-over-requires
 over-requires c κs =
-    ((c .before .before .before) .pre .0, side-acts ((c .before .before .before) .pre .1), (c .before .before .before) .pre .2)
+    let start = c .before .before .before in (start .pre .0, side-acts (start .pre .1), start .pre .2)
 
 same-length : tie.Need-same-length
 same-length c = search needs

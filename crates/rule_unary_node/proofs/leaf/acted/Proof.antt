@@ -15,26 +15,30 @@ product-requires c κs = search needs
 
 returns : tie.Need-returns
 returns c =
-    scaled-as ((c .before .before .before) .args .p) ((c .before .before .before) .args .q) ((c .before .before .before) .args .x) (c .before .number-of .result) (c .before .number-of .ok) (c .before .number-of .ensures) (c .before .before .if1 .taken) (c .product .ensures)
+    let start = c .before .before .before in
+    scaled-as (start .args .p) (start .args .q) (start .args .x) (c .before .number-of .result) (c .before .number-of .ok) (c .before .number-of .ensures) (c .before .before .if1 .taken) (c .product .ensures)
 
 number-of-requires-2 : tie.Need-number-of-requires-2
 number-of-requires-2 c κs = search needs
 
 shifted-requires : tie.Need-shifted-requires
 shifted-requires c κs =
-    ((c .before .before .before) .pre .0, small-as (c .number-of2 .result) (c .number-of2 .ok) (c .number-of2 .ensures) ((c .before .before .before) .pre .1 .shifts (c .before .if2 .taken)))
+    let start = c .before .before .before in
+    (start .pre .0, small-as (c .number-of2 .result) (c .number-of2 .ok) (c .number-of2 .ensures) (start .pre .1 .shifts (c .before .if2 .taken)))
 
 returns-2 : tie.Need-returns-2
 returns-2 c =
-    shifted-as ((c .before .before .before .before) .args .p) ((c .before .before .before .before) .args .q) ((c .before .before .before .before) .args .x) (c .before .number-of2 .result) (c .before .number-of2 .ok) (c .before .number-of2 .ensures) (c .before .before .if2 .taken) (c .shifted .ensures)
+    let start = c .before .before .before .before in
+    shifted-as (start .args .p) (start .args .q) (start .args .x) (c .before .number-of2 .result) (c .before .number-of2 .ok) (c .before .number-of2 .ensures) (c .before .before .if2 .taken) (c .shifted .ensures)
 
 complemented-requires : tie.Need-complemented-requires
 complemented-requires c κs =
-    ((c .before .before .before) .pre .0, (c .before .before .before) .pre .1 .weighs (c .if3 .taken))
+    let start = c .before .before .before in (start .pre .0, start .pre .1 .weighs (c .if3 .taken))
 
 returns-3 : tie.Need-returns-3
 returns-3 c =
-    c .complemented .ensures ∙ sym (acted-complement ((c .before .before .before .before) .args .p) ((c .before .before .before .before) .args .q) ((c .before .before .before .before) .args .x) (c .before .if3 .taken))
+    let start = c .before .before .before .before in
+    c .complemented .ensures ∙ sym (acted-complement (start .args .p) (start .args .q) (start .args .x) (c .before .if3 .taken))
 
 numbered-requires : tie.Need-numbered-requires
 numbered-requires c κs =
@@ -42,13 +46,15 @@ numbered-requires c κs =
 
 returns-4 : tie.Need-returns-4
 returns-4 c =
-    c .numbered .ensures ∙ sym (acted-number ((c .before .before .before .before .before) .args .p) ((c .before .before .before .before .before) .args .q) ((c .before .before .before .before .before) .args .x) (c .before .if4 .taken))
+    let start = c .before .before .before .before .before in
+    c .numbered .ensures ∙ sym (acted-number (start .args .p) (start .args .q) (start .args .x) (c .before .if4 .taken))
 
 returns-5 : tie.Need-returns-5
 returns-5 c =
-    let a = c .before .before .before .if1 .left in let b = c .before .before .if2 .left in let d = c .before .if3 .left in let e = c .if4 .left in
-    let k = (c .before .before .before .before) .pre .1 .from in
-    sym (acted-side ((c .before .before .before .before) .args .p) ((c .before .before .before .before) .args .q) ((c .before .before .before .before) .args .x) (omega arith) ((c .before .before .before .before) .pre .1 .to))
+    let at-if1 = c .before .before .before in let start = at-if1 .before in
+    let a = at-if1 .if1 .left in let b = c .before .before .if2 .left in let d = c .before .if3 .left in let e = c .if4 .left in
+    let k = start .pre .1 .from in
+    sym (acted-side (start .args .p) (start .args .q) (start .args .x) (omega arith) (start .pre .1 .to))
 
 pub acted-spec : {M : Type 1} → statement M
 acted-spec =

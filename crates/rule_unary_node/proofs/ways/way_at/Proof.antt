@@ -17,7 +17,8 @@ way-requires c κs = search needs
 
 returns : tie.Need-returns
 returns c =
-    way-other ((c .before .before .before .before) .args .op) ((c .before .before .before .before) .args .p) (c .before .before .before .get .ensures) (c .before .before .below .ensures) (c .way .ensures) (c .before .if1 .taken)
+    let at-get = c .before .before .before in let start = at-get .before in
+    way-other (start .args .op) (start .args .p) (at-get .get .ensures) (c .before .before .below .ensures) (c .way .ensures) (c .before .if1 .taken)
 
 later-requires : tie.Need-later-requires
 later-requires c κs =
@@ -31,7 +32,8 @@ way-requires-2 c κs = search needs
 
 returns-2 : tie.Need-returns-2
 returns-2 c =
-    way-side ((c .before .before .before .before .before .before) .args .op) ((c .before .before .before .before .before .before) .args .p) (c .before .before .before .before .before .get .ensures) (c .before .before .before .before .below .ensures) (c .before .before .later .ensures) (c .before .order .ensures) (c .way2 .ensures) (c .before .before .before .if1 .left)
+    let at-if1 = c .before .before .before in let at-below = at-if1 .before in let at-get = at-below .before in let start = at-get .before in
+    way-side (start .args .op) (start .args .p) (at-get .get .ensures) (at-below .below .ensures) (c .before .before .later .ensures) (c .before .order .ensures) (c .way2 .ensures) (at-if1 .if1 .left)
 
 pub way-at-spec : {M : Type 1} → statement M
 way-at-spec =

@@ -11,7 +11,8 @@ same-length : tie.Need-same-length
 same-length c = search needs
 
 returns : tie.Need-returns
-returns c = to-end 0 (c .before .before .before .before .before .args .words .now) (c .before .before .before .before .before .args .from) (c .before .before .work .ensures)
+returns c =
+    let start = c .before .before .before .before .before in to-end 0 (start .args .words .now) (start .args .from) (c .before .before .work .ensures)
 
 pub words-from-spec : {M : Type 1} → statement M
 words-from-spec = tie.close (tie.spec work-requires same-length returns)

@@ -18,8 +18,8 @@ add-result-2 c = search needs
 
 returns : tie.Need-returns
 returns c =
-    let n = c .numbers-len .ensures in
-    (omega (arith, n .0, line-length ((c .before .before .before) .args .start .now) (map pos ((c .before .before .before) .args .xs .now))), omega (arith, n .1, (c .before .before .before) .pre))
+    let start-2 = c .before .before .before in let n = c .numbers-len .ensures in
+    (omega (arith, n .0, line-length (start-2 .args .start .now) (map pos (start-2 .args .xs .now))), omega (arith, n .1, start-2 .pre))
 
 pub line-len-spec : {M : Type 1} → statement M
 line-len-spec = tie.close (tie.spec numbers-len-requires add-result add-result-2 returns)

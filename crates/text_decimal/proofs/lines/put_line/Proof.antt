@@ -11,26 +11,31 @@ use Rattle.text_decimal.proofs.lines.put_line.Tie as tie
 
 put-bytes-requires : tie.Need-put-bytes-requires
 put-bytes-requires c κs =
-    omega (arith, (c .before .before .before .before) .pre, line-length ((c .before .before .before .before) .args .start .now) (map pos ((c .before .before .before .before) .args .xs .now)))
+    let start-2 = c .before .before .before .before in omega (arith, start-2 .pre, line-length (start-2 .args .start .now) (map pos (start-2 .args .xs .now)))
 
 put-numbers-requires : tie.Need-put-numbers-requires
 put-numbers-requires c κs =
-    omega (arith, (c .before .before .before .before .before .before .before .before) .pre, line-length ((c .before .before .before .before .before .before .before .before) .args .start .now) (map pos ((c .before .before .before .before .before .before .before .before) .args .xs .now)), c .before .before .before .put-bytes .ensures .behind, c .before .before .before .put-bytes .kept .0)
+    let at-put-bytes = c .before .before .before in let start-2 = at-put-bytes .before .before .before .before .before in
+    omega (arith, start-2 .pre, line-length (start-2 .args .start .now) (map pos (start-2 .args .xs .now)), at-put-bytes .put-bytes .ensures .behind, at-put-bytes .put-bytes .kept .0)
 
 slice-aggregate-put-bytes : tie.Need-slice-aggregate-put-bytes
 slice-aggregate-put-bytes c = search needs
 
 put-bytes-requires-2 : tie.Need-put-bytes-requires-2
 put-bytes-requires-2 c κs =
-    omega (arith, (c .before .before .before .before .before .before .before .before .before .before .before .before .before) .pre, line-length ((c .before .before .before .before .before .before .before .before .before .before .before .before .before) .args .start .now) (map pos ((c .before .before .before .before .before .before .before .before .before .before .before .before .before) .args .xs .now)), c .before .before .before .before .before .before .before .before .put-bytes .ensures .behind, c .before .before .before .before .before .before .before .before .put-bytes .kept .0, c .before .before .before .before .put-numbers .ensures .behind, c .before .before .before .before .put-numbers .kept .0)
+    let at-put-numbers = c .before .before .before .before in let at-put-bytes = at-put-numbers .before .before .before .before in
+    let start-2 = at-put-bytes .before .before .before .before .before in
+    omega (arith, start-2 .pre, line-length (start-2 .args .start .now) (map pos (start-2 .args .xs .now)), at-put-bytes .put-bytes .ensures .behind, at-put-bytes .put-bytes .kept .0, at-put-numbers .put-numbers .ensures .behind, at-put-numbers .put-numbers .kept .0)
 
 same-length : tie.Need-same-length
 same-length c = search needs
 
 returns : tie.Need-returns
 returns c =
-    let h : (c .before .before .before .before .before .before .before .before .before .before .before .before .before .before .before .before) .args .at ≤ length ((c .before .before .before .before .before .before .before .before .before .before .before .before .before .before .before .before) .args .out .now) = omega (arith, (c .before .before .before .before .before .before .before .before .before .before .before .before .before .before .before .before) .pre) in
-    line-put (map pos ((c .before .before .before .before .before .before .before .before .before .before .before .before .before .before .before .before) .args .xs .now)) h (c .before .before .before .before .before .before .before .before .before .before .before .put-bytes .ensures) (c .before .before .before .before .before .before .before .put-numbers .ensures) (c .before .before .put-bytes2 .ensures)
+    let at-put-numbers = c .before .before .before .before .before .before .before in let at-put-bytes = at-put-numbers .before .before .before .before in
+    let start-2 = at-put-bytes .before .before .before .before .before in
+    let h : start-2 .args .at ≤ length (start-2 .args .out .now) = omega (arith, start-2 .pre) in
+    line-put (map pos (start-2 .args .xs .now)) h (at-put-bytes .put-bytes .ensures) (at-put-numbers .put-numbers .ensures) (c .before .before .put-bytes2 .ensures)
 
 pub put-line-spec : {M : Type 1} → statement M
 put-line-spec =

@@ -33,10 +33,10 @@ shared-slice-read-put-number c =
 
 put-number-requires : tie.Need-put-number-requires Inv-loop μ-loop
 put-number-requires c κs =
-    let a = (c .before .before .before .before .before .before) .args in
-    let l = c .before .before .before .loop in
+    let at-loop = c .before .before .before in let start = at-loop .before .before .before in let a = start .args in
+    let l = at-loop .loop in
     let h : l .i < length (map pos (a .xs .now)) = omega (arith, length-map (a .xs .now) pos, c .before .before .loop-test .taken) in
-    let r = written-room (map pos (a .xs .now)) (a .out .now) (a .at) (l .i) (l .next) (l .out) (l .inv) h ((c .before .before .before .before .before .before) .pre) in
+    let r = written-room (map pos (a .xs .now)) (a .out .now) (a .at) (l .i) (l .next) (l .out) (l .inv) h (start .pre) in
     omega (arith, r, ap (λ z. length (spaced z)) (List·getD-map pos (a .xs .now) (l .i) 0))
 
 add-i : tie.Need-add-i Inv-loop μ-loop
@@ -49,11 +49,12 @@ loop-less c =
 
 loop-again : tie.Need-loop-again Inv-loop μ-loop
 loop-again c =
-    let a = (c .before .before .before .before .before .before .before .before .before) .args in
-    let l = c .before .before .before .before .before .before .loop in
+    let at-loop-test = c .before .before .before .before .before in let at-loop = at-loop-test .before in let start = at-loop .before .before .before in
+    let a = start .args in
+    let l = at-loop .loop in
     let q = c .before .before .put-number in
-    let h : l .i < length (map pos (a .xs .now)) = omega (arith, length-map (a .xs .now) pos, c .before .before .before .before .before .loop-test .taken) in
-    written-more (map pos (a .xs .now)) (a .out .now) (a .at) (l .i) (l .next) (l .out) (l .inv) h ((c .before .before .before .before .before .before .before .before .before) .pre) (q .result) (q .last .0) (q .kept .0)
+    let h : l .i < length (map pos (a .xs .now)) = omega (arith, length-map (a .xs .now) pos, at-loop-test .loop-test .taken) in
+    written-more (map pos (a .xs .now)) (a .out .now) (a .at) (l .i) (l .next) (l .out) (l .inv) h (start .pre) (q .result) (q .last .0) (q .kept .0)
     (rename (sym (ap spaced (List·getD-map pos (a .xs .now) (l .i) 0))) (q .ensures))
 
 same-length : tie.Need-same-length Inv-loop μ-loop

@@ -32,9 +32,9 @@ shared-slice-copy-out-put-signed c =
 
 put-signed-requires : tie.Need-put-signed-requires Inv-loop μ-loop
 put-signed-requires c κs =
-    let a = (c .before .before .before .before .before) .args in
-    let l = c .before .before .before .loop in
-    let r = written-room (a .xs .now) (a .out .now) (a .at) (l .i) (l .next) (l .out) (l .inv) (c .before .before .loop-test .taken) ((c .before .before .before .before .before) .pre) in
+    let at-loop = c .before .before .before in let start = at-loop .before .before in let a = start .args in
+    let l = at-loop .loop in
+    let r = written-room (a .xs .now) (a .out .now) (a .at) (l .i) (l .next) (l .out) (l .inv) (c .before .before .loop-test .taken) (start .pre) in
     omega (arith, r, ap length (spaced-back (getD (a .xs .now) (l .i) (pos 0)) (record { sfits = c .put-signed-arg2 .given })))
 
 add-i : tie.Need-add-i Inv-loop μ-loop
@@ -47,11 +47,12 @@ loop-less c =
 
 loop-again : tie.Need-loop-again Inv-loop μ-loop
 loop-again c =
-    let a = (c .before .before .before .before .before .before .before .before) .args in
-    let l = c .before .before .before .before .before .before .loop in
+    let at-put-signed-arg2 = c .before .before .before in let at-loop-test = at-put-signed-arg2 .before .before in let at-loop = at-loop-test .before in
+    let start = at-loop .before .before in let a = start .args in
+    let l = at-loop .loop in
     let q = c .before .before .put-signed in
-    written-more (a .xs .now) (a .out .now) (a .at) (l .i) (l .next) (l .out) (l .inv) (c .before .before .before .before .before .loop-test .taken) ((c .before .before .before .before .before .before .before .before) .pre) (q .result) (q .last .0) (q .kept .0)
-    (rename (spaced-back (getD (a .xs .now) (l .i) (pos 0)) (record { sfits = c .before .before .before .put-signed-arg2 .given })) (q .ensures))
+    written-more (a .xs .now) (a .out .now) (a .at) (l .i) (l .next) (l .out) (l .inv) (at-loop-test .loop-test .taken) (start .pre) (q .result) (q .last .0) (q .kept .0)
+    (rename (spaced-back (getD (a .xs .now) (l .i) (pos 0)) (record { sfits = at-put-signed-arg2 .put-signed-arg2 .given })) (q .ensures))
 
 same-length : tie.Need-same-length Inv-loop μ-loop
 same-length c =

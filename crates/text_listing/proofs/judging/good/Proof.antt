@@ -12,8 +12,8 @@ enum-told c = search needs
 
 returns : tie.Need-returns
 returns c =
-    let a = (c .before .before .before) .args in
-    row-bad (a .conditions) (a .actions) (a .nodes .now) (a .r) ((c .before .before .before) .pre) (c .before .before .row-kind .ensures) (c .enum-told .given .1)
+    let start = c .before .before .before in let a = start .args in
+    row-bad (a .conditions) (a .actions) (a .nodes .now) (a .r) (start .pre) (c .before .before .row-kind .ensures) (c .enum-told .given .1)
 
 returns-2 : tie.Need-returns-2
 returns-2 c =

@@ -35,17 +35,19 @@ all-good-requires c κs = search needs
 
 returns-2 : tie.Need-returns-2
 returns-2 c =
-    let a = (c .before .before .before .before .before .before .before .before) .args in
+    let at-greatest-root = c .before .before .before .before in let at-if1 = at-greatest-root .before in let at-all-rooted = at-if1 .before in
+    let start = at-all-rooted .before .before in let a = start .args in
     let p = good-row (a .site .conditions) (a .site .actions) (a .nodes .now) in
-    plan-none (site-as (a .site)) (a .horizon) (a .nodes .now) (a .stages .now) (sym (c .before .before .before .before .before .before .all-rooted .ensures) ∙ c .before .before .before .before .before .if1 .taken)
-    (ap (every p) (sym (c .before .before .before .before .greatest-root .ensures)) ∙ sym (c .before .all-good .ensures) ∙ c .if2 .taken)
+    plan-none (site-as (a .site)) (a .horizon) (a .nodes .now) (a .stages .now) (sym (at-all-rooted .all-rooted .ensures) ∙ at-if1 .if1 .taken)
+    (ap (every p) (sym (at-greatest-root .greatest-root .ensures)) ∙ sym (c .before .all-good .ensures) ∙ c .if2 .taken)
 
 returns-3 : tie.Need-returns-3
 returns-3 c =
-    let a = (c .before .before .before .before .before .before .before .before) .args in
+    let at-greatest-root = c .before .before .before .before in let at-if1 = at-greatest-root .before in let at-all-rooted = at-if1 .before in
+    let start = at-all-rooted .before .before in let a = start .args in
     let p = good-row (a .site .conditions) (a .site .actions) (a .nodes .now) in
-    plan-14 (site-as (a .site)) (a .horizon) (a .nodes .now) (a .stages .now) (sym (c .before .before .before .before .before .before .all-rooted .ensures) ∙ c .before .before .before .before .before .if1 .taken)
-    (ap (every p) (sym (c .before .before .before .before .greatest-root .ensures)) ∙ sym (c .before .all-good .ensures) ∙ c .if2 .left)
+    plan-14 (site-as (a .site)) (a .horizon) (a .nodes .now) (a .stages .now) (sym (at-all-rooted .all-rooted .ensures) ∙ at-if1 .if1 .taken)
+    (ap (every p) (sym (at-greatest-root .greatest-root .ensures)) ∙ sym (c .before .all-good .ensures) ∙ c .if2 .left)
 
 pub plan-refusal-spec : {M : Type 1} → statement M
 plan-refusal-spec =

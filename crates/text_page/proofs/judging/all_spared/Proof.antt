@@ -34,28 +34,34 @@ mul-value-after : tie.Need-mul-value-after Inv-loop μ-loop
 mul-value-after c = search needs
 
 shared-slice-read-value-after : tie.Need-shared-slice-read-value-after Inv-loop μ-loop
-shared-slice-read-value-after c = omega (arith, c .before .before .before .before .before .before .before .pre, c .before .before .before .before .loop-test .taken)
+shared-slice-read-value-after c =
+    let at-loop-test = c .before .before .before .before in let start = at-loop-test .before .before .before in
+    omega (arith, start .pre, at-loop-test .loop-test .taken)
 
 value-after-requires : tie.Need-value-after-requires Inv-loop μ-loop
 value-after-requires c κs = search needs
 
 returns : tie.Need-returns Inv-loop μ-loop
 returns c =
-    let a = c .before .before .before .before .before .before .before .before .before .before .args in
+    let at-loop-test = c .before .before .before .before .before .before .before in let at-loop = at-loop-test .before in let start = at-loop .before .before in
+    let a = start .args in
     let p = spared (site-as (a .site)) (a .nodes .now) (a .stages .now) (asked (a .q)) (a .number) in
-    sym (every-false p (c .before .before .before .before .before .before .before .before .loop .h) (a .last) (c .before .before .before .before .before .before .before .loop-test .taken) (spared-not (site-as (a .site)) (a .nodes .now) (a .stages .now) (asked (a .q)) (a .number) (c .before .before .before .before .before .before .before .before .loop .h) (c .before .before .value-after .ensures) (c .if1 .taken)))
+    sym (every-false p (at-loop .loop .h) (a .last) (at-loop-test .loop-test .taken) (spared-not (site-as (a .site)) (a .nodes .now) (a .stages .now) (asked (a .q)) (a .number) (at-loop .loop .h) (c .before .before .value-after .ensures) (c .if1 .taken)))
 
 add-h : tie.Need-add-h Inv-loop μ-loop
-add-h c = omega (arith, c .before .before .before .before .before .before .before .loop-test .taken)
+add-h c =
+    let at-loop-test = c .before .before .before .before .before .before .before in omega (arith, at-loop-test .loop-test .taken)
 
 loop-less : tie.Need-loop-less Inv-loop μ-loop
-loop-less c = omega (arith, c .before .before .before .before .before .before .before .loop-test .taken)
+loop-less c =
+    let at-loop-test = c .before .before .before .before .before .before .before in omega (arith, at-loop-test .loop-test .taken)
 
 loop-again : tie.Need-loop-again Inv-loop μ-loop
 loop-again c =
-    let a = c .before .before .before .before .before .before .before .before .before .before .args in
+    let at-loop-test = c .before .before .before .before .before .before .before in let at-loop = at-loop-test .before in let start = at-loop .before .before in
+    let a = start .args in
     let p = spared (site-as (a .site)) (a .nodes .now) (a .stages .now) (asked (a .q)) (a .number) in
-    (omega (arith, c .before .before .before .before .before .before .before .loop-test .taken), every-true p (c .before .before .before .before .before .before .before .before .loop .h) (c .before .before .before .before .before .before .before .before .loop .inv .1) (spared-yes (site-as (a .site)) (a .nodes .now) (a .stages .now) (asked (a .q)) (a .number) (c .before .before .before .before .before .before .before .before .loop .h) (c .before .before .value-after .ensures) (c .if1 .left)))
+    (omega (arith, at-loop-test .loop-test .taken), every-true p (at-loop .loop .h) (at-loop .loop .inv .1) (spared-yes (site-as (a .site)) (a .nodes .now) (a .stages .now) (asked (a .q)) (a .number) (at-loop .loop .h) (c .before .before .value-after .ensures) (c .if1 .left)))
 
 returns-2 : tie.Need-returns-2 Inv-loop μ-loop
 returns-2 c =

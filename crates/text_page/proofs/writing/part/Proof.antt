@@ -27,7 +27,9 @@ whole-part-requires : tie.Need-whole-part-requires
 whole-part-requires c κs = (omega (arith, den-is (c .before .before .args .d) (c .before .before .fits .d .sfits) (c .before .before .pre .1), c .before .before .pre .1), c .before .before .pre .0)
 
 returns : tie.Need-returns
-returns c = c .whole-part .ensures ∙ ap (λ (k : ℕ). floor-by (number (c .before .before .before .args .x)) (k * (c .before .before .before .args .site .weights) ^ ((c .before .before .before .args .site .conditions) * (c .before .before .before .args .h)))) (den-is (c .before .before .before .args .d) (c .before .before .before .fits .d .sfits) (c .before .before .before .pre .1))
+returns c =
+    let start = c .before .before .before in
+    c .whole-part .ensures ∙ ap (λ (k : ℕ). floor-by (number (start .args .x)) (k * (start .args .site .weights) ^ ((start .args .site .conditions) * (start .args .h)))) (den-is (start .args .d) (start .fits .d .sfits) (start .pre .1))
 
 pub part-spec : {M : Type 1} → statement M
 part-spec =

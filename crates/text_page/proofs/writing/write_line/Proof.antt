@@ -37,32 +37,36 @@ array-copy-out-part : tie.Need-array-copy-out-part
 array-copy-out-part c = search needs
 
 part-requires : tie.Need-part-requires
-part-requires c κs = divisor-read (getD (c .before .before .before .before .before .before .before .before .before .before .args .q .n) levels-most (pos 0)) (c .part-arg .given) (shown-divisor (c .before .before .before .before .before .before .before .before .before .before .pre .0))
+part-requires c κs =
+    let start = c .before .before .before .before .before .before .before .before .before .before in
+    divisor-read (getD (start .args .q .n) levels-most (pos 0)) (c .part-arg .given) (shown-divisor (start .pre .0))
 
 name-requires : tie.Need-name-requires
 name-requires c κs = search needs
 
 put-line-requires : tie.Need-put-line-requires
 put-line-requires c κs =
-    let g = c .before .before .before .before .before .before .before .before .before .before .before .before .before .good .1 .1 .1 .1 .1 .1 .0 .1 .1 in
-    let f = narrow-state (c .before .before .before .before .before .before .before .before .before .before .before .before .before .args .q) (g .1 .0 .0) (g .1 .0 .1 .1) in
-    let w = c .before .before .before .before .before .before .before .before .before .before .before .before .before .pre .0 in
-    let e = c .before .before .before .before .before .value-after .ensures in
-    let z = part-is w e (den-read (getD (c .before .before .before .before .before .before .before .before .before .before .before .before .before .args .q .n) levels-most (pos 0)) (c .before .before .before .part-arg .given)) (c .before .before .part .ensures) in
+    let at-part-arg = c .before .before .before in let at-value-after = at-part-arg .before .before in
+    let start = at-value-after .before .before .before .before .before .before .before .before in let g = start .good .1 .1 .1 .1 .1 .1 .0 .1 .1 in
+    let f = narrow-state (start .args .q) (g .1 .0 .0) (g .1 .0 .1 .1) in
+    let w = start .pre .0 in
+    let e = at-value-after .value-after .ensures in
+    let z = part-is w e (den-read (getD (start .args .q .n) levels-most (pos 0)) (at-part-arg .part-arg .given)) (c .before .before .part .ensures) in
     let n = name-as w e (c .name .ensures .0) in
-    (holds w f z n, omega (arith, room w f z n (c .before .before .before .before .before .before .before .before .before .before .before .before .before .pre .1)))
+    (holds w f z n, omega (arith, room w f z n (start .pre .1)))
 
 same-length : tie.Need-same-length
 same-length c = search needs
 
 returns : tie.Need-returns
 returns c =
-    let g = c .before .before .before .before .before .before .before .before .before .before .before .before .before .before .before .before .good .1 .1 .1 .1 .1 .1 .0 .1 .1 in
-    let f = narrow-state (c .before .before .before .before .before .before .before .before .before .before .before .before .before .before .before .before .args .q) (g .1 .0 .0) (g .1 .0 .1 .1) in
-    let w = c .before .before .before .before .before .before .before .before .before .before .before .before .before .before .before .before .pre .0 in
-    let e = c .before .before .before .before .before .before .before .before .value-after .ensures in
-    let z = part-is w e (den-read (getD (c .before .before .before .before .before .before .before .before .before .before .before .before .before .before .before .before .args .q .n) levels-most (pos 0)) (c .before .before .before .before .before .before .part-arg .given)) (c .before .before .before .before .before .part .ensures) in
-    rename (line-is w f z (name-as w e (c .before .before .before .name .ensures .0)) (action-as w e)) (c .before .before .put-line .ensures)
+    let at-name = c .before .before .before in let at-part = at-name .before .before in let at-part-arg = at-part .before in let at-value-after = at-part-arg .before .before in
+    let start = at-value-after .before .before .before .before .before .before .before .before in let g = start .good .1 .1 .1 .1 .1 .1 .0 .1 .1 in
+    let f = narrow-state (start .args .q) (g .1 .0 .0) (g .1 .0 .1 .1) in
+    let w = start .pre .0 in
+    let e = at-value-after .value-after .ensures in
+    let z = part-is w e (den-read (getD (start .args .q .n) levels-most (pos 0)) (at-part-arg .part-arg .given)) (at-part .part .ensures) in
+    rename (line-is w f z (name-as w e (at-name .name .ensures .0)) (action-as w e)) (c .before .before .put-line .ensures)
 
 pub write-line-spec : {M : Type 1} → statement M
 write-line-spec =

@@ -10,7 +10,8 @@ returns c = magnitude-plain (c .before .args .x) (c .if1 .left)
 
 add-t4 : tie.Need-add-t4
 add-t4 c =
-    let h : c .before .before .before .args .x .high < 10000000000 = omega (arith, magnitude-below (c .before .before .before .args .x) (c .before .before .if1 .taken), c .before .before .before .pre) in omega arith
+    let start = c .before .before .before in
+    let h : start .args .x .high < 10000000000 = omega (arith, magnitude-below (start .args .x) (c .before .before .if1 .taken), start .pre) in omega arith
 
 returns-2 : tie.Need-returns-2
 returns-2 c = omega (arith, magnitude-below (c .before .before .before .args .x) (c .before .before .if1 .taken), c .before .if2 .taken)

@@ -32,7 +32,9 @@ same-length c = search needs
 
 returns : tie.Need-returns
 returns c =
-    line-put (c .before .before .before .before .before .before .before .before .before .before .before .before .before .before .before .before .before .before .args .h) (c .before .before .before .before .before .before .before .before .before .before .before .before .before .before .before .before .before .before .args .a) (whole-as (c .before .before .before .before .before .before .before .before .before .before .before .before .before .before .before .before .before .before .args .x)) (c .before .before .before .before .before .before .before .before .before .before .before .before .before .before .before .before .before .before .args .name .now) (omega (arith, c .before .before .before .before .before .before .before .before .before .before .before .before .before .before .before .before .before .before .pre .1)) (c .before .before .before .before .before .before .before .before .before .before .before .before .before .before .before .steps-column .ensures) (c .before .before .before .before .before .before .before .before .before .before .before .before .before .before .text-column .ensures) (c .before .before .before .before .before .before .before .before .before .before .before .put-bytes .ensures) (c .before .before .before .before .before .before .put-bytes2 .ensures) (c .before .before .put-name .ensures)
+    let at-put-bytes2 = c .before .before .before .before .before .before in let at-put-bytes = at-put-bytes2 .before .before .before .before .before in
+    let at-text-column = at-put-bytes .before .before .before in let at-steps-column = at-text-column .before in let start = at-steps-column .before .before .before in
+    line-put (start .args .h) (start .args .a) (whole-as (start .args .x)) (start .args .name .now) (omega (arith, start .pre .1)) (at-steps-column .steps-column .ensures) (at-text-column .text-column .ensures) (at-put-bytes .put-bytes .ensures) (at-put-bytes2 .put-bytes2 .ensures) (c .before .before .put-name .ensures)
 
 pub put-line-spec : {M : Type 1} → statement M
 put-line-spec =

@@ -22,13 +22,18 @@ part-put-bytes-end : tie.Need-part-put-bytes-end
 part-put-bytes-end c = search needs
 
 put-bytes-requires-2 : tie.Need-put-bytes-requires-2
-put-bytes-requires-2 c κs = omega (arith, rest-length (length (c .before .before .before .before .before .before .before .before .before .before .args .name .now)) (c .before .before .before .before .before .before .before .before .before .before .pre .0) (c .before .before .before .before .before .before .before .line-end .ensures), c .before .before .before .before .before .put-bytes .ensures .behind, c .before .before .before .before .before .put-bytes .kept .0, c .before .before .before .before .before .before .before .before .before .before .pre .0, c .before .before .before .before .before .before .before .before .before .before .pre .1)
+put-bytes-requires-2 c κs =
+    let at-put-bytes = c .before .before .before .before .before in let at-line-end = at-put-bytes .before .before in let start = at-line-end .before .before .before in
+    omega (arith, rest-length (length (start .args .name .now)) (start .pre .0) (at-line-end .line-end .ensures), at-put-bytes .put-bytes .ensures .behind, at-put-bytes .put-bytes .kept .0, start .pre .0, start .pre .1)
 
 same-length : tie.Need-same-length
 same-length c = search needs
 
 returns : tie.Need-returns
-returns c = name-put (omega (arith, c .before .before .before .before .before .before .before .before .before .before .before .before .before .pre .1)) (c .before .before .before .before .before .before .before .before .before .before .before .before .before .pre .0) (c .before .before .before .before .before .before .before .before .before .before .line-end .ensures) (c .before .before .before .before .before .before .before .before .put-bytes .ensures) (c .before .before .put-bytes2 .ensures)
+returns c =
+    let at-put-bytes = c .before .before .before .before .before .before .before .before in let at-line-end = at-put-bytes .before .before in
+    let start = at-line-end .before .before .before in
+    name-put (omega (arith, start .pre .1)) (start .pre .0) (at-line-end .line-end .ensures) (at-put-bytes .put-bytes .ensures) (c .before .before .put-bytes2 .ensures)
 
 pub put-name-spec : {M : Type 1} → statement M
 put-name-spec =

@@ -24,36 +24,36 @@ add-r c =
 
 sub-node-line : tie.Need-sub-node-line Inv-loop μ-loop
 sub-node-line c =
-    let a = (c .before .before .before) .args in
+    let start = c .before .before .before in let a = start .args in
     let l = c .before .loop in
-    omega (arith, lined-room (node-line (a .nodes .now)) (a .buffer .now) (a .at) (l .r) (l .next) (l .buffer) (a .last) (l .inv .1) (c .loop-test .taken) ((c .before .before .before) .pre .1))
+    omega (arith, lined-room (node-line (a .nodes .now)) (a .buffer .now) (a .at) (l .r) (l .next) (l .buffer) (a .last) (l .inv .1) (c .loop-test .taken) (start .pre .1))
 
 part-node-line-start : tie.Need-part-node-line-start Inv-loop μ-loop
 part-node-line-start c =
-    let a = (c .before .before .before) .args in
+    let start = c .before .before .before in let a = start .args in
     let l = c .before .loop in
-    omega (arith, lined-room (node-line (a .nodes .now)) (a .buffer .now) (a .at) (l .r) (l .next) (l .buffer) (a .last) (l .inv .1) (c .loop-test .taken) ((c .before .before .before) .pre .1))
+    omega (arith, lined-room (node-line (a .nodes .now)) (a .buffer .now) (a .at) (l .r) (l .next) (l .buffer) (a .last) (l .inv .1) (c .loop-test .taken) (start .pre .1))
 
 part-node-line-end : tie.Need-part-node-line-end Inv-loop μ-loop
 part-node-line-end c =
-    let a = (c .before .before .before) .args in
+    let start = c .before .before .before in let a = start .args in
     let l = c .before .loop in
-    omega (arith, lined-room (node-line (a .nodes .now)) (a .buffer .now) (a .at) (l .r) (l .next) (l .buffer) (a .last) (l .inv .1) (c .loop-test .taken) ((c .before .before .before) .pre .1))
+    omega (arith, lined-room (node-line (a .nodes .now)) (a .buffer .now) (a .at) (l .r) (l .next) (l .buffer) (a .last) (l .inv .1) (c .loop-test .taken) (start .pre .1))
 
 node-line-requires : tie.Need-node-line-requires Inv-loop μ-loop
 node-line-requires c κs =
-    let a = (c .before .before .before .before) .args in
+    let start = c .before .before .before .before in let a = start .args in
     let l = c .before .before .loop in
     let h = c .before .loop-test .taken in
-    let m = lined-room (node-line (a .nodes .now)) (a .buffer .now) (a .at) (l .r) (l .next) (l .buffer) (a .last) (l .inv .1) h ((c .before .before .before .before) .pre .1) in
-    (record { above = omega arith; within = omega (arith, (c .before .before .before .before) .pre .0) }, part-room (node-line (a .nodes .now) (l .r + 1)) (l .buffer) (l .next) m)
+    let m = lined-room (node-line (a .nodes .now)) (a .buffer .now) (a .at) (l .r) (l .next) (l .buffer) (a .last) (l .inv .1) h (start .pre .1) in
+    (record { above = omega arith; within = omega (arith, start .pre .0) }, part-room (node-line (a .nodes .now) (l .r + 1)) (l .buffer) (l .next) m)
 
 add-next : tie.Need-add-next Inv-loop μ-loop
 add-next c =
-    let a = (c .before .before .before .before .before .before .before) .args in
-    let l = c .before .before .before .before .before .loop in
+    let at-loop-test = c .before .before .before .before in let at-loop = at-loop-test .before in let start = at-loop .before .before in let a = start .args in
+    let l = at-loop .loop in
     let q = c .before .before .node-line in
-    omega (arith, lined-room (node-line (a .nodes .now)) (a .buffer .now) (a .at) (l .r) (l .next) (l .buffer) (a .last) (l .inv .1) (c .before .before .before .before .loop-test .taken) ((c .before .before .before .before .before .before .before) .pre .1), q .ensures .behind)
+    omega (arith, lined-room (node-line (a .nodes .now)) (a .buffer .now) (a .at) (l .r) (l .next) (l .buffer) (a .last) (l .inv .1) (at-loop-test .loop-test .taken) (start .pre .1), q .ensures .behind)
 
 loop-less : tie.Need-loop-less Inv-loop μ-loop
 loop-less c =
@@ -61,12 +61,12 @@ loop-less c =
 
 loop-again : tie.Need-loop-again Inv-loop μ-loop
 loop-again c =
-    let a = (c .before .before .before .before .before .before .before) .args in
-    let l = c .before .before .before .before .before .loop in
-    let h = c .before .before .before .before .loop-test .taken in
+    let at-loop-test = c .before .before .before .before in let at-loop = at-loop-test .before in let start = at-loop .before .before in let a = start .args in
+    let l = at-loop .loop in
+    let h = at-loop-test .loop-test .taken in
     let q = c .before .before .node-line in (
       omega arith,
-      lined-more (node-line (a .nodes .now)) (a .buffer .now) (a .at) (l .r) (l .next) (l .buffer) (a .last) (l .inv .1) h ((c .before .before .before .before .before .before .before) .pre .1) (q .result) (q .last .0) (q .kept .0) (q .ensures),
+      lined-more (node-line (a .nodes .now)) (a .buffer .now) (a .at) (l .r) (l .next) (l .buffer) (a .last) (l .inv .1) h (start .pre .1) (q .result) (q .last .0) (q .kept .0) (q .ensures),
     )
 
 same-length : tie.Need-same-length Inv-loop μ-loop

@@ -48,10 +48,10 @@ loop-less c =
 
 loop-again : tie.Need-loop-again Inv-loop μ-loop
 loop-again c =
-    let l = c .before .before .before .loop in
+    let at-loop = c .before .before .before in let start = at-loop .before in let l = at-loop .loop in
     let q = c .node-line-len .ensures in (
       omega (arith, c .before .before .loop-test .taken),
-      counted-more (node-line ((c .before .before .before .before) .args .nodes .now)) ((c .before .before .before .before) .args .before) (l .r) (l .n) (c .node-line-len .result) (l .inv .1) (q .0),
+      counted-more (node-line (start .args .nodes .now)) (start .args .before) (l .r) (l .n) (c .node-line-len .result) (l .inv .1) (q .0),
       omega (arith, q .1, c .before .if1 .left),
     )
 

@@ -24,36 +24,37 @@ add-h c =
 
 sub-stage-line : tie.Need-sub-stage-line Inv-loop μ-loop
 sub-stage-line c =
-    let a = (c .before .before .before .before) .args in
+    let start = c .before .before .before .before in let a = start .args in
     let l = c .before .loop in
-    omega (arith, lined-room (stage-line (a .stages .now)) (a .buffer .now) (a .at) (l .h) (l .next) (l .buffer) (a .last) (l .inv .1) (c .loop-test .taken) ((c .before .before .before .before) .pre .1))
+    omega (arith, lined-room (stage-line (a .stages .now)) (a .buffer .now) (a .at) (l .h) (l .next) (l .buffer) (a .last) (l .inv .1) (c .loop-test .taken) (start .pre .1))
 
 part-stage-line-start : tie.Need-part-stage-line-start Inv-loop μ-loop
 part-stage-line-start c =
-    let a = (c .before .before .before .before) .args in
+    let start = c .before .before .before .before in let a = start .args in
     let l = c .before .loop in
-    omega (arith, lined-room (stage-line (a .stages .now)) (a .buffer .now) (a .at) (l .h) (l .next) (l .buffer) (a .last) (l .inv .1) (c .loop-test .taken) ((c .before .before .before .before) .pre .1))
+    omega (arith, lined-room (stage-line (a .stages .now)) (a .buffer .now) (a .at) (l .h) (l .next) (l .buffer) (a .last) (l .inv .1) (c .loop-test .taken) (start .pre .1))
 
 part-stage-line-end : tie.Need-part-stage-line-end Inv-loop μ-loop
 part-stage-line-end c =
-    let a = (c .before .before .before .before) .args in
+    let start = c .before .before .before .before in let a = start .args in
     let l = c .before .loop in
-    omega (arith, lined-room (stage-line (a .stages .now)) (a .buffer .now) (a .at) (l .h) (l .next) (l .buffer) (a .last) (l .inv .1) (c .loop-test .taken) ((c .before .before .before .before) .pre .1))
+    omega (arith, lined-room (stage-line (a .stages .now)) (a .buffer .now) (a .at) (l .h) (l .next) (l .buffer) (a .last) (l .inv .1) (c .loop-test .taken) (start .pre .1))
 
 stage-line-requires : tie.Need-stage-line-requires Inv-loop μ-loop
 stage-line-requires c κs =
-    let a = (c .before .before .before .before .before) .args in
+    let start = c .before .before .before .before .before in let a = start .args in
     let l = c .before .before .loop in
     let h = c .before .loop-test .taken in
-    let m = lined-room (stage-line (a .stages .now)) (a .buffer .now) (a .at) (l .h) (l .next) (l .buffer) (a .last) (l .inv .1) h ((c .before .before .before .before .before) .pre .1) in
-    (omega arith, omega (arith, (c .before .before .before .before .before) .pre .0), part-room (stage-line (a .stages .now) (l .h + 1)) (l .buffer) (l .next) m)
+    let m = lined-room (stage-line (a .stages .now)) (a .buffer .now) (a .at) (l .h) (l .next) (l .buffer) (a .last) (l .inv .1) h (start .pre .1) in
+    (omega arith, omega (arith, start .pre .0), part-room (stage-line (a .stages .now) (l .h + 1)) (l .buffer) (l .next) m)
 
 add-next : tie.Need-add-next Inv-loop μ-loop
 add-next c =
-    let a = (c .before .before .before .before .before .before .before .before) .args in
-    let l = c .before .before .before .before .before .loop in
+    let at-loop-test = c .before .before .before .before in let at-loop = at-loop-test .before in let start = at-loop .before .before .before in
+    let a = start .args in
+    let l = at-loop .loop in
     let q = c .before .before .stage-line in
-    omega (arith, lined-room (stage-line (a .stages .now)) (a .buffer .now) (a .at) (l .h) (l .next) (l .buffer) (a .last) (l .inv .1) (c .before .before .before .before .loop-test .taken) ((c .before .before .before .before .before .before .before .before) .pre .1), q .ensures .behind)
+    omega (arith, lined-room (stage-line (a .stages .now)) (a .buffer .now) (a .at) (l .h) (l .next) (l .buffer) (a .last) (l .inv .1) (at-loop-test .loop-test .taken) (start .pre .1), q .ensures .behind)
 
 loop-less : tie.Need-loop-less Inv-loop μ-loop
 loop-less c =
@@ -61,12 +62,13 @@ loop-less c =
 
 loop-again : tie.Need-loop-again Inv-loop μ-loop
 loop-again c =
-    let a = (c .before .before .before .before .before .before .before .before) .args in
-    let l = c .before .before .before .before .before .loop in
-    let h = c .before .before .before .before .loop-test .taken in
+    let at-loop-test = c .before .before .before .before in let at-loop = at-loop-test .before in let start = at-loop .before .before .before in
+    let a = start .args in
+    let l = at-loop .loop in
+    let h = at-loop-test .loop-test .taken in
     let q = c .before .before .stage-line in (
       omega arith,
-      lined-more (stage-line (a .stages .now)) (a .buffer .now) (a .at) (l .h) (l .next) (l .buffer) (a .last) (l .inv .1) h ((c .before .before .before .before .before .before .before .before) .pre .1) (q .result) (q .last .0) (q .kept .0) (q .ensures),
+      lined-more (stage-line (a .stages .now)) (a .buffer .now) (a .at) (l .h) (l .next) (l .buffer) (a .last) (l .inv .1) h (start .pre .1) (q .result) (q .last .0) (q .kept .0) (q .ensures),
     )
 
 same-length : tie.Need-same-length Inv-loop μ-loop

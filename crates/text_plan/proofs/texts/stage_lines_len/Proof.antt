@@ -46,10 +46,10 @@ loop-again c =
 
 returns : tie.Need-returns Inv-loop μ-loop
 returns c =
-    let a = (c .before .before .before) .args in
+    let start = c .before .before .before in let a = start .args in
     let l = c .before .loop in
     let e : l .h ≡ a .last = omega (arith, c .loop-test .left, l .inv .0) in
-    (omega (arith, l .inv .1, ap (λ (k : ℕ). length (upon (stage-line (a .stages .now)) k)) e), omega (arith, l .inv .2, l .inv .0, (c .before .before .before) .pre .1))
+    (omega (arith, l .inv .1, ap (λ (k : ℕ). length (upon (stage-line (a .stages .now)) k)) e), omega (arith, l .inv .2, l .inv .0, start .pre .1))
 
 pub stage-lines-len-spec : {M : Type 1} → statement M
 stage-lines-len-spec =

@@ -22,43 +22,45 @@ part-first-line-end c = search needs
 
 first-line-requires : tie.Need-first-line-requires
 first-line-requires c κs =
-    let a = (c .before .before .before) .args in
-    let t = text-length (site-as (a .site)) (a .horizon) (a .nodes .now) (a .stages .now) (a .root) ((c .before .before .before) .pre .0 .greatest) in
-    part-room (first-line (site-as (a .site)) (a .horizon)) (a .buffer .now) (a .place) (omega (arith, (c .before .before .before) .pre .1, t))
+    let start = c .before .before .before in let a = start .args in
+    let t = text-length (site-as (a .site)) (a .horizon) (a .nodes .now) (a .stages .now) (a .root) (start .pre .0 .greatest) in
+    part-room (first-line (site-as (a .site)) (a .horizon)) (a .buffer .now) (a .place) (omega (arith, start .pre .1, t))
 
 add-n : tie.Need-add-n
 add-n c =
-    let a = (c .before .before .before .before .before .before) .args in
-    let t = text-length (site-as (a .site)) (a .horizon) (a .nodes .now) (a .stages .now) (a .root) ((c .before .before .before .before .before .before) .pre .0 .greatest) in
-    omega (arith, (c .before .before .before .before .before .before) .pre .1, t, c .before .before .first-line .ensures .behind, (c .before .before .before .before .before .before) .good)
+    let start = c .before .before .before .before .before .before in let a = start .args in
+    let t = text-length (site-as (a .site)) (a .horizon) (a .nodes .now) (a .stages .now) (a .root) (start .pre .0 .greatest) in
+    omega (arith, start .pre .1, t, c .before .before .first-line .ensures .behind, start .good)
 
 node-lines-requires : tie.Need-node-lines-requires
 node-lines-requires c κs =
-    let a = (c .before .before .before .before .before .before .before) .args in
+    let at-first-line = c .before .before .before in let start = at-first-line .before .before .before .before in let a = start .args in
     let b = a .buffer .now in
-    let t = text-length (site-as (a .site)) (a .horizon) (a .nodes .now) (a .stages .now) (a .root) ((c .before .before .before .before .before .before .before) .pre .0 .greatest) in
-    let k = same-len-mid (a .place) (length b - a .place) b (c .before .before .before .first-line .last .0) (c .before .before .before .first-line .kept .0) in
-    ((c .before .before .before .before .before .before .before) .pre .0 .inside, omega (arith, (c .before .before .before .before .before .before .before) .pre .1, t, k, c .before .before .before .first-line .ensures .behind))
+    let t = text-length (site-as (a .site)) (a .horizon) (a .nodes .now) (a .stages .now) (a .root) (start .pre .0 .greatest) in
+    let k = same-len-mid (a .place) (length b - a .place) b (at-first-line .first-line .last .0) (at-first-line .first-line .kept .0) in
+    (start .pre .0 .inside, omega (arith, start .pre .1, t, k, at-first-line .first-line .ensures .behind))
 
 stage-lines-requires : tie.Need-stage-lines-requires
 stage-lines-requires c κs =
-    let a = (c .before .before .before .before .before .before .before .before .before .before .before) .args in
+    let at-node-lines = c .before .before .before in let at-first-line = at-node-lines .before .before .before .before in
+    let start = at-first-line .before .before .before .before in let a = start .args in
     let b = a .buffer .now in
-    let t = text-length (site-as (a .site)) (a .horizon) (a .nodes .now) (a .stages .now) (a .root) ((c .before .before .before .before .before .before .before .before .before .before .before) .pre .0 .greatest) in
-    let k = same-len-mid (a .place) (length b - a .place) b (c .before .before .before .before .before .before .before .first-line .last .0) (c .before .before .before .before .before .before .before .first-line .kept .0) in
-    ((c .before .before .before .before .before .before .before .before .before .before .before) .pre .0 .steps, omega (arith, (c .before .before .before .before .before .before .before .before .before .before .before) .pre .1, t, k, c .before .before .before .before .before .before .before .first-line .ensures .behind, c .before .before .before .node-lines .ensures .behind, c .before .before .before .node-lines .kept .0))
+    let t = text-length (site-as (a .site)) (a .horizon) (a .nodes .now) (a .stages .now) (a .root) (start .pre .0 .greatest) in
+    let k = same-len-mid (a .place) (length b - a .place) b (at-first-line .first-line .last .0) (at-first-line .first-line .kept .0) in
+    (start .pre .0 .steps, omega (arith, start .pre .1, t, k, at-first-line .first-line .ensures .behind, at-node-lines .node-lines .ensures .behind, at-node-lines .node-lines .kept .0))
 
 same-length : tie.Need-same-length
 same-length c = search needs
 
 returns : tie.Need-returns
 returns c =
-    let a = (c .before .before .before .before .before .before .before .before .before .before .before .before .before .before) .args in
+    let at-node-lines = c .before .before .before .before .before .before in let at-first-line = at-node-lines .before .before .before .before in
+    let start = at-first-line .before .before .before .before in let a = start .args in
     let b = a .buffer .now in
-    let h : a .place ≤ length b = omega (arith, (c .before .before .before .before .before .before .before .before .before .before .before .before .before .before) .pre .1) in
-    text-put (site-as (a .site)) (a .horizon) (a .nodes .now) (a .stages .now) (a .root) ((c .before .before .before .before .before .before .before .before .before .before .before .before .before .before) .pre .0 .greatest) h
-    (lent b (first-line (site-as (a .site)) (a .horizon)) (c .before .before .before .before .before .before .before .before .before .before .first-line .last .0) (a .place) (c .before .before .before .before .before .before .before .before .before .before .first-line .result) h (c .before .before .before .before .before .before .before .before .before .before .first-line .ensures))
-    (c .before .before .before .before .before .before .node-lines .ensures)
+    let h : a .place ≤ length b = omega (arith, start .pre .1) in
+    text-put (site-as (a .site)) (a .horizon) (a .nodes .now) (a .stages .now) (a .root) (start .pre .0 .greatest) h
+    (lent b (first-line (site-as (a .site)) (a .horizon)) (at-first-line .first-line .last .0) (a .place) (at-first-line .first-line .result) h (at-first-line .first-line .ensures))
+    (at-node-lines .node-lines .ensures)
     (c .before .before .stage-lines .ensures)
 
 pub write-text-spec : {M : Type 1} → statement M

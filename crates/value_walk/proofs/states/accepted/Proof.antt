@@ -23,7 +23,8 @@ levels-fit-requires c κs = search needs
 -- src/states.rt:53:1
 returns : tie.Need-returns
 returns c =
-    accepted-is ((c .before .before .before .before .before) .args .m) ((c .before .before .before .before .before) .args .n) ((c .before .before .before .before .before) .args .q) (c .before .before .before .positive-arg .given) (c .before .before .positive .ensures) (c .before .mask-fits .ensures) (c .levels-fit .ensures)
+    let at-positive-arg = c .before .before .before in let start = at-positive-arg .before .before in
+    accepted-is (start .args .m) (start .args .n) (start .args .q) (at-positive-arg .positive-arg .given) (c .before .before .positive .ensures) (c .before .mask-fits .ensures) (c .levels-fit .ensures)
 
 pub accepted-spec : {M : Type 1} → statement M
 accepted-spec =

@@ -35,7 +35,8 @@ array-copy-out-z c =
 -- src/states.rt:36:13
 returns : tie.Need-returns Inv-loop μ-loop
 returns c =
-    one-set ((c .before .before .before .before .before) .args .q .n) (as-long ((c .before .before .before .before .before) .args .q .n) ((c .before .before .before .before .before) .good .1 .0 .1 .1 .1 .0 .1 .0 .1)) ((c .before .before .before .before .before) .args .m) (c .before .before .before .loop .i) (c .before .before .before .loop .inv .1) (c .before .before .loop-test .taken) (c .before .z .given) (c .if1 .taken)
+    let at-loop = c .before .before .before in let start = at-loop .before .before in
+    one-set (start .args .q .n) (as-long (start .args .q .n) (start .good .1 .0 .1 .1 .1 .0 .1 .0 .1)) (start .args .m) (at-loop .loop .i) (at-loop .loop .inv .1) (c .before .before .loop-test .taken) (c .before .z .given) (c .if1 .taken)
 
 -- src/states.rt:38:9
 add-i : tie.Need-add-i Inv-loop μ-loop
@@ -50,12 +51,14 @@ loop-less c =
 -- src/states.rt:33:5
 loop-again : tie.Need-loop-again Inv-loop μ-loop
 loop-again c =
-    (omega (arith, c .before .before .before .loop .inv .0), one-zero ((c .before .before .before .before .before) .args .q .n) (as-long ((c .before .before .before .before .before) .args .q .n) ((c .before .before .before .before .before) .good .1 .0 .1 .1 .1 .0 .1 .0 .1)) ((c .before .before .before .before .before) .args .m) (c .before .before .before .loop .i) (c .before .before .before .loop .inv .1) (c .before .before .loop-test .taken) (c .before .z .given) (c .if1 .left))
+    let at-loop = c .before .before .before in let start = at-loop .before .before in
+    (omega (arith, at-loop .loop .inv .0), one-zero (start .args .q .n) (as-long (start .args .q .n) (start .good .1 .0 .1 .1 .1 .0 .1 .0 .1)) (start .args .m) (at-loop .loop .i) (at-loop .loop .inv .1) (c .before .before .loop-test .taken) (c .before .z .given) (c .if1 .left))
 
 -- src/states.rt:28:1
 returns-2 : tie.Need-returns-2 Inv-loop μ-loop
 returns-2 c =
-    all-zero ((c .before .before .before) .args .q .n) (as-long ((c .before .before .before) .args .q .n) ((c .before .before .before) .good .1 .0 .1 .1 .1 .0 .1 .0 .1)) ((c .before .before .before) .args .m) (c .before .loop .i) (c .before .loop .inv .1) (c .loop-test .left)
+    let start = c .before .before .before in
+    all-zero (start .args .q .n) (as-long (start .args .q .n) (start .good .1 .0 .1 .1 .1 .0 .1 .0 .1)) (start .args .m) (c .before .loop .i) (c .before .loop .inv .1) (c .loop-test .left)
 
 pub levels-fit-spec : {M : Type 1} → statement M
 levels-fit-spec =

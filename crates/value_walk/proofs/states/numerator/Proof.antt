@@ -16,12 +16,14 @@ get-requires c κs = search needs
 -- src/states.rt:79:5
 dot-requires : tie.Need-dot-requires
 dot-requires c κs =
-    row-small ((c .before .before .before) .args .nodes .now) ((c .before .before .before) .args .r) ((c .before .before .before) .pre .0) (c .before .before .get .ensures) ((c .before .before .before) .pre .1)
+    let start = c .before .before .before in
+    row-small (start .args .nodes .now) (start .args .r) (start .pre .0) (c .before .before .get .ensures) (start .pre .1)
 
 -- src/states.rt:72:1
 returns : tie.Need-returns
 returns c =
-    numerator-is ((c .before .before .before .before) .args .nodes .now) ((c .before .before .before .before) .args .r) ((c .before .before .before .before) .pre .0) (c .before .before .before .get .ensures) ((c .before .before .before .before) .args .q) (as-long ((c .before .before .before .before) .args .q .n) ((c .before .before .before .before) .good .0 .1 .1 .1 .0 .1 .0 .1)) (c .dot .ensures)
+    let at-get = c .before .before .before in let start = at-get .before in
+    numerator-is (start .args .nodes .now) (start .args .r) (start .pre .0) (at-get .get .ensures) (start .args .q) (as-long (start .args .q .n) (start .good .0 .1 .1 .1 .0 .1 .0 .1)) (c .dot .ensures)
 
 pub numerator-spec : {M : Type 1} → statement M
 numerator-spec = tie.close (tie.spec sub-get get-requires dot-requires returns)

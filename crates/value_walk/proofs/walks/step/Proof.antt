@@ -48,13 +48,15 @@ returns c =
 
 returns-2 : tie.Need-returns-2
 returns-2 c =
-    let t = tells _ _ _ _ (c .before .before .before .before .row-kind .ensures) Condition (c .before .before .enum-told2 .given .1) in
-    c .branch .ensures ∙ taken-condition _ _ _ _ (t .kind) (c .before .is-yes .ensures) ∙ step-is _ _ _ _ _ (c .before .before .before .before .row-kind .ensures) Condition (c .before .before .enum-told2 .given .1)
+    let at-row-kind = c .before .before .before .before in
+    let t = tells _ _ _ _ (at-row-kind .row-kind .ensures) Condition (c .before .before .enum-told2 .given .1) in
+    c .branch .ensures ∙ taken-condition _ _ _ _ (t .kind) (c .before .is-yes .ensures) ∙ step-is _ _ _ _ _ (at-row-kind .row-kind .ensures) Condition (c .before .before .enum-told2 .given .1)
 
 returns-3 : tie.Need-returns-3
 returns-3 c =
-    let t = tells _ _ _ _ (c .before .before .before .before .row-kind .ensures) Test (c .before .before .enum-told3 .given .1) in
-    c .branch2 .ensures ∙ taken-test _ _ _ _ (t .kind) (c .before .holds .ensures) ∙ step-is _ _ _ _ _ (c .before .before .before .before .row-kind .ensures) Test (c .before .before .enum-told3 .given .1)
+    let at-row-kind = c .before .before .before .before in
+    let t = tells _ _ _ _ (at-row-kind .row-kind .ensures) Test (c .before .before .enum-told3 .given .1) in
+    c .branch2 .ensures ∙ taken-test _ _ _ _ (t .kind) (c .before .holds .ensures) ∙ step-is _ _ _ _ _ (at-row-kind .row-kind .ensures) Test (c .before .before .enum-told3 .given .1)
 
 returns-4 : tie.Need-returns-4
 returns-4 c =

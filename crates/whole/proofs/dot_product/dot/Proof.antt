@@ -62,17 +62,20 @@ array-copy-out-b c =
 -- src/dot_product.rt:41:17
 cast-b : tie.Need-cast-b Inv-loop μ-loop
 cast-b c =
-    widens (getD ((c .before .before .before .before .before .before) .args .t2) (c .before .before .before .before .before .loop .i) (pos 0)) (record { sfits = c .b .given })
+    let at-loop = c .before .before .before .before .before in let start = at-loop .before in
+    widens (getD (start .args .t2) (at-loop .loop .i) (pos 0)) (record { sfits = c .b .given })
 
 -- src/dot_product.rt:42:17
 mul-p : tie.Need-mul-p Inv-loop μ-loop
 mul-p c =
-    product-fits (getD ((c .before .before .before .before .before .before) .args .t1) (c .before .before .before .before .before .loop .i) (pos 0)) (getD ((c .before .before .before .before .before .before) .args .t2) (c .before .before .before .before .before .loop .i) (pos 0)) ((c .before .before .before .before .before .before) .pre .each (c .before .before .before .before .before .loop .i)) (record { sfits = c .b .given }) (c .before .before .mag .ensures) (c .before .if1 .left)
+    let at-loop = c .before .before .before .before .before in let start = at-loop .before in
+    product-fits (getD (start .args .t1) (at-loop .loop .i) (pos 0)) (getD (start .args .t2) (at-loop .loop .i) (pos 0)) (start .pre .each (at-loop .loop .i)) (record { sfits = c .b .given }) (c .before .before .mag .ensures) (c .before .if1 .left)
 
 -- src/dot_product.rt:43:9
 add-s : tie.Need-add-s Inv-loop μ-loop
 add-s c =
-    sum-fits (getD ((c .before .before .before .before .before .before) .args .t1) (c .before .before .before .before .before .loop .i) (pos 0)) (getD ((c .before .before .before .before .before .before) .args .t2) (c .before .before .before .before .before .loop .i) (pos 0)) ((c .before .before .before .before .before .before) .pre .each (c .before .before .before .before .before .loop .i)) (record { sfits = c .b .given }) (c .before .before .mag .ensures) (c .before .if1 .left) (c .before .before .before .before .before .loop .inv) (c .before .before .before .before .loop-test .taken)
+    let at-loop-test = c .before .before .before .before in let at-loop = at-loop-test .before in let start = at-loop .before in
+    sum-fits (getD (start .args .t1) (at-loop .loop .i) (pos 0)) (getD (start .args .t2) (at-loop .loop .i) (pos 0)) (start .pre .each (at-loop .loop .i)) (record { sfits = c .b .given }) (c .before .before .mag .ensures) (c .before .if1 .left) (at-loop .loop .inv) (at-loop-test .loop-test .taken)
 
 -- src/dot_product.rt:44:9
 add-i : tie.Need-add-i Inv-loop μ-loop
@@ -87,7 +90,8 @@ loop-less c =
 -- src/dot_product.rt:36:5
 loop-again : tie.Need-loop-again Inv-loop μ-loop
 loop-again c =
-    one-added (getD ((c .before .before .before .before .before .before) .args .t1) (c .before .before .before .before .before .loop .i) (pos 0)) (getD ((c .before .before .before .before .before .before) .args .t2) (c .before .before .before .before .before .loop .i) (pos 0)) ((c .before .before .before .before .before .before) .pre .each (c .before .before .before .before .before .loop .i)) (record { sfits = c .b .given }) (c .before .before .mag .ensures) (c .before .if1 .left) (c .before .before .before .before .before .loop .inv) (c .before .before .before .before .loop-test .taken) ((c .before .before .before .before .before .before) .pre .long) ((c .before .before .before .before .before .before) .good .1 .0 .1 .0 .1) refl refl
+    let at-loop-test = c .before .before .before .before in let at-loop = at-loop-test .before in let start = at-loop .before in
+    one-added (getD (start .args .t1) (at-loop .loop .i) (pos 0)) (getD (start .args .t2) (at-loop .loop .i) (pos 0)) (start .pre .each (at-loop .loop .i)) (record { sfits = c .b .given }) (c .before .before .mag .ensures) (c .before .if1 .left) (at-loop .loop .inv) (at-loop-test .loop-test .taken) (start .pre .long) (start .good .1 .0 .1 .0 .1) refl refl
 
 -- src/dot_product.rt:46:5
 from-word-requires : tie.Need-from-word-requires Inv-loop μ-loop
@@ -97,7 +101,8 @@ from-word-requires c κs =
 -- src/dot_product.rt:30:1
 returns-2 : tie.Need-returns-2 Inv-loop μ-loop
 returns-2 c =
-    c .from-word .ensures ∙ ap words (all-added _ _ ((c .before .before .before) .pre .long) ((c .before .before .before) .good .1 .0 .1 .0 .1) (c .before .before .loop .inv) (c .before .loop-test .left))
+    let start = c .before .before .before in
+    c .from-word .ensures ∙ ap words (all-added _ _ (start .pre .long) (start .good .1 .0 .1 .0 .1) (c .before .before .loop .inv) (c .before .loop-test .left))
 
 pub dot-spec : {M : Type 1} → statement M
 dot-spec =

@@ -63,7 +63,8 @@ loop-less c =
 -- src/dot_product.rt:22:5
 loop-again : tie.Need-loop-again Inv-loop μ-loop
 loop-again c =
-    one-summed _ _ ((c .before .before .before .before .before .before) .pre) ((c .before .before .before .before .before .before) .good .1 .0 .1 .0 .1) (c .before .before .before .before .before .loop .inv) (c .before .before .before .before .loop-test .taken) (record { sfits = c .before .before .product-arg2 .given }) (c .before .product .ensures) (c .sum .ensures)
+    let at-loop-test = c .before .before .before .before in let at-loop = at-loop-test .before in let start = at-loop .before in
+    one-summed _ _ (start .pre) (start .good .1 .0 .1 .0 .1) (at-loop .loop .inv) (at-loop-test .loop-test .taken) (record { sfits = c .before .before .product-arg2 .given }) (c .before .product .ensures) (c .sum .ensures)
 
 -- src/dot_product.rt:16:1
 returns : tie.Need-returns Inv-loop μ-loop

@@ -45,10 +45,10 @@ loop-less c = omega arith
 
 loop-again : tie.Need-loop-again Inv-loop μ-loop
 loop-again c =
-    let l = c .before .before .before .before .before .loop in
-    let s = c .before .before .before .before .before .before in
+    let at-mul-within = c .before .before .before in let at-loop = at-mul-within .before .before in let place = at-loop .before in let l = at-loop .loop in
+    let s = place in
     let q = c .before .q .given in
-    let n = power-next (s .args .w) (l .i) (l .p) (s .fits .w .fits) (l .inv .1) (l .inv .2) (c .before .before .before .mul-within .result) (q .0 .0) (c .before .before .before .mul-within .ensures) (q .1) in
+    let n = power-next (s .args .w) (l .i) (l .p) (s .fits .w .fits) (l .inv .1) (l .inv .2) (at-mul-within .mul-within .result) (q .0 .0) (at-mul-within .mul-within .ensures) (q .1) in
     (omega arith, n .0, n .1)
 
 returns-2 : tie.Need-returns-2 Inv-loop μ-loop
