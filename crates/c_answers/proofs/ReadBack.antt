@@ -59,7 +59,9 @@ unfolding value-of
 value-place B nodes stages steps q =
     let S = site-at B in
     let root = getD stages (steps - 1) 0 in
-    go (eqb (early B steps (length stages) .number) 0) (accepted (S .levels) (S .conditions) q) (eqb root 0) (value-at q nodes (walk (S .conditions) (S .actions) q nodes root root)) (early B steps (length stages)) (leaf-place q nodes (walk (S .conditions) (S .actions) q nodes root root)) (early-place B steps (length stages))
+    go (eqb (early B steps (length stages) .number) 0) (accepted (S .levels) (S .conditions) q) (eqb root 0)
+    (value-at q nodes (walk (S .conditions) (S .actions) q nodes root root)) (early B steps (length stages))
+    (leaf-place q nodes (walk (S .conditions) (S .actions) q nodes root root)) (early-place B steps (length stages))
   where
     go : (a b c : Bool) (o : ValueOut) (v : Verdict) → o .place ≤ bytes-most → v .place ≤ bytes-most → if a (if b (if c (refused-value 15 0) o) (refused-value 13 0)) (refused-value (v .number) (v .place)) .place ≤ bytes-most
     go false b c o v h k = k

@@ -63,7 +63,8 @@ pub loaded : {B : List ℕ} {cap : ℕ} {l : List ℤ} {w R : List ℕ} {r : Don
 loaded {B} {cap} {l} {w} {R} {r} v L n e ok = subst (Standing cap l w (r .count) R) (sym e) (loaded-standing (brought L) ok (let f = size-few B v in omega arith))
 
 -- the result is the last root that is held
-pub stepped : {cap p : ℕ} {l : List ℤ} {n : ℕ} {R : List ℕ} {held to : ℕ} {rule : Rule} {l′ : List ℤ} {w′ R′ : List ℕ} {r : Run} → Operated cap p l n R held to rule l′ w′ R′ r → length R′ ≡ length R → to < length R → r .stop ≡ 0 → Standing cap l′ w′ (r .count) R′ (to + 1)
+pub stepped : {cap p : ℕ} {l : List ℤ} {n : ℕ} {R : List ℕ} {held to : ℕ} {rule : Rule} {l′ : List ℤ} {w′ R′ : List ℕ} {r : Run}
+    → Operated cap p l n R held to rule l′ w′ R′ r → length R′ ≡ length R → to < length R → r .stop ≡ 0 → Standing cap l′ w′ (r .count) R′ (to + 1)
 stepped {cap} {to = to} {l′ = l′} {w′} {R′} {r} O k h ok =
     let H = O .rooted ok in
     subst (Standing cap l′ w′ (r .count) R′) (sym (add-one to)) (record { good = H .good; space = H .space; below = H .below; few = omega arith })

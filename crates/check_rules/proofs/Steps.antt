@@ -64,5 +64,7 @@ pub proper-at : (a : ℕ) → a ≤ 1000000 → Proper (record { kind = pos 2; n
 unfolding linearNode
 proper-at a h = proper-linear (stepped (toZ w64 a)) (record {
   long = refl;
-  each = small-set first coefficients (toZ w64 a) (omega arith) (plain-small a h) (small-set (replicate numbers (pos 0)) 0 (pos 1) (omega arith) (record { small = omega arith }) (λ k. subst Small (sym (zeros numbers k)) (record { small = omega arith })));
+  each = small-set first coefficients (toZ w64 a) (omega arith) (plain-small a h)
+      (small-set (replicate numbers (pos 0)) 0 (pos 1) (omega arith) (record { small = omega arith })
+      (λ k. subst Small (sym (zeros numbers k)) (record { small = omega arith })));
 })

@@ -78,7 +78,8 @@ run-order N (ret a) X Y s = both-done a s
 run-order N (named z m) X Y s = by-test (small z) (λ b. SameOut (if b (run N m X) (stopped 11)) (if b (run N m Y) (stopped 11))) (λ _. run-order N m X Y s) (λ _. both-stopped 11)
 run-order {A} N (made t m) X Y s = as-there (cases (member t X) refl (ltb (length X) N) (run-order N m X Y s) (run-order N m (X ++ (t ∷ [])) (Y ++ (t ∷ []))))
   where
-    cases : (b : Bool) → member t X ≡ b → (d : Bool) → SameOut (run N m X) (run N m Y) → (SameNodes (X ++ (t ∷ [])) (Y ++ (t ∷ [])) → SameOut (run N m (X ++ (t ∷ []))) (run N m (Y ++ (t ∷ [])))) → SameOut (ran N t m X b d) (ran N t m Y b d)
+    cases : (b : Bool) → member t X ≡ b → (d : Bool) → SameOut (run N m X) (run N m Y) →
+        (SameNodes (X ++ (t ∷ [])) (Y ++ (t ∷ [])) → SameOut (run N m (X ++ (t ∷ []))) (run N m (Y ++ (t ∷ [])))) → SameOut (ran N t m X b d) (ran N t m Y b d)
     cases true e d i j = i
     cases false e true i j = j (one-more t X Y s e)
     cases false e false i j = both-stopped 12

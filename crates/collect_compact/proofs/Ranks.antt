@@ -57,7 +57,8 @@ module _ (m : ℕ → Bool) where
     keep-at zero k h e = absurd (omega arith)
     keep-at (suc i) k h e = ⊎-elim (λ (q : k < i). old (keep-at i k q e) (m i)) (λ (q : k ≡ i). new q (m i) refl) (split i k h)
       where
-        old : (rank m k < rank m i) × (getD (keepOf m X i) (rank m k) blank ≡ getD X k blank) → (b : Bool) → (rank m k < cond b (rank m i + 1) (rank m i)) × (getD (cond b (keepOf m X i ++ (getD X i blank ∷ [])) (keepOf m X i)) (rank m k) blank ≡ getD X k blank)
+        old : (rank m k < rank m i) × (getD (keepOf m X i) (rank m k) blank ≡ getD X k blank) → (b : Bool) → (rank m k < cond b (rank m i + 1) (rank m i)) ×
+            (getD (cond b (keepOf m X i ++ (getD X i blank ∷ [])) (keepOf m X i)) (rank m k) blank ≡ getD X k blank)
         old p true = (omega arith, List·getD-append (keepOf m X i) _ blank (rank m k) (let q = keep-length i in omega arith) ∙ p .1)
         old p false = p
 

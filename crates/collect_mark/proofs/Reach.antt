@@ -298,7 +298,8 @@ module _ {cap : ℕ} {l : List ℤ} {R : List ℕ} {n : ℕ} (room : n ≤ cap) 
     under zero k a b c j q e = absurd (omega arith)
     under (suc d) k a b c j q e = under-step k b c j q e (λ h p r s. under d h (omega arith) (omega arith) r j q s)
       where
-        under-step : (k : ℕ) (b : k < n) → markOf w′ k ≡ true → (j : ℕ) → j < n → sub (getD X j blank) (getD X k blank) ≡ true → ((h : ℕ) → h < k → markOf w′ h ≡ true → sub (getD X j blank) (getD X h blank) ≡ true → markOf w′ j ≡ true) → markOf w′ j ≡ true
+        under-step : (k : ℕ) (b : k < n) → markOf w′ k ≡ true → (j : ℕ) → j < n → sub (getD X j blank) (getD X k blank) ≡ true →
+            ((h : ℕ) → h < k → markOf w′ h ≡ true → sub (getD X j blank) (getD X h blank) ≡ true → markOf w′ j ≡ true) → markOf w′ j ≡ true
         under-step k b c j q e rec = go (isLeaf (nodeAt l k .kind)) refl
           where
             itself : same (getD X j blank) (getD X k blank) ≡ true → markOf w′ j ≡ true

@@ -82,7 +82,8 @@ test-word x v = go (eqZ (x .kind) (pos 1)) refl
     go : (b : Bool) → eqZ (x .kind) (pos 1) ≡ b → test-words (if b (conditionOf (natAbs (firstOf x))) (linear (linOf x))) ≡ x .kind ∷ x .n
     go true e =
         let k = sym (eqZ-true (x .kind) (pos 1) e) in
-        let a : pos (natAbs (firstOf x)) ∷ replicate levels-most (pos 0) ≡ x .n = same-firsts (pos (natAbs (firstOf x)) ∷ replicate levels-most (pos 0)) (x .n) (sym (v .long)) (pos-natAbs (firstOf x) (v .number e)) (zeros-behind (pos (natAbs (firstOf x)))) (v .rest e) in
+        let a : pos (natAbs (firstOf x)) ∷ replicate levels-most (pos 0) ≡ x .n = same-firsts (pos (natAbs (firstOf x)) ∷ replicate levels-most (pos 0)) (x .n)
+        (sym (v .long)) (pos-natAbs (firstOf x) (v .number e)) (zeros-behind (pos (natAbs (firstOf x)))) (v .rest e) in
         condition-word (natAbs (firstOf x)) (v .bounds e .0) ∙ (λ t. k t ∷ a t)
     go false e = let k = sym (v .kind e) in λ t. k t ∷ linear-word x (v .long) t
 

@@ -93,7 +93,8 @@ module _ {cap : ℕ} {l : List ℤ} {n : ℕ} (G : TableHeld cap l n) {w : List 
 
 -- ---- the stages' numbers
 
-numbers-are : (w : List ℕ) (cap : ℕ) (l : List ℤ) (n : ℕ) (Y : List Tree) (R : List ℕ) → ((j : ℕ) → j < length R → getD w (cap + getD R j 0) 0 ≡ number-of (treeAt l n (getD R j 0)) Y) → numbersOf w cap R ≡ map (λ t. number-of t Y) (treesOf l n R)
+numbers-are : (w : List ℕ) (cap : ℕ) (l : List ℤ) (n : ℕ) (Y : List Tree) (R : List ℕ) →
+    ((j : ℕ) → j < length R → getD w (cap + getD R j 0) 0 ≡ number-of (treeAt l n (getD R j 0)) Y) → numbersOf w cap R ≡ map (λ t. number-of t Y) (treesOf l n R)
 unfolding numbersOf
 numbers-are w cap l n Y [] h = refl
 numbers-are w cap l n Y (r ∷ R) h = ap₂ (λ (a : ℕ) (b : List ℕ). a ∷ b) (h 0 (omega arith)) (numbers-are w cap l n Y R (λ j q. h (suc j) (omega arith)))

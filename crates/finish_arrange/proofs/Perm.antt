@@ -201,8 +201,12 @@ module _ {cap n : ℕ} {l l′ : List ℤ} {w w′ : List ℕ} {k c : ℕ} (S : 
         at-p f =
             let g : q ≡ suc m = sym num-p ∙ (ap (λ (z : ℕ). getD w″ (cap + z) 0) (sym f) ∙ e) in
             let h = mine m g in
-            let x = h .0 in
-            ((⊎-elim (λ (r : m ≡ k). absurd (let s : getD w′ m 0 ≡ getD w′ k 0 = ap (λ (z : ℕ). getD w′ z 0) r in let t = h .2 in omega arith)) (λ (r : m ≡ k → ⊥). let s : k + 1 ≤ m = omega arith in s) (same-or m k)), h .1, ord-hit m g ∙ sym f)
+            let x = h .0 in (
+              (⊎-elim (λ (r : m ≡ k). absurd (let s : getD w′ m 0 ≡ getD w′ k 0 = ap (λ (z : ℕ). getD w′ z 0) r in let t = h .2 in omega arith))
+                  (λ (r : m ≡ k → ⊥). let s : k + 1 ≤ m = omega arith in s) (same-or m k)),
+              h .1,
+              ord-hit m g ∙ sym f,
+            )
 
         at-else : (i ≡ getD w′ k 0 → ⊥) → (k + 1 ≤ m) × (m < c) × (getD w″ m 0 ≡ i)
         at-else d =

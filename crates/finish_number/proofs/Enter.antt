@@ -142,7 +142,9 @@ module _ {cap : ℕ} {l : List ℤ} {n : ℕ} (G : TableHeld cap l n) where
         subst (λ (k : ℕ). TreeNumbered cap l n w w″ c k (treeAt l n i)) (sym er) (subst (λ (v : List ℕ). TreeNumbered cap l n w v c (c + 1) (treeAt l n i)) (sym ew)
         (record { state = assigns N i h z; listed = listed-new N i h z ∙ sym (enter-leaf (treeAt l n i) (listOf X w c) (absent N i h z) (at-leaf (G .good) i h d)) }))
 
-    module _ (z : getD w (cap + i) 0 ≡ 0) (d : isLeaf (nodeAt l i .kind) ≡ false) {p q : ℕ} (ep : p ≡ natAbs (nodeAt l i .high)) (eq : q ≡ natAbs (nodeAt l i .low)) {w₁ w₂ : List ℕ} {c₁ c₂ : ℕ} (E₁ : TreeNumbered cap l n w w₁ c c₁ (treeAt l n p)) (E₂ : TreeNumbered cap l n w₁ w₂ c₁ c₂ (treeAt l n q)) where
+    module _ (z : getD w (cap + i) 0 ≡ 0) (d : isLeaf (nodeAt l i .kind) ≡ false) {p q : ℕ} (ep : p ≡ natAbs (nodeAt l i .high))
+        (eq : q ≡ natAbs (nodeAt l i .low)) {w₁ w₂ : List ℕ} {c₁ c₂ : ℕ} (E₁ : TreeNumbered cap l n w w₁ c c₁ (treeAt l n p))
+        (E₂ : TreeNumbered cap l n w₁ w₂ c₁ c₂ (treeAt l n q)) where
       tree-is : treeAt l n i ≡ branch (testOf (nodeAt l i)) (treeAt l n p) (treeAt l n q)
       tree-is = at-branch (G .good) i h d ∙ sym (ap₂ (λ (a b : ℕ). branch (testOf (nodeAt l i)) (treeAt l n a) (treeAt l n b)) ep eq)
 

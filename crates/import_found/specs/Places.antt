@@ -96,7 +96,8 @@ Decided (group p o q) = ⊥
 -- an atom's commands are those of its two outcomes and its own; a result has one; "Brackets .. nest at most 32 deep", and no number is "beyond signed 32 bits"
 pub data Emits : Place → List Command → Type 0 where
   by-result : {w : List ℕ} (r : Result) (q : Spaces) (f : List ℕ) → w ≡ result-bytes r (spaces-bytes q f) → AfterResult f → all-within (result-numbers r) ≡ true → Emits (result-at w) (result-command r ∷ [])
-  by-atom : {b : Bool} {ps : List Bool} {w : List ℕ} {n : ℕ} (x : Atom n) (q : Spaces) (k : ℕ) (f : List ℕ) → n + length ps ≤ deepest → Decided x → AfterAtom k → w ≡ atom-bytes x (spaces-bytes q (k ∷ f)) → all-within (atom-numbers x) ≡ true
+  by-atom : {b : Bool} {ps : List Bool} {w : List ℕ} {n : ℕ} (x : Atom n) (q : Spaces) (k : ℕ) (f : List ℕ) → n + length ps ≤ deepest → Decided x → AfterAtom k
+      → w ≡ atom-bytes x (spaces-bytes q (k ∷ f)) → all-within (atom-numbers x) ≡ true
       → (T F : List Command) → Emits (find w 0 (not b) false ps) T → Emits (find w 0 b false ps) F → Emits (atom-at b ps w) (atom-commands x T F)
 
 -- more brackets are open than a text may have: no commands are there

@@ -122,7 +122,9 @@ on-other-sound s k p = sound-if (eqb k 61) (λ e. on-equals-sound s p) (λ e. so
 
 on-mark-sound : (s : Frame) (k : ℕ) → Sound s → Sound (on-mark s k)
 unfolding on-mark
-on-mark-sound s k p = sound-if (blank k) (λ e. p) (λ e. sound-if (eqb k 42) (λ f. moded-sound s 0 p) (λ f. sound-if (eqb k 43) (λ g. on-sign-sound s false p) (λ g. sound-if (eqb k 45) (λ h. on-sign-sound s true p) (λ h. sound-if (eqb k 76) (λ i. moded-sound s 3 p) (λ i. on-other-sound s k p)))))
+on-mark-sound s k p = sound-if (blank k) (λ e. p) (λ e. sound-if (eqb k 42) (λ f. moded-sound s 0 p)
+    (λ f. sound-if (eqb k 43) (λ g. on-sign-sound s false p) (λ g. sound-if (eqb k 45) (λ h. on-sign-sound s true p)
+    (λ h. sound-if (eqb k 76) (λ i. moded-sound s 3 p) (λ i. on-other-sound s k p)))))
 
 pub digit-small : (k : ℕ) → digit k ≡ true → (48 ≤ k) × (k ≤ 57)
 digit-small k e = go (ltb k 48) refl e
@@ -138,7 +140,9 @@ on-digit-sound s k p d = sound-if (eqb (s .mode) 1) (λ e. sound-if (leb (s .num
 
 pub step-sound : (s : Frame) (k : ℕ) → Sound s → Sound (step s k)
 unfolding step
-step-sound s k p = sound-if (eqb (s .mode) 6) (λ e. sound-if (eqb k 34) (λ f. idle-sound 0) (λ f. p)) (λ e. sound-if (digit k) (λ f. on-digit-sound s k p f) (λ f. sound-if (closed s .beyond) (λ g. closed-sound s p) (λ g. on-mark-sound (closed s) k (closed-sound s p))))
+step-sound s k p = sound-if (eqb (s .mode) 6) (λ e. sound-if (eqb k 34) (λ f. idle-sound 0) (λ f. p))
+    (λ e. sound-if (digit k) (λ f. on-digit-sound s k p f) (λ f. sound-if (closed s .beyond) (λ g. closed-sound s p)
+    (λ g. on-mark-sound (closed s) k (closed-sound s p))))
 
 entered-sound : (o f : Frame) → Sound o → Sound f → Sound (entered o f)
 unfolding entered
@@ -146,4 +150,5 @@ entered-sound o f p q = sound-if (eqb (f .mode) 4) (λ e. idle-sound 4) (λ e. f
 
 pub popped-sound : (o s : Frame) → Sound o → Sound s → Sound (popped o s)
 unfolding popped
-popped-sound o s p q = sound-if (closed s .beyond) (λ e. closed-sound s q) (λ e. sound-if (finished (closed s) .beyond) (λ f. finished-sound (closed s) (closed-sound s q)) (λ f. entered-sound o (finished (closed s)) p (finished-sound (closed s) (closed-sound s q))))
+popped-sound o s p q = sound-if (closed s .beyond) (λ e. closed-sound s q) (λ e. sound-if (finished (closed s) .beyond)
+    (λ f. finished-sound (closed s) (closed-sound s q)) (λ f. entered-sound o (finished (closed s)) p (finished-sound (closed s) (closed-sound s q))))

@@ -200,7 +200,8 @@ not-deep s b h e = by-test (leb 32 (s .count)) (λ t. On (record { sign = false;
 pub turn-bang : (s : Going) (k : ℕ) (c b : Bool) → k ≡ 33 → b ≡ not (s .sign) → On (record { sign = b; mask = s .mask; count = s .count }) ≡ turn-of s k c
 unfolding turn-of
 turn-bang s k c b e q = ap (λ (x : Bool). On (record { sign = x; mask = s .mask; count = s .count })) q
-    ∙ sym (ap (λ (x : Bool). if x (On (record { sign = not (s .sign); mask = s .mask; count = s .count })) (if (eqb k 40) (if c (opened-of s) Atom) (if (eqb k 101) (if (eqb (s .count) 0) Else Lost) (if (is-space k) (On s) Atom)))) (eq-eqb k 33 e))
+    ∙ sym (ap (λ (x : Bool). if x (On (record { sign = not (s .sign); mask = s .mask; count = s .count }))
+    (if (eqb k 40) (if c (opened-of s) Atom) (if (eqb k 101) (if (eqb (s .count) 0) Else Lost) (if (is-space k) (On s) Atom)))) (eq-eqb k 33 e))
 
 pub turn-open : (s : Going) (k : ℕ) (c b : Bool) → (k ≡ 33 → ⊥) → k ≡ 40 → c ≡ b → if b (opened-of s) Atom ≡ turn-of s k c
 unfolding turn-of

@@ -469,10 +469,21 @@ step-on (quoted I p q ds r cs) t k = if (eqb k 34) (quoteHere I p q ds r cs t) (
 
 unfoldable pub step-mid : Middle → ℕ → Machine
 step-mid (letterC ctx l q) k = if (eqb k 49) (at (held ctx l (now q f1)) none) (if (eqb k 50) (at (held ctx l (now q f2)) none) (if (eqb k 51) (at (held ctx l (now q f3)) none) (if (eqb k 52) (at (held ctx l (now q f4)) none) dead)))
-step-mid (letterN ctx l q) k = if (eqb k 49) (at (held ctx l (later q f1)) none) (if (eqb k 50) (at (held ctx l (later q f2)) none) (if (eqb k 51) (at (held ctx l (later q f3)) none) (if (eqb k 52) (at (held ctx l (later q f4)) none) dead)))
-step-mid (letterL sc pre cp q) k = if (eqb k 49) (at (after sc pre (vt (vtimes-of cp (level q i1)))) none) (if (eqb k 50) (at (after sc pre (vt (vtimes-of cp (level q i2)))) none) (if (eqb k 51) (at (after sc pre (vt (vtimes-of cp (level q i3)))) none) (if (eqb k 52) (at (after sc pre (vt (vtimes-of cp (level q i4)))) none) (if (eqb k 53) (at (after sc pre (vt (vtimes-of cp (level q i5)))) none) (if (eqb k 54) (at (after sc pre (vt (vtimes-of cp (level q i6)))) none) (if (eqb k 55) (at (after sc pre (vt (vtimes-of cp (level q i7)))) none) (if (eqb k 56) (at (after sc pre (vt (vtimes-of cp (level q i8)))) none) dead)))))))
-step-mid (chanceN I p q ds r) k = if (eqb k 49) (at (iequals (chance-to I p q ds r f1)) none) (if (eqb k 50) (at (iequals (chance-to I p q ds r f2)) none) (if (eqb k 51) (at (iequals (chance-to I p q ds r f3)) none) (if (eqb k 52) (at (iequals (chance-to I p q ds r f4)) none) dead)))
-step-mid (nextL I p q ds r) k = if (eqb k 49) (at (iequals (next-to I p q ds r i1)) none) (if (eqb k 50) (at (iequals (next-to I p q ds r i2)) none) (if (eqb k 51) (at (iequals (next-to I p q ds r i3)) none) (if (eqb k 52) (at (iequals (next-to I p q ds r i4)) none) (if (eqb k 53) (at (iequals (next-to I p q ds r i5)) none) (if (eqb k 54) (at (iequals (next-to I p q ds r i6)) none) (if (eqb k 55) (at (iequals (next-to I p q ds r i7)) none) (if (eqb k 56) (at (iequals (next-to I p q ds r i8)) none) dead)))))))
+step-mid (letterN ctx l q) k = if (eqb k 49) (at (held ctx l (later q f1)) none)
+    (if (eqb k 50) (at (held ctx l (later q f2)) none) (if (eqb k 51) (at (held ctx l (later q f3)) none) (if (eqb k 52) (at (held ctx l (later q f4)) none) dead)))
+step-mid (letterL sc pre cp q) k = if (eqb k 49) (at (after sc pre (vt (vtimes-of cp (level q i1)))) none)
+    (if (eqb k 50) (at (after sc pre (vt (vtimes-of cp (level q i2)))) none) (if (eqb k 51) (at (after sc pre (vt (vtimes-of cp (level q i3)))) none)
+    (if (eqb k 52) (at (after sc pre (vt (vtimes-of cp (level q i4)))) none) (if (eqb k 53) (at (after sc pre (vt (vtimes-of cp (level q i5)))) none)
+    (if (eqb k 54) (at (after sc pre (vt (vtimes-of cp (level q i6)))) none) (if (eqb k 55) (at (after sc pre (vt (vtimes-of cp (level q i7)))) none)
+    (if (eqb k 56) (at (after sc pre (vt (vtimes-of cp (level q i8)))) none) dead)))))))
+step-mid (chanceN I p q ds r) k = if (eqb k 49) (at (iequals (chance-to I p q ds r f1)) none)
+    (if (eqb k 50) (at (iequals (chance-to I p q ds r f2)) none) (if (eqb k 51) (at (iequals (chance-to I p q ds r f3)) none)
+    (if (eqb k 52) (at (iequals (chance-to I p q ds r f4)) none) dead)))
+step-mid (nextL I p q ds r) k = if (eqb k 49) (at (iequals (next-to I p q ds r i1)) none)
+    (if (eqb k 50) (at (iequals (next-to I p q ds r i2)) none) (if (eqb k 51) (at (iequals (next-to I p q ds r i3)) none)
+    (if (eqb k 52) (at (iequals (next-to I p q ds r i4)) none) (if (eqb k 53) (at (iequals (next-to I p q ds r i5)) none)
+    (if (eqb k 54) (at (iequals (next-to I p q ds r i6)) none) (if (eqb k 55) (at (iequals (next-to I p q ds r i7)) none)
+    (if (eqb k 56) (at (iequals (next-to I p q ds r i8)) none) dead)))))))
 step-mid (inside-name I p q ds r cs) k = if (eqb k 34) (at (quoted I p q ds r cs) none) (charHere I p q ds r cs k)
 step-mid (reward1 I p) k = if (eqb k 101) (mid (reward2 I p)) dead
 step-mid (reward2 I p) k = if (eqb k 119) (mid (reward3 I p)) dead

@@ -326,7 +326,8 @@ module _ (w : List ℕ) (at i : ℕ) (S : Skips w at i) where
       absurd (clash (s0 .first) 102 (s0 .no-forbidden) (sym (a .byte) ∙ h))
   forbidden-is (forbids p) g e h = (refl, zeros-fit)
 
-  worth-is : (x : Result) (q : Spaces) (g : List ℕ) → drop at w ≡ result-bytes x (spaces-bytes q g) → AfterResult g → all-within (result-numbers x) ≡ true → (byte-at w i ≡ 102 → ⊥) → (a : Worked) → Works w at a → Leafed x (leaf-told (a .linear))
+  worth-is : (x : Result) (q : Spaces) (g : List ℕ) → drop at w ≡ result-bytes x (spaces-bytes q g) → AfterResult g → all-within (result-numbers x) ≡ true →
+      (byte-at w i ≡ 102 → ⊥) → (a : Worked) → Works w at a → Leafed x (leaf-told (a .linear))
   unfolding result-bytes result-command command-told unspaced result-numbers
   worth-is (worth s) q g e c j h a A =
       let f = A .found deepest s (omega arith) q g (result-behind c) e j in

@@ -109,7 +109,8 @@ module _ {w : List ℕ} {at d : ℕ} {only : Bool} {s : Frame} {i : ℕ} (R : Re
           sound = kept.over-sound;
           from = R .from;
           within = R .within;
-          runs = λ S. R .runs S ∙ (ap (λ (l : List ℕ). run only d S s l) here ∙ (ap (λ (n : ℕ). run only n S s (k ∷ drop (i + 1) w)) z ∙ (run-deep only s k (drop (i + 1) w) e (sym f ∙ t) (sym g ∙ u) S ∙ sym (run-over only d S over (drop i w) refl))));
+          runs = λ S. R .runs S ∙ (ap (λ (l : List ℕ). run only d S s l) here ∙ (ap (λ (n : ℕ). run only n S s (k ∷ drop (i + 1) w)) z ∙
+              (run-deep only s k (drop (i + 1) w) e (sym f ∙ t) (sym g ∙ u) S ∙ sym (run-over only d S over (drop i w) refl))));
         };
         rests = rest-over only over (drop i w) refl;
       })

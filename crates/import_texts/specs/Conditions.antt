@@ -312,7 +312,8 @@ module _ (d : ℕ) (S : List Frame) where
   colon-holds w = record { follows = mark refl refl; on-held = ap judged (reset-held d S colon w); on-right = λ op L X m t. right-colon op L X m t w }
 
 -- ")" behind a condition
-right-close : (d : ℕ) (S : List Frame) (op : Op) (L X : List ℤ) (m : Bool) (t : List ℤ) (w : List ℕ) → G d (idle 0 ∷ S) (full L (code op) X m t) (41 ∷ w) ≡ guard (all-within (tot X m t)) (guard (all-within (less9 op L (tot X m t))) (G (suc d) S (idle 4) w))
+right-close : (d : ℕ) (S : List Frame) (op : Op) (L X : List ℤ) (m : Bool) (t : List ℤ) (w : List ℕ) → G d (idle 0 ∷ S) (full L (code op) X m t) (41 ∷ w) ≡ guard
+    (all-within (tot X m t)) (guard (all-within (less9 op L (tot X m t))) (G (suc d) S (idle 4) w))
 unfolding run closed finished compared-with total less popped
 right-close d S lt L X m t w = pop-case (suc d) S (all-within (tot X m t)) (all-within (less9 lt L (tot X m t))) w
 right-close d S le L X m t w = pop-case (suc d) S (all-within (tot X m t)) (all-within (less9 le L (tot X m t))) w
@@ -336,7 +337,8 @@ op-follows le w = mark refl refl
 op-follows gt w = mark refl refl
 op-follows ge w = mark refl refl
 
-op-read : (d : ℕ) (S : List Frame) (op : Op) (X : List ℤ) (m : Bool) (t : List ℤ) (w : List ℕ) → run false d S (full zero9 0 X m t) (op-bytes op w) ≡ guard (all-within (tot X m t)) (run false d S (open9 (tot X m t) (code op) zero9 false unit9) w)
+op-read : (d : ℕ) (S : List Frame) (op : Op) (X : List ℤ) (m : Bool) (t : List ℤ) (w : List ℕ) → run false d S (full zero9 0 X m t) (op-bytes op w) ≡ guard
+    (all-within (tot X m t)) (run false d S (open9 (tot X m t) (code op) zero9 false unit9) w)
 unfolding run step closed on-mark on-other on-equals on-compare total
 op-read d S lt X m t w = run-if false d S (all-within (tot X m t)) (sided (tot X m t) 1) w
 op-read d S le X m t w = run-if false d S (all-within (tot X m t)) (sided (tot X m t) 1) (61 ∷ w)
@@ -347,7 +349,8 @@ compare-read : {n : ℕ} (s : Sum n) (p : Spaces) (op : Op) (t : Sum n) (d : ℕ
     → G d S (idle 0) (sum-bytes s (spaces-bytes p (op-bytes op (sum-bytes t f)))) ≡ guard (all-within (sum-numbers n s ++ (sum-numbers n t ++ nine (difference op (linear-of n s) (linear-of n t))))) y
 unfolding total
 compare-read {n} s p op t d h S f y E =
-    lift (all-within (sum-before s)) (run false d S (behind-sum zero9 0 s) (spaces-bytes p (op-bytes op (sum-bytes t f)))) (sum-read false s d h S zero9 0 (spaces-bytes p (op-bytes op (sum-bytes t f))) (spaces-follow p (op-follows op (sum-bytes t f))))
+    lift (all-within (sum-before s)) (run false d S (behind-sum zero9 0 s) (spaces-bytes p (op-bytes op (sum-bytes t f))))
+    (sum-read false s d h S zero9 0 (spaces-bytes p (op-bytes op (sum-bytes t f))) (spaces-follow p (op-follows op (sum-bytes t f))))
     ∙ (ap (guard (all-within (sum-before s)))
     (ap judged (full-spaced d S zero9 0 (sum-X s) (sum-m s) (sum-t s) p (op-bytes op (sum-bytes t f)))
     ∙ (lift (all-within (tot (sum-X s) (sum-m s) (sum-t s))) (run false d S (open9 (tot (sum-X s) (sum-m s) (sum-t s)) (code op) zero9 false unit9) (sum-bytes t f)) (op-read d S op (sum-X s) (sum-m s) (sum-t s) (sum-bytes t f))

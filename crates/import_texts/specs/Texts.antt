@@ -118,12 +118,15 @@ level-eight v i6 = record { long = refl }
 level-eight v i7 = record { long = refl }
 level-eight v i8 = record { long = refl }
 
-level-closed : (q : Spaces) (ds : Digits) (r : Spaces) (i : Index) (g : List ℕ) (y : Out) → Ends deepest [] g y → G deepest [] (idle 0) (spaces-bytes q (digits-bytes ds (spaces-bytes r (76 ∷ index-byte i ∷ g)))) ≡ guard (all-within (written ds)) y
+level-closed : (q : Spaces) (ds : Digits) (r : Spaces) (i : Index) (g : List ℕ) (y : Out) → Ends deepest [] g y → G deepest [] (idle 0)
+    (spaces-bytes q (digits-bytes ds (spaces-bytes r (76 ∷ index-byte i ∷ g)))) ≡ guard (all-within (written ds)) y
 unfolding kfactor-bytes kfactor-numbers kfactor-linear no-coeffs
 level-closed q ds r i g y E =
     let v = digits-value ds in
     let P = pos v ⊠ level-linear i in
-    lift (all-within (written ds)) (here (full zero9 0 zero9 false (constant9 (pos v))) (spaces-bytes r (76 ∷ index-byte i ∷ g))) (kterm-read false {n = 0} (kfactor (number q ds)) deepest (omega arith) [] zero9 0 zero9 false (spaces-bytes r (76 ∷ index-byte i ∷ g)) (spaces-follow r (mark refl refl)))
+    lift (all-within (written ds)) (here (full zero9 0 zero9 false (constant9 (pos v))) (spaces-bytes r (76 ∷ index-byte i ∷ g)))
+    (kterm-read false {n = 0} (kfactor (number q ds)) deepest (omega arith) [] zero9 0 zero9 false (spaces-bytes r (76 ∷ index-byte i ∷ g))
+    (spaces-follow r (mark refl refl)))
     ∙ (ap (guard (all-within (written ds)))
     (ap judged (full-spaced deepest [] zero9 0 zero9 false (constant9 (pos v)) r (76 ∷ index-byte i ∷ g) ∙ level-mode i zero9 zero9 false (constant9 (pos v)) g)
     ∙ (lift (all-within (nine P)) (here (full zero9 0 zero9 false (nine P)) g)
@@ -184,11 +187,14 @@ mutual
   items-read (closed B p q r) g y E =
       before-read B (spaces-bytes p (101 ∷ 108 ∷ 115 ∷ 101 ∷ spaces-bytes q (58 ∷ result-bytes r g)))
       ∙ (ap (guard (all-within (before-numbers B)))
-      (ap judged (idle-spaced deepest [] p (101 ∷ 108 ∷ 115 ∷ 101 ∷ spaces-bytes q (58 ∷ result-bytes r g)) ∙ (word-else (spaces-bytes q (58 ∷ result-bytes r g)) ∙ (idle-spaced deepest [] q (58 ∷ result-bytes r g) ∙ reset-idle deepest [] colon (result-bytes r g))))
+      (ap judged (idle-spaced deepest [] p (101 ∷ 108 ∷ 115 ∷ 101 ∷ spaces-bytes q (58 ∷ result-bytes r g)) ∙
+      (word-else (spaces-bytes q (58 ∷ result-bytes r g)) ∙ (idle-spaced deepest [] q (58 ∷ result-bytes r g) ∙ reset-idle deepest [] colon (result-bytes r g))))
       ∙ result-read r g y E)
       ∙ g-append (before-numbers B) (result-numbers r) y)
   items-read (named I p q ds r cs) g y E =
-      items-read I (spaces-bytes p (110 ∷ 97 ∷ 109 ∷ 101 ∷ spaces-bytes q (digits-bytes ds (spaces-bytes r (34 ∷ chars-bytes cs (34 ∷ g)))))) (G deepest [] (idle 0) (97 ∷ 109 ∷ 101 ∷ spaces-bytes q (digits-bytes ds (spaces-bytes r (34 ∷ chars-bytes cs (34 ∷ g)))))) (spaces-end p (mark-ends deepest [] small-n (97 ∷ 109 ∷ 101 ∷ spaces-bytes q (digits-bytes ds (spaces-bytes r (34 ∷ chars-bytes cs (34 ∷ g)))))))
+      items-read I (spaces-bytes p (110 ∷ 97 ∷ 109 ∷ 101 ∷ spaces-bytes q (digits-bytes ds (spaces-bytes r (34 ∷ chars-bytes cs (34 ∷ g))))))
+      (G deepest [] (idle 0) (97 ∷ 109 ∷ 101 ∷ spaces-bytes q (digits-bytes ds (spaces-bytes r (34 ∷ chars-bytes cs (34 ∷ g))))))
+      (spaces-end p (mark-ends deepest [] small-n (97 ∷ 109 ∷ 101 ∷ spaces-bytes q (digits-bytes ds (spaces-bytes r (34 ∷ chars-bytes cs (34 ∷ g)))))))
       ∙ (ap (guard (all-within (items-numbers I)))
       (ap judged (rest-name (spaces-bytes q (digits-bytes ds (spaces-bytes r (34 ∷ chars-bytes cs (34 ∷ g))))))
       ∙ (digits-closed q ds (spaces-bytes r (34 ∷ chars-bytes cs (34 ∷ g))) (G deepest [] (idle 6) (chars-bytes cs (34 ∷ g))) (spaces-end r (mark-ends deepest [] quotes (chars-bytes cs (34 ∷ g))))
@@ -204,7 +210,8 @@ mutual
   opening-read (chance I p q ds r i t) g =
       let w = spaces-bytes q (digits-bytes ds (spaces-bytes r (78 ∷ four-byte i ∷ spaces-bytes t (61 ∷ g)))) in
       items-read I (spaces-bytes p (99 ∷ 104 ∷ 97 ∷ 110 ∷ 99 ∷ 101 ∷ w)) (G deepest [] (idle 0) (104 ∷ 97 ∷ 110 ∷ 99 ∷ 101 ∷ w)) (spaces-end p (mark-ends deepest [] small-c (104 ∷ 97 ∷ 110 ∷ 99 ∷ 101 ∷ w)))
-      ∙ (ap (guard (all-within (items-numbers I))) (ap judged (rest-chance w) ∙ (digits-closed q ds (spaces-bytes r (78 ∷ four-byte i ∷ spaces-bytes t (61 ∷ g))) (G deepest [] (idle 5) (four-byte i ∷ spaces-bytes t (61 ∷ g))) (spaces-end r (mark-ends deepest [] big-N (four-byte i ∷ spaces-bytes t (61 ∷ g))))
+      ∙ (ap (guard (all-within (items-numbers I))) (ap judged (rest-chance w) ∙ (digits-closed q ds (spaces-bytes r (78 ∷ four-byte i ∷ spaces-bytes t (61 ∷ g)))
+      (G deepest [] (idle 5) (four-byte i ∷ spaces-bytes t (61 ∷ g))) (spaces-end r (mark-ends deepest [] big-N (four-byte i ∷ spaces-bytes t (61 ∷ g))))
       ∙ ap (guard (all-within (written ds))) (later-read i t g)))
       ∙ g-append (items-numbers I) (written ds) (G deepest [] (idle 0) g))
   opening-read (next I p q ds r i t) g =

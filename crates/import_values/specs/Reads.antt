@@ -182,7 +182,8 @@ module _ (only : Bool) where
       unfolding closed factor
       closed-is = refl
 
-      ended-is : (T : List Frame) (b : Bool) → elim T [ [] ↦ if ((if b (full L C X m M) over) .beyond) stopped (ended (if b (full L C X m M) over) []) | o ∷ R ↦ stopped ] ≡ guard b (elim T [ [] ↦ ended (full L C X m M) [] | o ∷ R ↦ stopped ])
+      ended-is : (T : List Frame) (b : Bool) → elim T [ [] ↦ if ((if b (full L C X m M) over) .beyond) stopped (ended (if b (full L C X m M) over) []) | o ∷ R ↦ stopped ]
+          ≡ guard b (elim T [ [] ↦ ended (full L C X m M) [] | o ∷ R ↦ stopped ])
       ended-is [] true = refl
       ended-is [] false = refl
       ended-is (o ∷ R) true = refl

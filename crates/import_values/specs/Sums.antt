@@ -150,7 +150,8 @@ sign-follows takes w = mark refl refl
 module _ (only : Bool) where
   module _ (d : ℕ) (S : List Frame) (L : List ℤ) (C : ℕ) where
     -- a product in the order of the definition
-    pub product-read : (X : List ℤ) (m : Bool) (l : List ℤ) (k : ℤ) (a r : List ℤ) (f : List ℕ) → l ≡ clipL k a → scaleL k a ≡ r → guard (all-within l) (run only d S (full L C X m l) f) ≡ guard (all-within r) (run only d S (full L C X m r) f)
+    pub product-read : (X : List ℤ) (m : Bool) (l : List ℤ) (k : ℤ) (a r : List ℤ) (f : List ℕ) → l ≡ clipL k a → scaleL k a ≡ r → guard (all-within l)
+        (run only d S (full L C X m l) f) ≡ guard (all-within r) (run only d S (full L C X m r) f)
     product-read X m l k a r f e h =
         ap (λ (u : List ℤ). guard (all-within u) (run only d S (full L C X m u) f)) e
         ∙ (clip-judged (scaleL k a) (λ (u : List ℤ). run only d S (full L C X m u) f) stopped
@@ -212,12 +213,14 @@ module _ (only : Bool) where
       ∙ (ap (guard (all-within (tot X′ m′ t′))) (factor-read (suc d) S L C X m t (tot X′ m′ t′) f)
       ∙ ap (λ (u : List ℤ). guard (all-within u) (guard (all-within (multiplied t u)) (run only (suc d) S (full L C X m (multiplied t u)) f))) e))
 
-  pub open-read : (d : ℕ) (S : List Frame) (L : List ℤ) (C : ℕ) (X : List ℤ) (m : Bool) (t : List ℤ) (p : Spaces) (w : List ℕ) → run only (suc d) S (open9 L C X m t) (spaces-bytes p (40 ∷ w)) ≡ run only d (open9 L C X m t ∷ S) (open9 zero9 0 zero9 false unit9) w
+  pub open-read : (d : ℕ) (S : List Frame) (L : List ℤ) (C : ℕ) (X : List ℤ) (m : Bool) (t : List ℤ) (p : Spaces) (w : List ℕ) → run only (suc d) S (open9 L C X m t)
+      (spaces-bytes p (40 ∷ w)) ≡ run only d (open9 L C X m t ∷ S) (open9 zero9 0 zero9 false unit9) w
   unfolding run
   open-read d S L C X m t p w = spaced only (suc d) S (open9 L C X m t) (calm-open only (suc d) S L C X m t) p (40 ∷ w)
 
   -- a sum in brackets
-  bracket-read : (d : ℕ) (S : List Frame) (L : List ℤ) (C : ℕ) (X : List ℤ) (m : Bool) (t : List ℤ) (B N X′ : List ℤ) (m′ : Bool) (t′ T : List ℤ) → tot X′ m′ t′ ≡ T → ((x : Out) → guard (all-within B) (guard (all-within T) x) ≡ guard (all-within N) x)
+  bracket-read : (d : ℕ) (S : List Frame) (L : List ℤ) (C : ℕ) (X : List ℤ) (m : Bool) (t : List ℤ) (B N X′ : List ℤ) (m′ : Bool) (t′ T : List ℤ) → tot X′ m′ t′ ≡ T →
+      ((x : Out) → guard (all-within B) (guard (all-within T) x) ≡ guard (all-within N) x)
       → (p q : Spaces) (w f : List ℕ) → run only d (open9 L C X m t ∷ S) (open9 zero9 0 zero9 false unit9) w ≡ guard (all-within B) (run only d (open9 L C X m t ∷ S) (full zero9 0 X′ m′ t′) (spaces-bytes q (41 ∷ f)))
       → run only (suc d) S (open9 L C X m t) (spaces-bytes p (40 ∷ w)) ≡ guard (all-within N) (guard (all-within (multiplied t T)) (run only (suc d) S (full L C X m (multiplied t T)) f))
   bracket-read d S L C X m t B N X′ m′ t′ T e split p q w f r =
@@ -225,7 +228,8 @@ module _ (only : Bool) where
       ∙ (r ∙ (ap (guard (all-within B)) (close-read d S L C X m t X′ m′ t′ T e q f) ∙ split (guard (all-within (multiplied t T)) (run only (suc d) S (full L C X m (multiplied t T)) f))))
 
   number-read : (d : ℕ) (S : List Frame) (L : List ℤ) (C : ℕ) (X : List ℤ) (m : Bool) (t : List ℤ) (p : Spaces) (ds : Digits) (f : List ℕ) → Follows f
-      → run only d S (open9 L C X m t) (spaces-bytes p (digits-bytes ds f)) ≡ guard (all-within (pos (digits-value ds) ∷ [])) (guard (all-within (multiplied t (constant9 (pos (digits-value ds))))) (run only d S (full L C X m (multiplied t (constant9 (pos (digits-value ds))))) f))
+      → run only d S (open9 L C X m t) (spaces-bytes p (digits-bytes ds f)) ≡ guard (all-within (pos (digits-value ds) ∷ []))
+      (guard (all-within (multiplied t (constant9 (pos (digits-value ds))))) (run only d S (full L C X m (multiplied t (constant9 (pos (digits-value ds))))) f))
   unfolding all-within in-32-bits
   number-read d S L C X m t p ds f h =
       spaced only d S (open9 L C X m t) (calm-open only d S L C X m t) p (digits-bytes ds f)
@@ -262,7 +266,8 @@ module _ (only : Bool) where
     ksum-read (kneg p y) d h S L C f F = minus-read d S L C p (kterm-bytes y f) ∙ kterm-read y d h S L C zero9 true f F
     ksum-read (kplus s p g y) d h S L C f F =
         ksum-read s d h S L C (spaces-bytes p (sign-byte g ∷ kterm-bytes y f)) (spaces-follow p (sign-follows g (kterm-bytes y f)))
-        ∙ plus-read d S L C (kbefore s) (ksum-numbers s) (kX s) (km s) (kt s) (nine (ksum-linear s)) (ksum-tot s) (ksum-split s) p g (kterm-bytes y f) (kterm-numbers y) (run only d S (full L C (nine (ksum-linear s)) (minus-of g) (nine (kterm-linear y))) f)
+        ∙ plus-read d S L C (kbefore s) (ksum-numbers s) (kX s) (km s) (kt s) (nine (ksum-linear s)) (ksum-tot s) (ksum-split s) p g (kterm-bytes y f) (kterm-numbers y)
+        (run only d S (full L C (nine (ksum-linear s)) (minus-of g) (nine (kterm-linear y))) f)
         (kterm-read y d h S L C (nine (ksum-linear s)) (minus-of g) f F)
 
   module _ (d : ℕ) (S : List Frame) (L : List ℤ) (C : ℕ) (X : List ℤ) (m : Bool) (t : List ℤ) where
@@ -277,7 +282,8 @@ module _ (only : Bool) where
     level-digit i7 f = run-if only d S (all-within (multiplied t (nine (level-linear i7)))) (full L C X m (multiplied t (nine (level-linear i7)))) f
     level-digit i8 f = run-if only d S (all-within (multiplied t (nine (level-linear i8)))) (full L C X m (multiplied t (nine (level-linear i8)))) f
 
-    level-read : (p : Spaces) (i : Index) (f : List ℕ) → run only d S (open9 L C X m t) (spaces-bytes p (76 ∷ index-byte i ∷ f)) ≡ guard (all-within (multiplied t (nine (level-linear i)))) (run only d S (full L C X m (multiplied t (nine (level-linear i)))) f)
+    level-read : (p : Spaces) (i : Index) (f : List ℕ) → run only d S (open9 L C X m t) (spaces-bytes p (76 ∷ index-byte i ∷ f)) ≡ guard
+        (all-within (multiplied t (nine (level-linear i)))) (run only d S (full L C X m (multiplied t (nine (level-linear i)))) f)
     level-read p i f = spaced only d S (open9 L C X m t) (calm-open only d S L C X m t) p (76 ∷ index-byte i ∷ f) ∙ level-digit i f
 
   mutual
@@ -310,15 +316,18 @@ module _ (only : Bool) where
     vsum-read (vneg p y) d h S L C f F = minus-read d S L C p (vterm-bytes y f) ∙ vterm-read y d h S L C zero9 true f F
     vsum-read (plusKV s p g y) d h S L C f F =
         ksum-read s d h S L C (spaces-bytes p (sign-byte g ∷ vterm-bytes y f)) (spaces-follow p (sign-follows g (vterm-bytes y f)))
-        ∙ plus-read d S L C (kbefore s) (ksum-numbers s) (kX s) (km s) (kt s) (nine (ksum-linear s)) (ksum-tot s) (ksum-split s) p g (vterm-bytes y f) (vterm-numbers y) (run only d S (full L C (nine (ksum-linear s)) (minus-of g) (nine (vterm-linear y))) f)
+        ∙ plus-read d S L C (kbefore s) (ksum-numbers s) (kX s) (km s) (kt s) (nine (ksum-linear s)) (ksum-tot s) (ksum-split s) p g (vterm-bytes y f) (vterm-numbers y)
+        (run only d S (full L C (nine (ksum-linear s)) (minus-of g) (nine (vterm-linear y))) f)
         (vterm-read y d h S L C (nine (ksum-linear s)) (minus-of g) f F)
     vsum-read (plusVK s p g y) d h S L C f F =
         vsum-read s d h S L C (spaces-bytes p (sign-byte g ∷ kterm-bytes y f)) (spaces-follow p (sign-follows g (kterm-bytes y f)))
-        ∙ plus-read d S L C (vbefore s) (vsum-numbers s) (vX s) (vm s) (vt s) (nine (vsum-linear s)) (vsum-tot s) (vsum-split s) p g (kterm-bytes y f) (kterm-numbers y) (run only d S (full L C (nine (vsum-linear s)) (minus-of g) (nine (kterm-linear y))) f)
+        ∙ plus-read d S L C (vbefore s) (vsum-numbers s) (vX s) (vm s) (vt s) (nine (vsum-linear s)) (vsum-tot s) (vsum-split s) p g (kterm-bytes y f) (kterm-numbers y)
+        (run only d S (full L C (nine (vsum-linear s)) (minus-of g) (nine (kterm-linear y))) f)
         (kterm-read y d h S L C (nine (vsum-linear s)) (minus-of g) f F)
     vsum-read (plusVV s p g y) d h S L C f F =
         vsum-read s d h S L C (spaces-bytes p (sign-byte g ∷ vterm-bytes y f)) (spaces-follow p (sign-follows g (vterm-bytes y f)))
-        ∙ plus-read d S L C (vbefore s) (vsum-numbers s) (vX s) (vm s) (vt s) (nine (vsum-linear s)) (vsum-tot s) (vsum-split s) p g (vterm-bytes y f) (vterm-numbers y) (run only d S (full L C (nine (vsum-linear s)) (minus-of g) (nine (vterm-linear y))) f)
+        ∙ plus-read d S L C (vbefore s) (vsum-numbers s) (vX s) (vm s) (vt s) (nine (vsum-linear s)) (vsum-tot s) (vsum-split s) p g (vterm-bytes y f) (vterm-numbers y)
+        (run only d S (full L C (nine (vsum-linear s)) (minus-of g) (nine (vterm-linear y))) f)
         (vterm-read y d h S L C (nine (vsum-linear s)) (minus-of g) f F)
 
 -- ---- of either kind
@@ -358,7 +367,8 @@ unfolding linear-of
 sum-eight (constant s) = flat-eight (ksum-flat s)
 sum-eight (varying s) = vsum-eight s
 
-pub sum-read : (only : Bool) {n : ℕ} (s : Sum n) (d : ℕ) → n ≤ d → (S : List Frame) (L : List ℤ) (C : ℕ) (f : List ℕ) → Follows f → run only d S (open9 L C zero9 false unit9) (sum-bytes s f) ≡ guard (all-within (sum-before s)) (run only d S (behind-sum L C s) f)
+pub sum-read : (only : Bool) {n : ℕ} (s : Sum n) (d : ℕ) → n ≤ d → (S : List Frame) (L : List ℤ) (C : ℕ) (f : List ℕ) → Follows f → run only d S
+    (open9 L C zero9 false unit9) (sum-bytes s f) ≡ guard (all-within (sum-before s)) (run only d S (behind-sum L C s) f)
 unfolding sum-bytes
 sum-read only (constant s) d h S L C f F = ksum-read only s d h S L C f F
 sum-read only (varying s) d h S L C f F = vsum-read only s d h S L C f F

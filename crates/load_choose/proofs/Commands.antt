@@ -39,7 +39,8 @@ module _ {B : List ℕ} {cap : ℕ} {l : List ℤ} {w : List ℕ} {n : ℕ} (A :
   choice-goes {z} S d = chooses-as (A .bare .good) z (S .proper .tested) (S .test) f g hf hg d
 
   -- the test is first
-  pub choice-ends : {z : Node} {s : Sides} {l₁ : List ℤ} {w₁ : List ℕ} {r : Made} → Here l n (testAt B at) f g s → Stood (testAt B at) z → Grew cap l w n (node (testOf z) (treeAt l n (s .fh)) (treeAt l n (s .gl))) l₁ w₁ r → RuleRan (loadRule B) cap l w n (choose (testAt B at) (treeAt l n f) (treeAt l n g)) l₁ w₁ r
+  pub choice-ends : {z : Node} {s : Sides} {l₁ : List ℤ} {w₁ : List ℕ} {r : Made} → Here l n (testAt B at) f g s → Stood (testAt B at) z → Grew cap l w n
+      (node (testOf z) (treeAt l n (s .fh)) (treeAt l n (s .gl))) l₁ w₁ r → RuleRan (loadRule B) cap l w n (choose (testAt B at) (treeAt l n f) (treeAt l n g)) l₁ w₁ r
   choice-ends {s = s} o S Q = ran-as (sym (o .is)) (lifted A (grew-as (ap (λ (t : Test). node t (treeAt l n (s .fh)) (treeAt l n (s .gl))) (S .test)) Q))
 
   -- an entry answers
@@ -50,7 +51,9 @@ module _ {B : List ℕ} {cap : ℕ} {l : List ℤ} {w : List ℕ} {n : ℕ} (A :
   lasts l′ n′ D = rule-is B l′ n′ 13 f g at 0 ∙ (ap₂ (choose (testAt B at)) (trees-kept D f hf) (trees-kept D g hg) ∙ sym (rule-is B l n 13 f g at 0))
 
   -- a result is kept
-  pub choice-stored : {l′ : List ℤ} {w′ w″ : List ℕ} {r : Made} → RuleRan (loadRule B) cap l w n (choose (testAt B at) (treeAt l n f) (treeAt l n g)) l′ w′ r → r .stop ≡ 0 → w″ ≡ storeOf w′ (slotOf cap 13 f g at 0) 13 f g at 0 (r .at) → RuleRan (loadRule B) cap l w n (choose (testAt B at) (treeAt l n f) (treeAt l n g)) l′ w″ r
+  pub choice-stored : {l′ : List ℤ} {w′ w″ : List ℕ} {r : Made} → RuleRan (loadRule B) cap l w n (choose (testAt B at) (treeAt l n f) (treeAt l n g)) l′ w′ r
+      → r .stop ≡ 0 → w″ ≡ storeOf w′ (slotOf cap 13 f g at 0) 13 f g at 0 (r .at) → RuleRan (loadRule B) cap l w n
+      (choose (testAt B at) (treeAt l n f) (treeAt l n g)) l′ w″ r
   choice-stored Q ok e =
       let q = rule-is B l n 13 f g at 0 in
       ran-as q (kept-run lasts (ran-as (sym q) Q) ok e)

@@ -149,7 +149,8 @@ leaf-tree : (p : List ℤ) (X : List Tree) → treeOf (wordsOf p) X ≡ leaf (pl
 unfolding wordsOf linOf
 leaf-tree p X = tree-leaf (wordsOf p) X (leaf-as refl) ∙ ap leaf (leaf-some (wordsOf p) (some-as refl))
 
-pub leaf-grew : {cap : ℕ} {l : List ℤ} {w : List ℕ} {n : ℕ} (p : List ℤ) {x : Node} {l′ : List ℤ} {w′ : List ℕ} {k : Made} → x ≡ wordsOf p → Grew cap l w n (make (treeOf x (trees l n))) l′ w′ k → Grew cap l w n (make (leaf (plain (linear-of p)))) l′ w′ k
+pub leaf-grew : {cap : ℕ} {l : List ℤ} {w : List ℕ} {n : ℕ} (p : List ℤ) {x : Node} {l′ : List ℤ} {w′ : List ℕ} {k : Made} → x ≡ wordsOf p → Grew cap l w n
+    (make (treeOf x (trees l n))) l′ w′ k → Grew cap l w n (make (leaf (plain (linear-of p)))) l′ w′ k
 leaf-grew {l = l} {n = n} p e Q = grew-as (ap make (ap (λ (x : Node). treeOf x (trees l n)) e ∙ leaf-tree p (trees l n))) Q
 
 pub small-at : {cap : ℕ} {l l′ : List ℤ} {w w′ : List ℕ} {n : ℕ} {m : Comp Tree} {k : Made} → Grew cap l w n m l′ w′ k → k .stop ≡ 0 → k .at < 65536
@@ -169,7 +170,8 @@ unfolding load-one-with
 forbidden-one X E = refl
 
 -- a choice of a stack of two at least
-choice-one : (l : List ℤ) (t : Test) (n : ℕ) (H : List ℕ) → 2 ≤ length H → (E : List Entry) → load-choice t (standing l n H) E ≡ bind (choose t (treeAt l n (getD (drop 1 H) 0 0)) (treeAt l n (getD H 0 0))) (λ x. ret (loading (x ∷ standing l n (drop 1 (drop 1 H))) E))
+choice-one : (l : List ℤ) (t : Test) (n : ℕ) (H : List ℕ) → 2 ≤ length H → (E : List Entry) → load-choice t (standing l n H) E ≡ bind
+    (choose t (treeAt l n (getD (drop 1 H) 0 0)) (treeAt l n (getD H 0 0))) (λ x. ret (loading (x ∷ standing l n (drop 1 (drop 1 H))) E))
 unfolding load-choice-with
 choice-one l t n [] h E = absurd (omega arith)
 choice-one l t n (i ∷ []) h E = absurd (omega arith)
@@ -189,9 +191,11 @@ unfolding test-read test-in
 linear-at B at e = ap test-read (sym e)
 
 abbrev Chose : List ℕ → ℕ → List ℤ → List ℕ → ℕ → Loaded → List ℤ → List ℕ → Loaded → Type 0
-Chose B cap l w at s l′ w′ r = Chosen-on (loadRule B) cap l w (s .count) (choose (testAt B at) (treeAt l (s .count) (getD (drop 1 (held (s .stack))) 0 0)) (treeAt l (s .count) (getD (held (s .stack)) 0 0))) (drop 1 (drop 1 (held (s .stack)))) l′ w′ r
+Chose B cap l w at s l′ w′ r = Chosen-on (loadRule B) cap l w (s .count) (choose (testAt B at) (treeAt l (s .count) (getD (drop 1 (held (s .stack))) 0 0))
+    (treeAt l (s .count) (getD (held (s .stack)) 0 0))) (drop 1 (drop 1 (held (s .stack)))) l′ w′ r
 
-chosen-step : (B : List ℕ) (at n : ℕ) {cap : ℕ} {l : List ℤ} {w : List ℕ} {l′ : List ℤ} {w′ : List ℕ} {r : Loaded} (t : Test) (c : Command) → testAt B at ≡ t → (K : List ℕ) → Below n K → 2 ≤ length K → length K ≤ stack-most → length K - 1 ≡ height c (length K)
+chosen-step : (B : List ℕ) (at n : ℕ) {cap : ℕ} {l : List ℤ} {w : List ℕ} {l′ : List ℤ} {w′ : List ℕ} {r : Loaded} (t : Test) (c : Command) → testAt B at ≡ t →
+    (K : List ℕ) → Below n K → 2 ≤ length K → length K ≤ stack-most → length K - 1 ≡ height c (length K)
     → ((X : List Tree) (E : List Entry) → load-one c (loading X E) ≡ load-choice t X E) → ((X : List Tree) (E : List Entry) → entered c X E ≡ E)
     → Chosen-on (loadRule B) cap l w n (choose (testAt B at) (treeAt l n (getD (drop 1 K) 0 0)) (treeAt l n (getD K 0 0))) (drop 1 (drop 1 K)) l′ w′ r → Stepped B cap l w c n K l′ w′ r
 chosen-step B at n {l = l} t c e K b two most up is same G =
@@ -233,7 +237,8 @@ module _ (B : List ℕ) (at : ℕ) {cap : ℕ} {l : List ℤ} {w : List ℕ} {s 
   test-step p y G = chosen-step B at (s .count) (test-of p) (push-test p) (linear-at B at (y .here)) (held (s .stack)) (y .below) (y .able .0) (y .able .1) refl (λ X E. refl) (λ X E. refl) G
 
 -- what a choice asks
-pub condition-asks : {B : List ℕ} {cap : ℕ} {l : List ℤ} {w : List ℕ} {at : ℕ} {s : Loaded} (k : ℕ) → StepReady B cap l w at (push-condition k) s → Table (loadRule B) cap l w (s .count) × Testing B at × (getD (drop 1 (held (s .stack))) 0 0 < s .count) × (getD (held (s .stack)) 0 0 < s .count)
+pub condition-asks : {B : List ℕ} {cap : ℕ} {l : List ℤ} {w : List ℕ} {at : ℕ} {s : Loaded} (k : ℕ) → StepReady B cap l w at (push-condition k) s → Table
+    (loadRule B) cap l w (s .count) × Testing B at × (getD (drop 1 (held (s .stack))) 0 0 < s .count) × (getD (held (s .stack)) 0 0 < s .count)
 unfolding Able condition-read condition-in
 condition-asks {B} {at = at} {s} k y =
     let e : k ≡ condition-read (read-at B at) = ap condition-read (y .here) in
@@ -244,7 +249,8 @@ condition-asks {B} {at = at} {s} k y =
       top-below (s .count) (held (s .stack)) (omega arith) (y .below),
     )
 
-pub test-asks : {B : List ℕ} {cap : ℕ} {l : List ℤ} {w : List ℕ} {at : ℕ} {s : Loaded} (p : Linear) → StepReady B cap l w at (push-test p) s → Table (loadRule B) cap l w (s .count) × Testing B at × (getD (drop 1 (held (s .stack))) 0 0 < s .count) × (getD (held (s .stack)) 0 0 < s .count)
+pub test-asks : {B : List ℕ} {cap : ℕ} {l : List ℤ} {w : List ℕ} {at : ℕ} {s : Loaded} (p : Linear) → StepReady B cap l w at (push-test p) s → Table (loadRule B) cap l w
+    (s .count) × Testing B at × (getD (drop 1 (held (s .stack))) 0 0 < s .count) × (getD (held (s .stack)) 0 0 < s .count)
 unfolding Able condition-read condition-in
 test-asks {B} {at = at} {s} p y =
     let e : 1 ≡ condition-read (read-at B at) = ap condition-read (y .here) in

@@ -105,7 +105,8 @@ empty-run B cap l s st L eL e =
     ∙ (ap (run cap (load-on L (loading [] []))) (ap (trees l) (st .count) ∙ trees-none l)
     ∙ (ap (λ (M : List Placed). run cap (load-on M (loading [] [])) []) eL ∙ ap (λ (m : Comp Loading). run cap m []) (sym e)))
 
-pub walk-starts : {B : List ℕ} {cap : ℕ} {l : List ℤ} {w : List ℕ} {R : List ℕ} {at : ℕ} {s : Loaded} → verdict B .number ≡ 0 → length B ≤ bytes-most → Table (loadRule B) cap l w 0 → loaded-roots-most ≤ length R → at ≡ next-at B 0 → Starts s → Walk B cap l w R at s false
+pub walk-starts : {B : List ℕ} {cap : ℕ} {l : List ℤ} {w : List ℕ} {R : List ℕ} {at : ℕ} {s : Loaded} → verdict B .number ≡ 0 → length B ≤ bytes-most → Table
+    (loadRule B) cap l w 0 → loaded-roots-most ≤ length R → at ≡ next-at B 0 → Starts s → Walk B cap l w R at s false
 unfolding Below has-slot
 walk-starts {B} {cap} {l} {w} {R} {at} {s} ok small A room ea st =
     let b = begins B ok in
@@ -272,7 +273,8 @@ is-model : (B : List ℕ) (cap : ℕ) {M : Model} {Y : List Tree} → run cap (l
 unfolding model-in
 is-model B cap {M} {Y} e = run-result cap (load B) [] Y M e
 
-pub ends-loaded : {B : List ℕ} {cap : ℕ} {l : List ℤ} {w : List ℕ} {R : List ℕ} {at : ℕ} {s : Loaded} {flag : Bool} (k : Walk B cap l w R at s flag) → run cap (load-on (readings B) (loading [] [])) [] ≡ done (loading (standing l (s .count) (held (s .stack))) (k .entries)) (trees l (s .count))
+pub ends-loaded : {B : List ℕ} {cap : ℕ} {l : List ℤ} {w : List ℕ} {R : List ℕ} {at : ℕ} {s : Loaded} {flag : Bool} (k : Walk B cap l w R at s flag) → run cap
+    (load-on (readings B) (loading [] [])) [] ≡ done (loading (standing l (s .count) (held (s .stack))) (k .entries)) (trees l (s .count))
     → T (all (λ g. has-slot g (k .given)) (wanted (site-at B))) → Loads B cap l w R (record { stop = 0; count = s .count; ended = flag })
 unfolding wanted model-of
 ends-loaded {B} {cap} {l} {w} {R} {at} {s} {flag} k e t =
@@ -292,5 +294,6 @@ ends-loaded {B} {cap} {l} {w} {R} {at} {s} {flag} k e t =
       stops = λ z. absurd (z refl);
     }
 
-pub stops-loaded : {B : List ℕ} {cap : ℕ} {l : List ℤ} {w : List ℕ} (R : List ℕ) {j n : ℕ} {flag : Bool} → Table (loadRule B) cap l w n → run cap (load-on (readings B) (loading [] [])) [] ≡ stopped j → (j ≡ 0 → ⊥) → Loads B cap l w R (record { stop = j; count = n; ended = flag })
+pub stops-loaded : {B : List ℕ} {cap : ℕ} {l : List ℤ} {w : List ℕ} (R : List ℕ) {j n : ℕ} {flag : Bool} → Table (loadRule B) cap l w n → run cap
+    (load-on (readings B) (loading [] [])) [] ≡ stopped j → (j ≡ 0 → ⊥) → Loads B cap l w R (record { stop = j; count = n; ended = flag })
 stops-loaded {B} {cap} R A e off = record { table = A; ran = λ z. absurd (off z); below = λ z. absurd (off z); roots = λ z. absurd (off z); end-below = λ z. absurd (off z); end-root = λ z. absurd (off z); stops = λ _. load-stops B cap e }

@@ -38,7 +38,8 @@ pub record Placed-at (S : Site) (g : Slot) (i : ℕ) : Type 0 where
   pub offset : ℕ
   pub least : 1 ≤ g .action
   pub most : g .action ≤ S .actions
-  pub which : ((g .command ≡ 0x20) × (g .index ≡ 0) × (offset ≡ 0)) ⊎ (((g .command ≡ 0x21) × (1 ≤ g .index) × (g .index ≤ S .conditions) × (offset ≡ g .index)) ⊎ ((g .command ≡ 0x22) × (1 ≤ g .index) × (g .index ≤ S .levels) × (offset ≡ S .conditions + g .index)))
+  pub which : ((g .command ≡ 0x20) × (g .index ≡ 0) × (offset ≡ 0)) ⊎ (((g .command ≡ 0x21) × (1 ≤ g .index) × (g .index ≤ S .conditions) × (offset ≡ g .index)) ⊎
+      ((g .command ≡ 0x22) × (1 ≤ g .index) × (g .index ≤ S .levels) × (offset ≡ S .conditions + g .index)))
   pub place : i ≡ (g .action - 1) * width-of S + offset
 
 -- the end worth, behind all of them
@@ -225,7 +226,9 @@ differ true a b = a
 differ false a b = b
 
 -- what is given now stands at its place
-pub rooted-entry : {S : Site} {l : List ℤ} {n : ℕ} {R : List ℕ} {G : List Slot} {E : List Entry} {g : Slot} {i : ℕ} {x : ℕ} {t : Tree} → S .actions ≤ actions-most → S .conditions ≤ conditions-most → S .levels ≤ levels-most → loaded-roots-most ≤ length R → Stands-at S g i → Root-of l n x t → Rooted S l n R G E → Rooted S l n (storedIn R i x) (g ∷ G) (record { slot = g; tree = t } ∷ E)
+pub rooted-entry : {S : Site} {l : List ℤ} {n : ℕ} {R : List ℕ} {G : List Slot} {E : List Entry} {g : Slot} {i : ℕ} {x : ℕ} {t : Tree} → S .actions ≤ actions-most
+    → S .conditions ≤ conditions-most → S .levels ≤ levels-most → loaded-roots-most ≤ length R → Stands-at S g i → Root-of l n x t → Rooted S l n R G E → Rooted S l n
+    (storedIn R i x) (g ∷ G) (record { slot = g; tree = t } ∷ E)
 unfolding has-slot find-slot found
 rooted-entry {S} {l} {n} {R} {G} {E} {g} {i} {x} {t} A N M room p o r = record {
   root = λ h j q u.

@@ -75,7 +75,8 @@ condition-in-range : (n k : ℕ) → n ≤ conditions-most → T (or (among n k)
 unfolding next-condition
 condition-in-range n k h = by-test (among n k) (λ b. T (or b (ltb conditions-most k && among n (k - conditions-most))) → (0 < k) × (k ≤ conditions-most + conditions-most))
     (λ t _. let d = among-out n k t in let a = d .0 in let b = d .1 in (omega arith, omega arith))
-    (λ _ t. let c = both (ltb conditions-most k) (among n (k - conditions-most)) t in let d = among-out n (k - conditions-most) (c .1) in let a = d .0 in let b = d .1 in let e = ltb→lt conditions-most k (c .0) in (omega arith, omega arith))
+    (λ _ t. let c = both (ltb conditions-most k) (among n (k - conditions-most)) t in let d = among-out n (k - conditions-most) (c .1) in let a = d .0 in let b = d .1 in
+    let e = ltb→lt conditions-most k (c .0) in (omega arith, omega arith))
 
 module _ (S : Site) (few : S .conditions ≤ conditions-most) (K : List Facts) (G : List Slot) where
   pub checked : (c : Command) → first-broken (later-rules S K G c) ≡ 0 → Checked S K G c
@@ -110,7 +111,9 @@ unfolding given-to
 given-first l n [] g E h P p = absurd (omega arith)
 given-first l n (x ∷ H) g E h P p = p
 
-module _ (S : Site) (A : S .actions ≤ actions-most) (N : S .conditions ≤ conditions-most) (M : S .levels ≤ levels-most) (K : List Facts) (G : List Slot) {l : List ℤ} {n : ℕ} (H : List ℕ) (b : Below n H) (tall : length H ≡ length K) {R : List ℕ} (room : loaded-roots-most ≤ length R) {E : List Entry} (r : Rooted S l n R G E) where
+module _ (S : Site) (A : S .actions ≤ actions-most) (N : S .conditions ≤ conditions-most) (M : S .levels ≤ levels-most) (K : List Facts)
+    (G : List Slot) {l : List ℤ} {n : ℕ} (H : List ℕ) (b : Below n H) (tall : length H ≡ length K) {R : List ℕ} (room : loaded-roots-most ≤ length R) {E : List Entry}
+    (r : Rooted S l n R G E) where
   took : (g : Slot) (i : ℕ) → Stands-at S g i → 1 ≤ length K → Rooted S l n (storedIn R i (getD H 0 0)) (g ∷ G) (given-to g (standing l n H) E)
   took g i p h = given-first l n H g E (omega arith) (λ F. Rooted S l n (storedIn R i (getD H 0 0)) (g ∷ G) F) (rooted-entry A N M room p (record { below = top-below n H (omega arith) b; tree = refl }) r)
 
@@ -255,21 +258,32 @@ module _ {B : List ℕ} {cap : ℕ} {l : List ℤ} {w : List ℕ} {R : List ℕ}
     }
 
     module _ {l′ : List ℤ} {w′ : List ℕ} {r : Loaded} (T : Stepped B cap l w (command-of B at c) (s .count) (held (s .stack)) l′ w′ r) where
-      loads : run cap (load-on (readings B) (loading [] [])) [] ≡ after-out (run cap (load-one (command-of B at c) (loading (standing l (s .count) (held (s .stack))) (k .entries))) (trees l (s .count))) (λ t Y. run cap (load-on (if (goes-on (whole (command-of B at c))) (readings-from B (first (whole (command-of B at c)) e .0) (at + width (byte-at B at))) []) t) Y)
+      loads : run cap (load-on (readings B) (loading [] [])) [] ≡ after-out (run cap
+          (load-one (command-of B at c) (loading (standing l (s .count) (held (s .stack))) (k .entries))) (trees l (s .count)))
+          (λ t Y. run cap (load-on (if (goes-on (whole (command-of B at c))) (readings-from B (first (whole (command-of B at c)) e .0) (at + width (byte-at B at))) []) t)
+          Y)
       loads = let o = first (whole (command-of B at c)) e in
           sym (o .2 .1) ∙ (ap (λ (m : Comp Loading). run cap m (trees l (s .count))) (load-one-on at (command-of B at c) _ _) ∙ run-bind cap _ _ (trees l (s .count)))
 
       -- the load stops
       pub turn-stops : (r .stop ≡ 0 → ⊥) → run cap (load-on (readings B) (loading [] [])) [] ≡ stopped (r .stop)
       unfolding after-out
-      turn-stops off = loads ∙ ap (λ (o : Out Loading). after-out o (λ t Y. run cap (load-on (if (goes-on (whole (command-of B at c))) (readings-from B (first (whole (command-of B at c)) e .0) (at + width (byte-at B at))) []) t) Y)) (T .stops off (k .entries))
+      turn-stops off = loads ∙ ap (λ (o : Out Loading). after-out o (λ t Y. run cap
+          (load-on (if (goes-on (whole (command-of B at c))) (readings-from B (first (whole (command-of B at c)) e .0) (at + width (byte-at B at))) []) t) Y))
+          (T .stops off (k .entries))
 
-      on : (go : r .stop ≡ 0) → run cap (load-on (if (goes-on (whole (command-of B at c))) (readings-from B (first (whole (command-of B at c)) e .0) (at + width (byte-at B at))) []) (loading (standing l′ (r .count) (held (r .stack))) (entered (command-of B at c) (standing l (s .count) (held (s .stack))) (k .entries)))) (trees l′ (r .count)) ≡ run cap (load-on (readings B) (loading [] [])) []
+      on : (go : r .stop ≡ 0) → run cap (load-on (if (goes-on (whole (command-of B at c)))
+          (readings-from B (first (whole (command-of B at c)) e .0) (at + width (byte-at B at))) [])
+          (loading (standing l′ (r .count) (held (r .stack))) (entered (command-of B at c) (standing l (s .count) (held (s .stack))) (k .entries))))
+          (trees l′ (r .count)) ≡ run cap (load-on (readings B) (loading [] [])) []
       unfolding after-out
-      on go = sym (loads ∙ ap (λ (o : Out Loading). after-out o (λ t Y. run cap (load-on (if (goes-on (whole (command-of B at c))) (readings-from B (first (whole (command-of B at c)) e .0) (at + width (byte-at B at))) []) t) Y)) (T .went go (k .entries)))
+      on go = sym (loads ∙ ap (λ (o : Out Loading). after-out o (λ t Y. run cap (load-on
+          (if (goes-on (whole (command-of B at c))) (readings-from B (first (whole (command-of B at c)) e .0) (at + width (byte-at B at))) []) t) Y))
+          (T .went go (k .entries)))
 
       -- it goes on
-      pub turn-on : {R′ : List ℕ} {flag′ : Bool} (next x : ℕ) → is-end c ≡ false → next ≡ next-at B at → r .stop ≡ 0 → x ≡ getD (held (s .stack)) 0 0 → R′ ≡ storedIn R (place-of (site-at B .levels) (site-at B .conditions) (site-at B .actions) (command-of B at c)) x
+      pub turn-on : {R′ : List ℕ} {flag′ : Bool} (next x : ℕ) → is-end c ≡ false → next ≡ next-at B at → r .stop ≡ 0 → x ≡ getD (held (s .stack)) 0 0 → R′ ≡ storedIn R
+          (place-of (site-at B .levels) (site-at B .conditions) (site-at B .actions) (command-of B at c)) x
           → flag′ ≡ ended-by flag (command-of B at c) → Walk B cap l′ w′ R′ next r flag′
       turn-on {R′} next x i g go ex eR ef =
           let o = first (whole (command-of B at c)) e in
@@ -277,8 +291,10 @@ module _ {B : List ℕ} {cap : ℕ} {l : List ℤ} {w : List ℕ} {R : List ℕ}
           let y = going B at c i in
           let j = judge-one B (site-at B) (k .facts) (k .given) at (command-of B at c) _ (o .2 .0) .1 in
           let j′ = sym (ap (λ (v : Verdict). v .number) (y .1 (length B) _)) ∙ j in
-          let L : if (goes-on (whole (command-of B at c))) (readings-from B (o .0) (at + width (byte-at B at))) [] ≡ readings-from B (o .0) next = ap (λ (b : Bool). if b (readings-from B (o .0) (at + width (byte-at B at))) []) (y .0) ∙ ap (readings-from B (o .0)) (sym (h .0)) in
-          let eR′ : R′ ≡ storedIn R (place-of (site-at B .levels) (site-at B .conditions) (site-at B .actions) (command-of B at c)) (getD (held (s .stack)) 0 0) = eR ∙ ap (storedIn R (place-of (site-at B .levels) (site-at B .conditions) (site-at B .actions) (command-of B at c))) ex in
+          let L : if (goes-on (whole (command-of B at c))) (readings-from B (o .0) (at + width (byte-at B at))) [] ≡ readings-from B (o .0) next = ap
+          (λ (b : Bool). if b (readings-from B (o .0) (at + width (byte-at B at))) []) (y .0) ∙ ap (readings-from B (o .0)) (sym (h .0)) in
+          let eR′ : R′ ≡ storedIn R (place-of (site-at B .levels) (site-at B .conditions) (site-at B .actions) (command-of B at c)) (getD (held (s .stack)) 0 0) = eR ∙ ap
+          (storedIn R (place-of (site-at B .levels) (site-at B .conditions) (site-at B .actions) (command-of B at c))) ex in
           record {
             few = k .few;
             small = k .small;
@@ -292,17 +308,23 @@ module _ {B : List ℕ} {cap : ℕ} {l : List ℤ} {w : List ℕ} {R : List ℕ}
             entries = entered (command-of B at c) (standing l (s .count) (held (s .stack))) (k .entries);
             tall = T .high go ∙ (ap (height (command-of B at c)) (k .tall) ∙ sym (ok .high));
             most = ok .most (k .most);
-            judges = subst (λ (M : List Placed). judged (length B) (state (site-at B) (after (state (site-at B) (k .facts) (k .given)) (command-of B at c) .stack) (after (state (site-at B) (k .facts) (k .given)) (command-of B at c) .given)) M .number ≡ 0) L
+            judges = subst (λ (M : List Placed). judged (length B) (state (site-at B) (after (state (site-at B) (k .facts) (k .given)) (command-of B at c) .stack)
+                (after (state (site-at B) (k .facts) (k .given)) (command-of B at c) .given)) M .number ≡ 0) L
                 (subst (λ (p : Progress). judged (length B) p (if (goes-on (whole (command-of B at c))) (readings-from B (o .0) (at + width (byte-at B at))) []) .number ≡ 0) (ok .same) j′);
-            runs = subst (λ (M : List Placed). run cap (load-on M (loading (standing l′ (r .count) (held (r .stack))) (entered (command-of B at c) (standing l (s .count) (held (s .stack))) (k .entries)))) (trees l′ (r .count)) ≡ run cap (load-on (readings B) (loading [] [])) []) L (on go);
-            rooted = rooted-grown (T .grown) (subst (λ (Z : List ℕ). Rooted (site-at B) l (s .count) Z (after (state (site-at B) (k .facts) (k .given)) (command-of B at c) .given) (entered (command-of B at c) (standing l (s .count) (held (s .stack))) (k .entries))) (sym eR′)
+            runs = subst (λ (M : List Placed). run cap (load-on M (loading (standing l′ (r .count) (held (r .stack)))
+                (entered (command-of B at c) (standing l (s .count) (held (s .stack))) (k .entries)))) (trees l′ (r .count)) ≡ run cap
+                (load-on (readings B) (loading [] [])) []) L (on go);
+            rooted = rooted-grown (T .grown) (subst (λ (Z : List ℕ). Rooted (site-at B) l (s .count) Z
+                (after (state (site-at B) (k .facts) (k .given)) (command-of B at c) .given)
+                (entered (command-of B at c) (standing l (s .count) (held (s .stack))) (k .entries))) (sym eR′)
                 (given-roots (site-at B) (k .few .actions) (k .few .conditions) (k .few .levels) (k .facts) (k .given) (held (s .stack)) (k .below) (k .tall) (k .room) (k .rooted) (command-of B at c) fine));
             ended = ef ∙ given-ends (site-at B) (k .facts) (k .given) (k .ended) (command-of B at c) fine;
             room = (let z = ap length eR ∙ stored-length R _ x in let q = k .room in omega arith);
           }
 
     -- at the end all that is wanted has been given
-    pub turn-end : is-end c ≡ true → (run cap (load-on (readings B) (loading [] [])) [] ≡ done (loading (standing l (s .count) (held (s .stack))) (k .entries)) (trees l (s .count))) × T (all (λ g. has-slot g (k .given)) (wanted (site-at B)))
+    pub turn-end : is-end c ≡ true → (run cap (load-on (readings B) (loading [] [])) [] ≡ done (loading (standing l (s .count) (held (s .stack))) (k .entries))
+        (trees l (s .count))) × T (all (λ g. has-slot g (k .given)) (wanted (site-at B)))
     turn-end i =
         let o = first (whole (command-of B at c)) e in
         let z = at-end B at c i in

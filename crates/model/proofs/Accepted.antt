@@ -154,7 +154,9 @@ site-accepted-in form B z = go (read-in form B 0) refl z
     go (whole c) e z = by-number (first-broken (rules-in form at-start c)) refl z
       where
         by-number : (k : ℕ) → first-broken (rules-in form at-start c) ≡ k
-            → if (eqb k 0) (ended (length B) 0 c (judged-in form (length B) (after at-start c) (if (goes-on (whole c)) (readings-from-in form B (length B) (0 + width-in form (byte-at B 0))) []))) (refusal k 0) .number ≡ 0 → Sited-in form (site-in form B)
+            → if (eqb k 0) (ended (length B) 0 c (judged-in form (length B) (after at-start c)
+            (if (goes-on (whole c)) (readings-from-in form B (length B) (0 + width-in form (byte-at B 0))) []))) (refusal k 0) .number ≡ 0 → Sited-in form
+            (site-in form B)
         by-number zero f z = first-site form B c e f
         by-number (suc k) f z = absurd (let y : eqb (suc k) 0 ≡ false = ne-eqb (suc k) 0 (λ q. omega arith) in let x = rw y at z in omega arith)
     go unknown e z = absurd (omega arith)

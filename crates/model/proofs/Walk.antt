@@ -211,13 +211,15 @@ module _ {form : Form} {B : List ℕ} {at : ℕ} {s : CodeProgress} {F : List Bo
       (same-site (subst (λ (H : List Bool). ProgressStands t H (after (w .so-far) (command-of-in form B at c))) (sym h) (lv F (w .so-far) (w .stands) u)) (s .site) (k .0) (w .stands .site ∙ sym (k .1)))
 
 -- the first command, which is a site where it breaks no rule
-pub walk-first : (form : Form) (B : List ℕ) (F : List Bool) → F ≡ replicate flags-most false → (c : CodeCommand) (n next : ℕ) (t : CodeProgress) → whole (command-of-in form B 0 c) ≡ read-in form B 0 → n ≡ first-broken (first-rules form (command-of-in form B 0 c)) → n ≡ 0
+pub walk-first : (form : Form) (B : List ℕ) (F : List Bool) → F ≡ replicate flags-most false → (c : CodeCommand) (n next : ℕ) (t : CodeProgress) → whole
+    (command-of-in form B 0 c) ≡ read-in form B 0 → n ≡ first-broken (first-rules form (command-of-in form B 0 c)) → n ≡ 0
     → next ≡ next-in form B 0 → ProgressStands t (replicate flags-most false) (after at-start (command-of-in form B 0 c)) → Walk form B next t F
 unfolding rules-in walk-starts
 walk-first form B F o c n next t e f z g st =
     subst (Walk form B next t) (sym o) (turn-to (walk-starts form B) c n next t _ e f z (first-goes form B c (sym f ∙ z)) g st)
 
-pub first-broken-at : (form : Form) (B : List ℕ) (c : CodeCommand) (n : ℕ) → whole (command-of-in form B 0 c) ≡ read-in form B 0 → n ≡ first-broken (first-rules form (command-of-in form B 0 c)) → (n ≡ 0 → ⊥) → refusal n 0 ≡ verdict-in form B
+pub first-broken-at : (form : Form) (B : List ℕ) (c : CodeCommand) (n : ℕ) → whole (command-of-in form B 0 c) ≡ read-in form B 0 → n ≡ first-broken
+    (first-rules form (command-of-in form B 0 c)) → (n ≡ 0 → ⊥) → refusal n 0 ≡ verdict-in form B
 unfolding rules-in walk-starts
 first-broken-at form B c n e f h = turn-broken (walk-starts form B) (command-of-in form B 0 c) n e f h
 

@@ -48,7 +48,8 @@ seen-pushed l w x n a b d l′ w′ x′ e f g h =
     let s : n + (31 - n) ≡ 31 = omega arith in
     let k : seen-in (l % 2147483648) (w % 2147483648) (x % 2147483648) n ≡ seen-in l w x n = ap (λ (m : ℕ). seen-in (l % 2 ^ m) (w % 2 ^ m) (x % 2 ^ m) n) (sym s) ∙ seen-kept n (31 - n) l w x in
     rw (add-one, e, f, g)
-    ((λ i. record { next-step = bit-low (l % 2147483648) a i; weights = bit-low (w % 2147483648) b i; forbids = bit-low (x % 2147483648) d i } ∷ seen-in (bit-high (l % 2147483648) a i) (bit-high (w % 2147483648) b i) (bit-high (x % 2147483648) d i) n)
+    ((λ i. record { next-step = bit-low (l % 2147483648) a i; weights = bit-low (w % 2147483648) b i; forbids = bit-low (x % 2147483648) d i } ∷ seen-in
+    (bit-high (l % 2147483648) a i) (bit-high (w % 2147483648) b i) (bit-high (x % 2147483648) d i) n)
     ∙ ap (λ (r : List Facts). record { next-step = a; weights = b; forbids = d } ∷ r) k)
 
 pub seen-popped : (l w x n : ℕ) → 0 < n → seen-in (l / 2) (w / 2) (x / 2) (n - 1) ≡ drop 1 (seen-in l w x n)

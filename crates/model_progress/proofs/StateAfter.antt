@@ -240,7 +240,8 @@ module _ (form : Form) (B : List ℕ) (at : ℕ) (c : CodeCommand) (r : CodeProg
 
   pub first-site : {m n a w : ℕ} → c ≡ SiteBy m n a w → r .begun ≡ true → site-as (r .site) ≡ site-of m n a w → seen (r .seen) ≡ [] → First
   unfolding rules-in command-of-in seen-in
-  first-site {m} {n} {a} {w} e b i k = subst (λ (d : CodeCommand). first-broken (first-rules form (command-of-in form B at d)) ≡ 0 → (r .begun ≡ true) × ProgressStands r (replicate flags-most false) (after at-start (command-of-in form B at d))) (sym e)
+  first-site {m} {n} {a} {w} e b i k = subst (λ (d : CodeCommand). first-broken (first-rules form (command-of-in form B at d)) ≡ 0 → (r .begun ≡ true) × ProgressStands r
+      (replicate flags-most false) (after at-start (command-of-in form B at d))) (sym e)
       (λ u. (b, after-site form (stands-start (record { len = 0; later = 0; weights = 0; forbids = 0 }) refl) m n a w r b i k u))
 
   pub first-other : OneOf (1 ∷ 2 ∷ 3 ∷ 4 ∷ 5 ∷ 6 ∷ 7 ∷ []) (tagOf the-type c) → First

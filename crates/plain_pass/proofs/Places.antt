@@ -131,7 +131,8 @@ put-open g h b t u v e = go (eqb (getD t (place g) 0) 0) refl e
     go false f e = (e, λ p. eqb-false (getD t (place g) 0) 0 f (ap (λ (k : ℕ). getD t k 0) p ∙ e))
 
 -- what stands at a place was there, or is what was put
-pub put-is : (P : Slot → ℕ → Type 0) (g : Slot) (b : ℕ) (t : List ℕ) → length t ≤ slots-most → ((h : Slot) → P h (getD t (place h) 0)) → (place g < length t → getD t (place g) 0 ≡ 0 → P g b) → (h : Slot) → P h (getD (put g b t) (place h) 0)
+pub put-is : (P : Slot → ℕ → Type 0) (g : Slot) (b : ℕ) (t : List ℕ) → length t ≤ slots-most → ((h : Slot) → P h (getD t (place h) 0)) →
+    (place g < length t → getD t (place g) 0 ≡ 0 → P g b) → (h : Slot) → P h (getD (put g b t) (place h) 0)
 unfolding put
 put-is P g b t few stands f h = go (eqb (getD t (place g) 0) 0) refl
   where

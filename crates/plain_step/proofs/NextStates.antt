@@ -120,8 +120,11 @@ module _ (B : List ℕ) (a : ℕ) (x : Point) (r : ℕ) (ok : ModelReady B) {y :
       go s p k u w true q d =
           let t : k ≡ i = q refl in
           let c : j ≡ 1 + k = omega arith in
-          let g = level-gives (level-of s j) z (sym e ∙ level-says s p j L) in
-          (ap (λ (m : ℕ). getD (store n i v) m (pos 0)) t ∙ (getD-set-same n i v (pos 0) (let b = M .long in omega (arith, within-widths B ok .1)) ∙ (ev ∙ (g .0 ∙ ap (level-of s) c))), ap (λ (m : ℕ). in-32-bits (level-of s m)) (sym c) ∙ g .1)
+          let g = level-gives (level-of s j) z (sym e ∙ level-says s p j L) in (
+            ap (λ (m : ℕ). getD (store n i v) m (pos 0)) t ∙ (getD-set-same n i v (pos 0) (let b = M .long in omega (arith, within-widths B ok .1)) ∙
+                (ev ∙ (g .0 ∙ ap (level-of s) c))),
+            ap (λ (m : ℕ). in-32-bits (level-of s m)) (sym c) ∙ g .1,
+          )
       go s p k u w false q d =
           let t = d refl in
           let m = M .each s p k (omega arith) w in
@@ -141,7 +144,9 @@ module _ (B : List ℕ) (a : ℕ) (x : Point) (r : ℕ) (ok : ModelReady B) {y :
         };
         spells = record {
           conditions-are = refl;
-          nums-are = nums-after s ∙ listed-from (level-of s) 1 (S .levels) (take levels-most n) (rw firsts (within-widths B ok .1)) (λ k u. getD-take levels-most n k (pos 0) (omega (arith, within-widths B ok .1)) ∙ M .each s p k (omega (arith, within-widths B ok .1, h)) (omega arith) .0);
+          nums-are = nums-after s ∙ listed-from (level-of s) 1 (S .levels) (take levels-most n) (rw firsts (within-widths B ok .1))
+              (λ k u. getD-take levels-most n k (pos 0) (omega (arith, within-widths B ok .1)) ∙ M .each s p k (omega (arith, within-widths B ok .1, h))
+              (omega arith) .0);
           den-is = p .den-is ∙ sym (M .last);
         };
       };

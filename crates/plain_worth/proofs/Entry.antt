@@ -106,7 +106,8 @@ module _ (B : List ℕ) (steps : ℕ) {v : CodeVerdict} (e : shown v ≡ early B
         zero-rest : T (zeros (drop m (take levels-most (a .n))))
         unfolding accepted
         zero-rest =
-            rw em (both (ltb (a .mask) (2 ^ (site-at B .conditions))) (zeros (drop (site-at B .levels) (asked a .nums))) (both (leZ (pos 1) (asked a .den)) (ltb (a .mask) (2 ^ (site-at B .conditions)) && zeros (drop (site-at B .levels) (asked a .nums))) holds .1) .1)
+            rw em (both (ltb (a .mask) (2 ^ (site-at B .conditions))) (zeros (drop (site-at B .levels) (asked a .nums)))
+            (both (leZ (pos 1) (asked a .den)) (ltb (a .mask) (2 ^ (site-at B .conditions)) && zeros (drop (site-at B .levels) (asked a .nums))) holds .1) .1)
 
         fits : Fits (site-at B) (point-of m a)
         fits = record {

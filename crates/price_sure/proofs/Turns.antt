@@ -65,7 +65,9 @@ module _ (B : List ℕ) (h : ℕ) (x : Point) (last : ℕ) (e : last ≡ site-at
             let F = worth-of (model B) h s in
             let u : is-over (tried (total-of best) (suc (a - 1)) (total-of t)) ≡ false = ap (λ (n : ℕ). is-over (tried (total-of best) n (total-of t))) one ∙ ap is-over (sym fb) ∙ f in
             let K = kept-on F (a - 1) (total-of best) (total-of other) ((I .kept) s p (or-no _ _ (sym q ∙ k))) (total-of t) (ap F one ∙ worth-is B h a x t Y s p) u in
-            let m : Kept F (a + 1 - 1) (tried (total-of best) (suc (a - 1)) (total-of t)) (rival (total-of best) (total-of other) (total-of t)) = subst (λ (n : ℕ). Kept F n (tried (total-of best) (suc (a - 1)) (total-of t)) (rival (total-of best) (total-of other) (total-of t))) (let z : suc (a - 1) ≡ a + 1 - 1 = omega (arith, I .tries .low) in z) K in
+            let m : Kept F (a + 1 - 1) (tried (total-of best) (suc (a - 1)) (total-of t)) (rival (total-of best) (total-of other) (total-of t)) = subst
+            (λ (n : ℕ). Kept F n (tried (total-of best) (suc (a - 1)) (total-of t)) (rival (total-of best) (total-of other) (total-of t)))
+            (let z : suc (a - 1) ≡ a + 1 - 1 = omega (arith, I .tries .low) in z) K in
             subst (λ (w : Worth). Kept F (a + 1 - 1) w (total-of other′)) (ap (λ (n : ℕ). tried (total-of best) n (total-of t)) one ∙ sym fb) (subst (Kept F (a + 1 - 1) (tried (total-of best) (suc (a - 1)) (total-of t))) (sym fo) m)
 
     -- all actions are counted

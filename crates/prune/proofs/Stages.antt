@@ -55,7 +55,8 @@ module _ (W W′ : List ℤ) (s : ℕ) (turns : List ℕ) where
 
 -- ---- the copy's root in the word of the stage that is sent
 
-module _ (rs : List ℕ) (s : ℕ) {W W′ : List ℤ} {turns : List ℕ} {last q : ℕ} (C : Copied W W′ (getD rs (s - 1) 0) turns last q) (a : 1 ≤ s) (l : s ≤ length rs) (some : 1 ≤ getD rs (s - 1) 0) (upto : (i : ℕ) → i < length rs → getD rs i 0 ≤ last) where
+module _ (rs : List ℕ) (s : ℕ) {W W′ : List ℤ} {turns : List ℕ} {last q : ℕ} (C : Copied W W′ (getD rs (s - 1) 0) turns last q) (a : 1 ≤ s) (l : s ≤ length rs)
+    (some : 1 ≤ getD rs (s - 1) 0) (upto : (i : ℕ) → i < length rs → getD rs i 0 ≤ last) where
   sent : stage-anew W s turns (1 + (s - 1)) (getD rs (s - 1) 0) ≡ anew W′ q
   unfolding stage-anew
   sent =

@@ -226,7 +226,8 @@ module _ (turns : List ℕ) (F : Tree) (ks : List ℤ) where
     pub no-count : (n ≡ 0 → ⊥) → (n - 1 ≡ length ks → ⊥) → 22 ≡ path-number turns F ks
     unfolding shaped
     no-count z q = shape-cases (22 ≡ path-number turns F ks)
-        (λ _ y. not-shaped (and-no (not (eqb (length turns) 0)) (fits turns F && eqb (length ks) (length (along turns F))) (and-no (fits turns F) (eqb (length ks) (length (along turns F))) (ne-eqb (length ks) (length (along turns F)) (λ k. q (omega arith))))))
+        (λ _ y. not-shaped (and-no (not (eqb (length turns) 0)) (fits turns F && eqb (length ks) (length (along turns F)))
+        (and-no (fits turns F) (eqb (length ks) (length (along turns F))) (ne-eqb (length ks) (length (along turns F)) (λ k. q (omega arith))))))
         (λ _ y. absurd (z y))
 
     module _ (t : length turns ≡ 0 → ⊥) (z : n ≡ 0 → ⊥) (q : n - 1 ≡ length ks) where

@@ -209,7 +209,8 @@ module _ {n A : ℕ} {W : List ℤ} {r : ℕ} (few : n ≤ conditions-most) (a :
   unfolding nodeAt
   none-is e z =
       let k = kind-is W r ∙ e in
-      let m = ext-getD (pos 0) (x .n) (replicate numbers (pos 0)) long (λ k h. number-is W r k (omega (arith, long)) ∙ (z (suc k) (omega (arith, long), omega (arith, long)) ∙ sym (getD-replicate numbers k (pos 0) (pos 0) (omega (arith, long))))) in
+      let m = ext-getD (pos 0) (x .n) (replicate numbers (pos 0)) long (λ k h. number-is W r k (omega (arith, long)) ∙
+      (z (suc k) (omega (arith, long), omega (arith, long)) ∙ sym (getD-replicate numbers k (pos 0) (pos 0) (omega (arith, long))))) in
       let h = z 10 (omega arith, omega arith) in
       let l = z 11 (omega arith, omega arith) in
       λ j. record { kind = k j; n = m j; high = h j; low = l j }

@@ -66,7 +66,8 @@ module _ {cap : ℕ} {l : List ℤ} {w : List ℕ} {n : ℕ} (A : Table ruleOf c
 
 -- ---- gone on with
 
-module _ {cap : ℕ} {l l₁ : List ℤ} {w w₁ : List ℕ} {n : ℕ} {op : ℕ} (ho : op ≤ 2) (f g : ℕ) {s : Sides} (o : On l n (merge (makerOf op) (leafRule op)) (makerOf op) f g s) {h : Made} (Q : RuleRan ruleOf cap l w n (ruleOf l n op (s .fh) (s .gh) 0 0) l₁ w₁ h) where
+module _ {cap : ℕ} {l l₁ : List ℤ} {w w₁ : List ℕ} {n : ℕ} {op : ℕ} (ho : op ≤ 2) (f g : ℕ) {s : Sides}
+    (o : On l n (merge (makerOf op) (leafRule op)) (makerOf op) f g s) {h : Made} (Q : RuleRan ruleOf cap l w n (ruleOf l n op (s .fh) (s .gh) 0 0) l₁ w₁ h) where
   abbrev Done : List ℤ → List ℕ → Made → Type 0
   Done = RuleRan ruleOf cap l w n (ruleOf l n op f g 0 0)
 

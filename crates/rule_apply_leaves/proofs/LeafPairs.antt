@@ -98,7 +98,8 @@ module _ {cap : ℕ} {l : List ℤ} {w : List ℕ} {n : ℕ} (A : Bare cap l w n
       pub product-stays : b ≡ true → Grew cap l w n (leaf-product (leafOf x₀) (leafOf y₀)) l w (record { stop = 0; at = g; count = n })
       product-stays t = grew-as (sym (scale-stays (constantOf x₀) y₀ (stays-is ∙ t)) ∙ by-constant) (none-there g G (stays-none (constantOf x₀) y₀ (stays-is ∙ t)))
 
-      pub product-made : b ≡ false → {y : Node} {l₁ : List ℤ} {w₁ : List ℕ} {r : Made} (s : Node) → y ≡ y₀ → Grew cap l w n (make-leaf (linOf s)) l₁ w₁ r → s ≡ productNode (R k) y → Grew cap l w n (leaf-product (leafOf x₀) (leafOf y₀)) l₁ w₁ r
+      pub product-made : b ≡ false → {y : Node} {l₁ : List ℤ} {w₁ : List ℕ} {r : Made} (s : Node) → y ≡ y₀ → Grew cap l w n (make-leaf (linOf s)) l₁ w₁ r
+          → s ≡ productNode (R k) y → Grew cap l w n (leaf-product (leafOf x₀) (leafOf y₀)) l₁ w₁ r
       product-made t s ey Q e =
           grew-as by-constant
           (grew-like (scale-run cap (constantOf x₀) y₀ (A .good .valid g (G .below)) (stays-is ∙ t) (trees l n))
@@ -180,7 +181,8 @@ module _ {cap : ℕ} {l : List ℤ} {w : List ℕ} {n : ℕ} (A : Bare cap l w n
       module _ {c : Bool} (ec : c ≡ zeros (linOf d .coeffs)) where
         pub best-constant : c ≡ true → {k : ℕ} {v : ℤ} → v ≡ constantOf d → k ≡ if (leZ (R v) (pos 0)) f g → Best l w (record { stop = 0; at = k; count = n })
         unfolding linOf
-        best-constant q {k} {v} ev e = judged (grew-as (sym (decide-constant (linOf d) (treeAt l n f) (treeAt l n g) (sym ec ∙ q))) (go (leZ (constantOf d) (pos 0)) (e ∙ ap (λ (z : ℤ). if (leZ z (pos 0)) f g) (ap R ev ∙ small-back (constantOf d) (less-nums .each levels-most)))))
+        best-constant q {k} {v} ev e = judged (grew-as (sym (decide-constant (linOf d) (treeAt l n f) (treeAt l n g) (sym ec ∙ q)))
+            (go (leZ (constantOf d) (pos 0)) (e ∙ ap (λ (z : ℤ). if (leZ z (pos 0)) f g) (ap R ev ∙ small-back (constantOf d) (less-nums .each levels-most)))))
           where
             go : (b : Bool) → k ≡ if b f g → Grew cap l w n (if b (ret (treeAt l n f)) (ret (treeAt l n g))) l w (record { stop = 0; at = k; count = n })
             go true e = subst (λ (j : ℕ). Grew cap l w n (ret (treeAt l n f)) l w (record { stop = 0; at = j; count = n })) (sym e) (grew-ret A f (F .below))

@@ -70,9 +70,15 @@ module _ {l : List ℤ} {n : ℕ} (G : Good l n) (z : Node) (vz : Tested z) (f g
     low : (b : Bool) (o : Ordering) → isLeaf (q .kind) ≡ b → orderOf z q ≡ o → Chooses l n t f g (pickBy b (eqb (ordNum o) 2) (eqb (ordNum o) 1) i)
     unfolding ordNum
     low true o eq eo = ends-go hg (e (Y g) ∙ (ap (step node t (λ _. ret (Y i)) ret) (at-leaf G g hg eq) ∙ (step-leaf node t _ _ _ ∙ (both-ret (node t) (Y i) _ ∙ ap (node t (Y i)) (sym (at-leaf G g hg eq))))))
-    low false Ordering·lt eq eo = ends-go hg (e (Y g) ∙ (ap (step node t (λ _. ret (Y i)) ret) (at-branch G g hg eq) ∙ (step-lt node t _ _ _ _ _ (sym (cmp-q eq) ∙ eo) ∙ (both-ret (node t) (Y i) _ ∙ ap (node t (Y i)) (sym (at-branch G g hg eq))))))
+    low false Ordering·lt eq eo = ends-go hg (e (Y g) ∙ (ap (step node t (λ _. ret (Y i)) ret) (at-branch G g hg eq) ∙
+        (step-lt node t _ _ _ _ _ (sym (cmp-q eq) ∙ eo) ∙ (both-ret (node t) (Y i) _ ∙ ap (node t (Y i)) (sym (at-branch G g hg eq))))))
     low false Ordering·eq eq eo = low-end eq (e (Y g) ∙ (ap (step node t (λ _. ret (Y i)) ret) (at-branch G g hg eq) ∙ (step-eq node t _ _ _ _ _ (sym (cmp-q eq) ∙ eo) ∙ both-ret (node t) (Y i) _)))
-    low false Ordering·gt eq eo = (λ b. no (sym b), λ _. right-on G f g hf hg (choose t) node eq (e (Y g) ∙ (ap (step node t (λ _. ret (Y i)) ret) (at-branch G g hg eq) ∙ (step-gt node t _ _ _ _ _ (sym (cmp-q eq) ∙ eo) ∙ ap₂ (both (node (testOf q))) (sym (e _)) (sym (e _))))))
+    low false Ordering·gt eq eo = (
+      λ b. no (sym b),
+      λ _. right-on G f g hf hg (choose t) node eq
+          (e (Y g) ∙ (ap (step node t (λ _. ret (Y i)) ret) (at-branch G g hg eq) ∙
+          (step-gt node t _ _ _ _ _ (sym (cmp-q eq) ∙ eo) ∙ ap₂ (both (node (testOf q))) (sym (e _)) (sym (e _))))),
+    )
 
     pub low-at : Chooses l n t f g (pickLow i f (downOf q) g (ordNum (orderOf z q)))
     unfolding pickLow downOf
@@ -87,10 +93,32 @@ module _ {l : List ℤ} {n : ℕ} (G : Good l n) (z : Node) (vz : Tested z) (f g
       c H = ap (λ (F : Tree). choose t F H) (at-branch G f hf ep) ∙ choose-gt t (testOf p) _ _ H (sym (cmp-p ep) ∙ ez)
 
       go : (b : Bool) (o : Ordering) → isLeaf (q .kind) ≡ b → orderOf p q ≡ o → Chooses l n t f g (splitBy false b (eqb (ordNum o) 0) (eqb (ordNum o) 1) (downOf p) f (downOf q) g)
-      go true o eq eo = (λ b. no (sym b), λ _. left-on G f g hf hg (choose t) node ep (c (Y g) ∙ (ap (step node (testOf p) (choose t (Y (natAbs (p .high)))) (choose t (Y (natAbs (p .low))))) (at-leaf G g hg eq) ∙ (step-leaf node _ _ _ _ ∙ ap (λ (H : Tree). both (node (testOf p)) (choose t (Y (natAbs (p .high))) H) (choose t (Y (natAbs (p .low))) H)) (sym (at-leaf G g hg eq))))))
-      go false Ordering·lt eq eo = (λ b. no (sym b), λ _. left-on G f g hf hg (choose t) node ep (c (Y g) ∙ (ap (step node (testOf p) (choose t (Y (natAbs (p .high)))) (choose t (Y (natAbs (p .low))))) (at-branch G g hg eq) ∙ (step-lt node _ _ _ _ _ _ (sym (cmp-pq ep eq) ∙ eo) ∙ ap (λ (H : Tree). both (node (testOf p)) (choose t (Y (natAbs (p .high))) H) (choose t (Y (natAbs (p .low))) H)) (sym (at-branch G g hg eq))))))
-      go false Ordering·eq eq eo = (λ b. no (sym b), λ _. both-on G f g hf hg (choose t) node ep eq (c (Y g) ∙ (ap (step node (testOf p) (choose t (Y (natAbs (p .high)))) (choose t (Y (natAbs (p .low))))) (at-branch G g hg eq) ∙ step-eq node _ _ _ _ _ _ (sym (cmp-pq ep eq) ∙ eo))))
-      go false Ordering·gt eq eo = (λ b. no (sym b), λ _. right-on G f g hf hg (choose t) node eq (c (Y g) ∙ (ap (step node (testOf p) (choose t (Y (natAbs (p .high)))) (choose t (Y (natAbs (p .low))))) (at-branch G g hg eq) ∙ (step-gt node _ _ _ _ _ _ (sym (cmp-pq ep eq) ∙ eo) ∙ ap₂ (both (node (testOf q))) (sym (c _)) (sym (c _))))))
+      go true o eq eo = (
+        λ b. no (sym b),
+        λ _. left-on G f g hf hg (choose t) node ep
+            (c (Y g) ∙ (ap (step node (testOf p) (choose t (Y (natAbs (p .high)))) (choose t (Y (natAbs (p .low))))) (at-leaf G g hg eq) ∙
+            (step-leaf node _ _ _ _ ∙ ap (λ (H : Tree). both (node (testOf p)) (choose t (Y (natAbs (p .high))) H) (choose t (Y (natAbs (p .low))) H))
+            (sym (at-leaf G g hg eq))))),
+      )
+      go false Ordering·lt eq eo = (
+        λ b. no (sym b),
+        λ _. left-on G f g hf hg (choose t) node ep
+            (c (Y g) ∙ (ap (step node (testOf p) (choose t (Y (natAbs (p .high)))) (choose t (Y (natAbs (p .low))))) (at-branch G g hg eq) ∙
+            (step-lt node _ _ _ _ _ _ (sym (cmp-pq ep eq) ∙ eo) ∙ ap (λ (H : Tree). both (node (testOf p)) (choose t (Y (natAbs (p .high))) H)
+            (choose t (Y (natAbs (p .low))) H)) (sym (at-branch G g hg eq))))),
+      )
+      go false Ordering·eq eq eo = (
+        λ b. no (sym b),
+        λ _. both-on G f g hf hg (choose t) node ep eq
+            (c (Y g) ∙ (ap (step node (testOf p) (choose t (Y (natAbs (p .high)))) (choose t (Y (natAbs (p .low))))) (at-branch G g hg eq) ∙ step-eq node _ _ _ _ _ _
+            (sym (cmp-pq ep eq) ∙ eo))),
+      )
+      go false Ordering·gt eq eo = (
+        λ b. no (sym b),
+        λ _. right-on G f g hf hg (choose t) node eq
+            (c (Y g) ∙ (ap (step node (testOf p) (choose t (Y (natAbs (p .high)))) (choose t (Y (natAbs (p .low))))) (at-branch G g hg eq) ∙
+            (step-gt node _ _ _ _ _ _ (sym (cmp-pq ep eq) ∙ eo) ∙ ap₂ (both (node (testOf q))) (sym (c _)) (sym (c _))))),
+      )
 
   high-at : isLeaf (p .kind) ≡ false → ((H : Tree) → choose t (Y f) H ≡ step node t (λ _. ret (Y (natAbs (p .high)))) ret H) → Chooses l n t f g (pickLow (downOf p .high) f (downOf q) g (ordNum (orderOf z q)))
   unfolding downOf
@@ -98,10 +126,12 @@ module _ {l : List ℤ} {n : ℕ} (G : Good l n) (z : Node) (vz : Tested z) (f g
 
   after-all : isLeaf (p .kind) ≡ false → orderOf z p ≡ Ordering·gt → Chooses l n t f g (splitOf (downOf p) f (downOf q) g (ordNum (orderOf p q)))
   unfolding downOf
-  after-all ep eo = subst (Chooses l n t f g) (split-as (downOf p) f (downOf q) g (ordNum (orderOf p q)) false (isLeaf (q .kind)) (eqb (ordNum (orderOf p q)) 0) (eqb (ordNum (orderOf p q)) 1) ep refl refl refl) (after-go (isLeaf (q .kind)) (orderOf p q) ep eo refl refl)
+  after-all ep eo = subst (Chooses l n t f g) (split-as (downOf p) f (downOf q) g (ordNum (orderOf p q)) false (isLeaf (q .kind)) (eqb (ordNum (orderOf p q)) 0)
+      (eqb (ordNum (orderOf p q)) 1) ep refl refl refl) (after-go (isLeaf (q .kind)) (orderOf p q) ep eo refl refl)
 
   abbrev pickAll : Bool → Bool → Bool → Sides
-  pickAll b c d = if b (pickLow f f (downOf q) g (ordNum (orderOf z q))) (if c (splitOf (downOf p) f (downOf q) g (ordNum (orderOf p q))) (if d (pickLow (downOf p .high) f (downOf q) g (ordNum (orderOf z q))) (pickLow f f (downOf q) g (ordNum (orderOf z q)))))
+  pickAll b c d = if b (pickLow f f (downOf q) g (ordNum (orderOf z q))) (if c (splitOf (downOf p) f (downOf q) g (ordNum (orderOf p q)))
+      (if d (pickLow (downOf p .high) f (downOf q) g (ordNum (orderOf z q))) (pickLow f f (downOf q) g (ordNum (orderOf z q)))))
 
   all : (b : Bool) (o : Ordering) → isLeaf (p .kind) ≡ b → orderOf z p ≡ o → Chooses l n t f g (pickAll b (eqb (ordNum o) 2) (eqb (ordNum o) 1))
   unfolding ordNum

@@ -34,11 +34,13 @@ module _ {R : Rule} {cap : ℕ} {l : List ℤ} {w : List ℕ} {n : ℕ} (A : Tab
   choice-goes {z} e d = chooses-as (A .bare .good) z (test-proper (A .bare .good) N e .tested) (test-is (A .bare .good) N e) f g hf hg d
 
   -- the test is first
-  pub choice-ends : {z : Node} {s : Sides} {l₁ : List ℤ} {w₁ : List ℕ} {r : Made} → Here l n (testBy l n op p) f g s → z ≡ testNode l op p → Grew cap l w n (node (testOf z) (treeAt l n (s .fh)) (treeAt l n (s .gl))) l₁ w₁ r → RuleRan R cap l w n (choose (testBy l n op p) (treeAt l n f) (treeAt l n g)) l₁ w₁ r
+  pub choice-ends : {z : Node} {s : Sides} {l₁ : List ℤ} {w₁ : List ℕ} {r : Made} → Here l n (testBy l n op p) f g s → z ≡ testNode l op p → Grew cap l w n
+      (node (testOf z) (treeAt l n (s .fh)) (treeAt l n (s .gl))) l₁ w₁ r → RuleRan R cap l w n (choose (testBy l n op p) (treeAt l n f) (treeAt l n g)) l₁ w₁ r
   choice-ends {s = s} o e Q = ran-as (sym (o .is)) (lifted A (grew-as (ap (λ (t : Test). node t (treeAt l n (s .fh)) (treeAt l n (s .gl))) (test-is (A .bare .good) N e)) Q))
 
 -- the choice at a table that has grown
-pub choice-kept : {R : Rule} {cap : ℕ} {l l₁ l₂ : List ℤ} {w₁ w₂ : List ℕ} {n n₁ : ℕ} {op p : ℕ} (D : Grown l n l₁ n₁) (N : Names n op p) (F G : Tree) {r : Made} → RuleRan R cap l₁ w₁ n₁ (choose (testBy l₁ n₁ op p) F G) l₂ w₂ r → RuleRan R cap l₁ w₁ n₁ (choose (testBy l n op p) F G) l₂ w₂ r
+pub choice-kept : {R : Rule} {cap : ℕ} {l l₁ l₂ : List ℤ} {w₁ w₂ : List ℕ} {n n₁ : ℕ} {op p : ℕ} (D : Grown l n l₁ n₁) (N : Names n op p) (F G : Tree) {r : Made}
+    → RuleRan R cap l₁ w₁ n₁ (choose (testBy l₁ n₁ op p) F G) l₂ w₂ r → RuleRan R cap l₁ w₁ n₁ (choose (testBy l n op p) F G) l₂ w₂ r
 choice-kept D N F G Q = ran-as (ap (λ (t : Test). choose t F G) (test-kept D N)) Q
 
 module _ {cap : ℕ} {l : List ℤ} {w : List ℕ} {n : ℕ} (A : Table ruleOf cap l w n) {op p : ℕ} (N : Names n op p) (f g : ℕ) (hf : f < n) (hg : g < n) where
@@ -47,7 +49,8 @@ module _ {cap : ℕ} {l : List ℤ} {w : List ℕ} {n : ℕ} (A : Table ruleOf c
   choice-answered k E = ran-as (rule-choose l n f g p 0 op N) (answered A op f g p 0 k E)
 
   -- a result is kept
-  pub choice-stored : {l′ : List ℤ} {w′ w″ : List ℕ} {r : Made} → RuleRan ruleOf cap l w n (choose (testBy l n op p) (treeAt l n f) (treeAt l n g)) l′ w′ r → r .stop ≡ 0 → w″ ≡ storeOf w′ (slotOf cap op f g p 0) op f g p 0 (r .at) → RuleRan ruleOf cap l w n (choose (testBy l n op p) (treeAt l n f) (treeAt l n g)) l′ w″ r
+  pub choice-stored : {l′ : List ℤ} {w′ w″ : List ℕ} {r : Made} → RuleRan ruleOf cap l w n (choose (testBy l n op p) (treeAt l n f) (treeAt l n g)) l′ w′ r → r .stop ≡ 0
+      → w″ ≡ storeOf w′ (slotOf cap op f g p 0) op f g p 0 (r .at) → RuleRan ruleOf cap l w n (choose (testBy l n op p) (treeAt l n f) (treeAt l n g)) l′ w″ r
   choice-stored Q ok e =
       let q = rule-choose l n f g p 0 op N in
       ran-as q (kept-run (lasts-choose l n f hf g hg op p 0 N) (ran-as (sym q) Q) ok e)

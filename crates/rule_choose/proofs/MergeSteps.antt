@@ -51,26 +51,35 @@ module _ {l : List ℤ} {n : ℕ} (G : Good l n) (f g : ℕ) (hf : f < n) (hg : 
       (λ t. record { left = ex; right = ey; is = ap₂ (merge mk op) (at-leaf G f hf ex) (at-leaf G g hg ey) ∙ merge-ll mk op _ _ }, λ t. no t)
   go true false o ex ey eo = (
     λ t. no (sym t),
-    λ t. right-on G f g hf hg (merge mk op) mk ey (ap₂ (merge mk op) (at-leaf G f hf ex) (at-branch G g hg ey) ∙ (merge-ln mk op _ _ _ _ ∙ ap (λ (z : Tree). both (mk (testOf y)) (merge mk op z (X (natAbs (y .high)))) (merge mk op z (X (natAbs (y .low))))) (sym (at-leaf G f hf ex)))),
+    λ t. right-on G f g hf hg (merge mk op) mk ey (ap₂ (merge mk op) (at-leaf G f hf ex) (at-branch G g hg ey) ∙
+        (merge-ln mk op _ _ _ _ ∙ ap (λ (z : Tree). both (mk (testOf y)) (merge mk op z (X (natAbs (y .high)))) (merge mk op z (X (natAbs (y .low)))))
+        (sym (at-leaf G f hf ex)))),
   )
   go false true o ex ey eo = (
     λ t. no (sym t),
-    λ t. left-on G f g hf hg (merge mk op) mk ex (ap₂ (merge mk op) (at-branch G f hf ex) (at-leaf G g hg ey) ∙ (merge-nl mk op _ _ _ _ ∙ ap (λ (z : Tree). both (mk (testOf x)) (merge mk op (X (natAbs (x .high))) z) (merge mk op (X (natAbs (x .low))) z)) (sym (at-leaf G g hg ey)))),
+    λ t. left-on G f g hf hg (merge mk op) mk ex (ap₂ (merge mk op) (at-branch G f hf ex) (at-leaf G g hg ey) ∙
+        (merge-nl mk op _ _ _ _ ∙ ap (λ (z : Tree). both (mk (testOf x)) (merge mk op (X (natAbs (x .high))) z) (merge mk op (X (natAbs (x .low))) z))
+        (sym (at-leaf G g hg ey)))),
   )
   go false false Ordering·lt ex ey eo = (
     λ t. no (sym t),
-    λ t. left-on G f g hf hg (merge mk op) mk ex (ap₂ (merge mk op) (at-branch G f hf ex) (at-branch G g hg ey) ∙ (merge-lt mk op _ _ _ _ _ _ (sym (order-at ex ey) ∙ eo) ∙ ap (λ (z : Tree). both (mk (testOf x)) (merge mk op (X (natAbs (x .high))) z) (merge mk op (X (natAbs (x .low))) z)) (sym (at-branch G g hg ey)))),
+    λ t. left-on G f g hf hg (merge mk op) mk ex (ap₂ (merge mk op) (at-branch G f hf ex) (at-branch G g hg ey) ∙
+        (merge-lt mk op _ _ _ _ _ _ (sym (order-at ex ey) ∙ eo) ∙ ap (λ (z : Tree). both (mk (testOf x)) (merge mk op (X (natAbs (x .high))) z)
+        (merge mk op (X (natAbs (x .low))) z)) (sym (at-branch G g hg ey)))),
   )
   go false false Ordering·eq ex ey eo =
       (λ t. no (sym t), λ t. both-on G f g hf hg (merge mk op) mk ex ey (ap₂ (merge mk op) (at-branch G f hf ex) (at-branch G g hg ey) ∙ merge-eq mk op _ _ _ _ _ _ (sym (order-at ex ey) ∙ eo)))
   go false false Ordering·gt ex ey eo = (
     λ t. no (sym t),
-    λ t. right-on G f g hf hg (merge mk op) mk ey (ap₂ (merge mk op) (at-branch G f hf ex) (at-branch G g hg ey) ∙ (merge-gt mk op _ _ _ _ _ _ (sym (order-at ex ey) ∙ eo) ∙ ap (λ (z : Tree). both (mk (testOf y)) (merge mk op z (X (natAbs (y .high)))) (merge mk op z (X (natAbs (y .low))))) (sym (at-branch G f hf ex)))),
+    λ t. right-on G f g hf hg (merge mk op) mk ey (ap₂ (merge mk op) (at-branch G f hf ex) (at-branch G g hg ey) ∙
+        (merge-gt mk op _ _ _ _ _ _ (sym (order-at ex ey) ∙ eo) ∙ ap (λ (z : Tree). both (mk (testOf y)) (merge mk op z (X (natAbs (y .high))))
+        (merge mk op z (X (natAbs (y .low))))) (sym (at-branch G f hf ex)))),
   )
 
   pub goes : Goes l n mk op f g (sidesOf x f y g)
   unfolding sidesOf downOf
-  goes = subst (Goes l n mk op f g) (split-as (downOf x) f (downOf y) g (ordNum (orderOf x y)) (isLeaf (x .kind)) (isLeaf (y .kind)) (eqb (ordNum (orderOf x y)) 0) (eqb (ordNum (orderOf x y)) 1) refl refl refl refl) (go (isLeaf (x .kind)) (isLeaf (y .kind)) (orderOf x y) refl refl refl)
+  goes = subst (Goes l n mk op f g) (split-as (downOf x) f (downOf y) g (ordNum (orderOf x y)) (isLeaf (x .kind)) (isLeaf (y .kind)) (eqb (ordNum (orderOf x y)) 0)
+      (eqb (ordNum (orderOf x y)) 1) refl refl refl refl) (go (isLeaf (x .kind)) (isLeaf (y .kind)) (orderOf x y) refl refl refl)
 
 -- with the sides that the code has
 pub goes-as : {l : List ℤ} {n : ℕ} (G : Good l n) (mk : Test → Tree → Tree → Comp Tree) (op : Leaf → Leaf → Comp Tree) (f g : ℕ) → f < n → g < n → {s : Sides} → s ≡ sidesOf (nodeAt l f) f (nodeAt l g) g → Goes l n mk op f g s

@@ -14,7 +14,8 @@ pub sides-as : {x y x′ y′ : Node} (f g : ℕ) {o : ℕ} {p q : Down} {r : Si
 unfolding sidesOf
 sides-as f g ex ey ep eq eo er = cc
 
-pub choice-as : {x y x′ y′ : Node} (z : Node) (f g : ℕ) {a b o : ℕ} {p q : Down} {r : Sides} → x ≡ x′ → y ≡ y′ → p ≡ downOf x → q ≡ downOf y → a ≡ ordNum (orderOf z x) → b ≡ ordNum (orderOf z y) → o ≡ ordNum (orderOf x y) → r ≡ pickOf p f q g a b o → r ≡ choiceOf z x′ f y′ g
+pub choice-as : {x y x′ y′ : Node} (z : Node) (f g : ℕ) {a b o : ℕ} {p q : Down} {r : Sides} → x ≡ x′ → y ≡ y′ → p ≡ downOf x → q ≡ downOf y → a ≡ ordNum (orderOf z x)
+    → b ≡ ordNum (orderOf z y) → o ≡ ordNum (orderOf x y) → r ≡ pickOf p f q g a b o → r ≡ choiceOf z x′ f y′ g
 unfolding choiceOf
 choice-as z f g ex ey ep eq ea eb eo er = cc
 

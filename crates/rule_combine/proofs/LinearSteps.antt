@@ -189,7 +189,9 @@ module _ {cap : ℕ} {l : List ℤ} {w : List ℕ} {n : ℕ} (A : Table ruleOf c
       pub levels-ask : Table ruleOf cap l₁ w₁ (s .count) × (i < s .count) × (s .at < s .count) × Levels (s .count) L
       levels-ask = (P .table, lt-of-lt-of-le hi (P .more), P .within ok, levels-more B (P .more))
 
-      pub levels-made : {l₂ : List ℤ} {w₂ : List ℕ} {r : Made} → RuleRan ruleOf cap l₁ w₁ (s .count) (sum-on (treeAt l₁ (s .count) (s .at)) (drop 1 (linOf (nodeAt l₁ i) .coeffs)) (drop 1 (levelsAt l₁ (s .count) L))) l₂ w₂ r → RuleRan ruleOf cap l w n (levels-sum (coeffs l i) Ds) l₂ w₂ r
+      pub levels-made : {l₂ : List ℤ} {w₂ : List ℕ} {r : Made} → RuleRan ruleOf cap l₁ w₁ (s .count)
+          (sum-on (treeAt l₁ (s .count) (s .at)) (drop 1 (linOf (nodeAt l₁ i) .coeffs)) (drop 1 (levelsAt l₁ (s .count) L))) l₂ w₂ r → RuleRan ruleOf cap l w n
+          (levels-sum (coeffs l i) Ds) l₂ w₂ r
       levels-made U = ran-as total (seq (Left (coeffs l i) Ds 1) first ok
           (ran-as (ap₂ (λ (x : Node) (X : List Tree). sum-on (treeAt l₁ (s .count) (s .at)) (drop 1 (linOf x .coeffs)) (drop 1 X)) (P .kept i hi) (levels-kept B (grown P))) U))
 

@@ -93,7 +93,9 @@ module _ {R : Rule} {cap : ℕ} {l l₁ : List ℤ} {w w₁ : List ℕ} {n : ℕ
       low-stops off = seq _ Q ok (both-low-stops (mk (treeAt l₁ (p .count) (p .at))) m₂ S ok₁ U off)
 
       all-made : k .stop ≡ 0 → {l₄ : List ℤ} {w₄ : List ℕ} {r : Made} → RuleRan R cap l₃ w₃ (k .count) (mk (treeAt l₃ (k .count) (p .at)) (treeAt l₃ (k .count) (h .at)) (treeAt l₃ (k .count) (k .at))) l₄ w₄ r → All l₄ w₄ r
-      all-made ok₂ P = seq _ Q ok (both-made (mk (treeAt l₁ (p .count) (p .at))) m₂ S ok₁ U ok₂ (ran-as (ap (λ (z : Tree). mk z (treeAt l₃ (k .count) (h .at)) (treeAt l₃ (k .count) (k .at))) (trees-kept (grown-on (grown S) (grown U)) (p .at) (Q .within ok))) P))
+      all-made ok₂ P = seq _ Q ok (both-made (mk (treeAt l₁ (p .count) (p .at))) m₂ S ok₁ U ok₂
+          (ran-as (ap (λ (z : Tree). mk z (treeAt l₃ (k .count) (h .at)) (treeAt l₃ (k .count) (k .at)))
+          (trees-kept (grown-on (grown S) (grown U)) (p .at) (Q .within ok))) P))
 
 -- ---- on the table
 
@@ -217,7 +219,8 @@ module _ {cap : ℕ} {l : List ℤ} {w : List ℕ} {n : ℕ} (A : Table ruleOf c
               pub over-asks : t .stop ≡ 0 → Table ruleOf cap l₃ w₃ (t .count) × (k ≤ conditions-most) × (p .at < t .count) × (h .at < t .count) × (t .at < t .count)
               over-asks ok₂ = (U .table, sub-most, (let a = Q .within ok in let b = S .more in let c = U .more in omega arith), lt-of-lt-of-le (S .within ok₁) (U .more), U .within ok₂)
 
-              pub sub-made : t .stop ≡ 0 → {l₄ : List ℤ} {w₄ : List ℕ} {r : Made} → RuleRan ruleOf cap l₃ w₃ (t .count) (overTest k (treeAt l₃ (t .count) (p .at)) (treeAt l₃ (t .count) (h .at)) (treeAt l₃ (t .count) (t .at))) l₄ w₄ r → Done l₄ w₄ r
+              pub sub-made : t .stop ≡ 0 → {l₄ : List ℤ} {w₄ : List ℕ} {r : Made} → RuleRan ruleOf cap l₃ w₃ (t .count)
+                  (overTest k (treeAt l₃ (t .count) (p .at)) (treeAt l₃ (t .count) (h .at)) (treeAt l₃ (t .count) (t .at))) l₄ w₄ r → Done l₄ w₄ r
               sub-made ok₂ P = ran-as sub-is (all-made _ _ (overTest k) Q ok S ok₁ U ok₂ P)
 
 -- ---- the parts of a branch

@@ -97,4 +97,6 @@ module _ {cap : ℕ} {l : List ℤ} {w : List ℕ} {n : ℕ} (A : Table ruleOf c
             sum-asks = (U .table, omega arith, (let a = Q .within ok in let x = S .more in let y = U .more in omega arith), U .within ok₂)
 
             pub expected : {l₄ : List ℤ} {w₄ : List ℕ} {r : Made} → RuleRan ruleOf cap l₃ w₃ (q .count) (ruleOf l₃ (q .count) 0 (p .at) (q .at) 0 0) l₄ w₄ r → Expected l₄ w₄ r
-            expected P = ran-as whole-is (seq _ Q ok (seq _ S ok₁ (seq _ U ok₂ (ran-as (rule-sum l₃ (q .count) (p .at) (q .at) 0 0 ∙ ap (λ (z : Tree). sum z (treeAt l₃ (q .count) (q .at))) (trees-kept (grown-on (grown S) (grown U)) (p .at) (Q .within ok))) P))))
+            expected P = ran-as whole-is (seq _ Q ok (seq _ S ok₁ (seq _ U ok₂ (ran-as
+                (rule-sum l₃ (q .count) (p .at) (q .at) 0 0 ∙ ap (λ (z : Tree). sum z (treeAt l₃ (q .count) (q .at)))
+                (trees-kept (grown-on (grown S) (grown U)) (p .at) (Q .within ok))) P))))

@@ -54,7 +54,24 @@ module _ {cap : ℕ} {s : List ℤ} {w : List ℕ} {n : ℕ} (A : Bare cap s w n
 
   valid-over : Valid (over-node t (pos h) (pos k)) n
   unfolding over-node
-  valid-over = record { nums = P .nums; high-nat = tt; low-nat = tt; none = λ e. branch-not (t .kind) (P .branches) e; leaf-low = λ e. no (sym e ∙ P .branches); tested = λ e. record { kind = P .tested .kind; long = P .tested .long; number = P .tested .number; bounds = P .tested .bounds; rest = P .tested .rest }; high-below = λ e. hh; low-below = λ e. hk }
+  valid-over = record {
+    nums = P .nums;
+    high-nat = tt;
+    low-nat = tt;
+    none = λ e. branch-not (t .kind) (P .branches) e;
+    leaf-low = λ e. no
+        (sym e ∙ P .branches);
+    tested = λ e. record {
+      kind = P .tested .kind;
+      long = P .tested .long;
+      number = P .tested .number;
+      bounds = P .tested .bounds;
+      rest =
+          P .tested .rest;
+    };
+    high-below = λ e. hh;
+    low-below = λ e. hk;
+  }
 
   module _ (f : mag (t .kind) < 2 ^ 63) (e : h ≡ k → ⊥) where
     abbrev x′ : Node

@@ -26,7 +26,8 @@ pub room-in : {R : Rule} {cap : ℕ} {l : List ℤ} {w : List ℕ} {n : ℕ} →
 room-in A = let C = A .bare .chained in record { some = C .space .some; few = C .space .few; works = C .space .works }
 
 -- an entry answers what its words mean
-pub answered : {R : Rule} {cap : ℕ} {l : List ℤ} {w : List ℕ} {n : ℕ} → Table R cap l w n → (op f g p q k : ℕ) → Entry w (slotOf cap op f g p q) op f g p q k → RuleRan R cap l w n (R l n op f g p q) l w (record { stop = 0; at = k; count = n })
+pub answered : {R : Rule} {cap : ℕ} {l : List ℤ} {w : List ℕ} {n : ℕ} → Table R cap l w n → (op f g p q k : ℕ) → Entry w (slotOf cap op f g p q) op f g p q k
+    → RuleRan R cap l w n (R l n op f g p q) l w (record { stop = 0; at = k; count = n })
 unfolding outOf
 answered {cap = cap} {l} {w} {n} A op f g p q k E =
     let s = slot-at cap op f g p q (A .bare .chained .space .some) in
@@ -122,7 +123,8 @@ there {l} {l′} {n} {n′} G u e =
     member-in blank u (trees l′ n′) (p .0) (omega arith) (trees-kept G (p .0) (omega arith) ∙ p .2)
 
 -- what a run left stands, where the meaning lasts
-pub stands-new : {R : Rule} {cap : ℕ} {l l′ : List ℤ} {w w′ : List ℕ} {n op f g p q : ℕ} {r : Made} → Lasting R l n op f g p q → RuleRan R cap l w n (R l n op f g p q) l′ w′ r → r .stop ≡ 0 → ResultStands R cap l′ (r .count) op f g p q (r .at)
+pub stands-new : {R : Rule} {cap : ℕ} {l l′ : List ℤ} {w w′ : List ℕ} {n op f g p q : ℕ} {r : Made} → Lasting R l n op f g p q → RuleRan R cap l w n
+    (R l n op f g p q) l′ w′ r → r .stop ≡ 0 → ResultStands R cap l′ (r .count) op f g p q (r .at)
 stands-new {R} {cap} {l} {l′} {n = n} {op} {f} {g} {p} {q} {r} L Q ok = record {
   result = Q .within ok;
   again = λ l″ n″ H.
@@ -132,7 +134,8 @@ stands-new {R} {cap} {l} {l′} {n = n} {op} {f} {g} {p} {q} {r} L Q ok = record
 }
 
 -- kept after a run
-pub kept-run : {R : Rule} {cap : ℕ} {l l′ : List ℤ} {w w′ w″ : List ℕ} {n op f g p q : ℕ} {r : Made} → Lasting R l n op f g p q → RuleRan R cap l w n (R l n op f g p q) l′ w′ r → r .stop ≡ 0 → w″ ≡ storeOf w′ (slotOf cap op f g p q) op f g p q (r .at) → RuleRan R cap l w n (R l n op f g p q) l′ w″ r
+pub kept-run : {R : Rule} {cap : ℕ} {l l′ : List ℤ} {w w′ w″ : List ℕ} {n op f g p q : ℕ} {r : Made} → Lasting R l n op f g p q → RuleRan R cap l w n
+    (R l n op f g p q) l′ w′ r → r .stop ≡ 0 → w″ ≡ storeOf w′ (slotOf cap op f g p q) op f g p q (r .at) → RuleRan R cap l w n (R l n op f g p q) l′ w″ r
 kept-run {R} {cap} {l} {l′} {n = n} {op} {f} {g} {p} {q} {r} L Q ok e = record {
   ran = Q .ran;
   table = subst (λ (z : List ℕ). Table R cap l′ z (r .count)) (sym e) (stored (Q .table) op f g p q (r .at) (stands-new L Q ok));

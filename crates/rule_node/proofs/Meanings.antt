@@ -170,7 +170,14 @@ unfolding linearNode eqZ
 proper-linear l s = record {
   branches = test-as refl;
   nums = s;
-  tested = record { kind = λ _. refl; long = s .long; number = λ e. absurd (let z : _≡_ {A = ℕ} 0 1 = cc in omega arith); bounds = λ e. absurd (let z : _≡_ {A = ℕ} 0 1 = cc in omega arith); rest = λ e. absurd (let z : _≡_ {A = ℕ} 0 1 = cc in omega arith) };
+  tested = record {
+    kind = λ _. refl;
+    long = s .long;
+    number = λ e. absurd (let z : _≡_ {A = ℕ} 0 1 = cc in omega arith);
+    bounds = λ e. absurd
+        (let z : _≡_ {A = ℕ} 0 1 = cc in omega arith);
+    rest = λ e. absurd (let z : _≡_ {A = ℕ} 0 1 = cc in omega arith);
+  };
 }
 
 -- a leaf's linear divided is the test that it names
@@ -210,7 +217,8 @@ stood-named {l} {n} D p h = go (isLeaf (nodeAt l p .kind)) refl
 stood : {l : List ℤ} {n op p : ℕ} → Good l n → Names n op p → Stood (testBy l n op p) (testNode l op p)
 stood {l} {n} {op} {p} D = ⊎-elim
     (λ e. subst (λ (k : ℕ). Stood (testBy l n k p) (testNode l k p)) (sym (e .0)) (subst (Stood (testBy l n 10 p)) (sym (node-10 l p)) (subst (λ (t : Test). Stood t (laterNode p)) (sym (test-10 l n p)) (stood-later p (e .1) (e .2)))))
-    (λ e. subst (λ (k : ℕ). Stood (testBy l n k p) (testNode l k p)) (sym (e .0)) (subst (Stood (testBy l n 11 p)) (sym (node-11 l p)) (subst (λ (t : Test). Stood t (namedNode (nodeAt l p))) (sym (test-11 l n p)) (stood-named D p (e .1)))))
+    (λ e. subst (λ (k : ℕ). Stood (testBy l n k p) (testNode l k p)) (sym (e .0))
+    (subst (Stood (testBy l n 11 p)) (sym (node-11 l p)) (subst (λ (t : Test). Stood t (namedNode (nodeAt l p))) (sym (test-11 l n p)) (stood-named D p (e .1)))))
 
 -- the test's words can be put over branches, and are its words
 pub test-proper : {l : List ℤ} {n op p : ℕ} {z : Node} → Good l n → Names n op p → z ≡ testNode l op p → Proper z

@@ -78,7 +78,8 @@ stop {cap = cap} {l} {l₁} {n = n} {m} k {r} S off = record {
 }
 
 -- the second part ran after the first
-pub seq : {R : Rule} {cap : ℕ} {l l₁ l₂ : List ℤ} {w w₁ w₂ : List ℕ} {n : ℕ} {m : Comp Tree} (k : Tree → Comp Tree) {r s : Made} → RuleRan R cap l w n m l₁ w₁ r → r .stop ≡ 0 → RuleRan R cap l₁ w₁ (r .count) (k (treeAt l₁ (r .count) (r .at))) l₂ w₂ s → RuleRan R cap l w n (bind m k) l₂ w₂ s
+pub seq : {R : Rule} {cap : ℕ} {l l₁ l₂ : List ℤ} {w w₁ w₂ : List ℕ} {n : ℕ} {m : Comp Tree} (k : Tree → Comp Tree) {r s : Made} → RuleRan R cap l w n m l₁ w₁ r
+    → r .stop ≡ 0 → RuleRan R cap l₁ w₁ (r .count) (k (treeAt l₁ (r .count) (r .at))) l₂ w₂ s → RuleRan R cap l w n (bind m k) l₂ w₂ s
 unfolding after
 seq {cap = cap} {l} {l₁} {n = n} {m} k {r} {s} Q ok S = record {
   ran = S .ran ∙ sym (run-bind cap m k (trees l n) ∙ ap (λ (o : Out Tree). after o (λ t Y. run cap (k t) Y)) (sym (Q .ran) ∙ out-ok r (trees l₁ (r .count)) ok));

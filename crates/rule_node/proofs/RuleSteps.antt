@@ -33,7 +33,8 @@ pub key-of : {op f g p q : ℕ} → op < 65536 → f < 65536 → g < 65536 → p
 key-of a b c d e = record { op-fits = omega arith; f-fits = omega arith; g-fits = omega arith; p-fits = omega arith; q-fits = omega arith }
 
 -- the rule m at f and g went on with their high sides, and then with their low sides
-module _ {R : Rule} (cap : ℕ) (l l₁ : List ℤ) (w w₁ : List ℕ) (n f g : ℕ) (m : Tree → Tree → Comp Tree) (mk : Test → Tree → Tree → Comp Tree) (s : Sides) (o : On l n m mk f g s) (h : Made) (Q : RuleRan R cap l w n (m (treeAt l n (s .fh)) (treeAt l n (s .gh))) l₁ w₁ h) where
+module _ {R : Rule} (cap : ℕ) (l l₁ : List ℤ) (w w₁ : List ℕ) (n f g : ℕ) (m : Tree → Tree → Comp Tree) (mk : Test → Tree → Tree → Comp Tree) (s : Sides)
+    (o : On l n m mk f g s) (h : Made) (Q : RuleRan R cap l w n (m (treeAt l n (s .fh)) (treeAt l n (s .gh))) l₁ w₁ h) where
   pub high-stops : (h .stop ≡ 0 → ⊥) → RuleRan R cap l w n (m (treeAt l n f) (treeAt l n g)) l₁ w₁ h
   high-stops off = ran-as (sym (o .is)) (both-high-stops _ _ Q off)
 
@@ -52,7 +53,9 @@ module _ {R : Rule} (cap : ℕ) (l l₁ : List ℤ) (w w₁ : List ℕ) (n f g :
     high-in = both-high-in (mk (testOf (nodeAt l (s .root)))) _ Q ok low
 
     -- and with what is made of the two
-    pub joined : k .stop ≡ 0 → (l₃ : List ℤ) (w₃ : List ℕ) (r : Made) → RuleRan R cap l₂ w₂ (k .count) (mk (testOf (nodeAt l₂ (s .root))) (treeAt l₂ (k .count) (h .at)) (treeAt l₂ (k .count) (k .at))) l₃ w₃ r → RuleRan R cap l w n (m (treeAt l n f) (treeAt l n g)) l₃ w₃ r
+    pub joined : k .stop ≡ 0 → (l₃ : List ℤ) (w₃ : List ℕ) (r : Made) → RuleRan R cap l₂ w₂ (k .count)
+        (mk (testOf (nodeAt l₂ (s .root))) (treeAt l₂ (k .count) (h .at)) (treeAt l₂ (k .count) (k .at))) l₃ w₃ r → RuleRan R cap l w n
+        (m (treeAt l n f) (treeAt l n g)) l₃ w₃ r
     joined ok′ l₃ w₃ r P =
         ran-as (sym (o .is)) (both-made _ _ Q ok low ok′
         (ran-as (ap (λ (x : Node). mk (testOf x) (treeAt l₂ (k .count) (h .at)) (treeAt l₂ (k .count) (k .at))) (S .kept (s .root) (lt-of-lt-of-le (o .root) (Q .more)) ∙ Q .kept (s .root) (o .root))) P))

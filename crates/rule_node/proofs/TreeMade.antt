@@ -29,7 +29,9 @@ use Rattle.rule_node.proofs.Outcomes.{grew-like, grew-ret}
 -- a tree that is there is not made again
 pub grew-there : {cap : ℕ} {l : List ℤ} {w : List ℕ} {n : ℕ} → Bare cap l w n → (h : ℕ) → h < n → Grew cap l w n (make (treeAt l n h)) l w (record { stop = 0; at = h; count = n })
 unfolding run make
-grew-there {cap} {l} {n = n} A h q = grew-like (sym (ap (λ (b : Bool). if b (done (treeAt l n h) (trees l n)) (if (ltb (length (trees l n)) cap) (done (treeAt l n h) (trees l n ++ (treeAt l n h ∷ []))) (stopped 12))) (member-in blank (treeAt l n h) (trees l n) h (let e = trees-length l n in omega arith) refl))) (grew-ret A h q)
+grew-there {cap} {l} {n = n} A h q = grew-like (sym (ap (λ (b : Bool). if b (done (treeAt l n h) (trees l n))
+    (if (ltb (length (trees l n)) cap) (done (treeAt l n h) (trees l n ++ (treeAt l n h ∷ []))) (stopped 12)))
+    (member-in blank (treeAt l n h) (trees l n) h (let e = trees-length l n in omega arith) refl))) (grew-ret A h q)
 
 module _ {cap : ℕ} {l : List ℤ} {w : List ℕ} {n : ℕ} (A : Bare cap l w n) (x : Node) (vx : Valid x n) where
   abbrev pub tree : Tree
@@ -44,7 +46,9 @@ module _ {cap : ℕ} {l : List ℤ} {w : List ℕ} {n : ℕ} (A : Bare cap l w n
   ran-old : {w′ : List ℕ} → Chained cap l w′ n → Frame w′ → (i : ℕ) → i < n → nodeAt l i ≡ x → Grew cap l w n (make tree) l w′ (record { stop = 0; at = i; count = n })
   unfolding run outOf make
   ran-old C F i h e = record {
-    ran = ap (λ (z : Tree). done z (trees l n)) (found i h e) ∙ sym (ap (λ (b : Bool). if b (done tree (trees l n)) (if (ltb (length (trees l n)) cap) (done tree (trees l n ++ (tree ∷ []))) (stopped 12))) (member-in blank tree (trees l n) i (let q = trees-length l n in omega arith) (found i h e)));
+    ran = ap (λ (z : Tree). done z (trees l n)) (found i h e) ∙ sym (ap (λ (b : Bool). if b (done tree (trees l n))
+        (if (ltb (length (trees l n)) cap) (done tree (trees l n ++ (tree ∷ []))) (stopped 12)))
+        (member-in blank tree (trees l n) i (let q = trees-length l n in omega arith) (found i h e)));
     bare = record { good = A .good; chained = C };
     within = λ t. h;
     more = omega arith;
@@ -133,7 +137,11 @@ module _ {cap : ℕ} {l : List ℤ} {w : List ℕ} {n : ℕ} (A : Bare cap l w n
   unfolding internR internW firstNode
   interned w′ C F = go (ltb (firstNode l x n) n) refl (ltb n cap) refl C
     where
-      go : (b : Bool) → ltb (firstNode l x n) n ≡ b → (d : Bool) → ltb n cap ≡ d → Chained cap (cond b l (cond d (putAt l n x) l)) w′ (cond {A = Made} b (record { stop = 0; at = firstNode l x n; count = n }) (cond {A = Made} d (record { stop = 0; at = n; count = n + 1 }) (record { stop = 12; at = 0; count = n })) .count) → Grew cap l w n (make tree) (cond b l (cond d (putAt l n x) l)) w′ (cond {A = Made} b (record { stop = 0; at = firstNode l x n; count = n }) (cond {A = Made} d (record { stop = 0; at = n; count = n + 1 }) (record { stop = 12; at = 0; count = n })))
+      go : (b : Bool) → ltb (firstNode l x n) n ≡ b → (d : Bool) → ltb n cap ≡ d → Chained cap (cond b l (cond d (putAt l n x) l)) w′
+          (cond {A = Made} b (record { stop = 0; at = firstNode l x n; count = n })
+          (cond {A = Made} d (record { stop = 0; at = n; count = n + 1 }) (record { stop = 12; at = 0; count = n })) .count) → Grew cap l w n (make tree)
+          (cond b l (cond d (putAt l n x) l)) w′ (cond {A = Made} b (record { stop = 0; at = firstNode l x n; count = n })
+          (cond {A = Made} d (record { stop = 0; at = n; count = n + 1 }) (record { stop = 12; at = 0; count = n })))
       go true e d ed C =
           let q = ltb-true (firstNode l x n) n e in
           ran-old C F (firstNode l x n) q (eqN-true (nodeAt l (firstNode l x n)) x (first-hit (λ i. eqN (nodeAt l i) x) n q))

@@ -114,7 +114,8 @@ module _ {l : List ℤ} {n : ℕ} (G : Good l n) (f g : ℕ) (hf : f < n) (hg : 
   right-on ey e = let a = G .valid g hg .high-below ey in let b = G .valid g hg .low-below ey in
       record { fh = hf; gh = omega arith; fl = hf; gl = omega arith; root = hg; high = omega arith; low = omega arith; test = ey; is = e }
 
-  pub both-on : isLeaf (x .kind) ≡ false → isLeaf (y .kind) ≡ false → m (X f) (X g) ≡ both (mk (testOf x)) (m (X (natAbs (x .high))) (X (natAbs (y .high)))) (m (X (natAbs (x .low))) (X (natAbs (y .low)))) → On l n m mk f g (bothSides (downOf x) f (downOf y))
+  pub both-on : isLeaf (x .kind) ≡ false → isLeaf (y .kind) ≡ false → m (X f) (X g) ≡ both (mk (testOf x)) (m (X (natAbs (x .high))) (X (natAbs (y .high))))
+      (m (X (natAbs (x .low))) (X (natAbs (y .low)))) → On l n m mk f g (bothSides (downOf x) f (downOf y))
   unfolding downOf
   both-on ex ey e =
       let a = G .valid f hf .high-below ex in let b = G .valid f hf .low-below ex in

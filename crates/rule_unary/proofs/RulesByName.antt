@@ -30,11 +30,33 @@ side-acts P =
 
 pub complement-acts : {W : ℕ} → W ≤ weights-most → Acts 5 W 0
 complement-acts h =
-    record { from = omega arith; to = omega arith; low = omega arith; high = omega arith; shifts = λ e. absurd (omega arith); weighs = λ _. h; numbers = λ e. absurd (omega arith); some = λ e. absurd (omega arith); picks = λ e. absurd (omega arith) }
+    record {
+      from = omega arith;
+      to = omega arith;
+      low = omega arith;
+      high = omega arith;
+      shifts = λ e. absurd (omega arith);
+      weighs = λ _. h;
+      numbers = λ e. absurd
+          (omega arith);
+      some = λ e. absurd (omega arith);
+      picks = λ e. absurd (omega arith);
+    }
 
 pub number-acts : {a : ℕ} → a ≤ actions-most → Acts 6 a 0
 number-acts h =
-    record { from = omega arith; to = omega arith; low = omega arith; high = omega arith; shifts = λ e. absurd (omega arith); weighs = λ e. absurd (omega arith); numbers = λ _. h; some = λ e. absurd (omega arith); picks = λ e. absurd (omega arith) }
+    record {
+      from = omega arith;
+      to = omega arith;
+      low = omega arith;
+      high = omega arith;
+      shifts = λ e. absurd (omega arith);
+      weighs = λ e. absurd
+          (omega arith);
+      numbers = λ _. h;
+      some = λ e. absurd (omega arith);
+      picks = λ e. absurd (omega arith);
+    }
 
 -- the halves of c, as the code has them
 module _ (c : ℤ) (fc : SFits w64 c) {a b : ℕ} (ea : a ≡ lowOf (R c)) (eb : b ≡ highOf (R c)) where
@@ -55,11 +77,33 @@ module _ (c : ℤ) (fc : SFits w64 c) {a b : ℕ} (ea : a ≡ lowOf (R c)) (eb :
 
   pub scale-acts : Acts 3 a b
   scale-acts =
-      record { from = omega arith; to = omega arith; low = a-lt; high = b-lt; shifts = λ e. absurd (omega arith); weighs = λ e. absurd (omega arith); numbers = λ e. absurd (omega arith); some = λ e. absurd (omega arith); picks = λ e. absurd (omega arith) }
+      record {
+        from = omega arith;
+        to = omega arith;
+        low = a-lt;
+        high = b-lt;
+        shifts = λ e. absurd (omega arith);
+        weighs = λ e. absurd
+            (omega arith);
+        numbers = λ e. absurd (omega arith);
+        some = λ e. absurd (omega arith);
+        picks = λ e. absurd (omega arith);
+      }
 
   pub shift-acts : Small c → Acts 4 a b
   shift-acts s =
-      record { from = omega arith; to = omega arith; low = a-lt; high = b-lt; shifts = λ _. subst Small (sym number-is) s; weighs = λ e. absurd (omega arith); numbers = λ e. absurd (omega arith); some = λ e. absurd (omega arith); picks = λ e. absurd (omega arith) }
+      record {
+        from = omega arith;
+        to = omega arith;
+        low = a-lt;
+        high = b-lt;
+        shifts = λ _. subst Small (sym number-is) s;
+        weighs = λ e. absurd
+            (omega arith);
+        numbers = λ e. absurd (omega arith);
+        some = λ e. absurd (omega arith);
+        picks = λ e. absurd (omega arith);
+      }
 
   module _ {cap : ℕ} {l l₁ : List ℤ} {w w₁ : List ℕ} {n : ℕ} (f : ℕ) {r : Made} where
     pub scale-ran : RuleRan ruleOf cap l w n (ruleOf l n 3 f 0 a b) l₁ w₁ r → RuleRan ruleOf cap l w n (scale c (treeAt l n f)) l₁ w₁ r

@@ -80,7 +80,14 @@ module _ {cap : ℕ} {l : List ℤ} {w : List ℕ} {n : ℕ} (A : Table ruleOf c
         low-stopped off = ran-as (sym (rule-as K l n f)) (low-stops cap l l₁ w w₁ n f 0 (alone (actOf op p q)) node (sidesBy s f) on h Q′ ok l₂ w₂ k S′ off)
 
         pub join-asks : k .stop ≡ 0 → Bare cap l₂ w₂ (k .count) × Root l₂ (k .count) f × (h .at < k .count) × (k .at < k .count)
-        join-asks ok′ = (S .table .bare, root-on cap l l₁ w w₁ n f 0 (alone (actOf op p q)) node (sidesBy s f) on h Q′ ok l₂ w₂ k S′, high-in cap l l₁ w w₁ n f 0 (alone (actOf op p q)) node (sidesBy s f) on h Q′ ok l₂ w₂ k S′, S .within ok′)
+        join-asks ok′ = (
+          S .table .bare,
+          root-on cap l l₁ w w₁ n f 0 (alone (actOf op p q)) node (sidesBy s f) on h Q′ ok l₂ w₂ k S′,
+          high-in cap l l₁ w w₁ n f 0
+              (alone (actOf op p q)) node (sidesBy s f) on h Q′ ok l₂ w₂ k S′,
+          S .within ok′,
+        )
 
-        pub walk-joined : k .stop ≡ 0 → {l₃ : List ℤ} {w₃ : List ℕ} {r : Made} → Grew cap l₂ w₂ (k .count) (node (testOf (nodeAt l₂ f)) (treeAt l₂ (k .count) (h .at)) (treeAt l₂ (k .count) (k .at))) l₃ w₃ r → RuleRan ruleOf cap l w n (rule l n f) l₃ w₃ r
+        pub walk-joined : k .stop ≡ 0 → {l₃ : List ℤ} {w₃ : List ℕ} {r : Made} → Grew cap l₂ w₂ (k .count)
+            (node (testOf (nodeAt l₂ f)) (treeAt l₂ (k .count) (h .at)) (treeAt l₂ (k .count) (k .at))) l₃ w₃ r → RuleRan ruleOf cap l w n (rule l n f) l₃ w₃ r
         walk-joined ok′ {l₃} {w₃} {r} P = ran-as (sym (rule-as K l n f)) (joined cap l l₁ w w₁ n f 0 (alone (actOf op p q)) node (sidesBy s f) on h Q′ ok l₂ w₂ k S′ ok′ l₃ w₃ r (lifted (S .table) P))

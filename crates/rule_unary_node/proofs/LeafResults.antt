@@ -237,9 +237,11 @@ module _ {cap : ℕ} {l : List ℤ} {w : List ℕ} {n : ℕ} (B : Bare cap l w n
     pub leaf-valid : {b : Bool} → b ≡ staysBy op p q (nodeAt l f) → b ≡ false → 5 < op → Valid y n
     leaf-valid eb t h = subst (λ (z : Node). Valid z n) (sym (ey ∙ acted-number p q x (six eb t h))) (number-valid p q x n (leaf-nums ex))
 
-    pub leaf-numbered : {b : Bool} → b ≡ staysBy op p q (nodeAt l f) → b ≡ false → 5 < op → {l₁ : List ℤ} {w₁ : List ℕ} {r : Made} → Grew cap l w n (make (treeOf y (trees l n))) l₁ w₁ r → Grew cap l w n (actOf op p q (treeAt l n f)) l₁ w₁ r
+    pub leaf-numbered : {b : Bool} → b ≡ staysBy op p q (nodeAt l f) → b ≡ false → 5 < op → {l₁ : List ℤ} {w₁ : List ℕ} {r : Made} → Grew cap l w n
+        (make (treeOf y (trees l n))) l₁ w₁ r → Grew cap l w n (actOf op p q (treeAt l n f)) l₁ w₁ r
     leaf-numbered eb t h S =
         let e = six eb t h in
         let a : make (treeOf y (trees l n)) ≡ make (treeOf (numberNode p x) (trees l n)) = ap (λ (z : Node). make (treeOf z (trees l n))) (ey ∙ acted-number p q x e) in
-        let b : make (treeOf (numberNode p x) (trees l n)) ≡ actOf 6 p q (leaf (leafOf x)) = ap make (tree-leaf (numberNode p x) (trees l n) (number-kind p q x)) ∙ number-leaf p q x (ap (λ (z : Node). isNone (z .kind)) ex ∙ some-numbered eb t e) in
+        let b : make (treeOf (numberNode p x) (trees l n)) ≡ actOf 6 p q (leaf (leafOf x)) = ap make (tree-leaf (numberNode p x) (trees l n) (number-kind p q x))
+        ∙ number-leaf p q x (ap (λ (z : Node). isNone (z .kind)) ex ∙ some-numbered eb t e) in
         grew-as (a ∙ (as-act (b ∙ ap (λ (k : ℕ). actOf k p q (leaf (leafOf x))) (sym e)))) S

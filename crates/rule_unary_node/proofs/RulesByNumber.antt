@@ -102,4 +102,5 @@ module _ (p q : ℕ) (t : Test) (h l : Tree) where
 
 pub side-leaf : (p q : ℕ) (y : Leaf) {op : ℕ} → 7 ≤ op → op ≤ 8 → actOf op p q (leaf y) ≡ ret (leaf y)
 unfolding actOf side
-side-leaf p q y {op} lo hi = by-op (λ (op : ℕ). 7 ≤ op → actOf op p q (leaf y) ≡ ret (leaf y)) (λ h. absurd (omega arith)) (λ h. absurd (omega arith)) (λ h. absurd (omega arith)) (λ h. absurd (omega arith)) (λ _. refl) (λ _. refl) (omega arith) hi lo
+side-leaf p q y {op} lo hi = by-op (λ (op : ℕ). 7 ≤ op → actOf op p q (leaf y) ≡ ret (leaf y)) (λ h. absurd (omega arith)) (λ h. absurd (omega arith))
+    (λ h. absurd (omega arith)) (λ h. absurd (omega arith)) (λ _. refl) (λ _. refl) (omega arith) hi lo

@@ -108,7 +108,18 @@ module _ {l : List ℤ} {n : ℕ} (G : Good l n) {op p q : ℕ} (A : Acts op p q
     picks = λ e z. no (sym z);
     goes = λ e z.
         let a = G .valid f hf .high-below e in let b = G .valid f hf .low-below e in
-        record { fh = omega arith; gh = omega arith; fl = omega arith; gl = omega arith; root = hf; high = omega arith; low = omega arith; test = e; is = ap m (at-branch G f hf e) ∙ act-on p q (testOf x) _ _ (A .from) (A .to) (later-no t e) };
+        record {
+          fh = omega arith;
+          gh = omega arith;
+          fl = omega arith;
+          gl = omega arith;
+          root = hf;
+          high = omega arith;
+          low = omega arith;
+          test = e;
+          is = ap m
+              (at-branch G f hf e) ∙ act-on p q (testOf x) _ _ (A .from) (A .to) (later-no t e);
+        };
   }
 
   yes-side : o ≡ 1 → op ≡ 7 → Passes l n m f way-yes
@@ -142,9 +153,12 @@ passes-as {l} {n} G {op} {p} {q} A f h e = subst (Passes l n (actOf op p q) f) (
 
 -- ---- what the code reads is that way
 
-pub way-as : (d : Down) (op o : ℕ) (b c : Bool) → eqb o 1 ≡ b → eqb op 7 ≡ c → if b (if c (record { ends = d .ends; picks = true; high = d .high; low = d .low }) (record { ends = d .ends; picks = true; high = d .low; low = d .low })) (record { ends = d .ends; picks = false; high = d .high; low = d .low }) ≡ wayBy d op o
+pub way-as : (d : Down) (op o : ℕ) (b c : Bool) → eqb o 1 ≡ b → eqb op 7 ≡ c → if b
+    (if c (record { ends = d .ends; picks = true; high = d .high; low = d .low }) (record { ends = d .ends; picks = true; high = d .low; low = d .low }))
+    (record { ends = d .ends; picks = false; high = d .high; low = d .low }) ≡ wayBy d op o
 unfolding wayBy
-way-as d op o b c e₁ e₂ = λ i. if (sym e₁ i) (if (sym e₂ i) (record { ends = d .ends; picks = true; high = d .high; low = d .low }) (record { ends = d .ends; picks = true; high = d .low; low = d .low })) (record { ends = d .ends; picks = false; high = d .high; low = d .low })
+way-as d op o b c e₁ e₂ = λ i. if (sym e₁ i) (if (sym e₂ i) (record { ends = d .ends; picks = true; high = d .high; low = d .low })
+    (record { ends = d .ends; picks = true; high = d .low; low = d .low })) (record { ends = d .ends; picks = false; high = d .high; low = d .low })
 
 pub way-other : {x x′ : Node} {d : Down} {r : Way} (op p : ℕ) → x ≡ x′ → d ≡ downOf x → r ≡ wayBy d op 0 → op < 7 → r ≡ wayOf op p x′
 unfolding wayOf

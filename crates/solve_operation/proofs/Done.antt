@@ -62,7 +62,8 @@ module _ {cap n held : ℕ} {l : List ℤ} {w R : List ℕ} (S : Standing cap l 
       pub answer-fits : r .stop ≡ 0 → r .at < 65536
       answer-fits ok = let a = Q .within ok in let C = Q .space in let b = C .few in let d = C .room in omega arith
 
-      pub operation-done : {to p q : ℕ} {R₂ : List ℕ} → to ≤ held → to < length R → q ≡ max p (r .count) → (r .stop ≡ 0 → R₂ ≡ set R₁ to (r .at)) → Operated cap p l n R held to rule l₂ w₂ R₂ (record { stop = r .stop; count = r .count; peak = q })
+      pub operation-done : {to p q : ℕ} {R₂ : List ℕ} → to ≤ held → to < length R → q ≡ max p (r .count) → (r .stop ≡ 0 → R₂ ≡ set R₁ to (r .at))
+          → Operated cap p l n R held to rule l₂ w₂ R₂ (record { stop = r .stop; count = r .count; peak = q })
       operation-done {to} {p} {q} {R₂} h k m put =
           let len = kept-length K in
           let X = trees l₂ (r .count) in

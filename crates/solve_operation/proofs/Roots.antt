@@ -90,5 +90,6 @@ module _ (R : List ℕ) (at m : ℕ) (h : at + m ≤ length R) where
       ∙ sym (getD-take m (drop at Q) i blank j)))))
 
   -- a substitution by them
-  pub levels-ran : {cap n f : ℕ} {l l′ : List ℤ} {w w′ : List ℕ} {r : Made} → f < length R → RuleRan ruleOf cap l w n (substitute (levelsAt l n L) (treeAt l n (getD R f 0))) l′ w′ r → RuleRan ruleOf cap l w n (substitutes (rootsOf (trees l n) R) at m f) l′ w′ r
+  pub levels-ran : {cap n f : ℕ} {l l′ : List ℤ} {w w′ : List ℕ} {r : Made} → f < length R → RuleRan ruleOf cap l w n
+      (substitute (levelsAt l n L) (treeAt l n (getD R f 0))) l′ w′ r → RuleRan ruleOf cap l w n (substitutes (rootsOf (trees l n) R) at m f) l′ w′ r
   levels-ran {n = n} {f = f} {l = l} j S = ran-as (ap₂ substitute (levels-are l n) (sym (roots-at (trees l n) R f j))) S

@@ -60,14 +60,17 @@ module _ {cap n : ℕ} {l l′ : List ℤ} {w w′ : List ℕ} {r : Made} (R : L
   unfolding compOf
   levels-took e S = ran-as (ap (compOf (rootsOf (trees l n) R)) (sym e)) S
 
-  pub expect-took : {v k f weights : ℕ} → rule ≡ Expect v k f weights → Fits (length R) rule → RuleRan ruleOf cap l w n (expectation weights (treeAt l n (getD R v 0)) k (treeAt l n (getD R f 0))) l′ w′ r → RuleRan ruleOf cap l w n (compOf (rootsOf (trees l n) R) rule) l′ w′ r
+  pub expect-took : {v k f weights : ℕ} → rule ≡ Expect v k f weights → Fits (length R) rule → RuleRan ruleOf cap l w n
+      (expectation weights (treeAt l n (getD R v 0)) k (treeAt l n (getD R f 0))) l′ w′ r → RuleRan ruleOf cap l w n (compOf (rootsOf (trees l n) R) rule) l′ w′ r
   unfolding compOf Fits
   expect-took {v} {k} {f} {weights} e F S =
       let X = trees l n in
       let G = subst (Fits (length R)) e F in
       ran-as (ap₂ (λ (a b : Tree). expectation weights a k b) (sym (roots-at X R v (G .0))) (sym (roots-at X R f (G .3))) ∙ ap (compOf (rootsOf X R)) (sym e)) S
 
-  pub reward-took : {v f weights exponent action : ℕ} → rule ≡ Reward v f weights exponent action → Fits (length R) rule → RuleRan ruleOf cap l w n (add-reward (weights ^ exponent) (treeAt l n (getD R v 0)) action (treeAt l n (getD R f 0))) l′ w′ r → RuleRan ruleOf cap l w n (compOf (rootsOf (trees l n) R) rule) l′ w′ r
+  pub reward-took : {v f weights exponent action : ℕ} → rule ≡ Reward v f weights exponent action → Fits (length R) rule → RuleRan ruleOf cap l w n
+      (add-reward (weights ^ exponent) (treeAt l n (getD R v 0)) action (treeAt l n (getD R f 0))) l′ w′ r → RuleRan ruleOf cap l w n
+      (compOf (rootsOf (trees l n) R) rule) l′ w′ r
   unfolding compOf Fits
   reward-took {v} {f} {weights} {exponent} {action} e F S =
       let X = trees l n in

@@ -23,4 +23,5 @@ raise-same (suc a) n (p ∷ P) h = ap (λ (Q : List ℕ). p ∷ Q) (raise-same a
 
 -- all of them
 pub all-cleared : (P : List ℕ) {Q : List ℕ} → Q ≡ wiped 0 0 (length P) P → Q ≡ replicate (length P) 0
-all-cleared P e = e ∙ (ap (λ (R : List ℕ). replicate (length P - 0) 0 ++ R) (let d : length P ≤ length P = omega arith in drop-of-length-le P d) ∙ (append-nil _ ∙ ap (λ (k : ℕ). replicate k 0) (let q : length P - 0 ≡ length P = omega arith in q)))
+all-cleared P e = e ∙ (ap (λ (R : List ℕ). replicate (length P - 0) 0 ++ R) (let d : length P ≤ length P = omega arith in drop-of-length-le P d) ∙
+    (append-nil _ ∙ ap (λ (k : ℕ). replicate k 0) (let q : length P - 0 ≡ length P = omega arith in q)))

@@ -96,7 +96,8 @@ module _ {B : List ℕ} {cap p : ℕ} {l : List ℤ} {w : List ℕ} {n : ℕ} {R
           let Y = rootAt l′ (t .count) R′ (b .held + 1) ∷ rootAt l n R (b .held) ∷ K in
           let u = rootAt l″ (r .count) R″ (b .held) in
           answers (r .stop) (b .stage) u (r .peak)
-          (λ z. works-run (t .peak) (moment (b .stage) (b .action)) end (subst (λ (c : Comp Tree). Works cap Y c u (r .count)) comes (S .works z Y (roots K al))) ∙ (run-all-end cap (max (t .peak) (r .count)) u ∙ ap (solved u) (sym (S .peak))))
+          (λ z. works-run (t .peak) (moment (b .stage) (b .action)) end (subst (λ (c : Comp Tree). Works cap Y c u (r .count)) comes (S .works z Y (roots K al))) ∙
+          (run-all-end cap (max (t .peak) (r .count)) u ∙ ap (solved u) (sym (S .peak))))
           (λ z. stops-run (t .peak) (moment (b .stage) (b .action)) end (subst (λ (c : Comp Tree). Stops cap Y c (r .stop)) comes (S .stops z Y (roots K al))))
 
       kept : take (b .held) (heldTrees l′ (t .count) R′ (b .held + 2)) ≡ heldTrees l n R (b .held)

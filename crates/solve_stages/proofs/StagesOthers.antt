@@ -98,7 +98,8 @@ pub record Trying (B : List ℕ) (cap : ℕ) (l₀ : List ℤ) (R₀ : List ℕ)
       → peaks-of P₀ (best-on (model B) (b .stage) K (beforeOf l₀ (r₀ .count) R₀ b) 2 (model B .others) (rootAt l₀ (r₀ .count) R₀ (b .held)))
       ≡ peaks-of P (best-on (model B) (b .stage) K (beforeOf l₀ (r₀ .count) R₀ b) a (drop (a - 2) (model B .others)) (rootAt l (r .count) R (b .held)))
 
-pub trying-starts : {B : List ℕ} {cap : ℕ} {l : List ℤ} {w R P : List ℕ} {b : Backup} {actions : ℕ} {r : Run} → Due B cap l w (r .count) R (b .held + 1) b → r .stop ≡ 0 → modelSize B ≤ b .held → {s : CodeSite} → site-as s ≡ site-at B → actions ≡ s .actions
+pub trying-starts : {B : List ℕ} {cap : ℕ} {l : List ℤ} {w R P : List ℕ} {b : Backup} {actions : ℕ} {r : Run} → Due B cap l w (r .count) R (b .held + 1) b → r .stop ≡ 0
+    → modelSize B ≤ b .held → {s : CodeSite} → site-as s ≡ site-at B → actions ≡ s .actions
     → Trying B cap l R b actions r P l w R r P 2
 trying-starts {B} D ok f es e = record { ok = ok; low = omega arith; count = e ∙ ap (λ (S : Site). S .actions) es; ready = D .ready; first = f; same = refl; left = λ K al. refl; fits = λ q. q; counts = λ K al. refl }
 
@@ -138,11 +139,13 @@ module _ {B : List ℕ} {cap : ℕ} {l₀ : List ℤ} {R₀ : List ℕ} {b : Bac
         let count = Y .count in
         best-on-bettered B cap (r .peak) (b .stage) K (beforeOf l₀ (r₀ .count) R₀ b) a (a - 2) (rootAt l (r .count) R (b .held)) (omega arith) (omega arith)
 
-    pub trying-stops : (r′ .stop ≡ 0 → ⊥) → Counted cap (r₀ .peak) l₀ (r₀ .count) R₀ (b .held) (b .stage) (λ K. best-on (model B) (b .stage) K (beforeOf l₀ (r₀ .count) R₀ b) 2 (model B .others) (rootAt l₀ (r₀ .count) R₀ (b .held))) P₀ l′ w′ R′ P′ r′
+    pub trying-stops : (r′ .stop ≡ 0 → ⊥) → Counted cap (r₀ .peak) l₀ (r₀ .count) R₀ (b .held) (b .stage)
+        (λ K. best-on (model B) (b .stage) K (beforeOf l₀ (r₀ .count) R₀ b) 2 (model B .others) (rootAt l₀ (r₀ .count) R₀ (b .held))) P₀ l′ w′ R′ P′ r′
     trying-stops off = record {
       peaks = λ ok. absurd (off ok);
       ran = record {
-        outcome = λ K al. Y .left K al ∙ (run K ∙ (onward-no (r′ .stop) (b .stage) (rootAt l′ (r′ .count) R′ (b .held)) (r′ .peak) (step K al) (λ t s. run-all cap s (best-on (model B) (b .stage) K (beforeOf l₀ (r₀ .count) R₀ b) (suc a) (drop (suc (a - 2)) (model B .others)) t)) off
+        outcome = λ K al. Y .left K al ∙ (run K ∙ (onward-no (r′ .stop) (b .stage) (rootAt l′ (r′ .count) R′ (b .held)) (r′ .peak) (step K al)
+            (λ t s. run-all cap s (best-on (model B) (b .stage) K (beforeOf l₀ (r₀ .count) R₀ b) (suc a) (drop (suc (a - 2)) (model B .others)) t)) off
             ∙ sym (answered-no (r′ .stop) (b .stage) (rootAt l′ (r′ .count) R′ (b .held)) (r′ .peak) off)));
         rooted = λ ok. absurd (off ok);
         fits = λ ok. absurd (off ok);
@@ -157,7 +160,8 @@ module _ {B : List ℕ} {cap : ℕ} {l₀ : List ℤ} {R₀ : List ℕ} {b : Bac
       ready = ready-next (heldTrees l (r .count) R (b .held)) (rootAt l′ (r′ .count) R′ (b .held)) (Y .ready) (sym (held-take l (r .count) R (b .held) (modelSize B) here (Y .first)) ∙ Y .ready .models) (Y .first) long (T .rooted ok) few;
       first = Y .first;
       same = held-is l′ (r′ .count) R′ (b .held) (heldTrees l (r .count) R (b .held)) (rootAt l′ (r′ .count) R′ (b .held)) (T .rooted ok) long few ∙ Y .same;
-      left = λ K al. Y .left K al ∙ (run K ∙ (onward-ok (r′ .stop) (b .stage) (rootAt l′ (r′ .count) R′ (b .held)) (r′ .peak) (step K al) (λ t s. run-all cap s (best-on (model B) (b .stage) K (beforeOf l₀ (r₀ .count) R₀ b) (suc a) (drop (suc (a - 2)) (model B .others)) t)) ok
+      left = λ K al. Y .left K al ∙ (run K ∙ (onward-ok (r′ .stop) (b .stage) (rootAt l′ (r′ .count) R′ (b .held)) (r′ .peak) (step K al)
+          (λ t s. run-all cap s (best-on (model B) (b .stage) K (beforeOf l₀ (r₀ .count) R₀ b) (suc a) (drop (suc (a - 2)) (model B .others)) t)) ok
           ∙ ap₂ (λ (i k : ℕ). run-all cap (r′ .peak) (best-on (model B) (b .stage) K (beforeOf l₀ (r₀ .count) R₀ b) i (drop k (model B .others)) (rootAt l′ (r′ .count) R′ (b .held)))) (sym (add-one a)) shift));
       fits = λ q. T .fits ok (Y .fits q);
       counts = λ K al.

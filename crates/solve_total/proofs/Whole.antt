@@ -125,7 +125,8 @@ pub record Summed (B : List ℕ) (cap : ℕ) (l : List ℤ) (R : List ℕ) (r : 
   pub fits : r .peak ≤ cap → e .peak ≤ cap
   pub left : (K : List Tree) → Alike (heldTrees l (r .count) R (b .held)) K
       → run-all cap (r .peak) (totalOf B b (beforeOf l (r .count) R b) K)
-      ≡ run-all cap (e .peak) (operation (moment (b .stage) (b .action)) (rootAt l₂ (e .count) R₂ (b .held) ∷ K) (add-reward (power (model B) (b .stage)) (actionOf B (b .action) .reward) (b .action) (rootAt l₂ (e .count) R₂ (b .held))) end)
+      ≡ run-all cap (e .peak) (operation (moment (b .stage) (b .action)) (rootAt l₂ (e .count) R₂ (b .held) ∷ K)
+      (add-reward (power (model B) (b .stage)) (actionOf B (b .action) .reward) (b .action) (rootAt l₂ (e .count) R₂ (b .held))) end)
 
 -- the total's outcome
 abbrev pub Total : List ℕ → ℕ → List ℤ → List ℕ → Run → Backup → List ℤ → List ℕ → List ℕ → Run → Type 0
@@ -162,7 +163,8 @@ module _ {B : List ℕ} {cap : ℕ} {l : List ℤ} {w R : List ℕ} {r : Run} {b
 
   module _ {l₁ : List ℤ} {w₁ R₁ : List ℕ} {s : Run} (D : Replaced B cap l R r b l₁ w₁ R₁ s)
       {l₂ : List ℤ} {w₂ R₂ : List ℕ} {e : Run}
-      (E : (h : Moment) → ActionRan cap (s .peak) l₁ (s .count) R₁ (b .held) (h .stage) (λ K. sum-out weights h K 1 (take n (drop (row-at b n m + 1) (heldTrees l₁ (s .count) R₁ (b .held)))) (rootAt l₁ (s .count) R₁ (b .held))) l₂ w₂ R₂ e) where
+      (E : (h : Moment) → ActionRan cap (s .peak) l₁ (s .count) R₁ (b .held) (h .stage)
+      (λ K. sum-out weights h K 1 (take n (drop (row-at b n m + 1) (heldTrees l₁ (s .count) R₁ (b .held)))) (rootAt l₁ (s .count) R₁ (b .held))) l₂ w₂ R₂ e) where
     abbrev F : Tree
     F = rootAt l₁ (s .count) R₁ (b .held)
 

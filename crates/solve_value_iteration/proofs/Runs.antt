@@ -159,7 +159,8 @@ module _ (B : List ℕ) (H : ℕ) {cap : ℕ} {l : List ℤ} {w R : List ℕ} {r
     peaks = λ e. absurd (off e);
   }
 
-  pub stages-run : z .stop ≡ 0 → {Q : List ℕ} → Q ≡ replicate peak-words 0 → P ≡ raise 0 (r .count) Q → {l″ : List ℤ} {w″ R″ P″ : List ℕ} {s : Planned} → Staged B cap (z .peak) H l′ (z .count) R′ P′ l″ w″ R″ P″ s → Plans B H cap l″ w″ R″ P″ s
+  pub stages-run : z .stop ≡ 0 → {Q : List ℕ} → Q ≡ replicate peak-words 0 → P ≡ raise 0 (r .count) Q → {l″ : List ℤ} {w″ R″ P″ : List ℕ} {s : Planned} → Staged B cap
+      (z .peak) H l′ (z .count) R′ P′ l″ w″ R″ P″ s → Plans B H cap l″ w″ R″ P″ s
   stages-run ok e f S = record {
     outcome = solved-by ∙ (G .left ok H ∙ S .outcome);
     standing = S .standing;

@@ -213,12 +213,15 @@ pub all-stored : {l₀ : List ℤ} {at : ℕ} {s : List ℤ} {k : ℕ} {l : List
 all-stored {l₀} {at} {s} {k} S h = S .is ∙ ap (storeL l₀ at) (take-all k s (let w = S .long in omega arith))
 
 -- the four stores
-pub put-as : (l : List ℤ) (i : ℕ) (x : Node) {a c d : ℤ} {k : ℕ} {l₂ : List ℤ} → a ≡ x .kind → c ≡ x .high → d ≡ x .low → Storing (set l (i * node-words) a) (i * node-words + 1) (x .n) k l₂ → numbers ≤ k → set (set l₂ (i * node-words + high-word) c) (i * node-words + low-word) d ≡ putAt l i x
+pub put-as : (l : List ℤ) (i : ℕ) (x : Node) {a c d : ℤ} {k : ℕ} {l₂ : List ℤ} → a ≡ x .kind → c ≡ x .high → d ≡ x .low → Storing (set l (i * node-words) a)
+    (i * node-words + 1) (x .n) k l₂ → numbers ≤ k → set (set l₂ (i * node-words + high-word) c) (i * node-words + low-word) d ≡ putAt l i x
 unfolding putAt
 put-as l i x {a} {c} {d} ea ec ed S h = λ j. set (set ((all-stored S h ∙ ap (λ (z : ℤ). storeL (set l (i * node-words) z) (i * node-words + 1) (x .n)) ea) j) (i * node-words + high-word) (ec j)) (i * node-words + low-word) (ed j)
 
 -- what was read of a node
-pub get-as : (l : List ℤ) (i : ℕ) → i * node-words + node-words ≤ length l → {a c d : ℤ} {k : ℕ} {out : List ℤ} → a ≡ getD l (i * node-words) (pos 0) → c ≡ getD l (i * node-words + high-word) (pos 0) → d ≡ getD l (i * node-words + low-word) (pos 0) → Filled numbers (λ j. getD l (i * node-words + 1 + j) (pos 0)) k out → numbers ≤ k → _≡_ {A = Node} (record { kind = a; n = out; high = c; low = d }) (nodeAt l i)
+pub get-as : (l : List ℤ) (i : ℕ) → i * node-words + node-words ≤ length l → {a c d : ℤ} {k : ℕ} {out : List ℤ} → a ≡ getD l (i * node-words) (pos 0) → c ≡ getD l
+    (i * node-words + high-word) (pos 0) → d ≡ getD l (i * node-words + low-word) (pos 0) → Filled numbers (λ j. getD l (i * node-words + 1 + j) (pos 0)) k out
+    → numbers ≤ k → _≡_ {A = Node} (record { kind = a; n = out; high = c; low = d }) (nodeAt l i)
 unfolding nodeAt
 get-as l i h ea ec ed F q = λ j. record { kind = ea j; n = read-all l i h F q j; high = ec j; low = ed j }
 

@@ -32,7 +32,9 @@ pub record Fit (x : Node) : Type 0 where
   pub low : mag (x .low) < 2 ^ 63
 
 -- equal bits in kind, high and low, and the test of the numbers
-pub bits-same : (x y : Node) {r : Bool} → mag (x .kind) < 2 ^ 63 → mag (y .kind) < 2 ^ 63 → mag (x .high) < 2 ^ 63 → mag (y .high) < 2 ^ 63 → mag (x .low) < 2 ^ 63 → mag (y .low) < 2 ^ 63 → ofZ w64 (x .kind) ≡ ofZ w64 (y .kind) → ofZ w64 (x .high) ≡ ofZ w64 (y .high) → ofZ w64 (x .low) ≡ ofZ w64 (y .low) → r ≡ eqL (x .n) (y .n) → SameNode x y r
+pub bits-same : (x y : Node) {r : Bool} → mag (x .kind) < 2 ^ 63 → mag (y .kind) < 2 ^ 63 → mag (x .high) < 2 ^ 63 → mag (y .high) < 2 ^ 63 → mag (x .low) < 2 ^ 63 → mag
+    (y .low) < 2 ^ 63 → ofZ w64 (x .kind) ≡ ofZ w64 (y .kind) → ofZ w64 (x .high) ≡ ofZ w64 (y .high) → ofZ w64 (x .low) ≡ ofZ w64 (y .low) → r ≡ eqL (x .n) (y .n)
+    → SameNode x y r
 bits-same x y {r} fk gk fh gh fl gl ek eh el e = go r e
   where
     go : (r : Bool) → r ≡ eqL (x .n) (y .n) → SameNode x y r

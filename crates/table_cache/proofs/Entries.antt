@@ -19,7 +19,8 @@ pub slot-lt : (cap op f g p q : ℕ) → 0 < cap → slotOf cap op f g p q + 6 �
 slot-lt cap op f g p q h = let a = slot-at cap op f g p q h in let b = a .1 in let e = a .2 in omega arith
 
 -- what the code reads is an entry
-pub entry-is : {w : List ℕ} {s t op f g p q : ℕ} → s ≡ t → getD w s 0 ≡ op → getD w (s + 1) 0 ≡ f → getD w (s + 2) 0 ≡ g → getD w (s + 2 + 1) 0 ≡ p → getD w (s + 4) 0 ≡ q → (getD w (s + 5) 0 ≡ 0 → ⊥) → Entry w t op f g p q (getD w (s + 5) 0 - 1)
+pub entry-is : {w : List ℕ} {s t op f g p q : ℕ} → s ≡ t → getD w s 0 ≡ op → getD w (s + 1) 0 ≡ f → getD w (s + 2) 0 ≡ g → getD w (s + 2 + 1) 0 ≡ p → getD w (s + 4) 0 ≡ q
+    → (getD w (s + 5) 0 ≡ 0 → ⊥) → Entry w t op f g p q (getD w (s + 5) 0 - 1)
 entry-is {w} {s} {t} {op} {f} {g} {p} {q} e a b c d k z =
     let h : s + 3 ≡ s + 2 + 1 = omega arith in
     subst (λ (t : ℕ). Entry w t op f g p q (getD w (s + 5) 0 - 1)) e (record { is-op = a; is-f = b; is-g = c; is-p = ap (λ (j : ℕ). getD w j 0) h ∙ d; is-q = k; full = omega arith })
@@ -45,21 +46,30 @@ module _ (w : List ℕ) (s op f g p q r : ℕ) (room : s + 6 ≤ length w) where
   pub store-other : (j : ℕ) → (j < s) ⊎ (s + 6 ≤ j) → getD (storeOf w s op f g p q r) j 0 ≡ getD w j 0
   unfolding storeOf
   store-other j h = ⊎-elim
-      (λ (a : j < s). getD-set-other w5 (s + 5) j (r + 1) 0 (omega arith) ∙ (getD-set-other w4 (s + 4) j q 0 (omega arith) ∙ (getD-set-other w3 (s + 3) j p 0 (omega arith) ∙ (getD-set-other w2 (s + 2) j g 0 (omega arith) ∙ (getD-set-other w1 (s + 1) j f 0 (omega arith) ∙ (getD-set-other w (s) j op 0 (omega arith)))))))
-      (λ (a : s + 6 ≤ j). getD-set-other w5 (s + 5) j (r + 1) 0 (omega arith) ∙ (getD-set-other w4 (s + 4) j q 0 (omega arith) ∙ (getD-set-other w3 (s + 3) j p 0 (omega arith) ∙ (getD-set-other w2 (s + 2) j g 0 (omega arith) ∙ (getD-set-other w1 (s + 1) j f 0 (omega arith) ∙ (getD-set-other w (s) j op 0 (omega arith)))))))
+      (λ (a : j < s). getD-set-other w5 (s + 5) j (r + 1) 0 (omega arith) ∙ (getD-set-other w4 (s + 4) j q 0 (omega arith) ∙
+      (getD-set-other w3 (s + 3) j p 0 (omega arith) ∙ (getD-set-other w2 (s + 2) j g 0 (omega arith) ∙
+      (getD-set-other w1 (s + 1) j f 0 (omega arith) ∙ (getD-set-other w (s) j op 0 (omega arith)))))))
+      (λ (a : s + 6 ≤ j). getD-set-other w5 (s + 5) j (r + 1) 0 (omega arith) ∙ (getD-set-other w4 (s + 4) j q 0 (omega arith) ∙
+      (getD-set-other w3 (s + 3) j p 0 (omega arith) ∙ (getD-set-other w2 (s + 2) j g 0 (omega arith) ∙
+      (getD-set-other w1 (s + 1) j f 0 (omega arith) ∙ (getD-set-other w (s) j op 0 (omega arith)))))))
       h
 
   pub at-op : getD (storeOf w s op f g p q r) (s) 0 ≡ op
   unfolding storeOf
-  at-op = getD-set-other w5 (s + 5) (s) (r + 1) 0 (omega arith) ∙ (getD-set-other w4 (s + 4) (s) q 0 (omega arith) ∙ (getD-set-other w3 (s + 3) (s) p 0 (omega arith) ∙ (getD-set-other w2 (s + 2) (s) g 0 (omega arith) ∙ (getD-set-other w1 (s + 1) (s) f 0 (omega arith) ∙ (getD-set-same w (s) op 0 (omega arith))))))
+  at-op = getD-set-other w5 (s + 5) (s) (r + 1) 0 (omega arith) ∙ (getD-set-other w4 (s + 4) (s) q 0 (omega arith) ∙
+      (getD-set-other w3 (s + 3) (s) p 0 (omega arith) ∙ (getD-set-other w2 (s + 2) (s) g 0 (omega arith) ∙
+      (getD-set-other w1 (s + 1) (s) f 0 (omega arith) ∙ (getD-set-same w (s) op 0 (omega arith))))))
 
   pub at-f : getD (storeOf w s op f g p q r) (s + 1) 0 ≡ f
   unfolding storeOf
-  at-f = getD-set-other w5 (s + 5) (s + 1) (r + 1) 0 (omega arith) ∙ (getD-set-other w4 (s + 4) (s + 1) q 0 (omega arith) ∙ (getD-set-other w3 (s + 3) (s + 1) p 0 (omega arith) ∙ (getD-set-other w2 (s + 2) (s + 1) g 0 (omega arith) ∙ (getD-set-same w1 (s + 1) f 0 (simp length-set (omega arith))))))
+  at-f = getD-set-other w5 (s + 5) (s + 1) (r + 1) 0 (omega arith) ∙ (getD-set-other w4 (s + 4) (s + 1) q 0 (omega arith) ∙
+      (getD-set-other w3 (s + 3) (s + 1) p 0 (omega arith) ∙ (getD-set-other w2 (s + 2) (s + 1) g 0 (omega arith) ∙
+      (getD-set-same w1 (s + 1) f 0 (simp length-set (omega arith))))))
 
   pub at-g : getD (storeOf w s op f g p q r) (s + 2) 0 ≡ g
   unfolding storeOf
-  at-g = getD-set-other w5 (s + 5) (s + 2) (r + 1) 0 (omega arith) ∙ (getD-set-other w4 (s + 4) (s + 2) q 0 (omega arith) ∙ (getD-set-other w3 (s + 3) (s + 2) p 0 (omega arith) ∙ (getD-set-same w2 (s + 2) g 0 (simp length-set (omega arith)))))
+  at-g = getD-set-other w5 (s + 5) (s + 2) (r + 1) 0 (omega arith) ∙ (getD-set-other w4 (s + 4) (s + 2) q 0 (omega arith) ∙
+      (getD-set-other w3 (s + 3) (s + 2) p 0 (omega arith) ∙ (getD-set-same w2 (s + 2) g 0 (simp length-set (omega arith)))))
 
   pub at-p : getD (storeOf w s op f g p q r) (s + 3) 0 ≡ p
   unfolding storeOf

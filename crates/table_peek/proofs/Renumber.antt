@@ -25,7 +25,8 @@ module _ (w : List ℕ) (cap : ℕ) (x : Node) where
     pub low-less : {p : ℕ} → p ≡ natAbs (x .low) → p < cap
     low-less f = let q = v .low (sym d ∙ e) in omega arith
 
-    pub branch-moves : {p q : ℕ} → p ≡ natAbs (x .high) → q ≡ natAbs (x .low) → getD w (cap + p) 0 < 2 ^ 32 → getD w (cap + q) 0 < 2 ^ 32 → _≡_ {A = Node} (record { kind = x .kind; n = x .n; high = toZ w64 (getD w (cap + p) 0); low = toZ w64 (getD w (cap + q) 0) }) (renumber w cap x)
+    pub branch-moves : {p q : ℕ} → p ≡ natAbs (x .high) → q ≡ natAbs (x .low) → getD w (cap + p) 0 < 2 ^ 32 → getD w (cap + q) 0 < 2 ^ 32 → _≡_ {A = Node}
+        (record { kind = x .kind; n = x .n; high = toZ w64 (getD w (cap + p) 0); low = toZ w64 (getD w (cap + q) 0) }) (renumber w cap x)
     unfolding renumber
     branch-moves {p} {q} ep eq bp bq =
         let eh : toZ w64 (getD w (cap + p) 0) ≡ pos (getD w (cap + natAbs (x .high)) 0) = back (pos (getD w (cap + p) 0)) (omega arith) ∙ ap (λ (k : ℕ). pos (getD w (cap + k) 0)) ep in

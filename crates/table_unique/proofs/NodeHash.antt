@@ -27,7 +27,8 @@ product x k h =
     let b : x / 4294967296 * (k % 4294967296) ≡ x / 4294967296 * k = ap (λ (z : ℕ). x / 4294967296 * z) e in
     let n = none (x % 4294967296) k h in
     let s : x ≡ x / 4294967296 * 4294967296 + x % 4294967296 = omega arith in
-    let p : x * k ≡ x / 4294967296 * k * 4294967296 + x % 4294967296 * k = ap (λ (z : ℕ). z * k) s ∙ (add-mul (x / 4294967296 * 4294967296) (x % 4294967296) k ∙ ap (λ (z : ℕ). z + x % 4294967296 * k) (mul-right-comm (x / 4294967296) 4294967296 k)) in
+    let p : x * k ≡ x / 4294967296 * k * 4294967296 + x % 4294967296 * k = ap (λ (z : ℕ). z * k) s ∙
+    (add-mul (x / 4294967296 * 4294967296) (x % 4294967296) k ∙ ap (λ (z : ℕ). z + x % 4294967296 * k) (mul-right-comm (x / 4294967296) 4294967296 k)) in
     omega (arith, a, b, n, p)
 
 -- a share goes into the sum
@@ -48,7 +49,8 @@ module _ (l : List ℤ) (n : length l ≡ numbers) (h₀ k₀ h k i : ℕ) (is :
   hash-ends q = sym (ap (hashL h k) (drop-of-length-le l {i = i} (omega arith))) ∙ is
 
 -- the parts, whose words are those of x
-pub hash-as : (cap : ℕ) (x : Node) {kind high low : ℤ} {a b c d r : ℕ} → kind ≡ x .kind → high ≡ x .high → low ≡ x .low → a ≡ addedOf 0 kind 1640531527 → b ≡ hashL a 1367130551 (x .n) → c ≡ addedOf b high 2024237689 → d ≡ addedOf c low 1812433253 → r ≡ bucketOf d cap → r ≡ hashOf cap x
+pub hash-as : (cap : ℕ) (x : Node) {kind high low : ℤ} {a b c d r : ℕ} → kind ≡ x .kind → high ≡ x .high → low ≡ x .low → a ≡ addedOf 0 kind 1640531527
+    → b ≡ hashL a 1367130551 (x .n) → c ≡ addedOf b high 2024237689 → d ≡ addedOf c low 1812433253 → r ≡ bucketOf d cap → r ≡ hashOf cap x
 unfolding hashOf
 hash-as cap x {kind} {high} {low} {a} {b} {c} {d} fk fh fl ea eb ec ed er =
     er ∙ ap (λ (k : ℕ). bucketOf k cap) (cc (ea, eb, ec, ed, fk, fh, fl))

@@ -83,7 +83,8 @@ module _ (S : Site) (H : ℕ) (nodes : List ℤ) (stages : List ℕ) (q : Asked)
   free-each : stages-refusal S H nodes stages q ≡ 0 → (h : ℕ) → 1 ≤ h → h ≤ H → read-after S nodes stages q h .number ≡ 0
   free-each e h g l =
       let t = free-all e in
-      read-free S nodes stages q h (all-each (spared S nodes stages q 13) 1 H (t .0) h g (omega arith)) (all-each (spared S nodes stages q 15) 1 H (t .1) h g (omega arith)) (all-each (spared S nodes stages q 14) 1 H (t .2) h g (omega arith))
+      read-free S nodes stages q h (all-each (spared S nodes stages q 13) 1 H (t .0) h g (omega arith))
+      (all-each (spared S nodes stages q 15) 1 H (t .1) h g (omega arith)) (all-each (spared S nodes stages q 14) 1 H (t .2) h g (omega arith))
 
 -- ---- the outcome by its tests
 

@@ -81,7 +81,9 @@ by-tests a z v = if a (if z (refused-value 15 0) v) (refused-value 13 0)
 
 at-number : (q : Asked) (W : List ℤ) (r : ℕ) → not (eqb (value-at q W r .number) 14) ≡ true → value-at q W r .number ≡ 0
 unfolding value-at
-at-number q W r = by-test (eqb r 0) (λ b. not (eqb (if b (refused-value 14 0) (record { number = 0; place = 0; action = natAbs (high-of W r); numerator = words (numerator-of q (node-linear W r)) }) .number) 14) ≡ true → if b (refused-value 14 0) (record { number = 0; place = 0; action = natAbs (high-of W r); numerator = words (numerator-of q (node-linear W r)) }) .number ≡ 0)
+at-number q W r = by-test (eqb r 0) (λ b. not (eqb (if b (refused-value 14 0) (record
+    { number = 0; place = 0; action = natAbs (high-of W r); numerator = words (numerator-of q (node-linear W r)) }) .number) 14) ≡ true → if b (refused-value 14 0)
+    (record { number = 0; place = 0; action = natAbs (high-of W r); numerator = words (numerator-of q (node-linear W r)) }) .number ≡ 0)
     (λ t e. absurd (let z : _≡_ {A = ℕ} 0 1 = cc in omega arith))
     (λ t e. refl)
 
@@ -93,7 +95,8 @@ module _ (S : Site) (nodes : List ℤ) (stages : List ℕ) (q : Asked) (h : ℕ)
   unfolding value-after
   after-is = refl
 
-  free : (a z : Bool) (v : ValueOut) → (not (eqb (v .number) 14) ≡ true → v .number ≡ 0) → not (eqb (by-tests a z v .number) 13) ≡ true → not (eqb (by-tests a z v .number) 15) ≡ true → not (eqb (by-tests a z v .number) 14) ≡ true → by-tests a z v .number ≡ 0
+  free : (a z : Bool) (v : ValueOut) → (not (eqb (v .number) 14) ≡ true → v .number ≡ 0) → not (eqb (by-tests a z v .number) 13) ≡ true → not
+      (eqb (by-tests a z v .number) 15) ≡ true → not (eqb (by-tests a z v .number) 14) ≡ true → by-tests a z v .number ≡ 0
   free true true v k e f g = absurd (let z : _≡_ {A = ℕ} 0 1 = cc in omega arith)
   free true false v k e f g = k g
   free false z v k e f g = absurd (let z : _≡_ {A = ℕ} 0 1 = cc in omega arith)

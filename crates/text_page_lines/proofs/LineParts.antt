@@ -25,7 +25,8 @@ module _ (k : ℕ) {end : List ℕ} (h : k ≤ 16) (e : end ≡ replicate 16 32 
   pub rest-length : length (take (17 - k) (drop k end)) ≡ 17 - k
   rest-length = ap length rest-is ∙ omega (arith, length-append {A = ℕ} (replicate (16 - k) 32) (10 ∷ []), length-replicate {A = ℕ} (16 - k) 32)
 
-pub name-put : {b b₁ b₂ t end : List ℕ} {at n m : ℕ} → at ≤ length b → length t ≤ 16 → end ≡ replicate 16 32 ++ (10 ∷ []) → PutAt b at t n b₁ → PutAt b₁ n (take (17 - length t) (drop (length t) end)) m b₂ → PutAt b at (left 16 t ++ (10 ∷ [])) m b₂
+pub name-put : {b b₁ b₂ t end : List ℕ} {at n m : ℕ} → at ≤ length b → length t ≤ 16 → end ≡ replicate 16 32 ++ (10 ∷ []) → PutAt b at t n b₁ → PutAt b₁ n
+    (take (17 - length t) (drop (length t) end)) m b₂ → PutAt b at (left 16 t ++ (10 ∷ [])) m b₂
 unfolding left
 name-put {t = t} h k e p q = rename (sym (append-assoc t (replicate (16 - length t) 32) (10 ∷ []))) (then h p (rename (rest-is (length t) k e) q))
 

@@ -91,7 +91,8 @@ module _ (B : List ℕ) (H : ℕ) (nodes : List ℤ) (stages buffer : List ℕ) 
   fits z =
       let v = early B H (length stages) in
       let S = site-at B in
-      let f = judged-fits v (eqb (v .number) 0) (all (λ h. not (eqb (getD stages (h - 1) 0) 0)) (from-to 1 H)) (all (good-row (S .conditions) (S .actions) nodes) (from-to 1 (greatest-root H stages))) (ltb (length buffer) (0 + length whole)) refl z in
+      let f = judged-fits v (eqb (v .number) 0) (all (λ h. not (eqb (getD stages (h - 1) 0) 0)) (from-to 1 H))
+      (all (good-row (S .conditions) (S .actions) nodes) (from-to 1 (greatest-root H stages))) (ltb (length buffer) (0 + length whole)) refl z in
       omega (arith, ltb-false (length buffer) (0 + length whole) f)
 
   module _ {n p size : ℕ} {after : List ℕ} (e : record { number = n; place = p; size = size; buffer = after } ≡ listing B H nodes stages buffer 0) where
@@ -119,7 +120,8 @@ module _ (B : List ℕ) (H : ℕ) (nodes : List ℤ) (stages buffer : List ℕ) 
 -- ---- what is printed
 
 -- a solve's answer and tables
-module _ (B : List ℕ) (H : ℕ) (nodes : List ℤ) (stages work peaks : List ℕ) (room : ℕ) {k q peak : ℕ} {l : List ℤ} {s w m : List ℕ} (e : record { number = k; place = q; peak = peak; nodes = l; stages = s; work = w; peaks = m } ≡ solve B H nodes stages work peaks) where
+module _ (B : List ℕ) (H : ℕ) (nodes : List ℤ) (stages work peaks : List ℕ) (room : ℕ) {k q peak : ℕ} {l : List ℤ} {s w m : List ℕ}
+    (e : record { number = k; place = q; peak = peak; nodes = l; stages = s; work = w; peaks = m } ≡ solve B H nodes stages work peaks) where
   abbrev by-solve : SolveOut → List ℕ
   by-solve o = if (eqb (o .number) 0) (listed B H (o .nodes) (o .stages) room) (refusal-line (refusal (o .number) (o .place)))
 
@@ -132,7 +134,8 @@ module _ (B : List ℕ) (H : ℕ) (nodes : List ℤ) (stages work peaks : List �
   solved-printed z = sym (ap (λ (b : Bool). if b (listed B H l s room) (refusal-line (refusal k q))) (eq-eqb k 0 z)) ∙ ap by-solve e
 
 -- the listing's answer, from the tables that the solve left
-module _ (B : List ℕ) (H : ℕ) (nodes : List ℤ) (stages work peaks buffer : List ℕ) {k q peak : ℕ} {l : List ℤ} {s w m : List ℕ} (e : record { number = k; place = q; peak = peak; nodes = l; stages = s; work = w; peaks = m } ≡ solve B H nodes stages work peaks) (z : k ≡ 0)
+module _ (B : List ℕ) (H : ℕ) (nodes : List ℤ) (stages work peaks buffer : List ℕ) {k q peak : ℕ} {l : List ℤ} {s w m : List ℕ}
+    (e : record { number = k; place = q; peak = peak; nodes = l; stages = s; work = w; peaks = m } ≡ solve B H nodes stages work peaks) (z : k ≡ 0)
     {n p size : ℕ} {after : List ℕ} (f : record { number = n; place = p; size = size; buffer = after } ≡ listing B H l s buffer 0) where
   pub listing-refused-printed : (n ≡ 0 → ⊥) → refusal-line (refusal n p) ≡ printed B H nodes stages work peaks (length buffer)
   listing-refused-printed m = listed-refused B H l s buffer f m ∙ solved-printed B H nodes stages work peaks (length buffer) e z
@@ -141,6 +144,7 @@ module _ (B : List ℕ) (H : ℕ) (nodes : List ℤ) (stages work peaks buffer :
   listing-printed m = let r = listed-front B H l s buffer f m in (r .0, r .1 ∙ solved-printed B H nodes stages work peaks (length buffer) e z)
 
 -- in the program's own tables
-pub tables-are : (B : List ℕ) (H : ℕ) {room : ℕ} {t : List ℕ} → room ≡ text-bytes → t ≡ printed B H (replicate (nodes-held * node-words) (pos 0)) (replicate steps-most 0) (replicate (nodes-held * work-words) 0) (replicate peak-words 0) room → t ≡ tables-printed B H
+pub tables-are : (B : List ℕ) (H : ℕ) {room : ℕ} {t : List ℕ} → room ≡ text-bytes → t ≡ printed B H (replicate (nodes-held * node-words) (pos 0)) (replicate steps-most 0)
+    (replicate (nodes-held * work-words) 0) (replicate peak-words 0) room → t ≡ tables-printed B H
 unfolding tables-printed
 tables-are B H e f = f ∙ ap (printed B H (replicate (nodes-held * node-words) (pos 0)) (replicate steps-most 0) (replicate (nodes-held * work-words) 0) (replicate peak-words 0)) e

@@ -33,7 +33,8 @@ unfolding both-read answered
 one-none = refl
 
 -- the first's product, 170141183460469231731687303715885 × 10⁶, lies outside two words; the total is the largest within, and one more is outside
-comes-back : both-read pond rain 6 (answered (num (pos 170141183460469231731687303715885)) 2) (answered (num (negsuc 894272)) 1) ≡ record { number = 0; place = 0; first = 2; second = 1; numerator = words (pos 170141183460469231731687303715884105727) }
+comes-back : both-read pond rain 6 (answered (num (pos 170141183460469231731687303715885)) 2)
+    (answered (num (negsuc 894272)) 1) ≡ record { number = 0; place = 0; first = 2; second = 1; numerator = words (pos 170141183460469231731687303715884105727) }
 unfolding both-read answered answered-number crosswise in-two-words number words
 comes-back = refl
 

@@ -56,7 +56,9 @@ module _ (n A : ℕ) (W : List ℤ) (r : ℕ) where
   by-first : (z : ℤ) → node-word W r 0 ≡ z → Inside W r → good-row n A W r ≡ true → T (judge z) → Told (kind-of (natAbs z))
   unfolding kind-of
   by-first (negsuc k) e h g = λ t. absurd t
-  by-first (pos k) e h g = by-test (eqb k 0) (λ b. T (if b (good-leaf-row A W r) (if (eqb k 1) (good-condition-row n W r) (if (eqb k 2) (good-test-row W r) (if (eqb k 3) (good-none-row W r) false)))) → Told (if b Leaf (if (eqb k 1) Condition (if (eqb k 2) Test None))))
+  by-first (pos k) e h g = by-test (eqb k 0) (λ b. T (if b (good-leaf-row A W r)
+      (if (eqb k 1) (good-condition-row n W r) (if (eqb k 2) (good-test-row W r) (if (eqb k 3) (good-none-row W r) false)))) → Told
+      (if b Leaf (if (eqb k 1) Condition (if (eqb k 2) Test None))))
       (λ t₀ t. record { inside = h; good = g; kind = ap natAbs e ∙ eqb→eq k 0 t₀; keeps = t })
       (λ _. by-test (eqb k 1) (λ b. T (if b (good-condition-row n W r) (if (eqb k 2) (good-test-row W r) (if (eqb k 3) (good-none-row W r) false))) → Told (if b Condition (if (eqb k 2) Test None)))
       (λ t₁ t. record { inside = h; good = g; kind = ap natAbs e ∙ eqb→eq k 1 t₁; keeps = t })

@@ -121,7 +121,8 @@ module _ (a : List ℤ) (n : length a ≡ numbers) where
   unfolding gcd-all
   gcd-none = ap gcd-all (sym (drop-of-length-le (take coefficients a) {i = coefficients} (let w = firsts in omega arith)))
 
-  pub gcd-more : (i g r m : ℕ) → i ≤ coefficients → (i ≡ 0 → ⊥) → g ≡ gcd-all (drop i (take coefficients a)) → mag (getD a (i - 1) (pos 0)) < 2 ^ 63 → m ≡ natAbs (R (getD a (i - 1) (pos 0))) → r ≡ gcdOf m g → r ≡ gcd-all (drop (i - 1) (take coefficients a))
+  pub gcd-more : (i g r m : ℕ) → i ≤ coefficients → (i ≡ 0 → ⊥) → g ≡ gcd-all (drop i (take coefficients a)) → mag (getD a (i - 1) (pos 0)) < 2 ^ 63 → m ≡ natAbs
+      (R (getD a (i - 1) (pos 0))) → r ≡ gcdOf m g → r ≡ gcd-all (drop (i - 1) (take coefficients a))
   unfolding gcd-all
   gcd-more i g r m h z e f em er =
       let w = firsts in

@@ -32,7 +32,9 @@ returns : tie.Need-returns
 returns c =
     let at-struct-told = c .before .before .before in let at-put-le = at-struct-told .before .before .before .before in
     let at-put-pair = at-put-le .before .before .before .before .before in let start = at-put-pair .before .before .before .before in
-    total-put (total-out (start .args .t)) (omega (arith, start .pre, at-put-pair .put-pair .ensures .1, at-put-pair .put-pair .kept .0)) (record { sfits = at-struct-told .struct-told .given .1 .1 .1 .1 .0 .1 .1 .1 .0 .1 }) (at-put-pair .put-pair .ensures .0) (at-put-le .put-le .ensures) (c .before .before .put-words .ensures)
+    total-put (total-out (start .args .t)) (omega (arith, start .pre, at-put-pair .put-pair .ensures .1, at-put-pair .put-pair .kept .0))
+    (record { sfits = at-struct-told .struct-told .given .1 .1 .1 .1 .0 .1 .1 .1 .0 .1 }) (at-put-pair .put-pair .ensures .0) (at-put-le .put-le .ensures)
+    (c .before .before .put-words .ensures)
 
 pub put-total-spec : {M : Type 1} → statement M
 put-total-spec =

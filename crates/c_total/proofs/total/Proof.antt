@@ -23,7 +23,7 @@ same-length c = search needs
 
 returns : tie.Need-returns
 returns c =
-    let at-total = c .before .before .before in let place = at-total .before .before .before .before .before .before .before in let s = place in
+    let at-total = c .before .before .before in let s = at-total .before .before .before .before .before .before .before in
     let a = s .args in
     let n : List ℤ = a .l1 ∷ a .l2 ∷ a .l3 ∷ a .l4 ∷ a .l5 ∷ a .l6 ∷ a .l7 ∷ a .l8 ∷ a .d ∷ [] in
     let m : List ℤ = a .k1 ∷ a .k2 ∷ a .k3 ∷ a .k4 ∷ a .k5 ∷ a .k6 ∷ a .k7 ∷ a .k8 ∷ a .e ∷ [] in

@@ -54,7 +54,15 @@ loop-less c =
 loop-again : tie.Need-loop-again Inv-loop μ-loop
 loop-again c =
     let at-row = c .before .before .before .before .before .before .before in let at-loop = at-row .before .before .before .before .before in
-    record { stop = c .if1 .left; standing = at-row .row .ensures (c .if1 .left); nodes-kept = at-row .row .kept .0 ∙ at-loop .loop .inv .nodes-kept; work-kept = at-row .row .kept .1 .0 ∙ at-loop .loop .inv .work-kept; roots-kept = at-row .row .kept .1 .1 .1 .1 .0 ∙ at-loop .loop .inv .roots-kept }
+    record {
+      stop = c .if1 .left;
+      standing = at-row .row .ensures (c .if1 .left);
+      nodes-kept = at-row .row .kept .0
+          ∙ at-loop .loop .inv .nodes-kept;
+      work-kept = at-row .row .kept .1 .0 ∙ at-loop .loop .inv .work-kept;
+      roots-kept = at-row .row .kept .1 .1 .1 .1 .0
+          ∙ at-loop .loop .inv .roots-kept;
+    }
 
 same-length-4 : tie.Need-same-length-4 Inv-loop μ-loop
 same-length-4 c =

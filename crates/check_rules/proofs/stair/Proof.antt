@@ -28,7 +28,7 @@ array-set-from-n c = search needs
 
 join-test-requires : tie.Need-join-test-requires
 join-test-requires c κs =
-    let at-leaf = c .before .before .before .before .before .before .before in let place-2 = at-leaf .before .before .before .before in let s = place-2 in
+    let at-leaf = c .before .before .before .before .before .before .before in let s = at-leaf .before .before .before .before in
     let A = at-leaf .leaf .ensures in
     (A .table .bare, proper-at (s .args .at) (s .pre .1), lt-of-lt-of-le (s .pre .3) (A .more), A .within (c .before .before .if1 .left))
 

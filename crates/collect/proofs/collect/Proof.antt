@@ -10,14 +10,14 @@ mark-requires c κs =
 
 slide-requires : tie.Need-slide-requires
 slide-requires c κs =
-    let at-mark = c .before .before .before .before in let place = at-mark .before .before .before .before .before .before in
-    let s = place in (space₁ (s .pre .0) (s .pre .1) (s .pre .2) (at-mark .mark .ensures), s .pre .1, closed (s .pre .0) (s .pre .1) (s .pre .2) (at-mark .mark .ensures))
+    let at-mark = c .before .before .before .before in let s = at-mark .before .before .before .before .before .before in
+    (space₁ (s .pre .0) (s .pre .1) (s .pre .2) (at-mark .mark .ensures), s .pre .1, closed (s .pre .0) (s .pre .1) (s .pre .2) (at-mark .mark .ensures))
 
 forward-requires : tie.Need-forward-requires
 forward-requires c κs =
     let at-slide = c .before .before .before .before .before in let at-mark = at-slide .before .before .before .before .before in
-    let place = at-mark .before .before .before .before .before .before in
-    let s = place in asks (s .pre .0) (s .pre .1) (s .pre .2) (at-mark .mark .ensures) (at-slide .slide .ensures)
+    let s = at-mark .before .before .before .before .before .before in
+    asks (s .pre .0) (s .pre .1) (s .pre .2) (at-mark .mark .ensures) (at-slide .slide .ensures)
 
 same-length : tie.Need-same-length
 same-length c = search needs
@@ -31,8 +31,8 @@ same-length-3 c = search needs
 returns : tie.Need-returns
 returns c =
     let at-slide = c .before .before .before .before .before .before .before .before in let at-mark = at-slide .before .before .before .before .before in
-    let place = at-mark .before .before .before .before .before .before in
-    let s = place in collected (s .pre .0) (s .pre .1) (s .pre .2) (at-mark .mark .ensures) (at-slide .slide .ensures) (c .before .before .forward .ensures)
+    let s = at-mark .before .before .before .before .before .before in
+    collected (s .pre .0) (s .pre .1) (s .pre .2) (at-mark .mark .ensures) (at-slide .slide .ensures) (c .before .before .forward .ensures)
 
 pub collect-spec : {M : Type 1} → statement M
 collect-spec =

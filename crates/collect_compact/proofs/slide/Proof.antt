@@ -21,7 +21,7 @@ loop-holds c =
 
 slide-one-requires : tie.Need-slide-one-requires Inv-loop μ-loop
 slide-one-requires c κs =
-    let at-loop = c .before .before .before in let at-stay = at-loop .before .before .before in let place = at-stay .before .before .before in let s = place in
+    let at-loop = c .before .before .before in let at-stay = at-loop .before .before .before in let s = at-stay .before .before .before in
     let v = at-loop .loop .inv in
     let t = at-stay .stay .ensures in
     let z = space-after t (s .pre .0) in
@@ -40,7 +40,7 @@ loop-less c = omega arith
 loop-again : tie.Need-loop-again Inv-loop μ-loop
 loop-again c =
     let at-slide-one = c .before .before .before in let at-loop-test = at-slide-one .before .before .before in let at-loop = at-loop-test .before in
-    let at-stay = at-loop .before .before .before in let place = at-stay .before .before .before in let s = place in
+    let at-stay = at-loop .before .before .before in let s = at-stay .before .before .before in
     let t = at-stay .stay .ensures in
     steps (space-after t (s .pre .0)) (s .pre .1) (closed-after t (s .pre .0) (s .pre .1) (s .pre .2)) (at-loop .loop .inv) (at-loop-test .loop-test .taken) (at-slide-one .slide-one .ensures)
 
@@ -52,7 +52,7 @@ same-length-2 c = omega (arith, c .before .loop .inv .lenw, c .before .before .b
 
 returns : tie.Need-returns Inv-loop μ-loop
 returns c =
-    let at-stay = c .before .before .before .before in let place = at-stay .before .before .before in let s = place in
+    let at-stay = c .before .before .before .before in let s = at-stay .before .before .before in
     let t = at-stay .stay .ensures in
     slid-before t (s .pre .0) (ends (space-after t (s .pre .0)) (s .pre .1) (closed-after t (s .pre .0) (s .pre .1) (s .pre .2)) (c .before .loop .inv) (c .loop-test .left))
 

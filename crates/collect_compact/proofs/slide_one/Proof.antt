@@ -19,7 +19,7 @@ get-requires c κs = search needs
 
 renumbered-requires : tie.Need-renumbered-requires
 renumbered-requires c κs =
-    let place = c .before .before .before .before .before .before in let s = place in (s .pre .1, s .pre .2, inside-as (c .get .ensures) (s .pre .5))
+    let s = c .before .before .before .before .before .before in (s .pre .1, s .pre .2, inside-as (c .get .ensures) (s .pre .5))
 
 put-requires : tie.Need-put-requires
 put-requires c κs = search needs
@@ -48,8 +48,8 @@ same-length-2 c = search needs
 returns-2 : tie.Need-returns-2
 returns-2 c =
     let at-renumbered = c .before .before .before in let at-get = at-renumbered .before in let at-if1 = at-get .before .before .before in
-    let place = at-if1 .before .before .before in
-    let s = place in one-yes (s .args .nodes .now) (s .args .work .now) (s .args .cap) (s .args .i) (s .args .j) (at-if1 .if1 .left) (at-get .get .ensures) (at-renumbered .renumbered .ensures) (c .before .put .ensures)
+    let s = at-if1 .before .before .before in
+    one-yes (s .args .nodes .now) (s .args .work .now) (s .args .cap) (s .args .i) (s .args .j) (at-if1 .if1 .left) (at-get .get .ensures) (at-renumbered .renumbered .ensures) (c .before .put .ensures)
 
 pub slide-one-spec : {M : Type 1} → statement M
 slide-one-spec =

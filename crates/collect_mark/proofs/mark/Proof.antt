@@ -20,7 +20,7 @@ work-requires c κs =
 
 loop-holds : tie.Need-loop-holds Inv-loop μ-loop
 loop-holds c =
-    let place = c .before .before .before .before .before .before in let s = place in let z = s .pre .0 in
+    let s = c .before .before .before .before .before .before in let z = s .pre .0 in
     begins (z .room) (s .pre .1) (s .pre .2) (s .args .work .now) (let q = z .works in omega arith) (c .before .before .work .ensures)
 
 mul-r : tie.Need-mul-r Inv-loop μ-loop
@@ -33,18 +33,18 @@ shared-slice-read-r c =
 
 cast-r : tie.Need-cast-r Inv-loop μ-loop
 cast-r c =
-    let place = c .before .before .before .before .before .before .before .before .before in
-    let s = place in let q = s .pre .2 .at _ (c .before .loop-test .taken) in let z = s .pre .0 in omega (arith, z .room, z .few)
+    let s = c .before .before .before .before .before .before .before .before .before in
+    let q = s .pre .2 .at _ (c .before .loop-test .taken) in let z = s .pre .0 in omega (arith, z .room, z .few)
 
 mul-work : tie.Need-mul-work Inv-loop μ-loop
 mul-work c =
-    let place = c .before .before .before .before .before .before .before .before .before in
-    let s = place in let q = s .pre .2 .at _ (c .before .loop-test .taken) in let z = s .pre .0 in omega (arith, z .room, z .few)
+    let s = c .before .before .before .before .before .before .before .before .before in
+    let q = s .pre .2 .at _ (c .before .loop-test .taken) in let z = s .pre .0 in omega (arith, z .room, z .few)
 
 slice-write-work : tie.Need-slice-write-work Inv-loop μ-loop
 slice-write-work c =
-    let place = c .before .before .before .before .before .before .before .before .before in
-    let s = place in fits (s .pre .0 .room) (s .pre .1) (s .pre .2) (c .before .before .loop .inv) _ (s .pre .2 .at _ (c .before .loop-test .taken))
+    let s = c .before .before .before .before .before .before .before .before .before in
+    fits (s .pre .0 .room) (s .pre .1) (s .pre .2) (c .before .before .loop .inv) _ (s .pre .2 .at _ (c .before .loop-test .taken))
 
 add-j : tie.Need-add-j Inv-loop μ-loop
 add-j c =
@@ -56,12 +56,12 @@ loop-less c =
 
 loop-again : tie.Need-loop-again Inv-loop μ-loop
 loop-again c =
-    let place = c .before .before .before .before .before .before .before .before .before in
-    let s = place in root (s .pre .0 .room) (s .pre .1) (s .pre .2) (c .before .before .loop .inv) (c .before .loop-test .taken)
+    let s = c .before .before .before .before .before .before .before .before .before in
+    root (s .pre .0 .room) (s .pre .1) (s .pre .2) (c .before .before .loop .inv) (c .before .loop-test .taken)
 
 descend-requires : tie.Need-descend-requires Inv-loop μ-loop
 descend-requires c κs =
-    let at-work = c .before .before .before .before .before in let place = at-work .before .before .before .before in let s = place in let z = s .pre .0 in
+    let at-work = c .before .before .before .before .before in let s = at-work .before .before .before .before in let z = s .pre .0 in
     (omega (arith, z .room, z .words), omega (arith, z .room, z .works, c .before .before .loop .inv .len, at-work .work .kept .0), omega (arith, z .room, z .few), s .pre .1)
 
 same-length : tie.Need-same-length Inv-loop μ-loop
@@ -72,7 +72,7 @@ same-length c =
 returns : tie.Need-returns Inv-loop μ-loop
 returns c =
     let at-loop-test = c .before .before .before .before in let at-loop = at-loop-test .before in let at-work = at-loop .before .before .before in
-    let place = at-work .before .before .before .before in let s = place in let z = s .pre .0 in let w = s .args .work .now in
+    let s = at-work .before .before .before .before in let z = s .pre .0 in let w = s .args .work .now in
     done (z .room) (s .pre .1) (s .pre .2) (at-loop .loop .inv) (at-loop-test .loop-test .left) (c .before .before .descend .ensures)
     (cleared-len (z .room) (s .pre .1) (s .pre .2) w (let q = z .works in omega arith) (at-work .work .ensures))
     (cleared-rest (z .room) (s .pre .1) (s .pre .2) w (let q = z .works in omega arith) (at-work .work .ensures))

@@ -105,7 +105,8 @@ loop-again : tie.Need-loop-again Inv-loop μ-loop
 loop-again c =
     let at-loop-test = c .before .before .before in let at-loop = at-loop-test .before in let at-work3 = at-loop .before .before .before in
     let at-work = at-work3 .before .before .before .before in let start = at-work .before .before .before in let z = start .pre in
-    steps (at-loop .loop .inv) (omega (arith, z .works, at-work3 .work3 .kept .0, at-work .work .kept .0)) (at-loop-test .loop-test .taken) (z .room) _ (c .before .before .get .ensures) _ (c .before .hash .ensures .0) (c .before .hash .ensures .1)
+    steps (at-loop .loop .inv) (omega (arith, z .works, at-work3 .work3 .kept .0, at-work .work .kept .0)) (at-loop-test .loop-test .taken) (z .room) _
+    (c .before .before .get .ensures) _ (c .before .hash .ensures .0) (c .before .hash .ensures .1)
 
 same-length : tie.Need-same-length Inv-loop μ-loop
 same-length c =

@@ -36,7 +36,8 @@ returns c =
     let at-lay-out = c .before .before .before in let at-stage-words = at-lay-out .before .before .before .before .before in
     let at-rewrite = at-stage-words .before .before .before .before in let at-number-stages = at-rewrite .before .before .before .before .before in
     let start = at-number-stages .before .before .before .before .before .before in
-    finished (start .pre .held) (start .args .stages .now) (start .pre .roots) (start .pre .stages) (at-number-stages .number-stages .ensures) (at-rewrite .rewrite .ensures) (at-lay-out .lay-out .ensures) (at-stage-words .stage-words .ensures) (at-number-stages .number-stages .kept .1 .0)
+    finished (start .pre .held) (start .args .stages .now) (start .pre .roots) (start .pre .stages) (at-number-stages .number-stages .ensures)
+    (at-rewrite .rewrite .ensures) (at-lay-out .lay-out .ensures) (at-stage-words .stage-words .ensures) (at-number-stages .number-stages .kept .1 .0)
 
 pub finish-spec : {M : Type 1} → statement M
 finish-spec =

@@ -13,7 +13,7 @@ work-requires c κs = let s = c .before .before .before in (omega arith, omega (
 
 number-all-requires : tie.Need-number-all-requires
 number-all-requires c κs =
-    let at-work = c .before .before .before in let place = at-work .before .before .before .before in let s = place in (
+    let at-work = c .before .before .before in let s = at-work .before .before .before .before in (
       s .pre .0,
       omega (arith, s .pre .1, at-work .work .kept .0),
       λ i h. within 0 (s .args .work .now) (s .args .cap) (s .args .cap + s .args .count) (at-work .work .ensures) (omega arith) (omega (arith, s .pre .0 .room, s .pre .1)) 0 (s .args .cap + i) (omega arith) (omega arith),

@@ -47,7 +47,8 @@ number-mul-if1 t c =
 
 number-slice-read-if1 : (t : ℕ) → number-lts.Need-slice-read-if1 (number-claims t) (number-at t) number.Post
 number-slice-read-if1 t c =
-    let g = (c .before .before) .pre .1 .0 .room in let f = (c .before .before) .pre .1 .0 .few in let i = (c .before .before) .pre .1 .1 in let v = (c .before .before) .pre .1 .2 .works in let q = (c .before .before) .pre .1 .0 .words in omega arith
+    let g = (c .before .before) .pre .1 .0 .room in let f = (c .before .before) .pre .1 .0 .few in let i = (c .before .before) .pre .1 .1 in let v =
+    (c .before .before) .pre .1 .2 .works in let q = (c .before .before) .pre .1 .0 .words in omega arith
 
 number-is-leaf-requires : (t : ℕ) → number-lts.Need-is-leaf-requires (number-claims t) (number-at t) number.Post
 number-is-leaf-requires t c κs =
@@ -78,7 +79,8 @@ number-number-requires : (t : ℕ) → number-lts.Need-number-requires (number-c
 unfolding nodeAt
 number-number-requires t c κs =
     let at-is-leaf = c .before .before .before in let start = at-is-leaf .before .before .before .before in
-    let e = c .branch .ensures in let i = start .pre .1 .1 in let b = start .pre .1 .0 .good .valid _ i .high-below (sym (at-is-leaf .is-leaf .ensures) ∙ c .before .before .if2 .left) in (omega (arith, start .pre .0), (start .pre .1 .0, omega arith, start .pre .1 .2))
+    let e = c .branch .ensures in let i = start .pre .1 .1 in let b = start .pre .1 .0 .good .valid _ i .high-below
+    (sym (at-is-leaf .is-leaf .ensures) ∙ c .before .before .if2 .left) in (omega (arith, start .pre .0), (start .pre .1 .0, omega arith, start .pre .1 .2))
 
 number-branch-requires-2 : (t : ℕ) → number-lts.Need-branch-requires-2 (number-claims t) (number-at t) number.Post
 unfolding nodeAt
@@ -91,7 +93,8 @@ unfolding nodeAt
 number-number-requires-2 t c κs =
     let at-number = c .before .before .before .before in let at-if2 = at-number .before .before .before in let at-is-leaf = at-if2 .before in
     let start = at-is-leaf .before .before .before .before in
-    let e = c .branch2 .ensures in let i = start .pre .1 .1 in let b = start .pre .1 .0 .good .valid _ i .low-below (sym (at-is-leaf .is-leaf .ensures) ∙ at-if2 .if2 .left) in (omega (arith, start .pre .0), (start .pre .1 .0, omega arith, at-number .number .ensures .state))
+    let e = c .branch2 .ensures in let i = start .pre .1 .1 in let b = start .pre .1 .0 .good .valid _ i .low-below
+    (sym (at-is-leaf .is-leaf .ensures) ∙ at-if2 .if2 .left) in (omega (arith, start .pre .0), (start .pre .1 .0, omega arith, at-number .number .ensures .state))
 
 number-assign-requires-2 : (t : ℕ) → number-lts.Need-assign-requires-2 (number-claims t) (number-at t) number.Post
 unfolding nodeAt
@@ -99,7 +102,9 @@ number-assign-requires-2 t c κs =
     let at-number2 = c .before .before .before in let at-branch2 = at-number2 .before in let at-number = at-branch2 .before .before .before .before in
     let at-branch = at-number .before in let at-if2 = at-branch .before .before in let at-is-leaf = at-if2 .before in let at-if1 = at-is-leaf .before in
     let start = at-if1 .before .before .before in
-    let g = start .pre .1 .0 .room in let i = start .pre .1 .1 in let q = branch-lt (start .pre .1 .0) (start .pre .1 .2) _ i (at-if1 .if1 .taken) (sym (at-is-leaf .is-leaf .ensures) ∙ at-if2 .if2 .left) (at-branch .branch .ensures) (at-branch2 .branch2 .ensures) (at-number .number .ensures) (at-number2 .number2 .ensures) in (at-number2 .number2 .ensures .state .works, start .pre .1 .0 .few, omega arith, omega arith)
+    let g = start .pre .1 .0 .room in let i = start .pre .1 .1 in let q = branch-lt (start .pre .1 .0) (start .pre .1 .2) _ i (at-if1 .if1 .taken)
+    (sym (at-is-leaf .is-leaf .ensures) ∙ at-if2 .if2 .left) (at-branch .branch .ensures) (at-branch2 .branch2 .ensures) (at-number .number .ensures)
+    (at-number2 .number2 .ensures) in (at-number2 .number2 .ensures .state .works, start .pre .1 .0 .few, omega arith, omega arith)
 
 number-same-length-2 : (t : ℕ) → number-lts.Need-same-length-2 (number-claims t) (number-at t) number.Post
 number-same-length-2 t c =
@@ -112,7 +117,9 @@ number-returns-2 t c =
     let at-number2 = c .before .before .before .before .before .before in let at-branch2 = at-number2 .before in let at-number = at-branch2 .before .before .before .before in
     let at-branch = at-number .before in let at-if2 = at-branch .before .before in let at-is-leaf = at-if2 .before in let at-if1 = at-is-leaf .before in
     let start = at-if1 .before .before .before in
-    branch-new (start .pre .1 .0) (start .pre .1 .2) _ (start .pre .1 .1) (at-if1 .if1 .taken) (sym (at-is-leaf .is-leaf .ensures) ∙ at-if2 .if2 .left) (at-branch .branch .ensures) (at-branch2 .branch2 .ensures) (at-number .number .ensures) (at-number2 .number2 .ensures) (c .before .before .assign2 .ensures .0) (c .before .before .assign2 .ensures .1)
+    branch-new (start .pre .1 .0) (start .pre .1 .2) _ (start .pre .1 .1) (at-if1 .if1 .taken) (sym (at-is-leaf .is-leaf .ensures) ∙ at-if2 .if2 .left)
+    (at-branch .branch .ensures) (at-branch2 .branch2 .ensures) (at-number .number .ensures) (at-number2 .number2 .ensures) (c .before .before .assign2 .ensures .0)
+    (c .before .before .assign2 .ensures .1)
 
 number-returns-3 : (t : ℕ) → number-lts.Need-returns-3 (number-claims t) (number-at t) number.Post
 number-returns-3 t c =

@@ -15,7 +15,8 @@ abbrev μ-loop : tie.MeasureT-loop
 
 loop-holds : tie.Need-loop-holds Inv-loop μ-loop
 loop-holds c =
-    begins ((c .before .before) .args .cap) ((c .before .before) .args .nodes .now) ((c .before .before) .args .count) ((c .before .before) .args .work .now) ((c .before .before) .args .roots .now) ((c .before .before) .pre .0 .room) ((c .before .before) .pre .1) ((c .before .before) .pre .2)
+    begins ((c .before .before) .args .cap) ((c .before .before) .args .nodes .now) ((c .before .before) .args .count) ((c .before .before) .args .work .now)
+    ((c .before .before) .args .roots .now) ((c .before .before) .pre .0 .room) ((c .before .before) .pre .1) ((c .before .before) .pre .2)
 
 mul-r : tie.Need-mul-r Inv-loop μ-loop
 mul-r c =

@@ -48,13 +48,33 @@ returns-6 : tie.Need-returns-6
 unfolding on-after
 returns-6 c =
     let at-match = c .before .before .before in
-    simp (c .before .if3 .taken, ne-eqb _ _ (at-match .match .rest .0 .0 .1), ne-eqb _ _ (at-match .match .rest .0 .1), ne-eqb _ _ (at-match .match .rest .1), c .before .before .before .before .if1 .left, ← c .before .before .bound .ensures, ← c .before .before .before .before .before .is-digit .ensures) (c .end-const .ensures)
+    simp (
+      c .before .if3 .taken,
+      ne-eqb _ _ (at-match .match .rest .0 .0 .1),
+      ne-eqb _ _ (at-match .match .rest .0 .1),
+      ne-eqb _ _
+          (at-match .match .rest .1),
+      c .before .before .before .before .if1 .left,
+      ← c .before .before .bound .ensures,
+      ←
+          c .before .before .before .before .before .is-digit .ensures,
+    ) (c .end-const .ensures)
 
 returns-7 : tie.Need-returns-7
 unfolding on-after
 returns-7 c =
     let at-match = c .before .before .before in
-    simp (c .before .if3 .left, ne-eqb _ _ (at-match .match .rest .0 .0 .1), ne-eqb _ _ (at-match .match .rest .0 .1), ne-eqb _ _ (at-match .match .rest .1), c .before .before .before .before .if1 .left, ← c .before .before .bound .ensures, ← c .before .before .before .before .before .is-digit .ensures) (c .ending .ensures)
+    simp (
+      c .before .if3 .left,
+      ne-eqb _ _ (at-match .match .rest .0 .0 .1),
+      ne-eqb _ _ (at-match .match .rest .0 .1),
+      ne-eqb _ _
+          (at-match .match .rest .1),
+      c .before .before .before .before .if1 .left,
+      ← c .before .before .bound .ensures,
+      ←
+          c .before .before .before .before .before .is-digit .ensures,
+    ) (c .ending .ensures)
 
 pub on-after-spec : {M : Type 1} → statement M
 on-after-spec =

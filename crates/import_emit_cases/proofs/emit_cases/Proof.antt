@@ -28,7 +28,8 @@ finish-requires : tie.Need-finish-requires
 finish-requires c κs =
     let at-write-leaf = c .before .before .before .before .before .before .before in let at-go = at-write-leaf .before .before .before in
     let start = at-go .before .before .before .before in
-    rest-lent _ _ _ _ _ (start .pre) (at-go .go .result) (at-go .go .ensures) (at-write-leaf .write-leaf .result) _ _ (at-write-leaf .write-leaf .ensures) (at-write-leaf .write-leaf .kept .1 .1 .1 .1 .0) (c .before .before .if1 .left) (at-write-leaf .write-leaf .kept .1 .1 .0)
+    rest-lent _ _ _ _ _ (start .pre) (at-go .go .result) (at-go .go .ensures) (at-write-leaf .write-leaf .result) _ _ (at-write-leaf .write-leaf .ensures)
+    (at-write-leaf .write-leaf .kept .1 .1 .1 .1 .0) (c .before .before .if1 .left) (at-write-leaf .write-leaf .kept .1 .1 .0)
 
 same-length-3 : tie.Need-same-length-3
 same-length-3 c = search needs
@@ -40,7 +41,9 @@ returns-2 : tie.Need-returns-2
 returns-2 c =
     let at-finish = c .before .before .before .before in let at-if1 = at-finish .before .before .before in let at-write-leaf = at-if1 .before .before .before .before .before in
     let at-go = at-write-leaf .before .before .before in let start = at-go .before .before .before .before in
-    then-rest _ _ _ _ _ (start .pre) (at-go .go .result) (at-go .go .ensures) (at-write-leaf .write-leaf .result) _ _ (at-write-leaf .write-leaf .ensures) (at-write-leaf .write-leaf .kept .1 .1 .1 .1 .0) (at-if1 .if1 .left) (at-finish .finish .result) _ (at-finish .finish .kept .1 .1 .1 .0) (at-finish .finish .ensures)
+    then-rest _ _ _ _ _ (start .pre) (at-go .go .result) (at-go .go .ensures) (at-write-leaf .write-leaf .result) _ _ (at-write-leaf .write-leaf .ensures)
+    (at-write-leaf .write-leaf .kept .1 .1 .1 .1 .0) (at-if1 .if1 .left) (at-finish .finish .result) _ (at-finish .finish .kept .1 .1 .1 .0)
+    (at-finish .finish .ensures)
 
 pub emit-cases-spec : {M : Type 1} → statement M
 emit-cases-spec =

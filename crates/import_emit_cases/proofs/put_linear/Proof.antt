@@ -23,7 +23,9 @@ same-length c = search needs
 returns-2 : tie.Need-returns-2
 returns-2 c =
     let at-if2 = c .before .before .before .before in let at-if1 = at-if2 .before in let start = at-if1 .before .before in
-    as-told (linear-test (start .args .a) (start .args .test) (at-if2 .if2 .taken)) (put-one _ _ 37 _ (test-length (start .args .a) (start .good .1 .1 .0 .1 .0 .1)) _ _ (omega arith) (omega (arith, at-if1 .if1 .left, start .pre .1)) (c .before .before .put-test .ensures))
+    as-told (linear-test (start .args .a) (start .args .test) (at-if2 .if2 .taken))
+    (put-one _ _ 37 _ (test-length (start .args .a) (start .good .1 .1 .0 .1 .0 .1)) _ _ (omega arith) (omega (arith, at-if1 .if1 .left, start .pre .1))
+    (c .before .before .put-test .ensures))
 
 put-leaf-requires : tie.Need-put-leaf-requires
 put-leaf-requires c κs =
@@ -36,7 +38,9 @@ same-length-2 c = search needs
 returns-3 : tie.Need-returns-3
 returns-3 c =
     let at-if2 = c .before .before .before .before in let at-if1 = at-if2 .before in let start = at-if1 .before .before in
-    as-told (linear-leaf (start .args .a) (start .args .test) (at-if2 .if2 .left)) (put-one _ _ 37 _ (leaf-length (start .args .a) (start .good .1 .1 .0 .1 .0 .1)) _ _ (omega arith) (omega (arith, at-if1 .if1 .left, start .pre .1)) (c .before .before .put-leaf .ensures))
+    as-told (linear-leaf (start .args .a) (start .args .test) (at-if2 .if2 .left))
+    (put-one _ _ 37 _ (leaf-length (start .args .a) (start .good .1 .1 .0 .1 .0 .1)) _ _ (omega arith) (omega (arith, at-if1 .if1 .left, start .pre .1))
+    (c .before .before .put-leaf .ensures))
 
 pub put-linear-spec : {M : Type 1} → statement M
 put-linear-spec =

@@ -30,7 +30,8 @@ same-length-2 c = search needs
 returns : tie.Need-returns
 returns c =
     let at-if1 = c .before .before .before .before in let at-look = at-if1 .before in let at-top = at-look .before in let start = at-top .before .before .before .before .before in
-    own-writes _ _ _ _ _ (at-top .top .result) (start .pre .0) (start .pre .1) (at-top .top .ensures) (at-look .look .result) (at-look .look .ensures) (at-if1 .if1 .taken) (c .before .before .put-told .result) _ (c .before .before .put-told .ensures)
+    own-writes _ _ _ _ _ (at-top .top .result) (start .pre .0) (start .pre .1) (at-top .top .ensures) (at-look .look .result) (at-look .look .ensures)
+    (at-if1 .if1 .taken) (c .before .before .put-told .result) _ (c .before .before .put-told .ensures)
 
 sub-push : tie.Need-sub-push
 sub-push c = search needs
@@ -52,7 +53,9 @@ write-leaf-requires : tie.Need-write-leaf-requires
 write-leaf-requires c κs =
     let at-first-value = c .before .before .before in let at-push = at-first-value .before .before .before in let at-if1 = at-push .before .before in
     let at-look = at-if1 .before in let at-top = at-look .before in let start = at-top .before .before .before .before .before in
-    second-lent _ _ _ _ _ (at-top .top .result) (start .pre .0) (start .pre .1) (at-top .top .ensures) (at-look .look .result) (at-look .look .ensures) (at-if1 .if1 .left) (at-push .push .last .0) (at-push .push .ensures) _ (at-first-value .first-value .ensures) (c .before .before .decided .result) (c .before .before .decided .ensures)
+    second-lent _ _ _ _ _ (at-top .top .result) (start .pre .0) (start .pre .1) (at-top .top .ensures) (at-look .look .result) (at-look .look .ensures)
+    (at-if1 .if1 .left) (at-push .push .last .0) (at-push .push .ensures) _ (at-first-value .first-value .ensures) (c .before .before .decided .result)
+    (c .before .before .decided .ensures)
 
 same-length-3 : tie.Need-same-length-3
 same-length-3 c = search needs
@@ -65,7 +68,9 @@ returns-2 c =
     let at-write-leaf = c .before .before .before .before in let at-decided = at-write-leaf .before .before .before in let at-first-value = at-decided .before in
     let at-push = at-first-value .before .before .before in let at-if1 = at-push .before .before in let at-look = at-if1 .before in let at-top = at-look .before in
     let start = at-top .before .before .before .before .before in
-    second-writes _ _ _ _ _ (at-top .top .result) (start .pre .0) (start .pre .1) (at-top .top .ensures) (at-look .look .result) (at-look .look .ensures) (at-if1 .if1 .left) (at-push .push .last .0) (at-push .push .ensures) _ (at-first-value .first-value .ensures) (at-decided .decided .result) (at-decided .decided .ensures) (at-write-leaf .write-leaf .result) _ _ (at-write-leaf .write-leaf .ensures)
+    second-writes _ _ _ _ _ (at-top .top .result) (start .pre .0) (start .pre .1) (at-top .top .ensures) (at-look .look .result) (at-look .look .ensures)
+    (at-if1 .if1 .left) (at-push .push .last .0) (at-push .push .ensures) _ (at-first-value .first-value .ensures) (at-decided .decided .result)
+    (at-decided .decided .ensures) (at-write-leaf .write-leaf .result) _ _ (at-write-leaf .write-leaf .ensures)
 
 pub step-spec : {M : Type 1} → statement M
 step-spec =

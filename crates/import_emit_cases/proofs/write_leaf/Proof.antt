@@ -25,7 +25,8 @@ same-length-2 c = search needs
 returns : tie.Need-returns
 returns c =
     let at-leaf = c .before .before .before .before in let at-descend = at-leaf .before .before .before in let start = at-descend .before .before .before .before .before in
-    leaf-writes _ (start .args .spot) _ _ _ _ (start .pre) (at-descend .descend .result) _ (at-descend .descend .ensures) (at-leaf .leaf .result) (at-leaf .leaf .ensures) (c .before .before .put-told .result) _ (c .before .before .put-told .ensures)
+    leaf-writes _ (start .args .spot) _ _ _ _ (start .pre) (at-descend .descend .result) _ (at-descend .descend .ensures) (at-leaf .leaf .result) (at-leaf .leaf .ensures)
+    (c .before .before .put-told .result) _ (c .before .before .put-told .ensures)
 
 pub write-leaf-spec : {M : Type 1} → statement M
 write-leaf-spec =

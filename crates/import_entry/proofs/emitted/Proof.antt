@@ -18,18 +18,18 @@ same-length c = search needs
 
 returns : tie.Need-returns
 returns c =
-    let at-emit = c .before .before .before .before in let place = at-emit .before .before .before .before .before in let s = place in
+    let at-emit = c .before .before .before .before in let s = at-emit .before .before .before .before .before in
     refused-as (c .refused .result) _ _ (s .args .buffer .now) (c .refused .ensures)
     ∙ emitted-long (s .args .text .now) (s .args .buffer .now) (s .pre .0) (s .pre .1) (at-emit .emit .ensures) (c .before .if1 .taken)
 
 slice-reshare-prefix-deliver : tie.Need-slice-reshare-prefix-deliver
 slice-reshare-prefix-deliver c =
-    let at-emit = c .before .before .before in let place = at-emit .before .before .before .before .before in let s = place in
+    let at-emit = c .before .before .before in let s = at-emit .before .before .before .before .before in
     emitted-fits (s .args .text .now) (s .args .buffer .now) (s .pre .0) (s .pre .1) (at-emit .emit .ensures) (c .if1 .left)
 
 slice-aggregate-deliver : tie.Need-slice-aggregate-deliver
 slice-aggregate-deliver c =
-    let at-emit = c .before .before .before .before in let place = at-emit .before .before .before .before .before in let s = place in
+    let at-emit = c .before .before .before .before in let s = at-emit .before .before .before .before .before in
     sym (length-take-le _ _ (emitted-fits (s .args .text .now) (s .args .buffer .now) (s .pre .0) (s .pre .1) (at-emit .emit .ensures) (c .before .if1 .left)))
 
 deliver-requires : tie.Need-deliver-requires
@@ -43,8 +43,7 @@ same-length-3 c = search needs
 
 returns-2 : tie.Need-returns-2
 returns-2 c =
-    let at-if1 = c .before .before .before .before .before in let at-emit = at-if1 .before .before .before in let place = at-emit .before .before .before .before .before in
-    let s = place in
+    let at-if1 = c .before .before .before .before .before in let at-emit = at-if1 .before .before .before in let s = at-emit .before .before .before .before .before in
     c .before .before .deliver .ensures
     ∙ emitted-whole (s .args .text .now) (s .args .buffer .now) (s .pre .0) (s .pre .1) (at-emit .emit .ensures) (at-if1 .if1 .left)
 

@@ -327,7 +327,8 @@ mutual
       atom-emits {n = n} (later none i) (spaces-bytes p (78 ∷ four-byte i ∷ spaces-bytes q (k ∷ f))) q k f b ps Y N (omega (arith, m)) tt t refl (later-starts p i (spaces-bytes q (k ∷ f))) y z
   atom-out (compare s p op r) q k t f ps m j b Y N y z =
       subst (λ (a : Linear). Emits (go (sum-bytes s (spaces-bytes p (op-bytes op (sum-bytes r (spaces-bytes q (k ∷ f)))))) b ps) (compare-commands op a (linear-of _ r) Y N)) (sum-same _ s)
-      (atom-emits (compare (bare s) p op r) (sum-bytes s (spaces-bytes p (op-bytes op (sum-bytes r (spaces-bytes q (k ∷ f)))))) q k f b ps Y N (omega (arith, m)) tt t (ap all-within (atom-alike s p op r) ∙ j) (sum-starts s (spaces-bytes p (op-bytes op (sum-bytes r (spaces-bytes q (k ∷ f)))))) y z)
+      (atom-emits (compare (bare s) p op r) (sum-bytes s (spaces-bytes p (op-bytes op (sum-bytes r (spaces-bytes q (k ∷ f)))))) q k f b ps Y N (omega (arith, m)) tt t
+      (ap all-within (atom-alike s p op r) ∙ j) (sum-starts s (spaces-bytes p (op-bytes op (sum-bytes r (spaces-bytes q (k ∷ f)))))) y z)
   atom-out (group p o r) q k t f ps m j b Y N y z =
       moved
       (go-spaces p (40 ∷ or-bytes o (spaces-bytes r (41 ∷ spaces-bytes q (k ∷ f)))) b ps

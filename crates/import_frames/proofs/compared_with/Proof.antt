@@ -36,7 +36,8 @@ returns-2 : tie.Need-returns-2
 unfolding compared-with
 returns-2 c =
     let at-less = c .before .before .before in let at-if1 = at-less .before in let start = at-if1 .before .before in
-    miss (start .args .s .compared) 0 _ _ (at-if1 .if1 .left) (yes (all-within (less (start .args .s) (start .args .t))) _ _ (c .before .before .all-fit .ensures ∙ ap all-within (at-less .less .ensures)) (c .before .if2 .taken) (c .idle .ensures))
+    miss (start .args .s .compared) 0 _ _ (at-if1 .if1 .left) (yes (all-within (less (start .args .s) (start .args .t))) _ _
+    (c .before .before .all-fit .ensures ∙ ap all-within (at-less .less .ensures)) (c .before .if2 .taken) (c .idle .ensures))
 
 over-requires : tie.Need-over-requires
 over-requires c κs = search needs
@@ -45,7 +46,8 @@ returns-3 : tie.Need-returns-3
 unfolding compared-with
 returns-3 c =
     let at-less = c .before .before .before in let at-if1 = at-less .before in let start = at-if1 .before .before in
-    miss (start .args .s .compared) 0 _ _ (at-if1 .if1 .left) (no (all-within (less (start .args .s) (start .args .t))) _ _ (c .before .before .all-fit .ensures ∙ ap all-within (at-less .less .ensures)) (c .before .if2 .left) (c .over .ensures))
+    miss (start .args .s .compared) 0 _ _ (at-if1 .if1 .left) (no (all-within (less (start .args .s) (start .args .t))) _ _
+    (c .before .before .all-fit .ensures ∙ ap all-within (at-less .less .ensures)) (c .before .if2 .left) (c .over .ensures))
 
 pub compared-with-spec : {M : Type 1} → statement M
 compared-with-spec =

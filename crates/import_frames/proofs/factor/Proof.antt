@@ -30,7 +30,8 @@ returns : tie.Need-returns
 unfolding factor
 returns c =
     let at-product = c .before .before .before in
-    yes (all-within _) _ _ (c .before .before .all-fit .ensures ∙ ap all-within (at-product .product .ensures)) (c .before .if1 .taken) (c .termed .ensures ∙ ap (λ (t : List ℤ). f.termed (c .before .before .before .before .before .args .s) t) (at-product .product .ensures))
+    yes (all-within _) _ _ (c .before .before .all-fit .ensures ∙ ap all-within (at-product .product .ensures)) (c .before .if1 .taken)
+    (c .termed .ensures ∙ ap (λ (t : List ℤ). f.termed (c .before .before .before .before .before .args .s) t) (at-product .product .ensures))
 
 over-requires : tie.Need-over-requires
 over-requires c κs = search needs

@@ -30,7 +30,8 @@ returns : tie.Need-returns
 unfolding on-compare
 returns c =
     let at-total = c .before .before .before in let start = at-total .before in
-    yes (all-within (total (start .args .s))) _ _ (c .before .before .all-fit .ensures ∙ ap all-within (at-total .total .ensures)) (c .before .if1 .taken) (c .sided .ensures ∙ ap (λ (t : List ℤ). f.sided t (start .args .compared)) (at-total .total .ensures))
+    yes (all-within (total (start .args .s))) _ _ (c .before .before .all-fit .ensures ∙ ap all-within (at-total .total .ensures)) (c .before .if1 .taken)
+    (c .sided .ensures ∙ ap (λ (t : List ℤ). f.sided t (start .args .compared)) (at-total .total .ensures))
 
 over-requires : tie.Need-over-requires
 over-requires c κs = search needs

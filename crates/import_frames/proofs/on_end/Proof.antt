@@ -30,7 +30,8 @@ idle-requires c κs = search needs
 
 returns-2 : tie.Need-returns-2
 unfolding on-end
-returns-2 c = no (finished (c .before .before .before .before .args .s) .beyond) _ _ (ap (λ (g : Frame). g .beyond) (c .before .before .before .finished .ensures)) (c .before .before .if1 .left) (c .idle .ensures ∙ ap (λ (o : ℕ). f.idle o) (c .before .behind .ensures))
+returns-2 c = no (finished (c .before .before .before .before .args .s) .beyond) _ _ (ap (λ (g : Frame). g .beyond) (c .before .before .before .finished .ensures))
+    (c .before .before .if1 .left) (c .idle .ensures ∙ ap (λ (o : ℕ). f.idle o) (c .before .behind .ensures))
 
 pub on-end-spec : {M : Type 1} → statement M
 on-end-spec =

@@ -46,7 +46,9 @@ returns-4 : tie.Need-returns-4
 unfolding on-mark
 returns-4 c =
     let at-if2 = c .before .before .before in let at-if1 = at-if2 .before in let at-is-blank = at-if1 .before in let start = at-is-blank .before in
-    no (f.blank (start .args .k)) _ _ (at-is-blank .is-blank .ensures) (at-if1 .if1 .left) (miss (start .args .k) 42 _ _ (at-if2 .if2 .left) (miss (start .args .k) 43 _ _ (c .before .before .if3 .left) (hit (start .args .k) 45 _ _ (c .before .if4 .taken) (c .on-sign2 .ensures))))
+    no (f.blank (start .args .k)) _ _ (at-is-blank .is-blank .ensures) (at-if1 .if1 .left)
+    (miss (start .args .k) 42 _ _ (at-if2 .if2 .left) (miss (start .args .k) 43 _ _ (c .before .before .if3 .left)
+    (hit (start .args .k) 45 _ _ (c .before .if4 .taken) (c .on-sign2 .ensures))))
 
 moded-requires-2 : tie.Need-moded-requires-2
 moded-requires-2 c κs = search needs
@@ -55,7 +57,9 @@ returns-5 : tie.Need-returns-5
 unfolding on-mark
 returns-5 c =
     let at-if3 = c .before .before .before in let at-if2 = at-if3 .before in let at-if1 = at-if2 .before in let at-is-blank = at-if1 .before in let start = at-is-blank .before in
-    no (f.blank (start .args .k)) _ _ (at-is-blank .is-blank .ensures) (at-if1 .if1 .left) (miss (start .args .k) 42 _ _ (at-if2 .if2 .left) (miss (start .args .k) 43 _ _ (at-if3 .if3 .left) (miss (start .args .k) 45 _ _ (c .before .before .if4 .left) (hit (start .args .k) 76 _ _ (c .before .if5 .taken) (c .moded2 .ensures)))))
+    no (f.blank (start .args .k)) _ _ (at-is-blank .is-blank .ensures) (at-if1 .if1 .left)
+    (miss (start .args .k) 42 _ _ (at-if2 .if2 .left) (miss (start .args .k) 43 _ _ (at-if3 .if3 .left)
+    (miss (start .args .k) 45 _ _ (c .before .before .if4 .left) (hit (start .args .k) 76 _ _ (c .before .if5 .taken) (c .moded2 .ensures)))))
 
 on-other-requires : tie.Need-on-other-requires
 on-other-requires c κs = search needs
@@ -64,7 +68,9 @@ returns-6 : tie.Need-returns-6
 unfolding on-mark
 returns-6 c =
     let at-if3 = c .before .before .before in let at-if2 = at-if3 .before in let at-if1 = at-if2 .before in let at-is-blank = at-if1 .before in let start = at-is-blank .before in
-    no (f.blank (start .args .k)) _ _ (at-is-blank .is-blank .ensures) (at-if1 .if1 .left) (miss (start .args .k) 42 _ _ (at-if2 .if2 .left) (miss (start .args .k) 43 _ _ (at-if3 .if3 .left) (miss (start .args .k) 45 _ _ (c .before .before .if4 .left) (miss (start .args .k) 76 _ _ (c .before .if5 .left) (c .on-other .ensures)))))
+    no (f.blank (start .args .k)) _ _ (at-is-blank .is-blank .ensures) (at-if1 .if1 .left)
+    (miss (start .args .k) 42 _ _ (at-if2 .if2 .left) (miss (start .args .k) 43 _ _ (at-if3 .if3 .left)
+    (miss (start .args .k) 45 _ _ (c .before .before .if4 .left) (miss (start .args .k) 76 _ _ (c .before .if5 .left) (c .on-other .ensures)))))
 
 pub on-mark-spec : {M : Type 1} → statement M
 on-mark-spec =

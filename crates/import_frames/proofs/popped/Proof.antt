@@ -28,7 +28,9 @@ returns-2 : tie.Need-returns-2
 unfolding popped
 returns-2 c =
     let at-closed = c .before .before .before in let start = at-closed .before in
-    no (closed (start .args .s) .beyond) _ _ (ap (λ (g : Frame). g .beyond) (at-closed .closed .ensures)) (c .before .before .if1 .left) (yes (finished (closed (start .args .s)) .beyond) _ _ (ap (λ (g : Frame). g .beyond) (c .before .finished .ensures ∙ ap finished (at-closed .closed .ensures))) (c .if2 .taken) (c .before .finished .ensures ∙ ap finished (at-closed .closed .ensures)))
+    no (closed (start .args .s) .beyond) _ _ (ap (λ (g : Frame). g .beyond) (at-closed .closed .ensures)) (c .before .before .if1 .left)
+    (yes (finished (closed (start .args .s)) .beyond) _ _ (ap (λ (g : Frame). g .beyond) (c .before .finished .ensures ∙ ap finished (at-closed .closed .ensures)))
+    (c .if2 .taken) (c .before .finished .ensures ∙ ap finished (at-closed .closed .ensures)))
 
 entered-requires : tie.Need-entered-requires
 entered-requires c κs =
@@ -39,7 +41,10 @@ returns-3 : tie.Need-returns-3
 unfolding popped
 returns-3 c =
     let at-if1 = c .before .before .before in let at-closed = at-if1 .before in let start = at-closed .before in
-    no (closed (start .args .s) .beyond) _ _ (ap (λ (g : Frame). g .beyond) (at-closed .closed .ensures)) (at-if1 .if1 .left) (no (finished (closed (start .args .s)) .beyond) _ _ (ap (λ (g : Frame). g .beyond) (c .before .before .finished .ensures ∙ ap finished (at-closed .closed .ensures))) (c .before .if2 .left) (c .entered .ensures ∙ ap (entered (start .args .o)) (c .before .before .finished .ensures ∙ ap finished (at-closed .closed .ensures))))
+    no (closed (start .args .s) .beyond) _ _ (ap (λ (g : Frame). g .beyond) (at-closed .closed .ensures)) (at-if1 .if1 .left)
+    (no (finished (closed (start .args .s)) .beyond) _ _ (ap (λ (g : Frame). g .beyond)
+    (c .before .before .finished .ensures ∙ ap finished (at-closed .closed .ensures))) (c .before .if2 .left)
+    (c .entered .ensures ∙ ap (entered (start .args .o)) (c .before .before .finished .ensures ∙ ap finished (at-closed .closed .ensures))))
 
 pub popped-spec : {M : Type 1} → statement M
 popped-spec =

@@ -49,7 +49,8 @@ returns-4 : tie.Need-returns-4
 unfolding step
 returns-4 c =
     let at-is-digit = c .before .before .before in let at-if1 = at-is-digit .before in let start = at-if1 .before .before in
-    miss (start .args .s .mode) 6 _ _ (at-if1 .if1 .left) (no (f.digit (start .args .k)) _ _ (at-is-digit .is-digit .ensures) (c .before .before .if3 .left) (yes (closed (start .args .s) .beyond) _ _ (ap (λ (g : Frame). g .beyond) (c .before .closed .ensures)) (c .if4 .taken) (c .before .closed .ensures)))
+    miss (start .args .s .mode) 6 _ _ (at-if1 .if1 .left) (no (f.digit (start .args .k)) _ _ (at-is-digit .is-digit .ensures) (c .before .before .if3 .left)
+    (yes (closed (start .args .s) .beyond) _ _ (ap (λ (g : Frame). g .beyond) (c .before .closed .ensures)) (c .if4 .taken) (c .before .closed .ensures)))
 
 on-mark-requires : tie.Need-on-mark-requires
 on-mark-requires c κs =
@@ -60,7 +61,9 @@ returns-5 : tie.Need-returns-5
 unfolding step
 returns-5 c =
     let at-if3 = c .before .before .before in let at-is-digit = at-if3 .before in let at-if1 = at-is-digit .before in let start = at-if1 .before .before in
-    miss (start .args .s .mode) 6 _ _ (at-if1 .if1 .left) (no (f.digit (start .args .k)) _ _ (at-is-digit .is-digit .ensures) (at-if3 .if3 .left) (no (closed (start .args .s) .beyond) _ _ (ap (λ (g : Frame). g .beyond) (c .before .before .closed .ensures)) (c .before .if4 .left) (c .on-mark .ensures ∙ ap (λ (g : Frame). on-mark g (start .args .k)) (c .before .before .closed .ensures))))
+    miss (start .args .s .mode) 6 _ _ (at-if1 .if1 .left) (no (f.digit (start .args .k)) _ _ (at-is-digit .is-digit .ensures) (at-if3 .if3 .left)
+    (no (closed (start .args .s) .beyond) _ _ (ap (λ (g : Frame). g .beyond) (c .before .before .closed .ensures)) (c .before .if4 .left)
+    (c .on-mark .ensures ∙ ap (λ (g : Frame). on-mark g (start .args .k)) (c .before .before .closed .ensures))))
 
 pub step-spec : {M : Type 1} → statement M
 step-spec =

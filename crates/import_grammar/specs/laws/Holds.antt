@@ -183,12 +183,23 @@ when : (k c : ℕ) (x y : Machine) (g : ℕ → List ℕ → List ℕ) → Keeps
 when k c x y g a b = by-eq (eqb k c) (λ t. Keeps (if t x y) (g k)) (λ e. subst (λ (j : ℕ). Keeps x (g j)) (sym (eq-of k c e)) a) (λ e. b)
 
 digit-back : (k : ℕ) → is-digit k ≡ true → digit-byte (digit-of k) ≡ k
-digit-back k = (by-eq (eqb k 48) (λ b. if b true (if (eqb k 49) true (if (eqb k 50) true (if (eqb k 51) true (if (eqb k 52) true (if (eqb k 53) true (if (eqb k 54) true (if (eqb k 55) true (if (eqb k 56) true (eqb k 57))))))))) ≡ true → digit-byte (if b d0 (if (eqb k 49) d1 (if (eqb k 50) d2 (if (eqb k 51) d3 (if (eqb k 52) d4 (if (eqb k 53) d5 (if (eqb k 54) d6 (if (eqb k 55) d7 (if (eqb k 56) d8 d9))))))))) ≡ k) (λ e h. sym (eq-of k 48 e))
-    (λ n. (by-eq (eqb k 49) (λ b. if b true (if (eqb k 50) true (if (eqb k 51) true (if (eqb k 52) true (if (eqb k 53) true (if (eqb k 54) true (if (eqb k 55) true (if (eqb k 56) true (eqb k 57)))))))) ≡ true → digit-byte (if b d1 (if (eqb k 50) d2 (if (eqb k 51) d3 (if (eqb k 52) d4 (if (eqb k 53) d5 (if (eqb k 54) d6 (if (eqb k 55) d7 (if (eqb k 56) d8 d9)))))))) ≡ k) (λ e h. sym (eq-of k 49 e))
-    (λ n. (by-eq (eqb k 50) (λ b. if b true (if (eqb k 51) true (if (eqb k 52) true (if (eqb k 53) true (if (eqb k 54) true (if (eqb k 55) true (if (eqb k 56) true (eqb k 57))))))) ≡ true → digit-byte (if b d2 (if (eqb k 51) d3 (if (eqb k 52) d4 (if (eqb k 53) d5 (if (eqb k 54) d6 (if (eqb k 55) d7 (if (eqb k 56) d8 d9))))))) ≡ k) (λ e h. sym (eq-of k 50 e))
-    (λ n. (by-eq (eqb k 51) (λ b. if b true (if (eqb k 52) true (if (eqb k 53) true (if (eqb k 54) true (if (eqb k 55) true (if (eqb k 56) true (eqb k 57)))))) ≡ true → digit-byte (if b d3 (if (eqb k 52) d4 (if (eqb k 53) d5 (if (eqb k 54) d6 (if (eqb k 55) d7 (if (eqb k 56) d8 d9)))))) ≡ k) (λ e h. sym (eq-of k 51 e))
-    (λ n. (by-eq (eqb k 52) (λ b. if b true (if (eqb k 53) true (if (eqb k 54) true (if (eqb k 55) true (if (eqb k 56) true (eqb k 57))))) ≡ true → digit-byte (if b d4 (if (eqb k 53) d5 (if (eqb k 54) d6 (if (eqb k 55) d7 (if (eqb k 56) d8 d9))))) ≡ k) (λ e h. sym (eq-of k 52 e))
-    (λ n. (by-eq (eqb k 53) (λ b. if b true (if (eqb k 54) true (if (eqb k 55) true (if (eqb k 56) true (eqb k 57)))) ≡ true → digit-byte (if b d5 (if (eqb k 54) d6 (if (eqb k 55) d7 (if (eqb k 56) d8 d9)))) ≡ k) (λ e h. sym (eq-of k 53 e))
+digit-back k = (by-eq (eqb k 48) (λ b. if b true (if (eqb k 49) true (if (eqb k 50) true
+    (if (eqb k 51) true (if (eqb k 52) true (if (eqb k 53) true (if (eqb k 54) true (if (eqb k 55) true (if (eqb k 56) true (eqb k 57))))))))) ≡ true → digit-byte
+    (if b d0 (if (eqb k 49) d1 (if (eqb k 50) d2 (if (eqb k 51) d3 (if (eqb k 52) d4 (if (eqb k 53) d5 (if (eqb k 54) d6 (if (eqb k 55) d7 (if (eqb k 56) d8 d9))))))))) ≡
+    k) (λ e h. sym (eq-of k 48 e))
+    (λ n. (by-eq (eqb k 49) (λ b. if b true (if (eqb k 50) true (if (eqb k 51) true
+    (if (eqb k 52) true (if (eqb k 53) true (if (eqb k 54) true (if (eqb k 55) true (if (eqb k 56) true (eqb k 57)))))))) ≡ true → digit-byte
+    (if b d1 (if (eqb k 50) d2 (if (eqb k 51) d3 (if (eqb k 52) d4 (if (eqb k 53) d5 (if (eqb k 54) d6 (if (eqb k 55) d7 (if (eqb k 56) d8 d9)))))))) ≡ k)
+    (λ e h. sym (eq-of k 49 e))
+    (λ n. (by-eq (eqb k 50) (λ b. if b true (if (eqb k 51) true (if (eqb k 52) true
+    (if (eqb k 53) true (if (eqb k 54) true (if (eqb k 55) true (if (eqb k 56) true (eqb k 57))))))) ≡ true → digit-byte
+    (if b d2 (if (eqb k 51) d3 (if (eqb k 52) d4 (if (eqb k 53) d5 (if (eqb k 54) d6 (if (eqb k 55) d7 (if (eqb k 56) d8 d9))))))) ≡ k) (λ e h. sym (eq-of k 50 e))
+    (λ n. (by-eq (eqb k 51) (λ b. if b true (if (eqb k 52) true (if (eqb k 53) true (if (eqb k 54) true (if (eqb k 55) true (if (eqb k 56) true (eqb k 57)))))) ≡ true
+    → digit-byte (if b d3 (if (eqb k 52) d4 (if (eqb k 53) d5 (if (eqb k 54) d6 (if (eqb k 55) d7 (if (eqb k 56) d8 d9)))))) ≡ k) (λ e h. sym (eq-of k 51 e))
+    (λ n. (by-eq (eqb k 52) (λ b. if b true (if (eqb k 53) true (if (eqb k 54) true (if (eqb k 55) true (if (eqb k 56) true (eqb k 57))))) ≡ true → digit-byte
+    (if b d4 (if (eqb k 53) d5 (if (eqb k 54) d6 (if (eqb k 55) d7 (if (eqb k 56) d8 d9))))) ≡ k) (λ e h. sym (eq-of k 52 e))
+    (λ n. (by-eq (eqb k 53) (λ b. if b true (if (eqb k 54) true (if (eqb k 55) true (if (eqb k 56) true (eqb k 57)))) ≡ true → digit-byte
+    (if b d5 (if (eqb k 54) d6 (if (eqb k 55) d7 (if (eqb k 56) d8 d9)))) ≡ k) (λ e h. sym (eq-of k 53 e))
     (λ n. (by-eq (eqb k 54) (λ b. if b true (if (eqb k 55) true (if (eqb k 56) true (eqb k 57))) ≡ true → digit-byte (if b d6 (if (eqb k 55) d7 (if (eqb k 56) d8 d9))) ≡ k) (λ e h. sym (eq-of k 54 e))
     (λ n. (by-eq (eqb k 55) (λ b. if b true (if (eqb k 56) true (eqb k 57)) ≡ true → digit-byte (if b d7 (if (eqb k 56) d8 d9)) ≡ k) (λ e h. sym (eq-of k 55 e))
     (λ n. (by-eq (eqb k 56) (λ b. if b true (eqb k 57) ≡ true → digit-byte (if b d8 d9) ≡ k) (λ e h. sym (eq-of k 56 e))
@@ -284,7 +295,8 @@ banged-bytes (lv o a n) p f = refl
 
 -- ---- each step
 
-longer-keeps : {n : ℕ} (mk : ConstFactor n → Machine) (x : ConstFactor n) (p : Spaces) (d : Digit) (h : List ℕ → List ℕ) → ((y : ConstFactor n) → Keeps (mk y) (λ f. h (kfactor-bytes y f))) → Keeps (go-on mk (longer x p d)) (λ f. h (kfactor-bytes x (spaces-bytes p (digit-byte d ∷ f))))
+longer-keeps : {n : ℕ} (mk : ConstFactor n → Machine) (x : ConstFactor n) (p : Spaces) (d : Digit) (h : List ℕ → List ℕ) →
+    ((y : ConstFactor n) → Keeps (mk y) (λ f. h (kfactor-bytes y f))) → Keeps (go-on mk (longer x p d)) (λ f. h (kfactor-bytes x (spaces-bytes p (digit-byte d ∷ f))))
 unfolding spaces-bytes digits-bytes kfactor-bytes vfactor-bytes sum-bytes nots-bytes atom-bytes result-bytes setting-bytes chars-bytes before-bytes
 longer-keeps mk (number q ds) none d h k = k (number q (also ds d))
 longer-keeps mk (number q ds) (more p b) d h k = tt
@@ -543,13 +555,21 @@ mid-keeps (letterN ctx l q) k =
     when k 49 _ _ g (λ f. refl) (when k 50 _ _ g (λ f. refl) (when k 51 _ _ g (λ f. refl) (when k 52 _ _ g (λ f. refl) tt)))
 mid-keeps (letterL sc pre cp q) k =
     let g : ℕ → List ℕ → List ℕ = λ j f. sum-ctx-bytes sc (pre-bytes pre (core-pre-bytes cp (spaces-bytes q (76 ∷ j ∷ f)))) in
-    when k 49 _ _ g (λ f. ap (λ (w : List ℕ). sum-ctx-bytes sc (pre-bytes pre w)) (vtimes-of-bytes cp (level q i1) f)) (when k 50 _ _ g (λ f. ap (λ (w : List ℕ). sum-ctx-bytes sc (pre-bytes pre w)) (vtimes-of-bytes cp (level q i2) f)) (when k 51 _ _ g (λ f. ap (λ (w : List ℕ). sum-ctx-bytes sc (pre-bytes pre w)) (vtimes-of-bytes cp (level q i3) f)) (when k 52 _ _ g (λ f. ap (λ (w : List ℕ). sum-ctx-bytes sc (pre-bytes pre w)) (vtimes-of-bytes cp (level q i4) f)) (when k 53 _ _ g (λ f. ap (λ (w : List ℕ). sum-ctx-bytes sc (pre-bytes pre w)) (vtimes-of-bytes cp (level q i5) f)) (when k 54 _ _ g (λ f. ap (λ (w : List ℕ). sum-ctx-bytes sc (pre-bytes pre w)) (vtimes-of-bytes cp (level q i6) f)) (when k 55 _ _ g (λ f. ap (λ (w : List ℕ). sum-ctx-bytes sc (pre-bytes pre w)) (vtimes-of-bytes cp (level q i7) f)) (when k 56 _ _ g (λ f. ap (λ (w : List ℕ). sum-ctx-bytes sc (pre-bytes pre w)) (vtimes-of-bytes cp (level q i8) f)) tt)))))))
+    when k 49 _ _ g (λ f. ap (λ (w : List ℕ). sum-ctx-bytes sc (pre-bytes pre w)) (vtimes-of-bytes cp (level q i1) f))
+    (when k 50 _ _ g (λ f. ap (λ (w : List ℕ). sum-ctx-bytes sc (pre-bytes pre w)) (vtimes-of-bytes cp (level q i2) f))
+    (when k 51 _ _ g (λ f. ap (λ (w : List ℕ). sum-ctx-bytes sc (pre-bytes pre w)) (vtimes-of-bytes cp (level q i3) f))
+    (when k 52 _ _ g (λ f. ap (λ (w : List ℕ). sum-ctx-bytes sc (pre-bytes pre w)) (vtimes-of-bytes cp (level q i4) f))
+    (when k 53 _ _ g (λ f. ap (λ (w : List ℕ). sum-ctx-bytes sc (pre-bytes pre w)) (vtimes-of-bytes cp (level q i5) f))
+    (when k 54 _ _ g (λ f. ap (λ (w : List ℕ). sum-ctx-bytes sc (pre-bytes pre w)) (vtimes-of-bytes cp (level q i6) f))
+    (when k 55 _ _ g (λ f. ap (λ (w : List ℕ). sum-ctx-bytes sc (pre-bytes pre w)) (vtimes-of-bytes cp (level q i7) f))
+    (when k 56 _ _ g (λ f. ap (λ (w : List ℕ). sum-ctx-bytes sc (pre-bytes pre w)) (vtimes-of-bytes cp (level q i8) f)) tt)))))))
 mid-keeps (chanceN I p q ds r) k =
     let g : ℕ → List ℕ → List ℕ = λ j f. middle-bytes (chanceN I p q ds r) (j ∷ f) in
     when k 49 _ _ g (λ f. refl) (when k 50 _ _ g (λ f. refl) (when k 51 _ _ g (λ f. refl) (when k 52 _ _ g (λ f. refl) tt)))
 mid-keeps (nextL I p q ds r) k =
     let g : ℕ → List ℕ → List ℕ = λ j f. middle-bytes (nextL I p q ds r) (j ∷ f) in
-    when k 49 _ _ g (λ f. refl) (when k 50 _ _ g (λ f. refl) (when k 51 _ _ g (λ f. refl) (when k 52 _ _ g (λ f. refl) (when k 53 _ _ g (λ f. refl) (when k 54 _ _ g (λ f. refl) (when k 55 _ _ g (λ f. refl) (when k 56 _ _ g (λ f. refl) tt)))))))
+    when k 49 _ _ g (λ f. refl) (when k 50 _ _ g (λ f. refl) (when k 51 _ _ g (λ f. refl)
+    (when k 52 _ _ g (λ f. refl) (when k 53 _ _ g (λ f. refl) (when k 54 _ _ g (λ f. refl) (when k 55 _ _ g (λ f. refl) (when k 56 _ _ g (λ f. refl) tt)))))))
 mid-keeps (inside-name I p q ds r cs) k = when k 34 _ _ (λ j f. middle-bytes (inside-name I p q ds r cs) (j ∷ f)) (λ f. refl) (char-keeps I p q ds r cs k)
 mid-keeps (reward1 I p) k =
     let g : ℕ → List ℕ → List ℕ = λ j f. middle-bytes (reward1 I p) (j ∷ f) in

@@ -627,7 +627,8 @@ unfolding spaces-bytes digits-bytes kfactor-bytes vfactor-bytes sum-bytes nots-b
 nots-read unsaid ctx o a f = refl
 nots-read (bang n p) ctx o a f = nots-read n ctx o a (spaces-bytes p (33 ∷ f)) ∙ spaced (cond ctx (lv o a n)) p (33 ∷ f)
 
-op-read : {n : ℕ} (op : Op) (s t : Sum n) (p : Spaces) (ctx : CondCtx n) (l : Level n) (f : List ℕ) → run (at (after (left ctx l) (pre-of s) (last-of s)) p) (op-bytes op (sum-bytes t f)) ≡ run (at (factor (right ctx l s p op) opens (free first)) none) (sum-bytes t f)
+op-read : {n : ℕ} (op : Op) (s t : Sum n) (p : Spaces) (ctx : CondCtx n) (l : Level n) (f : List ℕ) → run (at (after (left ctx l) (pre-of s) (last-of s)) p)
+    (op-bytes op (sum-bytes t f)) ≡ run (at (factor (right ctx l s p op) opens (free first)) none) (sum-bytes t f)
 unfolding spaces-bytes digits-bytes kfactor-bytes vfactor-bytes sum-bytes nots-bytes atom-bytes result-bytes setting-bytes chars-bytes before-bytes text-bytes
     itemHere resulted letterHere settled hextended iextended by-kind quoteHere with-plain charHere extended cextended closeLeft closeCond colon elseHere joined
     ending closeConst minusHere cminusHere coreHere factorHere equalsHere equalsAbove openCond openSum openBehind openConst step-on step-mid step run finish

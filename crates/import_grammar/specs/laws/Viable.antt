@@ -289,9 +289,14 @@ ends-mid (name3 I p) = by-byte (mid (name3 I p)) 101 (ends-inum a-name I p none)
 ends-mid (site1 p) = by-byte (mid (site1 p)) 105 (by-byte (mid (site2 p)) 116 (by-byte (mid (site3 p)) 101 (ends-hletter (q0 p) none)))
 ends-mid (site2 p) = by-byte (mid (site2 p)) 116 (by-byte (mid (site3 p)) 101 (ends-hletter (q0 p) none))
 ends-mid (site3 p) = by-byte (mid (site3 p)) 101 (ends-hletter (q0 p) none)
-ends-mid (forb1 rc p) = by-byte (mid (forb1 rc p)) 111 (by-byte (mid (forb2 rc p)) 114 (by-byte (mid (forb3 rc p)) 98 (by-byte (mid (forb4 rc p)) 105 (by-byte (mid (forb5 rc p)) 100 (by-byte (mid (forb6 rc p)) 100 (by-byte (mid (forb7 rc p)) 101 (by-byte (mid (forb8 rc p)) 110 (ends-forbade rc p none))))))))
-ends-mid (forb2 rc p) = by-byte (mid (forb2 rc p)) 114 (by-byte (mid (forb3 rc p)) 98 (by-byte (mid (forb4 rc p)) 105 (by-byte (mid (forb5 rc p)) 100 (by-byte (mid (forb6 rc p)) 100 (by-byte (mid (forb7 rc p)) 101 (by-byte (mid (forb8 rc p)) 110 (ends-forbade rc p none)))))))
-ends-mid (forb3 rc p) = by-byte (mid (forb3 rc p)) 98 (by-byte (mid (forb4 rc p)) 105 (by-byte (mid (forb5 rc p)) 100 (by-byte (mid (forb6 rc p)) 100 (by-byte (mid (forb7 rc p)) 101 (by-byte (mid (forb8 rc p)) 110 (ends-forbade rc p none))))))
+ends-mid (forb1 rc p) = by-byte (mid (forb1 rc p)) 111 (by-byte (mid (forb2 rc p)) 114
+    (by-byte (mid (forb3 rc p)) 98 (by-byte (mid (forb4 rc p)) 105 (by-byte (mid (forb5 rc p)) 100
+    (by-byte (mid (forb6 rc p)) 100 (by-byte (mid (forb7 rc p)) 101 (by-byte (mid (forb8 rc p)) 110 (ends-forbade rc p none))))))))
+ends-mid (forb2 rc p) = by-byte (mid (forb2 rc p)) 114 (by-byte (mid (forb3 rc p)) 98
+    (by-byte (mid (forb4 rc p)) 105 (by-byte (mid (forb5 rc p)) 100 (by-byte (mid (forb6 rc p)) 100
+    (by-byte (mid (forb7 rc p)) 101 (by-byte (mid (forb8 rc p)) 110 (ends-forbade rc p none)))))))
+ends-mid (forb3 rc p) = by-byte (mid (forb3 rc p)) 98 (by-byte (mid (forb4 rc p)) 105
+    (by-byte (mid (forb5 rc p)) 100 (by-byte (mid (forb6 rc p)) 100 (by-byte (mid (forb7 rc p)) 101 (by-byte (mid (forb8 rc p)) 110 (ends-forbade rc p none))))))
 ends-mid (forb4 rc p) = by-byte (mid (forb4 rc p)) 105 (by-byte (mid (forb5 rc p)) 100 (by-byte (mid (forb6 rc p)) 100 (by-byte (mid (forb7 rc p)) 101 (by-byte (mid (forb8 rc p)) 110 (ends-forbade rc p none)))))
 ends-mid (forb5 rc p) = by-byte (mid (forb5 rc p)) 100 (by-byte (mid (forb6 rc p)) 100 (by-byte (mid (forb7 rc p)) 101 (by-byte (mid (forb8 rc p)) 110 (ends-forbade rc p none))))
 ends-mid (forb6 rc p) = by-byte (mid (forb6 rc p)) 100 (by-byte (mid (forb7 rc p)) 101 (by-byte (mid (forb8 rc p)) 110 (ends-forbade rc p none)))

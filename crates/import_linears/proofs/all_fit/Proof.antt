@@ -38,13 +38,17 @@ loop-less c = omega arith
 
 loop-again : tie.Need-loop-again Inv-loop μ-loop
 loop-again c =
-    let at-loop-test = c .before .before .before in let at-loop = at-loop-test .before in
-    (omega arith, let s = (c .before .before .before .before .before) in one-in (s .args .t1) (s .good .0 .1 .0 .1) (at-loop .loop .i) (at-loop .loop .inv .1) (at-loop-test .loop-test .taken) (c .before .before .fits-arg .given) (c .before .fits2 .ensures) (c .if1 .taken))
+    let at-loop-test = c .before .before .before in let at-loop = at-loop-test .before in (
+      omega arith,
+      let s = (c .before .before .before .before .before) in one-in (s .args .t1) (s .good .0 .1 .0 .1) (at-loop .loop .i) (at-loop .loop .inv .1)
+          (at-loop-test .loop-test .taken) (c .before .before .fits-arg .given) (c .before .fits2 .ensures) (c .if1 .taken),
+    )
 
 returns : tie.Need-returns Inv-loop μ-loop
 returns c =
     let at-loop-test = c .before .before .before in let at-loop = at-loop-test .before in
-    let s = (c .before .before .before .before .before) in one-out (s .args .t1) (s .good .0 .1 .0 .1) (at-loop .loop .i) (at-loop .loop .inv .1) (at-loop-test .loop-test .taken) (c .before .before .fits-arg .given) (c .before .fits2 .ensures) (c .if1 .left)
+    let s = (c .before .before .before .before .before) in one-out (s .args .t1) (s .good .0 .1 .0 .1) (at-loop .loop .i) (at-loop .loop .inv .1)
+    (at-loop-test .loop-test .taken) (c .before .before .fits-arg .given) (c .before .fits2 .ensures) (c .if1 .left)
 
 returns-2 : tie.Need-returns-2 Inv-loop μ-loop
 returns-2 c = let s = (c .before .before) in all-in (s .args .t1) (s .good .0 .1 .0 .1) (c .before .loop .i) (c .before .loop .inv .1) (c .loop-test .left)

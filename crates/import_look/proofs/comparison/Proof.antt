@@ -26,7 +26,8 @@ difference-requires c κs = search needs
 returns : tie.Need-returns
 returns c =
     let at-sum-at2 = c .before .before .before .before in let at-operator-at = at-sum-at2 .before in let at-sum-at = at-operator-at .before in
-    compared _ _ _ _ (at-operator-at .operator-at .result) _ (at-sum-at .sum-at .ensures) (at-operator-at .operator-at .ensures .0) (at-sum-at2 .sum-at2 .ensures) (c .difference .ensures ∙ sym (if-yes (at-operator-at .operator-at .result .turned) _ _ (c .before .if1 .taken)))
+    compared _ _ _ _ (at-operator-at .operator-at .result) _ (at-sum-at .sum-at .ensures) (at-operator-at .operator-at .ensures .0) (at-sum-at2 .sum-at2 .ensures)
+    (c .difference .ensures ∙ sym (if-yes (at-operator-at .operator-at .result .turned) _ _ (c .before .if1 .taken)))
 
 difference-requires-2 : tie.Need-difference-requires-2
 difference-requires-2 c κs = search needs
@@ -34,7 +35,8 @@ difference-requires-2 c κs = search needs
 returns-2 : tie.Need-returns-2
 returns-2 c =
     let at-sum-at2 = c .before .before .before .before in let at-operator-at = at-sum-at2 .before in let at-sum-at = at-operator-at .before in
-    compared _ _ _ _ (at-operator-at .operator-at .result) _ (at-sum-at .sum-at .ensures) (at-operator-at .operator-at .ensures .0) (at-sum-at2 .sum-at2 .ensures) (c .difference2 .ensures ∙ sym (if-no (at-operator-at .operator-at .result .turned) _ _ (c .before .if1 .left)))
+    compared _ _ _ _ (at-operator-at .operator-at .result) _ (at-sum-at .sum-at .ensures) (at-operator-at .operator-at .ensures .0) (at-sum-at2 .sum-at2 .ensures)
+    (c .difference2 .ensures ∙ sym (if-no (at-operator-at .operator-at .result .turned) _ _ (c .before .if1 .left)))
 
 pub comparison-spec : {M : Type 1} → statement M
 comparison-spec =

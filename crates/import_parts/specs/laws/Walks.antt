@@ -116,7 +116,8 @@ pub record ItemWalked (l : List ℕ) (B : Before) (p q : Spaces) (r : Result) (P
   pub emits : all-within (cases-numbers B) ≡ true → all-within (result-numbers r) ≡ true → Emits (go (opening-rest (kind-in l) l) false []) (cases-commands B (result-command r ∷ []))
   pub next : item-rest (opening-rest (kind-in l) l) ≡ from-letter P e
 
-emits-at : (B : Before) (p q : Spaces) (r : Result) (P : List Part) (e : Spaces) → all-within (cases-numbers B) ≡ true → all-within (result-numbers r) ≡ true → Emits (go (cases-at B p q r P e) false []) (cases-commands B (result-command r ∷ []))
+emits-at : (B : Before) (p q : Spaces) (r : Result) (P : List Part) (e : Spaces) → all-within (cases-numbers B) ≡ true → all-within (result-numbers r) ≡ true → Emits
+    (go (cases-at B p q r P e) false []) (cases-commands B (result-command r ∷ []))
 unfolding cases-at else-bytes still
 emits-at B p q r P e j g =
     subst (λ (l : List ℕ). Emits (go (cases-bytes B (else-bytes p q r l)) false []) (cases-commands B (result-command r ∷ []))) (sym (still-as P e))

@@ -58,7 +58,12 @@ returns : tie.Need-returns Inv-loop μ-loop
 unfolding meant
 returns c =
     let at-loop-test = c .before .before .before .before in let at-loop = at-loop-test .before in
-    record { place = sym (on-byte _ (at-loop .loop .s) (at-loop .loop .i) _ (at-loop-test .loop-test .taken) (sym (c .enum-told .given .1) ∙ c .before .before .advance .ensures)) ∙ at-loop .loop .inv .rest; inside = (omega (arith, at-loop-test .loop-test .taken), at-loop .loop .inv .low) }
+    record {
+      place = sym (on-byte _ (at-loop .loop .s) (at-loop .loop .i) _ (at-loop-test .loop-test .taken)
+          (sym (c .enum-told .given .1) ∙ c .before .before .advance .ensures)) ∙ at-loop .loop .inv .rest;
+      inside =
+          (omega (arith, at-loop-test .loop-test .taken), at-loop .loop .inv .low);
+    }
 
 enum-told-2 : tie.Need-enum-told-2 Inv-loop μ-loop
 enum-told-2 c = search needs
@@ -67,7 +72,11 @@ returns-2 : tie.Need-returns-2 Inv-loop μ-loop
 unfolding meant
 returns-2 c =
     let at-loop-test = c .before .before .before .before in let at-loop = at-loop-test .before in
-    record { place = sym (on-byte _ (at-loop .loop .s) (at-loop .loop .i) _ (at-loop-test .loop-test .taken) (sym (c .enum-told2 .given .1) ∙ c .before .before .advance .ensures)) ∙ at-loop .loop .inv .rest; inside = omega (arith, at-loop-test .loop-test .taken) }
+    record {
+      place = sym (on-byte _ (at-loop .loop .s) (at-loop .loop .i) _ (at-loop-test .loop-test .taken)
+          (sym (c .enum-told2 .given .1) ∙ c .before .before .advance .ensures)) ∙ at-loop .loop .inv .rest;
+      inside = omega (arith, at-loop-test .loop-test .taken);
+    }
 
 enum-told-3 : tie.Need-enum-told-3 Inv-loop μ-loop
 enum-told-3 c = search needs
@@ -76,7 +85,11 @@ returns-3 : tie.Need-returns-3 Inv-loop μ-loop
 unfolding meant
 returns-3 c =
     let at-loop-test = c .before .before .before .before in let at-loop = at-loop-test .before in
-    record { place = sym (on-byte _ (at-loop .loop .s) (at-loop .loop .i) _ (at-loop-test .loop-test .taken) (sym (c .enum-told3 .given .1) ∙ c .before .before .advance .ensures)) ∙ at-loop .loop .inv .rest; inside = omega (arith, at-loop-test .loop-test .taken) }
+    record {
+      place = sym (on-byte _ (at-loop .loop .s) (at-loop .loop .i) _ (at-loop-test .loop-test .taken)
+          (sym (c .enum-told3 .given .1) ∙ c .before .before .advance .ensures)) ∙ at-loop .loop .inv .rest;
+      inside = omega (arith, at-loop-test .loop-test .taken);
+    }
 
 enum-told-4 : tie.Need-enum-told-4 Inv-loop μ-loop
 enum-told-4 c = search needs

@@ -130,7 +130,9 @@ by-four k a b c d y p q r s =
     by-if (eqb k 49) _ _ _ _ p (by-if (eqb k 50) _ _ _ _ q (by-if (eqb k 51) _ _ _ _ r (by-if (eqb k 52) _ _ _ _ s refl) ∙ either-of (eqb k 51) (eqb k 52) _ _)
     ∙ either-of (eqb k 50) (if (eqb k 51) true (eqb k 52)) _ _) ∙ either-of (eqb k 49) (if (eqb k 50) true (if (eqb k 51) true (eqb k 52))) _ _
 
-by-eight : (k : ℕ) (a b c d e f g h : Machine) (y : State) → shown a ≡ y → shown b ≡ y → shown c ≡ y → shown d ≡ y → shown e ≡ y → shown f ≡ y → shown g ≡ y → shown h ≡ y → shown (if (eqb k 49) a (if (eqb k 50) b (if (eqb k 51) c (if (eqb k 52) d (if (eqb k 53) e (if (eqb k 54) f (if (eqb k 55) g (if (eqb k 56) h dead)))))))) ≡ if (eight k) y Dead
+by-eight : (k : ℕ) (a b c d e f g h : Machine) (y : State) → shown a ≡ y → shown b ≡ y → shown c ≡ y → shown d ≡ y → shown e ≡ y → shown f ≡ y → shown g ≡ y → shown h ≡ y
+    → shown (if (eqb k 49) a (if (eqb k 50) b (if (eqb k 51) c (if (eqb k 52) d (if (eqb k 53) e (if (eqb k 54) f (if (eqb k 55) g (if (eqb k 56) h dead)))))))) ≡ if
+    (eight k) y Dead
 unfolding eight
 by-eight k a b c d e f g h y p q r s t u v w =
     by-if (eqb k 49) _ _ _ _ p (by-if (eqb k 50) _ _ _ _ q (by-if (eqb k 51) _ _ _ _ r (by-if (eqb k 52) _ _ _ _ s
@@ -346,7 +348,8 @@ bracket-ends first q (varying s) p = refl
 bracket-ends (timesK t r) q (constant s) p = refl
 bracket-ends (timesK t r) q (varying s) p = refl
 
-sim-close-paren : {n : ℕ} (sc : SumCtx (suc n)) (pre : SumPre (suc n)) (tp : ConstTermPre (suc n)) (q : Spaces) (s : GSum n) (v : Bool) (p : Spaces) → shown (at (after sc pre (bracketed tp q s p)) none) ≡ At (After (closed-sum (sum-at (paren sc pre tp q) (level-sum (paren sc pre tp q) s) v) (n + 1) (top-of sc)) false)
+sim-close-paren : {n : ℕ} (sc : SumCtx (suc n)) (pre : SumPre (suc n)) (tp : ConstTermPre (suc n)) (q : Spaces) (s : GSum n) (v : Bool) (p : Spaces) → shown
+    (at (after sc pre (bracketed tp q s p)) none) ≡ At (After (closed-sum (sum-at (paren sc pre tp q) (level-sum (paren sc pre tp q) s) v) (n + 1) (top-of sc)) false)
 unfolding shut
 sim-close-paren {n = n} sc pre tp q (constant s) v p =
     let h = level-least (paren sc pre tp q) in
@@ -359,7 +362,9 @@ sim-close-paren {n = n} sc pre tp q (varying s) v p =
     ∙ ap (λ (r : ℕ). At (After (record { side = side-of sc; room = r; hard = hard-of sc; top = top-of sc; level = r; vary = true }) false)) (sym (add-one n))
     ∙ ap (λ (x : Sum). At (After x false)) (sym (shut-vary (sum-at (paren sc pre tp q) n v) (n + 1) (top-of sc) (not-below n)))
 
-sim-close-bare : {n : ℕ} (ctx : CondCtx (suc n)) (l : Level (suc n)) (q : Spaces) (s : GSum n) (v : Bool) (p : Spaces) → shown (at (after (left ctx l) opens (bracketed first q s p)) none) ≡ At (After (closed-sum (sum-at (left (inside ctx l q) bare) (level-sum (left (inside ctx l q) bare) s) v) (n + 1) (n + 1)) false)
+sim-close-bare : {n : ℕ} (ctx : CondCtx (suc n)) (l : Level (suc n)) (q : Spaces) (s : GSum n) (v : Bool) (p : Spaces) → shown
+    (at (after (left ctx l) opens (bracketed first q s p)) none) ≡ At (After (closed-sum
+    (sum-at (left (inside ctx l q) bare) (level-sum (left (inside ctx l q) bare) s) v) (n + 1) (n + 1)) false)
 unfolding shut
 sim-close-bare {n = n} ctx l q (constant s) v p =
     let h = cond-most ctx in

@@ -312,7 +312,8 @@ walk-loop-again : (t : ℕ) → walk-lts.Need-loop-again (
 walk-loop-again t c =
     let at-if4 = c .before .before .before in let at-if3 = at-if4 .before in let at-opens = at-if3 .before in let at-if2 = at-opens .before in let at-stops = at-if2 .before in
     let at-if1 = at-stops .before in let at-loop-test = at-if1 .before .before in let at-loop = at-loop-test .before in
-    comes-back (at-loop .loop .inv) (at-loop-test .loop-test .taken) (at-if1 .if1 .left) (at-stops .stops .ensures) (at-if2 .if2 .left) (at-opens .opens .ensures) (at-if3 .if3 .taken) _ (omega (arith, at-if4 .if4 .left)) (c .before .before .walk .ensures) (c .before .closing .ensures)
+    comes-back (at-loop .loop .inv) (at-loop-test .loop-test .taken) (at-if1 .if1 .left) (at-stops .stops .ensures) (at-if2 .if2 .left) (at-opens .opens .ensures)
+    (at-if3 .if3 .taken) _ (omega (arith, at-if4 .if4 .left)) (c .before .before .walk .ensures) (c .before .closing .ensures)
 
 walk-step-requires : (t : ℕ) → walk-lts.Need-step-requires (
   idle-reads.Asked,

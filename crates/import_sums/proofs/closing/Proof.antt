@@ -23,16 +23,16 @@ add-t13 c = search needs
 
 returns-2 : tie.Need-returns-2
 returns-2 c =
-    let at-if2 = c .before .before .before in let at-if1 = at-if2 .before in let place = at-if1 .before .before .before in
-    let s = place in closes-well _ _ _ (s .pre .0) _ (s .pre .1 .0) (s .pre .1 .1 .0) (s .pre .1 .1 .1) (at-if1 .if1 .left) (at-if2 .if2 .taken) (c .before .if3 .taken) (c .popped .ensures)
+    let at-if2 = c .before .before .before in let at-if1 = at-if2 .before in let s = at-if1 .before .before .before in
+    closes-well _ _ _ (s .pre .0) _ (s .pre .1 .0) (s .pre .1 .1 .0) (s .pre .1 .1 .1) (at-if1 .if1 .left) (at-if2 .if2 .taken) (c .before .if3 .taken) (c .popped .ensures)
 
 over-requires : tie.Need-over-requires
 over-requires c κs = search needs
 
 returns-3 : tie.Need-returns-3
 returns-3 c =
-    let at-if2 = c .before .before .before in let at-if1 = at-if2 .before in let place = at-if1 .before .before .before in
-    let s = place in closes-odd _ _ _ (s .pre .0) _ (s .pre .1 .0) (s .pre .1 .1 .0) (s .pre .1 .1 .1) (at-if1 .if1 .left) (at-if2 .if2 .taken) (c .before .if3 .left) (c .over .ensures)
+    let at-if2 = c .before .before .before in let at-if1 = at-if2 .before in let s = at-if1 .before .before .before in
+    closes-odd _ _ _ (s .pre .0) _ (s .pre .1 .0) (s .pre .1 .1 .0) (s .pre .1 .1 .1) (at-if1 .if1 .left) (at-if2 .if2 .taken) (c .before .if3 .left) (c .over .ensures)
 
 over-requires-2 : tie.Need-over-requires-2
 over-requires-2 c κs = search needs

@@ -23,8 +23,11 @@ array-copy-out-put-word c = omega arith
 
 put-word-requires : tie.Need-put-word-requires Inv-loop μ-loop
 put-word-requires c κs =
-    let at-loop = c .before .before .before in let start = at-loop .before .before in
-    (within-back (start .args .t3) (start .good .1 .1 .0 .1 .0 .1) (start .pre .0) (c .before .before .loop-test .taken) (c .put-word-arg2 .given), room (start .args .t3) (start .good .1 .1 .0 .1 .0 .1) (start .args .out .now) (start .args .at) (start .pre .1) (at-loop .loop .inv) (c .before .before .loop-test .taken))
+    let at-loop = c .before .before .before in let start = at-loop .before .before in (
+      within-back (start .args .t3) (start .good .1 .1 .0 .1 .0 .1) (start .pre .0) (c .before .before .loop-test .taken) (c .put-word-arg2 .given),
+      room (start .args .t3)
+          (start .good .1 .1 .0 .1 .0 .1) (start .args .out .now) (start .args .at) (start .pre .1) (at-loop .loop .inv) (c .before .before .loop-test .taken),
+    )
 
 add-i : tie.Need-add-i Inv-loop μ-loop
 add-i c = omega arith
@@ -36,7 +39,8 @@ loop-again : tie.Need-loop-again Inv-loop μ-loop
 loop-again c =
     let at-put-word-arg2 = c .before .before .before in let at-loop-test = at-put-word-arg2 .before .before in let at-loop = at-loop-test .before in
     let start = at-loop .before .before in
-    further (start .args .t3) (start .good .1 .1 .0 .1 .0 .1) (start .args .out .now) (start .args .at) (start .pre .1) (at-loop .loop .inv) (at-loop-test .loop-test .taken) (at-put-word-arg2 .put-word-arg2 .given) (c .before .before .put-word .kept .0) (c .before .before .put-word .ensures)
+    further (start .args .t3) (start .good .1 .1 .0 .1 .0 .1) (start .args .out .now) (start .args .at) (start .pre .1) (at-loop .loop .inv)
+    (at-loop-test .loop-test .taken) (at-put-word-arg2 .put-word-arg2 .given) (c .before .before .put-word .kept .0) (c .before .before .put-word .ensures)
 
 same-length : tie.Need-same-length Inv-loop μ-loop
 same-length c = c .before .loop .inv .kept

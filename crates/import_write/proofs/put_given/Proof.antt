@@ -49,7 +49,8 @@ returns-3 : tie.Need-returns-3
 returns-3 c =
     let at-put-byte2 = c .before .before .before .before .before .before in let at-if2 = at-put-byte2 .before .before in let at-if1 = at-if2 .before in
     let start = at-if1 .before .before in
-    rename (indexed-is (start .args .command) (start .args .action) (start .args .index) (at-if1 .if1 .left) (at-if2 .if2 .left)) (then (omega (arith, start .pre)) (at-put-byte2 .put-byte2 .ensures) (c .before .before .put-behind .ensures))
+    rename (indexed-is (start .args .command) (start .args .action) (start .args .index) (at-if1 .if1 .left) (at-if2 .if2 .left))
+    (then (omega (arith, start .pre)) (at-put-byte2 .put-byte2 .ensures) (c .before .before .put-behind .ensures))
 
 pub put-given-spec : {M : Type 1} → statement M
 put-given-spec =

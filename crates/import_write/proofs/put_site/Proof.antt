@@ -17,7 +17,16 @@ put-byte-requires c κs =
 put-behind-requires : tie.Need-put-behind-requires
 put-behind-requires c κs =
     let at-put-byte = c .before .before .before in let at-put-two = at-put-byte .before .before .before .before in let start = at-put-two .before .before .before in
-    omega (arith, start .pre, site-length (start .args .levels) (start .args .conditions) (start .args .actions) (start .args .weights), at-put-two .put-two .ensures .behind, at-put-two .put-two .kept .0, at-put-byte .put-byte .ensures .behind, at-put-byte .put-byte .kept .0)
+    omega (
+      arith,
+      start .pre,
+      site-length (start .args .levels) (start .args .conditions) (start .args .actions)
+          (start .args .weights),
+      at-put-two .put-two .ensures .behind,
+      at-put-two .put-two .kept .0,
+      at-put-byte .put-byte .ensures .behind,
+      at-put-byte .put-byte .kept .0,
+    )
 
 same-length : tie.Need-same-length
 same-length c = search needs
@@ -26,7 +35,9 @@ returns : tie.Need-returns
 returns c =
     let at-put-byte = c .before .before .before .before .before .before in let at-put-two = at-put-byte .before .before .before .before in
     let start = at-put-two .before .before .before in
-    rename (site-is (start .args .levels) (start .args .conditions) (start .args .actions) (start .args .weights)) (then (omega (arith, start .pre)) (then (omega (arith, start .pre)) (at-put-two .put-two .ensures) (at-put-byte .put-byte .ensures)) (c .before .before .put-behind .ensures))
+    rename (site-is (start .args .levels) (start .args .conditions) (start .args .actions) (start .args .weights))
+    (then (omega (arith, start .pre)) (then (omega (arith, start .pre)) (at-put-two .put-two .ensures) (at-put-byte .put-byte .ensures))
+    (c .before .before .put-behind .ensures))
 
 pub put-site-spec : {M : Type 1} → statement M
 put-site-spec =

@@ -51,7 +51,8 @@ words-requires c κs = search needs
 named-requires : tie.Need-named-requires
 named-requires c κs =
     let at-read = c .before .before .before .before .before in let at-command-at = at-read .before .before in let start = at-command-at .before .before in
-    subst Nums (sym (c .words .ensures)) (linear-nums (start .args .model .now) (start .args .at) (at-command-at .command-at .result) (at-command-at .command-at .ensures) (at-read .read .given .1) (c .before .before .enum-told .given .1) (c .before .linear-at .ensures))
+    subst Nums (sym (c .words .ensures)) (linear-nums (start .args .model .now) (start .args .at) (at-command-at .command-at .result) (at-command-at .command-at .ensures)
+    (at-read .read .given .1) (c .before .before .enum-told .given .1) (c .before .linear-at .ensures))
 
 condition-requires-3 : tie.Need-condition-requires-3
 condition-requires-3 c κs = search needs
@@ -65,12 +66,14 @@ returns-3 : tie.Need-returns-3
 returns-3 c =
     let at-enum-told = c .before .before .before in let at-read = at-enum-told .before .before .before in let at-command-at = at-read .before .before in
     let start = at-command-at .before .before in
-    linear-test-stood (start .args .model .now) (start .args .at) (at-command-at .command-at .result) (at-command-at .command-at .ensures) (at-read .read .given .1) (at-enum-told .enum-told .given .1) (c .before .before .linear-at .ensures) (c .before .words .ensures) (c .named .ensures)
+    linear-test-stood (start .args .model .now) (start .args .at) (at-command-at .command-at .result) (at-command-at .command-at .ensures) (at-read .read .given .1)
+    (at-enum-told .enum-told .given .1) (c .before .before .linear-at .ensures) (c .before .words .ensures) (c .named .ensures)
 
 returns-4 : tie.Need-returns-4
 returns-4 c =
     let at-read = c .before .before .before in let at-command-at = at-read .before .before in let start = at-command-at .before .before in
-    other-stood (start .args .model .now) (start .args .at) (at-command-at .command-at .result) (at-command-at .command-at .ensures) (at-read .read .given .1) (c .before .match2 .keys3) (condition-stood 1 (omega arith, omega arith) (c .condition3 .ensures))
+    other-stood (start .args .model .now) (start .args .at) (at-command-at .command-at .result) (at-command-at .command-at .ensures) (at-read .read .given .1)
+    (c .before .match2 .keys3) (condition-stood 1 (omega arith, omega arith) (c .condition3 .ensures))
 
 pub test-from-spec : {M : Type 1} → statement M
 test-from-spec =

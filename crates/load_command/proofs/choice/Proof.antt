@@ -23,8 +23,13 @@ cast-choose-command-2 c = search needs
 
 choose-command-requires : tie.Need-choose-command-requires
 choose-command-requires c κs =
-    let at-pop = c .before .before .before in let at-top = at-pop .before in let start = at-top .before .before .before .before in
-    (start .pre .0, start .pre .1, high-fits (held (start .args .s .stack)) (held (at-pop .pop .result)) (at-pop .pop .ensures) (c .before .before .top2 .ensures) (start .pre .2), low-fits (held (start .args .s .stack)) (at-top .top .ensures) (start .pre .3))
+    let at-pop = c .before .before .before in let at-top = at-pop .before in let start = at-top .before .before .before .before in (
+      start .pre .0,
+      start .pre .1,
+      high-fits (held (start .args .s .stack)) (held (at-pop .pop .result)) (at-pop .pop .ensures) (c .before .before .top2 .ensures)
+          (start .pre .2),
+      low-fits (held (start .args .s .stack)) (at-top .top .ensures) (start .pre .3),
+    )
 
 pop-requires-2 : tie.Need-pop-requires-2
 pop-requires-2 c κs = search needs
@@ -43,7 +48,8 @@ returns : tie.Need-returns
 returns c =
     let at-choose-command = c .before .before .before .before .before in let at-top2 = at-choose-command .before .before .before in let at-pop = at-top2 .before in
     let at-top = at-pop .before in let start = at-top .before .before .before .before in
-    chosen (testAt (start .args .model .now) (start .args .at)) (held (start .args .s .stack)) (held (at-pop .pop .result)) (held (c .before .pop2 .result)) (at-top .top .ensures) (at-pop .pop .ensures) (at-top2 .top2 .ensures) (c .before .pop2 .ensures) (at-choose-command .choose-command .ensures) (c .put .ensures)
+    chosen (testAt (start .args .model .now) (start .args .at)) (held (start .args .s .stack)) (held (at-pop .pop .result)) (held (c .before .pop2 .result))
+    (at-top .top .ensures) (at-pop .pop .ensures) (at-top2 .top2 .ensures) (c .before .pop2 .ensures) (at-choose-command .choose-command .ensures) (c .put .ensures)
 
 pub choice-spec : {M : Type 1} → statement M
 choice-spec =

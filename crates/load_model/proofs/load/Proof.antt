@@ -139,7 +139,8 @@ loop-less : tie.Need-loop-less Inv-loop μ-loop
 loop-less c =
     let at-read = c .before .before .before .before .before .before .before .before .before .before .before .before .before .before .before .before .before .before .before .before in
     let at-command-at = at-read .before .before in let at-loop = at-command-at .before in let start-2 = at-loop .before .before .before .before .before .before .before in
-    let f = forward (start-2 .args .model .now) (at-loop .loop .at) _ (c .next-after2 .result) (whole-is (start-2 .args .model .now) (at-loop .loop .at) (at-command-at .command-at .ensures) (at-read .read .given .1)) (c .next-after2 .ensures) in
+    let f = forward (start-2 .args .model .now) (at-loop .loop .at) _ (c .next-after2 .result)
+    (whole-is (start-2 .args .model .now) (at-loop .loop .at) (at-command-at .command-at .ensures) (at-read .read .given .1)) (c .next-after2 .ensures) in
     omega (arith, f .1, f .2)
 
 loop-again : tie.Need-loop-again Inv-loop μ-loop
@@ -149,8 +150,10 @@ loop-again c =
     let at-read = at-is-end .before .before in let at-command-at = at-read .before .before in let at-loop = at-command-at .before in
     let at-site = at-loop .before .before .before in let start-2 = at-site .before .before .before .before in
     let e = whole-is (start-2 .args .model .now) (at-loop .loop .at) (at-command-at .command-at .ensures) (at-read .read .given .1) in (
-      turn-on (at-loop .loop .inv .0) _ e (at-step .step .ensures) (c .next-after2 .result) (at-top .top .result) (sym (at-is-end .is-end .ensures) ∙ at-if1 .if1 .left) (c .next-after2 .ensures) (c .before .if2 .left) (at-top .top .ensures)
-          (placed (start-2 .args .model .now) (at-site .site .result) _ (at-loop .loop .roots) (at-top .top .result) (at-site .site .ensures) (at-place .place .ensures (start-2 .args .model .now) (at-loop .loop .at)) (at-store .store .ensures))
+      turn-on (at-loop .loop .inv .0) _ e (at-step .step .ensures) (c .next-after2 .result) (at-top .top .result) (sym (at-is-end .is-end .ensures) ∙ at-if1 .if1 .left)
+          (c .next-after2 .ensures) (c .before .if2 .left) (at-top .top .ensures)
+          (placed (start-2 .args .model .now) (at-site .site .result) _ (at-loop .loop .roots) (at-top .top .result) (at-site .site .ensures)
+          (at-place .place .ensures (start-2 .args .model .now) (at-loop .loop .at)) (at-store .store .ensures))
           (at-ended-by .ended-by .ensures (start-2 .args .model .now) (at-loop .loop .at)),
       at-step .step .kept .1 .0 ∙ at-loop .loop .inv .1,
       at-step .step .kept .1 .1 .0 ∙ at-loop .loop .inv .2,

@@ -21,7 +21,8 @@ add-n-2 c = search needs
 
 mul-result : tie.Need-mul-result
 mul-result c =
-    let z = row-few ((c .before .before) .args .above) (1 + c .before .byte-index .result + c .byte-index2 .result) ((c .before .before) .pre) (omega (arith, c .before .byte-index .ensures .1, c .byte-index2 .ensures .1)) in omega (arith, z)
+    let z = row-few ((c .before .before) .args .above) (1 + c .before .byte-index .result + c .byte-index2 .result) ((c .before .before) .pre)
+    (omega (arith, c .before .byte-index .ensures .1, c .byte-index2 .ensures .1)) in omega (arith, z)
 
 returns : tie.Need-returns
 returns c = (

@@ -25,7 +25,9 @@ refusal-requires c κs =
 returns : tie.Need-returns
 returns c =
     let at-read = c .before .before .before .before in let at-command-in = at-read .before .before in let start = at-command-in .before .before .before in
-    c .refusal .ensures ∙ first-broken-at (form-of (start .args .form)) (start .args .model .now) _ (c .before .before .first .result) (whole-is-in (form-of (start .args .form)) (start .args .model .now) 0 (at-command-in .command-in .ensures) (at-read .read .given .1)) (c .before .before .first .ensures (start .args .model .now) 0) (c .before .if1 .taken)
+    c .refusal .ensures ∙ first-broken-at (form-of (start .args .form)) (start .args .model .now) _ (c .before .before .first .result)
+    (whole-is-in (form-of (start .args .form)) (start .args .model .now) 0 (at-command-in .command-in .ensures) (at-read .read .given .1))
+    (c .before .before .first .ensures (start .args .model .now) 0) (c .before .if1 .taken)
 
 next-after-in-requires : tie.Need-next-after-in-requires
 next-after-in-requires c κs =
@@ -39,8 +41,12 @@ rest-requires : tie.Need-rest-requires
 rest-requires c κs =
     let at-if1 = c .before .before .before in let at-first = at-if1 .before in let at-read = at-first .before .before in let at-command-in = at-read .before .before in
     let start = at-command-in .before .before .before in let f = at-first .first .ensures (start .args .model .now) 0 in
-    let s = c .first2 .ensures (form-of (start .args .form)) (start .args .model .now) 0 (sym f ∙ at-if1 .if1 .left) in
-    (s .0, walk-first (form-of (start .args .form)) (start .args .model .now) _ (start .pre) _ (at-first .first .result) _ _ (whole-is-in (form-of (start .args .form)) (start .args .model .now) 0 (at-command-in .command-in .ensures) (at-read .read .given .1)) f (at-if1 .if1 .left) (c .before .before .next-after-in .ensures) (s .1))
+    let s = c .first2 .ensures (form-of (start .args .form)) (start .args .model .now) 0 (sym f ∙ at-if1 .if1 .left) in (
+      s .0,
+      walk-first (form-of (start .args .form)) (start .args .model .now) _ (start .pre) _ (at-first .first .result) _ _
+          (whole-is-in (form-of (start .args .form)) (start .args .model .now) 0 (at-command-in .command-in .ensures) (at-read .read .given .1)) f (at-if1 .if1 .left)
+          (c .before .before .next-after-in .ensures) (s .1),
+    )
 
 enum-told : tie.Need-enum-told
 enum-told c =
@@ -69,12 +75,14 @@ returns-2 c =
 returns-3 : tie.Need-returns-3
 returns-3 c =
     let at-command-in = c .before .before .before in let start = at-command-in .before .before .before in
-    c .refusal2 .ensures ∙ turn-unknown (walk-starts (form-of (start .args .form)) (start .args .model .now)) (unknown-is (form-of (start .args .form)) (start .args .model .now) 0 (at-command-in .command-in .ensures) (c .before .enum-told .given .1))
+    c .refusal2 .ensures ∙ turn-unknown (walk-starts (form-of (start .args .form)) (start .args .model .now))
+    (unknown-is (form-of (start .args .form)) (start .args .model .now) 0 (at-command-in .command-in .ensures) (c .before .enum-told .given .1))
 
 returns-4 : tie.Need-returns-4
 returns-4 c =
     let at-command-in = c .before .before .before in let start = at-command-in .before .before .before in
-    c .refusal3 .ensures ∙ turn-short (walk-starts (form-of (start .args .form)) (start .args .model .now)) (short-is (form-of (start .args .form)) (start .args .model .now) 0 (at-command-in .command-in .ensures) (c .before .enum-told2 .given .1))
+    c .refusal3 .ensures ∙ turn-short (walk-starts (form-of (start .args .form)) (start .args .model .now))
+    (short-is (form-of (start .args .form)) (start .args .model .now) 0 (at-command-in .command-in .ensures) (c .before .enum-told2 .given .1))
 
 pub judge-spec : {M : Type 1} → statement M
 judge-spec =

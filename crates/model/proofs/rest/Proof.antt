@@ -48,7 +48,8 @@ returns : tie.Need-returns Inv-loop μ-loop
 returns c =
     let at-read = c .before .before .before .before .before in let at-command-in = at-read .before .before in let at-loop = at-command-in .before in
     let start = at-loop .before .before .before .before .before in let w = at-loop .loop .inv in
-    c .refusal .ensures ∙ turn-broken w _ (c .before .before .broken .result) (whole-is-in (form-of (start .args .form)) (start .args .model .now) (at-loop .loop .at) (at-command-in .command-in .ensures) (at-read .read .given .1)) (c .before .before .broken .ensures (w .so-far) (w .stands)) (c .before .if1 .taken)
+    c .refusal .ensures ∙ turn-broken w _ (c .before .before .broken .result) (whole-is-in (form-of (start .args .form)) (start .args .model .now) (at-loop .loop .at)
+    (at-command-in .command-in .ensures) (at-read .read .given .1)) (c .before .before .broken .ensures (w .so-far) (w .stands)) (c .before .if1 .taken)
 
 is-end-requires : tie.Need-is-end-requires Inv-loop μ-loop
 is-end-requires c κs =
@@ -58,7 +59,9 @@ ended-requires : tie.Need-ended-requires Inv-loop μ-loop
 ended-requires c κs =
     let at-read = c .before .before .before .before .before .before in let at-command-in = at-read .before .before in let at-loop = at-command-in .before in
     let start = at-loop .before .before .before .before .before in
-    whole-bytes (form-of (start .args .form)) (start .args .model .now) (at-loop .loop .at) _ (whole-is-in (form-of (start .args .form)) (start .args .model .now) (at-loop .loop .at) (at-command-in .command-in .ensures) (at-read .read .given .1)) .0 .starts
+    whole-bytes (form-of (start .args .form)) (start .args .model .now) (at-loop .loop .at) _
+    (whole-is-in (form-of (start .args .form)) (start .args .model .now) (at-loop .loop .at) (at-command-in .command-in .ensures)
+    (at-read .read .given .1)) .0 .starts
 
 same-length-2 : tie.Need-same-length-2 Inv-loop μ-loop
 same-length-2 c =
@@ -69,7 +72,9 @@ returns-2 : tie.Need-returns-2 Inv-loop μ-loop
 returns-2 c =
     let at-if1 = c .before .before .before in let at-broken = at-if1 .before in let at-read = at-broken .before .before .before in let at-command-in = at-read .before .before in
     let at-loop = at-command-in .before in let start = at-loop .before .before .before .before .before in let w = at-loop .loop .inv in
-    turn-end w _ (at-broken .broken .result) _ (whole-is-in (form-of (start .args .form)) (start .args .model .now) (at-loop .loop .at) (at-command-in .command-in .ensures) (at-read .read .given .1)) (at-broken .broken .ensures (w .so-far) (w .stands)) (at-if1 .if1 .left) (sym (c .before .before .is-end .ensures) ∙ c .before .if2 .taken) (c .ended .ensures)
+    turn-end w _ (at-broken .broken .result) _ (whole-is-in (form-of (start .args .form)) (start .args .model .now) (at-loop .loop .at)
+    (at-command-in .command-in .ensures) (at-read .read .given .1)) (at-broken .broken .ensures (w .so-far) (w .stands)) (at-if1 .if1 .left)
+    (sym (c .before .before .is-end .ensures) ∙ c .before .if2 .taken) (c .ended .ensures)
 
 note-requires : tie.Need-note-requires Inv-loop μ-loop
 note-requires c κs =
@@ -89,14 +94,22 @@ add-at : tie.Need-add-at Inv-loop μ-loop
 add-at c =
     let at-read = c .before .before .before .before .before .before .before .before .before .before .before .before .before in let at-command-in = at-read .before .before in
     let at-loop = at-command-in .before in let start = at-loop .before .before .before .before .before in
-    let f = forward-in (form-of (start .args .form)) (start .args .model .now) (at-loop .loop .at) _ _ (whole-is-in (form-of (start .args .form)) (start .args .model .now) (at-loop .loop .at) (at-command-in .command-in .ensures) (at-read .read .given .1)) (past (form-of (start .args .form)) (start .args .model .now) (at-loop .loop .at) _ (c .size-in .result) (whole-is-in (form-of (start .args .form)) (start .args .model .now) (at-loop .loop .at) (at-command-in .command-in .ensures) (at-read .read .given .1)) (c .size-in .ensures)) in
+    let f = forward-in (form-of (start .args .form)) (start .args .model .now) (at-loop .loop .at) _ _
+    (whole-is-in (form-of (start .args .form)) (start .args .model .now) (at-loop .loop .at) (at-command-in .command-in .ensures) (at-read .read .given .1))
+    (past (form-of (start .args .form)) (start .args .model .now) (at-loop .loop .at) _ (c .size-in .result)
+    (whole-is-in (form-of (start .args .form)) (start .args .model .now) (at-loop .loop .at) (at-command-in .command-in .ensures) (at-read .read .given .1))
+    (c .size-in .ensures)) in
     omega (arith, f .1, f .2, start .good)
 
 loop-less : tie.Need-loop-less Inv-loop μ-loop
 loop-less c =
     let at-read = c .before .before .before .before .before .before .before .before .before .before .before .before .before in let at-command-in = at-read .before .before in
     let at-loop = at-command-in .before in let start = at-loop .before .before .before .before .before in
-    let f = forward-in (form-of (start .args .form)) (start .args .model .now) (at-loop .loop .at) _ _ (whole-is-in (form-of (start .args .form)) (start .args .model .now) (at-loop .loop .at) (at-command-in .command-in .ensures) (at-read .read .given .1)) (past (form-of (start .args .form)) (start .args .model .now) (at-loop .loop .at) _ (c .size-in .result) (whole-is-in (form-of (start .args .form)) (start .args .model .now) (at-loop .loop .at) (at-command-in .command-in .ensures) (at-read .read .given .1)) (c .size-in .ensures)) in
+    let f = forward-in (form-of (start .args .form)) (start .args .model .now) (at-loop .loop .at) _ _
+    (whole-is-in (form-of (start .args .form)) (start .args .model .now) (at-loop .loop .at) (at-command-in .command-in .ensures) (at-read .read .given .1))
+    (past (form-of (start .args .form)) (start .args .model .now) (at-loop .loop .at) _ (c .size-in .result)
+    (whole-is-in (form-of (start .args .form)) (start .args .model .now) (at-loop .loop .at) (at-command-in .command-in .ensures) (at-read .read .given .1))
+    (c .size-in .ensures)) in
     omega (arith, f .1, f .2)
 
 loop-again : tie.Need-loop-again Inv-loop μ-loop
@@ -105,7 +118,9 @@ loop-again c =
     let at-broken = at-if1 .before in let at-read = at-broken .before .before .before in let at-command-in = at-read .before .before in let at-loop = at-command-in .before in
     let start = at-loop .before .before .before .before .before in let w = at-loop .loop .inv in
     let e = whole-is-in (form-of (start .args .form)) (start .args .model .now) (at-loop .loop .at) (at-command-in .command-in .ensures) (at-read .read .given .1) in
-    turn-on w refl _ (at-broken .broken .result) _ (c .before .before .after .result) _ e (at-broken .broken .ensures (w .so-far) (w .stands)) (at-if1 .if1 .left) (sym (at-is-end .is-end .ensures) ∙ at-if2 .if2 .left) (past (form-of (start .args .form)) (start .args .model .now) (at-loop .loop .at) _ (c .size-in .result) e (c .size-in .ensures)) (at-note .note .ensures) (c .before .before .after .ensures)
+    turn-on w refl _ (at-broken .broken .result) _ (c .before .before .after .result) _ e (at-broken .broken .ensures (w .so-far) (w .stands)) (at-if1 .if1 .left)
+    (sym (at-is-end .is-end .ensures) ∙ at-if2 .if2 .left) (past (form-of (start .args .form)) (start .args .model .now) (at-loop .loop .at) _ (c .size-in .result) e
+    (c .size-in .ensures)) (at-note .note .ensures) (c .before .before .after .ensures)
 
 enum-told : tie.Need-enum-told Inv-loop μ-loop
 enum-told c =

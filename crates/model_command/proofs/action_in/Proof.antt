@@ -37,7 +37,8 @@ returns c =
 
 returns-2 : tie.Need-returns-2
 returns-2 c =
-    two-bytes _ _ _ _ _ _ _ (c .before .before .enum-told2 .given .1) (c .before .before .before .before .byte-action .ensures .0) (c .before .before .before .before .before .byte-at .ensures) (c .byte-action2 .ensures .0) (c .before .byte-at2 .ensures)
+    two-bytes _ _ _ _ _ _ _ (c .before .before .enum-told2 .given .1) (c .before .before .before .before .byte-action .ensures .0)
+    (c .before .before .before .before .before .byte-at .ensures) (c .byte-action2 .ensures .0) (c .before .byte-at2 .ensures)
 
 pub action-in-spec : {M : Type 1} → statement M
 action-in-spec =

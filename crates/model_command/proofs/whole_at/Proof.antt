@@ -91,13 +91,15 @@ returns-7 : tie.Need-returns-7
 unfolding command-of-in command-in
 returns-7 c =
     let at-behind-action = c .before .before .before in let at-if1 = at-behind-action .before in let at-site-byte = at-if1 .before in let start = at-site-byte .before .before in
-    rw (← start .pre .0, ne-eqb _ _ (λ e. at-if1 .if1 .left (e ∙ sym (at-site-byte .site-byte .ensures))), c .before .before .match .keys6) (simp (c .before .action-in2 .ensures, c .byte-at2 .ensures, at-behind-action .behind-action .ensures .0))
+    rw (← start .pre .0, ne-eqb _ _ (λ e. at-if1 .if1 .left (e ∙ sym (at-site-byte .site-byte .ensures))), c .before .before .match .keys6)
+    (simp (c .before .action-in2 .ensures, c .byte-at2 .ensures, at-behind-action .behind-action .ensures .0))
 
 returns-8 : tie.Need-returns-8
 unfolding command-of-in command-in
 returns-8 c =
     let at-behind-action = c .before .before .before in let at-if1 = at-behind-action .before in let at-site-byte = at-if1 .before in let start = at-site-byte .before .before in
-    rw (← start .pre .0, ne-eqb _ _ (λ e. at-if1 .if1 .left (e ∙ sym (at-site-byte .site-byte .ensures))), c .before .before .match .keys7) (simp (c .before .action-in3 .ensures, c .byte-at3 .ensures, at-behind-action .behind-action .ensures .0))
+    rw (← start .pre .0, ne-eqb _ _ (λ e. at-if1 .if1 .left (e ∙ sym (at-site-byte .site-byte .ensures))), c .before .before .match .keys7)
+    (simp (c .before .action-in3 .ensures, c .byte-at3 .ensures, at-behind-action .behind-action .ensures .0))
 
 returns-9 : tie.Need-returns-9
 unfolding command-of-in command-in
@@ -114,7 +116,20 @@ returns-11 : tie.Need-returns-11
 unfolding command-of-in command-in
 returns-11 c =
     let r = c .match .rest in
-    simp (← (c .before .before .before .before .before) .pre .0, ne-eqb _ _ (λ e. c .before .before .if1 .left (e ∙ sym (c .before .before .before .site-byte .ensures))), ne-eqb _ _ (r .0 .0 .0 .0 .0 .0 .0 .0 .1), ne-eqb _ _ (r .0 .0 .0 .0 .0 .0 .0 .1), ne-eqb _ _ (r .0 .0 .0 .0 .0 .0 .1), ne-eqb _ _ (r .0 .0 .0 .0 .0 .1), ne-eqb _ _ (r .0 .0 .0 .0 .1), ne-eqb _ _ (r .0 .0 .0 .1), ne-eqb _ _ (r .0 .0 .1), ne-eqb _ _ (r .0 .1), ne-eqb _ _ (r .1))
+    simp (
+      ← (c .before .before .before .before .before) .pre .0,
+      ne-eqb _ _ (λ e. c .before .before .if1 .left (e ∙ sym (c .before .before .before .site-byte .ensures))),
+      ne-eqb _ _ (r .0 .0 .0 .0 .0 .0 .0 .0 .1),
+      ne-eqb _ _ (r .0 .0 .0 .0 .0 .0 .0 .1),
+      ne-eqb _ _ (r .0 .0 .0 .0 .0 .0 .1),
+      ne-eqb _ _
+          (r .0 .0 .0 .0 .0 .1),
+      ne-eqb _ _ (r .0 .0 .0 .0 .1),
+      ne-eqb _ _ (r .0 .0 .0 .1),
+      ne-eqb _ _ (r .0 .0 .1),
+      ne-eqb _ _ (r .0 .1),
+      ne-eqb _ _ (r .1),
+    )
 
 pub whole-at-spec : {M : Type 1} → statement M
 whole-at-spec =

@@ -70,8 +70,11 @@ returns-3 c =
 
 returns-4 : tie.Need-returns-4
 unfolding width-in
-returns-4 c =
-    (rw (ne-eqb _ _ (λ e. c .before .before .if1 .left (e ∙ sym (c .before .before .before .site-byte .ensures))), c .before .match .keys3) (ap (λ (n : ℕ). 1 + n) (c .linear-bytes2 .ensures .0)), omega (arith, c .linear-bytes2 .ensures .1))
+returns-4 c = (
+  rw (ne-eqb _ _ (λ e. c .before .before .if1 .left (e ∙ sym (c .before .before .before .site-byte .ensures))), c .before .match .keys3)
+      (ap (λ (n : ℕ). 1 + n) (c .linear-bytes2 .ensures .0)),
+  omega (arith, c .linear-bytes2 .ensures .1),
+)
 
 returns-5 : tie.Need-returns-5
 unfolding width-in
@@ -85,13 +88,19 @@ returns-6 c =
 
 returns-7 : tie.Need-returns-7
 unfolding width-in
-returns-7 c =
-    (rw (ne-eqb _ _ (λ e. c .before .before .if1 .left (e ∙ sym (c .before .before .before .site-byte .ensures))), c .before .match .keys6) (ap (λ (n : ℕ). n + 1) (c .behind-action2 .ensures .0)), omega (arith, c .behind-action2 .ensures .1))
+returns-7 c = (
+  rw (ne-eqb _ _ (λ e. c .before .before .if1 .left (e ∙ sym (c .before .before .before .site-byte .ensures))), c .before .match .keys6)
+      (ap (λ (n : ℕ). n + 1) (c .behind-action2 .ensures .0)),
+  omega (arith, c .behind-action2 .ensures .1),
+)
 
 returns-8 : tie.Need-returns-8
 unfolding width-in
-returns-8 c =
-    (rw (ne-eqb _ _ (λ e. c .before .before .if1 .left (e ∙ sym (c .before .before .before .site-byte .ensures))), c .before .match .keys7) (ap (λ (n : ℕ). n + 1) (c .behind-action3 .ensures .0)), omega (arith, c .behind-action3 .ensures .1))
+returns-8 c = (
+  rw (ne-eqb _ _ (λ e. c .before .before .if1 .left (e ∙ sym (c .before .before .before .site-byte .ensures))), c .before .match .keys7)
+      (ap (λ (n : ℕ). n + 1) (c .behind-action3 .ensures .0)),
+  omega (arith, c .behind-action3 .ensures .1),
+)
 
 returns-9 : tie.Need-returns-9
 unfolding width-in
@@ -100,8 +109,11 @@ returns-9 c =
 
 returns-10 : tie.Need-returns-10
 unfolding width-in
-returns-10 c =
-    (rw (ne-eqb _ _ (λ e. c .before .before .if1 .left (e ∙ sym (c .before .before .before .site-byte .ensures))), c .before .match .keys9) (ap (λ (n : ℕ). n + 16) (c .behind-action4 .ensures .0)), omega (arith, c .behind-action4 .ensures .1))
+returns-10 c = (
+  rw (ne-eqb _ _ (λ e. c .before .before .if1 .left (e ∙ sym (c .before .before .before .site-byte .ensures))), c .before .match .keys9)
+      (ap (λ (n : ℕ). n + 16) (c .behind-action4 .ensures .0)),
+  omega (arith, c .behind-action4 .ensures .1),
+)
 
 returns-11 : tie.Need-returns-11
 unfolding width-in
@@ -111,8 +123,24 @@ returns-11 c =
 returns-12 : tie.Need-returns-12
 unfolding width-in
 returns-12 c =
-    let r = c .match .rest in
-    (simp (ne-eqb _ _ (λ e. c .before .if1 .left (e ∙ sym (c .before .before .site-byte .ensures))), ne-eqb _ _ (r .0 .0 .0 .0 .0 .0 .0 .0 .0 .1), ne-eqb _ _ (r .0 .0 .0 .0 .0 .0 .0 .0 .1), ne-eqb _ _ (r .0 .0 .0 .0 .0 .0 .0 .1), ne-eqb _ _ (r .0 .0 .0 .0 .0 .0 .1), ne-eqb _ _ (r .0 .0 .0 .0 .0 .1), ne-eqb _ _ (r .0 .0 .0 .0 .1), ne-eqb _ _ (r .0 .0 .0 .1), ne-eqb _ _ (r .0 .0 .1), ne-eqb _ _ (r .0 .1), ne-eqb _ _ (r .1)), omega arith)
+    let r = c .match .rest in (
+      simp (
+        ne-eqb _ _ (λ e. c .before .if1 .left (e ∙ sym (c .before .before .site-byte .ensures))),
+        ne-eqb _ _ (r .0 .0 .0 .0 .0 .0 .0 .0 .0 .1),
+        ne-eqb _ _
+            (r .0 .0 .0 .0 .0 .0 .0 .0 .1),
+        ne-eqb _ _ (r .0 .0 .0 .0 .0 .0 .0 .1),
+        ne-eqb _ _ (r .0 .0 .0 .0 .0 .0 .1),
+        ne-eqb _ _ (r .0 .0 .0 .0 .0 .1),
+        ne-eqb _ _
+            (r .0 .0 .0 .0 .1),
+        ne-eqb _ _ (r .0 .0 .0 .1),
+        ne-eqb _ _ (r .0 .0 .1),
+        ne-eqb _ _ (r .0 .1),
+        ne-eqb _ _ (r .1),
+      ),
+      omega arith,
+    )
 
 pub width-in-spec : {M : Type 1} → statement M
 width-in-spec =

@@ -125,7 +125,10 @@ returns-7 : tie.Need-returns-7
 unfolding command-of-in
 returns-7 c =
     let at-c3 = c .before .before .before .before in let start = at-c3 .before .before .before .before in
-    known-command (form-of (start .args .form)) (start .args .s) (start .args .flags .now) (start .args .model .now) (start .args .at) _ (at-c3 .c3 .given .1) (c .name .ensures (take name-bytes (drop (start .args .at + behind-action (form-of (start .args .form))) (start .args .model .now))) (c .before .text .ensures ∙ ap (λ (k : ℕ). all printable (take name-bytes (drop (start .args .at + k) (start .args .model .now)))) (c .before .before .behind-action .ensures .0)))
+    known-command (form-of (start .args .form)) (start .args .s) (start .args .flags .now) (start .args .model .now) (start .args .at) _ (at-c3 .c3 .given .1)
+    (c .name .ensures (take name-bytes (drop (start .args .at + behind-action (form-of (start .args .form))) (start .args .model .now)))
+    (c .before .text .ensures ∙ ap (λ (k : ℕ). all printable (take name-bytes (drop (start .args .at + k) (start .args .model .now))))
+    (c .before .before .behind-action .ensures .0)))
 
 returns-8 : tie.Need-returns-8
 unfolding command-of-in

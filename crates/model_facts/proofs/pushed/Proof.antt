@@ -20,7 +20,9 @@ below-requires-3 c κs = search needs
 returns : tie.Need-returns
 returns c =
     let start = c .before .before .before .before .before .before in let t = start .args .t in
-    λ h. seen-pushed (t .later) (t .weights) (t .forbids) (t .len) (start .args .next-step) (start .args .weights) (start .args .forbids) (c .before .before .below .result) (c .before .below2 .result) (c .below3 .result) (c .before .before .below .ensures) (c .before .below2 .ensures) (c .below3 .ensures) h
+    λ h. seen-pushed (t .later) (t .weights) (t .forbids) (t .len) (start .args .next-step) (start .args .weights) (start .args .forbids)
+    (c .before .before .below .result) (c .before .below2 .result) (c .below3 .result) (c .before .before .below .ensures) (c .before .below2 .ensures)
+    (c .below3 .ensures) h
 
 returns-2 : tie.Need-returns-2
 returns-2 c =

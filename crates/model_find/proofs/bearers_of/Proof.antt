@@ -56,7 +56,8 @@ loop-again : tie.Need-loop-again Inv-loop μ-loop
 loop-again c =
     let at-is-end = c .before .before .before in let at-read = at-is-end .before .before in let at-command-at = at-read .before .before in let at-loop = at-command-at .before in
     let start = at-loop .before .before .before in
-    pass-on (at-loop .loop .inv) _ (c .next-after .result) (whole-is (start .args .model .now) (at-loop .loop .at) (at-command-at .command-at .ensures) (at-read .read .given .1)) (sym (at-is-end .is-end .ensures) ∙ c .before .before .if1 .left) (c .next-after .ensures) (c .before .with-command .ensures)
+    pass-on (at-loop .loop .inv) _ (c .next-after .result) (whole-is (start .args .model .now) (at-loop .loop .at) (at-command-at .command-at .ensures)
+    (at-read .read .given .1)) (sym (at-is-end .is-end .ensures) ∙ c .before .before .if1 .left) (c .next-after .ensures) (c .before .with-command .ensures)
 
 pub bearers-of-spec : {M : Type 1} → statement M
 bearers-of-spec =

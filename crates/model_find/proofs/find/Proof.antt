@@ -25,7 +25,8 @@ refused-requires-2 c κs = search needs
 returns-2 : tie.Need-returns-2
 returns-2 c =
     let at-if1 = c .before .before .before in let at-early = at-if1 .before .before in let start = at-early .before .before .before in
-    c .refused2 .ensures ∙ find-empty (start .args .model .now) (start .args .name .now) (at-early .early .result) (at-early .early .ensures) (at-if1 .if1 .left) (c .before .before .trimmed-len .result) (c .before .before .trimmed-len .ensures .1) (c .before .if2 .taken)
+    c .refused2 .ensures ∙ find-empty (start .args .model .now) (start .args .name .now) (at-early .early .result) (at-early .early .ensures) (at-if1 .if1 .left)
+    (c .before .before .trimmed-len .result) (c .before .before .trimmed-len .ensures .1) (c .before .if2 .taken)
 
 slice-aggregate-bearers-of : tie.Need-slice-aggregate-bearers-of
 slice-aggregate-bearers-of c =
@@ -42,7 +43,8 @@ returns-3 : tie.Need-returns-3
 returns-3 c =
     let at-if2 = c .before .before .before in let at-trimmed-len = at-if2 .before in let at-if1 = at-trimmed-len .before in let at-early = at-if1 .before .before in
     let start = at-early .before .before .before in
-    c .told .ensures ∙ find-met (start .args .model .now) (start .args .name .now) (at-early .early .result) (at-early .early .ensures) (at-if1 .if1 .left) (at-trimmed-len .trimmed-len .result) (at-trimmed-len .trimmed-len .ensures .1) (at-if2 .if2 .left) (c .before .bearers-of .ensures)
+    c .told .ensures ∙ find-met (start .args .model .now) (start .args .name .now) (at-early .early .result) (at-early .early .ensures) (at-if1 .if1 .left)
+    (at-trimmed-len .trimmed-len .result) (at-trimmed-len .trimmed-len .ensures .1) (at-if2 .if2 .left) (c .before .bearers-of .ensures)
 
 pub find-spec : {M : Type 1} → statement M
 find-spec =

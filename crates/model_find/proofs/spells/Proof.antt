@@ -25,7 +25,8 @@ same-requires c κs = search needs
 returns : tie.Need-returns
 returns c =
     let start = c .before .before .before .before .before in
-    spelt (start .args .model .now) (start .args .from) (start .args .name .now) (c .before .before .trimmed-len .result) (c .same .result) (start .pre) (c .before .before .trimmed-len .ensures .1) (c .same .ensures .0) (c .same .ensures .1)
+    spelt (start .args .model .now) (start .args .from) (start .args .name .now) (c .before .before .trimmed-len .result) (c .same .result) (start .pre)
+    (c .before .before .trimmed-len .ensures .1) (c .same .ensures .0) (c .same .ensures .1)
 
 pub spells-spec : {M : Type 1} → statement M
 spells-spec =

@@ -36,13 +36,16 @@ unfolding form-of
 returns c =
     let at-spells = c .before .before .before in let at-behind-action = at-spells .before in let at-c = at-behind-action .before .before in
     let start = at-c .before .before .before .before in
-    c .joined .ensures ∙ ap (joined (start .args .known)) (c .before .action-word .ensures) ∙ joins (start .args .model .now) (start .args .at) _ (at-c .c .given .1) (start .args .name .now) (start .args .known) (at-spells .spells .result) (at-behind-action .behind-action .result) (at-behind-action .behind-action .ensures .0) (at-spells .spells .ensures) (c .before .before .if1 .taken)
+    c .joined .ensures ∙ ap (joined (start .args .known)) (c .before .action-word .ensures) ∙ joins (start .args .model .now) (start .args .at) _ (at-c .c .given .1)
+    (start .args .name .now) (start .args .known) (at-spells .spells .result) (at-behind-action .behind-action .result) (at-behind-action .behind-action .ensures .0)
+    (at-spells .spells .ensures) (c .before .before .if1 .taken)
 
 returns-2 : tie.Need-returns-2
 unfolding form-of
 returns-2 c =
     let at-c = c .before .before .before .before in let start = at-c .before .before .before .before in
-    passes (start .args .model .now) (start .args .at) _ (at-c .c .given .1) (start .args .name .now) (start .args .known) (c .before .spells .result) (c .before .before .behind-action .result) (c .before .before .behind-action .ensures .0) (c .before .spells .ensures) (c .if1 .left)
+    passes (start .args .model .now) (start .args .at) _ (at-c .c .given .1) (start .args .name .now) (start .args .known) (c .before .spells .result)
+    (c .before .before .behind-action .result) (c .before .before .behind-action .ensures .0) (c .before .spells .ensures) (c .if1 .left)
 
 returns-3 : tie.Need-returns-3
 returns-3 c =

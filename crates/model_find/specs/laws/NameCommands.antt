@@ -130,7 +130,8 @@ begins : (B : List ℕ) → Begins B (command-at B 0)
 unfolding command-in Begins rules-in first-rules after site-in
 begins B =
     begins-if B (eqb (byte-at B 0) (site-byte new-form)) _ _ (λ _. (tt, refl)) (begins-if B (eqb (byte-at B 0) 0x10) _ _ (λ e. broken 0 _ e) (begins-if B (eqb (byte-at B 0) 0x11) _ _ (λ e. broken 0 _ e)
-    (begins-if B (eqb (byte-at B 0) 0x12) _ _ (λ e. broken 0 _ e) (begins-if B (eqb (byte-at B 0) 0x13) _ _ (λ e. broken 0 _ e) (begins-if B (eqb (byte-at B 0) 0x20) _ _ (λ e. broken 0 _ e) (begins-if B (eqb (byte-at B 0) 0x21) _ _ (λ e. broken 0 _ e)
+    (begins-if B (eqb (byte-at B 0) 0x12) _ _ (λ e. broken 0 _ e) (begins-if B (eqb (byte-at B 0) 0x13) _ _ (λ e. broken 0 _ e)
+    (begins-if B (eqb (byte-at B 0) 0x20) _ _ (λ e. broken 0 _ e) (begins-if B (eqb (byte-at B 0) 0x21) _ _ (λ e. broken 0 _ e)
     (begins-if B (eqb (byte-at B 0) 0x22) _ _ (λ e. broken 0 _ e) (begins-if B (eqb (byte-at B 0) 0x23) _ _ (λ e. broken 0 _ e)
     (begins-if B (eqb (byte-at B 0) 0x30) _ _ (λ e. broken 0 _ e) (λ e. broken 0 _ e))))))))))
 

@@ -45,22 +45,33 @@ behind-action-requires c κs =
 add-from : tie.Need-add-from Inv-loop μ-loop
 add-from c =
     let at-read = c .before .before .before .before in let at-command-at = at-read .before .before in let at-loop = at-command-at .before in let start = at-loop .before .before in
-    let h = whole-bytes new-form (start .args .model .now) (at-loop .loop .at) _ (whole-is (start .args .model .now) (at-loop .loop .at) (at-command-at .command-at .ensures) (at-read .read .given .1)) .0 .starts in omega (arith, c .behind-action .ensures .1)
+    let h = whole-bytes new-form (start .args .model .now) (at-loop .loop .at) _
+    (whole-is (start .args .model .now) (at-loop .loop .at) (at-command-at .command-at .ensures) (at-read .read .given .1)) .0 .starts in omega
+    (arith, c .behind-action .ensures .1)
 
 trimmed-len-requires : tie.Need-trimmed-len-requires Inv-loop μ-loop
 unfolding form-of
 trimmed-len-requires c κs =
     let at-read = c .before .before .before .before in let at-command-at = at-read .before .before in let at-loop = at-command-at .before in let start = at-loop .before .before in
-    let r = name-room (start .args .action) (start .args .model .now) (at-loop .loop .at) _ (whole-is (start .args .model .now) (at-loop .loop .at) (at-command-at .command-at .ensures) (at-read .read .given .1)) (sym (c .before .before .names .ensures (start .args .model .now) (at-loop .loop .at)) ∙ c .before .if1 .taken) in omega (arith, c .behind-action .ensures .0)
+    let r = name-room (start .args .action) (start .args .model .now) (at-loop .loop .at) _
+    (whole-is (start .args .model .now) (at-loop .loop .at) (at-command-at .command-at .ensures) (at-read .read .given .1))
+    (sym (c .before .before .names .ensures (start .args .model .now) (at-loop .loop .at)) ∙ c .before .if1 .taken) in omega (arith, c .behind-action .ensures .0)
 
 returns-2 : tie.Need-returns-2 Inv-loop μ-loop
 unfolding form-of
 returns-2 c =
     let at-names = c .before .before .before in let at-read = at-names .before .before in let at-command-at = at-read .before .before in let at-loop = at-command-at .before in
     let start = at-loop .before .before in
-    let r = name-room (start .args .action) (start .args .model .now) (at-loop .loop .at) _ (whole-is (start .args .model .now) (at-loop .loop .at) (at-command-at .command-at .ensures) (at-read .read .given .1)) (sym (at-names .names .ensures (start .args .model .now) (at-loop .loop .at)) ∙ c .before .before .if1 .taken) in
-    let t = c .trimmed-len .ensures in
-    (seek-found (at-loop .loop .inv) _ (c .before .behind-action .result) (c .trimmed-len .result) (c .before .behind-action .ensures .0) (whole-is (start .args .model .now) (at-loop .loop .at) (at-command-at .command-at .ensures) (at-read .read .given .1)) (sym (at-names .names .ensures (start .args .model .now) (at-loop .loop .at)) ∙ c .before .before .if1 .taken) (t .1), omega (arith, t .0, r, c .before .behind-action .ensures .0))
+    let r = name-room (start .args .action) (start .args .model .now) (at-loop .loop .at) _
+    (whole-is (start .args .model .now) (at-loop .loop .at) (at-command-at .command-at .ensures) (at-read .read .given .1))
+    (sym (at-names .names .ensures (start .args .model .now) (at-loop .loop .at)) ∙ c .before .before .if1 .taken) in
+    let t = c .trimmed-len .ensures in (
+      seek-found (at-loop .loop .inv) _ (c .before .behind-action .result) (c .trimmed-len .result) (c .before .behind-action .ensures .0)
+          (whole-is (start .args .model .now) (at-loop .loop .at) (at-command-at .command-at .ensures) (at-read .read .given .1))
+          (sym (at-names .names .ensures (start .args .model .now) (at-loop .loop .at)) ∙ c .before .before .if1 .taken) (t .1),
+      omega
+          (arith, t .0, r, c .before .behind-action .ensures .0),
+    )
 
 is-end-requires : tie.Need-is-end-requires Inv-loop μ-loop
 is-end-requires c κs =
@@ -69,8 +80,11 @@ is-end-requires c κs =
 returns-3 : tie.Need-returns-3 Inv-loop μ-loop
 returns-3 c =
     let at-names = c .before .before .before in let at-read = at-names .before .before in let at-command-at = at-read .before .before in let at-loop = at-command-at .before in
-    let start = at-loop .before .before in
-    (seek-ends (at-loop .loop .inv) _ (whole-is (start .args .model .now) (at-loop .loop .at) (at-command-at .command-at .ensures) (at-read .read .given .1)) (sym (at-names .names .ensures (start .args .model .now) (at-loop .loop .at)) ∙ c .before .before .if1 .left) (sym (c .before .is-end .ensures) ∙ c .if2 .taken), omega arith)
+    let start = at-loop .before .before in (
+      seek-ends (at-loop .loop .inv) _ (whole-is (start .args .model .now) (at-loop .loop .at) (at-command-at .command-at .ensures) (at-read .read .given .1))
+          (sym (at-names .names .ensures (start .args .model .now) (at-loop .loop .at)) ∙ c .before .before .if1 .left) (sym (c .before .is-end .ensures) ∙ c .if2 .taken),
+      omega arith,
+    )
 
 next-after-requires : tie.Need-next-after-requires Inv-loop μ-loop
 next-after-requires c κs =
@@ -87,7 +101,9 @@ loop-again : tie.Need-loop-again Inv-loop μ-loop
 loop-again c =
     let at-if1 = c .before .before .before in let at-names = at-if1 .before in let at-read = at-names .before .before in let at-command-at = at-read .before .before in
     let at-loop = at-command-at .before in let start = at-loop .before .before in
-    seek-on (at-loop .loop .inv) _ (c .next-after .result) (whole-is (start .args .model .now) (at-loop .loop .at) (at-command-at .command-at .ensures) (at-read .read .given .1)) (sym (at-names .names .ensures (start .args .model .now) (at-loop .loop .at)) ∙ at-if1 .if1 .left) (sym (c .before .before .is-end .ensures) ∙ c .before .if2 .left) (c .next-after .ensures)
+    seek-on (at-loop .loop .inv) _ (c .next-after .result) (whole-is (start .args .model .now) (at-loop .loop .at) (at-command-at .command-at .ensures)
+    (at-read .read .given .1)) (sym (at-names .names .ensures (start .args .model .now) (at-loop .loop .at)) ∙ at-if1 .if1 .left)
+    (sym (c .before .before .is-end .ensures) ∙ c .before .if2 .left) (c .next-after .ensures)
 
 pub named-part-spec : {M : Type 1} → statement M
 named-part-spec =

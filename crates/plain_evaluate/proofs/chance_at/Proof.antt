@@ -20,7 +20,8 @@ slice-aggregate-leaf-at c = search needs
 leaf-at-requires : tie.Need-leaf-at-requires
 leaf-at-requires c κs =
     let start = c .before .before .before .before .before in
-    part-asks (start .args .model .now) (start .args .parts .now) (slot-of (start .args .g)) (start .args .x) _ (start .pre .0) (start .pre .1) (start .pre .2) (start .pre .3) (start .pre .4) (as-long (start .args .x .n) (start .good .1 .1 .1 .0 .1 .1 .1 .1 .0 .1 .0 .1)) (c .before .begin .ensures)
+    part-asks (start .args .model .now) (start .args .parts .now) (slot-of (start .args .g)) (start .args .x) _ (start .pre .0) (start .pre .1) (start .pre .2)
+    (start .pre .3) (start .pre .4) (as-long (start .args .x .n) (start .good .1 .1 .1 .0 .1 .1 .1 .1 .0 .1 .0 .1)) (c .before .begin .ensures)
 
 leaf-constant-requires : tie.Need-leaf-constant-requires
 leaf-constant-requires c κs = search needs
@@ -31,7 +32,8 @@ weight-requires c κs = search needs
 returns : tie.Need-returns
 returns c =
     let start = c .before .before .before .before .before .before .before .before in
-    λ s z st. c .weight .ensures ∙ (ap up (toZ-ofZ w64 _ (record { sfits = c .before .leaf-constant .ok }) ∙ c .before .leaf-constant .ensures) ∙ chance-is (start .args .model .now) (slot-of (start .args .g)) (start .args .x) _ (c .before .before .leaf-at .ensures) s z st _ refl)
+    λ s z st. c .weight .ensures ∙ (ap up (toZ-ofZ w64 _ (record { sfits = c .before .leaf-constant .ok }) ∙ c .before .leaf-constant .ensures) ∙ chance-is
+    (start .args .model .now) (slot-of (start .args .g)) (start .args .x) _ (c .before .before .leaf-at .ensures) s z st _ refl)
 
 pub chance-at-spec : {M : Type 1} → statement M
 chance-at-spec =

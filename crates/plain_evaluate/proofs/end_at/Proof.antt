@@ -22,7 +22,8 @@ returns : tie.Need-returns
 unfolding words place row
 returns c =
     let start = c .before .before .before .before in
-    λ s z st. ap words (absent-worth (start .args .model .now) (start .args .parts .now) end-slot (start .args .x) (start .pre .0) tt (start .pre .2) (omega (arith, start .pre .2 .some)) (sym (c .before .begin .ensures) ∙ c .if1 .taken) s z st)
+    λ s z st. ap words (absent-worth (start .args .model .now) (start .args .parts .now) end-slot (start .args .x) (start .pre .0) tt (start .pre .2)
+    (omega (arith, start .pre .2 .some)) (sym (c .before .begin .ensures) ∙ c .if1 .taken) s z st)
 
 slice-aggregate-leaf-at : tie.Need-slice-aggregate-leaf-at
 slice-aggregate-leaf-at c = search needs
@@ -30,7 +31,8 @@ slice-aggregate-leaf-at c = search needs
 leaf-at-requires : tie.Need-leaf-at-requires
 leaf-at-requires c κs =
     let at-begin = c .before .before .before in let start = at-begin .before .before .before in
-    part-asks (start .args .model .now) (start .args .parts .now) end-slot (start .args .x) _ (start .pre .0) (start .pre .1) tt (start .pre .2) (start .pre .3) (as-long (start .args .x .n) (start .good .1 .1 .0 .1 .1 .1 .1 .0 .1 .0 .1)) (at-begin .begin .ensures)
+    part-asks (start .args .model .now) (start .args .parts .now) end-slot (start .args .x) _ (start .pre .0) (start .pre .1) tt (start .pre .2) (start .pre .3)
+    (as-long (start .args .x .n) (start .good .1 .1 .0 .1 .1 .1 .1 .0 .1 .0 .1)) (at-begin .begin .ensures)
 
 slice-aggregate-leaf-numerator : tie.Need-slice-aggregate-leaf-numerator
 slice-aggregate-leaf-numerator c = search needs
@@ -43,7 +45,9 @@ leaf-numerator-requires c κs =
 returns-2 : tie.Need-returns-2
 returns-2 c =
     let start = c .before .before .before .before .before .before .before .before .before in
-    λ s z st. c .leaf-numerator .ensures ∙ (ap words (numbers-alone (nums-at _) (start .args .x) refl _) ∙ ap words (level-is (start .args .model .now) end-slot (start .args .x) _ (c .before .before .leaf-at .ensures) s z st _ refl ∙ found-worth (env s z) end-slot (loaded-entries (start .args .model .now))))
+    λ s z st. c .leaf-numerator .ensures ∙ (ap words (numbers-alone (nums-at _) (start .args .x) refl _) ∙ ap words
+    (level-is (start .args .model .now) end-slot (start .args .x) _ (c .before .before .leaf-at .ensures) s z st _ refl ∙ found-worth (env s z) end-slot
+    (loaded-entries (start .args .model .now))))
 
 pub end-at-spec : {M : Type 1} → statement M
 end-at-spec =

@@ -36,7 +36,8 @@ returns-2 : tie.Need-returns-2
 unfolding words
 returns-2 c =
     let start = c .before .before .before .before in
-    ap words (sym (none-worth (nums-at (start .args .n .now)))) ∙ ap (λ (p : Linear). words (numerator (nums-at (start .args .n .now)) p)) (no-leaf (start .args .model .now) (start .args .at) (λ e. c .if1 .left (c .before .code .ensures ∙ e)))
+    ap words (sym (none-worth (nums-at (start .args .n .now)))) ∙ ap (λ (p : Linear). words (numerator (nums-at (start .args .n .now)) p))
+    (no-leaf (start .args .model .now) (start .args .at) (λ e. c .if1 .left (c .before .code .ensures ∙ e)))
 
 pub leaf-numerator-spec : {M : Type 1} → statement M
 leaf-numerator-spec =

@@ -19,7 +19,8 @@ slice-aggregate-leaf-at c = search needs
 leaf-at-requires : tie.Need-leaf-at-requires
 leaf-at-requires c κs =
     let start = c .before .before .before .before .before in
-    part-asks (start .args .model .now) (start .args .parts .now) (slot-of (start .args .g)) (start .args .x) _ (start .pre .0) (start .pre .1) (start .pre .2) (start .pre .3) (start .pre .4) (as-long (start .args .x .n) (start .good .1 .1 .1 .0 .1 .1 .1 .1 .0 .1 .0 .1)) (c .before .begin .ensures)
+    part-asks (start .args .model .now) (start .args .parts .now) (slot-of (start .args .g)) (start .args .x) _ (start .pre .0) (start .pre .1) (start .pre .2)
+    (start .pre .3) (start .pre .4) (as-long (start .args .x .n) (start .good .1 .1 .1 .0 .1 .1 .1 .1 .0 .1 .0 .1)) (c .before .begin .ensures)
 
 slice-aggregate-leaf-numerator : tie.Need-slice-aggregate-leaf-numerator
 slice-aggregate-leaf-numerator c = search needs
@@ -32,7 +33,8 @@ leaf-numerator-requires c κs =
 returns : tie.Need-returns
 returns c =
     let start = c .before .before .before .before .before .before .before .before in
-    λ s z st. c .leaf-numerator .ensures ∙ (ap words (numbers-alone (nums-at _) (start .args .x) refl _) ∙ ap words (level-is (start .args .model .now) (slot-of (start .args .g)) (start .args .x) _ (c .before .before .leaf-at .ensures) s z st _ refl))
+    λ s z st. c .leaf-numerator .ensures ∙ (ap words (numbers-alone (nums-at _) (start .args .x) refl _) ∙ ap words
+    (level-is (start .args .model .now) (slot-of (start .args .g)) (start .args .x) _ (c .before .before .leaf-at .ensures) s z st _ refl))
 
 pub level-at-spec : {M : Type 1} → statement M
 level-at-spec = tie.close (tie.spec begin-requires slice-aggregate-leaf-at leaf-at-requires slice-aggregate-leaf-numerator leaf-numerator-requires returns)

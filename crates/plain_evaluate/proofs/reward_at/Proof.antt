@@ -21,7 +21,8 @@ slice-aggregate-leaf-at c = search needs
 leaf-at-requires : tie.Need-leaf-at-requires
 leaf-at-requires c κs =
     let start = c .before .before .before .before .before in
-    part-asks (start .args .model .now) (start .args .parts .now) (slot-of (start .args .g)) (start .args .x) _ (start .pre .0) (start .pre .1) (start .pre .2) (start .pre .3) (start .pre .4) (as-long (start .args .x .n) (start .good .1 .1 .1 .0 .1 .1 .1 .1 .0 .1 .0 .1)) (c .before .begin .ensures)
+    part-asks (start .args .model .now) (start .args .parts .now) (slot-of (start .args .g)) (start .args .x) _ (start .pre .0) (start .pre .1) (start .pre .2)
+    (start .pre .3) (start .pre .4) (as-long (start .args .x .n) (start .good .1 .1 .1 .0 .1 .1 .1 .1 .0 .1 .0 .1)) (c .before .begin .ensures)
 
 byte-at-requires : tie.Need-byte-at-requires
 byte-at-requires c κs = search needs

@@ -88,7 +88,9 @@ returns : tie.Need-returns
 unfolding stepped command-of-in
 returns c =
     let at-enum-told = c .before .before .before .before in let start = at-enum-told .before .before .before .before in
-    holds-as (c .before .before .push .ensures) (ap (λ (d : CodeCommand). stepped (point-at (start .args .mask) (start .args .setting) (start .args .n .now) 0) (start .args .at) (command-of (start .args .model .now) (start .args .at) d) (last-first (start .args .items .now) (start .args .len))) (sym (at-enum-told .enum-told .given .1)))
+    holds-as (c .before .before .push .ensures) (ap (λ (d : CodeCommand). stepped (point-at (start .args .mask) (start .args .setting) (start .args .n .now) 0)
+    (start .args .at) (command-of (start .args .model .now) (start .args .at) d) (last-first (start .args .items .now) (start .args .len)))
+    (sym (at-enum-told .enum-told .given .1)))
 
 same-length-2 : tie.Need-same-length-2
 same-length-2 c = search needs
@@ -97,7 +99,9 @@ returns-2 : tie.Need-returns-2
 unfolding stepped command-of-in
 returns-2 c =
     let at-condition = c .before .before .before in let at-c = at-condition .before .before .before in let start = at-c .before .before .before .before in
-    holds-as (c .before .before .choose .ensures) (ap (λ (b : Bool). chosen b (last-first (start .args .items .now) (start .args .len))) (at-condition .condition .ensures _ _) ∙ ap (λ (d : CodeCommand). stepped (point-at (start .args .mask) (start .args .setting) (start .args .n .now) 0) (start .args .at) (command-of (start .args .model .now) (start .args .at) d) (last-first (start .args .items .now) (start .args .len))) (sym (at-c .c .given .1)))
+    holds-as (c .before .before .choose .ensures) (ap (λ (b : Bool). chosen b (last-first (start .args .items .now) (start .args .len)))
+    (at-condition .condition .ensures _ _) ∙ ap (λ (d : CodeCommand). stepped (point-at (start .args .mask) (start .args .setting) (start .args .n .now) 0)
+    (start .args .at) (command-of (start .args .model .now) (start .args .at) d) (last-first (start .args .items .now) (start .args .len))) (sym (at-c .c .given .1)))
 
 same-length-3 : tie.Need-same-length-3
 same-length-3 c = search needs
@@ -107,7 +111,11 @@ unfolding stepped command-of-in numerator
 returns-3 c =
     let at-test = c .before .before .before in let at-linear-at = at-test .before in let at-enum-told2 = at-linear-at .before .before in
     let start = at-enum-told2 .before .before .before .before in
-    holds-as (c .before .before .choose2 .ensures) (ap (λ (b : Bool). chosen b (last-first (start .args .items .now) (start .args .len))) (at-test .test .ensures ∙ ap (λ (p : Linear). leZ (numerator (point-at (start .args .mask) (start .args .setting) (start .args .n .now) 0) p) (pos 0)) (at-linear-at .linear-at .ensures .1)) ∙ ap (λ (d : CodeCommand). stepped (point-at (start .args .mask) (start .args .setting) (start .args .n .now) 0) (start .args .at) (command-of (start .args .model .now) (start .args .at) d) (last-first (start .args .items .now) (start .args .len))) (sym (at-enum-told2 .enum-told2 .given .1)))
+    holds-as (c .before .before .choose2 .ensures) (ap (λ (b : Bool). chosen b (last-first (start .args .items .now) (start .args .len)))
+    (at-test .test .ensures ∙ ap (λ (p : Linear). leZ (numerator (point-at (start .args .mask) (start .args .setting) (start .args .n .now) 0) p) (pos 0))
+    (at-linear-at .linear-at .ensures .1)) ∙ ap (λ (d : CodeCommand). stepped (point-at (start .args .mask) (start .args .setting) (start .args .n .now) 0)
+    (start .args .at) (command-of (start .args .model .now) (start .args .at) d) (last-first (start .args .items .now) (start .args .len)))
+    (sym (at-enum-told2 .enum-told2 .given .1)))
 
 same-length-4 : tie.Need-same-length-4
 same-length-4 c = search needs
@@ -116,25 +124,33 @@ returns-4 : tie.Need-returns-4
 unfolding stepped command-of-in
 returns-4 c =
     let start = c .before .before .before .before .before .before in
-    holds-as (c .pop .ensures) (ap (λ (d : CodeCommand). stepped (point-at (start .args .mask) (start .args .setting) (start .args .n .now) 0) (start .args .at) (command-of (start .args .model .now) (start .args .at) d) (last-first (start .args .items .now) (start .args .len))) (sym (c .before .before .enum-told3 .given .1)))
+    holds-as (c .pop .ensures) (ap (λ (d : CodeCommand). stepped (point-at (start .args .mask) (start .args .setting) (start .args .n .now) 0) (start .args .at)
+    (command-of (start .args .model .now) (start .args .at) d) (last-first (start .args .items .now) (start .args .len)))
+    (sym (c .before .before .enum-told3 .given .1)))
 
 returns-5 : tie.Need-returns-5
 unfolding stepped command-of-in
 returns-5 c =
     let start = c .before .before .before .before in
-    holds-as (record { room = start .pre .0; holds = refl }) (ap (λ (d : CodeCommand). stepped (point-at (start .args .mask) (start .args .setting) (start .args .n .now) 0) (start .args .at) (command-of (start .args .model .now) (start .args .at) d) (last-first (start .args .items .now) (start .args .len))) (sym (c .enum-told4 .given .1)))
+    holds-as (record { room = start .pre .0; holds = refl }) (ap (λ (d : CodeCommand). stepped
+    (point-at (start .args .mask) (start .args .setting) (start .args .n .now) 0) (start .args .at) (command-of (start .args .model .now) (start .args .at) d)
+    (last-first (start .args .items .now) (start .args .len))) (sym (c .enum-told4 .given .1)))
 
 returns-6 : tie.Need-returns-6
 unfolding stepped command-of-in
 returns-6 c =
     let start = c .before .before .before .before in
-    holds-as (record { room = start .pre .0; holds = refl }) (ap (λ (d : CodeCommand). stepped (point-at (start .args .mask) (start .args .setting) (start .args .n .now) 0) (start .args .at) (command-of (start .args .model .now) (start .args .at) d) (last-first (start .args .items .now) (start .args .len))) (sym (c .enum-told5 .given .1)))
+    holds-as (record { room = start .pre .0; holds = refl }) (ap (λ (d : CodeCommand). stepped
+    (point-at (start .args .mask) (start .args .setting) (start .args .n .now) 0) (start .args .at) (command-of (start .args .model .now) (start .args .at) d)
+    (last-first (start .args .items .now) (start .args .len))) (sym (c .enum-told5 .given .1)))
 
 returns-7 : tie.Need-returns-7
 unfolding stepped command-of-in
 returns-7 c =
     let start = c .before .before .before .before in
-    holds-as (record { room = start .pre .0; holds = refl }) (ap (λ (d : CodeCommand). stepped (point-at (start .args .mask) (start .args .setting) (start .args .n .now) 0) (start .args .at) (command-of (start .args .model .now) (start .args .at) d) (last-first (start .args .items .now) (start .args .len))) (sym (c .enum-told6 .given .1)))
+    holds-as (record { room = start .pre .0; holds = refl }) (ap (λ (d : CodeCommand). stepped
+    (point-at (start .args .mask) (start .args .setting) (start .args .n .now) 0) (start .args .at) (command-of (start .args .model .now) (start .args .at) d)
+    (last-first (start .args .items .now) (start .args .len))) (sym (c .enum-told6 .given .1)))
 
 same-length-5 : tie.Need-same-length-5
 same-length-5 c = search needs
@@ -143,7 +159,9 @@ returns-8 : tie.Need-returns-8
 unfolding stepped command-of-in
 returns-8 c =
     let at-enum-told7 = c .before .before .before .before in let start = at-enum-told7 .before .before .before .before in
-    holds-as (c .before .before .push2 .ensures) (ap (λ (d : CodeCommand). stepped (point-at (start .args .mask) (start .args .setting) (start .args .n .now) 0) (start .args .at) (command-of (start .args .model .now) (start .args .at) d) (last-first (start .args .items .now) (start .args .len))) (sym (at-enum-told7 .enum-told7 .given .1)))
+    holds-as (c .before .before .push2 .ensures) (ap (λ (d : CodeCommand). stepped (point-at (start .args .mask) (start .args .setting) (start .args .n .now) 0)
+    (start .args .at) (command-of (start .args .model .now) (start .args .at) d) (last-first (start .args .items .now) (start .args .len)))
+    (sym (at-enum-told7 .enum-told7 .given .1)))
 
 pub after-spec : {M : Type 1} → statement M
 after-spec =

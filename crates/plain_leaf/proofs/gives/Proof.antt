@@ -35,7 +35,8 @@ same-requires c κs = search needs
 returns-3 : tie.Need-returns-3
 returns-3 c =
     let at-if2 = c .before .before .before in let at-if1 = at-if2 .before in let start = at-if1 .before .before in
-    λ e. given-whole (start .args .model .now) (start .args .at) (start .args .op) (slot-of (start .args .g)) (start .pre) (at-if1 .if1 .left) (at-if2 .if2 .left) _ _ (c .before .before .action-at .ensures) (c .before .index-at .ensures) (sym (c .same .ensures) ∙ e)
+    λ e. given-whole (start .args .model .now) (start .args .at) (start .args .op) (slot-of (start .args .g)) (start .pre) (at-if1 .if1 .left) (at-if2 .if2 .left) _ _
+    (c .before .before .action-at .ensures) (c .before .index-at .ensures) (sym (c .same .ensures) ∙ e)
 
 pub gives-spec : {M : Type 1} → statement M
 gives-spec =

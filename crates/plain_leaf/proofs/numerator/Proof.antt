@@ -15,7 +15,8 @@ dot-requires c κs = c .before .pre .0
 
 returns : tie.Need-returns
 returns c =
-    c .dot .ensures ∙ ap words (ap (dotL (c .before .before .args .p)) (c .before .nine .ensures) ∙ numerator-sum (c .before .before .args .p) (nums-at (c .before .before .args .n .now)) (c .before .before .pre .0 .long) (c .before .before .pre .1))
+    c .dot .ensures ∙ ap words (ap (dotL (c .before .before .args .p)) (c .before .nine .ensures) ∙ numerator-sum (c .before .before .args .p)
+    (nums-at (c .before .before .args .n .now)) (c .before .before .pre .0 .long) (c .before .before .pre .1))
 
 pub numerator-spec : {M : Type 1} → statement M
 numerator-spec = tie.close (tie.spec nine-requires dot-requires returns)

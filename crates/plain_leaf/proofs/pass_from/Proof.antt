@@ -65,19 +65,26 @@ is-push-requires c κs =
 push-by-requires : tie.Need-push-by-requires Inv-loop μ-loop
 push-by-requires c κs =
     let at-if1 = c .before .before .before in let at-code = at-if1 .before in let at-loop = at-code .before in let start = at-loop .before .before .before .before in
-    let r = code-room (start .args .model .now) (at-loop .loop .at) _ (push-least _ (sym (c .before .before .is-push .ensures) ∙ c .before .if2 .taken)) (at-code .code .ensures) in (at-loop .loop .inv .0, r .0, start .pre .0 .short, start .pre .0 .flat, start .pre .0 .long, λ e. at-if1 .if1 .left (sym (r .1) ∙ e))
+    let r = code-room (start .args .model .now) (at-loop .loop .at) _ (push-least _ (sym (c .before .before .is-push .ensures) ∙ c .before .if2 .taken))
+    (at-code .code .ensures) in (at-loop .loop .inv .0, r .0, start .pre .0 .short, start .pre .0 .flat, start .pre .0 .long, λ e. at-if1 .if1 .left (sym (r .1) ∙ e))
 
 loop-less-2 : tie.Need-loop-less-2 Inv-loop μ-loop
 loop-less-2 c =
     let at-if2 = c .before .before .before .before in let at-is-push = at-if2 .before in let at-code = at-is-push .before .before in let at-loop = at-code .before in
     let start = at-loop .before .before .before .before in
-    let r = code-room (start .args .model .now) (at-loop .loop .at) _ (push-least _ (sym (at-is-push .is-push .ensures) ∙ at-if2 .if2 .taken)) (at-code .code .ensures) in let w = push-wide (byte-at (start .args .model .now) (at-loop .loop .at)) in omega (arith, r .0, c .before .before .push-by .ensures .1, w .0, w .1)
+    let r = code-room (start .args .model .now) (at-loop .loop .at) _ (push-least _ (sym (at-is-push .is-push .ensures) ∙ at-if2 .if2 .taken)) (at-code .code .ensures) in
+    let w = push-wide (byte-at (start .args .model .now) (at-loop .loop .at)) in omega (arith, r .0, c .before .before .push-by .ensures .1, w .0, w .1)
 
 loop-again-2 : tie.Need-loop-again-2 Inv-loop μ-loop
 loop-again-2 c =
     let at-if2 = c .before .before .before .before in let at-is-push = at-if2 .before in let at-code = at-is-push .before .before in let at-loop = at-code .before in
     let start = at-loop .before .before .before .before in
-    let r = code-room (start .args .model .now) (at-loop .loop .at) _ (push-least _ (sym (at-is-push .is-push .ensures) ∙ at-if2 .if2 .taken)) (at-code .code .ensures) in let h = c .before .before .push-by .ensures in (h .0 .room, seek-push (at-loop .loop .inv .1) (byte-at (start .args .model .now) (at-loop .loop .at)) _ _ (r .1 ∙ at-code .code .ensures) (ap pushes (r .1) ∙ (sym (at-is-push .is-push .ensures) ∙ at-if2 .if2 .taken)) (h .1) (h .0 .holds))
+    let r = code-room (start .args .model .now) (at-loop .loop .at) _ (push-least _ (sym (at-is-push .is-push .ensures) ∙ at-if2 .if2 .taken)) (at-code .code .ensures) in
+    let h = c .before .before .push-by .ensures in (
+      h .0 .room,
+      seek-push (at-loop .loop .inv .1) (byte-at (start .args .model .now) (at-loop .loop .at)) _ _
+          (r .1 ∙ at-code .code .ensures) (ap pushes (r .1) ∙ (sym (at-is-push .is-push .ensures) ∙ at-if2 .if2 .taken)) (h .1) (h .0 .holds),
+    )
 
 gives-requires : tie.Need-gives-requires Inv-loop μ-loop
 gives-requires c κs =
@@ -98,7 +105,9 @@ same-length c =
 returns : tie.Need-returns Inv-loop μ-loop
 returns c =
     let at-gives = c .before .before .before in let at-loop = at-gives .before .before .before .before .before in let start = at-loop .before .before .before .before in
-    pass-comes (start .args .model .now) (point-at (start .args .mask) (start .args .setting) (start .args .n .now) (start .args .m)) (slot-of (start .args .g)) _ (start .pre .0 .accepted) (start .pre .0 .diagram) (seek-found (at-loop .loop .inv .1) _ _ (at-gives .gives .ensures (c .before .before .if3 .taken)) (takes-own (slot-of (start .args .g))) (c .top .ensures))
+    pass-comes (start .args .model .now) (point-at (start .args .mask) (start .args .setting) (start .args .n .now) (start .args .m)) (slot-of (start .args .g)) _
+    (start .pre .0 .accepted) (start .pre .0 .diagram) (seek-found (at-loop .loop .inv .1) _ _ (at-gives .gives .ensures (c .before .before .if3 .taken))
+    (takes-own (slot-of (start .args .g))) (c .top .ensures))
 
 command-at-requires : tie.Need-command-at-requires Inv-loop μ-loop
 command-at-requires c κs =
@@ -115,7 +124,9 @@ same-length-2 c =
 returns-2 : tie.Need-returns-2 Inv-loop μ-loop
 returns-2 c =
     let at-loop = c .before .before .before .before .before .before .before .before in let start = at-loop .before .before .before .before in
-    pass-comes (start .args .model .now) (point-at (start .args .mask) (start .args .setting) (start .args .n .now) (start .args .m)) (slot-of (start .args .g)) 0 (start .pre .0 .accepted) (start .pre .0 .diagram) (seek-stops (at-loop .loop .inv .1) (c .before .command-at .result) (c .match .keys2) (c .before .command-at .ensures))
+    pass-comes (start .args .model .now) (point-at (start .args .mask) (start .args .setting) (start .args .n .now) (start .args .m)) (slot-of (start .args .g)) 0
+    (start .pre .0 .accepted) (start .pre .0 .diagram) (seek-stops (at-loop .loop .inv .1) (c .before .command-at .result) (c .match .keys2)
+    (c .before .command-at .ensures))
 
 takes-requires : tie.Need-takes-requires Inv-loop μ-loop
 takes-requires c κs =
@@ -137,7 +148,10 @@ returns-3 : tie.Need-returns-3 Inv-loop μ-loop
 returns-3 c =
     let at-takes = c .before .before .before in let at-read = at-takes .before .before in let at-command-at = at-read .before .before in
     let at-loop = at-command-at .before .before .before .before .before .before .before in let start = at-loop .before .before .before .before in
-    pass-comes (start .args .model .now) (point-at (start .args .mask) (start .args .setting) (start .args .n .now) (start .args .m)) (slot-of (start .args .g)) _ (start .pre .0 .accepted) (start .pre .0 .diagram) (seek-found (at-loop .loop .inv .1) _ _ (whole-is (start .args .model .now) (at-loop .loop .at) (at-command-at .command-at .ensures) (at-read .read .given .1)) (sym (at-takes .takes .ensures (start .args .model .now) (at-loop .loop .at)) ∙ c .before .before .if4 .taken) (c .top2 .ensures))
+    pass-comes (start .args .model .now) (point-at (start .args .mask) (start .args .setting) (start .args .n .now) (start .args .m)) (slot-of (start .args .g)) _
+    (start .pre .0 .accepted) (start .pre .0 .diagram) (seek-found (at-loop .loop .inv .1) _ _
+    (whole-is (start .args .model .now) (at-loop .loop .at) (at-command-at .command-at .ensures) (at-read .read .given .1))
+    (sym (at-takes .takes .ensures (start .args .model .now) (at-loop .loop .at)) ∙ c .before .before .if4 .taken) (c .top2 .ensures))
 
 is-end-requires : tie.Need-is-end-requires Inv-loop μ-loop
 is-end-requires c κs =
@@ -151,7 +165,10 @@ returns-4 : tie.Need-returns-4 Inv-loop μ-loop
 returns-4 c =
     let at-read = c .before .before .before .before .before in let at-command-at = at-read .before .before in
     let at-loop = at-command-at .before .before .before .before .before .before .before in let start = at-loop .before .before .before .before in
-    pass-comes (start .args .model .now) (point-at (start .args .mask) (start .args .setting) (start .args .n .now) (start .args .m)) (slot-of (start .args .g)) 0 (start .pre .0 .accepted) (start .pre .0 .diagram) (seek-ends (at-loop .loop .inv .1) _ (whole-is (start .args .model .now) (at-loop .loop .at) (at-command-at .command-at .ensures) (at-read .read .given .1)) (sym (c .before .is-end .ensures) ∙ c .if5 .taken))
+    pass-comes (start .args .model .now) (point-at (start .args .mask) (start .args .setting) (start .args .n .now) (start .args .m)) (slot-of (start .args .g)) 0
+    (start .pre .0 .accepted) (start .pre .0 .diagram) (seek-ends (at-loop .loop .inv .1) _
+    (whole-is (start .args .model .now) (at-loop .loop .at) (at-command-at .command-at .ensures) (at-read .read .given .1))
+    (sym (c .before .is-end .ensures) ∙ c .if5 .taken))
 
 after-requires : tie.Need-after-requires Inv-loop μ-loop
 after-requires c κs =
@@ -167,20 +184,34 @@ add-at-2 : tie.Need-add-at-2 Inv-loop μ-loop
 add-at-2 c =
     let at-read = c .before .before .before .before .before .before .before .before .before .before in let at-command-at = at-read .before .before in
     let at-loop = at-command-at .before .before .before .before .before .before .before in let start = at-loop .before .before .before .before in
-    let f = forward (start .args .model .now) (at-loop .loop .at) _ _ (whole-is (start .args .model .now) (at-loop .loop .at) (at-command-at .command-at .ensures) (at-read .read .given .1)) (past new-form (start .args .model .now) (at-loop .loop .at) _ (c .size .result) (whole-is (start .args .model .now) (at-loop .loop .at) (at-command-at .command-at .ensures) (at-read .read .given .1)) (c .size .ensures)) in omega (arith, f .1, f .2, start .pre .0 .short)
+    let f = forward (start .args .model .now) (at-loop .loop .at) _ _ (whole-is (start .args .model .now) (at-loop .loop .at) (at-command-at .command-at .ensures)
+    (at-read .read .given .1)) (past new-form (start .args .model .now) (at-loop .loop .at) _ (c .size .result)
+    (whole-is (start .args .model .now) (at-loop .loop .at) (at-command-at .command-at .ensures) (at-read .read .given .1)) (c .size .ensures)) in omega
+    (arith, f .1, f .2, start .pre .0 .short)
 
 loop-less-3 : tie.Need-loop-less-3 Inv-loop μ-loop
 loop-less-3 c =
     let at-read = c .before .before .before .before .before .before .before .before .before .before in let at-command-at = at-read .before .before in
     let at-loop = at-command-at .before .before .before .before .before .before .before in let start = at-loop .before .before .before .before in
-    let f = forward (start .args .model .now) (at-loop .loop .at) _ _ (whole-is (start .args .model .now) (at-loop .loop .at) (at-command-at .command-at .ensures) (at-read .read .given .1)) (past new-form (start .args .model .now) (at-loop .loop .at) _ (c .size .result) (whole-is (start .args .model .now) (at-loop .loop .at) (at-command-at .command-at .ensures) (at-read .read .given .1)) (c .size .ensures)) in omega (arith, f .1, f .2)
+    let f = forward (start .args .model .now) (at-loop .loop .at) _ _ (whole-is (start .args .model .now) (at-loop .loop .at) (at-command-at .command-at .ensures)
+    (at-read .read .given .1)) (past new-form (start .args .model .now) (at-loop .loop .at) _ (c .size .result)
+    (whole-is (start .args .model .now) (at-loop .loop .at) (at-command-at .command-at .ensures) (at-read .read .given .1)) (c .size .ensures)) in omega
+    (arith, f .1, f .2)
 
 loop-again-3 : tie.Need-loop-again-3 Inv-loop μ-loop
 loop-again-3 c =
     let at-after = c .before .before .before in let at-if5 = at-after .before .before in let at-is-end = at-if5 .before in let at-if4 = at-is-end .before in
     let at-takes = at-if4 .before in let at-read = at-takes .before .before in let at-command-at = at-read .before .before in
     let at-loop = at-command-at .before .before .before .before .before .before .before in let start = at-loop .before .before .before .before in
-    let h = at-after .after .ensures in (h .room, seek-on (at-loop .loop .inv .1) _ _ _ (whole-is (start .args .model .now) (at-loop .loop .at) (at-command-at .command-at .ensures) (at-read .read .given .1)) (sym (at-takes .takes .ensures (start .args .model .now) (at-loop .loop .at)) ∙ at-if4 .if4 .left) (sym (at-is-end .is-end .ensures) ∙ at-if5 .if5 .left) (past new-form (start .args .model .now) (at-loop .loop .at) _ (c .size .result) (whole-is (start .args .model .now) (at-loop .loop .at) (at-command-at .command-at .ensures) (at-read .read .given .1)) (c .size .ensures)) (h .holds ∙ levels-apart _ _ _ _ _ _ _))
+    let h = at-after .after .ensures in (
+      h .room,
+      seek-on (at-loop .loop .inv .1) _ _ _
+          (whole-is (start .args .model .now) (at-loop .loop .at) (at-command-at .command-at .ensures) (at-read .read .given .1))
+          (sym (at-takes .takes .ensures (start .args .model .now) (at-loop .loop .at)) ∙ at-if4 .if4 .left) (sym (at-is-end .is-end .ensures) ∙ at-if5 .if5 .left)
+          (past new-form (start .args .model .now) (at-loop .loop .at) _ (c .size .result)
+          (whole-is (start .args .model .now) (at-loop .loop .at) (at-command-at .command-at .ensures) (at-read .read .given .1)) (c .size .ensures))
+          (h .holds ∙ levels-apart _ _ _ _ _ _ _),
+    )
 
 pub pass-from-spec : {M : Type 1} → statement M
 pass-from-spec =

@@ -42,8 +42,13 @@ same-length c = search needs
 
 returns : tie.Need-returns
 returns c =
-    let at-condition = c .before .before .before in let at-if1 = at-condition .before .before .before in let start = at-if1 .before .before .before .before in
-    (holds-as (c .before .before .choose .ensures) (condition-left (start .args .model .now) (point-at (start .args .mask) (start .args .setting) (start .args .n .now) (start .args .m)) (start .args .at) (byte-at (start .args .model .now) (start .args .at)) (last-first (start .args .items .now) (start .args .len)) (start .pre .5) (at-if1 .if1 .taken) _ (at-condition .condition .ensures _ _)), condition-wide (start .args .at) (byte-at (start .args .model .now) (start .args .at)) (at-if1 .if1 .taken))
+    let at-condition = c .before .before .before in let at-if1 = at-condition .before .before .before in let start = at-if1 .before .before .before .before in (
+      holds-as (c .before .before .choose .ensures) (condition-left (start .args .model .now)
+          (point-at (start .args .mask) (start .args .setting) (start .args .n .now) (start .args .m)) (start .args .at)
+          (byte-at (start .args .model .now) (start .args .at)) (last-first (start .args .items .now) (start .args .len)) (start .pre .5) (at-if1 .if1 .taken) _
+          (at-condition .condition .ensures _ _)),
+      condition-wide (start .args .at) (byte-at (start .args .model .now) (start .args .at)) (at-if1 .if1 .taken),
+    )
 
 cast-push : tie.Need-cast-push
 cast-push c =
@@ -62,8 +67,13 @@ same-length-2 c = search needs
 
 returns-2 : tie.Need-returns-2
 returns-2 c =
-    let at-if2 = c .before .before .before .before in let at-if1 = at-if2 .before in let start = at-if1 .before .before .before .before in
-    (holds-as (c .before .before .push .ensures) (forbidden-left (start .args .model .now) (point-at (start .args .mask) (start .args .setting) (start .args .n .now) (start .args .m)) (start .args .at) (byte-at (start .args .model .now) (start .args .at)) (last-first (start .args .items .now) (start .args .len)) (start .pre .5) (at-if1 .if1 .left) (at-if2 .if2 .taken)), forbidden-wide (start .args .at) (byte-at (start .args .model .now) (start .args .at)) (at-if1 .if1 .left) (at-if2 .if2 .taken))
+    let at-if2 = c .before .before .before .before in let at-if1 = at-if2 .before in let start = at-if1 .before .before .before .before in (
+      holds-as (c .before .before .push .ensures) (forbidden-left (start .args .model .now)
+          (point-at (start .args .mask) (start .args .setting) (start .args .n .now) (start .args .m)) (start .args .at)
+          (byte-at (start .args .model .now) (start .args .at)) (last-first (start .args .items .now) (start .args .len)) (start .pre .5) (at-if1 .if1 .left)
+          (at-if2 .if2 .taken)),
+      forbidden-wide (start .args .at) (byte-at (start .args .model .now) (start .args .at)) (at-if1 .if1 .left) (at-if2 .if2 .taken),
+    )
 
 add-test-at : tie.Need-add-test-at
 add-test-at c =
@@ -86,8 +96,14 @@ same-length-3 c = search needs
 
 returns-3 : tie.Need-returns-3
 returns-3 c =
-    let at-test-at = c .before .before .before in let at-if2 = at-test-at .before .before in let at-if1 = at-if2 .before in let start = at-if1 .before .before .before .before in
-    (holds-as (c .before .before .choose2 .ensures) (test-left (start .args .model .now) (point-at (start .args .mask) (start .args .setting) (start .args .n .now) (start .args .m)) (start .args .at) (byte-at (start .args .model .now) (start .args .at)) (last-first (start .args .items .now) (start .args .len)) (start .pre .5) (at-if1 .if1 .left) (at-if2 .if2 .left) _ (at-test-at .test-at .ensures ∙ ap (λ (z : ℤ). leZ z (pos 0)) (numbers-alone (nums-at _) _ refl _))), test-wide (start .args .at) (byte-at (start .args .model .now) (start .args .at)) (at-if1 .if1 .left) (at-if2 .if2 .left))
+    let at-test-at = c .before .before .before in let at-if2 = at-test-at .before .before in let at-if1 = at-if2 .before in let start = at-if1 .before .before .before .before in (
+      holds-as (c .before .before .choose2 .ensures) (test-left (start .args .model .now)
+          (point-at (start .args .mask) (start .args .setting) (start .args .n .now) (start .args .m)) (start .args .at)
+          (byte-at (start .args .model .now) (start .args .at)) (last-first (start .args .items .now) (start .args .len)) (start .pre .5) (at-if1 .if1 .left)
+          (at-if2 .if2 .left) _ (at-test-at .test-at .ensures ∙ ap (λ (z : ℤ). leZ z (pos 0)) (numbers-alone (nums-at _) _ refl _))),
+      test-wide (start .args .at)
+          (byte-at (start .args .model .now) (start .args .at)) (at-if1 .if1 .left) (at-if2 .if2 .left),
+    )
 
 pub push-by-spec : {M : Type 1} → statement M
 push-by-spec =

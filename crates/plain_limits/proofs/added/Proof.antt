@@ -34,13 +34,16 @@ enum-told c = search needs
 returns-3 : tie.Need-returns-3
 returns-3 c =
     let at-known-told2 = c .before .before .before in let at-t = at-known-told2 .before in let at-sum = at-t .before .before .before in let start = at-sum .before .before in
-    added-much (start .args .sum) _ (start .args .t) _ _ (at-sum .sum .given .1) _ _ (at-t .t .given .1) (record { sfits = at-known-told2 .known-told2 .given .0 .1 }) (start .pre .1) _ (c .before .before .product .ensures) (c .enum-told .given .1)
+    added-much (start .args .sum) _ (start .args .t) _ _ (at-sum .sum .given .1) _ _ (at-t .t .given .1) (record { sfits = at-known-told2 .known-told2 .given .0 .1 })
+    (start .pre .1) _ (c .before .before .product .ensures) (c .enum-told .given .1)
 
 add-within-requires : tie.Need-add-within-requires
 add-within-requires c κs =
     let at-product = c .before .before .before in let at-known-told2 = at-product .before in let at-t = at-known-told2 .before in let at-known-told = at-t .before .before in
     let at-sum = at-known-told .before in let start = at-sum .before .before in
-    addends-small (start .args .sum) _ (start .args .t) _ _ (at-sum .sum .given .1) _ _ (at-t .t .given .1) (record { sfits = at-known-told2 .known-told2 .given .0 .1 }) (start .pre .1) _ (at-product .product .ensures) _ (c .before .p .given .1) (start .pre .0) (record { sfits = at-known-told .known-told .given .0 .1 }) (record { sfits = c .known-told3 .given .0 .1 })
+    addends-small (start .args .sum) _ (start .args .t) _ _ (at-sum .sum .given .1) _ _ (at-t .t .given .1) (record { sfits = at-known-told2 .known-told2 .given .0 .1 })
+    (start .pre .1) _ (at-product .product .ensures) _ (c .before .p .given .1) (start .pre .0) (record { sfits = at-known-told .known-told .given .0 .1 })
+    (record { sfits = c .known-told3 .given .0 .1 })
 
 worth-of-requires : tie.Need-worth-of-requires
 worth-of-requires c κs = search needs
@@ -49,7 +52,9 @@ returns-4 : tie.Need-returns-4
 returns-4 c =
     let at-p = c .before .before .before in let at-product = at-p .before .before in let at-known-told2 = at-product .before in let at-t = at-known-told2 .before in
     let at-known-told = at-t .before .before in let at-sum = at-known-told .before in let start = at-sum .before .before in
-    added-is (start .args .sum) _ (start .args .t) _ _ (at-sum .sum .given .1) _ _ (at-t .t .given .1) (record { sfits = at-known-told2 .known-told2 .given .0 .1 }) (start .pre .1) _ (at-product .product .ensures) _ (at-p .p .given .1) (start .pre .0) (record { sfits = at-known-told .known-told .given .0 .1 }) (record { sfits = c .before .before .known-told3 .given .0 .1 }) (c .before .add-within .ensures) (c .worth-of .ensures)
+    added-is (start .args .sum) _ (start .args .t) _ _ (at-sum .sum .given .1) _ _ (at-t .t .given .1) (record { sfits = at-known-told2 .known-told2 .given .0 .1 })
+    (start .pre .1) _ (at-product .product .ensures) _ (at-p .p .given .1) (start .pre .0) (record { sfits = at-known-told .known-told .given .0 .1 })
+    (record { sfits = c .before .before .known-told3 .given .0 .1 }) (c .before .add-within .ensures) (c .worth-of .ensures)
 
 pub added-spec : {M : Type 1} → statement M
 added-spec =

@@ -21,7 +21,8 @@ judged-requires : tie.Need-judged-requires
 judged-requires c κs = search needs
 
 returns-2 : tie.Need-returns-2
-returns-2 c = within-judged (number (c .before .before .before .before .before .args .x)) (c .before .before .before .before .narrow .ensures) _ (c .before .before .z .given .1) (record { sfits = c .before .known-told .given .0 .1 }) (c .judged .ensures)
+returns-2 c = within-judged (number (c .before .before .before .before .before .args .x)) (c .before .before .before .before .narrow .ensures) _
+    (c .before .before .z .given .1) (record { sfits = c .before .known-told .given .0 .1 }) (c .judged .ensures)
 
 pub in-32-bits-spec : {M : Type 1} → statement M
 in-32-bits-spec = tie.close (tie.spec narrow-requires enum-known-z enum-told returns judged-requires returns-2)

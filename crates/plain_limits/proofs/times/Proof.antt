@@ -31,7 +31,8 @@ product-requires c κs = search needs
 returns-3 : tie.Need-returns-3
 returns-3 c =
     let at-known-told = c .before .before .before .before in let at-p = at-known-told .before in let start = at-p .before .before in
-    times-is (start .args .p) (start .args .z) _ (at-p .p .given .1) (record { sfits = at-known-told .known-told .given .0 .1 }) _ (c .before .before .z .given .1) (record { sfits = c .before .known-told2 .given .0 .1 }) (c .product .ensures)
+    times-is (start .args .p) (start .args .z) _ (at-p .p .given .1) (record { sfits = at-known-told .known-told .given .0 .1 }) _ (c .before .before .z .given .1)
+    (record { sfits = c .before .known-told2 .given .0 .1 }) (c .product .ensures)
 
 pub times-spec : {M : Type 1} → statement M
 times-spec =

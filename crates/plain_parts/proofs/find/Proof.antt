@@ -65,7 +65,8 @@ cast-last-empty : tie.Need-cast-last-empty Inv-loop μ-loop
 cast-last-empty c =
     let at-read = c .before .before .before in let at-command-at = at-read .before .before in let at-loop = at-command-at .before in
     let start = at-loop .before .before .before .before in
-    let h = whole-bytes new-form (start .args .model .now) (at-loop .loop .at) _ (whole-is (start .args .model .now) (at-loop .loop .at) (at-command-at .command-at .ensures) (at-read .read .given .1)) .0 .starts in omega (arith, start .pre .1)
+    let h = whole-bytes new-form (start .args .model .now) (at-loop .loop .at) _
+    (whole-is (start .args .model .now) (at-loop .loop .at) (at-command-at .command-at .ensures) (at-read .read .given .1)) .0 .starts in omega (arith, start .pre .1)
 
 last-empty-requires : tie.Need-last-empty-requires Inv-loop μ-loop
 last-empty-requires c κs =
@@ -87,20 +88,31 @@ add-at : tie.Need-add-at Inv-loop μ-loop
 add-at c =
     let at-read = c .before .before .before .before .before .before .before .before .before .before in let at-command-at = at-read .before .before in
     let at-loop = at-command-at .before in let start = at-loop .before .before .before .before in
-    let f = forward (start .args .model .now) (at-loop .loop .at) _ _ (whole-is (start .args .model .now) (at-loop .loop .at) (at-command-at .command-at .ensures) (at-read .read .given .1)) (past new-form (start .args .model .now) (at-loop .loop .at) _ (c .size .result) (whole-is (start .args .model .now) (at-loop .loop .at) (at-command-at .command-at .ensures) (at-read .read .given .1)) (c .size .ensures)) in omega (arith, f .1, f .2, start .pre .1)
+    let f = forward (start .args .model .now) (at-loop .loop .at) _ _ (whole-is (start .args .model .now) (at-loop .loop .at) (at-command-at .command-at .ensures)
+    (at-read .read .given .1)) (past new-form (start .args .model .now) (at-loop .loop .at) _ (c .size .result)
+    (whole-is (start .args .model .now) (at-loop .loop .at) (at-command-at .command-at .ensures) (at-read .read .given .1)) (c .size .ensures)) in omega
+    (arith, f .1, f .2, start .pre .1)
 
 loop-less : tie.Need-loop-less Inv-loop μ-loop
 loop-less c =
     let at-read = c .before .before .before .before .before .before .before .before .before .before in let at-command-at = at-read .before .before in
     let at-loop = at-command-at .before in let start = at-loop .before .before .before .before in
-    let f = forward (start .args .model .now) (at-loop .loop .at) _ _ (whole-is (start .args .model .now) (at-loop .loop .at) (at-command-at .command-at .ensures) (at-read .read .given .1)) (past new-form (start .args .model .now) (at-loop .loop .at) _ (c .size .result) (whole-is (start .args .model .now) (at-loop .loop .at) (at-command-at .command-at .ensures) (at-read .read .given .1)) (c .size .ensures)) in omega (arith, f .1, f .2)
+    let f = forward (start .args .model .now) (at-loop .loop .at) _ _ (whole-is (start .args .model .now) (at-loop .loop .at) (at-command-at .command-at .ensures)
+    (at-read .read .given .1)) (past new-form (start .args .model .now) (at-loop .loop .at) _ (c .size .result)
+    (whole-is (start .args .model .now) (at-loop .loop .at) (at-command-at .command-at .ensures) (at-read .read .given .1)) (c .size .ensures)) in omega
+    (arith, f .1, f .2)
 
 loop-again : tie.Need-loop-again Inv-loop μ-loop
 loop-again c =
     let at-note = c .before .before .before .before in let at-last-empty = at-note .before .before in let at-if1 = at-last-empty .before in let at-is-end = at-if1 .before in
     let at-read = at-is-end .before .before in let at-command-at = at-read .before .before in let at-loop = at-command-at .before in
     let start = at-loop .before .before .before .before in
-    finds-on (at-loop .loop .inv) _ (whole-is (start .args .model .now) (at-loop .loop .at) (at-command-at .command-at .ensures) (at-read .read .given .1)) (going (start .args .model .now) (at-loop .loop .at) _ (sym (at-is-end .is-end .ensures) ∙ at-if1 .if1 .left) .0) (past new-form (start .args .model .now) (at-loop .loop .at) _ (c .size .result) (whole-is (start .args .model .now) (at-loop .loop .at) (at-command-at .command-at .ensures) (at-read .read .given .1)) (c .size .ensures)) (at-last-empty .last-empty .ensures) (c .before .depth .ensures (start .args .model .now) (at-loop .loop .at)) (at-note .note .ensures (start .args .model .now) (at-loop .loop .at))
+    finds-on (at-loop .loop .inv) _ (whole-is (start .args .model .now) (at-loop .loop .at) (at-command-at .command-at .ensures) (at-read .read .given .1))
+    (going (start .args .model .now) (at-loop .loop .at) _ (sym (at-is-end .is-end .ensures) ∙ at-if1 .if1 .left) .0)
+    (past new-form (start .args .model .now) (at-loop .loop .at) _ (c .size .result)
+    (whole-is (start .args .model .now) (at-loop .loop .at) (at-command-at .command-at .ensures) (at-read .read .given .1)) (c .size .ensures))
+    (at-last-empty .last-empty .ensures) (c .before .depth .ensures (start .args .model .now) (at-loop .loop .at))
+    (at-note .note .ensures (start .args .model .now) (at-loop .loop .at))
 
 pub find-spec : {M : Type 1} → statement M
 find-spec =

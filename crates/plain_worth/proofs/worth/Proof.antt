@@ -36,8 +36,9 @@ refused-requires-2 c κs = search needs
 returns-2 : tie.Need-returns-2
 returns-2 c =
     let at-conditions = c .before .before .before in let at-levels = at-conditions .before in let at-if1 = at-levels .before in let at-early = at-if1 .before .before in
-    let place = at-early .before .before in let s = place in
-    refused-state (s .args .bytes .now) (s .args .steps) (at-early .early .ensures) (at-if1 .if1 .left) (s .args .q) (at-levels .levels .ensures) (at-conditions .conditions .ensures) (c .before .before .accepted .ensures) (c .before .if2 .left) (c .refused2 .ensures)
+    let s = at-early .before .before in
+    refused-state (s .args .bytes .now) (s .args .steps) (at-early .early .ensures) (at-if1 .if1 .left) (s .args .q) (at-levels .levels .ensures)
+    (at-conditions .conditions .ensures) (c .before .before .accepted .ensures) (c .before .if2 .left) (c .refused2 .ensures)
 
 point-requires : tie.Need-point-requires
 point-requires c κs = search needs
@@ -45,8 +46,12 @@ point-requires c κs = search needs
 worked-requires : tie.Need-worked-requires
 worked-requires c κs =
     let at-conditions = c .before .before .before in let at-levels = at-conditions .before in let at-if1 = at-levels .before in let at-early = at-if1 .before .before in
-    let start = at-early .before .before in
-    (stands (start .args .bytes .now) (start .args .steps) (at-early .early .ensures) (at-if1 .if1 .left) (start .args .q) (at-levels .levels .ensures) (at-conditions .conditions .ensures) (c .before .before .accepted .ensures) (c .before .if2 .taken) (c .point .ensures), passed (start .args .bytes .now) (start .args .steps) (at-early .early .ensures) (at-if1 .if1 .left) .steps .1)
+    let start = at-early .before .before in (
+      stands (start .args .bytes .now) (start .args .steps) (at-early .early .ensures) (at-if1 .if1 .left) (start .args .q) (at-levels .levels .ensures)
+          (at-conditions .conditions .ensures) (c .before .before .accepted .ensures) (c .before .if2 .taken) (c .point .ensures),
+      passed (start .args .bytes .now)
+          (start .args .steps) (at-early .early .ensures) (at-if1 .if1 .left) .steps .1,
+    )
 
 answer-requires : tie.Need-answer-requires
 answer-requires c κs = search needs
@@ -55,7 +60,9 @@ returns-3 : tie.Need-returns-3
 returns-3 c =
     let at-if2 = c .before .before .before in let at-accepted = at-if2 .before in let at-conditions = at-accepted .before in let at-levels = at-conditions .before in
     let at-if1 = at-levels .before in let at-early = at-if1 .before .before in let start = at-early .before .before in
-    answered (start .args .bytes .now) (start .args .steps) (at-early .early .ensures) (at-if1 .if1 .left) (start .args .q) (at-levels .levels .ensures) (at-conditions .conditions .ensures) (at-accepted .accepted .ensures) (at-if2 .if2 .taken) (c .before .before .point .ensures) (c .before .worked .ensures) (c .answer .ensures)
+    answered (start .args .bytes .now) (start .args .steps) (at-early .early .ensures) (at-if1 .if1 .left) (start .args .q) (at-levels .levels .ensures)
+    (at-conditions .conditions .ensures) (at-accepted .accepted .ensures) (at-if2 .if2 .taken) (c .before .before .point .ensures) (c .before .worked .ensures)
+    (c .answer .ensures)
 
 pub worth-spec : {M : Type 1} → statement M
 worth-spec =

@@ -29,7 +29,8 @@ div-result-3 c = search needs
 
 returns-3 : tie.Need-returns-3
 returns-3 c =
-    divided (c .before .before .args .x) (c .before .before .args .h) (c .before .before .args .e) (c .before .before .args .d) (c .before .before .args .p) (c .before .if1 .left) (c .if2 .left) (c .before .before .pre .0) (c .before .before .pre .2)
+    divided (c .before .before .args .x) (c .before .before .args .h) (c .before .before .args .e) (c .before .before .args .d) (c .before .before .args .p)
+    (c .before .if1 .left) (c .if2 .left) (c .before .before .pre .0) (c .before .before .pre .2)
 
 pub more-than-spec : {M : Type 1} → statement M
 more-than-spec =

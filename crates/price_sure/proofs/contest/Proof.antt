@@ -32,7 +32,8 @@ numbered-requires c κs =
 loop-holds : tie.Need-loop-holds Inv-loop μ-loop
 loop-holds c =
     let start = c .before .before .before .before .before in
-    contests-start (start .args .model .now) (start .args .steps) (start .args .x) _ (c .before .before .actions .ensures) (start .pre .0 .ready) (λ z. omega (arith, start .pre .1)) _ (c .before .action-worth .ensures) _ (c .numbered .ensures)
+    contests-start (start .args .model .now) (start .args .steps) (start .args .x) _ (c .before .before .actions .ensures) (start .pre .0 .ready)
+    (λ z. omega (arith, start .pre .1)) _ (c .before .action-worth .ensures) _ (c .numbered .ensures)
 
 actions-done-requires : tie.Need-actions-done-requires Inv-loop μ-loop
 actions-done-requires c κs =
@@ -45,7 +46,8 @@ answer-requires c κs =
 returns : tie.Need-returns Inv-loop μ-loop
 returns c =
     let at-loop = c .before .before .before in let at-actions = at-loop .before .before .before in let start = at-actions .before .before .before in
-    contests-end (start .args .model .now) (start .args .steps) (start .args .x) _ (at-actions .actions .ensures) _ _ _ (at-loop .loop .inv) (start .pre .0 .ready) _ _ _ (start .pre .4) (c .before .before .actions-done .ensures) (c .before .if1 .taken) _ (c .answer .ensures)
+    contests-end (start .args .model .now) (start .args .steps) (start .args .x) _ (at-actions .actions .ensures) _ _ _ (at-loop .loop .inv) (start .pre .0 .ready) _ _ _
+    (start .pre .4) (c .before .before .actions-done .ensures) (c .before .if1 .taken) _ (c .answer .ensures)
 
 action-worth-requires-2 : tie.Need-action-worth-requires-2 Inv-loop μ-loop
 action-worth-requires-2 c κs =
@@ -65,7 +67,13 @@ add-a : tie.Need-add-a Inv-loop μ-loop
 add-a c =
     let at-if1 = c .before .before .before in let at-actions-done = at-if1 .before in let at-loop = at-actions-done .before in let at-actions = at-loop .before .before .before in
     let start = at-actions .before .before .before in
-    omega (arith, not-last (is-over (total-of (at-loop .loop .best))) (at-actions .actions .result) (at-loop .loop .a) _ (at-actions-done .actions-done .ensures) (at-if1 .if1 .left), at-actions .actions .ensures, site-accepted (start .args .model .now) (start .pre .0 .ready .accepted) .actions .1)
+    omega (
+      arith,
+      not-last (is-over (total-of (at-loop .loop .best))) (at-actions .actions .result) (at-loop .loop .a) _ (at-actions-done .actions-done .ensures)
+          (at-if1 .if1 .left),
+      at-actions .actions .ensures,
+      site-accepted (start .args .model .now) (start .pre .0 .ready .accepted) .actions .1,
+    )
 
 loop-less : tie.Need-loop-less Inv-loop μ-loop
 loop-less c =
@@ -76,7 +84,10 @@ loop-again : tie.Need-loop-again Inv-loop μ-loop
 loop-again c =
     let at-if1 = c .before .before .before in let at-actions-done = at-if1 .before in let at-loop = at-actions-done .before in let at-actions = at-loop .before .before .before in
     let start = at-actions .before .before .before in
-    contests-on (start .args .model .now) (start .args .steps) (start .args .x) _ (at-actions .actions .ensures) _ _ _ (at-loop .loop .inv) (at-actions-done .actions-done .ensures) (at-if1 .if1 .left) (not-last (is-over (total-of (at-loop .loop .best))) (at-actions .actions .result) (at-loop .loop .a) _ (at-actions-done .actions-done .ensures) (at-if1 .if1 .left)) _ (c .before .before .action-worth2 .ensures) _ (c .before .rival .ensures) _ (c .better .ensures)
+    contests-on (start .args .model .now) (start .args .steps) (start .args .x) _ (at-actions .actions .ensures) _ _ _ (at-loop .loop .inv)
+    (at-actions-done .actions-done .ensures) (at-if1 .if1 .left) (not-last (is-over (total-of (at-loop .loop .best))) (at-actions .actions .result)
+    (at-loop .loop .a) _ (at-actions-done .actions-done .ensures) (at-if1 .if1 .left)) _ (c .before .before .action-worth2 .ensures) _ (c .before .rival .ensures) _
+    (c .better .ensures)
 
 pub contest-spec : {M : Type 1} → statement M
 contest-spec =

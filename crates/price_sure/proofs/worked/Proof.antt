@@ -39,7 +39,8 @@ returns : tie.Need-returns
 returns c =
     let at-power-within = c .before .before .before in let at-weights = at-power-within .before in let at-conditions = at-weights .before in
     let start = at-conditions .before .before in
-    worked-over (start .args .model .now) (start .pre .0 .ready) (start .args .steps) (start .args .x) (at-conditions .conditions .ensures) (at-weights .weights .ensures) (at-power-within .power-within .ensures) (start .pre .1) (c .before .enum-told .given .1) _ _ (c .refused .ensures)
+    worked-over (start .args .model .now) (start .pre .0 .ready) (start .args .steps) (start .args .x) (at-conditions .conditions .ensures) (at-weights .weights .ensures)
+    (at-power-within .power-within .ensures) (start .pre .1) (c .before .enum-told .given .1) _ _ (c .refused .ensures)
 
 mag-requires : tie.Need-mag-requires
 mag-requires c κs = search needs
@@ -47,8 +48,14 @@ mag-requires c κs = search needs
 roomed-requires : tie.Need-roomed-requires
 roomed-requires c κs =
     let at-power-within = c .before .before .before .before in let at-weights = at-power-within .before in let at-conditions = at-weights .before in
-    let start = at-conditions .before .before in
-    (start .pre .0, start .pre .1, start .pre .2, worked-priced (start .args .model .now) (start .pre .0 .ready) (start .args .steps) (start .args .x) (at-conditions .conditions .ensures) (at-weights .weights .ensures) (at-power-within .power-within .ensures) _ (c .before .before .p .given .1) (record { sfits = c .before .known-told .given .0 .1 }) _ (start .pre .3) (c .mag .ensures))
+    let start = at-conditions .before .before in (
+      start .pre .0,
+      start .pre .1,
+      start .pre .2,
+      worked-priced (start .args .model .now) (start .pre .0 .ready) (start .args .steps) (start .args .x)
+          (at-conditions .conditions .ensures) (at-weights .weights .ensures) (at-power-within .power-within .ensures) _ (c .before .before .p .given .1)
+          (record { sfits = c .before .known-told .given .0 .1 }) _ (start .pre .3) (c .mag .ensures),
+    )
 
 returns-2 : tie.Need-returns-2
 returns-2 c = search needs

@@ -19,7 +19,8 @@ same-length-2 c = search needs
 returns : tie.Need-returns
 returns c =
     let at-room = c .before .before .before .before .before in let start = at-room .before .before .before .before .before in let a = start .args in
-    refused (a .model .now) (a .nodes .now) (a .stages .now) (a .work .now) (a .stage) (a .turns .now) (a .multipliers .now) (at-room .room .ensures) (c .before .before .refusal .result) (c .before .before .refusal .ensures) (c .if1 .taken)
+    refused (a .model .now) (a .nodes .now) (a .stages .now) (a .work .now) (a .stage) (a .turns .now) (a .multipliers .now) (at-room .room .ensures)
+    (c .before .before .refusal .result) (c .before .before .refusal .ensures) (c .if1 .taken)
 
 cut-off-requires : tie.Need-cut-off-requires
 cut-off-requires c κs =
@@ -40,7 +41,8 @@ returns-2 : tie.Need-returns-2
 returns-2 c =
     let at-cut-off = c .before .before .before .before .before in let at-if1 = at-cut-off .before .before .before .before in let at-refusal = at-if1 .before .before in
     let at-room = at-refusal .before .before .before in let start = at-room .before .before .before .before .before in let a = start .args in
-    cut (a .model .now) (a .nodes .now) (a .stages .now) (a .work .now) (a .stage) (a .turns .now) (a .multipliers .now) (at-room .room .ensures) (at-refusal .refusal .result) (at-refusal .refusal .ensures) (at-if1 .if1 .left) (at-cut-off .cut-off .ensures)
+    cut (a .model .now) (a .nodes .now) (a .stages .now) (a .work .now) (a .stage) (a .turns .now) (a .multipliers .now) (at-room .room .ensures)
+    (at-refusal .refusal .result) (at-refusal .refusal .ensures) (at-if1 .if1 .left) (at-cut-off .cut-off .ensures)
 
 pub prune-spec : {M : Type 1} → statement M
 prune-spec =

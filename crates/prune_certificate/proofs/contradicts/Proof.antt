@@ -28,7 +28,9 @@ is-zero-requires c κs = search needs
 returns-3 : tie.Need-returns-3
 returns-3 c =
     let at-not-positive = c .before .before .before in let at-added-at = at-not-positive .before in let at-if1 = at-added-at .before in let at-cancels = at-if1 .before in
-    below-zero _ _ (at-cancels .cancels .result) (at-cancels .cancels .ensures) (at-if1 .if1 .taken) _ (at-added-at .added-at .ensures) (at-not-positive .not-positive .result) (at-not-positive .not-positive .ensures) (c .before .before .if2 .taken) (c .before .is-zero .result) (c .before .is-zero .ensures) (c .if3 .left)
+    below-zero _ _ (at-cancels .cancels .result) (at-cancels .cancels .ensures) (at-if1 .if1 .taken) _ (at-added-at .added-at .ensures)
+    (at-not-positive .not-positive .result) (at-not-positive .not-positive .ensures) (c .before .before .if2 .taken) (c .before .is-zero .result)
+    (c .before .is-zero .ensures) (c .if3 .left)
 
 some-low-requires : tie.Need-some-low-requires
 some-low-requires c κs = search needs
@@ -37,7 +39,9 @@ returns-4 : tie.Need-returns-4
 returns-4 c =
     let at-if2 = c .before .before .before in let at-not-positive = at-if2 .before in let at-added-at = at-not-positive .before in let at-if1 = at-added-at .before in
     let at-cancels = at-if1 .before in
-    at-zero _ _ (at-cancels .cancels .result) (at-cancels .cancels .ensures) (at-if1 .if1 .taken) _ (at-added-at .added-at .ensures) (at-not-positive .not-positive .result) (at-not-positive .not-positive .ensures) (at-if2 .if2 .taken) (c .before .before .is-zero .result) (c .before .before .is-zero .ensures) (c .some-low .result) (c .some-low .ensures) (c .before .if3 .taken)
+    at-zero _ _ (at-cancels .cancels .result) (at-cancels .cancels .ensures) (at-if1 .if1 .taken) _ (at-added-at .added-at .ensures)
+    (at-not-positive .not-positive .result) (at-not-positive .not-positive .ensures) (at-if2 .if2 .taken) (c .before .before .is-zero .result)
+    (c .before .before .is-zero .ensures) (c .some-low .result) (c .some-low .ensures) (c .before .if3 .taken)
 
 pub contradicts-spec : {M : Type 1} → statement M
 contradicts-spec =

@@ -44,8 +44,11 @@ loop-less c =
 
 loop-again : tie.Need-loop-again Inv-loop μ-loop
 loop-again c =
-    let at-loop = c .before .before .before in
-    (omega (arith, c .before .before .loop-test .taken), signs-goes (c .before .before .before .before .args .ks .now) (at-loop .loop .i) _ (c .before .before .loop-test .taken) (at-loop .loop .inv .1) (back32 _ (record { sfits = c .before .k .given })) (c .if1 .taken))
+    let at-loop = c .before .before .before in (
+      omega (arith, c .before .before .loop-test .taken),
+      signs-goes (c .before .before .before .before .args .ks .now) (at-loop .loop .i) _
+          (c .before .before .loop-test .taken) (at-loop .loop .inv .1) (back32 _ (record { sfits = c .before .k .given })) (c .if1 .taken),
+    )
 
 returns-2 : tie.Need-returns-2 Inv-loop μ-loop
 returns-2 c =

@@ -33,7 +33,9 @@ none-negative-requires c κs = search needs
 returns-4 : tie.Need-returns-4
 returns-4 c =
     let at-if2 = c .before .before .before in let at-shape = at-if2 .before in let at-if1 = at-shape .before in let start = at-if1 .before .before in
-    a-negative (start .args .turns .now) (tree-at (start .args .nodes .now) (start .args .root)) (start .args .ks .now) (at-shape .shape .result) (at-shape .shape .ensures) (at-if1 .if1 .left) (at-if2 .if2 .left) (c .before .before .if3 .left) (c .before .none-negative .result) (c .before .none-negative .ensures) (c .if4 .left)
+    a-negative (start .args .turns .now) (tree-at (start .args .nodes .now) (start .args .root)) (start .args .ks .now) (at-shape .shape .result)
+    (at-shape .shape .ensures) (at-if1 .if1 .left) (at-if2 .if2 .left) (c .before .before .if3 .left) (c .before .none-negative .result)
+    (c .before .none-negative .ensures) (c .if4 .left)
 
 contradicts-requires : tie.Need-contradicts-requires
 contradicts-requires c κs =
@@ -50,13 +52,17 @@ returns-5 : tie.Need-returns-5
 returns-5 c =
     let at-none-negative = c .before .before .before in let at-if3 = at-none-negative .before in let at-if2 = at-if3 .before in let at-shape = at-if2 .before in
     let at-if1 = at-shape .before in let start = at-if1 .before .before in
-    accepted (start .args .turns .now) (tree-at (start .args .nodes .now) (start .args .root)) (start .args .ks .now) (at-shape .shape .result) (at-shape .shape .ensures) (at-if1 .if1 .left) (at-if2 .if2 .left) (at-if3 .if3 .left) (at-none-negative .none-negative .result) (at-none-negative .none-negative .ensures) (c .before .before .if4 .taken) (c .before .contradicts .result) (c .before .contradicts .ensures) (c .if5 .taken)
+    accepted (start .args .turns .now) (tree-at (start .args .nodes .now) (start .args .root)) (start .args .ks .now) (at-shape .shape .result) (at-shape .shape .ensures)
+    (at-if1 .if1 .left) (at-if2 .if2 .left) (at-if3 .if3 .left) (at-none-negative .none-negative .result) (at-none-negative .none-negative .ensures)
+    (c .before .before .if4 .taken) (c .before .contradicts .result) (c .before .contradicts .ensures) (c .if5 .taken)
 
 returns-6 : tie.Need-returns-6
 returns-6 c =
     let at-none-negative = c .before .before .before in let at-if3 = at-none-negative .before in let at-if2 = at-if3 .before in let at-shape = at-if2 .before in
     let at-if1 = at-shape .before in let start = at-if1 .before .before in
-    not-proved (start .args .turns .now) (tree-at (start .args .nodes .now) (start .args .root)) (start .args .ks .now) (at-shape .shape .result) (at-shape .shape .ensures) (at-if1 .if1 .left) (at-if2 .if2 .left) (at-if3 .if3 .left) (at-none-negative .none-negative .result) (at-none-negative .none-negative .ensures) (c .before .before .if4 .taken) (c .before .contradicts .result) (c .before .contradicts .ensures) (c .if5 .left)
+    not-proved (start .args .turns .now) (tree-at (start .args .nodes .now) (start .args .root)) (start .args .ks .now) (at-shape .shape .result)
+    (at-shape .shape .ensures) (at-if1 .if1 .left) (at-if2 .if2 .left) (at-if3 .if3 .left) (at-none-negative .none-negative .result)
+    (at-none-negative .none-negative .ensures) (c .before .before .if4 .taken) (c .before .contradicts .result) (c .before .contradicts .ensures) (c .if5 .left)
 
 pub path-number-spec : {M : Type 1} → statement M
 path-number-spec =

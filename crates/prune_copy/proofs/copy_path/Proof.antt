@@ -41,20 +41,19 @@ add-loop c =
 
 copy-row-requires : tie.Need-copy-row-requires Inv-loop μ-loop
 copy-row-requires c κs =
-    let place = c .before .before .before .before .before .before in let s = place in
+    let s = c .before .before .before .before .before .before in
     let U = c .before .before .loop .inv (s .pre .0) in
     ready (s .pre .0) (s .pre .5) U (c .before .loop-test .taken)
 
 sub-c-2 : tie.Need-sub-c-2 Inv-loop μ-loop
 sub-c-2 c =
-    let at-loop-test = c .before .before .before in let at-loop = at-loop-test .before in let place = at-loop .before .before .before .before in
-    let s = place in
+    let at-loop-test = c .before .before .before in let at-loop = at-loop-test .before in let s = at-loop .before .before .before .before in
     let U = at-loop .loop .inv (s .pre .0) in
     omega (arith, U .at, at-loop-test .loop-test .taken)
 
 add-k : tie.Need-add-k Inv-loop μ-loop
 add-k c =
-    let at-loop = c .before .before .before .before in let place = at-loop .before .before .before .before in let s = place in
+    let at-loop = c .before .before .before .before in let s = at-loop .before .before .before .before in
     let U = at-loop .loop .inv (s .pre .0) in
     record { fits = omega (arith, U .some, s .pre .5) }
 
@@ -64,8 +63,7 @@ loop-less c =
 
 loop-again : tie.Need-loop-again Inv-loop μ-loop
 loop-again c =
-    let at-loop-test = c .before .before .before in let at-loop = at-loop-test .before in let place = at-loop .before .before .before .before in
-    let s = place in
+    let at-loop-test = c .before .before .before in let at-loop = at-loop-test .before in let s = at-loop .before .before .before .before in
     λ G. steps G (s .pre .5) (at-loop .loop .inv G) (at-loop-test .loop-test .taken) (c .before .copy-row .ensures)
 
 same-length : tie.Need-same-length Inv-loop μ-loop

@@ -28,7 +28,7 @@ get-requires c κs = search needs
 
 turned-requires : tie.Need-turned-requires
 turned-requires c κs =
-    let at-branch = c .before .before .before .before in let place = at-branch .before .before .before .before in let s = place in
+    let at-branch = c .before .before .before .before in let s = at-branch .before .before .before .before in
     omega (arith, lower-is (s .pre) (at-branch .branch .ensures) (c .before .before .stand-in .ensures), s .pre .copy .within)
 
 sub-put : tie.Need-sub-put

@@ -36,7 +36,8 @@ site-requires c κs = search needs
 judge-plan-requires : tie.Need-judge-plan-requires
 judge-plan-requires c κs =
     let at-early = c .before .before .before .before in let start = at-early .before .before .before .before in let a = start .args in
-    plan-there (a .bytes .now) (a .nodes .now) (a .stages .now) (a .most) (a .stage) (a .turns .now) (a .ks .now) (shown (at-early .early .result)) (at-early .early .ensures) (c .before .before .if1 .left) (site-as (c .site .result)) (c .site .ensures)
+    plan-there (a .bytes .now) (a .nodes .now) (a .stages .now) (a .most) (a .stage) (a .turns .now) (a .ks .now) (shown (at-early .early .result))
+    (at-early .early .ensures) (c .before .before .if1 .left) (site-as (c .site .result)) (c .site .ensures)
 
 returns-2 : tie.Need-returns-2
 returns-2 c =

@@ -79,6 +79,8 @@ still-good B nodes stages work s turns ks =
     let c = cleared B nodes stages N s turns ks z in
     let most = greatest-most 8 (words-anew nodes s turns X 1 stages) (length X) (λ i _. rw (word-anew nodes s turns X 1 i stages) (word-below nodes s turns X (1 + i) (getD stages i 0))) in
     let a = node-numbered X (table-of-table S) r (h .0, omega (arith, h .1)) in
-    let each = enter-all-each (Stage-good n A) (λ t p q d. parts (good-test n false) (stage-leaf A) t p q d .1) S [] (each-good nodes s turns n A 1 stages (λ i l _ j a b. c .rows j a (omega (arith, greatest-least steps-most stages i (omega (arith, c .before .eight)))))) (λ u m. clash (sym m)) in
+    let each = enter-all-each (Stage-good n A) (λ t p q d. parts (good-test n false) (stage-leaf A) t p q d .1) S []
+    (each-good nodes s turns n A 1 stages (λ i l _ j a b. c .rows j a (omega (arith, greatest-least steps-most stages i (omega (arith, c .before .eight))))))
+    (λ u m. clash (sym m)) in
     node-fits n A (laid X tail) r (subst (λ (r : ℕ). T (good-row n A (laid X tail) r)) (a .1 .1) (node-good X tail (table-of-table S) n A (a .0) (a .1 .0) (each (a .0) (a .1 .0)))))
     (λ z e. clash (sym (ap (λ (k : ℕ). eqb k 0) e) ∙ z))

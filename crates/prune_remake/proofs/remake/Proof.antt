@@ -24,7 +24,7 @@ loop-holds c =
 
 remake-row-requires : tie.Need-remake-row-requires Inv-loop μ-loop
 remake-row-requires c κs =
-    let at-loop = c .before .before .before in let place = at-loop .before .before .before .before .before .before in let s = place in
+    let at-loop = c .before .before .before in let s = at-loop .before .before .before .before .before .before in
     let U = at-loop .loop .inv in
     let h = c .before .before .loop-test .taken in
     (U .remade .bare, omega (arith, h, s .pre .3), fits-here (s .pre .0) (U .remade) h (s .pre .3), U .remade .there)
@@ -32,7 +32,7 @@ remake-row-requires c κs =
 cast-work : tie.Need-cast-work Inv-loop μ-loop
 cast-work c =
     let at-remake-row = c .before .before .before .before in let at-loop-test = at-remake-row .before .before .before in let at-loop = at-loop-test .before in
-    let place = at-loop .before .before .before .before .before .before in let s = place in
+    let s = at-loop .before .before .before .before .before .before in
     let U = at-loop .loop .inv in
     let h = at-loop-test .loop-test .taken in
     let r = at-remake-row .remake-row .ensures in
@@ -41,32 +41,28 @@ cast-work c =
 
 mul-work : tie.Need-mul-work Inv-loop μ-loop
 mul-work c =
-    let at-loop-test = c .before .before .before .before .before .before .before in let place = at-loop-test .before .before .before .before .before .before .before in
-    let s = place in
+    let at-loop-test = c .before .before .before .before .before .before .before in let s = at-loop-test .before .before .before .before .before .before .before in
     record { fits = omega (arith, s .pre .2, s .pre .3, at-loop-test .loop-test .taken) }
 
 add-work : tie.Need-add-work Inv-loop μ-loop
 add-work c =
-    let at-loop-test = c .before .before .before .before .before .before .before in let place = at-loop-test .before .before .before .before .before .before .before in
-    let s = place in
+    let at-loop-test = c .before .before .before .before .before .before .before in let s = at-loop-test .before .before .before .before .before .before .before in
     record { fits = omega (arith, s .pre .2, s .pre .3, at-loop-test .loop-test .taken) }
 
 mul-work-2 : tie.Need-mul-work-2 Inv-loop μ-loop
 mul-work-2 c =
-    let at-loop-test = c .before .before .before .before .before .before .before in let place = at-loop-test .before .before .before .before .before .before .before in
-    let s = place in
+    let at-loop-test = c .before .before .before .before .before .before .before in let s = at-loop-test .before .before .before .before .before .before .before in
     record { fits = omega (arith, s .pre .2, s .pre .3, at-loop-test .loop-test .taken) }
 
 slice-write-work : tie.Need-slice-write-work Inv-loop μ-loop
 slice-write-work c =
     let at-remake-row = c .before .before .before .before in let at-loop-test = at-remake-row .before .before .before in
-    let place = at-loop-test .before .before .before .before .before .before .before in let s = place in
+    let s = at-loop-test .before .before .before .before .before .before .before in
     omega (arith, at-remake-row .remake-row .ensures .bare .chained .space .works, s .pre .3, at-loop-test .loop-test .taken)
 
 add-i : tie.Need-add-i Inv-loop μ-loop
 add-i c =
-    let at-loop-test = c .before .before .before .before .before .before .before in let place = at-loop-test .before .before .before .before .before .before .before in
-    let s = place in
+    let at-loop-test = c .before .before .before .before .before .before .before in let s = at-loop-test .before .before .before .before .before .before .before in
     record { fits = omega (arith, s .pre .2, s .pre .3, at-loop-test .loop-test .taken) }
 
 loop-less : tie.Need-loop-less Inv-loop μ-loop
@@ -76,7 +72,7 @@ loop-less c =
 loop-again : tie.Need-loop-again Inv-loop μ-loop
 loop-again c =
     let at-remake-row = c .before .before .before .before in let at-loop-test = at-remake-row .before .before .before in let at-loop = at-loop-test .before in
-    let place = at-loop .before .before .before .before .before .before in let s = place in
+    let s = at-loop .before .before .before .before .before .before in
     let U = at-loop .loop .inv in
     step (s .pre .0) (U .remade) (at-loop-test .loop-test .taken) (s .pre .3) (at-remake-row .remake-row .ensures) U (at-remake-row .remake-row .kept .0) (at-remake-row .remake-row .kept .1 .0)
 

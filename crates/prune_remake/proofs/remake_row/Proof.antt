@@ -13,7 +13,7 @@ is-leaf-requires c κs = search needs
 
 intern-requires : tie.Need-intern-requires
 intern-requires c κs =
-    let at-is-leaf = c .before .before .before in let at-get = at-is-leaf .before in let place = at-get .before .before .before in let s = place in
+    let at-is-leaf = c .before .before .before in let at-get = at-is-leaf .before in let s = at-get .before .before .before in
     (s .pre .0, leaf-valid (s .pre .2) (at-get .get .ensures) (at-is-leaf .is-leaf .ensures) (c .before .before .if1 .taken) (s .args .count))
 
 same-length : tie.Need-same-length
@@ -25,7 +25,7 @@ same-length-2 c = search needs
 returns : tie.Need-returns
 returns c =
     let at-intern = c .before .before .before in let at-if1 = at-intern .before .before .before in let at-is-leaf = at-if1 .before in let at-get = at-is-leaf .before in
-    let place = at-get .before .before .before in let s = place in
+    let s = at-get .before .before .before in
     leaf-made (s .pre .2) (at-get .get .ensures) (at-is-leaf .is-leaf .ensures) (at-if1 .if1 .taken) (at-intern .intern .ensures)
 
 high-requires : tie.Need-high-requires
@@ -33,7 +33,7 @@ high-requires c κs = search needs
 
 gone-requires : tie.Need-gone-requires
 gone-requires c κs =
-    let at-is-leaf = c .before .before .before in let at-get = at-is-leaf .before in let place = at-get .before .before .before in let s = place in
+    let at-is-leaf = c .before .before .before in let at-get = at-is-leaf .before in let s = at-get .before .before .before in
     let d = high-in (s .pre .2) (at-get .get .ensures) (at-is-leaf .is-leaf .ensures) (c .before .before .if1 .left) (c .high .ensures) in
     (d .0, omega (arith, d .1, s .pre .1), s .pre .0 .chained .space .few, s .pre .0 .chained .space .works)
 
@@ -42,18 +42,22 @@ low-requires c κs = search needs
 
 gone-requires-2 : tie.Need-gone-requires-2
 gone-requires-2 c κs =
-    let at-if1 = c .before .before .before .before .before in let at-is-leaf = at-if1 .before in let at-get = at-is-leaf .before in let place = at-get .before .before .before in
-    let s = place in
+    let at-if1 = c .before .before .before .before .before in let at-is-leaf = at-if1 .before in let at-get = at-is-leaf .before in let s = at-get .before .before .before in
     let d = low-in (s .pre .2) (at-get .get .ensures) (at-is-leaf .is-leaf .ensures) (at-if1 .if1 .left) (c .low .ensures) in
     (d .0, omega (arith, d .1, s .pre .1), s .pre .0 .chained .space .few, s .pre .0 .chained .space .works)
 
 join-test-requires : tie.Need-join-test-requires
 join-test-requires c κs =
     let at-low = c .before .before .before in let at-gone = at-low .before .before in let at-high = at-gone .before in let at-if1 = at-high .before .before in
-    let at-is-leaf = at-if1 .before in let at-get = at-is-leaf .before in let place = at-get .before .before .before in let s = place in
+    let at-is-leaf = at-if1 .before in let at-get = at-is-leaf .before in let s = at-get .before .before .before in
     let h = high-in (s .pre .2) (at-get .get .ensures) (at-is-leaf .is-leaf .ensures) (at-if1 .if1 .left) (at-high .high .ensures) in
-    let l = low-in (s .pre .2) (at-get .get .ensures) (at-is-leaf .is-leaf .ensures) (at-if1 .if1 .left) (at-low .low .ensures) in
-    (s .pre .0, test-proper (s .pre .2) (at-get .get .ensures) (at-is-leaf .is-leaf .ensures) (at-if1 .if1 .left), gone-in (s .args .cap) (s .args .work .now) (s .pre .3) h (at-gone .gone .ensures), gone-in (s .args .cap) (s .args .work .now) (s .pre .3) l (c .before .before .gone2 .ensures))
+    let l = low-in (s .pre .2) (at-get .get .ensures) (at-is-leaf .is-leaf .ensures) (at-if1 .if1 .left) (at-low .low .ensures) in (
+      s .pre .0,
+      test-proper (s .pre .2) (at-get .get .ensures) (at-is-leaf .is-leaf .ensures) (at-if1 .if1 .left),
+      gone-in (s .args .cap) (s .args .work .now)
+          (s .pre .3) h (at-gone .gone .ensures),
+      gone-in (s .args .cap) (s .args .work .now) (s .pre .3) l (c .before .before .gone2 .ensures),
+    )
 
 same-length-3 : tie.Need-same-length-3
 same-length-3 c = search needs
@@ -65,7 +69,7 @@ returns-2 : tie.Need-returns-2
 returns-2 c =
     let at-join-test = c .before .before .before in let at-gone2 = at-join-test .before .before .before in let at-low = at-gone2 .before in let at-gone = at-low .before .before in
     let at-high = at-gone .before in let at-if1 = at-high .before .before in let at-is-leaf = at-if1 .before in let at-get = at-is-leaf .before in
-    let place = at-get .before .before .before in let s = place in
+    let s = at-get .before .before .before in
     test-made (s .pre .2) (at-get .get .ensures) (at-is-leaf .is-leaf .ensures) (at-if1 .if1 .left) (at-high .high .ensures) (at-low .low .ensures) (at-gone .gone .ensures) (at-gone2 .gone2 .ensures) (at-join-test .join-test .ensures)
 
 pub remake-row-spec : {M : Type 1} → statement M

@@ -32,14 +32,13 @@ cast-r c =
 
 gone-requires : tie.Need-gone-requires Inv-loop μ-loop
 gone-requires c κs =
-    let at-loop = c .before .before .before in let place = at-loop .before .before .before .before in let s = place in
+    let at-loop = c .before .before .before in let s = at-loop .before .before .before .before in
     let w = s .pre .0 .words (at-loop .loop .h) (c .before .before .loop-test .taken) in
     (omega (arith, c .if1 .taken), w, s .pre .0 .few, s .pre .0 .works)
 
 cast-roots : tie.Need-cast-roots Inv-loop μ-loop
 cast-roots c =
-    let at-loop-test = c .before .before .before in let at-loop = at-loop-test .before in let place = at-loop .before .before .before .before in
-    let s = place in
+    let at-loop-test = c .before .before .before in let at-loop = at-loop-test .before in let s = at-loop .before .before .before .before in
     let r = getD (s .args .stages .now) (at-loop .loop .h) 0 in
     let w = s .pre .0 .words (at-loop .loop .h) (at-loop-test .loop-test .taken) in
     record { fits = omega (arith, s .pre .0 .gone (r - 1) (omega (arith, c .before .if1 .taken)), s .pre .0 .few, c .gone .ensures) }
@@ -70,7 +69,7 @@ loop-less c =
 
 loop-again : tie.Need-loop-again Inv-loop μ-loop
 loop-again c =
-    let at-loop = c .before .before .before in let place = at-loop .before .before .before .before in let s = place in
+    let at-loop = c .before .before .before in let s = at-loop .before .before .before .before in
     let G = at-loop .loop .inv in
     let h = c .before .before .loop-test .taken in
     ⊎-elim (λ w. gather-root G (s .pre .1) h (w .0 .taken) (w .1 .ensures) (w .2) (w .3)) (λ w. gather-none G h (w .0 .left) (w .1) (w .2)) (c .if1 .came)

@@ -52,7 +52,7 @@ merge-sides-at-requires t c κs =
 
 merge-combine-requires : (t : ℕ) → merge-lts.Need-combine-requires (merge-claims t) (merge-at t) merge.Post
 merge-combine-requires t c κs =
-    let at-sides-at = c .before .before .before in let place = at-sides-at .before .before .before in let s = place in
+    let at-sides-at = c .before .before .before in let s = at-sides-at .before .before .before in
     let o = merge-goes (s .pre .1 .0) (s .pre .1 .1) (s .args .f) (s .args .g) (s .pre .1 .2) (s .pre .1 .3) (at-sides-at .sides-at .ensures) .0 (c .before .before .if1 .taken) in
     (s .pre .1 .0 .bare, left-leaf (s .pre .1 .0) (s .pre .1 .1) (s .args .f) (s .args .g) (s .pre .1 .2) (s .pre .1 .3) o, right-leaf (s .pre .1 .0) (s .pre .1 .1) (s .args .f) (s .args .g) (s .pre .1 .2) (s .pre .1 .3) o)
 
@@ -65,7 +65,7 @@ merge-same-length-2 t c = search needs
 merge-returns : (t : ℕ) → merge-lts.Need-returns (merge-claims t) (merge-at t) merge.Post
 merge-returns t c =
     let at-combine = c .before .before .before in let at-if1 = at-combine .before .before .before in let at-sides-at = at-if1 .before in
-    let place = at-sides-at .before .before .before in let s = place in
+    let s = at-sides-at .before .before .before in
     let o = merge-goes (s .pre .1 .0) (s .pre .1 .1) (s .args .f) (s .args .g) (s .pre .1 .2) (s .pre .1 .3) (at-sides-at .sides-at .ensures) .0 (at-if1 .if1 .taken) in
     merge-ends (s .pre .1 .0) (s .pre .1 .1) (s .args .f) (s .args .g) (s .pre .1 .2) (s .pre .1 .3) o (at-combine .combine .ensures)
 
@@ -85,13 +85,12 @@ merge-same-length-4 t c = search needs
 
 merge-returns-2 : (t : ℕ) → merge-lts.Need-returns-2 (merge-claims t) (merge-at t) merge.Post
 merge-returns-2 t c =
-    let place = c .before .before .before .before .before .before .before in let s = place in
+    let s = c .before .before .before .before .before .before .before in
     answered (s .pre .1 .0) (s .args .op) (s .args .f) (s .args .g) 0 0 _ (c .before .look .ensures (c .if2 .taken))
 
 merge-merge-requires : (t : ℕ) → merge-lts.Need-merge-requires (merge-claims t) (merge-at t) merge.Post
 merge-merge-requires t c κs =
-    let at-if1 = c .before .before .before .before .before in let at-sides-at = at-if1 .before in let place = at-sides-at .before .before .before in
-    let s = place in
+    let at-if1 = c .before .before .before .before .before in let at-sides-at = at-if1 .before in let s = at-sides-at .before .before .before in
     let o = merge-goes (s .pre .1 .0) (s .pre .1 .1) (s .args .f) (s .args .g) (s .pre .1 .2) (s .pre .1 .3) (at-sides-at .sides-at .ensures) .1 (at-if1 .if1 .left) in
     (omega (arith, o .high, s .pre .0), (s .pre .1 .0, s .pre .1 .1, o .fh, o .gh))
 
@@ -104,14 +103,14 @@ merge-same-length-6 t c = search needs
 merge-returns-3 : (t : ℕ) → merge-lts.Need-returns-3 (merge-claims t) (merge-at t) merge.Post
 merge-returns-3 t c =
     let at-merge = c .before .before .before .before .before in let at-if1 = at-merge .before .before .before .before .before .before in let at-sides-at = at-if1 .before in
-    let place = at-sides-at .before .before .before in let s = place in
+    let s = at-sides-at .before .before .before in
     let o = merge-goes (s .pre .1 .0) (s .pre .1 .1) (s .args .f) (s .args .g) (s .pre .1 .2) (s .pre .1 .3) (at-sides-at .sides-at .ensures) .1 (at-if1 .if1 .left) in
     high-ended (s .pre .1 .1) (s .args .f) (s .args .g) o (at-merge .merge .ensures) (c .if3 .taken)
 
 merge-merge-requires-2 : (t : ℕ) → merge-lts.Need-merge-requires-2 (merge-claims t) (merge-at t) merge.Post
 merge-merge-requires-2 t c κs =
     let at-merge = c .before .before .before .before .before .before .before in let at-if1 = at-merge .before .before .before .before .before .before in
-    let at-sides-at = at-if1 .before in let place = at-sides-at .before .before .before in let s = place in
+    let at-sides-at = at-if1 .before in let s = at-sides-at .before .before .before in
     let o = merge-goes (s .pre .1 .0) (s .pre .1 .1) (s .args .f) (s .args .g) (s .pre .1 .2) (s .pre .1 .3) (at-sides-at .sides-at .ensures) .1 (at-if1 .if1 .left) in
     (omega (arith, o .low, s .pre .0), low-asks (s .pre .1 .1) (s .args .f) (s .args .g) o (at-merge .merge .ensures))
 
@@ -124,8 +123,7 @@ merge-same-length-8 t c = search needs
 merge-returns-4 : (t : ℕ) → merge-lts.Need-returns-4 (merge-claims t) (merge-at t) merge.Post
 merge-returns-4 t c =
     let at-merge2 = c .before .before .before .before .before in let at-if3 = at-merge2 .before .before .before in let at-merge = at-if3 .before .before .before .before .before in
-    let at-if1 = at-merge .before .before .before .before .before .before in let at-sides-at = at-if1 .before in let place = at-sides-at .before .before .before in
-    let s = place in
+    let at-if1 = at-merge .before .before .before .before .before .before in let at-sides-at = at-if1 .before in let s = at-sides-at .before .before .before in
     let o = merge-goes (s .pre .1 .0) (s .pre .1 .1) (s .args .f) (s .args .g) (s .pre .1 .2) (s .pre .1 .3) (at-sides-at .sides-at .ensures) .1 (at-if1 .if1 .left) in
     low-ended (s .pre .1 .1) (s .args .f) (s .args .g) o (at-merge .merge .ensures) (at-if3 .if3 .left) (at-merge2 .merge2 .ensures) (c .if4 .taken)
 
@@ -133,7 +131,7 @@ merge-over-root-requires : (t : ℕ) → merge-lts.Need-over-root-requires (merg
 merge-over-root-requires t c κs =
     let at-merge2 = c .before .before .before .before .before .before .before in let at-if3 = at-merge2 .before .before .before in
     let at-merge = at-if3 .before .before .before .before .before in let at-if1 = at-merge .before .before .before .before .before .before in let at-sides-at = at-if1 .before in
-    let place = at-sides-at .before .before .before in let s = place in
+    let s = at-sides-at .before .before .before in
     let o = merge-goes (s .pre .1 .0) (s .pre .1 .1) (s .args .f) (s .args .g) (s .pre .1 .2) (s .pre .1 .3) (at-sides-at .sides-at .ensures) .1 (at-if1 .if1 .left) in
     root-asks (s .pre .1 .1) (s .args .f) (s .args .g) o (at-merge .merge .ensures) (at-if3 .if3 .left) (at-merge2 .merge2 .ensures) (c .before .before .if4 .left)
 
@@ -148,7 +146,7 @@ merge-returns-5 t c =
     let at-over-root = c .before .before .before .before .before in let at-if4 = at-over-root .before .before .before in
     let at-merge2 = at-if4 .before .before .before .before .before in let at-if3 = at-merge2 .before .before .before in
     let at-merge = at-if3 .before .before .before .before .before in let at-if1 = at-merge .before .before .before .before .before .before in let at-sides-at = at-if1 .before in
-    let place = at-sides-at .before .before .before in let s = place in
+    let s = at-sides-at .before .before .before in
     let o = merge-goes (s .pre .1 .0) (s .pre .1 .1) (s .args .f) (s .args .g) (s .pre .1 .2) (s .pre .1 .3) (at-sides-at .sides-at .ensures) .1 (at-if1 .if1 .left) in
     root-made (s .pre .1 .1) (s .args .f) (s .args .g) o (at-merge .merge .ensures) (at-if3 .if3 .left) (at-merge2 .merge2 .ensures) (at-if4 .if4 .left) (at-over-root .over-root .ensures)
 
@@ -157,7 +155,7 @@ merge-keep-requires t c κs =
     let at-over-root = c .before .before .before .before .before .before in let at-if4 = at-over-root .before .before .before in
     let at-merge2 = at-if4 .before .before .before .before .before in let at-if3 = at-merge2 .before .before .before in
     let at-merge = at-if3 .before .before .before .before .before in let at-if1 = at-merge .before .before .before .before .before .before in let at-sides-at = at-if1 .before in
-    let place = at-sides-at .before .before .before in let s = place in
+    let s = at-sides-at .before .before .before in
     let o = merge-goes (s .pre .1 .0) (s .pre .1 .1) (s .args .f) (s .args .g) (s .pre .1 .2) (s .pre .1 .3) (at-sides-at .sides-at .ensures) .1 (at-if1 .if1 .left) in
     let J = root-made (s .pre .1 .1) (s .args .f) (s .args .g) o (at-merge .merge .ensures) (at-if3 .if3 .left) (at-merge2 .merge2 .ensures) (at-if4 .if4 .left) (at-over-root .over-root .ensures) in
     keepable J (c .before .if5 .left) (merge-key (s .pre .1 .0) (s .pre .1 .1) (s .args .f) (s .args .g) (s .pre .1 .2) (s .pre .1 .3))
@@ -181,7 +179,7 @@ merge-returns-6 t c =
     let at-if5 = c .before .before .before .before in let at-over-root = at-if5 .before .before .before .before .before in let at-if4 = at-over-root .before .before .before in
     let at-merge2 = at-if4 .before .before .before .before .before in let at-if3 = at-merge2 .before .before .before in
     let at-merge = at-if3 .before .before .before .before .before in let at-if1 = at-merge .before .before .before .before .before .before in let at-sides-at = at-if1 .before in
-    let place = at-sides-at .before .before .before in let s = place in
+    let s = at-sides-at .before .before .before in
     let o = merge-goes (s .pre .1 .0) (s .pre .1 .1) (s .args .f) (s .args .g) (s .pre .1 .2) (s .pre .1 .3) (at-sides-at .sides-at .ensures) .1 (at-if1 .if1 .left) in
     let J = root-made (s .pre .1 .1) (s .args .f) (s .args .g) o (at-merge .merge .ensures) (at-if3 .if3 .left) (at-merge2 .merge2 .ensures) (at-if4 .if4 .left) (at-over-root .over-root .ensures) in
     kept-run (lasts-merge _ _ (s .args .f) (s .args .g) (s .pre .1 .2) (s .pre .1 .3) (s .args .op) (s .pre .1 .1)) J (at-if5 .if5 .left) (c .before .before .keep .ensures)

@@ -24,8 +24,9 @@ same-length-2 c = search needs
 
 returns : tie.Need-returns
 returns c =
-    let at-choose = c .before .before .before in let at-if1 = at-choose .before .before .before in let place = at-if1 .before .before in let s = place in
-    ran-as (ap (λ (t : Test). choose t (treeAt (s .args .nodes .now) (s .args .count) (s .args .h)) (treeAt (s .args .nodes .now) (s .args .count) (s .args .l))) (root-test (s .pre .0) (s .pre .1)) ∙ is-choose (s .args .op) _ _ _ (at-if1 .if1 .taken)) (at-choose .choose .ensures)
+    let at-choose = c .before .before .before in let at-if1 = at-choose .before .before .before in let s = at-if1 .before .before in
+    ran-as (ap (λ (t : Test). choose t (treeAt (s .args .nodes .now) (s .args .count) (s .args .h)) (treeAt (s .args .nodes .now) (s .args .count) (s .args .l)))
+    (root-test (s .pre .0) (s .pre .1)) ∙ is-choose (s .args .op) _ _ _ (at-if1 .if1 .taken)) (at-choose .choose .ensures)
 
 join-requires : tie.Need-join-requires
 join-requires c κs =
@@ -40,7 +41,7 @@ same-length-4 c = search needs
 
 returns-2 : tie.Need-returns-2
 returns-2 c =
-    let at-join = c .before .before .before in let at-if1 = at-join .before .before .before in let place = at-if1 .before .before in let s = place in
+    let at-join = c .before .before .before in let at-if1 = at-join .before .before .before in let s = at-if1 .before .before in
     ran-as (is-node (s .args .op) _ _ _ (at-if1 .if1 .left)) (lifted (s .pre .0) (at-join .join .ensures))
 
 pub over-root-spec : {M : Type 1} → statement M

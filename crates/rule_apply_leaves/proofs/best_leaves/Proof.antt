@@ -22,13 +22,13 @@ same-length-2 c = search needs
 
 returns-2 : tie.Need-returns-2
 returns-2 c =
-    let place = c .before .before .before .before .before .before .before in
-    let s = place in best-first (s .pre .0) (s .args .f) (s .args .g) (s .pre .1) (s .pre .2) (c .before .none-at2 .ensures) (c .if2 .taken)
+    let s = c .before .before .before .before .before .before .before in
+    best-first (s .pre .0) (s .args .f) (s .args .g) (s .pre .1) (s .pre .2) (c .before .none-at2 .ensures) (c .if2 .taken)
 
 best-linears-requires : tie.Need-best-linears-requires
 best-linears-requires c κs =
-    let at-none-at2 = c .before .before .before in let at-if1 = at-none-at2 .before .before in let at-none-at = at-if1 .before in let place = at-none-at .before .before .before in
-    let s = place in (s .pre .0, record { leaf = s .pre .1; linear = sym (at-none-at .none-at .ensures) ∙ at-if1 .if1 .left }, record { leaf = s .pre .2; linear = sym (at-none-at2 .none-at2 .ensures) ∙ c .before .before .if2 .left })
+    let at-none-at2 = c .before .before .before in let at-if1 = at-none-at2 .before .before in let at-none-at = at-if1 .before in let s = at-none-at .before .before .before in
+    (s .pre .0, record { leaf = s .pre .1; linear = sym (at-none-at .none-at .ensures) ∙ at-if1 .if1 .left }, record { leaf = s .pre .2; linear = sym (at-none-at2 .none-at2 .ensures) ∙ c .before .before .if2 .left })
 
 same-length-3 : tie.Need-same-length-3
 same-length-3 c = search needs

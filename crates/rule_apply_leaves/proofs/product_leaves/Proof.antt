@@ -18,8 +18,8 @@ same-length c = search needs
 
 returns : tie.Need-returns
 returns c =
-    let at-constant = c .before .before .before in let at-get = at-constant .before in let place = at-get .before .before .before in
-    let s = place in product-stays (s .pre .0) (s .args .f) (s .args .g) (s .pre .1) (s .pre .2) (at-get .get .ensures) (at-constant .constant .ensures) (c .before .stays-none .ensures) (c .if1 .taken)
+    let at-constant = c .before .before .before in let at-get = at-constant .before in let s = at-get .before .before .before in
+    product-stays (s .pre .0) (s .args .f) (s .args .g) (s .pre .1) (s .pre .2) (at-get .get .ensures) (at-constant .constant .ensures) (c .before .stays-none .ensures) (c .if1 .taken)
 
 get-requires-2 : tie.Need-get-requires-2
 get-requires-2 c κs = search needs
@@ -42,8 +42,10 @@ returns-2 : tie.Need-returns-2
 returns-2 c =
     let at-make-leaf = c .before .before .before in let at-product = at-make-leaf .before .before .before in let at-get2 = at-product .before in
     let at-if1 = at-get2 .before .before in let at-stays-none = at-if1 .before in let at-constant = at-stays-none .before .before in let at-get = at-constant .before in
-    let place = at-get .before .before .before in
-    let s = place in product-made (s .pre .0) (s .args .f) (s .args .g) (s .pre .1) (s .pre .2) (at-get .get .ensures) (at-constant .constant .ensures) (at-stays-none .stays-none .ensures) (at-if1 .if1 .left) (at-product .product .result) (at-get2 .get2 .ensures) (at-make-leaf .make-leaf .ensures) (at-product .product .ensures)
+    let s = at-get .before .before .before in
+    product-made (s .pre .0) (s .args .f) (s .args .g) (s .pre .1) (s .pre .2) (at-get .get .ensures) (at-constant .constant .ensures)
+    (at-stays-none .stays-none .ensures) (at-if1 .if1 .left) (at-product .product .result) (at-get2 .get2 .ensures) (at-make-leaf .make-leaf .ensures)
+    (at-product .product .ensures)
 
 pub product-leaves-spec : {M : Type 1} → statement M
 product-leaves-spec =

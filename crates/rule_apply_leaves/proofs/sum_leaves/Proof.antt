@@ -22,8 +22,8 @@ same-length-2 c = search needs
 
 returns-2 : tie.Need-returns-2
 returns-2 c =
-    let place = c .before .before .before .before .before .before .before in
-    let s = place in sum-second (s .pre .0) (s .args .f) (s .args .g) (s .pre .1) (s .pre .2) (c .before .none-at2 .ensures) (c .if2 .taken)
+    let s = c .before .before .before .before .before .before .before in
+    sum-second (s .pre .0) (s .args .f) (s .args .g) (s .pre .1) (s .pre .2) (c .before .none-at2 .ensures) (c .if2 .taken)
 
 get-requires : tie.Need-get-requires
 get-requires c κs = search needs
@@ -33,8 +33,8 @@ get-requires-2 c κs = search needs
 
 plus-requires : tie.Need-plus-requires
 plus-requires c κs =
-    let place = c .before .before .before .before .before .before .before .before .before .before .before in
-    let s = place in (nums-at (s .pre .0) (s .args .f) (s .pre .1 .below) (c .before .before .get .ensures), nums-at (s .pre .0) (s .args .g) (s .pre .2 .below) (c .get2 .ensures))
+    let s = c .before .before .before .before .before .before .before .before .before .before .before in
+    (nums-at (s .pre .0) (s .args .f) (s .pre .1 .below) (c .before .before .get .ensures), nums-at (s .pre .0) (s .args .g) (s .pre .2 .below) (c .get2 .ensures))
 
 make-leaf-requires : tie.Need-make-leaf-requires
 make-leaf-requires c κs =
@@ -51,8 +51,10 @@ returns-3 : tie.Need-returns-3
 returns-3 c =
     let at-make-leaf = c .before .before .before in let at-plus = at-make-leaf .before .before .before in let at-get2 = at-plus .before in let at-get = at-get2 .before .before in
     let at-if2 = at-get .before .before in let at-none-at2 = at-if2 .before in let at-if1 = at-none-at2 .before .before in let at-none-at = at-if1 .before in
-    let place = at-none-at .before .before .before in
-    let s = place in sum-made (s .pre .0) (s .args .f) (s .args .g) (s .pre .1) (s .pre .2) (at-plus .plus .result) (at-get .get .ensures) (at-get2 .get2 .ensures) (at-make-leaf .make-leaf .ensures) (at-none-at .none-at .ensures) (at-if1 .if1 .left) (at-none-at2 .none-at2 .ensures) (at-if2 .if2 .left) (at-plus .plus .ensures)
+    let s = at-none-at .before .before .before in
+    sum-made (s .pre .0) (s .args .f) (s .args .g) (s .pre .1) (s .pre .2) (at-plus .plus .result) (at-get .get .ensures) (at-get2 .get2 .ensures)
+    (at-make-leaf .make-leaf .ensures) (at-none-at .none-at .ensures) (at-if1 .if1 .left) (at-none-at2 .none-at2 .ensures) (at-if2 .if2 .left)
+    (at-plus .plus .ensures)
 
 pub sum-leaves-spec : {M : Type 1} → statement M
 sum-leaves-spec =

@@ -152,7 +152,8 @@ choose-returns-4 t c =
     let w = choice-goes (start .pre .1 .0) (start .pre .1 .1) (start .args .f) (start .args .g) (start .pre .1 .2) (start .pre .1 .3) (at-test-at .test-at .ensures) (at-choice-at .choice-at .ensures) in
     let o = w .1 (at-if1 .if1 .left) in
     let Q = at-choose .choose .ensures in
-    let S = choice-kept (grown Q) (start .pre .1 .1) (treeAt (at-choose .choose .last .0) (at-choose .choose .result .count) (at-choice-at .choice-at .result .fl)) (treeAt (at-choose .choose .last .0) (at-choose .choose .result .count) (at-choice-at .choice-at .result .gl)) (at-choose2 .choose2 .ensures) in
+    let S = choice-kept (grown Q) (start .pre .1 .1) (treeAt (at-choose .choose .last .0) (at-choose .choose .result .count) (at-choice-at .choice-at .result .fl))
+    (treeAt (at-choose .choose .last .0) (at-choose .choose .result .count) (at-choice-at .choice-at .result .gl)) (at-choose2 .choose2 .ensures) in
     low-stops _ _ _ _ _ _ _ _ _ _ _ o _ Q (at-if3 .if3 .left) _ _ _ S (c .if4 .taken)
 
 choose-join-requires : (t : ℕ) → choose-lts.Need-join-requires (choose-claims t) (choose-at t) choose.Post
@@ -163,7 +164,8 @@ choose-join-requires t c κs =
     let w = choice-goes (start .pre .1 .0) (start .pre .1 .1) (start .args .f) (start .args .g) (start .pre .1 .2) (start .pre .1 .3) (at-test-at .test-at .ensures) (at-choice-at .choice-at .ensures) in
     let o = w .1 (at-if1 .if1 .left) in
     let Q = at-choose .choose .ensures in
-    let S = choice-kept (grown Q) (start .pre .1 .1) (treeAt (at-choose .choose .last .0) (at-choose .choose .result .count) (at-choice-at .choice-at .result .fl)) (treeAt (at-choose .choose .last .0) (at-choose .choose .result .count) (at-choice-at .choice-at .result .gl)) (at-choose2 .choose2 .ensures) in
+    let S = choice-kept (grown Q) (start .pre .1 .1) (treeAt (at-choose .choose .last .0) (at-choose .choose .result .count) (at-choice-at .choice-at .result .fl))
+    (treeAt (at-choose .choose .last .0) (at-choose .choose .result .count) (at-choice-at .choice-at .result .gl)) (at-choose2 .choose2 .ensures) in
     (S .table .bare, root-on _ _ _ _ _ _ _ _ _ _ _ o _ Q (at-if3 .if3 .left) _ _ _ S, high-in _ _ _ _ _ _ _ _ _ _ _ o _ Q (at-if3 .if3 .left) _ _ _ S, S .within (c .before .before .if4 .left))
 
 choose-same-length-9 : (t : ℕ) → choose-lts.Need-same-length-9 (choose-claims t) (choose-at t) choose.Post
@@ -181,7 +183,8 @@ choose-returns-5 t c =
     let w = choice-goes (start .pre .1 .0) (start .pre .1 .1) (start .args .f) (start .args .g) (start .pre .1 .2) (start .pre .1 .3) (at-test-at .test-at .ensures) (at-choice-at .choice-at .ensures) in
     let o = w .1 (at-if1 .if1 .left) in
     let Q = at-choose .choose .ensures in
-    let S = choice-kept (grown Q) (start .pre .1 .1) (treeAt (at-choose .choose .last .0) (at-choose .choose .result .count) (at-choice-at .choice-at .result .fl)) (treeAt (at-choose .choose .last .0) (at-choose .choose .result .count) (at-choice-at .choice-at .result .gl)) (at-choose2 .choose2 .ensures) in
+    let S = choice-kept (grown Q) (start .pre .1 .1) (treeAt (at-choose .choose .last .0) (at-choose .choose .result .count) (at-choice-at .choice-at .result .fl))
+    (treeAt (at-choose .choose .last .0) (at-choose .choose .result .count) (at-choice-at .choice-at .result .gl)) (at-choose2 .choose2 .ensures) in
     joined _ _ _ _ _ _ _ _ _ _ _ o _ Q (at-if3 .if3 .left) _ _ _ S (at-if4 .if4 .left) _ _ _ (lifted (S .table) (at-join .join .ensures))
 
 choose-keep-requires : (t : ℕ) → choose-lts.Need-keep-requires (choose-claims t) (choose-at t) choose.Post
@@ -193,7 +196,8 @@ choose-keep-requires t c κs =
     let w = choice-goes (start .pre .1 .0) (start .pre .1 .1) (start .args .f) (start .args .g) (start .pre .1 .2) (start .pre .1 .3) (at-test-at .test-at .ensures) (at-choice-at .choice-at .ensures) in
     let o = w .1 (at-if1 .if1 .left) in
     let Q = at-choose .choose .ensures in
-    let S = choice-kept (grown Q) (start .pre .1 .1) (treeAt (at-choose .choose .last .0) (at-choose .choose .result .count) (at-choice-at .choice-at .result .fl)) (treeAt (at-choose .choose .last .0) (at-choose .choose .result .count) (at-choice-at .choice-at .result .gl)) (at-choose2 .choose2 .ensures) in
+    let S = choice-kept (grown Q) (start .pre .1 .1) (treeAt (at-choose .choose .last .0) (at-choose .choose .result .count) (at-choice-at .choice-at .result .fl))
+    (treeAt (at-choose .choose .last .0) (at-choose .choose .result .count) (at-choice-at .choice-at .result .gl)) (at-choose2 .choose2 .ensures) in
     let J = joined _ _ _ _ _ _ _ _ _ _ _ o _ Q (at-if3 .if3 .left) _ _ _ S (at-if4 .if4 .left) _ _ _ (lifted (S .table) (at-join .join .ensures)) in
     keepable J (c .before .if5 .left) (choice-key (start .pre .1 .0) (start .pre .1 .1) (start .args .f) (start .args .g) (start .pre .1 .2) (start .pre .1 .3))
 
@@ -220,7 +224,8 @@ choose-returns-6 t c =
     let w = choice-goes (start .pre .1 .0) (start .pre .1 .1) (start .args .f) (start .args .g) (start .pre .1 .2) (start .pre .1 .3) (at-test-at .test-at .ensures) (at-choice-at .choice-at .ensures) in
     let o = w .1 (at-if1 .if1 .left) in
     let Q = at-choose .choose .ensures in
-    let S = choice-kept (grown Q) (start .pre .1 .1) (treeAt (at-choose .choose .last .0) (at-choose .choose .result .count) (at-choice-at .choice-at .result .fl)) (treeAt (at-choose .choose .last .0) (at-choose .choose .result .count) (at-choice-at .choice-at .result .gl)) (at-choose2 .choose2 .ensures) in
+    let S = choice-kept (grown Q) (start .pre .1 .1) (treeAt (at-choose .choose .last .0) (at-choose .choose .result .count) (at-choice-at .choice-at .result .fl))
+    (treeAt (at-choose .choose .last .0) (at-choose .choose .result .count) (at-choice-at .choice-at .result .gl)) (at-choose2 .choose2 .ensures) in
     let J = joined _ _ _ _ _ _ _ _ _ _ _ o _ Q (at-if3 .if3 .left) _ _ _ S (at-if4 .if4 .left) _ _ _ (lifted (S .table) (at-join .join .ensures)) in
     choice-stored (start .pre .1 .0) (start .pre .1 .1) (start .args .f) (start .args .g) (start .pre .1 .2) (start .pre .1 .3) J (at-if5 .if5 .left) (c .before .before .keep .ensures)
 

@@ -16,12 +16,12 @@ same-length-2 c = search needs
 
 returns : tie.Need-returns
 returns c =
-    let at-scale = c .before .before .before .before .before in let place = at-scale .before .before .before .before in let s = place in
+    let at-scale = c .before .before .before .before .before in let s = at-scale .before .before .before .before in
     level-stops (s .args .d) (s .pre .1) (back (s .args .c) (s .fits .c)) (at-scale .scale .ensures) (c .if1 .taken)
 
 merge-requires : tie.Need-merge-requires
 merge-requires c κs =
-    let at-scale = c .before .before .before .before .before .before .before in let place = at-scale .before .before .before .before in let s = place in
+    let at-scale = c .before .before .before .before .before .before .before in let s = at-scale .before .before .before .before in
     level-asks (s .args .d) (s .pre .1) (back (s .args .c) (s .fits .c)) (at-scale .scale .ensures) (c .before .before .if1 .left)
 
 same-length-3 : tie.Need-same-length-3
@@ -33,7 +33,7 @@ same-length-4 c = search needs
 returns-2 : tie.Need-returns-2
 returns-2 c =
     let at-merge = c .before .before .before in let at-if1 = at-merge .before .before .before in let at-scale = at-if1 .before .before .before .before .before in
-    let place = at-scale .before .before .before .before in let s = place in
+    let s = at-scale .before .before .before .before in
     level-added (s .args .d) (s .pre .1) (back (s .args .c) (s .fits .c)) (at-scale .scale .ensures) (at-if1 .if1 .left) (at-merge .merge .ensures)
 
 pub add-level-spec : {M : Type 1} → statement M

@@ -57,7 +57,8 @@ returns : tie.Need-returns Inv-loop μ-loop
 returns c =
     let at-add-level = c .before .before .before .before .before in let at-number = at-add-level .before .before .before .before in let at-loop-test = at-number .before .before in
     let at-loop = at-loop-test .before in let start = at-loop .before .before .before in
-    adding-stops (start .pre .0) (start .args .i) (start .pre .1) (start .pre .3) (at-loop .loop .inv) (at-loop-test .loop-test .taken) (back (at-number .number .result) (at-number .number .ok) ∙ at-number .number .ensures) (at-add-level .add-level .ensures) (c .if1 .taken)
+    adding-stops (start .pre .0) (start .args .i) (start .pre .1) (start .pre .3) (at-loop .loop .inv) (at-loop-test .loop-test .taken)
+    (back (at-number .number .result) (at-number .number .ok) ∙ at-number .number .ensures) (at-add-level .add-level .ensures) (c .if1 .taken)
 
 add-k : tie.Need-add-k Inv-loop μ-loop
 add-k c =
@@ -71,7 +72,9 @@ loop-again : tie.Need-loop-again Inv-loop μ-loop
 loop-again c =
     let at-add-level = c .before .before .before .before .before in let at-number = at-add-level .before .before .before .before in let at-loop-test = at-number .before .before in
     let at-loop = at-loop-test .before in let start = at-loop .before .before .before in
-    adding-one (start .pre .0) (start .args .i) (start .pre .1) (start .pre .3) (at-loop .loop .inv) (at-loop-test .loop-test .taken) (back (at-number .number .result) (at-number .number .ok) ∙ at-number .number .ensures) (at-add-level .add-level .ensures) (c .if1 .left) (at-add-level .add-level .kept .0) (at-add-level .add-level .kept .1 .0)
+    adding-one (start .pre .0) (start .args .i) (start .pre .1) (start .pre .3) (at-loop .loop .inv) (at-loop-test .loop-test .taken)
+    (back (at-number .number .result) (at-number .number .ok) ∙ at-number .number .ensures) (at-add-level .add-level .ensures) (c .if1 .left)
+    (at-add-level .add-level .kept .0) (at-add-level .add-level .kept .1 .0)
 
 same-length-3 : tie.Need-same-length-3 Inv-loop μ-loop
 same-length-3 c =

@@ -55,7 +55,8 @@ returns-2 : tie.Need-returns-2
 returns-2 c =
     let at-add-levels = c .before .before .before in let at-if1 = at-add-levels .before .before .before in let at-scale = at-if1 .before .before .before .before .before in
     let at-number = at-scale .before .before .before .before in let start = at-number .before .before .before .before in
-    levels-made (start .pre .0) (start .args .i) (start .pre .1) (start .pre .2) (back (at-number .number .result) (at-number .number .ok) ∙ at-number .number .ensures) (at-scale .scale .ensures) (at-if1 .if1 .left) (at-add-levels .add-levels .ensures)
+    levels-made (start .pre .0) (start .args .i) (start .pre .1) (start .pre .2) (back (at-number .number .result) (at-number .number .ok) ∙ at-number .number .ensures)
+    (at-scale .scale .ensures) (at-if1 .if1 .left) (at-add-levels .add-levels .ensures)
 
 pub level-sum-spec : {M : Type 1} → statement M
 level-sum-spec =

@@ -58,7 +58,7 @@ substitute-down-at-requires t c κs =
 
 substitute-at-leaf-requires : (t : ℕ) → substitute-lts.Need-at-leaf-requires (substitute-claims t) (substitute-at t) substitute.Post
 substitute-at-leaf-requires t c κs =
-    let at-down-at = c .before .before .before in let place = at-down-at .before .before .before .before in let s = place in
+    let at-down-at = c .before .before .before in let s = at-down-at .before .before .before .before in
     (s .pre .1 .0, s .pre .1 .1, s .pre .1 .2, sub-ends (s .pre .1 .0) (s .args .f) (s .pre .1 .1) (s .pre .1 .2) (at-down-at .down-at .ensures) (c .before .before .if1 .taken))
 
 substitute-same-length : (t : ℕ) → substitute-lts.Need-same-length (substitute-claims t) (substitute-at t) substitute.Post
@@ -74,7 +74,7 @@ substitute-returns t c = c .before .before .before .at-leaf .ensures
 
 substitute-recall-requires : (t : ℕ) → substitute-lts.Need-recall-requires (substitute-claims t) (substitute-at t) substitute.Post
 substitute-recall-requires t c κs =
-    let place = c .before .before .before .before .before .before in let s = place in
+    let s = c .before .before .before .before .before .before in
     sub-asks (s .pre .1 .0) (s .args .f) (s .pre .1 .1) (s .pre .1 .2)
 
 substitute-sub-t23 : (t : ℕ) → substitute-lts.Need-sub-t23 (substitute-claims t) (substitute-at t) substitute.Post
@@ -91,18 +91,17 @@ substitute-same-length-4 t c =
 
 substitute-returns-2 : (t : ℕ) → substitute-lts.Need-returns-2 (substitute-claims t) (substitute-at t) substitute.Post
 substitute-returns-2 t c =
-    let place = c .before .before .before .before .before .before .before .before in let s = place in
+    let s = c .before .before .before .before .before .before .before .before in
     sub-answered (s .pre .1 .0) (s .args .f) (s .pre .1 .1) (s .pre .1 .2) _ (c .before .recall .ensures (c .if2 .taken))
 
 substitute-condition-at-requires : (t : ℕ) → substitute-lts.Need-condition-at-requires (substitute-claims t) (substitute-at t) substitute.Post
 substitute-condition-at-requires t c κs =
-    let at-if1 = c .before .before .before .before in let at-down-at = at-if1 .before in let place = at-down-at .before .before .before .before in
-    let s = place in
+    let at-if1 = c .before .before .before .before in let at-down-at = at-if1 .before in let s = at-down-at .before .before .before .before in
     (at-in (s .args .f) (s .pre .1 .0 .bare) (s .pre .1 .1), λ e. sub-tested (s .pre .1 .0) (s .args .f) (s .pre .1 .1) (s .pre .1 .2) (at-down-at .down-at .ensures) (at-if1 .if1 .left) .number e)
 
 substitute-head-requires : (t : ℕ) → substitute-lts.Need-head-requires (substitute-claims t) (substitute-at t) substitute.Post
 substitute-head-requires t c κs =
-    let place = c .before .before .before .before .before .before .before .before .before .before .before .before in let s = place in
+    let s = c .before .before .before .before .before .before .before .before .before .before .before .before in
     (s .pre .1 .0, s .pre .1 .1, s .pre .1 .2)
 
 substitute-same-length-5 : (t : ℕ) → substitute-lts.Need-same-length-5 (substitute-claims t) (substitute-at t) substitute.Post
@@ -116,16 +115,18 @@ substitute-same-length-6 t c =
 substitute-returns-3 : (t : ℕ) → substitute-lts.Need-returns-3 (substitute-claims t) (substitute-at t) substitute.Post
 substitute-returns-3 t c =
     let at-head = c .before .before .before .before .before in let at-condition-at = at-head .before .before .before in
-    let at-if1 = at-condition-at .before .before .before .before .before in let at-down-at = at-if1 .before in let place = at-down-at .before .before .before .before in
-    let s = place in
+    let at-if1 = at-condition-at .before .before .before .before .before in let at-down-at = at-if1 .before in let s = at-down-at .before .before .before .before in
     sub-head-stops (s .pre .1 .0) (s .args .f) (s .pre .1 .1) (s .pre .1 .2) (at-down-at .down-at .ensures) (at-if1 .if1 .left) (at-condition-at .condition-at .ensures) (at-head .head .ensures) (c .if3 .taken)
 
 substitute-substitute-requires : (t : ℕ) → substitute-lts.Need-substitute-requires (substitute-claims t) (substitute-at t) substitute.Post
 substitute-substitute-requires t c κs =
     let at-head = c .before .before .before .before .before .before .before in let at-condition-at = at-head .before .before .before in
-    let at-if1 = at-condition-at .before .before .before .before .before in let at-down-at = at-if1 .before in let place = at-down-at .before .before .before .before in
-    let s = place in
-    (omega (arith, sub-high (s .pre .1 .0) (s .args .f) (s .pre .1 .1) (s .pre .1 .2) (at-down-at .down-at .ensures) (at-if1 .if1 .left), s .pre .0), high-asks (s .pre .1 .0) (s .args .f) (s .pre .1 .1) (s .pre .1 .2) (at-down-at .down-at .ensures) (at-if1 .if1 .left) (at-condition-at .condition-at .ensures) (at-head .head .ensures))
+    let at-if1 = at-condition-at .before .before .before .before .before in let at-down-at = at-if1 .before in let s = at-down-at .before .before .before .before in (
+      omega (arith, sub-high (s .pre .1 .0) (s .args .f) (s .pre .1 .1) (s .pre .1 .2) (at-down-at .down-at .ensures) (at-if1 .if1 .left), s .pre .0),
+      high-asks
+          (s .pre .1 .0) (s .args .f) (s .pre .1 .1) (s .pre .1 .2) (at-down-at .down-at .ensures) (at-if1 .if1 .left) (at-condition-at .condition-at .ensures)
+          (at-head .head .ensures),
+    )
 
 substitute-same-length-7 : (t : ℕ) → substitute-lts.Need-same-length-7 (substitute-claims t) (substitute-at t) substitute.Post
 substitute-same-length-7 t c =
@@ -139,17 +140,20 @@ substitute-returns-4 : (t : ℕ) → substitute-lts.Need-returns-4 (substitute-c
 substitute-returns-4 t c =
     let at-substitute = c .before .before .before .before .before in let at-if3 = at-substitute .before .before .before in
     let at-head = at-if3 .before .before .before .before .before in let at-condition-at = at-head .before .before .before in
-    let at-if1 = at-condition-at .before .before .before .before .before in let at-down-at = at-if1 .before in let place = at-down-at .before .before .before .before in
-    let s = place in
-    sub-high-stops (s .pre .1 .0) (s .args .f) (s .pre .1 .1) (s .pre .1 .2) (at-down-at .down-at .ensures) (at-if1 .if1 .left) (at-condition-at .condition-at .ensures) (at-head .head .ensures) (at-if3 .if3 .left) (at-substitute .substitute .ensures) (c .if4 .taken)
+    let at-if1 = at-condition-at .before .before .before .before .before in let at-down-at = at-if1 .before in let s = at-down-at .before .before .before .before in
+    sub-high-stops (s .pre .1 .0) (s .args .f) (s .pre .1 .1) (s .pre .1 .2) (at-down-at .down-at .ensures) (at-if1 .if1 .left) (at-condition-at .condition-at .ensures)
+    (at-head .head .ensures) (at-if3 .if3 .left) (at-substitute .substitute .ensures) (c .if4 .taken)
 
 substitute-substitute-requires-2 : (t : ℕ) → substitute-lts.Need-substitute-requires-2 (substitute-claims t) (substitute-at t) substitute.Post
 substitute-substitute-requires-2 t c κs =
     let at-substitute = c .before .before .before .before .before .before .before in let at-if3 = at-substitute .before .before .before in
     let at-head = at-if3 .before .before .before .before .before in let at-condition-at = at-head .before .before .before in
-    let at-if1 = at-condition-at .before .before .before .before .before in let at-down-at = at-if1 .before in let place = at-down-at .before .before .before .before in
-    let s = place in
-    (omega (arith, sub-low (s .pre .1 .0) (s .args .f) (s .pre .1 .1) (s .pre .1 .2) (at-down-at .down-at .ensures) (at-if1 .if1 .left), s .pre .0), low-asks (s .pre .1 .0) (s .args .f) (s .pre .1 .1) (s .pre .1 .2) (at-down-at .down-at .ensures) (at-if1 .if1 .left) (at-condition-at .condition-at .ensures) (at-head .head .ensures) (at-if3 .if3 .left) (at-substitute .substitute .ensures))
+    let at-if1 = at-condition-at .before .before .before .before .before in let at-down-at = at-if1 .before in let s = at-down-at .before .before .before .before in (
+      omega (arith, sub-low (s .pre .1 .0) (s .args .f) (s .pre .1 .1) (s .pre .1 .2) (at-down-at .down-at .ensures) (at-if1 .if1 .left), s .pre .0),
+      low-asks
+          (s .pre .1 .0) (s .args .f) (s .pre .1 .1) (s .pre .1 .2) (at-down-at .down-at .ensures) (at-if1 .if1 .left) (at-condition-at .condition-at .ensures)
+          (at-head .head .ensures) (at-if3 .if3 .left) (at-substitute .substitute .ensures),
+    )
 
 substitute-same-length-9 : (t : ℕ) → substitute-lts.Need-same-length-9 (substitute-claims t) (substitute-at t) substitute.Post
 substitute-same-length-9 t c =
@@ -168,18 +172,19 @@ substitute-returns-5 t c =
     let at-substitute2 = c .before .before .before .before .before in let at-if4 = at-substitute2 .before .before .before in
     let at-substitute = at-if4 .before .before .before .before .before in let at-if3 = at-substitute .before .before .before in
     let at-head = at-if3 .before .before .before .before .before in let at-condition-at = at-head .before .before .before in
-    let at-if1 = at-condition-at .before .before .before .before .before in let at-down-at = at-if1 .before in let place = at-down-at .before .before .before .before in
-    let s = place in
-    sub-low-stops (s .pre .1 .0) (s .args .f) (s .pre .1 .1) (s .pre .1 .2) (at-down-at .down-at .ensures) (at-if1 .if1 .left) (at-condition-at .condition-at .ensures) (at-head .head .ensures) (at-if3 .if3 .left) (at-substitute .substitute .ensures) (at-if4 .if4 .left) (at-substitute2 .substitute2 .ensures) (c .if5 .taken)
+    let at-if1 = at-condition-at .before .before .before .before .before in let at-down-at = at-if1 .before in let s = at-down-at .before .before .before .before in
+    sub-low-stops (s .pre .1 .0) (s .args .f) (s .pre .1 .1) (s .pre .1 .2) (at-down-at .down-at .ensures) (at-if1 .if1 .left) (at-condition-at .condition-at .ensures)
+    (at-head .head .ensures) (at-if3 .if3 .left) (at-substitute .substitute .ensures) (at-if4 .if4 .left) (at-substitute2 .substitute2 .ensures) (c .if5 .taken)
 
 substitute-over-test-requires : (t : ℕ) → substitute-lts.Need-over-test-requires (substitute-claims t) (substitute-at t) substitute.Post
 substitute-over-test-requires t c κs =
     let at-substitute2 = c .before .before .before .before .before .before .before in let at-if4 = at-substitute2 .before .before .before in
     let at-substitute = at-if4 .before .before .before .before .before in let at-if3 = at-substitute .before .before .before in
     let at-head = at-if3 .before .before .before .before .before in let at-condition-at = at-head .before .before .before in
-    let at-if1 = at-condition-at .before .before .before .before .before in let at-down-at = at-if1 .before in let place = at-down-at .before .before .before .before in
-    let s = place in
-    over-asks (s .pre .1 .0) (s .args .f) (s .pre .1 .1) (s .pre .1 .2) (at-down-at .down-at .ensures) (at-if1 .if1 .left) (at-condition-at .condition-at .ensures) (at-head .head .ensures) (at-if3 .if3 .left) (at-substitute .substitute .ensures) (at-if4 .if4 .left) (at-substitute2 .substitute2 .ensures) (c .before .before .if5 .left)
+    let at-if1 = at-condition-at .before .before .before .before .before in let at-down-at = at-if1 .before in let s = at-down-at .before .before .before .before in
+    over-asks (s .pre .1 .0) (s .args .f) (s .pre .1 .1) (s .pre .1 .2) (at-down-at .down-at .ensures) (at-if1 .if1 .left) (at-condition-at .condition-at .ensures)
+    (at-head .head .ensures) (at-if3 .if3 .left) (at-substitute .substitute .ensures) (at-if4 .if4 .left) (at-substitute2 .substitute2 .ensures)
+    (c .before .before .if5 .left)
 
 substitute-same-length-11 : (t : ℕ) → substitute-lts.Need-same-length-11 (substitute-claims t) (substitute-at t) substitute.Post
 substitute-same-length-11 t c =
@@ -201,9 +206,10 @@ substitute-returns-6 t c =
     let at-substitute2 = at-if5 .before .before .before .before .before in let at-if4 = at-substitute2 .before .before .before in
     let at-substitute = at-if4 .before .before .before .before .before in let at-if3 = at-substitute .before .before .before in
     let at-head = at-if3 .before .before .before .before .before in let at-condition-at = at-head .before .before .before in
-    let at-if1 = at-condition-at .before .before .before .before .before in let at-down-at = at-if1 .before in let place = at-down-at .before .before .before .before in
-    let s = place in
-    sub-made (s .pre .1 .0) (s .args .f) (s .pre .1 .1) (s .pre .1 .2) (at-down-at .down-at .ensures) (at-if1 .if1 .left) (at-condition-at .condition-at .ensures) (at-head .head .ensures) (at-if3 .if3 .left) (at-substitute .substitute .ensures) (at-if4 .if4 .left) (at-substitute2 .substitute2 .ensures) (at-if5 .if5 .left) (at-over-test .over-test .ensures)
+    let at-if1 = at-condition-at .before .before .before .before .before in let at-down-at = at-if1 .before in let s = at-down-at .before .before .before .before in
+    sub-made (s .pre .1 .0) (s .args .f) (s .pre .1 .1) (s .pre .1 .2) (at-down-at .down-at .ensures) (at-if1 .if1 .left) (at-condition-at .condition-at .ensures)
+    (at-head .head .ensures) (at-if3 .if3 .left) (at-substitute .substitute .ensures) (at-if4 .if4 .left) (at-substitute2 .substitute2 .ensures) (at-if5 .if5 .left)
+    (at-over-test .over-test .ensures)
 
 substitute-retain-requires : (t : ℕ) → substitute-lts.Need-retain-requires (substitute-claims t) (substitute-at t) substitute.Post
 substitute-retain-requires t c κs =
@@ -211,9 +217,10 @@ substitute-retain-requires t c κs =
     let at-substitute2 = at-if5 .before .before .before .before .before in let at-if4 = at-substitute2 .before .before .before in
     let at-substitute = at-if4 .before .before .before .before .before in let at-if3 = at-substitute .before .before .before in
     let at-head = at-if3 .before .before .before .before .before in let at-condition-at = at-head .before .before .before in
-    let at-if1 = at-condition-at .before .before .before .before .before in let at-down-at = at-if1 .before in let place = at-down-at .before .before .before .before in
-    let s = place in
-    let J = sub-made (s .pre .1 .0) (s .args .f) (s .pre .1 .1) (s .pre .1 .2) (at-down-at .down-at .ensures) (at-if1 .if1 .left) (at-condition-at .condition-at .ensures) (at-head .head .ensures) (at-if3 .if3 .left) (at-substitute .substitute .ensures) (at-if4 .if4 .left) (at-substitute2 .substitute2 .ensures) (at-if5 .if5 .left) (at-over-test .over-test .ensures) in
+    let at-if1 = at-condition-at .before .before .before .before .before in let at-down-at = at-if1 .before in let s = at-down-at .before .before .before .before in
+    let J = sub-made (s .pre .1 .0) (s .args .f) (s .pre .1 .1) (s .pre .1 .2) (at-down-at .down-at .ensures) (at-if1 .if1 .left) (at-condition-at .condition-at .ensures)
+    (at-head .head .ensures) (at-if3 .if3 .left) (at-substitute .substitute .ensures) (at-if4 .if4 .left) (at-substitute2 .substitute2 .ensures) (at-if5 .if5 .left)
+    (at-over-test .over-test .ensures) in
     retain-asks (s .pre .1 .0) (s .args .f) (s .pre .1 .1) (s .pre .1 .2) J (c .before .if6 .left)
 
 substitute-same-length-13 : (t : ℕ) → substitute-lts.Need-same-length-13 (substitute-claims t) (substitute-at t) substitute.Post
@@ -238,9 +245,10 @@ substitute-returns-7 t c =
     let at-substitute2 = at-if5 .before .before .before .before .before in let at-if4 = at-substitute2 .before .before .before in
     let at-substitute = at-if4 .before .before .before .before .before in let at-if3 = at-substitute .before .before .before in
     let at-head = at-if3 .before .before .before .before .before in let at-condition-at = at-head .before .before .before in
-    let at-if1 = at-condition-at .before .before .before .before .before in let at-down-at = at-if1 .before in let place = at-down-at .before .before .before .before in
-    let s = place in
-    let J = sub-made (s .pre .1 .0) (s .args .f) (s .pre .1 .1) (s .pre .1 .2) (at-down-at .down-at .ensures) (at-if1 .if1 .left) (at-condition-at .condition-at .ensures) (at-head .head .ensures) (at-if3 .if3 .left) (at-substitute .substitute .ensures) (at-if4 .if4 .left) (at-substitute2 .substitute2 .ensures) (at-if5 .if5 .left) (at-over-test .over-test .ensures) in
+    let at-if1 = at-condition-at .before .before .before .before .before in let at-down-at = at-if1 .before in let s = at-down-at .before .before .before .before in
+    let J = sub-made (s .pre .1 .0) (s .args .f) (s .pre .1 .1) (s .pre .1 .2) (at-down-at .down-at .ensures) (at-if1 .if1 .left) (at-condition-at .condition-at .ensures)
+    (at-head .head .ensures) (at-if3 .if3 .left) (at-substitute .substitute .ensures) (at-if4 .if4 .left) (at-substitute2 .substitute2 .ensures) (at-if5 .if5 .left)
+    (at-over-test .over-test .ensures) in
     sub-stored (s .pre .1 .0) (s .args .f) (s .pre .1 .1) (s .pre .1 .2) J (at-if6 .if6 .left) (c .before .before .retain .ensures)
 
 pub +substitute-spec : {M : Type 1} → statement M

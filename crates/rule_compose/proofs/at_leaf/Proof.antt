@@ -24,8 +24,8 @@ same-length-3 c = search needs
 returns-2 : tie.Need-returns-2
 returns-2 c =
     let at-linear-diagram = c .before .before .before in let at-if1 = at-linear-diagram .before .before .before in let at-none-at = at-if1 .before in
-    let place = at-none-at .before .before .before .before in
-    let s = place in sub-leaf (s .pre .0) (s .args .f) (s .pre .1) (s .pre .2) (s .pre .3) (at-none-at .none-at .ensures) (at-if1 .if1 .left) (at-linear-diagram .linear-diagram .ensures)
+    let s = at-none-at .before .before .before .before in
+    sub-leaf (s .pre .0) (s .args .f) (s .pre .1) (s .pre .2) (s .pre .3) (at-none-at .none-at .ensures) (at-if1 .if1 .left) (at-linear-diagram .linear-diagram .ensures)
 
 pub at-leaf-spec : {M : Type 1} → statement M
 at-leaf-spec =

@@ -15,8 +15,7 @@ same-length-2 c = search needs
 
 returns : tie.Need-returns
 returns c =
-    let at-linear-diagram = c .before .before .before in let at-if1 = at-linear-diagram .before .before .before in let place = at-if1 .before .before .before in
-    let s = place in
+    let at-linear-diagram = c .before .before .before in let at-if1 = at-linear-diagram .before .before .before in let s = at-if1 .before .before .before in
     ran-as (head-linear (s .args .k) _ _ _ (at-if1 .if1 .taken)) (at-linear-diagram .linear-diagram .ensures)
 
 returns-2 : tie.Need-returns-2

@@ -16,7 +16,7 @@ same-length-2 c = search needs
 
 returns : tie.Need-returns
 returns c =
-    let at-walk = c .before .before .before in let at-if1 = at-walk .before .before .before in let place = at-if1 .before .before in let s = place in
+    let at-walk = c .before .before .before in let at-if1 = at-walk .before .before .before in let s = at-if1 .before .before in
     ran-as (over-walk (s .args .k) _ _ (s .args .p) (s .args .h) (s .args .l) (at-if1 .if1 .taken)) (at-walk .walk .ensures)
 
 choose-requires : tie.Need-choose-requires
@@ -32,7 +32,7 @@ same-length-4 c = search needs
 
 returns-2 : tie.Need-returns-2
 returns-2 c =
-    let at-choose = c .before .before .before in let at-if1 = at-choose .before .before .before in let place = at-if1 .before .before in let s = place in
+    let at-choose = c .before .before .before in let at-if1 = at-choose .before .before .before in let s = at-if1 .before .before in
     ran-as (over-choice (s .args .k) _ _ (s .args .p) (s .args .h) (s .args .l) (at-if1 .if1 .left)) (at-choose .choose .ensures)
 
 pub over-test-spec : {M : Type 1} → statement M

@@ -25,13 +25,15 @@ sub-result c = search needs
 
 returns : tie.Need-returns
 returns c =
-    let at-if1 = c .before .before .before .before in let at-struct-told = at-if1 .before in let place = at-struct-told .before .before in let s = place in
-    found-later (s .args .x) (abs-of (firstOf (s .args .x)) (c .before .before .z .given) (c .before .index .ensures)) (kind-yes 1 (omega arith) (s .args .x .kind) (at-struct-told .struct-told .given .0 .1) (at-if1 .if1 .taken)) (c .if2 .taken)
+    let at-if1 = c .before .before .before .before in let at-struct-told = at-if1 .before in let s = at-struct-told .before .before in
+    found-later (s .args .x) (abs-of (firstOf (s .args .x)) (c .before .before .z .given) (c .before .index .ensures))
+    (kind-yes 1 (omega arith) (s .args .x .kind) (at-struct-told .struct-told .given .0 .1) (at-if1 .if1 .taken)) (c .if2 .taken)
 
 returns-2 : tie.Need-returns-2
 returns-2 c =
-    let at-if1 = c .before .before .before .before in let at-struct-told = at-if1 .before in let place = at-struct-told .before .before in let s = place in
-    found-now (s .args .x) (abs-of (firstOf (s .args .x)) (c .before .before .z .given) (c .before .index .ensures)) (kind-yes 1 (omega arith) (s .args .x .kind) (at-struct-told .struct-told .given .0 .1) (at-if1 .if1 .taken)) (c .if2 .left)
+    let at-if1 = c .before .before .before .before in let at-struct-told = at-if1 .before in let s = at-struct-told .before .before in
+    found-now (s .args .x) (abs-of (firstOf (s .args .x)) (c .before .before .z .given) (c .before .index .ensures))
+    (kind-yes 1 (omega arith) (s .args .x .kind) (at-struct-told .struct-told .given .0 .1) (at-if1 .if1 .taken)) (c .if2 .left)
 
 returns-3 : tie.Need-returns-3
 returns-3 c =

@@ -28,7 +28,14 @@ two-levels-requires-3 c κs = search needs
 returns : tie.Need-returns
 unfolding wordsOf
 returns c =
-    λ i. record { op = c .before .before .before .before .with-level .ensures i; f = c .before .before .before .with-level2 .ensures i; g = c .before .before .two-levels .ensures i; p = c .before .two-levels2 .ensures i; q = c .two-levels3 .ensures i }
+    λ i. record {
+      op = c .before .before .before .before .with-level .ensures i;
+      f = c .before .before .before .with-level2 .ensures i;
+      g =
+          c .before .before .two-levels .ensures i;
+      p = c .before .two-levels2 .ensures i;
+      q = c .two-levels3 .ensures i;
+    }
 
 pub key-spec : {M : Type 1} → statement M
 key-spec =

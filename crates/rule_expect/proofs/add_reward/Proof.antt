@@ -30,13 +30,13 @@ same-length-2 c = search needs
 returns-2 : tie.Need-returns-2
 returns-2 c =
     let at-scale = c .before .before .before .before .before in let at-z = at-scale .before .before .before .before in let at-power-within = at-z .before .before in
-    let place = at-power-within .before .before in let s = place in
+    let s = at-power-within .before .before in
     scale-stops (s .pre .0) (s .args .reward) (s .args .f) _ (s .args .action) (s .pre .1) (s .pre .2) (s .pre .3) (at-power-within .power-within .ensures) (at-z .z .given .1) (at-scale .scale .ensures) (c .if1 .taken)
 
 merge-requires : tie.Need-merge-requires
 merge-requires c κs =
     let at-scale = c .before .before .before .before .before .before .before in let at-z = at-scale .before .before .before .before in let at-power-within = at-z .before .before in
-    let place = at-power-within .before .before in let s = place in
+    let s = at-power-within .before .before in
     reward-asks (s .pre .0) (s .args .reward) (s .args .f) _ (s .args .action) (s .pre .1) (s .pre .2) (s .pre .3) (at-power-within .power-within .ensures) (at-z .z .given .1) (at-scale .scale .ensures) (c .before .before .if1 .left)
 
 same-length-3 : tie.Need-same-length-3
@@ -48,16 +48,17 @@ same-length-4 c = search needs
 returns-3 : tie.Need-returns-3
 returns-3 c =
     let at-merge = c .before .before .before .before .before in let at-if1 = at-merge .before .before .before in let at-scale = at-if1 .before .before .before .before .before in
-    let at-z = at-scale .before .before .before .before in let at-power-within = at-z .before .before in let place = at-power-within .before .before in
-    let s = place in
-    sum-stops (s .pre .0) (s .args .reward) (s .args .f) _ (s .args .action) (s .pre .1) (s .pre .2) (s .pre .3) (at-power-within .power-within .ensures) (at-z .z .given .1) (at-scale .scale .ensures) (at-if1 .if1 .left) (at-merge .merge .ensures) (c .if2 .taken)
+    let at-z = at-scale .before .before .before .before in let at-power-within = at-z .before .before in let s = at-power-within .before .before in
+    sum-stops (s .pre .0) (s .args .reward) (s .args .f) _ (s .args .action) (s .pre .1) (s .pre .2) (s .pre .3) (at-power-within .power-within .ensures)
+    (at-z .z .given .1) (at-scale .scale .ensures) (at-if1 .if1 .left) (at-merge .merge .ensures) (c .if2 .taken)
 
 number-requires : tie.Need-number-requires
 number-requires c κs =
     let at-merge = c .before .before .before .before .before .before .before in let at-if1 = at-merge .before .before .before in
     let at-scale = at-if1 .before .before .before .before .before in let at-z = at-scale .before .before .before .before in let at-power-within = at-z .before .before in
-    let place = at-power-within .before .before in let s = place in
-    number-asks (s .pre .0) (s .args .reward) (s .args .f) _ (s .args .action) (s .pre .1) (s .pre .2) (s .pre .3) (at-power-within .power-within .ensures) (at-z .z .given .1) (at-scale .scale .ensures) (at-if1 .if1 .left) (at-merge .merge .ensures) (c .before .before .if2 .left)
+    let s = at-power-within .before .before in
+    number-asks (s .pre .0) (s .args .reward) (s .args .f) _ (s .args .action) (s .pre .1) (s .pre .2) (s .pre .3) (at-power-within .power-within .ensures)
+    (at-z .z .given .1) (at-scale .scale .ensures) (at-if1 .if1 .left) (at-merge .merge .ensures) (c .before .before .if2 .left)
 
 same-length-5 : tie.Need-same-length-5
 same-length-5 c = search needs
@@ -69,8 +70,9 @@ returns-4 : tie.Need-returns-4
 returns-4 c =
     let at-number = c .before .before .before in let at-if2 = at-number .before .before .before in let at-merge = at-if2 .before .before .before .before .before in
     let at-if1 = at-merge .before .before .before in let at-scale = at-if1 .before .before .before .before .before in let at-z = at-scale .before .before .before .before in
-    let at-power-within = at-z .before .before in let place = at-power-within .before .before in let s = place in
-    rewarded (s .pre .0) (s .args .reward) (s .args .f) _ (s .args .action) (s .pre .1) (s .pre .2) (s .pre .3) (at-power-within .power-within .ensures) (at-z .z .given .1) (at-scale .scale .ensures) (at-if1 .if1 .left) (at-merge .merge .ensures) (at-if2 .if2 .left) (at-number .number .ensures)
+    let at-power-within = at-z .before .before in let s = at-power-within .before .before in
+    rewarded (s .pre .0) (s .args .reward) (s .args .f) _ (s .args .action) (s .pre .1) (s .pre .2) (s .pre .3) (at-power-within .power-within .ensures)
+    (at-z .z .given .1) (at-scale .scale .ensures) (at-if1 .if1 .left) (at-merge .merge .ensures) (at-if2 .if2 .left) (at-number .number .ensures)
 
 pub add-reward-spec : {M : Type 1} → statement M
 add-reward-spec =

@@ -15,12 +15,12 @@ same-length-2 c = search needs
 
 returns : tie.Need-returns
 returns c =
-    let at-side = c .before .before .before .before .before in let place = at-side .before .before .before .before in let s = place in
+    let at-side = c .before .before .before .before .before in let s = at-side .before .before .before .before in
     weighted-stops (s .args .w) (s .pre .2) (at-side .side .ensures) (c .if1 .taken)
 
 merge-requires : tie.Need-merge-requires
 merge-requires c κs =
-    let at-side = c .before .before .before .before .before .before .before in let place = at-side .before .before .before .before in let s = place in
+    let at-side = c .before .before .before .before .before .before .before in let s = at-side .before .before .before .before in
     weighted-asks (s .args .w) (s .pre .2) (at-side .side .ensures) (c .before .before .if1 .left)
 
 same-length-3 : tie.Need-same-length-3
@@ -32,7 +32,7 @@ same-length-4 c = search needs
 returns-2 : tie.Need-returns-2
 returns-2 c =
     let at-merge = c .before .before .before in let at-if1 = at-merge .before .before .before in let at-side = at-if1 .before .before .before .before .before in
-    let place = at-side .before .before .before .before in let s = place in
+    let s = at-side .before .before .before .before in
     weighted-made (s .args .w) (s .pre .2) (at-side .side .ensures) (at-if1 .if1 .left) (at-merge .merge .ensures)
 
 pub weighted-spec : {M : Type 1} → statement M

@@ -14,7 +14,9 @@ divided-requires c κs =
 
 returns : tie.Need-returns
 returns c =
-    let s = (c .before .before .before .before .before) in named-leaf-as (s .args .x) (leaf-told (s .args .x .kind) (c .before .before .before .before .struct-told .given .0 .1) (c .before .before .before .is-leaf .ensures) ∙ c .before .before .if1 .taken) (c .divided .ensures)
+    let s = (c .before .before .before .before .before) in named-leaf-as (s .args .x)
+    (leaf-told (s .args .x .kind) (c .before .before .before .before .struct-told .given .0 .1) (c .before .before .before .is-leaf .ensures)
+    ∙ c .before .before .if1 .taken) (c .divided .ensures)
 
 returns-2 : tie.Need-returns-2
 returns-2 c =

@@ -52,7 +52,7 @@ walk-down-at-requires t c κs =
 
 walk-decide-at-requires : (t : ℕ) → walk-lts.Need-decide-at-requires (walk-claims t) (walk-at t) walk.Post
 walk-decide-at-requires t c κs =
-    let at-down-at = c .before .before .before in let place = at-down-at .before .before .before in let s = place in
+    let at-down-at = c .before .before .before in let s = at-down-at .before .before .before in
     (s .pre .1 .0, walk-leaf (s .pre .1 .0) (s .args .f) (s .args .g) (s .args .p) (s .pre .1 .1) (s .pre .1 .2) (s .pre .1 .3) (at-down-at .down-at .ensures) (c .before .before .if1 .taken), s .pre .1 .2, s .pre .1 .3)
 
 walk-same-length : (t : ℕ) → walk-lts.Need-same-length (walk-claims t) (walk-at t) walk.Post
@@ -66,7 +66,7 @@ walk-same-length-2 t c =
 walk-returns : (t : ℕ) → walk-lts.Need-returns (walk-claims t) (walk-at t) walk.Post
 walk-returns t c =
     let at-decide-at = c .before .before .before in let at-if1 = at-decide-at .before .before .before in let at-down-at = at-if1 .before in
-    let place = at-down-at .before .before .before in let s = place in
+    let s = at-down-at .before .before .before in
     walk-ends (s .pre .1 .0) (s .args .f) (s .args .g) (s .args .p) (s .pre .1 .1) (s .pre .1 .2) (s .pre .1 .3) (at-down-at .down-at .ensures) (at-if1 .if1 .taken) (at-decide-at .decide-at .ensures)
 
 walk-look-requires : (t : ℕ) → walk-lts.Need-look-requires (walk-claims t) (walk-at t) walk.Post
@@ -88,13 +88,12 @@ walk-same-length-4 t c =
 
 walk-returns-2 : (t : ℕ) → walk-lts.Need-returns-2 (walk-claims t) (walk-at t) walk.Post
 walk-returns-2 t c =
-    let place = c .before .before .before .before .before .before .before in let s = place in
+    let s = c .before .before .before .before .before .before .before in
     answered (s .pre .1 .0) 9 (s .args .f) (s .args .g) (s .args .p) 0 _ (c .before .look .ensures (c .if2 .taken))
 
 walk-walk-requires : (t : ℕ) → walk-lts.Need-walk-requires (walk-claims t) (walk-at t) walk.Post
 walk-walk-requires t c κs =
-    let at-if1 = c .before .before .before .before .before in let at-down-at = at-if1 .before in let place = at-down-at .before .before .before in
-    let s = place in
+    let at-if1 = c .before .before .before .before .before in let at-down-at = at-if1 .before in let s = at-down-at .before .before .before in
     let o = walk-on (s .pre .1 .0) (s .args .f) (s .args .g) (s .args .p) (s .pre .1 .1) (s .pre .1 .2) (s .pre .1 .3) (at-down-at .down-at .ensures) (at-if1 .if1 .left) in
     (omega (arith, o .high, s .pre .0), (s .pre .1 .0, o .fh, o .gh, s .pre .1 .3))
 
@@ -109,14 +108,14 @@ walk-same-length-6 t c =
 walk-returns-3 : (t : ℕ) → walk-lts.Need-returns-3 (walk-claims t) (walk-at t) walk.Post
 walk-returns-3 t c =
     let at-walk = c .before .before .before .before .before in let at-if1 = at-walk .before .before .before .before .before .before in let at-down-at = at-if1 .before in
-    let place = at-down-at .before .before .before in let s = place in
+    let s = at-down-at .before .before .before in
     let o = walk-on (s .pre .1 .0) (s .args .f) (s .args .g) (s .args .p) (s .pre .1 .1) (s .pre .1 .2) (s .pre .1 .3) (at-down-at .down-at .ensures) (at-if1 .if1 .left) in
     high-ended (s .args .f) (s .args .g) (s .args .p) (s .pre .1 .3) o (at-walk .walk .ensures) (c .if3 .taken)
 
 walk-walk-requires-2 : (t : ℕ) → walk-lts.Need-walk-requires-2 (walk-claims t) (walk-at t) walk.Post
 walk-walk-requires-2 t c κs =
     let at-walk = c .before .before .before .before .before .before .before in let at-if1 = at-walk .before .before .before .before .before .before in
-    let at-down-at = at-if1 .before in let place = at-down-at .before .before .before in let s = place in
+    let at-down-at = at-if1 .before in let s = at-down-at .before .before .before in
     let o = walk-on (s .pre .1 .0) (s .args .f) (s .args .g) (s .args .p) (s .pre .1 .1) (s .pre .1 .2) (s .pre .1 .3) (at-down-at .down-at .ensures) (at-if1 .if1 .left) in
     (omega (arith, o .low, s .pre .0), low-asks (s .args .f) (s .args .g) (s .args .p) (s .pre .1 .3) o (at-walk .walk .ensures))
 
@@ -131,8 +130,7 @@ walk-same-length-8 t c =
 walk-returns-4 : (t : ℕ) → walk-lts.Need-returns-4 (walk-claims t) (walk-at t) walk.Post
 walk-returns-4 t c =
     let at-walk2 = c .before .before .before .before .before in let at-if3 = at-walk2 .before .before .before in let at-walk = at-if3 .before .before .before .before .before in
-    let at-if1 = at-walk .before .before .before .before .before .before in let at-down-at = at-if1 .before in let place = at-down-at .before .before .before in
-    let s = place in
+    let at-if1 = at-walk .before .before .before .before .before .before in let at-down-at = at-if1 .before in let s = at-down-at .before .before .before in
     let o = walk-on (s .pre .1 .0) (s .args .f) (s .args .g) (s .args .p) (s .pre .1 .1) (s .pre .1 .2) (s .pre .1 .3) (at-down-at .down-at .ensures) (at-if1 .if1 .left) in
     low-ended (s .args .f) (s .args .g) (s .args .p) (s .pre .1 .3) o (at-walk .walk .ensures) (at-if3 .if3 .left) (at-walk2 .walk2 .ensures) (c .if4 .taken)
 
@@ -140,7 +138,7 @@ walk-choose-requires : (t : ℕ) → walk-lts.Need-choose-requires (walk-claims 
 walk-choose-requires t c κs =
     let at-walk2 = c .before .before .before .before .before .before .before in let at-if3 = at-walk2 .before .before .before in
     let at-walk = at-if3 .before .before .before .before .before in let at-if1 = at-walk .before .before .before .before .before .before in let at-down-at = at-if1 .before in
-    let place = at-down-at .before .before .before in let s = place in
+    let s = at-down-at .before .before .before in
     let o = walk-on (s .pre .1 .0) (s .args .f) (s .args .g) (s .args .p) (s .pre .1 .1) (s .pre .1 .2) (s .pre .1 .3) (at-down-at .down-at .ensures) (at-if1 .if1 .left) in
     root-asks (s .args .f) (s .args .g) (s .args .p) (s .pre .1 .3) o (at-walk .walk .ensures) (at-if3 .if3 .left) (at-walk2 .walk2 .ensures) (c .before .before .if4 .left)
 
@@ -156,8 +154,7 @@ walk-returns-5 : (t : ℕ) → walk-lts.Need-returns-5 (walk-claims t) (walk-at 
 walk-returns-5 t c =
     let at-choose = c .before .before .before .before .before in let at-if4 = at-choose .before .before .before in let at-walk2 = at-if4 .before .before .before .before .before in
     let at-if3 = at-walk2 .before .before .before in let at-walk = at-if3 .before .before .before .before .before in
-    let at-if1 = at-walk .before .before .before .before .before .before in let at-down-at = at-if1 .before in let place = at-down-at .before .before .before in
-    let s = place in
+    let at-if1 = at-walk .before .before .before .before .before .before in let at-down-at = at-if1 .before in let s = at-down-at .before .before .before in
     let o = walk-on (s .pre .1 .0) (s .args .f) (s .args .g) (s .args .p) (s .pre .1 .1) (s .pre .1 .2) (s .pre .1 .3) (at-down-at .down-at .ensures) (at-if1 .if1 .left) in
     root-made (s .args .f) (s .args .g) (s .args .p) (s .pre .1 .3) o (at-walk .walk .ensures) (at-if3 .if3 .left) (at-walk2 .walk2 .ensures) (at-if4 .if4 .left) (at-choose .choose .ensures)
 
@@ -166,7 +163,7 @@ walk-keep-requires t c κs =
     let at-choose = c .before .before .before .before .before .before in let at-if4 = at-choose .before .before .before in
     let at-walk2 = at-if4 .before .before .before .before .before in let at-if3 = at-walk2 .before .before .before in
     let at-walk = at-if3 .before .before .before .before .before in let at-if1 = at-walk .before .before .before .before .before .before in let at-down-at = at-if1 .before in
-    let place = at-down-at .before .before .before in let s = place in
+    let s = at-down-at .before .before .before in
     let o = walk-on (s .pre .1 .0) (s .args .f) (s .args .g) (s .args .p) (s .pre .1 .1) (s .pre .1 .2) (s .pre .1 .3) (at-down-at .down-at .ensures) (at-if1 .if1 .left) in
     let J = root-made (s .args .f) (s .args .g) (s .args .p) (s .pre .1 .3) o (at-walk .walk .ensures) (at-if3 .if3 .left) (at-walk2 .walk2 .ensures) (at-if4 .if4 .left) (at-choose .choose .ensures) in
     keepable J (c .before .if5 .left) (walk-key (s .pre .1 .0) (s .args .f) (s .args .g) (s .args .p) (s .pre .1 .1) (s .pre .1 .2) (s .pre .1 .3))
@@ -190,7 +187,7 @@ walk-returns-6 t c =
     let at-if5 = c .before .before .before .before in let at-choose = at-if5 .before .before .before .before .before in let at-if4 = at-choose .before .before .before in
     let at-walk2 = at-if4 .before .before .before .before .before in let at-if3 = at-walk2 .before .before .before in
     let at-walk = at-if3 .before .before .before .before .before in let at-if1 = at-walk .before .before .before .before .before .before in let at-down-at = at-if1 .before in
-    let place = at-down-at .before .before .before in let s = place in
+    let s = at-down-at .before .before .before in
     let o = walk-on (s .pre .1 .0) (s .args .f) (s .args .g) (s .args .p) (s .pre .1 .1) (s .pre .1 .2) (s .pre .1 .3) (at-down-at .down-at .ensures) (at-if1 .if1 .left) in
     let J = root-made (s .args .f) (s .args .g) (s .args .p) (s .pre .1 .3) o (at-walk .walk .ensures) (at-if3 .if3 .left) (at-walk2 .walk2 .ensures) (at-if4 .if4 .left) (at-choose .choose .ensures) in
     kept-run (lasts-walk _ _ (s .args .f) (s .pre .1 .1) (s .args .g) (s .pre .1 .2) (s .args .p) 0 (s .pre .1 .3)) J (at-if5 .if5 .left) (c .before .before .keep .ensures)

@@ -23,12 +23,13 @@ same-length c = search needs
 
 returns : tie.Need-returns
 returns c =
-    let at-is-constant = c .before .before .before in let at-get = at-is-constant .before in let place = at-get .before .before .before in
-    let s = place in decided-constant (s .pre .0) (s .args .f) (s .args .g) (s .args .p) (s .pre .1) (s .pre .2) (s .pre .3) (at-get .get .ensures) (at-is-constant .is-constant .ensures) (c .before .before .if1 .taken) (c .before .constant .ensures) (c .decided .ensures)
+    let at-is-constant = c .before .before .before in let at-get = at-is-constant .before in let s = at-get .before .before .before in
+    decided-constant (s .pre .0) (s .args .f) (s .args .g) (s .args .p) (s .pre .1) (s .pre .2) (s .pre .3) (at-get .get .ensures)
+    (at-is-constant .is-constant .ensures) (c .before .before .if1 .taken) (c .before .constant .ensures) (c .decided .ensures)
 
 choose-requires : tie.Need-choose-requires
 choose-requires c κs =
-    let place = c .before .before .before .before .before .before .before in let s = place in (s .pre .0, inr (refl, s .pre .1 .below), s .pre .2, s .pre .3)
+    let s = c .before .before .before .before .before .before .before in (s .pre .0, inr (refl, s .pre .1 .below), s .pre .2, s .pre .3)
 
 same-length-2 : tie.Need-same-length-2
 same-length-2 c = search needs
@@ -39,8 +40,8 @@ same-length-3 c = search needs
 returns-2 : tie.Need-returns-2
 returns-2 c =
     let at-choose = c .before .before .before in let at-if1 = at-choose .before .before .before in let at-is-constant = at-if1 .before in let at-get = at-is-constant .before in
-    let place = at-get .before .before .before in
-    let s = place in decided-test (s .pre .0) (s .args .f) (s .args .g) (s .args .p) (s .pre .1) (s .pre .2) (s .pre .3) (at-get .get .ensures) (at-is-constant .is-constant .ensures) (at-if1 .if1 .left) (at-choose .choose .ensures)
+    let s = at-get .before .before .before in
+    decided-test (s .pre .0) (s .args .f) (s .args .g) (s .args .p) (s .pre .1) (s .pre .2) (s .pre .3) (at-get .get .ensures) (at-is-constant .is-constant .ensures) (at-if1 .if1 .left) (at-choose .choose .ensures)
 
 pub decide-at-spec : {M : Type 1} → statement M
 decide-at-spec =

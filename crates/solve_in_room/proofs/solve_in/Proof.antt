@@ -21,8 +21,17 @@ slice-aggregate-fill c = refl
 fill-requires : tie.Need-fill-requires
 fill-requires c κs =
     let at-if1 = c .before .before .before .before .before in let at-clear-peaks = at-if1 .before .before .before in
-    let start = at-clear-peaks .before .before .before .before .before .before in
-    (start .pre .0, start .pre .1, start .pre .2, start .pre .3, some-room (start .args .cap) (at-if1 .if1 .left) (start .pre .4) (start .pre .5) (start .pre .6), start .pre .7, refl, cleared (at-clear-peaks .clear-peaks .ensures) (start .pre .8))
+    let start = at-clear-peaks .before .before .before .before .before .before in (
+      start .pre .0,
+      start .pre .1,
+      start .pre .2,
+      start .pre .3,
+      some-room (start .args .cap) (at-if1 .if1 .left) (start .pre .4) (start .pre .5)
+          (start .pre .6),
+      start .pre .7,
+      refl,
+      cleared (at-clear-peaks .clear-peaks .ensures) (start .pre .8),
+    )
 
 same-length-2 : tie.Need-same-length-2
 same-length-2 c =

@@ -8,7 +8,7 @@ rehash-requires c κs = c .before .before .before .before .pre .0
 
 compute-requires : tie.Need-compute-requires
 compute-requires c κs =
-    let at-rehash = c .before .before .before .before in let place = at-rehash .before .before .before .before .before in let s = place in
+    let at-rehash = c .before .before .before .before in let s = at-rehash .before .before .before .before .before in
     (rehashed-table (s .pre .0) (s .pre .1) (at-rehash .rehash .ensures), s .pre .2, s .pre .3)
 
 same-length : tie.Need-same-length

@@ -21,7 +21,7 @@ enum-known-rule c = search needs
 
 replace-levels-requires : tie.Need-replace-levels-requires
 replace-levels-requires c κs =
-    let at-rule = c .before .before .before in let place = at-rule .before .before .before .before in let s = place in
+    let at-rule = c .before .before .before in let s = at-rule .before .before .before .before in
     (s .pre .0, s .pre .1, levels-fit (length (s .args .roots .now)) (s .args .rule) (s .pre .2) (at-rule .rule .given .1))
 
 enum-known-rule-2 : tie.Need-enum-known-rule-2
@@ -29,13 +29,13 @@ enum-known-rule-2 c = search needs
 
 mul-expectation : tie.Need-mul-expectation
 mul-expectation c =
-    let at-rule2 = c .before .before .before in let place = at-rule2 .before .before .before .before in let s = place in
+    let at-rule2 = c .before .before .before in let s = at-rule2 .before .before .before .before in
     let h = expect-fit (length (s .args .roots .now)) (s .args .rule) (s .pre .2) (at-rule2 .rule2 .given .1) in
     omega arith
 
 shared-slice-read-expectation : tie.Need-shared-slice-read-expectation
 shared-slice-read-expectation c =
-    let at-rule2 = c .before .before .before .before in let place = at-rule2 .before .before .before .before in let s = place in
+    let at-rule2 = c .before .before .before .before in let s = at-rule2 .before .before .before .before in
     let h = expect-fit (length (s .args .roots .now)) (s .args .rule) (s .pre .2) (at-rule2 .rule2 .given .1) in
     omega arith
 
@@ -44,13 +44,13 @@ cast-expectation c = omega (arith, c .shared-slice-known2 .given (c .before .bef
 
 mul-expectation-2 : tie.Need-mul-expectation-2
 mul-expectation-2 c =
-    let at-rule2 = c .before .before .before .before in let place = at-rule2 .before .before .before .before in let s = place in
+    let at-rule2 = c .before .before .before .before in let s = at-rule2 .before .before .before .before in
     let h = expect-fit (length (s .args .roots .now)) (s .args .rule) (s .pre .2) (at-rule2 .rule2 .given .1) in
     omega arith
 
 shared-slice-read-expectation-2 : tie.Need-shared-slice-read-expectation-2
 shared-slice-read-expectation-2 c =
-    let at-rule2 = c .before .before .before .before .before in let place = at-rule2 .before .before .before .before in let s = place in
+    let at-rule2 = c .before .before .before .before .before in let s = at-rule2 .before .before .before .before in
     let h = expect-fit (length (s .args .roots .now)) (s .args .rule) (s .pre .2) (at-rule2 .rule2 .given .1) in
     omega arith
 
@@ -59,13 +59,13 @@ cast-expectation-2 c = omega (arith, c .shared-slice-known3 .given (c .before .b
 
 cast-expectation-3 : tie.Need-cast-expectation-3
 cast-expectation-3 c =
-    let at-rule2 = c .before .before .before .before .before in let place = at-rule2 .before .before .before .before in let s = place in
+    let at-rule2 = c .before .before .before .before .before in let s = at-rule2 .before .before .before .before in
     let h = expect-fit (length (s .args .roots .now)) (s .args .rule) (s .pre .2) (at-rule2 .rule2 .given .1) in
     omega arith
 
 expectation-requires : tie.Need-expectation-requires
 expectation-requires c κs =
-    let at-rule2 = c .before .before .before .before .before in let place = at-rule2 .before .before .before .before in let s = place in
+    let at-rule2 = c .before .before .before .before .before in let s = at-rule2 .before .before .before .before in
     let h = expect-fit (length (s .args .roots .now)) (s .args .rule) (s .pre .2) (at-rule2 .rule2 .given .1) in
     (s .pre .0, s .pre .1 .at _ (h .0), s .pre .1 .at _ (h .3), h .1, h .2, h .4)
 
@@ -74,13 +74,13 @@ enum-known-rule-3 c = search needs
 
 mul-add-reward : tie.Need-mul-add-reward
 mul-add-reward c =
-    let at-rule3 = c .before .before .before in let place = at-rule3 .before .before .before .before in let s = place in
+    let at-rule3 = c .before .before .before in let s = at-rule3 .before .before .before .before in
     let h = reward-fit (length (s .args .roots .now)) (s .args .rule) (s .pre .2) (at-rule3 .rule3 .given .1) in
     omega arith
 
 shared-slice-read-add-reward : tie.Need-shared-slice-read-add-reward
 shared-slice-read-add-reward c =
-    let at-rule3 = c .before .before .before .before in let place = at-rule3 .before .before .before .before in let s = place in
+    let at-rule3 = c .before .before .before .before in let s = at-rule3 .before .before .before .before in
     let h = reward-fit (length (s .args .roots .now)) (s .args .rule) (s .pre .2) (at-rule3 .rule3 .given .1) in
     omega arith
 
@@ -89,13 +89,13 @@ cast-add-reward c = omega (arith, c .shared-slice-known4 .given (c .before .befo
 
 mul-add-reward-2 : tie.Need-mul-add-reward-2
 mul-add-reward-2 c =
-    let at-rule3 = c .before .before .before .before in let place = at-rule3 .before .before .before .before in let s = place in
+    let at-rule3 = c .before .before .before .before in let s = at-rule3 .before .before .before .before in
     let h = reward-fit (length (s .args .roots .now)) (s .args .rule) (s .pre .2) (at-rule3 .rule3 .given .1) in
     omega arith
 
 shared-slice-read-add-reward-2 : tie.Need-shared-slice-read-add-reward-2
 shared-slice-read-add-reward-2 c =
-    let at-rule3 = c .before .before .before .before .before in let place = at-rule3 .before .before .before .before in let s = place in
+    let at-rule3 = c .before .before .before .before .before in let s = at-rule3 .before .before .before .before in
     let h = reward-fit (length (s .args .roots .now)) (s .args .rule) (s .pre .2) (at-rule3 .rule3 .given .1) in
     omega arith
 
@@ -104,7 +104,7 @@ cast-add-reward-2 c = omega (arith, c .shared-slice-known5 .given (c .before .be
 
 add-reward-requires : tie.Need-add-reward-requires
 add-reward-requires c κs =
-    let at-rule3 = c .before .before .before .before .before in let place = at-rule3 .before .before .before .before in let s = place in
+    let at-rule3 = c .before .before .before .before .before in let s = at-rule3 .before .before .before .before in
     let h = reward-fit (length (s .args .roots .now)) (s .args .rule) (s .pre .2) (at-rule3 .rule3 .given .1) in
     (s .pre .0, s .pre .1 .at _ (h .0), s .pre .1 .at _ (h .1), h .2)
 
@@ -113,13 +113,13 @@ enum-known-rule-4 c = search needs
 
 mul-merge : tie.Need-mul-merge
 mul-merge c =
-    let at-rule4 = c .before .before .before in let place = at-rule4 .before .before .before .before in let s = place in
+    let at-rule4 = c .before .before .before in let s = at-rule4 .before .before .before .before in
     let h = best-fit (length (s .args .roots .now)) (s .args .rule) (s .pre .2) (at-rule4 .rule4 .given .1) in
     omega arith
 
 shared-slice-read-merge : tie.Need-shared-slice-read-merge
 shared-slice-read-merge c =
-    let at-rule4 = c .before .before .before .before in let place = at-rule4 .before .before .before .before in let s = place in
+    let at-rule4 = c .before .before .before .before in let s = at-rule4 .before .before .before .before in
     let h = best-fit (length (s .args .roots .now)) (s .args .rule) (s .pre .2) (at-rule4 .rule4 .given .1) in
     omega arith
 
@@ -128,13 +128,13 @@ cast-merge c = omega (arith, c .shared-slice-known6 .given (c .before .before .b
 
 mul-merge-2 : tie.Need-mul-merge-2
 mul-merge-2 c =
-    let at-rule4 = c .before .before .before .before in let place = at-rule4 .before .before .before .before in let s = place in
+    let at-rule4 = c .before .before .before .before in let s = at-rule4 .before .before .before .before in
     let h = best-fit (length (s .args .roots .now)) (s .args .rule) (s .pre .2) (at-rule4 .rule4 .given .1) in
     omega arith
 
 shared-slice-read-merge-2 : tie.Need-shared-slice-read-merge-2
 shared-slice-read-merge-2 c =
-    let at-rule4 = c .before .before .before .before .before in let place = at-rule4 .before .before .before .before in let s = place in
+    let at-rule4 = c .before .before .before .before .before in let s = at-rule4 .before .before .before .before in
     let h = best-fit (length (s .args .roots .now)) (s .args .rule) (s .pre .2) (at-rule4 .rule4 .given .1) in
     omega arith
 
@@ -143,7 +143,7 @@ cast-merge-2 c = omega (arith, c .shared-slice-known7 .given (c .before .before 
 
 merge-requires : tie.Need-merge-requires
 merge-requires c κs =
-    let at-rule4 = c .before .before .before .before .before in let place = at-rule4 .before .before .before .before in let s = place in
+    let at-rule4 = c .before .before .before .before .before in let s = at-rule4 .before .before .before .before in
     let h = best-fit (length (s .args .roots .now)) (s .args .rule) (s .pre .2) (at-rule4 .rule4 .given .1) in
     (s .pre .0, omega arith, s .pre .1 .at _ (h .0), s .pre .1 .at _ (h .1))
 
@@ -156,7 +156,7 @@ same-length-2 c = search needs
 returns : tie.Need-returns
 returns c =
     let at-make-leaf = c .before .before .before in let at-zero = at-make-leaf .before in let at-enum-told = at-zero .before .before .before in
-    let place = at-enum-told .before .before .before .before in let s = place in
+    let s = at-enum-told .before .before .before .before in
     zero-ran (s .args .roots .now) (s .args .rule) (at-enum-told .enum-told .given .1) (at-zero .zero .ensures) (s .pre .0) (at-make-leaf .make-leaf .ensures)
 
 same-length-3 : tie.Need-same-length-3
@@ -167,8 +167,7 @@ same-length-4 c = search needs
 
 returns-2 : tie.Need-returns-2
 returns-2 c =
-    let at-replace-levels = c .before .before .before in let at-rule = at-replace-levels .before .before .before .before in let place = at-rule .before .before .before .before in
-    let s = place in
+    let at-replace-levels = c .before .before .before in let at-rule = at-replace-levels .before .before .before .before in let s = at-rule .before .before .before .before in
     levels-took (s .args .roots .now) (s .args .rule) (at-rule .rule .given .1) (at-replace-levels .replace-levels .ensures)
 
 same-length-5 : tie.Need-same-length-5
@@ -180,7 +179,7 @@ same-length-6 c = search needs
 returns-3 : tie.Need-returns-3
 returns-3 c =
     let at-expectation = c .before .before .before in let at-rule2 = at-expectation .before .before .before .before .before .before in
-    let place = at-rule2 .before .before .before .before in let s = place in
+    let s = at-rule2 .before .before .before .before in
     expect-took (s .args .roots .now) (s .args .rule) (at-rule2 .rule2 .given .1) (s .pre .2) (at-expectation .expectation .ensures)
 
 same-length-7 : tie.Need-same-length-7
@@ -192,7 +191,7 @@ same-length-8 c = search needs
 returns-4 : tie.Need-returns-4
 returns-4 c =
     let at-add-reward = c .before .before .before in let at-rule3 = at-add-reward .before .before .before .before .before .before in
-    let place = at-rule3 .before .before .before .before in let s = place in
+    let s = at-rule3 .before .before .before .before in
     reward-took (s .args .roots .now) (s .args .rule) (at-rule3 .rule3 .given .1) (s .pre .2) (at-add-reward .add-reward .ensures)
 
 same-length-9 : tie.Need-same-length-9
@@ -203,8 +202,7 @@ same-length-10 c = search needs
 
 returns-5 : tie.Need-returns-5
 returns-5 c =
-    let at-merge = c .before .before .before in let at-rule4 = at-merge .before .before .before .before .before .before in let place = at-rule4 .before .before .before .before in
-    let s = place in
+    let at-merge = c .before .before .before in let at-rule4 = at-merge .before .before .before .before .before .before in let s = at-rule4 .before .before .before .before in
     best-took (s .args .roots .now) (s .args .rule) (at-rule4 .rule4 .given .1) (s .pre .2) (at-merge .merge .ensures)
 
 pub compute-spec : {M : Type 1} → statement M

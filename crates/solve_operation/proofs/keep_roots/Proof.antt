@@ -16,12 +16,12 @@ slice-relend-prefix-collect c = c .before .before .before .before .before .pre .
 
 slice-aggregate-collect : tie.Need-slice-aggregate-collect
 slice-aggregate-collect c =
-    let place = c .before .before .before .before .before .before in let s = place in
+    let s = c .before .before .before .before .before .before in
     sym (length-take-le (s .args .held) (s .args .roots .now) (s .pre .3))
 
 collect-requires : tie.Need-collect-requires
 collect-requires c κs =
-    let place = c .before .before .before .before .before .before in let s = place in
+    let s = c .before .before .before .before .before .before in
     (subst (λ (k : ℕ). Space k (s .args .nodes .now) (s .args .work .now) (s .args .count)) (sym (c .before .larger .ensures)) (s .pre .0), s .pre .1, s .pre .2)
 
 same-length : tie.Need-same-length

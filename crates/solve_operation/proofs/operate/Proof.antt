@@ -24,29 +24,27 @@ slice-aggregate-run-rule c =
 
 run-rule-requires : tie.Need-run-rule-requires
 run-rule-requires c κs =
-    let at-keep-roots = c .before .before .before .before .before .before .before .before in let place = at-keep-roots .before .before .before .before .before .before in
-    let s = place in
+    let at-keep-roots = c .before .before .before .before .before .before .before .before in let s = at-keep-roots .before .before .before .before .before .before in
     rule-asks (s .pre .0) (at-keep-roots .keep-roots .ensures) (s .args .rule) (s .pre .3)
 
 cast-roots : tie.Need-cast-roots
 cast-roots c =
     let at-run-rule = c .before .before .before .before .before .before in
     let at-keep-roots = at-run-rule .before .before .before .before .before .before .before .before .before in
-    let place = at-keep-roots .before .before .before .before .before .before in let s = place in
+    let s = at-keep-roots .before .before .before .before .before .before in
     let h = answer-fits (s .pre .0) (at-keep-roots .keep-roots .ensures) (s .args .rule) (at-run-rule .run-rule .ensures) (c .before .if1 .taken) in
     omega arith
 
 mul-roots : tie.Need-mul-roots
 mul-roots c =
-    let place = c .before .before .before .before .before .before .before .before .before .before .before .before .before .before .before .before .before .before .before .before .before in
-    let s = place in
+    let s = c .before .before .before .before .before .before .before .before .before .before .before .before .before .before .before .before .before .before .before .before .before in
     let h = s .pre .2 in
     omega arith
 
 slice-write-roots : tie.Need-slice-write-roots
 slice-write-roots c =
     let at-keep-roots = c .before .before .before .before .before .before .before .before .before .before .before .before .before .before .before in
-    let place = at-keep-roots .before .before .before .before .before .before in let s = place in
+    let s = at-keep-roots .before .before .before .before .before .before in
     let h = s .pre .2 in
     let e = kept-length (at-keep-roots .keep-roots .ensures) in
     omega arith
@@ -70,7 +68,7 @@ same-length-3 : tie.Need-same-length-3
 same-length-3 c =
     let at-run-rule = c .before .before .before .before .before .before in
     let at-keep-roots = at-run-rule .before .before .before .before .before .before .before .before .before in
-    let place = at-keep-roots .before .before .before .before .before .before in let s = place in
+    let s = at-keep-roots .before .before .before .before .before .before in
     let k = (at-keep-roots .keep-roots .ensures) in
     ⊎-elim (λ y. put-length (s .pre .0) k (s .args .to) (at-run-rule .run-rule .result .at) (y .2)) (λ y. ap length (y .1) ∙ kept-length k) (c .before .if1 .came)
 
@@ -78,8 +76,9 @@ returns : tie.Need-returns
 returns c =
     let at-run-rule = c .before .before .before .before .before .before in
     let at-keep-roots = at-run-rule .before .before .before .before .before .before .before .before .before in
-    let place = at-keep-roots .before .before .before .before .before .before in let s = place in
-    operation-done (s .pre .0) (at-keep-roots .keep-roots .ensures) (s .args .rule) (at-run-rule .run-rule .ensures) (s .pre .1) (s .pre .2) (c .larger .ensures) (λ ok. ⊎-elim (λ y. y .2) (λ y. absurd (y .0 .left ok)) (c .before .if1 .came))
+    let s = at-keep-roots .before .before .before .before .before .before in
+    operation-done (s .pre .0) (at-keep-roots .keep-roots .ensures) (s .args .rule) (at-run-rule .run-rule .ensures) (s .pre .1) (s .pre .2) (c .larger .ensures)
+    (λ ok. ⊎-elim (λ y. y .2) (λ y. absurd (y .0 .left ok)) (c .before .if1 .came))
 
 pub operate-spec : {M : Type 1} → statement M
 operate-spec =

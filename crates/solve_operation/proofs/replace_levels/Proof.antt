@@ -39,7 +39,7 @@ part-substitute-end c =
 
 substitute-requires : tie.Need-substitute-requires
 substitute-requires c κs =
-    let place = c .before .before .before .before .before .before in let s = place in
+    let s = c .before .before .before .before .before .before in
     let a = s .args in
     (s .pre .0, s .pre .1 .at (a .f) (s .pre .2 .3), levels-ask (a .roots .now) (a .at) (a .m) (s .pre .2 .0) (s .pre .1) (s .pre .2 .1) (s .pre .2 .2))
 
@@ -53,7 +53,7 @@ same-length-2 c =
 
 returns : tie.Need-returns
 returns c =
-    let at-substitute = c .before .before .before in let place = at-substitute .before .before .before .before .before .before .before in let s = place in
+    let at-substitute = c .before .before .before in let s = at-substitute .before .before .before .before .before .before .before in
     let a = s .args in
     levels-ran (a .roots .now) (a .at) (a .m) (s .pre .2 .0) (s .pre .2 .3) (at-substitute .substitute .ensures)
 

@@ -23,7 +23,7 @@ loop-holds c =
 
 attempt-requires : tie.Need-attempt-requires Inv-loop μ-loop
 attempt-requires c κs =
-    let at-loop = c .before .before .before in let place = at-loop .before .before .before .before in let s = place in
+    let at-loop = c .before .before .before in let s = at-loop .before .before .before .before in
     let t = trying-asks (at-loop .loop .inv) in
     (t .0, t .1, s .pre .2, s .pre .3)
 
@@ -35,14 +35,13 @@ same-length-2 c = search needs
 
 returns : tie.Need-returns Inv-loop μ-loop
 returns c =
-    let at-attempt = c .before .before .before .before .before in let at-loop = at-attempt .before .before .before .before in let place = at-loop .before .before .before .before in
-    let s = place in
+    let at-attempt = c .before .before .before .before .before in let at-loop = at-attempt .before .before .before .before in let s = at-loop .before .before .before .before in
     part-ends (at-loop .loop .inv) (s .args .roots .now) (s .args .rule) (at-attempt .attempt .ensures) (at-attempt .attempt .kept .0) (at-attempt .attempt .kept .1 .0) (c .if1 .taken)
 
 wider-part-requires : tie.Need-wider-part-requires Inv-loop μ-loop
 wider-part-requires c κs =
     let at-loop-test = c .before .before .before .before .before .before .before .before in let at-loop = at-loop-test .before in
-    let place = at-loop .before .before .before .before in let s = place in
+    let s = at-loop .before .before .before .before in
     (at-loop .loop .inv .some, s .pre .0 .few, at-loop-test .loop-test .taken)
 
 loop-less : tie.Need-loop-less Inv-loop μ-loop
@@ -53,12 +52,12 @@ loop-less c =
 loop-again : tie.Need-loop-again Inv-loop μ-loop
 loop-again c =
     let at-attempt = c .before .before .before .before .before .before in let at-loop = at-attempt .before .before .before .before in
-    let place = at-loop .before .before .before .before in let s = place in
+    let s = at-loop .before .before .before .before in
     trying-again (at-loop .loop .inv) (s .args .roots .now) (s .args .rule) (at-attempt .attempt .ensures) (at-attempt .attempt .kept .0) (at-attempt .attempt .kept .1 .0) (c .wider-part .ensures)
 
 attempt-requires-2 : tie.Need-attempt-requires-2 Inv-loop μ-loop
 attempt-requires-2 c κs =
-    let at-loop = c .before .before .before in let place = at-loop .before .before .before .before in let s = place in
+    let at-loop = c .before .before .before in let s = at-loop .before .before .before .before in
     let t = whole-asks (at-loop .loop .inv) in
     (t .0, t .1, s .pre .2, s .pre .3)
 
@@ -70,8 +69,7 @@ same-length-4 c = search needs
 
 returns-2 : tie.Need-returns-2 Inv-loop μ-loop
 returns-2 c =
-    let at-attempt2 = c .before .before .before in let at-loop = at-attempt2 .before .before .before .before in let place = at-loop .before .before .before .before in
-    let s = place in
+    let at-attempt2 = c .before .before .before in let at-loop = at-attempt2 .before .before .before .before in let s = at-loop .before .before .before .before in
     whole-ends (at-loop .loop .inv) (s .args .roots .now) (s .args .rule) (at-attempt2 .attempt2 .ensures)
 
 pub run-rule-spec : {M : Type 1} → statement M

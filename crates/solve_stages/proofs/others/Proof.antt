@@ -30,8 +30,11 @@ loop-holds c =
 
 next-action-requires : tie.Need-next-action-requires Inv-loop μ-loop
 next-action-requires c κs =
-    let at-loop-test = c .before .before .before .before in let at-loop = at-loop-test .before in let start = at-loop .before .before .before .before .before .before .before in
-    (trying-due (at-loop .loop .inv .0) (start .pre .0) (omega (arith, at-loop-test .loop-test .taken)) (at-loop .loop .inv .3), trying-word (at-loop .loop .inv .0) (omega (arith, at-loop-test .loop-test .taken)) (at-loop .loop .inv .4 ∙ start .pre .3))
+    let at-loop-test = c .before .before .before .before in let at-loop = at-loop-test .before in let start = at-loop .before .before .before .before .before .before .before in (
+      trying-due (at-loop .loop .inv .0) (start .pre .0) (omega (arith, at-loop-test .loop-test .taken)) (at-loop .loop .inv .3),
+      trying-word (at-loop .loop .inv .0)
+          (omega (arith, at-loop-test .loop-test .taken)) (at-loop .loop .inv .4 ∙ start .pre .3),
+    )
 
 same-length : tie.Need-same-length Inv-loop μ-loop
 same-length c =
@@ -74,7 +77,8 @@ loop-again : tie.Need-loop-again Inv-loop μ-loop
 loop-again c =
     let at-next-action = c .before .before .before .before .before .before .before .before .before in let at-loop-test = at-next-action .before .before .before .before .before in
     let at-loop = at-loop-test .before in let start = at-loop .before .before .before .before .before .before .before in (
-      trying-on (at-loop .loop .inv .0) (omega (arith, at-loop-test .loop-test .taken)) (at-next-action .next-action .ensures) (c .if1 .left) (omega (arith, start .pre .0 .room, at-loop .loop .inv .3, at-next-action .next-action .kept .1 .1 .1 .1 .1 .0)),
+      trying-on (at-loop .loop .inv .0) (omega (arith, at-loop-test .loop-test .taken)) (at-next-action .next-action .ensures) (c .if1 .left)
+          (omega (arith, start .pre .0 .room, at-loop .loop .inv .3, at-next-action .next-action .kept .1 .1 .1 .1 .1 .0)),
       at-next-action .next-action .kept .1 .0 ∙ at-loop .loop .inv .1,
       at-next-action .next-action .kept .1 .1 .0 ∙ at-loop .loop .inv .2,
       at-next-action .next-action .kept .1 .1 .1 .1 .1 .0 ∙ at-loop .loop .inv .3,

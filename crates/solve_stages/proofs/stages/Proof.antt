@@ -100,7 +100,8 @@ loop-again : tie.Need-loop-again Inv-loop μ-loop
 loop-again c =
     let at-stage = c .before .before .before .before .before .before .before .before .before in let at-loop-test = at-stage .before .before .before .before .before in
     let at-loop = at-loop-test .before in let start = at-loop .before .before .before .before .before .before in (
-      staging-on (at-loop .loop .inv .0) (omega (arith, at-loop-test .loop-test .taken)) (at-stage .stage .ensures) (c .if1 .left) (omega (arith, at-loop-test .loop-test .taken, start .pre .3, at-loop .loop .inv .3, at-loop .loop .inv .0 .place, at-stage .stage .kept .1 .1 .1 .1 .1 .0)),
+      staging-on (at-loop .loop .inv .0) (omega (arith, at-loop-test .loop-test .taken)) (at-stage .stage .ensures) (c .if1 .left)
+          (omega (arith, at-loop-test .loop-test .taken, start .pre .3, at-loop .loop .inv .3, at-loop .loop .inv .0 .place, at-stage .stage .kept .1 .1 .1 .1 .1 .0)),
       at-stage .stage .kept .1 .0 ∙ at-loop .loop .inv .1,
       at-stage .stage .kept .1 .1 .0 ∙ at-loop .loop .inv .2,
       at-stage .stage .kept .1 .1 .1 .1 .1 .0 ∙ at-loop .loop .inv .3,

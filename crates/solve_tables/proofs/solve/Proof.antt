@@ -22,7 +22,9 @@ solve-in-requires : tie.Need-solve-in-requires
 solve-in-requires c κs =
     let at-room = c .before .before .before .before in let at-if1 = at-room .before in let at-early = at-if1 .before .before in
     let start = at-early .before .before .before .before .before in let a = start .args in
-    let p = passed (a .model .now) (a .horizon) (length (a .stages .now)) (length (a .peaks .now)) (goes-on (early-with-peaks (a .model .now) (a .horizon) (length (a .stages .now)) (length (a .peaks .now))) (at-early .early .result) (at-early .early .ensures) (at-if1 .if1 .left)) in
+    let p = passed (a .model .now) (a .horizon) (length (a .stages .now)) (length (a .peaks .now))
+    (goes-on (early-with-peaks (a .model .now) (a .horizon) (length (a .stages .now)) (length (a .peaks .now))) (at-early .early .result) (at-early .early .ensures)
+    (at-if1 .if1 .left)) in
     let f = fitting (length (a .nodes .now)) (length (a .work .now)) (at-room .room .ensures) in
     (p .1 .own, p .1 .bytes, p .1 .most, p .1 .least, f .few, f .words, f .works, p .1 .eight, p .0)
 
@@ -38,7 +40,12 @@ cast-t30 c =
     let at-solve-in = at-if2 .before .before .before .before .before .before .before .before .before in let at-room = at-solve-in .before .before .before .before .before in
     let at-if1 = at-room .before in let at-early = at-if1 .before .before in let start = at-early .before .before .before .before .before in
     let a = start .args in
-    omega (arith, stop-small (a .model .now) (a .horizon) (a .nodes .now) (a .stages .now) (a .work .now) (a .peaks .now) (goes-on (early-with-peaks (a .model .now) (a .horizon) (length (a .stages .now)) (length (a .peaks .now))) (at-early .early .result) (at-early .early .ensures) (at-if1 .if1 .left)) (at-room .room .ensures) (at-solve-in .solve-in .ensures) (at-if2 .if2 .taken))
+    omega (
+      arith,
+      stop-small (a .model .now) (a .horizon) (a .nodes .now) (a .stages .now) (a .work .now) (a .peaks .now)
+          (goes-on (early-with-peaks (a .model .now) (a .horizon) (length (a .stages .now)) (length (a .peaks .now))) (at-early .early .result) (at-early .early .ensures)
+          (at-if1 .if1 .left)) (at-room .room .ensures) (at-solve-in .solve-in .ensures) (at-if2 .if2 .taken),
+    )
 
 same-length : tie.Need-same-length
 same-length c =
@@ -70,8 +77,11 @@ returns-2 c =
     let at-if2 = at-clear-all .before .before .before .before in let at-solve-in = at-if2 .before .before .before .before .before .before .before .before .before in
     let at-room = at-solve-in .before .before .before .before .before in let at-if1 = at-room .before in let at-early = at-if1 .before .before in
     let start = at-early .before .before .before .before .before in let a = start .args in
-    refused-late (a .model .now) (a .horizon) (a .nodes .now) (a .stages .now) (a .work .now) (a .peaks .now) (goes-on (early-with-peaks (a .model .now) (a .horizon) (length (a .stages .now)) (length (a .peaks .now))) (at-early .early .result) (at-early .early .ensures) (at-if1 .if1 .left)) (at-room .room .ensures) (at-solve-in .solve-in .ensures) (at-if2 .if2 .taken)
-    (at-clear-all .clear-all .ensures) (at-clear-peaks .clear-peaks .ensures) (at-solve-in .solve-in .kept .1 .1 .1 .1 .1 .0) (at-solve-in .solve-in .kept .1 .1 .0) (at-solve-in .solve-in .kept .1 .1 .1 .0) (at-solve-in .solve-in .kept .1 .1 .1 .1 .0)
+    refused-late (a .model .now) (a .horizon) (a .nodes .now) (a .stages .now) (a .work .now) (a .peaks .now)
+    (goes-on (early-with-peaks (a .model .now) (a .horizon) (length (a .stages .now)) (length (a .peaks .now))) (at-early .early .result) (at-early .early .ensures)
+    (at-if1 .if1 .left)) (at-room .room .ensures) (at-solve-in .solve-in .ensures) (at-if2 .if2 .taken)
+    (at-clear-all .clear-all .ensures) (at-clear-peaks .clear-peaks .ensures) (at-solve-in .solve-in .kept .1 .1 .1 .1 .1 .0) (at-solve-in .solve-in .kept .1 .1 .0)
+    (at-solve-in .solve-in .kept .1 .1 .1 .0) (at-solve-in .solve-in .kept .1 .1 .1 .1 .0)
 
 same-length-5 : tie.Need-same-length-5
 same-length-5 c =
@@ -94,7 +104,9 @@ returns-3 c =
     let at-solve-in = c .before .before .before .before .before .before .before .before .before in let at-room = at-solve-in .before .before .before .before .before in
     let at-if1 = at-room .before in let at-early = at-if1 .before .before in let start = at-early .before .before .before .before .before in
     let a = start .args in
-    solved-out (a .model .now) (a .horizon) (a .nodes .now) (a .stages .now) (a .work .now) (a .peaks .now) (goes-on (early-with-peaks (a .model .now) (a .horizon) (length (a .stages .now)) (length (a .peaks .now))) (at-early .early .result) (at-early .early .ensures) (at-if1 .if1 .left)) (at-room .room .ensures) (at-solve-in .solve-in .ensures) (c .if2 .left)
+    solved-out (a .model .now) (a .horizon) (a .nodes .now) (a .stages .now) (a .work .now) (a .peaks .now)
+    (goes-on (early-with-peaks (a .model .now) (a .horizon) (length (a .stages .now)) (length (a .peaks .now))) (at-early .early .result) (at-early .early .ensures)
+    (at-if1 .if1 .left)) (at-room .room .ensures) (at-solve-in .solve-in .ensures) (c .if2 .left)
 
 pub solve-spec : {M : Type 1} → statement M
 solve-spec =

@@ -68,8 +68,14 @@ loop-less c =
 loop-again : tie.Need-loop-again Inv-loop μ-loop
 loop-again c =
     let at-operate = c .before .before .before .before .before .before .before in let at-if1 = at-operate .before .before .before .before .before in
-    let at-loop = at-if1 .before .before in
-    (summing-again (at-loop .loop .inv .0) (at-if1 .if1 .taken) (at-operate .operate .ensures) (c .if2 .left) (at-operate .operate .kept .1 .1 .1 .1 .0), at-operate .operate .kept .0 ∙ at-loop .loop .inv .1, at-operate .operate .kept .1 .0 ∙ at-loop .loop .inv .2, at-operate .operate .kept .1 .1 .1 .1 .0 ∙ at-loop .loop .inv .3)
+    let at-loop = at-if1 .before .before in (
+      summing-again (at-loop .loop .inv .0) (at-if1 .if1 .taken) (at-operate .operate .ensures) (c .if2 .left)
+          (at-operate .operate .kept .1 .1 .1 .1 .0),
+      at-operate .operate .kept .0 ∙ at-loop .loop .inv .1,
+      at-operate .operate .kept .1 .0
+          ∙ at-loop .loop .inv .2,
+      at-operate .operate .kept .1 .1 .1 .1 .0 ∙ at-loop .loop .inv .3,
+    )
 
 same-length-4 : tie.Need-same-length-4 Inv-loop μ-loop
 same-length-4 c =

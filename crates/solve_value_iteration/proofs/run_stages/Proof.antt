@@ -69,8 +69,14 @@ stages-requires c κs =
     let at-if2 = c .before .before .before .before in let at-stage-zero = at-if2 .before .before .before .before .before .before .before .before .before in
     let at-raise-peak = at-stage-zero .before .before .before .before .before .before .before in
     let at-load-in-parts = at-raise-peak .before .before .before .before .before .before .before .before .before in
-    let start = at-load-in-parts .before .before .before .before .before .before .before .before in
-    (at-stage-zero .stage-zero .ensures .ready (at-if2 .if2 .left), at-if2 .if2 .left, start .pre .2, stages-fit (start .args .model .now) (start .args .horizon) (start .pre .0) (start .pre .2) (at-stage-zero .stage-zero .kept .1 .1 .1 .1 .1 .0 ∙ (at-load-in-parts .load-in-parts .kept .1 .1 .1 .1 .0 ∙ start .pre .4)), at-stage-zero .stage-zero .kept .1 .1 .1 .1 .1 .1 .0 ∙ (at-raise-peak .raise-peak .kept .0 ∙ words-length (start .pre .5)))
+    let start = at-load-in-parts .before .before .before .before .before .before .before .before in (
+      at-stage-zero .stage-zero .ensures .ready (at-if2 .if2 .left),
+      at-if2 .if2 .left,
+      start .pre .2,
+      stages-fit (start .args .model .now) (start .args .horizon)
+          (start .pre .0) (start .pre .2) (at-stage-zero .stage-zero .kept .1 .1 .1 .1 .1 .0 ∙ (at-load-in-parts .load-in-parts .kept .1 .1 .1 .1 .0 ∙ start .pre .4)),
+      at-stage-zero .stage-zero .kept .1 .1 .1 .1 .1 .1 .0 ∙ (at-raise-peak .raise-peak .kept .0 ∙ words-length (start .pre .5)),
+    )
 
 same-length-8 : tie.Need-same-length-8
 same-length-8 c =
@@ -107,7 +113,8 @@ returns-3 c =
     let at-raise-peak = at-stage-zero .before .before .before .before .before .before .before in let at-if1 = at-raise-peak .before .before in
     let at-load-in-parts = at-if1 .before .before .before .before .before .before .before in
     let start = at-load-in-parts .before .before .before .before .before .before .before .before in
-    stages-run (start .args .model .now) (start .args .horizon) (at-load-in-parts .load-in-parts .ensures) (at-if1 .if1 .left) (at-stage-zero .stage-zero .ensures) (at-if2 .if2 .left) (start .pre .5) (at-raise-peak .raise-peak .ensures) (at-stages .stages .ensures)
+    stages-run (start .args .model .now) (start .args .horizon) (at-load-in-parts .load-in-parts .ensures) (at-if1 .if1 .left) (at-stage-zero .stage-zero .ensures)
+    (at-if2 .if2 .left) (start .pre .5) (at-raise-peak .raise-peak .ensures) (at-stages .stages .ensures)
 
 pub run-stages-spec : {M : Type 1} → statement M
 run-stages-spec =

@@ -26,8 +26,11 @@ operate-requires c κs =
 raise-peak-requires : tie.Need-raise-peak-requires
 raise-peak-requires c κs =
     let at-operate = c .before .before .before .before .before .before .before .before in let at-model-size = at-operate .before .before .before .before in
-    let at-if1 = at-model-size .before in let start = at-if1 .before .before .before .before .before in
-    (omega (arith, start .pre .5), zero-fits (start .args .model .now) (start .pre .0) (start .pre .2) (start .pre .3) (start .pre .4) (at-if1 .if1 .left) (start .pre .1) (at-model-size .model-size .ensures .0) (at-operate .operate .ensures) (at-operate .operate .kept .1 .1 .1 .1 .0) (c .before .if2 .taken))
+    let at-if1 = at-model-size .before in let start = at-if1 .before .before .before .before .before in (
+      omega (arith, start .pre .5),
+      zero-fits (start .args .model .now) (start .pre .0) (start .pre .2) (start .pre .3) (start .pre .4) (at-if1 .if1 .left) (start .pre .1)
+          (at-model-size .model-size .ensures .0) (at-operate .operate .ensures) (at-operate .operate .kept .1 .1 .1 .1 .0) (c .before .if2 .taken),
+    )
 
 same-length : tie.Need-same-length
 same-length c = search needs
@@ -45,7 +48,8 @@ returns-2 : tie.Need-returns-2
 returns-2 c =
     let at-operate = c .before .before .before .before .before .before .before .before .before .before .before in let at-model-size = at-operate .before .before .before .before in
     let at-if1 = at-model-size .before in let start = at-if1 .before .before .before .before .before in
-    zero-grounded (start .args .model .now) (start .pre .0) (start .pre .2) (start .pre .3) (start .pre .4) (at-if1 .if1 .left) (start .pre .1) (at-model-size .model-size .ensures .0) (at-operate .operate .ensures) (at-operate .operate .kept .1 .1 .1 .1 .0) (λ ok. c .before .before .raise-peak .ensures)
+    zero-grounded (start .args .model .now) (start .pre .0) (start .pre .2) (start .pre .3) (start .pre .4) (at-if1 .if1 .left) (start .pre .1)
+    (at-model-size .model-size .ensures .0) (at-operate .operate .ensures) (at-operate .operate .kept .1 .1 .1 .1 .0) (λ ok. c .before .before .raise-peak .ensures)
 
 same-length-5 : tie.Need-same-length-5
 same-length-5 c = search needs
@@ -60,7 +64,8 @@ returns-3 : tie.Need-returns-3
 returns-3 c =
     let at-operate = c .before .before .before .before .before .before .before in let at-model-size = at-operate .before .before .before .before in
     let at-if1 = at-model-size .before in let start = at-if1 .before .before .before .before .before in
-    zero-grounded (start .args .model .now) (start .pre .0) (start .pre .2) (start .pre .3) (start .pre .4) (at-if1 .if1 .left) (start .pre .1) (at-model-size .model-size .ensures .0) (at-operate .operate .ensures) (at-operate .operate .kept .1 .1 .1 .1 .0) (λ ok. absurd (c .if2 .left ok))
+    zero-grounded (start .args .model .now) (start .pre .0) (start .pre .2) (start .pre .3) (start .pre .4) (at-if1 .if1 .left) (start .pre .1)
+    (at-model-size .model-size .ensures .0) (at-operate .operate .ensures) (at-operate .operate .kept .1 .1 .1 .1 .0) (λ ok. absurd (c .if2 .left ok))
 
 pub stage-zero-spec : {M : Type 1} → statement M
 stage-zero-spec =

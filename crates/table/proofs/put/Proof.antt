@@ -116,7 +116,8 @@ same-length c =
 returns : tie.Need-returns Inv-loop μ-loop
 returns c =
     let at-struct-told = c .before .before .before .before .before in let start = at-struct-told .before in
-    put-as _ (start .args .i) (start .args .x) (back _ (at-struct-told .struct-told .given .0 .1)) (back _ (at-struct-told .struct-told .given .1 .1 .0 .1)) (back _ (at-struct-told .struct-told .given .1 .1 .1 .0 .1)) (c .before .loop .inv) (c .loop-test .left)
+    put-as _ (start .args .i) (start .args .x) (back _ (at-struct-told .struct-told .given .0 .1)) (back _ (at-struct-told .struct-told .given .1 .1 .0 .1))
+    (back _ (at-struct-told .struct-told .given .1 .1 .1 .0 .1)) (c .before .loop .inv) (c .loop-test .left)
 
 pub put-spec : {M : Type 1} → statement M
 put-spec =

@@ -28,8 +28,10 @@ returns-4 c =
     let at-if3 = c .before .before .before in let at-struct-told6 = at-if3 .before in let at-struct-told5 = at-struct-told6 .before .before in
     let at-if2 = at-struct-told5 .before .before in let at-struct-told4 = at-if2 .before in let at-struct-told3 = at-struct-told4 .before .before in
     let at-if1 = at-struct-told3 .before .before in let at-struct-told2 = at-if1 .before in let at-struct-told = at-struct-told2 .before .before in
-    let place = at-struct-told .before .before in
-    let s = place in bits-same (s .args .x) (s .args .y) (at-struct-told .struct-told .given .0 .1) (at-struct-told2 .struct-told2 .given .0 .1) (at-struct-told3 .struct-told3 .given .1 .1 .0 .1) (at-struct-told4 .struct-told4 .given .1 .1 .0 .1) (at-struct-told5 .struct-told5 .given .1 .1 .1 .0 .1) (at-struct-told6 .struct-told6 .given .1 .1 .1 .0 .1) (at-if1 .if1 .left) (at-if2 .if2 .left) (at-if3 .if3 .left) (c .equal .ensures)
+    let s = at-struct-told .before .before in
+    bits-same (s .args .x) (s .args .y) (at-struct-told .struct-told .given .0 .1) (at-struct-told2 .struct-told2 .given .0 .1)
+    (at-struct-told3 .struct-told3 .given .1 .1 .0 .1) (at-struct-told4 .struct-told4 .given .1 .1 .0 .1) (at-struct-told5 .struct-told5 .given .1 .1 .1 .0 .1)
+    (at-struct-told6 .struct-told6 .given .1 .1 .1 .0 .1) (at-if1 .if1 .left) (at-if2 .if2 .left) (at-if3 .if3 .left) (c .equal .ensures)
 
 pub same-spec : {M : Type 1} → statement M
 same-spec = tie.close (tie.spec returns returns-2 returns-3 equal-requires returns-4)

@@ -94,7 +94,8 @@ same-length c = search needs
 returns : tie.Need-returns
 unfolding storeOf
 returns c =
-    ap (λ (k : ℕ). storeOf ((c .before .before) .args .work .now) k ((c .before .before) .args .op) ((c .before .before) .args .f) ((c .before .before) .args .g) ((c .before .before) .args .p) ((c .before .before) .args .q) ((c .before .before) .args .r)) (c .slot .ensures .0)
+    ap (λ (k : ℕ). storeOf ((c .before .before) .args .work .now) k ((c .before .before) .args .op) ((c .before .before) .args .f) ((c .before .before) .args .g)
+    ((c .before .before) .args .p) ((c .before .before) .args .q) ((c .before .before) .args .r)) (c .slot .ensures .0)
 
 pub keep-spec : {M : Type 1} → statement M
 keep-spec =

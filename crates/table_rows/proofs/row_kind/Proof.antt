@@ -23,7 +23,8 @@ kind-if-requires c κs = search needs
 
 returns-3 : tie.Need-returns-3
 returns-3 c =
-    as-leaf _ _ _ _ (c .before .before .before .before .before .if1 .left) (c .before .before .before .before .if2 .left) (c .before .before .before .kind .ensures) (c .before .before .if3 .taken) (c .before .good-leaf .ensures) (c .kind-if .ensures)
+    as-leaf _ _ _ _ (c .before .before .before .before .before .if1 .left) (c .before .before .before .before .if2 .left) (c .before .before .before .kind .ensures)
+    (c .before .before .if3 .taken) (c .before .good-leaf .ensures) (c .kind-if .ensures)
 
 good-condition-requires : tie.Need-good-condition-requires
 good-condition-requires c κs = search needs

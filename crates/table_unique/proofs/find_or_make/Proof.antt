@@ -72,9 +72,10 @@ same-length-4 c = search needs
 returns-2 : tie.Need-returns-2
 returns-2 c =
     let at-put = c .before .before .before in let at-if2 = at-put .before .before in let at-if1 = at-if2 .before in let at-find = at-if1 .before in
-    let place = at-find .before .before .before .before in let s = place in
+    let s = at-find .before .before .before .before in
     let w = intern-new (s .args .cap) (s .args .nodes .now) (s .args .count) (s .args .x) _ (at-find .find .ensures) (at-if1 .if1 .left) (at-if2 .if2 .taken) in
-    let n = chained-new (s .pre) (s .args .x) (as-long (s .args .x .n) (s .good .1 .1 .1 .1 .0 .1 .1 .1 .0 .1 .0 .1)) _ (at-find .find .ensures) (at-if1 .if1 .left) (at-if2 .if2 .taken) _ (c .before .hash .ensures .0) (c .before .hash .ensures .1) in
+    let n = chained-new (s .pre) (s .args .x) (as-long (s .args .x .n) (s .good .1 .1 .1 .1 .0 .1 .1 .1 .0 .1 .0 .1)) _ (at-find .find .ensures) (at-if1 .if1 .left)
+    (at-if2 .if2 .taken) _ (c .before .hash .ensures .0) (c .before .hash .ensures .1) in
     record {
       answer = w .0;
       nodes = at-put .put .ensures ∙ w .1;
@@ -92,7 +93,7 @@ same-length-6 c = search needs
 
 returns-3 : tie.Need-returns-3
 returns-3 c =
-    let place = c .before .before .before .before .before .before in let s = place in
+    let s = c .before .before .before .before .before .before in
     let w = intern-full (s .args .cap) (s .args .nodes .now) (s .args .count) (s .args .x) _ (c .before .before .find .ensures) (c .before .if1 .left) (c .if2 .left) in
     record { answer = w .0; nodes = w .1; chained = s .pre; beyond = λ j q. refl; nodes-length = refl; work-length = refl }
 

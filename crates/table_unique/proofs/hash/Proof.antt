@@ -43,8 +43,13 @@ loop-less c = omega arith
 loop-again : tie.Need-loop-again Inv-loop μ-loop
 loop-again c =
     let at-loop-test = c .before .before .before in let at-loop = at-loop-test .before in let at-struct-told = at-loop .before .before in
-    let start = at-struct-told .before .before in
-    (omega arith, c .next .ensures .1, hash-goes (start .args .x .n) (as-long (start .args .x .n) (at-struct-told .struct-told .given .1 .0 .1 .0 .1)) _ _ (at-loop .loop .h) (at-loop .loop .k) (at-loop .loop .i) (at-loop .loop .inv .2) (at-loop-test .loop-test .taken) (back _ (c .before .before .z .given)) (c .before .added2 .ensures) (c .next .ensures .0))
+    let start = at-struct-told .before .before in (
+      omega arith,
+      c .next .ensures .1,
+      hash-goes (start .args .x .n) (as-long (start .args .x .n) (at-struct-told .struct-told .given .1 .0 .1 .0 .1)) _ _
+          (at-loop .loop .h) (at-loop .loop .k) (at-loop .loop .i) (at-loop .loop .inv .2) (at-loop-test .loop-test .taken) (back _ (c .before .before .z .given))
+          (c .before .added2 .ensures) (c .next .ensures .0),
+    )
 
 added-requires-3 : tie.Need-added-requires-3 Inv-loop μ-loop
 added-requires-3 c κs = omega arith
@@ -60,8 +65,11 @@ returns : tie.Need-returns Inv-loop μ-loop
 returns c =
     let at-added3 = c .before .before .before in let at-struct-told2 = at-added3 .before in let at-loop-test = at-struct-told2 .before in let at-loop = at-loop-test .before in
     let at-added = at-loop .before in let at-struct-told = at-added .before in let start = at-struct-told .before .before in
-    let n = hash-ends (start .args .x .n) (as-long (start .args .x .n) (at-struct-told .struct-told .given .1 .0 .1 .0 .1)) _ _ (at-loop .loop .h) (at-loop .loop .k) (at-loop .loop .i) (at-loop .loop .inv .2) (at-loop-test .loop-test .left) in
-    let e = hash-as (start .args .cap) (start .args .x) (back _ (at-struct-told .struct-told .given .0 .1)) (back _ (at-struct-told2 .struct-told2 .given .1 .1 .0 .1)) (back _ (c .before .before .struct-told3 .given .1 .1 .1 .0 .1)) (at-added .added .ensures) n (at-added3 .added3 .ensures) (c .before .added4 .ensures) (c .bucket .ensures .0) in
+    let n = hash-ends (start .args .x .n) (as-long (start .args .x .n) (at-struct-told .struct-told .given .1 .0 .1 .0 .1)) _ _ (at-loop .loop .h) (at-loop .loop .k)
+    (at-loop .loop .i) (at-loop .loop .inv .2) (at-loop-test .loop-test .left) in
+    let e = hash-as (start .args .cap) (start .args .x) (back _ (at-struct-told .struct-told .given .0 .1)) (back _ (at-struct-told2 .struct-told2 .given .1 .1 .0 .1))
+    (back _ (c .before .before .struct-told3 .given .1 .1 .1 .0 .1)) (at-added .added .ensures) n (at-added3 .added3 .ensures) (c .before .added4 .ensures)
+    (c .bucket .ensures .0) in
     (e, c .bucket .ensures .1)
 
 pub hash-spec : {M : Type 1} → statement M

@@ -111,7 +111,7 @@ put-digits-put-digits-requires t c κs =
 
 put-digits-slice-write-out-3 : (t : ℕ) → put-digits-lts.Need-slice-write-out-3 (put-digits-claims t) (put-digits-at t) put-digits.Post
 put-digits-slice-write-out-3 t c =
-    let at-if2 = c .before .before .before .before in let at-if1 = at-if2 .before in let place = at-if1 .before .before in let s = place in
+    let at-if2 = c .before .before .before .before in let at-if1 = at-if2 .before in let s = at-if1 .before .before in
     let a = s .args in
     let q = c .before .before .put-digits in
     let e = digits-longer (a .left) (a .x) (at-if1 .if1 .left) (at-if2 .if2 .left) in
@@ -119,7 +119,7 @@ put-digits-slice-write-out-3 t c =
 
 put-digits-add-result-3 : (t : ℕ) → put-digits-lts.Need-add-result-3 (put-digits-claims t) (put-digits-at t) put-digits.Post
 put-digits-add-result-3 t c =
-    let at-if2 = c .before .before .before .before in let at-if1 = at-if2 .before in let place = at-if1 .before .before in let s = place in
+    let at-if2 = c .before .before .before .before in let at-if1 = at-if2 .before in let s = at-if1 .before .before in
     let a = s .args in
     let q = c .before .before .put-digits in
     let e = digits-longer (a .left) (a .x) (at-if1 .if1 .left) (at-if2 .if2 .left) in
@@ -131,7 +131,7 @@ put-digits-same-length-3 t c =
 
 put-digits-returns-3 : (t : ℕ) → put-digits-lts.Need-returns-3 (put-digits-claims t) (put-digits-at t) put-digits.Post
 put-digits-returns-3 t c =
-    let at-if2 = c .before .before .before .before in let at-if1 = at-if2 .before in let place = at-if1 .before .before in let s = place in
+    let at-if2 = c .before .before .before .before in let at-if1 = at-if2 .before in let s = at-if1 .before .before in
     let a = s .args in
     let q = c .before .before .put-digits in
     let e = digits-longer (a .left) (a .x) (at-if1 .if1 .left) (at-if2 .if2 .left) in

@@ -18,7 +18,8 @@ refused-requires c κs = search needs
 returns : tie.Need-returns
 returns c =
     let at-early = c .before .before .before in let start = at-early .before .before .before .before in
-    page-stopped (start .args .model .now) (start .args .horizon) (start .args .nodes .now) (start .args .stages .now) (asked (start .args .q)) (start .args .text .now) (start .args .place) (at-early .early .ensures) (c .before .if1 .taken) (ap (λ (x : Listed). outcome x (start .args .text .now)) (c .refused .ensures))
+    page-stopped (start .args .model .now) (start .args .horizon) (start .args .nodes .now) (start .args .stages .now) (asked (start .args .q)) (start .args .text .now)
+    (start .args .place) (at-early .early .ensures) (c .before .if1 .taken) (ap (λ (x : Listed). outcome x (start .args .text .now)) (c .refused .ensures))
 
 site-requires : tie.Need-site-requires
 site-requires c κs = search needs

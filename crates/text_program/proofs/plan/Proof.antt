@@ -17,7 +17,7 @@ same-length c = search needs
 
 returns : tie.Need-returns
 returns c =
-    let at-if1 = c .before .before .before .before in let at-too-long = at-if1 .before in let place = at-too-long .before .before .before in let s = place in
+    let at-if1 = c .before .before .before .before in let at-too-long = at-if1 .before in let s = at-too-long .before .before .before in
     let r = c .before .before .refusal .ensures in
     (omega (arith, r .0, s .pre), longer (s .args .model .now) (s .args .horizon) (sym (at-too-long .too-long .ensures) ∙ at-if1 .if1 .taken) (r .1))
 
@@ -29,7 +29,7 @@ same-length-2 c = search needs
 
 returns-2 : tie.Need-returns-2
 returns-2 c =
-    let at-if1 = c .before .before .before .before in let at-too-long = at-if1 .before in let place = at-too-long .before .before .before in let s = place in
+    let at-if1 = c .before .before .before .before in let at-too-long = at-if1 .before in let s = at-too-long .before .before .before in
     let r = c .before .before .tabled .ensures in
     (r .0, no-longer (s .args .model .now) (s .args .horizon) (sym (at-too-long .too-long .ensures) ∙ at-if1 .if1 .left) (r .1))
 

@@ -33,8 +33,12 @@ returns c =
     let at-if1 = c .before .before .before .before in let at-solve = at-if1 .before .before .before .before .before .before .before .before .before in
     let start = at-solve .before .before .before .before .before .before .before .before .before .before in let a = start .args in
     let v = at-solve .solve in
-    let p = c .before .before .refusal in
-    (p .ensures .0, p .ensures .1 ∙ refused-printed (a .model .now) (a .horizon) (a .nodes .now) (a .stages .now) (a .work .now) (a .peaks .now) (length (a .text .now)) {k = v .result .number} {q = v .result .place} {peak = v .result .peak} {l = v .last .1 .1 .0} {s = v .last .1 .1 .1 .0} {w = v .last .1 .1 .1 .1 .0} {m = v .last .1 .1 .1 .1 .1 .0} (v .ensures) (at-if1 .if1 .taken))
+    let p = c .before .before .refusal in (
+      p .ensures .0,
+      p .ensures .1 ∙ refused-printed (a .model .now) (a .horizon) (a .nodes .now) (a .stages .now) (a .work .now) (a .peaks .now)
+          (length (a .text .now)) {k = v .result .number} {q = v .result .place} {peak = v .result .peak} {l = v .last .1 .1 .0} {s = v .last .1 .1 .1 .0}
+          {w = v .last .1 .1 .1 .1 .0} {m = v .last .1 .1 .1 .1 .1 .0} (v .ensures) (at-if1 .if1 .taken),
+    )
 
 listing-requires : tie.Need-listing-requires
 listing-requires c κs = search needs
@@ -64,8 +68,13 @@ returns-2 c =
     let start = at-solve .before .before .before .before .before .before .before .before .before .before in let a = start .args in
     let v = at-solve .solve in
     let o = at-listing .listing in
-    let p = c .before .before .refusal2 in
-    (omega (arith, p .ensures .0, o .kept .1 .1 .1 .1 .0), p .ensures .1 ∙ listing-refused-printed (a .model .now) (a .horizon) (a .nodes .now) (a .stages .now) (a .work .now) (a .peaks .now) (a .text .now) {k = v .result .number} {q = v .result .place} {peak = v .result .peak} {l = v .last .1 .1 .0} {s = v .last .1 .1 .1 .0} {w = v .last .1 .1 .1 .1 .0} {m = v .last .1 .1 .1 .1 .1 .0} (v .ensures) (at-if1 .if1 .left) {n = o .result .number} {p = o .result .place} {size = o .result .size} {after = o .last .1 .1 .1 .1 .0} (o .ensures) (at-if2 .if2 .taken))
+    let p = c .before .before .refusal2 in (
+      omega (arith, p .ensures .0, o .kept .1 .1 .1 .1 .0),
+      p .ensures .1 ∙ listing-refused-printed (a .model .now) (a .horizon) (a .nodes .now) (a .stages .now)
+          (a .work .now) (a .peaks .now) (a .text .now) {k = v .result .number} {q = v .result .place} {peak = v .result .peak} {l = v .last .1 .1 .0}
+          {s = v .last .1 .1 .1 .0} {w = v .last .1 .1 .1 .1 .0} {m = v .last .1 .1 .1 .1 .1 .0} (v .ensures)
+          (at-if1 .if1 .left) {n = o .result .number} {p = o .result .place} {size = o .result .size} {after = o .last .1 .1 .1 .1 .0} (o .ensures) (at-if2 .if2 .taken),
+    )
 
 same-length-11 : tie.Need-same-length-11
 same-length-11 c = search needs
@@ -89,7 +98,10 @@ returns-3 c =
     let start = at-solve .before .before .before .before .before .before .before .before .before .before in let a = start .args in
     let v = at-solve .solve in
     let o = at-listing .listing in
-    listing-printed (a .model .now) (a .horizon) (a .nodes .now) (a .stages .now) (a .work .now) (a .peaks .now) (a .text .now) {k = v .result .number} {q = v .result .place} {peak = v .result .peak} {l = v .last .1 .1 .0} {s = v .last .1 .1 .1 .0} {w = v .last .1 .1 .1 .1 .0} {m = v .last .1 .1 .1 .1 .1 .0} (v .ensures) (at-if1 .if1 .left) {n = o .result .number} {p = o .result .place} {size = o .result .size} {after = o .last .1 .1 .1 .1 .0} (o .ensures) (c .if2 .left)
+    listing-printed (a .model .now) (a .horizon) (a .nodes .now) (a .stages .now) (a .work .now) (a .peaks .now)
+    (a .text .now) {k = v .result .number} {q = v .result .place} {peak = v .result .peak} {l = v .last .1 .1 .0} {s = v .last .1 .1 .1 .0}
+    {w = v .last .1 .1 .1 .1 .0} {m = v .last .1 .1 .1 .1 .1 .0} (v .ensures)
+    (at-if1 .if1 .left) {n = o .result .number} {p = o .result .place} {size = o .result .size} {after = o .last .1 .1 .1 .1 .0} (o .ensures) (c .if2 .left)
 
 pub print-spec : {M : Type 1} → statement M
 print-spec =

@@ -25,9 +25,8 @@ same-length c = search needs
 
 returns : tie.Need-returns
 returns c =
-    let at-print = c .before .before .before .before .before .before in let place = at-print .before .before .before .before .before .before .before .before in
+    let at-print = c .before .before .before .before .before .before in let s = at-print .before .before .before .before .before .before .before .before in
     let p = at-print .print in
-    let s = place in
     (omega (arith, p .ensures .0, s .pre), tables-are (s .args .model .now) (s .args .horizon) (s .pre) (p .ensures .1))
 
 pub tabled-spec : {M : Type 1} → statement M

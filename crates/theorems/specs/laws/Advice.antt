@@ -79,7 +79,8 @@ module _ (B : List ℕ) (H : ℕ) (nodes : List ℤ) (stages work peaks : List �
     advised-override = subst (Override B h q) same-read read-override
 
 -- what a solve answered with and left
-module _ (B : List ℕ) (H : ℕ) (nodes : List ℤ) (stages work peaks : List ℕ) {k p peak : ℕ} {l : List ℤ} {s w m : List ℕ} (e : record { number = k; place = p; peak = peak; nodes = l; stages = s; work = w; peaks = m } ≡ solve B H nodes stages work peaks) where
+module _ (B : List ℕ) (H : ℕ) (nodes : List ℤ) (stages work peaks : List ℕ) {k p peak : ℕ} {l : List ℤ} {s w m : List ℕ}
+    (e : record { number = k; place = p; peak = peak; nodes = l; stages = s; work = w; peaks = m } ≡ solve B H nodes stages work peaks) where
   left : Left (solve B H nodes stages work peaks) l s w m
   left = record { nodes-left = ap (λ (o : SolveOut). o .nodes) e; stages-left = ap (λ (o : SolveOut). o .stages) e; work-left = ap (λ (o : SolveOut). o .work) e; peaks-left = ap (λ (o : SolveOut). o .peaks) e }
 

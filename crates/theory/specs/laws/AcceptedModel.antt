@@ -210,8 +210,10 @@ sound-choice S b t h l H L g u v =
     let w = h .weights && l .weights in
     let o = or (h .forbids) (l .forbids) in
     sure (choose t H L) (choose-safe any (good-test n next) (leaf-as (S .weights) w o) t H L g
-    (widen _ _ _ _ (test-less n (h .next-step) next (λ x. or-right b _ (or-left (h .next-step) _ x))) (leaf-less (S .weights) (h .weights) w (h .forbids) o (λ x. both (h .weights) (l .weights) x .0) (or-left (h .forbids) (l .forbids))) H u)
-    (widen _ _ _ _ (test-less n (l .next-step) next (λ x. or-right b _ (or-right (h .next-step) _ x))) (leaf-less (S .weights) (l .weights) w (l .forbids) o (λ x. both (h .weights) (l .weights) x .1) (or-right (h .forbids) (l .forbids))) L v))
+    (widen _ _ _ _ (test-less n (h .next-step) next (λ x. or-right b _ (or-left (h .next-step) _ x)))
+    (leaf-less (S .weights) (h .weights) w (h .forbids) o (λ x. both (h .weights) (l .weights) x .0) (or-left (h .forbids) (l .forbids))) H u)
+    (widen _ _ _ _ (test-less n (l .next-step) next (λ x. or-right b _ (or-right (h .next-step) _ x)))
+    (leaf-less (S .weights) (l .weights) w (l .forbids) o (λ x. both (h .weights) (l .weights) x .1) (or-right (h .forbids) (l .forbids))) L v))
 
 -- ---- one command that breaks no rule
 

@@ -99,7 +99,8 @@ module _ (s : State) (r : List Bool) (Ds : List Tree) (ok : Permitted (env s r) 
       ∙ ap (leaf-worth (env s r)) (over-at (env s r) choose (choose-at (env s r)) _
       (λ f. if (leZ (value (env s r) (lin-of f)) (pos 0)) (at (env s r) (result (substitute Ds h))) (at (env s r) (result (substitute Ds l))))
       (λ f. decide-at (env s r) (lin-of f) _ _) (result (linear-diagram Ds p)))
-      ∙ branch-at (leZ (level-at (env s r) (result (linear-diagram Ds p))) (pos 0)) (leZ (value next p) (pos 0)) _ _ h l (ap (λ z. leZ z (pos 0)) (number-level (env s r) (result (linear-diagram Ds p)) (value next p) (linear-at p))) (substitute-next h) (substitute-next l)
+      ∙ branch-at (leZ (level-at (env s r) (result (linear-diagram Ds p))) (pos 0)) (leZ (value next p) (pos 0)) _ _ h l
+      (ap (λ z. leZ z (pos 0)) (number-level (env s r) (result (linear-diagram Ds p)) (value next p) (linear-at p))) (substitute-next h) (substitute-next l)
 
 -- ---- which tests stand in a stage
 

@@ -117,7 +117,8 @@ module _ (n A : ℕ) (W : List ℤ) (r : ℕ) where
   numbers-back f =
       let b = (r - 1) * node-words in
       and-in (all small (take levels-most (drop (b + 1) W))) (small (node-word W r (levels-most + 1)))
-      (each-small (take levels-most (drop (b + 1) W)) (part-each (λ z. T (small z)) tt levels-most (b + 1) W (λ i h. back-62 (getD W (b + 1 + i) (pos 0)) (subst (λ (j : ℕ). In62 (getD W j (pos 0))) (next b i) (f (suc i) (omega arith, omega arith))))))
+      (each-small (take levels-most (drop (b + 1) W)) (part-each (λ z. T (small z)) tt levels-most (b + 1) W
+      (λ i h. back-62 (getD W (b + 1 + i) (pos 0)) (subst (λ (j : ℕ). In62 (getD W j (pos 0))) (next b i) (f (suc i) (omega arith, omega arith))))))
       (back-62 (node-word W r (levels-most + 1)) (f (levels-most + 1) (omega arith, omega arith)))
     where
       next : (b i : ℕ) → b + suc i ≡ b + 1 + i

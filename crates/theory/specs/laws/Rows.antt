@@ -721,7 +721,8 @@ module _ (B : List ℕ) (steps : ℕ) (q : Asked) where
       let out : T (accepted (sited .levels) (sited .conditions) q) → ValueOut = λ t. worth-out (state-worth (model B) steps (state-of (sited .levels) (sited .conditions) q t)) in
       by-early B steps steps-most
       (λ v b. Answer (if b (if-true (accepted (sited .levels) (sited .conditions) q) out (refused-value 13 0)) (refused-value (v .number) (v .place))))
-      (λ p. state-row (accepted (sited .levels) (sited .conditions) q) out (λ t. worth-row p t _ refl) (λ t. plain-13 (admitted p) (λ f. T-not (accepted (sited .levels) (sited .conditions) q) t (state-accepted (sited .levels) (sited .conditions) q f))))
+      (λ p. state-row (accepted (sited .levels) (sited .conditions) q) out (λ t. worth-row p t _ refl)
+      (λ t. plain-13 (admitted p) (λ f. T-not (accepted (sited .levels) (sited .conditions) q) t (state-accepted (sited .levels) (sited .conditions) q f))))
       (λ k p r. plain-1-10 r)
 
   abbrev plain-out : T (accepted (sited .levels) (sited .conditions) q) → ValueOut
@@ -912,5 +913,6 @@ module _ (B : List ℕ) (H : ℕ) (nodes : List ℤ) (stages buffer : List ℕ) 
   listing-is (listing-15 {h = h} d i z) = refused-as 15 0 (omega arith) (ap listed-from (admitted-is d) ∙ if-yes (not set) (refusal 15 0) _
       (by-test set (λ b. T (not b)) (λ s. absurd (T-not (eqb (getD stages (h - 1) 0) 0) (all-from (λ h. not (eqb (getD stages (h - 1) 0) 0)) 1 H s h (i .0) (omega (arith, i .1))) (zero-is (getD stages (h - 1) 0) z))) (λ _. tt)))
   listing-is (listing-14 {r = r} d i z) = refused-as 14 0 (omega arith) (rooted-is d ∙ if-yes (not good) (refusal 14 0) _
-      (by-test good (λ b. T (not b)) (λ s. absurd (T-not (good-row (site-at B .conditions) (site-at B .actions) nodes r) (misfits-bad _ _ nodes r z) (all-from (good-row (site-at B .conditions) (site-at B .actions) nodes) 1 (greatest-root H stages) s r (i .0) (omega (arith, i .1))))) (λ _. tt)))
+      (by-test good (λ b. T (not b)) (λ s. absurd (T-not (good-row (site-at B .conditions) (site-at B .actions) nodes r) (misfits-bad _ _ nodes r z)
+      (all-from (good-row (site-at B .conditions) (site-at B .actions) nodes) 1 (greatest-root H stages) s r (i .0) (omega (arith, i .1))))) (λ _. tt)))
   listing-is (listing-17 d l) = refused-as 17 0 (omega arith) (tabled-is d ∙ if-yes (ltb (length buffer) (at + length t)) (refusal 17 0) (refusal 0 0) (lt→ltb (length buffer) (at + length t) l))

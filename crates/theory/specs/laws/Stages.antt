@@ -99,7 +99,8 @@ module _ (M : Model) (h : ℕ) (P : Tree) (below : Below M h P) where
     unfolding env
     summed-at s = sum-out-at (M .conditions) (M .weights) (moment (suc h) a) kept 1 (taken .chances) moves (ok .chances) (env s [])
         ∙ ap₂ (λ (f : List Bool → Total) (k : ℕ). mean (weight (M .weights) (map (chance-at (env s [])) (taken .chances))) f (settings k))
-        (fun-ext (λ r. ap (λ (e : Env). worth-at e moves) (env-given s r) ∙ substitute-at (M .conditions) s r (taken .levels) (levels-permitted (env s r) (good-test (M .conditions) true) (taken .levels) (ok .levels)) P (below .tests) ∙ (below .worth) (moved s (taken .levels) r)))
+        (fun-ext (λ r. ap (λ (e : Env). worth-at e moves) (env-given s r) ∙ substitute-at (M .conditions) s r (taken .levels)
+        (levels-permitted (env s r) (good-test (M .conditions) true) (taken .levels) (ok .levels)) P (below .tests) ∙ (below .worth) (moved s (taken .levels) r)))
         (ok .count)
 
     total-holds : Holds M totals (final (action-total M (suc h) kept P a taken)) (λ _. a)

@@ -65,14 +65,18 @@ unfolding crosswise
 returns-3 c =
     let at-total = c .before .before .before in let at-if2 = at-total .before .before .before .before in let at-if1 = at-if2 .before .before in
     let start = at-if1 .before .before in let a = start .args in
-    outside-is (crosswise (site-as (a .s)) (site-as (a .r)) (a .steps) (number (a .v .numerator)) (number (a .w .numerator))) (a .v .action) (a .w .action) (at-total .total .ensures) (c .before .enum-told .given .1) (c .refused3 .ensures) ∙ sym (both-some (site-as (a .s)) (site-as (a .r)) (a .steps) (out (a .v)) (out (a .w)) (at-if1 .if1 .left) (at-if2 .if2 .left))
+    outside-is (crosswise (site-as (a .s)) (site-as (a .r)) (a .steps) (number (a .v .numerator)) (number (a .w .numerator))) (a .v .action) (a .w .action)
+    (at-total .total .ensures) (c .before .enum-told .given .1) (c .refused3 .ensures) ∙ sym
+    (both-some (site-as (a .s)) (site-as (a .r)) (a .steps) (out (a .v)) (out (a .w)) (at-if1 .if1 .left) (at-if2 .if2 .left))
 
 returns-4 : tie.Need-returns-4
 unfolding crosswise
 returns-4 c =
     let at-total = c .before .before .before in let at-if2 = at-total .before .before .before .before in let at-if1 = at-if2 .before .before in
     let start = at-if1 .before .before in let a = start .args in
-    inside-is (crosswise (site-as (a .s)) (site-as (a .r)) (a .steps) (number (a .v .numerator)) (number (a .w .numerator))) (a .v .action) (a .w .action) (at-total .total .ensures) (c .before .x .given .1) ∙ sym (both-some (site-as (a .s)) (site-as (a .r)) (a .steps) (out (a .v)) (out (a .w)) (at-if1 .if1 .left) (at-if2 .if2 .left))
+    inside-is (crosswise (site-as (a .s)) (site-as (a .r)) (a .steps) (number (a .v .numerator)) (number (a .w .numerator))) (a .v .action) (a .w .action)
+    (at-total .total .ensures) (c .before .x .given .1) ∙ sym (both-some (site-as (a .s)) (site-as (a .r)) (a .steps) (out (a .v)) (out (a .w)) (at-if1 .if1 .left)
+    (at-if2 .if2 .left))
 
 pub both-read-spec : {M : Type 1} → statement M
 both-read-spec =

@@ -14,7 +14,8 @@ refused-requires c κs = search needs
 returns : tie.Need-returns
 returns c =
     let at-value = c .before .before .before in let start = at-value .before .before .before .before .before .before .before in let a = start .args in
-    first-stops (a .bytes .now) (a .nodes .now) (a .stages .now) (asked (a .q .first)) (a .bytes2 .now) (a .nodes2 .now) (a .stages2 .now) (asked (a .q .second)) (a .q .steps) (at-value .value .ensures) (c .before .if1 .taken) (c .refused .ensures)
+    first-stops (a .bytes .now) (a .nodes .now) (a .stages .now) (asked (a .q .first)) (a .bytes2 .now) (a .nodes2 .now) (a .stages2 .now) (asked (a .q .second))
+    (a .q .steps) (at-value .value .ensures) (c .before .if1 .taken) (c .refused .ensures)
 
 value-requires-2 : tie.Need-value-requires-2
 value-requires-2 c κs = search needs
@@ -26,7 +27,8 @@ returns-2 : tie.Need-returns-2
 returns-2 c =
     let at-value2 = c .before .before .before in let at-if1 = at-value2 .before in let at-value = at-if1 .before .before in
     let start = at-value .before .before .before .before .before .before .before in let a = start .args in
-    second-stops (a .bytes .now) (a .nodes .now) (a .stages .now) (asked (a .q .first)) (a .bytes2 .now) (a .nodes2 .now) (a .stages2 .now) (asked (a .q .second)) (a .q .steps) (at-value .value .ensures) (at-if1 .if1 .left) (at-value2 .value2 .ensures) (c .before .if2 .taken) (c .refused2 .ensures)
+    second-stops (a .bytes .now) (a .nodes .now) (a .stages .now) (asked (a .q .first)) (a .bytes2 .now) (a .nodes2 .now) (a .stages2 .now) (asked (a .q .second))
+    (a .q .steps) (at-value .value .ensures) (at-if1 .if1 .left) (at-value2 .value2 .ensures) (c .before .if2 .taken) (c .refused2 .ensures)
 
 site-requires : tie.Need-site-requires
 site-requires c κs = search needs
@@ -45,7 +47,9 @@ returns-3 c =
     let at-site2 = c .before .before .before in let at-site = at-site2 .before in let at-if2 = at-site .before in let at-value2 = at-if2 .before .before in
     let at-if1 = at-value2 .before in let at-value = at-if1 .before .before in let start = at-value .before .before .before .before .before .before .before in
     let a = start .args in
-    scale-stops (a .bytes .now) (a .nodes .now) (a .stages .now) (asked (a .q .first)) (a .bytes2 .now) (a .nodes2 .now) (a .stages2 .now) (asked (a .q .second)) (a .q .steps) (at-value .value .ensures) (at-if1 .if1 .left) (at-value2 .value2 .ensures) (at-if2 .if2 .left) (at-site .site .ensures) (at-site2 .site2 .ensures) (c .before .before .same-scale .ensures) (c .before .if3 .left) (c .refused3 .ensures)
+    scale-stops (a .bytes .now) (a .nodes .now) (a .stages .now) (asked (a .q .first)) (a .bytes2 .now) (a .nodes2 .now) (a .stages2 .now) (asked (a .q .second))
+    (a .q .steps) (at-value .value .ensures) (at-if1 .if1 .left) (at-value2 .value2 .ensures) (at-if2 .if2 .left) (at-site .site .ensures) (at-site2 .site2 .ensures)
+    (c .before .before .same-scale .ensures) (c .before .if3 .left) (c .refused3 .ensures)
 
 both-read-requires : tie.Need-both-read-requires
 both-read-requires c κs =
@@ -58,7 +62,9 @@ returns-4 c =
     let at-site2 = c .before .before .before in let at-site = at-site2 .before in let at-if2 = at-site .before in let at-value2 = at-if2 .before .before in
     let at-if1 = at-value2 .before in let at-value = at-if1 .before .before in let start = at-value .before .before .before .before .before .before .before in
     let a = start .args in
-    both-stops (a .bytes .now) (a .nodes .now) (a .stages .now) (asked (a .q .first)) (a .bytes2 .now) (a .nodes2 .now) (a .stages2 .now) (asked (a .q .second)) (a .q .steps) (at-value .value .ensures) (at-if1 .if1 .left) (at-value2 .value2 .ensures) (at-if2 .if2 .left) (at-site .site .ensures) (at-site2 .site2 .ensures) (c .before .before .same-scale .ensures) (c .before .if3 .taken) (c .both-read .ensures)
+    both-stops (a .bytes .now) (a .nodes .now) (a .stages .now) (asked (a .q .first)) (a .bytes2 .now) (a .nodes2 .now) (a .stages2 .now) (asked (a .q .second))
+    (a .q .steps) (at-value .value .ensures) (at-if1 .if1 .left) (at-value2 .value2 .ensures) (at-if2 .if2 .left) (at-site .site .ensures) (at-site2 .site2 .ensures)
+    (c .before .before .same-scale .ensures) (c .before .if3 .taken) (c .both-read .ensures)
 
 pub total-spec : {M : Type 1} → statement M
 total-spec =

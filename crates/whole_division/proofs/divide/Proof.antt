@@ -37,7 +37,13 @@ div-t10 : tie.Need-div-t10
 div-t10 c = c .pre
 
 add-t11 : tie.Need-add-t11
-add-t11 c = omega (arith, digit-small (c .args .high % c .args .d) (c .args .low / 4294967296) (c .args .d) (mod-lt (c .args .high) (c .pre)) (omega arith), digit-small ((c .args .high % c .args .d * 4294967296 + c .args .low / 4294967296) % c .args .d) (c .args .low % 4294967296) (c .args .d) (mod-lt (c .args .high % c .args .d * 4294967296 + c .args .low / 4294967296) (c .pre)) (omega arith))
+add-t11 c = omega (
+  arith,
+  digit-small (c .args .high % c .args .d) (c .args .low / 4294967296) (c .args .d) (mod-lt (c .args .high) (c .pre)) (omega arith),
+  digit-small
+      ((c .args .high % c .args .d * 4294967296 + c .args .low / 4294967296) % c .args .d) (c .args .low % 4294967296) (c .args .d)
+      (mod-lt (c .args .high % c .args .d * 4294967296 + c .args .low / 4294967296) (c .pre)) (omega arith),
+)
 
 rem-t12 : tie.Need-rem-t12
 rem-t12 c = c .pre

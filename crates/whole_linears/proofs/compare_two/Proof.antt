@@ -17,7 +17,8 @@ returns-2 c =
 returns-3 : tie.Need-returns-3
 unfolding ordNum
 returns-3 c =
-    let s = (c .before .before) in ap ordNum (sym (cmp-same (s .args .a) (s .args .b) (lt-of (s .args .a) (s .args .b) (s .fits .a) (s .fits .b) (c .before .if1 .left)) (lt-of (s .args .b) (s .args .a) (s .fits .b) (s .fits .a) (c .if2 .left))))
+    let s = (c .before .before) in ap ordNum (sym (cmp-same (s .args .a) (s .args .b) (lt-of (s .args .a) (s .args .b) (s .fits .a) (s .fits .b) (c .before .if1 .left))
+    (lt-of (s .args .b) (s .args .a) (s .fits .b) (s .fits .a) (c .if2 .left))))
 
 pub compare-two-spec : {M : Type 1} → statement M
 compare-two-spec = tie.close (tie.spec returns returns-2 returns-3)

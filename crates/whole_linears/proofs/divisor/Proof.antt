@@ -26,7 +26,8 @@ at-least-one-requires c κs = search needs
 
 returns : tie.Need-returns
 returns c =
-    divisor-is ((c .before .before .before .before .before) .args .t1) _ _ _ _ (c .before .before .before .before .mag-arg .given) (c .before .before .before .mag .ensures) (c .before .before .gcd-first .ensures) (c .before .gcd .ensures) (c .at-least-one .ensures)
+    divisor-is ((c .before .before .before .before .before) .args .t1) _ _ _ _ (c .before .before .before .before .mag-arg .given)
+    (c .before .before .before .mag .ensures) (c .before .before .gcd-first .ensures) (c .before .gcd .ensures) (c .at-least-one .ensures)
 
 pub divisor-spec : {M : Type 1} → statement M
 divisor-spec =

@@ -46,7 +46,11 @@ loop-less c =
 loop-again : tie.Need-loop-again Inv-loop μ-loop
 loop-again c =
     let at-loop-test = c .before .before .before in let at-loop = at-loop-test .before in let start = at-loop .before in
-    let q = at-loop .loop .inv .0 in (omega arith, gcd-more (start .args .t1) (start .good .0 .1 .0 .1) (at-loop .loop .i) _ _ _ q (at-loop-test .loop-test .taken) (at-loop .loop .inv .1) (c .before .before .mag-arg .given) (c .before .mag .ensures) (c .gcd .ensures))
+    let q = at-loop .loop .inv .0 in (
+      omega arith,
+      gcd-more (start .args .t1) (start .good .0 .1 .0 .1) (at-loop .loop .i) _ _ _ q (at-loop-test .loop-test .taken)
+          (at-loop .loop .inv .1) (c .before .before .mag-arg .given) (c .before .mag .ensures) (c .gcd .ensures),
+    )
 
 returns : tie.Need-returns Inv-loop μ-loop
 returns c =

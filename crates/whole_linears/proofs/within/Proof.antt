@@ -33,7 +33,8 @@ mag-requires c κs =
 returns : tie.Need-returns Inv-loop μ-loop
 returns c =
     let at-loop-test = c .before .before .before in let at-loop = at-loop-test .before in
-    let s = (c .before .before .before .before .before) in one-over _ (s .good .0 .1 .0 .1) (at-loop .loop .i) (at-loop .loop .inv .1) (at-loop-test .loop-test .taken) (c .before .before .mag-arg .given) (c .before .mag .ensures) (c .if1 .taken)
+    let s = (c .before .before .before .before .before) in one-over _ (s .good .0 .1 .0 .1) (at-loop .loop .i) (at-loop .loop .inv .1) (at-loop-test .loop-test .taken)
+    (c .before .before .mag-arg .given) (c .before .mag .ensures) (c .if1 .taken)
 
 add-i : tie.Need-add-i Inv-loop μ-loop
 add-i c =
@@ -46,7 +47,11 @@ loop-less c =
 loop-again : tie.Need-loop-again Inv-loop μ-loop
 loop-again c =
     let at-loop-test = c .before .before .before in let at-loop = at-loop-test .before in
-    let s = (c .before .before .before .before .before) in (omega arith, one-fine _ (s .good .0 .1 .0 .1) (at-loop .loop .i) (at-loop .loop .inv .1) (at-loop-test .loop-test .taken) (c .before .before .mag-arg .given) (c .before .mag .ensures) (c .if1 .left))
+    let s = (c .before .before .before .before .before) in (
+      omega arith,
+      one-fine _ (s .good .0 .1 .0 .1) (at-loop .loop .i) (at-loop .loop .inv .1)
+          (at-loop-test .loop-test .taken) (c .before .before .mag-arg .given) (c .before .mag .ensures) (c .if1 .left),
+    )
 
 returns-2 : tie.Need-returns-2 Inv-loop μ-loop
 returns-2 c =

@@ -26,7 +26,8 @@ returns : tie.Need-returns
 returns c =
     let at-from-words2 = c .before .before .before in let at-raised = at-from-words2 .before in let at-from-words = at-raised .before in let start = at-from-words .before in
     let a = start .args in
-    composed (a .x) (a .y) (a .w) (a .k) (a .c) _ _ _ _ _ _ (at-from-words .from-words .ensures) (at-raised .raised .ensures) (at-from-words2 .from-words2 .ensures) (c .before .before .added .ensures) (c .before .raised2 .ensures) (c .fit .ensures)
+    composed (a .x) (a .y) (a .w) (a .k) (a .c) _ _ _ _ _ _ (at-from-words .from-words .ensures) (at-raised .raised .ensures) (at-from-words2 .from-words2 .ensures)
+    (c .before .before .added .ensures) (c .before .raised2 .ensures) (c .fit .ensures)
 
 pub scaled-sum-spec : {M : Type 1} → statement M
 scaled-sum-spec =

@@ -38,7 +38,8 @@ add-result-3 c =
 returns : tie.Need-returns
 returns c =
     let at-layout-in2 = c .before .before .before in let at-byte-in = at-layout-in2 .before in let at-layout-in = at-byte-in .before in let start = at-layout-in .before in
-    parts-sum (form-of (start .args .from)) (form-of (start .args .to)) (start .args .op) (at-byte-in .byte-in .result) (at-layout-in .layout-in .result) (at-layout-in2 .layout-in2 .result) (at-layout-in .layout-in .ensures) (at-byte-in .byte-in .ensures) (at-layout-in2 .layout-in2 .ensures)
+    parts-sum (form-of (start .args .from)) (form-of (start .args .to)) (start .args .op) (at-byte-in .byte-in .result) (at-layout-in .layout-in .result)
+    (at-layout-in2 .layout-in2 .result) (at-layout-in .layout-in .ensures) (at-byte-in .byte-in .ensures) (at-layout-in2 .layout-in2 .ensures)
 
 pub command-len-spec : {M : Type 1} → statement M
 command-len-spec =

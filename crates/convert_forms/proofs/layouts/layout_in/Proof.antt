@@ -52,7 +52,8 @@ parts-requires-9 c κs = search needs
 
 returns-2 : tie.Need-returns-2
 unfolding layout-in
-returns-2 c = rw (ne-eqb _ _ (λ e. c .before .before .before .if1 .left (e ∙ sym (c .before .before .before .before .site-byte .ensures))), c .before .match .keys1) (c .parts2 .ensures ∙ ap (λ (n : ℕ). layout 0 (n * 4) 4) (c .before .before .levels .ensures .0))
+returns-2 c = rw (ne-eqb _ _ (λ e. c .before .before .before .if1 .left (e ∙ sym (c .before .before .before .before .site-byte .ensures))), c .before .match .keys1)
+    (c .parts2 .ensures ∙ ap (λ (n : ℕ). layout 0 (n * 4) 4) (c .before .before .levels .ensures .0))
 
 returns-3 : tie.Need-returns-3
 unfolding layout-in
@@ -60,29 +61,45 @@ returns-3 c = rw (ne-eqb _ _ (λ e. c .before .before .before .if1 .left (e ∙ 
 
 returns-4 : tie.Need-returns-4
 unfolding layout-in
-returns-4 c = rw (ne-eqb _ _ (λ e. c .before .before .before .if1 .left (e ∙ sym (c .before .before .before .before .site-byte .ensures))), c .before .match .keys3) (c .parts4 .ensures ∙ ap (λ (n : ℕ). layout 0 (n * 4) 4) (c .before .before .levels .ensures .0))
+returns-4 c = rw (ne-eqb _ _ (λ e. c .before .before .before .if1 .left (e ∙ sym (c .before .before .before .before .site-byte .ensures))), c .before .match .keys3)
+    (c .parts4 .ensures ∙ ap (λ (n : ℕ). layout 0 (n * 4) 4) (c .before .before .levels .ensures .0))
 
 returns-5 : tie.Need-returns-5
 unfolding layout-in
-returns-5 c = rw (ne-eqb _ _ (λ e. c .before .before .before .if1 .left (e ∙ sym (c .before .before .before .before .site-byte .ensures))), c .before .match .keys4) (c .parts5 .ensures ∙ ap (λ (n : ℕ). layout 0 n 0) (c .before .before .before .before .before .action-bytes .ensures .0))
+returns-5 c = rw (ne-eqb _ _ (λ e. c .before .before .before .if1 .left (e ∙ sym (c .before .before .before .before .site-byte .ensures))), c .before .match .keys4)
+    (c .parts5 .ensures ∙ ap (λ (n : ℕ). layout 0 n 0) (c .before .before .before .before .before .action-bytes .ensures .0))
 
 returns-6 : tie.Need-returns-6
 unfolding layout-in
-returns-6 c = rw (ne-eqb _ _ (λ e. c .before .before .before .if1 .left (e ∙ sym (c .before .before .before .before .site-byte .ensures))), c .before .match .keys5) (c .parts6 .ensures ∙ ap (λ (n : ℕ). layout 0 n 1) (c .before .before .before .before .before .action-bytes .ensures .0))
+returns-6 c = rw (ne-eqb _ _ (λ e. c .before .before .before .if1 .left (e ∙ sym (c .before .before .before .before .site-byte .ensures))), c .before .match .keys5)
+    (c .parts6 .ensures ∙ ap (λ (n : ℕ). layout 0 n 1) (c .before .before .before .before .before .action-bytes .ensures .0))
 
 returns-7 : tie.Need-returns-7
 unfolding layout-in
-returns-7 c = rw (ne-eqb _ _ (λ e. c .before .before .before .if1 .left (e ∙ sym (c .before .before .before .before .site-byte .ensures))), c .before .match .keys6) (c .parts7 .ensures ∙ ap (λ (n : ℕ). layout 0 n 1) (c .before .before .before .before .before .action-bytes .ensures .0))
+returns-7 c = rw (ne-eqb _ _ (λ e. c .before .before .before .if1 .left (e ∙ sym (c .before .before .before .before .site-byte .ensures))), c .before .match .keys6)
+    (c .parts7 .ensures ∙ ap (λ (n : ℕ). layout 0 n 1) (c .before .before .before .before .before .action-bytes .ensures .0))
 
 returns-8 : tie.Need-returns-8
 unfolding layout-in
-returns-8 c = rw (ne-eqb _ _ (λ e. c .before .before .before .if1 .left (e ∙ sym (c .before .before .before .before .site-byte .ensures))), c .before .match .keys7) (c .parts8 .ensures ∙ ap (λ (n : ℕ). layout 0 n 16) (c .before .before .before .before .before .action-bytes .ensures .0))
+returns-8 c = rw (ne-eqb _ _ (λ e. c .before .before .before .if1 .left (e ∙ sym (c .before .before .before .before .site-byte .ensures))), c .before .match .keys7)
+    (c .parts8 .ensures ∙ ap (λ (n : ℕ). layout 0 n 16) (c .before .before .before .before .before .action-bytes .ensures .0))
 
 returns-9 : tie.Need-returns-9
 unfolding layout-in
 returns-9 c =
     let r = c .before .match .rest in
-    simp (ne-eqb _ _ (λ e. c .before .before .before .if1 .left (e ∙ sym (c .before .before .before .before .site-byte .ensures))), ne-eqb _ _ (r .0 .0 .0 .0 .0 .0 .1), ne-eqb _ _ (r .0 .0 .0 .0 .0 .1), ne-eqb _ _ (r .0 .0 .0 .0 .1), ne-eqb _ _ (r .0 .0 .0 .1), ne-eqb _ _ (r .0 .0 .1), ne-eqb _ _ (r .0 .1), ne-eqb _ _ (r .1)) (c .parts9 .ensures)
+    simp (
+      ne-eqb _ _ (λ e. c .before .before .before .if1 .left (e ∙ sym (c .before .before .before .before .site-byte .ensures))),
+      ne-eqb _ _
+          (r .0 .0 .0 .0 .0 .0 .1),
+      ne-eqb _ _ (r .0 .0 .0 .0 .0 .1),
+      ne-eqb _ _ (r .0 .0 .0 .0 .1),
+      ne-eqb _ _ (r .0 .0 .0 .1),
+      ne-eqb _ _ (r .0 .0 .1),
+      ne-eqb _ _
+          (r .0 .1),
+      ne-eqb _ _ (r .1),
+    ) (c .parts9 .ensures)
 
 pub layout-in-spec : {M : Type 1} → statement M
 layout-in-spec =

@@ -57,7 +57,13 @@ slice-write-out : tie.Need-slice-write-out
 slice-write-out c =
     let at-layout-in2 = c .before .before .before in let at-layout-in = at-layout-in2 .before in let at-byte-in = at-layout-in .before in let at-byte-at = at-byte-in .before in
     let start = at-byte-at .before .before .before in
-    omega (arith, start .pre .0, parts-long (form-of (start .args .from)) (form-of (start .args .to)) (start .args .model .now) (start .args .at) (at-byte-at .byte-at .result) (at-byte-in .byte-in .result) (at-layout-in .layout-in .result) (at-layout-in2 .layout-in2 .result) (at-byte-at .byte-at .ensures) (at-byte-in .byte-in .ensures) (at-layout-in .layout-in .ensures) (at-layout-in2 .layout-in2 .ensures))
+    omega (
+      arith,
+      start .pre .0,
+      parts-long (form-of (start .args .from)) (form-of (start .args .to)) (start .args .model .now) (start .args .at)
+          (at-byte-at .byte-at .result) (at-byte-in .byte-in .result) (at-layout-in .layout-in .result) (at-layout-in2 .layout-in2 .result) (at-byte-at .byte-at .ensures)
+          (at-byte-in .byte-in .ensures) (at-layout-in .layout-in .ensures) (at-layout-in2 .layout-in2 .ensures),
+    )
 
 add-put-fitted : tie.Need-add-put-fitted
 add-put-fitted c = search needs
@@ -69,23 +75,66 @@ put-fitted-requires : tie.Need-put-fitted-requires
 put-fitted-requires c κs =
     let at-layout-in2 = c .before .before .before .before in let at-layout-in = at-layout-in2 .before in let at-byte-in = at-layout-in .before in
     let at-byte-at = at-byte-in .before in let start = at-byte-at .before .before .before in
-    let x = few-as _ _ (at-layout-in .layout-in .result) (at-layout-in .layout-in .ensures) in
-    (omega (arith, start .pre .0, parts-long (form-of (start .args .from)) (form-of (start .args .to)) (start .args .model .now) (start .args .at) (at-byte-at .byte-at .result) (at-byte-in .byte-in .result) (at-layout-in .layout-in .result) (at-layout-in2 .layout-in2 .result) (at-byte-at .byte-at .ensures) (at-byte-in .byte-in .ensures) (at-layout-in .layout-in .ensures) (at-layout-in2 .layout-in2 .ensures), length-set (start .args .out .now) (start .args .next) (at-byte-in .byte-in .result)), omega (arith, x .before, start .pre .1))
+    let x = few-as _ _ (at-layout-in .layout-in .result) (at-layout-in .layout-in .ensures) in (
+      omega (
+        arith,
+        start .pre .0,
+        parts-long (form-of (start .args .from)) (form-of (start .args .to)) (start .args .model .now) (start .args .at)
+            (at-byte-at .byte-at .result) (at-byte-in .byte-in .result) (at-layout-in .layout-in .result) (at-layout-in2 .layout-in2 .result) (at-byte-at .byte-at .ensures)
+            (at-byte-in .byte-in .ensures) (at-layout-in .layout-in .ensures) (at-layout-in2 .layout-in2 .ensures),
+        length-set (start .args .out .now) (start .args .next)
+            (at-byte-in .byte-in .result),
+      ),
+      omega (arith, x .before, start .pre .1),
+    )
 
 put-fitted-requires-2 : tie.Need-put-fitted-requires-2
 put-fitted-requires-2 c κs =
     let at-put-fitted = c .before .before .before in let at-layout-in2 = at-put-fitted .before .before .before .before .before in let at-layout-in = at-layout-in2 .before in
     let at-byte-in = at-layout-in .before in let at-byte-at = at-byte-in .before in let start = at-byte-at .before .before .before in
-    let x = few-as _ _ (at-layout-in .layout-in .result) (at-layout-in .layout-in .ensures) in
-    (omega (arith, start .pre .0, parts-long (form-of (start .args .from)) (form-of (start .args .to)) (start .args .model .now) (start .args .at) (at-byte-at .byte-at .result) (at-byte-in .byte-in .result) (at-layout-in .layout-in .result) (at-layout-in2 .layout-in2 .result) (at-byte-at .byte-at .ensures) (at-byte-in .byte-in .ensures) (at-layout-in .layout-in .ensures) (at-layout-in2 .layout-in2 .ensures), length-set (start .args .out .now) (start .args .next) (at-byte-in .byte-in .result), at-put-fitted .put-fitted .ensures .behind, fitted-length (at-layout-in .layout-in .result .before) (copied (start .args .model .now) (start .args .at + 1) (at-layout-in .layout-in .result .before)), at-put-fitted .put-fitted .kept .0), omega (arith, x .before, x .differing, start .pre .1))
+    let x = few-as _ _ (at-layout-in .layout-in .result) (at-layout-in .layout-in .ensures) in (
+      omega (
+        arith,
+        start .pre .0,
+        parts-long (form-of (start .args .from)) (form-of (start .args .to)) (start .args .model .now) (start .args .at)
+            (at-byte-at .byte-at .result) (at-byte-in .byte-in .result) (at-layout-in .layout-in .result) (at-layout-in2 .layout-in2 .result) (at-byte-at .byte-at .ensures)
+            (at-byte-in .byte-in .ensures) (at-layout-in .layout-in .ensures) (at-layout-in2 .layout-in2 .ensures),
+        length-set (start .args .out .now) (start .args .next)
+            (at-byte-in .byte-in .result),
+        at-put-fitted .put-fitted .ensures .behind,
+        fitted-length (at-layout-in .layout-in .result .before)
+            (copied (start .args .model .now) (start .args .at + 1) (at-layout-in .layout-in .result .before)),
+        at-put-fitted .put-fitted .kept .0,
+      ),
+      omega
+          (arith, x .before, x .differing, start .pre .1),
+    )
 
 put-fitted-requires-3 : tie.Need-put-fitted-requires-3
 put-fitted-requires-3 c κs =
     let at-put-fitted2 = c .before .before .before in let at-put-fitted = at-put-fitted2 .before .before .before .before in
     let at-layout-in2 = at-put-fitted .before .before .before .before .before in let at-layout-in = at-layout-in2 .before in let at-byte-in = at-layout-in .before in
     let at-byte-at = at-byte-in .before in let start = at-byte-at .before .before .before in
-    let x = few-as _ _ (at-layout-in .layout-in .result) (at-layout-in .layout-in .ensures) in
-    (omega (arith, start .pre .0, parts-long (form-of (start .args .from)) (form-of (start .args .to)) (start .args .model .now) (start .args .at) (at-byte-at .byte-at .result) (at-byte-in .byte-in .result) (at-layout-in .layout-in .result) (at-layout-in2 .layout-in2 .result) (at-byte-at .byte-at .ensures) (at-byte-in .byte-in .ensures) (at-layout-in .layout-in .ensures) (at-layout-in2 .layout-in2 .ensures), length-set (start .args .out .now) (start .args .next) (at-byte-in .byte-in .result), at-put-fitted .put-fitted .ensures .behind, fitted-length (at-layout-in .layout-in .result .before) (copied (start .args .model .now) (start .args .at + 1) (at-layout-in .layout-in .result .before)), at-put-fitted .put-fitted .kept .0, at-put-fitted2 .put-fitted2 .ensures .behind, fitted-length (at-layout-in2 .layout-in2 .result .differing) (copied (start .args .model .now) (start .args .at + (1 + at-layout-in .layout-in .result .before)) (at-layout-in .layout-in .result .differing)), at-put-fitted2 .put-fitted2 .kept .0), omega (arith, x .before, x .differing, x .behind, start .pre .1))
+    let x = few-as _ _ (at-layout-in .layout-in .result) (at-layout-in .layout-in .ensures) in (
+      omega (
+        arith,
+        start .pre .0,
+        parts-long (form-of (start .args .from)) (form-of (start .args .to)) (start .args .model .now) (start .args .at)
+            (at-byte-at .byte-at .result) (at-byte-in .byte-in .result) (at-layout-in .layout-in .result) (at-layout-in2 .layout-in2 .result) (at-byte-at .byte-at .ensures)
+            (at-byte-in .byte-in .ensures) (at-layout-in .layout-in .ensures) (at-layout-in2 .layout-in2 .ensures),
+        length-set (start .args .out .now) (start .args .next)
+            (at-byte-in .byte-in .result),
+        at-put-fitted .put-fitted .ensures .behind,
+        fitted-length (at-layout-in .layout-in .result .before)
+            (copied (start .args .model .now) (start .args .at + 1) (at-layout-in .layout-in .result .before)),
+        at-put-fitted .put-fitted .kept .0,
+        at-put-fitted2 .put-fitted2 .ensures .behind,
+        fitted-length (at-layout-in2 .layout-in2 .result .differing)
+            (copied (start .args .model .now) (start .args .at + (1 + at-layout-in .layout-in .result .before)) (at-layout-in .layout-in .result .differing)),
+        at-put-fitted2 .put-fitted2 .kept .0,
+      ),
+      omega (arith, x .before, x .differing, x .behind, start .pre .1),
+    )
 
 same-length : tie.Need-same-length
 same-length c =
@@ -98,11 +147,37 @@ returns c =
     let at-put-fitted2 = c .before .before .before .before .before .before in let at-put-fitted = at-put-fitted2 .before .before .before .before in
     let at-layout-in2 = at-put-fitted .before .before .before .before .before in let at-layout-in = at-layout-in2 .before in let at-byte-in = at-layout-in .before in
     let at-byte-at = at-byte-in .before in let start = at-byte-at .before .before .before in
-    let u = parts-long (form-of (start .args .from)) (form-of (start .args .to)) (start .args .model .now) (start .args .at) (at-byte-at .byte-at .result) (at-byte-in .byte-in .result) (at-layout-in .layout-in .result) (at-layout-in2 .layout-in2 .result) (at-byte-at .byte-at .ensures) (at-byte-in .byte-in .ensures) (at-layout-in .layout-in .ensures) (at-layout-in2 .layout-in2 .ensures) in
+    let u = parts-long (form-of (start .args .from)) (form-of (start .args .to)) (start .args .model .now) (start .args .at) (at-byte-at .byte-at .result)
+    (at-byte-in .byte-in .result) (at-layout-in .layout-in .result) (at-layout-in2 .layout-in2 .result) (at-byte-at .byte-at .ensures) (at-byte-in .byte-in .ensures)
+    (at-layout-in .layout-in .ensures) (at-layout-in2 .layout-in2 .ensures) in
     let v = length-set (start .args .out .now) (start .args .next) (at-byte-in .byte-in .result) in
-    command-put (form-of (start .args .from)) (form-of (start .args .to)) (start .args .model .now) (start .args .at) (at-byte-at .byte-at .result) (at-byte-in .byte-in .result) (at-layout-in .layout-in .result) (at-layout-in2 .layout-in2 .result) (at-byte-at .byte-at .ensures) (at-byte-in .byte-in .ensures) (at-layout-in .layout-in .ensures) (at-layout-in2 .layout-in2 .ensures)
-    (omega (arith, start .pre .0, u)) (omega (arith, v, at-put-fitted .put-fitted .kept .0)) (omega (arith, start .pre .0, u, at-put-fitted .put-fitted .ensures .behind, fitted-length (at-layout-in .layout-in .result .before) (copied (start .args .model .now) (start .args .at + 1) (at-layout-in .layout-in .result .before)), at-put-fitted .put-fitted .kept .0))
-    (omega (arith, v, at-put-fitted .put-fitted .kept .0, at-put-fitted2 .put-fitted2 .kept .0)) (omega (arith, start .pre .0, u, at-put-fitted .put-fitted .ensures .behind, fitted-length (at-layout-in .layout-in .result .before) (copied (start .args .model .now) (start .args .at + 1) (at-layout-in .layout-in .result .before)), at-put-fitted .put-fitted .kept .0, at-put-fitted2 .put-fitted2 .ensures .behind, fitted-length (at-layout-in2 .layout-in2 .result .differing) (copied (start .args .model .now) (start .args .at + (1 + at-layout-in .layout-in .result .before)) (at-layout-in .layout-in .result .differing)), at-put-fitted2 .put-fitted2 .kept .0)) (at-put-fitted .put-fitted .ensures) (at-put-fitted2 .put-fitted2 .ensures) (c .before .before .put-fitted3 .ensures)
+    command-put (form-of (start .args .from)) (form-of (start .args .to)) (start .args .model .now) (start .args .at) (at-byte-at .byte-at .result)
+    (at-byte-in .byte-in .result) (at-layout-in .layout-in .result) (at-layout-in2 .layout-in2 .result) (at-byte-at .byte-at .ensures) (at-byte-in .byte-in .ensures)
+    (at-layout-in .layout-in .ensures) (at-layout-in2 .layout-in2 .ensures)
+    (omega (arith, start .pre .0, u)) (omega (arith, v, at-put-fitted .put-fitted .kept .0))
+    (omega (
+      arith,
+      start .pre .0,
+      u,
+      at-put-fitted .put-fitted .ensures .behind,
+      fitted-length (at-layout-in .layout-in .result .before)
+          (copied (start .args .model .now) (start .args .at + 1) (at-layout-in .layout-in .result .before)),
+      at-put-fitted .put-fitted .kept .0,
+    ))
+    (omega (arith, v, at-put-fitted .put-fitted .kept .0, at-put-fitted2 .put-fitted2 .kept .0))
+    (omega (
+      arith,
+      start .pre .0,
+      u,
+      at-put-fitted .put-fitted .ensures .behind,
+      fitted-length (at-layout-in .layout-in .result .before)
+          (copied (start .args .model .now) (start .args .at + 1) (at-layout-in .layout-in .result .before)),
+      at-put-fitted .put-fitted .kept .0,
+      at-put-fitted2 .put-fitted2 .ensures .behind,
+      fitted-length (at-layout-in2 .layout-in2 .result .differing)
+          (copied (start .args .model .now) (start .args .at + (1 + at-layout-in .layout-in .result .before)) (at-layout-in .layout-in .result .differing)),
+      at-put-fitted2 .put-fitted2 .kept .0,
+    )) (at-put-fitted .put-fitted .ensures) (at-put-fitted2 .put-fitted2 .ensures) (c .before .before .put-fitted3 .ensures)
 
 pub put-command-spec : {M : Type 1} → statement M
 put-command-spec =

@@ -12,7 +12,8 @@ abbrev μ-loop : tie.MeasureT-loop
 μ-loop out₀ at model from size wanted j₀ out j = wanted - j
 
 loop-holds : tie.Need-loop-holds Inv-loop μ-loop
-loop-holds c = fill-starts (c .before .before .args .out .now) (c .before .before .args .at) (c .before .before .args .model .now) (c .before .before .args .from) (c .before .before .args .size) (c .before .before .args .wanted) (c .before .before .pre .0)
+loop-holds c = fill-starts (c .before .before .args .out .now) (c .before .before .args .at) (c .before .before .args .model .now) (c .before .before .args .from)
+    (c .before .before .args .size) (c .before .before .args .wanted) (c .before .before .pre .0)
 
 operand-byte-requires : tie.Need-operand-byte-requires Inv-loop μ-loop
 operand-byte-requires c κs = c .before .before .before .before .pre .1
@@ -33,7 +34,9 @@ loop-less c = omega (arith, c .before .loop-test .taken)
 loop-again : tie.Need-loop-again Inv-loop μ-loop
 loop-again c =
     let start = c .before .before .before .before .before in
-    fill-on (start .args .out .now) (start .args .at) (start .args .model .now) (start .args .from) (start .args .size) (start .args .wanted) (start .pre .0) (c .before .before .loop .j) (c .operand-byte .result) (c .before .before .loop .out) (c .before .before .loop .inv) (c .before .loop-test .taken) (c .operand-byte .ensures)
+    fill-on (start .args .out .now) (start .args .at) (start .args .model .now) (start .args .from) (start .args .size) (start .args .wanted) (start .pre .0)
+    (c .before .before .loop .j) (c .operand-byte .result) (c .before .before .loop .out) (c .before .before .loop .inv) (c .before .loop-test .taken)
+    (c .operand-byte .ensures)
 
 add-result : tie.Need-add-result Inv-loop μ-loop
 add-result c = omega (arith, c .before .before .before .before .pre .0, c .before .loop .inv .most)
@@ -44,7 +47,8 @@ same-length c = c .before .loop .inv .long
 returns : tie.Need-returns Inv-loop μ-loop
 returns c =
     let start = c .before .before .before .before in
-    fill-ends (start .args .out .now) (start .args .at) (start .args .model .now) (start .args .from) (start .args .size) (start .args .wanted) (start .pre .0) (c .before .loop .j) (c .before .loop .out) (c .before .loop .inv) (c .loop-test .left)
+    fill-ends (start .args .out .now) (start .args .at) (start .args .model .now) (start .args .from) (start .args .size) (start .args .wanted) (start .pre .0)
+    (c .before .loop .j) (c .before .loop .out) (c .before .loop .inv) (c .loop-test .left)
 
 pub put-fitted-spec : {M : Type 1} → statement M
 put-fitted-spec =

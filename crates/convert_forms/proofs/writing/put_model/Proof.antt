@@ -36,14 +36,20 @@ loop-less : tie.Need-loop-less Inv-loop μ-loop
 loop-less c =
     let at-command-in = c .before .before .before in let at-put-command = at-command-in .before .before .before in let at-loop = at-put-command .before .before in
     let start = at-loop .before .before .before in
-    let q = write-on (at-loop .loop .inv) (at-put-command .put-command .result) (at-put-command .put-command .last .0) (at-put-command .put-command .ensures) (at-put-command .put-command .kept .0) (goes (form-of (start .args .from)) (start .args .model .now) (at-loop .loop .at) (at-command-in .command-in .result) (c .before .before .goes-on .result) true (at-command-in .command-in .ensures) (c .before .before .goes-on .ensures) (c .before .if1 .taken)) (c .next-after-in .result) (c .next-after-in .ensures) in
+    let q = write-on (at-loop .loop .inv) (at-put-command .put-command .result) (at-put-command .put-command .last .0) (at-put-command .put-command .ensures)
+    (at-put-command .put-command .kept .0) (goes (form-of (start .args .from)) (start .args .model .now) (at-loop .loop .at) (at-command-in .command-in .result)
+    (c .before .before .goes-on .result) true (at-command-in .command-in .ensures) (c .before .before .goes-on .ensures) (c .before .if1 .taken))
+    (c .next-after-in .result) (c .next-after-in .ensures) in
     omega (arith, q .1, q .0 .pass .inside)
 
 loop-again : tie.Need-loop-again Inv-loop μ-loop
 loop-again c =
     let at-command-in = c .before .before .before in let at-put-command = at-command-in .before .before .before in let at-loop = at-put-command .before .before in
     let start = at-loop .before .before .before in
-    write-on (at-loop .loop .inv) (at-put-command .put-command .result) (at-put-command .put-command .last .0) (at-put-command .put-command .ensures) (at-put-command .put-command .kept .0) (goes (form-of (start .args .from)) (start .args .model .now) (at-loop .loop .at) (at-command-in .command-in .result) (c .before .before .goes-on .result) true (at-command-in .command-in .ensures) (c .before .before .goes-on .ensures) (c .before .if1 .taken)) (c .next-after-in .result) (c .next-after-in .ensures) .0
+    write-on (at-loop .loop .inv) (at-put-command .put-command .result) (at-put-command .put-command .last .0) (at-put-command .put-command .ensures)
+    (at-put-command .put-command .kept .0) (goes (form-of (start .args .from)) (start .args .model .now) (at-loop .loop .at) (at-command-in .command-in .result)
+    (c .before .before .goes-on .result) true (at-command-in .command-in .ensures) (c .before .before .goes-on .ensures) (c .before .if1 .taken))
+    (c .next-after-in .result) (c .next-after-in .ensures) .0
 
 same-length : tie.Need-same-length Inv-loop μ-loop
 same-length c =
@@ -53,7 +59,9 @@ same-length c =
 returns : tie.Need-returns Inv-loop μ-loop
 returns c =
     let at-put-command = c .before .before .before .before .before in let at-loop = at-put-command .before .before in let start = at-loop .before .before .before in
-    write-ends (at-loop .loop .inv) (at-put-command .put-command .result) (at-put-command .put-command .last .0) (at-put-command .put-command .ensures) (at-put-command .put-command .kept .0) (goes (form-of (start .args .from)) (start .args .model .now) (at-loop .loop .at) (c .before .before .command-in .result) (c .before .goes-on .result) false (c .before .before .command-in .ensures) (c .before .goes-on .ensures) (c .if1 .left))
+    write-ends (at-loop .loop .inv) (at-put-command .put-command .result) (at-put-command .put-command .last .0) (at-put-command .put-command .ensures)
+    (at-put-command .put-command .kept .0) (goes (form-of (start .args .from)) (start .args .model .now) (at-loop .loop .at) (c .before .before .command-in .result)
+    (c .before .goes-on .result) false (c .before .before .command-in .ensures) (c .before .goes-on .ensures) (c .if1 .left))
 
 pub put-model-spec : {M : Type 1} → statement M
 put-model-spec =

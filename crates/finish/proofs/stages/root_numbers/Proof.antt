@@ -64,8 +64,11 @@ loop-less c =
 
 loop-again : tie.Need-loop-again Inv-loop μ-loop
 loop-again c =
-    let at-loop = c .before .before .before in let start = at-loop .before in
-    (numbers-go (start .args .work .now) (start .args .cap) (start .args .roots .now) (start .args .stages .now) (start .pre .3) (at-loop .loop .inv .0) (c .before .before .loop-test .taken), omega (arith, c .before .before .loop-test .taken))
+    let at-loop = c .before .before .before in let start = at-loop .before in (
+      numbers-go (start .args .work .now) (start .args .cap) (start .args .roots .now) (start .args .stages .now) (start .pre .3) (at-loop .loop .inv .0)
+          (c .before .before .loop-test .taken),
+      omega (arith, c .before .before .loop-test .taken),
+    )
 
 same-length : tie.Need-same-length Inv-loop μ-loop
 same-length c =
@@ -73,7 +76,8 @@ same-length c =
 
 returns : tie.Need-returns Inv-loop μ-loop
 returns c =
-    numbers-end ((c .before .before) .args .work .now) ((c .before .before) .args .cap) ((c .before .before) .args .roots .now) ((c .before .before) .args .stages .now) (c .before .loop .inv .0) (c .loop-test .left) (c .before .loop .inv .1)
+    numbers-end ((c .before .before) .args .work .now) ((c .before .before) .args .cap) ((c .before .before) .args .roots .now) ((c .before .before) .args .stages .now)
+    (c .before .loop .inv .0) (c .loop-test .left) (c .before .loop .inv .1)
 
 pub root-numbers-spec : {M : Type 1} → statement M
 root-numbers-spec =

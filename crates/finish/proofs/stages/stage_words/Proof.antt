@@ -15,7 +15,8 @@ same-length c = search needs
 returns : tie.Need-returns
 returns c =
     let at-root-numbers = c .before .before .before .before .before .before in let start = at-root-numbers .before .before .before .before .before in
-    numbers-wiped (start .args .work .now) (start .args .cap) (start .args .roots .now) (start .args .stages .now) (at-root-numbers .root-numbers .kept .1 .1 .0) (at-root-numbers .root-numbers .ensures) (c .before .before .words-from .ensures)
+    numbers-wiped (start .args .work .now) (start .args .cap) (start .args .roots .now) (start .args .stages .now) (at-root-numbers .root-numbers .kept .1 .1 .0)
+    (at-root-numbers .root-numbers .ensures) (c .before .before .words-from .ensures)
 
 pub stage-words-spec : {M : Type 1} → statement M
 stage-words-spec =

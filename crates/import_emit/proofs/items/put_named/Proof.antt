@@ -29,7 +29,7 @@ slice-aggregate-put-name c = search needs
 
 put-name-requires : tie.Need-put-name-requires
 put-name-requires c κs =
-    let at-spell = c .before .before .before in let at-if1 = at-spell .before in let place = at-if1 .before .before .before in let s = place in
+    let at-spell = c .before .before .before in let at-if1 = at-spell .before in let s = at-if1 .before .before .before in
     let b = at-spell .spell in
     omega (arith, name-length (s .args .o .action) (b .result), b .ensures .long, at-if1 .if1 .left, s .pre .0 .room)
 

@@ -70,7 +70,8 @@ returns-2 : tie.Need-returns-2 Inv-loop μ-loop
 returns-2 c =
     let at-after-byte = c .before .before .before in let at-bracket-at = at-after-byte .before in let at-loop-test = at-bracket-at .before .before in
     let at-loop = at-loop-test .before in
-    else-spotted _ _ (at-loop .loop .s) _ _ (c .result-behind .result) (at-loop-test .loop-test .taken) (at-bracket-at .bracket-at .ensures) (sym (c .before .enum-told2 .given .1) ∙ at-after-byte .after-byte .ensures) (at-loop .loop .inv) (c .result-behind .ensures)
+    else-spotted _ _ (at-loop .loop .s) _ _ (c .result-behind .result) (at-loop-test .loop-test .taken) (at-bracket-at .bracket-at .ensures)
+    (sym (c .before .enum-told2 .given .1) ∙ at-after-byte .after-byte .ensures) (at-loop .loop .inv) (c .result-behind .ensures)
 
 enum-told-3 : tie.Need-enum-told-3 Inv-loop μ-loop
 enum-told-3 c = search needs

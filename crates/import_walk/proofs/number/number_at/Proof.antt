@@ -38,7 +38,8 @@ loop-less : tie.Need-loop-less Inv-loop μ-loop
 loop-less c = omega arith
 
 loop-again : tie.Need-loop-again Inv-loop μ-loop
-loop-again c = count-on _ _ _ _ _ _ (c .before .before .before .before .before .loop .inv) (c .before .before .before .before .loop-test .taken) (sym (c .before .before .goes-on .ensures) ∙ c .before .if1 .taken) (c .grown .ensures .0) (c .grown .ensures .1)
+loop-again c = count-on _ _ _ _ _ _ (c .before .before .before .before .before .loop .inv) (c .before .before .before .before .loop-test .taken)
+    (sym (c .before .before .goes-on .ensures) ∙ c .before .if1 .taken) (c .grown .ensures .0) (c .grown .ensures .1)
 
 returns : tie.Need-returns Inv-loop μ-loop
 returns c = count-here _ _ _ _ _ (c .before .before .before .before .loop .inv) (c .before .before .before .loop-test .taken) (sym (c .before .goes-on .ensures) ∙ c .if1 .left) _ refl refl

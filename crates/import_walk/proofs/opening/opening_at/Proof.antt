@@ -34,7 +34,8 @@ behind-requires : tie.Need-behind-requires
 behind-requires c κs = search needs
 
 returns : tie.Need-returns
-returns c = opening-joined _ _ _ _ _ _ _ _ _ (c .before .before .before .before .before .byte-at .ensures) (c .before .before .before .before .byte-at2 .ensures) (c .before .before .before .kind-of .ensures) (c .before .before .action-at .ensures) (c .before .index-at .ensures) (c .behind .ensures) refl refl refl refl
+returns c = opening-joined _ _ _ _ _ _ _ _ _ (c .before .before .before .before .before .byte-at .ensures) (c .before .before .before .before .byte-at2 .ensures)
+    (c .before .before .before .kind-of .ensures) (c .before .before .action-at .ensures) (c .before .index-at .ensures) (c .behind .ensures) refl refl refl refl
 
 pub opening-at-spec : {M : Type 1} → statement M
 opening-at-spec =

@@ -29,7 +29,8 @@ zeros-requires c κs = search needs
 returns : tie.Need-returns
 returns c =
     let start = c .before .before .before .before in
-    ap not (c .zeros .ensures ∙ ap (λ (k : ℕ). zeros (signed-from (start .args .model .now) (start .args .from + start .args .m * 4) (k - start .args .m))) (c .before .before .levels .ensures .0)) ∙ beyond-from (start .args .model .now) (form-of (start .args .form)) (start .args .m) (start .args .from)
+    ap not (c .zeros .ensures ∙ ap (λ (k : ℕ). zeros (signed-from (start .args .model .now) (start .args .from + start .args .m * 4) (k - start .args .m)))
+    (c .before .before .levels .ensures .0)) ∙ beyond-from (start .args .model .now) (form-of (start .args .form)) (start .args .m) (start .args .from)
 
 returns-2 : tie.Need-returns-2
 returns-2 c =

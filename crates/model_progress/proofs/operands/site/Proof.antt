@@ -34,7 +34,12 @@ returns-3 : tie.Need-returns-3
 unfolding first-broken site-rules
 returns-3 c =
     let at-if2 = c .before .before .before in let at-if1 = at-if2 .before in let at-among = at-if1 .before in let at-levels = at-among .before in let start = at-levels .before in
-    simp (sym (at-among .among .ensures ∙ ap (λ (n : ℕ). is-among n (start .args .m)) (at-levels .levels .ensures .0)) ∙ at-if1 .if1 .taken, le-ltb _ _ (at-if2 .if2 .left), sym (c .before .among2 .ensures ∙ ap (λ (n : ℕ). is-among n (start .args .a)) (c .before .before .actions .ensures)) ∙ c .if3 .left)
+    simp (
+      sym (at-among .among .ensures ∙ ap (λ (n : ℕ). is-among n (start .args .m)) (at-levels .levels .ensures .0)) ∙ at-if1 .if1 .taken,
+      le-ltb _ _
+          (at-if2 .if2 .left),
+      sym (c .before .among2 .ensures ∙ ap (λ (n : ℕ). is-among n (start .args .a)) (c .before .before .actions .ensures)) ∙ c .if3 .left,
+    )
 
 among-requires-3 : tie.Need-among-requires-3
 among-requires-3 c κs = search needs
@@ -44,14 +49,28 @@ unfolding first-broken site-rules
 returns-4 c =
     let at-among2 = c .before .before .before in let at-actions = at-among2 .before in let at-if2 = at-actions .before in let at-if1 = at-if2 .before in
     let at-among = at-if1 .before in let at-levels = at-among .before in let start = at-levels .before in
-    simp (sym (at-among .among .ensures ∙ ap (λ (n : ℕ). is-among n (start .args .m)) (at-levels .levels .ensures .0)) ∙ at-if1 .if1 .taken, le-ltb _ _ (at-if2 .if2 .left), sym (at-among2 .among2 .ensures ∙ ap (λ (n : ℕ). is-among n (start .args .a)) (at-actions .actions .ensures)) ∙ c .before .before .if3 .taken, sym (c .before .among3 .ensures) ∙ c .if4 .taken)
+    simp (
+      sym (at-among .among .ensures ∙ ap (λ (n : ℕ). is-among n (start .args .m)) (at-levels .levels .ensures .0)) ∙ at-if1 .if1 .taken,
+      le-ltb _ _
+          (at-if2 .if2 .left),
+      sym (at-among2 .among2 .ensures ∙ ap (λ (n : ℕ). is-among n (start .args .a)) (at-actions .actions .ensures))
+          ∙ c .before .before .if3 .taken,
+      sym (c .before .among3 .ensures) ∙ c .if4 .taken,
+    )
 
 returns-5 : tie.Need-returns-5
 unfolding first-broken site-rules
 returns-5 c =
     let at-among2 = c .before .before .before in let at-actions = at-among2 .before in let at-if2 = at-actions .before in let at-if1 = at-if2 .before in
     let at-among = at-if1 .before in let at-levels = at-among .before in let start = at-levels .before in
-    simp (sym (at-among .among .ensures ∙ ap (λ (n : ℕ). is-among n (start .args .m)) (at-levels .levels .ensures .0)) ∙ at-if1 .if1 .taken, le-ltb _ _ (at-if2 .if2 .left), sym (at-among2 .among2 .ensures ∙ ap (λ (n : ℕ). is-among n (start .args .a)) (at-actions .actions .ensures)) ∙ c .before .before .if3 .taken, sym (c .before .among3 .ensures) ∙ c .if4 .left)
+    simp (
+      sym (at-among .among .ensures ∙ ap (λ (n : ℕ). is-among n (start .args .m)) (at-levels .levels .ensures .0)) ∙ at-if1 .if1 .taken,
+      le-ltb _ _
+          (at-if2 .if2 .left),
+      sym (at-among2 .among2 .ensures ∙ ap (λ (n : ℕ). is-among n (start .args .a)) (at-actions .actions .ensures))
+          ∙ c .before .before .if3 .taken,
+      sym (c .before .among3 .ensures) ∙ c .if4 .left,
+    )
 
 pub site-spec : {M : Type 1} → statement M
 site-spec =

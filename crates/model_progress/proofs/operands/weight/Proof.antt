@@ -35,7 +35,10 @@ both-requires c κs = search needs
 returns : tie.Need-returns
 returns c =
     let at-is-constant = c .before .before .before in let at-levels = at-is-constant .before in let start = at-levels .before .before in
-    c .both .ensures ∙ weight-from (start .args .model .now) (form-of (start .args .form)) (start .args .w) (start .args .from) (at-is-constant .is-constant .result) (c .before .weight-of .result) (at-is-constant .is-constant .ensures) (c .before .weight-of .ensures ∙ ap (λ (n : ℕ). leZ (pos 0) (signed n) && leZ (signed n) (pos (start .args .w))) (c .before .before .word .ensures ∙ ap (λ (k : ℕ). word-at (start .args .model .now) (start .args .from + k * 4)) (at-levels .levels .ensures .0)))
+    c .both .ensures ∙ weight-from (start .args .model .now) (form-of (start .args .form)) (start .args .w) (start .args .from) (at-is-constant .is-constant .result)
+    (c .before .weight-of .result) (at-is-constant .is-constant .ensures) (c .before .weight-of .ensures ∙ ap
+    (λ (n : ℕ). leZ (pos 0) (signed n) && leZ (signed n) (pos (start .args .w)))
+    (c .before .before .word .ensures ∙ ap (λ (k : ℕ). word-at (start .args .model .now) (start .args .from + k * 4)) (at-levels .levels .ensures .0)))
 
 pub weight-spec : {M : Type 1} → statement M
 weight-spec =

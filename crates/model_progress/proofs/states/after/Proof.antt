@@ -83,37 +83,44 @@ returns : tie.Need-returns
 unfolding command-of-in noted
 returns c =
     let start = c .before .before .before .before .before .before in
-    by-command (form-of (start .args .form)) (start .args .model .now) (start .args .at) (start .args .s) (c .before .before .c .given .1) refl (λ F p st u. after-site (form-of (start .args .form)) st _ _ _ _ (c .begun .result) (c .begun .ensures .0) (c .begun .ensures .1 .0) (c .begun .ensures .1 .1) u)
+    by-command (form-of (start .args .form)) (start .args .model .now) (start .args .at) (start .args .s) (c .before .before .c .given .1) refl
+    (λ F p st u. after-site (form-of (start .args .form)) st _ _ _ _ (c .begun .result) (c .begun .ensures .0) (c .begun .ensures .1 .0) (c .begun .ensures .1 .1) u)
 
 returns-2 : tie.Need-returns-2
 unfolding command-of-in noted
 returns-2 c =
     let at-enum-told = c .before .before .before in let start = at-enum-told .before .before .before .before in
-    by-command (form-of (start .args .form)) (start .args .model .now) (start .args .at) (start .args .s) (at-enum-told .enum-told .given .1) (c .with-seen .ensures) (λ F p st u. after-leaf (form-of (start .args .form)) st _ (c .before .before .weight .result) (c .before .pushed .result) (c .before .before .weight .ensures) (c .before .pushed .ensures) u)
+    by-command (form-of (start .args .form)) (start .args .model .now) (start .args .at) (start .args .s) (at-enum-told .enum-told .given .1) (c .with-seen .ensures)
+    (λ F p st u. after-leaf (form-of (start .args .form)) st _ (c .before .before .weight .result) (c .before .pushed .result) (c .before .before .weight .ensures)
+    (c .before .pushed .ensures) u)
 
 returns-3 : tie.Need-returns-3
 unfolding command-of-in noted
 returns-3 c =
     let at-c2 = c .before .before .before in let start = at-c2 .before .before .before .before in
-    by-command (form-of (start .args .form)) (start .args .model .now) (start .args .at) (start .args .s) (at-c2 .c2 .given .1) (c .with-seen2 .ensures) (λ F p st u. after-condition (form-of (start .args .form)) st _ (c .before .joined .result) (c .before .joined .ensures) u)
+    by-command (form-of (start .args .form)) (start .args .model .now) (start .args .at) (start .args .s) (at-c2 .c2 .given .1) (c .with-seen2 .ensures)
+    (λ F p st u. after-condition (form-of (start .args .form)) st _ (c .before .joined .result) (c .before .joined .ensures) u)
 
 returns-4 : tie.Need-returns-4
 unfolding command-of-in noted
 returns-4 c =
     let start = c .before .before .before .before .before .before in
-    by-command (form-of (start .args .form)) (start .args .model .now) (start .args .at) (start .args .s) (c .before .before .enum-told2 .given .1) (c .with-seen3 .ensures) (λ F p st u. after-test (form-of (start .args .form)) st _ (c .before .joined2 .result) (c .before .joined2 .ensures) u)
+    by-command (form-of (start .args .form)) (start .args .model .now) (start .args .at) (start .args .s) (c .before .before .enum-told2 .given .1)
+    (c .with-seen3 .ensures) (λ F p st u. after-test (form-of (start .args .form)) st _ (c .before .joined2 .result) (c .before .joined2 .ensures) u)
 
 returns-5 : tie.Need-returns-5
 unfolding command-of-in noted
 returns-5 c =
     let start = c .before .before .before .before .before .before in
-    by-command (form-of (start .args .form)) (start .args .model .now) (start .args .at) (start .args .s) (c .before .before .enum-told3 .given .1) (c .with-seen4 .ensures) (λ F p st u. after-forbidden (form-of (start .args .form)) st (c .before .pushed2 .result) (c .before .pushed2 .ensures) u)
+    by-command (form-of (start .args .form)) (start .args .model .now) (start .args .at) (start .args .s) (c .before .before .enum-told3 .given .1)
+    (c .with-seen4 .ensures) (λ F p st u. after-forbidden (form-of (start .args .form)) st (c .before .pushed2 .result) (c .before .pushed2 .ensures) u)
 
 returns-6 : tie.Need-returns-6
 unfolding command-of-in noted
 returns-6 c =
     let start = c .before .before .before .before .before .before in
-    by-command (form-of (start .args .form)) (start .args .model .now) (start .args .at) (start .args .s) (c .before .before .enum-told4 .given .1) (c .with-seen5 .ensures) (λ F p st u. after-give (form-of (start .args .form)) st _ (c .before .popped .result) (c .before .popped .ensures .1 .1) u)
+    by-command (form-of (start .args .form)) (start .args .model .now) (start .args .at) (start .args .s) (c .before .before .enum-told4 .given .1)
+    (c .with-seen5 .ensures) (λ F p st u. after-give (form-of (start .args .form)) st _ (c .before .popped .result) (c .before .popped .ensures .1 .1) u)
 
 returns-7 : tie.Need-returns-7
 unfolding command-of-in noted

@@ -66,12 +66,15 @@ cast-b c =
 mul-p : tie.Need-mul-p Inv-loop μ-loop
 mul-p c =
     let at-number = c .before .before .before in let at-loop = at-number .before .before in let start = at-loop .before .before in
-    product-fits (at-number .number .result) (getD (start .args .n .now) (at-loop .loop .i) (pos 0)) (subst Small (sym (at-number .number .ensures)) (signed-small _)) (record { sfits = c .b .given }) refl (leb-true _ _ (sym (c .before .before .few .ensures) ∙ c .before .if1 .taken))
+    product-fits (at-number .number .result) (getD (start .args .n .now) (at-loop .loop .i) (pos 0)) (subst Small (sym (at-number .number .ensures)) (signed-small _))
+    (record { sfits = c .b .given }) refl (leb-true _ _ (sym (c .before .before .few .ensures) ∙ c .before .if1 .taken))
 
 add-s : tie.Need-add-s Inv-loop μ-loop
 add-s c =
     let at-number = c .before .before .before in let at-loop-test = at-number .before in let at-loop = at-loop-test .before in let start = at-loop .before .before in
-    sum-fits (at-number .number .result) (getD (start .args .n .now) (at-loop .loop .i) (pos 0)) (subst Small (sym (at-number .number .ensures)) (signed-small _)) (record { sfits = c .b .given }) refl (leb-true _ _ (sym (c .before .before .few .ensures) ∙ c .before .if1 .taken)) (at-loop .loop .inv .0) (let f = start .pre .1 .few in let h = at-loop-test .loop-test .taken in omega arith)
+    sum-fits (at-number .number .result) (getD (start .args .n .now) (at-loop .loop .i) (pos 0)) (subst Small (sym (at-number .number .ensures)) (signed-small _))
+    (record { sfits = c .b .given }) refl (leb-true _ _ (sym (c .before .before .few .ensures) ∙ c .before .if1 .taken)) (at-loop .loop .inv .0)
+    (let f = start .pre .1 .few in let h = at-loop-test .loop-test .taken in omega arith)
 
 add-i : tie.Need-add-i Inv-loop μ-loop
 add-i c =
@@ -85,7 +88,13 @@ loop-less c =
 loop-again : tie.Need-loop-again Inv-loop μ-loop
 loop-again c =
     let at-number = c .before .before .before in let at-loop-test = at-number .before in let at-loop = at-loop-test .before in let start = at-loop .before .before in
-    let f = start .pre .1 .few in let h = at-loop-test .loop-test .taken in (one-added (at-number .number .result) (getD (start .args .n .now) (at-loop .loop .i) (pos 0)) (subst Small (sym (at-number .number .ensures)) (signed-small _)) (record { sfits = c .b .given }) refl (leb-true _ _ (sym (c .before .before .few .ensures) ∙ c .before .if1 .taken)) (at-loop .loop .inv .0) (omega arith) (listed-long _ _) (start .pre .2) (at-number .number .ensures ∙ sym (listed-at (start .args .model .now) (start .args .at) (at-loop .loop .i) (omega arith))) refl, omega arith)
+    let f = start .pre .1 .few in let h = at-loop-test .loop-test .taken in (
+      one-added (at-number .number .result) (getD (start .args .n .now) (at-loop .loop .i) (pos 0))
+          (subst Small (sym (at-number .number .ensures)) (signed-small _)) (record { sfits = c .b .given }) refl
+          (leb-true _ _ (sym (c .before .before .few .ensures) ∙ c .before .if1 .taken)) (at-loop .loop .inv .0) (omega arith) (listed-long _ _) (start .pre .2)
+          (at-number .number .ensures ∙ sym (listed-at (start .args .model .now) (start .args .at) (at-loop .loop .i) (omega arith))) refl,
+      omega arith,
+    )
 
 mul-number-2 : tie.Need-mul-number-2 Inv-loop μ-loop
 mul-number-2 c =
@@ -119,17 +128,27 @@ cast-d c =
 mul-q : tie.Need-mul-q Inv-loop μ-loop
 mul-q c =
     let at-number2 = c .before .before .before in let start = at-number2 .before .before .before .before in
-    product-fits (at-number2 .number2 .result) (getD (start .args .n .now) levels-most (pos 0)) (subst Small (sym (at-number2 .number2 .ensures)) (signed-small _)) (record { sfits = c .d .given }) refl (leb-true _ _ (sym (c .before .before .few2 .ensures) ∙ c .before .if2 .taken))
+    product-fits (at-number2 .number2 .result) (getD (start .args .n .now) levels-most (pos 0)) (subst Small (sym (at-number2 .number2 .ensures)) (signed-small _))
+    (record { sfits = c .d .given }) refl (leb-true _ _ (sym (c .before .before .few2 .ensures) ∙ c .before .if2 .taken))
 
 add-s-2 : tie.Need-add-s-2 Inv-loop μ-loop
 add-s-2 c =
     let at-number2 = c .before .before .before in let at-loop-test = at-number2 .before in let at-loop = at-loop-test .before in let start = at-loop .before .before in
-    sum-fits (at-number2 .number2 .result) (getD (start .args .n .now) levels-most (pos 0)) (subst Small (sym (at-number2 .number2 .ensures)) (signed-small _)) (record { sfits = c .d .given }) refl (leb-true _ _ (sym (c .before .before .few2 .ensures) ∙ c .before .if2 .taken)) (flat-added _ (point-at 0 0 (start .args .n .now) (start .args .m)) (listed-long _ _) (start .pre .2) (start .pre .1) (at-loop .loop .inv .1) (at-loop-test .loop-test .left) (at-loop .loop .inv .0)) (omega arith)
+    sum-fits (at-number2 .number2 .result) (getD (start .args .n .now) levels-most (pos 0)) (subst Small (sym (at-number2 .number2 .ensures)) (signed-small _))
+    (record { sfits = c .d .given }) refl (leb-true _ _ (sym (c .before .before .few2 .ensures) ∙ c .before .if2 .taken))
+    (flat-added _ (point-at 0 0 (start .args .n .now) (start .args .m)) (listed-long _ _) (start .pre .2) (start .pre .1) (at-loop .loop .inv .1)
+    (at-loop-test .loop-test .left) (at-loop .loop .inv .0)) (omega arith)
 
 returns-3 : tie.Need-returns-3 Inv-loop μ-loop
 returns-3 c =
     let at-number2 = c .before .before .before in let at-loop-test = at-number2 .before in let at-loop = at-loop-test .before in let start = at-loop .before .before in
-    λ e. sum-is (start .args .model .now) (start .args .at) (point-at 0 0 (start .args .n .now) (start .args .m)) (start .pre .2) (one-added (at-number2 .number2 .result) (getD (start .args .n .now) levels-most (pos 0)) (subst Small (sym (at-number2 .number2 .ensures)) (signed-small _)) (record { sfits = c .d .given }) refl (leb-true _ _ (sym (c .before .before .few2 .ensures) ∙ c .before .if2 .taken)) (flat-added _ (point-at 0 0 (start .args .n .now) (start .args .m)) (listed-long _ _) (start .pre .2) (start .pre .1) (at-loop .loop .inv .1) (at-loop-test .loop-test .left) (at-loop .loop .inv .0)) (omega arith) (listed-long _ _) (start .pre .2) (at-number2 .number2 .ensures ∙ sym (listed-at (start .args .model .now) (start .args .at) levels-most (omega arith))) refl) ∙ numbers-alone (point-at 0 0 (start .args .n .now) (start .args .m)) (nums-at (start .args .n .now)) refl _
+    λ e. sum-is (start .args .model .now) (start .args .at) (point-at 0 0 (start .args .n .now) (start .args .m)) (start .pre .2)
+    (one-added (at-number2 .number2 .result) (getD (start .args .n .now) levels-most (pos 0)) (subst Small (sym (at-number2 .number2 .ensures)) (signed-small _))
+    (record { sfits = c .d .given }) refl (leb-true _ _ (sym (c .before .before .few2 .ensures) ∙ c .before .if2 .taken))
+    (flat-added _ (point-at 0 0 (start .args .n .now) (start .args .m)) (listed-long _ _) (start .pre .2) (start .pre .1) (at-loop .loop .inv .1)
+    (at-loop-test .loop-test .left) (at-loop .loop .inv .0)) (omega arith) (listed-long _ _) (start .pre .2)
+    (at-number2 .number2 .ensures ∙ sym (listed-at (start .args .model .now) (start .args .at) levels-most (omega arith))) refl) ∙ numbers-alone
+    (point-at 0 0 (start .args .n .now) (start .args .m)) (nums-at (start .args .n .now)) refl _
 
 pub short-at-spec : {M : Type 1} → statement M
 short-at-spec =

@@ -33,17 +33,17 @@ loop-holds c =
 
 cast-next-level : tie.Need-cast-next-level Inv-loop μ-loop
 cast-next-level c =
-    let place = c .before .before .before .before .before .before .before in let s = place in
+    let s = c .before .before .before .before .before .before .before in
     omega (arith, c .before .before .levels .ensures, within-widths (s .args .model .now) (s .pre .0) .1)
 
 add-next-level : tie.Need-add-next-level Inv-loop μ-loop
 add-next-level c =
-    let place = c .before .before .before .before .before .before .before in let s = place in
+    let s = c .before .before .before .before .before .before .before in
     omega (arith, c .before .before .levels .ensures, within-widths (s .args .model .now) (s .pre .0) .1)
 
 next-level-requires : tie.Need-next-level-requires Inv-loop μ-loop
 next-level-requires c κs =
-    let at-with-setting = c .before .before .before .before in let place = at-with-setting .before .before .before in let s = place in
+    let at-with-setting = c .before .before .before .before in let s = at-with-setting .before .before .before in
     (s .pre .0, s .pre .1, s .pre .2, flat-under (s .pre .3 .flat) (at-with-setting .with-setting .ensures))
 
 enum-known-z : tie.Need-enum-known-z Inv-loop μ-loop
@@ -54,23 +54,23 @@ enum-told c = search needs
 
 returns : tie.Need-returns Inv-loop μ-loop
 returns c =
-    let at-levels = c .before .before .before .before .before in let at-with-setting = at-levels .before .before in let place = at-with-setting .before .before .before in
-    let s = place in
-    leads-over (s .args .model .now) (s .args .a) (s .args .x) (s .args .r) (s .pre .0) (at-with-setting .with-setting .ensures) _ (omega arith) (omega (arith, at-levels .levels .ensures)) (c .before .before .next-level .ensures) (c .enum-told .given .1) refl
+    let at-levels = c .before .before .before .before .before in let at-with-setting = at-levels .before .before in let s = at-with-setting .before .before .before in
+    leads-over (s .args .model .now) (s .args .a) (s .args .x) (s .args .r) (s .pre .0) (at-with-setting .with-setting .ensures) _ (omega arith)
+    (omega (arith, at-levels .levels .ensures)) (c .before .before .next-level .ensures) (c .enum-told .given .1) refl
 
 mul-n : tie.Need-mul-n Inv-loop μ-loop
 mul-n c =
-    let at-levels = c .before .before .before .before .before .before in let place = at-levels .before .before .before .before .before in let s = place in
+    let at-levels = c .before .before .before .before .before .before in let s = at-levels .before .before .before .before .before in
     omega (arith, at-levels .levels .ensures, within-widths (s .args .model .now) (s .pre .0) .1)
 
 array-set-from-n : tie.Need-array-set-from-n Inv-loop μ-loop
 array-set-from-n c =
-    let at-levels = c .before .before .before .before .before .before in let place = at-levels .before .before .before .before .before in let s = place in
+    let at-levels = c .before .before .before .before .before .before in let s = at-levels .before .before .before .before .before in
     omega (arith, at-levels .levels .ensures, within-widths (s .args .model .now) (s .pre .0) .1)
 
 add-i : tie.Need-add-i Inv-loop μ-loop
 add-i c =
-    let at-levels = c .before .before .before .before .before .before in let place = at-levels .before .before .before .before .before in let s = place in
+    let at-levels = c .before .before .before .before .before .before in let s = at-levels .before .before .before .before .before in
     omega (arith, at-levels .levels .ensures, within-widths (s .args .model .now) (s .pre .0) .1)
 
 loop-less : tie.Need-loop-less Inv-loop μ-loop
@@ -79,13 +79,16 @@ loop-less c = omega arith
 loop-again : tie.Need-loop-again Inv-loop μ-loop
 loop-again c =
     let at-next-level = c .before .before .before in let at-loop = at-next-level .before .before in let at-levels = at-loop .before in
-    let at-with-setting = at-levels .before .before in let place = at-with-setting .before .before .before in let s = place in
-    one-moved (s .args .model .now) (s .args .a) (s .args .x) (s .args .r) (s .pre .0) (at-with-setting .with-setting .ensures) (at-loop .loop .inv) (omega (arith, at-levels .levels .ensures)) (omega arith) (at-next-level .next-level .ensures) (c .before .z .given .1) (record { sfits = c .known-told .given .0 .1 }) (toZ-ofZ w32 _ (record { sfits = c .known-told .given .0 .1 }))
+    let at-with-setting = at-levels .before .before in let s = at-with-setting .before .before .before in
+    one-moved (s .args .model .now) (s .args .a) (s .args .x) (s .args .r) (s .pre .0) (at-with-setting .with-setting .ensures) (at-loop .loop .inv)
+    (omega (arith, at-levels .levels .ensures)) (omega arith) (at-next-level .next-level .ensures) (c .before .z .given .1)
+    (record { sfits = c .known-told .given .0 .1 }) (toZ-ofZ w32 _ (record { sfits = c .known-told .given .0 .1 }))
 
 returns-2 : tie.Need-returns-2 Inv-loop μ-loop
 returns-2 c =
-    let at-with-setting = c .before .before .before .before in let place = at-with-setting .before .before .before in let s = place in
-    all-moved (s .args .model .now) (s .args .a) (s .args .x) (s .args .r) (s .pre .0) (at-with-setting .with-setting .ensures) (c .before .loop .inv) (omega (arith, c .before .before .levels .ensures)) (s .pre .3) (c .before .before .levels .ensures) refl
+    let at-with-setting = c .before .before .before .before in let s = at-with-setting .before .before .before in
+    all-moved (s .args .model .now) (s .args .a) (s .args .x) (s .args .r) (s .pre .0) (at-with-setting .with-setting .ensures) (c .before .loop .inv)
+    (omega (arith, c .before .before .levels .ensures)) (s .pre .3) (c .before .before .levels .ensures) refl
 
 pub next-state-spec : {M : Type 1} → statement M
 next-state-spec =

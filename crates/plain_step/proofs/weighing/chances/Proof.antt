@@ -18,7 +18,7 @@ chance-requires-4 c κs = search needs
 
 returns : tie.Need-returns
 returns c =
-    let at-chance = c .before .before .before in let place = at-chance .before .before .before in let s = place in
+    let at-chance = c .before .before .before in let s = at-chance .before .before .before in
     chances-are (s .args .model .now) (s .args .a) (s .args .x) (s .pre .0 .ready) _ (at-chance .chance .ensures) (c .before .before .chance2 .ensures) (c .before .chance3 .ensures) (c .chance4 .ensures)
 
 pub chances-spec : {M : Type 1} → statement M

@@ -132,7 +132,7 @@ action-worth-settings-done-requires t c κs =
 
 action-worth-returns : (t : ℕ) → action-worth-lts.Need-returns (action-worth-claims t) (action-worth-at t) action-worth.Post action-worth-Inv-loop action-worth-μ-loop
 action-worth-returns t c =
-    let place = c .before .before .before .before .before .before .before .before in let s = place in
+    let s = c .before .before .before .before .before .before .before .before in
     sums-end (s .args .model .now) (s .args .steps) (s .args .a) (s .args .x) _ _ _ (c .before .before .loop .inv) (c .before .settings-done .ensures) (c .if1 .taken)
 
 action-worth-weight-requires : (t : ℕ) → action-worth-lts.Need-weight-requires (action-worth-claims t) (action-worth-at t) action-worth.Post action-worth-Inv-loop action-worth-μ-loop
@@ -153,8 +153,10 @@ action-worth-loop-less t c =
 action-worth-loop-again : (t : ℕ) → action-worth-lts.Need-loop-again (action-worth-claims t) (action-worth-at t) action-worth.Post action-worth-Inv-loop action-worth-μ-loop
 action-worth-loop-again t c =
     let at-settings-done = c .before .before .before in let at-loop = at-settings-done .before in let at-settings = at-loop .before .before in
-    let at-chances = at-settings .before in let place = at-chances .before .before .before in let s = place in
-    sums-skip (s .args .model .now) (s .args .steps) (s .args .a) (s .args .x) _ _ _ (at-loop .loop .inv) _ (at-chances .chances .ensures) _ (c .before .weight .ensures) (goes-on (stopped (total-of (at-loop .loop .sum))) (at-settings .settings .result) (at-loop .loop .r) _ (at-settings-done .settings-done .ensures) (c .before .before .if1 .left)) (c .if2 .taken)
+    let at-chances = at-settings .before in let s = at-chances .before .before .before in
+    sums-skip (s .args .model .now) (s .args .steps) (s .args .a) (s .args .x) _ _ _ (at-loop .loop .inv) _ (at-chances .chances .ensures) _ (c .before .weight .ensures)
+    (goes-on (stopped (total-of (at-loop .loop .sum))) (at-settings .settings .result) (at-loop .loop .r) _ (at-settings-done .settings-done .ensures)
+    (c .before .before .if1 .left)) (c .if2 .taken)
 
 action-worth-next-state-requires : (t : ℕ) → action-worth-lts.Need-next-state-requires (action-worth-claims t) (action-worth-at t) action-worth.Post action-worth-Inv-loop action-worth-μ-loop
 action-worth-next-state-requires t c κs =
@@ -164,12 +166,16 @@ action-worth-next-state-requires t c κs =
 action-worth-returns-2 : (t : ℕ) → action-worth-lts.Need-returns-2 (action-worth-claims t) (action-worth-at t) action-worth.Post action-worth-Inv-loop action-worth-μ-loop
 action-worth-returns-2 t c =
     let at-weight = c .before .before .before in let at-if1 = at-weight .before in let at-settings-done = at-if1 .before in let at-loop = at-settings-done .before in
-    let at-settings = at-loop .before .before in let at-chances = at-settings .before in let place = at-chances .before .before .before in let s = place in
-    sums-over (s .args .model .now) (s .args .steps) (s .args .a) (s .args .x) _ _ _ (at-loop .loop .inv) _ (at-chances .chances .ensures) _ (at-weight .weight .ensures) (goes-on (stopped (total-of (at-loop .loop .sum))) (at-settings .settings .result) (at-loop .loop .r) _ (at-settings-done .settings-done .ensures) (at-if1 .if1 .left)) (c .before .before .if2 .left) _ (c .before .next-state .ensures) (not-stopped (stopped (total-of (at-loop .loop .sum))) (at-settings .settings .result) (at-loop .loop .r) _ (at-settings-done .settings-done .ensures) (at-if1 .if1 .left)) (c .if3 .taken)
+    let at-settings = at-loop .before .before in let at-chances = at-settings .before in let s = at-chances .before .before .before in
+    sums-over (s .args .model .now) (s .args .steps) (s .args .a) (s .args .x) _ _ _ (at-loop .loop .inv) _ (at-chances .chances .ensures) _ (at-weight .weight .ensures)
+    (goes-on (stopped (total-of (at-loop .loop .sum))) (at-settings .settings .result) (at-loop .loop .r) _ (at-settings-done .settings-done .ensures)
+    (at-if1 .if1 .left)) (c .before .before .if2 .left) _ (c .before .next-state .ensures)
+    (not-stopped (stopped (total-of (at-loop .loop .sum))) (at-settings .settings .result) (at-loop .loop .r) _ (at-settings-done .settings-done .ensures)
+    (at-if1 .if1 .left)) (c .if3 .taken)
 
 action-worth-ended-requires : (t : ℕ) → action-worth-lts.Need-ended-requires (action-worth-claims t) (action-worth-at t) action-worth.Post action-worth-Inv-loop action-worth-μ-loop
 action-worth-ended-requires t c κs =
-    let place = c .before .before .before .before .before .before .before .before .before .before .before .before .before in let s = place in
+    let s = c .before .before .before .before .before .before .before .before .before .before .before .before .before in
     (next-stands (s .args .model .now) (s .args .a) (s .args .x) _ _ (s .pre .1 .0) (c .before .before .next-state .ensures) (c .before .if3 .left), s .pre .1 .4)
 
 action-worth-added-requires : (t : ℕ) → action-worth-lts.Need-added-requires (action-worth-claims t) (action-worth-at t) action-worth.Post action-worth-Inv-loop action-worth-μ-loop
@@ -193,8 +199,12 @@ action-worth-loop-again-2 : (t : ℕ) → action-worth-lts.Need-loop-again-2 (ac
 action-worth-loop-again-2 t c =
     let at-if3 = c .before .before .before in let at-next-state = at-if3 .before in let at-if2 = at-next-state .before in let at-weight = at-if2 .before in
     let at-if1 = at-weight .before in let at-settings-done = at-if1 .before in let at-loop = at-settings-done .before in let at-settings = at-loop .before .before in
-    let at-chances = at-settings .before in let place = at-chances .before .before .before in let s = place in
-    sums-add (s .args .model .now) (s .args .steps) (s .args .a) (s .args .x) _ _ _ (at-loop .loop .inv) _ (at-chances .chances .ensures) _ (at-weight .weight .ensures) (goes-on (stopped (total-of (at-loop .loop .sum))) (at-settings .settings .result) (at-loop .loop .r) _ (at-settings-done .settings-done .ensures) (at-if1 .if1 .left)) (at-if2 .if2 .left) _ (at-next-state .next-state .ensures) (at-if3 .if3 .left) _ (subst (λ (h : ℕ). State-worth (s .args .model .now) h (at-next-state .next-state .result .point) (c .before .ended .result)) (let e = c .before .before .if4 .taken in let q : 0 ≡ s .args .steps - 1 = omega arith in q) (c .before .ended .ensures)) _ (c .added .ensures)
+    let at-chances = at-settings .before in let s = at-chances .before .before .before in
+    sums-add (s .args .model .now) (s .args .steps) (s .args .a) (s .args .x) _ _ _ (at-loop .loop .inv) _ (at-chances .chances .ensures) _ (at-weight .weight .ensures)
+    (goes-on (stopped (total-of (at-loop .loop .sum))) (at-settings .settings .result) (at-loop .loop .r) _ (at-settings-done .settings-done .ensures)
+    (at-if1 .if1 .left)) (at-if2 .if2 .left) _ (at-next-state .next-state .ensures) (at-if3 .if3 .left) _
+    (subst (λ (h : ℕ). State-worth (s .args .model .now) h (at-next-state .next-state .result .point) (c .before .ended .result))
+    (let e = c .before .before .if4 .taken in let q : 0 ≡ s .args .steps - 1 = omega arith in q) (c .before .ended .ensures)) _ (c .added .ensures)
 
 action-worth-sub-state-worth : (t : ℕ) → action-worth-lts.Need-sub-state-worth (action-worth-claims t) (action-worth-at t) action-worth.Post action-worth-Inv-loop action-worth-μ-loop
 action-worth-sub-state-worth t c =
@@ -202,8 +212,15 @@ action-worth-sub-state-worth t c =
 
 action-worth-state-worth-requires : (t : ℕ) → action-worth-lts.Need-state-worth-requires (action-worth-claims t) (action-worth-at t) action-worth.Post action-worth-Inv-loop action-worth-μ-loop
 action-worth-state-worth-requires t c κs =
-    let place = c .before .before .before .before .before .before .before .before .before .before .before .before .before in let s = place in
-    (to-state (s .args .steps) t (s .pre .1 .2) (s .pre .0), (next-stands (s .args .model .now) (s .args .a) (s .args .x) _ _ (s .pre .1 .0) (c .before .before .next-state .ensures) (c .before .if3 .left), omega (arith, s .pre .1 .3), s .pre .1 .4))
+    let s = c .before .before .before .before .before .before .before .before .before .before .before .before .before in (
+      to-state (s .args .steps) t (s .pre .1 .2) (s .pre .0),
+      (
+        next-stands (s .args .model .now) (s .args .a) (s .args .x) _ _ (s .pre .1 .0)
+            (c .before .before .next-state .ensures) (c .before .if3 .left),
+        omega (arith, s .pre .1 .3),
+        s .pre .1 .4,
+      ),
+    )
 
 action-worth-added-requires-2 : (t : ℕ) → action-worth-lts.Need-added-requires-2 (action-worth-claims t) (action-worth-at t) action-worth.Post action-worth-Inv-loop action-worth-μ-loop
 action-worth-added-requires-2 t c κs =
@@ -226,8 +243,10 @@ action-worth-loop-again-3 : (t : ℕ) → action-worth-lts.Need-loop-again-3 (ac
 action-worth-loop-again-3 t c =
     let at-if3 = c .before .before .before in let at-next-state = at-if3 .before in let at-if2 = at-next-state .before in let at-weight = at-if2 .before in
     let at-if1 = at-weight .before in let at-settings-done = at-if1 .before in let at-loop = at-settings-done .before in let at-settings = at-loop .before .before in
-    let at-chances = at-settings .before in let place = at-chances .before .before .before in let s = place in
-    sums-add (s .args .model .now) (s .args .steps) (s .args .a) (s .args .x) _ _ _ (at-loop .loop .inv) _ (at-chances .chances .ensures) _ (at-weight .weight .ensures) (goes-on (stopped (total-of (at-loop .loop .sum))) (at-settings .settings .result) (at-loop .loop .r) _ (at-settings-done .settings-done .ensures) (at-if1 .if1 .left)) (at-if2 .if2 .left) _ (at-next-state .next-state .ensures) (at-if3 .if3 .left) _ (c .before .state-worth .ensures) _ (c .added2 .ensures)
+    let at-chances = at-settings .before in let s = at-chances .before .before .before in
+    sums-add (s .args .model .now) (s .args .steps) (s .args .a) (s .args .x) _ _ _ (at-loop .loop .inv) _ (at-chances .chances .ensures) _ (at-weight .weight .ensures)
+    (goes-on (stopped (total-of (at-loop .loop .sum))) (at-settings .settings .result) (at-loop .loop .r) _ (at-settings-done .settings-done .ensures)
+    (at-if1 .if1 .left)) (at-if2 .if2 .left) _ (at-next-state .next-state .ensures) (at-if3 .if3 .left) _ (c .before .state-worth .ensures) _ (c .added2 .ensures)
 
 abbrev state-worth-Inv-loop : state-worth-lts.InvT-loop
 state-worth-Inv-loop model parts steps x last best₀ a₀ best a = Tries model steps x last best a
@@ -260,7 +279,7 @@ state-worth-numbered-requires t c κs =
 
 state-worth-loop-holds : (t : ℕ) → state-worth-lts.Need-loop-holds (state-worth-claims t) (state-worth-at t) state-worth.Post state-worth-Inv-loop state-worth-μ-loop
 state-worth-loop-holds t c =
-    let at-if1 = c .before .before .before in let place = at-if1 .before .before .before in let s = place in
+    let at-if1 = c .before .before .before in let s = at-if1 .before .before .before in
     tries-start (s .args .model .now) (s .args .steps) (s .args .x) _ (c .before .before .actions .ensures) (s .pre .1 .0 .ready) (at-if1 .if1 .left) _ (c .before .action-worth .ensures) _ (c .numbered .ensures)
 
 state-worth-actions-done-requires : (t : ℕ) → state-worth-lts.Need-actions-done-requires (state-worth-claims t) (state-worth-at t) state-worth.Post state-worth-Inv-loop state-worth-μ-loop
@@ -269,13 +288,12 @@ state-worth-actions-done-requires t c κs =
 
 state-worth-returns-2 : (t : ℕ) → state-worth-lts.Need-returns-2 (state-worth-claims t) (state-worth-at t) state-worth.Post state-worth-Inv-loop state-worth-μ-loop
 state-worth-returns-2 t c =
-    let at-actions = c .before .before .before .before .before in let place = at-actions .before .before .before .before in let s = place in
+    let at-actions = c .before .before .before .before .before in let s = at-actions .before .before .before .before in
     tries-end (s .args .model .now) (s .args .steps) (s .args .x) _ (at-actions .actions .ensures) _ _ (c .before .before .loop .inv) (c .before .actions-done .ensures) (c .if2 .taken)
 
 state-worth-action-worth-requires-2 : (t : ℕ) → state-worth-lts.Need-action-worth-requires-2 (state-worth-claims t) (state-worth-at t) state-worth.Post state-worth-Inv-loop state-worth-μ-loop
 state-worth-action-worth-requires-2 t c κs =
-    let at-actions = c .before .before .before .before .before in let at-if1 = at-actions .before in let place = at-if1 .before .before .before in
-    let s = place in
+    let at-actions = c .before .before .before .before .before in let at-if1 = at-actions .before in let s = at-if1 .before .before .before in
     let h = not-last (is-over (total-of (c .before .before .loop .best))) (at-actions .actions .result) (c .before .before .loop .a) _ (c .before .actions-done .ensures) (c .if2 .left) in
     (to-action (s .args .steps) t (s .pre .0), (s .pre .1 .0, (omega (arith, c .before .before .loop .inv .low), omega (arith, h, at-actions .actions .ensures)), omega (arith, at-if1 .if1 .left), s .pre .1 .1, s .pre .1 .2))
 
@@ -286,8 +304,14 @@ state-worth-better-requires t c κs =
 state-worth-add-a : (t : ℕ) → state-worth-lts.Need-add-a (state-worth-claims t) (state-worth-at t) state-worth.Post state-worth-Inv-loop state-worth-μ-loop
 state-worth-add-a t c =
     let at-actions-done = c .before .before .before in let at-loop = at-actions-done .before in let at-actions = at-loop .before .before .before in
-    let place = at-actions .before .before .before .before in let s = place in
-    omega (arith, not-last (is-over (total-of (at-loop .loop .best))) (at-actions .actions .result) (at-loop .loop .a) _ (at-actions-done .actions-done .ensures) (c .before .before .if2 .left), at-actions .actions .ensures, site-accepted (s .args .model .now) (s .pre .1 .0 .ready .accepted) .actions .1)
+    let s = at-actions .before .before .before .before in
+    omega (
+      arith,
+      not-last (is-over (total-of (at-loop .loop .best))) (at-actions .actions .result) (at-loop .loop .a) _ (at-actions-done .actions-done .ensures)
+          (c .before .before .if2 .left),
+      at-actions .actions .ensures,
+      site-accepted (s .args .model .now) (s .pre .1 .0 .ready .accepted) .actions .1,
+    )
 
 state-worth-loop-less : (t : ℕ) → state-worth-lts.Need-loop-less (state-worth-claims t) (state-worth-at t) state-worth.Post state-worth-Inv-loop state-worth-μ-loop
 state-worth-loop-less t c =
@@ -297,8 +321,10 @@ state-worth-loop-less t c =
 state-worth-loop-again : (t : ℕ) → state-worth-lts.Need-loop-again (state-worth-claims t) (state-worth-at t) state-worth.Post state-worth-Inv-loop state-worth-μ-loop
 state-worth-loop-again t c =
     let at-actions-done = c .before .before .before in let at-loop = at-actions-done .before in let at-actions = at-loop .before .before .before in
-    let place = at-actions .before .before .before .before in let s = place in
-    tries-on (s .args .model .now) (s .args .steps) (s .args .x) _ (at-actions .actions .ensures) _ _ (at-loop .loop .inv) (not-last (is-over (total-of (at-loop .loop .best))) (at-actions .actions .result) (at-loop .loop .a) _ (at-actions-done .actions-done .ensures) (c .before .before .if2 .left)) _ (c .before .action-worth2 .ensures) _ (c .better .ensures)
+    let s = at-actions .before .before .before .before in
+    tries-on (s .args .model .now) (s .args .steps) (s .args .x) _ (at-actions .actions .ensures) _ _ (at-loop .loop .inv)
+    (not-last (is-over (total-of (at-loop .loop .best))) (at-actions .actions .result) (at-loop .loop .a) _ (at-actions-done .actions-done .ensures)
+    (c .before .before .if2 .left)) _ (c .before .action-worth2 .ensures) _ (c .better .ensures)
 
 pub +action-worth+state-worth-spec : {M : Type 1} → statement M
 +action-worth+state-worth-spec = close μ-action-worth μ-state-worth (λ t. action-worth-lts.spec (action-worth-claims t)

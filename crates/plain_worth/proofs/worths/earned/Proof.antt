@@ -30,8 +30,7 @@ enum-told c = search needs
 
 returns : tie.Need-returns
 returns c =
-    let at-weights = c .before .before .before in let at-conditions = at-weights .before in let place = at-conditions .before .before .before in
-    let s = place in
+    let at-weights = c .before .before .before in let at-conditions = at-weights .before in let s = at-conditions .before .before .before in
     earned-over (s .args .model .now) (s .args .steps) (s .args .a) (s .args .x) (s .pre .0) (at-conditions .conditions .ensures) (at-weights .weights .ensures) (c .before .before .power-within .ensures) (c .enum-told .given .1)
 
 enum-told-2 : tie.Need-enum-told-2
@@ -39,14 +38,15 @@ enum-told-2 c = search needs
 
 reward-at-requires : tie.Need-reward-at-requires
 reward-at-requires c κs =
-    let place = c .before .before .before .before .before .before .before in let s = place in
+    let s = c .before .before .before .before .before .before .before in
     (s .pre .0 .ready .accepted, s .pre .0 .ready .short, tt, s .pre .3, s .pre .0 .fits .flat)
 
 returns-2 : tie.Need-returns-2
 returns-2 c =
     let at-power-within = c .before .before .before .before in let at-weights = at-power-within .before in let at-conditions = at-weights .before in
-    let place = at-conditions .before .before .before in let s = place in
-    earned-none (s .args .model .now) (s .args .steps) (s .args .a) (s .args .x) (s .pre .0) (at-conditions .conditions .ensures) (at-weights .weights .ensures) (at-power-within .power-within .ensures) (c .before .reward-at .ensures) _ (c .before .before .enum-told2 .given .1) (c .if1 .taken)
+    let s = at-conditions .before .before .before in
+    earned-none (s .args .model .now) (s .args .steps) (s .args .a) (s .args .x) (s .pre .0) (at-conditions .conditions .ensures) (at-weights .weights .ensures)
+    (at-power-within .power-within .ensures) (c .before .reward-at .ensures) _ (c .before .before .enum-told2 .given .1) (c .if1 .taken)
 
 narrow-requires : tie.Need-narrow-requires
 narrow-requires c κs = search needs
@@ -60,8 +60,10 @@ worth-of-requires c κs = search needs
 returns-3 : tie.Need-returns-3
 returns-3 c =
     let at-if1 = c .before .before .before in let at-reward-at = at-if1 .before in let at-power-within = at-reward-at .before .before .before in
-    let at-weights = at-power-within .before in let at-conditions = at-weights .before in let place = at-conditions .before .before .before in let s = place in
-    earned-is (s .args .model .now) (s .args .steps) (s .args .a) (s .args .x) (s .pre .0) (at-conditions .conditions .ensures) (at-weights .weights .ensures) (at-power-within .power-within .ensures) (at-reward-at .reward-at .ensures) (at-if1 .if1 .left) (c .before .before .narrow .ensures) (c .before .times .ensures) _ (c .worth-of .ensures)
+    let at-weights = at-power-within .before in let at-conditions = at-weights .before in let s = at-conditions .before .before .before in
+    earned-is (s .args .model .now) (s .args .steps) (s .args .a) (s .args .x) (s .pre .0) (at-conditions .conditions .ensures) (at-weights .weights .ensures)
+    (at-power-within .power-within .ensures) (at-reward-at .reward-at .ensures) (at-if1 .if1 .left) (c .before .before .narrow .ensures) (c .before .times .ensures) _
+    (c .worth-of .ensures)
 
 pub earned-spec : {M : Type 1} → statement M
 earned-spec =

@@ -21,7 +21,7 @@ same-length-2 c = search needs
 
 returns : tie.Need-returns
 returns c =
-    let at-page = c .before .before .before .before in let place-2 = at-page .before .before .before .before .before .before .before in let s = place-2 in
+    let at-page = c .before .before .before .before in let s = at-page .before .before .before .before .before .before .before in
     let a = s .args in
     let n : List ℤ = a .l1 ∷ a .l2 ∷ a .l3 ∷ a .l4 ∷ a .l5 ∷ a .l6 ∷ a .l7 ∷ a .l8 ∷ a .d ∷ [] in
     at-page .page .ensures

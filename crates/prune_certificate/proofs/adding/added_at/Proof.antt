@@ -23,8 +23,15 @@ shared-slice-read-turn c =
 
 with-test-requires : tie.Need-with-test-requires Inv-loop μ-loop
 with-test-requires c κs =
-    let start = c .before .before .before .before in
-    (adding-small _ _ _ _ _ _ _ _ _ (c .before .before .loop .inv) (c .before .loop-test .taken) (omega (arith, start .fits .root)), c .before .before .loop .inv .way .node, start .pre .1, start .pre .2, way-given _ _ _ _ _ _ _ (c .before .before .loop .inv .way) (c .before .loop-test .taken))
+    let start = c .before .before .before .before in (
+      adding-small _ _ _ _ _ _ _ _ _ (c .before .before .loop .inv) (c .before .loop-test .taken)
+          (omega (arith, start .fits .root)),
+      c .before .before .loop .inv .way .node,
+      start .pre .1,
+      start .pre .2,
+      way-given _ _ _ _ _ _ _
+          (c .before .before .loop .inv .way) (c .before .loop-test .taken),
+    )
 
 tests-requires : tie.Need-tests-requires Inv-loop μ-loop
 tests-requires c κs =
@@ -50,7 +57,8 @@ loop-less c =
 loop-again : tie.Need-loop-again Inv-loop μ-loop
 loop-again c =
     let at-loop-test = c .before .before .before .before in let at-loop = at-loop-test .before in let start = at-loop .before .before in
-    adding-goes _ _ _ _ _ _ _ _ _ (at-loop .loop .inv) (at-loop-test .loop-test .taken) (c .before .before .with-test .result) (c .goes .result) (c .before .tests .result) (start .pre .1) (start .pre .2) (c .before .before .with-test .ensures) (c .goes .ensures) (c .before .tests .ensures)
+    adding-goes _ _ _ _ _ _ _ _ _ (at-loop .loop .inv) (at-loop-test .loop-test .taken) (c .before .before .with-test .result) (c .goes .result)
+    (c .before .tests .result) (start .pre .1) (start .pre .2) (c .before .before .with-test .ensures) (c .goes .ensures) (c .before .tests .ensures)
 
 returns : tie.Need-returns Inv-loop μ-loop
 returns c =

@@ -35,7 +35,9 @@ signed-requires c κs =
 product-requires : tie.Need-product-requires
 product-requires c κs =
     let at-if1 = c .before .before .before in let at-tests = at-if1 .before in let start = at-tests .before in
-    rw (back _ (record { sfits = c .before .word .ok }), c .before .word .ensures) (word-small (start .args .nodes .now) (start .args .r) (start .args .w) (start .pre .1) (start .pre .2) (start .pre .3) (so-test (start .args .nodes .now) (start .args .r) _ (at-tests .tests .ensures) (at-if1 .if1 .taken)))
+    rw (back _ (record { sfits = c .before .word .ok }), c .before .word .ensures)
+    (word-small (start .args .nodes .now) (start .args .r) (start .args .w) (start .pre .1) (start .pre .2) (start .pre .3)
+    (so-test (start .args .nodes .now) (start .args .r) _ (at-tests .tests .ensures) (at-if1 .if1 .taken)))
 
 sum-requires : tie.Need-sum-requires
 sum-requires c κs = search needs
@@ -43,11 +45,16 @@ sum-requires c κs = search needs
 returns : tie.Need-returns
 returns c =
     let at-word = c .before .before .before in let at-k = at-word .before in let at-if1 = at-k .before in let at-tests = at-if1 .before in let start = at-tests .before in
-    joined-test (start .args .nodes .now) (start .args .r) (start .args .w) (start .args .turn) _ (start .args .total) (c .before .product .result) (c .sum .result) _ _ (so-test (start .args .nodes .now) (start .args .r) _ (at-tests .tests .ensures) (at-if1 .if1 .taken)) (back _ (record { sfits = at-word .word .ok }) ∙ at-word .word .ensures) (back32 _ (record { sfits = c .before .before .signed .ok }) ∙ (c .before .before .signed .ensures ∙ ap (λ (k : ℤ). if (eqb (start .args .turn) 1) k (negℤ k)) (back32 (getD (start .args .ks .now) (start .args .j) (pos 0)) (record { sfits = at-k .k .given })))) (c .before .product .ensures) (c .sum .ensures)
+    joined-test (start .args .nodes .now) (start .args .r) (start .args .w) (start .args .turn) _ (start .args .total) (c .before .product .result) (c .sum .result) _ _
+    (so-test (start .args .nodes .now) (start .args .r) _ (at-tests .tests .ensures) (at-if1 .if1 .taken))
+    (back _ (record { sfits = at-word .word .ok }) ∙ at-word .word .ensures)
+    (back32 _ (record { sfits = c .before .before .signed .ok }) ∙ (c .before .before .signed .ensures ∙ ap (λ (k : ℤ). if (eqb (start .args .turn) 1) k (negℤ k))
+    (back32 (getD (start .args .ks .now) (start .args .j) (pos 0)) (record { sfits = at-k .k .given })))) (c .before .product .ensures) (c .sum .ensures)
 
 returns-2 : tie.Need-returns-2
 returns-2 c =
-    joined-none (c .before .before .args .nodes .now) (c .before .before .args .r) (c .before .before .args .w) (c .before .before .args .turn) _ _ (no-test (c .before .before .args .nodes .now) (c .before .before .args .r) _ (c .before .tests .ensures) (c .if1 .left))
+    joined-none (c .before .before .args .nodes .now) (c .before .before .args .r) (c .before .before .args .w) (c .before .before .args .turn) _ _
+    (no-test (c .before .before .args .nodes .now) (c .before .before .args .r) _ (c .before .tests .ensures) (c .if1 .left))
 
 pub with-test-spec : {M : Type 1} → statement M
 with-test-spec =

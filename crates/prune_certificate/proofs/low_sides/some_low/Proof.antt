@@ -31,7 +31,8 @@ low-here-requires c κs =
 
 returns : tie.Need-returns Inv-loop μ-loop
 returns c =
-    looking-finds _ _ _ _ _ _ _ (c .before .before .before .before .before .loop .inv) (c .before .before .before .before .loop-test .taken) (c .before .before .tests .result) (c .before .low-here .result) (c .before .before .tests .ensures) (c .before .low-here .ensures) (c .if1 .taken)
+    looking-finds _ _ _ _ _ _ _ (c .before .before .before .before .before .loop .inv) (c .before .before .before .before .loop-test .taken)
+    (c .before .before .tests .result) (c .before .low-here .result) (c .before .before .tests .ensures) (c .before .low-here .ensures) (c .if1 .taken)
 
 add-j : tie.Need-add-j Inv-loop μ-loop
 add-j c =
@@ -53,7 +54,8 @@ loop-less c =
 loop-again : tie.Need-loop-again Inv-loop μ-loop
 loop-again c =
     let at-tests = c .before .before .before in let at-loop-test = at-tests .before .before in let at-loop = at-loop-test .before in
-    looking-goes _ _ _ _ _ _ _ (at-loop .loop .inv) (at-loop-test .loop-test .taken) (c .goes .result) (at-tests .tests .result) (c .before .before .low-here .result) (c .goes .ensures) (at-tests .tests .ensures) (c .before .before .low-here .ensures) (c .before .if1 .left)
+    looking-goes _ _ _ _ _ _ _ (at-loop .loop .inv) (at-loop-test .loop-test .taken) (c .goes .result) (at-tests .tests .result) (c .before .before .low-here .result)
+    (c .goes .ensures) (at-tests .tests .ensures) (c .before .before .low-here .ensures) (c .before .if1 .left)
 
 returns-2 : tie.Need-returns-2 Inv-loop μ-loop
 returns-2 c =

@@ -49,7 +49,8 @@ loop-less c =
 loop-again : tie.Need-loop-again Inv-loop μ-loop
 loop-again c =
     let at-tests = c .before .before .before in
-    counting-goes _ _ _ _ _ _ (c .before .before .before .before .before .loop .inv) (c .before .before .before .before .loop-test .taken) (c .before .goes .result) (at-tests .tests .result) (c .before .goes .ensures) (at-tests .tests .ensures) (c .if1 .left)
+    counting-goes _ _ _ _ _ _ (c .before .before .before .before .before .loop .inv) (c .before .before .before .before .loop-test .taken) (c .before .goes .result)
+    (at-tests .tests .result) (c .before .goes .ensures) (at-tests .tests .ensures) (c .if1 .left)
 
 returns-2 : tie.Need-returns-2 Inv-loop μ-loop
 returns-2 c =

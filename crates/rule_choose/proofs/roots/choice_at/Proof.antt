@@ -35,7 +35,8 @@ returns : tie.Need-returns
 returns c =
     let at-order3 = c .before .before .before in let at-order2 = at-order3 .before in let at-order = at-order2 .before in let at-get2 = at-order .before in
     let at-get = at-get2 .before in let start = at-get .before in
-    choice-as (start .args .z) (start .args .f) (start .args .g) (at-get .get .ensures) (at-get2 .get2 .ensures) (c .before .before .below .ensures) (c .before .below2 .ensures) (at-order .order .ensures) (at-order2 .order2 .ensures) (at-order3 .order3 .ensures) (c .pick .ensures)
+    choice-as (start .args .z) (start .args .f) (start .args .g) (at-get .get .ensures) (at-get2 .get2 .ensures) (c .before .before .below .ensures)
+    (c .before .below2 .ensures) (at-order .order .ensures) (at-order2 .order2 .ensures) (at-order3 .order3 .ensures) (c .pick .ensures)
 
 pub choice-at-spec : {M : Type 1} → statement M
 choice-at-spec =

@@ -45,7 +45,8 @@ both-requires c κs = search needs
 returns-5 : tie.Need-returns-5
 returns-5 c =
     let at-if3 = c .before .before .before in let at-if1 = at-if3 .before in let start = at-if1 .before in
-    c .both .ensures ∙ split-as (start .args .x) (start .args .f) (start .args .y) (start .args .g) (start .args .o) false false false true (at-if1 .if1 .left) (at-if3 .if3 .left) (ne-eqb _ _ (c .before .before .if4 .left)) (eq-eqb _ _ (c .before .if5 .taken))
+    c .both .ensures ∙ split-as (start .args .x) (start .args .f) (start .args .y) (start .args .g) (start .args .o) false false false true (at-if1 .if1 .left)
+    (at-if3 .if3 .left) (ne-eqb _ _ (c .before .before .if4 .left)) (eq-eqb _ _ (c .before .if5 .taken))
 
 right-requires-2 : tie.Need-right-requires-2
 right-requires-2 c κs = search needs
@@ -53,7 +54,8 @@ right-requires-2 c κs = search needs
 returns-6 : tie.Need-returns-6
 returns-6 c =
     let at-if3 = c .before .before .before in let at-if1 = at-if3 .before in let start = at-if1 .before in
-    c .right2 .ensures ∙ split-as (start .args .x) (start .args .f) (start .args .y) (start .args .g) (start .args .o) false false false false (at-if1 .if1 .left) (at-if3 .if3 .left) (ne-eqb _ _ (c .before .before .if4 .left)) (ne-eqb _ _ (c .before .if5 .left))
+    c .right2 .ensures ∙ split-as (start .args .x) (start .args .f) (start .args .y) (start .args .g) (start .args .o) false false false false (at-if1 .if1 .left)
+    (at-if3 .if3 .left) (ne-eqb _ _ (c .before .before .if4 .left)) (ne-eqb _ _ (c .before .if5 .left))
 
 pub split-spec : {M : Type 1} → statement M
 split-spec =

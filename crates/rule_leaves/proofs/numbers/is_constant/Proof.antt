@@ -33,7 +33,8 @@ returns : tie.Need-returns Inv-loop μ-loop
 unfolding linOf
 returns c =
     let at-loop = c .before .before .before in
-    let s = (c .before .before .before .before .before) in one-not-zero (s .args .x .n) (as-long (s .args .x .n) (s .good .0 .1 .1 .1 .0 .1 .0 .1)) (at-loop .loop .i) (at-loop .loop .inv .1) (c .before .before .loop-test .taken) (c .if1 .taken)
+    let s = (c .before .before .before .before .before) in one-not-zero (s .args .x .n) (as-long (s .args .x .n) (s .good .0 .1 .1 .1 .0 .1 .0 .1)) (at-loop .loop .i)
+    (at-loop .loop .inv .1) (c .before .before .loop-test .taken) (c .if1 .taken)
 
 add-i : tie.Need-add-i Inv-loop μ-loop
 add-i c =
@@ -46,7 +47,11 @@ loop-less c =
 loop-again : tie.Need-loop-again Inv-loop μ-loop
 loop-again c =
     let at-loop = c .before .before .before in
-    let s = (c .before .before .before .before .before) in (omega arith, one-zero (s .args .x .n) (as-long (s .args .x .n) (s .good .0 .1 .1 .1 .0 .1 .0 .1)) (at-loop .loop .i) (at-loop .loop .inv .1) (c .before .before .loop-test .taken) (c .before .z .given) (c .if1 .left))
+    let s = (c .before .before .before .before .before) in (
+      omega arith,
+      one-zero (s .args .x .n) (as-long (s .args .x .n) (s .good .0 .1 .1 .1 .0 .1 .0 .1))
+          (at-loop .loop .i) (at-loop .loop .inv .1) (c .before .before .loop-test .taken) (c .before .z .given) (c .if1 .left),
+    )
 
 returns-2 : tie.Need-returns-2 Inv-loop μ-loop
 unfolding linOf

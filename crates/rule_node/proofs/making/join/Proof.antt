@@ -26,7 +26,8 @@ same-length-2 c = search needs
 returns : tie.Need-returns
 returns c =
     let at-join-test = c .before .before .before in let at-get = at-join-test .before .before .before in let start = at-get .before .before .before in
-    grew-as (ap (λ (x : Node). node (testOf x) (treeAt (start .args .nodes .now) (start .args .count) (start .args .h)) (treeAt (start .args .nodes .now) (start .args .count) (start .args .l))) (at-get .get .ensures)) (at-join-test .join-test .ensures)
+    grew-as (ap (λ (x : Node). node (testOf x) (treeAt (start .args .nodes .now) (start .args .count) (start .args .h))
+    (treeAt (start .args .nodes .now) (start .args .count) (start .args .l))) (at-get .get .ensures)) (at-join-test .join-test .ensures)
 
 pub join-spec : {M : Type 1} → statement M
 join-spec = tie.close (tie.spec get-requires join-test-requires same-length same-length-2 returns)

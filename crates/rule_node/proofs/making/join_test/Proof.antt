@@ -26,7 +26,7 @@ cast-t15 c = search needs
 
 intern-requires : tie.Need-intern-requires
 intern-requires c κs =
-    let at-if1 = c .before .before .before .before in let at-narrowed = at-if1 .before in let place = at-narrowed .before .before .before in let s = place in
+    let at-if1 = c .before .before .before .before in let at-narrowed = at-if1 .before in let s = at-narrowed .before .before .before in
     let k = at-narrowed .narrowed in
     (s .pre .0, join-valid (s .pre .0) (s .args .t) (s .pre .1) (s .args .h) (s .args .l) (k .result) (s .pre .2) (k .ensures .0) (k .ensures .1) (c .before .before .struct-told .given .0 .1) (at-if1 .if1 .left))
 
@@ -39,7 +39,7 @@ same-length-3 c = search needs
 returns-2 : tie.Need-returns-2
 returns-2 c =
     let at-intern = c .before .before .before in let at-struct-told = at-intern .before .before .before in let at-if1 = at-struct-told .before .before in
-    let at-narrowed = at-if1 .before in let place = at-narrowed .before .before .before in let s = place in
+    let at-narrowed = at-if1 .before in let s = at-narrowed .before .before .before in
     let k = at-narrowed .narrowed in
     join-made (s .pre .0) (s .args .t) (s .pre .1) (s .args .h) (s .args .l) (k .result) (s .pre .2) (k .ensures .0) (k .ensures .1) (at-struct-told .struct-told .given .0 .1) (at-if1 .if1 .left) (at-intern .intern .ensures)
 

@@ -9,7 +9,11 @@ within-requires c κs = search needs
 
 intern-requires : tie.Need-intern-requires
 intern-requires c κs =
-    let s = (c .before .before .before .before .before) in (s .pre .0, leaf-valid (s .pre .0) (s .args .s) (as-long (s .args .s .n) (s .good .1 .1 .1 .1 .0 .1 .1 .1 .0 .1 .0 .1)) (s .pre .1) (c .before .before .before .within .ensures) (c .before .before .if1 .taken))
+    let s = (c .before .before .before .before .before) in (
+      s .pre .0,
+      leaf-valid (s .pre .0) (s .args .s)
+          (as-long (s .args .s .n) (s .good .1 .1 .1 .1 .0 .1 .1 .1 .0 .1 .0 .1)) (s .pre .1) (c .before .before .before .within .ensures) (c .before .before .if1 .taken),
+    )
 
 same-length : tie.Need-same-length
 same-length c = search needs
@@ -19,8 +23,8 @@ same-length-2 c = search needs
 
 returns : tie.Need-returns
 returns c =
-    let at-intern = c .before .before .before in let at-if1 = at-intern .before .before .before in let at-within = at-if1 .before in let place = at-within .before .before in
-    let s = place in leaf-made (s .pre .0) (s .args .s) (as-long (s .args .s .n) (s .good .1 .1 .1 .1 .0 .1 .1 .1 .0 .1 .0 .1)) (s .pre .1) (at-within .within .ensures) (at-if1 .if1 .taken) (at-intern .intern .ensures)
+    let at-intern = c .before .before .before in let at-if1 = at-intern .before .before .before in let at-within = at-if1 .before in let s = at-within .before .before in
+    leaf-made (s .pre .0) (s .args .s) (as-long (s .args .s .n) (s .good .1 .1 .1 .1 .0 .1 .1 .1 .0 .1 .0 .1)) (s .pre .1) (at-within .within .ensures) (at-if1 .if1 .taken) (at-intern .intern .ensures)
 
 returns-2 : tie.Need-returns-2
 returns-2 c =

@@ -40,16 +40,14 @@ index-requires c κs =
 
 loop-less : tie.Need-loop-less Inv-loop μ-loop
 loop-less c =
-    let at-parallel = c .before .before .before in let at-get = at-parallel .before in let at-loop = at-get .before in let place = at-loop .before in
-    let s = place in
+    let at-parallel = c .before .before .before in let at-get = at-parallel .before in let at-loop = at-get .before in let s = at-loop .before in
     let L = at-loop .loop in
     (goes-to (s .pre .0) (s .args .t) (s .pre .2) (L .at) (L .inv .0) (at-get .get .ensures) (at-parallel .parallel .ensures) (c .before .before .if1 .taken)
     (abs-of (at-get .get .result .low) (c .before .struct-told .given .1 .1 .1 .0 .1) (c .index .ensures))) .0
 
 loop-again : tie.Need-loop-again Inv-loop μ-loop
 loop-again c =
-    let at-parallel = c .before .before .before in let at-get = at-parallel .before in let at-loop = at-get .before in let place = at-loop .before in
-    let s = place in
+    let at-parallel = c .before .before .before in let at-get = at-parallel .before in let at-loop = at-get .before in let s = at-loop .before in
     let L = at-loop .loop in
     let g = goes-to (s .pre .0) (s .args .t) (s .pre .2) (L .at) (L .inv .0) (at-get .get .ensures) (at-parallel .parallel .ensures) (c .before .before .if1 .taken)
     (abs-of (at-get .get .result .low) (c .before .struct-told .given .1 .1 .1 .0 .1) (c .index .ensures)) in

@@ -124,8 +124,15 @@ over-over-requires-3 : (t : ℕ) → over-lts.Need-over-requires-3 (over-claims 
 over-over-requires-3 t c κs =
     let at-over2 = c .before .before .before .before .before .before .before in let at-if2 = at-over2 .before .before .before .before .before .before in
     let at-if1 = at-if2 .before in let at-way-at = at-if1 .before in let start = at-way-at .before .before .before in
-    let h = low-falls (start .pre .1 .0) (start .pre .1 .1) (start .args .f) (start .pre .1 .2) (at-way-at .way-at .ensures) (at-if1 .if1 .left) (at-if2 .if2 .left) in
-    (omega (arith, h, start .pre .0), (at-over2 .over2 .ensures .table, start .pre .1 .1, walk-low (start .pre .1 .0) (start .pre .1 .1) (start .args .f) (start .pre .1 .2) (at-way-at .way-at .ensures) (at-if1 .if1 .left) (at-if2 .if2 .left) (at-over2 .over2 .ensures)))
+    let h = low-falls (start .pre .1 .0) (start .pre .1 .1) (start .args .f) (start .pre .1 .2) (at-way-at .way-at .ensures) (at-if1 .if1 .left) (at-if2 .if2 .left) in (
+      omega (arith, h, start .pre .0),
+      (
+        at-over2 .over2 .ensures .table,
+        start .pre .1 .1,
+        walk-low (start .pre .1 .0) (start .pre .1 .1) (start .args .f)
+            (start .pre .1 .2) (at-way-at .way-at .ensures) (at-if1 .if1 .left) (at-if2 .if2 .left) (at-over2 .over2 .ensures),
+      ),
+    )
 
 over-same-length-9 : (t : ℕ) → over-lts.Need-same-length-9 (over-claims t) (over-at t) over.Post
 over-same-length-9 t c =
@@ -142,14 +149,16 @@ over-returns-5 t c =
     let at-over3 = c .before .before .before .before .before in let at-if4 = at-over3 .before .before .before in let at-over2 = at-if4 .before .before .before .before .before in
     let at-if2 = at-over2 .before .before .before .before .before .before in let at-if1 = at-if2 .before in let at-way-at = at-if1 .before in
     let start = at-way-at .before .before .before in
-    low-stopped (start .pre .1 .0) (start .pre .1 .1) (start .args .f) (start .pre .1 .2) (at-way-at .way-at .ensures) (at-if1 .if1 .left) (at-if2 .if2 .left) (at-over2 .over2 .ensures) (at-if4 .if4 .left) (at-over3 .over3 .ensures) (c .if5 .taken)
+    low-stopped (start .pre .1 .0) (start .pre .1 .1) (start .args .f) (start .pre .1 .2) (at-way-at .way-at .ensures) (at-if1 .if1 .left) (at-if2 .if2 .left)
+    (at-over2 .over2 .ensures) (at-if4 .if4 .left) (at-over3 .over3 .ensures) (c .if5 .taken)
 
 over-join-requires : (t : ℕ) → over-lts.Need-join-requires (over-claims t) (over-at t) over.Post
 over-join-requires t c κs =
     let at-over3 = c .before .before .before .before .before .before .before in let at-if4 = at-over3 .before .before .before in
     let at-over2 = at-if4 .before .before .before .before .before in let at-if2 = at-over2 .before .before .before .before .before .before in let at-if1 = at-if2 .before in
     let at-way-at = at-if1 .before in let start = at-way-at .before .before .before in
-    join-asks (start .pre .1 .0) (start .pre .1 .1) (start .args .f) (start .pre .1 .2) (at-way-at .way-at .ensures) (at-if1 .if1 .left) (at-if2 .if2 .left) (at-over2 .over2 .ensures) (at-if4 .if4 .left) (at-over3 .over3 .ensures) (c .before .before .if5 .left)
+    join-asks (start .pre .1 .0) (start .pre .1 .1) (start .args .f) (start .pre .1 .2) (at-way-at .way-at .ensures) (at-if1 .if1 .left) (at-if2 .if2 .left)
+    (at-over2 .over2 .ensures) (at-if4 .if4 .left) (at-over3 .over3 .ensures) (c .before .before .if5 .left)
 
 over-same-length-11 : (t : ℕ) → over-lts.Need-same-length-11 (over-claims t) (over-at t) over.Post
 over-same-length-11 t c =
@@ -169,7 +178,8 @@ over-returns-6 t c =
     let at-if4 = at-over3 .before .before .before in let at-over2 = at-if4 .before .before .before .before .before in
     let at-if2 = at-over2 .before .before .before .before .before .before in let at-if1 = at-if2 .before in let at-way-at = at-if1 .before in
     let start = at-way-at .before .before .before in
-    walk-joined (start .pre .1 .0) (start .pre .1 .1) (start .args .f) (start .pre .1 .2) (at-way-at .way-at .ensures) (at-if1 .if1 .left) (at-if2 .if2 .left) (at-over2 .over2 .ensures) (at-if4 .if4 .left) (at-over3 .over3 .ensures) (at-if5 .if5 .left) (at-join .join .ensures)
+    walk-joined (start .pre .1 .0) (start .pre .1 .1) (start .args .f) (start .pre .1 .2) (at-way-at .way-at .ensures) (at-if1 .if1 .left) (at-if2 .if2 .left)
+    (at-over2 .over2 .ensures) (at-if4 .if4 .left) (at-over3 .over3 .ensures) (at-if5 .if5 .left) (at-join .join .ensures)
 
 over-keep-requires : (t : ℕ) → over-lts.Need-keep-requires (over-claims t) (over-at t) over.Post
 over-keep-requires t c κs =
@@ -177,7 +187,8 @@ over-keep-requires t c κs =
     let at-over3 = at-if5 .before .before .before .before .before in let at-if4 = at-over3 .before .before .before in
     let at-over2 = at-if4 .before .before .before .before .before in let at-if2 = at-over2 .before .before .before .before .before .before in let at-if1 = at-if2 .before in
     let at-way-at = at-if1 .before in let start = at-way-at .before .before .before in
-    let J = walk-joined (start .pre .1 .0) (start .pre .1 .1) (start .args .f) (start .pre .1 .2) (at-way-at .way-at .ensures) (at-if1 .if1 .left) (at-if2 .if2 .left) (at-over2 .over2 .ensures) (at-if4 .if4 .left) (at-over3 .over3 .ensures) (at-if5 .if5 .left) (at-join .join .ensures) in
+    let J = walk-joined (start .pre .1 .0) (start .pre .1 .1) (start .args .f) (start .pre .1 .2) (at-way-at .way-at .ensures) (at-if1 .if1 .left) (at-if2 .if2 .left)
+    (at-over2 .over2 .ensures) (at-if4 .if4 .left) (at-over3 .over3 .ensures) (at-if5 .if5 .left) (at-join .join .ensures) in
     keepable J (c .before .if6 .left) (act-key (start .pre .1 .1) (start .pre .1 .0 .bare) (start .args .f) (start .pre .1 .2))
 
 over-same-length-13 : (t : ℕ) → over-lts.Need-same-length-13 (over-claims t) (over-at t) over.Post
@@ -200,7 +211,8 @@ over-returns-7 t c =
     let at-over3 = at-if5 .before .before .before .before .before in let at-if4 = at-over3 .before .before .before in
     let at-over2 = at-if4 .before .before .before .before .before in let at-if2 = at-over2 .before .before .before .before .before .before in let at-if1 = at-if2 .before in
     let at-way-at = at-if1 .before in let start = at-way-at .before .before .before in
-    let J = walk-joined (start .pre .1 .0) (start .pre .1 .1) (start .args .f) (start .pre .1 .2) (at-way-at .way-at .ensures) (at-if1 .if1 .left) (at-if2 .if2 .left) (at-over2 .over2 .ensures) (at-if4 .if4 .left) (at-over3 .over3 .ensures) (at-if5 .if5 .left) (at-join .join .ensures) in
+    let J = walk-joined (start .pre .1 .0) (start .pre .1 .1) (start .args .f) (start .pre .1 .2) (at-way-at .way-at .ensures) (at-if1 .if1 .left) (at-if2 .if2 .left)
+    (at-over2 .over2 .ensures) (at-if4 .if4 .left) (at-over3 .over3 .ensures) (at-if5 .if5 .left) (at-join .join .ensures) in
     kept-run (act-lasts (start .pre .1 .1) (start .args .nodes .now) (start .args .count) (start .args .f) (start .pre .1 .2)) J (at-if6 .if6 .left) (c .before .before .keep .ensures)
 
 pub +over-spec : {M : Type 1} → statement M

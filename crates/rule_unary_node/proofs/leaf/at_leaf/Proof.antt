@@ -18,14 +18,14 @@ get-requires c κs = search needs
 
 acted-requires : tie.Need-acted-requires
 acted-requires c κs =
-    let place = c .before .before .before .before .before .before in
-    let s = place in (leaf-nums (s .pre .0) (s .pre .1) (s .pre .2) (c .get .ensures), s .pre .1)
+    let s = c .before .before .before .before .before .before in
+    (leaf-nums (s .pre .0) (s .pre .1) (s .pre .2) (c .get .ensures), s .pre .1)
 
 intern-requires : tie.Need-intern-requires
 intern-requires c κs =
     let at-acted = c .before .before .before in let at-get = at-acted .before in let at-if1 = at-get .before .before in let at-stays = at-if1 .before in
-    let place = at-stays .before .before .before in
-    let s = place in (s .pre .0, leaf-valid (s .pre .0) (s .pre .1) (s .pre .2) (at-get .get .ensures) (at-acted .acted .ensures) (at-stays .stays .ensures) (at-if1 .if1 .left) (c .before .before .if2 .taken))
+    let s = at-stays .before .before .before in
+    (s .pre .0, leaf-valid (s .pre .0) (s .pre .1) (s .pre .2) (at-get .get .ensures) (at-acted .acted .ensures) (at-stays .stays .ensures) (at-if1 .if1 .left) (c .before .before .if2 .taken))
 
 same-length-2 : tie.Need-same-length-2
 same-length-2 c = search needs
@@ -36,13 +36,13 @@ same-length-3 c = search needs
 returns-2 : tie.Need-returns-2
 returns-2 c =
     let at-intern = c .before .before .before in let at-if2 = at-intern .before .before .before in let at-acted = at-if2 .before in let at-get = at-acted .before in
-    let at-if1 = at-get .before .before in let at-stays = at-if1 .before in let place = at-stays .before .before .before in
-    let s = place in leaf-numbered (s .pre .0) (s .pre .1) (s .pre .2) (at-get .get .ensures) (at-acted .acted .ensures) (at-stays .stays .ensures) (at-if1 .if1 .left) (at-if2 .if2 .taken) (at-intern .intern .ensures)
+    let at-if1 = at-get .before .before in let at-stays = at-if1 .before in let s = at-stays .before .before .before in
+    leaf-numbered (s .pre .0) (s .pre .1) (s .pre .2) (at-get .get .ensures) (at-acted .acted .ensures) (at-stays .stays .ensures) (at-if1 .if1 .left) (at-if2 .if2 .taken) (at-intern .intern .ensures)
 
 make-leaf-requires : tie.Need-make-leaf-requires
 make-leaf-requires c κs =
-    let at-acted = c .before .before .before in let at-get = at-acted .before in let place = at-get .before .before .before .before .before .before in
-    let s = place in (s .pre .0, leaf-plain (s .pre .0) (s .pre .1) (s .pre .2) (at-get .get .ensures) (at-acted .acted .ensures) (c .before .before .if2 .left))
+    let at-acted = c .before .before .before in let at-get = at-acted .before in let s = at-get .before .before .before .before .before .before in
+    (s .pre .0, leaf-plain (s .pre .0) (s .pre .1) (s .pre .2) (at-get .get .ensures) (at-acted .acted .ensures) (c .before .before .if2 .left))
 
 same-length-4 : tie.Need-same-length-4
 same-length-4 c = search needs
@@ -53,8 +53,8 @@ same-length-5 c = search needs
 returns-3 : tie.Need-returns-3
 returns-3 c =
     let at-make-leaf = c .before .before .before in let at-if2 = at-make-leaf .before .before .before in let at-acted = at-if2 .before in let at-get = at-acted .before in
-    let at-if1 = at-get .before .before in let at-stays = at-if1 .before in let place = at-stays .before .before .before in
-    let s = place in leaf-judged (s .pre .0) (s .pre .1) (s .pre .2) (at-get .get .ensures) (at-acted .acted .ensures) (at-stays .stays .ensures) (at-if1 .if1 .left) (at-if2 .if2 .left) (at-make-leaf .make-leaf .ensures)
+    let at-if1 = at-get .before .before in let at-stays = at-if1 .before in let s = at-stays .before .before .before in
+    leaf-judged (s .pre .0) (s .pre .1) (s .pre .2) (at-get .get .ensures) (at-acted .acted .ensures) (at-stays .stays .ensures) (at-if1 .if1 .left) (at-if2 .if2 .left) (at-make-leaf .make-leaf .ensures)
 
 pub at-leaf-spec : {M : Type 1} → statement M
 at-leaf-spec =

@@ -15,7 +15,8 @@ stays-none-requires c κs = search needs
 
 returns-2 : tie.Need-returns-2
 returns-2 c =
-    let s = c .before .before .before .before in stays-scale (s .args .op) (s .args .p) (s .args .q) _ (c .before .number-of .result) (c .before .number-of .ok) (c .before .number-of .ensures) (c .before .before .if2 .taken) (c .stays-none .ensures)
+    let s = c .before .before .before .before in stays-scale (s .args .op) (s .args .p) (s .args .q) _ (c .before .number-of .result) (c .before .number-of .ok)
+    (c .before .number-of .ensures) (c .before .before .if2 .taken) (c .stays-none .ensures)
 
 returns-3 : tie.Need-returns-3
 returns-3 c = let s = c .before .before .before in stays-not (s .args .op) (s .args .p) (s .args .q) _ (c .if3 .taken) (c .before .if2 .left)

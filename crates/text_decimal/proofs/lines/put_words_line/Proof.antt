@@ -23,7 +23,15 @@ put-bytes-requires-2 : tie.Need-put-bytes-requires-2
 put-bytes-requires-2 c κs =
     let at-put-words = c .before .before .before .before in let at-put-bytes = at-put-words .before .before .before .before in
     let start-2 = at-put-bytes .before .before .before .before in
-    omega (arith, start-2 .pre, line-length (start-2 .args .start .now) (start-2 .args .xs .now), at-put-bytes .put-bytes .ensures .behind, at-put-bytes .put-bytes .kept .0, at-put-words .put-words .ensures .behind, at-put-words .put-words .kept .0)
+    omega (
+      arith,
+      start-2 .pre,
+      line-length (start-2 .args .start .now) (start-2 .args .xs .now),
+      at-put-bytes .put-bytes .ensures .behind,
+      at-put-bytes .put-bytes .kept .0,
+      at-put-words .put-words .ensures .behind,
+      at-put-words .put-words .kept .0,
+    )
 
 same-length : tie.Need-same-length
 same-length c = search needs

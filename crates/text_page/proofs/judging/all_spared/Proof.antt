@@ -46,7 +46,9 @@ returns c =
     let at-loop-test = c .before .before .before .before .before .before .before in let at-loop = at-loop-test .before in let start = at-loop .before .before in
     let a = start .args in
     let p = spared (site-as (a .site)) (a .nodes .now) (a .stages .now) (asked (a .q)) (a .number) in
-    sym (every-false p (at-loop .loop .h) (a .last) (at-loop-test .loop-test .taken) (spared-not (site-as (a .site)) (a .nodes .now) (a .stages .now) (asked (a .q)) (a .number) (at-loop .loop .h) (c .before .before .value-after .ensures) (c .if1 .taken)))
+    sym (every-false p (at-loop .loop .h) (a .last) (at-loop-test .loop-test .taken)
+    (spared-not (site-as (a .site)) (a .nodes .now) (a .stages .now) (asked (a .q)) (a .number) (at-loop .loop .h) (c .before .before .value-after .ensures)
+    (c .if1 .taken)))
 
 add-h : tie.Need-add-h Inv-loop μ-loop
 add-h c =
@@ -60,8 +62,12 @@ loop-again : tie.Need-loop-again Inv-loop μ-loop
 loop-again c =
     let at-loop-test = c .before .before .before .before .before .before .before in let at-loop = at-loop-test .before in let start = at-loop .before .before in
     let a = start .args in
-    let p = spared (site-as (a .site)) (a .nodes .now) (a .stages .now) (asked (a .q)) (a .number) in
-    (omega (arith, at-loop-test .loop-test .taken), every-true p (at-loop .loop .h) (at-loop .loop .inv .1) (spared-yes (site-as (a .site)) (a .nodes .now) (a .stages .now) (asked (a .q)) (a .number) (at-loop .loop .h) (c .before .before .value-after .ensures) (c .if1 .left)))
+    let p = spared (site-as (a .site)) (a .nodes .now) (a .stages .now) (asked (a .q)) (a .number) in (
+      omega (arith, at-loop-test .loop-test .taken),
+      every-true p (at-loop .loop .h) (at-loop .loop .inv .1)
+          (spared-yes (site-as (a .site)) (a .nodes .now) (a .stages .now) (asked (a .q)) (a .number) (at-loop .loop .h) (c .before .before .value-after .ensures)
+          (c .if1 .left)),
+    )
 
 returns-2 : tie.Need-returns-2 Inv-loop μ-loop
 returns-2 c =

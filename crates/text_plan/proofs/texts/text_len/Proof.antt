@@ -20,7 +20,8 @@ node-lines-len-requires c κs = search needs
 returns : tie.Need-returns
 returns c =
     let start = c .before .before .before .before in let a = start .args in
-    text-counted (site-as (a .site)) (a .horizon) (a .nodes .now) (a .stages .now) (a .root) (start .pre .0 .greatest) (a .room) (c .before .before .first-line-len .ensures .0) (c .before .stage-lines-len .ensures .0) (c .node-lines-len .ensures)
+    text-counted (site-as (a .site)) (a .horizon) (a .nodes .now) (a .stages .now) (a .root) (start .pre .0 .greatest) (a .room)
+    (c .before .before .first-line-len .ensures .0) (c .before .stage-lines-len .ensures .0) (c .node-lines-len .ensures)
 
 pub text-len-spec : {M : Type 1} → statement M
 text-len-spec =

@@ -51,8 +51,11 @@ loop-less c =
 -- src/states.rt:33:5
 loop-again : tie.Need-loop-again Inv-loop μ-loop
 loop-again c =
-    let at-loop = c .before .before .before in let start = at-loop .before .before in
-    (omega (arith, at-loop .loop .inv .0), one-zero (start .args .q .n) (as-long (start .args .q .n) (start .good .1 .0 .1 .1 .1 .0 .1 .0 .1)) (start .args .m) (at-loop .loop .i) (at-loop .loop .inv .1) (c .before .before .loop-test .taken) (c .before .z .given) (c .if1 .left))
+    let at-loop = c .before .before .before in let start = at-loop .before .before in (
+      omega (arith, at-loop .loop .inv .0),
+      one-zero (start .args .q .n) (as-long (start .args .q .n) (start .good .1 .0 .1 .1 .1 .0 .1 .0 .1)) (start .args .m)
+          (at-loop .loop .i) (at-loop .loop .inv .1) (c .before .before .loop-test .taken) (c .before .z .given) (c .if1 .left),
+    )
 
 -- src/states.rt:28:1
 returns-2 : tie.Need-returns-2 Inv-loop μ-loop

@@ -15,11 +15,13 @@ magnitude-requires-2 c κs = search needs
 
 returns : tie.Need-returns
 returns c =
-    c .magnitude .ensures ∙ ap (λ b. natAbs (if b (high-of ((c .before .before) .args .nodes .now) ((c .before .before) .args .r)) (low-of ((c .before .before) .args .nodes .now) ((c .before .before) .args .r)))) (sym (c .before .if1 .taken))
+    c .magnitude .ensures ∙ ap (λ b. natAbs (if b (high-of ((c .before .before) .args .nodes .now) ((c .before .before) .args .r))
+    (low-of ((c .before .before) .args .nodes .now) ((c .before .before) .args .r)))) (sym (c .before .if1 .taken))
 
 returns-2 : tie.Need-returns-2
 returns-2 c =
-    c .magnitude2 .ensures ∙ ap (λ b. natAbs (if b (high-of ((c .before .before) .args .nodes .now) ((c .before .before) .args .r)) (low-of ((c .before .before) .args .nodes .now) ((c .before .before) .args .r)))) (sym (c .before .if1 .left))
+    c .magnitude2 .ensures ∙ ap (λ b. natAbs (if b (high-of ((c .before .before) .args .nodes .now) ((c .before .before) .args .r))
+    (low-of ((c .before .before) .args .nodes .now) ((c .before .before) .args .r)))) (sym (c .before .if1 .left))
 
 pub branch-spec : {M : Type 1} → statement M
 branch-spec = tie.close (tie.spec magnitude-requires magnitude-requires-2 returns returns-2)

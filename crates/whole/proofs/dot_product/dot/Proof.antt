@@ -69,13 +69,15 @@ cast-b c =
 mul-p : tie.Need-mul-p Inv-loop μ-loop
 mul-p c =
     let at-loop = c .before .before .before .before .before in let start = at-loop .before in
-    product-fits (getD (start .args .t1) (at-loop .loop .i) (pos 0)) (getD (start .args .t2) (at-loop .loop .i) (pos 0)) (start .pre .each (at-loop .loop .i)) (record { sfits = c .b .given }) (c .before .before .mag .ensures) (c .before .if1 .left)
+    product-fits (getD (start .args .t1) (at-loop .loop .i) (pos 0)) (getD (start .args .t2) (at-loop .loop .i) (pos 0)) (start .pre .each (at-loop .loop .i))
+    (record { sfits = c .b .given }) (c .before .before .mag .ensures) (c .before .if1 .left)
 
 -- src/dot_product.rt:43:9
 add-s : tie.Need-add-s Inv-loop μ-loop
 add-s c =
     let at-loop-test = c .before .before .before .before in let at-loop = at-loop-test .before in let start = at-loop .before in
-    sum-fits (getD (start .args .t1) (at-loop .loop .i) (pos 0)) (getD (start .args .t2) (at-loop .loop .i) (pos 0)) (start .pre .each (at-loop .loop .i)) (record { sfits = c .b .given }) (c .before .before .mag .ensures) (c .before .if1 .left) (at-loop .loop .inv) (at-loop-test .loop-test .taken)
+    sum-fits (getD (start .args .t1) (at-loop .loop .i) (pos 0)) (getD (start .args .t2) (at-loop .loop .i) (pos 0)) (start .pre .each (at-loop .loop .i))
+    (record { sfits = c .b .given }) (c .before .before .mag .ensures) (c .before .if1 .left) (at-loop .loop .inv) (at-loop-test .loop-test .taken)
 
 -- src/dot_product.rt:44:9
 add-i : tie.Need-add-i Inv-loop μ-loop
@@ -91,7 +93,9 @@ loop-less c =
 loop-again : tie.Need-loop-again Inv-loop μ-loop
 loop-again c =
     let at-loop-test = c .before .before .before .before in let at-loop = at-loop-test .before in let start = at-loop .before in
-    one-added (getD (start .args .t1) (at-loop .loop .i) (pos 0)) (getD (start .args .t2) (at-loop .loop .i) (pos 0)) (start .pre .each (at-loop .loop .i)) (record { sfits = c .b .given }) (c .before .before .mag .ensures) (c .before .if1 .left) (at-loop .loop .inv) (at-loop-test .loop-test .taken) (start .pre .long) (start .good .1 .0 .1 .0 .1) refl refl
+    one-added (getD (start .args .t1) (at-loop .loop .i) (pos 0)) (getD (start .args .t2) (at-loop .loop .i) (pos 0)) (start .pre .each (at-loop .loop .i))
+    (record { sfits = c .b .given }) (c .before .before .mag .ensures) (c .before .if1 .left) (at-loop .loop .inv) (at-loop-test .loop-test .taken) (start .pre .long)
+    (start .good .1 .0 .1 .0 .1) refl refl
 
 -- src/dot_product.rt:46:5
 from-word-requires : tie.Need-from-word-requires Inv-loop μ-loop

@@ -45,8 +45,7 @@ loop-less c = omega arith
 
 loop-again : tie.Need-loop-again Inv-loop μ-loop
 loop-again c =
-    let at-mul-within = c .before .before .before in let at-loop = at-mul-within .before .before in let place = at-loop .before in let l = at-loop .loop in
-    let s = place in
+    let at-mul-within = c .before .before .before in let at-loop = at-mul-within .before .before in let s = at-loop .before in let l = at-loop .loop in
     let q = c .before .q .given in
     let n = power-next (s .args .w) (l .i) (l .p) (s .fits .w .fits) (l .inv .1) (l .inv .2) (at-mul-within .mul-within .result) (q .0 .0) (at-mul-within .mul-within .ensures) (q .1) in
     (omega arith, n .0, n .1)

@@ -50,7 +50,11 @@ loop-less c =
 loop-again : tie.Need-loop-again Inv-loop μ-loop
 loop-again c =
     let at-loop-test = c .before .before .before in let at-loop = at-loop-test .before in
-    let s = (c .before .before .before .before .before) in (omega arith, one-same _ _ (s .good .0 .1 .0 .1) (s .good .1 .0 .1 .0 .1) (at-loop .loop .i) (at-loop .loop .inv .1) (at-loop-test .loop-test .taken) (c .before .before .x .given) (c .before .y .given) (c .if1 .left))
+    let s = (c .before .before .before .before .before) in (
+      omega arith,
+      one-same _ _ (s .good .0 .1 .0 .1) (s .good .1 .0 .1 .0 .1) (at-loop .loop .i)
+          (at-loop .loop .inv .1) (at-loop-test .loop-test .taken) (c .before .before .x .given) (c .before .y .given) (c .if1 .left),
+    )
 
 returns-2 : tie.Need-returns-2 Inv-loop μ-loop
 returns-2 c =

@@ -28,7 +28,8 @@ with-sign-requires-2 c κs = search needs
 returns : tie.Need-returns
 returns c =
     let s = c .before .before .before .before .before in
-    product-is (s .args .a) (s .args .b) (s .pre) (s .fits .b) _ _ (c .before .before .before .before .mag .ensures) (c .before .before .before .mag2 .ensures) _ _ _ (c .before .before .times .ensures) (c .before .with-sign .ensures) (c .with-sign2 .ensures)
+    product-is (s .args .a) (s .args .b) (s .pre) (s .fits .b) _ _ (c .before .before .before .before .mag .ensures) (c .before .before .before .mag2 .ensures) _ _ _
+    (c .before .before .times .ensures) (c .before .with-sign .ensures) (c .with-sign2 .ensures)
 
 pub product-spec : {M : Type 1} → statement M
 product-spec =

@@ -15,20 +15,18 @@ add-high c =
 
 add-t8 : tie.Need-add-t8
 add-t8 c =
-    let place = c .before .before .before .before .before .before in let s = place in
+    let s = c .before .before .before .before .before .before in
     more-fits (s .args .x) (s .args .y) (s .pre)
 
 returns : tie.Need-returns
 returns c =
-    let at-struct-known = c .before .before .before .before in let at-wrapping-add-u64 = at-struct-known .before in let place = at-wrapping-add-u64 .before in
-    let s = place in
+    let at-struct-known = c .before .before .before .before in let at-wrapping-add-u64 = at-struct-known .before in let s = at-wrapping-add-u64 .before in
     let w = at-wrapping-add-u64 .wrapping-add-u64 in
     sum-carried (s .args .x) (s .args .y) (s .pre) (w .result) (at-struct-known .struct-known .given .0 .fits) (c .before .before .struct-known2 .given .0 .fits) (w .ensures) (omega arith)
 
 returns-2 : tie.Need-returns-2
 returns-2 c =
-    let at-struct-known = c .before .before .before .before in let at-wrapping-add-u64 = at-struct-known .before in let place = at-wrapping-add-u64 .before in
-    let s = place in
+    let at-struct-known = c .before .before .before .before in let at-wrapping-add-u64 = at-struct-known .before in let s = at-wrapping-add-u64 .before in
     let w = at-wrapping-add-u64 .wrapping-add-u64 in
     sum-plain (s .args .x) (s .args .y) (s .pre) (w .result) (at-struct-known .struct-known .given .0 .fits) (c .before .before .struct-known2 .given .0 .fits) (w .ensures) (omega arith)
 
