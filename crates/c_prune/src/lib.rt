@@ -17,7 +17,9 @@ pub fn prune(
     multipliers: &[i32],
     out: &mut [u8],
 ) -> u32
-    ensures { λ r. ⌜ pruned r (now (out .exit)) (now (nodes .exit)) (now (stages .exit)) (now (work .exit)) ≡ prune-answer (prune-of (now (model .entry)) (now (nodes .entry)) (now (stages .entry)) (now (work .entry)) stage (now (turns .entry)) (now (multipliers .entry))) (now (nodes .entry)) (now (stages .entry)) (now (work .entry)) (now (out .entry)) ⌝ }
+    ensures { λ r. ⌜ pruned r (now (out .exit)) (now (nodes .exit)) (now (stages .exit)) (now (work .exit))
+        ≡ prune-answer (prune-of (now (model .entry)) (now (nodes .entry)) (now (stages .entry)) (now (work .entry)) stage (now (turns .entry)) (now (multipliers .entry)))
+        (now (nodes .entry)) (now (stages .entry)) (now (work .entry)) (now (out .entry)) ⌝ }
 {
     if out.len() < ANSWER_BYTES {
         let most = table_room::room(nodes.len(), work.len());

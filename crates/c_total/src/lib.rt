@@ -71,7 +71,9 @@ pub fn total(
     steps: u32,
     out: &mut [u8],
 ) -> u32
-    ensures { λ r. ⌜ answered r (now (out .exit)) ≡ total-answer (total-of (now (bytes .entry)) (now (nodes .entry)) (now (stages .entry)) (asked-by mask (l1 ∷ l2 ∷ l3 ∷ l4 ∷ l5 ∷ l6 ∷ l7 ∷ l8 ∷ d ∷ [])) (now (bytes2 .entry)) (now (nodes2 .entry)) (now (stages2 .entry)) (asked-by mask2 (k1 ∷ k2 ∷ k3 ∷ k4 ∷ k5 ∷ k6 ∷ k7 ∷ k8 ∷ e ∷ [])) steps) (now (out .entry)) ⌝ }
+    ensures { λ r. ⌜ answered r (now (out .exit))
+        ≡ total-answer (total-of (now (bytes .entry)) (now (nodes .entry)) (now (stages .entry)) (asked-by mask (l1 ∷ l2 ∷ l3 ∷ l4 ∷ l5 ∷ l6 ∷ l7 ∷ l8 ∷ d ∷ []))
+        (now (bytes2 .entry)) (now (nodes2 .entry)) (now (stages2 .entry)) (asked-by mask2 (k1 ∷ k2 ∷ k3 ∷ k4 ∷ k5 ∷ k6 ∷ k7 ∷ k8 ∷ e ∷ [])) steps) (now (out .entry)) ⌝ }
 {
     let first = Asked {
         mask: mask,

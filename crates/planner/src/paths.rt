@@ -15,7 +15,9 @@ pub extern "C" fn planner_prune(
     multipliers: &[i32],
     out: &mut [u8],
 ) -> u32
-    ensures { λ r. ⌜ pruned r (now (out .exit)) (now (nodes .exit)) (now (stages .exit)) (now (work .exit)) ≡ prune-answer (prune-of (now (model .entry)) (now (nodes .entry)) (now (stages .entry)) (now (work .entry)) stage (now (turns .entry)) (now (multipliers .entry))) (now (nodes .entry)) (now (stages .entry)) (now (work .entry)) (now (out .entry)) ⌝ }
+    ensures { λ r. ⌜ pruned r (now (out .exit)) (now (nodes .exit)) (now (stages .exit)) (now (work .exit))
+        ≡ prune-answer (prune-of (now (model .entry)) (now (nodes .entry)) (now (stages .entry)) (now (work .entry)) stage (now (turns .entry)) (now (multipliers .entry)))
+        (now (nodes .entry)) (now (stages .entry)) (now (work .entry)) (now (out .entry)) ⌝ }
 {
     c_prune::prune(model, nodes, stages, work, stage, turns, multipliers, out)
 }

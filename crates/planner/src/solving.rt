@@ -34,7 +34,9 @@ pub extern "C" fn planner_solve(
     peaks: &mut [u32],
     out: &mut [u8],
 ) -> u32
-    ensures { λ r. ⌜ solved r (now (out .exit)) (now (nodes .exit)) (now (stages .exit)) (now (work .exit)) (now (peaks .exit)) ≡ solve-answer (solve-of (now (bytes .entry)) horizon (now (nodes .entry)) (now (stages .entry)) (now (work .entry)) (now (peaks .entry))) (now (nodes .entry)) (now (stages .entry)) (now (work .entry)) (now (peaks .entry)) (now (out .entry)) ⌝ }
+    ensures { λ r. ⌜ solved r (now (out .exit)) (now (nodes .exit)) (now (stages .exit)) (now (work .exit)) (now (peaks .exit))
+        ≡ solve-answer (solve-of (now (bytes .entry)) horizon (now (nodes .entry)) (now (stages .entry)) (now (work .entry)) (now (peaks .entry)))
+        (now (nodes .entry)) (now (stages .entry)) (now (work .entry)) (now (peaks .entry)) (now (out .entry)) ⌝ }
 {
     if out.len() < 8 {
         let early = solve_tables::early(bytes, horizon, stages.len(), peaks.len());

@@ -51,7 +51,8 @@ pub fn solve_in(
     peaks: &mut [u32],
     cap: usize,
 ) -> Planned
-    requires { ⌜ (verdict (now model) .number ≡ 0) × (length (now model) ≤ bytes-most) × (horizon ≤ steps-most) × (1 ≤ horizon) × (cap ≤ nodes-most) × (cap * node-words ≤ length (now nodes)) × (cap * work-words ≤ length (now work)) × (length (now stages) ≡ steps-most) × (length (now peaks) ≡ peak-words) ⌝ }
+    requires { ⌜ (verdict (now model) .number ≡ 0) × (length (now model) ≤ bytes-most) × (horizon ≤ steps-most) × (1 ≤ horizon)
+        × (cap ≤ nodes-most) × (cap * node-words ≤ length (now nodes)) × (cap * work-words ≤ length (now work)) × (length (now stages) ≡ steps-most) × (length (now peaks) ≡ peak-words) ⌝ }
     ensures { λ r. ⌜ Solves (now (model .entry)) horizon cap (now (nodes .entry)) (now (nodes .exit)) (now (stages .exit)) (now (work .entry)) (now (work .exit)) (now (peaks .exit)) r ⌝ }
 {
     clear_peaks(peaks);

@@ -158,7 +158,9 @@ levels-sum (c ∷ cs) (D ∷ Ds) = bind (scale c D) (λ F. sum-on F cs Ds)
 unfoldable pub linear-diagram : List Tree → Linear → Comp Tree
 linear-diagram Ds p = bind (levels-sum (p .coeffs) Ds) (shift (p .const))
 
--- "A condition becomes the next-step one, by choose. A test's linear is built the same way; at each leaf of that diagram a constant decides, another linear is a choose between the substituted branches. Above leaves it is choose on that diagram's root." A forbidden leaf: "substitution leaves it as it is"
+-- "A condition becomes the next-step one, by choose. A test's linear is built the same way; at each leaf of that diagram a constant
+-- decides, another linear is a choose between the substituted branches. Above leaves it is choose on that diagram's root."
+-- A forbidden leaf: "substitution leaves it as it is"
 unfoldable pub substitute : List Tree → Tree → Comp Tree
 substitute Ds (leaf (some p a)) = linear-diagram Ds p
 substitute Ds (leaf forbidden) = make none-leaf

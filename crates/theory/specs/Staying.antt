@@ -1,4 +1,6 @@
--- Where plain working stays within its limits: "It gives 11 when a next state's numerator (also with no step left) leaves 32 bits, or when W^(n×h), a reward, W^(n×h) × reward, weight × worth or a running sum (all but the first times D; reward first, then settings, condition 1 fastest, no before yes) leaves ±(2⁶² − 1)." From K8 on it "leaves an action at its first forbidden reward or none".
+-- Where plain working stays within its limits: "It gives 11 when a next state's numerator (also with no step left) leaves 32 bits,
+-- or when W^(n×h), a reward, W^(n×h) × reward, weight × worth or a running sum (all but the first times D; reward first,
+-- then settings, condition 1 fastest, no before yes) leaves ±(2⁶² − 1)." From K8 on it "leaves an action at its first forbidden reward or none".
 use mathlib.Core.Bool.{Bool}
 use mathlib.Core.List.{List, [], _∷_, map, List·Memᴰ}
 use Prim.Native.Nat.{ℕ, zero, suc, _^_, _≤_, _<_}

@@ -30,6 +30,13 @@ use Rattle.import_grammar.specs.Reader.{openCond, openSum, openBehind, o
 use Rattle.import_grammar.specs.Reader.{itemHere, resulted, letterHere, settled, hextended, iextended, by-kind, quoteHere}
 use Rattle.import_grammar.specs.Reader.{with-plain, charHere}
 
+-- one name that unfolds the bytes of a reading and the reader's steps
+unfoldable reading : Unit {0}
+unfolding spaces-bytes digits-bytes kfactor-bytes vfactor-bytes sum-bytes nots-bytes atom-bytes result-bytes setting-bytes chars-bytes before-bytes text-bytes
+    itemHere resulted letterHere settled hextended iextended by-kind quoteHere with-plain charHere extended cextended closeLeft closeCond colon elseHere joined
+    ending closeConst minusHere cminusHere coreHere factorHere equalsHere equalsAbove openCond openSum openBehind openConst step-on step-mid step run finish
+reading = tt
+
 -- ---- the last term of a sum, the last atom of a condition, and what stands before
 
 abbrev pub kpre-of : {n : ℕ} → ConstSum n → ConstPre n
@@ -119,9 +126,7 @@ or-law o = ap (or-of (or-pre o)) (and-law (or-last o)) ∙ or-law′ o
 -- ---- white space and digits
 
 pub spaced : (s : State) (q : Spaces) (f : List ℕ) → run (at s none) (spaces-bytes q f) ≡ run (at s q) f
-unfolding spaces-bytes digits-bytes kfactor-bytes vfactor-bytes sum-bytes nots-bytes atom-bytes result-bytes setting-bytes chars-bytes before-bytes text-bytes
-    itemHere resulted letterHere settled hextended iextended by-kind quoteHere with-plain charHere extended cextended closeLeft closeCond colon elseHere joined
-    ending closeConst minusHere cminusHere coreHere factorHere equalsHere equalsAbove openCond openSum openBehind openConst step-on step-mid step run finish
+unfolding reading
 spaced s none f = refl
 spaced s (more q blank) f = spaced s q (32 ∷ f)
 spaced s (more q tab) f = spaced s q (9 ∷ f)
@@ -129,9 +134,7 @@ spaced s (more q newline) f = spaced s q (10 ∷ f)
 spaced s (more q return) f = spaced s q (13 ∷ f)
 
 digit-factor : {n : ℕ} (sc : SumCtx n) (pre : SumPre n) (tp : TermPre n) (q : Spaces) (d : Digit) → step (at (factor sc pre tp) q) (digit-byte d) ≡ at (after sc pre (times-const tp (number q (one d)))) none
-unfolding spaces-bytes digits-bytes kfactor-bytes vfactor-bytes sum-bytes nots-bytes atom-bytes result-bytes setting-bytes chars-bytes before-bytes text-bytes
-    itemHere resulted letterHere settled hextended iextended by-kind quoteHere with-plain charHere extended cextended closeLeft closeCond colon elseHere joined
-    ending closeConst minusHere cminusHere coreHere factorHere equalsHere equalsAbove openCond openSum openBehind openConst step-on step-mid step run finish
+unfolding reading
 digit-factor sc pre tp q d0 = refl
 digit-factor sc pre tp q d1 = refl
 digit-factor sc pre tp q d2 = refl
@@ -144,9 +147,7 @@ digit-factor sc pre tp q d8 = refl
 digit-factor sc pre tp q d9 = refl
 
 digit-cfactor : {n : ℕ} (cc : ConstCtx n) (pre : ConstPre n) (tp : ConstTermPre n) (q : Spaces) (d : Digit) → step (at (cfactor cc pre tp) q) (digit-byte d) ≡ at (cafter cc pre (ktimes-of tp (number q (one d)))) none
-unfolding spaces-bytes digits-bytes kfactor-bytes vfactor-bytes sum-bytes nots-bytes atom-bytes result-bytes setting-bytes chars-bytes before-bytes text-bytes
-    itemHere resulted letterHere settled hextended iextended by-kind quoteHere with-plain charHere extended cextended closeLeft closeCond colon elseHere joined
-    ending closeConst minusHere cminusHere coreHere factorHere equalsHere equalsAbove openCond openSum openBehind openConst step-on step-mid step run finish
+unfolding reading
 digit-cfactor cc pre tp q d0 = refl
 digit-cfactor cc pre tp q d1 = refl
 digit-cfactor cc pre tp q d2 = refl
@@ -159,9 +160,7 @@ digit-cfactor cc pre tp q d8 = refl
 digit-cfactor cc pre tp q d9 = refl
 
 digit-cond : {n : ℕ} (ctx : CondCtx n) (l : Level n) (q : Spaces) (d : Digit) → step (at (cond ctx l) q) (digit-byte d) ≡ at (after (left ctx l) opens (kt (kfactor (number q (one d))))) none
-unfolding spaces-bytes digits-bytes kfactor-bytes vfactor-bytes sum-bytes nots-bytes atom-bytes result-bytes setting-bytes chars-bytes before-bytes text-bytes
-    itemHere resulted letterHere settled hextended iextended by-kind quoteHere with-plain charHere extended cextended closeLeft closeCond colon elseHere joined
-    ending closeConst minusHere cminusHere coreHere factorHere equalsHere equalsAbove openCond openSum openBehind openConst step-on step-mid step run finish
+unfolding reading
 digit-cond ctx l q d0 = refl
 digit-cond ctx l q d1 = refl
 digit-cond ctx l q d2 = refl
@@ -174,9 +173,7 @@ digit-cond ctx l q d8 = refl
 digit-cond ctx l q d9 = refl
 
 digit-after : {n : ℕ} (sc : SumCtx n) (pre : SumPre n) (t : Term n) (q : Spaces) (d : Digit) → step (at (after sc pre t) q) (digit-byte d) ≡ extended sc pre t q d
-unfolding spaces-bytes digits-bytes kfactor-bytes vfactor-bytes sum-bytes nots-bytes atom-bytes result-bytes setting-bytes chars-bytes before-bytes text-bytes
-    itemHere resulted letterHere settled hextended iextended by-kind quoteHere with-plain charHere extended cextended closeLeft closeCond colon elseHere joined
-    ending closeConst minusHere cminusHere coreHere factorHere equalsHere equalsAbove openCond openSum openBehind openConst step-on step-mid step run finish
+unfolding reading
 digit-after sc pre t q d0 = refl
 digit-after sc pre t q d1 = refl
 digit-after sc pre t q d2 = refl
@@ -189,9 +186,7 @@ digit-after sc pre t q d8 = refl
 digit-after sc pre t q d9 = refl
 
 digit-cafter : {n : ℕ} (cc : ConstCtx n) (pre : ConstPre n) (t : ConstTerm n) (q : Spaces) (d : Digit) → step (at (cafter cc pre t) q) (digit-byte d) ≡ cextended cc pre t q d
-unfolding spaces-bytes digits-bytes kfactor-bytes vfactor-bytes sum-bytes nots-bytes atom-bytes result-bytes setting-bytes chars-bytes before-bytes text-bytes
-    itemHere resulted letterHere settled hextended iextended by-kind quoteHere with-plain charHere extended cextended closeLeft closeCond colon elseHere joined
-    ending closeConst minusHere cminusHere coreHere factorHere equalsHere equalsAbove openCond openSum openBehind openConst step-on step-mid step run finish
+unfolding reading
 digit-cafter cc pre t q d0 = refl
 digit-cafter cc pre t q d1 = refl
 digit-cafter cc pre t q d2 = refl
@@ -204,58 +199,44 @@ digit-cafter cc pre t q d8 = refl
 digit-cafter cc pre t q d9 = refl
 
 more-digits : {n : ℕ} (sc : SumCtx n) (pre : SumPre n) (tp : TermPre n) (q : Spaces) (ds : Digits) (d : Digit) → extended sc pre (times-const tp (number q ds)) none d ≡ at (after sc pre (times-const tp (number q (also ds d)))) none
-unfolding spaces-bytes digits-bytes kfactor-bytes vfactor-bytes sum-bytes nots-bytes atom-bytes result-bytes setting-bytes chars-bytes before-bytes text-bytes
-    itemHere resulted letterHere settled hextended iextended by-kind quoteHere with-plain charHere extended cextended closeLeft closeCond colon elseHere joined
-    ending closeConst minusHere cminusHere coreHere factorHere equalsHere equalsAbove openCond openSum openBehind openConst step-on step-mid step run finish
+unfolding reading
 more-digits sc pre (free first) q ds d = refl
 more-digits sc pre (free (timesK P p)) q ds d = refl
 more-digits sc pre (timesV v p) q ds d = refl
 
 more-cdigits : {n : ℕ} (cc : ConstCtx n) (pre : ConstPre n) (tp : ConstTermPre n) (q : Spaces) (ds : Digits) (d : Digit) → cextended cc pre (ktimes-of tp (number q ds)) none d ≡ at (cafter cc pre (ktimes-of tp (number q (also ds d)))) none
-unfolding spaces-bytes digits-bytes kfactor-bytes vfactor-bytes sum-bytes nots-bytes atom-bytes result-bytes setting-bytes chars-bytes before-bytes text-bytes
-    itemHere resulted letterHere settled hextended iextended by-kind quoteHere with-plain charHere extended cextended closeLeft closeCond colon elseHere joined
-    ending closeConst minusHere cminusHere coreHere factorHere equalsHere equalsAbove openCond openSum openBehind openConst step-on step-mid step run finish
+unfolding reading
 more-cdigits cc pre first q ds d = refl
 more-cdigits cc pre (timesK P p) q ds d = refl
 
 digits-read : {n : ℕ} (ds : Digits) (sc : SumCtx n) (pre : SumPre n) (tp : TermPre n) (q : Spaces) (f : List ℕ) → run (at (factor sc pre tp) q) (digits-bytes ds f) ≡ run (at (after sc pre (times-const tp (number q ds))) none) f
-unfolding spaces-bytes digits-bytes kfactor-bytes vfactor-bytes sum-bytes nots-bytes atom-bytes result-bytes setting-bytes chars-bytes before-bytes text-bytes
-    itemHere resulted letterHere settled hextended iextended by-kind quoteHere with-plain charHere extended cextended closeLeft closeCond colon elseHere joined
-    ending closeConst minusHere cminusHere coreHere factorHere equalsHere equalsAbove openCond openSum openBehind openConst step-on step-mid step run finish
+unfolding reading
 digits-read (one d) sc pre tp q f = ap (λ (m : Machine). run m f) (digit-factor sc pre tp q d)
 digits-read (also ds d) sc pre tp q f =
     digits-read ds sc pre tp q (digit-byte d ∷ f)
     ∙ ap (λ (m : Machine). run m f) (digit-after sc pre (times-const tp (number q ds)) none d ∙ more-digits sc pre tp q ds d)
 
 digits-cread : {n : ℕ} (ds : Digits) (cc : ConstCtx n) (pre : ConstPre n) (tp : ConstTermPre n) (q : Spaces) (f : List ℕ) → run (at (cfactor cc pre tp) q) (digits-bytes ds f) ≡ run (at (cafter cc pre (ktimes-of tp (number q ds))) none) f
-unfolding spaces-bytes digits-bytes kfactor-bytes vfactor-bytes sum-bytes nots-bytes atom-bytes result-bytes setting-bytes chars-bytes before-bytes text-bytes
-    itemHere resulted letterHere settled hextended iextended by-kind quoteHere with-plain charHere extended cextended closeLeft closeCond colon elseHere joined
-    ending closeConst minusHere cminusHere coreHere factorHere equalsHere equalsAbove openCond openSum openBehind openConst step-on step-mid step run finish
+unfolding reading
 digits-cread (one d) cc pre tp q f = ap (λ (m : Machine). run m f) (digit-cfactor cc pre tp q d)
 digits-cread (also ds d) cc pre tp q f =
     digits-cread ds cc pre tp q (digit-byte d ∷ f)
     ∙ ap (λ (m : Machine). run m f) (digit-cafter cc pre (ktimes-of tp (number q ds)) none d ∙ more-cdigits cc pre tp q ds d)
 
 digits-cond : {n : ℕ} (ds : Digits) (ctx : CondCtx n) (l : Level n) (q : Spaces) (f : List ℕ) → run (at (cond ctx l) q) (digits-bytes ds f) ≡ run (at (after (left ctx l) opens (kt (kfactor (number q ds)))) none) f
-unfolding spaces-bytes digits-bytes kfactor-bytes vfactor-bytes sum-bytes nots-bytes atom-bytes result-bytes setting-bytes chars-bytes before-bytes text-bytes
-    itemHere resulted letterHere settled hextended iextended by-kind quoteHere with-plain charHere extended cextended closeLeft closeCond colon elseHere joined
-    ending closeConst minusHere cminusHere coreHere factorHere equalsHere equalsAbove openCond openSum openBehind openConst step-on step-mid step run finish
+unfolding reading
 digits-cond (one d) ctx l q f = ap (λ (m : Machine). run m f) (digit-cond ctx l q d)
 digits-cond (also ds d) ctx l q f =
     digits-cond ds ctx l q (digit-byte d ∷ f)
     ∙ ap (λ (m : Machine). run m f) (digit-after (left ctx l) opens (kt (kfactor (number q ds))) none d ∙ more-digits (left ctx l) opens (free first) q ds d)
 
 sign-after : {n : ℕ} (g : Sign) (sc : SumCtx n) (pre : SumPre n) (t : Term n) (p : Spaces) (f : List ℕ) → run (at (after sc pre t) p) (sign-byte g ∷ f) ≡ run (at (factor sc (more-of (sum-of pre t) p g) (free first)) none) f
-unfolding spaces-bytes digits-bytes kfactor-bytes vfactor-bytes sum-bytes nots-bytes atom-bytes result-bytes setting-bytes chars-bytes before-bytes text-bytes
-    itemHere resulted letterHere settled hextended iextended by-kind quoteHere with-plain charHere extended cextended closeLeft closeCond colon elseHere joined
-    ending closeConst minusHere cminusHere coreHere factorHere equalsHere equalsAbove openCond openSum openBehind openConst step-on step-mid step run finish
+unfolding reading
 sign-after adds sc pre t p f = refl
 sign-after takes sc pre t p f = refl
 
 sign-cafter : {n : ℕ} (g : Sign) (cc : ConstCtx n) (pre : ConstPre n) (t : ConstTerm n) (p : Spaces) (f : List ℕ) → run (at (cafter cc pre t) p) (sign-byte g ∷ f) ≡ run (at (cfactor cc (kmore (ksum-of pre t) p g) first) none) f
-unfolding spaces-bytes digits-bytes kfactor-bytes vfactor-bytes sum-bytes nots-bytes atom-bytes result-bytes setting-bytes chars-bytes before-bytes text-bytes
-    itemHere resulted letterHere settled hextended iextended by-kind quoteHere with-plain charHere extended cextended closeLeft closeCond colon elseHere joined
-    ending closeConst minusHere cminusHere coreHere factorHere equalsHere equalsAbove openCond openSum openBehind openConst step-on step-mid step run finish
+unfolding reading
 sign-cafter adds cc pre t p f = refl
 sign-cafter takes cc pre t p f = refl
 
@@ -446,16 +427,12 @@ mutual
       ∙ vterm-read t (left ctx l) (vmore s p g) f
 
 pub sum-read : {n : ℕ} (s : Sum n) (sc : SumCtx n) (f : List ℕ) → run (at (factor sc opens (free first)) none) (sum-bytes s f) ≡ run (at (after sc (pre-of s) (last-of s)) none) f
-unfolding spaces-bytes digits-bytes kfactor-bytes vfactor-bytes sum-bytes nots-bytes atom-bytes result-bytes setting-bytes chars-bytes before-bytes text-bytes
-    itemHere resulted letterHere settled hextended iextended by-kind quoteHere with-plain charHere extended cextended closeLeft closeCond colon elseHere joined
-    ending closeConst minusHere cminusHere coreHere factorHere equalsHere equalsAbove openCond openSum openBehind openConst step-on step-mid step run finish
+unfolding reading
 sum-read (constant s) sc f = ksum-read s sc f
 sum-read (varying s) sc f = vsum-read s sc f
 
 pub sum-cond : {n : ℕ} (s : Sum n) (ctx : CondCtx n) (l : Level n) (f : List ℕ) → run (at (cond ctx l) none) (sum-bytes s f) ≡ run (at (after (left ctx l) (pre-of s) (last-of s)) none) f
-unfolding spaces-bytes digits-bytes kfactor-bytes vfactor-bytes sum-bytes nots-bytes atom-bytes result-bytes setting-bytes chars-bytes before-bytes text-bytes
-    itemHere resulted letterHere settled hextended iextended by-kind quoteHere with-plain charHere extended cextended closeLeft closeCond colon elseHere joined
-    ending closeConst minusHere cminusHere coreHere factorHere equalsHere equalsAbove openCond openSum openBehind openConst step-on step-mid step run finish
+unfolding reading
 sum-cond (constant s) ctx l f = ksum-cond s ctx l f
 sum-cond (varying s) ctx l f = vsum-cond s ctx l f
 
@@ -519,9 +496,7 @@ sum-begins (constant s) f = ksum-begins s f
 sum-begins (varying s) f = vsum-begins s f
 
 not-equals-less : {n : ℕ} (ctx : CondCtx n) (l : Level n) (s : Sum n) (q p : Spaces) (k : ℕ) → Starts k → step (at (less ctx l s q) p) k ≡ step (at (factor (right ctx l s q lt) opens (free first)) p) k
-unfolding spaces-bytes digits-bytes kfactor-bytes vfactor-bytes sum-bytes nots-bytes atom-bytes result-bytes setting-bytes chars-bytes before-bytes text-bytes
-    itemHere resulted letterHere settled hextended iextended by-kind quoteHere with-plain charHere extended cextended closeLeft closeCond colon elseHere joined
-    ending closeConst minusHere cminusHere coreHere factorHere equalsHere equalsAbove openCond openSum openBehind openConst step-on step-mid step run finish
+unfolding reading
 not-equals-less ctx l s q p k (by-digit d0) = refl
 not-equals-less ctx l s q p k (by-digit d1) = refl
 not-equals-less ctx l s q p k (by-digit d2) = refl
@@ -537,9 +512,7 @@ not-equals-less ctx l s q p k by-open = refl
 not-equals-less ctx l s q p k by-minus = refl
 
 less-begun : {n : ℕ} (ctx : CondCtx n) (l : Level n) (s : Sum n) (q : Spaces) (w : List ℕ) → Begun w → run (at (less ctx l s q) none) w ≡ run (at (factor (right ctx l s q lt) opens (free first)) none) w
-unfolding spaces-bytes digits-bytes kfactor-bytes vfactor-bytes sum-bytes nots-bytes atom-bytes result-bytes setting-bytes chars-bytes before-bytes text-bytes
-    itemHere resulted letterHere settled hextended iextended by-kind quoteHere with-plain charHere extended cextended closeLeft closeCond colon elseHere joined
-    ending closeConst minusHere cminusHere coreHere factorHere equalsHere equalsAbove openCond openSum openBehind openConst step-on step-mid step run finish
+unfolding reading
 less-begun ctx l s q w b =
     ap (run (at (less ctx l s q) none)) (b .same)
     ∙ spaced (less ctx l s q) (b .spaces) (b .byte ∷ b .rest)
@@ -548,9 +521,7 @@ less-begun ctx l s q w b =
     ∙ sym (ap (run (at (factor (right ctx l s q lt) opens (free first)) none)) (b .same))
 
 not-equals-greater : {n : ℕ} (ctx : CondCtx n) (l : Level n) (s : Sum n) (q p : Spaces) (k : ℕ) → Starts k → step (at (greater ctx l s q) p) k ≡ step (at (factor (right ctx l s q gt) opens (free first)) p) k
-unfolding spaces-bytes digits-bytes kfactor-bytes vfactor-bytes sum-bytes nots-bytes atom-bytes result-bytes setting-bytes chars-bytes before-bytes text-bytes
-    itemHere resulted letterHere settled hextended iextended by-kind quoteHere with-plain charHere extended cextended closeLeft closeCond colon elseHere joined
-    ending closeConst minusHere cminusHere coreHere factorHere equalsHere equalsAbove openCond openSum openBehind openConst step-on step-mid step run finish
+unfolding reading
 not-equals-greater ctx l s q p k (by-digit d0) = refl
 not-equals-greater ctx l s q p k (by-digit d1) = refl
 not-equals-greater ctx l s q p k (by-digit d2) = refl
@@ -566,9 +537,7 @@ not-equals-greater ctx l s q p k by-open = refl
 not-equals-greater ctx l s q p k by-minus = refl
 
 greater-begun : {n : ℕ} (ctx : CondCtx n) (l : Level n) (s : Sum n) (q : Spaces) (w : List ℕ) → Begun w → run (at (greater ctx l s q) none) w ≡ run (at (factor (right ctx l s q gt) opens (free first)) none) w
-unfolding spaces-bytes digits-bytes kfactor-bytes vfactor-bytes sum-bytes nots-bytes atom-bytes result-bytes setting-bytes chars-bytes before-bytes text-bytes
-    itemHere resulted letterHere settled hextended iextended by-kind quoteHere with-plain charHere extended cextended closeLeft closeCond colon elseHere joined
-    ending closeConst minusHere cminusHere coreHere factorHere equalsHere equalsAbove openCond openSum openBehind openConst step-on step-mid step run finish
+unfolding reading
 greater-begun ctx l s q w b =
     ap (run (at (greater ctx l s q) none)) (b .same)
     ∙ spaced (greater ctx l s q) (b .spaces) (b .byte ∷ b .rest)
@@ -585,53 +554,41 @@ done ctx l (compare s p op t) = after (right ctx l s p op) (pre-of t) (last-of t
 done ctx l (group p o q) = held ctx l (group p o q)
 
 done-38 : {n : ℕ} (ctx : CondCtx n) (l : Level n) (x : Atom n) (p : Spaces) (f : List ℕ) → run (at (done ctx l x) p) (38 ∷ f) ≡ run (joined ctx l x p 38) f
-unfolding spaces-bytes digits-bytes kfactor-bytes vfactor-bytes sum-bytes nots-bytes atom-bytes result-bytes setting-bytes chars-bytes before-bytes text-bytes
-    itemHere resulted letterHere settled hextended iextended by-kind quoteHere with-plain charHere extended cextended closeLeft closeCond colon elseHere joined
-    ending closeConst minusHere cminusHere coreHere factorHere equalsHere equalsAbove openCond openSum openBehind openConst step-on step-mid step run finish
+unfolding reading
 done-38 ctx l (now q i) p f = refl
 done-38 ctx l (later q i) p f = refl
 done-38 ctx l (compare s q op t) p f = ap (λ (x : Sum _). run (joined ctx l (compare s q op x) p 38) f) (sum-law t)
 done-38 ctx l (group q o r) p f = refl
 
 done-124 : {n : ℕ} (ctx : CondCtx n) (l : Level n) (x : Atom n) (p : Spaces) (f : List ℕ) → run (at (done ctx l x) p) (124 ∷ f) ≡ run (joined ctx l x p 124) f
-unfolding spaces-bytes digits-bytes kfactor-bytes vfactor-bytes sum-bytes nots-bytes atom-bytes result-bytes setting-bytes chars-bytes before-bytes text-bytes
-    itemHere resulted letterHere settled hextended iextended by-kind quoteHere with-plain charHere extended cextended closeLeft closeCond colon elseHere joined
-    ending closeConst minusHere cminusHere coreHere factorHere equalsHere equalsAbove openCond openSum openBehind openConst step-on step-mid step run finish
+unfolding reading
 done-124 ctx l (now q i) p f = refl
 done-124 ctx l (later q i) p f = refl
 done-124 ctx l (compare s q op t) p f = ap (λ (x : Sum _). run (joined ctx l (compare s q op x) p 124) f) (sum-law t)
 done-124 ctx l (group q o r) p f = refl
 
 done-41 : {n : ℕ} (ctx : CondCtx n) (l : Level n) (x : Atom n) (p : Spaces) (f : List ℕ) → run (at (done ctx l x) p) (41 ∷ f) ≡ run (joined ctx l x p 41) f
-unfolding spaces-bytes digits-bytes kfactor-bytes vfactor-bytes sum-bytes nots-bytes atom-bytes result-bytes setting-bytes chars-bytes before-bytes text-bytes
-    itemHere resulted letterHere settled hextended iextended by-kind quoteHere with-plain charHere extended cextended closeLeft closeCond colon elseHere joined
-    ending closeConst minusHere cminusHere coreHere factorHere equalsHere equalsAbove openCond openSum openBehind openConst step-on step-mid step run finish
+unfolding reading
 done-41 ctx l (now q i) p f = refl
 done-41 ctx l (later q i) p f = refl
 done-41 ctx l (compare s q op t) p f = ap (λ (x : Sum _). run (joined ctx l (compare s q op x) p 41) f) (sum-law t)
 done-41 ctx l (group q o r) p f = refl
 
 done-58 : {n : ℕ} (ctx : CondCtx n) (l : Level n) (x : Atom n) (p : Spaces) (f : List ℕ) → run (at (done ctx l x) p) (58 ∷ f) ≡ run (joined ctx l x p 58) f
-unfolding spaces-bytes digits-bytes kfactor-bytes vfactor-bytes sum-bytes nots-bytes atom-bytes result-bytes setting-bytes chars-bytes before-bytes text-bytes
-    itemHere resulted letterHere settled hextended iextended by-kind quoteHere with-plain charHere extended cextended closeLeft closeCond colon elseHere joined
-    ending closeConst minusHere cminusHere coreHere factorHere equalsHere equalsAbove openCond openSum openBehind openConst step-on step-mid step run finish
+unfolding reading
 done-58 ctx l (now q i) p f = refl
 done-58 ctx l (later q i) p f = refl
 done-58 ctx l (compare s q op t) p f = ap (λ (x : Sum _). run (joined ctx l (compare s q op x) p 58) f) (sum-law t)
 done-58 ctx l (group q o r) p f = refl
 
 nots-read : {n : ℕ} (x : Nots) (ctx : CondCtx n) (o : Ors n) (a : Ands n) (f : List ℕ) → run (at (cond ctx (lv o a unsaid)) none) (nots-bytes x f) ≡ run (at (cond ctx (lv o a x)) none) f
-unfolding spaces-bytes digits-bytes kfactor-bytes vfactor-bytes sum-bytes nots-bytes atom-bytes result-bytes setting-bytes chars-bytes before-bytes text-bytes
-    itemHere resulted letterHere settled hextended iextended by-kind quoteHere with-plain charHere extended cextended closeLeft closeCond colon elseHere joined
-    ending closeConst minusHere cminusHere coreHere factorHere equalsHere equalsAbove openCond openSum openBehind openConst step-on step-mid step run finish
+unfolding reading
 nots-read unsaid ctx o a f = refl
 nots-read (bang n p) ctx o a f = nots-read n ctx o a (spaces-bytes p (33 ∷ f)) ∙ spaced (cond ctx (lv o a n)) p (33 ∷ f)
 
 op-read : {n : ℕ} (op : Op) (s t : Sum n) (p : Spaces) (ctx : CondCtx n) (l : Level n) (f : List ℕ) → run (at (after (left ctx l) (pre-of s) (last-of s)) p)
     (op-bytes op (sum-bytes t f)) ≡ run (at (factor (right ctx l s p op) opens (free first)) none) (sum-bytes t f)
-unfolding spaces-bytes digits-bytes kfactor-bytes vfactor-bytes sum-bytes nots-bytes atom-bytes result-bytes setting-bytes chars-bytes before-bytes text-bytes
-    itemHere resulted letterHere settled hextended iextended by-kind quoteHere with-plain charHere extended cextended closeLeft closeCond colon elseHere joined
-    ending closeConst minusHere cminusHere coreHere factorHere equalsHere equalsAbove openCond openSum openBehind openConst step-on step-mid step run finish
+unfolding reading
 op-read lt s t p ctx l f =
     ap (λ (x : Sum _). run (at (less ctx l x p) none) (sum-bytes t f)) (sum-law s)
     ∙ less-begun ctx l s p (sum-bytes t f) (sum-begins t f)
@@ -689,9 +646,7 @@ mutual
 -- ---- results
 
 not-f : (rc : ResultCtx) (p : Spaces) (k : ℕ) → Starts k → step (at (res rc) p) k ≡ step (at (factor (value rc) opens (free first)) p) k
-unfolding spaces-bytes digits-bytes kfactor-bytes vfactor-bytes sum-bytes nots-bytes atom-bytes result-bytes setting-bytes chars-bytes before-bytes text-bytes
-    itemHere resulted letterHere settled hextended iextended by-kind quoteHere with-plain charHere extended cextended closeLeft closeCond colon elseHere joined
-    ending closeConst minusHere cminusHere coreHere factorHere equalsHere equalsAbove openCond openSum openBehind openConst step-on step-mid step run finish
+unfolding reading
 not-f rc p k (by-digit d0) = refl
 not-f rc p k (by-digit d1) = refl
 not-f rc p k (by-digit d2) = refl
@@ -707,9 +662,7 @@ not-f rc p k by-open = refl
 not-f rc p k by-minus = refl
 
 res-begun : (rc : ResultCtx) (w : List ℕ) → Begun w → run (at (res rc) none) w ≡ run (at (factor (value rc) opens (free first)) none) w
-unfolding spaces-bytes digits-bytes kfactor-bytes vfactor-bytes sum-bytes nots-bytes atom-bytes result-bytes setting-bytes chars-bytes before-bytes text-bytes
-    itemHere resulted letterHere settled hextended iextended by-kind quoteHere with-plain charHere extended cextended closeLeft closeCond colon elseHere joined
-    ending closeConst minusHere cminusHere coreHere factorHere equalsHere equalsAbove openCond openSum openBehind openConst step-on step-mid step run finish
+unfolding reading
 res-begun rc w b =
     ap (run (at (res rc) none)) (b .same)
     ∙ spaced (res rc) (b .spaces) (b .byte ∷ b .rest)
@@ -722,25 +675,19 @@ result-state rc (worth s) = after (value rc) (pre-of s) (last-of s)
 result-state rc (forbids p) = forbade rc p
 
 result-read : (r : Result) (rc : ResultCtx) (f : List ℕ) → run (at (res rc) none) (result-bytes r f) ≡ run (at (result-state rc r) none) f
-unfolding spaces-bytes digits-bytes kfactor-bytes vfactor-bytes sum-bytes nots-bytes atom-bytes result-bytes setting-bytes chars-bytes before-bytes text-bytes
-    itemHere resulted letterHere settled hextended iextended by-kind quoteHere with-plain charHere extended cextended closeLeft closeCond colon elseHere joined
-    ending closeConst minusHere cminusHere coreHere factorHere equalsHere equalsAbove openCond openSum openBehind openConst step-on step-mid step run finish
+unfolding reading
 result-read (worth s) rc f = res-begun rc (sum-bytes s f) (sum-begins s f) ∙ sum-read s (value rc) f
 result-read (forbids p) rc f = spaced (res rc) p (102 ∷ 111 ∷ 114 ∷ 98 ∷ 105 ∷ 100 ∷ 100 ∷ 101 ∷ 110 ∷ f)
 
 result-semicolon : (r : Result) (B : Before) (o : Or deepest) (q p : Spaces) (f : List ℕ) → run (at (result-state (of-case B o q) r) p) (59 ∷ f) ≡ run (at (cond (base (case B o q r p)) bare) none) f
-unfolding spaces-bytes digits-bytes kfactor-bytes vfactor-bytes sum-bytes nots-bytes atom-bytes result-bytes setting-bytes chars-bytes before-bytes text-bytes
-    itemHere resulted letterHere settled hextended iextended by-kind quoteHere with-plain charHere extended cextended closeLeft closeCond colon elseHere joined
-    ending closeConst minusHere cminusHere coreHere factorHere equalsHere equalsAbove openCond openSum openBehind openConst step-on step-mid step run finish
+unfolding reading
 result-semicolon (worth s) B o q p f = ap (λ (x : Sum deepest). run (at (cond (base (case B o q (worth x) p)) bare) none) f) (sum-law s)
 result-semicolon (forbids x) B o q p f = refl
 
 -- ---- numbers of the site and of items
 
 digit-hnumber : (h : Head) (a b q : Spaces) (d : Digit) → step (at (hnumber h a b) q) (digit-byte d) ≡ at (hdone h a b q (one d)) none
-unfolding spaces-bytes digits-bytes kfactor-bytes vfactor-bytes sum-bytes nots-bytes atom-bytes result-bytes setting-bytes chars-bytes before-bytes text-bytes
-    itemHere resulted letterHere settled hextended iextended by-kind quoteHere with-plain charHere extended cextended closeLeft closeCond colon elseHere joined
-    ending closeConst minusHere cminusHere coreHere factorHere equalsHere equalsAbove openCond openSum openBehind openConst step-on step-mid step run finish
+unfolding reading
 digit-hnumber h a b q d0 = refl
 digit-hnumber h a b q d1 = refl
 digit-hnumber h a b q d2 = refl
@@ -753,9 +700,7 @@ digit-hnumber h a b q d8 = refl
 digit-hnumber h a b q d9 = refl
 
 digit-hdone : (h : Head) (a b c : Spaces) (ds : Digits) (d : Digit) → step (at (hdone h a b c ds) none) (digit-byte d) ≡ at (hdone h a b c (also ds d)) none
-unfolding spaces-bytes digits-bytes kfactor-bytes vfactor-bytes sum-bytes nots-bytes atom-bytes result-bytes setting-bytes chars-bytes before-bytes text-bytes
-    itemHere resulted letterHere settled hextended iextended by-kind quoteHere with-plain charHere extended cextended closeLeft closeCond colon elseHere joined
-    ending closeConst minusHere cminusHere coreHere factorHere equalsHere equalsAbove openCond openSum openBehind openConst step-on step-mid step run finish
+unfolding reading
 digit-hdone h a b c ds d0 = refl
 digit-hdone h a b c ds d1 = refl
 digit-hdone h a b c ds d2 = refl
@@ -768,16 +713,12 @@ digit-hdone h a b c ds d8 = refl
 digit-hdone h a b c ds d9 = refl
 
 hdigits-read : (ds : Digits) (h : Head) (a b q : Spaces) (f : List ℕ) → run (at (hnumber h a b) q) (digits-bytes ds f) ≡ run (at (hdone h a b q ds) none) f
-unfolding spaces-bytes digits-bytes kfactor-bytes vfactor-bytes sum-bytes nots-bytes atom-bytes result-bytes setting-bytes chars-bytes before-bytes text-bytes
-    itemHere resulted letterHere settled hextended iextended by-kind quoteHere with-plain charHere extended cextended closeLeft closeCond colon elseHere joined
-    ending closeConst minusHere cminusHere coreHere factorHere equalsHere equalsAbove openCond openSum openBehind openConst step-on step-mid step run finish
+unfolding reading
 hdigits-read (one d) h a b q f = ap (λ (m : Machine). run m f) (digit-hnumber h a b q d)
 hdigits-read (also ds d) h a b q f = hdigits-read ds h a b q (digit-byte d ∷ f) ∙ ap (λ (m : Machine). run m f) (digit-hdone h a b q ds d)
 
 digit-inum : (K : Kind) (I : Items) (p q : Spaces) (d : Digit) → step (at (inum K I p) q) (digit-byte d) ≡ at (idone K I p q (one d)) none
-unfolding spaces-bytes digits-bytes kfactor-bytes vfactor-bytes sum-bytes nots-bytes atom-bytes result-bytes setting-bytes chars-bytes before-bytes text-bytes
-    itemHere resulted letterHere settled hextended iextended by-kind quoteHere with-plain charHere extended cextended closeLeft closeCond colon elseHere joined
-    ending closeConst minusHere cminusHere coreHere factorHere equalsHere equalsAbove openCond openSum openBehind openConst step-on step-mid step run finish
+unfolding reading
 digit-inum K I p q d0 = refl
 digit-inum K I p q d1 = refl
 digit-inum K I p q d2 = refl
@@ -790,9 +731,7 @@ digit-inum K I p q d8 = refl
 digit-inum K I p q d9 = refl
 
 digit-idone : (K : Kind) (I : Items) (p q : Spaces) (ds : Digits) (d : Digit) → step (at (idone K I p q ds) none) (digit-byte d) ≡ at (idone K I p q (also ds d)) none
-unfolding spaces-bytes digits-bytes kfactor-bytes vfactor-bytes sum-bytes nots-bytes atom-bytes result-bytes setting-bytes chars-bytes before-bytes text-bytes
-    itemHere resulted letterHere settled hextended iextended by-kind quoteHere with-plain charHere extended cextended closeLeft closeCond colon elseHere joined
-    ending closeConst minusHere cminusHere coreHere factorHere equalsHere equalsAbove openCond openSum openBehind openConst step-on step-mid step run finish
+unfolding reading
 digit-idone K I p q ds d0 = refl
 digit-idone K I p q ds d1 = refl
 digit-idone K I p q ds d2 = refl
@@ -805,22 +744,16 @@ digit-idone K I p q ds d8 = refl
 digit-idone K I p q ds d9 = refl
 
 idigits-read : (ds : Digits) (K : Kind) (I : Items) (p q : Spaces) (f : List ℕ) → run (at (inum K I p) q) (digits-bytes ds f) ≡ run (at (idone K I p q ds) none) f
-unfolding spaces-bytes digits-bytes kfactor-bytes vfactor-bytes sum-bytes nots-bytes atom-bytes result-bytes setting-bytes chars-bytes before-bytes text-bytes
-    itemHere resulted letterHere settled hextended iextended by-kind quoteHere with-plain charHere extended cextended closeLeft closeCond colon elseHere joined
-    ending closeConst minusHere cminusHere coreHere factorHere equalsHere equalsAbove openCond openSum openBehind openConst step-on step-mid step run finish
+unfolding reading
 idigits-read (one d) K I p q f = ap (λ (m : Machine). run m f) (digit-inum K I p q d)
 idigits-read (also ds d) K I p q f = idigits-read ds K I p q (digit-byte d ∷ f) ∙ ap (λ (m : Machine). run m f) (digit-idone K I p q ds d)
 
 inumber-read : (q : Spaces) (ds : Digits) (K : Kind) (I : Items) (p : Spaces) (f : List ℕ) → run (at (inum K I p) none) (spaces-bytes q (digits-bytes ds f)) ≡ run (at (idone K I p q ds) none) f
-unfolding spaces-bytes digits-bytes kfactor-bytes vfactor-bytes sum-bytes nots-bytes atom-bytes result-bytes setting-bytes chars-bytes before-bytes text-bytes
-    itemHere resulted letterHere settled hextended iextended by-kind quoteHere with-plain charHere extended cextended closeLeft closeCond colon elseHere joined
-    ending closeConst minusHere cminusHere coreHere factorHere equalsHere equalsAbove openCond openSum openBehind openConst step-on step-mid step run finish
+unfolding reading
 inumber-read q ds K I p f = spaced (inum K I p) q (digits-bytes ds f) ∙ idigits-read ds K I p q f
 
 equals-read : (h : Head) (p q r : Spaces) (ds : Digits) (f : List ℕ) → run (at (hequals h p) none) (spaces-bytes q (61 ∷ spaces-bytes r (digits-bytes ds f))) ≡ run (at (hdone h p q r ds) none) f
-unfolding spaces-bytes digits-bytes kfactor-bytes vfactor-bytes sum-bytes nots-bytes atom-bytes result-bytes setting-bytes chars-bytes before-bytes text-bytes
-    itemHere resulted letterHere settled hextended iextended by-kind quoteHere with-plain charHere extended cextended closeLeft closeCond colon elseHere joined
-    ending closeConst minusHere cminusHere coreHere factorHere equalsHere equalsAbove openCond openSum openBehind openConst step-on step-mid step run finish
+unfolding reading
 equals-read h p q r ds f =
     spaced (hequals h p) q (61 ∷ spaces-bytes r (digits-bytes ds f)) ∙ spaced (hnumber h p q) r (digits-bytes ds f) ∙ hdigits-read ds h p q r f
 
@@ -831,9 +764,7 @@ idle (closed B p q r) = result-state (of-else B p q) r
 idle (named I p q ds r cs) = quoted I p q ds r cs
 
 head-read : (x : Spaces) (a b c e : Setting) (f : List ℕ) → run (at (hletter (q0 x)) none) (setting-bytes 109 a (setting-bytes 110 b (setting-bytes 65 c (setting-bytes 87 e f)))) ≡ run (at (idle (head x a b c e)) none) f
-unfolding spaces-bytes digits-bytes kfactor-bytes vfactor-bytes sum-bytes nots-bytes atom-bytes result-bytes setting-bytes chars-bytes before-bytes text-bytes
-    itemHere resulted letterHere settled hextended iextended by-kind quoteHere with-plain charHere extended cextended closeLeft closeCond colon elseHere joined
-    ending closeConst minusHere cminusHere coreHere factorHere equalsHere equalsAbove openCond openSum openBehind openConst step-on step-mid step run finish
+unfolding reading
 head-read x (setting p q r ds) (setting p1 q1′ r1 ds1) (setting p2 q2′ r2 ds2) (setting p3 q3′ r3 ds3) f =
     let s = setting p q r ds in
     let s1 = setting p1 q1′ r1 ds1 in
@@ -844,36 +775,28 @@ head-read x (setting p q r ds) (setting p1 q1′ r1 ds1) (setting p2 q2′ r2 ds
     ∙ spaced (hdone (q2 x s s1) p2 q2′ r2 ds2) p3 _ ∙ equals-read (q3 x s s1 s2) p3 q3′ r3 ds3 f
 
 idle-114 : (I : Items) (p : Spaces) (f : List ℕ) → run (at (idle I) p) (114 ∷ f) ≡ run (itemHere I p 114) f
-unfolding spaces-bytes digits-bytes kfactor-bytes vfactor-bytes sum-bytes nots-bytes atom-bytes result-bytes setting-bytes chars-bytes before-bytes text-bytes
-    itemHere resulted letterHere settled hextended iextended by-kind quoteHere with-plain charHere extended cextended closeLeft closeCond colon elseHere joined
-    ending closeConst minusHere cminusHere coreHere factorHere equalsHere equalsAbove openCond openSum openBehind openConst step-on step-mid step run finish
+unfolding reading
 idle-114 (head x a b c (setting p q r ds)) t f = refl
 idle-114 (closed B p q (worth s)) t f = ap (λ (x : Sum deepest). run (itemHere (closed B p q (worth x)) t 114) f) (sum-law s)
 idle-114 (closed B p q (forbids x)) t f = refl
 idle-114 (named I p q ds r cs) t f = refl
 
 idle-99 : (I : Items) (p : Spaces) (f : List ℕ) → run (at (idle I) p) (99 ∷ f) ≡ run (itemHere I p 99) f
-unfolding spaces-bytes digits-bytes kfactor-bytes vfactor-bytes sum-bytes nots-bytes atom-bytes result-bytes setting-bytes chars-bytes before-bytes text-bytes
-    itemHere resulted letterHere settled hextended iextended by-kind quoteHere with-plain charHere extended cextended closeLeft closeCond colon elseHere joined
-    ending closeConst minusHere cminusHere coreHere factorHere equalsHere equalsAbove openCond openSum openBehind openConst step-on step-mid step run finish
+unfolding reading
 idle-99 (head x a b c (setting p q r ds)) t f = refl
 idle-99 (closed B p q (worth s)) t f = ap (λ (x : Sum deepest). run (itemHere (closed B p q (worth x)) t 99) f) (sum-law s)
 idle-99 (closed B p q (forbids x)) t f = refl
 idle-99 (named I p q ds r cs) t f = refl
 
 idle-110 : (I : Items) (p : Spaces) (f : List ℕ) → run (at (idle I) p) (110 ∷ f) ≡ run (itemHere I p 110) f
-unfolding spaces-bytes digits-bytes kfactor-bytes vfactor-bytes sum-bytes nots-bytes atom-bytes result-bytes setting-bytes chars-bytes before-bytes text-bytes
-    itemHere resulted letterHere settled hextended iextended by-kind quoteHere with-plain charHere extended cextended closeLeft closeCond colon elseHere joined
-    ending closeConst minusHere cminusHere coreHere factorHere equalsHere equalsAbove openCond openSum openBehind openConst step-on step-mid step run finish
+unfolding reading
 idle-110 (head x a b c (setting p q r ds)) t f = refl
 idle-110 (closed B p q (worth s)) t f = ap (λ (x : Sum deepest). run (itemHere (closed B p q (worth x)) t 110) f) (sum-law s)
 idle-110 (closed B p q (forbids x)) t f = refl
 idle-110 (named I p q ds r cs) t f = refl
 
 idle-101 : (I : Items) (p : Spaces) (f : List ℕ) → run (at (idle I) p) (101 ∷ f) ≡ run (itemHere I p 101) f
-unfolding spaces-bytes digits-bytes kfactor-bytes vfactor-bytes sum-bytes nots-bytes atom-bytes result-bytes setting-bytes chars-bytes before-bytes text-bytes
-    itemHere resulted letterHere settled hextended iextended by-kind quoteHere with-plain charHere extended cextended closeLeft closeCond colon elseHere joined
-    ending closeConst minusHere cminusHere coreHere factorHere equalsHere equalsAbove openCond openSum openBehind openConst step-on step-mid step run finish
+unfolding reading
 idle-101 (head x a b c (setting p q r ds)) t f = refl
 idle-101 (closed B p q (worth s)) t f = ap (λ (x : Sum deepest). run (itemHere (closed B p q (worth x)) t 101) f) (sum-law s)
 idle-101 (closed B p q (forbids x)) t f = refl
@@ -890,17 +813,13 @@ not-quote : (k : ℕ) → T (is-plain k) → eqb k 34 ≡ false
 not-quote k = by-eq (eqb k 34) (λ b. T (if b false (if (leb 32 k) (leb k 126) false)) → b ≡ false) (λ e t. absurd t) (λ e t. refl)
 
 char-read : {n : ℕ} (I : Items) (p q : Spaces) (ds : Digits) (r : Spaces) (cs : Chars (suc n)) (c : Char) → step (mid (inside-name I p q ds r cs)) (c .byte) ≡ mid (inside-name I p q ds r (char cs c))
-unfolding spaces-bytes digits-bytes kfactor-bytes vfactor-bytes sum-bytes nots-bytes atom-bytes result-bytes setting-bytes chars-bytes before-bytes text-bytes
-    itemHere resulted letterHere settled hextended iextended by-kind quoteHere with-plain charHere extended cextended closeLeft closeCond colon elseHere joined
-    ending closeConst minusHere cminusHere coreHere factorHere equalsHere equalsAbove openCond openSum openBehind openConst step-on step-mid step run finish
+unfolding reading
 char-read I p q ds r cs c =
     ap (λ (b : Bool). if b (at (quoted I p q ds r cs) none) (charHere I p q ds r cs (c .byte))) (not-quote (c .byte) (c .plain))
     ∙ plain-as I p q ds r cs c (is-plain (c .byte)) refl
 
 chars-read : {n : ℕ} (cs : Chars n) (I : Items) (p q : Spaces) (ds : Digits) (r : Spaces) (f : List ℕ) → run (mid (inside-name I p q ds r empty)) (chars-bytes cs f) ≡ run (mid (inside-name I p q ds r cs)) f
-unfolding spaces-bytes digits-bytes kfactor-bytes vfactor-bytes sum-bytes nots-bytes atom-bytes result-bytes setting-bytes chars-bytes before-bytes text-bytes
-    itemHere resulted letterHere settled hextended iextended by-kind quoteHere with-plain charHere extended cextended closeLeft closeCond colon elseHere joined
-    ending closeConst minusHere cminusHere coreHere factorHere equalsHere equalsAbove openCond openSum openBehind openConst step-on step-mid step run finish
+unfolding reading
 chars-read empty I p q ds r f = refl
 chars-read (char cs c) I p q ds r f = chars-read cs I p q ds r (c .byte ∷ f) ∙ ap (λ (m : Machine). run m f) (char-read I p q ds r cs c)
 chars-read (quote cs) I p q ds r f = chars-read cs I p q ds r (34 ∷ 34 ∷ f)
@@ -908,18 +827,14 @@ chars-read (quote cs) I p q ds r f = chars-read cs I p q ds r (34 ∷ 34 ∷ f)
 -- ---- items
 
 four-chance : (i : Four) (I : Items) (p q : Spaces) (ds : Digits) (r : Spaces) (f : List ℕ) → run (mid (chanceN I p q ds r)) (four-byte i ∷ f) ≡ run (at (iequals (chance-to I p q ds r i)) none) f
-unfolding spaces-bytes digits-bytes kfactor-bytes vfactor-bytes sum-bytes nots-bytes atom-bytes result-bytes setting-bytes chars-bytes before-bytes text-bytes
-    itemHere resulted letterHere settled hextended iextended by-kind quoteHere with-plain charHere extended cextended closeLeft closeCond colon elseHere joined
-    ending closeConst minusHere cminusHere coreHere factorHere equalsHere equalsAbove openCond openSum openBehind openConst step-on step-mid step run finish
+unfolding reading
 four-chance f1 I p q ds r f = refl
 four-chance f2 I p q ds r f = refl
 four-chance f3 I p q ds r f = refl
 four-chance f4 I p q ds r f = refl
 
 index-next : (i : Index) (I : Items) (p q : Spaces) (ds : Digits) (r : Spaces) (f : List ℕ) → run (mid (nextL I p q ds r)) (index-byte i ∷ f) ≡ run (at (iequals (next-to I p q ds r i)) none) f
-unfolding spaces-bytes digits-bytes kfactor-bytes vfactor-bytes sum-bytes nots-bytes atom-bytes result-bytes setting-bytes chars-bytes before-bytes text-bytes
-    itemHere resulted letterHere settled hextended iextended by-kind quoteHere with-plain charHere extended cextended closeLeft closeCond colon elseHere joined
-    ending closeConst minusHere cminusHere coreHere factorHere equalsHere equalsAbove openCond openSum openBehind openConst step-on step-mid step run finish
+unfolding reading
 index-next i1 I p q ds r f = refl
 index-next i2 I p q ds r f = refl
 index-next i3 I p q ds r f = refl
@@ -980,18 +895,14 @@ mutual
       ∙ result-semicolon r B o p q f
 
 finish-idle : (I : Items) (p : Spaces) → finish (at (idle I) p) ≡ read (entire I p)
-unfolding spaces-bytes digits-bytes kfactor-bytes vfactor-bytes sum-bytes nots-bytes atom-bytes result-bytes setting-bytes chars-bytes before-bytes text-bytes
-    itemHere resulted letterHere settled hextended iextended by-kind quoteHere with-plain charHere extended cextended closeLeft closeCond colon elseHere joined
-    ending closeConst minusHere cminusHere coreHere factorHere equalsHere equalsAbove openCond openSum openBehind openConst step-on step-mid step run finish
+unfolding reading
 finish-idle (head x a b c (setting p q r ds)) t = refl
 finish-idle (closed B p q (worth s)) t = ap (λ (x : Sum deepest). read (entire (closed B p q (worth x)) t)) (sum-law s)
 finish-idle (closed B p q (forbids x)) t = refl
 finish-idle (named I p q ds r cs) t = refl
 
 pub text-read : (t : Text) → finish (run begin (text-bytes t)) ≡ read t
-unfolding spaces-bytes digits-bytes kfactor-bytes vfactor-bytes sum-bytes nots-bytes atom-bytes result-bytes setting-bytes chars-bytes before-bytes text-bytes
-    itemHere resulted letterHere settled hextended iextended by-kind quoteHere with-plain charHere extended cextended closeLeft closeCond colon elseHere joined
-    ending closeConst minusHere cminusHere coreHere factorHere equalsHere equalsAbove openCond openSum openBehind openConst step-on step-mid step run finish
+unfolding reading
 text-read (entire I e) = ap finish (items-read I (spaces-bytes e []) ∙ spaced (idle I) e []) ∙ finish-idle I e
 
 -- ---- each text has one reading

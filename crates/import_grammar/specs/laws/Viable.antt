@@ -31,6 +31,13 @@ use Rattle.import_grammar.specs.laws.Case.{by-eq}
 use Rattle.import_grammar.specs.laws.Reads.{text-read}
 use Rattle.import_grammar.specs.laws.Holds.{Ended, read-bytes}
 
+-- one name that unfolds the reader's steps
+unfoldable stepping : Unit {0}
+unfolding itemHere resulted letterHere settled hextended iextended by-kind quoteHere with-plain charHere extended cextended closeLeft closeCond colon elseHere
+    joined ending closeConst minusHere cminusHere coreHere factorHere equalsHere equalsAbove openCond openSum openBehind openConst step-on step-mid step run
+    finish
+stepping = tt
+
 -- bytes that lead to a reading, and the reading
 
 pub record Leads (m : Machine) : Type 0 where
@@ -43,202 +50,144 @@ unfolding run
 by-byte m k l = record { bytes = k ∷ l .bytes; text = l .text; ends = l .ends }
 
 ends-last : (B : Before) (q r p : Spaces) (pre : SumPre deepest) (t : Term deepest) → Leads (at (after (value (of-else B q r)) pre t) p)
-unfolding itemHere resulted letterHere settled hextended iextended by-kind quoteHere with-plain charHere extended cextended closeLeft closeCond colon elseHere
-    joined ending closeConst minusHere cminusHere coreHere factorHere equalsHere equalsAbove openCond openSum openBehind openConst step-on step-mid step run
-    finish
+unfolding stepping
 ends-last B q r p pre t = record { bytes = []; text = entire (closed B q r (worth (sum-of pre t))) p; ends = refl }
 
 ends-base : (B : Before) (p : Spaces) → Leads (at (cond (base B) bare) p)
-unfolding itemHere resulted letterHere settled hextended iextended by-kind quoteHere with-plain charHere extended cextended closeLeft closeCond colon elseHere
-    joined ending closeConst minusHere cminusHere coreHere factorHere equalsHere equalsAbove openCond openSum openBehind openConst step-on step-mid step run
-    finish
+unfolding stepping
 ends-base B p =
     by-byte _ 101 (by-byte (mid (el1 B p)) 108 (by-byte (mid (el2 B p)) 115 (by-byte (mid (el3 B p)) 101
     (by-byte (at (els B p) none) 58 (by-byte (at (res (of-else B p none)) none) 48
     (ends-last B p none none opens (kt (kfactor (number none (one d0))))))))))
 
 ends-result : (B : Before) (o : Or deepest) (q p : Spaces) (pre : SumPre deepest) (t : Term deepest) → Leads (at (after (value (of-case B o q)) pre t) p)
-unfolding itemHere resulted letterHere settled hextended iextended by-kind quoteHere with-plain charHere extended cextended closeLeft closeCond colon elseHere
-    joined ending closeConst minusHere cminusHere coreHere factorHere equalsHere equalsAbove openCond openSum openBehind openConst step-on step-mid step run
-    finish
+unfolding stepping
 ends-result B o q p pre t = by-byte _ 59 (ends-base (case B o q (worth (sum-of pre t)) p) none)
 
 ends-value : (rc : ResultCtx) (pre : SumPre deepest) (t : Term deepest) (p : Spaces) → Leads (at (after (value rc) pre t) p)
-unfolding itemHere resulted letterHere settled hextended iextended by-kind quoteHere with-plain charHere extended cextended closeLeft closeCond colon elseHere
-    joined ending closeConst minusHere cminusHere coreHere factorHere equalsHere equalsAbove openCond openSum openBehind openConst step-on step-mid step run
-    finish
+unfolding stepping
 ends-value (of-case B o q) pre t p = ends-result B o q p pre t
 ends-value (of-else B q r) pre t p = ends-last B q r p pre t
 
 ends-res : (rc : ResultCtx) (p : Spaces) → Leads (at (res rc) p)
-unfolding itemHere resulted letterHere settled hextended iextended by-kind quoteHere with-plain charHere extended cextended closeLeft closeCond colon elseHere
-    joined ending closeConst minusHere cminusHere coreHere factorHere equalsHere equalsAbove openCond openSum openBehind openConst step-on step-mid step run
-    finish
+unfolding stepping
 ends-res rc p = by-byte _ 48 (ends-value rc opens (kt (kfactor (number p (one d0)))) none)
 
 ends-colon : (B : Before) (o : Or deepest) (p : Spaces) → Leads (at (res (of-case B o p)) none)
-unfolding itemHere resulted letterHere settled hextended iextended by-kind quoteHere with-plain charHere extended cextended closeLeft closeCond colon elseHere
-    joined ending closeConst minusHere cminusHere coreHere factorHere equalsHere equalsAbove openCond openSum openBehind openConst step-on step-mid step run
-    finish
+unfolding stepping
 ends-colon B o p = ends-res (of-case B o p) none
 
 ends-held : {n : ℕ} (ctx : CondCtx n) (l : Level n) (x : Atom n) (p : Spaces) → Leads (at (held ctx l x) p)
-unfolding itemHere resulted letterHere settled hextended iextended by-kind quoteHere with-plain charHere extended cextended closeLeft closeCond colon elseHere
-    joined ending closeConst minusHere cminusHere coreHere factorHere equalsHere equalsAbove openCond openSum openBehind openConst step-on step-mid step run
-    finish
+unfolding stepping
 ends-held (base B) l x p = by-byte _ 58 (ends-colon B (whole l x) p)
 ends-held (inside ctx l′ q) l x p = by-byte _ 41 (ends-held ctx l′ (group q (whole l x) p) none)
 
 ends-right : {n : ℕ} (ctx : CondCtx n) (l : Level n) (s : Sum n) (q : Spaces) (op : Op) (pre : SumPre n) (t : Term n) (p : Spaces) → Leads (at (after (right ctx l s q op) pre t) p)
-unfolding itemHere resulted letterHere settled hextended iextended by-kind quoteHere with-plain charHere extended cextended closeLeft closeCond colon elseHere
-    joined ending closeConst minusHere cminusHere coreHere factorHere equalsHere equalsAbove openCond openSum openBehind openConst step-on step-mid step run
-    finish
+unfolding stepping
 ends-right (base B) l s q op pre t p = by-byte _ 58 (ends-colon B (whole l (compare s q op (sum-of pre t))) p)
 ends-right (inside ctx l′ r) l s q op pre t p = by-byte _ 41 (ends-held ctx l′ (group r (whole l (compare s q op (sum-of pre t))) p) none)
 
 ends-less : {n : ℕ} (ctx : CondCtx n) (l : Level n) (s : Sum n) (q p : Spaces) → Leads (at (less ctx l s q) p)
-unfolding itemHere resulted letterHere settled hextended iextended by-kind quoteHere with-plain charHere extended cextended closeLeft closeCond colon elseHere
-    joined ending closeConst minusHere cminusHere coreHere factorHere equalsHere equalsAbove openCond openSum openBehind openConst step-on step-mid step run
-    finish
+unfolding stepping
 ends-less ctx l s q p = by-byte _ 48 (ends-right ctx l s q lt opens (kt (kfactor (number p (one d0)))) none)
 
 ends-after : {n : ℕ} (sc : SumCtx n) (pre : SumPre n) (t : Term n) (p : Spaces) → Leads (at (after sc pre t) p)
-unfolding itemHere resulted letterHere settled hextended iextended by-kind quoteHere with-plain charHere extended cextended closeLeft closeCond colon elseHere
-    joined ending closeConst minusHere cminusHere coreHere factorHere equalsHere equalsAbove openCond openSum openBehind openConst step-on step-mid step run
-    finish
+unfolding stepping
 ends-after (left ctx l) pre t p = by-byte _ 60 (ends-less ctx l (sum-of pre t) p none)
 ends-after (right ctx l s q op) pre t p = ends-right ctx l s q op pre t p
 ends-after (value rc) pre t p = ends-value rc pre t p
 ends-after (paren sc pre′ cp q) pre t p = by-byte _ 41 (ends-after sc pre′ (bracketed cp q (sum-of pre t) p) none)
 
 ends-greater : {n : ℕ} (ctx : CondCtx n) (l : Level n) (s : Sum n) (q p : Spaces) → Leads (at (greater ctx l s q) p)
-unfolding itemHere resulted letterHere settled hextended iextended by-kind quoteHere with-plain charHere extended cextended closeLeft closeCond colon elseHere
-    joined ending closeConst minusHere cminusHere coreHere factorHere equalsHere equalsAbove openCond openSum openBehind openConst step-on step-mid step run
-    finish
+unfolding stepping
 ends-greater ctx l s q p = by-byte _ 48 (ends-right ctx l s q gt opens (kt (kfactor (number p (one d0)))) none)
 
 ends-cafter : {n : ℕ} (cc : ConstCtx n) (pre : ConstPre n) (t : ConstTerm n) (p : Spaces) → Leads (at (cafter cc pre t) p)
-unfolding itemHere resulted letterHere settled hextended iextended by-kind quoteHere with-plain charHere extended cextended closeLeft closeCond colon elseHere
-    joined ending closeConst minusHere cminusHere coreHere factorHere equalsHere equalsAbove openCond openSum openBehind openConst step-on step-mid step run
-    finish
+unfolding stepping
 ends-cafter (behind sc pre′ v r q) pre t p = by-byte _ 41 (ends-after sc pre′ (vt (vby v r (kbracket q (ksum-of pre t) p))) none)
 ends-cafter (within cc pre′ tp q) pre t p = by-byte _ 41 (ends-cafter cc pre′ (ktimes-of tp (kbracket q (ksum-of pre t) p)) none)
 
 -- ---- the site and the items
 
 ends-hdone3 : (x : Spaces) (a b c : Setting) (p q r : Spaces) (ds : Digits) (t : Spaces) → Leads (at (hdone (q3 x a b c) p q r ds) t)
-unfolding itemHere resulted letterHere settled hextended iextended by-kind quoteHere with-plain charHere extended cextended closeLeft closeCond colon elseHere
-    joined ending closeConst minusHere cminusHere coreHere factorHere equalsHere equalsAbove openCond openSum openBehind openConst step-on step-mid step run
-    finish
+unfolding stepping
 ends-hdone3 x a b c p q r ds t = record { bytes = []; text = entire (head x a b c (setting p q r ds)) t; ends = refl }
 
 ends-hequals3 : (x : Spaces) (a b c : Setting) (p t : Spaces) → Leads (at (hequals (q3 x a b c) p) t)
-unfolding itemHere resulted letterHere settled hextended iextended by-kind quoteHere with-plain charHere extended cextended closeLeft closeCond colon elseHere
-    joined ending closeConst minusHere cminusHere coreHere factorHere equalsHere equalsAbove openCond openSum openBehind openConst step-on step-mid step run
-    finish
+unfolding stepping
 ends-hequals3 x a b c p t = by-byte _ 61 (by-byte (at (hnumber (q3 x a b c) p t) none) 48 (ends-hdone3 x a b c p t none (one d0) none))
 
 ends-hdone2 : (x : Spaces) (a b : Setting) (p q r : Spaces) (ds : Digits) (t : Spaces) → Leads (at (hdone (q2 x a b) p q r ds) t)
-unfolding itemHere resulted letterHere settled hextended iextended by-kind quoteHere with-plain charHere extended cextended closeLeft closeCond colon elseHere
-    joined ending closeConst minusHere cminusHere coreHere factorHere equalsHere equalsAbove openCond openSum openBehind openConst step-on step-mid step run
-    finish
+unfolding stepping
 ends-hdone2 x a b p q r ds t = by-byte _ 87 (ends-hequals3 x a b (setting p q r ds) t none)
 
 ends-hequals2 : (x : Spaces) (a b : Setting) (p t : Spaces) → Leads (at (hequals (q2 x a b) p) t)
-unfolding itemHere resulted letterHere settled hextended iextended by-kind quoteHere with-plain charHere extended cextended closeLeft closeCond colon elseHere
-    joined ending closeConst minusHere cminusHere coreHere factorHere equalsHere equalsAbove openCond openSum openBehind openConst step-on step-mid step run
-    finish
+unfolding stepping
 ends-hequals2 x a b p t = by-byte _ 61 (by-byte (at (hnumber (q2 x a b) p t) none) 48 (ends-hdone2 x a b p t none (one d0) none))
 
 ends-hdone1 : (x : Spaces) (a : Setting) (p q r : Spaces) (ds : Digits) (t : Spaces) → Leads (at (hdone (q1 x a) p q r ds) t)
-unfolding itemHere resulted letterHere settled hextended iextended by-kind quoteHere with-plain charHere extended cextended closeLeft closeCond colon elseHere
-    joined ending closeConst minusHere cminusHere coreHere factorHere equalsHere equalsAbove openCond openSum openBehind openConst step-on step-mid step run
-    finish
+unfolding stepping
 ends-hdone1 x a p q r ds t = by-byte _ 65 (ends-hequals2 x a (setting p q r ds) t none)
 
 ends-hequals1 : (x : Spaces) (a : Setting) (p t : Spaces) → Leads (at (hequals (q1 x a) p) t)
-unfolding itemHere resulted letterHere settled hextended iextended by-kind quoteHere with-plain charHere extended cextended closeLeft closeCond colon elseHere
-    joined ending closeConst minusHere cminusHere coreHere factorHere equalsHere equalsAbove openCond openSum openBehind openConst step-on step-mid step run
-    finish
+unfolding stepping
 ends-hequals1 x a p t = by-byte _ 61 (by-byte (at (hnumber (q1 x a) p t) none) 48 (ends-hdone1 x a p t none (one d0) none))
 
 ends-hdone0 : (x : Spaces) (p q r : Spaces) (ds : Digits) (t : Spaces) → Leads (at (hdone (q0 x) p q r ds) t)
-unfolding itemHere resulted letterHere settled hextended iextended by-kind quoteHere with-plain charHere extended cextended closeLeft closeCond colon elseHere
-    joined ending closeConst minusHere cminusHere coreHere factorHere equalsHere equalsAbove openCond openSum openBehind openConst step-on step-mid step run
-    finish
+unfolding stepping
 ends-hdone0 x p q r ds t = by-byte _ 110 (ends-hequals1 x (setting p q r ds) t none)
 
 ends-hequals0 : (x : Spaces) (p t : Spaces) → Leads (at (hequals (q0 x) p) t)
-unfolding itemHere resulted letterHere settled hextended iextended by-kind quoteHere with-plain charHere extended cextended closeLeft closeCond colon elseHere
-    joined ending closeConst minusHere cminusHere coreHere factorHere equalsHere equalsAbove openCond openSum openBehind openConst step-on step-mid step run
-    finish
+unfolding stepping
 ends-hequals0 x p t = by-byte _ 61 (by-byte (at (hnumber (q0 x) p t) none) 48 (ends-hdone0 x p t none (one d0) none))
 
 ends-hdone : (h : Head) (p q r : Spaces) (ds : Digits) (t : Spaces) → Leads (at (hdone h p q r ds) t)
-unfolding itemHere resulted letterHere settled hextended iextended by-kind quoteHere with-plain charHere extended cextended closeLeft closeCond colon elseHere
-    joined ending closeConst minusHere cminusHere coreHere factorHere equalsHere equalsAbove openCond openSum openBehind openConst step-on step-mid step run
-    finish
+unfolding stepping
 ends-hdone (q0 x) p q r ds t = ends-hdone0 x p q r ds t
 ends-hdone (q1 x a) p q r ds t = ends-hdone1 x a p q r ds t
 ends-hdone (q2 x a b) p q r ds t = ends-hdone2 x a b p q r ds t
 ends-hdone (q3 x a b c) p q r ds t = ends-hdone3 x a b c p q r ds t
 
 ends-hequals : (h : Head) (p t : Spaces) → Leads (at (hequals h p) t)
-unfolding itemHere resulted letterHere settled hextended iextended by-kind quoteHere with-plain charHere extended cextended closeLeft closeCond colon elseHere
-    joined ending closeConst minusHere cminusHere coreHere factorHere equalsHere equalsAbove openCond openSum openBehind openConst step-on step-mid step run
-    finish
+unfolding stepping
 ends-hequals (q0 x) p t = ends-hequals0 x p t
 ends-hequals (q1 x a) p t = ends-hequals1 x a p t
 ends-hequals (q2 x a b) p t = ends-hequals2 x a b p t
 ends-hequals (q3 x a b c) p t = ends-hequals3 x a b c p t
 
 ends-hletter : (h : Head) (t : Spaces) → Leads (at (hletter h) t)
-unfolding itemHere resulted letterHere settled hextended iextended by-kind quoteHere with-plain charHere extended cextended closeLeft closeCond colon elseHere
-    joined ending closeConst minusHere cminusHere coreHere factorHere equalsHere equalsAbove openCond openSum openBehind openConst step-on step-mid step run
-    finish
+unfolding stepping
 ends-hletter (q0 x) t = by-byte _ 109 (ends-hequals (q0 x) t none)
 ends-hletter (q1 x a) t = by-byte _ 110 (ends-hequals (q1 x a) t none)
 ends-hletter (q2 x a b) t = by-byte _ 65 (ends-hequals (q2 x a b) t none)
 ends-hletter (q3 x a b c) t = by-byte _ 87 (ends-hequals (q3 x a b c) t none)
 
 ends-quoted : {n : ℕ} (I : Items) (p q : Spaces) (ds : Digits) (r : Spaces) (cs : Chars n) (t : Spaces) → Leads (at (quoted I p q ds r cs) t)
-unfolding itemHere resulted letterHere settled hextended iextended by-kind quoteHere with-plain charHere extended cextended closeLeft closeCond colon elseHere
-    joined ending closeConst minusHere cminusHere coreHere factorHere equalsHere equalsAbove openCond openSum openBehind openConst step-on step-mid step run
-    finish
+unfolding stepping
 ends-quoted I p q ds r cs t = record { bytes = []; text = entire (named I p q ds r cs) t; ends = refl }
 
 ends-iequals : (o : Opener) (t : Spaces) → Leads (at (iequals o) t)
-unfolding itemHere resulted letterHere settled hextended iextended by-kind quoteHere with-plain charHere extended cextended closeLeft closeCond colon elseHere
-    joined ending closeConst minusHere cminusHere coreHere factorHere equalsHere equalsAbove openCond openSum openBehind openConst step-on step-mid step run
-    finish
+unfolding stepping
 ends-iequals o t = by-byte _ 61 (ends-base (start (opening-of o t)) none)
 
 ends-idone : (K : Kind) (I : Items) (p q : Spaces) (ds : Digits) (t : Spaces) → Leads (at (idone K I p q ds) t)
-unfolding itemHere resulted letterHere settled hextended iextended by-kind quoteHere with-plain charHere extended cextended closeLeft closeCond colon elseHere
-    joined ending closeConst minusHere cminusHere coreHere factorHere equalsHere equalsAbove openCond openSum openBehind openConst step-on step-mid step run
-    finish
+unfolding stepping
 ends-idone a-reward I p q ds t = by-byte _ 61 (ends-base (start (reward I p q ds t)) none)
 ends-idone a-chance I p q ds t = by-byte _ 78 (by-byte (mid (chanceN I p q ds t)) 49 (ends-iequals (chance-to I p q ds t f1) none))
 ends-idone a-next I p q ds t = by-byte _ 76 (by-byte (mid (nextL I p q ds t)) 49 (ends-iequals (next-to I p q ds t i1) none))
 ends-idone a-name I p q ds t = by-byte _ 34 (by-byte (mid (inside-name I p q ds t empty)) 34 (ends-quoted I p q ds t empty none))
 
 ends-inum : (K : Kind) (I : Items) (p t : Spaces) → Leads (at (inum K I p) t)
-unfolding itemHere resulted letterHere settled hextended iextended by-kind quoteHere with-plain charHere extended cextended closeLeft closeCond colon elseHere
-    joined ending closeConst minusHere cminusHere coreHere factorHere equalsHere equalsAbove openCond openSum openBehind openConst step-on step-mid step run
-    finish
+unfolding stepping
 ends-inum K I p t = by-byte _ 48 (ends-idone K I p t (one d0) none)
 
 ends-forbade : (rc : ResultCtx) (q p : Spaces) → Leads (at (forbade rc q) p)
-unfolding itemHere resulted letterHere settled hextended iextended by-kind quoteHere with-plain charHere extended cextended closeLeft closeCond colon elseHere
-    joined ending closeConst minusHere cminusHere coreHere factorHere equalsHere equalsAbove openCond openSum openBehind openConst step-on step-mid step run
-    finish
+unfolding stepping
 ends-forbade (of-case B o r) q p = by-byte _ 59 (ends-base (case B o r (forbids q) p) none)
 ends-forbade (of-else B r s) q p = record { bytes = []; text = entire (closed B r s (forbids q)) p; ends = refl }
 
 ends-at : (s : State) (p : Spaces) → Leads (at s p)
-unfolding itemHere resulted letterHere settled hextended iextended by-kind quoteHere with-plain charHere extended cextended closeLeft closeCond colon elseHere
-    joined ending closeConst minusHere cminusHere coreHere factorHere equalsHere equalsAbove openCond openSum openBehind openConst step-on step-mid step run
-    finish
+unfolding stepping
 ends-at (cond ctx l) p = by-byte _ 48 (ends-after (left ctx l) opens (kt (kfactor (number p (one d0)))) none)
 ends-at (factor sc pre tp) p = by-byte _ 48 (ends-after sc pre (times-const tp (number p (one d0))) none)
 ends-at (after sc pre t) p = ends-after sc pre t p
@@ -261,9 +210,7 @@ ends-at (quoted I p q ds r cs) t = ends-quoted I p q ds r cs t
 ends-at (els B q) p = by-byte _ 58 (ends-res (of-else B q p) none)
 
 ends-mid : (s : Middle) → Leads (mid s)
-unfolding itemHere resulted letterHere settled hextended iextended by-kind quoteHere with-plain charHere extended cextended closeLeft closeCond colon elseHere
-    joined ending closeConst minusHere cminusHere coreHere factorHere equalsHere equalsAbove openCond openSum openBehind openConst step-on step-mid step run
-    finish
+unfolding stepping
 ends-mid (letterC ctx l q) = by-byte _ 49 (ends-held ctx l (now q f1) none)
 ends-mid (letterN ctx l q) = by-byte _ 49 (ends-held ctx l (later q f1) none)
 ends-mid (chanceN I p q ds r) = by-byte _ 49 (ends-iequals (chance-to I p q ds r f1) none)

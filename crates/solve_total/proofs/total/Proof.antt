@@ -150,7 +150,8 @@ cast-exponent c =
 
 add-operate : tie.Need-add-operate
 add-operate c =
-    let start = c .before .before .before .before .before .before .before .before .before .before .before .before .before .before .before .before .before .before .before .before .before .before .before .before .before .before .before .before .before .before .before .before .before .before .before in
+    let start = c .before .before .before .before .before .before .before .before .before .before .before .before .before .before .before .before .before
+    .before .before .before .before .before .before .before .before .before .before .before .before .before .before .before .before .before .before in
     omega (arith, start .pre .room, start .good .1 .1 .1 .1 .1 .0 .0)
 
 operate-requires-2 : tie.Need-operate-requires-2
