@@ -1,4 +1,5 @@
--- `c_answers::put_le` meets its contract.
+-- `c_answers::put_le` meets its contract: the first i bytes are written, and `rest` has the others of the k
+-- bytes of x (`Begun`), so the length stays; i grows to k.
 use Prim.Native.Nat.{_-_}
 use native.Mathlib.Omega.{arith}
 use Rattle.c_answers.proofs.Bytes.{Begun, begin, begun-length, further, ended}

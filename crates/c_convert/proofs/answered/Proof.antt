@@ -1,4 +1,5 @@
--- `c_convert::answered` meets its contract.
+-- `c_convert::answered` meets its contract: without room in `out` the answer is `short` of what judging with an empty buffer comes to, and nothing
+-- is written (`conversion-short`); else the pair is put there (`text-whole`).
 use Rattle.model_form.specs.Forms.{form-of}
 use Rattle.convert_model.specs.Conversion.{conversion}
 use Rattle.c_answers.proofs.Listed.{text-whole}

@@ -1,4 +1,5 @@
--- `c_import::import` meets its contract.
+-- `c_import::import` meets its contract: without room in `out` the answer is `short` of what judging with an empty buffer comes to, and nothing
+-- is written (`import-short`); else the pair is put there (`text-whole`).
 use Rattle.import_model.specs.Import.{import-text}
 use Rattle.c_answers.proofs.Listed.{text-whole}
 use Rattle.c_import.proofs.Emptied.{import-short}

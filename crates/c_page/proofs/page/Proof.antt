@@ -1,4 +1,5 @@
--- `c_page::page` meets its contract.
+-- `c_page::page` meets its contract: without room in `out` the answer is `short` of what judging with an empty text comes to, and nothing is written
+-- (`page-short`); else the pair is put there (`text-whole`). The nine numbers are read back from their bits as they are (`read-back`).
 use mathlib.Core.Path.{ap, _∙_}
 use mathlib.Core.List.{List, [], _∷_, map}
 use lib.IntN.{ℤ}

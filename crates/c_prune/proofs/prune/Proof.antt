@@ -1,4 +1,5 @@
--- `c_prune::prune` meets its contract.
+-- `c_prune::prune` meets its contract: without room in `out` the answer is `short` of the refusal that the path is judged with, and the tables stay
+-- (`prune-short`); else the place is put there, and the tables are as the call left them (`prune-whole`).
 use mathlib.Core.Path.{ap, _∙_}
 use Prim.Native.Nat.{ℕ}
 use Rattle.prune_paths.specs.Prune.{prune-refusal, prune}

@@ -1,4 +1,4 @@
--- `check_early::fill` meets its contract.
+-- `check_early::fill` meets its contract: no call changes the room's length; i grows to the turns.
 use mathlib.Core.Path.{_≡_, refl, _∙_}
 use Prim.Native.Nat.{_-_}
 use native.Mathlib.Omega.{arith}

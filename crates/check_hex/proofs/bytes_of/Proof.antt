@@ -1,4 +1,5 @@
--- `check_hex::bytes_of` meets its contract.
+-- `check_hex::bytes_of` meets its contract: `at` stays within the buffer, whose length no call changes; a step goes
+-- one or two characters on, so what is left of the text falls.
 use mathlib.Core.Path.{_≡_, refl, _∙_}
 use Prim.Native.Nat.{_≤_, _-_}
 use native.Mathlib.Omega.{arith}

@@ -1,4 +1,5 @@
--- `check_pond::finished` meets its contract.
+-- `check_pond::finished` meets its contract: with seven held roots the last two are below count in a table that stands, which is what
+-- `finish` requires (`last-two`); any other number of roots ends it.
 use mathlib.Core.Path.{refl}
 use Rattle.check_pond.proofs.Operations.{last-two}
 use borrow.Author.Needs.{needs}

@@ -1,4 +1,5 @@
--- `check_pond::fits` meets its contract.
+-- `check_pond::fits` meets its contract: false promises nothing; true comes only behind tests that give the rule's places as held, one law
+-- for each rule (`zero-fits`, `levels-fit`, `reward-fits`, `best-fits`).
 use native.Mathlib.Omega.{arith}
 use Rattle.check_pond.proofs.Operations.{never, zero-fits, levels-fit, reward-fits, best-fits}
 use borrow.Author.Needs.{needs}

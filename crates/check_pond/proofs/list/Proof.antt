@@ -1,4 +1,4 @@
--- `check_pond::list` meets its contract.
+-- `check_pond::list` meets its contract: the listing keeps the buffer's length, so a size within it can be lent.
 use mathlib.Core.Path.{sym}
 use native.Mathlib.Omega.{arith}
 use lib.Seq.{length-take-le}

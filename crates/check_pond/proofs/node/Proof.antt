@@ -1,4 +1,4 @@
--- `check_pond::node` meets its contract.
+-- `check_pond::node` meets its contract: i is at most the node's words and grows to them; a word is read only where its place lies in the table.
 use borrow.Author.Needs.{needs}
 use Prim.Native.Nat.{_≤_, _-_}
 use Rattle.theory.specs.Widths.{node-words}

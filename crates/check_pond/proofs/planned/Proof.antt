@@ -1,4 +1,5 @@
--- `check_pond::planned` meets its contract.
+-- `check_pond::planned` meets its contract: each call is made only where the one before did not stop,
+-- and then what that one ensures is what it requires.
 use borrow.Author.Needs.{needs}
 use Rattle.check_pond.proofs.planned.Statement.{statement}
 use Rattle.check_pond.proofs.planned.Tie as tie

@@ -1,4 +1,5 @@
--- `check_pond::steps` meets its contract.
+-- `check_pond::steps` meets its contract: between two rows nothing has stopped, the table stands with its roots, and no length has
+-- changed (`Inv`); a row that stops ends the loop, and `at` grows by six.
 use mathlib.Core.Path.{refl, _∙_}
 use Prim.Native.Nat.{_-_}
 use native.Mathlib.Omega.{arith}

@@ -1,4 +1,5 @@
--- `check_reader::walk` meets its contract.
+-- `check_reader::walk` meets its contract: nothing is kept over the commands; an offset that does not go
+-- on ends the loop, so what is left of the model falls.
 use Prim.Native.Nat.{_-_}
 use native.Mathlib.Omega.{arith}
 use borrow.Author.Needs.{needs}

@@ -1,4 +1,4 @@
--- `check_solve::numbers` meets its contract.
+-- `check_solve::numbers` meets its contract: i is at most the count of numbers and grows to it, so each one read is there.
 use borrow.Author.Needs.{needs}
 use native.Mathlib.Omega.{arith}
 use Prim.Native.Nat.{_≤_, _-_}

@@ -1,4 +1,4 @@
--- `check_solve::print_values` meets its contract.
+-- `check_solve::print_values` meets its contract: a file as long as all models has every part that is lent of it; a shorter one prints nothing.
 use mathlib.Core.Path.{sym}
 use lib.Seq.{length-take-le}
 use native.Mathlib.Omega.{arith}

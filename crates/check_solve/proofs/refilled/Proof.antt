@@ -1,4 +1,4 @@
--- `check_solve::refilled` meets its contract.
+-- `check_solve::refilled` meets its contract: i grows to 240, and `alike` is raised only below 240, so both fit.
 use borrow.Author.Needs.{needs}
 use Prim.Native.Nat.{_≤_, _-_}
 use Rattle.check_solve.proofs.refilled.Statement.{statement}

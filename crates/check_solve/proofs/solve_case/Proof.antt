@@ -1,4 +1,5 @@
--- `check_solve::solve_case` meets its contract.
+-- `check_solve::solve_case` meets its contract: the bytes of the model lie within the file, and the words lent are no more than the tables have
+-- by their least lengths (`part_of`, `node_words`, `work_words`, `least`).
 use mathlib.Core.Path.{sym}
 use lib.Seq.{length-take-le}
 use native.Mathlib.Nat.{le-trans}

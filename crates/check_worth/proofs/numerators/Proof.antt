@@ -1,4 +1,4 @@
--- `check_worth::numerators` meets its contract.
+-- `check_worth::numerators` meets its contract: nothing is kept over the turns; i is below NUMBERS where a number is stored, and it grows to there.
 use Prim.Native.Nat.{_-_}
 use native.Mathlib.Omega.{arith}
 use borrow.Author.Needs.{needs}

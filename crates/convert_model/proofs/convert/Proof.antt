@@ -1,4 +1,5 @@
--- `convert_model::convert` meets its contract.
+-- `convert_model::convert` meets its contract: the refusals come in the order of `conversion`, with the buffer as it was; a model that is not refused
+-- is within its form's bytes (`own-bytes`), and one that fits the buffer is put whole (`call-0`).
 use mathlib.Core.Path.{_∙_}
 use native.Mathlib.Omega.{arith}
 use Rattle.model_form.specs.Forms.{form-of}

@@ -1,4 +1,4 @@
--- `import_cases::end_side` meets its contract.
+-- `import_cases::end_side` meets its contract: the cases of `end-side` by side, each its call's contract.
 use borrow.Author.Needs.{needs}
 use Rattle.import_cases.specs.Cases.{end-side}
 use Rattle.import_cases.proofs.end_side.Statement.{statement}

@@ -1,4 +1,5 @@
--- `import_cases::on_after` meets its contract.
+-- `import_cases::on_after` meets its contract: the cases of `on-after`: a digit by whether more may follow, then the marks by their
+-- bytes, and any other byte by whether the sum is bound; a mark is no digit.
 use borrow.Author.Tests.{ne-eqb}
 use borrow.Author.Needs.{needs}
 use Rattle.import_cases.specs.Cases.{on-after}

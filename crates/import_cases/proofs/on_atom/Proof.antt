@@ -1,4 +1,5 @@
--- `import_cases::on_atom` meets its contract.
+-- `import_cases::on_atom` meets its contract: the cases of `on-atom`: a digit first, then the byte by its number, where an `e` also
+-- asks whether the else may stand; a byte that is matched is no digit.
 use borrow.Author.Tests.{ne-eqb}
 use borrow.Author.Needs.{needs}
 use Rattle.import_cases.specs.Cases.{on-atom}

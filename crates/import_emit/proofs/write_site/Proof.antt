@@ -1,4 +1,5 @@
--- `import_emit::write_site` meets its contract.
+-- `import_emit::write_site` meets its contract: a site's command has 6 bytes (`site-length`), so one test of the room decides whether it is put or
+-- the answer is full; what the header reads is the text's own site (`site-is`), and the parts follow behind it (`site-on`).
 use mathlib.Core.Path.{ap, refl}
 use native.Mathlib.Omega.{arith}
 use borrow.Author.Needs.{needs}

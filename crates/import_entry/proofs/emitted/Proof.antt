@@ -1,4 +1,5 @@
--- `import_entry::emitted` meets its contract.
+-- `import_entry::emitted` meets its contract: a model that does not fit the scratch bytes is longer than one may be and refused with 10
+-- (`emitted-long`); else what stands in them is the whole model, and delivering it is the import (`emitted-whole`).
 use mathlib.Core.Path.{_∙_, sym}
 use lib.Seq.{length-take-le}
 use Rattle.import_deliver.proofs.Call.{refused-as}

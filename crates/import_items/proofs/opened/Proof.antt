@@ -1,4 +1,4 @@
--- `import_items::opened` meets its contract.
+-- `import_items::opened` meets its contract: the cases of `opened`: the kind, then whether the byte is the one that the kind asks for.
 use borrow.Author.Tests.{eq-eqb, ne-eqb}
 use borrow.Author.Needs.{needs}
 use Rattle.import_items.specs.Items.{opened}

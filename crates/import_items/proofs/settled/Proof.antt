@@ -1,4 +1,5 @@
--- `import_items::settled` meets its contract.
+-- `import_items::settled` meets its contract: the cases of `settled` by setting, each its call's
+-- contract: the next setting, or an item behind the last.
 use borrow.Author.Needs.{needs}
 use Rattle.import_items.specs.Items.{settled}
 use Rattle.import_items.proofs.settled.Statement.{statement}

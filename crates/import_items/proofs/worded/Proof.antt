@@ -1,4 +1,5 @@
--- `import_items::worded` meets its contract.
+-- `import_items::worded` meets its contract: the numbers are the cases of `worded`, one by one; any other number makes every
+-- test of it false, and it is not 0, so there is a letter before it.
 use native.Mathlib.Omega.{arith}
 use borrow.Author.Tests.{ne-eqb}
 use Rattle.import_items.specs.Items.{worded}

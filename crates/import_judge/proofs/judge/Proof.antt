@@ -1,4 +1,5 @@
--- `import_judge::judge` meets its contract.
+-- `import_judge::judge` meets its contract: one law for each way out, in the order of `text-refusal`: a long text, a byte outside the language at the
+-- place where the scan stops, and then whether the text is beyond the limits.
 use mathlib.Core.Path.{ap, sym, _∙_}
 use mathlib.Core.Bool.{Bool}
 use Rattle.whole.specs.Cases.{if}

@@ -1,4 +1,5 @@
--- `import_step::on_place` meets its contract.
+-- `import_step::on_place` meets its contract: the cases of `on-place` by place, each its call's contract;
+-- where a number is to begin, by whether the byte is a digit.
 use borrow.Author.Needs.{needs}
 use Rattle.import_step.specs.Steps.{on-place}
 use Rattle.import_step.proofs.on_place.Statement.{statement}

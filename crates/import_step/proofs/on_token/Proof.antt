@@ -1,4 +1,5 @@
--- `import_step::on_token` meets its contract.
+-- `import_step::on_token` meets its contract: the cases of `on-token` by token: a word, a name and a forbidden leaf are their calls' contracts, and a
+-- letter with a number goes by whether the byte is one to four or one to eight.
 use borrow.Author.Needs.{needs}
 use Rattle.import_step.specs.Steps.{on-token}
 use Rattle.import_step.proofs.on_token.Statement.{statement}

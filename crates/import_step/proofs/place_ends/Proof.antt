@@ -1,4 +1,5 @@
--- `import_step::place_ends` meets its contract.
+-- `import_step::place_ends` meets its contract: the cases of `place-ends` by place; behind a setting, a
+-- term and a forbidden leaf the call's contract decides.
 use borrow.Author.Needs.{needs}
 use Rattle.import_step.specs.Steps.{place-ends}
 use Rattle.import_step.proofs.place_ends.Statement.{statement}

@@ -1,4 +1,4 @@
--- `import_step::spaced` meets its contract.
+-- `import_step::spaced` meets its contract: the cases of `spaced` by place: what might go on no longer does, and all else stays.
 use borrow.Author.Needs.{needs}
 use Rattle.import_step.specs.Steps.{spaced}
 use Rattle.import_step.proofs.spaced.Statement.{statement}

@@ -1,4 +1,5 @@
--- `load_choose::test_from` meets its contract.
+-- `load_choose::test_from` meets its contract: at an offset of a test a condition's number is 1 to 8 (`condition-fits`), and a linear is whole and
+-- small (`linear-nums`), so it may be named; any other command gives the first condition, as `testAt` does.
 use Rattle.load_choose.proofs.Tests.{condition-stood, none-stood, other-stood, condition-fits, condition-test-stood, linear-there, linear-nums, linear-test-stood}
 use native.Mathlib.Omega.{arith}
 use mathlib.Core.Path.{sym, subst}

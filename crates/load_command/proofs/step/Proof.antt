@@ -1,4 +1,5 @@
--- `load_command::step` meets its contract.
+-- `load_command::step` meets its contract: known by its case, a command that is ready to be loaded is what its call requires (`ready-as`), and what
+-- the call ensures is the step (`step-as`); a command that loads nothing leaves all as it is (`other-step`).
 use native.Mathlib.Omega.{arith}
 use Rattle.model_command.specs.CursorReadings.{command-of-in}
 use Rattle.load_command.proofs.Steps.{leaf-there, leaf-read, leaf-loaded, condition-asks, test-asks, condition-step, test-step, forbidden-step, give-step, other-step, ready-as, step-as}

@@ -1,4 +1,5 @@
--- `load_model::load` meets its contract.
+-- `load_model::load` meets its contract: what is left of the readings, loaded on from the table and stack so far, gives what the whole model gives
+-- (`Walk`); an accepted model has a whole command at each turn (`turn-none`), so the offset grows, and it ends with all that is wanted.
 use mathlib.Core.Path.{_≡_, refl, sym, _∙_}
 use Prim.Native.Nat.{_-_}
 use native.Mathlib.Omega.{arith}

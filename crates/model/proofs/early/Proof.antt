@@ -1,4 +1,4 @@
--- `model::early` meets its contract.
+-- `model::early` meets its contract: the tests are those of `early` in its order: sizes, then steps, and then the verdict of the model.
 use borrow.Author.Tests.{ne-eqb, lt-ltb, le-ltb, le-leb, lt-leb}
 use Rattle.theory.specs.Solve.{early}
 use Rattle.theory.specs.Widths.{bytes-most}

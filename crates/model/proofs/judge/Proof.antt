@@ -1,4 +1,5 @@
--- `model::judge` meets its contract.
+-- `model::judge` meets its contract: a whole first command that breaks no rule is a site, behind which the walk stands as `rest` requires
+-- (`walk-first`); a broken, unknown or short one is refused at 0, as the walk from the start says.
 use mathlib.Core.Path.{sym, _∙_}
 use Rattle.model_form.specs.Forms.{form-of}
 use borrow.Author.Needs.{needs}

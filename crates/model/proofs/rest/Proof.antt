@@ -1,4 +1,5 @@
--- `model::rest` meets its contract.
+-- `model::rest` meets its contract: what is left of the readings, judged from the state so far, gives the verdict (`Walk`); each turn refuses, ends
+-- or goes on as the rules of its command say, and the offset grows within the model.
 use mathlib.Core.Path.{refl, sym, _∙_}
 use mathlib.Core.Bool.{true}
 use Prim.Native.Nat.{_-_}

@@ -1,4 +1,5 @@
--- `model_command::linear_at` meets its contract.
+-- `model_command::linear_at` meets its contract: the first i places hold the numbers read from the model (`Filled`); all of them are the
+-- linear at the offset, and a number of four bytes is small (`linear-read`).
 use mathlib.Core.Path.{refl, _∙_}
 use Prim.Native.Nat.{_-_}
 use native.Mathlib.Omega.{arith}

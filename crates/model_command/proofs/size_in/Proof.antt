@@ -1,4 +1,5 @@
--- `model_command::size_in` meets its contract.
+-- `model_command::size_in` meets its contract: the case of the command tells its length (`length-of`), and a command
+-- that was read is as long as its first byte says (`by-case`).
 use mathlib.Core.Path.{refl, ap}
 use Prim.Native.Nat.{ℕ, _+_}
 use Rattle.model_command.specs.CursorReadings.{command-of-in}

@@ -1,4 +1,5 @@
--- `model_command::whole_at` meets its contract.
+-- `model_command::whole_at` meets its contract: the tests are those of `command-in`: the site's byte first, then the
+-- byte by its number; each operand is what its own reading gives.
 use mathlib.Core.Path.{refl, _∙_, sym}
 use borrow.Author.Tests.{ne-eqb, eq-eqb}
 use Rattle.theory.specs.Command.{command-in}

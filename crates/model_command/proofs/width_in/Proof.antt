@@ -1,4 +1,5 @@
--- `model_command::width_in` meets its contract.
+-- `model_command::width_in` meets its contract: the tests are those of `width-in`: the site's byte first, then the byte by its number; the
+-- form's sizes are bounded by their contracts, so each width is below 1,024.
 use mathlib.Core.Path.{_∙_, sym, ap}
 use Prim.Native.Nat.{ℕ, _+_}
 use native.Mathlib.Omega.{arith}

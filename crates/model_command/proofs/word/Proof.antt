@@ -1,4 +1,5 @@
--- `model_command::word` meets its contract.
+-- `model_command::word` meets its contract: each byte is widened as it is and lies below 256
+-- (`byte_word`), so the sum fits; it is `word-at` by definition.
 use Rattle.theory.specs.Command.{word-at}
 use borrow.Author.Needs.{needs}
 use Rattle.model_command.proofs.word.Statement.{statement}

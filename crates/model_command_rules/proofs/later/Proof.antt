@@ -1,4 +1,5 @@
--- `model_command_rules::later` meets its contract.
+-- `model_command_rules::later` meets its contract: each case is the contract of the call that judges it (`known-command`), and a site here breaks the
+-- order; a command that was read has all its bytes in the model, so the offsets lie there.
 use Rattle.model_form.specs.Forms.{form-of}
 use Rattle.theory.specs.Widths.{name-bytes}
 use Rattle.theory.specs.Form.{behind-action}

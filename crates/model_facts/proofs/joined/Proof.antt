@@ -1,4 +1,5 @@
--- `model_facts::joined` meets its contract.
+-- `model_facts::joined` meets its contract: the low bits are the facts of the two topmost diagrams; the three joined facts, pushed on
+-- what lies below the two, are `joined` of the list (`seen-joined`).
 use mathlib.Core.Path.{ap, ap₂, _∙_}
 use mathlib.Core.Bool.{_&&_}
 use Rattle.theory.specs.Verdict.{or}

@@ -1,4 +1,5 @@
--- `model_facts::may_be` meets its contract.
+-- `model_facts::may_be` meets its contract: the three tests are those of `may-be`, and the low bits that
+-- they read are the facts on top of the stack (`seen-top`).
 use mathlib.Core.Path.{_∙_, sym, ap, ap₂}
 use mathlib.Core.Bool.{not, _&&_}
 use lib.Dec.{eqb}

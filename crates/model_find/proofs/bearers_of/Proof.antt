@@ -1,4 +1,5 @@
--- `model_find::bearers_of` meets its contract.
+-- `model_find::bearers_of` meets its contract: tallying the readings from `at` on with what is known gives the tally of all (`Pass`);
+-- each command goes on behind its bytes and within the model (`forward`).
 use mathlib.Core.Path.{sym, _∙_}
 use Prim.Native.Nat.{_-_}
 use native.Mathlib.Omega.{arith}

@@ -1,4 +1,5 @@
--- `model_names::named_part` meets its contract.
+-- `model_names::named_part` meets its contract: the readings from `at` on name the same part as all of them (`Seek`); a command goes on behind its
+-- bytes and within the model (`forward`), and one that names has room for its name (`name-room`).
 use Rattle.theory.specs.Form.{new-form}
 use Rattle.model_form.specs.Forms.{form-of}
 use mathlib.Core.Path.{sym, _∙_}

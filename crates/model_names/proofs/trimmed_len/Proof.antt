@@ -1,4 +1,5 @@
--- `model_names::trimmed_len` meets its contract.
+-- `model_names::trimmed_len` meets its contract: trimming the first k bytes gives what trimming all n gives; a space at the end
+-- takes one off (`trim-down`), and any other byte ends it (`trim-stay`).
 use mathlib.Core.Path.{_≡_, refl, _∙_}
 use Prim.Native.Nat.{_≤_}
 use native.Mathlib.Omega.{arith}

@@ -1,4 +1,5 @@
--- `plain_leaf::after` meets its contract.
+-- `plain_leaf::after` meets its contract: the cases of `stepped`: a push, a choice by a condition or a linear test, and a pop are their calls'
+-- contracts, and other commands leave the stack; a test that was read has its linear in the model (`test-there`).
 use mathlib.Core.Path.{refl, sym, ap, _∙_}
 use mathlib.Core.Bool.{Bool}
 use native.Mathlib.Omega.{arith}

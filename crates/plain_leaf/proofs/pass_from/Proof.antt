@@ -1,4 +1,5 @@
--- `plain_leaf::pass_from` meets its contract.
+-- `plain_leaf::pass_from` meets its contract: the pass from `at` on with the stack so far comes to what the whole pass comes to (`Seek`); a leaf,
+-- another push and any other command each go on as their turn says, and `at` grows within the model.
 use mathlib.Core.Path.{sym, ap, _∙_}
 use Prim.Native.Nat.{_-_}
 use native.Mathlib.Omega.{arith}

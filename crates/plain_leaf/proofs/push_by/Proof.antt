@@ -1,4 +1,5 @@
--- `plain_leaf::push_by` meets its contract.
+-- `plain_leaf::push_by` meets its contract: told by its byte, a condition chooses, a forbidden leaf is pushed, and what is left is a linear test that
+-- chooses (`condition-left`, `forbidden-left`, `test-left`); room for a linear covers all reads.
 use mathlib.Core.Path.{refl, ap, _∙_}
 use native.Mathlib.Omega.{arith}
 use lib.IntN.{ℤ, pos}

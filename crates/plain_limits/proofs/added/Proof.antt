@@ -1,4 +1,5 @@
--- `plain_limits::added` meets its contract.
+-- `plain_limits::added` meets its contract: what is no number stays, the sum before the worth; a product over the limits is over (`added-much`), and
+-- else both addends are small, so their sum is limited as `added-of` says (`added-is`).
 use Rattle.plain_limits.proofs.Judge.{no-number, sum-stays, added-stays, added-much, addends-small, added-is}
 use borrow.Author.Needs.{needs}
 use Rattle.plain_limits.proofs.added.Statement.{statement}

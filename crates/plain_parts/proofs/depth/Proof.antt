@@ -1,4 +1,5 @@
--- `plain_parts::depth` meets its contract.
+-- `plain_parts::depth` meets its contract: the cases of `depth-after`: a push, a choice and a given part are their
+-- calls' contracts, and all other commands keep the depth.
 use mathlib.Core.Path.{sym, ap, _∙_}
 use Rattle.model_command.specs.declared.Command.{Command as CodeCommand}
 use Rattle.model_command.specs.CursorReadings.{command-of, command-of-in}

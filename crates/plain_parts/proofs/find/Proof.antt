@@ -1,4 +1,5 @@
--- `plain_parts::find` meets its contract.
+-- `plain_parts::find` meets its contract: for each slot the offset noted so far leads the pass to what the whole pass comes to, and a slot not yet
+-- noted lies ahead (`Finds`); each command goes on behind its bytes, so the offset grows.
 use mathlib.Core.Path.{sym, _∙_}
 use Prim.Native.Nat.{_-_}
 use native.Mathlib.Omega.{arith}

@@ -1,4 +1,5 @@
--- `plain_worth::worth` meets its contract.
+-- `plain_worth::worth` meets its contract: the refusals come in the order of `plain-of`; a state that is accepted stands for its point, as
+-- `worked` requires (`stands`), and its worth is the answer (`answered`).
 use Rattle.plain_worth.proofs.Entry.{refused-early, refused-state, passed, stands, answered}
 use borrow.Author.Needs.{needs}
 use Rattle.plain_worth.proofs.worth.Statement.{statement}

@@ -1,4 +1,5 @@
--- `price_margin::above` meets its contract.
+-- `price_margin::above` meets its contract: the order of v and u and then their signs tell four cases: 0, or the magnitudes'
+-- difference or sum; each has its law that it fits and that it is the answer.
 use Rattle.price_margin.proofs.Margins.{none-above, high-fits, high-is, across-fits, across-is, low-fits, low-is}
 use borrow.Author.Needs.{needs}
 use Rattle.price_margin.proofs.above.Statement.{statement}

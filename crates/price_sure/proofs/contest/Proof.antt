@@ -1,4 +1,5 @@
--- `price_sure::contest` meets its contract.
+-- `price_sure::contest` meets its contract: before action a, `best` is the best of those before it and `other` the largest of the others
+-- (`Contests`); the loop ends behind the last action or where the best is over, and else a grows.
 use native.Mathlib.Omega.{arith}
 use Prim.Native.Nat.{_+_, _-_}
 use borrow.Author.Needs.{needs}

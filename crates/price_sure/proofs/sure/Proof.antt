@@ -1,4 +1,5 @@
--- `price_sure::sure` meets its contract.
+-- `price_sure::sure` meets its contract: the refusals come in the order of `sure-of`; a state that is accepted stands for its point over its
+-- denominator, as `worked` requires (`stands`, `over-den`), and its answer is the whole's (`settled-is`).
 use Rattle.plain_worth.proofs.Entry.{passed, stands}
 use Rattle.price_sure.proofs.Entry.{refused-early, refused-state, refused-change, over-den, settled-is}
 use borrow.Author.Needs.{needs}

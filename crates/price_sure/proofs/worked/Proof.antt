@@ -1,4 +1,5 @@
--- `price_sure::worked` meets its contract.
+-- `price_sure::worked` meets its contract: a power over the limits is refused as plain working refuses it (`worked-over`); else its magnitude is the
+-- power that `roomed` requires (`worked-priced`), and the answer is that call's.
 use native.Mathlib.Omega.{arith}
 use Rattle.plain_worth.proofs.Answers.{exponent-fits}
 use Rattle.price_sure.proofs.Entry.{worked-over, worked-priced}

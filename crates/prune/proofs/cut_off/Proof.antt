@@ -1,4 +1,5 @@
--- `prune::cut_off` meets its contract.
+-- `prune::cut_off` meets its contract: an accepted path is what `copy_path` requires (`to-copy`); with the copy as the stage's root the rows up to it
+-- are good (`to-make`), and what is made anew of them is `pruned` (`cut-left`).
 use mathlib.Core.Path.{_∙_}
 use Prim.Native.Nat.{_-_}
 use native.Mathlib.Omega.{arith}

@@ -1,4 +1,5 @@
--- `prune_certificate::cancels` meets its contract.
+-- `prune_certificate::cancels` meets its contract: the coefficients from w on are all zero where all are (`Cancelling`); the first that is not
+-- zero ends the loop, and a path's sum has no more than eight (`path-length`).
 use Prim.Native.Nat.{_-_}
 use native.Mathlib.Omega.{arith}
 use Rattle.whole.specs.Linears.{numbers}

@@ -1,4 +1,5 @@
--- `prune_certificate::none_negative` meets its contract.
+-- `prune_certificate::none_negative` meets its contract: the multipliers from i on are not below 0 where all
+-- are not; the first below 0 ends the loop (`signs-stops`).
 use mathlib.Core.Path.{_≡_, refl}
 use Prim.Native.Nat.{_-_, _≤_}
 use native.Mathlib.Omega.{arith}

@@ -1,4 +1,5 @@
--- `prune_certificate::path_number` meets its contract.
+-- `prune_certificate::path_number` meets its contract: one law for each way out, in the order of `path-number`: no turn, no fit, another count, a
+-- negative multiplier, and then whether the sum contradicts, which may be asked as the path fits and counts right.
 use mathlib.Core.Path.{sym, _∙_}
 use Rattle.whole.specs.Cases.{from-true}
 use Rattle.prune_paths.specs.Prune.{tree-at}

@@ -1,4 +1,6 @@
--- `prune_copy::copy_path` meets its contract.
+-- `prune_copy::copy_path` meets its contract: row r is to be copied as row c, the copies behind c are good, and once what
+-- stands in for row r is its diagram with the rest of the path cut off, so it is at the root (`Upto`); the copy steps this
+-- down turn by turn to the last, where nothing is left to copy.
 use Prim.Native.Nat.{_-_}
 use native.Mathlib.Omega.{arith}
 use lib.ListN.{length}

@@ -1,4 +1,5 @@
--- `prune_copy::copy_row` meets its contract.
+-- `prune_copy::copy_row` meets its contract: what stands in for the next row lies below row c (`lower-is`), so it can be written as its
+-- branch; the row read, turned and put is the step by definition (`stepped`).
 use native.Mathlib.Omega.{arith}
 use Rattle.prune_copy.proofs.StandIn.{lower-is, stepped}
 use borrow.Author.Needs.{needs}

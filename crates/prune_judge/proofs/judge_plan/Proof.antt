@@ -1,4 +1,5 @@
--- `prune_judge::judge_plan` meets its contract.
+-- `prune_judge::judge_plan` meets its contract: one law for each way out, in the order of `plan-verdict` (`says-15` to `says-0`); where all nodes up
+-- to the greatest root are good the stage's own root is too (`root-good`), as `path_number` requires.
 use mathlib.Core.Path.{_∙_}
 use Rattle.model_progress.specs.GivenFlags.{site-as}
 use Rattle.prune_judge.proofs.Judged.{says-15, says-14, root-good, says-path, says-12, says-0}

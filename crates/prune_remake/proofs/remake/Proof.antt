@@ -1,4 +1,5 @@
--- `prune_remake::remake` meets its contract.
+-- `prune_remake::remake` meets its contract: the first i rows are made anew as at most i nodes, so the rows behind stand as they were, and the work
+-- words tell where each has gone (`Upto`); a good row fits at its place (`fits-here`), so the next can be made.
 use mathlib.Core.Path.{_∙_}
 use Prim.Native.Nat.{_-_}
 use native.Mathlib.Omega.{arith}

@@ -1,4 +1,5 @@
--- `prune_remake::remake_row` meets its contract.
+-- `prune_remake::remake_row` meets its contract: a leaf can stand anywhere, so it is interned as it is (`leaf-made`); a test's branches are rows
+-- before it (`high-in`, `low-in`), which have gone to nodes that are there (`gone-in`), so it is joined over them (`test-made`).
 use native.Mathlib.Omega.{arith}
 use borrow.Author.Needs.{needs}
 use Rattle.prune_remake.proofs.RowRemade.{leaf-valid, leaf-made, test-proper, high-in, low-in, gone-in, test-made}

@@ -1,4 +1,5 @@
--- `prune_tables::gather_roots` meets its contract.
+-- `prune_tables::gather_roots` meets its contract: the first k roots tell where the rows of the first h stage words that are not 0 have
+-- gone (`Gathering`); k is at most h (`few-gathered`), so there is room.
 use mathlib.Core.Logic.{⊎-elim}
 use Prim.Native.Nat.{_-_}
 use native.Mathlib.Omega.{arith}

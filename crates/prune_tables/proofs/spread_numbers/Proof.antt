@@ -1,4 +1,5 @@
--- `prune_tables::spread_numbers` meets its contract.
+-- `prune_tables::spread_numbers` meets its contract: the first h words that were not 0 have their numbers in turn, and the words from h on are as
+-- they were (`Spreading`); k is at most h (`few-spread`), so there is a number.
 use mathlib.Core.Logic.{⊎-elim}
 use Prim.Native.Nat.{_-_}
 use native.Mathlib.Omega.{arith}

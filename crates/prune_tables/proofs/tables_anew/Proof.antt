@@ -1,4 +1,6 @@
--- `prune_tables::tables_anew` meets its contract.
+-- `prune_tables::tables_anew` meets its contract: after the rows are made anew the stage words are rows that have gone
+-- somewhere (`standing`), so their roots can be gathered; the table with those roots is what `finish` requires (`to-finish`),
+-- and its numbers, spread over the stages, are the whole (`all-anew`).
 use mathlib.Core.Path.{refl, sym}
 use native.Mathlib.Omega.{arith}
 use borrow.Author.Needs.{needs}

@@ -1,4 +1,5 @@
--- `solve_advice::advise` meets its contract.
+-- `solve_advice::advise` meets its contract: a refusal of `solve` is given on (`refusal-given`), and else the
+-- value is read from the tables that it left (`value-given`).
 use mathlib.Core.Path.{refl}
 use Rattle.value_walk.specs.Out.{out}
 use Rattle.value_walk.specs.State.{asked}

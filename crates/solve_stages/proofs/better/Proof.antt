@@ -1,4 +1,5 @@
--- `solve_stages::better` meets its contract.
+-- `solve_stages::better` meets its contract: the total is due behind the best so far (`behind-due`); where it stops so does this, and else both stand
+-- as roots, and the rule `Best` on them gives the better one (`better-done`).
 use mathlib.Core.Path.{_∙_}
 use native.Mathlib.Omega.{arith}
 use Rattle.solve_stages.proofs.StagesBetter.{behind-due, better-stopped, better-ready, better-done}

@@ -1,4 +1,5 @@
--- `solve_stages::others` meets its contract.
+-- `solve_stages::others` meets its contract: going on from action a, with the best so far behind what is held, runs like going on from action 2 with
+-- the first (`Trying`); the lengths stay, and a grows past the site's actions.
 use mathlib.Core.Path.{_≡_, refl, _∙_}
 use Prim.Native.Nat.{_+_, _-_}
 use native.Mathlib.Omega.{arith}

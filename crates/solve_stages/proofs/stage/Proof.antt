@@ -1,4 +1,5 @@
--- `solve_stages::stage` meets its contract.
+-- `solve_stages::stage` meets its contract: the first action's total stands behind what is held, as `others` requires (`others-due`); a stop of the
+-- first is the stage's, and else the two calls together are `stage-over` (`stage-ends`).
 use mathlib.Core.Path.{_∙_}
 use native.Mathlib.Omega.{arith}
 use Rattle.solve_stages.proofs.StagesOthers.{first-stops, others-due, stage-ends}

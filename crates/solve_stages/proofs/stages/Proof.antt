@@ -1,4 +1,5 @@
--- `solve_stages::stages` meets its contract.
+-- `solve_stages::stages` meets its contract: stages 1 to h stand as roots behind stage 0, and running those behind h on from them gives what running
+-- all gives (`Staging`); a stage that stops tells its place, and h grows to the horizon.
 use mathlib.Core.Path.{_≡_, refl, _∙_}
 use Prim.Native.Nat.{_-_}
 use native.Mathlib.Omega.{arith}

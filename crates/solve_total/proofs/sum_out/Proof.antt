@@ -1,4 +1,5 @@
--- `solve_total::sum_out` meets its contract.
+-- `solve_total::sum_out` meets its contract: summing the conditions behind k out of the last root as it is now runs like summing all of them out of
+-- the first one (`Summing`), and the held roots keep their trees; k grows to the count.
 use mathlib.Core.Path.{_≡_, refl, _∙_}
 use Prim.Native.Nat.{_-_}
 use native.Mathlib.Omega.{arith}

@@ -1,4 +1,5 @@
--- `solve_total::total` meets its contract.
+-- `solve_total::total` meets its contract: three operations in turn replace the levels, sum the conditions out and add the reward, each on roots that
+-- stand (`levels-replaced`, `conditions-summed`, `reward-added`); a stop is the total's, and the places are few (`total-few`), so they fit.
 use mathlib.Core.Path.{_∙_}
 use native.Mathlib.Omega.{arith}
 use Rattle.solve_total.proofs.Roots.{on-standing}

@@ -1,4 +1,5 @@
--- `solve_value_iteration::run_stages` meets its contract.
+-- `solve_value_iteration::run_stages` meets its contract: a stop of loading or of stage 0 is the answer (`unloaded`, `zero-off`), and else what they
+-- leave is what `stages` requires; the roots have places for every stage and two more (`stages-fit`).
 use borrow.Author.Needs.{needs}
 use mathlib.Core.Path.{_∙_}
 use native.Mathlib.Omega.{arith}

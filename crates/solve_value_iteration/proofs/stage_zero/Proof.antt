@@ -1,4 +1,5 @@
--- `solve_value_iteration::stage_zero` meets its contract.
+-- `solve_value_iteration::stage_zero` meets its contract: an end worth stands as the root since loading (`end-grounded`); else the rule `Zero` is
+-- tried behind the model's roots, and where it does not stop its count is noted (`zero-grounded`).
 use borrow.Author.Needs.{needs}
 use native.Mathlib.Omega.{arith}
 use Rattle.solve_value_iteration.proofs.Runs.{end-grounded, zero-ready, zero-fits, zero-grounded}

@@ -1,4 +1,5 @@
--- `table_cache::keep` meets its contract.
+-- `table_cache::keep` meets its contract: the entry's six words lie within the work words, for its place has room for
+-- them (`slot`); the six writes are `storeOf` by definition.
 use mathlib.Core.Path.{ap}
 use Prim.Native.Nat.{ℕ}
 use lib.ListN.{length-set}

@@ -1,4 +1,5 @@
--- `table_cache::look` meets its contract.
+-- `table_cache::look` meets its contract: a word that differs gives 0, of which nothing is to be shown; where all five words
+-- are the key's, a result that is not 0 is an entry (`entry-is`).
 use Prim.Native.Nat.{_+_}
 use native.Mathlib.Omega.{arith}
 use Rattle.table_cache.proofs.Entries.{entry-is}

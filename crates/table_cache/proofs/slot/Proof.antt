@@ -1,4 +1,5 @@
--- `table_cache::slot` meets its contract.
+-- `table_cache::slot` meets its contract: the sum modulo cap is below cap, so the six words of the entry end at 8 cap
+-- words at most; the sum itself fits by the bounds of a key.
 use mathlib.Core.Path.{refl}
 use Prim.Native.Nat.{_+_, _*_}
 use native.Mathlib.Nat.{mod-lt}

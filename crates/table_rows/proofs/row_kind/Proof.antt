@@ -1,4 +1,5 @@
--- `table_rows::row_kind` meets its contract.
+-- `table_rows::row_kind` meets its contract: the tests are those of `row-kind` in its order, one law for each (`none-at-zero` to `as-bad`): an index
+-- outside, then the kind by its number, which is bad where its row is not good.
 use borrow.Author.Needs.{needs}
 use Rattle.table_rows.proofs.Rowed.{none-at-zero, none-outside, as-leaf, as-condition, as-test, as-none, as-bad}
 use Rattle.table_rows.proofs.row_kind.Statement.{statement}

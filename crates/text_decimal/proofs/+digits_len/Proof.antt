@@ -1,4 +1,5 @@
--- `text_decimal::digits_len` meets its contract.
+-- `text_decimal::digits_len` meets its contract: by recursion on `left`, which falls: with none left, or x below 10, there is
+-- one digit, and else one more than x / 10 has (`digits-longer`).
 use native.Mathlib.Omega.{arith}
 use mathlib.Core.Path.{sym, ap, _∙_}
 use lib.ListN.{length}

@@ -1,4 +1,5 @@
--- `text_decimal::put_digits` meets its contract.
+-- `text_decimal::put_digits` meets its contract: by recursion on `left`, which falls: the digits of x / 10 are put first, one byte fewer
+-- (`digits-longer`), so the last digit has room behind them (`put-next`).
 use native.Mathlib.Omega.{arith}
 use borrow.Author.Needs.{needs}
 use lib.ListN.{length}

@@ -1,4 +1,5 @@
--- `text_decimal::put_bytes` meets its contract.
+-- `text_decimal::put_bytes` meets its contract: the buffer is the old one with the first i bytes pasted at `at` (`paste`), so its
+-- length stays; all of them pasted is what `PutAt` says (`pasted`).
 use Prim.Native.Nat.{ℕ, _+_, _-_, _≤_, _<_}
 use native.Mathlib.Numerals.{add-one}
 use native.Mathlib.Omega.{arith}

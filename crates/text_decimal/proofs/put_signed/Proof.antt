@@ -1,4 +1,5 @@
--- `text_decimal::put_signed` meets its contract.
+-- `text_decimal::put_signed` meets its contract: by its sign a number is a space, a minus and its magnitude's digits (`spaced-negative`), or a number
+-- without sign (`spaced-positive`); the bytes before and the digits behind them are put in turn (`then`).
 use native.Mathlib.Omega.{arith}
 use Prim.Native.Nat.{_≤_}
 use mathlib.Core.Path.{ap, sym}

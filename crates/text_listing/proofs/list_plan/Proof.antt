@@ -1,4 +1,5 @@
--- `text_listing::list_plan` meets its contract.
+-- `text_listing::list_plan` meets its contract: a refusal and a text that does not fit leave the buffer (`plan-refused`, `plan-17`); a plan that is
+-- not refused can be written (`ready`), and a size within the room is the text's own (`fitting`).
 use Prim.Native.Nat.{ℕ, _-_, _^_, _<_}
 use native.Mathlib.Omega.{arith}
 use mathlib.Core.Path.{ap, _∙_}

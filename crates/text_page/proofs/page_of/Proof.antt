@@ -1,4 +1,5 @@
--- `text_page::page_of` meets its contract.
+-- `text_page::page_of` meets its contract: a refusal and a page that does not fit leave the buffer (`page-refused`, `page-17`); where no stage is
+-- refused every line can be shown (`page-shown`), and each has 51 bytes, so the page has room (`page-room`).
 use native.Mathlib.Omega.{arith}
 use mathlib.Core.Path.{refl, ap, _∙_}
 use mathlib.Core.Logic.{inl, inr}

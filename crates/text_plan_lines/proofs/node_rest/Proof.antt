@@ -1,4 +1,5 @@
--- `text_plan_lines::node_rest` meets its contract.
+-- `text_plan_lines::node_rest` meets its contract: the kind tells which numbers follow, one law for each (`rest-condition`, `rest-none`, `rest-leaf`,
+-- `rest-test`): the line that is put is the rest of the node's line, so it also has room.
 use native.Mathlib.Omega.{arith}
 use mathlib.Core.Path.{ap}
 use lib.ListN.{length}

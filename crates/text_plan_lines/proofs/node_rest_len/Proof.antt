@@ -1,4 +1,5 @@
--- `text_plan_lines::node_rest_len` meets its contract.
+-- `text_plan_lines::node_rest_len` meets its contract: the kind tells which numbers follow, one law for each (`rest-condition`, `rest-none`,
+-- `rest-leaf`, `rest-test`); a part has no more words than were asked for (`part-few`), which bounds the length.
 use mathlib.Core.Path.{ap, _∙_}
 use Prim.Native.Nat.{_+_}
 use native.Mathlib.Omega.{arith}

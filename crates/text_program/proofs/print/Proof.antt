@@ -1,4 +1,5 @@
--- `text_program::print` meets its contract.
+-- `text_program::print` meets its contract: one law for each way out: a refusal of `solve` or of the listing is printed as its line
+-- (`refused-printed`, `listing-refused-printed`), and else the listing is what stands in the text (`listing-printed`).
 use mathlib.Core.Path.{_∙_}
 use native.Mathlib.Omega.{arith}
 use lib.ListN.{length}

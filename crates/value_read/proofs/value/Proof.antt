@@ -1,4 +1,5 @@
--- `value_read::value` meets its contract.
+-- `value_read::value` meets its contract: an early refusal is the answer (`refused-early`); else the steps are 1 to 8 of eight stage words
+-- (`left-of`), so the root can be read, and reading on from it is `value-of` (`read-early`).
 use mathlib.Core.Path.{refl}
 use native.Mathlib.Omega.{arith}
 use borrow.Author.Needs.{needs}

@@ -1,4 +1,5 @@
--- `value_total::both_read` meets its contract.
+-- `value_total::both_read` meets its contract: a value of action 0 has no total (`first-none`, `second-none`); else the sum of the numerators, each
+-- times the other's power of W, fits two words or is outside (`inside-is`, `outside-is`).
 use mathlib.Core.Path.{sym, _∙_}
 use native.Mathlib.Nat.{mul-le-mul}
 use native.Mathlib.Omega.{arith}

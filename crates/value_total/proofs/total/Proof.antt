@@ -1,4 +1,5 @@
--- `value_total::total` meets its contract.
+-- `value_total::total` meets its contract: the refusals come in the order of `total-of`, one law for each; that the first value was read tells that W
+-- is 1 or more and the steps are few, as `both_read` requires (`scale-fits`).
 use Rattle.value_walk.specs.State.{asked}
 use Rattle.value_total.proofs.Joins.{scale-fits, first-stops, second-stops, scale-stops, both-stops}
 use borrow.Author.Needs.{needs}

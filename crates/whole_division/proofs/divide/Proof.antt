@@ -1,4 +1,5 @@
--- `whole_division::divide` meets its contract.
+-- `whole_division::divide` meets its contract: a half behind a remainder has a quotient below 2³² (`digit-small`), so each step fits a word;
+-- the quotients and the last remainder make the whole again (`divides`).
 use native.Mathlib.Nat.{mod-lt}
 use Prim.Native.Nat.{_+_, _*_, _/_, _%_}
 use native.Mathlib.Omega.{arith}

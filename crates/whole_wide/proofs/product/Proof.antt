@@ -1,4 +1,5 @@
--- `whole_wide::product` meets its contract.
+-- `whole_wide::product` meets its contract: a half times w, with what the half before carries, stays below a word (`one` to `four`);
+-- the four halves with their carries are the product (`product-is`).
 use borrow.Author.Needs.{needs}
 use native.Mathlib.Omega.{arith}
 use Rattle.whole_wide.proofs.Halves.{one, two, three, four, product-is}

@@ -1,4 +1,5 @@
--- `whole_wide::sum` meets its contract.
+-- `whole_wide::sum` meets its contract: two halves with what the pair before carries fit a word; the four
+-- sums with their carries are the whole sum (`sum-is`).
 use borrow.Author.Needs.{needs}
 use native.Mathlib.Omega.{arith}
 use Rattle.whole_wide.proofs.Halves.{third-sum, fourth-sum, sum-is}

@@ -1,4 +1,5 @@
--- `convert_forms::layouts::layout_in` meets its contract.
+-- `convert_forms::layouts::layout_in` meets its contract: the tests are those of `layout-in`: the site's byte first, then the byte by
+-- its number; the sizes of actions and levels are the form's contracts.
 use mathlib.Core.Path.{sym, ap, _∙_}
 use Prim.Native.Nat.{ℕ, _*_}
 use borrow.Author.Needs.{needs}

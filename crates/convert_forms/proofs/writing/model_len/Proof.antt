@@ -1,4 +1,5 @@
--- `convert_forms::writing::model_len` meets its contract.
+-- `convert_forms::writing::model_len` meets its contract: n is the length of what the commands before `at` become (`Counted`), at most 128 for each
+-- byte, so the sum fits; a command that goes on lies within the model, so `at` grows.
 use mathlib.Core.Bool.{true, false}
 use Prim.Native.Nat.{_-_}
 use native.Mathlib.Omega.{arith}

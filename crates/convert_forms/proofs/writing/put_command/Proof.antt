@@ -1,4 +1,5 @@
--- `convert_forms::writing::put_command` meets its contract.
+-- `convert_forms::writing::put_command` meets its contract: a layout has few bytes (`few-as`), so the offsets fit, and its parts are as long as the
+-- converted command (`parts-long`), so they have room; the byte and the three parts, put in turn, are that command (`command-put`).
 use mathlib.Core.Path.{_∙_}
 use Prim.Native.Nat.{_+_}
 use native.Mathlib.Omega.{arith}

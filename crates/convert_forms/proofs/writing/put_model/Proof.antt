@@ -1,4 +1,5 @@
--- `convert_forms::writing::put_model` meets its contract.
+-- `convert_forms::writing::put_model` meets its contract: what the commands before `at` become stands at the start of the buffer (`Wrote`); the next
+-- one has room since the whole has (`write-room`), and a command that goes on lies within the model, so `at` grows.
 use mathlib.Core.Path.{_∙_}
 use mathlib.Core.Bool.{true, false}
 use Prim.Native.Nat.{_-_}

@@ -1,4 +1,5 @@
--- `convert_model::forbidding::forbids` meets its contract.
+-- `convert_model::forbidding::forbids` meets its contract: the readings from `at` on forbid where all of them do (`Searched`); the search ends at the
+-- first forbidden leaf or at the last command, and else `at` grows within the model.
 use mathlib.Core.Bool.{true, false}
 use Prim.Native.Nat.{_-_}
 use native.Mathlib.Omega.{arith}

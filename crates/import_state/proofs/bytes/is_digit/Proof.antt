@@ -1,4 +1,5 @@
--- `import_state::bytes::is_digit` meets its contract.
+-- `import_state::bytes::is_digit` meets its contract: the bytes are the cases of `digit`, one by one; a byte
+-- that is none of the ten makes every test of it false.
 use borrow.Author.Tests.{ne-eqb}
 use Rattle.import_state.specs.Bytes.{digit}
 use Rattle.import_state.proofs.bytes.is_digit.Statement.{statement}

@@ -1,4 +1,5 @@
--- `import_state::bytes::letter` meets its contract.
+-- `import_state::bytes::letter` meets its contract: the numbers are the cases of `letter`, one by one; any other
+-- number makes every test of it false and comes to its last letter.
 use borrow.Author.Tests.{ne-eqb}
 use Rattle.import_state.specs.Bytes.{letter}
 use Rattle.import_state.proofs.bytes.letter.Statement.{statement}

@@ -1,3 +1,5 @@
+-- `import_walk::scan::scan` meets its contract: scanning on from i with `inside` as it is comes to the rest that scanning from `from` comes to
+-- (`Scanning`); a byte that stops is the answer (`scan-here`), and i grows to the end.
 use mathlib.Core.Path.{refl, sym, _∙_}
 use Prim.Native.Nat.{_-_}
 use native.Mathlib.Omega.{arith}

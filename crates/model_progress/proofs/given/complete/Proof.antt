@@ -1,4 +1,5 @@
--- `model_progress::given::complete` meets its contract.
+-- `model_progress::given::complete` meets its contract: all actions behind a being given says the same as all from 1 on; the next one decides
+-- the loop (`run-turn`), and with none left the answer is true (`run-done`).
 use mathlib.Core.Path.{_≡_, sym, _∙_}
 use Prim.Native.Nat.{suc, _-_, _≤_}
 use native.Mathlib.Omega.{arith}

@@ -1,4 +1,5 @@
--- `model_progress::given::note` meets its contract.
+-- `model_progress::given::note` meets its contract: what is given, and a name, raise the flag at the place that
+-- `noted` sets; any other command gives nothing (`noted-other`).
 use mathlib.Core.Path.{sym, ap, _∙_}
 use mathlib.Core.Bool.{true}
 use Prim.Native.Nat.{ℕ}

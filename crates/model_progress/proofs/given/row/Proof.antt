@@ -1,4 +1,5 @@
--- `model_progress::given::row` meets its contract.
+-- `model_progress::given::row` meets its contract: all flags behind i being raised says the same as all from 1 to n; the next one decides the
+-- loop (`run-turn`), and with none left the answer is true (`run-done`).
 use mathlib.Core.Path.{_≡_, sym, ap, _∙_}
 use mathlib.Core.Bool.{false}
 use Prim.Native.Nat.{suc, _-_, _≤_}

@@ -1,4 +1,5 @@
--- `model_progress::operands::site` meets its contract.
+-- `model_progress::operands::site` meets its contract: the tests stand in the order of `site-rules`; the first
+-- that fails gives its number, for those before it hold.
 use Prim.Native.Nat.{ℕ}
 use Rattle.theory.specs.Valid.{among as is-among}
 use mathlib.Core.Path.{sym, ap, _∙_}

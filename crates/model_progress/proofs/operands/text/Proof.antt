@@ -1,4 +1,5 @@
--- `model_progress::operands::text` meets its contract.
+-- `model_progress::operands::text` meets its contract: that the `left` bytes from `at` on are printable says the same as of the whole name; the next
+-- byte decides (`part-turn`), and past the model nothing is left (`part-past`).
 use mathlib.Core.Path.{_≡_, refl, sym, _∙_}
 use native.Mathlib.Omega.{arith}
 use lib.ListN.{take, drop}

@@ -1,4 +1,5 @@
--- `model_progress::operands::zeros` meets its contract.
+-- `model_progress::operands::zeros` meets its contract: that the `left` numbers from `at` on are zero says the same as of all n, and they
+-- lie in the model; a number is zero where its word is (`zeros-turn`).
 use mathlib.Core.Path.{_≡_, refl, sym, _∙_}
 use Prim.Native.Nat.{_+_, _-_, _*_, _≤_}
 use native.Mathlib.Omega.{arith}

@@ -1,4 +1,5 @@
--- `model_progress::states::after` meets its contract.
+-- `model_progress::states::after` meets its contract: one law for each case of the command (`after-site` to `after-end`): where no rule is broken the
+-- stack has room for a push and two parts for a choice, so the new state stands for the specification's.
 use Rattle.model_form.specs.Forms.{form-of}
 use mathlib.Core.Path.{refl}
 use native.Mathlib.Omega.{arith}

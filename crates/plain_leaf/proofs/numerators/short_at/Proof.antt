@@ -1,4 +1,5 @@
--- `plain_leaf::numerators::short_at` meets its contract.
+-- `plain_leaf::numerators::short_at` meets its contract: s with the products from i on is the whole sum, and bounded (`Added`), so each step fits a
+-- word; past the point's levels all are 0 (`flat-added`), and with the constant s is the numerator (`sum-is`).
 use mathlib.Core.Path.{refl, sym, _∙_, subst}
 use Prim.Native.Nat.{_-_, _≤_}
 use native.Mathlib.Omega.{arith}

@@ -1,4 +1,5 @@
--- `plain_leaf::offsets::choose` meets its contract.
+-- `plain_leaf::offsets::choose` meets its contract: with fewer than two nothing is chosen (`too-few`); the high one, which lies below, stays when the
+-- last is dropped (`high-held`), and the low one is written over it before (`low-held`).
 use Rattle.plain_pass.proofs.PassWords.{too-few, high-held, low-held}
 use borrow.Author.Needs.{needs}
 use Rattle.plain_leaf.proofs.offsets.choose.Statement.{statement}

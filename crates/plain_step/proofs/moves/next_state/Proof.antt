@@ -1,4 +1,5 @@
--- `plain_step::moves::next_state` meets its contract.
+-- `plain_step::moves::next_state` meets its contract: the first i levels are the next state's, and the denominator and what lies beyond the levels
+-- are as they were (`Moved`); a level that leaves 32 bits makes the whole over (`leads-over`), and i grows to the levels.
 use mathlib.Core.Path.{refl}
 use Prim.Native.Nat.{_-_}
 use native.Mathlib.Omega.{arith}

@@ -1,4 +1,5 @@
--- `plain_worth::worths::earned` meets its contract.
+-- `plain_worth::worths::earned` meets its contract: the power is judged first (`earned-over`), its exponent being 32 at most; then a forbidden reward
+-- gives none (`earned-none`), and any other its product with the power, limited (`earned-is`).
 use native.Mathlib.Omega.{arith}
 use Rattle.plain_worth.proofs.Answers.{exponent-fits, earned-over, earned-none, earned-is}
 use borrow.Author.Needs.{needs}

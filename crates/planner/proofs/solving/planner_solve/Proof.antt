@@ -1,4 +1,5 @@
--- `planner::solving::planner_solve` meets its contract.
+-- `planner::solving::planner_solve` meets its contract: without room in `out` the answer is `short` of the early refusal, and nothing runs
+-- (`solve-short`); else the pair is put there, and the tables are as the solve left them (`solve-whole`).
 use Rattle.theory.specs.Solve.{solve}
 use Rattle.c_answers.proofs.Solved.{solve-short, solve-whole}
 use borrow.Author.Needs.{needs}

@@ -1,4 +1,5 @@
--- `prune_certificate::adding::added_at` meets its contract.
+-- `prune_certificate::adding::added_at` meets its contract: the total with what the path from r on adds is the whole sum, and its high word is
+-- bounded by how far r lies below the root (`Adding`), so `with_test` may take it; i grows to the turns.
 use Prim.Native.Nat.{_-_}
 use native.Mathlib.Omega.{arith}
 use lib.ListN.{length}

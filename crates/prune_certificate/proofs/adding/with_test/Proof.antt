@@ -1,4 +1,5 @@
--- `prune_certificate::adding::with_test` meets its contract.
+-- `prune_certificate::adding::with_test` meets its contract: at a test there is a multiplier that is not negative (`Given`) and the node's number is
+-- small, so the product may be added (`joined-test`); any other node adds nothing (`joined-none`).
 use lib.Dec.{eqb}
 use lib.IntN.{ℤ, pos, negℤ}
 use lib.ListN.{getD}

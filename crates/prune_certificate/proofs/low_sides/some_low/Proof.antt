@@ -1,4 +1,5 @@
--- `prune_certificate::low_sides::some_low` meets its contract.
+-- `prune_certificate::low_sides::some_low` meets its contract: a low side is used from r on where one is on the whole path (`Looking`); a test that
+-- is met has its multiplier (`looking-given`), and the first low side above 0 ends the loop.
 use Prim.Native.Nat.{_-_}
 use native.Mathlib.Omega.{arith}
 use lib.ListN.{length}

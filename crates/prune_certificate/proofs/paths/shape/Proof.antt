@@ -1,4 +1,5 @@
--- `prune_certificate::paths::shape` meets its contract.
+-- `prune_certificate::paths::shape` meets its contract: the shape is the count so far with the tests from r on, where the turns left fit
+-- (`Counting`); a turn that leads nowhere ends the loop with 0 (`counting-stops`).
 use Prim.Native.Nat.{_-_}
 use native.Mathlib.Omega.{arith}
 use lib.ListN.{length}

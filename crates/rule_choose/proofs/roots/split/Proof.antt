@@ -1,4 +1,5 @@
--- `rule_choose::roots::split` meets its contract.
+-- `rule_choose::roots::split` meets its contract: the six ways out are the cases of `splitBy`: which of the two
+-- nodes end, and else whether their order is 0 or 1 (`split-as`).
 use mathlib.Core.Path.{refl, _∙_}
 use mathlib.Core.Bool.{true, false}
 use borrow.Author.Tests.{eq-eqb, ne-eqb}

@@ -1,4 +1,5 @@
--- `text_decimal::lines::numbers_len` meets its contract.
+-- `text_decimal::lines::numbers_len` meets its contract: n is the length of the first i numbers as text, at most
+-- `number-bytes` for each (`Counted`), so the sum fits; i grows to the length.
 use Prim.Native.Nat.{_-_, _<_}
 use native.Mathlib.Omega.{arith}
 use mathlib.Core.Path.{sym, ap, _∙_}

@@ -1,4 +1,5 @@
--- `text_decimal::lines::put_numbers` meets its contract.
+-- `text_decimal::lines::put_numbers` meets its contract: the first i numbers stand from `at` on, and the buffer keeps its length
+-- (`Written`); room for all of them is room for the next (`written-room`).
 use Prim.Native.Nat.{_-_, _<_}
 use native.Mathlib.Omega.{arith}
 use mathlib.Core.Path.{sym, ap}

@@ -1,4 +1,5 @@
--- `text_decimal::lines::put_words` meets its contract.
+-- `text_decimal::lines::put_words` meets its contract: the first i words stand from `at` on, and the buffer keeps its length (`Written`); room for
+-- all of them is room for the next, which is read back from its bits as it is (`spaced-back`).
 use Prim.Native.Nat.{_-_}
 use native.Mathlib.Omega.{arith}
 use mathlib.Core.Path.{ap}

@@ -1,4 +1,5 @@
--- `text_decimal::lines::words_len` meets its contract.
+-- `text_decimal::lines::words_len` meets its contract: n is the length of the first i words as text, at most `number-bytes` for each (`Counted`), so
+-- the sum fits; a word is read back from its bits as it is (`spaced-back`).
 use Prim.Native.Nat.{_-_}
 use native.Mathlib.Omega.{arith}
 use mathlib.Core.Path.{ap, _∙_}

@@ -1,4 +1,5 @@
--- `text_listing::judging::all_good` meets its contract.
+-- `text_listing::judging::all_good` meets its contract: nodes 1 to r are good; the first that is not decides the whole
+-- (`every-false`), as does a last node outside the table (`outside-last`).
 use Prim.Native.Nat.{_-_, _≤_}
 use native.Mathlib.Omega.{arith}
 use mathlib.Core.Bool.{true}

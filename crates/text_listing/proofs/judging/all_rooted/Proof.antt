@@ -1,4 +1,5 @@
--- `text_listing::judging::all_rooted` meets its contract.
+-- `text_listing::judging::all_rooted` meets its contract: stages 1 to h have a root; the first that has none
+-- decides the whole (`every-false`), and h grows to the last.
 use Prim.Native.Nat.{_-_, _≤_}
 use native.Mathlib.Omega.{arith}
 use mathlib.Core.Bool.{true}

@@ -1,4 +1,5 @@
--- `text_listing::judging::greatest_root` meets its contract.
+-- `text_listing::judging::greatest_root` meets its contract: `root` is the greatest root of the first h stages, which
+-- `larger` takes on to the next (`root-more`); h grows to the last.
 use Prim.Native.Nat.{ℕ, _-_, _≤_}
 use native.Mathlib.Omega.{arith}
 use mathlib.Core.Path.{_≡_, ap, _∙_}

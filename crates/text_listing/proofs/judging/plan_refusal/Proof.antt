@@ -1,4 +1,5 @@
--- `text_listing::judging::plan_refusal` meets its contract.
+-- `text_listing::judging::plan_refusal` meets its contract: one law for each answer: a stage without a root is 15 (`plan-15`), else a bad node up to
+-- the greatest root is 14 (`plan-14`), and else there is none (`plan-none`).
 use mathlib.Core.Path.{sym, ap, _∙_}
 use Rattle.theory.specs.Value.{good-row}
 use Rattle.model_progress.specs.GivenFlags.{site-as}

@@ -1,4 +1,5 @@
--- `text_page::judging::all_spared` meets its contract.
+-- `text_page::judging::all_spared` meets its contract: stages 1 to h are not refused with the number; the first that is
+-- decides the whole (`every-false`), and h grows to the last.
 use Prim.Native.Nat.{_-_, _≤_}
 use native.Mathlib.Omega.{arith}
 use mathlib.Core.Bool.{true}

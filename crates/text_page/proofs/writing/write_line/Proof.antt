@@ -1,4 +1,5 @@
--- `text_page::writing::write_line` meets its contract.
+-- `text_page::writing::write_line` meets its contract: a stage that can be shown has its steps and its divisor above 0 (`shown-divisor`); the value,
+-- the whole part and the name that were read make the line of that stage (`line-is`), which has 51 bytes.
 use native.Mathlib.Omega.{arith}
 use lib.IntN.{pos}
 use lib.ListN.{getD}

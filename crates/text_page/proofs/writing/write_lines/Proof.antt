@@ -1,4 +1,5 @@
--- `text_page::writing::write_lines` meets its contract.
+-- `text_page::writing::write_lines` meets its contract: the lines of stages 1 to h stand from `place` on, and the buffer keeps its length (`Lined`);
+-- room for the page is room for the next line (`lined-room`), which is put into the part lent from `next` to the end.
 use Prim.Native.Nat.{_+_, _-_, _≤_}
 use native.Mathlib.Omega.{arith}
 use mathlib.Core.Path.{_≡_, ap, _∙_}

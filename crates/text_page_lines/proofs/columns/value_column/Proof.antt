@@ -1,4 +1,5 @@
--- `text_page_lines::columns::value_column` meets its contract.
+-- `text_page_lines::columns::value_column` meets its contract: the columns from `at` on hold the last digits, and what is left is below 10 to the
+-- power of the free columns but one, so `at` falls and a column is left for the sign (`Filled`, `column-below`).
 use native.Mathlib.Omega.{arith}
 use borrow.Author.Needs.{needs}
 use lib.IntN.{natAbs}

@@ -1,4 +1,5 @@
--- `text_plan::texts::node_lines_len` meets its contract.
+-- `text_plan::texts::node_lines_len` meets its contract: n is what was counted before with the lines of nodes 1 to r, and over the room by a few
+-- lines at most, so the sum fits; once it is over the room so is the whole (`counted-over`).
 use Prim.Native.Nat.{ℕ, _+_, _-_, _≤_}
 use native.Mathlib.Omega.{arith}
 use mathlib.Core.Path.{_≡_, ap, _∙_}

@@ -1,4 +1,5 @@
--- `text_plan::texts::stage_lines_len` meets its contract.
+-- `text_plan::texts::stage_lines_len` meets its contract: n is the length of the lines of stages 1 to h, at most
+-- `line-most` for each, so the sum fits; h grows to the last.
 use Prim.Native.Nat.{ℕ, _+_, _-_, _*_, _≤_}
 use native.Mathlib.Omega.{arith}
 use mathlib.Core.Path.{_≡_, ap}

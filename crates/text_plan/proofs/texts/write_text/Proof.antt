@@ -1,4 +1,5 @@
--- `text_plan::texts::write_text` meets its contract.
+-- `text_plan::texts::write_text` meets its contract: the text is as long as its first line, its nodes' lines and its stages' lines together
+-- (`text-length`), so each part has room; put in turn they are the text (`text-put`).
 use Prim.Native.Nat.{_-_, _≤_}
 use native.Mathlib.Omega.{arith}
 use borrow.Rule.Slice.PartMut.{same-len-mid}

@@ -1,4 +1,5 @@
--- `value_walk::states::levels_fit` meets its contract.
+-- `value_walk::states::levels_fit` meets its contract: the numerators from i on are zero where those beyond level m are; the first that is not ends
+-- the loop with false (`one-set`), and past the eighth none is left (`all-zero`).
 use mathlib.Core.Path.{_≡_, refl}
 use Prim.Native.Nat.{_-_, _≤_}
 use native.Mathlib.Nat.{le-refl}

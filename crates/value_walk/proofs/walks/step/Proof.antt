@@ -1,4 +1,5 @@
--- `value_walk::walks::step` meets its contract.
+-- `value_walk::walks::step` meets its contract: the row's kind tells that a condition or a test is good, so its node lies inside and has branches
+-- (`tells`); the branch taken is that of `step-of`, and a leaf or a bad node asks for none.
 use mathlib.Core.Path.{_∙_}
 use borrow.Author.Needs.{needs}
 use Rattle.table_rows.specs.declared.Kind.the-variants.{Leaf, Condition, Test, None, Bad}

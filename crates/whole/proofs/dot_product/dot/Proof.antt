@@ -1,4 +1,5 @@
--- `whole::dot_product::dot` meets its contract.
+-- `whole::dot_product::dot` meets its contract: s with the products from i on is the whole sum, and s is at most i greatest products (`Added`), so
+-- each product and each sum fits a word; a coefficient over FEW leaves all to `wide`.
 use mathlib.Core.Path.{refl, ap, _∙_}
 use Prim.Native.Nat.{_-_}
 use native.Mathlib.Omega.{arith}

@@ -1,4 +1,5 @@
--- `whole::dot_product::wide` meets its contract.
+-- `whole::dot_product::wide` meets its contract: s with the products from k on is the whole sum, and its high word is at most k times that
+-- of one product (`Summed`), so `sum` may take both; k grows to NUMBERS.
 use mathlib.Core.Path.{sym, subst}
 use Prim.Native.Nat.{_-_}
 use native.Mathlib.Omega.{arith}
