@@ -36,7 +36,8 @@ const STEPS_MOST: u32 = 8;
 
 pub const STAGE_WORDS: usize = 8;
 
-// The number and the place of a refusal; 0 and 0 where there is none.
+// The number and the place of a refusal; 0 and 0 where there is none. It is a structure of C too, for the export that answers it.
+#[repr(C)]
 pub struct Verdict {
     pub number: u32,
     pub place: usize,

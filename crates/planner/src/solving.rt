@@ -2,24 +2,15 @@
 ghost use mathlib.Core.Path.{_≡_};
 ghost use Rattle.theory.specs.Solve.{solve as solve-of};
 ghost use Rattle.c_answers.specs.SolveAnswer.{model-verdict, solved, solve-answer};
-
-#[repr(C)]
-pub struct Judged {
-    pub number: u32,
-    pub place: usize,
-}
+use model::Verdict;
 
 // Number and place of a model's refusal: 10 for its length, then its own, 1 to 8; 0 and 0 where it is accepted.
 // No steps are asked, and no stage words lent: both are given as good ones.
 #[no_mangle]
-pub extern "C" fn planner_validate(bytes: &[u8]) -> Judged
+pub extern "C" fn planner_validate(bytes: &[u8]) -> Verdict
     ensures { λ r. ⌜ (r .number ≡ model-verdict (now (bytes .entry)) .number) × (r .place ≡ model-verdict (now (bytes .entry)) .place) ⌝ }
 {
-    let v = model::early(bytes, 1, 8);
-    Judged {
-        number: v.number,
-        place: v.place,
-    }
+    model::early(bytes, 1, 8)
 }
 
 // Answer, 8 bytes: place, peak; `peaks` has those of loading and of each action. Where `out` has no room for it nothing runs:
