@@ -5,7 +5,6 @@ use Prim.Native.Nat.{ℕ}
 use lib.Dec.{T, eqb}
 use lib.IntN.{ℤ, pos, negsuc}
 use lib.ListN.{replicate}
-use Rattle.theory.specs.Value as Value
 use Rattle.examples.specs.Examples as Examples
 use Rattle.price_change.specs.Sure as Sure
 

@@ -18,7 +18,6 @@ use Rattle.theory.specs.laws.AcceptedModel.{loaded-entries}
 use Rattle.plain_pass.specs.declared.Point.{Point}
 use Rattle.plain_pass.specs.Pass.{nums-of, den-of, Flat, StateStands}
 use Rattle.plain_limits.specs.declared.Level.{Level}
-use Rattle.plain_limits.specs.declared.Level.the-variants as level
 use Rattle.plain_step.specs.declared.Next.{Next}
 use Rattle.plain_step.specs.declared.Chances.{Chances}
 use Rattle.plain_limits.specs.Totals.{judged-32}

@@ -5,11 +5,6 @@ use Rattle.import_beyond.proofs.Laws.{frame-over, number-over, at-last}
 use borrow.Author.Needs.{needs}
 use Rattle.import_beyond.proofs.beyond.Statement.{statement}
 use Rattle.import_beyond.proofs.beyond.Tie as tie
-use Rattle.import_beyond.proofs.beyond.Reads as reads
-use Rattle.import_beyond.proofs.beyond.Lts as lts
-use Rattle.import_frames.proofs.closed.Reads as closed-reads
-use Rattle.import_frames.proofs.finished.Reads as finished-reads
-use Rattle.import_sums.proofs.walk.Reads as walk-reads
 
 walk-requires : tie.Need-walk-requires
 walk-requires c κs = search needs

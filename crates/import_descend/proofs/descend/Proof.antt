@@ -6,10 +6,6 @@ use borrow.Author.Needs.{needs}
 use Rattle.import_descend.proofs.Entering.{Walking, start-walk, ready, walk-on, no-room, reached, lost-here, deep-here, past-end, as-none}
 use Rattle.import_descend.proofs.descend.Statement.{statement}
 use Rattle.import_descend.proofs.descend.Tie as tie
-use Rattle.import_descend.proofs.descend.Reads as reads
-use Rattle.import_descend.proofs.descend.Lts as lts
-use Rattle.import_descend.proofs.enter.Reads as enter-reads
-use Rattle.import_descend.proofs.nothing.Reads as nothing-reads
 
 abbrev Inv-loop : tie.InvT-loop
 Inv-loop text list₀ count s₀ n₀ list s n = Walking text s₀ list₀ n₀ s list n

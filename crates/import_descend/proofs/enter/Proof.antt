@@ -4,12 +4,6 @@ use Rattle.import_descend.proofs.Entering.{too-wide, too-deep, fits, en
 use borrow.Author.Needs.{needs}
 use Rattle.import_descend.proofs.enter.Statement.{statement}
 use Rattle.import_descend.proofs.enter.Tie as tie
-use Rattle.import_descend.proofs.enter.Reads as reads
-use Rattle.import_descend.proofs.enter.Lts as lts
-use Rattle.import_going.proofs.start.decided.Reads as decided-reads
-use Rattle.import_list.proofs.push.Reads as push-reads
-use Rattle.import_look.proofs.look.Reads as look-reads
-use Rattle.import_descend.proofs.first_value.Reads as first-value-reads
 
 -- src/lib.rt:41:9
 returns : tie.Need-returns

@@ -1,15 +1,9 @@
 use mathlib.Core.Path.{refl, ap, _∙_}
-use Rattle.import_frames.specs.Frames as f
 use Rattle.import_frames.specs.Frames.{factor, closed, less}
-use Rattle.import_frames.specs.Kept as kept
 use Rattle.import_frames.proofs.Laws.{hit, miss}
 use borrow.Author.Needs.{needs}
 use Rattle.import_frames.proofs.closed.Statement.{statement}
 use Rattle.import_frames.proofs.closed.Tie as tie
-use Rattle.import_frames.proofs.closed.Reads as reads
-use Rattle.import_frames.proofs.closed.Lts as lts
-use Rattle.import_frames.proofs.factor.Reads as factor-reads
-use Rattle.import_linears.proofs.constant.Reads as constant-reads
 
 constant-requires : tie.Need-constant-requires
 constant-requires c κs = search needs

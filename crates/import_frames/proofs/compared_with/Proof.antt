@@ -1,20 +1,11 @@
 -- `import_frames::compared_with` meets its contract: the cases of `compared-with`: no comparison, or a difference whose numbers fit, or one over the limits.
 use mathlib.Core.Path.{ap, _∙_}
 use Rattle.import_numbers.specs.Numbers.{all-within}
-use Rattle.import_frames.specs.Frames as f
 use Rattle.import_frames.specs.Frames.{factor, less, compared-with}
-use Rattle.import_frames.specs.Kept as kept
 use Rattle.import_frames.proofs.Laws.{yes, no, hit, miss}
 use borrow.Author.Needs.{needs}
 use Rattle.import_frames.proofs.compared_with.Statement.{statement}
 use Rattle.import_frames.proofs.compared_with.Tie as tie
-use Rattle.import_frames.proofs.compared_with.Reads as reads
-use Rattle.import_frames.proofs.compared_with.Lts as lts
-use Rattle.import_frames.proofs.idle.Reads as idle-reads
-use Rattle.import_frames.proofs.less.Reads as less-reads
-use Rattle.import_frames.proofs.over.Reads as over-reads
-use Rattle.import_frames.proofs.valued.Reads as valued-reads
-use Rattle.import_linears.proofs.all_fit.Reads as all-fit-reads
 
 valued-requires : tie.Need-valued-requires
 valued-requires c κs = search needs

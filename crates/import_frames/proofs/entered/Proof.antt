@@ -1,14 +1,8 @@
-use Rattle.import_frames.specs.Frames as f
 use Rattle.import_frames.specs.Frames.{factor, less, entered}
-use Rattle.import_frames.specs.Kept as kept
 use Rattle.import_frames.proofs.Laws.{hit, miss}
 use borrow.Author.Needs.{needs}
 use Rattle.import_frames.proofs.entered.Statement.{statement}
 use Rattle.import_frames.proofs.entered.Tie as tie
-use Rattle.import_frames.proofs.entered.Reads as reads
-use Rattle.import_frames.proofs.entered.Lts as lts
-use Rattle.import_frames.proofs.factor.Reads as factor-reads
-use Rattle.import_frames.proofs.idle.Reads as idle-reads
 
 idle-requires : tie.Need-idle-requires
 idle-requires c κs = search needs

@@ -5,17 +5,10 @@ use lib.IntN.{ℤ}
 use Rattle.import_numbers.specs.Numbers.{all-within}
 use Rattle.import_frames.specs.Frames as f
 use Rattle.import_frames.specs.Frames.{factor, less}
-use Rattle.import_frames.specs.Kept as kept
 use Rattle.import_frames.proofs.Laws.{yes, no}
 use borrow.Author.Needs.{needs}
 use Rattle.import_frames.proofs.factor.Statement.{statement}
 use Rattle.import_frames.proofs.factor.Tie as tie
-use Rattle.import_frames.proofs.factor.Reads as reads
-use Rattle.import_frames.proofs.factor.Lts as lts
-use Rattle.import_frames.proofs.over.Reads as over-reads
-use Rattle.import_frames.proofs.termed.Reads as termed-reads
-use Rattle.import_linears.proofs.all_fit.Reads as all-fit-reads
-use Rattle.import_linears.proofs.product.Reads as product-reads
 
 product-requires : tie.Need-product-requires
 product-requires c κs = search needs

@@ -4,19 +4,12 @@ use mathlib.Core.List.{List}
 use lib.IntN.{ℤ}
 use lib.ListN.{length}
 use Rattle.import_numbers.specs.Numbers.{all-within}
-use Rattle.import_frames.specs.Frames as f
 use Rattle.import_frames.specs.Frames.{factor, total, less, compared-with, finished}
 use Rattle.import_frames.specs.Kept as kept
 use Rattle.import_frames.proofs.Laws.{yes, no, hit, miss}
 use borrow.Author.Needs.{needs}
 use Rattle.import_frames.proofs.finished.Statement.{statement}
 use Rattle.import_frames.proofs.finished.Tie as tie
-use Rattle.import_frames.proofs.finished.Reads as reads
-use Rattle.import_frames.proofs.finished.Lts as lts
-use Rattle.import_frames.proofs.compared_with.Reads as compared-with-reads
-use Rattle.import_frames.proofs.over.Reads as over-reads
-use Rattle.import_frames.proofs.total.Reads as total-reads
-use Rattle.import_linears.proofs.all_fit.Reads as all-fit-reads
 
 returns : tie.Need-returns
 unfolding finished

@@ -1,14 +1,8 @@
-use Rattle.import_frames.specs.Frames as f
 use Rattle.import_frames.specs.Frames.{factor, less, grown}
-use Rattle.import_frames.specs.Kept as kept
 use Rattle.import_frames.proofs.Laws.{hit-le, miss-le}
 use borrow.Author.Needs.{needs}
 use Rattle.import_frames.proofs.grown.Statement.{statement}
 use Rattle.import_frames.proofs.grown.Tie as tie
-use Rattle.import_frames.proofs.grown.Reads as reads
-use Rattle.import_frames.proofs.grown.Lts as lts
-use Rattle.import_frames.proofs.numbered.Reads as numbered-reads
-use Rattle.import_frames.proofs.over.Reads as over-reads
 
 numbered-requires : tie.Need-numbered-requires
 numbered-requires c κs = search needs

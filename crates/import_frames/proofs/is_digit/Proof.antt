@@ -1,12 +1,8 @@
 use mathlib.Core.Path.{refl}
-use Rattle.import_frames.specs.Frames as f
 use Rattle.import_frames.specs.Frames.{factor, less}
-use Rattle.import_frames.specs.Kept as kept
 use Rattle.import_frames.proofs.Laws.{hit-lt, miss-lt}
 use Rattle.import_frames.proofs.is_digit.Statement.{statement}
 use Rattle.import_frames.proofs.is_digit.Tie as tie
-use Rattle.import_frames.proofs.is_digit.Reads as reads
-use Rattle.import_frames.proofs.is_digit.Lts as lts
 
 returns : tie.Need-returns
 returns c = hit-lt (c .before .args .k) 48 _ _ (c .if1 .taken) refl

@@ -1,13 +1,8 @@
 -- `import_frames::less` meets its contract: both sides are nine numbers within the limits, as `sub` requires; the comparison tells which is taken from which.
-use Rattle.import_frames.specs.Frames as f
 use Rattle.import_frames.specs.Frames.{factor, less}
-use Rattle.import_frames.specs.Kept as kept
 use Rattle.import_frames.proofs.Laws.{hit, miss, nine-smalls}
 use Rattle.import_frames.proofs.less.Statement.{statement}
 use Rattle.import_frames.proofs.less.Tie as tie
-use Rattle.import_frames.proofs.less.Reads as reads
-use Rattle.import_frames.proofs.less.Lts as lts
-use Rattle.whole_linears.proofs.sub.Reads as sub-reads
 
 sub-requires : tie.Need-sub-requires
 sub-requires c κs =

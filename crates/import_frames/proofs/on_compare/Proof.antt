@@ -5,17 +5,10 @@ use lib.IntN.{ℤ}
 use Rattle.import_numbers.specs.Numbers.{all-within}
 use Rattle.import_frames.specs.Frames as f
 use Rattle.import_frames.specs.Frames.{factor, total, on-compare, less}
-use Rattle.import_frames.specs.Kept as kept
 use Rattle.import_frames.proofs.Laws.{yes, no}
 use borrow.Author.Needs.{needs}
 use Rattle.import_frames.proofs.on_compare.Statement.{statement}
 use Rattle.import_frames.proofs.on_compare.Tie as tie
-use Rattle.import_frames.proofs.on_compare.Reads as reads
-use Rattle.import_frames.proofs.on_compare.Lts as lts
-use Rattle.import_frames.proofs.over.Reads as over-reads
-use Rattle.import_frames.proofs.sided.Reads as sided-reads
-use Rattle.import_frames.proofs.total.Reads as total-reads
-use Rattle.import_linears.proofs.all_fit.Reads as all-fit-reads
 
 total-requires : tie.Need-total-requires
 total-requires c κs = search needs

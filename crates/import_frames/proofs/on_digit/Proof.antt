@@ -4,20 +4,12 @@ use mathlib.Core.List.{List}
 use native.Mathlib.Omega.{arith}
 use lib.IntN.{ℤ}
 use lib.ListN.{length}
-use Rattle.import_frames.specs.Frames as f
 use Rattle.import_frames.specs.Frames.{factor, less, grown, on-digit}
 use Rattle.import_frames.specs.Kept as kept
 use Rattle.import_frames.proofs.Laws.{hit, miss}
 use borrow.Author.Needs.{needs}
 use Rattle.import_frames.proofs.on_digit.Statement.{statement}
 use Rattle.import_frames.proofs.on_digit.Tie as tie
-use Rattle.import_frames.proofs.on_digit.Reads as reads
-use Rattle.import_frames.proofs.on_digit.Lts as lts
-use Rattle.import_frames.proofs.factor.Reads as factor-reads
-use Rattle.import_frames.proofs.grown.Reads as grown-reads
-use Rattle.import_frames.proofs.idle.Reads as idle-reads
-use Rattle.import_frames.proofs.numbered.Reads as numbered-reads
-use Rattle.import_linears.proofs.level.Reads as level-reads
 
 sub-d : tie.Need-sub-d
 sub-d c = let h = kept.digit-small (c .args .k) (c .pre .1) in omega arith

@@ -4,16 +4,10 @@ use Prim.Native.Nat.{ℕ}
 use Rattle.import_frames.specs.declared.Frame.{Frame}
 use Rattle.import_frames.specs.Frames as f
 use Rattle.import_frames.specs.Frames.{factor, less, finished, on-end}
-use Rattle.import_frames.specs.Kept as kept
 use Rattle.import_frames.proofs.Laws.{yes, no}
 use borrow.Author.Needs.{needs}
 use Rattle.import_frames.proofs.on_end.Statement.{statement}
 use Rattle.import_frames.proofs.on_end.Tie as tie
-use Rattle.import_frames.proofs.on_end.Reads as reads
-use Rattle.import_frames.proofs.on_end.Lts as lts
-use Rattle.import_frames.proofs.behind.Reads as behind-reads
-use Rattle.import_frames.proofs.finished.Reads as finished-reads
-use Rattle.import_frames.proofs.idle.Reads as idle-reads
 
 finished-requires : tie.Need-finished-requires
 finished-requires c κs = search needs

@@ -1,15 +1,9 @@
 -- `import_frames::on_equals` meets its contract: the cases of `on-equals`: right behind `<` or `>` it changes the comparison, and else it ends the sum.
-use Rattle.import_frames.specs.Frames as f
 use Rattle.import_frames.specs.Frames.{factor, less, on-end, on-equals}
-use Rattle.import_frames.specs.Kept as kept
 use Rattle.import_frames.proofs.Laws.{hit, miss}
 use borrow.Author.Needs.{needs}
 use Rattle.import_frames.proofs.on_equals.Statement.{statement}
 use Rattle.import_frames.proofs.on_equals.Tie as tie
-use Rattle.import_frames.proofs.on_equals.Reads as reads
-use Rattle.import_frames.proofs.on_equals.Lts as lts
-use Rattle.import_frames.proofs.on_end.Reads as on-end-reads
-use Rattle.import_frames.proofs.with_comparison.Reads as with-comparison-reads
 
 with-comparison-requires : tie.Need-with-comparison-requires
 with-comparison-requires c κs = search needs

@@ -2,17 +2,10 @@
 use mathlib.Core.Path.{refl}
 use Rattle.import_frames.specs.Frames as f
 use Rattle.import_frames.specs.Frames.{factor, on-sign, less, on-other, on-mark}
-use Rattle.import_frames.specs.Kept as kept
 use Rattle.import_frames.proofs.Laws.{yes, no, hit, miss}
 use borrow.Author.Needs.{needs}
 use Rattle.import_frames.proofs.on_mark.Statement.{statement}
 use Rattle.import_frames.proofs.on_mark.Tie as tie
-use Rattle.import_frames.proofs.on_mark.Reads as reads
-use Rattle.import_frames.proofs.on_mark.Lts as lts
-use Rattle.import_frames.proofs.is_blank.Reads as is-blank-reads
-use Rattle.import_frames.proofs.moded.Reads as moded-reads
-use Rattle.import_frames.proofs.on_other.Reads as on-other-reads
-use Rattle.import_frames.proofs.on_sign.Reads as on-sign-reads
 
 is-blank-requires : tie.Need-is-blank-requires
 is-blank-requires c κs = search needs

@@ -1,16 +1,9 @@
 -- `import_frames::on_other` meets its contract: the cases of `on-other` by byte, each its call's contract.
-use Rattle.import_frames.specs.Frames as f
 use Rattle.import_frames.specs.Frames.{factor, on-compare, less, on-end, on-equals, on-other}
-use Rattle.import_frames.specs.Kept as kept
 use Rattle.import_frames.proofs.Laws.{hit, miss}
 use borrow.Author.Needs.{needs}
 use Rattle.import_frames.proofs.on_other.Statement.{statement}
 use Rattle.import_frames.proofs.on_other.Tie as tie
-use Rattle.import_frames.proofs.on_other.Reads as reads
-use Rattle.import_frames.proofs.on_other.Lts as lts
-use Rattle.import_frames.proofs.on_compare.Reads as on-compare-reads
-use Rattle.import_frames.proofs.on_end.Reads as on-end-reads
-use Rattle.import_frames.proofs.on_equals.Reads as on-equals-reads
 
 on-equals-requires : tie.Need-on-equals-requires
 on-equals-requires c κs = search needs

@@ -5,17 +5,10 @@ use lib.IntN.{ℤ}
 use Rattle.import_numbers.specs.Numbers.{all-within}
 use Rattle.import_frames.specs.Frames as f
 use Rattle.import_frames.specs.Frames.{factor, total, on-sign, less}
-use Rattle.import_frames.specs.Kept as kept
 use Rattle.import_frames.proofs.Laws.{yes, no, hit, miss}
 use borrow.Author.Needs.{needs}
 use Rattle.import_frames.proofs.on_sign.Statement.{statement}
 use Rattle.import_frames.proofs.on_sign.Tie as tie
-use Rattle.import_frames.proofs.on_sign.Reads as reads
-use Rattle.import_frames.proofs.on_sign.Lts as lts
-use Rattle.import_frames.proofs.over.Reads as over-reads
-use Rattle.import_frames.proofs.summed.Reads as summed-reads
-use Rattle.import_frames.proofs.total.Reads as total-reads
-use Rattle.import_linears.proofs.all_fit.Reads as all-fit-reads
 
 summed-requires : tie.Need-summed-requires
 summed-requires c κs = search needs

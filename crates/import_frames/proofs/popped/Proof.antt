@@ -1,18 +1,12 @@
 -- `import_frames::popped` meets its contract: closing and finishing keep the frame sound, as the next call requires; a frame that is over is the answer.
 use mathlib.Core.Path.{sym, ap, _∙_, subst}
 use Rattle.import_frames.specs.declared.Frame.{Frame}
-use Rattle.import_frames.specs.Frames as f
 use Rattle.import_frames.specs.Frames.{Sound, factor, closed, less, finished, entered, popped}
 use Rattle.import_frames.specs.Kept as kept
 use Rattle.import_frames.proofs.Laws.{yes, no}
 use borrow.Author.Needs.{needs}
 use Rattle.import_frames.proofs.popped.Statement.{statement}
 use Rattle.import_frames.proofs.popped.Tie as tie
-use Rattle.import_frames.proofs.popped.Reads as reads
-use Rattle.import_frames.proofs.popped.Lts as lts
-use Rattle.import_frames.proofs.closed.Reads as closed-reads
-use Rattle.import_frames.proofs.entered.Reads as entered-reads
-use Rattle.import_frames.proofs.finished.Reads as finished-reads
 
 closed-requires : tie.Need-closed-requires
 closed-requires c κs = search needs

@@ -8,13 +8,6 @@ use Rattle.import_frames.proofs.Laws.{yes, no, hit, miss}
 use borrow.Author.Needs.{needs}
 use Rattle.import_frames.proofs.step.Statement.{statement}
 use Rattle.import_frames.proofs.step.Tie as tie
-use Rattle.import_frames.proofs.step.Reads as reads
-use Rattle.import_frames.proofs.step.Lts as lts
-use Rattle.import_frames.proofs.closed.Reads as closed-reads
-use Rattle.import_frames.proofs.idle.Reads as idle-reads
-use Rattle.import_frames.proofs.is_digit.Reads as is-digit-reads
-use Rattle.import_frames.proofs.on_digit.Reads as on-digit-reads
-use Rattle.import_frames.proofs.on_mark.Reads as on-mark-reads
 
 idle-requires : tie.Need-idle-requires
 idle-requires c κs = search needs

@@ -1,14 +1,8 @@
 use mathlib.Core.Path.{refl}
-use Rattle.import_frames.specs.Frames as f
 use Rattle.import_frames.specs.Frames.{factor, total, less}
-use Rattle.import_frames.specs.Kept as kept
 use Rattle.import_frames.proofs.Laws.{yes, no, nine-smalls}
 use Rattle.import_frames.proofs.total.Statement.{statement}
 use Rattle.import_frames.proofs.total.Tie as tie
-use Rattle.import_frames.proofs.total.Reads as reads
-use Rattle.import_frames.proofs.total.Lts as lts
-use Rattle.whole_linears.proofs.add.Reads as add-reads
-use Rattle.whole_linears.proofs.sub.Reads as sub-reads
 
 sub-requires : tie.Need-sub-requires
 sub-requires c κs =

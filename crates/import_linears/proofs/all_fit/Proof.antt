@@ -8,9 +8,6 @@ use Rattle.import_numbers.specs.Numbers.{all-within}
 use Rattle.import_linears.proofs.Laws.{one-out, one-in, all-in}
 use Rattle.import_linears.proofs.all_fit.Statement.{statement}
 use Rattle.import_linears.proofs.all_fit.Tie as tie
-use Rattle.import_linears.proofs.all_fit.Reads as reads
-use Rattle.import_linears.proofs.all_fit.Lts as lts
-use Rattle.import_linears.proofs.fits.Reads as fits-reads
 
 abbrev Inv-loop : tie.InvT-loop
 Inv-loop a i₀ i = (i ≤ numbers) × (all-within (drop i a) ≡ all-within a)

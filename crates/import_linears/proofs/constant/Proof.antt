@@ -4,8 +4,6 @@ use Rattle.import_linears.proofs.Laws.{as-constant}
 use borrow.Author.Needs.{needs}
 use Rattle.import_linears.proofs.constant.Statement.{statement}
 use Rattle.import_linears.proofs.constant.Tie as tie
-use Rattle.import_linears.proofs.constant.Reads as reads
-use Rattle.import_linears.proofs.constant.Lts as lts
 
 cast-z : tie.Need-cast-z
 cast-z c = search needs

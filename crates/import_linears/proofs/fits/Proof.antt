@@ -1,8 +1,6 @@
 use Rattle.import_linears.proofs.Laws.{below, above}
 use Rattle.import_linears.proofs.fits.Statement.{statement}
 use Rattle.import_linears.proofs.fits.Tie as tie
-use Rattle.import_linears.proofs.fits.Reads as reads
-use Rattle.import_linears.proofs.fits.Lts as lts
 
 returns : tie.Need-returns
 returns c = below _ (c .before .fits .z) (c .if1 .taken)

@@ -2,8 +2,6 @@ use Rattle.import_linears.proofs.Laws.{level-low, level-high, level-is}
 use borrow.Author.Needs.{needs}
 use Rattle.import_linears.proofs.level.Statement.{statement}
 use Rattle.import_linears.proofs.level.Tie as tie
-use Rattle.import_linears.proofs.level.Reads as reads
-use Rattle.import_linears.proofs.level.Lts as lts
 
 returns : tie.Need-returns
 returns c = level-low _ (c .if1 .taken)

@@ -3,10 +3,6 @@ use Rattle.import_linears.proofs.Laws.{by-first, by-second}
 use borrow.Author.Needs.{needs}
 use Rattle.import_linears.proofs.product.Statement.{statement}
 use Rattle.import_linears.proofs.product.Tie as tie
-use Rattle.import_linears.proofs.product.Reads as reads
-use Rattle.import_linears.proofs.product.Lts as lts
-use Rattle.import_linears.proofs.without_level.Reads as without-level-reads
-use Rattle.whole_linears.proofs.times.Reads as times-reads
 
 without-level-requires : tie.Need-without-level-requires
 without-level-requires c κs = search needs

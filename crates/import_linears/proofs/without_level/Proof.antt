@@ -2,9 +2,6 @@ use Rattle.import_linears.proofs.Laws.{flat-as}
 use borrow.Author.Needs.{needs}
 use Rattle.import_linears.proofs.without_level.Statement.{statement}
 use Rattle.import_linears.proofs.without_level.Tie as tie
-use Rattle.import_linears.proofs.without_level.Reads as reads
-use Rattle.import_linears.proofs.without_level.Lts as lts
-use Rattle.whole.proofs.linears.equal.Reads as equal-reads
 
 array-copy-out-z : tie.Need-array-copy-out-z
 array-copy-out-z c = search needs

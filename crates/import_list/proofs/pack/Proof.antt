@@ -4,9 +4,6 @@ use borrow.Author.Needs.{needs}
 use Rattle.import_list.specs.Packed.{packed}
 use Rattle.import_list.proofs.pack.Statement.{statement}
 use Rattle.import_list.proofs.pack.Tie as tie
-use Rattle.import_list.proofs.pack.Reads as reads
-use Rattle.import_list.proofs.pack.Lts as lts
-use Rattle.import_list.proofs.bit.Reads as bit-reads
 
 -- src/lib.rt:34:9
 bit-requires : tie.Need-bit-requires

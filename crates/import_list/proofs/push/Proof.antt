@@ -2,9 +2,6 @@ use borrow.Author.Needs.{needs}
 use Rattle.import_list.proofs.Words.{pushed}
 use Rattle.import_list.proofs.push.Statement.{statement}
 use Rattle.import_list.proofs.push.Tie as tie
-use Rattle.import_list.proofs.push.Reads as reads
-use Rattle.import_list.proofs.push.Lts as lts
-use Rattle.import_list.proofs.pack.Reads as pack-reads
 
 -- src/lib.rt:60:19
 pack-requires : tie.Need-pack-requires

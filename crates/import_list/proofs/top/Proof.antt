@@ -2,9 +2,6 @@ use borrow.Author.Needs.{needs}
 use Rattle.import_list.proofs.Words.{latest}
 use Rattle.import_list.proofs.top.Statement.{statement}
 use Rattle.import_list.proofs.top.Tie as tie
-use Rattle.import_list.proofs.top.Reads as reads
-use Rattle.import_list.proofs.top.Lts as lts
-use Rattle.import_list.proofs.unpack.Reads as unpack-reads
 
 -- src/lib.rt:67:17
 sub-unpack : tie.Need-sub-unpack

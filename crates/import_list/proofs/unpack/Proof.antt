@@ -2,8 +2,6 @@ use borrow.Author.Needs.{needs}
 use Rattle.import_list.specs.Packed.{unpacked}
 use Rattle.import_list.proofs.unpack.Statement.{statement}
 use Rattle.import_list.proofs.unpack.Tie as tie
-use Rattle.import_list.proofs.unpack.Reads as reads
-use Rattle.import_list.proofs.unpack.Lts as lts
 
 -- src/lib.rt:50:16
 cast-t10 : tie.Need-cast-t10

@@ -5,11 +5,6 @@ use Rattle.import_look.proofs.Telling.{compared}
 use borrow.Author.Needs.{needs}
 use Rattle.import_look.proofs.comparison.Statement.{statement}
 use Rattle.import_look.proofs.comparison.Tie as tie
-use Rattle.import_look.proofs.comparison.Reads as reads
-use Rattle.import_look.proofs.comparison.Lts as lts
-use Rattle.import_look.proofs.difference.Reads as difference-reads
-use Rattle.import_look.proofs.operator_at.Reads as operator-at-reads
-use Rattle.import_sum_at.proofs.sum_at.Reads as sum-at-reads
 
 sum-at-requires : tie.Need-sum-at-requires
 sum-at-requires c κs = search needs

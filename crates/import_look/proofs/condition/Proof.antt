@@ -2,9 +2,6 @@ use Rattle.import_look.proofs.Telling.{cond-yes, cond-no}
 use borrow.Author.Needs.{needs}
 use Rattle.import_look.proofs.condition.Statement.{statement}
 use Rattle.import_look.proofs.condition.Tie as tie
-use Rattle.import_look.proofs.condition.Reads as reads
-use Rattle.import_look.proofs.condition.Lts as lts
-use Rattle.model_command.proofs.byte_at.Reads as byte-at-reads
 
 byte-at-requires : tie.Need-byte-at-requires
 byte-at-requires c κs = search needs

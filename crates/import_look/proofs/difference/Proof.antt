@@ -5,10 +5,6 @@ use Rattle.import_look.proofs.Telling.{test-both, test-right, test-left
 use borrow.Author.Needs.{needs}
 use Rattle.import_look.proofs.difference.Statement.{statement}
 use Rattle.import_look.proofs.difference.Tie as tie
-use Rattle.import_look.proofs.difference.Reads as reads
-use Rattle.import_look.proofs.difference.Lts as lts
-use Rattle.import_linears.proofs.all_fit.Reads as all-fit-reads
-use Rattle.whole_linears.proofs.sub.Reads as sub-reads
 
 all-fit-requires : tie.Need-all-fit-requires
 all-fit-requires c κs = search needs

@@ -2,11 +2,6 @@ use Rattle.import_look.proofs.Telling.{leaf-forbidden, leaf-worth}
 use borrow.Author.Needs.{needs}
 use Rattle.import_look.proofs.leaf.Statement.{statement}
 use Rattle.import_look.proofs.leaf.Tie as tie
-use Rattle.import_look.proofs.leaf.Reads as reads
-use Rattle.import_look.proofs.leaf.Lts as lts
-use Rattle.import_look.proofs.skip.Reads as skip-reads
-use Rattle.import_sum_at.proofs.sum_at.Reads as sum-at-reads
-use Rattle.model_command.proofs.byte_at.Reads as byte-at-reads
 
 skip-requires : tie.Need-skip-requires
 skip-requires c κs = search needs

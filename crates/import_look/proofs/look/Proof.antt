@@ -3,12 +3,6 @@ use Rattle.import_look.proofs.Telling.{looks-now, looks-later, looks-ot
 use borrow.Author.Needs.{needs}
 use Rattle.import_look.proofs.look.Statement.{statement}
 use Rattle.import_look.proofs.look.Tie as tie
-use Rattle.import_look.proofs.look.Reads as reads
-use Rattle.import_look.proofs.look.Lts as lts
-use Rattle.import_look.proofs.comparison.Reads as comparison-reads
-use Rattle.import_look.proofs.condition.Reads as condition-reads
-use Rattle.import_look.proofs.skip.Reads as skip-reads
-use Rattle.model_command.proofs.byte_at.Reads as byte-at-reads
 
 skip-requires : tie.Need-skip-requires
 skip-requires c κs = search needs

@@ -4,9 +4,6 @@ use Rattle.import_look.proofs.Telling.{op-equals, op-bare, op-none}
 use borrow.Author.Needs.{needs}
 use Rattle.import_look.proofs.operator_at.Statement.{statement}
 use Rattle.import_look.proofs.operator_at.Tie as tie
-use Rattle.import_look.proofs.operator_at.Reads as reads
-use Rattle.import_look.proofs.operator_at.Lts as lts
-use Rattle.model_command.proofs.byte_at.Reads as byte-at-reads
 
 add-if1 : tie.Need-add-if1
 add-if1 c = search needs

@@ -7,9 +7,6 @@ use borrow.Author.Needs.{needs}
 use Rattle.import_look.proofs.Places.{Skipping, skip-on, skip-stops, skip-ends}
 use Rattle.import_look.proofs.skip.Statement.{statement}
 use Rattle.import_look.proofs.skip.Tie as tie
-use Rattle.import_look.proofs.skip.Reads as reads
-use Rattle.import_look.proofs.skip.Lts as lts
-use Rattle.import_frames.proofs.is_blank.Reads as is-blank-reads
 
 abbrev Inv-loop : tie.InvT-loop
 Inv-loop text at i₀ i = Skipping text at i

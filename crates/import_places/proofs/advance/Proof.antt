@@ -4,10 +4,6 @@ use borrow.Author.Tests.{ne-eqb, eq-eqb}
 use borrow.Author.Needs.{needs}
 use Rattle.import_places.proofs.advance.Statement.{statement}
 use Rattle.import_places.proofs.advance.Tie as tie
-use Rattle.import_places.proofs.advance.Reads as reads
-use Rattle.import_places.proofs.advance.Lts as lts
-use Rattle.import_places.proofs.pop.Reads as pop-reads
-use Rattle.import_places.proofs.token.Reads as token-reads
 
 add-t4 : tie.Need-add-t4
 add-t4 c = search needs

@@ -10,9 +10,6 @@ use Rattle.import_places.specs.Walking.{signs, meant}
 use Rattle.import_places.proofs.Steps.{At, on-byte, on-depth, on-low, at-end}
 use Rattle.import_places.proofs.find.Statement.{statement}
 use Rattle.import_places.proofs.find.Tie as tie
-use Rattle.import_places.proofs.find.Reads as reads
-use Rattle.import_places.proofs.find.Lts as lts
-use Rattle.import_places.proofs.advance.Reads as advance-reads
 
 abbrev Inv-loop : tie.InvT-loop
 Inv-loop text from value mask count s₀ i₀ s i = At text (place-after (drop from text) 0 value false (signs mask count)) s i

@@ -3,9 +3,6 @@ use borrow.Author.Tests.{ne-eqb, eq-eqb}
 use borrow.Author.Needs.{needs}
 use Rattle.import_places.proofs.pop.Statement.{statement}
 use Rattle.import_places.proofs.pop.Tie as tie
-use Rattle.import_places.proofs.pop.Reads as reads
-use Rattle.import_places.proofs.pop.Lts as lts
-use Rattle.import_places.proofs.turned.Reads as turned-reads
 
 returns : tie.Need-returns
 unfolding popped

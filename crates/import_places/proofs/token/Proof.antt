@@ -4,8 +4,6 @@ use Rattle.import_places.specs.Walking.{token-of}
 use borrow.Author.Tests.{ne-eqb, eq-eqb}
 use Rattle.import_places.proofs.token.Statement.{statement}
 use Rattle.import_places.proofs.token.Tie as tie
-use Rattle.import_places.proofs.token.Reads as reads
-use Rattle.import_places.proofs.token.Lts as lts
 
 returns : tie.Need-returns
 unfolding token-of

@@ -6,12 +6,6 @@ use Rattle.import_sum_at.proofs.Laws.{frame-over, number-over, all-fits
 use borrow.Author.Needs.{needs}
 use Rattle.import_sum_at.proofs.sum_at.Statement.{statement}
 use Rattle.import_sum_at.proofs.sum_at.Tie as tie
-use Rattle.import_sum_at.proofs.sum_at.Reads as reads
-use Rattle.import_sum_at.proofs.sum_at.Lts as lts
-use Rattle.import_frames.proofs.closed.Reads as closed-reads
-use Rattle.import_frames.proofs.total.Reads as total-reads
-use Rattle.import_linears.proofs.all_fit.Reads as all-fit-reads
-use Rattle.import_sums.proofs.walk.Reads as walk-reads
 
 walk-requires : tie.Need-walk-requires
 walk-requires c κs = search needs

@@ -1,7 +1,6 @@
 -- `import_sums::walk` meets its contract: the run from a fresh frame at `at` is the run from s at i, whatever brackets are around (`Reaches`). An inner walk may assume its contract; its depth is one less.
 use native.Mathlib.Omega.{arith}
 use lib.ListN.{length}
-use Rattle.import_frames.specs.Frames as f
 use Rattle.import_sums.specs.Walks.{Reaches}
 use Rattle.import_sums.proofs.Laws.{begins, at-over, at-end, at-stop, goes-on, too-deep, comes-back}
 use Prim.Native.Nat.{ℕ, _<_, _-_}

@@ -1,13 +1,8 @@
 -- `import_sums::closing` meets its contract: the inner frame is over, or ")" follows and pops it, or another byte or the text's end makes it over; each continues the outer run.
-use Rattle.import_frames.specs.Frames as f
 use Rattle.import_sums.proofs.Laws.{closes-over, closes-end, closes-odd, closes-well}
 use borrow.Author.Needs.{needs}
 use Rattle.import_sums.proofs.closing.Statement.{statement}
 use Rattle.import_sums.proofs.closing.Tie as tie
-use Rattle.import_sums.proofs.closing.Reads as reads
-use Rattle.import_sums.proofs.closing.Lts as lts
-use Rattle.import_frames.proofs.over.Reads as over-reads
-use Rattle.import_frames.proofs.popped.Reads as popped-reads
 
 returns : tie.Need-returns
 returns c = let s = c .before .before .before in closes-over _ _ _ (s .pre .0) _ (s .pre .1 .0) (s .pre .1 .1 .0) (s .pre .1 .1 .1) (c .if1 .taken)

@@ -5,10 +5,6 @@ use Rattle.import_frames.proofs.Laws.{yes, no, hit, miss}
 use borrow.Author.Needs.{needs}
 use Rattle.import_sums.proofs.of_sum.Statement.{statement}
 use Rattle.import_sums.proofs.of_sum.Tie as tie
-use Rattle.import_sums.proofs.of_sum.Reads as reads
-use Rattle.import_sums.proofs.of_sum.Lts as lts
-use Rattle.import_frames.proofs.is_blank.Reads as is-blank-reads
-use Rattle.import_frames.proofs.is_digit.Reads as is-digit-reads
 
 is-blank-requires : tie.Need-is-blank-requires
 is-blank-requires c κs = search needs

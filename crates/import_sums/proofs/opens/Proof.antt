@@ -1,10 +1,7 @@
 use mathlib.Core.Path.{refl}
-use Rattle.import_frames.specs.Frames as f
 use Rattle.import_frames.proofs.Laws.{hit, miss}
 use Rattle.import_sums.proofs.opens.Statement.{statement}
 use Rattle.import_sums.proofs.opens.Tie as tie
-use Rattle.import_sums.proofs.opens.Reads as reads
-use Rattle.import_sums.proofs.opens.Lts as lts
 
 returns : tie.Need-returns
 returns c = hit (c .before .before .args .s .mode) 6 _ _ (c .if1 .taken) (refl)

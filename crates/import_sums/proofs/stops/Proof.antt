@@ -4,9 +4,6 @@ use Rattle.import_frames.proofs.Laws.{yes, no, hit, miss}
 use borrow.Author.Needs.{needs}
 use Rattle.import_sums.proofs.stops.Statement.{statement}
 use Rattle.import_sums.proofs.stops.Tie as tie
-use Rattle.import_sums.proofs.stops.Reads as reads
-use Rattle.import_sums.proofs.stops.Lts as lts
-use Rattle.import_sums.proofs.of_sum.Reads as of-sum-reads
 
 returns : tie.Need-returns
 returns c = hit (c .before .before .args .s .mode) 6 _ _ (c .if1 .taken) (refl)

@@ -2,9 +2,6 @@ use borrow.Author.Needs.{needs}
 use Rattle.solve_peaks.proofs.Words.{all-cleared}
 use Rattle.solve_peaks.proofs.clear_peaks.Statement.{statement}
 use Rattle.solve_peaks.proofs.clear_peaks.Tie as tie
-use Rattle.solve_peaks.proofs.clear_peaks.Reads as reads
-use Rattle.solve_peaks.proofs.clear_peaks.Lts as lts
-use Rattle.table_clear.proofs.work.Reads as work-reads
 
 -- src/lib.rt:23:5
 work-requires : tie.Need-work-requires

@@ -3,8 +3,6 @@ use borrow.Author.Needs.{needs}
 use Rattle.solve_peaks.proofs.Words.{raise-larger, raise-same}
 use Rattle.solve_peaks.proofs.raise_peak.Statement.{statement}
 use Rattle.solve_peaks.proofs.raise_peak.Tie as tie
-use Rattle.solve_peaks.proofs.raise_peak.Reads as reads
-use Rattle.solve_peaks.proofs.raise_peak.Lts as lts
 
 -- src/lib.rt:13:13
 cast-n : tie.Need-cast-n

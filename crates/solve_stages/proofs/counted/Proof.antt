@@ -3,10 +3,6 @@ use borrow.Author.Needs.{needs}
 use Rattle.solve_stages.proofs.StagesCounted.{joined-as}
 use Rattle.solve_stages.proofs.counted.Statement.{statement}
 use Rattle.solve_stages.proofs.counted.Tie as tie
-use Rattle.solve_stages.proofs.counted.Reads as reads
-use Rattle.solve_stages.proofs.counted.Lts as lts
-use Rattle.solve_peaks.proofs.raise_peak.Reads as raise-peak-reads
-use Rattle.solve_operation.proofs.larger.Reads as larger-reads
 
 larger-requires : tie.Need-larger-requires
 larger-requires c κs = search needs

@@ -4,10 +4,6 @@ use Rattle.solve_laws.specs.Peaks.{total-own}
 use Rattle.solve_stages.proofs.StagesCounted.{own-fits, action-counted}
 use Rattle.solve_stages.proofs.first_action.Statement.{statement}
 use Rattle.solve_stages.proofs.first_action.Tie as tie
-use Rattle.solve_stages.proofs.first_action.Reads as reads
-use Rattle.solve_stages.proofs.first_action.Lts as lts
-use Rattle.solve_stages.proofs.counted.Reads as counted-reads
-use Rattle.solve_total.proofs.total.Reads as total-reads
 
 total-requires : tie.Need-total-requires
 total-requires c κs = search needs

@@ -3,10 +3,6 @@ use borrow.Author.Needs.{needs}
 use Rattle.solve_stages.proofs.StagesCounted.{own-fits, action-counted, bettered-own}
 use Rattle.solve_stages.proofs.next_action.Statement.{statement}
 use Rattle.solve_stages.proofs.next_action.Tie as tie
-use Rattle.solve_stages.proofs.next_action.Reads as reads
-use Rattle.solve_stages.proofs.next_action.Lts as lts
-use Rattle.solve_stages.proofs.better.Reads as better-reads
-use Rattle.solve_stages.proofs.counted.Reads as counted-reads
 
 better-requires : tie.Need-better-requires
 better-requires c κs = search needs

@@ -7,12 +7,6 @@ use Rattle.solve_value_iteration.proofs.LoadPeaks.{words-length}
 use Rattle.solve_value_iteration.proofs.Runs.{unloaded, loaded-fits, zero-off, stages-fit, stages-run}
 use Rattle.solve_value_iteration.proofs.run_stages.Statement.{statement}
 use Rattle.solve_value_iteration.proofs.run_stages.Tie as tie
-use Rattle.solve_value_iteration.proofs.run_stages.Reads as reads
-use Rattle.solve_value_iteration.proofs.run_stages.Lts as lts
-use Rattle.solve_peaks.proofs.raise_peak.Reads as raise-peak-reads
-use Rattle.solve_stages.proofs.stages.Reads as stages-reads
-use Rattle.solve_value_iteration.proofs.load_in_parts.Reads as load-in-parts-reads
-use Rattle.solve_value_iteration.proofs.stage_zero.Reads as stage-zero-reads
 
 load-in-parts-requires : tie.Need-load-in-parts-requires
 load-in-parts-requires c κs = search needs

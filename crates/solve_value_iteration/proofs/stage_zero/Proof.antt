@@ -5,11 +5,6 @@ use native.Mathlib.Omega.{arith}
 use Rattle.solve_value_iteration.proofs.Runs.{end-grounded, zero-ready, zero-fits, zero-grounded}
 use Rattle.solve_value_iteration.proofs.stage_zero.Statement.{statement}
 use Rattle.solve_value_iteration.proofs.stage_zero.Tie as tie
-use Rattle.solve_value_iteration.proofs.stage_zero.Reads as reads
-use Rattle.solve_value_iteration.proofs.stage_zero.Lts as lts
-use Rattle.solve_peaks.proofs.raise_peak.Reads as raise-peak-reads
-use Rattle.solve_operation.proofs.operate.Reads as operate-reads
-use Rattle.solve_total.proofs.model_size.Reads as model-size-reads
 
 returns : tie.Need-returns
 returns c =

@@ -6,8 +6,6 @@ use lib.ListN.{length}
 use Rattle.import_going.proofs.Steps.{Passing, pass-on, pass-found, pass-end}
 use Rattle.import_going.proofs.behind.behind.Statement.{statement}
 use Rattle.import_going.proofs.behind.behind.Tie as tie
-use Rattle.import_going.proofs.behind.behind.Reads as reads
-use Rattle.import_going.proofs.behind.behind.Lts as lts
 
 abbrev Inv-loop : tie.InvT-loop
 Inv-loop text from k i₀ i = Passing k text from i

@@ -8,9 +8,6 @@ use Rattle.import_found.specs.Places.{is-cond}
 use Rattle.import_going.proofs.Steps.{Seeing, on-seen, on-depth, seen-end}
 use Rattle.import_going.proofs.bracket.is_cond.Statement.{statement}
 use Rattle.import_going.proofs.bracket.is_cond.Tie as tie
-use Rattle.import_going.proofs.bracket.is_cond.Reads as reads
-use Rattle.import_going.proofs.bracket.is_cond.Lts as lts
-use Rattle.import_going.proofs.bracket.see.Reads as see-reads
 
 abbrev Inv-loop : tie.InvT-loop
 Inv-loop text from depth₀ i₀ depth i = Seeing text (is-cond (drop from text) 0) depth i

@@ -3,8 +3,6 @@ use Rattle.import_going.proofs.Steps.{not-mark}
 use borrow.Author.Tests.{ne-eqb, eq-eqb}
 use Rattle.import_going.proofs.bracket.mark.Statement.{statement}
 use Rattle.import_going.proofs.bracket.mark.Tie as tie
-use Rattle.import_going.proofs.bracket.mark.Reads as reads
-use Rattle.import_going.proofs.bracket.mark.Lts as lts
 
 returns : tie.Need-returns
 unfolding is-mark

@@ -7,9 +7,6 @@ use borrow.Author.Tests.{ne-eqb, eq-eqb}
 use borrow.Author.Needs.{needs}
 use Rattle.import_going.proofs.bracket.see.Statement.{statement}
 use Rattle.import_going.proofs.bracket.see.Tie as tie
-use Rattle.import_going.proofs.bracket.see.Reads as reads
-use Rattle.import_going.proofs.bracket.see.Lts as lts
-use Rattle.import_going.proofs.bracket.mark.Reads as mark-reads
 
 add-t4 : tie.Need-add-t4
 add-t4 c = search needs

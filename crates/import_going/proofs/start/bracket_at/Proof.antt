@@ -3,9 +3,6 @@ use Rattle.import_going.proofs.Reaching.{cond-yes, cond-not}
 use borrow.Author.Needs.{needs}
 use Rattle.import_going.proofs.start.bracket_at.Statement.{statement}
 use Rattle.import_going.proofs.start.bracket_at.Tie as tie
-use Rattle.import_going.proofs.start.bracket_at.Reads as reads
-use Rattle.import_going.proofs.start.bracket_at.Lts as lts
-use Rattle.import_going.proofs.bracket.is_cond.Reads as is-cond-reads
 
 add-is-cond : tie.Need-add-is-cond
 add-is-cond c = search needs

@@ -3,11 +3,6 @@ use Rattle.import_going.proofs.Reaching.{go-inside, comes-go, comes-res
 use borrow.Author.Needs.{needs}
 use Rattle.import_going.proofs.start.decided.Statement.{statement}
 use Rattle.import_going.proofs.start.decided.Tie as tie
-use Rattle.import_going.proofs.start.decided.Reads as reads
-use Rattle.import_going.proofs.start.decided.Lts as lts
-use Rattle.import_going.proofs.start.go.Reads as go-reads
-use Rattle.import_going.proofs.start.next_case.Reads as next-case-reads
-use Rattle.import_places.proofs.find.Reads as find-reads
 
 find-requires : tie.Need-find-requires
 find-requires c κs = search needs

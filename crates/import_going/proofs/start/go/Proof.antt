@@ -10,11 +10,6 @@ use Rattle.import_places.specs.Walking.{signs}
 use Rattle.import_going.proofs.Reaching.{Reaching, goes-on, atom-spotted, else-spotted, deep-spotted, lost-spotted, end-spotted}
 use Rattle.import_going.proofs.start.go.Statement.{statement}
 use Rattle.import_going.proofs.start.go.Tie as tie
-use Rattle.import_going.proofs.start.go.Reads as reads
-use Rattle.import_going.proofs.start.go.Lts as lts
-use Rattle.import_going.proofs.start.bracket_at.Reads as bracket-at-reads
-use Rattle.import_going.proofs.start.result_behind.Reads as result-behind-reads
-use Rattle.import_going.proofs.turning.after_byte.Reads as after-byte-reads
 
 abbrev Inv-loop : tie.InvT-loop
 Inv-loop text from mask count s₀ i₀ s i = Reaching text (place-from (drop from text) false (signs mask count)) s i

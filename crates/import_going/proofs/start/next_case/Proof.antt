@@ -4,10 +4,6 @@ use Rattle.import_going.proofs.Reaching.{case-within, case-found, case-
 use borrow.Author.Needs.{needs}
 use Rattle.import_going.proofs.start.next_case.Statement.{statement}
 use Rattle.import_going.proofs.start.next_case.Tie as tie
-use Rattle.import_going.proofs.start.next_case.Reads as reads
-use Rattle.import_going.proofs.start.next_case.Lts as lts
-use Rattle.import_going.proofs.behind.behind.Reads as behind-reads
-use Rattle.import_going.proofs.start.go.Reads as go-reads
 
 behind-requires : tie.Need-behind-requires
 behind-requires c κs = search needs

@@ -2,9 +2,6 @@ use Rattle.import_going.proofs.Reaching.{colon-found, colon-not}
 use borrow.Author.Needs.{needs}
 use Rattle.import_going.proofs.start.result_behind.Statement.{statement}
 use Rattle.import_going.proofs.start.result_behind.Tie as tie
-use Rattle.import_going.proofs.start.result_behind.Reads as reads
-use Rattle.import_going.proofs.start.result_behind.Lts as lts
-use Rattle.import_going.proofs.behind.behind.Reads as behind-reads
 
 behind-requires : tie.Need-behind-requires
 behind-requires c κs = search needs

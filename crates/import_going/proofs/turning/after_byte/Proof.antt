@@ -7,11 +7,6 @@ use borrow.Author.Tests.{ne-eqb, eq-eqb}
 use borrow.Author.Needs.{needs}
 use Rattle.import_going.proofs.turning.after_byte.Statement.{statement}
 use Rattle.import_going.proofs.turning.after_byte.Tie as tie
-use Rattle.import_going.proofs.turning.after_byte.Reads as reads
-use Rattle.import_going.proofs.turning.after_byte.Lts as lts
-use Rattle.import_going.proofs.turning.opened.Reads as opened-reads
-use Rattle.import_going.proofs.turning.other.Reads as other-reads
-use Rattle.import_going.proofs.turning.space.Reads as space-reads
 
 other-requires : tie.Need-other-requires
 other-requires c κs = search needs

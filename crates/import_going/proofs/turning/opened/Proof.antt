@@ -4,9 +4,6 @@ use Rattle.import_going.proofs.Reaching.{bit-most, too-deep, not-deep}
 use borrow.Author.Needs.{needs}
 use Rattle.import_going.proofs.turning.opened.Statement.{statement}
 use Rattle.import_going.proofs.turning.opened.Tie as tie
-use Rattle.import_going.proofs.turning.opened.Reads as reads
-use Rattle.import_going.proofs.turning.opened.Lts as lts
-use Rattle.import_going.proofs.turning.bit.Reads as bit-reads
 
 returns : tie.Need-returns
 returns c = too-deep _ (c .if1 .taken)

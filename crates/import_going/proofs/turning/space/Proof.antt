@@ -3,8 +3,6 @@ use Rattle.import_going.proofs.Reaching.{not-space}
 use borrow.Author.Tests.{ne-eqb, eq-eqb}
 use Rattle.import_going.proofs.turning.space.Statement.{statement}
 use Rattle.import_going.proofs.turning.space.Tie as tie
-use Rattle.import_going.proofs.turning.space.Reads as reads
-use Rattle.import_going.proofs.turning.space.Lts as lts
 
 returns : tie.Need-returns
 unfolding is-space

@@ -7,9 +7,6 @@ use borrow.Author.Needs.{needs}
 use Rattle.import_walk.proofs.Loops.{Spelling, spell-here, spell-on, spell-behind, spell-quoted, spell-end}
 use Rattle.import_walk.proofs.name.character.Statement.{statement}
 use Rattle.import_walk.proofs.name.character.Tie as tie
-use Rattle.import_walk.proofs.name.character.Reads as reads
-use Rattle.import_walk.proofs.name.character.Lts as lts
-use Rattle.import_walk.proofs.name.spells.Reads as spells-reads
 
 abbrev Inv-loop : tie.InvT-loop
 Inv-loop text from j left₀ quoted₀ i₀ left quoted i = Spelling text from j left quoted i

@@ -2,11 +2,6 @@ use Rattle.import_walk.proofs.Joined.{name-joined}
 use borrow.Author.Needs.{needs}
 use Rattle.import_walk.proofs.name.end_of_name.Statement.{statement}
 use Rattle.import_walk.proofs.name.end_of_name.Tie as tie
-use Rattle.import_walk.proofs.name.end_of_name.Reads as reads
-use Rattle.import_walk.proofs.name.end_of_name.Lts as lts
-use Rattle.import_walk.proofs.name.string_end.Reads as string-end-reads
-use Rattle.import_walk.proofs.steps.ahead.Reads as ahead-reads
-use Rattle.import_walk.proofs.steps.next_letter.Reads as next-letter-reads
 
 ahead-requires : tie.Need-ahead-requires
 ahead-requires c κs = search needs

@@ -2,8 +2,6 @@ use borrow.Author.Tests.{ne-eqb, eq-eqb}
 use Rattle.import_parts.specs.Walk.{spells}
 use Rattle.import_walk.proofs.name.spells.Statement.{statement}
 use Rattle.import_walk.proofs.name.spells.Tie as tie
-use Rattle.import_walk.proofs.name.spells.Reads as reads
-use Rattle.import_walk.proofs.name.spells.Lts as lts
 
 returns : tie.Need-returns
 unfolding spells

@@ -3,10 +3,6 @@ use Rattle.import_walk.proofs.Loops.{goes-blank, goes-digit}
 use borrow.Author.Needs.{needs}
 use Rattle.import_walk.proofs.number.goes_on.Statement.{statement}
 use Rattle.import_walk.proofs.number.goes_on.Tie as tie
-use Rattle.import_walk.proofs.number.goes_on.Reads as reads
-use Rattle.import_walk.proofs.number.goes_on.Lts as lts
-use Rattle.import_state.proofs.bytes.is_blank.Reads as is-blank-reads
-use Rattle.import_state.proofs.bytes.is_digit.Reads as is-digit-reads
 
 is-blank-requires : tie.Need-is-blank-requires
 is-blank-requires c κs = search needs

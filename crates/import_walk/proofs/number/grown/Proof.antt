@@ -5,10 +5,6 @@ use Rattle.import_walk.proofs.Loops.{grown-blank, grown-over, grown-in}
 use borrow.Author.Needs.{needs}
 use Rattle.import_walk.proofs.number.grown.Statement.{statement}
 use Rattle.import_walk.proofs.number.grown.Tie as tie
-use Rattle.import_walk.proofs.number.grown.Reads as reads
-use Rattle.import_walk.proofs.number.grown.Lts as lts
-use Rattle.import_state.proofs.bytes.is_blank.Reads as is-blank-reads
-use Rattle.import_walk.proofs.number.digit_value.Reads as digit-value-reads
 
 is-blank-requires : tie.Need-is-blank-requires
 is-blank-requires c κs = search needs

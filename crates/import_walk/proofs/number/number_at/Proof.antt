@@ -7,10 +7,6 @@ use borrow.Author.Needs.{needs}
 use Rattle.import_walk.proofs.Loops.{Counting, count-on, count-here, count-end}
 use Rattle.import_walk.proofs.number.number_at.Statement.{statement}
 use Rattle.import_walk.proofs.number.number_at.Tie as tie
-use Rattle.import_walk.proofs.number.number_at.Reads as reads
-use Rattle.import_walk.proofs.number.number_at.Lts as lts
-use Rattle.import_walk.proofs.number.goes_on.Reads as goes-on-reads
-use Rattle.import_walk.proofs.number.grown.Reads as grown-reads
 
 abbrev Inv-loop : tie.InvT-loop
 Inv-loop text from most value₀ i₀ value i = Counting text from most value i

@@ -2,10 +2,6 @@ use Rattle.import_walk.proofs.Joined.{setting-joined}
 use borrow.Author.Needs.{needs}
 use Rattle.import_walk.proofs.number.setting_at.Statement.{statement}
 use Rattle.import_walk.proofs.number.setting_at.Tie as tie
-use Rattle.import_walk.proofs.number.setting_at.Reads as reads
-use Rattle.import_walk.proofs.number.setting_at.Lts as lts
-use Rattle.import_walk.proofs.number.number_at.Reads as number-at-reads
-use Rattle.import_walk.proofs.steps.past.Reads as past-reads
 
 past-requires : tie.Need-past-requires
 past-requires c κs = search needs

@@ -2,11 +2,6 @@ use Rattle.import_walk.proofs.Joined.{action-joined}
 use borrow.Author.Needs.{needs}
 use Rattle.import_walk.proofs.opening.action_at.Statement.{statement}
 use Rattle.import_walk.proofs.opening.action_at.Tie as tie
-use Rattle.import_walk.proofs.opening.action_at.Reads as reads
-use Rattle.import_walk.proofs.opening.action_at.Lts as lts
-use Rattle.import_walk.proofs.number.number_at.Reads as number-at-reads
-use Rattle.import_walk.proofs.opening.word_len.Reads as word-len-reads
-use Rattle.import_walk.proofs.steps.ahead.Reads as ahead-reads
 
 word-len-requires : tie.Need-word-len-requires
 word-len-requires c κs = search needs

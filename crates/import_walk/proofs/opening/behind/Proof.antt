@@ -2,9 +2,6 @@ use Rattle.import_walk.proofs.Joined.{behind-name, behind-other}
 use borrow.Author.Needs.{needs}
 use Rattle.import_walk.proofs.opening.behind.Statement.{statement}
 use Rattle.import_walk.proofs.opening.behind.Tie as tie
-use Rattle.import_walk.proofs.opening.behind.Reads as reads
-use Rattle.import_walk.proofs.opening.behind.Lts as lts
-use Rattle.import_walk.proofs.steps.past.Reads as past-reads
 
 returns : tie.Need-returns
 returns c = behind-name _ _ _ (c .before .before .pre) (c .if1 .taken)

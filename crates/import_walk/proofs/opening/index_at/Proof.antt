@@ -2,10 +2,6 @@ use Rattle.import_walk.proofs.Joined.{index-chance, index-level, index-
 use borrow.Author.Needs.{needs}
 use Rattle.import_walk.proofs.opening.index_at.Statement.{statement}
 use Rattle.import_walk.proofs.opening.index_at.Tie as tie
-use Rattle.import_walk.proofs.opening.index_at.Reads as reads
-use Rattle.import_walk.proofs.opening.index_at.Lts as lts
-use Rattle.import_walk.proofs.opening.digit_value.Reads as digit-value-reads
-use Rattle.import_walk.proofs.steps.byte_at.Reads as byte-at-reads
 
 add-byte-at : tie.Need-add-byte-at
 add-byte-at c = search needs

@@ -2,8 +2,6 @@ use borrow.Author.Tests.{ne-eqb, eq-eqb}
 use Rattle.import_walk.specs.Answers.{kind-by}
 use Rattle.import_walk.proofs.opening.kind_of.Statement.{statement}
 use Rattle.import_walk.proofs.opening.kind_of.Tie as tie
-use Rattle.import_walk.proofs.opening.kind_of.Reads as reads
-use Rattle.import_walk.proofs.opening.kind_of.Lts as lts
 
 returns : tie.Need-returns
 unfolding kind-by

@@ -4,13 +4,6 @@ use Rattle.import_walk.proofs.Joined.{opening-joined}
 use borrow.Author.Needs.{needs}
 use Rattle.import_walk.proofs.opening.opening_at.Statement.{statement}
 use Rattle.import_walk.proofs.opening.opening_at.Tie as tie
-use Rattle.import_walk.proofs.opening.opening_at.Reads as reads
-use Rattle.import_walk.proofs.opening.opening_at.Lts as lts
-use Rattle.import_walk.proofs.opening.action_at.Reads as action-at-reads
-use Rattle.import_walk.proofs.opening.behind.Reads as behind-reads
-use Rattle.import_walk.proofs.opening.index_at.Reads as index-at-reads
-use Rattle.import_walk.proofs.opening.kind_of.Reads as kind-of-reads
-use Rattle.import_walk.proofs.steps.byte_at.Reads as byte-at-reads
 
 byte-at-requires : tie.Need-byte-at-requires
 byte-at-requires c κs = search needs

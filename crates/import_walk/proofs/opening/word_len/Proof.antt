@@ -3,8 +3,6 @@ use native.Mathlib.Omega.{arith}
 use Rattle.import_parts.specs.Walk.{word-of}
 use Rattle.import_walk.proofs.opening.word_len.Statement.{statement}
 use Rattle.import_walk.proofs.opening.word_len.Tie as tie
-use Rattle.import_walk.proofs.opening.word_len.Reads as reads
-use Rattle.import_walk.proofs.opening.word_len.Lts as lts
 
 returns : tie.Need-returns
 unfolding word-of

@@ -2,9 +2,6 @@ use Rattle.import_parts.specs.Walk.{begins}
 use borrow.Author.Needs.{needs}
 use Rattle.import_walk.proofs.scan.begins.Statement.{statement}
 use Rattle.import_walk.proofs.scan.begins.Tie as tie
-use Rattle.import_walk.proofs.scan.begins.Reads as reads
-use Rattle.import_walk.proofs.scan.begins.Lts as lts
-use Rattle.import_walk.proofs.scan.letter.Reads as letter-reads
 
 returns : tie.Need-returns
 unfolding begins

@@ -2,8 +2,6 @@ use borrow.Author.Tests.{ne-eqb, eq-eqb}
 use Rattle.import_parts.specs.Walk.{behind-string}
 use Rattle.import_walk.proofs.scan.behind_string.Statement.{statement}
 use Rattle.import_walk.proofs.scan.behind_string.Tie as tie
-use Rattle.import_walk.proofs.scan.behind_string.Reads as reads
-use Rattle.import_walk.proofs.scan.behind_string.Lts as lts
 
 returns : tie.Need-returns
 unfolding behind-string

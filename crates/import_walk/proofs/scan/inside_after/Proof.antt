@@ -2,8 +2,6 @@ use borrow.Author.Tests.{ne-eqb, eq-eqb}
 use Rattle.import_parts.specs.Walk.{inside-after}
 use Rattle.import_walk.proofs.scan.inside_after.Statement.{statement}
 use Rattle.import_walk.proofs.scan.inside_after.Tie as tie
-use Rattle.import_walk.proofs.scan.inside_after.Reads as reads
-use Rattle.import_walk.proofs.scan.inside_after.Lts as lts
 
 returns : tie.Need-returns
 unfolding inside-after

@@ -3,8 +3,6 @@ use borrow.Author.Tests.{ne-eqb, eq-eqb}
 use Rattle.import_parts.specs.Walk.{is-letter}
 use Rattle.import_walk.proofs.scan.letter.Statement.{statement}
 use Rattle.import_walk.proofs.scan.letter.Tie as tie
-use Rattle.import_walk.proofs.scan.letter.Reads as reads
-use Rattle.import_walk.proofs.scan.letter.Lts as lts
 
 returns : tie.Need-returns
 unfolding is-letter

@@ -2,8 +2,6 @@ use borrow.Author.Tests.{ne-eqb, eq-eqb}
 use Rattle.import_parts.specs.Walk.{quoted-after}
 use Rattle.import_walk.proofs.scan.quoted_after.Statement.{statement}
 use Rattle.import_walk.proofs.scan.quoted_after.Tie as tie
-use Rattle.import_walk.proofs.scan.quoted_after.Reads as reads
-use Rattle.import_walk.proofs.scan.quoted_after.Lts as lts
 
 returns : tie.Need-returns
 unfolding quoted-after

@@ -8,10 +8,6 @@ use borrow.Author.Needs.{needs}
 use Rattle.import_walk.proofs.Loops.{Scanning, scan-on, scan-here, scan-end}
 use Rattle.import_walk.proofs.scan.scan.Statement.{statement}
 use Rattle.import_walk.proofs.scan.scan.Tie as tie
-use Rattle.import_walk.proofs.scan.scan.Reads as reads
-use Rattle.import_walk.proofs.scan.scan.Lts as lts
-use Rattle.import_walk.proofs.scan.stops.Reads as stops-reads
-use Rattle.import_walk.proofs.scan.turned.Reads as turned-reads
 
 abbrev Inv-loop : tie.InvT-loop
 Inv-loop text from string inside₀ i₀ inside i = Scanning string text from inside i

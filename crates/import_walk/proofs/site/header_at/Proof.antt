@@ -3,9 +3,6 @@ use Rattle.import_walk.proofs.Joined.{site-joined}
 use borrow.Author.Needs.{needs}
 use Rattle.import_walk.proofs.site.header_at.Statement.{statement}
 use Rattle.import_walk.proofs.site.header_at.Tie as tie
-use Rattle.import_walk.proofs.site.header_at.Reads as reads
-use Rattle.import_walk.proofs.site.header_at.Lts as lts
-use Rattle.import_walk.proofs.number.setting_at.Reads as setting-at-reads
 
 setting-at-requires : tie.Need-setting-at-requires
 setting-at-requires c κs = search needs

@@ -2,8 +2,6 @@ use Rattle.import_walk.proofs.Loops.{ahead-in, ahead-out}
 use borrow.Author.Needs.{needs}
 use Rattle.import_walk.proofs.steps.ahead.Statement.{statement}
 use Rattle.import_walk.proofs.steps.ahead.Tie as tie
-use Rattle.import_walk.proofs.steps.ahead.Reads as reads
-use Rattle.import_walk.proofs.steps.ahead.Lts as lts
 
 sub-left : tie.Need-sub-left
 sub-left c = search needs

@@ -3,8 +3,6 @@ use lib.ListN.{List·getD-eq-default}
 use borrow.Author.Needs.{needs}
 use Rattle.import_walk.proofs.steps.byte_at.Statement.{statement}
 use Rattle.import_walk.proofs.steps.byte_at.Tie as tie
-use Rattle.import_walk.proofs.steps.byte_at.Reads as reads
-use Rattle.import_walk.proofs.steps.byte_at.Lts as lts
 
 shared-slice-read-result : tie.Need-shared-slice-read-result
 shared-slice-read-result c = search needs

@@ -2,10 +2,6 @@ use Rattle.import_walk.proofs.Joined.{item-joined}
 use borrow.Author.Needs.{needs}
 use Rattle.import_walk.proofs.steps.end_of_item.Statement.{statement}
 use Rattle.import_walk.proofs.steps.end_of_item.Tie as tie
-use Rattle.import_walk.proofs.steps.end_of_item.Reads as reads
-use Rattle.import_walk.proofs.steps.end_of_item.Lts as lts
-use Rattle.import_walk.proofs.steps.next_letter.Reads as next-letter-reads
-use Rattle.import_walk.proofs.steps.past.Reads as past-reads
 
 next-letter-requires : tie.Need-next-letter-requires
 next-letter-requires c κs = search needs

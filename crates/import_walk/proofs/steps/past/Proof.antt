@@ -6,8 +6,6 @@ use lib.ListN.{length}
 use Rattle.import_walk.proofs.Loops.{Passing, past-on, past-found, past-end}
 use Rattle.import_walk.proofs.steps.past.Statement.{statement}
 use Rattle.import_walk.proofs.steps.past.Tie as tie
-use Rattle.import_walk.proofs.steps.past.Reads as reads
-use Rattle.import_walk.proofs.steps.past.Lts as lts
 
 abbrev Inv-loop : tie.InvT-loop
 Inv-loop text from c i₀ i = Passing c text from i
