@@ -243,7 +243,7 @@ sign-cafter takes cc pre t p f = refl
 -- ---- where no level may stand
 
 mutual
-  unfolding spaces-bytes digits-bytes kfactor-bytes vfactor-bytes sum-bytes nots-bytes atom-bytes result-bytes setting-bytes chars-bytes before-bytes text-bytes itemHere resulted letterHere settled hextended iextended by-kind quoteHere with-plain charHere extended cextended closeLeft closeCond colon elseHere joined ending closeConst minusHere cminusHere coreHere factorHere equalsHere equalsAbove openCond openSum openBehind openConst step-on step-mid step run finish
+  unfolding reading
 
   pub kfactor-cread : {n : ℕ} (x : ConstFactor n) (cc : ConstCtx n) (pre : ConstPre n) (tp : ConstTermPre n) (f : List ℕ) → run (at (cfactor cc pre tp) none) (kfactor-bytes x f) ≡ run (at (cafter cc pre (ktimes-of tp x)) none) f
   kfactor-cread (number q ds) cc pre tp f = spaced (cfactor cc pre tp) q (digits-bytes ds f) ∙ digits-cread ds cc pre tp q f
@@ -271,7 +271,7 @@ mutual
 -- ---- sums where a factor is expected
 
 mutual
-  unfolding spaces-bytes digits-bytes kfactor-bytes vfactor-bytes sum-bytes nots-bytes atom-bytes result-bytes setting-bytes chars-bytes before-bytes text-bytes itemHere resulted letterHere settled hextended iextended by-kind quoteHere with-plain charHere extended cextended closeLeft closeCond colon elseHere joined ending closeConst minusHere cminusHere coreHere factorHere equalsHere equalsAbove openCond openSum openBehind openConst step-on step-mid step run finish
+  unfolding reading
 
   pub kfactor-read : {n : ℕ} (x : ConstFactor n) (sc : SumCtx n) (pre : SumPre n) (tp : TermPre n) (f : List ℕ) → run (at (factor sc pre tp) none) (kfactor-bytes x f) ≡ run (at (after sc pre (times-const tp x)) none) f
   kfactor-read (number q ds) sc pre tp f = spaced (factor sc pre tp) q (digits-bytes ds f) ∙ digits-read ds sc pre tp q f
@@ -302,7 +302,7 @@ mutual
       ∙ kterm-read t sc (kpre (kmore s p g)) f
 
 mutual
-  unfolding spaces-bytes digits-bytes kfactor-bytes vfactor-bytes sum-bytes nots-bytes atom-bytes result-bytes setting-bytes chars-bytes before-bytes text-bytes itemHere resulted letterHere settled hextended iextended by-kind quoteHere with-plain charHere extended cextended closeLeft closeCond colon elseHere joined ending closeConst minusHere cminusHere coreHere factorHere equalsHere equalsAbove openCond openSum openBehind openConst step-on step-mid step run finish
+  unfolding reading
 
   pub vfactor-read : {n : ℕ} (x : VaryFactor n) (sc : SumCtx n) (pre : SumPre n) (tp : ConstTermPre n) (f : List ℕ) → run (at (factor sc pre (free tp)) none) (vfactor-bytes x f) ≡ run (at (after sc pre (vt (vtimes-of tp x))) none) f
   vfactor-read (level q i1) sc pre tp f = spaced (factor sc pre (free tp)) q (76 ∷ 49 ∷ f)
@@ -351,7 +351,7 @@ mutual
 -- ---- sums where an atom is expected: the first bracket is open to both
 
 mutual
-  unfolding spaces-bytes digits-bytes kfactor-bytes vfactor-bytes sum-bytes nots-bytes atom-bytes result-bytes setting-bytes chars-bytes before-bytes text-bytes itemHere resulted letterHere settled hextended iextended by-kind quoteHere with-plain charHere extended cextended closeLeft closeCond colon elseHere joined ending closeConst minusHere cminusHere coreHere factorHere equalsHere equalsAbove openCond openSum openBehind openConst step-on step-mid step run finish
+  unfolding reading
 
   pub kfactor-cond : {n : ℕ} (x : ConstFactor n) (ctx : CondCtx n) (l : Level n) (f : List ℕ) → run (at (cond ctx l) none) (kfactor-bytes x f) ≡ run (at (after (left ctx l) opens (kt (kfactor x))) none) f
   kfactor-cond (number q ds) ctx l f = spaced (cond ctx l) q (digits-bytes ds f) ∙ digits-cond ds ctx l q f
@@ -378,7 +378,7 @@ mutual
       ∙ kterm-read t (left ctx l) (kpre (kmore s p g)) f
 
 mutual
-  unfolding spaces-bytes digits-bytes kfactor-bytes vfactor-bytes sum-bytes nots-bytes atom-bytes result-bytes setting-bytes chars-bytes before-bytes text-bytes itemHere resulted letterHere settled hextended iextended by-kind quoteHere with-plain charHere extended cextended closeLeft closeCond colon elseHere joined ending closeConst minusHere cminusHere coreHere factorHere equalsHere equalsAbove openCond openSum openBehind openConst step-on step-mid step run finish
+  unfolding reading
 
   pub vfactor-cond : {n : ℕ} (x : VaryFactor n) (ctx : CondCtx n) (l : Level n) (f : List ℕ) → run (at (cond ctx l) none) (vfactor-bytes x f) ≡ run (at (after (left ctx l) opens (vt (vfactor x))) none) f
   vfactor-cond (level q i1) ctx l f = spaced (cond ctx l) q (76 ∷ 49 ∷ f)
@@ -599,7 +599,7 @@ op-read gt s t p ctx l f =
 op-read ge s t p ctx l f = ap (λ (x : Sum _). run (at (factor (right ctx l x p ge) opens (free first)) none) (sum-bytes t f)) (sum-law s)
 
 mutual
-  unfolding spaces-bytes digits-bytes kfactor-bytes vfactor-bytes sum-bytes nots-bytes atom-bytes result-bytes setting-bytes chars-bytes before-bytes text-bytes itemHere resulted letterHere settled hextended iextended by-kind quoteHere with-plain charHere extended cextended closeLeft closeCond colon elseHere joined ending closeConst minusHere cminusHere coreHere factorHere equalsHere equalsAbove openCond openSum openBehind openConst step-on step-mid step run finish
+  unfolding reading
 
   pub atom-read : {n : ℕ} (x : Atom n) (ctx : CondCtx n) (l : Level n) (f : List ℕ) → run (at (cond ctx l) none) (atom-bytes x f) ≡ run (at (done ctx l x) none) f
   atom-read (now q f1) ctx l f = spaced (cond ctx l) q (67 ∷ 49 ∷ f)
@@ -845,7 +845,7 @@ index-next i7 I p q ds r f = refl
 index-next i8 I p q ds r f = refl
 
 mutual
-  unfolding spaces-bytes digits-bytes kfactor-bytes vfactor-bytes sum-bytes nots-bytes atom-bytes result-bytes setting-bytes chars-bytes before-bytes text-bytes itemHere resulted letterHere settled hextended iextended by-kind quoteHere with-plain charHere extended cextended closeLeft closeCond colon elseHere joined ending closeConst minusHere cminusHere coreHere factorHere equalsHere equalsAbove openCond openSum openBehind openConst step-on step-mid step run finish
+  unfolding reading
 
   pub items-read : (I : Items) (f : List ℕ) → run begin (items-bytes I f) ≡ run (at (idle I) none) f
   items-read (head x a b c e) f = spaced outset x _ ∙ head-read x a b c e f
