@@ -1,5 +1,5 @@
 -- A choice on the table: by the test that an entry's words give, answered, ended, gone on with, and kept.
-use mathlib.Core.Path.{_≡_, sym, ap}
+use mathlib.Core.Path.{_≡_, refl, sym, ap}
 use mathlib.Core.List.{List}
 use Prim.Native.Nat.{ℕ, _<_}
 use native.Mathlib.Omega.{arith}
@@ -30,13 +30,17 @@ module _ {R : Rule} {cap : ℕ} {l : List ℤ} {w : List ℕ} {n : ℕ} (A : Tab
       key-of (s .0) (index-small f (A .bare) hf) (index-small g (A .bare) hg) (s .1) (omega arith)
 
   -- the sides that the code has
-  pub choice-goes : {z : Node} {s : Sides} → z ≡ testNode l op p → s ≡ choiceOf z (nodeAt l f) f (nodeAt l g) g → Chooses l n (testBy l n op p) f g s
-  choice-goes {z} e d = chooses-as (A .bare .good) z (test-proper (A .bare .good) N e .tested) (test-is (A .bare .good) N e) f g hf hg d
+  pub choice-goes : {s : Sides} → s ≡ choiceOf (testNode l op p) (nodeAt l f) f (nodeAt l g) g → Chooses l n (testBy l n op p) f g s
+  choice-goes d = chooses-as (A .bare .good) (testNode l op p) (test-proper (A .bare .good) N refl .tested) (test-is (A .bare .good) N refl) f g hf hg d
 
   -- the test is first
-  pub choice-ends : {z : Node} {s : Sides} {l₁ : List ℤ} {w₁ : List ℕ} {r : Made} → Here l n (testBy l n op p) f g s → z ≡ testNode l op p → Grew cap l w n
-      (node (testOf z) (treeAt l n (s .fh)) (treeAt l n (s .gl))) l₁ w₁ r → RuleRan R cap l w n (choose (testBy l n op p) (treeAt l n f) (treeAt l n g)) l₁ w₁ r
-  choice-ends {s = s} o e Q = ran-as (sym (o .is)) (lifted A (grew-as (ap (λ (t : Test). node t (treeAt l n (s .fh)) (treeAt l n (s .gl))) (test-is (A .bare .good) N e)) Q))
+  pub choice-ends : {s : Sides} {l₁ : List ℤ} {w₁ : List ℕ} {r : Made} → Here l n (testBy l n op p) f g s → Grew cap l w n
+      (node (testOf (testNode l op p)) (treeAt l n (s .fh)) (treeAt l n (s .gl))) l₁ w₁ r → RuleRan R cap l w n (choose (testBy l n op p) (treeAt l n f) (treeAt l n g)) l₁ w₁ r
+  choice-ends {s} o Q = ran-as (sym (o .is)) (lifted A (grew-as (ap (λ (t : Test). node t (treeAt l n (s .fh)) (treeAt l n (s .gl))) (test-is (A .bare .good) N refl)) Q))
+
+-- a node over the branches at h and k, its test as it was told
+pub test-told : {cap : ℕ} {l l₁ : List ℤ} {w w₁ : List ℕ} {n : ℕ} (h k : ℕ) {z z′ : Node} {r : Made} → z ≡ z′ → Grew cap l w n (node (testOf z) (treeAt l n h) (treeAt l n k)) l₁ w₁ r → Grew cap l w n (node (testOf z′) (treeAt l n h) (treeAt l n k)) l₁ w₁ r
+test-told {l = l} {n = n} h k e Q = grew-as (ap (λ (z : Node). node (testOf z) (treeAt l n h) (treeAt l n k)) e) Q
 
 -- the choice at a table that has grown
 pub choice-kept : {R : Rule} {cap : ℕ} {l l₁ l₂ : List ℤ} {w₁ w₂ : List ℕ} {n n₁ : ℕ} {op p : ℕ} (D : Grown l n l₁ n₁) (N : Names n op p) (F G : Tree) {r : Made}

@@ -1,7 +1,9 @@
 -- The sides that a rule of two operands goes on with, as functions of the nodes' words.
 use mathlib.Core.Bool.{true}
+use mathlib.Core.List.{List}
 use Prim.Native.Nat.{ℕ}
 use lib.Dec.{eqb}
+use lib.IntN.{ℤ, pos}
 use Rattle.whole.specs.Cases.{if}
 use Rattle.table.specs.declared.Node.{Node}
 use Rattle.rule_node.specs.declared.Sides.{Sides}
@@ -30,6 +32,10 @@ unfoldable pub pickOf : Down → ℕ → Down → ℕ → ℕ → ℕ → ℕ �
 pickOf x f y g a b o =
     if (x .ends) (pickLow f f y g b)
     (if (eqb a 2) (splitOf x f y g o) (if (eqb a 1) (pickLow (x .high) f y g b) (pickLow f f y g b)))
+
+-- a test by its kind and numbers: no choice goes by what lies below it
+abbrev pub testWords : ℤ → List ℤ → Node
+testWords k n = record { kind = k; n = n; high = pos 0; low = pos 0 }
 
 unfoldable pub choiceOf : Node → Node → ℕ → Node → ℕ → Sides
 choiceOf z x f y g = pickOf (downOf x) f (downOf y) g (ordNum (orderOf z x)) (ordNum (orderOf z y)) (ordNum (orderOf x y))

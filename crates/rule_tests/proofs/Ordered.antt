@@ -1,22 +1,23 @@
 -- The order of the words is the order of the tests.
 use mathlib.Core.Path.{_≡_, refl, sym, ap, ap₂, _∙_, subst}
 use mathlib.Core.Bool.{Bool, true, false}
-use Prim.Native.Nat.{ℕ, zero, suc, _+_, _-_, _<_, _^_, compare, Ordering, Ordering·lt, Ordering·eq, Ordering·gt}
+use Prim.Native.Nat.{ℕ, zero, suc, _+_, _*_, _-_, _≤_, _<_, _^_, compare, Ordering, Ordering·lt, Ordering·eq, Ordering·gt}
 use native.Mathlib.Omega.{arith}
 use borrow.Author.Tests.{ltb-true, ltb-false}
 use mathlib.Core.List.{List, [], _∷_}
-use native.Mathlib.Nat.{suc-inj}
+use native.Mathlib.Nat.{suc-inj, add-zero}
 use lib.Dec.{T, ltb, isEq}
 use lib.IntN.{ℤ, pos, natAbs}
-use lib.ListN.{length, getD, take, drop}
+use lib.ListN.{length, getD, take, drop, length-drop}
+use lib.Seq.{length-take-le, take-all, getD-take, getD-drop}
 use lib.Signed.{pos-natAbs, mag}
 use mir.Syntax.{w64}
 use mir.Val.{ofZ, toZ}
 use Rattle.whole.specs.Linears.{numbers, ordNum}
 use Rattle.whole.proofs.Comparing.{lt-cmp, gt-cmp, eq-cmp, num-eq, then-here, then-on, cmp-back, order-differs, order-goes, order-ends}
-use Rattle.table.proofs.Words.{R, same-bits}
+use Rattle.table.proofs.Words.{R, back, same-bits}
 use Rattle.table.proofs.Look.{eqZ-true}
-use Rattle.table.specs.Table.{eqZ}
+use Rattle.table.specs.Table.{node-words, nodeAt, eqZ}
 use Rattle.table.specs.declared.Node.{Node}
 use Rattle.theory.specs.Widths.{levels-most, conditions-most}
 use Rattle.theory.specs.laws.Comps.{cmpZ-eq, cmpZ-refl}
@@ -54,32 +55,67 @@ words-same : (x y : ℤ) → ofZ w64 x ≡ ofZ w64 y → 1 ≡ ordNum (cmpZ (R x
 unfolding ordNum
 words-same x y e = ap ordNum (sym (cmpZ-refl (R x)) ∙ ap (cmpZ (R x)) (ap (toZ w64) e))
 
--- the first numbers that differ decide
-module _ (a b : List ℤ) (ea : length a ≡ numbers) (eb : length b ≡ numbers) (i : ℕ) (is : cmpList (drop i a) (drop i b) ≡ cmpList a b) (h : i < numbers) (fx : mag (getD a i (pos 0)) < 2 ^ 63) (fy : mag (getD b i (pos 0)) < 2 ^ 63) where
-  pub number-differs : (ofZ w64 (getD a i (pos 0)) ≡ ofZ w64 (getD b i (pos 0)) → ⊥) → {r : ℕ} → r ≡ ordNum (cmpZ (R (getD a i (pos 0))) (R (getD b i (pos 0)))) → r ≡ ordNum (cmpList a b)
-  number-differs n e = order-differs a b ea eb i is h fx fy e (words-differ (getD a i (pos 0)) (getD b i (pos 0)) fx fy n e)
+-- numbers where they stand: those of l from i on, and those of m from j on
+module _ (l m : List ℤ) (i j : ℕ) (hl : i + numbers ≤ length l) (hm : j + numbers ≤ length m) where
+  abbrev a : List ℤ
+  a = take numbers (drop i l)
 
-  pub number-same : ofZ w64 (getD a i (pos 0)) ≡ ofZ w64 (getD b i (pos 0)) → cmpList (drop (i + 1) a) (drop (i + 1) b) ≡ cmpList a b
-  number-same e = order-goes a b ea eb i is h fx fy (words-same (getD a i (pos 0)) (getD b i (pos 0)) e) refl
+  abbrev b : List ℤ
+  b = take numbers (drop j m)
 
--- the constant decides, where the coefficients are equal
-module _ (a b : List ℤ) (ea : length a ≡ numbers) (eb : length b ≡ numbers) (i : ℕ) (ei : i ≡ levels-most) (is : cmpList (drop i a) (drop i b) ≡ cmpList a b) where
-  abbrev p : ℤ
-  p = getD a levels-most (pos 0)
+  long : (n : List ℤ) (at : ℕ) → at + numbers ≤ length n → length (take numbers (drop at n)) ≡ numbers
+  long n at h = length-take-le numbers (drop at n) (let e = length-drop at n in omega arith)
 
-  abbrev q : ℤ
-  q = getD b levels-most (pos 0)
+  part : (n : List ℤ) (at k : ℕ) → k < numbers → getD (take numbers (drop at n)) k (pos 0) ≡ getD n (at + k) (pos 0)
+  part n at k h = getD-take numbers (drop at n) k (pos 0) h ∙ getD-drop at n k (pos 0)
 
-  here : cmpList (drop levels-most a) (drop levels-most b) ≡ cmpList a b
-  here = subst (λ (i : ℕ). cmpList (drop i a) (drop i b) ≡ cmpList a b) ei is
+  -- the k-th of each, all before them being equal
+  module _ (k : ℕ) (is : cmpList (drop k a) (drop k b) ≡ cmpList a b) (h : k < numbers) (fx : mag (getD l (i + k) (pos 0)) < 2 ^ 63) (fy : mag (getD m (j + k) (pos 0)) < 2 ^ 63) where
+    abbrev x : ℤ
+    x = getD l (i + k) (pos 0)
 
-  pub constant-order : mag p < 2 ^ 63 → mag q < 2 ^ 63 → {r : ℕ} → r ≡ ordNum (cmpZ (R p) (R q)) → r ≡ ordNum (cmpList a b)
-  constant-order fa fb {r} e = go r e
+    abbrev y : ℤ
+    y = getD m (j + k) (pos 0)
+
+    fits : (n : List ℤ) (at : ℕ) → mag (getD n (at + k) (pos 0)) < 2 ^ 63 → mag (getD (take numbers (drop at n)) k (pos 0)) < 2 ^ 63
+    fits n at f = subst (λ (z : ℤ). mag z < 2 ^ 63) (sym (part n at k h)) f
+
+    there : {r : ℕ} → r ≡ ordNum (cmpZ (R x) (R y)) → r ≡ ordNum (cmpZ (R (getD a k (pos 0))) (R (getD b k (pos 0))))
+    there e = e ∙ ap₂ (λ (p q : ℤ). ordNum (cmpZ (R p) (R q))) (sym (part l i k h)) (sym (part m j k h))
+
+    -- they decide where they differ
+    unlike : {r : ℕ} → r ≡ ordNum (cmpZ (R x) (R y)) → (r ≡ 1 → ⊥) → r ≡ ordNum (cmpList a b)
+    unlike e n = order-differs a b (long l i hl) (long m j hm) k is h (fits l i fx) (fits m j fy) (there e) n
+
+    alike : 1 ≡ ordNum (cmpZ (R x) (R y)) → cmpList (drop (k + 1) a) (drop (k + 1) b) ≡ cmpList a b
+    alike e = order-goes a b (long l i hl) (long m j hm) k is h (fits l i fx) (fits m j fy) (there e) refl
+
+    pub number-differs : (ofZ w64 x ≡ ofZ w64 y → ⊥) → {r : ℕ} → r ≡ ordNum (cmpZ (R x) (R y)) → r ≡ ordNum (cmpList a b)
+    number-differs n e = unlike e (words-differ x y fx fy n e)
+
+    pub number-same : ofZ w64 x ≡ ofZ w64 y → cmpList (drop (k + 1) a) (drop (k + 1) b) ≡ cmpList a b
+    number-same e = alike (words-same x y e)
+
+  -- the first of each
+  abbrev First : ℕ → ℕ → ℕ → Type 0
+  First r u v = mag (getD l u (pos 0)) < 2 ^ 63 → mag (getD m v (pos 0)) < 2 ^ 63 → (ofZ w64 (getD l u (pos 0)) ≡ ofZ w64 (getD m v (pos 0)) → ⊥)
+      → r ≡ ordNum (cmpZ (R (getD l u (pos 0))) (R (getD m v (pos 0)))) → r ≡ ordNum (cmpList a b)
+
+  pub first-differs : (r : ℕ) → First r i j
+  first-differs r = subst (λ (u : ℕ). First r u j) (add-zero i) (subst (λ (v : ℕ). First r (i + 0) v) (add-zero j) (λ fx fy n e. number-differs 0 refl (omega arith) fx fy n e))
+
+  -- the constant decides, where the coefficients are equal
+  pub constant-order : (k : ℕ) → k ≡ levels-most → cmpList (drop k a) (drop k b) ≡ cmpList a b → mag (getD l (i + levels-most) (pos 0)) < 2 ^ 63 → mag (getD m (j + levels-most) (pos 0)) < 2 ^ 63
+      → {r : ℕ} → r ≡ ordNum (cmpZ (R (getD l (i + levels-most) (pos 0))) (R (getD m (j + levels-most) (pos 0)))) → r ≡ ordNum (cmpList a b)
+  constant-order k ek is fx fy {r} e = go r e
     where
-      go : (r : ℕ) → r ≡ ordNum (cmpZ (R p) (R q)) → r ≡ ordNum (cmpList a b)
-      go zero e = order-differs a b ea eb levels-most here (omega arith) fa fb e (λ d. omega arith)
-      go (suc zero) e = order-ends a b ea eb (levels-most + 1) (order-goes a b ea eb levels-most here (omega arith) fa fb e refl) (omega arith)
-      go (suc (suc r)) e = order-differs a b ea eb levels-most here (omega arith) fa fb e (λ d. omega arith)
+      here : cmpList (drop levels-most a) (drop levels-most b) ≡ cmpList a b
+      here = subst (λ (k : ℕ). cmpList (drop k a) (drop k b) ≡ cmpList a b) ek is
+
+      go : (r : ℕ) → r ≡ ordNum (cmpZ (R (getD l (i + levels-most) (pos 0))) (R (getD m (j + levels-most) (pos 0)))) → r ≡ ordNum (cmpList a b)
+      go zero e = unlike levels-most here (omega arith) fx fy e (λ d. omega arith)
+      go (suc zero) e = order-ends a b (long l i hl) (long m j hm) (levels-most + 1) (alike levels-most here (omega arith) fx fy e) (omega arith)
+      go (suc (suc r)) e = unlike levels-most here (omega arith) fx fy e (λ d. omega arith)
 
 linear-order : (x y : Node) → length (x .n) ≡ numbers → length (y .n) ≡ numbers → cmpList (x .n) (y .n) ≡ cmp (linear (linOf x)) (linear (linOf y))
 unfolding cmp cmpLinear linOf
@@ -161,21 +197,44 @@ lin-later p j = refl
 lin-con : (p : Linear) (j : ℕ) → Ordering·gt ≡ cmp (linear p) (conditionOf j)
 lin-con p j = by-word j (λ q. lin-later p _ ∙ ap (cmp (linear p)) (sym (later-is j q))) (λ q. lin-now p _ ∙ ap (cmp (linear p)) (sym (now-is j q)))
 
--- nodes whose kinds the code has told
-module _ (x y : Node) (k l : ℕ) (fx : mag (x .kind) < 2 ^ 63) (fy : mag (y .kind) < 2 ^ 63) (fk : k < 2 ^ 63) (fl : l < 2 ^ 63) where
-  pub kinds-order : ofZ w64 (x .kind) ≡ ofZ w64 (pos k) → ofZ w64 (y .kind) ≡ ofZ w64 (pos l) → {r : ℕ} → r ≡ ordNum (then (compare k l) (cmpList (x .n) (y .n))) → r ≡ ordNum (orderOf x y)
-  unfolding orderOf
-  kinds-order p q e = e ∙ sym (ap₂ (λ (a b : ℤ). ordNum (then (cmpZ a b) (cmpList (x .n) (y .n)))) (same-bits (x .kind) (pos k) fx fk p) (same-bits (y .kind) (pos l) fy fl q))
+-- kinds that the code has told, o being the order of the numbers
+module _ (x y : ℤ) (o : Ordering) (fx : mag x < 2 ^ 63) (fy : mag y < 2 ^ 63) where
+  pub kinds-order : (k l : ℕ) → k < 2 ^ 63 → l < 2 ^ 63 → ofZ w64 x ≡ ofZ w64 (pos k) → ofZ w64 y ≡ ofZ w64 (pos l) → {r : ℕ} → r ≡ ordNum (then (compare k l) o) → r ≡ ordNum (then (cmpZ x y) o)
+  kinds-order k l fk fl p q e = e ∙ sym (ap₂ (λ (a b : ℤ). ordNum (then (cmpZ a b) o)) (same-bits x (pos k) fx fk p) (same-bits y (pos l) fy fl q))
 
--- nodes whose kinds differ, and nodes of one kind
-module _ (x y : Node) (fx : mag (x .kind) < 2 ^ 63) (fy : mag (y .kind) < 2 ^ 63) where
-  pub kinds-differ : (ofZ w64 (x .kind) ≡ ofZ w64 (y .kind) → ⊥) → {r : ℕ} → r ≡ ordNum (cmpZ (R (x .kind)) (R (y .kind))) → r ≡ ordNum (orderOf x y)
-  unfolding orderOf
-  kinds-differ n e = then-here (cmpZ (x .kind) (y .kind)) _ (cmp-back (x .kind) (y .kind) fx fy e) (words-differ (x .kind) (y .kind) fx fy n e)
+  -- kinds that differ, and kinds that do not
+  pub kinds-differ : (ofZ w64 x ≡ ofZ w64 y → ⊥) → {r : ℕ} → r ≡ ordNum (cmpZ (R x) (R y)) → r ≡ ordNum (then (cmpZ x y) o)
+  kinds-differ n e = then-here (cmpZ x y) o (cmp-back x y fx fy e) (words-differ x y fx fy n e)
 
-  pub kinds-same : ofZ w64 (x .kind) ≡ ofZ w64 (y .kind) → {r : ℕ} → r ≡ ordNum (cmpList (x .n) (y .n)) → r ≡ ordNum (orderOf x y)
-  unfolding orderOf
-  kinds-same d e = then-on (cmpZ (x .kind) (y .kind)) _ (cmp-back (x .kind) (y .kind) fx fy (words-same (x .kind) (y .kind) d)) refl e
+  pub kinds-same : ofZ w64 x ≡ ofZ w64 y → {r : ℕ} → r ≡ ordNum o → r ≡ ordNum (then (cmpZ x y) o)
+  kinds-same d e = then-on (cmpZ x y) o (cmp-back x y fx fy (words-same x y d)) refl e
+
+  -- kinds that were read from the words
+  kinds-read : {r : ℕ} → r ≡ ordNum (then (cmpZ (R x) (R y)) o) → r ≡ ordNum (then (cmpZ x y) o)
+  kinds-read e = e ∙ ap₂ (λ (a b : ℤ). ordNum (then (cmpZ a b) o)) (back x fx) (back y fy)
+
+-- a test's words against those of the node at g, as they are read
+module _ (l : List ℤ) (g : ℕ) where
+  abbrev kindOf : ℕ → ℤ
+  kindOf i = getD l (i * node-words) (pos 0)
+
+  abbrev numbersOf : ℕ → List ℤ
+  numbersOf i = take numbers (drop (i * node-words + 1) l)
+
+  module _ (fg : mag (kindOf g) < 2 ^ 63) {r : ℕ} where
+    pub order-read : (x : ℤ) (a : List ℤ) → mag x < 2 ^ 63 → r ≡ ordNum (then (cmpZ (R x) (R (kindOf g))) (cmpList a (numbersOf g))) → r ≡ ordNum (then (cmpZ x (nodeAt l g .kind)) (cmpList a (nodeAt l g .n)))
+    unfolding nodeAt
+    order-read x a fx e = kinds-read x (kindOf g) _ fx fg e
+
+    -- the other is by value, its numbers lent whole
+    pub order-lent : (z : Node) → length (z .n) ≡ numbers → mag (z .kind) < 2 ^ 63 → r ≡ ordNum (then (cmpZ (R (kindOf g)) (R (z .kind))) (cmpList (numbersOf g) (take numbers (z .n)))) → r ≡ ordNum (orderOf (nodeAt l g) z)
+    unfolding orderOf nodeAt
+    order-lent z h fz e = kinds-read (kindOf g) (z .kind) _ fg fz e ∙ ap (λ (a : List ℤ). ordNum (then (cmpZ (kindOf g) (z .kind)) (cmpList (numbersOf g) a))) (take-all numbers (z .n) (omega arith))
+
+  -- the other stands at f
+  pub order-stands : (f : ℕ) → mag (kindOf f) < 2 ^ 63 → {r : ℕ} → r ≡ ordNum (then (cmpZ (R (kindOf f)) (nodeAt l g .kind)) (cmpList (numbersOf f) (nodeAt l g .n))) → r ≡ ordNum (orderOf (nodeAt l f) (nodeAt l g))
+  unfolding orderOf nodeAt
+  order-stands f h e = e ∙ ap (λ (x : ℤ). ordNum (then (cmpZ x (kindOf g)) (cmpList (numbersOf f) (numbersOf g)))) (back (kindOf f) h)
 
 -- the order of two nodes' words is the order of their tests
 module _ (x y : Node) (vx : Tested x) (vy : Tested y) where

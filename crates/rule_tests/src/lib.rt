@@ -1,11 +1,14 @@
 // Numbers and tests compared, the test that a choice is given, and what lies below a node.
 ghost use mathlib.Core.Path.{_≡_};
+ghost use mathlib.Core.Bool.{true, false};
 ghost use Prim.Native.Nat.{_+_, _≤_};
-ghost use lib.Dec.{T};
-ghost use lib.Signed.{nonNeg};
+ghost use lib.ListN.{length, take, drop};
+ghost use Rattle.whole.specs.Linears.{numbers};
+ghost use Rattle.table.specs.Table.{nodeAt, isLeaf};
 ghost use Rattle.theory.specs.Widths.{conditions-most};
-ghost use Rattle.theory.specs.Diagram.{cmpList};
-ghost use Rattle.rule_node.specs.Nodes.{Nums};
+ghost use Rattle.theory.specs.Diagram.{then, cmpZ, cmpList};
+ghost use Rattle.rule_node.specs.Codes.{choose-later-code};
+ghost use Rattle.rule_node.specs.Nodes.{Nums, At};
 ghost use Rattle.rule_node.specs.Roots.{ordNum, orderOf, conditionNode, laterNode, namedNode, testNode, Readable, downOf};
 use rule_node::Down;
 use rule_node::codes::AFTER;
@@ -14,80 +17,108 @@ use rule_node::codes::CHOOSE_LATER;
 use rule_node::codes::CONDITION;
 use rule_node::codes::LINEAR;
 use rule_node::index;
+use table::HIGH;
+use table::LOW;
+use table::NODE_WORDS;
 use table::Node;
 use whole::COEFFICIENTS;
 use whole::NUMBERS;
 use whole_linears::compare_two;
 use whole_linears::divided;
 
-// What lies below a node.
-pub fn below(x: Node) -> Down
-    requires { ⌜ T (nonNeg (x .high)) × T (nonNeg (x .low)) ⌝ }
-    ensures { λ r. ⌜ r ≡ downOf x ⌝ }
+// What lies below the node at i: its kind and its branches are read, no numbers.
+pub fn below_at(nodes: &[i64], i: usize) -> Down
+    requires { ⌜ At (now nodes) i ⌝ }
+    ensures { λ r. ⌜ r ≡ downOf (nodeAt (now (nodes .entry)) i) ⌝ }
 {
-    let h = x.high;
-    let l = x.low;
+    let at = i * NODE_WORDS;
+    let kind = nodes[at];
+    let h = nodes[at + HIGH];
+    let l = nodes[at + LOW];
     let high = index(h);
     let low = index(l);
-    if table::is_leaf(x.kind) {
-        return Down {
-            ends: true,
-            high,
-            low,
-        };
-    }
-    Down {
-        ends: false,
-        high,
-        low,
-    }
+    let ends = table::is_leaf(kind);
+    Down { ends, high, low }
 }
 
-// Two linear tests, coefficient by coefficient, then by the constant.
-fn order_linears(a: [i64; NUMBERS], b: [i64; NUMBERS]) -> usize
-    ensures { λ r. ⌜ r ≡ ordNum (cmpList a b) ⌝ }
+// The numbers of two tests where they stand, from i and from j on: coefficient by coefficient, then the constant.
+fn order_numbers(a: &[i64], i: usize, b: &[i64], j: usize) -> usize
+    requires { ⌜ (i + numbers ≤ length (now a)) × (j + numbers ≤ length (now b)) ⌝ }
+    ensures { λ r. ⌜ r ≡ ordNum (cmpList (take numbers (drop i (now (a .entry)))) (take numbers (drop j (now (b .entry))))) ⌝ }
 {
-    let mut i: usize = 0;
-    while i < COEFFICIENTS {
-        let p = a[i];
-        let q = b[i];
+    let mut k: usize = 0;
+    while k < COEFFICIENTS {
+        let p = a[i + k];
+        let q = b[j + k];
         if p != q {
             return compare_two(p, q);
         }
-        i += 1;
+        k += 1;
     }
-    compare_two(a[COEFFICIENTS], b[COEFFICIENTS])
+    let c = a[i + COEFFICIENTS];
+    let d = b[j + COEFFICIENTS];
+    compare_two(c, d)
 }
 
-// The order of two tests, a case each. All numbers are compared in one place, the last, so that this stays small enough
-// to be compiled into its callers: those of linear tests, and of what no case before tells apart, as a condition and itself.
-pub fn order(x: Node, y: Node) -> usize
-    ensures { λ r. ⌜ r ≡ ordNum (orderOf x y) ⌝ }
+// The order of two tests, a case each: kinds x and y, and their numbers where they stand. All numbers are compared in one
+// place, the last, so that this stays small enough to be compiled into its callers: those of linear tests, and of what no
+// case before tells apart, as a condition and itself.
+pub fn order_words(x: i64, a: &[i64], i: usize, y: i64, b: &[i64], j: usize) -> usize
+    requires { ⌜ (i + numbers ≤ length (now a)) × (j + numbers ≤ length (now b)) ⌝ }
+    ensures { λ r. ⌜ r ≡ ordNum (then (cmpZ x y) (cmpList (take numbers (drop i (now (a .entry)))) (take numbers (drop j (now (b .entry)))))) ⌝ }
 {
     // A condition comes before a linear test.
-    if x.kind == LINEAR {
-        if y.kind == CONDITION {
+    if x == LINEAR {
+        if y == CONDITION {
             return AFTER;
         }
     }
-    if x.kind == CONDITION {
-        if y.kind == LINEAR {
+    if x == CONDITION {
+        if y == LINEAR {
             return BEFORE;
         }
         // Two conditions go by number.
-        if y.kind == CONDITION {
-            let j = x.n[0];
-            let k = y.n[0];
-            if j != k {
-                return compare_two(j, k);
+        if y == CONDITION {
+            let m = a[i];
+            let n = b[j];
+            if m != n {
+                return compare_two(m, n);
             }
         }
     }
     // A leaf is no test: it keeps the place that its words give it, and no rule goes by it.
-    if x.kind != y.kind {
-        return compare_two(x.kind, y.kind);
+    if x != y {
+        return compare_two(x, y);
     }
-    order_linears(x.n, y.n)
+    order_numbers(a, i, b, j)
+}
+
+// The order of a test of kind x, its numbers in a from i on, and the one at g.
+pub fn order_to(x: i64, a: &[i64], i: usize, nodes: &[i64], g: usize) -> usize
+    requires { ⌜ (i + numbers ≤ length (now a)) × At (now nodes) g ⌝ }
+    ensures { λ r. ⌜ r ≡ ordNum (then (cmpZ x (nodeAt (now (nodes .entry)) g .kind)) (cmpList (take numbers (drop i (now (a .entry)))) (nodeAt (now (nodes .entry)) g .n))) ⌝ }
+{
+    let j = g * NODE_WORDS;
+    order_words(x, a, i, nodes[j], nodes, j + 1)
+}
+
+// The order of the tests at f and g.
+pub fn order_at(nodes: &[i64], f: usize, g: usize) -> usize
+    requires { ⌜ At (now nodes) f × At (now nodes) g ⌝ }
+    ensures { λ r. ⌜ r ≡ ordNum (orderOf (nodeAt (now (nodes .entry)) f) (nodeAt (now (nodes .entry)) g)) ⌝ }
+{
+    let i = f * NODE_WORDS;
+    order_to(nodes[i], nodes, i + 1, nodes, g)
+}
+
+// The order of the test at f and another.
+pub fn order_from(nodes: &[i64], f: usize, z: Node) -> usize
+    requires { ⌜ At (now nodes) f ⌝ }
+    ensures { λ r. ⌜ r ≡ ordNum (orderOf (nodeAt (now (nodes .entry)) f) z) ⌝ }
+{
+    let n = z.n;
+    let i = f * NODE_WORDS;
+    order_words(nodes[i], nodes, i + 1, z.kind, &n, 0)
 }
 
 // Condition k as a test: "1 to n for a condition now, 5 to 4+n for the next step's".
@@ -141,4 +172,19 @@ pub fn test_at(nodes: &[i64], op: usize, p: usize) -> Node
         return later(p);
     }
     named(table::get(nodes, p))
+}
+
+// Whether that test stands in the table, as the root of the node at p.
+pub fn stands_at(nodes: &[i64], op: usize, p: usize) -> bool
+    requires { ⌜ Readable (now nodes) op p ⌝ }
+    ensures { λ r. ⌜ (r ≡ true → (op ≡ choose-later-code → ⊥) × (isLeaf (nodeAt (now (nodes .entry)) p .kind) ≡ false)) ⌝ }
+{
+    if op == CHOOSE_LATER {
+        return false;
+    }
+    let kind = nodes[p * NODE_WORDS];
+    if table::is_leaf(kind) {
+        return false;
+    }
+    true
 }

@@ -160,15 +160,14 @@ unfolding wayBy
 way-as d op o b c e₁ e₂ = λ i. if (sym e₁ i) (if (sym e₂ i) (record { ends = d .ends; picks = true; high = d .high; low = d .low })
     (record { ends = d .ends; picks = true; high = d .low; low = d .low })) (record { ends = d .ends; picks = false; high = d .high; low = d .low })
 
-pub way-other : {x x′ : Node} {d : Down} {r : Way} (op p : ℕ) → x ≡ x′ → d ≡ downOf x → r ≡ wayBy d op 0 → op < 7 → r ≡ wayOf op p x′
-unfolding wayOf
-way-other {x′ = x′} op p ex ed er h =
-    er ∙ (ap (λ (d : Down). wayBy d op 0) (ed ∙ ap downOf ex) ∙ ap (λ (b : Bool). wayBy (downOf x′) op (if b 0 (ordNum (orderOf x′ (laterNode p))))) (sym (lt-ltb op 7 h)))
+module _ (x : Node) {d : Down} {r : Way} (op p : ℕ) (ed : d ≡ downOf x) where
+  pub way-other : r ≡ wayBy d op 0 → op < 7 → r ≡ wayOf op p x
+  unfolding wayOf
+  way-other er h = er ∙ (ap (λ (d : Down). wayBy d op 0) ed ∙ ap (λ (b : Bool). wayBy (downOf x) op (if b 0 (ordNum (orderOf x (laterNode p))))) (sym (lt-ltb op 7 h)))
 
-pub way-side : {x x′ z : Node} {d : Down} {o : ℕ} {r : Way} (op p : ℕ) → x ≡ x′ → d ≡ downOf x → z ≡ laterNode p → o ≡ ordNum (orderOf x z) → r ≡ wayBy d op o → 7 ≤ op → r ≡ wayOf op p x′
-unfolding wayOf
-way-side {x} {x′} {z} {d} op p ex ed ez eo er h =
-    er ∙ (ap (λ (k : ℕ). wayBy d op k) (eo ∙ ap (λ (z : Node). ordNum (orderOf x z)) ez)
-    ∙ (ap (λ (d : Down). wayBy d op (ordNum (orderOf x (laterNode p)))) ed
-    ∙ (ap (λ (y : Node). wayBy (downOf y) op (ordNum (orderOf y (laterNode p)))) ex
-    ∙ ap (λ (b : Bool). wayBy (downOf x′) op (if b 0 (ordNum (orderOf x′ (laterNode p))))) (sym (le-ltb op 7 h)))))
+  pub way-side : {z : Node} {o : ℕ} → z ≡ laterNode p → o ≡ ordNum (orderOf x z) → r ≡ wayBy d op o → 7 ≤ op → r ≡ wayOf op p x
+  unfolding wayOf
+  way-side ez eo er h =
+      er ∙ (ap (λ (k : ℕ). wayBy d op k) (eo ∙ ap (λ (z : Node). ordNum (orderOf x z)) ez)
+      ∙ (ap (λ (d : Down). wayBy d op (ordNum (orderOf x (laterNode p)))) ed
+      ∙ ap (λ (b : Bool). wayBy (downOf x) op (if b 0 (ordNum (orderOf x (laterNode p))))) (sym (le-ltb op 7 h))))

@@ -9,9 +9,9 @@ ghost use Rattle.rule_unary_node.specs.Acts.{wayBy, wayOf};
 use super::Way;
 use rule_node::Down;
 use rule_node::codes::YES_SIDE;
-use rule_tests::below;
+use rule_tests::below_at;
 use rule_tests::later;
-use rule_tests::order;
+use rule_tests::order_from;
 
 // The way on from what lies below a node, o being the order of its test and the condition that is picked by.
 pub fn way(d: Down, op: usize, o: usize) -> Way
@@ -46,11 +46,10 @@ pub fn way_at(nodes: &[i64], op: usize, f: usize, p: usize) -> Way
     requires { ⌜ At (now nodes) f × (yes-side-code ≤ op → p ≤ conditions-most) ⌝ }
     ensures { λ r. ⌜ r ≡ wayOf op p (nodeAt (now (nodes .entry)) f) ⌝ }
 {
-    let x = table::get(nodes, f);
-    let d = below(x);
+    let d = below_at(nodes, f);
     if op < YES_SIDE {
         return way(d, op, 0);
     }
-    let o = order(x, later(p));
+    let o = order_from(nodes, f, later(p));
     way(d, op, o)
 }

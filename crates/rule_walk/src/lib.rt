@@ -15,7 +15,7 @@ use rule_leaves::numbers::is_constant;
 use rule_node::Down;
 use rule_node::codes::CHOOSE_NAMED;
 use rule_node::codes::WALK;
-use rule_tests::below;
+use rule_tests::below_at;
 use table::Made;
 use table_cache::keep;
 use table_cache::look;
@@ -25,7 +25,7 @@ pub fn down_at(nodes: &[i64], f: usize) -> Down
     requires { ⌜ At (now nodes) f ⌝ }
     ensures { λ r. ⌜ r ≡ downOf (nodeAt (now (nodes .entry)) f) ⌝ }
 {
-    below(table::get(nodes, f))
+    below_at(nodes, f)
 }
 
 // At the leaf f: a constant decides, g where it is at most 0 and else p; another linear is a choice by the test that the leaf names.
