@@ -127,7 +127,16 @@ fn first_root(nodes: &[i64], x: Down, f: usize, y: Down, g: usize) -> Sides
 
 // The low operand's part in a choice by a test of kind k, its numbers in t from i on, the high side being p of f; where the
 // operand ends there is nothing to compare.
-fn low_part(nodes: &[i64], k: i64, t: &[i64], i: usize, p: usize, f: usize, y: Down, g: usize) -> Sides
+fn low_part(
+    nodes: &[i64],
+    k: i64,
+    t: &[i64],
+    i: usize,
+    p: usize,
+    f: usize,
+    y: Down,
+    g: usize,
+) -> Sides
     requires { ⌜ (i + numbers ≤ length (now t)) × At (now nodes) g ⌝ }
     ensures { λ r. ⌜ r ≡ pickLow p f y g (ordNum (orderOf (testWords k (take numbers (drop i (now (t .entry))))) (nodeAt (now (nodes .entry)) g))) ⌝ }
 {
