@@ -60,9 +60,9 @@ fn order_numbers(a: &[i64], i: usize, b: &[i64], j: usize) -> usize
     compare_two(c, d)
 }
 
-// The order of two tests, a case each: kinds x and y, and their numbers where they stand. All numbers are compared in one
-// place, the last, so that this stays small enough to be compiled into its callers: those of linear tests, and of what no
-// case before tells apart, as a condition and itself.
+// The order of two tests, a case each: of kinds x and y, their numbers in a from i on and in b from j on. All numbers are
+// compared in one place, the last, so that this stays small: those of linear tests, and of what no case before tells apart,
+// as a condition and itself.
 pub fn order_words(x: i64, a: &[i64], i: usize, y: i64, b: &[i64], j: usize) -> usize
     requires { ⌜ (i + numbers ≤ length (now a)) × (j + numbers ≤ length (now b)) ⌝ }
     ensures { λ r. ⌜ r ≡ ordNum (then (cmpZ x y) (cmpList (take numbers (drop i (now (a .entry)))) (take numbers (drop j (now (b .entry)))))) ⌝ }
