@@ -325,6 +325,29 @@ fn limits_stop_alike() {
     assert!(texts >= 100, "{texts}");
 }
 
+/// What a quoted text holds, up to its closing quote, and what follows.
+fn unquoted(quoted: &str) -> (Vec<u8>, &str) {
+    let (mut text, mut rest) = (Vec::new(), quoted.chars());
+    loop {
+        let letter = match rest.next().expect("a closing quote") {
+            '"' => return (text, rest.as_str()),
+            '\\' => match rest.next().expect("an escape") {
+                'n' => '\n',
+                'r' => '\r',
+                't' => '\t',
+                'u' => {
+                    let (code, behind) = rest.as_str()[1..].split_once('}').expect("a code");
+                    rest = behind.chars();
+                    char::from(u8::from_str_radix(code, 16).expect("a byte"))
+                }
+                other => other,
+            },
+            other => other,
+        };
+        text.push(u8::try_from(letter).expect("a byte"));
+    }
+}
+
 /// The rows that the prover computes (`crates/import_grammar`), read from its file.
 #[test]
 fn the_proved_examples() {
@@ -333,13 +356,12 @@ fn the_proved_examples() {
     let mut rows = 0;
     for line in examples.lines() {
         let Some((_, row)) =
-            line.split_once("row (").filter(|(before, _)| before.trim_start_matches([' ', '∷']).is_empty())
+            line.split_once("row \"").filter(|(before, _)| before.trim_start_matches([' ', '∷']).is_empty())
         else {
             continue;
         };
-        let (bytes, place) = row.split_once(") ").expect("bytes and a place");
-        let text: Vec<u8> = bytes.split(" ∷ ").filter_map(|byte| byte.parse().ok()).collect();
-        let place: usize = place.trim_end_matches(')').parse().expect("a place");
+        let (text, place) = unquoted(row);
+        let place: usize = place.trim().parse().expect("a place");
         assert_eq!(read(&text).err().unwrap_or(1_000_000), place, "{}", String::from_utf8_lossy(&text));
         rows += 1;
     }
