@@ -1,4 +1,6 @@
 // An answer as bytes at the start of a lent slice, low byte first.
+#![tactic(auto)]
+
 ghost use Rattle.std.specs.Prelude.{◌≡◌, ◌+◌, ◌≤◌, length};
 ghost use Rattle.text_decimal.specs.Put.{PutAt};
 ghost use Rattle.c_answers.specs.Answers.{le, pair_bytes};

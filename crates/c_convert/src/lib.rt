@@ -1,4 +1,6 @@
 // Conversions with the rest of their answer as bytes, as a host in C asks for it: a call and a copy.
+#![tactic(auto)]
+
 ghost use Rattle.std.specs.Prelude.{◌≡◌};
 ghost use Rattle.model_form.specs.Forms.{form_of};
 ghost use Rattle.convert_model.specs.Conversion.{conversion};

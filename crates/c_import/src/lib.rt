@@ -1,4 +1,6 @@
 // An import with the rest of its answer as bytes, as a host in C asks for it: a call and a copy.
+#![tactic(auto)]
+
 ghost use Rattle.std.specs.Prelude.{◌≡◌};
 ghost use Rattle.c_answers.specs.Texts.{listed, listing_answer};
 ghost use Rattle.import_model.specs.Import.{import_text};

@@ -1,4 +1,6 @@
 // A page with the rest of its answer as bytes, as a host in C asks for it.
+#![tactic(auto)]
+
 ghost use Rattle.std.specs.Prelude.{◌≡◌, [], ◌∷◌};
 ghost use Rattle.value_walk.specs.State.{asked_by};
 ghost use Rattle.text_page_lines.specs.Page.{page as page-of};

@@ -1,4 +1,6 @@
 // A path for a stage with the rest of its answer as bytes, as a host in C asks for it.
+#![tactic(auto)]
+
 ghost use Rattle.std.specs.Prelude.{◌≡◌};
 ghost use Rattle.prune_paths.specs.Prune.{prune as prune-of};
 ghost use Rattle.c_prune.specs.Answer.{pruned, prune_answer};

@@ -1,4 +1,6 @@
 // Whether the plan's action is sure, with the rest of its answer as bytes, as a host in C asks for it.
+#![tactic(auto)]
+
 ghost use Rattle.std.specs.Prelude.{◌≡◌, [], ◌∷◌};
 ghost use Rattle.value_walk.specs.State.{asked_by};
 ghost use Rattle.c_answers.specs.Answers.{answered};

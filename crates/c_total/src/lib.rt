@@ -1,4 +1,6 @@
 // Both actions and the total of two sites with the rest of the answer as bytes, as a host in C asks for it.
+#![tactic(auto)]
+
 ghost use Rattle.std.specs.Prelude.{◌≡◌, [], ◌∷◌, ◌≤◌, length};
 ghost use Rattle.text_decimal.specs.Put.{PutAt};
 ghost use Rattle.value_walk.specs.State.{asked_by};

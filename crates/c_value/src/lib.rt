@@ -1,4 +1,6 @@
 // A value read at a state, or worked plainly, with the rest of its answer as bytes, as a host in C asks for it.
+#![tactic(auto)]
+
 ghost use Rattle.std.specs.Prelude.{◌≡◌, [], ◌∷◌};
 ghost use Rattle.theory.specs.Value.{value_of};
 ghost use Rattle.theory.specs.Plain.{plain_of};

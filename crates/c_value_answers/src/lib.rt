@@ -1,4 +1,6 @@
 // The answer of a value: place, action, low word, high word.
+#![tactic(auto)]
+
 ghost use Rattle.std.specs.Prelude.{◌≡◌, ◌+◌, ◌≤◌, length};
 ghost use Rattle.text_decimal.specs.Put.{PutAt};
 ghost use Rattle.value_walk.specs.Out.{out as value_out};

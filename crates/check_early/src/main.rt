@@ -1,4 +1,6 @@
 // The refusals before the model's own: 10, then 9; and models of 262,144 and 262,145 bytes.
+#![tactic(auto)]
+
 use check_hex::report;
 
 // The longest model that is accepted, and a byte more.

@@ -2,6 +2,8 @@
 // what depends on the widths of operands, so that a change of them changes the letters' meaning here and no text:
 // S for the byte of a site; A, behind the low byte of an action, for its other bytes; K, behind the coefficients of L1 to
 // L4, for those of further levels; P for a leaf 0. Other characters stand for nothing. And what such programs print.
+#![tactic(auto)]
+
 ghost use Rattle.std.specs.Prelude.{◌≤◌, ◌<◌, length};
 
 pub mod report; // report.rt: numbers and refusals printed

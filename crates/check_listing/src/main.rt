@@ -1,5 +1,7 @@
 // Listings of the pond from tables that are filled by hand: whole, from a place, of a smaller horizon, and each refusal.
 // The buffer is full of dots before, so that they show what stays untouched.
+#![tactic(auto)]
+
 use check_hex::report;
 use table::{HIGH, LOW, NODE_WORDS};
 use whole::NUMBERS;

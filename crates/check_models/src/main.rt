@@ -1,5 +1,7 @@
 // Verdicts of the models on standard input, a line each: a label, a colon, and the model as hexadecimal text.
 // A line without a colon is copied.
+#![tactic(auto)]
+
 use check_hex::{find, report};
 use libc::STDIN_FILENO;
 

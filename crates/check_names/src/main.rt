@@ -1,4 +1,6 @@
 // Names without their trailing spaces, and the refusals of a name.
+#![tactic(auto)]
+
 use check_hex::report;
 
 // The name in brackets, then the call's number and place.

@@ -1,5 +1,7 @@
 // The pond's stages step by step: each operation of horizon 2 by itself, with the count of nodes after it, the peak and the
 // node that it came to; then the canonical tables, as a listing.
+#![tactic(auto)]
+
 ghost use Rattle.std.specs.Prelude.{◌≡◌, true, ◌≤◌, ◌<◌, length};
 ghost use Rattle.theory.specs.Widths.{bytes_most, roots_most};
 ghost use Rattle.theory.specs.Verdict.{verdict};
@@ -59,7 +61,7 @@ fn node(nodes: &[i64], at: u32) {
 }
 
 // Where the steps stand: what stopped them, or 0; how many nodes there are; the peak; how many roots are held.
-#[derive(Drop)]
+#[derive(Clone, Copy)]
 struct Stand {
     stop: usize,
     count: usize,

@@ -1,12 +1,14 @@
 // The commands of the models on standard input, a line each: a label, a colon, and the model as hexadecimal text.
 // A reader over the model from each command on reads that command and the one behind it; both are compared with the
 // cursor's. A line without a colon is copied.
+#![tactic(auto)]
+
 use check_hex::{find, report};
 use libc::STDIN_FILENO;
 use model_command::{Command, Read};
 
 // A command's byte and its operands of one or two bytes, 0 where it has fewer; byte 0 for an unknown one, 1 for one that is cut.
-#[derive(Drop)]
+#[derive(Clone, Copy)]
 struct Row {
     byte: u8,
     first: u16,

@@ -1,10 +1,12 @@
 // Rules on a table step by step, for test programs: each step a row of four numbers, each outcome a line.
+#![tactic(auto)]
+
 mod rules; // rules.rt: one step on the table
 mod lines; // lines.rt: rows read, outcomes printed
 pub mod runs; // runs.rt: all rows from an empty table
 
 // A step: the rule's number, the nodes it works on, its numbers as written.
-#[derive(Drop)]
+#[derive(Clone, Copy)]
 pub struct Step {
     pub op: usize,
     pub f: usize,
@@ -15,7 +17,7 @@ pub struct Step {
 }
 
 // The numbers of a rule, where those that are written fit it.
-#[derive(Drop)]
+#[derive(Clone, Copy)]
 pub struct Numbers {
     pub fits: bool,
     pub p: usize,

@@ -1,4 +1,6 @@
 // Staircases merged in a table of 49,152 nodes: what each step came to, as its refusal's number and the count of nodes.
+#![tactic(auto)]
+
 ghost use Rattle.std.specs.Prelude.{◌≤◌, ◌<◌};
 ghost use Rattle.rule_node.specs.Table.{Table};
 ghost use Rattle.rule_node.specs.EntryMeaning.{rule_of};

@@ -1,6 +1,8 @@
 // Numbers at the limits ±(2⁶² − 1) and one beyond (11); tables exactly full and one short (12).
 // A row is a rule, two lines and a number: 9 the leaf b L1 + c, 0 sum, 1 product, 2 best, 3 scale, 4 shift. A rule
 // on a line that came to no node is not run: 255.
+#![tactic(auto)]
+
 use table::NODE_WORDS;
 use table_unique::WORK_WORDS;
 

@@ -1,6 +1,8 @@
 // Shared diagrams: equal nodes are one node, a rule run again makes nothing, the order of choices does not matter.
 // A row is a rule, two lines and a number: 9 the leaf b L1 + c, 0 sum, 2 best, 7 and 8 the sides of condition c + 4,
 // 10 the choice by condition c + 4, 11 the choice by the test that line c's node names, 12 a node of condition c.
+#![tactic(auto)]
+
 use table::NODE_WORDS;
 use table_unique::WORK_WORDS;
 

@@ -1,5 +1,7 @@
 // Solving and reading: the pond and the rain at all horizons, tables exactly large enough and one node short, the
 // refusals of both calls, the pond with an end worth, and the same tables lent again and again.
+#![tactic(auto)]
+
 ghost use Rattle.std.specs.Prelude.{◌≤◌, length};
 
 use libc::STDOUT_FILENO;
@@ -28,14 +30,14 @@ const ENDED: usize = 737;
 const END: usize = 1092;
 
 // A part of the models' bytes.
-#[derive(Drop)]
+#[derive(Clone, Copy)]
 struct Part {
     from: usize,
     to: usize,
 }
 
 // A solve: its name and its model by number, the horizon, the room in nodes, the stage words.
-#[derive(Drop)]
+#[derive(Clone, Copy)]
 struct Case {
     name: usize,
     model: usize,

@@ -1,4 +1,6 @@
 // Where the texts on standard input stop, a line each: the text, and below it the number and the place.
+#![tactic(auto)]
+
 use check_hex::{find, report};
 use import_scan::Scanned;
 use libc::STDIN_FILENO;

@@ -1,5 +1,7 @@
 // Plain working of the states on standard input, a line each: a label, a colon, and as hexadecimal text the steps left, the mask,
 // the numerators of eight levels and the denominator, four bytes each, then the model. A line without a colon is copied.
+#![tactic(auto)]
+
 ghost use Rattle.std.specs.Prelude.{◌<◌};
 
 use check_hex::{find, report};

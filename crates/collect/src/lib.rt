@@ -1,4 +1,6 @@
 // Nodes used again: the table is made to hold exactly the nodes that roots need, in their order.
+#![tactic(auto)]
+
 ghost use Rattle.std.specs.Prelude.{◌≡◌, ◌*◌, ◌≤◌, length};
 ghost use Rattle.rule_node.specs.Nodes.{Good};
 ghost use Rattle.table_unique.specs.Unique.{Space};

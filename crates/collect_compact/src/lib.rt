@@ -1,5 +1,7 @@
 // Marked nodes slide down, in order. Work words: a mark for each node at 0 to cap, and for each
 // marked node its new index at cap to 2 cap.
+#![tactic(auto)]
+
 ghost use Rattle.std.specs.Prelude.{◌*◌, ◌≤◌, ◌<◌, length};
 ghost use Rattle.table.specs.Table.{node_words, node_at, nodes_most};
 ghost use Rattle.rule_node.specs.Nodes.{Valid, Good};

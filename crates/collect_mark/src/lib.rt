@@ -1,4 +1,6 @@
 // Marks the nodes that roots need, in the first cap work words: one pass from the last node down.
+#![tactic(auto)]
+
 ghost use Rattle.std.specs.Prelude.{◌≡◌, ◌+◌, ◌*◌, ◌≤◌, ◌<◌, length};
 ghost use Rattle.table.specs.Table.{node_words, node_at, nodes_most};
 ghost use Rattle.rule_node.specs.Nodes.{Valid, Good};

@@ -1,4 +1,6 @@
 // The hash chains of a table made anew, and its computed cache emptied: for indexes that have moved.
+#![tactic(auto)]
+
 ghost use Rattle.table_unique.specs.Unique.{Space};
 ghost use Rattle.collect_rehash.specs.Rehash.{Rehashed};
 

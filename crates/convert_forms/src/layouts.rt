@@ -10,7 +10,7 @@ use model_command::NAME_BYTES;
 use model_form::{Form, action_bytes, levels, site_byte};
 
 // A command's operands: bytes that are the same in both forms, those that differ, and again some that are the same.
-#[derive(Drop)]
+#[derive(Clone, Copy)]
 pub struct Layout {
     pub before: usize,
     pub differing: usize,

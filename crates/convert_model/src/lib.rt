@@ -1,4 +1,6 @@
 // Old models into new, and back: the model's own refusals, what does not fit, a short buffer, and only then the bytes.
+#![tactic(auto)]
+
 ghost use Rattle.std.specs.Prelude.{◌≡◌, ◌≤◌};
 ghost use Rattle.theory.specs.Form.{bytes_in};
 ghost use Rattle.theory.specs.Load.{site_in};
@@ -23,7 +25,7 @@ const SHORT_BUFFER: u32 = 17;
 const NO_FIT: u32 = 20;
 
 // Number and place of a refusal, 0 and 0 where there is none; how many bytes were written, 0 where there is one.
-#[derive(Drop)]
+#[derive(Clone, Copy)]
 pub struct Converted {
     pub number: u32,
     pub place: usize,

@@ -1,1 +1,2 @@
 // Cases computed from the bytes on: everything is in specs/.
+#![tactic(auto)]

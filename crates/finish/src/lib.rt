@@ -1,4 +1,6 @@
 // The tables after solving: the nodes of the stages in canonical order, the stages' numbers, zeros elsewhere.
+#![tactic(auto)]
+
 mod stages; // stages.rt: the stage words
 
 ghost use Rattle.std.specs.Prelude.{◌*◌, ◌≤◌, length};

@@ -1,4 +1,6 @@
 // Brings numbered nodes into the order of their numbers, in place.
+#![tactic(auto)]
+
 ghost use Rattle.std.specs.Prelude.{◌≡◌, ◌+◌, ◌*◌, ◌≤◌, ◌<◌, length, get_or};
 ghost use Rattle.table.specs.Table.{node_words};
 ghost use Rattle.theory.specs.Widths.{nodes_most};

@@ -1,5 +1,7 @@
 // Numbers nodes from 1: root by root, high before low, a node after its branches.
 // Work words: at 0 to cap the index of each number's node, at cap to 2 cap each node's number, 0 for none.
+#![tactic(auto)]
+
 mod branches; // branches.rt: single words of a node
 
 ghost use Rattle.std.specs.Prelude.{◌≡◌, ◌+◌, ◌*◌, ◌≤◌, ◌<◌, length};

@@ -1,4 +1,6 @@
 // 25: whether a number of a text lies beyond 32 bits, in one pass.
+#![tactic(auto)]
+
 ghost use Rattle.import_beyond.specs.Beyond.{JudgesText};
 
 use import_frames::{closed, finished};

@@ -1,4 +1,6 @@
 // Conditions, comparisons, cases and results: "the first case that holds counts", "each closed by an else".
+#![tactic(auto)]
+
 ghost use Rattle.std.specs.Prelude.{◌≡◌};
 ghost use Rattle.import_cases.specs.Cases.{item as item_of, resulted as resulted-of, joined as Joined-of, end_left as end-left-of};
 ghost use Rattle.import_cases.specs.Cases.{end_side as end-side-of, ending as Ending-of, on_after as on-after-of, open_cond as open-cond-of};

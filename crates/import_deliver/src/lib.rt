@@ -1,4 +1,6 @@
 // The last passes of an import, over the model that a text has become: its own refusals, a short buffer, and only then its bytes.
+#![tactic(auto)]
+
 ghost use Rattle.std.specs.Prelude.{◌≡◌};
 ghost use Rattle.theory.specs.Form.{new_form};
 ghost use Rattle.model.specs.Answers.{shown};
@@ -12,7 +14,7 @@ use text_decimal::put_bytes;
 const SHORT_BUFFER: u32 = 17;
 
 // Number and place of a refusal, 0 and 0 where there is none; how many bytes were written, 0 where there is one.
-#[derive(Drop)]
+#[derive(Clone, Copy)]
 pub struct Imported {
     pub number: u32,
     pub place: usize,

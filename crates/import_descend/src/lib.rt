@@ -1,4 +1,6 @@
 // From a place to the result that comes first, the atoms on the way put on the list.
+#![tactic(auto)]
+
 ghost use Rattle.std.specs.Prelude.{◌≡◌};
 ghost use Rattle.import_found.specs.Places.{xor};
 ghost use Rattle.import_descend.specs.Walks.{AtomReady, Enters, Starting, none_found, Descends};
@@ -11,7 +13,7 @@ use import_look::look;
 pub const ENTRIES: usize = 131072;
 
 // A result, and how many entries are on the list.
-#[derive(Drop)]
+#[derive(Clone, Copy)]
 pub struct Down {
     pub count: usize,
     pub at: usize,

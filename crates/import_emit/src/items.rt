@@ -17,7 +17,7 @@ use model_command::NAME_BYTES;
 const NAMED: usize = 3 + NAME_BYTES;
 
 // Where the next item comes, and what is written.
-#[derive(Drop)]
+#[derive(Clone, Copy)]
 pub struct Passed {
     pub next: usize,
     pub wrote: Emitted,

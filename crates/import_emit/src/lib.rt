@@ -1,4 +1,6 @@
 // The model that a text becomes, written to the start of a lent buffer: the site, the items one behind another, the end.
+#![tactic(auto)]
+
 ghost use Rattle.std.specs.Prelude.{◌≡◌, ◌≤◌, length};
 ghost use Rattle.theory.specs.Command.{end_model};
 ghost use Rattle.import_list.specs.Packed.{list_most};

@@ -1,4 +1,6 @@
 // The commands of an item's cases, written one after another from a place of a lent buffer.
+#![tactic(auto)]
+
 ghost use Rattle.std.specs.Prelude.{◌≤◌, ◌<◌, T, length};
 ghost use Rattle.whole.specs.Cases.{if};
 ghost use Rattle.theory.specs.Command.{push_condition, push_forbidden};
@@ -23,14 +25,14 @@ const LINEAR_BYTES: usize = 37;
 const CONDITION_BYTES: usize = 2;
 
 // The place behind what is written, or that the next command does not fit.
-#[derive(Drop)]
+#[derive(Clone, Copy)]
 pub struct Emitted {
     pub at: usize,
     pub full: bool,
 }
 
 // The same, and how many entries are on the list.
-#[derive(Drop)]
+#[derive(Clone, Copy)]
 pub struct Wrote {
     pub count: usize,
     pub at: usize,

@@ -1,4 +1,6 @@
 // "Add an import of whole models in such text": the passes in the order of their refusals.
+#![tactic(auto)]
+
 ghost use Rattle.std.specs.Prelude.{◌≡◌, length};
 ghost use Rattle.import_model.specs.Import.{import_text, text_most};
 ghost use Rattle.import_deliver.specs.Delivered.{outcome_as};

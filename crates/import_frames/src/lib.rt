@@ -1,5 +1,7 @@
 // What a text's sums and comparisons are worked in: a frame for each open bracket. A step takes a byte; a number beyond 32
 // bits ends the work.
+#![tactic(auto)]
+
 ghost use Rattle.std.specs.Prelude.{◌≡◌, true, length};
 ghost use Rattle.whole.specs.Linears.{numbers};
 ghost use Rattle.import_linears.specs.Nine.{Nine};
@@ -28,7 +30,7 @@ pub const NAME: u8 = 6;
 
 // The left side of a comparison (compared: 0 none, 1 `<`, 2 `<=`, 3 `>`, 4 `>=`), the terms so far, the factors of the
 // term so far, which is taken away if minus, and the number so far.
-#[derive(Drop)]
+#[derive(Clone, Copy)]
 pub struct Frame {
     pub left: [i64; NUMBERS],
     pub sum: [i64; NUMBERS],

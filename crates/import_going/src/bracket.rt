@@ -5,7 +5,7 @@ ghost use Rattle.import_found.specs.Places.{is_cond};
 ghost use Rattle.import_going.specs.Going.{seen_of, is_mark};
 
 // Brackets that are open inside, or the answer.
-#[derive(Drop)]
+#[derive(Clone, Copy)]
 pub enum Seen {
     On(usize),
     Is(bool),

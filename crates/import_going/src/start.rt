@@ -11,7 +11,7 @@ use crate::turning::{Going, Turn, after_byte};
 use import_places::{Next, find};
 
 // An atom with its sign and the signs around it, a result, nothing, or more brackets than a text may have.
-#[derive(Drop)]
+#[derive(Clone, Copy)]
 pub enum Spot {
     Atom(usize, bool, u64, u32),
     Result(usize),

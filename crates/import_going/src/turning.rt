@@ -5,14 +5,14 @@ ghost use Rattle.import_places.specs.Walking.{two_to};
 ghost use Rattle.import_going.specs.Turns.{bit_of, opened_of, turn_of};
 
 // Whether "!" turns what comes, and each bracket that is open, innermost in the lowest bit.
-#[derive(Drop)]
+#[derive(Clone, Copy)]
 pub struct Going {
     pub sign: bool,
     pub mask: u64,
     pub count: u32,
 }
 
-#[derive(Drop)]
+#[derive(Clone, Copy)]
 pub enum Turn {
     On(Going),
     Atom,

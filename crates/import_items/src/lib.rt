@@ -1,4 +1,6 @@
 // "Whole models in such text (site, names and forbidden too)": the site, items up to their cases, names, and words.
+#![tactic(auto)]
+
 ghost use Rattle.std.specs.Prelude.{◌≡◌};
 ghost use Rattle.import_items.specs.Items.{setting_letter as setting-letter-of, on_site as on-site-of, settled as settled-of, on_set as on-set-of};
 ghost use Rattle.import_items.specs.Items.{opened as opened_of, on_given as on-given-of, on_quoted as on-quoted-of, on_name as on-name-of};

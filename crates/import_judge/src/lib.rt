@@ -1,4 +1,6 @@
 // What a text is refused with before its model is looked at: its length, where it leaves the grammar, its numbers.
+#![tactic(auto)]
+
 ghost use Rattle.std.specs.Prelude.{◌≡◌};
 ghost use Rattle.model.specs.Answers.{shown};
 ghost use Rattle.import_judge.specs.Refusal.{text_refusal};

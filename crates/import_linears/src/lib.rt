@@ -1,4 +1,6 @@
 // The linears of a text as nine numbers, judged by 32 bits.
+#![tactic(auto)]
+
 ghost use Rattle.std.specs.Prelude.{◌≡◌, ◌≤◌, pos, length};
 ghost use Rattle.whole.specs.Linears.{numbers};
 ghost use Rattle.theory.specs.Plain.{in_32_bits};

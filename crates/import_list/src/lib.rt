@@ -1,11 +1,13 @@
 // The work list of the emitter: atoms of the text whose commands are not all written yet, one word each.
+#![tactic(auto)]
+
 ghost use Rattle.std.specs.Prelude.{◌≡◌, ◌∷◌, ◌-◌, ◌≤◌, ◌<◌, length};
 ghost use Rattle.import_going.specs.Turns.{bit_of};
 ghost use Rattle.import_list.specs.Packed.{packed, unpacked, FitsWord, entries, Pushed};
 
 // An atom: its place, whether "!" turns it and each bracket around it (innermost in the lowest bit), and whether the
 // commands of both its outcomes are written, or those of the first alone.
-#[derive(Drop)]
+#[derive(Clone, Copy)]
 pub struct Entry {
     pub at: usize,
     pub sign: bool,

@@ -1,4 +1,6 @@
 // The command of an atom or of a result, read where it stands in the text.
+#![tactic(auto)]
+
 ghost use Rattle.std.specs.Prelude.{◌≡◌, ◌≤◌, ◌<◌, length};
 ghost use Rattle.whole.specs.Linears.{numbers};
 ghost use Rattle.import_model.specs.Import.{text_most};
@@ -12,7 +14,7 @@ use whole::NUMBERS;
 use whole_linears::sub;
 
 // A command by its byte (10 to 13), with its operand; of an atom, whether the outcome where it holds is written first.
-#[derive(Drop)]
+#[derive(Clone, Copy)]
 pub struct Told {
     pub kind: u8,
     pub first: bool,
@@ -22,7 +24,7 @@ pub struct Told {
 
 // Of a comparison: whether the outcome where it holds is written first, whether its difference is right less left, and
 // the place behind it.
-#[derive(Drop)]
+#[derive(Clone, Copy)]
 pub struct Operator {
     pub first: bool,
     pub turned: bool,

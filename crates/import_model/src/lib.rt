@@ -1,1 +1,2 @@
 // The model that a text becomes, as definitions and theorems: everything is in specs/.
+#![tactic(auto)]

@@ -1,4 +1,6 @@
 // Where to go on in the text once an atom is decided: one scan, the signs of the open brackets as bits.
+#![tactic(auto)]
+
 ghost use Rattle.std.specs.Prelude.{◌≡◌, false, ◌≤◌, ◌<◌, length, drop};
 ghost use Rattle.import_model.specs.Import.{text_most};
 ghost use Rattle.import_found.specs.Places.{find as place_after};
@@ -6,7 +8,7 @@ ghost use Rattle.import_places.specs.Walking.{step_of, token_of, popped, signs, 
 
 // Brackets open inside what is passed over; whether the part so far holds; whether a whole row of "&" is passed over; and the
 // brackets around it, innermost in the lowest bit: 1 where "!" turns it.
-#[derive(Drop)]
+#[derive(Clone, Copy)]
 pub struct Walk {
     pub depth: usize,
     pub value: bool,
@@ -15,7 +17,7 @@ pub struct Walk {
     pub count: u32,
 }
 
-#[derive(Drop)]
+#[derive(Clone, Copy)]
 pub enum Step {
     On(Walk),
     Go,
@@ -25,7 +27,7 @@ pub enum Step {
 }
 
 // What stands at an offset: a condition with the brackets around it, a result, a result to be passed over, or nothing.
-#[derive(Drop)]
+#[derive(Clone, Copy)]
 pub enum Next {
     Go(usize, u64, u32),
     Result(usize),

@@ -1,5 +1,7 @@
 // "Text outside the grammar with 24 and the offset of the first byte that no text of the grammar can have there (or the length,
 // if it only ends early)": one pass over the text.
+#![tactic(auto)]
+
 ghost use Rattle.std.specs.Prelude.{◌≡◌};
 ghost use Rattle.import_grammar.specs.Reader.{begin};
 ghost use Rattle.import_grammar.specs.laws.Viable.{scan as outcome};
@@ -9,7 +11,7 @@ use import_state::{Place, State};
 use import_step::{finished, next, over};
 
 // A text of the grammar, or where it stops.
-#[derive(Drop)]
+#[derive(Clone, Copy)]
 pub enum Scanned {
     Fine,
     Stops(usize),

@@ -1,5 +1,7 @@
 // Where the reading of a text stands, byte by byte: what the reader of `import_grammar` holds, without its pieces. No number
 // grows, so that none is too large: rooms fall by one at a bracket.
+#![tactic(auto)]
+
 pub mod bytes;
 pub mod sums;
 
@@ -13,7 +15,7 @@ pub const NO_LEVEL: u8 = 33;
 pub const NAME_CHARS: u8 = 16;
 
 // Where a sum stands: left or right in a comparison, as a case's result, as the else's.
-#[derive(Drop)]
+#[derive(Clone, Copy)]
 pub enum Side {
     Left,
     Right,
@@ -22,7 +24,7 @@ pub enum Side {
 }
 
 // "site": m, n, A and W, in this order.
-#[derive(Drop)]
+#[derive(Clone, Copy)]
 pub enum Setting {
     Levels,
     Conditions,
@@ -31,7 +33,7 @@ pub enum Setting {
 }
 
 // Items that give an action's number.
-#[derive(Drop)]
+#[derive(Clone, Copy)]
 pub enum Kind {
     Reward,
     Chance,
@@ -47,7 +49,7 @@ pub enum Kind {
 // - level: in the innermost sum that has a level, NO_LEVEL if none has one.
 // - vary: that level is in the term that is being read. "Multiplication, by a constant only": constants alone may follow, and
 //   brackets opened since have less room.
-#[derive(Drop)]
+#[derive(Clone, Copy)]
 pub struct Sum {
     pub side: Side,
     pub room: u8,
@@ -59,7 +61,7 @@ pub struct Sum {
 
 // Between tokens. A flag says whether an else may stand here (Atom), a minus may lead (Factor), or the token may go on (Set,
 // Given, Quoted, After, Compared).
-#[derive(Drop)]
+#[derive(Clone, Copy)]
 pub enum Place {
     Outset,
     Site(Setting),
@@ -82,7 +84,7 @@ pub enum Place {
 
 // Inside a token: a word from its second letter on, by the places of `bytes::letter`; a name, with how many characters may
 // still come; C or N, and L, whose index is next.
-#[derive(Drop)]
+#[derive(Clone, Copy)]
 pub enum Token {
     Word(u8),
     NextOrName,
@@ -95,7 +97,7 @@ pub enum Token {
 }
 
 // Dead: no text of the grammar begins so.
-#[derive(Drop)]
+#[derive(Clone, Copy)]
 pub enum State {
     Dead,
     At(Place),

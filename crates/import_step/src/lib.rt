@@ -1,4 +1,6 @@
 // A step, from any state, on any byte.
+#![tactic(auto)]
+
 ghost use Rattle.std.specs.Prelude.{◌≡◌};
 ghost use Rattle.import_step.specs.Steps.{only as Only-of, spaced as spaced-of, on_place as on-place-of, on_token as on-token-of, next as next_of};
 ghost use Rattle.import_step.specs.Steps.{is_over, last_side as last-side-of, last_setting as last-setting-of, after_ends as after-ends-of};

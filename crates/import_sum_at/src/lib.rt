@@ -1,4 +1,6 @@
 // A sum of a text that is in the grammar, worked out where it stands.
+#![tactic(auto)]
+
 ghost use Rattle.std.specs.Prelude.{◌≤◌, length};
 ghost use Rattle.import_sum_at.specs.SumAt.{SumWorks};
 
@@ -8,7 +10,7 @@ use import_sums::{DEEPEST, walk};
 use whole::NUMBERS;
 
 // A sum's linear and the place behind it, or that a number of it lies beyond 32 bits.
-#[derive(Drop)]
+#[derive(Clone, Copy)]
 pub struct Worked {
     pub linear: [i64; NUMBERS],
     pub next: usize,

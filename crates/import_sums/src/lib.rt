@@ -1,4 +1,6 @@
 // Sums and comparisons of a text worked where they stand: one pass over the bytes, a call for each bracket.
+#![tactic(auto)]
+
 ghost use Rattle.std.specs.Prelude.{◌≡◌, true, ◌≤◌, length, drop};
 ghost use Rattle.import_frames.specs.Frames as f;
 ghost use Rattle.import_frames.specs.Frames.{SoundFrame};
@@ -10,7 +12,7 @@ use import_frames::{Frame, NAME, START, idle, is_blank, is_digit, over, popped, 
 pub const DEEPEST: usize = 32;
 
 // A frame, and the place up to which it is worked.
-#[derive(Drop)]
+#[derive(Clone, Copy)]
 pub struct Walked {
     pub frame: Frame,
     pub next: usize,

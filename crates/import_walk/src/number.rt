@@ -6,7 +6,7 @@ ghost use Rattle.import_walk.specs.Onward.{NumberAt, SettingAt};
 use crate::steps::past;
 use import_state::bytes::{is_blank, is_digit};
 
-#[derive(Drop)]
+#[derive(Clone, Copy)]
 pub struct Number {
     pub value: u32,
     pub next: usize,

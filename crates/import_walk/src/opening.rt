@@ -18,7 +18,7 @@ pub const END: u8 = 0x23;
 
 pub const NAME: u8 = 0x30;
 
-#[derive(Drop)]
+#[derive(Clone, Copy)]
 pub struct Opening {
     pub kind: u8,
     pub action: u32,

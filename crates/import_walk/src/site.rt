@@ -8,7 +8,7 @@ pub const BYTE_MOST: u32 = 255;
 
 pub const ACTION_MOST: u32 = 65535;
 
-#[derive(Drop)]
+#[derive(Clone, Copy)]
 pub struct Site {
     pub levels: u32,
     pub conditions: u32,

@@ -1,4 +1,6 @@
 // Numbers of a linear and actions as bytes, low byte first, from a place of a lent buffer.
+#![tactic(auto)]
+
 ghost use Rattle.std.specs.Prelude.{◌≡◌, ◌+◌, ◌≤◌, T, length};
 ghost use Rattle.theory.specs.Plain.{in_32_bits};
 ghost use Rattle.import_numbers.specs.Numbers.{all_within};

@@ -1,4 +1,6 @@
 // One command's bytes, written from a place of a lent buffer; the answer is the place behind them.
+#![tactic(auto)]
+
 ghost use Rattle.std.specs.Prelude.{[], ◌∷◌, ◌++◌, ◌+◌, ◌≤◌, T, length};
 ghost use Rattle.theory.specs.Command.{site, push_condition, push_forbidden, name_action, end_model};
 ghost use Rattle.model_command.specs.CursorReadings.{linear_of};

@@ -1,4 +1,6 @@
 // Choices by the commands of a model: the test is read from the bytes again, so that only offsets and indexes live over the calls.
+#![tactic(auto)]
+
 ghost use Rattle.std.specs.Prelude.{◌≡◌, ◌<◌};
 ghost use Rattle.theory.specs.Rules.{choose};
 ghost use Rattle.rule_node.specs.Nodes.{tree_at};

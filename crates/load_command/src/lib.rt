@@ -1,4 +1,6 @@
 // One command of the model: the stack is held by value, and holds the numbers of diagrams.
+#![tactic(auto)]
+
 ghost use Rattle.std.specs.Prelude.{◌≡◌, ◌<◌, drop, get_or};
 ghost use Rattle.theory.specs.Diagram.{leaf as leafed, plain};
 ghost use Rattle.theory.specs.Rules.{none_leaf};
@@ -18,7 +20,7 @@ use table::Made;
 use whole::NUMBERS;
 
 // The number that stops a load, or 0; how many nodes there are; and the stack.
-#[derive(Drop)]
+#[derive(Clone, Copy)]
 pub struct Loaded {
     pub stop: usize,
     pub count: usize,

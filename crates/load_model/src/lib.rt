@@ -1,4 +1,6 @@
 // "loading the model": one pass over the commands of an accepted model, its diagrams made as they come.
+#![tactic(auto)]
+
 ghost use Rattle.std.specs.Prelude.{◌≡◌, List, ℕ, ◌+◌, ◌*◌, ◌≤◌, ◌<◌, length};
 ghost use Rattle.theory.specs.Widths.{bytes_most, loaded_roots_most};
 ghost use Rattle.theory.specs.Verdict.{verdict};
@@ -21,7 +23,7 @@ pub const LOADED_ROOTS: usize = (1 + CONDITIONS + LEVELS) * ACTIONS + 1;
 const END_WORTH: u8 = 0x23;
 
 // The number that stops the load, or 0, how many nodes there are, and whether an end worth is given.
-#[derive(Drop)]
+#[derive(Clone, Copy)]
 pub struct Done {
     pub stop: usize,
     pub count: usize,

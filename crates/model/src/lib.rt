@@ -1,4 +1,6 @@
 // Site models: "What a refusal gives", numbers 1 to 10, and the site. One pass over the bytes, and no table.
+#![tactic(auto)]
+
 mod linears; // linears.rt: runs of commands with a linear
 
 ghost use Rattle.std.specs.Prelude.{◌≡◌, false, true, ◌<◌, replicate};
@@ -32,7 +34,7 @@ pub const STAGE_WORDS: usize = 8;
 
 // The number and the place of a refusal; 0 and 0 where there is none. It is a structure of C too, for the export that answers it.
 #[repr(C)]
-#[derive(Drop)]
+#[derive(Clone, Copy)]
 pub struct Verdict {
     pub number: u32,
     pub place: usize,

@@ -10,14 +10,14 @@ use model_form::Form;
 use model_progress::{Progress, Site, operands};
 
 // Whether a command breaks no rule, and what it leaves then.
-#[derive(Drop)]
+#[derive(Clone, Copy)]
 struct Tried {
     passed: bool,
     seen: Seen,
 }
 
 // The offset behind a run, and what the run leaves.
-#[derive(Drop)]
+#[derive(Clone, Copy)]
 pub struct Stretch {
     pub at: usize,
     pub seen: Seen,

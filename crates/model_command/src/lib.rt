@@ -1,4 +1,6 @@
 // "The site model": a cursor over the lent bytes, one command at a time.
+#![tactic(auto)]
+
 pub mod widening; // widening.rt: bytes and action numbers in wider types
 
 ghost use Rattle.std.specs.Prelude.{◌≡◌, List, ℕ, ◌+◌, ◌≤◌, ◌<◌, length};
@@ -17,7 +19,7 @@ pub const NAME_BYTES: usize = 16;
 
 // A command with its operands. What is given has its command's byte, the action, and the condition or level (0 where there is none).
 // A linear's bytes stay in the model, behind the command's byte; a name's, behind the action.
-#[derive(Drop)]
+#[derive(Clone, Copy)]
 pub enum Command {
     Site(u8, u8, u16, u8),
     Leaf,
@@ -30,7 +32,7 @@ pub enum Command {
 }
 
 // What stands at an offset: a whole command, or why there is none.
-#[derive(Drop)]
+#[derive(Clone, Copy)]
 pub enum Read {
     Whole(Command),
     Unknown,

@@ -1,4 +1,6 @@
 // The number of the first rule that a command breaks, 0 where it breaks none.
+#![tactic(auto)]
+
 ghost use Rattle.std.specs.Prelude.{◌≡◌, ℕ, ◌+◌, ◌≤◌, length, Bool, List};
 ghost use Rattle.theory.specs.Command.{push_leaf, push_condition, push_test, push_forbidden, name_action, end_model, whole, read_in, linear_in};
 ghost use Rattle.theory.specs.Command.{give as given_to};

@@ -1,4 +1,6 @@
 // "These rules judge each leaf and condition as written": three facts of each diagram on the stack.
+#![tactic(auto)]
+
 ghost use Rattle.std.specs.Prelude.{◌≡◌, [], ◌∷◌, ℕ, ◌+◌, ◌*◌, ◌%◌, ◌≤◌, ◌<◌, eqb, drop, ◌&&◌};
 ghost use Rattle.whole.specs.Cases.{if};
 ghost use Rattle.theory.specs.Widths.{stack_most};
@@ -10,7 +12,7 @@ ghost use Rattle.model_facts.specs.Seen.{seen};
 use model_stack::STACK_MOST;
 
 // The three facts of each diagram on the stack, a word of bits for each fact, the top's lowest.
-#[derive(Drop)]
+#[derive(Clone, Copy)]
 pub struct Seen {
     pub len: usize,
     pub later: u32,

@@ -1,4 +1,6 @@
 // "Given a model and a name, the planner gives the action's number.": one pass over the model's commands.
+#![tactic(auto)]
+
 ghost use Rattle.std.specs.Prelude.{◌≡◌, ◌+◌, ◌≤◌, length, take, drop};
 ghost use Rattle.theory.specs.Widths.{name_bytes};
 ghost use Rattle.theory.specs.Command.{whole, read_at, readings};
@@ -20,7 +22,7 @@ const NO_BEARER: u32 = 18;
 const SEVERAL_BEARERS: u32 = 19;
 
 // Number and place of a refusal, 0 and 0 where there is none; the action, 0 where there is one.
-#[derive(Drop)]
+#[derive(Clone, Copy)]
 pub struct Found {
     pub number: u32,
     pub place: usize,
@@ -28,7 +30,7 @@ pub struct Found {
 }
 
 // Who carries a name, of the commands so far.
-#[derive(Drop)]
+#[derive(Clone, Copy)]
 enum Bearers {
     Nobody,
     One(u32),

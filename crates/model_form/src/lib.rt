@@ -1,4 +1,6 @@
 // How a model is written: as the planner reads it, or as before K5. What differs is named here and nowhere else.
+#![tactic(auto)]
+
 ghost use Rattle.std.specs.Prelude.{◌≡◌, ◌<◌};
 ghost use Rattle.theory.specs.Form.{site_byte, levels_in, actions_in, action_bytes, forbidden_bytes, linear_bytes, behind_action};
 ghost use Rattle.model_form.specs.Forms.{form_of};
@@ -14,7 +16,7 @@ pub const CONDITIONS: usize = 4;
 // "A as two bytes (1 to 400)"
 pub const ACTIONS: usize = 400;
 
-#[derive(Drop)]
+#[derive(Clone, Copy)]
 pub enum Form {
     Old,
     New,

@@ -1,4 +1,6 @@
 // Names of actions: "An action's name is that part of the model itself, without its trailing spaces".
+#![tactic(auto)]
+
 ghost use Rattle.std.specs.Prelude.{◌≡◌, List, ℕ, ◌+◌, ◌≤◌, length, drop};
 ghost use Rattle.theory.specs.Command.{whole, readings};
 ghost use Rattle.theory.specs.Name.{names_action, trimmed, name_part};
@@ -15,7 +17,7 @@ use model_command::{Command, NAME_BYTES, Read};
 use model_form::Form;
 
 // A part of the model.
-#[derive(Drop)]
+#[derive(Clone, Copy)]
 pub struct Part {
     pub start: usize,
     pub size: usize,

@@ -1,4 +1,6 @@
 // "The site model": what is known after some commands, which rule the next one breaks, and what it leaves.
+#![tactic(auto)]
+
 pub mod given;
 pub mod operands;
 pub mod refusals;
@@ -7,7 +9,7 @@ pub mod states;
 use model_facts::Seen;
 
 // m, n, A and W.
-#[derive(Drop)]
+#[derive(Clone, Copy)]
 pub struct Site {
     pub levels: u8,
     pub conditions: u8,
@@ -16,7 +18,7 @@ pub struct Site {
 }
 
 // The commands so far, but for what has been given: that stands in flags, which are lent.
-#[derive(Drop)]
+#[derive(Clone, Copy)]
 pub struct Progress {
     pub begun: bool,
     pub site: Site,

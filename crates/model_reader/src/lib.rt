@@ -1,5 +1,7 @@
 // "A reader over the lent model hands over one command after another": the model and the next offset.
 // The functions are thin, and the work is the cursor's; each is proved by a walk by hand.
+#![tactic(auto)]
+
 ghost use Rattle.std.specs.Prelude.{◌≡◌};
 ghost use Rattle.theory.specs.Command.{read_at};
 ghost use Rattle.model_command.specs.CursorReadings.{read_of, next_at};

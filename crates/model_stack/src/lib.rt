@@ -1,4 +1,6 @@
 // "Each push or pop gives the stack as it is afterwards; it holds at most 32."
+#![tactic(auto)]
+
 ghost use Rattle.std.specs.Prelude.{◌≡◌, [], drop, get_or};
 ghost use Rattle.model_stack.specs.Held.{held, pushed};
 
@@ -6,7 +8,7 @@ ghost use Rattle.model_stack.specs.Held.{held, pushed};
 pub const STACK_MOST: usize = 32;
 
 // Diagram numbers. The top is at len − 1.
-#[derive(Drop)]
+#[derive(Clone, Copy)]
 pub struct Stack {
     pub items: [u32; STACK_MOST],
     pub len: usize,

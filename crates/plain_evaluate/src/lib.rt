@@ -1,4 +1,6 @@
 // What the slots of an accepted model come to at a state: rewards, next levels, the end worth, chances.
+#![tactic(auto)]
+
 ghost use Rattle.std.specs.Prelude.{◌≡◌, List, Bool, true, ◌+◌, ◌<◌, T, length};
 ghost use Rattle.whole.specs.Int.{up};
 ghost use Rattle.whole.specs.Linears.{numbers};

@@ -1,5 +1,7 @@
 // Plain evaluation: the leaf that an action's diagram comes to at a state, found in the model's own bytes.
 // A pass over the commands of that diagram; on the stack stands for each diagram the offset of the leaf that it comes to.
+#![tactic(auto)]
+
 ghost use Rattle.std.specs.Prelude.{◌≡◌, List, true, ℕ, ◌+◌, ◌≤◌, ◌<◌, length, ℤ, pos};
 ghost use Rattle.std.specs.Int.Signed.{le_z};
 ghost use Rattle.whole.specs.Linears.{numbers, Smalls};
@@ -31,7 +33,7 @@ pub mod numerators; // numerators.rt: linears of the bytes at a point
 const WITH_LINEAR: usize = 1 + NUMBERS * 4;
 
 // The stack's length behind a command, and the next command's offset.
-#[derive(Drop)]
+#[derive(Clone, Copy)]
 struct Turn {
     len: usize,
     next: usize,

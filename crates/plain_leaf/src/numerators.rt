@@ -16,7 +16,7 @@ use whole::{COEFFICIENTS, Numerator, two_words};
 const FEW: i64 = 134217728;
 
 // A numerator of one word, where it is known to fit.
-#[derive(Drop)]
+#[derive(Clone, Copy)]
 struct Short {
     fits: bool,
     sum: i64,

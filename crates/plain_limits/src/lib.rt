@@ -1,4 +1,6 @@
 // Numbers kept within their limits: a reward, a product, a running sum, a next level.
+#![tactic(auto)]
+
 ghost use Rattle.std.specs.Prelude.{◌≡◌, ◌≤◌, leb, ltb, pos, negsuc, ◌*ℤ◌};
 ghost use Rattle.whole.specs.Within.{limit, limited};
 ghost use Rattle.whole.specs.Numerator.{number};
@@ -10,7 +12,7 @@ use whole::limits::{LIMIT, add_within, mag, mul_within};
 use whole::{Numerator, Within};
 
 // A worth and the action that has it, none, or a number left its limits.
-#[derive(Drop)]
+#[derive(Clone, Copy)]
 pub enum Total {
     Is(i64, u16),
     None,
@@ -18,7 +20,7 @@ pub enum Total {
 }
 
 // A next level's numerator, where it has 32 bits.
-#[derive(Drop)]
+#[derive(Clone, Copy)]
 pub enum Level {
     Is(i32),
     Over,

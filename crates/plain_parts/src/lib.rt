@@ -1,5 +1,7 @@
 // Where each slot's diagram begins: one pass over a model finds it, later evaluations start there.
 // A model written diagram by diagram has nothing on the stack before each diagram, and evaluation then reads that diagram alone.
+#![tactic(auto)]
+
 ghost use Rattle.std.specs.Prelude.{◌≡◌, List, ℕ, ◌+◌, ◌-◌, ◌<◌, eqb, ltb, length, get_or};
 ghost use Rattle.whole.specs.Cases.{if};
 ghost use Rattle.theory.specs.Widths.{stack_most};

@@ -1,8 +1,10 @@
 // The pass over a model's commands to the leaf that a diagram comes to at a state, as definitions and laws; and what it is asked with.
+#![tactic(auto)]
+
 use whole::{NUMBERS, Numerator};
 
 // What a diagram is given as: the command's byte, the action, the condition or level (0 where there is none).
-#[derive(Drop)]
+#[derive(Clone, Copy)]
 pub struct Slot {
     pub command: u8,
     pub action: u16,
@@ -11,7 +13,7 @@ pub struct Slot {
 
 // A state, and a setting of the next step's conditions: bit k − 1 for condition k; the numerators, and the denominator as the last.
 // Beyond the first `levels` the numerators are 0.
-#[derive(Drop)]
+#[derive(Clone, Copy)]
 pub struct Point {
     pub mask: u32,
     pub setting: u32,
@@ -20,7 +22,7 @@ pub struct Point {
 }
 
 // What a reward comes to; the number is 0 where it is forbidden.
-#[derive(Drop)]
+#[derive(Clone, Copy)]
 pub struct Reward {
     pub forbidden: bool,
     pub worth: Numerator,

@@ -1,4 +1,6 @@
 // Plain working: the worth of a state, worked from the model's bytes without diagrams or tables.
+#![tactic(auto)]
+
 ghost use Rattle.std.specs.Prelude.{◌≡◌};
 ghost use Rattle.theory.specs.Value.{refused_value};
 ghost use Rattle.theory.specs.Plain.{plain_of, worth_out};

@@ -1,4 +1,6 @@
 // The thin layer for a host in C: each export is a call and a copy.
+#![tactic(auto)]
+
 pub mod solving; // solving.rt: judging and solving a model
 pub mod reading; // reading.rt: values at a state
 pub mod texts; // texts.rt: names and listings

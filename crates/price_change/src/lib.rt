@@ -1,1 +1,2 @@
 // "Does a price change matter?", as definitions and laws: everything is in specs/.
+#![tactic(auto)]

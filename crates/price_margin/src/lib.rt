@@ -1,4 +1,6 @@
 // Whether a worth exceeds another by more than a margin, exactly, in words of 64 bits; and the largest worth of the other actions.
+#![tactic(auto)]
+
 ghost use Rattle.std.specs.Prelude.{◌≡◌, not, ◌*◌, ◌≤◌, ltb, ◌-ℤ◌};
 ghost use Rattle.whole.specs.Int.{up};
 ghost use Rattle.plain_limits.specs.Totals.{total_of};

@@ -1,4 +1,6 @@
 // Whether the plan's action at a state is sure, worked from the model's bytes as plain working is.
+#![tactic(auto)]
+
 ghost use Rattle.std.specs.Prelude.{◌≡◌, ◌*◌, ◌≤◌, nat_abs};
 ghost use Rattle.plain_pass.specs.Parts.{NoNotes, Parts};
 ghost use Rattle.plain_limits.specs.Totals.{total_of};
@@ -19,7 +21,7 @@ use whole::{COEFFICIENTS, Within};
 const NEGATIVE_CHANGE: u32 = 23;
 
 // sure is 1 or 0.
-#[derive(Drop)]
+#[derive(Clone, Copy)]
 pub struct Said {
     pub number: u32,
     pub place: usize,

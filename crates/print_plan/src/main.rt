@@ -1,4 +1,6 @@
 // The listing program: a horizon byte and a model on standard input, the listing of the plan or the refusal on standard output.
+#![tactic(auto)]
+
 use libc::{STDIN_FILENO, STDOUT_FILENO};
 use text_input::MODEL_MOST;
 use text_program::answer;

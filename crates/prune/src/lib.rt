@@ -1,5 +1,7 @@
 // "Paths that no state can take": a path for a stage is refused with everything untouched, or cut off, and the tables are
 // made anew.
+#![tactic(auto)]
+
 ghost use Rattle.std.specs.Prelude.{◌≡◌};
 ghost use Rattle.prune_paths.specs.Prune.{pruned};
 ghost use Rattle.prune_paths.specs.Prune.{prune as prune-of};

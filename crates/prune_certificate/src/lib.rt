@@ -1,4 +1,6 @@
 // Whether a proposed path is one that no state can take: its tests with their multipliers add up to a contradiction.
+#![tactic(auto)]
+
 mod adding; // adding.rt: the numbers of the sum
 mod low_sides; // low_sides.rt: whether a low side counts
 mod paths; // paths.rt: a path on the rows of a lent table

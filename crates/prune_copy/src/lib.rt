@@ -1,5 +1,7 @@
 // "An accepted path's last node is replaced, on that path only, by its other branch": what other paths share stays, so the
 // path's nodes are copied, but for the last. One walk down from the root writes the copies, the root's as the last row.
+#![tactic(auto)]
+
 ghost use Rattle.std.specs.Prelude.{◌≡◌, ◌+◌, ◌*◌, ◌^◌, ◌≤◌, ◌<◌, T, length};
 ghost use Rattle.theory.specs.Widths.{node_words};
 ghost use Rattle.table_rows.specs.Row.{Inside};

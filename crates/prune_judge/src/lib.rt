@@ -1,4 +1,6 @@
 // A path for a stage of a plan: every refusal, before a word is written.
+#![tactic(auto)]
+
 ghost use Rattle.std.specs.Prelude.{◌≡◌, ◌≤◌, ◌+◌, ◌-◌, ltb, length};
 ghost use Rattle.theory.specs.Widths.{steps_most, conditions_most};
 ghost use Rattle.theory.specs.Verdict.{refusal as refusal-of};

@@ -1,5 +1,7 @@
 // "then all nodes are made anew, their tests as they stand": row by row from the first on, each at or before its own place.
 // Work words: the unique table's chains at 0 to 2 cap; at 2 cap to 3 cap where each row has gone.
+#![tactic(auto)]
+
 ghost use Rattle.std.specs.Prelude.{◌≡◌, ◌+◌, ◌-◌, ◌*◌, ◌≤◌, ◌<◌, length};
 ghost use Rattle.table.specs.Table.{node_words, node_at, nodes_most};
 ghost use Rattle.table_unique.specs.Unique.{work_words};

@@ -1,4 +1,6 @@
 // The rows of a lent table; they are numbered from 1.
+#![tactic(auto)]
+
 ghost use Rattle.std.specs.Prelude.{◌≡◌};
 ghost use Rattle.table_rows.specs.Row.{Inside};
 ghost use Rattle.prune_rows.specs.Rows.{branch_at};

@@ -1,5 +1,7 @@
 // "then all nodes are made anew .. and the tables are numbered afresh, as after solving": the rows of lent tables and their
 // stage words. A stage word 0 has no diagram and stays 0, so the others' roots and numbers are gathered and spread again.
+#![tactic(auto)]
+
 ghost use Rattle.std.specs.Prelude.{◌≤◌, length};
 ghost use Rattle.prune_tables.specs.Tables.{StandingRows, Gathered, Spread, Rowed, Anew};
 

@@ -1,4 +1,6 @@
 // Two diagrams merged by the first root: sum, product, best.
+#![tactic(auto)]
+
 ghost use Rattle.std.specs.Prelude.{◌<◌, ◌≤◌};
 ghost use Rattle.table.specs.Table.{node_at};
 ghost use Rattle.rule_node.specs.Codes.{best_code};

@@ -1,4 +1,6 @@
 // Two leaves combined.
+#![tactic(auto)]
+
 ghost use Rattle.std.specs.Prelude.{◌≡◌, ◌-ℤ◌};
 ghost use Rattle.table.specs.Table.{node_at};
 ghost use Rattle.theory.specs.Diagram.{zeros};

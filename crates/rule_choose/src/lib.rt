@@ -1,4 +1,6 @@
 // The rule choose on a table's diagrams.
+#![tactic(auto)]
+
 pub mod roots; // roots.rt: what a rule of two operands goes on with
 
 ghost use Rattle.std.specs.Prelude.{◌<◌};

@@ -1,4 +1,6 @@
 // A linear combination of diagrams: a linear with diagrams in the place of levels.
+#![tactic(auto)]
+
 ghost use Rattle.std.specs.Prelude.{◌≡◌, ◌<◌, pos, get_or};
 ghost use Rattle.whole.specs.Linears.{numbers};
 ghost use Rattle.table.specs.Table.{node_at};

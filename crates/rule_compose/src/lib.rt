@@ -1,4 +1,6 @@
 // Substitution: levels by their next values' diagrams, conditions by the next step's.
+#![tactic(auto)]
+
 ghost use Rattle.std.specs.Prelude.{◌≡◌, true, ◌<◌, ◌≤◌};
 ghost use Rattle.table.specs.Table.{node_at, is_leaf};
 ghost use Rattle.theory.specs.Widths.{conditions_most};

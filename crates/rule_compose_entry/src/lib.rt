@@ -1,4 +1,6 @@
 // What a substitution goes by: its entry in the computed cache, and the number of a node's condition.
+#![tactic(auto)]
+
 ghost use Rattle.std.specs.Prelude.{◌≡◌, true, ◌+◌, ◌-◌, ◌<◌, T, pos, get_or};
 ghost use Rattle.std.specs.Int.Signed.{non_neg};
 ghost use Rattle.table.specs.Table.{node_at, eq_ℤ};
@@ -14,7 +16,7 @@ use table::Node;
 use table_cache::{keep, look};
 
 // The words of an entry in the cache.
-#[derive(Drop)]
+#[derive(Clone, Copy)]
 pub struct Words {
     pub op: usize,
     pub f: usize,

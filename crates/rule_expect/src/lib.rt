@@ -1,4 +1,6 @@
 // Two operations of a stage: a condition summed out, and an action's reward added.
+#![tactic(auto)]
+
 ghost use Rattle.std.specs.Prelude.{◌^◌, ◌<◌, ◌≤◌};
 ghost use Rattle.theory.specs.Widths.{conditions_most, weights_most, actions_most};
 ghost use Rattle.theory.specs.Computation.{bind};

@@ -1,4 +1,6 @@
 // Diagrams in a node table: the unique table's nodes read as trees.
+#![tactic(auto)]
+
 ghost use Rattle.std.specs.Prelude.{◌≡◌, T, nat_abs};
 ghost use Rattle.std.specs.Int.Signed.{non_neg};
 
@@ -7,7 +9,7 @@ pub mod making; // making.rt: nodes looked up or made
 pub mod codes; // codes.rt: the rules' numbers, the kinds of tests and their order
 
 // What lies below a node: nothing where it ends, at a leaf.
-#[derive(Drop)]
+#[derive(Clone, Copy)]
 pub struct Down {
     pub ends: bool,
     pub high: usize,
@@ -15,7 +17,7 @@ pub struct Down {
 }
 
 // What a rule goes on with at f and g: the root, and the high and the low sides of both.
-#[derive(Drop)]
+#[derive(Clone, Copy)]
 pub struct Sides {
     pub ends: bool,
     pub root: usize,

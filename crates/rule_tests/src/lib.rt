@@ -1,4 +1,6 @@
 // Numbers and tests compared, the test that a choice is given, and what lies below a node.
+#![tactic(auto)]
+
 ghost use Rattle.std.specs.Prelude.{◌≡◌, true, false, ◌+◌, ◌≤◌, length, take, drop};
 ghost use Rattle.whole.specs.Linears.{numbers};
 ghost use Rattle.table.specs.Table.{node_at, is_leaf};

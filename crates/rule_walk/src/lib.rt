@@ -1,4 +1,6 @@
 // The walk of a linear's diagram: at each leaf one of two diagrams, or a choice between them.
+#![tactic(auto)]
+
 ghost use Rattle.std.specs.Prelude.{◌≡◌, ◌<◌};
 ghost use Rattle.table.specs.Table.{node_at};
 ghost use Rattle.theory.specs.Rules.{decide};

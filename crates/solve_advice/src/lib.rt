@@ -1,4 +1,6 @@
 // Solving and then reading in the same lent tables: the demands as the contract of running code.
+#![tactic(auto)]
+
 ghost use Rattle.value_walk.specs.Out.{out};
 ghost use Rattle.value_walk.specs.State.{asked};
 ghost use Rattle.theorems.specs.Advice.{Advises};

@@ -1,4 +1,6 @@
 // A solve with room for a given number of nodes: the tables of the stages where it is solved.
+#![tactic(auto)]
+
 ghost use Rattle.std.specs.Prelude.{◌≡◌, ◌*◌, ◌≤◌, length, replicate};
 ghost use Rattle.theory.specs.Widths.{bytes_most, steps_most, nodes_most, node_words, work_words, roots_most, peak_words};
 ghost use Rattle.theory.specs.Verdict.{verdict};

@@ -1,5 +1,7 @@
 // One operation on a table with its roots: the table is made to hold exactly the nodes that the first roots need, then a rule runs,
 // in a part of the room that follows what is held.
+#![tactic(auto)]
+
 ghost use Rattle.std.specs.Prelude.{◌≡◌, ◌+◌, ◌≤◌, ◌<◌, min, max, length, take};
 ghost use Rattle.rule_node.specs.Nodes.{trees, Good};
 ghost use Rattle.rule_node.specs.Table.{Table, RuleRan};
@@ -15,7 +17,7 @@ use table::{Made, Node};
 use whole::NUMBERS;
 
 // What an operation computes, of roots by their places: w, f and g are places, as `at` is the first of m next levels.
-#[derive(Drop)]
+#[derive(Clone, Copy)]
 pub enum Rule {
     Zero,
     Levels(usize, usize, usize),
@@ -25,7 +27,7 @@ pub enum Rule {
 }
 
 // What stopped a run, or 0; how many nodes the table has; the largest count at an operation's end.
-#[derive(Drop)]
+#[derive(Clone, Copy)]
 pub struct Run {
     pub stop: usize,
     pub count: usize,

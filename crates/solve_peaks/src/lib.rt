@@ -1,4 +1,6 @@
 // The words of the peaks: "loading, then actions 1 to A, zeros after".
+#![tactic(auto)]
+
 ghost use Rattle.std.specs.Prelude.{◌≡◌, ◌≤◌, ◌<◌, length, replicate};
 ghost use Rattle.theory.specs.Widths.{nodes_most};
 ghost use Rattle.theory.specs.Peaks.{raise};

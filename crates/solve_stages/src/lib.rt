@@ -1,4 +1,6 @@
 // The actions of a stage, the best so far kept; then the stages.
+#![tactic(auto)]
+
 ghost use Rattle.std.specs.Prelude.{◌≡◌, suc, ◌+◌, ◌≤◌, ◌<◌, length};
 ghost use Rattle.theory.specs.Widths.{steps_most, nodes_most, peak_words};
 ghost use Rattle.theory.specs.Load.{model as model_of};
@@ -14,7 +16,7 @@ use solve_peaks::raise_peak;
 use solve_total::{Backup, model_size, total};
 
 // What stopped a run, or 0, and where: a stage, 0 while loading; how many nodes the table has; the largest count at an operation's end.
-#[derive(Drop)]
+#[derive(Clone, Copy)]
 pub struct Planned {
     pub stop: usize,
     pub place: usize,

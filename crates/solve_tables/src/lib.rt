@@ -1,4 +1,6 @@
 // "solve": refused early with all untouched, or run to the tables of the stages, or refused on the way with all zero.
+#![tactic(auto)]
+
 ghost use Rattle.std.specs.Prelude.{◌≡◌};
 ghost use Rattle.theory.specs.Solve.{early_with_peaks};
 ghost use Rattle.theory.specs.Solve.{solve as solve-of};
@@ -15,7 +17,7 @@ use table_room::room;
 pub const PEAK_WORDS: usize = 401;
 
 // A refusal's number and place, both 0 where there is none; then the peak.
-#[derive(Drop)]
+#[derive(Clone, Copy)]
 pub struct Solved {
     pub number: u32,
     pub place: usize,

@@ -1,4 +1,6 @@
 // An action's total in a stage: the next levels replaced, each condition summed out, the reward added.
+#![tactic(auto)]
+
 ghost use Rattle.std.specs.Prelude.{◌≡◌, ◌<◌};
 ghost use Rattle.theory.specs.Computation.{Moment};
 ghost use Rattle.theory.specs.Stage.{sum_out as summed};
@@ -9,7 +11,7 @@ use model_command::widening::{action_index, byte_index};
 use solve_operation::{Rule, Run, operate};
 
 // A Bellman backup of one action: how many roots are held, the place of the stage before among them, the stage, the action.
-#[derive(Drop)]
+#[derive(Clone, Copy)]
 pub struct Backup {
     pub held: usize,
     pub before: usize,
@@ -18,7 +20,7 @@ pub struct Backup {
 }
 
 // An action's chances among the roots: the place of the first, how many, the weight total.
-#[derive(Drop)]
+#[derive(Clone, Copy)]
 struct Chances {
     first: usize,
     count: usize,

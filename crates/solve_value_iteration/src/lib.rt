@@ -1,4 +1,6 @@
 // Value iteration on tables of a given room: the model loaded, stage 0, the stages.
+#![tactic(auto)]
+
 ghost use Rattle.std.specs.Prelude.{◌≡◌, ◌≤◌, ◌<◌, length, replicate};
 ghost use Rattle.theory.specs.Widths.{bytes_most, steps_most, loaded_roots_most, roots_most, peak_words};
 ghost use Rattle.theory.specs.Verdict.{verdict};

@@ -1,4 +1,6 @@
 // The node table: nodes of NODE_WORDS words each, one after another.
+#![tactic(auto)]
+
 ghost use Rattle.std.specs.Prelude.{◌≡◌, ◌+◌, ◌*◌, ◌≤◌, length};
 ghost use Rattle.table.specs.Table.{node_words, node_at, put_at, SameNode, is_leaf, is_none};
 
@@ -20,7 +22,7 @@ pub const NONE: i64 = 3;
 // Kind 0 is a leaf: its linear, the constant as the last number, its action as high, 0 as low. Kind 1 is a condition,
 // its number as the first and zeros after; kind 2 is a test, its linear; both with the indexes of their branches. Kind 3
 // is the leaf "none", zeros after.
-#[derive(Drop)]
+#[derive(Clone, Copy)]
 pub struct Node {
     pub kind: i64,
     pub n: [i64; NUMBERS],
@@ -30,7 +32,7 @@ pub struct Node {
 
 // What a look-up, an append or a rule answers: stop is 0, 12 where the table is full, or 11 where a rule names a number
 // outside its limits.
-#[derive(Drop)]
+#[derive(Clone, Copy)]
 pub struct Made {
     pub stop: usize,
     pub at: usize,

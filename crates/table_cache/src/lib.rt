@@ -1,4 +1,6 @@
 // The computed cache: results kept by rule and operands, each in one place, the last one only.
+#![tactic(auto)]
+
 ghost use Rattle.std.specs.Prelude.{◌≡◌, false, ◌+◌, ◌-◌, ◌*◌, ◌≤◌, ◌<◌, length, get_or};
 ghost use Rattle.table_cache.specs.Cache.{slot_of, Key, WorkRoom, CacheEntry, store_of};
 

@@ -1,4 +1,6 @@
 // Parts of the work words filled with zeros.
+#![tactic(auto)]
+
 pub mod zeros; // zeros.rt: words filled with zeros to their end
 
 ghost use Rattle.std.specs.Prelude.{◌≡◌, ◌≤◌, length};

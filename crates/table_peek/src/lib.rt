@@ -1,4 +1,6 @@
 // A node's kind and branches, and its branches renumbered.
+#![tactic(auto)]
+
 ghost use Rattle.std.specs.Prelude.{◌≡◌, pos, nat_abs, length, ◌*◌, ◌≤◌};
 ghost use Rattle.table.specs.Table.{is_leaf, nodes_most};
 ghost use Rattle.table_peek.specs.Renumber.{renumber, InsideRoom};

@@ -1,4 +1,6 @@
 // How many nodes the lent words have room for.
+#![tactic(auto)]
+
 ghost use Rattle.std.specs.Prelude.{◌≡◌, min};
 ghost use Rattle.theory.specs.Solve.{room as room_of};
 

@@ -1,4 +1,6 @@
 // Whether a node of a lent table is as the layout has it.
+#![tactic(auto)]
+
 pub mod words; // words.rt: a node's words, judged as they are read
 
 ghost use Rattle.std.specs.Prelude.{◌≡◌, ◌+◌, ◌-◌, ◌*◌, ◌≤◌, take, drop};
@@ -15,7 +17,7 @@ use table::{HIGH, LOW, NODE_WORDS};
 use whole::{COEFFICIENTS, NUMBERS};
 
 // What a node's words say that it is. A leaf "none" has no numbers and no action.
-#[derive(Drop)]
+#[derive(Clone, Copy)]
 pub enum Kind {
     Leaf,
     Condition,

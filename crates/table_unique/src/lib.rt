@@ -1,5 +1,7 @@
 // The unique table: equal nodes are one node, found by hash chains. The work words hold the heads at 0 to cap
 // and the links at cap to 2 cap, each one more than an index, or 0.
+#![tactic(auto)]
+
 ghost use Rattle.std.specs.Prelude.{◌≡◌, ◌*◌, ◌%◌, ◌^◌, ◌<◌, ◌≤◌};
 ghost use Rattle.table.specs.Table.{first_node, nodes_most};
 ghost use Rattle.table_unique.specs.Unique.{factors_end, added_of, next_of, bucket_of, hash_of, Chained, NodeEntered};

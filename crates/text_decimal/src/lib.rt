@@ -1,5 +1,7 @@
 // Bytes, decimal numbers and lines of them, written from a place of a lent buffer.
 // Each writer answers the place behind what it wrote. A `.._len` function says first how long that is.
+#![tactic(auto)]
+
 ghost use Rattle.std.specs.Prelude.{◌≡◌, ◌+◌, ◌≤◌, pos, length};
 ghost use Rattle.theory.specs.Listing.{digits, spaced};
 ghost use Rattle.text_decimal.specs.Put.{PutAt, number_bytes};

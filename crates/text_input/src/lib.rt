@@ -1,4 +1,6 @@
 // The listing program's input: a horizon byte, then a model.
+#![tactic(auto)]
+
 ghost use Rattle.std.specs.Prelude.{◌≡◌, ltb, length};
 ghost use Rattle.text_input.specs.Printed.{model_most, horizon_of, model_of};
 

@@ -1,4 +1,6 @@
 // The listing of a plan, written into a lent buffer from any place of it.
+#![tactic(auto)]
+
 ghost use Rattle.std.specs.Prelude.{◌≡◌, ◌≤◌, length};
 ghost use Rattle.theory.specs.Widths.{steps_most};
 ghost use Rattle.theory.specs.Listing.{listing as listing-of};
@@ -12,7 +14,7 @@ use model_progress::Site;
 pub mod judging; // judging.rt: whether a plan can be listed
 
 // A refusal's number and place, both 0 where there is none; then how many bytes were written.
-#[derive(Drop)]
+#[derive(Clone, Copy)]
 pub struct Listed {
     pub number: u32,
     pub place: usize,

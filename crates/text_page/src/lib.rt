@@ -1,4 +1,6 @@
 // A page: for one state a line per stage, written into a lent buffer from any place of it.
+#![tactic(auto)]
+
 ghost use Rattle.std.specs.Prelude.{◌≡◌, length};
 ghost use Rattle.theory.specs.Load.{site_at};
 ghost use Rattle.theory.specs.Solve.{early as early-of};

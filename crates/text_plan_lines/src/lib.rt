@@ -1,4 +1,6 @@
 // Each line of a listing, written at the front of a lent part of the buffer, and how long it is.
+#![tactic(auto)]
+
 ghost use Rattle.std.specs.Prelude.{◌≡◌, [], ◌∷◌, ◌+◌, ◌-◌, ◌≤◌, length, get_or};
 ghost use Rattle.theory.specs.Verdict.{refusal};
 ghost use Rattle.theory.specs.Value.{node_word, high_of, low_of};

@@ -1,4 +1,6 @@
 // The listing program's answer: from a horizon byte and a model to the listing of the plan, or to the refusal.
+#![tactic(auto)]
+
 ghost use Rattle.std.specs.Prelude.{◌≡◌, ◌≤◌, length, take};
 ghost use Rattle.theory.specs.Verdict.{refusal as refusal-of};
 ghost use Rattle.theory.specs.Listing.{refusal_line};

@@ -1,1 +1,2 @@
 // "Two valleys, one total", as definitions and laws: everything is in specs/.
+#![tactic(auto)]

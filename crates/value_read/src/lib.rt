@@ -1,4 +1,6 @@
 // The value and the action at a state, from a model and lent tables.
+#![tactic(auto)]
+
 ghost use Rattle.std.specs.Prelude.{◌≡◌};
 ghost use Rattle.theory.specs.Value.{value_of};
 ghost use Rattle.value_walk.specs.State.{asked};

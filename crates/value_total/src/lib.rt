@@ -1,4 +1,6 @@
 // "Two valleys, one total": both actions and the total of two sites that share nothing, from their models and lent tables.
+#![tactic(auto)]
+
 ghost use Rattle.std.specs.Prelude.{◌≡◌, ◌≤◌, ◌<◌};
 ghost use Rattle.theory.specs.Widths.{steps_most};
 ghost use Rattle.model_progress.specs.GivenFlags.{site_as};
@@ -19,7 +21,7 @@ pub const SCALES: u32 = 26;
 const OUTSIDE: u32 = 11;
 
 // The states that are asked, one of each site, and the steps that both have left.
-#[derive(Drop)]
+#[derive(Clone, Copy)]
 pub struct Both {
     pub steps: u32,
     pub first: Asked,
@@ -27,7 +29,7 @@ pub struct Both {
 }
 
 // A refusal's number and place, both 0 where there is none; then the actions and the numerator.
-#[derive(Drop)]
+#[derive(Clone, Copy)]
 pub struct Joined {
     pub number: u32,
     pub place: usize,

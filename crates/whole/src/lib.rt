@@ -1,4 +1,6 @@
 // Whole numbers within ±(2⁶² − 1), divisors, powers, and numerators in two words.
+#![tactic(auto)]
+
 pub mod limits; // limits.rt: sums, differences, products and powers, judged
 pub mod divisors; // divisors.rt: the greatest common divisor, and division by it
 pub mod linears; // linears.rt: whether two lists of numbers are equal
@@ -10,13 +12,13 @@ pub const COEFFICIENTS: usize = 8;
 
 pub const NUMBERS: usize = COEFFICIENTS + 1;
 
-#[derive(Drop)]
+#[derive(Clone, Copy)]
 pub enum Within {
     Is(i64),
     Over,
 }
 
-#[derive(Drop)]
+#[derive(Clone, Copy)]
 pub struct Numerator {
     pub low: u64,
     pub high: i64,

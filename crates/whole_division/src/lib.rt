@@ -1,4 +1,6 @@
 // Whole numbers in two words divided downward, by long division over 32-bit halves: there are no integers of 128 bits.
+#![tactic(auto)]
+
 ghost use Rattle.std.specs.Prelude.{◌≡◌, ◌*◌, ◌^◌, ◌<◌};
 ghost use Rattle.whole.specs.Numerator.{number};
 ghost use Rattle.whole_division.specs.Floor.{floor_by};
@@ -7,7 +9,7 @@ ghost use Rattle.whole_division.specs.Words.{two_words, whole_as, Divided};
 use whole::Numerator;
 
 // A whole number: high × 2⁶⁴ + low, or one below zero by its complement, so that -1 has the words 0 and 0.
-#[derive(Drop)]
+#[derive(Clone, Copy)]
 pub struct Whole {
     pub below: bool,
     pub high: u64,
@@ -15,7 +17,7 @@ pub struct Whole {
 }
 
 // A quotient in two words, and the remainder.
-#[derive(Drop)]
+#[derive(Clone, Copy)]
 pub struct Quotient {
     pub high: u64,
     pub low: u64,

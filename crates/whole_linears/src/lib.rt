@@ -1,4 +1,6 @@
 // Linears as lists of numbers: coefficients, and the constant as the last. Each function is one loop over all of them.
+#![tactic(auto)]
+
 ghost use Rattle.std.specs.Prelude.{◌≡◌, ◌*ℤ◌, take};
 ghost use Rattle.whole.specs.Divisor.{gcd_all};
 ghost use Rattle.whole.specs.Linears.{coefficients, Smalls, smalls, add_list, sub_list, clipped, clip_list, quot_list, divisor_list, cmp_ℤ, ord_num};

@@ -1,4 +1,6 @@
 // Sums of products by powers, judged against two words: a product may lie outside of them where the sum lies within, so that one bit more is held on the way.
+#![tactic(auto)]
+
 ghost use Rattle.std.specs.Prelude.{◌≡◌, true, false, ◌+◌, ◌-◌, ◌*◌, ◌^◌, ◌<◌, pos, ◌+ℤ◌, ◌*ℤ◌};
 ghost use Rattle.whole.specs.Cases.{if};
 ghost use Rattle.whole.specs.Numerator.{number};
@@ -8,7 +10,7 @@ ghost use Rattle.whole_wide.specs.Wide.{carried, fitted, Scaled, WideSum, Added,
 use whole::Numerator;
 
 // high × 2⁶⁴ + low, or one below zero by its complement; over: it lies outside two words, and the words say nothing.
-#[derive(Drop)]
+#[derive(Clone, Copy)]
 pub struct Wide {
     pub over: bool,
     pub below: bool,
@@ -17,14 +19,14 @@ pub struct Wide {
 }
 
 // carry × 2¹²⁸ + high × 2⁶⁴ + low
-#[derive(Drop)]
+#[derive(Clone, Copy)]
 pub struct Carried {
     pub carry: u64,
     pub high: u64,
     pub low: u64,
 }
 
-#[derive(Drop)]
+#[derive(Clone, Copy)]
 pub enum Fitted {
     Is(Numerator),
     Outside,
