@@ -54,7 +54,7 @@ module _ (e : Env) where
   sum_on_at F (c ∷ cs) [] ok = sym (⊕_zero _)
   sum_on_at F (c ∷ cs) (D ∷ Ds) ok =
       let d = both (permitted (at e D)) (all (λ D. permitted (at e D)) Ds) ok in
-      ap (worth_at e) (result_bind (scale c D) _ ∙ result_bind (sum F _) _) ∙ sum_on_at _ cs Ds d.1
+      ap (worth_at e) (result_bind (scale c D) _ ∙ result_bind (sum F _) _) ∙ sum_on_at (result (sum F (result (scale c D)))) cs Ds d.1
       ∙ ap (λ z. z ⊕ num (dot cs (map (level_at e) Ds))) (sum_at e F _ ∙ ap (λ z. worth_at e F ⊕ z) (scale_level e c D d.0))
       ∙ ⊕_assoc (worth_at e F) (num (c *ℤ level_at e D)) (num (dot cs (map (level_at e) Ds)))
       ∙ ap (λ z. worth_at e F ⊕ z) (num-⊕ (c *ℤ level_at e D) (dot cs (map (level_at e) Ds)))

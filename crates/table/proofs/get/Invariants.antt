@@ -1,0 +1,18 @@
+-- `table::get` meets its contract: the first k numbers are the words behind the kind; kind, high and low are read after them.
+use Prim.Native.Nat.{◌+◌, ◌-◌, ◌*◌}
+use native.Mathlib.Omega.{arith}
+use mathlib.Core.Path.{refl}
+use lib.IntN.{pos}
+use lib.ListN.{get_or}
+use Rattle.whole.specs.Linears.{numbers}
+use Rattle.whole.proofs.Filled.{Filled, none_filled, one_filled}
+use Rattle.table.specs.Table.{node_words}
+use Rattle.table.proofs.Words.{back}
+use Rattle.table.proofs.Store.{get_as}
+use Rattle.table.proofs.get.Given as goal
+
+abbrev pub invariant-loop-k : goal.invariant-loop-k
+invariant-loop-k l = Filled numbers (λ j. get_or l.nodes (l.i * node_words + 1 + j) (pos 0)) l.k l.n
+
+abbrev pub decreases-loop-k : goal.decreases-loop-k
+decreases-loop-k l = numbers - l.k

@@ -1,0 +1,15 @@
+-- `whole_linears::gcd_first` meets its contract: g is the divisor of the coefficients from i on, and i falls.
+use mathlib.Core.Path.{◌≡◌, ap, ◌∙◌}
+use Prim.Native.Nat.{ℕ, ◌-◌, ◌≤◌}
+use native.Mathlib.Omega.{arith}
+use lib.ListN.{take, drop}
+use Rattle.whole.specs.Divisor.{gcd_all}
+use Rattle.whole.specs.Linears.{coefficients}
+use Rattle.whole.proofs.Loops.{gcd_none, gcd_more}
+use Rattle.whole_linears.proofs.gcd_first.Given as goal
+
+abbrev pub invariant-loop-i : goal.invariant-loop-i
+invariant-loop-i l = (l.i ≤ coefficients) × (l.g ≡ gcd_all (drop l.i (take coefficients l.a)))
+
+abbrev pub decreases-loop-i : goal.decreases-loop-i
+decreases-loop-i l = l.i

@@ -1,0 +1,21 @@
+use mathlib.Core.Path.{◌≡◌, refl}
+use Prim.Native.Nat.{◌-◌}
+use native.Mathlib.Omega.{arith}
+use lib.IntN.{ℤ, pos, ◌-ℤ◌}
+use lib.ListN.{get_or, take}
+use Rattle.whole.specs.Linears.{numbers}
+use Rattle.whole.proofs.Filled.{Filled, none_filled, one_filled}
+use Rattle.whole.proofs.Loops.{sub_fits, sub_is, subtracted}
+use Rattle.whole_linears.proofs.sub.Goals as goal
+
+pub loop-i-init : goal.loop-i-init
+loop-i-init c = none_filled refl
+
+pub overflow_sub-z : goal.overflow_sub-z
+overflow_sub-z c = let i = c.loop-i.i in sub_fits _ _ (c.requires.0.each i) (c.requires.1.each i)
+
+pub loop-i-preserved : goal.loop-i-preserved
+loop-i-preserved c = let i = c.loop-i.i in one_filled c.loop-i.invariant c.loop-i-test.true (sub_is _ _ (c.requires.0.each i) (c.requires.1.each i))
+
+pub returns : goal.returns
+returns c = subtracted _ _ c.requires c.loop-i.invariant c.loop-i-test.false

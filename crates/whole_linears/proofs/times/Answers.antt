@@ -1,0 +1,20 @@
+use mathlib.Core.Path.{◌≡◌, refl}
+use Prim.Native.Nat.{◌-◌}
+use native.Mathlib.Omega.{arith}
+use lib.IntN.{pos, ◌*ℤ◌}
+use lib.ListN.{get_or, take}
+use Rattle.whole.specs.Linears.{numbers, clipped}
+use Rattle.whole.proofs.Filled.{Filled, none_filled, one_filled}
+use mir.Syntax.{w64}
+use mir.Val.{to_z}
+use Rattle.whole.proofs.Loops.{times_word, multiplied_word}
+use Rattle.whole_linears.proofs.times.Goals as goal
+
+pub loop-i-init : goal.loop-i-init
+loop-i-init c = none_filled refl
+
+pub loop-i-preserved : goal.loop-i-preserved
+loop-i-preserved c = one_filled c.loop-i.invariant c.loop-i-test.true (times_word c.args.k _ c.ranges.k c.product-arg-1.given c.product-z.ensures)
+
+pub returns : goal.returns
+returns c = multiplied_word c.args.k _ c.ranges.k c.well_formed.1.0.1.0.1 c.loop-i.invariant c.loop-i-test.false
