@@ -1,6 +1,5 @@
 -- `model_stack::Stack::pop` meets its contract.
 use Rattle.model_stack.proofs.Stacked.{pop_more, pop_none}
-use borrow.Author.Rules.{rules}
 use Rattle.model_stack.proofs.Stack.pop.Goals as goal
 
 pub returns-then-at-gt0 : goal.returns-then-at-gt0

@@ -1,8 +1,6 @@
 -- `model_stack::Stack::top` meets its contract.
 use native.Mathlib.Omega.{arith}
-use lib.ListN.{length-map}
 use Rattle.model_stack.proofs.Stacked.{top_more, top_none, top_past}
-use borrow.Author.Rules.{rules}
 use Rattle.model_stack.proofs.Stack.top.Goals as goal
 
 pub returns-then-at-eq0 : goal.returns-then-at-eq0
@@ -12,4 +10,4 @@ pub returns-then-last-lt-STACK_MOST : goal.returns-then-last-lt-STACK_MOST
 returns-then-last-lt-STACK_MOST c = top_more _ _ c.if-at-eq0.false
 
 pub returns-else-last-lt-STACK_MOST : goal.returns-else-last-lt-STACK_MOST
-returns-else-last-lt-STACK_MOST c = top_past _ _ c.if-at-eq0.false (omega (arith, simp length-map at c.well_formed.0.1.1.0.1.0.1))
+returns-else-last-lt-STACK_MOST c = top_past _ _ c.if-at-eq0.false (omega arith)
