@@ -1,16 +1,17 @@
 // The rules that need only a command and the site: "operands 4".
-ghost use Rattle.std.specs.Prelude.{◌≡◌, ◌&&◌, eqb, ltb, ℕ, ◌+◌, ◌≤◌, pos, length, take, drop};
+ghost use Rattle.std.specs.Prelude.{◌≡◌, ◌&&◌, eqb, ltb, ℕ, ◌+◌, ◌*◌, ◌≤◌, pos, length, take, drop};
 ghost use Rattle.std.specs.Int.Signed.{le_z};
 ghost use Rattle.theory.specs.Widths.{name_bytes};
 ghost use Rattle.theory.specs.Form.{linear_bytes};
 ghost use Rattle.model_form.specs.Forms.{form_of};
+ghost use Rattle.theory.specs.Diagram.{zeros as zeros_in};
 ghost use Rattle.theory.specs.Valid.{all};
 ghost use Rattle.theory.specs.Valid.{among as is_among};
 ghost use Rattle.theory.specs.Verdict.{or, next_condition, first_broken, site_rules, site_of, is_weight, of_site, same_slot, end_slot, beyond};
 ghost use Rattle.model_progress.specs.GivenFlags.{site_as};
 ghost use Rattle.whole.specs.Cases.{if};
-ghost use Rattle.theory.specs.Verdict.{printable as is-printable};
-ghost use Rattle.theory.specs.Command.{signed, linear_in};
+ghost use Rattle.theory.specs.Verdict.{printable as is_printable};
+ghost use Rattle.theory.specs.Command.{signed, signed_from, linear_in};
 
 use super::Site;
 use super::refusals::OPERAND;
@@ -26,6 +27,45 @@ pub fn among(n: usize, k: usize) -> bool
     ensures { result ≡ is_among n k }
 {
     both(1 <= k, k <= n)
+}
+
+// n numbers from an offset on are zero: as words, no sign is needed.
+pub fn zeros(model: &[u8], from: usize, n: usize) -> bool
+    requires { from + n * 4 ≤ length model.now }
+    ensures { result ≡ zeros_in (signed_from model.now from n) }
+{
+    let mut at = from;
+    let mut left = n;
+    while 0 < left {
+        if model_command::word(model, at) != 0 {
+            return false;
+        }
+        at += 4;
+        left -= 1;
+    }
+    true
+}
+
+// "Coefficients beyond level m are zero", of the linear at an offset.
+pub fn beyond(form: Form, model: &[u8], from: usize, m: u8) -> bool
+    requires { from + linear_bytes (form_of form) ≤ length model.now }
+    ensures { result ≡ beyond m (linear_in (form_of form) model.now from) }
+{
+    let levels = model_form::levels(form);
+    let k = m as usize;
+    if k < levels {
+        !zeros(model, from + k * 4, levels - k)
+    } else {
+        false
+    }
+}
+
+// "A test has some coefficient not zero": whether the linear at an offset has none.
+pub fn is_constant(form: Form, model: &[u8], from: usize) -> bool
+    requires { from + linear_bytes (form_of form) ≤ length model.now }
+    ensures { result ≡ zeros_in (linear_in (form_of form) model.now from).coeffs }
+{
+    zeros(model, from, model_form::levels(form))
 }
 
 // How many coefficients of the linear at an offset count: those up to the last that is not zero. As words, no sign is needed.
@@ -108,14 +148,14 @@ pub fn slot(site: Site, command: u8, a: u16, i: u8) -> bool
 }
 
 fn printable(b: u8) -> bool
-    ensures { result ≡ is-printable b }
+    ensures { result ≡ is_printable b }
 {
     both(0x20 <= b, b <= 0x7e)
 }
 
 // Whether the bytes of a name from an offset on are printable.
 pub fn text(model: &[u8], from: usize) -> bool
-    ensures { result ≡ all is-printable (take name_bytes (drop from model.now)) }
+    ensures { result ≡ all is_printable (take name_bytes (drop from model.now)) }
 {
     let mut at = from;
     let mut left: usize = NAME_BYTES;

@@ -4,17 +4,27 @@
 ghost use Rattle.std.specs.Prelude.{◌≡◌, ◌<◌};
 ghost use Rattle.table.specs.Table.{node_at};
 ghost use Rattle.theory.specs.Rules.{decide};
-ghost use Rattle.rule_node.specs.Nodes.{linear_held, tree_at};
+ghost use Rattle.rule_node.specs.Nodes.{linear_held, tree_at, At};
 ghost use Rattle.rule_node.specs.Table.{Table, RuleRan};
 ghost use Rattle.rule_node.specs.EntryMeaning.{rule_of};
+ghost use Rattle.rule_node.specs.Roots.{down_of};
 ghost use Rattle.rule_leaves.specs.Leaves.{AtLeaf};
 
 use rule_choose::choose;
 use rule_leaves::numbers::{constant, decided, is_constant};
+use rule_node::Down;
 use rule_node::codes::{CHOOSE_NAMED, WALK};
 use rule_tests::below_at;
 use table::Made;
 use table_cache::{keep, look};
+
+// What lies below the node at f.
+pub fn down_at(nodes: &[i64], f: usize) -> Down
+    requires { At nodes.now f }
+    ensures { result ≡ down_of (node_at nodes.now f) }
+{
+    below_at(nodes, f)
+}
 
 // At the leaf f: a constant decides, g where it is at most 0 and else p; another linear is a choice by the test that the leaf names.
 fn decide_at(
