@@ -1,5 +1,5 @@
 -- "a numerator outside two words": whole numbers judged against them, and the wider ones that the code holds on the way.
-use Rattle.std.specs.Prelude.{◌≡◌, Bool, true, false, ◌&&◌, ℕ, ◌+◌, ◌*◌, ◌≤◌, ◌<◌, ℤ, pos, negsuc, ◌+ℤ◌, ◌*ℤ◌}
+use Rattle.std.specs.Prelude.{◌≡◌, Bool, true, false, ◌&&◌, ℕ, ◌≤◌, ◌<◌, ℤ, pos, negsuc, ◌+ℤ◌, ◌*ℤ◌}
 use Rattle.std.specs.Int.Signed.{le_z, mag}
 use Rattle.whole.specs.Cases.{if}
 use Rattle.whole.specs.Numerator.{number, words}
