@@ -1,12 +1,9 @@
 -- `whole_linears::add` meets its contract: the first i numbers of the result are the sums; two numbers within the limits have a sum that fits.
-use mathlib.Core.Path.{◌≡◌, refl}
-use Prim.Native.Nat.{◌+◌, ◌-◌}
-use native.Mathlib.Omega.{arith}
+use Prim.Native.Nat.{◌-◌}
 use lib.IntN.{pos, ◌+ℤ◌}
-use lib.ListN.{get_or, take}
+use lib.ListN.{get_or}
 use Rattle.whole.specs.Linears.{numbers}
-use Rattle.whole.proofs.Filled.{Filled, none_filled, one_filled}
-use Rattle.whole.proofs.Loops.{add_fits, add_is, added}
+use Rattle.whole.proofs.Filled.{Filled}
 use Rattle.whole_linears.proofs.add.Given as goal
 
 abbrev pub invariant-loop-i : goal.invariant-loop-i

@@ -1,4 +1,3 @@
-
 use mathlib.Core.Path.{sym, ap}
 use Rattle.whole.specs.Linears.{ord_num}
 use Rattle.whole.proofs.Comparing.{lt_of, cmp_lt, cmp_gt, cmp_same}

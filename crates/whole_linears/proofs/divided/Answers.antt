@@ -1,12 +1,8 @@
-use mathlib.Core.Path.{◌≡◌, refl, sym, ap, ◌∙◌}
-use Prim.Native.Nat.{ℕ, ◌-◌}
-use native.Mathlib.Omega.{arith}
-use lib.IntN.{pos}
-use lib.ListN.{get_or, take}
-use lib.Signed.{quot_z}
-use Rattle.whole.specs.Linears.{numbers, quot_list, divisor_list}
+use mathlib.Core.Path.{refl, sym, ap, ◌∙◌}
+use Prim.Native.Nat.{ℕ}
+use Rattle.whole.specs.Linears.{quot_list}
 use Rattle.whole.specs.LinearsLaws.{quot_one}
-use Rattle.whole.proofs.Filled.{Filled, none_filled, one_filled}
+use Rattle.whole.proofs.Filled.{none_filled, one_filled}
 use Rattle.whole.proofs.Loops.{divisor_fits_as, part_is, divided_all}
 use Rattle.whole_linears.proofs.divided.Goals as goal
 

@@ -1,14 +1,10 @@
 -- `whole_linears::divided` meets its contract: dividing by 1 changes nothing; else the loop has filled so many quotients.
-use mathlib.Core.Path.{◌≡◌, refl, sym, ap, ◌∙◌}
-use Prim.Native.Nat.{ℕ, ◌-◌}
-use native.Mathlib.Omega.{arith}
+use Prim.Native.Nat.{◌-◌}
 use lib.IntN.{pos}
-use lib.ListN.{get_or, take}
+use lib.ListN.{get_or}
 use lib.Signed.{quot_z}
-use Rattle.whole.specs.Linears.{numbers, quot_list, divisor_list}
-use Rattle.whole.specs.LinearsLaws.{quot_one}
-use Rattle.whole.proofs.Filled.{Filled, none_filled, one_filled}
-use Rattle.whole.proofs.Loops.{divisor_fits_as, part_is, divided_all}
+use Rattle.whole.specs.Linears.{numbers, divisor_list}
+use Rattle.whole.proofs.Filled.{Filled}
 use Rattle.whole_linears.proofs.divided.Given as goal
 
 abbrev pub invariant-loop-i : goal.invariant-loop-i

@@ -1,10 +1,4 @@
 -- `whole_linears::divisor` meets its contract: the constant's magnitude and the coefficients' divisor have the divisor of all nine (`divisor_is`).
-use mathlib.Core.Path.{◌≡◌}
-use Prim.Native.Nat.{◌-◌}
-use borrow.Author.Rules.{rules}
-use lib.ListN.{take}
-use Rattle.whole.specs.Divisor.{at_least_one}
-use Rattle.whole.specs.Linears.{coefficients}
 use Rattle.whole.proofs.Loops.{divisor_is}
 use Rattle.whole_linears.proofs.divisor.Goals as goal
 

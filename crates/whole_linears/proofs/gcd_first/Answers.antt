@@ -1,5 +1,5 @@
-use mathlib.Core.Path.{◌≡◌, ap, ◌∙◌}
-use Prim.Native.Nat.{ℕ, ◌-◌, ◌≤◌}
+use mathlib.Core.Path.{ap, ◌∙◌}
+use Prim.Native.Nat.{ℕ}
 use native.Mathlib.Omega.{arith}
 use lib.ListN.{take, drop}
 use Rattle.whole.specs.Divisor.{gcd_all}
@@ -21,10 +21,10 @@ loop-i-smaller c = let q = c.loop-i.invariant.0 in omega arith
 
 pub loop-i-preserved : goal.loop-i-preserved
 loop-i-preserved c = let q = c.loop-i.invariant.0 in (
-      omega arith,
-      gcd_more c.args.a c.well_formed.0.1.0.1 c.loop-i.i _ _ _ q c.loop-i-test.true
-          c.loop-i.invariant.1 c.mag-arg-1.given c.mag.ensures c.gcd-g.ensures,
-    )
+  omega arith,
+  gcd_more c.args.a c.well_formed.0.1.0.1 c.loop-i.i _ _ _ q c.loop-i-test.true
+      c.loop-i.invariant.1 c.mag-arg-1.given c.mag.ensures c.gcd-g.ensures,
+)
 
 pub returns : goal.returns
 returns c = c.loop-i.invariant.1 ∙ ap (λ (k : ℕ). gcd_all (drop k (take coefficients c.args.a))) c.loop-i-test.false

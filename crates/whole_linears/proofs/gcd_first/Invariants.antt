@@ -1,11 +1,9 @@
 -- `whole_linears::gcd_first` meets its contract: g is the divisor of the coefficients from i on, and i falls.
-use mathlib.Core.Path.{◌≡◌, ap, ◌∙◌}
-use Prim.Native.Nat.{ℕ, ◌-◌, ◌≤◌}
-use native.Mathlib.Omega.{arith}
+use mathlib.Core.Path.{◌≡◌}
+use Prim.Native.Nat.{◌≤◌}
 use lib.ListN.{take, drop}
 use Rattle.whole.specs.Divisor.{gcd_all}
 use Rattle.whole.specs.Linears.{coefficients}
-use Rattle.whole.proofs.Loops.{gcd_none, gcd_more}
 use Rattle.whole_linears.proofs.gcd_first.Given as goal
 
 abbrev pub invariant-loop-i : goal.invariant-loop-i

@@ -1,6 +1,4 @@
-
 use Rattle.whole.proofs.Clipped.{times_over, times_is}
-use borrow.Author.Rules.{rules}
 use Rattle.whole_linears.proofs.product.Goals as goal
 
 pub returns-in_default : goal.returns-in_default

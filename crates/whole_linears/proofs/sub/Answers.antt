@@ -1,10 +1,5 @@
-use mathlib.Core.Path.{◌≡◌, refl}
-use Prim.Native.Nat.{◌-◌}
-use native.Mathlib.Omega.{arith}
-use lib.IntN.{ℤ, pos, ◌-ℤ◌}
-use lib.ListN.{get_or, take}
-use Rattle.whole.specs.Linears.{numbers}
-use Rattle.whole.proofs.Filled.{Filled, none_filled, one_filled}
+use mathlib.Core.Path.{refl}
+use Rattle.whole.proofs.Filled.{none_filled, one_filled}
 use Rattle.whole.proofs.Loops.{sub_fits, sub_is, subtracted}
 use Rattle.whole_linears.proofs.sub.Goals as goal
 

@@ -1,12 +1,9 @@
 -- `whole_linears::sub` meets its contract: the first i numbers of the result are the differences; two numbers within the limits have one that fits.
-use mathlib.Core.Path.{◌≡◌, refl}
 use Prim.Native.Nat.{◌-◌}
-use native.Mathlib.Omega.{arith}
-use lib.IntN.{ℤ, pos, ◌-ℤ◌}
-use lib.ListN.{get_or, take}
+use lib.IntN.{pos, ◌-ℤ◌}
+use lib.ListN.{get_or}
 use Rattle.whole.specs.Linears.{numbers}
-use Rattle.whole.proofs.Filled.{Filled, none_filled, one_filled}
-use Rattle.whole.proofs.Loops.{sub_fits, sub_is, subtracted}
+use Rattle.whole.proofs.Filled.{Filled}
 use Rattle.whole_linears.proofs.sub.Given as goal
 
 abbrev pub invariant-loop-i : goal.invariant-loop-i

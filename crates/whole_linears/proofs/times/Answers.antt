@@ -1,12 +1,5 @@
-use mathlib.Core.Path.{◌≡◌, refl}
-use Prim.Native.Nat.{◌-◌}
-use native.Mathlib.Omega.{arith}
-use lib.IntN.{pos, ◌*ℤ◌}
-use lib.ListN.{get_or, take}
-use Rattle.whole.specs.Linears.{numbers, clipped}
-use Rattle.whole.proofs.Filled.{Filled, none_filled, one_filled}
-use mir.Syntax.{w64}
-use mir.Val.{to_z}
+use mathlib.Core.Path.{refl}
+use Rattle.whole.proofs.Filled.{none_filled, one_filled}
 use Rattle.whole.proofs.Loops.{times_word, multiplied_word}
 use Rattle.whole_linears.proofs.times.Goals as goal
 

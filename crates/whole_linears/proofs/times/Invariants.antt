@@ -1,18 +1,13 @@
 -- `whole_linears::times` meets its contract: the first i numbers of the result are the products, clipped; `product` takes any two numbers, so nothing is required.
-use mathlib.Core.Path.{◌≡◌, refl}
 use Prim.Native.Nat.{◌-◌}
-use native.Mathlib.Omega.{arith}
 use lib.IntN.{pos, ◌*ℤ◌}
-use lib.ListN.{get_or, take}
+use lib.ListN.{get_or}
 use Rattle.whole.specs.Linears.{numbers, clipped}
-use Rattle.whole.proofs.Filled.{Filled, none_filled, one_filled}
-use mir.Syntax.{w64}
-use mir.Val.{to_z}
-use Rattle.whole.proofs.Loops.{times_word, multiplied_word}
+use Rattle.whole.proofs.Filled.{Filled}
 use Rattle.whole_linears.proofs.times.Given as goal
 
 abbrev pub invariant-loop-i : goal.invariant-loop-i
-invariant-loop-i l = Filled numbers (λ j. clipped (to_z w64 l.k *ℤ get_or l.a j (pos 0))) l.i l.out
+invariant-loop-i l = Filled numbers (λ j. clipped (l.k *ℤ get_or l.a j (pos 0))) l.i l.out
 
 abbrev pub decreases-loop-i : goal.decreases-loop-i
 decreases-loop-i l = numbers - l.i

@@ -1,8 +1,5 @@
-use mathlib.Core.Path.{◌≡◌, refl}
-use Prim.Native.Nat.{◌-◌, ◌≤◌}
+use mathlib.Core.Path.{refl}
 use native.Mathlib.Omega.{arith}
-use lib.ListN.{take, drop}
-use Rattle.whole.specs.Linears.{numbers, smalls}
 use Rattle.whole.proofs.Loops.{one_over, one_fine, all_fine}
 use Rattle.whole_linears.proofs.within.Goals as goal
 
@@ -15,10 +12,10 @@ returns-then-mag-gt-LIMIT c = one_over _ c.well_formed.0.1.0.1 c.loop-i.i c.loop
 
 pub loop-i-preserved : goal.loop-i-preserved
 loop-i-preserved c = (
-      omega arith,
-      one_fine _ c.well_formed.0.1.0.1 c.loop-i.i c.loop-i.invariant.1
-          c.loop-i-test.true c.mag-arg-1.given c.mag.ensures c.if-mag-gt-LIMIT.false,
-    )
+  omega arith,
+  one_fine _ c.well_formed.0.1.0.1 c.loop-i.i c.loop-i.invariant.1
+      c.loop-i-test.true c.mag-arg-1.given c.mag.ensures c.if-mag-gt-LIMIT.false,
+)
 
 pub returns : goal.returns
 returns c = all_fine _ c.well_formed.0.1.0.1 c.loop-i.i c.loop-i.invariant.1 c.loop-i-test.false

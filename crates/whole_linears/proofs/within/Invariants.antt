@@ -1,10 +1,8 @@
 -- `whole_linears::within` meets its contract: all numbers lie within the limits where those from i on do; the first that does not ends the loop.
-use mathlib.Core.Path.{◌≡◌, refl}
+use mathlib.Core.Path.{◌≡◌}
 use Prim.Native.Nat.{◌-◌, ◌≤◌}
-use native.Mathlib.Omega.{arith}
-use lib.ListN.{take, drop}
+use lib.ListN.{drop}
 use Rattle.whole.specs.Linears.{numbers, smalls}
-use Rattle.whole.proofs.Loops.{one_over, one_fine, all_fine}
 use Rattle.whole_linears.proofs.within.Given as goal
 
 abbrev pub invariant-loop-i : goal.invariant-loop-i
