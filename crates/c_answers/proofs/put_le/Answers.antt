@@ -1,0 +1,25 @@
+use Prim.Native.Nat.{◌-◌}
+use native.Mathlib.Omega.{arith}
+use Rattle.c_answers.proofs.Bytes.{Begun, begin, begun_length, further, ended}
+use Rattle.c_answers.proofs.put_le.Goals as goal
+
+pub loop-i-init : goal.loop-i-init
+loop-i-init c = begin c.args.out.now c.args.at c.args.x c.args.k
+
+pub overflow_add-out : goal.overflow_add-out
+overflow_add-out c = let f = c.loop-i.invariant.few in omega arith
+
+pub bounds-out-at : goal.bounds-out-at
+bounds-out-at c = let e = begun_length c.loop-i.invariant c.requires in omega arith
+
+pub loop-i-preserved : goal.loop-i-preserved
+loop-i-preserved c = further c.loop-i.invariant c.requires c.loop-i-test.true
+
+pub overflow_add-result : goal.overflow_add-result
+overflow_add-result c = let f = c.loop-i.invariant.few in omega (arith, c.requires)
+
+pub shape_of-out : goal.shape_of-out
+shape_of-out c = begun_length c.loop-i.invariant c.requires
+
+pub returns : goal.returns
+returns c = ended c.loop-i.invariant c.requires c.loop-i-test.false
