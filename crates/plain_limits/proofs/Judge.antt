@@ -1,7 +1,6 @@
 -- Numbers judged: two words and 32 bits, sums and products, the best so far.
 use mathlib.Core.Path.{◌≡◌, refl, sym, ap, ap₂, ◌∙◌, subst}
 use mathlib.Core.Bool.{Bool, true, false, not, ◌&&◌}
-use mathlib.Core.List.{[], ◌∷◌}
 use Prim.Native.Nat.{ℕ, suc, ◌+◌, ◌-◌, ◌*◌, ◌≤◌, ◌<◌}
 use native.Mathlib.Nat.{mul-le-mul}
 use native.Mathlib.Omega.{arith}
@@ -9,8 +8,6 @@ use borrow.Author.Tests.{ltb-true, ltb-false, le-leb, lt-leb, lt-ltb}
 use lib.Dec.{T}
 use lib.IntN.{ℤ, pos, negsuc, nat_abs, ◌+ℤ◌, ◌-ℤ◌, ◌*ℤ◌}
 use lib.Signed.{le_z, lt_z}
-use types.Run.{OneOf, miss}
-use denote.Enum.Declared.{tag_of}
 use mir.Syntax.{w32, w64}
 use mir.Val.{SFits, to_z}
 use Rattle.whole.specs.Cases.{if, clash}
@@ -25,7 +22,6 @@ use Rattle.whole.specs.Magnitude.{abs_mul}
 use Rattle.whole.proofs.Signed.{R, R32, back, back32, plain, by_abs, abs_back}
 use Rattle.theory.specs.Plain.{Worth, is, nothing, over, in_32_bits, better, numbered}
 use Rattle.theory.specs.Verdict.{or}
-use Rattle.plain_limits.specs.contracts.Total.{the_type}
 use Rattle.plain_limits.specs.declared.Total.{Total}
 use Rattle.plain_limits.specs.declared.Total.TheVariants as total
 use Rattle.plain_limits.specs.declared.Level.{Level}
@@ -235,9 +231,9 @@ unfolding summed total_of
 summed_is w z e f = ap (λ (y : ℤ). is y 0) (back z f) ∙ sym (ap summed e)
 
 -- a total that is no number
-pub no_number : (t : Total) → OneOf (1 ∷ 2 ∷ []) (tag_of the_type t) → T (stopped (total_of t))
+pub no_number : (t : Total) → ((v : ℤ) (a : ℕ) → t ≡ total.Is v a → ⊥) → T (stopped (total_of t))
 unfolding stopped total_of
-no_number (total.Is v a) k = absurd (miss (1 ∷ 2 ∷ []) 0 tt k)
+no_number (total.Is v a) k = absurd (k v a refl)
 no_number total.None k = tt
 no_number total.Over k = tt
 
@@ -343,8 +339,8 @@ pub best_ends : (t : Total) (b : Bool) → t ≡ total.Over → true ≡ or (is_
 unfolding is_over total_of
 best_ends t b e = sym (ap (λ (x : Total). or (is_over (total_of x)) b) e)
 
-pub best_goes : (t : Total) (b : Bool) → OneOf (0 ∷ 1 ∷ []) (tag_of the_type t) → b ≡ or (is_over (total_of t)) b
+pub best_goes : (t : Total) (b : Bool) → (t ≡ total.Over → ⊥) → b ≡ or (is_over (total_of t)) b
 unfolding is_over total_of
 best_goes (total.Is v a) b k = refl
 best_goes total.None b k = refl
-best_goes total.Over b k = absurd (miss (0 ∷ 1 ∷ []) 2 tt k)
+best_goes total.Over b k = absurd (k refl)
