@@ -1,11 +1,6 @@
-use Prim.Native.Nat.{◌+◌, ◌-◌, ◌*◌}
 use native.Mathlib.Omega.{arith}
 use mathlib.Core.Path.{refl}
-use lib.IntN.{pos}
-use lib.ListN.{get_or}
-use Rattle.whole.specs.Linears.{numbers}
-use Rattle.whole.proofs.Filled.{Filled, none_filled, one_filled}
-use Rattle.table.specs.Table.{node_words}
+use Rattle.whole.proofs.Filled.{none_filled, one_filled}
 use Rattle.table.proofs.Words.{back}
 use Rattle.table.proofs.Store.{get_as}
 use Rattle.table.proofs.get.Goals as goal

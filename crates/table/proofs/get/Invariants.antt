@@ -1,14 +1,10 @@
 -- `table::get` meets its contract: the first k numbers are the words behind the kind; kind, high and low are read after them.
 use Prim.Native.Nat.{◌+◌, ◌-◌, ◌*◌}
-use native.Mathlib.Omega.{arith}
-use mathlib.Core.Path.{refl}
 use lib.IntN.{pos}
 use lib.ListN.{get_or}
 use Rattle.whole.specs.Linears.{numbers}
-use Rattle.whole.proofs.Filled.{Filled, none_filled, one_filled}
+use Rattle.whole.proofs.Filled.{Filled}
 use Rattle.table.specs.Table.{node_words}
-use Rattle.table.proofs.Words.{back}
-use Rattle.table.proofs.Store.{get_as}
 use Rattle.table.proofs.get.Given as goal
 
 abbrev pub invariant-loop-k : goal.invariant-loop-k

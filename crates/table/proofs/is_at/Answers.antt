@@ -9,7 +9,6 @@ use Rattle.table.specs.declared.Node.{Node}
 use Rattle.table.specs.Table.{node_at, SameNode, other}
 use Rattle.table.proofs.Store.{number_at}
 use native.Mathlib.Omega.{arith}
-use borrow.Author.Rules.{rules}
 use Rattle.table.proofs.is_at.Goals as goal
 
 pub returns-then-low-x : goal.returns-then-low-x

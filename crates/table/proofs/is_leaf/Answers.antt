@@ -1,4 +1,3 @@
-
 use mathlib.Core.Path.{sym, ◌∙◌}
 use Rattle.table.proofs.Leaf.{leaf_yes, leaf_no, none_told}
 use Rattle.table.proofs.is_leaf.Goals as goal

@@ -1,5 +1,3 @@
-
-use borrow.Author.Rules.{rules}
 use Rattle.table.specs.Table.{node_at}
 use Rattle.table.proofs.Leaf.{none_told}
 use Rattle.table.proofs.none_at.Goals as goal

@@ -1,14 +1,9 @@
-use Prim.Native.Nat.{◌+◌, ◌-◌, ◌*◌}
-use native.Mathlib.Omega.{arith}
-use lib.ListN.{length-set}
-use Rattle.whole.specs.Linears.{numbers}
-use Rattle.table.specs.Table.{node_words}
-use Rattle.table.proofs.Words.{back, as_long}
-use Rattle.table.proofs.Store.{Storing, none_stored, one_stored, put_as}
+use Rattle.table.proofs.Words.{back}
+use Rattle.table.proofs.Store.{none_stored, one_stored, put_as}
 use Rattle.table.proofs.put.Goals as goal
 
 pub loop-k-init : goal.loop-k-init
-loop-k-init c = let w = c.struct_told-1.given in none_stored _ _ c.args.x.n ?
+loop-k-init c = none_stored _ _ c.args.x.n c.struct_told-1.given.1.0.1.0.1
 
 pub loop-k-preserved : goal.loop-k-preserved
 loop-k-preserved c = one_stored c.loop-k.invariant c.loop-k-test.true (back _ c.z-1.given)

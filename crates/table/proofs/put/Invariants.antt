@@ -1,13 +1,8 @@
 -- `table::put` meets its contract: the first k numbers stand behind the kind, and no other word has changed since the kind was stored; high and low come last.
 use Prim.Native.Nat.{◌+◌, ◌-◌, ◌*◌}
-use native.Mathlib.Omega.{arith}
-use lib.ListN.{length-set}
 use Rattle.whole.specs.Linears.{numbers}
 use Rattle.table.specs.Table.{node_words}
-use Rattle.table.proofs.Words.{back, as_long}
-use Rattle.table.proofs.Store.{Storing, none_stored, one_stored, put_as, storing_length, two_more}
-use mir.Syntax.{w64}
-use mir.Val.{to_z, of_z}
+use Rattle.table.proofs.Store.{Storing}
 use Rattle.table.proofs.put.Given as goal
 
 abbrev pub invariant-loop-k : goal.invariant-loop-k

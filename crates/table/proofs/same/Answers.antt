@@ -1,11 +1,9 @@
-
 use mathlib.Core.Path.{ap}
 use mir.Syntax.{w64}
 use mir.Val.{of_z}
 use Rattle.table.specs.declared.Node.{Node}
-use Rattle.table.specs.Table.{same, other}
+use Rattle.table.specs.Table.{other}
 use Rattle.table.proofs.Words.{bits_same}
-use borrow.Author.Rules.{rules}
 use Rattle.table.proofs.same.Goals as goal
 
 pub returns-then-x-y : goal.returns-then-x-y
