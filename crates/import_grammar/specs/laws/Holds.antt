@@ -5,9 +5,9 @@ use Rattle.import_grammar.specs.Grammar.{Blank, blank, tab, newline, return, Spa
 use Rattle.import_grammar.specs.Grammar.{one, also, i1, i2, i3, i4, i5, i6, i7, i8, four_byte, lt, gt, Sign}
 use Rattle.import_grammar.specs.Grammar.{adds, takes, ConstFactor, number, kbracket, ConstTerm, kfactor, ktimes, ConstSum}
 use Rattle.import_grammar.specs.Grammar.{VaryFactor, level, vbracket, VaryTerm, vfactor, vscaled, vby, Sum}
-use Rattle.import_grammar.specs.Grammar.{constant, varying, unsaid, bang, Atom, compare, Not, negated, And, both}
+use Rattle.import_grammar.specs.Grammar.{constant, varying, unsaid, bang, Atom, compare, Not, negated, And}
 use Rattle.import_grammar.specs.Grammar.{Items, head, closed, named, Result}
-use Rattle.import_grammar.specs.Grammar.{worth, forbids, Setting, setting, Chars, empty, is_plain, deepest, if}
+use Rattle.import_grammar.specs.Grammar.{worth, forbids, Setting, setting, Chars, is_plain, if}
 use Rattle.import_grammar.specs.Grammar.{result_bytes, setting_bytes, chars_bytes, items_bytes, opening_bytes, digit_byte, blank_byte, index_byte}
 use Rattle.import_grammar.specs.Grammar.{sign_byte, op_bytes, spaces_bytes, digits_bytes, kfactor_bytes, kterm_bytes, ksum_bytes, vfactor_bytes}
 use Rattle.import_grammar.specs.Grammar.{vterm_bytes, vsum_bytes, sum_bytes, nots_bytes, atom_bytes, not_bytes, and_bytes, or_bytes, before_bytes}
@@ -21,7 +21,7 @@ use Rattle.import_grammar.specs.Reader.{end2, n1, next2, next3, name2, name3, si
 use Rattle.import_grammar.specs.Reader.{forb8, outset, hletter, hequals, hnumber, hdone, inum, idone, iequals, res, forbade, quoted, factor, letter_l}
 use Rattle.import_grammar.specs.Reader.{after, cfactor, cafter, less, greater, held, el1, el2, el3, els, Middle, Machine, at, mid, dead, opens}
 use Rattle.import_grammar.specs.Reader.{ksum_of, vsum_of, sum_of, more_of, ktimes_of, vtimes_of, times_const, times_of, bracketed, and_of, or_of, whole}
-use Rattle.import_grammar.specs.Reader.{anded, ored, banged, so, longer, go_on, extended, cextended, close_left, close_cond, colon}
+use Rattle.import_grammar.specs.Reader.{anded, ored, banged, longer, go_on, extended, cextended, close_left, close_cond, colon}
 use Rattle.import_grammar.specs.Reader.{else_here, joined, ending, close_const, minus_here, cminus_here, core_here, factor_here, equals_here, equals_above}
 use Rattle.import_grammar.specs.Reader.{begin_cond, begin_sum, open_behind, open_const, step_on, step_mid, step, run, begin, Reading, read, unfinished, finish}
 use Rattle.import_grammar.specs.Reader.{item_here, resulted, head_letter, letter_here, settled, hextended, iextended, opening_of, by_kind, quote_here}

@@ -1,5 +1,5 @@
 -- A byte string stops at one place at most, and a text of the grammar at none.
-use Rattle.std.specs.Prelude.{◌≡◌, refl, List, [], ◌∷◌, ◌++◌, ℕ, suc, ◌<◌, ltb, length}
+use Rattle.std.specs.Prelude.{◌≡◌, refl, List, [], ◌∷◌, ◌++◌, ℕ, ◌<◌, ltb, length}
 use Rattle.std.proofs.Common.{sym, ◌∙◌, subst, append_assoc, append-nil, arith, ltb-true, ltb-false}
 use Rattle.import_grammar.specs.Grammar.{InGrammar}
 use Rattle.import_grammar.specs.laws.Case.{by_eq}

@@ -1,15 +1,15 @@
 -- Every machine that is not dead can be run to a reading: what has been read begins some text of the grammar.
 use Rattle.std.specs.Prelude.{◌≡◌, refl, Bool, true, false, List, [], ◌∷◌, ◌++◌, ℕ, suc, length}
 use Rattle.std.proofs.Common.{sym, ap, ◌∙◌, subst, subst₂, append_assoc, append-nil, add-one, length-append}
-use Rattle.import_grammar.specs.Grammar.{Spaces, none, more, d0, Digits}
+use Rattle.import_grammar.specs.Grammar.{Spaces, none, d0, Digits}
 use Rattle.import_grammar.specs.Grammar.{one, i1, f1, Op, lt, gt}
 use Rattle.import_grammar.specs.Grammar.{number, kbracket, ConstTerm, kfactor}
 use Rattle.import_grammar.specs.Grammar.{level, vby, Sum}
-use Rattle.import_grammar.specs.Grammar.{Atom, now, later, compare, group, both, Or}
+use Rattle.import_grammar.specs.Grammar.{Atom, now, later, compare, group, Or}
 use Rattle.import_grammar.specs.Grammar.{Before, start, case, Items, head, closed, named, reward}
-use Rattle.import_grammar.specs.Grammar.{worth, forbids, Setting, setting, Chars, empty, Text, entire, deepest, if}
+use Rattle.import_grammar.specs.Grammar.{worth, forbids, Setting, setting, Chars, empty, Text, entire, deepest}
 use Rattle.import_grammar.specs.Grammar.{text_bytes, InGrammar}
-use Rattle.import_grammar.specs.Reader.{ConstPre, SumPre, first, Term}
+use Rattle.import_grammar.specs.Reader.{ConstPre, SumPre, Term}
 use Rattle.import_grammar.specs.Reader.{kt, vt, Level, CondCtx, base, inside, SumCtx, left, right}
 use Rattle.import_grammar.specs.Reader.{ResultCtx, of_case, of_else, value, paren, Head, q0, q1, q2, q3, Kind, a_reward, a_chance, a_next, a_name}
 use Rattle.import_grammar.specs.Reader.{Opener, chance_to, next_to, end_to, ConstCtx, behind, within, ReaderState, cond, letter_c, letter_n, chance_n, next_l}
@@ -18,7 +18,7 @@ use Rattle.import_grammar.specs.Reader.{end2, n1, next2, next3, name2, name3, si
 use Rattle.import_grammar.specs.Reader.{forb8, outset, hletter, hequals, hnumber, hdone, inum, idone, iequals, res, forbade, quoted, factor, letter_l}
 use Rattle.import_grammar.specs.Reader.{after, cfactor, cafter, less, greater, held, el1, el2, el3, els, Middle, Machine, at, mid, dead, bare, opens}
 use Rattle.import_grammar.specs.Reader.{ksum_of, sum_of, ktimes_of, vtimes_of, times_const, bracketed, whole}
-use Rattle.import_grammar.specs.Reader.{so, extended, cextended, close_left, close_cond, colon}
+use Rattle.import_grammar.specs.Reader.{extended, cextended, close_left, close_cond, colon}
 use Rattle.import_grammar.specs.Reader.{else_here, joined, ending, close_const, minus_here, cminus_here, core_here, factor_here, equals_here, equals_above}
 use Rattle.import_grammar.specs.Reader.{begin_cond, begin_sum, open_behind, open_const, step_on, step_mid, step, run, begin, Reading, read, unfinished, finish}
 use Rattle.import_grammar.specs.Reader.{item_here, resulted, letter_here, settled, hextended, iextended, opening_of, by_kind, quote_here}
