@@ -1,12 +1,12 @@
 -- Numbers at the edge of 32 bits, computed.
-use Rattle.std.specs.Prelude.{Bool, ◌&&◌, not, [], ◌∷◌, ◌≡◌, refl, ℕ, T, pos, negsuc}
+use Rattle.std.specs.Prelude.{Bool, ◌&&◌, not, ◌≡◌, refl, ℕ, T, negsuc}
 use Rattle.theory.specs.Diagram.{no_coeffs, ◌⊞◌, ◌⊟◌, ◌⊠◌, add_list, scale_list}
 use Rattle.theory.specs.Plain.{in_32_bits}
 use Rattle.import_grammar.specs.Grammar.{none, Digits, one, also, d0, d1, d2, d3, d4, d5, d6, d7, d8, i1, Op, lt, le, gt, ge, adds, takes}
 use Rattle.import_grammar.specs.Grammar.{number, kbracket, ConstTerm, kfactor, ktimes, kterm, kneg, kplus, vfactor, level, vterm, Sum}
 use Rattle.import_grammar.specs.Grammar.{constant, varying, Atom, compare, Setting, setting, head, worth, end, start, closed, Text, entire, deepest}
 use Rattle.import_numbers.specs.Numbers.{digits_value, linear_of, kfactor_linear, vfactor_linear, kfactor_numbers, vfactor_numbers, sum_numbers}
-use Rattle.import_numbers.specs.Numbers.{atom_numbers, result_numbers, setting_numbers, before_numbers, numbers, all_within, beyond, difference}
+use Rattle.import_numbers.specs.Numbers.{atom_numbers, result_numbers, setting_numbers, before_numbers, numbers, all_within, beyond}
 use Rattle.import_numbers.specs.Numbers.{constant_linear}
 
 -- 2147483647 and 2147483648
