@@ -1,5 +1,5 @@
 -- Limits, bytes, and the letters of words.
-use Rattle.std.specs.Prelude.{Bool, true, false, ℕ, eqb}
+use Rattle.std.specs.Prelude.{Bool, true, ℕ, eqb}
 use Rattle.import_grammar.specs.Grammar.{if, is_plain}
 use Rattle.import_grammar.specs.Reader.{is_digit, is_blank}
 
