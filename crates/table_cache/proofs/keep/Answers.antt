@@ -5,7 +5,6 @@ use Prim.Native.Nat.{ℕ}
 use lib.ListN.{length-set}
 use native.Mathlib.Omega.{arith}
 use Rattle.table_cache.specs.Cache.{store_of}
-use borrow.Author.Rules.{rules}
 use Rattle.table_cache.proofs.keep.Goals as goal
 
 pub bounds-work-at-2 : goal.bounds-work-at-2

@@ -3,7 +3,6 @@
 use Prim.Native.Nat.{◌+◌}
 use native.Mathlib.Omega.{arith}
 use Rattle.table_cache.proofs.Entries.{entry_is}
-use borrow.Author.Rules.{rules}
 use Rattle.table_cache.proofs.look.Goals as goal
 
 pub overflow_cast-work : goal.overflow_cast-work

@@ -5,7 +5,6 @@ use Prim.Native.Nat.{◌+◌, ◌*◌}
 use native.Mathlib.Nat.{mod-lt}
 use native.Mathlib.Omega.{arith}
 use Rattle.table_cache.specs.Cache.{slot_of}
-use borrow.Author.Rules.{rules}
 use Rattle.table_cache.proofs.slot.Goals as goal
 
 pub overflow_mul-result-5 : goal.overflow_mul-result-5
