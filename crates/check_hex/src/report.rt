@@ -1,30 +1,28 @@
 // Texts, numbers and refusals printed on standard output.
-use libc::STDOUT_FILENO;
+use std::io;
 
-pub fn text(t: &[u8]) {
-    io::write_all(STDOUT_FILENO, t);
+pub fn text(rt: &impl Print, t: &[u8]) -> io::Result<()> {
+    rt.write_all(t)
 }
 
-pub fn line(t: &[u8]) {
-    text(t);
-    text(b"\n");
+pub fn line(rt: &impl Print, t: &[u8]) -> io::Result<()> {
+    text(rt, t)?;
+    text(rt, b"\n")
 }
 
 // A number, then a text.
-pub fn number(n: u64, behind: &[u8]) {
-    io::print_decimal(STDOUT_FILENO, n);
-    text(behind);
+pub fn number(rt: &impl Print, n: u64, behind: &[u8]) -> io::Result<()> {
+    print!(rt; "{n}")?;
+    text(rt, behind)
 }
 
 // What the rest of the line is about.
-pub fn label(t: &[u8]) {
-    text(t);
-    text(b": ");
+pub fn label(rt: &impl Print, t: &[u8]) -> io::Result<()> {
+    text(rt, t)?;
+    text(rt, b": ")
 }
 
 // A refusal's number and place.
-pub fn refusal(n: u32, place: usize) {
-    text(b"R ");
-    number(n as u64, b" ");
-    number(place as u64, b"\n");
+pub fn refusal(rt: &impl Print, n: u32, place: usize) -> io::Result<()> {
+    println!(rt; "R {n} {place}")
 }

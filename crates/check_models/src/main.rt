@@ -3,43 +3,45 @@
 #![tactic(auto)]
 
 use check_hex::{find, report};
-use libc::STDIN_FILENO;
+use std::io;
+use std::io::Read;
+
+// The longest input that is read, in bytes.
+const INPUT_MOST: u64 = 32768;
 
 // The label, then the number and the place.
-fn judge(name: &[u8], text: &[u8], room: &mut [u8]) {
+fn judge(rt: &impl Print, name: &[u8], text: &[u8], room: &mut [u8]) -> io::Result<()> {
     let n = check_hex::bytes_of(text, room);
     let v = model::validate(&room[..n]);
-    report::label(name);
-    report::refusal(v.number, v.place);
+    report::label(rt, name)?;
+    report::refusal(rt, v.number, v.place)
 }
 
-fn line(text: &[u8]) {
+fn line(rt: &impl Print, text: &[u8]) -> io::Result<()> {
     let k = find(text, 0, b':');
     if k == text.len() {
-        report::line(text);
-        return;
+        return report::line(rt, text);
     }
     let mut room = [0u8; 2048];
-    judge(&text[..k], &text[k..], &mut room);
+    judge(rt, &text[..k], &text[k..], &mut room)
 }
 
-fn lines(text: &[u8]) {
+fn lines(rt: &impl Print, text: &[u8]) -> io::Result<()> {
     let mut at: usize = 0;
     while at < text.len() {
         let end = find(text, at, b'\n');
-        line(&text[at..end]);
+        line(rt, &text[at..end])?;
         at = end + 1;
     }
+    Ok(())
 }
 
-fn all(room: &mut [u8]) {
-    let n = io::read_full(STDIN_FILENO, room);
-    if n <= room.len() {
-        lines(&room[..n]);
-    }
+fn all(rt: &(impl Input + Print + Alloc)) -> io::Result<()> {
+    let mut input = Vec::new(rt.alloc());
+    rt.reader().take(INPUT_MOST).read_to_end(&mut input)?;
+    lines(rt, &input)
 }
 
-fn main() {
-    let mut room = [0u8; 32768];
-    all(&mut room);
+fn main(rt: HostRuntime) -> io::Result<()> {
+    all(&rt)
 }
