@@ -1,7 +1,6 @@
 -- `table_unique::find_or_make` meets its contract: the node is there, or the table is full, or it is appended as its bucket's new head, with the old head as its link (`chained_new`).
 use Rattle.std.proofs.Common.{length, refl, ap, ◌∙◌, arith, length-set, rules}
 use Rattle.table.proofs.Store.{put_length}
-use Rattle.table.proofs.Words.{as_long}
 use Rattle.table.proofs.Look.{intern_old, intern_new, intern_full}
 use Rattle.table_unique.proofs.Chain.{chained_new, chained_as, frame}
 use Rattle.table_unique.proofs.find_or_make.Goals as goal
@@ -15,7 +14,7 @@ bounds-work-b-then-count-cap c = simp length-set (let q = c.requires.space.works
 
 pub returns-then-count-cap : goal.returns-then-count-cap
 returns-then-count-cap c = let w = intern_new c.args.cap c.args.nodes.now c.args.count c.args.x _ c.find-at.ensures c.if-at-count.false c.if-count-cap.true in
-    let n = chained_new c.requires c.args.x (as_long c.args.x.n c.well_formed.1.1.1.1.0.1.1.1.0.1.0.1) _ c.find-at.ensures c.if-at-count.false
+    let n = chained_new c.requires c.args.x c.well_formed.1.1.1.1.0.1.1.1.0.1.0.1 _ c.find-at.ensures c.if-at-count.false
     c.if-count-cap.true _ c.hash-b.ensures.0 c.hash-b.ensures.1 in
     record {
       answer = w.0;

@@ -16,4 +16,4 @@ pub overflow_mul-low : goal.overflow_mul-low
 overflow_mul-low c = let q = most (c.args.x % 4294967296) c.args.k c.requires (omega arith) in omega (arith, q)
 
 pub returns : goal.returns
-returns c = c.wrapping_add_u64.ensures ∙ product c.args.x c.args.k c.requires
+returns c = c.wrapping_add_u64.ensures.value ∙ product c.args.x c.args.k c.requires
