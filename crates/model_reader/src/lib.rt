@@ -1,5 +1,5 @@
 // "A reader over the lent model hands over one command after another": the model and the next offset.
-// The functions are thin, and the work is the cursor's; each is proved by a walk by hand.
+// The functions are thin, and the work is the cursor's.
 #![tactic(auto)]
 
 ghost use Rattle.std.specs.Prelude.{◌≡◌};
