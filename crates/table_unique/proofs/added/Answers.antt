@@ -1,5 +1,4 @@
-
-use Rattle.std.proofs.Common.{ℕ, ◌*◌, ◌%◌, ◌^◌, ap, ◌∙◌, w64, of_z, rules}
+use Rattle.std.proofs.Common.{ℕ, ◌*◌, ◌%◌, ◌^◌, ap, ◌∙◌, w64, of_z}
 use Rattle.whole.proofs.Signed.{back}
 use Rattle.table_unique.specs.Unique.{added_of}
 use Rattle.table_unique.proofs.NodeHash.{added_as}

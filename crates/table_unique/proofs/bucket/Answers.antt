@@ -1,5 +1,4 @@
-
-use Rattle.std.proofs.Common.{ℕ, ◌+◌, ◌*◌, ◌/◌, ◌%◌, ◌≤◌, refl, mul-le-mul_right, arith, rules}
+use Rattle.std.proofs.Common.{ℕ, ◌+◌, ◌*◌, ◌/◌, ◌%◌, ◌≤◌, refl, mul-le-mul_right, arith}
 use Rattle.table_unique.specs.Unique.{bucket_of}
 use Rattle.table_unique.proofs.bucket.Goals as goal
 

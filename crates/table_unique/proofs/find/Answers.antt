@@ -1,6 +1,6 @@
 use Rattle.std.proofs.Common.{◌+◌, ◌-◌, refl, arith}
 use Rattle.table.proofs.Look.{hit, miss}
-use Rattle.table_unique.proofs.Chain.{Walk, begins, goes_on, less, hits, misses}
+use Rattle.table_unique.proofs.Chain.{begins, goes_on, less, hits, misses}
 use Rattle.table_unique.proofs.find.Goals as goal
 
 pub hash-b-requires : goal.hash-b-requires

@@ -1,7 +1,5 @@
 -- `table_unique::find` meets its contract: no node of x's bucket from `at` on equals x, and each link is below the one before it (`Walk`).
-use Rattle.std.proofs.Common.{◌+◌, ◌-◌, refl, arith}
-use Rattle.table.proofs.Look.{hit, miss}
-use Rattle.table_unique.proofs.Chain.{Walk, begins, goes_on, less, hits, misses}
+use Rattle.table_unique.proofs.Chain.{Walk}
 use Rattle.table_unique.proofs.find.Given as goal
 
 abbrev pub invariant-loop-at : goal.invariant-loop-at

@@ -1,5 +1,5 @@
 -- `table_unique::find_or_make` meets its contract: the node is there, or the table is full, or it is appended as its bucket's new head, with the old head as its link (`chained_new`).
-use Rattle.std.proofs.Common.{length, refl, ap, ◌∙◌, arith, length-set, rules}
+use Rattle.std.proofs.Common.{length, refl, ap, ◌∙◌, arith, length-set}
 use Rattle.table.proofs.Store.{put_length}
 use Rattle.table.proofs.Look.{intern_old, intern_new, intern_full}
 use Rattle.table_unique.proofs.Chain.{chained_new, chained_as, frame}

@@ -1,7 +1,5 @@
-use Rattle.std.proofs.Common.{◌≡◌, ◌+◌, ◌-◌, ◌<◌, ◌≤◌, drop, refl, arith}
-use Rattle.whole.specs.Linears.{numbers}
+use Rattle.std.proofs.Common.{refl, arith}
 use Rattle.table.proofs.Words.{back}
-use Rattle.table_unique.specs.Unique.{factors_end, hash_list}
 use Rattle.table_unique.proofs.NodeHash.{hash_goes, hash_ends, hash_as}
 use Rattle.table_unique.proofs.hash.Goals as goal
 
@@ -16,12 +14,12 @@ next-k-requires c = c.loop-i.invariant.1
 
 pub loop-i-preserved : goal.loop-i-preserved
 loop-i-preserved c = (
-      omega arith,
-      c.next-k.ensures.1,
-      hash_goes c.args.x.n c.struct_told-1.given.1.0.1.0.1 _ _
-          c.loop-i.h c.loop-i.k c.loop-i.i c.loop-i.invariant.2 c.loop-i-test.true (back _ c.z-1.given)
-          c.added-h-in-loop-i.ensures c.next-k.ensures.0,
-    )
+  omega arith,
+  c.next-k.ensures.1,
+  hash_goes c.args.x.n c.struct_told-1.given.1.0.1.0.1 _ _
+      c.loop-i.h c.loop-i.k c.loop-i.i c.loop-i.invariant.2 c.loop-i-test.true (back _ c.z-1.given)
+      c.added-h-in-loop-i.ensures c.next-k.ensures.0,
+)
 
 pub bucket-requires : goal.bucket-requires
 bucket-requires c = c.requires

@@ -1,9 +1,7 @@
 -- `table_unique::hash` meets its contract: the sum so far, the factor, and the numbers from i on give the sum of all numbers; each factor is below 2³¹.
-use Rattle.std.proofs.Common.{◌≡◌, ◌+◌, ◌-◌, ◌<◌, ◌≤◌, drop, refl, arith}
+use Rattle.std.proofs.Common.{◌≡◌, ◌-◌, ◌<◌, ◌≤◌, drop}
 use Rattle.whole.specs.Linears.{numbers}
-use Rattle.table.proofs.Words.{back, as_long}
 use Rattle.table_unique.specs.Unique.{factors_end, hash_list}
-use Rattle.table_unique.proofs.NodeHash.{hash_goes, hash_ends, hash_as}
 use Rattle.table_unique.proofs.hash.Given as goal
 
 abbrev pub invariant-loop-i : goal.invariant-loop-i

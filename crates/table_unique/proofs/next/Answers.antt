@@ -1,5 +1,4 @@
-
-use Rattle.std.proofs.Common.{refl, arith, rules}
+use Rattle.std.proofs.Common.{refl, arith}
 use Rattle.table_unique.specs.Unique.{next_of}
 use Rattle.table_unique.proofs.next.Goals as goal
 

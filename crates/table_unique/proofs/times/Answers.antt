@@ -1,5 +1,5 @@
 -- `table_unique::times` meets its contract: a factor is below 2³¹, so its high half is 0 and both products fit; the sum by halves is the product's last 64 bits.
-use Rattle.std.proofs.Common.{◌/◌, ◌%◌, ◌∙◌, arith, rules}
+use Rattle.std.proofs.Common.{◌/◌, ◌%◌, ◌∙◌, arith}
 use Rattle.table_unique.proofs.NodeHash.{none, most, product}
 use Rattle.table_unique.proofs.times.Goals as goal
 
