@@ -1,6 +1,5 @@
 -- `plain_limits::actions_done` meets its contract.
 use Rattle.plain_limits.proofs.Judge.{best_ends, best_goes}
-use borrow.Author.Rules.{rules}
 use Rattle.plain_limits.proofs.actions_done.Goals as goal
 
 pub returns-in-Over : goal.returns-in-Over

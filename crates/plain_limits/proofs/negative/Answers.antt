@@ -1,6 +1,5 @@
 -- `plain_limits::negative` meets its contract.
 use Rattle.plain_limits.proofs.Judge.{below_fits, below_is, below_over}
-use borrow.Author.Rules.{rules}
 use Rattle.plain_limits.proofs.negative.Goals as goal
 
 pub overflow_sub-result : goal.overflow_sub-result

@@ -1,6 +1,5 @@
 -- `plain_limits::not_negative` meets its contract.
 use Rattle.plain_limits.proofs.Judge.{above_is, above_over}
-use borrow.Author.Rules.{rules}
 use Rattle.plain_limits.proofs.not_negative.Goals as goal
 
 pub returns-then-n-le-LIMIT : goal.returns-then-n-le-LIMIT

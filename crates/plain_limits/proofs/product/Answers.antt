@@ -1,6 +1,5 @@
 -- `plain_limits::product` meets its contract.
 use Rattle.plain_limits.proofs.Judge.{product_as, short_fits, short_is}
-use borrow.Author.Rules.{rules}
 use Rattle.plain_limits.proofs.product.Goals as goal
 
 pub returns-then-mag-gt-SHORT : goal.returns-then-mag-gt-SHORT

@@ -1,6 +1,5 @@
 -- `plain_limits::settings_done` meets its contract.
 use Rattle.plain_limits.proofs.Judge.{no_number, sum_ends, sum_goes}
-use borrow.Author.Rules.{rules}
 use Rattle.plain_limits.proofs.settings_done.Goals as goal
 
 pub returns-in_default : goal.returns-in_default
