@@ -1,7 +1,6 @@
 -- `price_margin::above` meets its contract: the order of v and u and then their signs tell four cases: 0, or the magnitudes'
 -- difference or sum; each has its law that it fits and that it is the answer.
 use Rattle.price_margin.proofs.Margins.{none_above, high_fits, high_is, across_fits, across_is, low_fits, low_is}
-use borrow.Author.Rules.{rules}
 use Rattle.price_margin.proofs.above.Goals as goal
 
 pub returns-then-v-u : goal.returns-then-v-u

@@ -1,6 +1,5 @@
 -- `price_margin::more_than` meets its contract.
 use Rattle.price_margin.proofs.Margins.{not_more, free, divided}
-use borrow.Author.Rules.{rules}
 use Rattle.price_margin.proofs.more_than.Goals as goal
 
 pub returns-then-x-eq0 : goal.returns-then-x-eq0

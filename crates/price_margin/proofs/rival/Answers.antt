@@ -1,6 +1,5 @@
 -- `price_margin::rival` meets its contract.
 use Rattle.price_margin.proofs.Margins.{rival_beaten, rival_tried}
-use borrow.Author.Rules.{rules}
 use Rattle.price_margin.proofs.rival.Goals as goal
 
 pub returns-then-beats : goal.returns-then-beats
