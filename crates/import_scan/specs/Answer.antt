@@ -1,5 +1,4 @@
 -- The answer that stands for an outcome.
-use Rattle.std.specs.Prelude.{ℕ}
 use Rattle.import_grammar.specs.laws.Viable.{Outcome, fine, stops}
 use Rattle.import_scan.specs.declared.Scanned.{Scanned}
 use Rattle.import_scan.specs.declared.Scanned.TheVariants.{Fine, Stops}

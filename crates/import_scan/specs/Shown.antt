@@ -1,5 +1,5 @@
 -- What the scanner keeps of the reader's state: numbers, and none of the pieces.
-use Rattle.std.specs.Prelude.{Bool, true, false, ℕ, suc}
+use Rattle.std.specs.Prelude.{Bool, true, false, ℕ}
 use Rattle.import_grammar.specs.Grammar.{Spaces, none, more, ConstFactor, number, kbracket, ConstTerm, kfactor, ktimes, vfactor, vscaled, vby, unsaid, bang, Chars, deepest}
 use Rattle.import_grammar.specs.Reader.{ConstPre, kopens, knegs, kmore, SumPre, kpre, vmore, ConstTermPre, first, times_k, TermPre, free, times_v, Term, kt, vt}
 use Rattle.import_grammar.specs.Reader.{no_or, some_or, no_and, some_and, Level, lv, CondCtx, base, inside, ResultCtx, of_case, of_else, Head, q0, q1, q2, q3}
