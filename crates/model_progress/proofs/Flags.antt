@@ -16,9 +16,6 @@ use Rattle.theory.specs.Rows.{Range}
 use Rattle.theory.specs.laws.Rules.{of_site_out}
 use Rattle.theory.specs.Widths.{levels_most, conditions_most, actions_most, flags_most}
 use Rattle.theory.specs.Valid.{among}
-use types.Run.{OneOf, miss}
-use denote.Enum.Declared.{tag_of}
-use Rattle.model_command.specs.contracts.Command.{the_type}
 use Rattle.model_command.specs.declared.Command.{Command as CodeCommand}
 use Rattle.model_command.specs.declared.Command.TheVariants.{Site as SiteBy, Leaf, Condition, Test, Forbidden, Give, Name, End}
 use Rattle.model_progress.specs.GivenFlags.{noted, place, names_row, base_of, flag_of, Slotted, for_reward, for_chance, for_level, for_name, for_end}
@@ -121,13 +118,13 @@ flag_more G F {g} {h} {i} {j} n p q e =
     go false x = sym (get_or-set_other F i j true false (eqb-false j i x))
 
 -- a command that gives nothing
-pub noted_other : (c : CodeCommand) (F : List Bool) → OneOf (0 ∷ 1 ∷ 2 ∷ 3 ∷ 4 ∷ 7 ∷ []) (tag_of the_type c) → F ≡ noted c F
+pub noted_other : (c : CodeCommand) (F : List Bool) → ((x y z : ℕ) → c ≡ Give x y z → ⊥) → ((x : ℕ) → c ≡ Name x → ⊥) → F ≡ noted c F
 unfolding noted
-noted_other (SiteBy m n a w) F k = refl
-noted_other Leaf F k = refl
-noted_other (Condition i) F k = refl
-noted_other Test F k = refl
-noted_other Forbidden F k = refl
-noted_other (Give x a j) F k = absurd (miss (0 ∷ 1 ∷ 2 ∷ 3 ∷ 4 ∷ 7 ∷ []) 5 tt k)
-noted_other (Name a) F k = absurd (miss (0 ∷ 1 ∷ 2 ∷ 3 ∷ 4 ∷ 7 ∷ []) 6 tt k)
-noted_other End F k = refl
+noted_other (SiteBy m n a w) F k1 k2 = refl
+noted_other Leaf F k1 k2 = refl
+noted_other (Condition i) F k1 k2 = refl
+noted_other Test F k1 k2 = refl
+noted_other Forbidden F k1 k2 = refl
+noted_other (Give x a j) F k1 k2 = absurd (k1 x a j refl)
+noted_other (Name a) F k1 k2 = absurd (k2 a refl)
+noted_other End F k1 k2 = refl

@@ -15,9 +15,6 @@ use Rattle.theory.specs.Valid.{among}
 use Rattle.theory.specs.Command.{Command, site, push_leaf, push_condition, push_test, push_forbidden, give, name_action, end_model, Slot, whole, read_in}
 use Rattle.theory.specs.Verdict.{Facts, Site, site_of, has_slot, Progress, with_stack, with_slot, at_start, Rule, rule, first_broken, first_rules, later_rules, site_rules, rules_in, after, joined, is_weight, of_site}
 use Rattle.model_command.specs.declared.Command.{Command as CodeCommand}
-use Rattle.model_command.specs.contracts.Command.{the_type}
-use types.Run.{OneOf, miss}
-use denote.Enum.Declared.{tag_of}
 use Rattle.model_command.specs.declared.Command.TheVariants.{Site as SiteBy, Leaf, Condition, Test, Forbidden, Give, Name, End}
 use Rattle.model_command.proofs.Forward.{has_linear, linear_room}
 use Rattle.model_facts.specs.declared.Seen.{Seen}
@@ -223,9 +220,9 @@ stands_start t e = record {
 -- ---- the first command
 
 -- any but a site breaks the first rule
-pub not_first : (form : Form) (B : List ℕ) (at : ℕ) (c : CodeCommand) → OneOf (1 ∷ 2 ∷ 3 ∷ 4 ∷ 5 ∷ 6 ∷ 7 ∷ []) (tag_of the_type c) → 1 ≡ first_broken (first_rules form (command_of_in form B at c))
+pub not_first : (form : Form) (B : List ℕ) (at : ℕ) (c : CodeCommand) → ((x y z u : ℕ) → c ≡ SiteBy x y z u → ⊥) → 1 ≡ first_broken (first_rules form (command_of_in form B at c))
 unfolding command_of_in first_rules first_broken
-not_first form B at (SiteBy m n a w) k = absurd (miss (1 ∷ 2 ∷ 3 ∷ 4 ∷ 5 ∷ 6 ∷ 7 ∷ []) 0 tt k)
+not_first form B at (SiteBy m n a w) k = absurd (k m n a w refl)
 not_first form B at Leaf k = refl
 not_first form B at (Condition i) k = refl
 not_first form B at Test k = refl
@@ -244,7 +241,7 @@ module _ (form : Form) (B : List ℕ) (at : ℕ) (c : CodeCommand) (r : CodeProg
       (replicate flags_most false) (after at_start (command_of_in form B at d))) (sym e)
       (λ u. (b, after_site form (stands_start (record { len = 0; later = 0; weights = 0; forbids = 0 }) refl) m n a w r b i k u))
 
-  pub first_other : OneOf (1 ∷ 2 ∷ 3 ∷ 4 ∷ 5 ∷ 6 ∷ 7 ∷ []) (tag_of the_type c) → First
+  pub first_other : ((x y z u : ℕ) → c ≡ SiteBy x y z u → ⊥) → First
   first_other k u = absurd (let z : ◌≡◌ {A = ℕ} 0 1 = sym (not_first form B at c k ∙ u) in omega arith)
 
 -- ---- a command that is known by its case

@@ -4,17 +4,15 @@ use mathlib.Core.List.{List, [], ◌∷◌}
 use mathlib.Core.Bool.{Bool, true, false, not, ◌&&◌}
 use Prim.Native.Nat.{ℕ, zero, suc, ◌+◌, ◌-◌, ◌*◌, ◌≤◌, ◌<◌}
 use native.Mathlib.Omega.{arith}
-use borrow.Author.Tests.{ne_eqb, le-leb, lt-leb, lt-ltb, le-ltb}
-use lib.Dec.{T, compare_is_eq, eqb, ltb, leb, leb→le, nltb→le}
+use borrow.Author.Tests.{ne_eqb}
+use lib.Dec.{compare_is_eq, eqb, ltb, nltb→le}
 use lib.IntN.{ℤ, pos, negsuc}
 use lib.ListN.{length, drop}
-use lib.Signed.{le_z}
-use Rattle.whole.specs.Cases.{if, by_test, both}
+use Rattle.whole.specs.Cases.{if, by_test}
 use Rattle.theory.specs.Diagram.{cmp_ℤ, zeros, padded}
-use Rattle.theory.specs.Widths.{levels_most, conditions_most}
+use Rattle.theory.specs.Widths.{levels_most}
 use Rattle.theory.specs.Form.{Form, old_form, new_form, levels_in}
-use Rattle.theory.specs.Valid.{among}
-use Rattle.theory.specs.Verdict.{or, next_condition, beyond, is_weight}
+use Rattle.theory.specs.Verdict.{beyond}
 use Rattle.theory.specs.Command.{word_at, signed, signed_from, linear_in}
 
 -- ---- words as signed numbers
