@@ -8,7 +8,7 @@ use lib.Dec.{T, ltb, leb, ltb→lt, leb→le}
 use lib.ListN.{length, length-append}
 use Rattle.whole.specs.Cases.{by_test, clash}
 use Rattle.theory.specs.Form.{Form}
-use Rattle.theory.specs.Command.{whole, byte_at, width_in, read_in, goes_on, readings_from_in, readings_in}
+use Rattle.theory.specs.Command.{byte_at, width_in, read_in, goes_on, readings_from_in, readings_in}
 use Rattle.theory.specs.Rows.{WholeIn}
 use Rattle.theory.specs.laws.AcceptedModel.{behind_in}
 use Rattle.theory.specs.laws.Rows.{by_read_in, if_no}

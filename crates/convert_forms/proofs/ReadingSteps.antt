@@ -1,14 +1,10 @@
 -- How a reading goes on, and whether it is a 13.
 use mathlib.Core.Path.{◌≡◌, refl, sym, ap, ◌∙◌}
 use mathlib.Core.Bool.{true, false}
-use mathlib.Core.List.{List, [], ◌∷◌}
+use mathlib.Core.List.{List}
 use Prim.Native.Nat.{ℕ}
-use types.Run.{OneOf, miss}
-use denote.Enum.Declared.{tag_of}
 use Rattle.theory.specs.Form.{Form}
 use Rattle.theory.specs.Command.{read_in, goes_on}
-use Rattle.model_command.specs.contracts.Command.{the_type as command-type}
-use Rattle.model_command.specs.contracts.Read.{the_type as read-type}
 use Rattle.model_command.specs.declared.Command.{Command as CodeCommand}
 use Rattle.model_command.specs.declared.Command.TheVariants.{Site, Leaf, Condition, Test, Forbidden, Give, Name, End}
 use Rattle.model_command.specs.declared.Read.{Read as CodeRead}
@@ -34,20 +30,20 @@ reading_cases P w u s Unknown = u
 reading_cases P w u s Short = s
 
 -- a reading that is no command
-pub no_whole : (P : CodeRead → Type 0) → P Unknown → P Short → (r : CodeRead) → OneOf (1 ∷ 2 ∷ []) (tag_of read-type r) → P r
-no_whole P u s = reading_cases (λ (r : CodeRead). OneOf (1 ∷ 2 ∷ []) (tag_of read-type r) → P r) (λ c k. absurd (miss (1 ∷ 2 ∷ []) 0 tt k)) (λ k. u) (λ k. s)
+pub no_whole : (P : CodeRead → Type 0) → P Unknown → P Short → (r : CodeRead) → ((c : CodeCommand) → r ≡ Whole c → ⊥) → P r
+no_whole P u s = reading_cases (λ (r : CodeRead). ((c : CodeCommand) → r ≡ Whole c → ⊥) → P r) (λ c k. absurd (k c refl)) (λ k. u) (λ k. s)
 
 pub ends_here : (r : CodeRead) (c : CodeCommand) → r ≡ Whole c → c ≡ End → false ≡ reads_on r
 unfolding reads_on
 ends_here r c e d = sym (ap reads_on e ∙ ap (λ (c : CodeCommand). reads_on (Whole c)) d)
 
-pub another : (r : CodeRead) (c : CodeCommand) → r ≡ Whole c → OneOf (0 ∷ 1 ∷ 2 ∷ 3 ∷ 4 ∷ 5 ∷ 6 ∷ []) (tag_of command-type c) → true ≡ reads_on r
+pub another : (r : CodeRead) (c : CodeCommand) → r ≡ Whole c → (c ≡ End → ⊥) → true ≡ reads_on r
 unfolding reads_on
 another r c e k =
-    sym (ap reads_on e ∙ command_cases (λ (c : CodeCommand). OneOf (0 ∷ 1 ∷ 2 ∷ 3 ∷ 4 ∷ 5 ∷ 6 ∷ []) (tag_of command-type c) → reads_on (Whole c) ≡ true)
-    (λ m n a w k. refl) (λ k. refl) (λ i k. refl) (λ k. refl) (λ k. refl) (λ g a j k. refl) (λ a k. refl) (λ k. absurd (miss (0 ∷ 1 ∷ 2 ∷ 3 ∷ 4 ∷ 5 ∷ 6 ∷ []) 7 tt k)) c k)
+    sym (ap reads_on e ∙ command_cases (λ (c : CodeCommand). (c ≡ End → ⊥) → reads_on (Whole c) ≡ true)
+    (λ m n a w k. refl) (λ k. refl) (λ i k. refl) (λ k. refl) (λ k. refl) (λ g a j k. refl) (λ a k. refl) (λ k. absurd (k refl)) c k)
 
-pub no_command : (r : CodeRead) → OneOf (1 ∷ 2 ∷ []) (tag_of read-type r) → false ≡ reads_on r
+pub no_command : (r : CodeRead) → ((c : CodeCommand) → r ≡ Whole c → ⊥) → false ≡ reads_on r
 unfolding reads_on
 no_command = no_whole (λ (r : CodeRead). false ≡ reads_on r) refl refl
 

@@ -1,14 +1,10 @@
 -- Whether a reading is a command 13.
 use mathlib.Core.Path.{◌≡◌, refl, sym, ap, ◌∙◌}
 use mathlib.Core.Bool.{true, false}
-use mathlib.Core.List.{List, [], ◌∷◌}
+use mathlib.Core.List.{List}
 use Prim.Native.Nat.{ℕ}
-use types.Run.{OneOf, miss}
-use denote.Enum.Declared.{tag_of}
 use Rattle.theory.specs.Form.{Form}
 use Rattle.theory.specs.Command.{read_in}
-use Rattle.model_command.specs.contracts.Command.{the_type as command-type}
-use Rattle.model_command.specs.contracts.Read.{the_type as read-type}
 use Rattle.model_command.specs.declared.Command.{Command as CodeCommand}
 use Rattle.model_command.specs.declared.Command.TheVariants.{Forbidden}
 use Rattle.model_command.specs.declared.Read.{Read as CodeRead}
@@ -22,13 +18,13 @@ pub forbids_here : (r : CodeRead) (c : CodeCommand) → r ≡ Whole c → c ≡ 
 unfolding reads_forbidden
 forbids_here r c e d = sym (ap reads_forbidden e ∙ ap (λ (c : CodeCommand). reads_forbidden (Whole c)) d)
 
-pub not_13 : (r : CodeRead) (c : CodeCommand) → r ≡ Whole c → OneOf (0 ∷ 1 ∷ 2 ∷ 3 ∷ 5 ∷ 6 ∷ 7 ∷ []) (tag_of command-type c) → false ≡ reads_forbidden r
+pub not_13 : (r : CodeRead) (c : CodeCommand) → r ≡ Whole c → (c ≡ Forbidden → ⊥) → false ≡ reads_forbidden r
 unfolding reads_forbidden
 not_13 r c e k =
-    sym (ap reads_forbidden e ∙ command_cases (λ (c : CodeCommand). OneOf (0 ∷ 1 ∷ 2 ∷ 3 ∷ 5 ∷ 6 ∷ 7 ∷ []) (tag_of command-type c) → reads_forbidden (Whole c) ≡ false)
-    (λ m n a w k. refl) (λ k. refl) (λ i k. refl) (λ k. refl) (λ k. absurd (miss (0 ∷ 1 ∷ 2 ∷ 3 ∷ 5 ∷ 6 ∷ 7 ∷ []) 4 tt k)) (λ g a j k. refl) (λ a k. refl) (λ k. refl) c k)
+    sym (ap reads_forbidden e ∙ command_cases (λ (c : CodeCommand). (c ≡ Forbidden → ⊥) → reads_forbidden (Whole c) ≡ false)
+    (λ m n a w k. refl) (λ k. refl) (λ i k. refl) (λ k. refl) (λ k. absurd (k refl)) (λ g a j k. refl) (λ a k. refl) (λ k. refl) c k)
 
-pub none_read : (r : CodeRead) → OneOf (1 ∷ 2 ∷ []) (tag_of read-type r) → false ≡ reads_forbidden r
+pub none_read : (r : CodeRead) → ((c : CodeCommand) → r ≡ Whole c → ⊥) → false ≡ reads_forbidden r
 unfolding reads_forbidden
 none_read = no_whole (λ (r : CodeRead). false ≡ reads_forbidden r) refl refl
 
