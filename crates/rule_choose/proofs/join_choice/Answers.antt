@@ -2,7 +2,6 @@
 use Rattle.rule_node.proofs.Meanings.{readable_in, test_proper}
 use Rattle.rule_choose.proofs.RootCases.{stands_test, stands_root}
 use Rattle.rule_choose.proofs.Choices.{test_told}
-use borrow.Author.Rules.{rules}
 use Rattle.rule_choose.proofs.join_choice.Goals as goal
 
 pub stands_at-requires : goal.stands_at-requires

@@ -1,8 +1,6 @@
 -- `rule_choose::roots::choice_at` meets its contract: the test's numbers are lent whole.
 use native.Mathlib.Omega.{arith}
-use Rattle.table.proofs.Words.{as_long}
 use Rattle.rule_choose.proofs.RootCases.{choice_lent}
-use borrow.Author.Rules.{rules}
 use Rattle.rule_choose.proofs.roots.choice_at.Goals as goal
 
 pub choice_by-requires : goal.choice_by-requires

@@ -1,6 +1,5 @@
 -- `rule_choose::roots::choice_by` meets its contract: each answer takes the comparisons that its case depends on.
 use Rattle.rule_choose.proofs.RootCases.{choice_high_ends, choice_after, choice_equal, choice_before, words_back, order_words_as}
-use borrow.Author.Rules.{rules}
 use Rattle.rule_choose.proofs.roots.choice_by.Goals as goal
 
 pub returns-then-x : goal.returns-then-x

@@ -1,7 +1,6 @@
 -- `rule_choose::roots::choice_of` meets its contract: a branch names its own test.
 use native.Mathlib.Omega.{arith}
 use Rattle.rule_choose.proofs.RootCases.{choice_told, choice_stands}
-use borrow.Author.Rules.{rules}
 use Rattle.rule_choose.proofs.roots.choice_of.Goals as goal
 
 pub overflow_mul-i : goal.overflow_mul-i

@@ -2,7 +2,6 @@
 use mathlib.Core.Path.{ap, ◌∙◌}
 use Rattle.rule_choose.specs.Choice.{split_of}
 use Rattle.rule_choose.proofs.RootCases.{split_high_ends, split_low_ends}
-use borrow.Author.Rules.{rules}
 use Rattle.rule_choose.proofs.roots.first_root.Goals as goal
 
 pub returns-then-x : goal.returns-then-x

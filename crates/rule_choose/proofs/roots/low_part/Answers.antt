@@ -2,7 +2,6 @@
 use mathlib.Core.Path.{ap, ◌∙◌}
 use Rattle.rule_choose.specs.Choice.{pick_low}
 use Rattle.rule_choose.proofs.RootCases.{pick_low_ends, order_words_as}
-use borrow.Author.Rules.{rules}
 use Rattle.rule_choose.proofs.roots.low_part.Goals as goal
 
 pub returns-then-y : goal.returns-then-y

@@ -1,7 +1,6 @@
 -- `rule_choose::roots::pick_low` meets its contract.
 use borrow.Author.Tests.{eq-eqb, ne_eqb}
 use Rattle.rule_choose.specs.Choice.{pick_low}
-use borrow.Author.Rules.{rules}
 use Rattle.rule_choose.proofs.roots.pick_low.Goals as goal
 
 pub returns-then-y : goal.returns-then-y

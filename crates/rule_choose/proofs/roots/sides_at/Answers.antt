@@ -1,6 +1,5 @@
 -- `rule_choose::roots::sides_at` meets its contract.
 use Rattle.rule_choose.proofs.RootCases.{sides_as}
-use borrow.Author.Rules.{rules}
 use Rattle.rule_choose.proofs.roots.sides_at.Goals as goal
 
 pub returns : goal.returns

@@ -4,7 +4,6 @@ use mathlib.Core.Path.{refl, ◌∙◌}
 use mathlib.Core.Bool.{true, false}
 use borrow.Author.Tests.{eq-eqb, ne_eqb}
 use Rattle.rule_choose.proofs.RootCases.{split_as}
-use borrow.Author.Rules.{rules}
 use Rattle.rule_choose.proofs.roots.split.Goals as goal
 
 pub returns-then-y : goal.returns-then-y
