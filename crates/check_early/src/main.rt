@@ -2,6 +2,7 @@
 #![tactic(auto)]
 
 use check_hex::report;
+use std::io;
 
 // The longest model that is accepted, and a byte more.
 const MOST: usize = 262144;
@@ -42,63 +43,70 @@ fn fill(room: &mut [u8], turns: usize) -> usize {
     )
 }
 
-fn print(name: &[u8], v: model::Verdict) {
-    report::label(name);
-    report::refusal(v.number, v.place);
+fn print(rt: &impl Print, name: &[u8], v: model::Verdict) -> io::Result<()> {
+    report::label(rt, name)?;
+    report::refusal(rt, v.number, v.place)
 }
 
 // The first n bytes, asked for some steps with some stage words.
-fn early(name: &[u8], room: &[u8], n: usize, steps: u32, words: usize) {
+fn early(
+    rt: &impl Print,
+    name: &[u8],
+    room: &[u8],
+    n: usize,
+    steps: u32,
+    words: usize,
+) -> io::Result<()> {
     if room.len() < n {
-        return;
+        return Ok(());
     }
-    print(name, model::early(&room[..n], steps, words));
+    print(rt, name, model::early(&room[..n], steps, words))
 }
 
-fn validate(name: &[u8], room: &[u8], n: usize) {
+fn validate(rt: &impl Print, name: &[u8], room: &[u8], n: usize) -> io::Result<()> {
     if room.len() < n {
-        return;
+        return Ok(());
     }
-    print(name, model::validate(&room[..n]));
+    print(rt, name, model::validate(&room[..n]))
 }
 
-fn short(room: &[u8]) {
-    early(b"262,144 bytes", room, MOST, 1, 8);
-    early(b"262,144 bytes, 8 steps", room, MOST, 8, 8);
-    early(b"262,143 bytes", room, MOST - 1, 1, 8);
+fn short(rt: &impl Print, room: &[u8]) -> io::Result<()> {
+    early(rt, b"262,144 bytes", room, MOST, 1, 8)?;
+    early(rt, b"262,144 bytes, 8 steps", room, MOST, 8, 8)?;
+    early(rt, b"262,143 bytes", room, MOST - 1, 1, 8)
 }
 
-fn long(room: &[u8]) {
-    early(b"262,145 bytes", room, ROOM, 1, 8);
-    early(b"262,145 bytes, 9 steps", room, ROOM, 9, 8);
-    validate(b"262,145 bytes, judged", room, ROOM);
+fn long(rt: &impl Print, room: &[u8]) -> io::Result<()> {
+    early(rt, b"262,145 bytes", room, ROOM, 1, 8)?;
+    early(rt, b"262,145 bytes, 9 steps", room, ROOM, 9, 8)?;
+    validate(rt, b"262,145 bytes, judged", room, ROOM)
 }
 
-fn steps(room: &[u8]) {
-    early(b"0 steps", room, MOST, 0, 8);
-    early(b"9 steps", room, MOST, 9, 8);
-    early(b"4294967295 steps", room, MOST, 4294967295, 8);
-    early(b"0 steps, no model", room, 0, 0, 8);
-    early(b"1 step, no model", room, 0, 1, 8);
+fn steps(rt: &impl Print, room: &[u8]) -> io::Result<()> {
+    early(rt, b"0 steps", room, MOST, 0, 8)?;
+    early(rt, b"9 steps", room, MOST, 9, 8)?;
+    early(rt, b"4294967295 steps", room, MOST, 4294967295, 8)?;
+    early(rt, b"0 steps, no model", room, 0, 0, 8)?;
+    early(rt, b"1 step, no model", room, 0, 1, 8)
 }
 
-fn words(room: &[u8]) {
-    early(b"7 stage words", room, MOST, 1, 7);
-    early(b"9 stage words, 0 steps", room, MOST, 0, 9);
-    early(b"no stage words, no model", room, 0, 1, 0);
-    early(b"a cut site", room, 4, 1, 8);
+fn words(rt: &impl Print, room: &[u8]) -> io::Result<()> {
+    early(rt, b"7 stage words", room, MOST, 1, 7)?;
+    early(rt, b"9 stage words, 0 steps", room, MOST, 0, 9)?;
+    early(rt, b"no stage words, no model", room, 0, 1, 0)?;
+    early(rt, b"a cut site", room, 4, 1, 8)
 }
 
-fn run(room: &mut [u8]) {
+fn run(rt: &impl Print, room: &mut [u8]) -> io::Result<()> {
     let n = fill(room, 6710);
-    report::number(n as u64, b" bytes are written\n");
-    short(room);
-    long(room);
-    steps(room);
-    words(room);
+    report::number(rt, n as u64, b" bytes are written\n")?;
+    short(rt, room)?;
+    long(rt, room)?;
+    steps(rt, room)?;
+    words(rt, room)
 }
 
-fn main() {
+fn main(rt: HostRuntime) -> io::Result<()> {
     let mut room = [0u8; ROOM];
-    run(&mut room);
+    run(&rt, &mut room)
 }

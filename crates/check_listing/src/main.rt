@@ -3,6 +3,7 @@
 #![tactic(auto)]
 
 use check_hex::report;
+use std::io;
 use table::{HIGH, LOW, NODE_WORDS};
 use whole::NUMBERS;
 
@@ -16,12 +17,12 @@ const TEXT: usize = 225;
 
 const ROOM: usize = TEXT + 7;
 
-fn print(name: &[u8], r: text_listing::Listed, room: &[u8]) {
-    report::label(name);
-    report::number(r.number as u64, b" ");
-    report::number(r.place as u64, b", size ");
-    report::number(r.size as u64, b"\n");
-    report::line(room);
+fn print(rt: &impl Print, name: &[u8], r: text_listing::Listed, room: &[u8]) -> io::Result<()> {
+    report::label(rt, name)?;
+    report::number(rt, r.number as u64, b" ")?;
+    report::number(rt, r.place as u64, b", size ")?;
+    report::number(rt, r.size as u64, b"\n")?;
+    report::line(rt, room)
 }
 
 // A listing into the first n bytes of a buffer of at least n.
@@ -46,6 +47,7 @@ fn into(
 
 // A listing into the first n bytes of a new buffer.
 fn list(
+    rt: &impl Print,
     name: &[u8],
     model: &[u8],
     horizon: u32,
@@ -53,10 +55,10 @@ fn list(
     stages: &[u32],
     n: usize,
     place: usize,
-) {
+) -> io::Result<()> {
     let mut room = [46u8; ROOM];
     let r = into(model, horizon, nodes, stages, &mut room, n, place);
-    print(name, r, &room);
+    print(rt, name, r, &room)
 }
 
 fn set(nodes: &mut [i64], at: usize, z: i64) {
@@ -87,10 +89,18 @@ fn seven(nodes: &mut [i64]) {
 }
 
 // A listing of the seven nodes.
-fn of_model(name: &[u8], model: &[u8], horizon: u32, stages: &[u32], n: usize, place: usize) {
+fn of_model(
+    rt: &impl Print,
+    name: &[u8],
+    model: &[u8],
+    horizon: u32,
+    stages: &[u32],
+    n: usize,
+    place: usize,
+) -> io::Result<()> {
     let mut nodes = [0i64; SEVEN];
     seven(&mut nodes);
-    list(name, model, horizon, &nodes, stages, n, place);
+    list(rt, name, model, horizon, &nodes, stages, n, place)
 }
 
 fn pond(room: &mut [u8]) {
@@ -100,76 +110,99 @@ fn pond(room: &mut [u8]) {
     );
 }
 
-fn from_stages(name: &[u8], horizon: u32, stages: &[u32], n: usize, place: usize) {
+fn from_stages(
+    rt: &impl Print,
+    name: &[u8],
+    horizon: u32,
+    stages: &[u32],
+    n: usize,
+    place: usize,
+) -> io::Result<()> {
     let mut model = [0u8; POND];
     pond(&mut model);
-    of_model(name, &model, horizon, stages, n, place);
+    of_model(rt, name, &model, horizon, stages, n, place)
 }
 
 // Stages 1 and 2 have a root.
-fn from_two(name: &[u8], horizon: u32, n: usize, place: usize) {
+fn from_two(rt: &impl Print, name: &[u8], horizon: u32, n: usize, place: usize) -> io::Result<()> {
     let stages: [u32; 8] = [3, 7, 0, 0, 0, 0, 0, 0];
-    from_stages(name, horizon, &stages, n, place);
+    from_stages(rt, name, horizon, &stages, n, place)
 }
 
-fn places() {
-    from_two(b"whole", 2, TEXT, 0);
-    from_two(b"one short", 2, TEXT - 1, 0);
-    from_two(b"from 3", 2, ROOM, 3);
-    from_two(b"from 7", 2, ROOM, 7);
-    from_two(b"from 8", 2, ROOM, 8);
-    from_two(b"at the end", 2, ROOM, ROOM);
-    from_two(b"past the end", 2, ROOM, ROOM + 1);
-    from_two(b"far past the end", 2, ROOM, 18446744073709551615);
+fn places(rt: &impl Print) -> io::Result<()> {
+    from_two(rt, b"whole", 2, TEXT, 0)?;
+    from_two(rt, b"one short", 2, TEXT - 1, 0)?;
+    from_two(rt, b"from 3", 2, ROOM, 3)?;
+    from_two(rt, b"from 7", 2, ROOM, 7)?;
+    from_two(rt, b"from 8", 2, ROOM, 8)?;
+    from_two(rt, b"at the end", 2, ROOM, ROOM)?;
+    from_two(rt, b"past the end", 2, ROOM, ROOM + 1)?;
+    from_two(rt, b"far past the end", 2, ROOM, 18446744073709551615)
 }
 
-fn horizons() {
-    from_two(b"horizon 1", 1, ROOM, 0);
-    from_two(b"stage 3 without a root", 3, 1, 0);
-    from_two(b"horizon 0", 0, ROOM, 0);
-    from_two(b"horizon 9", 9, ROOM, 0);
+fn horizons(rt: &impl Print) -> io::Result<()> {
+    from_two(rt, b"horizon 1", 1, ROOM, 0)?;
+    from_two(rt, b"stage 3 without a root", 3, 1, 0)?;
+    from_two(rt, b"horizon 0", 0, ROOM, 0)?;
+    from_two(rt, b"horizon 9", 9, ROOM, 0)
 }
 
-fn refusals() {
-    from_stages(b"seven stage words", 9, &[3, 7, 0, 0, 0, 0, 0], ROOM, 0);
+fn refusals(rt: &impl Print) -> io::Result<()> {
+    from_stages(rt, b"seven stage words", 9, &[3, 7, 0, 0, 0, 0, 0], ROOM, 0)?;
     of_model(
+        rt,
         b"no end command",
         b"",
         2,
         &[3, 7, 0, 0, 0, 0, 0, 0],
         ROOM,
         0,
-    );
-    from_stages(b"root 8 of 7 nodes", 2, &[3, 8, 0, 0, 0, 0, 0, 0], ROOM, 0);
+    )?;
     from_stages(
+        rt,
+        b"root 8 of 7 nodes",
+        2,
+        &[3, 8, 0, 0, 0, 0, 0, 0],
+        ROOM,
+        0,
+    )?;
+    from_stages(
+        rt,
         b"greatest root far outside",
         2,
         &[4294967295, 7, 0, 0, 0, 0, 0, 0],
         ROOM,
         0,
-    );
+    )
 }
 
 // A listing of a table of one node.
-fn of_one(name: &[u8], kind: i64, first: i64, high: i64, low: i64) {
+fn of_one(
+    rt: &impl Print,
+    name: &[u8],
+    kind: i64,
+    first: i64,
+    high: i64,
+    low: i64,
+) -> io::Result<()> {
     let mut model = [0u8; POND];
     pond(&mut model);
     let mut nodes = [0i64; NODE_WORDS];
     row(&mut nodes, 0, kind, first, 0, high, low);
     let stages: [u32; 8] = [1, 0, 0, 0, 0, 0, 0, 0];
-    list(name, &model, 1, &nodes, &stages, ROOM, 0);
+    list(rt, name, &model, 1, &nodes, &stages, ROOM, 0)
 }
 
-fn other_nodes() {
-    of_one(b"a condition that is none", 1, 1, 1, 1);
-    of_one(b"a leaf none", 3, 0, 0, 0);
-    of_one(b"a leaf none with an action", 3, 0, 1, 0);
-    of_one(b"kind 4", 4, 0, 0, 0);
+fn other_nodes(rt: &impl Print) -> io::Result<()> {
+    of_one(rt, b"a condition that is none", 1, 1, 1, 1)?;
+    of_one(rt, b"a leaf none", 3, 0, 0, 0)?;
+    of_one(rt, b"a leaf none with an action", 3, 0, 1, 0)?;
+    of_one(rt, b"kind 4", 4, 0, 0, 0)
 }
 
-fn main() {
-    places();
-    horizons();
-    refusals();
-    other_nodes();
+fn main(rt: HostRuntime) -> io::Result<()> {
+    places(&rt)?;
+    horizons(&rt)?;
+    refusals(&rt)?;
+    other_nodes(&rt)
 }

@@ -2,15 +2,15 @@
 // node that it came to; then the canonical tables, as a listing.
 #![tactic(auto)]
 
-ghost use Rattle.std.specs.Prelude.{◌≡◌, true, ◌≤◌, ◌<◌, length};
+ghost use Rattle.std.specs.Prelude.{◌≡◌, true, ◌≤◌, ◌<◌, length, IfOk};
 ghost use Rattle.theory.specs.Widths.{bytes_most, roots_most};
 ghost use Rattle.theory.specs.Verdict.{verdict};
 ghost use Rattle.solve_operation.specs.Operation.{FitsRule, Standing};
 ghost use Rattle.table_unique.specs.Unique.{Space};
 
-use libc::STDOUT_FILENO;
 use solve_operation::{Rule, Run, operate};
 use solve_value_iteration::ROOTS;
+use std::io;
 use table::NODE_WORDS;
 use table_unique::WORK_WORDS;
 
@@ -19,45 +19,44 @@ const NODES_WORDS: usize = 32 * NODE_WORDS;
 
 const NODES_WORK: usize = 32 * WORK_WORDS;
 
-fn text(s: &[u8]) {
-    io::write_all(STDOUT_FILENO, s);
+fn text(rt: &impl Print, s: &[u8]) -> io::Result<()> {
+    rt.write_all(s)
 }
 
-fn number(x: u64) {
-    io::print_decimal(STDOUT_FILENO, x);
-    text(b" ");
+fn number(rt: &impl Print, x: u64) -> io::Result<()> {
+    print!(rt; "{x} ")
 }
 
-fn pair(x: u64, y: u64) {
-    number(x);
-    number(y);
+fn pair(rt: &impl Print, x: u64, y: u64) -> io::Result<()> {
+    number(rt, x)?;
+    number(rt, y)
 }
 
 // A line's end: some words and a number.
-fn ending(words: &[u8], x: u64) {
-    text(words);
-    number(x);
-    text(b"\n");
+fn ending(rt: &impl Print, words: &[u8], x: u64) -> io::Result<()> {
+    text(rt, words)?;
+    number(rt, x)?;
+    text(rt, b"\n")
 }
 
-fn signed(z: i64) {
+fn signed(rt: &impl Print, z: i64) -> io::Result<()> {
     if z < 0 {
-        text(b"-");
+        text(rt, b"-")?;
     }
-    number(whole::limits::mag(z));
+    number(rt, whole::limits::mag(z))
 }
 
 // The words of a node.
-fn node(nodes: &[i64], at: u32) {
+fn node(rt: &impl Print, nodes: &[i64], at: u32) -> io::Result<()> {
     let from = at as usize * NODE_WORDS;
     let mut i: usize = 0;
     while i < NODE_WORDS {
         if from + i < nodes.len() {
-            signed(nodes[from + i]);
+            signed(rt, nodes[from + i])?;
         }
         i += 1;
     }
-    text(b"\n");
+    text(rt, b"\n")
 }
 
 // Where the steps stand: what stopped them, or 0; how many nodes there are; the peak; how many roots are held.
@@ -138,15 +137,16 @@ fn fits(rule: Rule, held: usize) -> bool
 }
 
 // An operation's line: nodes afterwards, the peak, the node that is the result.
-fn report(r: Run, nodes: &[i64], at: u32) {
-    number(r.stop as u64);
-    pair(r.count as u64, r.peak as u64);
-    text(b": ");
-    node(nodes, at);
+fn report(rt: &impl Print, r: Run, nodes: &[i64], at: u32) -> io::Result<()> {
+    number(rt, r.stop as u64)?;
+    pair(rt, r.count as u64, r.peak as u64)?;
+    text(rt, b": ")?;
+    node(rt, nodes, at)
 }
 
 // One operation and its line.
 fn step(
+    rt: &impl Print,
     nodes: &mut [i64],
     work: &mut [u32],
     cap: usize,
@@ -154,9 +154,9 @@ fn step(
     roots: &mut [u32],
     to: usize,
     rule: Rule,
-) -> Stand
+) -> io::Result<Stand>
     requires { Standing cap nodes.old work.old s.count roots.old s.held × (to ≤ s.held) × (to < length roots.old) × FitsRule s.held rule }
-    ensures { result.stop ≡ 0 → Standing cap nodes.new work.new result.count roots.new result.held }
+    ensures { IfOk result (λ stand. stand.stop ≡ 0 → Standing cap nodes.new work.new stand.count roots.new stand.held) }
 {
     let start = Run {
         stop: 0,
@@ -164,17 +164,18 @@ fn step(
         peak: s.peak,
     };
     let r = operate(nodes, work, cap, start, roots, s.held, to, rule);
-    report(r, nodes, roots[to]);
-    Stand {
+    report(rt, r, nodes, roots[to])?;
+    Ok(Stand {
         stop: r.stop,
         count: r.count,
         peak: r.peak,
         held: to + 1,
-    }
+    })
 }
 
 // The operation of the row at a place of the rows; none where its places are not held.
 fn row(
+    rt: &impl Print,
     nodes: &mut [i64],
     work: &mut [u32],
     cap: usize,
@@ -182,140 +183,170 @@ fn row(
     roots: &mut [u32],
     rows: &[u8],
     at: usize,
-) -> Stand
+) -> io::Result<Stand>
     requires { Standing cap nodes.old work.old s.count roots.old s.held }
-    ensures { result.stop ≡ 0 → Standing cap nodes.new work.new result.count roots.new result.held }
+    ensures { IfOk result (λ stand. stand.stop ≡ 0 → Standing cap nodes.new work.new stand.count roots.new stand.held) }
 {
     let rule = rule_at(rows, at);
     let to = digit(rows, at, 4);
     if to >= roots.len() {
-        return s;
+        return Ok(s);
     }
     if to > s.held {
-        return s;
+        return Ok(s);
     }
     if fits(rule, s.held) {
-        return step(nodes, work, cap, s, roots, to, rule);
+        return step(rt, nodes, work, cap, s, roots, to, rule);
     }
-    s
+    Ok(s)
 }
 
 // The operations of some rows of five digits and a space: kind, x, y, z and the place of the result.
 fn steps(
+    rt: &impl Print,
     nodes: &mut [i64],
     work: &mut [u32],
     cap: usize,
     s: Stand,
     roots: &mut [u32],
     rows: &[u8],
-) -> Stand
+) -> io::Result<Stand>
     requires { (s.stop ≡ 0) × Standing cap nodes.old work.old s.count roots.old s.held }
-    ensures { result.stop ≡ 0 → Standing cap nodes.new work.new result.count roots.new result.held }
+    ensures { IfOk result (λ stand. stand.stop ≡ 0 → Standing cap nodes.new work.new stand.count roots.new stand.held) }
 {
     let mut r = s;
     let mut at: usize = 0;
     while at < rows.len() {
-        r = row(nodes, work, cap, r, roots, rows, at);
+        r = row(rt, nodes, work, cap, r, roots, rows, at)?;
         if r.stop != 0 {
-            return r;
+            return Ok(r);
         }
         at += 6;
     }
-    r
+    Ok(r)
 }
 
 // An accepted model in a table with room for 32 nodes: its roots are held.
-fn loaded(model: &[u8], nodes: &mut [i64], work: &mut [u32], roots: &mut [u32]) -> Stand
+fn loaded(
+    rt: &impl Print,
+    model: &[u8],
+    nodes: &mut [i64],
+    work: &mut [u32],
+    roots: &mut [u32],
+) -> io::Result<Stand>
     requires { ((verdict model.now).number ≡ 0) × (length model.now ≤ bytes_most) × Space 32 nodes.old work.old 0 × (length roots.old ≡ roots_most) }
-    ensures { result.stop ≡ 0 → Standing 32 nodes.new work.new result.count roots.new result.held }
+    ensures { IfOk result (λ stand. stand.stop ≡ 0 → Standing 32 nodes.new work.new stand.count roots.new stand.held) }
 {
     table_clear::zeros::words_from(work, 0);
     let done = load_model::load(model, nodes, work, 32, roots);
     let held = solve_total::model_size(model);
-    pair(done.stop as u64, done.count as u64);
-    ending(b"loaded, roots ", held as u64);
-    Stand {
+    pair(rt, done.stop as u64, done.count as u64)?;
+    ending(rt, b"loaded, roots ", held as u64)?;
+    Ok(Stand {
         stop: done.stop,
         count: done.count,
         peak: done.count,
         held,
-    }
+    })
 }
 
-fn list(model: &[u8], nodes: &[i64], stages: &[u32]) {
-    let mut room = io::large_buffer();
+fn list(rt: &impl Print, model: &[u8], nodes: &[i64], stages: &[u32]) -> io::Result<()> {
+    let mut room = [0u8; 65536];
     let r = text_listing::listing(model, 2, nodes, stages, &mut room, 0);
     let size = r.size;
-    pair(r.number as u64, r.place as u64);
-    text(b"listed\n");
+    pair(rt, r.number as u64, r.place as u64)?;
+    text(rt, b"listed\n")?;
     if size <= room.len() {
-        text(&room[..size]);
+        text(rt, &room[..size])?;
     }
+    Ok(())
 }
 
 // The stages' tables, from their roots: the pond's four, stage 0 and the two stages are held.
-fn finished(model: &[u8], nodes: &mut [i64], work: &mut [u32], s: Stand, roots: &[u32])
+fn finished(
+    rt: &impl Print,
+    model: &[u8],
+    nodes: &mut [i64],
+    work: &mut [u32],
+    s: Stand,
+    roots: &[u32],
+) -> io::Result<()>
     requires { Standing 32 nodes.old work.old s.count roots.now s.held }
 {
     if s.held != 7 {
-        return;
+        return Ok(());
     }
     let mut stages = [0u32; 8];
     let n = finish::finish(nodes, work, 32, s.count, &roots[5..7], &mut stages);
-    list(model, nodes, &stages);
-    number(n as u64);
-    ending(b"nodes, peak ", s.peak as u64);
+    list(rt, model, nodes, &stages)?;
+    number(rt, n as u64)?;
+    ending(rt, b"nodes, peak ", s.peak as u64)
 }
 
 // The rows on an accepted model.
-fn planned(model: &[u8], nodes: &mut [i64], work: &mut [u32], roots: &mut [u32], rows: &[u8])
+fn planned(
+    rt: &impl Print,
+    model: &[u8],
+    nodes: &mut [i64],
+    work: &mut [u32],
+    roots: &mut [u32],
+    rows: &[u8],
+) -> io::Result<()>
     requires { ((verdict model.now).number ≡ 0) × (length model.now ≤ bytes_most) × Space 32 nodes.old work.old 0 × (length roots.old ≡ roots_most) }
 {
-    let s = loaded(model, nodes, work, roots);
+    let s = loaded(rt, model, nodes, work, roots)?;
     if s.stop != 0 {
-        return;
+        return Ok(());
     }
-    let r = steps(nodes, work, 32, s, roots, rows);
+    let r = steps(rt, nodes, work, 32, s, roots, rows)?;
     if r.stop != 0 {
-        return;
+        return Ok(());
     }
-    finished(model, nodes, work, r, roots);
+    finished(rt, model, nodes, work, r, roots)
 }
 
-fn run(model: &[u8], nodes: &mut [i64], work: &mut [u32], roots: &mut [u32], rows: &[u8])
+fn run(
+    rt: &impl Print,
+    model: &[u8],
+    nodes: &mut [i64],
+    work: &mut [u32],
+    roots: &mut [u32],
+    rows: &[u8],
+) -> io::Result<()>
     requires { Space 32 nodes.old work.old 0 × (length roots.old ≡ roots_most) }
 {
     if model.len() > 65535 {
-        return;
+        return Ok(());
     }
     let v = model::validate(model);
     if v.number != 0 {
-        return;
+        return Ok(());
     }
-    planned(model, nodes, work, roots, rows);
+    planned(rt, model, nodes, work, roots, rows)
 }
 
-fn pond(room: &[u8], n: usize) {
+fn pond(rt: &impl Print, room: &[u8], n: usize) -> io::Result<()> {
     let mut nodes = [0i64; NODES_WORDS];
     let mut work = [0u32; NODES_WORK];
     let mut roots = [0u32; ROOTS];
     if room.len() < n {
-        return;
+        return Ok(());
     }
     run(
+        rt,
         &room[..n],
         &mut nodes,
         &mut work,
         &mut roots,
         b"00004 11405 20515 13406 22626 35605 11506 20616 13507 22727 36706 ",
-    );
+    )
 }
 
-fn main() {
+fn main(rt: HostRuntime) -> io::Result<()> {
     let mut model = [0u8; 400];
     let n = check_hex::bytes_of(
         b"S 01 00 02A 01 P 20 01A 10 01000000 OOOKO 22 01A 01 10 OOOOK 32000000 10 OOOOK ffffffff 12 ffffffff OOOK 0a000000 20 02A 10 01000000 OOOK f6ffffff 10 01000000 OOOKO 12 ffffffff OOOK 0a000000 22 02A 01 ff",
         &mut model,
     );
-    pond(&model, n);
+    pond(&rt, &model, n)
 }

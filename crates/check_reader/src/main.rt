@@ -4,8 +4,12 @@
 #![tactic(auto)]
 
 use check_hex::{find, report};
-use libc::STDIN_FILENO;
 use model_command::{Command, Read};
+use std::io;
+use std::io::Read as _;
+
+// The longest input that is read, in bytes.
+const INPUT_MOST: u64 = 32768;
 
 // A command's byte and its operands of one or two bytes, 0 where it has fewer; byte 0 for an unknown one, 1 for one that is cut.
 #[derive(Clone, Copy)]
@@ -72,79 +76,80 @@ fn same(x: Row, y: Row) -> bool {
     x.fourth == y.fourth
 }
 
-fn print(at: usize, x: Row) {
-    report::number(at as u64, b":");
-    report::text(b" ");
-    report::number(x.byte as u64, b" ");
-    report::number(x.first as u64, b" ");
-    report::number(x.second as u64, b" ");
-    report::number(x.third as u64, b" ");
-    report::number(x.fourth as u64, b"\n");
+fn print(rt: &impl Print, at: usize, x: Row) -> io::Result<()> {
+    report::number(rt, at as u64, b":")?;
+    report::text(rt, b" ")?;
+    report::number(rt, x.byte as u64, b" ")?;
+    report::number(rt, x.first as u64, b" ")?;
+    report::number(rt, x.second as u64, b" ")?;
+    report::number(rt, x.third as u64, b" ")?;
+    report::number(rt, x.fourth as u64, b"\n")
 }
 
-fn compare(x: Row, cursor: Row) {
-    if same(x, cursor) {} else {
-        report::line(b"the cursor reads another");
+fn compare(rt: &impl Print, x: Row, cursor: Row) -> io::Result<()> {
+    if same(x, cursor) {
+        return Ok(());
     }
+    report::line(rt, b"the cursor reads another")
 }
 
 // The command at an offset, and the one behind it: as a reader over the rest of the model has them, and the cursor.
-fn step(model: &[u8], rest: &[u8], at: usize, next: usize) {
+fn step(rt: &impl Print, model: &[u8], rest: &[u8], at: usize, next: usize) -> io::Result<()> {
     let x = shown(model_reader::first(rest));
-    print(at, x);
-    compare(x, shown(model_command::command_at(model, at)));
+    print(rt, at, x)?;
+    compare(rt, x, shown(model_command::command_at(model, at)))?;
     compare(
+        rt,
         shown(model_reader::second(rest)),
         shown(model_command::command_at(model, next)),
-    );
+    )
 }
 
 // Each command up to the model's end.
-fn walk(model: &[u8]) {
+fn walk(rt: &impl Print, model: &[u8]) -> io::Result<()> {
     let mut at: usize = 0;
     while at < model.len() {
         let next = model_command::next_after(model, at);
-        step(model, &model[at..], at, next);
+        step(rt, model, &model[at..], at, next)?;
         if next <= at {
-            return;
+            return Ok(());
         }
         at = next;
     }
+    Ok(())
 }
 
-fn read(name: &[u8], text: &[u8], room: &mut [u8]) {
+fn read(rt: &impl Print, name: &[u8], text: &[u8], room: &mut [u8]) -> io::Result<()> {
     let n = check_hex::bytes_of(text, room);
-    report::line(name);
-    walk(&room[..n]);
+    report::line(rt, name)?;
+    walk(rt, &room[..n])
 }
 
-fn line(text: &[u8]) {
+fn line(rt: &impl Print, text: &[u8]) -> io::Result<()> {
     let k = find(text, 0, b':');
     if k == text.len() {
-        report::line(text);
-        return;
+        return report::line(rt, text);
     }
     let mut room = [0u8; 1024];
-    read(&text[..k], &text[k..], &mut room);
+    read(rt, &text[..k], &text[k..], &mut room)
 }
 
-fn lines(text: &[u8]) {
+fn lines(rt: &impl Print, text: &[u8]) -> io::Result<()> {
     let mut at: usize = 0;
     while at < text.len() {
         let end = find(text, at, b'\n');
-        line(&text[at..end]);
+        line(rt, &text[at..end])?;
         at = end + 1;
     }
+    Ok(())
 }
 
-fn all(room: &mut [u8]) {
-    let n = io::read_full(STDIN_FILENO, room);
-    if n <= room.len() {
-        lines(&room[..n]);
-    }
+fn all(rt: &(impl Input + Print + Alloc)) -> io::Result<()> {
+    let mut input = Vec::new(rt.alloc());
+    rt.reader().take(INPUT_MOST).read_to_end(&mut input)?;
+    lines(rt, &input)
 }
 
-fn main() {
-    let mut room = [0u8; 32768];
-    all(&mut room);
+fn main(rt: HostRuntime) -> io::Result<()> {
+    all(&rt)
 }

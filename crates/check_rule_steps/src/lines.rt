@@ -1,6 +1,6 @@
 // Rows of four numbers read as steps, outcomes printed as lines.
 use super::Step;
-use libc::STDOUT_FILENO;
+use std::io;
 use table::{Made, NODE_WORDS};
 use whole::limits::mag;
 
@@ -70,48 +70,48 @@ pub fn save(results: &mut [usize], line: usize, r: Made) {
     results[line] = r.at;
 }
 
-fn print_signed(z: i64) {
+fn print_signed(rt: &impl Print, z: i64) -> io::Result<()> {
     if z < 0 {
-        io::write_all(STDOUT_FILENO, b"-");
+        rt.write_all(b"-")?;
     }
-    io::print_decimal(STDOUT_FILENO, mag(z));
+    rt.print(mag(z))
 }
 
-fn print_word(nodes: &[i64], at: usize) {
-    io::write_all(STDOUT_FILENO, b" ");
-    print_signed(word(nodes, at));
+fn print_word(rt: &impl Print, nodes: &[i64], at: usize) -> io::Result<()> {
+    rt.write_all(b" ")?;
+    print_signed(rt, word(nodes, at))
 }
 
 // The words of the node at an index.
-fn print_node(nodes: &[i64], at: usize) {
+fn print_node(rt: &impl Print, nodes: &[i64], at: usize) -> io::Result<()> {
     if at >= NOWHERE {
-        return;
+        return Ok(());
     }
     let mut i: usize = 0;
     while i < NODE_WORDS {
-        print_word(nodes, at * NODE_WORDS + i);
+        print_word(rt, nodes, at * NODE_WORDS + i)?;
         i += 1;
     }
+    Ok(())
 }
 
-fn print_spaced(x: u64) {
-    io::write_all(STDOUT_FILENO, b" ");
-    io::print_decimal(STDOUT_FILENO, x);
+fn print_spaced(rt: &impl Print, x: u64) -> io::Result<()> {
+    print!(rt; " {x}")
 }
 
 // The node at an index, with its words.
-fn print_at(nodes: &[i64], at: usize) {
-    print_spaced(at as u64);
-    io::write_all(STDOUT_FILENO, b":");
-    print_node(nodes, at);
+fn print_at(rt: &impl Print, nodes: &[i64], at: usize) -> io::Result<()> {
+    print_spaced(rt, at as u64)?;
+    rt.write_all(b":")?;
+    print_node(rt, nodes, at)
 }
 
 // A line: the refusal's number, the count of nodes, and the node that the step came to with its words.
-pub fn print(nodes: &[i64], r: Made) {
-    io::print_decimal(STDOUT_FILENO, r.stop as u64);
-    print_spaced(r.count as u64);
+pub fn print(rt: &impl Print, nodes: &[i64], r: Made) -> io::Result<()> {
+    rt.print(r.stop as u64)?;
+    print_spaced(rt, r.count as u64)?;
     if r.stop == 0 {
-        print_at(nodes, r.at);
+        print_at(rt, nodes, r.at)?;
     }
-    io::write_all(STDOUT_FILENO, b"\n");
+    rt.write_all(b"\n")
 }

@@ -1,14 +1,16 @@
 // All rows, from an empty table on.
-ghost use Rattle.std.specs.Prelude.{◌≡◌, true, ℕ, ◌≤◌, ◌<◌, length, get_or};
+ghost use Rattle.std.specs.Prelude.{◌≡◌, true, ℕ, ◌≤◌, ◌<◌, length, get_or, IfOk};
 ghost use Rattle.rule_node.specs.Table.{Table};
 ghost use Rattle.rule_node.specs.EntryMeaning.{rule_of};
 
 use super::lines;
 use super::rules::step;
+use std::io;
 use table::Made;
 
 // The step of a row, its line printed and its node kept.
 fn line(
+    rt: &impl Print,
     nodes: &mut [i64],
     work: &mut [u32],
     cap: usize,
@@ -16,31 +18,39 @@ fn line(
     rows: &[i64],
     results: &mut [usize],
     i: usize,
-) -> Made
+) -> io::Result<Made>
     requires { Table rule_of cap nodes.old work.old count × (i ≤ 1000) }
-    ensures { Table rule_of cap nodes.new work.new result.count }
+    ensures { IfOk result (λ made. Table rule_of cap nodes.new work.new made.count) }
 {
     let s = lines::step_at(rows, results, i * 4);
     let r = step(nodes, work, cap, count, s);
-    lines::print(nodes, r);
+    lines::print(rt, nodes, r)?;
     lines::save(results, i, r);
-    r
+    Ok(r)
 }
 
 // The rows in turn, at most 1,000.
-fn each(nodes: &mut [i64], work: &mut [u32], cap: usize, rows: &[i64], results: &mut [usize])
+fn each(
+    rt: &impl Print,
+    nodes: &mut [i64],
+    work: &mut [u32],
+    cap: usize,
+    rows: &[i64],
+    results: &mut [usize],
+) -> io::Result<()>
     requires { Table rule_of cap nodes.old work.old 0 }
 {
     let mut count: usize = 0;
     let mut i: usize = 0;
     while i < 1000 {
         if i >= rows.len() / 4 {
-            return;
+            return Ok(());
         }
-        let r = line(nodes, work, cap, count, rows, results, i);
+        let r = line(rt, nodes, work, cap, count, rows, results, i)?;
         count = r.count;
         i += 1;
     }
+    Ok(())
 }
 
 // Whether all words are 0.
@@ -77,8 +87,16 @@ pub fn ready(nodes: &[i64], work: &[u32], cap: usize) -> bool
 }
 
 // All of it; nothing where the tables are not ready.
-pub fn run(nodes: &mut [i64], work: &mut [u32], results: &mut [usize], cap: usize, rows: &[i64]) {
+pub fn run(
+    rt: &impl Print,
+    nodes: &mut [i64],
+    work: &mut [u32],
+    results: &mut [usize],
+    cap: usize,
+    rows: &[i64],
+) -> io::Result<()> {
     if ready(nodes, work, cap) {
-        each(nodes, work, cap, rows, results);
+        each(rt, nodes, work, cap, rows, results)?;
     }
+    Ok(())
 }

@@ -1,13 +1,14 @@
 // Staircases merged in a table of 49,152 nodes: what each step came to, as its refusal's number and the count of nodes.
 #![tactic(auto)]
 
-ghost use Rattle.std.specs.Prelude.{◌≤◌, ◌<◌};
+ghost use Rattle.std.specs.Prelude.{◌≤◌, ◌<◌, IfOk};
 ghost use Rattle.rule_node.specs.Table.{Table};
 ghost use Rattle.rule_node.specs.EntryMeaning.{rule_of};
 ghost use Rattle.check_rules.specs.Held.{cap, RulesHeld};
 
 use rule_apply::merge;
 use rule_node::making::{join_test, make_leaf};
+use std::io;
 use table::{Made, NODE_WORDS, Node};
 use table_unique::WORK_WORDS;
 use whole::{COEFFICIENTS, NUMBERS};
@@ -89,64 +90,66 @@ fn stairs(
 }
 
 // A line for a step.
-fn show(r: Made) {
-    io::print_decimal(1, r.stop as u64);
-    io::write_all(1, b" ");
-    io::print_decimal(1, r.count as u64);
-    io::write_all(1, b"\n");
+fn show(rt: &impl Print, r: Made) -> io::Result<()> {
+    let stop = r.stop;
+    let count = r.count;
+    println!(rt; "{stop} {count}")
 }
 
 // Two staircases, and a rule on them.
 fn pair(
+    rt: &impl Print,
     nodes: &mut [i64],
     work: &mut [u32],
     count: usize,
     op: usize,
     value: usize,
     values: usize,
-) -> Made
+) -> io::Result<Made>
     requires { Table rule_of cap nodes.old work.old count × (op ≤ 2) × (value ≤ 1000) × (0 < values) }
-    ensures { RulesHeld count nodes.new work.new result }
+    ensures { IfOk result (λ made. RulesHeld count nodes.new work.new made) }
 {
     let f = stairs(nodes, work, count, 0, value, values);
-    show(f);
+    show(rt, f)?;
     if f.stop != 0 {
-        return f;
+        return Ok(f);
     }
     let g = stairs(nodes, work, f.count, 1, 0, values);
-    show(g);
+    show(rt, g)?;
     if g.stop != 0 {
-        return g;
+        return Ok(g);
     }
     let r = merge(nodes, work, CAP, g.count, op, f.at, g.at);
-    show(r);
-    r
+    show(rt, r)?;
+    Ok(r)
 }
 
 // Best of leaves that all differ; a sum that has room, and one that has not.
-fn all(nodes: &mut [i64], work: &mut [u32])
+fn all(rt: &impl Print, nodes: &mut [i64], work: &mut [u32]) -> io::Result<()>
     requires { Table rule_of cap nodes.old work.old 0 }
 {
-    let a = pair(nodes, work, 0, 2, 1000, 1000);
+    let a = pair(rt, nodes, work, 0, 2, 1000, 1000)?;
     if a.stop != 0 {
-        return;
+        return Ok(());
     }
-    let b = pair(nodes, work, a.count, 0, 0, 20);
+    let b = pair(rt, nodes, work, a.count, 0, 0, 20)?;
     if b.stop != 0 {
-        return;
+        return Ok(());
     }
-    pair(nodes, work, b.count, 0, 1000, 1000);
+    pair(rt, nodes, work, b.count, 0, 1000, 1000)?;
+    Ok(())
 }
 
 // All of it, in tables that are large enough and empty.
-fn run(nodes: &mut [i64], work: &mut [u32]) {
+fn run(rt: &impl Print, nodes: &mut [i64], work: &mut [u32]) -> io::Result<()> {
     if check_rule_steps::runs::ready(nodes, work, CAP) {
-        all(nodes, work);
+        all(rt, nodes, work)?;
     }
+    Ok(())
 }
 
-fn main() {
+fn main(rt: HostRuntime) -> io::Result<()> {
     let mut nodes = [0i64; CAP * NODE_WORDS];
     let mut work = [0u32; CAP * WORK_WORDS];
-    run(&mut nodes, &mut work);
+    run(&rt, &mut nodes, &mut work)
 }

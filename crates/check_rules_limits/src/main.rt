@@ -3,19 +3,20 @@
 // on a line that came to no node is not run: 255.
 #![tactic(auto)]
 
+use std::io;
 use table::NODE_WORDS;
 use table_unique::WORK_WORDS;
 
-fn case(cap: usize, rows: &[i64]) {
+fn case(rt: &impl Print, cap: usize, rows: &[i64]) -> io::Result<()> {
     let mut nodes = [0i64; 16 * NODE_WORDS];
     let mut work = [0u32; 16 * WORK_WORDS];
     let mut results = [0usize; 32];
-    check_rule_steps::runs::run(&mut nodes, &mut work, &mut results, cap, rows);
-    io::write_all(1, b"\n");
+    check_rule_steps::runs::run(rt, &mut nodes, &mut work, &mut results, cap, rows)?;
+    rt.write_all(b"\n")
 }
 
 // A leaf at the limits, and beyond them.
-fn leaves() {
+fn leaves(rt: &impl Print) -> io::Result<()> {
     let rows = [
         9,
         0,
@@ -38,11 +39,11 @@ fn leaves() {
         -4611686018427387904,
         0,
     ];
-    case(16, &rows);
+    case(rt, 16, &rows)
 }
 
 // 2⁶² − 1 is 3 × 1537228672809129301.
-fn numbers() {
+fn numbers(rt: &impl Print) -> io::Result<()> {
     let rows = [
         9,
         0,
@@ -81,11 +82,11 @@ fn numbers() {
         0,
         0,
     ];
-    case(16, &rows);
+    case(rt, 16, &rows)
 }
 
 // Sums and products of leaves.
-fn pairs() {
+fn pairs(rt: &impl Print) -> io::Result<()> {
     let rows = [
         9,
         0,
@@ -136,11 +137,11 @@ fn pairs() {
         5,
         0,
     ];
-    case(16, &rows);
+    case(rt, 16, &rows)
 }
 
 // The difference that best takes, g − f.
-fn differences() {
+fn differences(rt: &impl Print) -> io::Result<()> {
     let rows = [
         9,
         0,
@@ -191,24 +192,24 @@ fn differences() {
         7,
         0,
     ];
-    case(16, &rows);
+    case(rt, 16, &rows)
 }
 
 // best (0, L1) is a test over two leaves: three nodes.
-fn room(cap: usize) {
+fn room(rt: &impl Print, cap: usize) -> io::Result<()> {
     let rows = [
         9, 0, 0, 0, 9, 0, 1, 0, 2, 0, 1, 0, 2, 0, 1, 0, 9, 0, 0, 0, 9, 0, 0, 5, 9, 0, 1, 0,
     ];
-    case(cap, &rows);
+    case(rt, cap, &rows)
 }
 
-fn main() {
-    leaves();
-    numbers();
-    pairs();
-    differences();
-    room(1);
-    room(2);
-    room(3);
-    room(4);
+fn main(rt: HostRuntime) -> io::Result<()> {
+    leaves(&rt)?;
+    numbers(&rt)?;
+    pairs(&rt)?;
+    differences(&rt)?;
+    room(&rt, 1)?;
+    room(&rt, 2)?;
+    room(&rt, 3)?;
+    room(&rt, 4)
 }

@@ -4,8 +4,8 @@
 
 ghost use Rattle.std.specs.Prelude.{◌≤◌, length};
 
-use libc::STDOUT_FILENO;
 use solve_tables::{PEAK_WORDS, Solved, solve};
+use std::io;
 use value_read::value;
 use value_walk::{Asked, Value};
 
@@ -46,37 +46,37 @@ struct Case {
     roots: usize,
 }
 
-fn text(s: &[u8]) {
-    io::write_all(STDOUT_FILENO, s);
+fn text(rt: &impl Print, s: &[u8]) -> io::Result<()> {
+    rt.write_all(s)
 }
 
-fn number(x: u64) {
-    io::print_decimal(STDOUT_FILENO, x);
-    text(b" ");
+fn number(rt: &impl Print, x: u64) -> io::Result<()> {
+    print!(rt; "{x} ")
 }
 
-fn labelled(label: &[u8], x: u64) {
-    text(label);
-    number(x);
+fn labelled(rt: &impl Print, label: &[u8], x: u64) -> io::Result<()> {
+    text(rt, label)?;
+    number(rt, x)
 }
 
 // Some numbers to the line's end.
-fn numbers(label: &[u8], xs: &[u32]) {
-    text(label);
+fn numbers(rt: &impl Print, label: &[u8], xs: &[u32]) -> io::Result<()> {
+    text(rt, label)?;
     let mut i: usize = 0;
     while i < xs.len() {
-        number(xs[i] as u64);
+        number(rt, xs[i] as u64)?;
         i += 1;
     }
-    text(b"\n");
+    text(rt, b"\n")
 }
 
 // A byte of a name.
-fn name_byte(b: u8) {
+fn name_byte(rt: &impl Print, b: u8) -> io::Result<()> {
     if b != b';' {
         let one = [b];
-        text(&one);
+        text(rt, &one)?;
     }
+    Ok(())
 }
 
 // The name's number after a byte.
@@ -90,57 +90,60 @@ fn after(k: usize, b: u8) -> usize {
 }
 
 // The name with a number in a list.
-fn print_name(names: &[u8], k: usize) {
+fn print_name(rt: &impl Print, names: &[u8], k: usize) -> io::Result<()> {
     let mut at: usize = 0;
     let mut i: usize = 0;
     while i < names.len() {
         let b = names[i];
         if at == k {
-            name_byte(b);
+            name_byte(rt, b)?;
         }
         at = after(at, b);
         i += 1;
     }
+    Ok(())
 }
 
 // A line's begin: what is solved, in which room.
-fn print_case(c: Case) {
+fn print_case(rt: &impl Print, c: Case) -> io::Result<()> {
     print_name(
+        rt,
         b"pond;rain;no step;nine steps;no model;262,145 bytes;seven stage words;weights of 100;pond with an end worth",
         c.name,
-    );
-    labelled(b", horizon ", c.horizon as u64);
-    labelled(b"room ", c.room as u64);
+    )?;
+    labelled(rt, b", horizon ", c.horizon as u64)?;
+    labelled(rt, b"room ", c.room as u64)
 }
 
 // Its end: number, place, peak; the roots of the first stages.
-fn print_solved(r: Solved, stages: &[u32], n: usize) {
-    labelled(b": ", r.number as u64);
-    number(r.place as u64);
-    labelled(b"peak ", r.peak as u64);
+fn print_solved(rt: &impl Print, r: Solved, stages: &[u32], n: usize) -> io::Result<()> {
+    labelled(rt, b": ", r.number as u64)?;
+    number(rt, r.place as u64)?;
+    labelled(rt, b"peak ", r.peak as u64)?;
     if n <= stages.len() {
-        numbers(b"roots ", &stages[..n]);
+        numbers(rt, b"roots ", &stages[..n])?;
     }
+    Ok(())
 }
 
 // The answer's low word, and whether it lies below 0.
-fn print_numerator(n: whole::Numerator) {
-    number(n.low);
+fn print_numerator(rt: &impl Print, n: whole::Numerator) -> io::Result<()> {
+    number(rt, n.low)?;
     if n.high < 0 {
-        text(b"below 0");
+        text(rt, b"below 0")?;
     }
-    text(b"\n");
+    text(rt, b"\n")
 }
 
 // A line: the steps left, number, place and action, the value.
-fn print_value(label: &[u8], steps: u32, v: Value) {
-    text(label);
-    labelled(b", steps ", steps as u64);
-    labelled(b": ", v.number as u64);
-    number(v.place as u64);
-    labelled(b"action ", v.action as u64);
+fn print_value(rt: &impl Print, label: &[u8], steps: u32, v: Value) -> io::Result<()> {
+    text(rt, label)?;
+    labelled(rt, b", steps ", steps as u64)?;
+    labelled(rt, b": ", v.number as u64)?;
+    number(rt, v.place as u64)?;
+    labelled(rt, b"action ", v.action as u64)?;
     let n = v.numerator;
-    print_numerator(n);
+    print_numerator(rt, n)
 }
 
 // The bytes of the model with a number; 3 is no model.
@@ -318,125 +321,153 @@ fn state(mask: u32, l1: i32, l2: i32, l3: i32, l4: i32, d: i32) -> Asked {
 }
 
 // The value at a level with each number of steps left, and with too few and too many.
-fn all_steps(label: &[u8], model: &[u8], nodes: &[i64], stages: &[u32], mask: u32, l: i32, d: i32) {
+fn all_steps(
+    rt: &impl Print,
+    label: &[u8],
+    model: &[u8],
+    nodes: &[i64],
+    stages: &[u32],
+    mask: u32,
+    l: i32,
+    d: i32,
+) -> io::Result<()> {
     let mut h: u32 = 0;
     while h <= 9 {
         print_value(
+            rt,
             label,
             h,
             value(model, nodes, stages, h, state(mask, l, 0, 0, 0, d)),
-        );
+        )?;
         h += 1;
     }
+    Ok(())
 }
 
-fn pond_values(model: &[u8], nodes: &[i64], stages: &[u32]) {
-    all_steps(b"at 20", model, nodes, stages, 0, 20, 1);
-    all_steps(b"at 39/2", model, nodes, stages, 0, 39, 2);
-    all_steps(b"at -5", model, nodes, stages, 0, -5, 1);
+fn pond_values(rt: &impl Print, model: &[u8], nodes: &[i64], stages: &[u32]) -> io::Result<()> {
+    all_steps(rt, b"at 20", model, nodes, stages, 0, 20, 1)?;
+    all_steps(rt, b"at 39/2", model, nodes, stages, 0, 39, 2)?;
+    all_steps(rt, b"at -5", model, nodes, stages, 0, -5, 1)
 }
 
-fn ended_values(model: &[u8], nodes: &[i64], stages: &[u32]) {
-    all_steps(b"at 20, end worth", model, nodes, stages, 0, 20, 1);
-    all_steps(b"at 39/2, end worth", model, nodes, stages, 0, 39, 2);
-    all_steps(b"at -5, end worth", model, nodes, stages, 0, -5, 1);
+fn ended_values(rt: &impl Print, model: &[u8], nodes: &[i64], stages: &[u32]) -> io::Result<()> {
+    all_steps(rt, b"at 20, end worth", model, nodes, stages, 0, 20, 1)?;
+    all_steps(rt, b"at 39/2, end worth", model, nodes, stages, 0, 39, 2)?;
+    all_steps(rt, b"at -5, end worth", model, nodes, stages, 0, -5, 1)
 }
 
-fn rain_values(model: &[u8], nodes: &[i64], stages: &[u32]) {
-    all_steps(b"at 200, dry", model, nodes, stages, 0, 200, 1);
-    all_steps(b"at 200, rain", model, nodes, stages, 1, 200, 1);
-    all_steps(b"at -1000/3, rain", model, nodes, stages, 1, -1000, 3);
+fn rain_values(rt: &impl Print, model: &[u8], nodes: &[i64], stages: &[u32]) -> io::Result<()> {
+    all_steps(rt, b"at 200, dry", model, nodes, stages, 0, 200, 1)?;
+    all_steps(rt, b"at 200, rain", model, nodes, stages, 1, 200, 1)?;
+    all_steps(rt, b"at -1000/3, rain", model, nodes, stages, 1, -1000, 3)
 }
 
 // 13, 15 and 14, the first that applies.
-fn refused_values(model: &[u8], nodes: &[i64], stages: &[u32]) {
+fn refused_values(rt: &impl Print, model: &[u8], nodes: &[i64], stages: &[u32]) -> io::Result<()> {
     print_value(
+        rt,
         b"D 0",
         2,
         value(model, nodes, stages, 2, state(0, 20, 0, 0, 0, 0)),
-    );
+    )?;
     print_value(
+        rt,
         b"mask 1 of no condition",
         2,
         value(model, nodes, stages, 2, state(1, 20, 0, 0, 0, 1)),
-    );
+    )?;
     print_value(
+        rt,
         b"level 2 of 1",
         2,
         value(model, nodes, stages, 2, state(0, 20, 1, 0, 0, 1)),
-    );
+    )?;
     print_value(
+        rt,
         b"level 4 of 1, no stage",
         3,
         value(model, nodes, stages, 3, state(0, 20, 0, 0, 1, 1)),
-    );
+    )?;
     print_value(
+        rt,
         b"no stage",
         3,
         value(model, nodes, stages, 3, state(0, 20, 0, 0, 0, 1)),
-    );
+    )?;
     print_value(
+        rt,
         b"no table",
         2,
         value(model, &nodes[..0], stages, 2, state(0, 20, 0, 0, 0, 1)),
-    );
+    )?;
     print_value(
+        rt,
         b"no stage words",
         2,
         value(model, nodes, &stages[..0], 2, state(0, 20, 0, 0, 0, 1)),
-    );
+    )
 }
 
 // What is read after a solve.
-fn print_values(i: u32, models: &[u8], nodes: &[i64], stages: &[u32]) {
+fn print_values(
+    rt: &impl Print,
+    i: u32,
+    models: &[u8],
+    nodes: &[i64],
+    stages: &[u32],
+) -> io::Result<()> {
     if models.len() < END {
-        return;
+        return Ok(());
     }
     if i == 23 {
-        pond_values(&models[..RAIN], nodes, stages);
+        pond_values(rt, &models[..RAIN], nodes, stages)?;
     }
     if i == 69 {
-        rain_values(&models[RAIN..WEIGHTS], nodes, stages);
+        rain_values(rt, &models[RAIN..WEIGHTS], nodes, stages)?;
     }
     if i == 75 {
-        refused_values(&models[..RAIN], nodes, stages);
+        refused_values(rt, &models[..RAIN], nodes, stages)?;
     }
     if i == 81 {
-        ended_values(&models[ENDED..END], nodes, stages);
+        ended_values(rt, &models[ENDED..END], nodes, stages)?;
     }
+    Ok(())
 }
 
 // A solve and its line; answers the peak.
 fn solved(
+    rt: &impl Print,
     models: &[u8; 65536],
     c: Case,
     nodes: &mut [i64; NODES],
     stages: &mut [u32; 8],
     work: &mut [u32; WORK],
-) -> usize {
+) -> io::Result<usize> {
     let r = solve_case(models, c, nodes, stages, work);
-    print_case(c);
-    print_solved(r, stages, c.roots);
-    r.peak
+    print_case(rt, c)?;
+    print_solved(rt, r, stages, c.roots)?;
+    Ok(r.peak)
 }
 
 // All solves in the same tables.
 fn all_solves(
+    rt: &impl Print,
     models: &[u8; 65536],
     nodes: &mut [i64; NODES],
     stages: &mut [u32; 8],
     work: &mut [u32; WORK],
-) {
+) -> io::Result<()> {
     let mut room: usize = 0;
     let mut peak: usize = 0;
     let mut i: u32 = 0;
     while i < 82 {
         let c = case_at(i, room, peak);
         room = c.room;
-        peak = solved(models, c, nodes, stages, work);
-        print_values(i, models, nodes, stages);
+        peak = solved(rt, models, c, nodes, stages, work)?;
+        print_values(rt, i, models, nodes, stages)?;
         i += 1;
     }
+    Ok(())
 }
 
 // Solved in new tables.
@@ -497,11 +528,12 @@ fn in_turn(i: u32) -> Case {
 
 // 240 times in the same tables.
 fn refilled(
+    rt: &impl Print,
     models: &[u8; 65536],
     nodes: &mut [i64; NODES],
     stages: &mut [u32; 8],
     work: &mut [u32; WORK],
-) {
+) -> io::Result<()> {
     let mut alike: u64 = 0;
     let mut i: u32 = 0;
     while i < 240 {
@@ -512,20 +544,20 @@ fn refilled(
         }
         i += 1;
     }
-    number(alike);
-    text(b"of 240 as in new tables\n");
+    number(rt, alike)?;
+    text(rt, b"of 240 as in new tables\n")
 }
 
-fn run(models: &[u8; 65536]) {
+fn run(rt: &impl Print, models: &[u8; 65536]) -> io::Result<()> {
     let mut nodes = [-1i64; NODES];
     let mut stages = [7u32; 8];
     let mut work = [9u32; WORK];
-    all_solves(models, &mut nodes, &mut stages, &mut work);
-    refilled(models, &mut nodes, &mut stages, &mut work);
+    all_solves(rt, models, &mut nodes, &mut stages, &mut work)?;
+    refilled(rt, models, &mut nodes, &mut stages, &mut work)
 }
 
-fn main() {
-    let mut models = io::large_buffer();
+fn main(rt: HostRuntime) -> io::Result<()> {
+    let mut models = [0u8; 65536];
     check_hex::bytes_of(
         b"S 01 00 02A 01 P 20 01A 10 01000000 OOOKO 22 01A 01 10 OOOOK 32000000 10 OOOOK ffffffff 12 ffffffff OOOK 0a000000 20 02A 10 01000000 OOOK \
         f6ffffff 10 01000000 OOOKO 12 ffffffff OOOK 0a000000 22 02A 01 ff \
@@ -536,5 +568,5 @@ fn main() {
         f6ffffff 10 01000000 OOOKO 12 ffffffff OOOK 0a000000 22 02A 01 10 01000000 OOOKO 23 ff",
         &mut models,
     );
-    run(&models);
+    run(&rt, &models)
 }

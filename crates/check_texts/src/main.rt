@@ -3,36 +3,39 @@
 
 use check_hex::{find, report};
 use import_scan::Scanned;
-use libc::STDIN_FILENO;
+use std::io;
+use std::io::Read;
+
+// The longest input that is read, in bytes.
+const INPUT_MOST: u64 = 8192;
 
 // "Text outside the grammar with 24".
 const OUTSIDE: u32 = 24;
 
-fn line(text: &[u8]) {
-    report::line(text);
+fn line(rt: &impl Print, text: &[u8]) -> io::Result<()> {
+    report::line(rt, text)?;
     match import_scan::scan(text) {
-        Scanned::Fine => report::refusal(0, 0),
-        Scanned::Stops(i) => report::refusal(OUTSIDE, i),
+        Scanned::Fine => report::refusal(rt, 0, 0),
+        Scanned::Stops(i) => report::refusal(rt, OUTSIDE, i),
     }
 }
 
-fn lines(text: &[u8]) {
+fn lines(rt: &impl Print, text: &[u8]) -> io::Result<()> {
     let mut at: usize = 0;
     while at < text.len() {
         let end = find(text, at, b'\n');
-        line(&text[at..end]);
+        line(rt, &text[at..end])?;
         at = end + 1;
     }
+    Ok(())
 }
 
-fn all(room: &mut [u8]) {
-    let n = io::read_full(STDIN_FILENO, room);
-    if n <= room.len() {
-        lines(&room[..n]);
-    }
+fn all(rt: &(impl Input + Print + Alloc)) -> io::Result<()> {
+    let mut input = Vec::new(rt.alloc());
+    rt.reader().take(INPUT_MOST).read_to_end(&mut input)?;
+    lines(rt, &input)
 }
 
-fn main() {
-    let mut room = [0u8; 8192];
-    all(&mut room);
+fn main(rt: HostRuntime) -> io::Result<()> {
+    all(&rt)
 }

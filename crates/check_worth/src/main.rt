@@ -5,8 +5,12 @@
 ghost use Rattle.std.specs.Prelude.{◌<◌};
 
 use check_hex::{find, report};
-use libc::STDIN_FILENO;
+use std::io;
+use std::io::Read;
 use whole::NUMBERS;
+
+// The longest input that is read, in bytes.
+const INPUT_MOST: u64 = 32768;
 
 // Bytes of a number; where the numerators begin, behind the steps left and the mask; where the model begins.
 const WORD: usize = 4;
@@ -47,20 +51,20 @@ fn level(input: &[u8], at: usize) -> i32
 }
 
 // A numerator's two words, the low one first.
-fn numerator(x: whole::Numerator) {
-    report::number(x.low, b" ");
+fn numerator(rt: &impl Print, x: whole::Numerator) -> io::Result<()> {
+    report::number(rt, x.low, b" ")?;
     if x.high < 0 {
-        report::text(b"-");
+        report::text(rt, b"-")?;
     }
-    report::number(whole::limits::mag(x.high), b"\n");
+    report::number(rt, whole::limits::mag(x.high), b"\n")
 }
 
 // The number and place, the action, and the numerator.
-fn show(v: value_walk::Value) {
-    report::number(v.number as u64, b" ");
-    report::number(v.place as u64, b" ");
-    report::number(v.action as u64, b" ");
-    numerator(v.numerator);
+fn show(rt: &impl Print, v: value_walk::Value) -> io::Result<()> {
+    report::number(rt, v.number as u64, b" ")?;
+    report::number(rt, v.place as u64, b" ")?;
+    report::number(rt, v.action as u64, b" ")?;
+    numerator(rt, v.numerator)
 }
 
 fn numerators(input: &[u8]) -> [i32; NUMBERS] {
@@ -80,46 +84,44 @@ fn asked(input: &[u8], model: &[u8]) -> value_walk::Value {
     plain_worth::worth(model, word(input, 0), value_walk::Asked { mask, n })
 }
 
-fn work(name: &[u8], input: &[u8]) {
+fn work(rt: &impl Print, name: &[u8], input: &[u8]) -> io::Result<()> {
     if input.len() < MODEL {
-        return;
+        return Ok(());
     }
-    report::label(name);
-    show(asked(input, &input[MODEL..]));
+    report::label(rt, name)?;
+    show(rt, asked(input, &input[MODEL..]))
 }
 
-fn row(name: &[u8], text: &[u8], room: &mut [u8]) {
+fn row(rt: &impl Print, name: &[u8], text: &[u8], room: &mut [u8]) -> io::Result<()> {
     let n = check_hex::bytes_of(text, room);
-    work(name, &room[..n]);
+    work(rt, name, &room[..n])
 }
 
-fn line(text: &[u8]) {
+fn line(rt: &impl Print, text: &[u8]) -> io::Result<()> {
     let k = find(text, 0, b':');
     if k == text.len() {
-        report::line(text);
-        return;
+        return report::line(rt, text);
     }
     let mut room = [0u8; 1024];
-    row(&text[..k], &text[k..], &mut room);
+    row(rt, &text[..k], &text[k..], &mut room)
 }
 
-fn lines(text: &[u8]) {
+fn lines(rt: &impl Print, text: &[u8]) -> io::Result<()> {
     let mut at: usize = 0;
     while at < text.len() {
         let end = find(text, at, b'\n');
-        line(&text[at..end]);
+        line(rt, &text[at..end])?;
         at = end + 1;
     }
+    Ok(())
 }
 
-fn all(room: &mut [u8]) {
-    let n = io::read_full(STDIN_FILENO, room);
-    if n <= room.len() {
-        lines(&room[..n]);
-    }
+fn all(rt: &(impl Input + Print + Alloc)) -> io::Result<()> {
+    let mut input = Vec::new(rt.alloc());
+    rt.reader().take(INPUT_MOST).read_to_end(&mut input)?;
+    lines(rt, &input)
 }
 
-fn main() {
-    let mut room = [0u8; 32768];
-    all(&mut room);
+fn main(rt: HostRuntime) -> io::Result<()> {
+    all(&rt)
 }

@@ -1,27 +1,29 @@
 // The listing program: a horizon byte and a model on standard input, the listing of the plan or the refusal on standard output.
 #![tactic(auto)]
 
-use libc::{STDIN_FILENO, STDOUT_FILENO};
+use std::io;
+use std::io::Read;
 use text_input::MODEL_MOST;
 use text_program::answer;
 
 // A horizon byte, and a model of one byte more than is taken: a longer one is refused by its length.
-const ROOM: usize = 2 + MODEL_MOST;
+const ROOM: u64 = 2 + MODEL_MOST as u64;
 
-fn show(input: &[u8]) {
-    let mut text = io::large_buffer();
+// The bytes that the text has room for.
+const TEXT_BYTES: usize = 65536;
+
+fn show(rt: &impl Print, input: &[u8]) -> io::Result<()> {
+    let mut text = [0u8; TEXT_BYTES];
     let size = answer(input, &mut text);
-    io::write_all(STDOUT_FILENO, &text[..size]);
+    rt.write_all(&text[..size])
 }
 
-fn run(room: &mut [u8]) {
-    let n = io::read_full(STDIN_FILENO, room);
-    if n <= room.len() {
-        show(&room[..n]);
-    }
+fn run(rt: &(impl Input + Print + Alloc)) -> io::Result<()> {
+    let mut input = Vec::new(rt.alloc());
+    rt.reader().take(ROOM).read_to_end(&mut input)?;
+    show(rt, &input)
 }
 
-fn main() {
-    let mut room = [0u8; ROOM];
-    run(&mut room);
+fn main(rt: HostRuntime) -> io::Result<()> {
+    run(&rt)
 }
