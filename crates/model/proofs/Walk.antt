@@ -6,15 +6,12 @@ use Prim.Native.Nat.{ℕ, zero, suc, ◌+◌, ◌-◌, ◌≤◌, ◌<◌}
 use native.Mathlib.Omega.{arith}
 use borrow.Author.Tests.{ne_eqb}
 use lib.ListN.{length, replicate}
-use types.Run.{OneOf, miss}
-use denote.Enum.Declared.{tag_of}
 use Rattle.whole.specs.Cases.{if}
 use Rattle.theory.specs.Widths.{flags_most}
 use Rattle.theory.specs.Form.{Form, new_form}
 use Rattle.theory.specs.Command.{Command, site, push_leaf, push_condition, push_test, push_forbidden, give, name_action, end_model, Read, whole, unknown}
 use Rattle.theory.specs.Command.{short, Placed, byte_at, width, width_in, read_in, read_at, goes_on, readings_from, readings_from_in, readings_in}
 use Rattle.theory.specs.Verdict.{Progress, at_start, rule, first_broken, first_rules, later_rules, rules_in, after, Verdict, refusal, ended, judged_in, verdict_in}
-use Rattle.model_command.specs.contracts.Command.{the_type}
 use Rattle.model_command.specs.declared.Command.{Command as CodeCommand}
 use Rattle.model_command.specs.declared.Command.TheVariants.{Site, Leaf, Condition, Test, Forbidden, Give, Name, End}
 use Rattle.model_command.specs.declared.Read.{Read as CodeRead}
@@ -44,7 +41,7 @@ module _ (form : Form) (B : List ℕ) (at : ℕ) {r : CodeRead} (e : read_of_in 
   unfolding read_of_in
   short_is f = ap (read_of_in form B at) (sym f) ∙ e
 
-pub not_end : (c : CodeCommand) → OneOf (0 ∷ 1 ∷ 2 ∷ 3 ∷ 4 ∷ 5 ∷ 6 ∷ []) (tag_of the_type c) → false ≡ is_end c
+pub not_end : (c : CodeCommand) → (c ≡ End → ⊥) → false ≡ is_end c
 unfolding is_end
 not_end (Site m n a w) k = refl
 not_end Leaf k = refl
@@ -53,7 +50,7 @@ not_end Test k = refl
 not_end Forbidden k = refl
 not_end (Give x a j) k = refl
 not_end (Name a) k = refl
-not_end End k = absurd (miss (0 ∷ 1 ∷ 2 ∷ 3 ∷ 4 ∷ 5 ∷ 6 ∷ []) 7 tt k)
+not_end End k = absurd (k refl)
 
 module _ (form : Form) (B : List ℕ) (at : ℕ) where
   pub at_end_in : (c : CodeCommand) → is_end c ≡ true → command_of_in form B at c ≡ end_model
