@@ -1,15 +1,13 @@
 -- A walk over the commands of a model to the one that names an action, and its bytes without the spaces at their end.
 use mathlib.Core.Path.{◌≡◌, refl, sym, ap, ◌∙◌}
 use mathlib.Core.Bool.{Bool, true, false}
-use mathlib.Core.List.{List, [], ◌∷◌}
+use mathlib.Core.List.{List, []}
 use Prim.Native.Nat.{ℕ, zero, suc, ◌+◌, ◌-◌, ◌≤◌, ◌<◌}
 use native.Mathlib.Omega.{arith}
 use borrow.Author.Tests.{eq-eqb, ne_eqb}
 use lib.Dec.{eqb}
 use lib.ListN.{length, get_or, take, drop}
 use lib.Seq.{get_or-drop}
-use types.Run.{OneOf, miss}
-use denote.Enum.Declared.{tag_of}
 use Rattle.whole.specs.Cases.{if}
 use Rattle.theory.specs.Command.{Command, site, push_leaf, push_condition, push_test, push_forbidden, give, name_action, end_model, Read, whole, unknown, short, read_at, byte_at, width, goes_on, readings_from, readings, readings_in}
 use Rattle.theory.specs.Widths.{name_bytes, steps_most}
@@ -19,8 +17,6 @@ use Rattle.theory.specs.Verdict.{Verdict, refusal}
 use Rattle.theory.specs.Load.{site_at}
 use Rattle.theory.specs.Solve.{early}
 use Rattle.theory.specs.Name.{names_action, Part, no_part, trimmed, named_part, name_refusal, name_part, name}
-use Rattle.model_command.specs.contracts.Command.{the_type as command-type}
-use Rattle.model_command.specs.contracts.Read.{the_type as read-type}
 use Rattle.model_command.specs.declared.Command.{Command as CodeCommand}
 use Rattle.model_command.specs.declared.Command.TheVariants.{Site, Leaf, Condition, Test, Forbidden, Give, Name, End}
 use Rattle.model_command.specs.declared.Read.{Read as CodeRead}
@@ -53,7 +49,7 @@ module _ (l : List ℕ) (at : ℕ) where
 
 -- ---- the command that names an action
 
-pub names_other : (a : ℕ) (B : List ℕ) (at : ℕ) (c : CodeCommand) → OneOf (0 ∷ 1 ∷ 2 ∷ 3 ∷ 4 ∷ 5 ∷ 7 ∷ []) (tag_of command-type c) → false ≡ names_action a (whole (command_of B at c))
+pub names_other : (a : ℕ) (B : List ℕ) (at : ℕ) (c : CodeCommand) → ((x : ℕ) → c ≡ Name x → ⊥) → false ≡ names_action a (whole (command_of B at c))
 unfolding names_action command_of_in
 names_other a B at (Site m n b w) k = refl
 names_other a B at Leaf k = refl
@@ -61,7 +57,7 @@ names_other a B at (Condition i) k = refl
 names_other a B at Test k = refl
 names_other a B at Forbidden k = refl
 names_other a B at (Give x b j) k = refl
-names_other a B at (Name b) k = absurd (miss (0 ∷ 1 ∷ 2 ∷ 3 ∷ 4 ∷ 5 ∷ 7 ∷ []) 6 tt k)
+names_other a B at (Name b) k = absurd (k b refl)
 names_other a B at End k = refl
 
 -- how many bytes a command that names an action has
@@ -99,9 +95,9 @@ module _ {B : List ℕ} {a at : ℕ} (w : Seek B a at) where
   first = opened (named_part B a) (named_part B a (readings B)) B at w.fuel w.enough w.finds
 
   -- no whole command
-  pub seek_stops : (r : CodeRead) → OneOf (1 ∷ 2 ∷ []) (tag_of read-type r) → read_of B at r ≡ read_at B at → no_part ≡ named_part B a (readings B)
+  pub seek_stops : (r : CodeRead) → ((d : CodeCommand) → r ≡ Whole d → ⊥) → read_of B at r ≡ read_at B at → no_part ≡ named_part B a (readings B)
   unfolding read_of_in named_part names_action goes_on
-  seek_stops (Whole c) k e = absurd (miss (1 ∷ 2 ∷ []) 0 tt k)
+  seek_stops (Whole c) k e = absurd (k c refl)
   seek_stops Unknown k e = (first unknown e).2
   seek_stops Short k e = (first short e).2
 

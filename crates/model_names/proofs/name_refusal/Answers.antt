@@ -1,0 +1,29 @@
+-- `model_names::name_refusal` meets its contract.
+use mathlib.Core.Path.{sym, ap, ◌∙◌}
+use mathlib.Core.Bool.{true, false}
+use borrow.Author.Tests.{le-leb, lt-leb}
+use Rattle.theory.specs.Verdict.{Site}
+use Rattle.theory.specs.Valid.{among}
+use Rattle.model_names.proofs.NameWalk.{early_refused, early_passed}
+use Rattle.model_names.proofs.name_refusal.Goals as goal
+
+pub returns-then-v-ne0 : goal.returns-then-v-ne0
+returns-then-v-ne0 c = early_refused c.args.model.now c.args.action c.early-v.result c.early-v.ensures c.if-v-ne0.true
+
+pub returns-then-action-lt1 : goal.returns-then-action-lt1
+unfolding among
+returns-then-action-lt1 c = early_passed c.args.model.now c.args.action c.early-v.result c.site-site.result.actions false c.early-v.ensures
+    c.if-v-ne0.false (sym (ap (λ (S : Site). S.actions) c.site-site.ensures))
+    (rw (lt-leb 1 _ c.if-action-lt1.true))
+
+pub returns-then-action_word-action : goal.returns-then-action_word-action
+unfolding among
+returns-then-action_word-action c = early_passed c.args.model.now c.args.action c.early-v.result c.action_word.result false c.early-v.ensures
+    c.if-v-ne0.false (sym (ap (λ (S : Site). S.actions) c.site-site.ensures) ∙ sym c.action_word.ensures)
+    (rw (le-leb 1 _ c.if-action-lt1.false, lt-leb _ _ c.if-action_word-action.true))
+
+pub returns : goal.returns
+unfolding among
+returns c = early_passed c.args.model.now c.args.action c.early-v.result c.action_word.result true c.early-v.ensures
+    c.if-v-ne0.false (sym (ap (λ (S : Site). S.actions) c.site-site.ensures) ∙ sym c.action_word.ensures)
+    (rw (le-leb 1 _ c.if-action-lt1.false, le-leb _ _ c.if-action_word-action.false))
