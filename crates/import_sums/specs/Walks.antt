@@ -2,7 +2,7 @@
 use Rattle.std.specs.Prelude.{◌≡◌, Bool, true, List, [], ◌∷◌, ℕ, suc, ◌≤◌, length, drop}
 use Rattle.whole.specs.Cases.{if}
 use Rattle.import_frames.specs.declared.Frame.{Frame}
-use Rattle.import_frames.specs.Frames.{SoundFrame, idle, over, step, stops}
+use Rattle.import_frames.specs.Frames.{SoundFrame, idle, stops}
 use Rattle.import_sums.specs.Run.{run}
 use Rattle.import_sums.specs.declared.Walked.{Walked}
 
