@@ -1,21 +1,17 @@
 -- One turn of the pass, with fuel enough for the rest.
 use mathlib.Core.Path.{◌≡◌, refl, sym, ap, ◌∙◌, subst}
 use mathlib.Core.Bool.{Bool, true, false}
-use mathlib.Core.List.{List, [], ◌∷◌}
+use mathlib.Core.List.{List}
 use Prim.Native.Nat.{ℕ, suc, ◌+◌, ◌-◌, ◌≤◌, ◌<◌}
 use native.Mathlib.Omega.{arith}
 use lib.Dec.{T}
 use lib.ListN.{length, take, drop, length-drop}
-use types.Run.{OneOf, miss}
-use denote.Enum.Declared.{tag_of}
 use Rattle.whole.specs.Cases.{if, same_bool, is_true, from_true}
 use Rattle.theory.specs.Command.{Command, name_action, end_model, Read, whole, unknown, short, read_at, goes_on, readings_from, readings, readings_in}
 use Rattle.theory.specs.Widths.{name_bytes}
 use Rattle.theory.specs.Form.{new_form, behind_action}
 use Rattle.theory.specs.Name.{trimmed}
 use Rattle.theory.specs.laws.Name.{name_bytes_at}
-use Rattle.model_command.specs.contracts.Command.{the_type as command-type}
-use Rattle.model_command.specs.contracts.Read.{the_type as read-type}
 use Rattle.model_command.specs.declared.Command.{Command as CodeCommand}
 use Rattle.model_command.specs.declared.Command.TheVariants.{Site, Leaf, Condition, Test, Forbidden, Give, Name, End}
 use Rattle.model_command.specs.declared.Read.{Read as CodeRead}
@@ -63,7 +59,7 @@ module _ (B : List ℕ) (at : ℕ) {c : CodeCommand} (a : ℕ) (e : c ≡ Name a
     unfolding with_reading
     passes t = sym (ap (λ (d : Command). with_reading x s (whole d)) named ∙ ap (λ (b : Bool). if b (joined s a) s) (sym f ∙ t))
 
-pub others : (B : List ℕ) (at : ℕ) (x : List ℕ) (s : Bearers) (c : CodeCommand) → OneOf (0 ∷ 1 ∷ 2 ∷ 3 ∷ 4 ∷ 5 ∷ 7 ∷ []) (tag_of command-type c)
+pub others : (B : List ℕ) (at : ℕ) (x : List ℕ) (s : Bearers) (c : CodeCommand) → ((x : ℕ) → c ≡ Name x → ⊥)
     → s ≡ with_reading x s (whole (command_of B at c))
 unfolding with_reading command_of_in
 others B at x s (Site m n b w) k = refl
@@ -72,7 +68,7 @@ others B at x s (Condition i) k = refl
 others B at x s Test k = refl
 others B at x s Forbidden k = refl
 others B at x s (Give g b j) k = refl
-others B at x s (Name b) k = absurd (miss (0 ∷ 1 ∷ 2 ∷ 3 ∷ 4 ∷ 5 ∷ 7 ∷ []) 6 tt k)
+others B at x s (Name b) k = absurd (k b refl)
 others B at x s End k = refl
 
 -- ---- one turn
@@ -91,9 +87,9 @@ module _ {B x : List ℕ} {at : ℕ} {s : Bearers} (w : Pass B x at s) where
   first = opened (tally x s) (tally x Nobody (readings B)) B at w.fuel w.enough w.tallies
 
   -- no whole command
-  pub pass_stops : (r : CodeRead) → OneOf (1 ∷ 2 ∷ []) (tag_of read-type r) → read_of B at r ≡ read_at B at → s ≡ tally x Nobody (readings B)
+  pub pass_stops : (r : CodeRead) → ((d : CodeCommand) → r ≡ Whole d → ⊥) → read_of B at r ≡ read_at B at → s ≡ tally x Nobody (readings B)
   unfolding read_of_in tally with_reading goes_on
-  pass_stops (Whole c) k e = absurd (miss (1 ∷ 2 ∷ []) 0 tt k)
+  pass_stops (Whole c) k e = absurd (k c refl)
   pass_stops Unknown k e = (first unknown e).2
   pass_stops Short k e = (first short e).2
 
