@@ -1,13 +1,11 @@
 -- Laws of the judging of stages and rows.
 use mathlib.Core.Path.{◌≡◌, refl, sym, ap, ◌∙◌}
 use mathlib.Core.Bool.{Bool, true, false, not}
-use mathlib.Core.List.{List, [], ◌∷◌}
+use mathlib.Core.List.{List}
 use Prim.Native.Nat.{ℕ, zero, suc, ◌+◌, ◌-◌, ◌*◌, ◌/◌, ◌≤◌, ◌<◌, max}
 use native.Mathlib.Numerals.{add-one}
 use native.Mathlib.Omega.{arith}
 use borrow.Author.Tests.{eq-eqb, ne_eqb, lt-leb, leb-true, not-true, not-false}
-use types.Run.{OneOf, miss}
-use denote.Enum.Declared.{tag_of}
 use lib.Dec.{eqb, leb}
 use lib.IntN.{ℤ, nat_abs}
 use lib.ListN.{length, get_or}
@@ -16,7 +14,6 @@ use Rattle.theory.specs.Widths.{node_words, steps_most}
 use Rattle.theory.specs.Value.{node_word, good_row}
 use Rattle.theory.specs.Verdict.{Site}
 use Rattle.theory.specs.Listing.{greatest_root}
-use Rattle.table_rows.specs.contracts.Kind.{the_type}
 use Rattle.table_rows.specs.declared.Kind.{Kind}
 use Rattle.table_rows.specs.declared.Kind.TheVariants.{Leaf, Condition, Test, None, Bad}
 use Rattle.table_rows.specs.Row.{kind_of, row_kind}
@@ -86,12 +83,12 @@ module _ (n A : ℕ) (W : List ℤ) (r : ℕ) (h : 1 ≤ r) where
   pub row_bad : {k : Kind} → k ≡ row_kind n A W r → k ≡ Bad → false ≡ good_row n A W r
   row_bad e b = sym (not-true (good_row n A W r) (sym kind_bad ∙ ap is_bad (sym e ∙ b)))
 
-  pub row_good : (k : Kind) → k ≡ row_kind n A W r → OneOf (0 ∷ 1 ∷ 2 ∷ 3 ∷ []) (tag_of the_type k) → true ≡ good_row n A W r
+  pub row_good : (k : Kind) → k ≡ row_kind n A W r → (k ≡ Bad → ⊥) → true ≡ good_row n A W r
   row_good Leaf e t = sym (not-false (good_row n A W r) (sym kind_bad ∙ ap is_bad (sym e)))
   row_good Condition e t = sym (not-false (good_row n A W r) (sym kind_bad ∙ ap is_bad (sym e)))
   row_good Test e t = sym (not-false (good_row n A W r) (sym kind_bad ∙ ap is_bad (sym e)))
   row_good None e t = sym (not-false (good_row n A W r) (sym kind_bad ∙ ap is_bad (sym e)))
-  row_good Bad e t = absurd (miss (0 ∷ 1 ∷ 2 ∷ 3 ∷ []) 4 tt t)
+  row_good Bad e t = absurd (t refl)
 
 -- ---- 15, then 14
 
