@@ -11,7 +11,7 @@ use Rattle.whole.specs.Cases.{if}
 use Rattle.import_grammar.specs.Grammar.{Spaces, Sum, deepest, spaces_bytes, sum_bytes}
 use Rattle.import_numbers.specs.Numbers.{linear_of, nine, sum_numbers, all_within}
 use Rattle.import_frames.specs.declared.Frame.{Frame}
-use Rattle.import_frames.specs.Frames.{zero9, of_sum, idle, over, closed, total, stops}
+use Rattle.import_frames.specs.Frames.{zero9, of_sum, idle, closed, total, stops}
 use Rattle.import_frames.proofs.Laws.{yes, no}
 use Rattle.import_sums.specs.Run.{SumOut, stopped, ended, final, run}
 use Rattle.import_sums.specs.declared.Walked.{Walked}
