@@ -7,19 +7,16 @@ use native.Mathlib.Omega.{arith}
 use borrow.Author.Tests.{eqb-true, le-ltb}
 use lib.Dec.{eqb, ltb}
 use lib.ListN.{length, get_or, replicate}
-use types.Run.{OneOf, miss}
-use denote.Enum.Declared.{tag_of}
 use Rattle.whole.specs.Cases.{if, by_eq, by_test, from_true}
 use Rattle.theory.specs.Widths.{stack_most}
 use Rattle.theory.specs.Command.{Command, site, push_leaf, push_condition, push_test, push_forbidden, give, name_action, end_model, whole, Placed, byte_at, width, command_at, read_at, goes_on, Slot, readings, readings_in, readings_from_in}
 use Rattle.theory.specs.Verdict.{same_slot, verdict, judged, at_start, rule, first_broken, first_rules, judged_in, rules_in, verdict_in}
 use Rattle.theory.specs.laws.AcceptedModel.{by_reading, behind}
-use Rattle.model_command.specs.contracts.Command.{the_type as command-type}
-use Rattle.model_command.specs.contracts.Read.{the_type as read-type}
 use Rattle.model_command.specs.declared.Command.{Command as CodeCommand}
 use Rattle.model_command.specs.declared.Command.TheVariants.{Site, Leaf, Condition, Test, Forbidden, Give, Name, End}
 use Rattle.model_stack.specs.Held.{pushed}
 use Rattle.model_command.specs.declared.Read.{Read as CodeRead}
+use Rattle.model_command.specs.declared.Read.TheVariants.{Whole}
 use Rattle.model_command.specs.CursorReadings.{command_of, read_of, next_at, command_of_in}
 use Rattle.model.specs.Answers.{is_end}
 use Rattle.model.proofs.Walk.{forward}
@@ -92,14 +89,14 @@ by_given (give h) b t P none gives = gives h (λ g. refl) refl
 by_given (name_action a b') b t P none gives = none (λ g. refl) refl
 by_given end_model b t P none gives = none (λ g. refl) refl
 
-pub noted_other : (B : List ℕ) (i : ℕ) (c : CodeCommand) (b : ℕ) (t : List ℕ) → OneOf (0 ∷ 1 ∷ 2 ∷ 3 ∷ 4 ∷ 6 ∷ 7 ∷ []) (tag_of command-type c) → t ≡ noted (command_of B i c) b t
+pub noted_other : (B : List ℕ) (i : ℕ) (c : CodeCommand) (b : ℕ) (t : List ℕ) → ((x y z : ℕ) → c ≡ Give x y z → ⊥) → t ≡ noted (command_of B i c) b t
 unfolding noted command_of_in
 noted_other B i (Site m n a w) b t k = refl
 noted_other B i Leaf b t k = refl
 noted_other B i (Condition j) b t k = refl
 noted_other B i Test b t k = refl
 noted_other B i Forbidden b t k = refl
-noted_other B i (Give x a j) b t k = absurd (miss (0 ∷ 1 ∷ 2 ∷ 3 ∷ 4 ∷ 6 ∷ 7 ∷ []) 5 tt k)
+noted_other B i (Give x a j) b t k = absurd (k x a j refl)
 noted_other B i (Name a) b t k = refl
 noted_other B i End b t k = refl
 
@@ -149,7 +146,7 @@ module _ {B : List ℕ} {N i b n : ℕ} {t : List ℕ} (f : Finds B N i b n t) w
   finds_all : ((x : Point) (g : Slot) (l : List ℕ) → Seek B x g i l → 0 ≡ pass x g (readings B) []) → Parts B t
   finds_all stops = record { begins = f.begins; some = omega (arith, f.long, f.least); absent = λ g x u z. let o = f.ahead g (omega (arith, u, f.long)) z x in stops x g o.stack o.here }
 
-  pub finds_stop : (r : CodeRead) → OneOf (1 ∷ 2 ∷ []) (tag_of read-type r) → read_of B i r ≡ read_at B i → Parts B t
+  pub finds_stop : (r : CodeRead) → ((d : CodeCommand) → r ≡ Whole d → ⊥) → read_of B i r ≡ read_at B i → Parts B t
   finds_stop r k e = finds_all (λ x g l w. seek_stops w r k e)
 
   pub finds_end : (c : CodeCommand) → whole (command_of B i c) ≡ read_at B i → is_end c ≡ true → Parts B t

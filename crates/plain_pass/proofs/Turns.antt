@@ -9,8 +9,6 @@ use lib.Dec.{T, eqb, leb, ltb}
 use lib.IntN.{ℤ, pos, ◌+ℤ◌, ◌*ℤ◌}
 use lib.ListN.{length, get_or, take}
 use lib.Signed.{le_z}
-use types.Run.{OneOf, miss}
-use denote.Enum.Declared.{tag_of}
 use Rattle.whole.specs.Cases.{if, from_true, clash}
 use Rattle.whole.specs.Int.{up}
 use Rattle.whole.specs.Linears.{numbers, dot_list}
@@ -27,8 +25,6 @@ use Rattle.theory.specs.Command.{readings_in, command_at, command_in, read_in, w
 use Rattle.theory.specs.Verdict.{same_slot}
 use Rattle.theory.specs.Load.{find_slot, site_at}
 use Rattle.theory.specs.laws.AcceptedModel.{loaded_entries}
-use Rattle.model_command.specs.contracts.Command.{the_type as command-type}
-use Rattle.model_command.specs.contracts.Read.{the_type as read-type}
 use Rattle.model_command.specs.declared.Command.{Command as CodeCommand}
 use Rattle.model_command.specs.declared.Command.TheVariants.{Site, Leaf as LeafBy, Condition, Test, Forbidden, Give, Name, End}
 use Rattle.model_command.specs.declared.Read.{Read as CodeRead}
@@ -82,14 +78,14 @@ levels_apart a b m i n end_model l = refl
 
 -- ---- a command that gives nothing
 
-pub takes_other : (g : Slot) (B : List ℕ) (i : ℕ) (c : CodeCommand) → OneOf (0 ∷ 1 ∷ 2 ∷ 3 ∷ 4 ∷ 6 ∷ 7 ∷ []) (tag_of command-type c) → false ≡ takes g (command_of B i c)
+pub takes_other : (g : Slot) (B : List ℕ) (i : ℕ) (c : CodeCommand) → ((x y z : ℕ) → c ≡ Give x y z → ⊥) → false ≡ takes g (command_of B i c)
 unfolding takes command_of_in
 takes_other g B i (Site m n a w) k = refl
 takes_other g B i LeafBy k = refl
 takes_other g B i (Condition j) k = refl
 takes_other g B i Test k = refl
 takes_other g B i Forbidden k = refl
-takes_other g B i (Give x a j) k = absurd (miss (0 ∷ 1 ∷ 2 ∷ 3 ∷ 4 ∷ 6 ∷ 7 ∷ []) 5 tt k)
+takes_other g B i (Give x a j) k = absurd (k x a j refl)
 takes_other g B i (Name a) k = refl
 takes_other g B i End k = refl
 
@@ -349,9 +345,9 @@ module _ {B : List ℕ} {x : Point} {g : Slot} {i : ℕ} {l : List ℕ} (w : See
   first = opened (λ ys. pass x g ys l) (pass x g (readings B) []) B i w.fuel w.enough w.comes
 
   -- no whole command
-  pub seek_stops : (r : CodeRead) → OneOf (1 ∷ 2 ∷ []) (tag_of read-type r) → read_of B i r ≡ read_at B i → 0 ≡ pass x g (readings B) []
+  pub seek_stops : (r : CodeRead) → ((d : CodeCommand) → r ≡ Whole d → ⊥) → read_of B i r ≡ read_at B i → 0 ≡ pass x g (readings B) []
   unfolding read_of_in pass goes_on
-  seek_stops (Whole c) k e = absurd (miss (1 ∷ 2 ∷ []) 0 tt k)
+  seek_stops (Whole c) k e = absurd (k c refl)
   seek_stops Unknown k e = (first unknown e).2
   seek_stops Short k e = (first short e).2
 
