@@ -149,7 +149,7 @@ class Words:
 
 
 def brought(text):
-    return {n.strip() for _, names in NAMES.findall(text) for n in names.split(",")} - {""}
+    return {n.split(" as ")[0].strip() for _, names in NAMES.findall(text) for n in names.split(",")} - {""}
 
 
 def change(before, after, spell=str):
