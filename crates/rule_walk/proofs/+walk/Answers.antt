@@ -4,7 +4,6 @@ use Rattle.rule_node.proofs.CacheEntries.{room_in, answered, kept_run, keepable}
 use Rattle.rule_node.proofs.RuleSteps.{at_in}
 use Rattle.rule_node.proofs.Meanings.{lasts_walk}
 use Rattle.rule_walk.proofs.Walks.{walk_key, walk_leaf, walk_ends, walk_on, high_ended, low_asks, low_ended, root_asks, root_made}
-use Prim.Native.Nat.{ℕ, ◌<◌, ◌+◌}
 use Rattle.rule_walk.proofs.+walk.Goals as goal
 
 pub below_at-s-requires : goal.below_at-s-requires

@@ -2,7 +2,6 @@
 use mathlib.Core.Path.{refl}
 use mathlib.Core.Logic.{inr}
 use Rattle.rule_walk.proofs.Walks.{decided_constant, decided_test}
-use borrow.Author.Rules.{rules}
 use Rattle.rule_walk.proofs.decide_at.Goals as goal
 
 pub returns-then-is_constant : goal.returns-then-is_constant
