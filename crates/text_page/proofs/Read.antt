@@ -1,7 +1,7 @@
 -- What is read at a stage: as the value call reads it, refused with 13, 15 or 14 or with none.
 use mathlib.Core.Path.{◌≡◌, refl, sym, ap, ◌∙◌}
 use mathlib.Core.Bool.{Bool, true, false, not, ◌&&◌}
-use mathlib.Core.List.{List, [], ◌∷◌, map}
+use mathlib.Core.List.{List, [], ◌∷◌}
 use Prim.Native.Nat.{ℕ, zero, suc, ◌+◌, ◌-◌, ◌*◌, ◌^◌, ◌≤◌, ◌<◌}
 use native.Mathlib.Omega.{arith}
 use borrow.Author.Tests.{eq-eqb, ne_eqb}
@@ -45,7 +45,7 @@ abs_narrow (negsuc n) h = omega arith
 
 -- what owning an array of 32-bit numbers tells of them
 abbrev Owned : List ℤ → List Val → Type 0
-Owned l us = shadow (each ℤ (SInt w32).own_val (map (λ (z : ℤ). z) l) us)
+Owned l us = shadow (each ℤ (SInt w32).own_val l us)
 
 each_narrow : (l : List ℤ) (us : List Val) → Owned l us → (i : ℕ) → nat_abs (get_or l i (pos 0)) ≤ 2147483648
 each_narrow [] us o i = omega arith
