@@ -1,10 +1,9 @@
 -- What stands at a place, from a reading of it.
 use mathlib.Core.Path.{◌≡◌, refl, ◌∙◌}
-use mathlib.Core.Bool.{false, not}
+use mathlib.Core.Bool.{false}
 use mathlib.Core.List.{List, ◌∷◌}
-use Prim.Native.Nat.{ℕ, ◌+◌, ◌-◌}
+use Prim.Native.Nat.{ℕ}
 use lib.Dec.{eqb}
-use Rattle.whole.specs.Cases.{if}
 use Rattle.import_grammar.specs.Grammar.{Spaces, Digit, d0, d1, d2, d3, d4, d5, d6, d7, d8, d9, Digits, one, also, ConstFactor, number, kbracket, ConstTerm}
 use Rattle.import_grammar.specs.Grammar.{kfactor, ktimes, ConstSum, kterm, kneg, kplus, VaryFactor, level, vbracket, VaryTerm, vfactor, vscaled, vby, VarySum}
 use Rattle.import_grammar.specs.Grammar.{vterm, vneg, plus_kv, plus_vk, plus_vv, Sum, constant, varying, digit_byte, index_byte, sign_byte, spaces_bytes}
