@@ -14,7 +14,7 @@ use Rattle.whole.specs.Cases.{if, by_test, both, clash}
 use Rattle.whole.specs.Linears.{eq_ℤ}
 use Rattle.whole.specs.LinearsLaws.{eq_ℤ_true, eq_ℤ_refl}
 use Rattle.whole.specs.declared.Numerator.{Numerator}
-use Rattle.whole.specs.Numerator.{number, words}
+use Rattle.whole.specs.Numerator.{words}
 use Rattle.whole.proofs.Signed.{back32}
 use Rattle.whole_wide.specs.declared.Fitted.{Fitted}
 use Rattle.whole_wide.specs.declared.Fitted.TheVariants.{Is, Outside}

@@ -1,0 +1,14 @@
+-- `value_total::same_scale` meets its contract.
+use Rattle.model_progress.specs.GivenFlags.{site_as}
+use Rattle.value_walk.specs.State.{asked}
+use Rattle.value_total.proofs.Joins.{other_weights, by_dens}
+use borrow.Author.Rules.{rules}
+use Rattle.value_total.proofs.same_scale.Goals as goal
+
+pub returns-then-s-r : goal.returns-then-s-r
+returns-then-s-r c = let a = c.args in
+    other_weights (site_as a.s) (site_as a.r) (asked a.q) (asked a.p) c.if-s-r.true
+
+pub returns : goal.returns
+returns c = let a = c.args in
+    by_dens (site_as a.s) (site_as a.r) (asked a.q) (asked a.p) c.if-s-r.false (search rules) (search rules)
