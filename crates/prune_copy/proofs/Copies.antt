@@ -16,7 +16,7 @@ use Rattle.rule_node.specs.Nodes.{linear_held, test_held}
 use Rattle.prune_paths.specs.Prune.{high_at, low_at, diagram_at, cut, GoodRows}
 use Rattle.prune_rows.specs.Rows.{RowFits, branch_at}
 use Rattle.prune_rows.proofs.Rows.{row_at}
-use Rattle.prune_copy.specs.Copy.{turned, below}
+use Rattle.prune_copy.specs.Copy.{turned}
 use Rattle.prune_copy.proofs.Paths.{OnPath}
 
 -- ---- a node turned
