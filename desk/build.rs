@@ -1,4 +1,4 @@
-//! Links libplanner.a from the folder PLANNER_LIB (target/staticlib if it is not set), and takes from the C header its
+//! Links libplanner.a from the folder PLANNER_LIB (crates/planner/out if it is not set), and takes from the C header its
 //! numbers and which of the later functions it has.
 
 use std::{env, fs, path::Path};
@@ -51,7 +51,7 @@ fn main() {
     let numbers = NUMBERS.map(|name| format!("pub const {name}: usize = {};\n", number(&header, name)));
     fs::write(Path::new(&env::var("OUT_DIR").unwrap()).join("header.rs"), numbers.concat()).unwrap();
     println!("cargo::rerun-if-env-changed=PLANNER_LIB");
-    let folder = env::var("PLANNER_LIB").unwrap_or_else(|_| root.join("target/staticlib").display().to_string());
+    let folder = env::var("PLANNER_LIB").unwrap_or_else(|_| root.join("crates/planner/out").display().to_string());
     println!("cargo::rerun-if-changed={folder}/libplanner.a");
     println!("cargo::rustc-link-search=native={folder}");
     println!("cargo::rustc-link-lib=static=planner");

@@ -1,7 +1,7 @@
-//! Links libplanner.a, which `rt staticlib planner` writes to target/staticlib.
+//! Links libplanner.a, which `rt lib` in crates/planner writes to out/ there.
 
 fn main() {
-    let folder = format!("{}/../../target/staticlib", env!("CARGO_MANIFEST_DIR"));
+    let folder = format!("{}/../../crates/planner/out", env!("CARGO_MANIFEST_DIR"));
     println!("cargo::rerun-if-changed={folder}/libplanner.a");
     println!("cargo::rustc-link-search=native={folder}");
     println!("cargo::rustc-link-lib=static=planner");
