@@ -1,12 +1,10 @@
 -- The test that a command gives, as a node's words.
 use mathlib.Core.Path.{◌≡◌, refl, sym, ap, ◌∙◌, subst}
-use mathlib.Core.List.{List, [], ◌∷◌}
+use mathlib.Core.List.{List}
 use Prim.Native.Nat.{ℕ, ◌+◌, ◌-◌, ◌≤◌, ◌<◌}
 use native.Mathlib.Omega.{arith}
 use lib.Dec.{leb, leb→le, nleb→lt}
 use lib.IntN.{ℤ}
-use types.Run.{OneOf, miss}
-use denote.Enum.Declared.{tag_of}
 use Rattle.whole.specs.Cases.{if, by_test}
 use Rattle.whole.specs.Linears.{Smalls, divisor_list}
 use Rattle.whole.specs.LinearsLaws.{quot_smalls}
@@ -19,8 +17,6 @@ use Rattle.theory.specs.Load.{condition_test}
 use Rattle.theory.specs.Form.{new_form}
 use lib.ListN.{length}
 use Rattle.model_command.proofs.Forward.{has_linear, linear_room}
-use Rattle.model_command.specs.contracts.Command.{the_type as command-type}
-use Rattle.model_command.specs.contracts.Read.{the_type as read-type}
 use Rattle.model_command.specs.declared.Command.{Command as CodeCommand}
 use Rattle.model_command.specs.declared.Command.TheVariants.{Site, Leaf, Condition, Test as TestBy, Forbidden, Give, Name, End}
 use Rattle.model_command.specs.declared.Read.{Read as CodeRead}
@@ -62,22 +58,22 @@ linear_stood p {x} {r} e f s = subst (Stood (test_of (linear_of p))) (sym (f ∙
 
 -- ---- by what the code reads
 
-not_whole : (B : List ℕ) (at : ℕ) (q : CodeRead) → OneOf (1 ∷ 2 ∷ []) (tag_of read-type q) → test_read (read_of B at q) ≡ condition_test 1
+not_whole : (B : List ℕ) (at : ℕ) (q : CodeRead) → ((c : CodeCommand) → q ≡ Whole c → ⊥) → test_read (read_of B at q) ≡ condition_test 1
 unfolding test_read read_of_in
-not_whole B at (Whole c) k = absurd (miss (1 ∷ 2 ∷ []) 0 tt k)
+not_whole B at (Whole c) k = absurd (k c refl)
 not_whole B at Unknown k = refl
 not_whole B at Short k = refl
 
-other_test : (B : List ℕ) (at : ℕ) (d : CodeCommand) → OneOf (0 ∷ 1 ∷ 4 ∷ 5 ∷ 6 ∷ 7 ∷ []) (tag_of command-type d) → test_read (whole (command_of B at d)) ≡ condition_test 1
+other_test : (B : List ℕ) (at : ℕ) (d : CodeCommand) → ((i : ℕ) → d ≡ Condition i → ⊥) → (d ≡ TestBy → ⊥) → test_read (whole (command_of B at d)) ≡ condition_test 1
 unfolding test_read test_in command_of_in
-other_test B at (Site m n a w) k = refl
-other_test B at Leaf k = refl
-other_test B at (Condition i) k = absurd (miss (0 ∷ 1 ∷ 4 ∷ 5 ∷ 6 ∷ 7 ∷ []) 2 tt k)
-other_test B at TestBy k = absurd (miss (0 ∷ 1 ∷ 4 ∷ 5 ∷ 6 ∷ 7 ∷ []) 3 tt k)
-other_test B at Forbidden k = refl
-other_test B at (Give x a j) k = refl
-other_test B at (Name a) k = refl
-other_test B at End k = refl
+other_test B at (Site m n a w) k l = refl
+other_test B at Leaf k l = refl
+other_test B at (Condition i) k l = absurd (k i refl)
+other_test B at TestBy k l = absurd (l refl)
+other_test B at Forbidden k l = refl
+other_test B at (Give x a j) k l = refl
+other_test B at (Name a) k l = refl
+other_test B at End k l = refl
 
 module _ (B : List ℕ) (at : ℕ) (r : CodeRead) (e : read_of B at r ≡ read_at B at) where
   pub whole_is : {c : CodeCommand} → r ≡ Whole c → whole (command_of B at c) ≡ read_at B at
@@ -85,13 +81,13 @@ module _ (B : List ℕ) (at : ℕ) (r : CodeRead) (e : read_of B at r ≡ read_a
   whole_is f = ap (read_of B at) (sym f) ∙ e
 
   -- nothing whole is there
-  pub none_stood : OneOf (1 ∷ 2 ∷ []) (tag_of read-type r) → {x : Node} → Stood (condition_test 1) x → Stood (test_at B at) x
+  pub none_stood : ((c : CodeCommand) → r ≡ Whole c → ⊥) → {x : Node} → Stood (condition_test 1) x → Stood (test_at B at) x
   none_stood k {x} s = subst (λ (t : Test). Stood t x) (sym (not_whole B at r k) ∙ ap test_read e) s
 
   module _ {c : CodeCommand} (f : r ≡ Whole c) where
     -- a command of no test
-    pub other_stood : OneOf (0 ∷ 1 ∷ 4 ∷ 5 ∷ 6 ∷ 7 ∷ []) (tag_of command-type c) → {x : Node} → Stood (condition_test 1) x → Stood (test_at B at) x
-    other_stood k {x} s = subst (λ (t : Test). Stood t x) (sym (other_test B at c k) ∙ ap test_read (whole_is f)) s
+    pub other_stood : ((i : ℕ) → c ≡ Condition i → ⊥) → (c ≡ TestBy → ⊥) → {x : Node} → Stood (condition_test 1) x → Stood (test_at B at) x
+    other_stood k l {x} s = subst (λ (t : Test). Stood t x) (sym (other_test B at c k l) ∙ ap test_read (whole_is f)) s
 
     -- a condition
     condition_is : {k : ℕ} → c ≡ Condition k → whole (push_condition k) ≡ read_at B at
