@@ -8,8 +8,6 @@ use native.Mathlib.Nat.{lt_of_lt_of_le}
 use borrow.Author.Tests.{lt-ltb}
 use lib.IntN.{ℤ}
 use lib.ListN.{length, get_or, drop}
-use types.Run.{OneOf, miss}
-use denote.Enum.Declared.{tag_of}
 use Rattle.whole.specs.Cases.{if}
 use Rattle.table.proofs.Leaf.{leaf_as, some_as, leaf_not, some_not}
 use Rattle.table.specs.declared.Node.{Node}
@@ -24,7 +22,6 @@ use Rattle.theory.specs.Command.{Command, site, push_leaf, push_condition, push_
 use Rattle.theory.specs.Load.{Entry, Loaded as Loading, condition_test, load_choice, load_choice_with, load_entry, load_one, load_one_with}
 use Rattle.theory.specs.laws.Comps.{after, run_bind}
 use Rattle.model_command.proofs.Forward.{has_linear, linear_room}
-use Rattle.model_command.specs.contracts.Command.{the_type as command-type}
 use Rattle.model_command.specs.declared.Command.{Command as CodeCommand}
 use Rattle.model_command.specs.declared.Command.TheVariants.{Site, Leaf, Condition, Test as TestBy, Forbidden, Give, Name, End}
 use Rattle.model_stack.specs.Held.{held, pushed}
@@ -295,16 +292,16 @@ module _ {B : List ℕ} {cap : ℕ} {l : List ℤ} {w : List ℕ} {at : ℕ} {s 
 
 -- a command that leaves all as it is
 module _ {B : List ℕ} {cap : ℕ} {l : List ℤ} {w : List ℕ} {at : ℕ} {s : Loaded} where
-  pub other_step : (d : CodeCommand) → OneOf (0 ∷ 6 ∷ 7 ∷ []) (tag_of command-type d) → StepReady B cap l w at (command_of B at d) s → Stepped B cap l w (command_of B at d) s.count (held s.stack) l w s
+  pub other_step : (d : CodeCommand) → (d ≡ Leaf → ⊥) → ((i : ℕ) → d ≡ Condition i → ⊥) → (d ≡ TestBy → ⊥) → (d ≡ Forbidden → ⊥) → ((x a j : ℕ) → d ≡ Give x a j → ⊥) → StepReady B cap l w at (command_of B at d) s → Stepped B cap l w (command_of B at d) s.count (held s.stack) l w s
   unfolding command_of_in height entered load_one_with
-  other_step (Site m n a v) k y = still_step (site m n a v) y refl refl (held s.stack) refl y.below refl (λ E. refl)
-  other_step Leaf k y = absurd (miss (0 ∷ 6 ∷ 7 ∷ []) 1 tt k)
-  other_step (Condition i) k y = absurd (miss (0 ∷ 6 ∷ 7 ∷ []) 2 tt k)
-  other_step TestBy k y = absurd (miss (0 ∷ 6 ∷ 7 ∷ []) 3 tt k)
-  other_step Forbidden k y = absurd (miss (0 ∷ 6 ∷ 7 ∷ []) 4 tt k)
-  other_step (Give x a j) k y = absurd (miss (0 ∷ 6 ∷ 7 ∷ []) 5 tt k)
-  other_step (Name a) k y = still_step (name_action a _) y refl refl (held s.stack) refl y.below refl (λ E. refl)
-  other_step End k y = still_step end_model y refl refl (held s.stack) refl y.below refl (λ E. refl)
+  other_step (Site m n a v) hl hc ht hf hg y = still_step (site m n a v) y refl refl (held s.stack) refl y.below refl (λ E. refl)
+  other_step Leaf hl hc ht hf hg y = absurd (hl refl)
+  other_step (Condition i) hl hc ht hf hg y = absurd (hc i refl)
+  other_step TestBy hl hc ht hf hg y = absurd (ht refl)
+  other_step Forbidden hl hc ht hf hg y = absurd (hf refl)
+  other_step (Give x a j) hl hc ht hf hg y = absurd (hg x a j refl)
+  other_step (Name a) hl hc ht hf hg y = still_step (name_action a _) y refl refl (held s.stack) refl y.below refl (λ E. refl)
+  other_step End hl hc ht hf hg y = still_step end_model y refl refl (held s.stack) refl y.below refl (λ E. refl)
 
 -- ---- by the command that the code has
 
