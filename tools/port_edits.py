@@ -191,8 +191,9 @@ def main():
             if made is None or any(re.search(r"\s\.\w", n) and not re.match(r"\s*\.", n) for _, _, n in found):
                 return "stands"
             also = {new: old for _, _, n in found for old, new in re.findall(r"([\w-]+) as ([\w-]+)[,}]", n)}
-            meant = lambda l: PIECE.sub(lambda m: also.get(m.group(0), m.group(0)), l)
-            same = all(change(b, a, meant) == wanted[f] and names[f] <= brought(a) - brought(b) for f, (b, a) in made.items())
+            paths = {n for _, _, new in found for n in re.findall(r"Rattle[.\w]*\.specs\.\w+\.(\w+)", new)}
+            meant = lambda l: PIECE.sub(lambda m: also.get(m.group(0), m.group(0)), re.sub(r"Rattle[.\w]*\.specs\.\w+\.(?=\w)", "", l))
+            same = all(change(b, a, meant) == wanted[f] and names[f] - paths <= brought(a) - brought(b) for f, (b, a) in made.items())
             return "" if same else "words"
 
         why, turned = fits(now), None
