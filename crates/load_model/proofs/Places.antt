@@ -11,8 +11,6 @@ use lib.Dec.{T, eqb, ltb, eqb→eq, eqb_refl}
 use lib.IntN.{ℤ}
 use lib.ListN.{length, get_or, set, length-set}
 use lib.Seq.{get_or-set_same, get_or-set_other}
-use types.Run.{OneOf, miss}
-use denote.Enum.Declared.{tag_of}
 use Rattle.whole.specs.Cases.{if, by_test, both, and_in}
 use Rattle.theory.specs.Widths.{loaded_roots_most, levels_most, conditions_most, actions_most}
 use Rattle.theory.specs.Diagram.{Tree}
@@ -22,7 +20,6 @@ use Rattle.theory.specs.Load.{Entry, find_slot, found}
 use Rattle.theory.specs.Rows.{OfSite}
 use Rattle.rule_node.specs.Nodes.{tree_at, Grown}
 use Rattle.rule_node.proofs.Trees.{trees_kept}
-use Rattle.model_command.specs.contracts.Command.{the_type as command-type}
 use Rattle.model_command.specs.declared.Command.{Command as CodeCommand}
 use Rattle.model_command.specs.declared.Command.TheVariants.{Site as SiteBy, Leaf, Condition, Test, Forbidden, Give, Name, End}
 use Rattle.model_command.specs.CursorReadings.{command_of_in, command_of}
@@ -261,7 +258,7 @@ unfolding stored_in
 stored_no R i x h = ap (λ (b : Bool). if b (set R i x) R) (sym (le-ltb i loaded_roots_most h))
 
 -- nothing is given
-pub other_command : (B : List ℕ) (at : ℕ) (d : CodeCommand) → OneOf (0 ∷ 1 ∷ 2 ∷ 3 ∷ 4 ∷ 6 ∷ 7 ∷ []) (tag_of command-type d)
+pub other_command : (B : List ℕ) (at : ℕ) (d : CodeCommand) → ((x a j : ℕ) → d ≡ Give x a j → ⊥)
     → ((m n A : ℕ) → loaded_roots_most ≡ place_of m n A (command_of B at d)) × ((b : Bool) → b ≡ ended_by b (command_of B at d))
 unfolding place_of ended_by command_of_in
 other_command B at (SiteBy x y a w) k = (λ m n A. refl, λ b. refl)
@@ -269,6 +266,6 @@ other_command B at Leaf k = (λ m n A. refl, λ b. refl)
 other_command B at (Condition i) k = (λ m n A. refl, λ b. refl)
 other_command B at Test k = (λ m n A. refl, λ b. refl)
 other_command B at Forbidden k = (λ m n A. refl, λ b. refl)
-other_command B at (Give x a j) k = absurd (miss (0 ∷ 1 ∷ 2 ∷ 3 ∷ 4 ∷ 6 ∷ 7 ∷ []) 5 tt k)
+other_command B at (Give x a j) k = absurd (k x a j refl)
 other_command B at (Name a) k = (λ m n A. refl, λ b. refl)
 other_command B at End k = (λ m n A. refl, λ b. refl)

@@ -7,8 +7,6 @@ use native.Mathlib.Omega.{arith}
 use lib.Dec.{T, eqb, ltb, eqb→eq, leb→le, nleb→lt, ltb→lt, nltb→le, T_not}
 use lib.IntN.{ℤ}
 use lib.ListN.{length, get_or, drop}
-use types.Run.{OneOf, miss}
-use denote.Enum.Declared.{tag_of}
 use Rattle.whole.specs.Cases.{if, by_test, both, not_not}
 use Rattle.theory.specs.Widths.{levels_most, conditions_most, actions_most, stack_most, bytes_most, loaded_roots_most}
 use Rattle.theory.specs.Form.{new_form}
@@ -24,7 +22,6 @@ use Rattle.theory.specs.laws.Comps.{after as after-out}
 use Rattle.theory.specs.laws.Valid.{among_out}
 use Rattle.theory.specs.laws.Rules.{says_of_site}
 use Rattle.theory.specs.laws.AcceptedModel.{InRange}
-use Rattle.model_command.specs.contracts.Read.{the_type as read-type}
 use Rattle.model_command.specs.declared.Command.{Command as CodeCommand}
 use Rattle.model_command.specs.declared.Read.{Read as CodeRead}
 use Rattle.model_command.specs.declared.Read.TheVariants.{Whole, Unknown, Short}
@@ -206,9 +203,9 @@ refused_short : (n : ℕ) (s : Progress) (at : ℕ) (L : List Placed) {A : Type 
 unfolding judged_in
 refused_short n s at L e = absurd (let z : ◌≡◌ {A = ℕ} 2 0 = e in omega arith)
 
-not_whole : (B : List ℕ) (at : ℕ) (r : CodeRead) → OneOf (1 ∷ 2 ∷ []) (tag_of read-type r) → (P : Read → Type 0) → P (read_of B at r) → {A : Type 0} → (P unknown → A) → (P short → A) → A
+not_whole : (B : List ℕ) (at : ℕ) (r : CodeRead) → ((c : CodeCommand) → r ≡ Whole c → ⊥) → (P : Read → Type 0) → P (read_of B at r) → {A : Type 0} → (P unknown → A) → (P short → A) → A
 unfolding read_of_in
-not_whole B at (Whole c) k P p f g = absurd (miss (1 ∷ 2 ∷ []) 0 tt k)
+not_whole B at (Whole c) k P p f g = absurd (k c refl)
 not_whole B at Unknown k P p f g = f p
 not_whole B at Short k P p f g = g p
 
@@ -235,7 +232,7 @@ module _ {B : List ℕ} {cap : ℕ} {l : List ℤ} {w : List ℕ} {R : List ℕ}
   first r e = opened Here B at k.fuel k.enough (k.judges, k.runs) r e
 
   -- an accepted model has a whole command here
-  pub turn_none : (r : CodeRead) → read_of B at r ≡ read_at B at → OneOf (1 ∷ 2 ∷ []) (tag_of read-type r) → {A : Type 0} → A
+  pub turn_none : (r : CodeRead) → read_of B at r ≡ read_at B at → ((c : CodeCommand) → r ≡ Whole c → ⊥) → {A : Type 0} → A
   turn_none r e t = not_whole B at r t (λ q. q ≡ read_at B at) e
       (λ u. refused_unknown (length B) _ at _ (first unknown u).2.0) (λ u. refused_short (length B) _ at _ (first short u).2.0)
 
