@@ -1,15 +1,10 @@
 -- A step leaves the table right; the table begins empty.
 use mathlib.Core.Path.{◌≡◌, sym, subst}
-use mathlib.Core.Bool.{Bool, true, false}
 use mathlib.Core.List.{List}
 use Prim.Native.Nat.{ℕ, ◌*◌, ◌≤◌, ◌<◌}
 use native.Mathlib.Omega.{arith}
 use lib.IntN.{ℤ}
 use lib.ListN.{length, get_or}
-use mir.Syntax.{w64}
-use mir.Val.{SFits}
-use Rattle.whole.specs.Within.{Small}
-use Rattle.whole.proofs.Signed.{R, back}
 use Rattle.table.specs.declared.Made.{Made}
 use Rattle.table.specs.declared.Node.{Node}
 use Rattle.theory.specs.Computation.{Comp}
@@ -26,10 +21,6 @@ use Rattle.rule_node.proofs.Meanings.{stood_condition}
 
 pub grew : {cap n : ℕ} {l l₁ : List ℤ} {w w₁ : List ℕ} {m : Comp Tree} {r : Made} → Table rule_of cap l w n → Grew cap l w n m l₁ w₁ r → Table rule_of cap l₁ w₁ r.count
 grew A Q = (lifted A Q).table
-
--- nothing done
-pub same : {cap n k : ℕ} {l : List ℤ} {w : List ℕ} → k ≡ n → Table rule_of cap l w n → Table rule_of cap l w k
-same {cap = cap} {l = l} {w = w} e A = subst (λ j. Table rule_of cap l w j) (sym e) A
 
 -- no nodes yet
 pub empty : (cap : ℕ) (l : List ℤ) (w : List ℕ) → 0 < cap → cap ≤ 65535 → cap * node_words ≤ length l → cap * work_words ≤ length w → ((k : ℕ) → k < length w → get_or w k 0 ≡ 0) → Table rule_of cap l w 0
@@ -57,20 +48,8 @@ proper_condition k a b e = subst Proper (sym e) (stood_condition k a b).proper
 
 -- ---- the numbers of a rule of one diagram
 
--- a number as the code has it
-pub small_back : (c : ℤ) → SFits w64 c → Small (R c) → Small c
-small_back c f h = subst Small (back c f) h
-
--- what does not fit says nothing
-pub never : {b : Bool} {A : Type 0} → b ≡ false → b ≡ true → A
-never h e = absurd (let z : ◌≡◌ {A = ℕ} 0 1 = cc in omega arith)
-
 pub scales : {op a b : ℕ} → 3 ≤ op → op < 4 → Acts 3 a b → Acts op a b
 scales {op = op} {a = a} {b = b} h k A = subst (λ o. Acts o a b) (let e : 3 ≡ op = omega arith in e) A
 
 pub shifts : {op a b : ℕ} → 4 ≤ op → op < 5 → Acts 4 a b → Acts op a b
 shifts {op = op} {a = a} {b = b} h k A = subst (λ o. Acts o a b) (let e : 4 ≡ op = omega arith in e) A
-
-pub counts : {op k : ℕ} → 5 ≤ op → op ≤ 8 → 0 < k → k ≤ 4 → Acts op k 0
-counts a b c d =
-    record { from = omega arith; to = b; low = omega arith; high = omega arith; shifts = λ e. absurd (omega arith); weighs = λ _. omega arith; numbers = λ _. omega arith; some = λ _. c; picks = λ _. d }
