@@ -74,7 +74,7 @@ module _ (B : List ℕ) (v : (verdict B).number ≡ 0) {cap : ℕ} {l : List ℤ
 
     end_less : get_or R (model_size B) 0 < r.count
     unfolding NumbersBelow
-    end_less = (subst (λ (b : Bool). NumbersBelow r.count (end_of (site_at B) R b)) given (L.end_Below go)).0
+    end_less = (subst (λ (b : Bool). NumbersBelow r.count (end_of (site_at B) R b)) given (L.end_below go)).0
 
     behind : take (suc (model_size B)) R ≡ take (model_size B) R ++ (get_or R (model_size B) 0 ∷ [])
     behind = take-suc R (model_size B) 0 (let z = size_few B v in omega arith)
