@@ -8,18 +8,12 @@ use Rattle.c_answers.proofs.States.{read_back}
 use Rattle.price_change.specs.Sure.{sure_of}
 use Rattle.c_sure.specs.Answer.{sure_answer}
 use borrow.Author.Rules.{rules}
-use Rattle.planner.proofs.prices.planner_sure.Statement.{statement}
-use Rattle.planner.proofs.prices.planner_sure.Tie as tie
+use Rattle.planner.proofs.prices.planner_sure.Goals as goal
 
-returns : tie.Need-returns
-returns c =
-    let s = c.before.before.before.before.before.before in
-    let a = s.args in
+pub returns : goal.returns
+returns c = let a = c.args in
     let n : List ℤ = a.l1 ∷ a.l2 ∷ a.l3 ∷ a.l4 ∷ a.l5 ∷ a.l6 ∷ a.l7 ∷ a.l8 ∷ a.d ∷ [] in
-    c.before.before.sure.ensures
+    c.sure.ensures
     ∙ ap₂ (λ (l : List ℤ) (e : ℤ). sure_answer (sure_of a.bytes.now a.steps (asked_by a.mask l) e) a.out.now)
-    (read_back n (s.ranges.l1, (s.ranges.l2, (s.ranges.l3, (s.ranges.l4, (s.ranges.l5, (s.ranges.l6, (s.ranges.l7, (s.ranges.l8, (s.ranges.d, tt))))))))))
-    (back32 a.e s.ranges.e)
-
-pub planner_sure_spec : {M : Type 1} → statement M
-planner_sure_spec = tie.close (tie.spec (λ c κs. search rules) (λ c. search rules) returns)
+    (read_back n (c.ranges.l1, (c.ranges.l2, (c.ranges.l3, (c.ranges.l4, (c.ranges.l5, (c.ranges.l6, (c.ranges.l7, (c.ranges.l8, (c.ranges.d, tt))))))))))
+    (back32 a.e c.ranges.e)

@@ -1,0 +1,6 @@
+-- `planner::conversions::planner_to_new` meets its contract.
+use borrow.Author.Rules.{rules}
+use Rattle.planner.proofs.conversions.planner_to_new.Goals as goal
+
+pub returns : goal.returns
+returns c = c.to_new.ensures
