@@ -8,8 +8,7 @@ use lib.ListN.{length, get_or, take, drop, replicate, length-drop}
 use lib.Seq.{length-take-le, get_or-take, get_or-drop}
 use Rattle.theory.specs.Widths.{steps_most, nodes_most, node_words, work_words}
 use Rattle.theory.specs.Verdict.{verdict}
-use Rattle.theory.specs.Computation.{refused}
-use Rattle.theory.specs.Solve.{room, solve_in, solved_nodes, solved_stages, solve}
+use Rattle.theory.specs.Solve.{solve_in, solved_nodes, solved_stages}
 use Rattle.rule_node.specs.Nodes.{trees}
 use Rattle.collect_mark.specs.Mark.{roots_of}
 use Rattle.finish_number.specs.Number.{trees_of}
