@@ -17,7 +17,7 @@ use Rattle.theory.specs.Solve.{early}
 use Rattle.theory.specs.Value.{Asked, accepted, good_row, walk, ValueOut, refused_value, value_at, value_of}
 use Rattle.theory.specs.Name.{name_refusal}
 use Rattle.theory.specs.Listing.{greatest_root, text, written, ListingOut, listing_refusal, listing}
-use Rattle.theory.specs.laws.Rows.{verdict_row, place_inside}
+use Rattle.theory.proofs.laws.Rows.{verdict_row, place_inside}
 use Rattle.c_answers.specs.Answers.{le, pair_bytes}
 use Rattle.c_answers.proofs.Bytes.{le_length}
 

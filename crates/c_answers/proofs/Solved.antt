@@ -15,7 +15,7 @@ use Rattle.theory.specs.Computation.{Solved, solved, refused}
 use Rattle.theory.specs.Valid.{among}
 use Rattle.theory.specs.Verdict.{Verdict}
 use Rattle.theory.specs.Solve.{room, solve_in, SolveOut, solve_left, early, early_with_peaks, solve}
-use Rattle.theory.specs.laws.Refusals.{refused_number}
+use Rattle.theory.proofs.laws.Refusals.{refused_number}
 use Rattle.c_answers.specs.Answers.{pair_bytes, short}
 use Rattle.c_answers.specs.SolveAnswer as A
 use Rattle.c_answers.specs.SolveAnswer.{model_verdict, solve_answer}

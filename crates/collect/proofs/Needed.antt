@@ -14,9 +14,9 @@ use Rattle.theory.specs.Diagram.{Leaf, Tree, leaf, branch, same}
 use Rattle.theory.specs.Computation.{Comp, member, run, enter_all}
 use Rattle.theory.specs.Rules.{zero_leaf}
 use Rattle.theory.specs.Events.{Distinct, inside, all_inside}
-use Rattle.theory.specs.laws.Comps.{member_in}
-use Rattle.theory.specs.laws.Counts.{distinct_roots}
-use Rattle.theory.specs.laws.Inside.{inside_parts, inside_branch, all_none, all_parts, all_cons, roots_inside, roots_sub}
+use Rattle.theory.proofs.laws.Comps.{member_in}
+use Rattle.theory.proofs.laws.Counts.{distinct_roots}
+use Rattle.theory.proofs.laws.Inside.{inside_parts, inside_branch, all_none, all_parts, all_cons, roots_inside, roots_sub}
 use Rattle.collect.proofs.Order.{SameNodes, same_nodes, SameOut, run_order}
 use Rattle.rule_node.specs.Nodes.{leaf_of, test_held, blank, trees, Good}
 use Rattle.collect_mark.specs.Mark.{sub, needed, roots_of, Below}

@@ -11,8 +11,8 @@ use Rattle.whole.specs.Within.{small}
 use Rattle.theory.specs.Diagram.{Tree, same}
 use Rattle.theory.specs.Computation.{Comp, ret, named, made, Out, done, stopped, member, run}
 use Rattle.theory.specs.Events.{Distinct}
-use Rattle.theory.specs.laws.Counts.{distinct_fit}
-use Rattle.theory.specs.laws.Table.{distinct_add}
+use Rattle.theory.proofs.laws.Counts.{distinct_fit}
+use Rattle.theory.proofs.laws.Table.{distinct_add}
 
 -- the same nodes, each once, in any order
 pub record SameNodes (X Y : List Tree) : Type 0 where

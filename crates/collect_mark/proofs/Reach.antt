@@ -14,7 +14,7 @@ use lib.Seq.{get_or-set_same, get_or-set_other}
 use Rattle.table.specs.Table.{node_at, is_leaf}
 use Rattle.table.specs.declared.Node.{Node}
 use Rattle.theory.specs.Diagram.{Test, Leaf, Tree, leaf, branch, same}
-use Rattle.theory.specs.laws.Comps.{same_eq, same_refl}
+use Rattle.theory.proofs.laws.Comps.{same_eq, same_refl}
 use Rattle.rule_node.specs.Nodes.{test_held, blank, trees, Good}
 use Rattle.table_clear.specs.Wipe.{wiped}
 use Rattle.table_clear.proofs.Parts.{same_length, within, after}

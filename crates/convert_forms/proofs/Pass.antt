@@ -10,8 +10,8 @@ use Rattle.whole.specs.Cases.{by_test, clash}
 use Rattle.theory.specs.Form.{Form}
 use Rattle.theory.specs.Command.{byte_at, width_in, read_in, goes_on, readings_from_in, readings_in}
 use Rattle.theory.specs.Rows.{WholeIn}
-use Rattle.theory.specs.laws.AcceptedModel.{behind_in}
-use Rattle.theory.specs.laws.Rows.{by_read_in, if_no}
+use Rattle.theory.proofs.laws.AcceptedModel.{behind_in}
+use Rattle.theory.proofs.laws.Rows.{by_read_in, if_no}
 use Rattle.model_command.specs.declared.Read.{Read as CodeRead}
 use Rattle.model_command.specs.CursorReadings.{next_in, read_of_in}
 use Rattle.text_decimal.specs.Put.{PutAt}

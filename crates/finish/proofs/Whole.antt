@@ -13,8 +13,8 @@ use Rattle.table.specs.Table.{node_at, is_leaf}
 use Rattle.theory.specs.Widths.{node_words, steps_most}
 use Rattle.theory.specs.Diagram.{Tree}
 use Rattle.theory.specs.Solve.{number_of, row, rows, table_of, solved_nodes, solved_stages}
-use Rattle.theory.specs.laws.Table.{number_below, number_entry}
-use Rattle.theory.specs.laws.Words.{rows_length}
+use Rattle.theory.proofs.laws.Table.{number_below, number_entry}
+use Rattle.theory.proofs.laws.Words.{rows_length}
 use Rattle.rule_node.specs.Nodes.{blank, trees, tree_at}
 use Rattle.finish_number.specs.Number.{TableHeld, Roots, trees_of, list_of, Numbered, RootsListed}
 use Rattle.rule_node.proofs.Trees.{at_leaf, at_branch}

@@ -17,9 +17,9 @@ use Rattle.theory.specs.Diagram.{Tree, branch}
 use Rattle.theory.specs.Computation.{member, enter}
 use Rattle.theory.specs.Events.{Distinct}
 use Rattle.theory.specs.Solve.{number_of}
-use Rattle.theory.specs.laws.Comps.{same_not, member_in, member_cases}
-use Rattle.theory.specs.laws.Counts.{distinct_fit}
-use Rattle.theory.specs.laws.Table.{number_last, distinct_add}
+use Rattle.theory.proofs.laws.Comps.{same_not, member_in, member_cases}
+use Rattle.theory.proofs.laws.Counts.{distinct_fit}
+use Rattle.theory.proofs.laws.Table.{number_last, distinct_add}
 use Rattle.rule_node.specs.Nodes.{test_held, blank, trees, tree_at}
 use Rattle.finish_number.specs.Number.{TableHeld, list_of, Numbered, assigned, TreeNumbered}
 use Rattle.rule_node.proofs.Trees.{trees_length, at_leaf, at_branch}

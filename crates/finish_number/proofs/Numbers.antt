@@ -9,7 +9,7 @@ use Rattle.theory.specs.Diagram.{Test, Leaf, Tree, leaf, branch, same}
 use Rattle.theory.specs.Computation.{member, enter}
 use Rattle.theory.specs.Solve.{number_of}
 use Rattle.whole.specs.Cases.{by_eq}
-use Rattle.theory.specs.laws.Table.{number_above, enter_fresh}
+use Rattle.theory.proofs.laws.Table.{number_above, enter_fresh}
 
 clash : {A : Type 0} → true ≡ false → A
 clash e = absurd (let z : ◌≡◌ {A = ℕ} 0 1 = cc in omega arith)

@@ -10,7 +10,7 @@ use lib.Seq.{drop-cons}
 use Rattle.theory.specs.Diagram.{Tree}
 use Rattle.theory.specs.Computation.{enter, enter_all}
 use Rattle.theory.specs.Solve.{number_of}
-use Rattle.theory.specs.laws.Table.{no_table}
+use Rattle.theory.proofs.laws.Table.{no_table}
 use Rattle.rule_node.specs.Nodes.{trees, tree_at}
 use Rattle.finish_number.specs.Number.{trees_of, Unnumbered, list_of, Numbered, TreeNumbered, RootsListed}
 

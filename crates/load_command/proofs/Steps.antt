@@ -20,7 +20,7 @@ use Rattle.theory.specs.Computation.{Comp, ret, bind, make, Out, done, stopped, 
 use Rattle.theory.specs.Rules.{choose, none_leaf}
 use Rattle.theory.specs.Command.{Command, site, push_leaf, push_condition, push_test, push_forbidden, name_action, end_model, whole, read_at, give, Slot}
 use Rattle.theory.specs.Load.{Entry, Loaded as Loading, condition_test, load_choice, load_choice_with, load_entry, load_one, load_one_with}
-use Rattle.theory.specs.laws.Comps.{after, run_bind}
+use Rattle.theory.proofs.laws.Comps.{after, run_bind}
 use Rattle.model_command.proofs.Forward.{has_linear, linear_room}
 use Rattle.model_command.specs.declared.Command.{Command as CodeCommand}
 use Rattle.model_command.specs.declared.Command.TheVariants.{Site, Leaf, Condition, Test as TestBy, Forbidden, Give, Name, End}

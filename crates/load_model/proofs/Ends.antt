@@ -22,9 +22,9 @@ use Rattle.theory.specs.Verdict.{Site, site_of, Progress, reward_slot, chance_sl
 use Rattle.theory.specs.Verdict.{site_rules, first_rules, rules_in, after, ended, judged_in, judged, at_start, verdict_in, verdict}
 use Rattle.theory.specs.Load.{Entry, Loaded as Loading, load_one_with, load_on, load_on_with, find_slot, found, action_of, model_of, site_in, site_at, load_in, load, model_in, model}
 use Rattle.theory.specs.Stage.{all_diagrams, model_diagrams}
-use Rattle.theory.specs.laws.Comps.{run_bind, run_result}
-use Rattle.theory.specs.laws.Comps.{after as after-out}
-use Rattle.theory.specs.laws.AcceptedModel.{accepted_site, by_reading, behind}
+use Rattle.theory.proofs.laws.Comps.{run_bind, run_result}
+use Rattle.theory.proofs.laws.Comps.{after as after-out}
+use Rattle.theory.proofs.laws.AcceptedModel.{accepted_site, by_reading, behind}
 use Rattle.model_stack.specs.Held.{held}
 use Rattle.model_command.specs.CursorReadings.{next_at}
 use Rattle.model_command.proofs.Forward.{Bytes, next_whole}

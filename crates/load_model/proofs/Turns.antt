@@ -17,11 +17,11 @@ use Rattle.theory.specs.Command.{Command, site, push_leaf, push_condition, push_
 use Rattle.theory.specs.Command.{Placed, byte_at, width, read_at, goes_on, readings_from_in, readings_from, readings, give, Slot}
 use Rattle.theory.specs.Verdict.{Site, Facts, Progress, end_slot, name_slot, has_slot, same_slot, or, Rule, rule, first_broken, next_condition, joined, wanted, later_rules, rules_in, after, Verdict, refusal, ended, judged_in, judged}
 use Rattle.theory.specs.Load.{Entry, Loaded as Loading, load_one, load_one_with, load_on, load_on_with, site_at}
-use Rattle.theory.specs.laws.Comps.{run_bind}
-use Rattle.theory.specs.laws.Comps.{after as after-out}
-use Rattle.theory.specs.laws.Valid.{among_out}
-use Rattle.theory.specs.laws.Rules.{says_of_site}
-use Rattle.theory.specs.laws.AcceptedModel.{InRange}
+use Rattle.theory.proofs.laws.Comps.{run_bind}
+use Rattle.theory.proofs.laws.Comps.{after as after-out}
+use Rattle.theory.proofs.laws.Valid.{among_out}
+use Rattle.theory.proofs.laws.Rules.{says_of_site}
+use Rattle.theory.proofs.laws.AcceptedModel.{InRange}
 use Rattle.model_command.specs.declared.Command.{Command as CodeCommand}
 use Rattle.model_command.specs.declared.Read.{Read as CodeRead}
 use Rattle.model_command.specs.declared.Read.TheVariants.{Whole, Unknown, Short}

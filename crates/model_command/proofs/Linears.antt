@@ -12,7 +12,7 @@ use lib.Seq.{get_or-take, length-take-le, ext_get_or}
 use Rattle.whole.specs.Linears.{numbers, Smalls}
 use Rattle.whole.specs.Within.{Small}
 use Rattle.whole.proofs.Filled.{Filled}
-use Rattle.theory.specs.laws.Words.{padded_full}
+use Rattle.theory.proofs.laws.Words.{padded_full}
 use Rattle.theory.specs.Widths.{levels_most}
 use Rattle.theory.specs.Command.{word_at, signed, signed_from, linear_in, linear_at}
 use Rattle.model_command.specs.CursorReadings.{linear_of}

@@ -11,7 +11,7 @@ use Rattle.theory.specs.Command.{site, push_leaf, push_condition, push_test, pus
 use Rattle.theory.specs.Verdict.{from_to}
 use Rattle.theory.specs.Load.{site_at}
 use Rattle.theory.specs.Rows.{Admitted}
-use Rattle.theory.specs.laws.AcceptedModel.{behind}
+use Rattle.theory.proofs.laws.AcceptedModel.{behind}
 use Rattle.model_find.specs.declared.Bearers.{Bearers}
 use Rattle.model_find.specs.declared.Bearers.TheVariants.{Nobody, One, Several}
 use Rattle.model_find.specs.Find.{FindOut, refused_find, trim, same_name, bearers, found_among}

@@ -15,8 +15,8 @@ use Rattle.theory.specs.Load.{site_at}
 use Rattle.theory.specs.Solve.{early}
 use Rattle.theory.specs.Name.{trimmed}
 use Rattle.theory.specs.Rows.{Admitted}
-use Rattle.theory.specs.laws.Name.{trimmed_most}
-use Rattle.theory.specs.laws.Rows.{by_early, admitted, early_some}
+use Rattle.theory.proofs.laws.Name.{trimmed_most}
+use Rattle.theory.proofs.laws.Rows.{by_early, admitted, early_some}
 use Rattle.model.specs.declared.Verdict.{Verdict as CodeVerdict}
 use Rattle.model.specs.Answers.{shown}
 use Rattle.model_find.specs.declared.Bearers.{Bearers}

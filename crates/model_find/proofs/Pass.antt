@@ -11,7 +11,7 @@ use Rattle.theory.specs.Command.{Command, name_action, end_model, Read, whole, u
 use Rattle.theory.specs.Widths.{name_bytes}
 use Rattle.theory.specs.Form.{new_form, behind_action}
 use Rattle.theory.specs.Name.{trimmed}
-use Rattle.theory.specs.laws.Name.{name_bytes_at}
+use Rattle.theory.proofs.laws.Name.{name_bytes_at}
 use Rattle.model_command.specs.declared.Command.{Command as CodeCommand}
 use Rattle.model_command.specs.declared.Command.TheVariants.{Site, Leaf, Condition, Test, Forbidden, Give, Name, End}
 use Rattle.model_command.specs.declared.Read.{Read as CodeRead}

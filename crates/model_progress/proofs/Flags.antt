@@ -13,7 +13,7 @@ use Rattle.whole.specs.Cases.{both, same_bool}
 use Rattle.theory.specs.Command.{Slot}
 use Rattle.theory.specs.Verdict.{or, Site, same_slot, has_slot, reward_slot, chance_slot, level_slot, end_slot, of_site}
 use Rattle.theory.specs.Rows.{Range}
-use Rattle.theory.specs.laws.Rules.{of_site_out}
+use Rattle.theory.proofs.laws.Rules.{of_site_out}
 use Rattle.theory.specs.Widths.{levels_most, conditions_most, actions_most, flags_most}
 use Rattle.theory.specs.Valid.{among}
 use Rattle.model_command.specs.declared.Command.{Command as CodeCommand}

@@ -14,7 +14,7 @@ ghost use Rattle.theory.specs.Meaning.{end_at as end_of};
 ghost use Rattle.theory.specs.Meaning.{chance_at as chance-of};
 ghost use Rattle.theory.specs.Load.{find_slot, found, site_at};
 ghost use Rattle.theory.specs.Verdict.{verdict, end_slot};
-ghost use Rattle.theory.specs.laws.AcceptedModel.{loaded_entries};
+ghost use Rattle.theory.specs.Load.{loaded_entries};
 ghost use Rattle.plain_pass.specs.Pass.{slot_of, no_name, point_at, nums_at, FlatPoint, leaf_of, reward_of, StateStands, LeafComes};
 ghost use Rattle.plain_pass.specs.Pass.{numerator as numerator-at};
 ghost use Rattle.plain_pass.specs.Parts.{Parts};

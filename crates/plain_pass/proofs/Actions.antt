@@ -14,8 +14,9 @@ use Rattle.theory.specs.Meaning.{Action, Model, Env, nth_action, action_at, at, 
 use Rattle.theory.specs.Valid.{good_test, level_leaf, weight_leaf}
 use Rattle.theory.specs.Verdict.{chance_slot, from_to, verdict}
 use Rattle.theory.specs.Load.{action_of, find_slot, model, model_of, site_at}
-use Rattle.theory.specs.laws.Expectation.{at_good}
-use Rattle.theory.specs.laws.AcceptedModel.{fits, leaf_as, accepted, loaded_entries, model_loaded}
+use Rattle.theory.proofs.laws.Expectation.{at_good}
+use Rattle.theory.proofs.laws.AcceptedModel.{fits, leaf_as, accepted, model_loaded}
+use Rattle.theory.specs.Load.{loaded_entries}
 
 nth_from : (φ : ℕ → Action) (b k j : ℕ) → j ≤ k → nth_action (φ b) (map φ (from_to (suc b) k)) j ≡ φ (b + j)
 unfolding nth_action from_to

@@ -15,8 +15,8 @@ use Rattle.theory.specs.Meaning.{State, Env, env, level_at, end_at}
 use Rattle.theory.specs.Command.{Read, Slot, read_at}
 use Rattle.theory.specs.Verdict.{same_slot, verdict}
 use Rattle.theory.specs.Load.{Entry, find_slot, found, site_at}
-use Rattle.theory.specs.laws.Values.{zero_level}
-use Rattle.theory.specs.laws.AcceptedModel.{loaded_entries}
+use Rattle.theory.proofs.laws.Values.{zero_level}
+use Rattle.theory.specs.Load.{loaded_entries}
 use Rattle.plain_pass.specs.declared.Point.{Point}
 use Rattle.plain_pass.specs.Pass.{nums_of, no_name, FlatPoint, leaf_of, numerator, StateStands}
 use Rattle.plain_pass.specs.Parts.{place, Seek, Asks, Parts}

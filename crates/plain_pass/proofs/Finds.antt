@@ -11,7 +11,7 @@ use Rattle.whole.specs.Cases.{if, by_eq, by_test, from_true}
 use Rattle.theory.specs.Widths.{stack_most}
 use Rattle.theory.specs.Command.{Command, site, push_leaf, push_condition, push_test, push_forbidden, give, name_action, end_model, whole, Placed, byte_at, width, command_at, read_at, goes_on, Slot, readings, readings_in, readings_from_in}
 use Rattle.theory.specs.Verdict.{same_slot, verdict, judged, at_start, rule, first_broken, first_rules, judged_in, rules_in, verdict_in}
-use Rattle.theory.specs.laws.AcceptedModel.{by_reading, behind}
+use Rattle.theory.proofs.laws.AcceptedModel.{by_reading, behind}
 use Rattle.model_command.specs.declared.Command.{Command as CodeCommand}
 use Rattle.model_command.specs.declared.Command.TheVariants.{Site, Leaf, Condition, Test, Forbidden, Give, Name, End}
 use Rattle.model_stack.specs.Held.{pushed}

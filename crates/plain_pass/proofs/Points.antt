@@ -19,9 +19,9 @@ use Rattle.theory.specs.Valid.{among}
 use Rattle.theory.specs.Verdict.{or, next_condition, beyond}
 use Rattle.theory.specs.Load.{condition_test}
 use Rattle.theory.specs.Value.{bits}
-use Rattle.theory.specs.laws.Comps.{cmp_ℤ_eq}
-use Rattle.theory.specs.laws.Valid.{among_out}
-use Rattle.theory.specs.laws.Values.{choose_at, decide_at}
+use Rattle.theory.proofs.laws.Comps.{cmp_ℤ_eq}
+use Rattle.theory.proofs.laws.Valid.{among_out}
+use Rattle.theory.proofs.laws.Values.{choose_at, decide_at}
 use Rattle.plain_pass.specs.declared.Point.{Point}
 use Rattle.plain_pass.specs.Pass.{nums_of, den_of, FlatPoint, numerator, condition_holds, StateStands}
 

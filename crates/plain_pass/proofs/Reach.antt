@@ -24,8 +24,9 @@ use Rattle.theory.specs.Verdict.{Site, site_of, Facts, Progress, name_slot, same
 use Rattle.theory.specs.Verdict.{site_rules, first_rules, later_rules, after, Verdict, refusal, ended, judged, at_start, verdict, judged_in, rules_in}
 use Rattle.theory.specs.Verdict.{verdict_in}
 use Rattle.theory.specs.Load.{Entry, Loaded, condition_test, load_choice, load_choice_with, load_entry, load_one, load_one_with, load_on, load_on_with, find_slot, site_at, site_in}
-use Rattle.theory.specs.laws.Comps.{result_bind}
-use Rattle.theory.specs.laws.AcceptedModel.{by_reading, behind, loaded_entries, accepted, linear_wide}
+use Rattle.theory.proofs.laws.Comps.{result_bind}
+use Rattle.theory.proofs.laws.AcceptedModel.{by_reading, behind, accepted, linear_wide}
+use Rattle.theory.specs.Load.{loaded_entries}
 use Rattle.model_stack.specs.Held.{pushed}
 use Rattle.plain_pass.specs.declared.Point.{Point}
 use Rattle.plain_pass.specs.Pass.{no_name, leaf_of, numerator, condition_holds, chosen, stepped, takes, pass, StateStands, LeafAt, LeafComes}

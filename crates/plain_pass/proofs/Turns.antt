@@ -24,7 +24,7 @@ use Rattle.theory.specs.Command.{short, byte_at, width, read_at, goes_on, readin
 use Rattle.theory.specs.Command.{readings_in, command_at, command_in, read_in, width_in}
 use Rattle.theory.specs.Verdict.{same_slot}
 use Rattle.theory.specs.Load.{find_slot, site_at}
-use Rattle.theory.specs.laws.AcceptedModel.{loaded_entries}
+use Rattle.theory.specs.Load.{loaded_entries}
 use Rattle.model_command.specs.declared.Command.{Command as CodeCommand}
 use Rattle.model_command.specs.declared.Command.TheVariants.{Site, Leaf as LeafBy, Condition, Test, Forbidden, Give, Name, End}
 use Rattle.model_command.specs.declared.Read.{Read as CodeRead}

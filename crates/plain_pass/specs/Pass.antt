@@ -11,7 +11,7 @@ use Rattle.theory.specs.Command.{Command, site, push_leaf, push_condition, push_
 use Rattle.theory.specs.Verdict.{same_slot, beyond}
 use Rattle.theory.specs.Load.{find_slot, site_at}
 use Rattle.theory.specs.Value.{bits}
-use Rattle.theory.specs.laws.AcceptedModel.{loaded_entries}
+use Rattle.theory.specs.Load.{loaded_entries}
 use Rattle.model_command.specs.declared.Command.{Command as CodeCommand}
 use Rattle.model_command.specs.declared.Command.TheVariants.{Leaf as LeafBy, Condition, Test, Forbidden}
 use Rattle.model_command.specs.CursorReadings.{with_linear}

@@ -14,7 +14,7 @@ use Rattle.theory.specs.Valid.{all}
 use Rattle.theory.specs.Verdict.{from_to}
 use Rattle.theory.specs.Load.{site_at}
 use Rattle.theory.specs.Value.{bits}
-use Rattle.theory.specs.laws.Valid.{other_above}
+use Rattle.theory.proofs.laws.Valid.{other_above}
 use Rattle.model.proofs.Accepted.{site_accepted}
 use Rattle.plain_pass.specs.declared.Point.{Point}
 use Rattle.plain_pass.specs.Pass.{StateStands}

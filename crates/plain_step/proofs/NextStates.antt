@@ -24,7 +24,7 @@ use Rattle.theory.specs.Verdict.{Site, level_slot, from_to}
 use Rattle.theory.specs.Load.{find_slot, action_of, site_at}
 use Rattle.theory.specs.Value.{bits}
 use Rattle.theory.specs.Plain.{in_32_bits}
-use Rattle.theory.specs.laws.AcceptedModel.{loaded_entries}
+use Rattle.theory.specs.Load.{loaded_entries}
 use Rattle.plain_pass.specs.declared.Point.{Point}
 use Rattle.plain_pass.specs.Pass.{den_of, FlatPoint, StateStands}
 use Rattle.plain_limits.specs.declared.Level.{Level}

@@ -14,7 +14,7 @@ use Rattle.theory.specs.Meaning.{State, env, nth, chance_at, weight}
 use Rattle.theory.specs.Verdict.{chance_slot, from_to}
 use Rattle.theory.specs.Load.{find_slot, action_of, site_at}
 use Rattle.theory.specs.Value.{bits}
-use Rattle.theory.specs.laws.AcceptedModel.{loaded_entries}
+use Rattle.theory.specs.Load.{loaded_entries}
 use Rattle.model.proofs.Accepted.{site_accepted}
 use Rattle.plain_pass.specs.declared.Point.{Point}
 use Rattle.plain_pass.specs.Pass.{StateStands}

@@ -8,7 +8,7 @@ use Rattle.theory.specs.Verdict.{Site, verdict, chance_slot, level_slot}
 use Rattle.theory.specs.Load.{find_slot, action_of, site_at}
 use Rattle.theory.specs.Value.{bits}
 use Rattle.theory.specs.Plain.{in_32_bits}
-use Rattle.theory.specs.laws.AcceptedModel.{loaded_entries}
+use Rattle.theory.specs.Load.{loaded_entries}
 use Rattle.plain_pass.specs.declared.Point.{Point}
 use Rattle.plain_pass.specs.Pass.{nums_of, den_of, FlatPoint, StateStands}
 use Rattle.plain_limits.specs.declared.Level.{Level}

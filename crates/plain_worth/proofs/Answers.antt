@@ -24,7 +24,8 @@ use Rattle.theory.specs.Verdict.{reward_slot, end_slot}
 use Rattle.theory.specs.Load.{find_slot, found, site_at}
 use Rattle.theory.specs.Value.{ValueOut, refused_value, answered}
 use Rattle.theory.specs.Plain.{is, nothing, over, judged, state_worth, worth_out}
-use Rattle.theory.specs.laws.AcceptedModel.{loaded_entries, end_found}
+use Rattle.theory.proofs.laws.AcceptedModel.{end_found}
+use Rattle.theory.specs.Load.{loaded_entries}
 use Rattle.plain_pass.specs.declared.Point.{Point}
 use Rattle.plain_pass.specs.declared.Reward.{Reward as CodeReward}
 use Rattle.plain_pass.specs.Pass.{reward_of, StateStands}

@@ -14,7 +14,7 @@ use Rattle.whole.specs.Cases.{if, both, from_true}
 use Rattle.whole.specs.Int.{up}
 use Rattle.theory.specs.Widths.{levels_most}
 use Rattle.theory.specs.Diagram.{cmp_ℤ, zeros}
-use Rattle.theory.specs.laws.Comps.{cmp_ℤ_eq}
+use Rattle.theory.proofs.laws.Comps.{cmp_ℤ_eq}
 use Rattle.theory.specs.Meaning.{State}
 use Rattle.theory.specs.Load.{site_at, model}
 use Rattle.theory.specs.Solve.{early}

@@ -16,8 +16,9 @@ use Rattle.theory.specs.Verdict.{or, from_to, reward_slot}
 use Rattle.theory.specs.Load.{find_slot, site_at, model, model_of, action_of}
 use Rattle.theory.specs.Value.{bits}
 use Rattle.theory.specs.Plain.{Worth, is, nothing, over, judged, sum_settings, rewarded, action_worth, try_actions, numbered, state_worth}
-use Rattle.theory.specs.laws.AcceptedModel.{loaded_entries, model_loaded}
-use Rattle.theory.specs.laws.Plain.{first_action}
+use Rattle.theory.proofs.laws.AcceptedModel.{model_loaded}
+use Rattle.theory.specs.Load.{loaded_entries}
+use Rattle.theory.proofs.laws.Plain.{first_action}
 use Rattle.model.proofs.Accepted.{site_accepted}
 use Rattle.plain_pass.specs.declared.Point.{Point}
 use Rattle.plain_pass.proofs.Actions.{action_is}

@@ -9,7 +9,7 @@ use Rattle.theory.specs.Meaning.{State, env, worth_at, action_at}
 use Rattle.theory.specs.Verdict.{reward_slot}
 use Rattle.theory.specs.Load.{find_slot, site_at, model}
 use Rattle.theory.specs.Plain.{Worth, nothing, over, state_worth, action_worth}
-use Rattle.theory.specs.laws.AcceptedModel.{loaded_entries}
+use Rattle.theory.specs.Load.{loaded_entries}
 use Rattle.value_walk.specs.declared.Asked.{Asked}
 use Rattle.plain_pass.specs.declared.Point.{Point}
 use Rattle.plain_limits.specs.declared.Total.{Total}

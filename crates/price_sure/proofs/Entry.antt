@@ -25,7 +25,7 @@ use Rattle.theory.specs.Load.{site_at, model}
 use Rattle.theory.specs.Solve.{early}
 use Rattle.theory.specs.Value.{Asked, accepted, state_of}
 use Rattle.theory.specs.Plain.{Worth, over, judged, action_worth, numbered, try_actions, state_worth, if_true}
-use Rattle.theory.specs.laws.AcceptedModel.{accepted_site}
+use Rattle.theory.proofs.laws.AcceptedModel.{accepted_site}
 use Rattle.model.specs.declared.Verdict.{Verdict as CodeVerdict}
 use Rattle.model.specs.Answers.{shown}
 use Rattle.value_walk.specs.State.{asked}

@@ -14,7 +14,7 @@ use Rattle.theory.specs.Meaning.{Model, State}
 use Rattle.theory.specs.Valid.{all}
 use Rattle.theory.specs.Verdict.{or, from_to}
 use Rattle.theory.specs.Plain.{Worth, is, nothing, over, better, numbered}
-use Rattle.theory.specs.laws.Rows.{all_from, from_each}
+use Rattle.theory.proofs.laws.Rows.{all_from, from_each}
 use Rattle.plain_limits.specs.Totals.{tried, is_over}
 use Rattle.price_change.specs.Sure.{exceeds, worth_of, leads}
 use Rattle.price_margin.specs.Rivals.{beats, rival}

@@ -15,7 +15,7 @@ use Rattle.theory.specs.Meaning.{State}
 use Rattle.theory.specs.Verdict.{or}
 use Rattle.theory.specs.Load.{site_at, model}
 use Rattle.theory.specs.Plain.{Worth, is, nothing, over, numbered}
-use Rattle.theory.specs.laws.AcceptedModel.{accepted_site}
+use Rattle.theory.proofs.laws.AcceptedModel.{accepted_site}
 use Rattle.plain_pass.specs.declared.Point.{Point}
 use Rattle.plain_limits.specs.declared.Total.{Total}
 use Rattle.plain_limits.specs.declared.Total.TheVariants as total

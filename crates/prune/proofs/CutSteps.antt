@@ -10,7 +10,7 @@ use Rattle.theory.specs.Widths.{steps_most, nodes_most, node_words, work_words}
 use Rattle.theory.specs.Diagram.{Tree}
 use Rattle.theory.specs.Solve.{room, table_of, solved_nodes}
 use Rattle.theory.specs.Listing.{greatest_root}
-use Rattle.theory.specs.laws.ValueWalk.{greatest_least}
+use Rattle.theory.proofs.laws.ValueWalk.{greatest_least}
 use Rattle.prune_paths.specs.Prune.{diagram_at, fits, GoodRows, path_needs, stages_anew, pruned}
 use Rattle.prune_copy.specs.Copy.{rows_after, Copied}
 use Rattle.prune_tables.specs.Tables.{Rowed, Anew, word_in}

@@ -13,7 +13,7 @@ use Rattle.theory.specs.Widths.{conditions_most}
 use Rattle.theory.specs.Verdict.{Verdict}
 use Rattle.theory.specs.Load.{site_at}
 use Rattle.theory.specs.Solve.{room}
-use Rattle.theory.specs.laws.AcceptedModel.{accepted}
+use Rattle.theory.proofs.laws.AcceptedModel.{accepted}
 use Rattle.model.specs.Answers.{shown}
 use Rattle.model.specs.declared.Verdict.{Verdict as CodeVerdict}
 use Rattle.prune_paths.specs.Prune.{diagram_at, along, fits, shaped, prune_refusal, pruned, PruneOut, prune}

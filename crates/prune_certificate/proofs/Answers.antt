@@ -20,8 +20,8 @@ use Rattle.theory.specs.Diagram.{Linear, Test, now, later, linear, Tree, leaf, b
 use Rattle.theory.specs.Valid.{all, wide, good_test, stage_leaf}
 use Rattle.theory.specs.Verdict.{or}
 use Rattle.prune_paths.specs.Prune.{diagram_at, fits, Side, with_side, along, turned, added, low_used, contradicts, proves, shaped, path_number}
-use Rattle.theory.specs.laws.Nodes.{GoodTree, parts}
-use Rattle.theory.specs.laws.Valid.{wide_long}
+use Rattle.theory.proofs.laws.Nodes.{GoodTree, parts}
+use Rattle.theory.proofs.laws.Valid.{wide_long}
 use Rattle.prune_paths.specs.laws.Foreign.{tree_good}
 use Rattle.prune_certificate.specs.Path.{GoodNode, shape_of, number_at}
 

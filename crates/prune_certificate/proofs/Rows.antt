@@ -13,8 +13,8 @@ use Rattle.theory.specs.Diagram.{now, linear, Tree, leaf, branch}
 use Rattle.theory.specs.Valid.{among}
 use Rattle.theory.specs.Value.{node_word, node_linear, good_row, ends}
 use Rattle.theory.specs.Rows.{KindFits, fits_leaf, fits_condition, fits_test, fits_none}
-use Rattle.theory.specs.laws.Fits.{node_fits}
-use Rattle.theory.specs.laws.Valid.{among_out}
+use Rattle.theory.proofs.laws.Fits.{node_fits}
+use Rattle.theory.proofs.laws.Valid.{among_out}
 use Rattle.table.specs.Table.{eq_ℤ, is_leaf, is_none}
 use Rattle.table_rows.specs.Row.{Inside}
 use Rattle.prune_paths.specs.Prune.{leaf_at, test_at, high_at, low_at, tree_from, diagram_at, fits, Side, with_side, along}

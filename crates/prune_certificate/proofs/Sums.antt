@@ -18,8 +18,8 @@ use Rattle.whole.specs.Within.{limit, Small, small}
 use Rattle.theory.specs.Widths.{levels_most, node_words}
 use Rattle.theory.specs.Value.{node_word, node_linear}
 use Rattle.theory.specs.Rows.{KindFits, fits_leaf, fits_condition, fits_test, fits_none}
-use Rattle.theory.specs.laws.Fits.{part_word}
-use Rattle.theory.specs.laws.PlainLimits.{back_62}
+use Rattle.theory.proofs.laws.Fits.{part_word}
+use Rattle.theory.proofs.laws.PlainLimits.{back_62}
 use Rattle.prune_certificate.specs.Path.{GoodNode, is_test, tests, number_at, part, Joined, low_here}
 use Rattle.prune_certificate.proofs.Rows.{node_kind}
 

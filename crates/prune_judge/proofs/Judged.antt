@@ -16,9 +16,9 @@ use Rattle.theory.specs.Load.{site_at}
 use Rattle.theory.specs.Solve.{early}
 use Rattle.theory.specs.Value.{good_row}
 use Rattle.theory.specs.Listing.{greatest_root}
-use Rattle.theory.specs.laws.AcceptedModel.{accepted}
-use Rattle.theory.specs.laws.ValueWalk.{greatest_least}
-use Rattle.theory.specs.laws.Rows.{Passed, by_early, early_some}
+use Rattle.theory.proofs.laws.AcceptedModel.{accepted}
+use Rattle.theory.proofs.laws.ValueWalk.{greatest_least}
+use Rattle.theory.proofs.laws.Rows.{Passed, by_early, early_some}
 use Rattle.prune_paths.specs.Prune.{diagram_at, path_number, path_needs, prune_refusal}
 use Rattle.prune_paths.specs.laws.Foreign.{rows_good}
 use Rattle.prune_certificate.specs.Path.{GoodNode}

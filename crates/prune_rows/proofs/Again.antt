@@ -16,7 +16,7 @@ use Rattle.theory.specs.Diagram.{leaf, branch}
 use Rattle.theory.specs.Value.{node_word, high_of, low_of, good_row, ends}
 use Rattle.theory.specs.Staying.{In62}
 use Rattle.theory.specs.Rows.{Range, Among, KindFits, fits_leaf, fits_condition, fits_test, fits_none, BranchesFit}
-use Rattle.theory.specs.laws.Fits.{node_fits, fits_good}
+use Rattle.theory.proofs.laws.Fits.{node_fits, fits_good}
 use Rattle.rule_node.specs.Nodes.{leaf_of, test_held}
 use Rattle.prune_paths.specs.Prune.{diagram_at, GoodRows}
 use Rattle.prune_rows.proofs.Rows.{kind_is, number_is, high_is, low_is, ends_is, row_of}

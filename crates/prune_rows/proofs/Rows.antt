@@ -22,7 +22,7 @@ use Rattle.theory.specs.Diagram.{now, linear, some, forbidden, leaf, branch}
 use Rattle.theory.specs.Verdict.{or}
 use Rattle.theory.specs.Value.{node_word, node_linear, high_of, low_of, ends}
 use Rattle.theory.specs.Rows.{Range, Among, NodeFits, KindFits, fits_leaf, fits_condition, fits_test, fits_none, BranchesFit}
-use Rattle.theory.specs.laws.Fits.{part_word, node_fits}
+use Rattle.theory.proofs.laws.Fits.{part_word, node_fits}
 use Rattle.table_rows.proofs.Rowed.{linear_is}
 use Rattle.rule_node.specs.Nodes.{linear_held, none_node, leaf_of, first_of, test_held, Tested}
 use Rattle.rule_node.proofs.Trees.{now_is, test_con, test_lin}

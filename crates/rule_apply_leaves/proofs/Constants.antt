@@ -23,7 +23,7 @@ use Rattle.table.specs.declared.Made.{Made}
 use Rattle.table.proofs.Store.{number_at}
 use Rattle.table.proofs.Words.{same_bits}
 use Rattle.theory.specs.Widths.{levels_most}
-use Rattle.theory.specs.laws.Comps.{cmp_ℤ_eq}
+use Rattle.theory.proofs.laws.Comps.{cmp_ℤ_eq}
 use Rattle.theory.specs.Diagram.{Linear, cmp_ℤ, zeros}
 use Rattle.theory.specs.Valid.{all, small_linear}
 use Rattle.rule_node.specs.Nodes.{linear_held, constant_of}

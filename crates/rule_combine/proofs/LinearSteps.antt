@@ -17,7 +17,7 @@ use Rattle.table.specs.declared.Made.{Made}
 use Rattle.theory.specs.Widths.{levels_most}
 use Rattle.theory.specs.Diagram.{Tree}
 use Rattle.theory.specs.Computation.{Comp, ret, bind}
-use Rattle.theory.specs.laws.Comps.{bind_bind, bind_ret}
+use Rattle.theory.proofs.laws.Comps.{bind_bind, bind_ret}
 use Rattle.theory.specs.Rules.{scale, shift, sum, sum_on, levels_sum, linear_diagram}
 use Rattle.rule_node.specs.Nodes.{linear_held, constant_of, tree_at, Grown}
 use Rattle.rule_node.specs.Table.{Table, RuleRan}

@@ -18,7 +18,7 @@ use Rattle.rule_node.proofs.Trees.{trees_kept, grown_on}
 use Rattle.rule_node.proofs.Outcomes.{grown, stop, seq, ran_as}
 use Rattle.rule_node.proofs.Meanings.{rule_sum, rule_product, rule_yes, rule_no, lasts_no}
 use Rattle.rule_unary.specs.Picks.{Picks}
-use Rattle.theory.specs.laws.Comps.{bind_bind}
+use Rattle.theory.proofs.laws.Comps.{bind_bind}
 
 pub yes_picks : {k : ℕ} → 0 < k → k ≤ conditions_most → Picks 7 k
 yes_picks a b = record { from = omega arith; to = omega arith; some = a; most = b }

@@ -22,7 +22,7 @@ use Rattle.table.proofs.Words.{same_bits}
 use Rattle.table.specs.Table.{is_none}
 use Rattle.table.specs.declared.Node.{Node}
 use Rattle.theory.specs.Widths.{levels_most}
-use Rattle.theory.specs.laws.Comps.{run_judge, cmp_ℤ_eq, cmp_ℤ_refl}
+use Rattle.theory.proofs.laws.Comps.{run_judge, cmp_ℤ_eq, cmp_ℤ_refl}
 use Rattle.theory.specs.Diagram.{Linear, lin_of, zero_linear, no_coeffs, Tree, leaf, plain, cmp_ℤ, zeros, test_of, add_list, scale_list, ◌⊞◌, ◌⊠◌, ◌⊟◌}
 use Rattle.theory.specs.Computation.{Comp, ret, make, stopped, run}
 use Rattle.theory.specs.Rules.{choose, decide, make_leaf, zero_leaf, none_leaf, leaf_scale}

@@ -18,7 +18,7 @@ use Rattle.table.specs.declared.Made.{Made}
 use Rattle.theory.specs.Diagram.{Tree, branch, same}
 use Rattle.theory.specs.Computation.{ret, make}
 use Rattle.theory.specs.Rules.{narrowed, node}
-use Rattle.theory.specs.laws.Comps.{same_refl, same_not}
+use Rattle.theory.proofs.laws.Comps.{same_refl, same_not}
 use Rattle.rule_node.specs.Nodes.{linear_held, test_held, tree_of, trees, tree_at, Valid, Proper, Root, Grown}
 use Rattle.rule_node.specs.Table.{Bare, Grew}
 use Rattle.rule_node.proofs.Trees.{tree_branch}

@@ -15,7 +15,7 @@ use Rattle.table.specs.declared.Made.{Made}
 use Rattle.table_unique.specs.Unique.{Chained}
 use Rattle.theory.specs.Diagram.{Tree}
 use Rattle.theory.specs.Computation.{Comp, done, run, member}
-use Rattle.theory.specs.laws.Comps.{member_in, member_find, rerun}
+use Rattle.theory.proofs.laws.Comps.{member_in, member_find, rerun}
 use Rattle.rule_node.specs.Nodes.{blank, trees, tree_at, Grown}
 use Rattle.rule_node.specs.Table.{EntryRule, ResultStands, Lasting, Cached, Table, RuleRan, out_of}
 use Rattle.rule_node.proofs.Trees.{trees_length, trees_kept, grown_not, grown_on}

@@ -13,7 +13,7 @@ use Rattle.table.specs.declared.Made.{Made}
 use Rattle.table_unique.specs.Unique.{work_words}
 use Rattle.theory.specs.Diagram.{Linear, Tree}
 use Rattle.theory.specs.Computation.{Comp, ret, judge, bind, both, Out, done, stopped, run}
-use Rattle.theory.specs.laws.Comps.{after, run_bind, run_judge}
+use Rattle.theory.proofs.laws.Comps.{after, run_bind, run_judge}
 use Rattle.theory.specs.Valid.{small_linear}
 use Rattle.rule_node.specs.Nodes.{blank, trees, tree_at, Grown}
 use Rattle.rule_node.specs.Table.{EntryRule, ResultStands, Cached, Bare, Table, RuleRan, Grew, out_of}

@@ -20,7 +20,7 @@ use Rattle.table.specs.declared.Made.{Made}
 use Rattle.table_unique.specs.Unique.{Chained, NodeEntered}
 use Rattle.theory.specs.Diagram.{Tree}
 use Rattle.theory.specs.Computation.{make, done, stopped, run, member}
-use Rattle.theory.specs.laws.Comps.{member_in, member_out}
+use Rattle.theory.proofs.laws.Comps.{member_in, member_out}
 use Rattle.rule_node.specs.Nodes.{tree_of, trees, tree_at, blank, Valid, Good}
 use Rattle.rule_node.specs.Table.{Bare, Grew, out_of}
 use Rattle.rule_node.proofs.Trees.{trees_length, trees_same, tree_at_is, inj, weaken}

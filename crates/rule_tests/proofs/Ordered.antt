@@ -20,7 +20,7 @@ use Rattle.table.proofs.Look.{eq_ℤ_true}
 use Rattle.table.specs.Table.{node_words, node_at, eq_ℤ}
 use Rattle.table.specs.declared.Node.{Node}
 use Rattle.theory.specs.Widths.{levels_most, conditions_most}
-use Rattle.theory.specs.laws.Comps.{cmp_ℤ_eq, cmp_ℤ_refl}
+use Rattle.theory.proofs.laws.Comps.{cmp_ℤ_eq, cmp_ℤ_refl}
 use Rattle.theory.specs.Diagram.{Linear, Test, now, later, linear, then, cmp_ℤ, cmp_list, cmp_linear, cmp}
 use Rattle.rule_node.specs.Nodes.{linear_held, first_of, condition_of, test_held, Tested}
 use Rattle.rule_node.specs.Roots.{order_of}

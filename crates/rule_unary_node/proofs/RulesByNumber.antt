@@ -11,7 +11,7 @@ use Rattle.whole.specs.Cases.{if}
 use Rattle.theory.specs.Diagram.{Test, now, later, linear, Leaf, Tree, leaf, branch, cmp}
 use Rattle.theory.specs.Computation.{Comp, ret, both}
 use Rattle.theory.specs.Rules.{node, over, scale, shift, complement, number, is_later, side}
-use Rattle.theory.specs.laws.Comps.{cmp_eq, cmp_refl}
+use Rattle.theory.proofs.laws.Comps.{cmp_eq, cmp_refl}
 use Rattle.rule_node.specs.Nodes.{tree_at}
 use Rattle.rule_node.specs.Table.{Bare, Lasting}
 use Rattle.table_cache.specs.Cache.{Key}

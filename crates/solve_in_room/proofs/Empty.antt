@@ -11,9 +11,9 @@ use Rattle.theory.specs.Command.{Command, site, push_leaf, push_condition, push_
 use Rattle.theory.specs.Verdict.{verdict, reward_slot}
 use Rattle.theory.specs.Load.{Loaded, load_choice_with, load_entry, load_one, load_one_with, load_on, load_on_with, find_slot, model_of, site_at, load, load_in}
 use Rattle.theory.specs.Solve.{solve_in}
-use Rattle.theory.specs.laws.Comps.{after, run_bind}
-use Rattle.theory.specs.laws.Valid.{among_out}
-use Rattle.theory.specs.laws.AcceptedModel.{accepted, entry_trees}
+use Rattle.theory.proofs.laws.Comps.{after, run_bind}
+use Rattle.theory.proofs.laws.Valid.{among_out}
+use Rattle.theory.proofs.laws.AcceptedModel.{accepted, entry_trees}
 use Rattle.solve_laws.specs.Outcome.{solve_unloaded}
 
 abbrev nothing : Loaded

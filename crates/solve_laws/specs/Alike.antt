@@ -5,9 +5,9 @@ use Rattle.whole.specs.Cases.{if, same_bool, is_true, from_true}
 use Rattle.theory.specs.Diagram.{Tree, same}
 use Rattle.theory.specs.Computation.{Comp, member, run, enter_all}
 use Rattle.theory.specs.Events.{inside, all_inside}
-use Rattle.theory.specs.laws.Comps.{same_eq, same_refl, member_in, member_find}
-use Rattle.theory.specs.laws.Counts.{distinct_roots}
-use Rattle.theory.specs.laws.Inside.{Sub, sub_refl, sub_trans, all_none, all_parts, all_cons, roots_inside, roots_sub}
+use Rattle.theory.proofs.laws.Comps.{same_eq, same_refl, member_in, member_find}
+use Rattle.theory.proofs.laws.Counts.{distinct_roots}
+use Rattle.theory.proofs.laws.Inside.{Sub, sub_refl, sub_trans, all_none, all_parts, all_cons, roots_inside, roots_sub}
 use Rattle.collect.proofs.Order.{SameNodes, same_nodes, SameOut, run_order}
 
 -- each of one list is one of the other

@@ -9,8 +9,8 @@ use Rattle.theory.specs.Meaning.{Action, Model}
 use Rattle.theory.specs.Stage.{model_diagrams, moment, sum_out, action_total, best_on, stage_over, stages_on}
 use Rattle.theory.specs.Events.{events, needed, peak_of}
 use Rattle.theory.specs.Peaks.{raise, peaks_of}
-use Rattle.theory.specs.laws.Comps.{run_all_final}
-use Rattle.theory.specs.laws.Events.{run_done}
+use Rattle.theory.proofs.laws.Comps.{run_all_final}
+use Rattle.theory.proofs.laws.Events.{run_done}
 use Rattle.solve_laws.specs.Onward.{onward, answered}
 
 -- ---- whose operations they are

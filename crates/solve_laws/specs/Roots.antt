@@ -8,7 +8,7 @@ use Rattle.theory.specs.Diagram.{Tree}
 use Rattle.theory.specs.Computation.{Comp, member}
 use Rattle.theory.specs.Meaning.{Action}
 use Rattle.theory.specs.Stage.{action_diagrams, all_diagrams}
-use Rattle.theory.specs.laws.Inside.{Sub, sub_trans}
+use Rattle.theory.proofs.laws.Inside.{Sub, sub_trans}
 use Rattle.rule_node.specs.Nodes.{blank, trees, tree_at, Good}
 use Rattle.table_unique.specs.Unique.{Space}
 use Rattle.collect_mark.specs.Mark.{roots_of, Below}

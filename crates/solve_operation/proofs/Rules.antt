@@ -14,7 +14,7 @@ use Rattle.theory.specs.Diagram.{Tree, leaf, plain, no_coeffs}
 use Rattle.theory.specs.Computation.{Comp, run, stopped, make}
 use Rattle.theory.specs.Rules.{best, zero_leaf, make_leaf, expectation, add_reward}
 use Rattle.theory.specs.Valid.{small_linear, all}
-use Rattle.theory.specs.laws.Comps.{run_judge}
+use Rattle.theory.proofs.laws.Comps.{run_judge}
 use Rattle.rule_node.specs.Nodes.{trees, tree_at, linear_held, Plain}
 use Rattle.rule_node.specs.Table.{Table, RuleRan, Grew}
 use Rattle.rule_node.specs.EntryMeaning.{rule_by, rule_of}

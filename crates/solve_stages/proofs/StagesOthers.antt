@@ -18,7 +18,7 @@ use Rattle.model_progress.specs.declared.Site.{Site as CodeSite}
 use Rattle.model_progress.specs.GivenFlags.{site_as}
 use Rattle.theory.specs.Stage.{moment, action_total, best_on, stage_over}
 use Rattle.theory.specs.Peaks.{peaks_of}
-use Rattle.theory.specs.laws.AcceptedModel.{accepted_site}
+use Rattle.theory.proofs.laws.AcceptedModel.{accepted_site}
 use Rattle.rule_node.specs.Nodes.{blank}
 use Rattle.solve_laws.specs.Alike.{Alike, alike_trans, alike_eq}
 use Rattle.solve_laws.specs.Onward.{onward, onward_onward, onward_same, onward_ok, onward_no, run_all_then, answered, answered_ok, answered_no}

@@ -15,8 +15,8 @@ use Rattle.theory.specs.Widths.{nodes_most, node_words, work_words, peak_words}
 use Rattle.theory.specs.Verdict.{Verdict, verdict, refusal}
 use Rattle.theory.specs.Computation.{refused}
 use Rattle.theory.specs.Solve.{room, solve_in, early, early_with_peaks, solve}
-use Rattle.theory.specs.laws.Refusals.{refused_number}
-use Rattle.theory.specs.laws.Rows.{Passed, by_early, early_some}
+use Rattle.theory.proofs.laws.Refusals.{refused_number}
+use Rattle.theory.proofs.laws.Rows.{Passed, by_early, early_some}
 use Rattle.finish.specs.Finish.{Cleared}
 use Rattle.model.specs.Answers.{shown}
 use Rattle.model.specs.declared.Verdict.{Verdict as CodeVerdict}

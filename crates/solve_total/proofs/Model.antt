@@ -13,8 +13,9 @@ use Rattle.theory.specs.Meaning.{Action, Model}
 use Rattle.theory.specs.Verdict.{Site, from_to, verdict}
 use Rattle.theory.specs.Load.{Entry, action_of, model, model_of, site_at}
 use Rattle.theory.specs.Stage.{action_diagrams, all_diagrams, model_diagrams}
-use Rattle.theory.specs.laws.Valid.{among_out}
-use Rattle.theory.specs.laws.AcceptedModel.{OfSite, accepted_site, loaded_entries, model_loaded}
+use Rattle.theory.proofs.laws.Valid.{among_out}
+use Rattle.theory.proofs.laws.AcceptedModel.{OfSite, accepted_site, model_loaded}
+use Rattle.theory.specs.Load.{loaded_entries}
 use Rattle.rule_node.specs.Nodes.{blank}
 use Rattle.model_progress.specs.declared.Site.{Site as CodeSite}
 use Rattle.model_progress.specs.GivenFlags.{site_as}

@@ -12,7 +12,7 @@ use Rattle.theory.specs.Meaning.{Model}
 use Rattle.theory.specs.Load.{load, model}
 use Rattle.theory.specs.Stage.{model_diagrams, stages_on, all_stages}
 use Rattle.theory.specs.Peaks.{raise, peaks_of, solved_peaks}
-use Rattle.theory.specs.laws.Events.{run_done}
+use Rattle.theory.proofs.laws.Events.{run_done}
 use Rattle.solve_laws.specs.Onward.{Works}
 use Rattle.solve_laws.specs.Steps.{all_stages_is}
 

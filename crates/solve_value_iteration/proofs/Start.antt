@@ -13,8 +13,8 @@ use Rattle.theory.specs.Diagram.{Tree}
 use Rattle.theory.specs.Verdict.{verdict, from_to}
 use Rattle.theory.specs.Load.{site_at, model}
 use Rattle.theory.specs.Stage.{model_diagrams}
-use Rattle.theory.specs.laws.Valid.{among_out}
-use Rattle.theory.specs.laws.AcceptedModel.{accepted_site}
+use Rattle.theory.proofs.laws.Valid.{among_out}
+use Rattle.theory.proofs.laws.AcceptedModel.{accepted_site}
 use Rattle.table_unique.specs.Unique.{last_of, Space}
 use Rattle.rule_node.specs.Nodes.{trees, tree_at}
 use Rattle.rule_node.specs.Table.{EntryRule, Table}

@@ -9,8 +9,8 @@ use Rattle.theory.specs.Valid.{among}
 use Rattle.theory.specs.Verdict.{Verdict}
 use Rattle.theory.specs.Load.{site_at}
 use Rattle.theory.specs.Solve.{early}
-use Rattle.theory.specs.laws.AcceptedModel.{accepted_site}
-use Rattle.theory.specs.laws.Rows.{Passed, by_early, admitted, admitted_is, early_some}
+use Rattle.theory.proofs.laws.AcceptedModel.{accepted_site}
+use Rattle.theory.proofs.laws.Rows.{Passed, by_early, admitted, admitted_is, early_some}
 
 module _ (B : List ℕ) (words : ℕ) where
   pub passed : (h : ℕ) → (early B h words).number ≡ 0 → Passed B h words

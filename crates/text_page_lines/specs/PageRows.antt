@@ -12,7 +12,7 @@ use Rattle.theory.specs.Solve.{early}
 use Rattle.theory.specs.Value.{Asked, value_of}
 use Rattle.theory.specs.Listing.{written, ListingOut}
 use Rattle.theory.specs.Rows.{Range, Admitted, EarlyRow}
-use Rattle.theory.specs.laws.Rows.{if_yes, if_no, by_early, admitted, early_some, early_is, admitted_is}
+use Rattle.theory.proofs.laws.Rows.{if_yes, if_no, by_early, admitted, early_some, early_is, admitted_is}
 use Rattle.text_page_lines.specs.Page.{page_text, meets, page_refusal, page}
 
 module _ (B : List ℕ) (H : ℕ) (nodes : List ℤ) (stages : List ℕ) (q : Asked) (buffer : List ℕ) (at : ℕ) where

@@ -25,8 +25,8 @@ use Rattle.theory.specs.Load.{site_at}
 use Rattle.theory.specs.Solve.{early}
 use Rattle.theory.specs.Value.{Asked, accepted, node_word, node_linear, high_of, good_row, numerator_of, taken, ends, walk, ValueOut, refused_value, value_at, value_of}
 use Rattle.theory.specs.Name.{names_action, no_part, trimmed, named_part, name_refusal, name_part, name}
-use Rattle.theory.specs.laws.Fits.{node_fits, leaf_small}
-use Rattle.theory.specs.laws.Name.{trimmed_most}
+use Rattle.theory.proofs.laws.Fits.{node_fits, leaf_small}
+use Rattle.theory.proofs.laws.Name.{trimmed_most}
 use Rattle.theory.specs.Listing.{lines}
 use Rattle.whole_division.specs.Floor.{floor_abs}
 use Rattle.text_page_lines.specs.Page.{whole_part, line_at, page_text}

@@ -19,6 +19,3 @@ pub mod Forbidden
 pub mod Peaks
 -- K11, how much an override loses
 pub mod Override
--- ---- laws
-
-pub mod laws

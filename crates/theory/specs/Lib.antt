@@ -35,6 +35,3 @@ pub mod Listing
 -- "What a refusal gives": its rows, and 11 and 12 by what is named and made
 pub mod Rows
 pub mod Events
--- ---- laws
-
-pub mod laws

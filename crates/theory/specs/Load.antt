@@ -7,7 +7,7 @@ use Rattle.theory.specs.Diagram.{Test, now, later, Tree, leaf, branch, plain, te
 use Rattle.theory.specs.Computation.{Comp, ret, bind, make, result}
 use Rattle.theory.specs.Rules.{choose, zero_leaf, none_leaf}
 use Rattle.theory.specs.Meaning.{Action, Model}
-use Rattle.theory.specs.Command.{Command, site, push_leaf, push_condition, push_test, push_forbidden, give, name_action, end_model, whole, unknown, short, Placed, byte_at, action_at, readings_in, Slot}
+use Rattle.theory.specs.Command.{Command, site, push_leaf, push_condition, push_test, push_forbidden, give, name_action, end_model, whole, unknown, short, Placed, byte_at, action_at, readings, readings_in, Slot}
 use Rattle.theory.specs.Verdict.{Site, site_of, same_slot, reward_slot, chance_slot, level_slot, end_slot, from_to}
 
 -- a diagram and what it was given as
@@ -132,3 +132,7 @@ model = model_in new_form
 -- the model as its bytes spell it: each test over its branches as they stand
 unfoldable pub spelled : List ℕ → Model
 spelled B = result (load_with (λ t h l. ret (branch t h l)) B)
+
+-- what is loaded of some bytes
+abbrev pub loaded_entries : List ℕ → List Entry
+loaded_entries B = (result (load_on (readings B) (record { stack = []; entries = [] }))).entries

@@ -25,8 +25,8 @@ use Rattle.theory.specs.Verdict.{Site, Verdict}
 use Rattle.theory.specs.Load.{site_at}
 use Rattle.theory.specs.Solve.{early}
 use Rattle.theory.specs.Value.{Asked, ValueOut, refused_value, value_of}
-use Rattle.theory.specs.laws.AcceptedModel.{accepted_site}
-use Rattle.theory.specs.laws.Rows.{Passed, by_early, early_some}
+use Rattle.theory.proofs.laws.AcceptedModel.{accepted_site}
+use Rattle.theory.proofs.laws.Rows.{Passed, by_early, early_some}
 use Rattle.value_walk.specs.Out.{value_after}
 use Rattle.value_joined.specs.Total.{TotalOut, refused_total, answered_number, both_read, same_scale, total_after, total_of}
 use Rattle.value_joined.specs.laws.Cases.{first_refused, second_refused, scale_refused, past_scale}

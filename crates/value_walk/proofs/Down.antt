@@ -14,7 +14,7 @@ use Rattle.theory.specs.Widths.{levels_most, node_words}
 use Rattle.theory.specs.Diagram.{zeros}
 use Rattle.theory.specs.Meaning.{nth}
 use Rattle.theory.specs.Value.{Asked, bits, node_word, node_linear, high_of, low_of, among_ℤ, good_branches, good_leaf_row, good_condition_row, good_test_row, good_none_row, good_row, numerator_of, taken, ends as of-leaf, walk}
-use Rattle.theory.specs.laws.Fits.{node_fits, leaf_small, leaf_most}
+use Rattle.theory.proofs.laws.Fits.{node_fits, leaf_small, leaf_most}
 use Rattle.theory.specs.Valid.{small_linear}
 use Rattle.table_rows.specs.declared.Kind.{Kind}
 use Rattle.table_rows.specs.declared.Kind.TheVariants.{Leaf, Condition, Test, None, Bad}

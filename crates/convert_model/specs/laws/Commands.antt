@@ -14,10 +14,10 @@ use Rattle.theory.specs.Diagram.{zeros}
 use Rattle.theory.specs.Valid.{among}
 use Rattle.theory.specs.Command.{Command, site, push_leaf, push_condition, push_test, push_forbidden, give, Slot, name_action, end_model, Read, whole, unknown, short, Placed, byte_at, width_in, command_in, read_in, goes_on, readings_from_in}
 use Rattle.theory.specs.Verdict.{Site, Facts, Progress, Verdict, refusal, or, beyond, of_site, same_slot, end_slot, first_broken, first_rules, later_rules, rules_in, after, ended, judged_in}
-use Rattle.theory.specs.laws.Valid.{among_out}
+use Rattle.theory.proofs.laws.Valid.{among_out}
 use Rattle.theory.specs.Rows.{WholeIn}
-use Rattle.theory.specs.laws.AcceptedModel.{broken, unbroken, judged_whole, behind_in}
-use Rattle.theory.specs.laws.Rows.{if_yes, if_no, by_read_in, read_whole_in}
+use Rattle.theory.proofs.laws.AcceptedModel.{broken, unbroken, judged_whole, behind_in}
+use Rattle.theory.proofs.laws.Rows.{if_yes, if_no, by_read_in, read_whole_in}
 use Rattle.convert_forms.specs.Forms.{converted, converted_all}
 use Rattle.convert_model.specs.Conversion.{is_forbidden, forbids}
 use Rattle.convert_model.specs.laws.OneCommand.{Turn, FitsForm, one, first_byte, command_drop, converted_drop, copied_is}

@@ -12,9 +12,9 @@ use Rattle.theory.specs.Command.{Command, site, push_leaf, push_condition, push_
 use Rattle.theory.specs.Command.{short, Placed, byte_at, width_in, command_in, goes_on, readings_from_in, readings_in, bytes_at}
 use Rattle.theory.specs.Verdict.{or, Site, Verdict, refusal, site_of, Rule, rule, first_broken, site_rules, first_rules, rules_in, after, at_start, verdict_in}
 use Rattle.theory.specs.Load.{Loaded, load_one_with, load_on_with, load_in, model_in, model_of, site_in}
-use Rattle.theory.specs.laws.Valid.{among_out, among_in}
-use Rattle.theory.specs.laws.AcceptedModel.{broken, unbroken, behind_in}
-use Rattle.theory.specs.laws.Rows.{by_read_in, read_whole_in}
+use Rattle.theory.proofs.laws.Valid.{among_out, among_in}
+use Rattle.theory.proofs.laws.AcceptedModel.{broken, unbroken, behind_in}
+use Rattle.theory.proofs.laws.Rows.{by_read_in, read_whole_in}
 use Rattle.convert_forms.specs.Forms.{model_as}
 use Rattle.convert_model.specs.Conversion.{forbids, is_forbidden}
 use Rattle.convert_model.specs.laws.OneCommand.{Turn, turned_round, FitsForm}

@@ -9,7 +9,7 @@ use Rattle.theory.specs.Widths.{name_bytes}
 use Rattle.theory.specs.Form.{Form, old_form, new_form, site_byte, levels_in, actions_in, forbidden_bytes}
 use Rattle.theory.specs.Diagram.{Linear, padded, zeros}
 use Rattle.theory.specs.Command.{Command, site, push_leaf, push_condition, push_test, push_forbidden, give, name_action, end_model, byte_at, word_at, signed, signed_from, bytes_at, linear_in, width_in, command_in}
-use Rattle.theory.specs.laws.Fits.{zeros_each}
+use Rattle.theory.proofs.laws.Fits.{zeros_each}
 use Rattle.convert_forms.specs.Forms.{layout_in, byte_in, copied, fitted, converted}
 
 -- ---- the bytes of a command

@@ -12,7 +12,7 @@ use Rattle.theory.specs.Verdict.{Verdict, refusal, verdict_in, or}
 use Rattle.theory.specs.Load.{site_in}
 use Rattle.theory.specs.Listing.{ListingOut}
 use Rattle.theory.specs.Rows.{VerdictRowIn}
-use Rattle.theory.specs.laws.Rows.{if_yes, if_no, some_not, verdict_row_in, verdict_is_in, zero_row_in}
+use Rattle.theory.proofs.laws.Rows.{if_yes, if_no, some_not, verdict_row_in, verdict_is_in, zero_row_in}
 use Rattle.convert_forms.specs.Forms.{model_as}
 use Rattle.convert_model.specs.Conversion.{own_refusal, too_large, is_forbidden, forbids, unfit, conversion_refusal, conversion}
 use Rattle.convert_model.specs.Statements.{AdmittedIn, FitsIn, refused_conversion, wrote, ConversionRow, conversion_0, conversion_10, conversion_1_8, conversion_20, conversion_17, ConversionRows}

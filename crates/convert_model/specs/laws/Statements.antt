@@ -9,8 +9,8 @@ use Rattle.theory.specs.Verdict.{Verdict, refusal, verdict_in}
 use Rattle.theory.specs.Load.{site_in, model}
 use Rattle.theory.specs.Listing.{written, ListingOut}
 use Rattle.theory.specs.Rows.{VerdictRowIn}
-use Rattle.theory.specs.laws.Rows.{verdict_is_in, verdict_row_in}
-use Rattle.theory.specs.laws.Numbers.{verdict_most}
+use Rattle.theory.proofs.laws.Rows.{verdict_is_in, verdict_row_in}
+use Rattle.theory.proofs.laws.Numbers.{verdict_most}
 use Rattle.convert_forms.specs.Forms.{model_as}
 use Rattle.convert_model.specs.Conversion.{conversion}
 use Rattle.convert_model.specs.Statements.{AdmittedIn, FitsIn, wrote, ConversionRow, conversion_0, conversion_10, conversion_1_8, conversion_20}

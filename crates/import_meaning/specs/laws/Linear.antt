@@ -8,7 +8,7 @@ use Rattle.std.proofs.Math.IntN.{pos, *ℤ_comm}
 use Rattle.whole.specs.Int.{atom, diff, ring, minus_one}
 use Rattle.theory.specs.Diagram.{Linear, no_coeffs, zeros, ◌⊞◌, ◌⊟◌, ◌⊠◌}
 use Rattle.theory.specs.Meaning.{Env, dot, value}
-use Rattle.theory.specs.laws.Values.{value_add, value_sub, value_scale, value_constant}
+use Rattle.theory.proofs.laws.Values.{value_add, value_sub, value_scale, value_constant}
 use Rattle.import_grammar.specs.Grammar.{Index, i1, i2, i3, i4, i5, i6, i7, i8, Sign, adds, takes, ConstFactor, number, kbracket, ConstTerm, kfactor, ktimes}
 use Rattle.import_grammar.specs.Grammar.{ConstSum, kterm, kneg, kplus, VaryFactor, level, vbracket, VaryTerm, vfactor, vscaled, vby, VarySum, vterm, vneg}
 use Rattle.import_grammar.specs.Grammar.{plus_kv, plus_vk, plus_vv, constant, varying}

@@ -12,7 +12,7 @@ use Rattle.theory.specs.Command.{byte_at, word_at, signed, signed_from, bytes_at
 use Rattle.theory.specs.Command.{readings_in}
 use Rattle.theory.specs.Verdict.{reward_slot, chance_slot, level_slot, end_slot}
 use Rattle.theory.specs.Rows.{WholeIn}
-use Rattle.theory.specs.laws.Rows.{if_yes, if_no, read_whole_in}
+use Rattle.theory.proofs.laws.Rows.{if_yes, if_no, read_whole_in}
 use Rattle.convert_model.specs.laws.OneCommand.{first_byte, command_drop}
 use Rattle.import_numbers.specs.Numbers.{nine, all_within}
 use Rattle.import_model.specs.Encode.{low_first, word_of, words_bytes, linear_bytes, slot_bytes, command_bytes, encode, placed}

@@ -12,8 +12,8 @@ use Rattle.theory.specs.Rules.{choose, none_leaf}
 use Rattle.theory.specs.Command.{Command, push_condition, push_test, give}
 use Rattle.theory.specs.Load.{Entry, Loaded, condition_test, load_choice_with, load_one, load_one_with}
 use Rattle.theory.specs.Meaning.{Env, value, holds, at}
-use Rattle.theory.specs.laws.Comps.{result_bind}
-use Rattle.theory.specs.laws.Values.{scale_sign, less_sub, choose_at, quotient_exact, value_scale, value_sub}
+use Rattle.theory.proofs.laws.Comps.{result_bind}
+use Rattle.theory.proofs.laws.Values.{scale_sign, less_sub, choose_at, quotient_exact, value_scale, value_sub}
 use Rattle.import_grammar.specs.Grammar.{Four, f1, f2, f3, f4, Op, lt, le, gt, ge, Nots, unsaid, bang, Atom, now, later, compare, group, Not, negated, And, alone, both, Or, single, either, Result, worth, forbids}
 use Rattle.import_numbers.specs.Numbers.{linear_of}
 use Rattle.import_model.specs.Commands.{condition_of, later_of, compare_commands, nots_commands, atom_commands, not_commands, and_commands, or_commands, result_command}

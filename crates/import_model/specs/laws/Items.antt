@@ -8,7 +8,7 @@ use Rattle.theory.specs.Command.{Command, give, Slot, end_model}
 use Rattle.theory.specs.Verdict.{end_slot, reward_slot, chance_slot, level_slot}
 use Rattle.theory.specs.Load.{Entry, Loaded, load_entry, load_one, load_one_with}
 use Rattle.theory.specs.Meaning.{Env, value, at}
-use Rattle.theory.specs.laws.Values.{if_ap}
+use Rattle.theory.proofs.laws.Values.{if_ap}
 use Rattle.import_grammar.specs.Grammar.{Or, Result, Items, head, closed, named, Opening, reward, chance, next, end, Before, start, case, Text, entire}
 use Rattle.import_numbers.specs.Numbers.{digits_value}
 use Rattle.import_model.specs.Commands.{condition_of, level_of, at_most, action_most, or_commands, result_command, items_commands, opening_commands, before_commands, text_commands}

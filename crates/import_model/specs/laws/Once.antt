@@ -11,9 +11,9 @@ use Rattle.theory.specs.Command.{Command, site, push_leaf, push_condition, push_
 use Rattle.theory.specs.Verdict.{Site, Facts, Progress, same_slot, has_slot, name_slot, or, rule, first_broken, later_rules, first_rules, rules_in, after, ended, judged_in, at_start}
 use Rattle.theory.specs.Load.{Entry, Loaded, condition_test, load_choice_with, load_entry, load_one_with}
 use Rattle.theory.specs.Meaning.{Env}
-use Rattle.theory.specs.laws.Comps.{result_bind}
-use Rattle.theory.specs.laws.Rules.{slot_same, same_self}
-use Rattle.theory.specs.laws.AcceptedModel.{broken, unbroken, judged_whole}
+use Rattle.theory.proofs.laws.Comps.{result_bind}
+use Rattle.theory.proofs.laws.Rules.{slot_same, same_self}
+use Rattle.theory.proofs.laws.AcceptedModel.{broken, unbroken, judged_whole}
 use Rattle.import_model.specs.Encode.{placed}
 use Rattle.import_model.specs.Meaning.{Item, item_leaf, leaf_at}
 use Rattle.import_model.specs.laws.Follows.{load_all, loaded}

@@ -16,7 +16,7 @@ use Rattle.theory.specs.Load.{Entry, find_slot, found, action_of, model_of}
 use Rattle.theory.specs.Process.{Action}
 use Rattle.theory.specs.Total.{weigh}
 use Rattle.theory.specs.Meaning.{Action as ModelAction, Model, nth_action, action_at, numbers_from, Env, env, value, at, leaf_worth, worth_at, level_at, end_at, chance_at, weight, moved, process}
-use Rattle.theory.specs.laws.Valid.{other_above}
+use Rattle.theory.proofs.laws.Valid.{other_above}
 use Rattle.import_model.specs.Commands.{at_most, action_most}
 use Rattle.import_model.specs.Meaning.{Item, item_leaf, leaf_at, end_worth, process_of}
 use Rattle.import_model.specs.laws.Items.{capped, Entered, no_entry, one_entry}

@@ -14,7 +14,7 @@ use Rattle.theory.specs.Plain.{in_32_bits}
 use Rattle.theory.specs.Verdict.{Verdict, refusal, verdict_in}
 use Rattle.theory.specs.Listing.{written, ListingOut}
 use Rattle.theory.specs.Rows.{VerdictRow}
-use Rattle.theory.specs.laws.Rows.{if_yes, if_no, some_not, verdict_row_in, verdict_is_in, zero_row_in}
+use Rattle.theory.proofs.laws.Rows.{if_yes, if_no, some_not, verdict_row_in, verdict_is_in, zero_row_in}
 use Rattle.convert_model.specs.Conversion.{own_refusal}
 use Rattle.convert_model.specs.Statements.{AdmittedIn, OnlyItsOwn}
 use Rattle.import_grammar.specs.Grammar.{Text, text_bytes, InGrammar}

@@ -14,10 +14,11 @@ use Rattle.theory.specs.Process.{Action}
 use Rattle.theory.specs.Meaning.{Model, action_at, at, end_at, process}
 use Rattle.theory.specs.Rows.{Range}
 use Rattle.theory.specs.Listing.{written, ListingOut}
-use Rattle.theory.specs.laws.Comps.{result_bind}
-use Rattle.theory.specs.laws.Valid.{among_out}
-use Rattle.theory.specs.laws.Rows.{verdict_is_in}
-use Rattle.theory.specs.laws.AcceptedModel.{InRange, accepted, loaded_entries, model_loaded}
+use Rattle.theory.proofs.laws.Comps.{result_bind}
+use Rattle.theory.proofs.laws.Valid.{among_out}
+use Rattle.theory.proofs.laws.Rows.{verdict_is_in}
+use Rattle.theory.proofs.laws.AcceptedModel.{InRange, accepted, model_loaded}
+use Rattle.theory.specs.Load.{loaded_entries}
 use Rattle.convert_model.specs.Statements.{AdmittedIn, bytes_of}
 use Rattle.import_grammar.specs.Grammar.{Text, entire, text_bytes, Items, head, closed, named, Opening, reward, chance, next, end, Before, start, case}
 use Rattle.import_grammar.specs.laws.Reads.{one_reading}

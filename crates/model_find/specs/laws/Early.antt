@@ -3,7 +3,7 @@ use Rattle.std.specs.Prelude.{List, ℕ, ◌≤◌}
 use Rattle.std.proofs.Common.{arith}
 use Rattle.theory.specs.Form.{new_form}
 use Rattle.theory.specs.Rows.{EarlyRow, early_10, early_9, early_1_8}
-use Rattle.theory.specs.laws.Numbers.{verdict_most}
+use Rattle.theory.proofs.laws.Numbers.{verdict_most}
 
 pub early_most : {B : List ℕ} {steps size k p : ℕ} → EarlyRow B steps size k p → k ≤ 10
 early_most (early_10 f) = omega arith

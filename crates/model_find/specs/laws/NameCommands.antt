@@ -18,10 +18,10 @@ use Rattle.theory.specs.Verdict.{Site, Progress, Verdict, first_broken, first_ru
 use Rattle.theory.specs.Load.{site_at, site_in}
 use Rattle.theory.specs.Name.{Part, trimmed, name_part, name}
 use Rattle.theory.specs.Rows.{Range, Admitted, name_0, NamePartRow, name_given, name_empty, name_refused}
-use Rattle.theory.specs.laws.Valid.{among_out}
-use Rattle.theory.specs.laws.AcceptedModel.{broken, unbroken, judged_whole, behind}
-use Rattle.theory.specs.laws.Rows.{by_read, ended_going, verdict_is}
-use Rattle.theory.specs.laws.Name.{trimmed_most, trimmed_spaces, trimmed_last, name_bytes_at, name_part_row, name_part_is}
+use Rattle.theory.proofs.laws.Valid.{among_out}
+use Rattle.theory.proofs.laws.AcceptedModel.{broken, unbroken, judged_whole, behind}
+use Rattle.theory.proofs.laws.Rows.{by_read, ended_going, verdict_is}
+use Rattle.theory.proofs.laws.Name.{trimmed_most, trimmed_spaces, trimmed_last, name_bytes_at, name_part_row, name_part_is}
 use Rattle.model_find.specs.Find.{trim}
 use Rattle.model_find.specs.laws.Spaces.{trim_first}
 

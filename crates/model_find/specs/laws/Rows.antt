@@ -7,7 +7,7 @@ use Rattle.whole.specs.Cases.{if}
 use Rattle.theory.specs.Verdict.{Verdict, from_to}
 use Rattle.theory.specs.Load.{site_at}
 use Rattle.theory.specs.Rows.{Admitted}
-use Rattle.theory.specs.laws.Rows.{by_early, admitted, admitted_is, early_is, early_some, if_no, some_not}
+use Rattle.theory.proofs.laws.Rows.{by_early, admitted, admitted_is, early_is, early_some, if_no, some_not}
 use Rattle.model_find.specs.Find.{FindOut, refused_find, trim, bearers, found_among, find}
 use Rattle.model_find.specs.Statements.{Sent, Carries, FindRow, find_0, find_1_10, find_18, find_19}
 use Rattle.model_find.specs.laws.Spaces.{sent_is, trim_sent}

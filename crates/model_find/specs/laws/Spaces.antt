@@ -7,7 +7,7 @@ use Rattle.std.proofs.Math.ListN.{get_or-append}
 use Rattle.std.proofs.Math.Seq.{take-length}
 use Rattle.whole.specs.Cases.{if, both, and_in}
 use Rattle.theory.specs.Name.{trimmed}
-use Rattle.theory.specs.laws.Name.{trimmed_most, trimmed_spaces, trimmed_last}
+use Rattle.theory.proofs.laws.Name.{trimmed_most, trimmed_spaces, trimmed_last}
 use Rattle.model_find.specs.Find.{trim, same_name}
 use Rattle.model_find.specs.Statements.{Sent}
 

@@ -7,7 +7,7 @@ use Rattle.theory.specs.Load.{site_at}
 use Rattle.theory.specs.Solve.{early}
 use Rattle.theory.specs.Name.{name_refusal, name}
 use Rattle.theory.specs.Rows.{Range, Admitted, NameRow, name_0, name_1_10, name_16}
-use Rattle.theory.specs.laws.Rows.{zero_name, name_is, early_some}
+use Rattle.theory.proofs.laws.Rows.{zero_name, name_is, early_some}
 use Rattle.model_find.specs.Find.{FindOut, refused_find, bearers, found_among, find}
 use Rattle.model_find.specs.Statements.{Sent, FindRow, find_0, find_1_10, find_18, find_19, FindRows, FindsHome, NamesFound, SpacesLost, EmptyNobodys, Shared, SharedRefused}
 use Rattle.model_find.specs.laws.Spaces.{EndsInText, trim_more, trim_none, trim_sent}

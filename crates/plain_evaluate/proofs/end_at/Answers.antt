@@ -4,7 +4,7 @@ use native.Mathlib.Omega.{arith}
 use Rattle.whole.specs.Numerator.{words}
 use Rattle.theory.specs.Verdict.{end_slot}
 use Rattle.theory.specs.Meaning.{env}
-use Rattle.theory.specs.laws.AcceptedModel.{loaded_entries}
+use Rattle.theory.specs.Load.{loaded_entries}
 use Rattle.plain_pass.specs.Pass.{nums_at}
 use Rattle.plain_pass.specs.Parts.{row, place}
 use Rattle.plain_pass.proofs.Points.{numbers_alone, flat_alone}

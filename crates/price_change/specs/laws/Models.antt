@@ -7,8 +7,8 @@ use Rattle.theory.specs.Meaning.{Model, settings, numbers_from, weight, moved, p
 use Rattle.theory.specs.Meaning.{Action as ModelAction}
 use Rattle.theory.specs.Verdict.{verdict}
 use Rattle.theory.specs.Load.{model}
-use Rattle.theorems.specs.laws.Weights.{power_step}
-use Rattle.theorems.specs.laws.Chances.{state_weights_sum}
+use Rattle.theorems.proofs.laws.Weights.{power_step}
+use Rattle.theorems.proofs.laws.Chances.{state_weights_sum}
 use Rattle.price_change.specs.Prices.{AlikeButRewards, Kept, Repriced, NearModels}
 use Rattle.price_change.specs.laws.Prices.{near_weigh}
 

@@ -5,9 +5,9 @@ use Rattle.std.proofs.Common.{◌∙◌, inl, inr, ⊎_elim, arith}
 use Prim.Native.Nat.{ℕ, zero, suc, ◌+◌, ◌*◌}
 use Rattle.theory.specs.Total.{Total, num, ◌⊑◌, ◌⊕◌, weigh, mean}
 use Rattle.theory.specs.Process.{Process, Action, total, optimum, lowest_best}
-use Rattle.theory.specs.laws.Total.{⊑_refl, ⊑_trans, ⊑-of_eq, has_above, has_left, pos-⊕, ⊕_pos, ⊕_more, weigh_mono, weigh-⊕, weigh_pos}
-use Rattle.theory.specs.laws.Lists.{mean-⊕, mean_pos}
-use Rattle.theory.specs.laws.Process.{total_below, lowest_best_action, lowest_best_total}
+use Rattle.theory.proofs.laws.Total.{⊑_refl, ⊑_trans, ⊑-of_eq, has_above, has_left, pos-⊕, ⊕_pos, ⊕_more, weigh_mono, weigh-⊕, weigh_pos}
+use Rattle.theory.proofs.laws.Lists.{mean-⊕, mean_pos}
+use Rattle.theory.proofs.laws.Process.{total_below, lowest_best_action, lowest_best_total}
 use Rattle.price_change.specs.Prices.{Even, Kept, Scale, Near, AlikeButRewards, Clear}
 use Rattle.price_change.specs.laws.Totals.{⊕_swap, ⊕_mono, ⊕_cancel, ⊕_grows, mean_mono, sum_times}
 

@@ -16,10 +16,10 @@ use Rattle.theory.specs.Value.{Asked, accepted}
 use Rattle.theory.specs.Plain.{Worth, is, nothing, over, state_worth, if_true}
 use Rattle.theory.specs.Staying.{Stays}
 use Rattle.theory.specs.Rows.{Admitted, asked_state}
-use Rattle.theory.specs.laws.Fits.{state_accepted, state_refused}
-use Rattle.theory.specs.laws.AcceptedModel.{accepted_valid}
-use Rattle.theory.specs.laws.PlainLimits.{Fine, answers_stay, stays_answers, over_leaves}
-use Rattle.theory.specs.laws.Rows.{admitted, by_early, early_some, early_is, admitted_is, verdict_is, if_yes, if_no, some_not}
+use Rattle.theory.proofs.laws.Fits.{state_accepted, state_refused}
+use Rattle.theory.proofs.laws.AcceptedModel.{accepted_valid}
+use Rattle.theory.proofs.laws.PlainLimits.{Fine, answers_stay, stays_answers, over_leaves}
+use Rattle.theory.proofs.laws.Rows.{admitted, by_early, early_some, early_is, admitted_is, verdict_is, if_yes, if_no, some_not}
 use Rattle.price_change.specs.Sure.{margin, leads, SureOut, refused_sure, said, sure_out, sure_at, sure_of}
 use Rattle.price_change.specs.SureRows.{Asks, IsSure, SureRow, sure_1, sure_0, sure_1_10, sure_13, sure_23, sure_11, SureRows}
 use Rattle.price_change.specs.laws.Sure.{sure_exactly, none_unsure}

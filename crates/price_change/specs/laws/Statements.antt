@@ -12,10 +12,10 @@ use Rattle.theory.specs.Value.{Asked, ValueOut, accepted, answered}
 use Rattle.theory.specs.Plain.{plain_of}
 use Rattle.theory.specs.Staying.{Stays}
 use Rattle.theory.specs.Rows.{Range, Admitted, Accepts, asked_state, plain_0}
-use Rattle.theory.specs.laws.Total.{⊑-antisym, none_below, none-⊕}
-use Rattle.theory.specs.laws.Process.{lowest_best_action, lowest_best_total}
-use Rattle.theory.specs.laws.AcceptedModel.{accepted_site}
-use Rattle.theory.specs.laws.Rows.{verdict_is, plain_is}
+use Rattle.theory.proofs.laws.Total.{⊑-antisym, none_below, none-⊕}
+use Rattle.theory.proofs.laws.Process.{lowest_best_action, lowest_best_total}
+use Rattle.theory.proofs.laws.AcceptedModel.{accepted_site}
+use Rattle.theory.proofs.laws.Rows.{verdict_is, plain_is}
 use Rattle.price_change.specs.Sure.{SureOut, margin}
 use Rattle.price_change.specs.Prices.{Near, Clear, Repriced, NearModels}
 use Rattle.price_change.specs.SureRows.{SureRow, sure_1, sure_0, sure_1_10, sure_13, sure_23, sure_11}

@@ -12,10 +12,10 @@ use Rattle.theory.specs.Meaning.{Model, State, process}
 use Rattle.theory.specs.Valid.{valid}
 use Rattle.theory.specs.Verdict.{or}
 use Rattle.theory.specs.Plain.{Worth, is, nothing, over, state_worth}
-use Rattle.theory.specs.laws.Process.{lowest_best_total}
-use Rattle.theory.specs.laws.Plain.{Means, plain_exact, plain_none, plain_action}
-use Rattle.theory.specs.laws.PlainLimits.{Fine}
-use Rattle.theory.specs.laws.Rows.{all_from, from_each}
+use Rattle.theory.proofs.laws.Process.{lowest_best_total}
+use Rattle.theory.proofs.laws.Plain.{Means, plain_exact, plain_none, plain_action}
+use Rattle.theory.proofs.laws.PlainLimits.{Fine}
+use Rattle.theory.proofs.laws.Rows.{all_from, from_each}
 use Rattle.price_change.specs.Sure.{worth_of, exceeds, leads}
 use Rattle.price_change.specs.Prices.{Clear}
 use Rattle.price_change.specs.laws.Worths.{worth_exact, each_fine, action_range, range_action}

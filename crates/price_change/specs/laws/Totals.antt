@@ -6,7 +6,7 @@ use Rattle.std.specs.Int.Signed.{le_z_yes}
 use Rattle.whole.specs.Int.{atom, diff, add_mono}
 use Rattle.theory.specs.Total.{Total, num, none, le_total, ◌⊑◌, Has, ◌⊕◌, mean}
 use Rattle.theory.specs.Loss.{sum}
-use Rattle.theory.specs.laws.Total.{⊑_refl, sums, weigh_mono}
+use Rattle.theory.proofs.laws.Total.{⊑_refl, sums, weigh_mono}
 
 pub ⊕_swap : (a b c d : Total) → a ⊕ b ⊕ (c ⊕ d) ≡ a ⊕ c ⊕ (b ⊕ d)
 ⊕_swap a b c d = simp sums

@@ -14,8 +14,8 @@ use Rattle.theory.specs.Process.{Action as ProcessAction}
 use Rattle.theory.specs.Meaning.{Action, Model, State, action_at, numbers_from, process}
 use Rattle.theory.specs.Valid.{valid}
 use Rattle.theory.specs.Plain.{Worth, is, nothing, over, action_worth, better, numbered, try_actions, state_worth}
-use Rattle.theory.specs.laws.Plain.{actions_in_order, first_action, Means, either, tried, action_total, action_exact, state_exact}
-use Rattle.theory.specs.laws.PlainLimits.{Fine}
+use Rattle.theory.proofs.laws.Plain.{actions_in_order, first_action, Means, either, tried, action_total, action_exact, state_exact}
+use Rattle.theory.proofs.laws.PlainLimits.{Fine}
 use Rattle.price_change.specs.Sure.{worth_of}
 
 -- ---- an action

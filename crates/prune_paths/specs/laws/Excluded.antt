@@ -16,8 +16,8 @@ use Rattle.theory.specs.Meaning.{Env, dot, value, holds, at}
 use Rattle.theory.specs.Valid.{all}
 use Rattle.theory.specs.Verdict.{or}
 use Rattle.prune_paths.specs.Prune.{Side, with_side, along, turned, added, low_used, contradicts, proves, takes, cut, remade}
-use Rattle.theory.specs.laws.Comps.{cmp_ℤ_eq}
-use Rattle.theory.specs.laws.Values.{value_add, value_scale, value_constant, node_at, over_at}
+use Rattle.theory.proofs.laws.Comps.{cmp_ℤ_eq}
+use Rattle.theory.proofs.laws.Values.{value_add, value_scale, value_constant, node_at, over_at}
 
 -- ---- the sum of a path's tests at a state that takes it
 

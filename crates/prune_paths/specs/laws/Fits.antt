@@ -20,12 +20,12 @@ use Rattle.theory.specs.Solve.{room, table_of, solved_nodes}
 use Rattle.theory.specs.Value.{node_word, ends}
 use Rattle.theory.specs.Listing.{greatest_root}
 use Rattle.prune_paths.specs.Prune.{leaf_at, test_at, high_at, low_at, tree_from, diagram_at, cut, remade, stage_anew, stages_anew, path_needs}
-use Rattle.theory.specs.laws.Comps.{same_refl, result_both, member_append}
-use Rattle.theory.specs.laws.Inside.{inside_branch, narrowed_inside}
-use Rattle.theory.specs.laws.Counts.{roots_fit}
-use Rattle.theory.specs.laws.Valid.{among_out, other_above}
-use Rattle.theory.specs.laws.ValueWalk.{greatest_least}
-use Rattle.theory.specs.laws.Rows.{nodes_length}
+use Rattle.theory.proofs.laws.Comps.{same_refl, result_both, member_append}
+use Rattle.theory.proofs.laws.Inside.{inside_branch, narrowed_inside}
+use Rattle.theory.proofs.laws.Counts.{roots_fit}
+use Rattle.theory.proofs.laws.Valid.{among_out, other_above}
+use Rattle.theory.proofs.laws.ValueWalk.{greatest_least}
+use Rattle.theory.proofs.laws.Rows.{nodes_length}
 use Rattle.prune_paths.specs.laws.Foreign.{Seen, leaf_seen, branch_seen, seen, RowsGood, tree_by, tree_enough}
 use Rattle.prune_paths.specs.laws.Reads.{ClearedPath}
 

@@ -20,13 +20,13 @@ use Rattle.theory.specs.Value.{Asked, accepted, bits, state_of, node_word, node_
 use Rattle.theory.specs.Value.{good_condition_row, good_test_row, good_none_row, good_row, ends, numerator_of, taken, walk, ValueOut, refused_value, answered}
 use Rattle.theory.specs.Value.{value_at}
 use Rattle.prune_paths.specs.Prune.{leaf_at, test_at, high_at, low_at, tree_from}
-use Rattle.theory.specs.laws.Values.{if_ap, value_constant}
-use Rattle.theory.specs.laws.Fits.{zeros_each, each_zeros, part_word, part_each}
-use Rattle.theory.specs.laws.Nodes.{branch_good}
-use Rattle.theory.specs.laws.Valid.{among_out, wide_in}
-use Rattle.theory.specs.laws.Words.{StageGood, by_kind}
-use Rattle.theory.specs.laws.ValueWalk.{asked_env, value_asked}
-use Rattle.theory.specs.laws.Rows.{all_from}
+use Rattle.theory.proofs.laws.Values.{if_ap, value_constant}
+use Rattle.theory.proofs.laws.Fits.{zeros_each, each_zeros, part_word, part_each}
+use Rattle.theory.proofs.laws.Nodes.{branch_good}
+use Rattle.theory.proofs.laws.Valid.{among_out, wide_in}
+use Rattle.theory.proofs.laws.Words.{StageGood, by_kind}
+use Rattle.theory.proofs.laws.ValueWalk.{asked_env, value_asked}
+use Rattle.theory.proofs.laws.Rows.{all_from}
 
 -- ---- what a good row says
 

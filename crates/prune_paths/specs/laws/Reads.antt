@@ -23,12 +23,12 @@ use Rattle.theory.specs.Solve.{room, early, number_of, table_of, solved_nodes}
 use Rattle.theory.specs.Value.{Asked, accepted, good_row, walk, ValueOut, refused_value, value_at, value_of}
 use Rattle.theory.specs.Listing.{greatest_root}
 use Rattle.prune_paths.specs.Prune.{diagram_at, along, shaped, proves, cut, remade, stage_anew, stages_anew, words_anew, path_number, path_needs, prune_refusal, pruned, PruneOut, prune}
-use Rattle.theory.specs.laws.Nodes.{GoodTree, parts, branch_good, leaf_good, node_safe, over_safe}
-use Rattle.theory.specs.laws.Safe.{any, safe_make, sure}
-use Rattle.theory.specs.laws.Table.{enter_all_grown, enter_has, number_above, number_below}
-use Rattle.theory.specs.laws.Words.{StageGood}
-use Rattle.theory.specs.laws.ValueWalk.{asked_env, greatest_least, stage_read}
-use Rattle.theory.specs.laws.Rows.{Passed, by_early, early_some}
+use Rattle.theory.proofs.laws.Nodes.{GoodTree, parts, branch_good, leaf_good, node_safe, over_safe}
+use Rattle.theory.proofs.laws.Safe.{any, safe_make, sure}
+use Rattle.theory.proofs.laws.Table.{enter_all_grown, enter_has, number_above, number_below}
+use Rattle.theory.proofs.laws.Words.{StageGood}
+use Rattle.theory.proofs.laws.ValueWalk.{asked_env, greatest_least, stage_read}
+use Rattle.theory.proofs.laws.Rows.{Passed, by_early, early_some}
 use Rattle.prune_paths.specs.laws.Excluded.{remade_at, pruned_at}
 use Rattle.prune_paths.specs.laws.Foreign.{RowsGood, rows_good, tree_good, told, foreign_walk}
 

@@ -10,9 +10,9 @@ use Rattle.theory.specs.Load.{site_at}
 use Rattle.theory.specs.Solve.{room, early}
 use Rattle.theory.specs.Value.{good_row}
 use Rattle.theory.specs.Rows.{Admitted, EarlyRow}
-use Rattle.theory.specs.laws.Fits.{node_fits, fits_good, misfits}
-use Rattle.theory.specs.laws.AcceptedModel.{positive}
-use Rattle.theory.specs.laws.Rows.{Passed, admitted, by_early, early_some, early_is, admitted_is, room_holds, room_is, if_yes, if_no, some_not, zero_is, not_all, all_from, from_each}
+use Rattle.theory.proofs.laws.Fits.{node_fits, fits_good, misfits}
+use Rattle.theory.proofs.laws.AcceptedModel.{positive}
+use Rattle.theory.proofs.laws.Rows.{Passed, admitted, by_early, early_some, early_is, admitted_is, room_holds, room_is, if_yes, if_no, some_not, zero_is, not_all, all_from, from_each}
 use Rattle.prune_paths.specs.Prune.{along, shaped, proves, path_number, path_needs, PruneOut, prune_refusal, pruned, prune}
 use Rattle.prune_paths.specs.PruneRows.{root_word, last_row, diagram, Rooted, Tabled, Shaped, Proved, untouched, PruneRow, prune_0, prune_1_10, prune_15, prune_14, prune_22, prune_21, prune_12, PruneRows}
 use Rattle.prune_paths.specs.laws.Reads.{refusal_by}

@@ -11,14 +11,14 @@ use Rattle.theory.specs.Value.{Asked, value_of, good_row}
 use Rattle.theory.specs.Listing.{greatest_root}
 use Rattle.theory.specs.Rows.{Range, NodeFits}
 use Rattle.theorems.specs.Demands.{left}
-use Rattle.theorems.specs.laws.Advice.{value_given}
+use Rattle.theorems.proofs.laws.Advice.{value_given}
 use Rattle.theory.specs.Valid.{good_test, stage_leaf}
-use Rattle.theory.specs.laws.Nodes.{parts}
-use Rattle.theory.specs.laws.Table.{table_of_table}
-use Rattle.theory.specs.laws.Words.{StageGood, laid, node_good}
-use Rattle.theory.specs.laws.ValueWalk.{greatest_most, greatest_least}
-use Rattle.theory.specs.laws.Fits.{node_fits}
-use Rattle.theorems.specs.laws.Reduced.{node_numbered, enter_all_each}
+use Rattle.theory.proofs.laws.Nodes.{parts}
+use Rattle.theory.proofs.laws.Table.{table_of_table}
+use Rattle.theory.proofs.laws.Words.{StageGood, laid, node_good}
+use Rattle.theory.proofs.laws.ValueWalk.{greatest_most, greatest_least}
+use Rattle.theory.proofs.laws.Fits.{node_fits}
+use Rattle.theorems.proofs.laws.Reduced.{node_numbered, enter_all_each}
 use Rattle.prune_paths.specs.Prune.{PruneOut, prune_refusal, pruned, prune, stages_anew, words_anew}
 use Rattle.prune_paths.specs.Statements.{NoStateTakes, SameReading, After, as_given, then_pruned, DemandsHold, AllFits, StillGood}
 use Rattle.prune_paths.specs.laws.Excluded.{excluded}

@@ -3,7 +3,7 @@
 use mathlib.Core.Path.{refl}
 use Rattle.value_walk.specs.Out.{out}
 use Rattle.value_walk.specs.State.{asked}
-use Rattle.theorems.specs.laws.Advice.{refusal_given, value_given}
+use Rattle.theorems.proofs.laws.Advice.{refusal_given, value_given}
 use borrow.Author.Rules.{rules}
 use Rattle.solve_advice.proofs.advise.Statement.{statement}
 use Rattle.solve_advice.proofs.advise.Tie as tie

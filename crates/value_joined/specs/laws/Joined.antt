@@ -9,10 +9,10 @@ use Rattle.theory.specs.Total.{Total, none, ◌⊕◌, weigh, mean}
 use Rattle.theory.specs.Loss.{sum}
 use Rattle.theory.specs.Process.{Process, Action, total, optimum, lowest_best}
 use Rattle.value_joined.specs.Joined.{pairs, other_pairs, joined}
-use Rattle.theory.specs.laws.Total.{⊑_trans, ⊑-antisym, ⊑-of_eq, sums, weigh_num, weigh_mono, weigh-⊕, weigh_times, weigh_swap, weigh_nothing, weigh_zero, weigh_none, weigh_is_none, one_none, none-⊕, ⊕_comm}
+use Rattle.theory.proofs.laws.Total.{⊑_trans, ⊑-antisym, ⊑-of_eq, sums, weigh_num, weigh_mono, weigh-⊕, weigh_times, weigh_swap, weigh_nothing, weigh_zero, weigh_none, weigh_is_none, one_none, none-⊕, ⊕_comm}
 use Rattle.value_joined.specs.laws.Means.{⊕_mono, ⊕_swap, weigh_plus, mean_times, mean_const, mean_append, mean_map}
-use Rattle.theory.specs.laws.Lists.{mean-⊕, mean_weigh}
-use Rattle.theory.specs.laws.Process.{total_ext, total_below, lowest_best_action, lowest_best_total}
+use Rattle.theory.proofs.laws.Lists.{mean-⊕, mean_weigh}
+use Rattle.theory.proofs.laws.Process.{total_ext, total_below, lowest_best_action, lowest_best_total}
 
 -- ---- pairs
 

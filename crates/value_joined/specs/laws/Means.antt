@@ -7,7 +7,7 @@ use Rattle.std.specs.Int.Signed.{le_z_yes}
 use Rattle.whole.specs.Int.{distrib_r, add_mono}
 use Rattle.theory.specs.Total.{Total, num, none, le_total, ◌⊑◌, ◌⊕◌, weigh, mean}
 use Rattle.theory.specs.Loss.{sum}
-use Rattle.theory.specs.laws.Total.{sums, ⊕_assoc, zero-⊕, weigh_num, weigh_none, weigh_zero, weigh-⊕, weigh_times, weigh_nothing}
+use Rattle.theory.proofs.laws.Total.{sums, ⊕_assoc, zero-⊕, weigh_num, weigh_none, weigh_zero, weigh-⊕, weigh_times, weigh_nothing}
 
 pub ⊕_swap : (a b c d : Total) → a ⊕ b ⊕ (c ⊕ d) ≡ a ⊕ c ⊕ (b ⊕ d)
 ⊕_swap a b c d = simp sums

@@ -13,7 +13,7 @@ use Rattle.whole_wide.specs.Wide.{in_two_words}
 use Rattle.theory.specs.Load.{site_at}
 use Rattle.theory.specs.Value.{Asked, ValueOut, value_of}
 use Rattle.theory.specs.Rows.{ValueRow}
-use Rattle.theorems.specs.laws.Demands.{value_rows}
+use Rattle.theorems.proofs.laws.Demands.{value_rows}
 use Rattle.value_joined.specs.Total.{TotalOut, refused_total, answered_number, both_read, same_scale, total_after, total_of}
 use Rattle.value_joined.specs.TotalRows.{InTwoWords, BothRead, SameScale, BothHave, sum_of, TotalRow, total_0, total_none, total_first, total_second, total_26, total_11, TotalRows}
 use Rattle.value_joined.specs.laws.Cases.{first_refused, second_refused, scale_refused, past_scale, first_none, second_none, both_some}

@@ -13,10 +13,10 @@ use Rattle.theory.specs.Process.{Action, total, optimum, lowest_best}
 use Rattle.theory.specs.Meaning.{Model, State, numbers_from, env, worth_at, action_at, end_at, power, process}
 use Rattle.theory.specs.Verdict.{verdict}
 use Rattle.theory.specs.Load.{model}
-use Rattle.theory.specs.laws.Total.{weigh-⊕, weigh_times, weigh_swap}
-use Rattle.theory.specs.laws.Process.{lowest_best_action}
-use Rattle.theorems.specs.laws.Weights.{power_step}
-use Rattle.theorems.specs.laws.Demands.{weights_sum}
+use Rattle.theory.proofs.laws.Total.{weigh-⊕, weigh_times, weigh_swap}
+use Rattle.theory.proofs.laws.Process.{lowest_best_action}
+use Rattle.theorems.proofs.laws.Weights.{power_step}
+use Rattle.theorems.proofs.laws.Demands.{weights_sum}
 use Rattle.value_joined.specs.Joined.{pairs, other_pairs, joined, joined_site}
 use Rattle.value_joined.specs.Statements.{PairsSum}
 use Rattle.value_joined.specs.laws.Joined.{pairs_out, Even, Scale, joined_optimum, joined_best, joined_none}

@@ -17,11 +17,11 @@ use Rattle.theory.specs.Valid.{among}
 use Rattle.theory.specs.Verdict.{Site, verdict}
 use Rattle.theory.specs.Load.{model, site_at}
 use Rattle.theory.specs.Value.{Asked, answered}
-use Rattle.theory.specs.laws.AcceptedModel.{accepted_site}
-use Rattle.theory.specs.laws.Total.{weigh_num, weigh_none, none-⊕, ⊕_comm, num-⊕}
-use Rattle.theory.specs.laws.Process.{policy_equal, policy_lower, expected_below}
+use Rattle.theory.proofs.laws.AcceptedModel.{accepted_site}
+use Rattle.theory.proofs.laws.Total.{weigh_num, weigh_none, none-⊕, ⊕_comm, num-⊕}
+use Rattle.theory.proofs.laws.Process.{policy_equal, policy_lower, expected_below}
 use Rattle.theorems.specs.Demands.{site}
-use Rattle.theorems.specs.laws.Demands.{went, exact}
+use Rattle.theorems.proofs.laws.Demands.{went, exact}
 use Rattle.value_joined.specs.Total.{answered_number, answered_total, crosswise, both_read, same_scale, total_after, total_of}
 use Rattle.value_joined.specs.Statements.{Asking, both as both-sites, begins, best_pair, BestTotal, BestPair, NoneOfEither, OfAllPolicies, PairsSum}
 use Rattle.value_joined.specs.laws.Cases.{past_scale, first_none, second_none, both_some}
