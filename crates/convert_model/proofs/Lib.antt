@@ -2,3 +2,5 @@
 pub mod Thirteen
 pub mod ForbiddenSearch
 pub mod Call
+-- what is proved about the definitions of specs/
+pub mod laws

@@ -5,6 +5,3 @@ pub mod Written
 -- ---- examples
 
 pub mod Examples
--- ---- laws
-
-pub mod laws

@@ -1,2 +1,4 @@
 -- Laws that several proofs cite.
 pub mod Call
+-- what is proved about the definitions of specs/
+pub mod laws

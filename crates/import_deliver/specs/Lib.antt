@@ -1,4 +1,2 @@
 -- the outcome from the model on
 pub mod Delivered
--- laws
-pub mod laws

@@ -1,4 +1,3 @@
 -- what a sum means at a state
 pub mod Sums
 -- what is proved
-pub mod laws

@@ -12,9 +12,6 @@ pub mod Import
 
 -- rows, and that the model's values follow the reading
 pub mod Statements
--- ---- laws
-
-pub mod laws
 -- ---- examples
 
 pub mod Examples

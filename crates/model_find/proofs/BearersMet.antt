@@ -17,9 +17,9 @@ use Rattle.model_find.specs.declared.Bearers.TheVariants.{Nobody, One, Several}
 use Rattle.model_find.specs.Find.{FindOut, refused_find, trim, same_name, bearers, found_among}
 use Rattle.model_find.specs.Statements.{Carries}
 use Rattle.model_find.specs.Tally.{joined, with_reading, tally, told}
-use Rattle.model_find.specs.laws.Spaces.{same_is, same_self}
-use Rattle.model_find.specs.laws.Bearers.{DistinctNumbers, Lists, tells, told_is, bearers_listed}
-use Rattle.model_find.specs.laws.NameCommands.{naming, behind_later, name_there, named_once, in_range, name_given_there}
+use Rattle.model_find.proofs.laws.Spaces.{same_is, same_self}
+use Rattle.model_find.proofs.laws.Bearers.{DistinctNumbers, Lists, tells, told_is, bearers_listed}
+use Rattle.model_find.proofs.laws.NameCommands.{naming, behind_later, name_there, named_once, in_range, name_given_there}
 
 -- the action that a reading names x
 met_by : List ℕ → Read → List ℕ

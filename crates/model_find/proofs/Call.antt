@@ -23,9 +23,9 @@ use Rattle.model_find.specs.declared.Bearers.{Bearers}
 use Rattle.model_find.specs.declared.Bearers.TheVariants.{Nobody}
 use Rattle.model_find.specs.Find.{FindOut, refused_find, trim, bearers, found_among, find}
 use Rattle.model_find.specs.Tally.{tally, told}
-use Rattle.model_find.specs.laws.Spaces.{trim_sent}
-use Rattle.model_find.specs.laws.Bearers.{tells_none}
-use Rattle.model_find.specs.laws.Rows.{find_told}
+use Rattle.model_find.proofs.laws.Spaces.{trim_sent}
+use Rattle.model_find.proofs.laws.Bearers.{tells_none}
+use Rattle.model_find.proofs.laws.Rows.{find_told}
 use Rattle.model_find.proofs.BearersMet.{tally_tells}
 
 -- the first n bytes are n

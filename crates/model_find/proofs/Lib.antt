@@ -2,3 +2,5 @@
 pub mod Pass
 pub mod BearersMet
 pub mod Call
+-- what is proved about the definitions of specs/
+pub mod laws

@@ -23,7 +23,7 @@ use Rattle.model_find.specs.declared.Bearers.{Bearers}
 use Rattle.model_find.specs.declared.Bearers.TheVariants.{Nobody}
 use Rattle.model_find.specs.Find.{trim, same_name}
 use Rattle.model_find.specs.Tally.{joined, with_reading, tally}
-use Rattle.model_find.specs.laws.Spaces.{same_is, same_self, trim_first}
+use Rattle.model_find.proofs.laws.Spaces.{same_is, same_self, trim_first}
 
 -- ---- one command
 

@@ -5,6 +5,3 @@ pub mod Tally
 -- ---- examples
 
 pub mod Examples
--- ---- laws
-
-pub mod laws

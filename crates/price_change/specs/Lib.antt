@@ -3,6 +3,3 @@ pub mod Sure
 pub mod Prices
 pub mod Statements
 pub mod SureRows
--- ---- laws
-
-pub mod laws

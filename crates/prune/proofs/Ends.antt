@@ -17,7 +17,7 @@ use Rattle.theory.proofs.laws.AcceptedModel.{accepted}
 use Rattle.model.specs.Answers.{shown}
 use Rattle.model.specs.declared.Verdict.{Verdict as CodeVerdict}
 use Rattle.prune_paths.specs.Prune.{diagram_at, along, fits, shaped, prune_refusal, pruned, PruneOut, prune}
-use Rattle.prune_paths.specs.laws.Reads.{cleared}
+use Rattle.prune_paths.proofs.laws.Reads.{cleared}
 use Rattle.prune.specs.CutOutcome.{CutAccepted, outcome, left}
 
 -- a path that is shaped is there, and fits

@@ -22,7 +22,7 @@ use Rattle.theory.specs.Verdict.{or}
 use Rattle.prune_paths.specs.Prune.{diagram_at, fits, Side, with_side, along, turned, added, low_used, contradicts, proves, shaped, path_number}
 use Rattle.theory.proofs.laws.Nodes.{GoodTree, parts}
 use Rattle.theory.proofs.laws.Valid.{wide_long}
-use Rattle.prune_paths.specs.laws.Foreign.{tree_good}
+use Rattle.prune_paths.proofs.laws.Foreign.{tree_good}
 use Rattle.prune_certificate.specs.Path.{GoodNode, shape_of, number_at}
 
 -- ---- 0 in two words

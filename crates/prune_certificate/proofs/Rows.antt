@@ -18,7 +18,7 @@ use Rattle.theory.proofs.laws.Valid.{among_out}
 use Rattle.table.specs.Table.{eq_ℤ, is_leaf, is_none}
 use Rattle.table_rows.specs.Row.{Inside}
 use Rattle.prune_paths.specs.Prune.{leaf_at, test_at, high_at, low_at, tree_from, diagram_at, fits, Side, with_side, along}
-use Rattle.prune_paths.specs.laws.Foreign.{Seen, leaf_seen, branch_seen, seen, tree_enough}
+use Rattle.prune_paths.proofs.laws.Foreign.{Seen, leaf_seen, branch_seen, seen, tree_enough}
 use Rattle.prune_certificate.specs.Path.{GoodNode, is_test, tests, goes}
 
 abbrev kind_at : List ℤ → ℕ → ℕ

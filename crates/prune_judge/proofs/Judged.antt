@@ -20,7 +20,7 @@ use Rattle.theory.proofs.laws.AcceptedModel.{accepted}
 use Rattle.theory.proofs.laws.ValueWalk.{greatest_least}
 use Rattle.theory.proofs.laws.Rows.{Passed, by_early, early_some}
 use Rattle.prune_paths.specs.Prune.{diagram_at, path_number, path_needs, prune_refusal}
-use Rattle.prune_paths.specs.laws.Foreign.{rows_good}
+use Rattle.prune_paths.proofs.laws.Foreign.{rows_good}
 use Rattle.prune_certificate.specs.Path.{GoodNode}
 use Rattle.prune_judge.specs.PathRefusals.{plan_verdict}
 

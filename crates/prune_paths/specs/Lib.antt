@@ -2,6 +2,3 @@
 pub mod Prune
 pub mod PruneRows
 pub mod Statements
--- ---- laws
-
-pub mod laws

@@ -22,7 +22,7 @@ use Rattle.rule_node.proofs.Trees.{trees_length, trees_kept}
 use Rattle.table_clear.specs.Wipe.{wiped}
 use Rattle.table_clear.proofs.Parts.{same_length, within}
 use Rattle.prune_paths.specs.Prune.{diagram_at, GoodRows}
-use Rattle.prune_paths.specs.laws.Fits.{anew, anew_branch, anew_leaf}
+use Rattle.prune_paths.proofs.laws.Fits.{anew, anew_branch, anew_leaf}
 use Rattle.prune_rows.specs.Rows.{RowFits}
 use Rattle.prune_remake.specs.Remade.{forward, branch_anew, row_anew, Remade}
 use Rattle.prune_rows.proofs.Rows.{Row, row_of}

@@ -27,7 +27,7 @@ use Rattle.table_rows.proofs.Rowed.{linear_is}
 use Rattle.rule_node.specs.Nodes.{linear_held, none_node, leaf_of, first_of, test_held, Tested}
 use Rattle.rule_node.proofs.Trees.{now_is, test_con, test_lin}
 use Rattle.prune_paths.specs.Prune.{leaf_at, test_at, high_at, low_at, tree_from, diagram_at, GoodRows}
-use Rattle.prune_paths.specs.laws.Foreign.{RowsGood, tree_by, tree_enough}
+use Rattle.prune_paths.proofs.laws.Foreign.{RowsGood, tree_by, tree_enough}
 use Rattle.prune_rows.specs.Rows.{RowFits}
 
 -- z is 1 to m

@@ -4,6 +4,3 @@ pub mod Total
 pub mod TotalRows
 pub mod Statements
 pub mod Examples
--- ---- laws
-
-pub mod laws

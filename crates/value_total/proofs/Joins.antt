@@ -29,7 +29,7 @@ use Rattle.theory.proofs.laws.AcceptedModel.{accepted_site}
 use Rattle.theory.proofs.laws.Rows.{Passed, by_early, early_some}
 use Rattle.value_walk.specs.Out.{value_after}
 use Rattle.value_joined.specs.Total.{TotalOut, refused_total, answered_number, both_read, same_scale, total_after, total_of}
-use Rattle.value_joined.specs.laws.Cases.{first_refused, second_refused, scale_refused, past_scale}
+use Rattle.value_joined.proofs.laws.Cases.{first_refused, second_refused, scale_refused, past_scale}
 
 -- ---- one scale
 

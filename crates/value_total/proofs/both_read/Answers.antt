@@ -8,7 +8,7 @@ use Rattle.theory.specs.Widths.{steps_most}
 use Rattle.model_progress.specs.GivenFlags.{site_as}
 use Rattle.value_walk.specs.Out.{out}
 use Rattle.value_joined.specs.Total.{crosswise}
-use Rattle.value_joined.specs.laws.Cases.{first_none, second_none, both_some}
+use Rattle.value_joined.proofs.laws.Cases.{first_none, second_none, both_some}
 use Rattle.value_total.proofs.Joins.{outside_is, inside_is}
 use Rattle.value_total.proofs.both_read.Goals as goal
 
