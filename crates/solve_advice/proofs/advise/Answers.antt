@@ -4,7 +4,6 @@ use mathlib.Core.Path.{refl}
 use Rattle.value_walk.specs.Out.{out}
 use Rattle.value_walk.specs.State.{asked}
 use Rattle.theorems.specs.laws.Advice.{refusal_given, value_given}
-use borrow.Author.Rules.{rules}
 use Rattle.solve_advice.proofs.advise.Goals as goal
 
 pub returns-then-s-ne0 : goal.returns-then-s-ne0
