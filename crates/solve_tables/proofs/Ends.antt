@@ -12,7 +12,7 @@ use native.Mathlib.Omega.{arith}
 use lib.IntN.{ℤ, pos}
 use lib.ListN.{length, replicate}
 use Rattle.theory.specs.Widths.{nodes_most, node_words, work_words, peak_words}
-use Rattle.theory.specs.Verdict.{Verdict, verdict, refusal}
+use Rattle.theory.specs.Verdict.{Verdict, refusal}
 use Rattle.theory.specs.Computation.{refused}
 use Rattle.theory.specs.Solve.{room, solve_in, early, early_with_peaks, solve}
 use Rattle.theory.proofs.laws.Refusals.{refused_number}

@@ -2,7 +2,6 @@
 use mathlib.Core.Path.{refl}
 use borrow.Author.Tests.{ne_eqb}
 use Rattle.theory.specs.Solve.{early_with_peaks}
-use borrow.Author.Rules.{rules}
 use Rattle.solve_tables.proofs.early.Goals as goal
 
 pub returns-then-peak_words-ne-PEAK_WORDS : goal.returns-then-peak_words-ne-PEAK_WORDS

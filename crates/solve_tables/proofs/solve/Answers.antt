@@ -1,6 +1,5 @@
 -- `solve_tables::solve` meets its contract: an early verdict that refuses is the answer with all tables as they were; one that does not gives every
 -- bound that `solve_in` requires (`passed`, `fitting`); a late refusal leaves all words cleared (`refused_late`).
-use mathlib.Core.Path.{◌∙◌}
 use native.Mathlib.Omega.{arith}
 use lib.ListN.{length}
 use Rattle.theory.specs.Solve.{early_with_peaks}
