@@ -1,11 +1,12 @@
 // Models written as text, for test programs: pairs of hexadecimal digits, O for a number 0 (four bytes), and letters for
 // what depends on the widths of operands, so that a change of them changes the letters' meaning here and no text:
 // S for the byte of a site; A, behind the low byte of an action, for its other bytes; K, behind the coefficients of L1 to
-// L4, for those of further levels; P for a leaf 0. Other characters stand for nothing. And what such programs print.
+// L4, for those of further levels; P for a leaf 0. Other characters stand for nothing. And how such programs read and print.
 #![tactic(auto)]
 
 ghost use Rattle.std.specs.Prelude.{◌≤◌, ◌<◌, length};
 
+pub mod input; // input.rt: standard input read into an array
 pub mod report; // report.rt: numbers and refusals printed
 
 // Where a byte first stands from an offset on; the length where it does not.
