@@ -1,13 +1,10 @@
 // Where the texts on standard input stop, a line each: the text, and below it the number and the place.
 #![tactic(auto)]
 
+use check_hex::input::read_full;
 use check_hex::{find, report};
 use import_scan::Scanned;
 use std::io;
-use std::io::Read;
-
-// The longest input that is read, in bytes.
-const INPUT_MOST: u64 = 8192;
 
 // "Text outside the grammar with 24".
 const OUTSIDE: u32 = 24;
@@ -30,12 +27,12 @@ fn lines(rt: &impl Print, text: &[u8]) -> io::Result<()> {
     Ok(())
 }
 
-fn all(rt: &(impl Input + Print + Alloc)) -> io::Result<()> {
-    let mut input = Vec::new(rt.alloc());
-    rt.reader().take(INPUT_MOST).read_to_end(&mut input)?;
-    lines(rt, &input)
+fn all(rt: &(impl Input + Print), room: &mut [u8]) -> io::Result<()> {
+    let n = read_full(&mut rt.reader(), room)?;
+    lines(rt, &room[..n])
 }
 
 fn main(rt: HostRuntime) -> io::Result<()> {
-    all(&rt)
+    let mut room = [0u8; 8192];
+    all(&rt, &mut room)
 }
