@@ -7,7 +7,6 @@ use Rattle.theory.specs.Value.{value_of}
 use Rattle.value_walk.specs.State.{asked_by}
 use Rattle.c_answers.proofs.States.{read_back}
 use Rattle.c_value_answers.proofs.Read.{value_found}
-use borrow.Author.Rules.{rules}
 use Rattle.c_value.proofs.value.Goals as goal
 
 pub returns : goal.returns
