@@ -1,7 +1,6 @@
 -- `c_sure::answer` meets its contract.
 use Rattle.price_sure.specs.Answers.{out as said-out}
 use Rattle.c_sure.proofs.Given.{sure_short, sure_whole}
-use borrow.Author.Rules.{rules}
 use Rattle.c_sure.proofs.answer.Goals as goal
 
 pub returns-then-out-lt-ANSWER_BYTES : goal.returns-then-out-lt-ANSWER_BYTES
