@@ -4,7 +4,6 @@ use mathlib.Core.Path.{ap, ◌∙◌}
 use Prim.Native.Nat.{ℕ}
 use Rattle.prune_paths.specs.Prune.{prune_refusal, prune}
 use Rattle.c_prune.proofs.Answered.{prune_short, prune_whole}
-use borrow.Author.Rules.{rules}
 use Rattle.c_prune.proofs.prune.Goals as goal
 
 pub returns-then-out-lt-ANSWER_BYTES : goal.returns-then-out-lt-ANSWER_BYTES
