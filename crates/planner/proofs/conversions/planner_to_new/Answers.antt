@@ -1,5 +1,4 @@
 -- `planner::conversions::planner_to_new` meets its contract.
-use borrow.Author.Rules.{rules}
 use Rattle.planner.proofs.conversions.planner_to_new.Goals as goal
 
 pub returns : goal.returns

@@ -1,5 +1,4 @@
 -- `planner::conversions::planner_to_old` meets its contract.
-use borrow.Author.Rules.{rules}
 use Rattle.planner.proofs.conversions.planner_to_old.Goals as goal
 
 pub returns : goal.returns

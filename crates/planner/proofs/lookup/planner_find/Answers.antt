@@ -1,6 +1,5 @@
 -- `planner::lookup::planner_find` meets its contract.
 use Rattle.c_name_answers.proofs.Looked.{find_given}
-use borrow.Author.Rules.{rules}
 use Rattle.planner.proofs.lookup.planner_find.Goals as goal
 
 pub returns : goal.returns

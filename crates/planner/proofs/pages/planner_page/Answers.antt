@@ -6,7 +6,6 @@ use Rattle.value_walk.specs.State.{asked_by}
 use Rattle.text_page_lines.specs.Page.{page}
 use Rattle.c_answers.specs.Texts.{listing_answer}
 use Rattle.c_answers.proofs.States.{read_back}
-use borrow.Author.Rules.{rules}
 use Rattle.planner.proofs.pages.planner_page.Goals as goal
 
 pub returns : goal.returns

@@ -7,7 +7,6 @@ use Rattle.value_walk.specs.State.{asked_by}
 use Rattle.c_answers.proofs.States.{read_back}
 use Rattle.price_change.specs.Sure.{sure_of}
 use Rattle.c_sure.specs.Answer.{sure_answer}
-use borrow.Author.Rules.{rules}
 use Rattle.planner.proofs.prices.planner_sure.Goals as goal
 
 pub returns : goal.returns

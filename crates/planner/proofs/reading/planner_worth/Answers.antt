@@ -6,7 +6,6 @@ use Rattle.theory.specs.Plain.{plain_of}
 use Rattle.value_walk.specs.State.{asked_by}
 use Rattle.c_answers.proofs.States.{read_back}
 use Rattle.c_value_answers.specs.ValueAnswer.{value_answer}
-use borrow.Author.Rules.{rules}
 use Rattle.planner.proofs.reading.planner_worth.Goals as goal
 
 pub returns : goal.returns

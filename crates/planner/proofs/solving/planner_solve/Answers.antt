@@ -2,7 +2,6 @@
 -- (`solve_short`); else the pair is put there, and the tables are as the solve left them (`solve_whole`).
 use Rattle.theory.specs.Solve.{solve}
 use Rattle.c_answers.proofs.Solved.{solve_short, solve_whole}
-use borrow.Author.Rules.{rules}
 use Rattle.planner.proofs.solving.planner_solve.Goals as goal
 
 pub returns-then-out-lt8 : goal.returns-then-out-lt8

@@ -1,6 +1,5 @@
 -- `planner::solving::planner_validate` meets its contract: it hands on what `early` answers.
 use mathlib.Core.Path.{ap}
-use borrow.Author.Rules.{rules}
 use Rattle.theory.specs.Verdict.{Verdict}
 use Rattle.c_answers.proofs.Solved.{model_judged}
 use Rattle.planner.proofs.solving.planner_validate.Goals as goal

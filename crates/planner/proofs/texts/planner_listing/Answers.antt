@@ -1,7 +1,6 @@
 -- `planner::texts::planner_listing` meets its contract.
 use Rattle.theory.specs.Listing.{listing}
 use Rattle.c_answers.proofs.Listed.{text_whole, listing_short}
-use borrow.Author.Rules.{rules}
 use Rattle.planner.proofs.texts.planner_listing.Goals as goal
 
 pub returns-then-out-lt8 : goal.returns-then-out-lt8

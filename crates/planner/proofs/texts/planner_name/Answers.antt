@@ -1,6 +1,5 @@
 -- `planner::texts::planner_name` meets its contract.
 use Rattle.c_name_answers.proofs.Named.{name_most, name_short, name_whole}
-use borrow.Author.Rules.{rules}
 use Rattle.planner.proofs.texts.planner_name.Goals as goal
 
 pub returns-then-out-lt24 : goal.returns-then-out-lt24

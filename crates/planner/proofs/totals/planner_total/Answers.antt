@@ -6,7 +6,6 @@ use Rattle.value_walk.specs.State.{asked_by}
 use Rattle.value_joined.specs.Total.{total_of}
 use Rattle.c_answers.proofs.States.{read_back}
 use Rattle.c_total.specs.Answer.{total_answer}
-use borrow.Author.Rules.{rules}
 use Rattle.planner.proofs.totals.planner_total.Goals as goal
 
 pub returns : goal.returns
