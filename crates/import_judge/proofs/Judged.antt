@@ -10,7 +10,8 @@ use Rattle.theory.specs.Verdict.{refusal}
 use Rattle.model.specs.declared.Verdict.{Verdict as CodeVerdict}
 use Rattle.model.specs.Answers.{shown}
 use Rattle.import_grammar.specs.Reader.{begin}
-use Rattle.import_grammar.specs.laws.Viable.{Outcome, fine, stops, scan, Right, scan_right}
+use Rattle.import_grammar.specs.laws.Viable.{Outcome, fine, stops, scan, Right}
+use Rattle.import_grammar.proofs.laws.Viable.{scan_right}
 use Rattle.import_beyond.specs.Beyond.{JudgesText}
 use Rattle.import_model.specs.Import.{text_most}
 use Rattle.import_scan.specs.declared.Scanned.{Scanned}

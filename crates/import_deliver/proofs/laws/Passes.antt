@@ -9,9 +9,10 @@ use Rattle.theory.specs.Listing.{ListingOut}
 use Rattle.convert_model.specs.Conversion.{own_refusal}
 use Rattle.import_grammar.specs.Grammar.{Text, text_bytes, InGrammar}
 use Rattle.import_grammar.specs.Reader.{begin}
-use Rattle.import_grammar.specs.laws.Reads.{one_reading}
-use Rattle.import_grammar.specs.laws.Viable.{Outcome, fine, stops, scan, Right, scan_right}
-use Rattle.import_grammar.specs.laws.Unique.{stops_outside}
+use Rattle.import_grammar.proofs.laws.Reads.{one_reading}
+use Rattle.import_grammar.specs.laws.Viable.{Outcome, fine, stops, scan, Right}
+use Rattle.import_grammar.proofs.laws.Viable.{scan_right}
+use Rattle.import_grammar.proofs.laws.Unique.{stops_outside}
 use Rattle.import_numbers.specs.Numbers.{beyond}
 use Rattle.import_model.specs.Import.{text_most, model_bytes, untouched, filled_with, import_refusal, imported, import_text}
 use Rattle.import_deliver.specs.Delivered.{model_refusal, delivered}

@@ -9,7 +9,8 @@ use Rattle.theory.specs.Listing.{ListingOut}
 use Rattle.convert_model.specs.Conversion.{own_refusal}
 use Rattle.import_grammar.specs.Grammar.{Text, text_bytes}
 use Rattle.import_grammar.specs.Reader.{begin}
-use Rattle.import_grammar.specs.laws.Viable.{Outcome, fine, stops, scan, Right, scan_right}
+use Rattle.import_grammar.specs.laws.Viable.{Outcome, fine, stops, scan, Right}
+use Rattle.import_grammar.proofs.laws.Viable.{scan_right}
 use Rattle.import_numbers.specs.Numbers.{beyond}
 use Rattle.import_model.specs.Import.{text_most, model_bytes, untouched, filled_with, import_refusal, imported, import_text}
 use Rattle.import_judge.specs.Refusal.{outcome_refusal, text_refusal}

@@ -19,9 +19,10 @@ use Rattle.convert_model.specs.Conversion.{own_refusal}
 use Rattle.convert_model.specs.Statements.{AdmittedIn, OnlyItsOwn}
 use Rattle.import_grammar.specs.Grammar.{Text, text_bytes, InGrammar}
 use Rattle.import_grammar.specs.Reader.{begin}
-use Rattle.import_grammar.specs.laws.Reads.{one_reading}
-use Rattle.import_grammar.specs.laws.Viable.{Outcome, fine, stops, scan, Stopped, Right, scan_right}
-use Rattle.import_grammar.specs.laws.Unique.{one_place, stops_outside}
+use Rattle.import_grammar.proofs.laws.Reads.{one_reading}
+use Rattle.import_grammar.specs.laws.Viable.{Outcome, fine, stops, scan, Stopped, Right}
+use Rattle.import_grammar.proofs.laws.Viable.{scan_right}
+use Rattle.import_grammar.proofs.laws.Unique.{one_place, stops_outside}
 use Rattle.import_numbers.specs.Numbers.{numbers, all_within, beyond}
 use Rattle.import_model.specs.Import.{text_most, model_bytes, untouched, filled_with, import_refusal, imported, import_text}
 use Rattle.import_model.specs.Statements.{ReadAs, NumbersFit, ImportRow, import_0, import_10, import_24, import_25, import_10_model, import_1_8, import_17, ImportRows, NothingElse}

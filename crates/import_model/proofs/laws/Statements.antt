@@ -21,7 +21,7 @@ use Rattle.theory.proofs.laws.AcceptedModel.{InRange, accepted, model_loaded}
 use Rattle.theory.specs.Load.{loaded_entries}
 use Rattle.convert_model.specs.Statements.{AdmittedIn, bytes_of}
 use Rattle.import_grammar.specs.Grammar.{Text, entire, text_bytes, Items, head, closed, named, Opening, reward, chance, next, end, Before, start, case}
-use Rattle.import_grammar.specs.laws.Reads.{one_reading}
+use Rattle.import_grammar.proofs.laws.Reads.{one_reading}
 use Rattle.import_numbers.specs.Numbers.{numbers, all_within, beyond}
 use Rattle.import_model.specs.Commands.{at_most, byte_most, action_most, items_commands, opening_commands, before_commands, text_commands}
 use Rattle.import_model.specs.Encode.{low_first, encode, command_bytes, placed}

@@ -20,7 +20,7 @@ use Rattle.import_grammar.specs.Reader.{hextended, iextended, by_kind, quote_her
 use Rattle.import_grammar.specs.Reader.{factor_here, equals_here, equals_above, step_on, step_mid, step}
 use Rattle.import_grammar.specs.Reader.{Reading, read, unfinished, finish}
 use Rattle.import_grammar.specs.laws.Viable.{alive}
-use Rattle.import_grammar.specs.laws.Case.{by_eq}
+use Rattle.import_grammar.proofs.laws.Case.{by_eq}
 use Rattle.import_state.specs.declared.Side.{Side}
 use Rattle.import_state.specs.declared.Side.TheVariants.{Left, Right, Case}
 use Rattle.import_state.specs.declared.Sum.{Sum}

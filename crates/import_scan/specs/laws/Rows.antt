@@ -3,8 +3,9 @@ use Rattle.std.specs.Prelude.{◌≡◌, refl, List, ℕ}
 use Rattle.std.proofs.Common.{ap, subst}
 use Rattle.import_grammar.specs.Grammar.{InGrammar}
 use Rattle.import_grammar.specs.Reader.{begin}
-use Rattle.import_grammar.specs.laws.Viable.{Outcome, fine, stops, Right, scan, scan_right}
-use Rattle.import_grammar.specs.laws.Unique.{one_place, stops_outside}
+use Rattle.import_grammar.specs.laws.Viable.{Outcome, fine, stops, Right, scan}
+use Rattle.import_grammar.proofs.laws.Viable.{scan_right}
+use Rattle.import_grammar.proofs.laws.Unique.{one_place, stops_outside}
 use Rattle.import_scan.specs.declared.Scanned.{Scanned}
 use Rattle.import_scan.specs.declared.Scanned.TheVariants.{Fine, Stops}
 use Rattle.import_scan.specs.Answer.{answer}

@@ -2,7 +2,7 @@
 use Rattle.std.specs.Prelude.{◌≡◌, refl, Bool, true, false, List, [], ◌∷◌, ℕ, suc, T, eqb, leb}
 use Rattle.std.proofs.Common.{sym, ap, ◌∙◌, subst}
 use Rattle.std.proofs.Math.Dec.{T_prop}
-use Rattle.import_grammar.specs.laws.Case.{by_eq}
+use Rattle.import_grammar.proofs.laws.Case.{by_eq}
 use Rattle.import_grammar.specs.Grammar.{blank, tab, newline, return, Spaces, none, more, Digit, d0, d1, d2, d3, d4, d5, d6, d7, d8, d9, Digits}
 use Rattle.import_grammar.specs.Grammar.{one, also, Index, i1, i2, i3, i4, i5, i6, i7, i8, Four, f1, f2, f3, f4, four_byte, Op, lt, le, gt, ge, Sign}
 use Rattle.import_grammar.specs.Grammar.{adds, takes, ConstFactor, number, kbracket, ConstTerm, kfactor, ktimes, ConstSum, kterm, kneg, kplus}

@@ -26,7 +26,7 @@ use Rattle.import_grammar.specs.Reader.{else_here, joined, ending, close_const, 
 use Rattle.import_grammar.specs.Reader.{begin_cond, begin_sum, open_behind, open_const, step_on, step_mid, step, run, begin, Reading, read, unfinished, finish}
 use Rattle.import_grammar.specs.Reader.{item_here, resulted, head_letter, letter_here, settled, hextended, iextended, opening_of, by_kind, quote_here}
 use Rattle.import_grammar.specs.Reader.{with_plain, char_here, is_digit, digit_of, is_blank, blank_of}
-use Rattle.import_grammar.specs.laws.Case.{by_eq}
+use Rattle.import_grammar.proofs.laws.Case.{by_eq}
 
 abbrev pub kpre_bytes : {n : ℕ} → ConstPre n → List ℕ → List ℕ
 kpre_bytes kopens f = f

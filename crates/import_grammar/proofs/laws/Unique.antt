@@ -2,7 +2,7 @@
 use Rattle.std.specs.Prelude.{◌≡◌, refl, List, [], ◌∷◌, ◌++◌, ℕ, ◌<◌, ltb, length}
 use Rattle.std.proofs.Common.{sym, ◌∙◌, subst, append_assoc, append-nil, arith, ltb-true, ltb-false}
 use Rattle.import_grammar.specs.Grammar.{InGrammar}
-use Rattle.import_grammar.specs.laws.Case.{by_eq}
+use Rattle.import_grammar.proofs.laws.Case.{by_eq}
 use Rattle.import_grammar.specs.laws.Viable.{BeginsText, Impossible, Stopped}
 
 begins_less : (u v : List ℕ) → BeginsText (u ++ v) → BeginsText u
