@@ -18,7 +18,8 @@ use Rattle.theory.specs.Value.{Asked, ValueOut, value_of}
 use Rattle.theory.specs.Listing.{written, ListingOut}
 use Rattle.text_listing.specs.Refusal.{refused_listing}
 use Rattle.text_page_lines.specs.Page.{page_text, meets, page_refusal, page}
-use Rattle.text_page_lines.specs.Uncut.{Signed32, page_bytes}
+use Rattle.text_page_lines.specs.Uncut.{Signed32}
+use Rattle.text_page_lines.proofs.Uncut.{page_bytes}
 use Rattle.text_page.specs.Stages.{read_after, spared, stages_refusal, Shown}
 use Rattle.text_page.proofs.Early.{passed, stage_passed}
 use Rattle.text_page.proofs.Read.{read_is, read_free}

@@ -32,7 +32,8 @@ use Rattle.value_walk.specs.Out.{value_after}
 use Rattle.whole_division.specs.Floor.{floor_by}
 use Rattle.text_page_lines.specs.Page.{page_line, whole_part, line_at, page_text}
 use Rattle.text_page_lines.specs.Columns.{FittingLine}
-use Rattle.text_page_lines.specs.Uncut.{Signed32, line_fits, line_bytes}
+use Rattle.text_page_lines.specs.Uncut.{Signed32}
+use Rattle.text_page_lines.proofs.Uncut.{line_fits, line_bytes}
 use Rattle.text_page.specs.Stages.{read_after, spared, Shown}
 use Rattle.theory.proofs.laws.Rows.{Passed}
 use Rattle.text_page.proofs.Early.{passed, weights_some}

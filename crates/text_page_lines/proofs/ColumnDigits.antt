@@ -16,7 +16,7 @@ use Rattle.whole_division.specs.declared.Quotient.{Quotient}
 use Rattle.whole_division.specs.declared.Whole.{Whole}
 use Rattle.whole_division.specs.Words.{two_words, whole_as, Divided}
 use Rattle.text_page_lines.specs.Page.{in_decimal, right, value_text}
-use Rattle.text_page_lines.specs.Columns.{front, digits_split, tenth_below}
+use Rattle.text_page_lines.proofs.LineWidth.{front, digits_split, tenth_below}
 
 -- ---- the magnitude
 
