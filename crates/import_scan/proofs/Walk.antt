@@ -16,7 +16,7 @@ use Rattle.import_scan.specs.declared.Scanned.{Scanned}
 use Rattle.import_scan.specs.declared.Scanned.TheVariants.{Fine, Stops}
 use Rattle.import_scan.specs.Answer.{answer}
 use Rattle.import_scan.specs.Shown.{shown}
-use Rattle.import_scan.specs.laws.Agree.{sim, over_alive, finished_reads, has_reading}
+use Rattle.import_scan.proofs.laws.Agree.{sim, over_alive, finished_reads, has_reading}
 use Rattle.import_state.specs.declared.State.TheVariants.{At as Placed}
 use Rattle.import_state.specs.declared.Place.TheVariants.{Outset}
 use Rattle.import_step.specs.Steps.{next, is_over, is_finished}

@@ -4,5 +4,3 @@ pub mod Answer
 pub mod ScanRows
 -- what is kept of the reader's state
 pub mod Shown
--- laws
-pub mod laws
