@@ -10,7 +10,7 @@ use Rattle.theory.specs.Listing.{written}
 use Rattle.import_model.specs.Import.{text_most, model_bytes, untouched, import_text}
 use Rattle.import_deliver.specs.Delivered.{delivered}
 use Rattle.import_deliver.proofs.laws.Passes.{too_long_model, then_the_model}
-use Rattle.import_judge.specs.laws.Refused.{SoundText}
+use Rattle.import_judge.specs.Sound.{SoundText}
 use Rattle.import_emit_cases.specs.declared.Emitted.{Emitted}
 use Rattle.import_emit_cases.specs.Emitting.{PutBytes}
 use Rattle.import_emit.specs.Items.{ModelPut}

@@ -4,7 +4,7 @@
 ghost use Rattle.std.specs.Prelude.{◌≡◌, length};
 ghost use Rattle.import_model.specs.Import.{import_text, text_most};
 ghost use Rattle.import_deliver.specs.Delivered.{outcome_as};
-ghost use Rattle.import_judge.specs.laws.Refused.{SoundText};
+ghost use Rattle.import_judge.specs.Sound.{SoundText};
 
 use import_deliver::{Imported, deliver, refused};
 use import_emit::emit;

@@ -1,4 +1,4 @@
 -- 10, 24 and 25
 pub mod Refusal
--- laws
-pub mod laws
+-- what is left when none of these is given
+pub mod Sound

@@ -4,7 +4,7 @@ use Prim.Native.Nat.{ℕ}
 use lib.ListN.{length-replicate}
 use Rattle.import_model.specs.Import.{text_most}
 use Rattle.import_deliver.proofs.Call.{refused_as}
-use Rattle.import_judge.specs.laws.Refused.{refused_so, sound_so}
+use Rattle.import_judge.proofs.laws.Refused.{refused_so, sound_so}
 use Rattle.model.specs.Answers.{shown}
 use borrow.Author.Rules.{rules}
 use Rattle.import_entry.proofs.import.Goals as goal

@@ -14,6 +14,7 @@ use Rattle.import_grammar.proofs.laws.Viable.{scan_right}
 use Rattle.import_numbers.specs.Numbers.{beyond}
 use Rattle.import_model.specs.Import.{text_most, model_bytes, untouched, filled_with, import_refusal, imported, import_text}
 use Rattle.import_judge.specs.Refusal.{outcome_refusal, text_refusal}
+use Rattle.import_judge.specs.Sound.{SoundText}
 
 -- ---- refused
 
@@ -44,12 +45,6 @@ module _ (buffer : List ℕ) where
   refused_so w v e = subst (λ (x : Verdict). Refuses x (import_text w buffer)) (sym e) (text_refused w)
 
 -- ---- not refused
-
-pub record SoundText (w : List ℕ) : Type 0 where
-  pub text : Text
-  pub bytes : length w ≤ text_most
-  pub reading : text_bytes text ≡ w
-  pub within : beyond text ≡ false
 
 outcome_sound : (w : List ℕ) → length w ≤ text_most → (o : Outcome) → Right w o → (outcome_refusal o).number ≡ 0 → SoundText w
 unfolding outcome_refusal
