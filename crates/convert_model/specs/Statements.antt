@@ -1,4 +1,4 @@
--- What is claimed of the converters, as types: each is proved in laws/Statements.
+-- What is claimed of the converters, as types: each is proved in proofs/laws/Statements.
 use Rattle.std.specs.Prelude.{◌≡◌, ◌↔◌, ℕ, ◌≤◌, ◌<◌, length, take, drop}
 use mathlib.Core.List.{List, Memᴰ}
 use Rattle.theory.specs.Form.{Form, old_form, new_form, levels_in, actions_in, bytes_in, forbidden_bytes}

@@ -1,4 +1,4 @@
--- What is claimed of an import, as types: each is proved in laws/Statements.
+-- What is claimed of an import, as types: each is proved in proofs/laws/Statements.
 use Rattle.std.specs.Prelude.{◌≡◌, ◌↔◌, ℕ, ◌≤◌, ◌<◌, ℤ, pos, negsuc, length, ◌≤ℤ◌}
 use mathlib.Core.List.{List, map, Memᴰ}
 use Rattle.theory.specs.Widths.{bytes_most}

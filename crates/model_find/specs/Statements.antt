@@ -1,4 +1,4 @@
--- What is claimed of finding an action by its name, as types: each is proved in laws/Statements.
+-- What is claimed of finding an action by its name, as types: each is proved in proofs/laws/Statements.
 use Rattle.std.specs.Prelude.{◌≡◌, ◌↔◌, ◌⊎◌, List, [], ◌++◌, ℕ, ◌-◌, length, get_or, replicate}
 use Rattle.theory.specs.Load.{site_at}
 use Rattle.theory.specs.Name.{name_refusal, name}

@@ -1,4 +1,4 @@
--- What is claimed of a price change, as types: each is proved in laws/Statements.
+-- What is claimed of a price change, as types: each is proved in proofs/laws/Statements.
 use Rattle.std.specs.Prelude.{◌≡◌, ◌↔◌, List, ℕ, suc, ◌*◌, T, ℤ}
 use Rattle.whole.specs.Int.{up}
 use Rattle.theory.specs.Total.{none}

@@ -1,4 +1,4 @@
--- What is claimed of paths that no state can take, as types: each is proved in laws/Statements.
+-- What is claimed of paths that no state can take, as types: each is proved in proofs/laws/Statements.
 use Rattle.std.specs.Prelude.{◌≡◌, List, ℕ, ◌≤◌, T, ℤ, length}
 use Rattle.theory.specs.Diagram.{Tree}
 use Rattle.theory.specs.Meaning.{Env}

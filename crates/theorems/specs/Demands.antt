@@ -1,4 +1,4 @@
--- The three demands and what goes with them, as types: each is proved in laws/Demands, and nothing is assumed.
+-- The three demands and what goes with them, as types: each is proved in proofs/laws/Demands, and nothing is assumed.
 use Rattle.std.specs.Prelude.{◌≡◌, ◌↔◌, ◌⊎◌, Bool, ℕ, suc, ◌*◌, ◌^◌, ◌≤◌, ◌<◌, T, ℤ, pos, nat_abs, ◌*ℤ◌, length}
 use mathlib.Core.List.{List, [], ◌∷◌, ◌++◌, map, Memᴰ}
 use Rattle.std.proofs.Common.{mul-pos}

@@ -1,4 +1,4 @@
--- "Actions that are not permitted", as types: each is proved in laws/Forbidden.
+-- "Actions that are not permitted", as types: each is proved in proofs/laws/Forbidden.
 use Rattle.std.specs.Prelude.{◌≡◌, ◌↔◌, ℕ, ◌≤◌, ◌<◌}
 use mathlib.Core.List.{List, [], Memᴰ}
 use Rattle.theory.specs.Diagram.{forbidden}

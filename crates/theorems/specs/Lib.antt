@@ -1,4 +1,4 @@
--- What is proved of document 01's definitions: its demands and what goes with them, as types, and under laws/ their proofs. Nothing above needs more of it than Advice.
+-- What is proved of document 01's definitions: its demands and what goes with them, as types; their proofs stand under proofs/laws. Nothing above needs more of it than Advice.
 
 -- ---- statements
 

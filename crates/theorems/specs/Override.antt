@@ -1,4 +1,4 @@
--- "How much an override loses", as types: each is proved in laws/Override. Whole numbers with h steps left are times D × W^(n×h), as values and totals are.
+-- "How much an override loses", as types: each is proved in proofs/laws/Override. Whole numbers with h steps left are times D × W^(n×h), as values and totals are.
 use Rattle.std.specs.Prelude.{◌≡◌, ◌↔◌, [], map, ℕ, zero, suc, ◌+◌, ◌*◌, ◌^◌, ◌≤◌, ◌<◌, ℤ, pos, ◌-ℤ◌, ◌*ℤ◌, ◌≤ℤ◌}
 use Rattle.std.proofs.Common.{mul-pos}
 use Rattle.std.proofs.Math.Nat.{one-le-pow}

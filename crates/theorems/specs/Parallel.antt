@@ -1,4 +1,4 @@
--- K4, "Parallel tests": what is stated of the rule that makes nodes, and of plans made with it. Each is proved in laws/Parallel.
+-- K4, "Parallel tests": what is stated of the rule that makes nodes, and of plans made with it. Each is proved in proofs/laws/Parallel.
 -- That no low branch of a loaded diagram, a stage or a solved table is parallel to its node stands with their order: Ordered, Reduced, and Demands over them.
 use Rattle.std.specs.Prelude.{◌≡◌, true, false, not, List, ℕ, ◌≤◌, T}
 use Rattle.whole.specs.Cases.{if}

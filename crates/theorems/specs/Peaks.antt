@@ -1,4 +1,4 @@
--- "A peak for each action", as types: each is proved in laws/Peaks.
+-- "A peak for each action", as types: each is proved in proofs/laws/Peaks.
 use Rattle.std.specs.Prelude.{◌≡◌, List, ℕ, ◌<◌, get_or, length}
 use Rattle.theory.specs.Diagram.{Tree}
 use Rattle.theory.specs.Computation.{solved}

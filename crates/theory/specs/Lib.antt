@@ -1,4 +1,4 @@
--- Document 01: definitions in its order, the rows of its table of refusals, and under laws/ what is proved about them. Its demands and what goes with them are in `theorems`.
+-- Document 01: definitions in its order, the rows of its table of refusals, and under proofs/laws what is proved about them. Its demands and what goes with them are in `theorems`.
 
 -- ---- definitions
 

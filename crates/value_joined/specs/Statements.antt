@@ -1,4 +1,4 @@
--- What is claimed of two sites together, as types: each is proved in laws/Statements.
+-- What is claimed of two sites together, as types: each is proved in proofs/laws/Statements.
 use Rattle.std.specs.Prelude.{◌≡◌, ◌↔◌, ◌⊎◌, Bool, List, ℕ, suc, ◌*◌, ◌^◌, ◌≤◌}
 use Rattle.theory.specs.Total.{none, Has, ◌⊑◌, ◌⊏◌}
 use Rattle.theory.specs.Loss.{sum}
