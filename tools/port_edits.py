@@ -127,7 +127,9 @@ class Words:
         self.here = collections.defaultdict(lambda: collections.defaultdict(collections.Counter))
 
     def learn(self, path):
-        a, b = [[pieces(l) for l in text.split("\n")] for text in (older_file(path), today_file(path))]
+        # (laws that moved are read where they stood)
+        was = older_file(path) or older_file(path.replace("/proofs/", "/specs/"))
+        a, b = [[pieces(l) for l in text.split("\n")] for text in (was, today_file(path))]
         keys = [[" ".join(map(folded, l)) for l in file] for file in (a, b)]
         for tag, i, j, k, l in difflib.SequenceMatcher(None, *keys, autojunk=False).get_opcodes():
             for x, y in zip(a[i:j], b[k:l]) if j - i == l - k else []:
@@ -167,7 +169,7 @@ def change(before, after, spell=str):
 
 def main():
     words, said = Words(), collections.Counter()
-    for path in sorted(glob.glob("crates/*/specs/**/*.antt", recursive=True) + glob.glob("crates/*/src/**/*.rt", recursive=True)):
+    for path in sorted(path for files in ("specs/**/*.antt", "proofs/laws/**/*.antt", "src/**/*.rt") for path in glob.glob(f"crates/*/{files}", recursive=True)):
         words.learn(path)
     homes = collections.defaultdict(collections.Counter)
     for path in glob.glob("crates/*/specs/**/*.antt", recursive=True):
@@ -193,7 +195,7 @@ def main():
             also = {new: old for _, _, n in found for old, new in re.findall(r"([\w-]+) as ([\w-]+)[,}]", n)}
             paths = {n for _, _, new in found for n in re.findall(r"Rattle[.\w]*\.specs\.\w+\.(\w+)", new)}
             meant = lambda l: PIECE.sub(lambda m: also.get(m.group(0), m.group(0)), re.sub(r"Rattle[.\w]*\.specs\.\w+\.(?=\w)", "", l))
-            same = all(change(b, a, meant) == wanted[f] and names[f] - paths <= brought(a) - brought(b) for f, (b, a) in made.items())
+            same = set(made) == set(wanted) and all(change(b, a, meant) == wanted[f] and names[f] - paths <= brought(a) - brought(b) for f, (b, a) in made.items())
             return "" if same else "words"
 
         why, turned = fits(now), None
