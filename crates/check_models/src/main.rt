@@ -2,12 +2,9 @@
 // A line without a colon is copied.
 #![tactic(auto)]
 
+use check_hex::input::read_full;
 use check_hex::{find, report};
 use std::io;
-use std::io::Read;
-
-// The longest input that is read, in bytes.
-const INPUT_MOST: u64 = 32768;
 
 // The label, then the number and the place.
 fn judge(rt: &impl Print, name: &[u8], text: &[u8], room: &mut [u8]) -> io::Result<()> {
@@ -36,12 +33,12 @@ fn lines(rt: &impl Print, text: &[u8]) -> io::Result<()> {
     Ok(())
 }
 
-fn all(rt: &(impl Input + Print + Alloc)) -> io::Result<()> {
-    let mut input = Vec::new(rt.alloc());
-    rt.reader().take(INPUT_MOST).read_to_end(&mut input)?;
-    lines(rt, &input)
+fn all(rt: &(impl Input + Print), room: &mut [u8]) -> io::Result<()> {
+    let n = read_full(&mut rt.reader(), room)?;
+    lines(rt, &room[..n])
 }
 
 fn main(rt: HostRuntime) -> io::Result<()> {
-    all(&rt)
+    let mut room = [0u8; 32768];
+    all(&rt, &mut room)
 }

@@ -3,13 +3,10 @@
 // cursor's. A line without a colon is copied.
 #![tactic(auto)]
 
+use check_hex::input::read_full;
 use check_hex::{find, report};
 use model_command::{Command, Read};
 use std::io;
-use std::io::Read as _;
-
-// The longest input that is read, in bytes.
-const INPUT_MOST: u64 = 32768;
 
 // A command's byte and its operands of one or two bytes, 0 where it has fewer; byte 0 for an unknown one, 1 for one that is cut.
 #[derive(Clone, Copy)]
@@ -144,12 +141,12 @@ fn lines(rt: &impl Print, text: &[u8]) -> io::Result<()> {
     Ok(())
 }
 
-fn all(rt: &(impl Input + Print + Alloc)) -> io::Result<()> {
-    let mut input = Vec::new(rt.alloc());
-    rt.reader().take(INPUT_MOST).read_to_end(&mut input)?;
-    lines(rt, &input)
+fn all(rt: &(impl Input + Print), room: &mut [u8]) -> io::Result<()> {
+    let n = read_full(&mut rt.reader(), room)?;
+    lines(rt, &room[..n])
 }
 
 fn main(rt: HostRuntime) -> io::Result<()> {
-    all(&rt)
+    let mut room = [0u8; 32768];
+    all(&rt, &mut room)
 }

@@ -4,13 +4,10 @@
 
 ghost use Rattle.std.specs.Prelude.{◌<◌};
 
+use check_hex::input::read_full;
 use check_hex::{find, report};
 use std::io;
-use std::io::Read;
 use whole::NUMBERS;
-
-// The longest input that is read, in bytes.
-const INPUT_MOST: u64 = 32768;
 
 // Bytes of a number; where the numerators begin, behind the steps left and the mask; where the model begins.
 const WORD: usize = 4;
@@ -116,12 +113,12 @@ fn lines(rt: &impl Print, text: &[u8]) -> io::Result<()> {
     Ok(())
 }
 
-fn all(rt: &(impl Input + Print + Alloc)) -> io::Result<()> {
-    let mut input = Vec::new(rt.alloc());
-    rt.reader().take(INPUT_MOST).read_to_end(&mut input)?;
-    lines(rt, &input)
+fn all(rt: &(impl Input + Print), room: &mut [u8]) -> io::Result<()> {
+    let n = read_full(&mut rt.reader(), room)?;
+    lines(rt, &room[..n])
 }
 
 fn main(rt: HostRuntime) -> io::Result<()> {
-    all(&rt)
+    let mut room = [0u8; 32768];
+    all(&rt, &mut room)
 }

@@ -1,13 +1,15 @@
 // The listing program: a horizon byte and a model on standard input, the listing of the plan or the refusal on standard output.
 #![tactic(auto)]
 
+mod input; // input.rt: standard input read into an array
+
+use input::read_full;
 use std::io;
-use std::io::Read;
 use text_input::MODEL_MOST;
 use text_program::answer;
 
 // A horizon byte, and a model of one byte more than is taken: a longer one is refused by its length.
-const ROOM: u64 = 2 + MODEL_MOST as u64;
+const ROOM: usize = 2 + MODEL_MOST;
 
 // The bytes that the text has room for.
 const TEXT_BYTES: usize = 65536;
@@ -18,12 +20,12 @@ fn show(rt: &impl Print, input: &[u8]) -> io::Result<()> {
     rt.write_all(&text[..size])
 }
 
-fn run(rt: &(impl Input + Print + Alloc)) -> io::Result<()> {
-    let mut input = Vec::new(rt.alloc());
-    rt.reader().take(ROOM).read_to_end(&mut input)?;
-    show(rt, &input)
+fn run(rt: &(impl Input + Print), room: &mut [u8]) -> io::Result<()> {
+    let n = read_full(&mut rt.reader(), room)?;
+    show(rt, &room[..n])
 }
 
 fn main(rt: HostRuntime) -> io::Result<()> {
-    run(&rt)
+    let mut room = [0u8; ROOM];
+    run(&rt, &mut room)
 }
