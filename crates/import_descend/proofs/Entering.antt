@@ -16,7 +16,7 @@ use Rattle.import_going.specs.Turns.{Spotted}
 use Rattle.import_list.specs.declared.Entry.{Entry}
 use Rattle.import_list.specs.Pending.{Visits, Beyond, size}
 use Rattle.import_list.specs.Packed.{entries, FitsWord, Pushed}
-use Rattle.import_list.specs.laws.Steps.{atom_told, first_entry, visit_atom, visit_result, not_deep, not_lost, few, rises}
+use Rattle.import_list.proofs.laws.Steps.{atom_told, first_entry, visit_atom, visit_result, not_deep, not_lost, few, rises}
 use Rattle.import_look.specs.declared.Told.{Told}
 use Rattle.import_look.specs.Looks.{Looks}
 use Rattle.import_descend.specs.declared.Down.{Down}

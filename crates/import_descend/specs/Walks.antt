@@ -10,7 +10,7 @@ use Rattle.import_going.specs.Turns.{Spotted}
 use Rattle.import_list.specs.declared.Entry.{Entry}
 use Rattle.import_list.specs.Pending.{Visits}
 use Rattle.import_list.specs.Packed.{list_most, entries}
-use Rattle.import_list.specs.laws.Steps.{ResultFirst}
+use Rattle.import_list.specs.Pending.{ResultFirst}
 use Rattle.import_descend.specs.declared.Down.{Down}
 
 -- an atom of the text, of which no command is written, and room for it on the list

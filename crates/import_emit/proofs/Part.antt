@@ -16,7 +16,7 @@ use Rattle.import_grammar.specs.Reader.{is_blank}
 use Rattle.import_model.specs.Commands.{at_most, byte_most, action_most, action_of, letters, filled, result_command}
 use Rattle.import_model.specs.Encode.{command_bytes, encode}
 use Rattle.import_found.specs.Places.{Emits, go}
-use Rattle.import_found.specs.laws.Found.{opening_of, cases_commands}
+use Rattle.import_found.specs.Cases.{opening_of, cases_commands}
 use Rattle.import_parts.specs.Parts.{TextPart, item, name, site_command, slot_of, part_commands, parts_commands, Walked}
 use Rattle.import_parts.specs.Walk.{past, goes_on, grown, number_value, setting_value, setting_rest, kind_in, word_of, action_in, slot_in, item_rest, name_byte, name_rest}
 use Rattle.import_parts.specs.laws.Order.{text_parts, text_site, text_end}

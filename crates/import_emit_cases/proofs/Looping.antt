@@ -16,7 +16,7 @@ use Rattle.import_going.specs.declared.start.Spot.{Spot}
 use Rattle.import_going.specs.Turns.{Spotted}
 use Rattle.import_list.specs.Pending.{Pending}
 use Rattle.import_list.specs.Packed.{entries}
-use Rattle.import_list.specs.laws.Steps.{first_visit, all_written}
+use Rattle.import_list.proofs.laws.Steps.{first_visit, all_written}
 use Rattle.import_write.proofs.Laws.{next_command}
 use Rattle.import_descend.specs.Walks.{SpotComes}
 use Rattle.import_emit_cases.specs.declared.Emitted.{Emitted}

@@ -17,7 +17,7 @@ use Rattle.import_going.specs.Turns.{Spotted}
 use Rattle.import_list.specs.declared.Entry.{Entry}
 use Rattle.import_list.specs.Pending.{own, outcome, second_value, Lies, Pending, Visits}
 use Rattle.import_list.specs.Packed.{unpacked, entries, FitsWord, Pushed}
-use Rattle.import_list.specs.laws.Steps.{with_both, top_lies, visit_second, write_own}
+use Rattle.import_list.proofs.laws.Steps.{with_both, top_lies, visit_second, write_own}
 use Rattle.import_look.specs.declared.Told.{Told}
 use Rattle.import_look.specs.Looks.{command_told, Looks, LeafLooks}
 use Rattle.import_descend.specs.declared.Down.{Down}

@@ -1,4 +1,4 @@
 -- places in the text, and the commands there
 pub mod Places
--- what is proved
-pub mod laws
+-- items by their openings and cases
+pub mod Cases

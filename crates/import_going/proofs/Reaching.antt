@@ -11,7 +11,7 @@ use lib.Seq.{drop-cons}
 use borrow.Author.Tests.{ne_eqb, eq-eqb}
 use Rattle.whole.specs.Cases.{if, by_test, by_eq}
 use Rattle.import_found.specs.Places.{Place, atom_at, result_at, lost, is_space, is_cond, after_colon, next_case, go, TooDeep}
-use Rattle.import_found.specs.laws.Depth.{go_deep}
+use Rattle.import_found.proofs.laws.Depth.{go_deep}
 use Rattle.import_places.specs.declared.Next.{Next}
 use Rattle.import_places.specs.declared.Next.TheVariants.{Go as GoAt, Result as ResultTo, NextCase as NextCaseAt, Lost as LostTo}
 use Rattle.import_places.specs.Walking.{signs, two_to, meant, PlaceComes}

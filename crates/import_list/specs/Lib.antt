@@ -2,5 +2,3 @@
 pub mod Pending
 -- entries as words
 pub mod Packed
--- what is proved
-pub mod laws

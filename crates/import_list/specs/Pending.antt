@@ -3,7 +3,7 @@ use Rattle.std.specs.Prelude.{Bool, true, false, not, List, [], ◌∷◌, ◌++
 use Rattle.theory.specs.Command.{Command, push_condition, push_test, push_forbidden}
 use Rattle.import_grammar.specs.Grammar.{Spaces, Op, lt, le, gt, ge, Atom, now, later, compare, group, Result, spaces_bytes, atom_bytes, result_bytes, deepest}
 use Rattle.import_numbers.specs.Numbers.{linear_of, difference, atom_numbers, result_numbers, all_within}
-use Rattle.import_model.specs.Commands.{condition_of, later_of}
+use Rattle.import_model.specs.Commands.{condition_of, later_of, result_command}
 use Rattle.import_found.specs.Places.{Place, atom_at, result_at, lost, find, xor, AfterAtom, AfterResult, Decided, Emits}
 use Rattle.import_places.specs.Walking.{signs, two_to}
 use Rattle.import_list.specs.declared.Entry.{Entry}
@@ -102,3 +102,10 @@ pub record Visits (w : List ℕ) (p : Place) (l : List Entry) (C : List Command)
   pub beyond : Beyond w (size p) l
   pub pending : Pending w l later_on
   pub all : C ≡ here ++ later_on
+
+-- a result: its one command, then the list
+pub record ResultFirst (w : List ℕ) (u : List ℕ) (l : List Entry) (C : List Command) : Type 0 where
+  pub reading : ResultReading u
+  pub others : List Command
+  pub pending : Pending w l others
+  pub is : C ≡ result_command reading.result ∷ others

@@ -8,7 +8,7 @@ use Rattle.import_grammar.specs.Grammar.{Spaces, Digit, d0, d1, d2, d3, d4, d5, 
 use Rattle.import_grammar.specs.Grammar.{kfactor, ktimes, ConstSum, kterm, kneg, kplus, VaryFactor, level, vbracket, VaryTerm, vfactor, vscaled, vby, VarySum}
 use Rattle.import_grammar.specs.Grammar.{vterm, vneg, plus_kv, plus_vk, plus_vv, Sum, constant, varying, digit_byte, index_byte, sign_byte, spaces_bytes}
 use Rattle.import_grammar.specs.Grammar.{digits_bytes, kfactor_bytes, kterm_bytes, ksum_bytes, vfactor_bytes, vterm_bytes, vsum_bytes, sum_bytes}
-use Rattle.import_found.specs.laws.Passing.{over_blanks}
+use Rattle.import_found.proofs.laws.Passing.{over_blanks}
 use Rattle.import_look.specs.Looks.{unspaced}
 
 -- ---- white space

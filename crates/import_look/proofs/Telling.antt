@@ -27,7 +27,7 @@ use Rattle.import_values.specs.Sums.{sum_eight}
 use Rattle.import_sum_at.specs.declared.Worked.{Worked}
 use Rattle.import_sum_at.specs.SumAt.{BehindSum, nothing, other, SumWorks}
 use Rattle.import_found.specs.Places.{AfterAtom, and_behind, or_behind, close_behind, colon_behind, AfterResult, ends_text, ends_case, reward_next, chance_next, name_next, end_next, Decided}
-use Rattle.import_found.specs.laws.Found.{within_apart}
+use Rattle.import_found.proofs.laws.Found.{within_apart}
 use Rattle.import_list.specs.Pending.{op_first, first_holds, own}
 use Rattle.import_look.specs.declared.Told.{Told}
 use Rattle.import_look.specs.declared.Operator.{Operator}

@@ -6,7 +6,7 @@ use Rattle.theory.specs.Verdict.{reward_slot, chance_slot, level_slot, end_slot}
 use Rattle.import_grammar.specs.Grammar.{Spaces, Digits, Result, Setting, Chars, Items, head, closed, named, Opening, reward, chance, next, end, Before, start}
 use Rattle.import_grammar.specs.Grammar.{case, four_byte, index_byte, spaces_bytes, digits_bytes, result_bytes, setting_bytes, chars_bytes}
 use Rattle.import_model.specs.Commands.{condition_of, level_of, byte_of, action_of, setting_of, result_command, letters, filled}
-use Rattle.import_found.specs.laws.Found.{opening_of, cases_bytes, cases_commands}
+use Rattle.import_found.specs.Cases.{opening_of, cases_bytes, cases_commands}
 
 -- "site" and its four settings
 pub data TextSite : Type 0 where

@@ -8,7 +8,7 @@ use Rattle.import_grammar.specs.Grammar.{Spaces, Digits, Result, Chars, Before, 
 use Rattle.import_model.specs.Commands.{action_of, letters, filled, result_command, text_commands}
 use Rattle.import_found.specs.Places.{Emits, go}
 use Rattle.import_numbers.specs.Numbers.{all_within, result_numbers}
-use Rattle.import_found.specs.laws.Found.{opening_of, cases_commands, cases_numbers}
+use Rattle.import_found.specs.Cases.{opening_of, cases_commands, cases_numbers}
 use Rattle.import_parts.specs.Parts.{TextPart, item, name, site_command, slot_of, part_commands, Walked}
 use Rattle.import_parts.specs.Walk.{item_rest, name_byte, name_rest}
 use Rattle.import_parts.specs.laws.Order.{text_parts, text_site, text_end}

@@ -9,8 +9,8 @@ use Rattle.import_grammar.specs.Grammar.{either, Result, worth, forbids, Chars, 
 use Rattle.import_grammar.specs.Grammar.{index_byte, four_byte, op_bytes, spaces_bytes, digits_bytes, sum_bytes, nots_bytes, atom_bytes, not_bytes, and_bytes}
 use Rattle.import_grammar.specs.Grammar.{or_bytes, result_bytes}
 use Rattle.import_model.specs.Commands.{action_most, action_of, condition_of, level_of}
-use Rattle.import_found.specs.laws.Passing.{SumByte, s9, s10, s13, s32, s42, s43, s45, s48, s49, s50, s51, s52, s53, s54, s55, s56, s57, s76, over_spaces, over_sum}
-use Rattle.import_found.specs.laws.Found.{cases_bytes}
+use Rattle.import_found.proofs.laws.Passing.{SumByte, s9, s10, s13, s32, s42, s43, s45, s48, s49, s50, s51, s52, s53, s54, s55, s56, s57, s76, over_spaces, over_sum}
+use Rattle.import_found.specs.Cases.{cases_bytes}
 use Rattle.import_parts.specs.Parts.{opened_bytes, else_bytes, string_bytes, named_bytes, slot_of}
 use Rattle.import_parts.specs.Walk.{past, is_letter, begins, inside_after, next_letter, item_rest, goes_on, number_value, number_rest, kind_in, word_of, action_rest, action_in, index_in, opening_rest, slot_in}
 use Rattle.import_parts.specs.laws.Meets.{past_equals, colon_spaces, rest_spaces, number_read, number_left, NumberEnds, ends_spaced}

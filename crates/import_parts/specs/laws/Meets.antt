@@ -9,7 +9,7 @@ use Rattle.import_grammar.specs.Grammar.{digit_byte, spaces_bytes}
 use Rattle.import_grammar.specs.Grammar.{digits_bytes, setting_bytes}
 use Rattle.import_numbers.specs.Numbers.{digit_value, digits_value}
 use Rattle.import_model.specs.Commands.{at_most, byte_most, action_most, byte_of, action_of, setting_of}
-use Rattle.import_found.specs.laws.Passing.{over_blanks}
+use Rattle.import_found.proofs.laws.Passing.{over_blanks}
 use Rattle.import_parts.specs.Parts.{site_with, site_bytes}
 use Rattle.import_parts.specs.Walk.{past, goes_on, grown, number_value, number_rest}
 use Rattle.import_parts.specs.Walk.{setting_value, setting_rest}

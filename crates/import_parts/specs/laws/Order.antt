@@ -4,7 +4,7 @@ use Rattle.std.proofs.Common.{sym, ap, ◌∙◌, append_assoc}
 use Rattle.theory.specs.Command.{Command, give, end_model}
 use Rattle.import_grammar.specs.Grammar.{Spaces, Items, head, closed, named, Opening, reward, chance, next, end, Before, start, case, Text, entire, spaces_bytes, or_bytes, result_bytes, items_bytes, opening_bytes, before_bytes, text_bytes}
 use Rattle.import_model.specs.Commands.{or_commands, result_command, items_commands, opening_commands, before_commands, text_commands}
-use Rattle.import_found.specs.laws.Found.{opening_of, cases_bytes, cases_commands}
+use Rattle.import_found.specs.Cases.{opening_of, cases_bytes, cases_commands}
 use Rattle.import_parts.specs.Parts.{TextSite, TextPart, item, name, site_of, opening_site, before_site, parts, opening_parts, before_parts, site_bytes, gap}
 use Rattle.import_parts.specs.Parts.{opened_bytes, else_bytes, string_bytes, named_bytes, part_gap, part_bare, parts_bytes, site_command}
 use Rattle.import_parts.specs.Parts.{slot_of, part_commands, parts_commands}

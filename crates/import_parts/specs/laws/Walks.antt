@@ -8,7 +8,8 @@ use Rattle.import_grammar.specs.Grammar.{Spaces, none, Digits, Result, Setting, 
 use Rattle.import_model.specs.Commands.{byte_of, action_of, setting_of, letters, filled, result_command, text_commands}
 use Rattle.import_found.specs.Places.{Emits, go, AfterResult, ends_text, reward_next, chance_next, name_next, end_next}
 use Rattle.import_numbers.specs.Numbers.{all_within, result_numbers}
-use Rattle.import_found.specs.laws.Found.{opening_of, cases_bytes, cases_commands, cases_numbers, item_out}
+use Rattle.import_found.proofs.laws.Found.{item_out}
+use Rattle.import_found.specs.Cases.{opening_of, cases_bytes, cases_commands, cases_numbers}
 use Rattle.import_parts.specs.Parts.{TextSite, site_with, TextPart, item, name, site_bytes, site_command, opened_bytes, else_bytes, string_bytes}
 use Rattle.import_parts.specs.Parts.{named_bytes, part_gap, part_bare, parts_bytes, slot_of, part_commands, parts_commands, from_letter, Walked}
 use Rattle.import_parts.specs.Walk.{Stands, next_letter, begins, is_letter, inside_after, item_rest, goes_on, number_value, number_rest, kind_in}

@@ -4,7 +4,8 @@ use Rattle.std.proofs.Common.{arith}
 use Rattle.theory.specs.Plain.{in_32_bits}
 use Rattle.import_grammar.specs.Grammar.{Items, head, closed, named, Opening, reward, chance, next, end, Before, start, case, Text, entire}
 use Rattle.import_numbers.specs.Numbers.{written, or_numbers, result_numbers, items_numbers, opening_numbers, before_numbers, numbers, all_within, beyond}
-use Rattle.import_found.specs.laws.Found.{cases_numbers, within_apart}
+use Rattle.import_found.proofs.laws.Found.{within_apart}
+use Rattle.import_found.specs.Cases.{cases_numbers}
 use Rattle.import_parts.specs.Parts.{TextPart, item, name, parts, opening_parts, before_parts}
 use Rattle.import_parts.specs.laws.Order.{text_parts}
 

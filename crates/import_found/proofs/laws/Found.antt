@@ -19,8 +19,9 @@ use Rattle.import_numbers.specs.Numbers.{sum_numbers, atom_numbers, not_numbers,
 use Rattle.import_model.specs.Commands.{compare_commands, nots_commands, atom_commands, not_commands, and_commands, or_commands, result_command, opening_commands, before_commands}
 use Rattle.import_found.specs.Places.{Place, atom_at, is_space, is_cond, after_colon, go, next_case, xor, find, AfterAtom, and_behind}
 use Rattle.import_found.specs.Places.{or_behind, close_behind, colon_behind, AfterResult, ends_case, Decided, Emits, by_result, by_atom}
-use Rattle.import_found.specs.laws.Passing.{over_blanks}
-use Rattle.import_found.specs.laws.Walks.{pass_spaces, pass_atom, pass_not, pass_and, not_cond, cond_or, skip_spaces, skip_result, colon_spaces}
+use Rattle.import_found.specs.Cases.{opening_of, cases_bytes, cases_commands, cases_numbers}
+use Rattle.import_found.proofs.laws.Passing.{over_blanks}
+use Rattle.import_found.proofs.laws.Walks.{pass_spaces, pass_atom, pass_not, pass_and, not_cond, cond_or, skip_spaces, skip_result, colon_spaces}
 
 -- ---- a sum without the white space before it
 
@@ -364,24 +365,6 @@ mutual
       (moved (pass_spaces p (124 ∷ and_bytes u (spaces_bytes q (k ∷ f))) 0 false false ps) (and_out u q k (as_atom t) f ps m d.1 Y N y z))
 
 -- ---- an item
-
--- an item's opening, the bytes of its cases before f, and their commands before those of what follows
-unfoldable pub opening_of : Before → Opening
-opening_of (start O) = O
-opening_of (case B o p r q) = opening_of B
-
-unfoldable pub cases_bytes : Before → List ℕ → List ℕ
-cases_bytes (start O) f = f
-cases_bytes (case B o p r q) f = cases_bytes B (or_bytes o (spaces_bytes p (58 ∷ result_bytes r (spaces_bytes q (59 ∷ f)))))
-
-unfoldable pub cases_commands : Before → List Command → List Command
-cases_commands (start O) C = C
-cases_commands (case B o p r q) C = cases_commands B (or_commands o (result_command r ∷ []) C)
-
--- the numbers of its cases
-unfoldable pub cases_numbers : Before → List ℤ
-cases_numbers (start O) = []
-cases_numbers (case B o p r q) = cases_numbers B ++ (or_numbers o ++ result_numbers r)
 
 pub bytes_apart : (B : Before) (f : List ℕ) → before_bytes B f ≡ opening_bytes (opening_of B) (cases_bytes B f)
 unfolding before_bytes opening_of cases_bytes

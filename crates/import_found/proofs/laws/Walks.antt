@@ -10,7 +10,7 @@ use Rattle.import_grammar.specs.Grammar.{four_byte, op_bytes, spaces_bytes}
 use Rattle.import_grammar.specs.Grammar.{sum_bytes, nots_bytes, atom_bytes, not_bytes, and_bytes, or_bytes}
 use Rattle.import_grammar.specs.Grammar.{result_bytes}
 use Rattle.import_found.specs.Places.{is_cond, after_colon, go, next_case, xor, find}
-use Rattle.import_found.specs.laws.Passing.{SumByte, s9, s10, s13, s32, s42, s43, s45, s48, s49, s50, s51, s52, s53, s54, s55, s56, s57, s76, over_blanks, over_spaces, over_close, over_sum}
+use Rattle.import_found.proofs.laws.Passing.{SumByte, s9, s10, s13, s32, s42, s43, s45, s48, s49, s50, s51, s52, s53, s54, s55, s56, s57, s76, over_blanks, over_spaces, over_close, over_sum}
 
 -- ---- what comes next
 

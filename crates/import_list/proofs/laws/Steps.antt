@@ -6,11 +6,11 @@ use Rattle.theory.specs.Command.{Command}
 use Rattle.import_grammar.specs.Grammar.{lt, le, gt, ge, Atom, now, later, compare, group, deepest}
 use Rattle.import_model.specs.Commands.{compare_commands, atom_commands, result_command}
 use Rattle.import_found.specs.Places.{Place, atom_at, result_at, lost, find, xor, Decided, Emits, by_result, by_atom, TooDeep}
-use Rattle.import_found.specs.laws.Depth.{never_deep}
+use Rattle.import_found.proofs.laws.Depth.{never_deep}
 use Rattle.import_places.specs.Walking.{signs, two_to}
 use Rattle.import_list.specs.declared.Entry.{Entry}
-use Rattle.import_list.specs.Pending.{first_holds, own, AtomReading, ResultReading, outcome, first_value, second_value, StandsFor, half, done, Lies, Rises, Pending, none_left, also_left, size, Beyond, Visits}
-use Rattle.import_list.specs.laws.Shorter.{outcome_size}
+use Rattle.import_list.specs.Pending.{first_holds, own, AtomReading, ResultReading, outcome, first_value, second_value, StandsFor, half, done, Lies, Rises, Pending, none_left, also_left, size, Beyond, Visits, ResultFirst}
+use Rattle.import_list.proofs.laws.Shorter.{outcome_size}
 
 -- ---- an atom's commands: of its first outcome, of its second, its own
 
@@ -188,13 +188,6 @@ write_own {w} {e} {l} {C} P z =
     let t : Top w e l C = topped P in
     let h = done_told t.stands z in
     record { reading = h.reading; others = t.others; pending = t.rest; is = t.is ∙ ap (λ (D : List Command). D ++ t.others) h.is }
-
--- a result: its one command, then the list
-pub record ResultFirst (w : List ℕ) (u : List ℕ) (l : List Entry) (C : List Command) : Type 0 where
-  pub reading : ResultReading u
-  pub others : List Command
-  pub pending : Pending w l others
-  pub is : C ≡ result_command reading.result ∷ others
 
 pub visit_result : {w : List ℕ} {p : Place} {l : List Entry} {C : List Command} (G : Visits w p l C) (u : List ℕ) → p ≡ result_at u → ResultFirst w u l C
 visit_result G u e =

@@ -8,7 +8,7 @@ use Rattle.import_grammar.specs.Grammar.{plus_kv, plus_vk, plus_vv, Sum, constan
 use Rattle.import_grammar.specs.Grammar.{four_byte, sign_byte, op_bytes, spaces_bytes, digits_bytes, kfactor_bytes, kterm_bytes, ksum_bytes, vfactor_bytes}
 use Rattle.import_grammar.specs.Grammar.{vterm_bytes, vsum_bytes, sum_bytes, atom_bytes}
 use Rattle.import_found.specs.Places.{Place, result_at, lost, is_space, is_cond, after_colon, go, next_case, xor, find, Decided}
-use Rattle.import_found.specs.laws.Walks.{pass_spaces, pass_atom}
+use Rattle.import_found.proofs.laws.Walks.{pass_spaces, pass_atom}
 use Rattle.import_list.specs.Pending.{size, AtomReading}
 
 -- ---- the walks only go on
