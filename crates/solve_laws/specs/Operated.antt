@@ -1,7 +1,6 @@
 -- An operation of the theory, done on a table: collect, then run its rule, in whatever part of the room.
-use Rattle.std.specs.Prelude.{◌≡◌, refl, List, [], ◌∷◌, ℕ, zero, suc, max, ◌≤◌, ◌<◌, eqb, ℤ, length, get_or}
-use Rattle.std.proofs.Common.{sym, ap, ap₂, ◌∙◌, subst, lt_of_lt_of_le, arith, eq-eqb, eqb→eq}
-use Rattle.whole.specs.Cases.{by_eq, from_true, clash}
+use Rattle.std.specs.Prelude.{◌≡◌, refl, List, [], ◌∷◌, ℕ, zero, suc, max, ◌≤◌, ◌<◌, ℤ, length, get_or}
+use Rattle.std.proofs.Common.{sym, ap, ap₂, ◌∙◌, subst, lt_of_lt_of_le, arith}
 use Rattle.table.specs.declared.Made.{Made}
 use Rattle.table.specs.Table.{node_at}
 use Rattle.theory.specs.Diagram.{Tree}
@@ -16,7 +15,7 @@ use Rattle.collect.specs.Collect.{Collected}
 use Rattle.collect.proofs.Order.{SameOut, done_as, stopped_as, run_same}
 use Rattle.collect.proofs.Needed.{kept_nodes}
 use Rattle.solve_laws.specs.Alike.{Alike, alike_trans, alike_eq, alike_cons, same_roots}
-use Rattle.solve_laws.specs.Onward.{Works, Stops, works_run, stops_run, onward, answered, onward_ok, onward_no}
+use Rattle.solve_laws.specs.Onward.{Works, Stops, works_run, stops_run}
 
 -- ---- roots of a table
 
@@ -122,12 +121,6 @@ module _ {cap n n₁ : ℕ} {l l₁ : List ℤ} {w w₁ : List ℕ} {ρ ρ₁ : 
       -- stopped: the whole is refused, at the operation's place
       pub operation_refused : (r.stop ≡ 0 → ⊥) → run_all cap p (operation h R c f) ≡ refused r.stop h.stage
       operation_refused off = stops_run p h f (stops off)
-
-      -- both at once
-      pub operation_run : run_all cap p (operation h R c f) ≡ onward (answered r.stop h.stage (tree_at l₂ r.count r.at) (max p r.count)) (λ t q. run_all cap q (f t))
-      operation_run = by_eq (eqb r.stop 0) (λ b. run_all cap p (operation h R c f) ≡ onward (answered r.stop h.stage (tree_at l₂ r.count r.at) (max p r.count)) (λ t q. run_all cap q (f t)))
-          (λ e. let z = eqb→eq r.stop 0 (from_true e) in operated z ∙ sym (onward_ok r.stop h.stage (tree_at l₂ r.count r.at) (max p r.count) refl (λ t q. run_all cap q (f t)) z))
-          (λ e. let z : r.stop ≡ 0 → ⊥ = λ q. clash (sym (eq-eqb r.stop 0 q) ∙ e) in operation_refused z ∙ sym (onward_no r.stop h.stage (tree_at l₂ r.count r.at) (max p r.count) refl (λ t q. run_all cap q (f t)) z))
 
     -- the table afterwards holds the same diagrams at the same indexes
     pub ran_below : Below ρ₁ r.count

@@ -1,0 +1,2 @@
+-- What rests on the theorems of specs/.
+pub mod Operated
