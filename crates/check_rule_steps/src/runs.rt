@@ -1,5 +1,5 @@
 // All rows, from an empty table on.
-ghost use Rattle.std.specs.Prelude.{◌≡◌, true, ℕ, ◌≤◌, ◌<◌, length, get_or, IfOk};
+ghost use Rattle.std.specs.Prelude.{◌≡◌, true, ℕ, ◌≤◌, ◌<◌, length, get_or, IfOk, OnErr};
 ghost use Rattle.rule_node.specs.Table.{Table};
 ghost use Rattle.rule_node.specs.EntryMeaning.{rule_of};
 
@@ -8,7 +8,7 @@ use super::rules::step;
 use std::io;
 use table::Made;
 
-// The step of a row, its line printed and its node kept.
+// The step of a row, its line printed and its node kept. Where the line is not printed, the step is done and its node is not kept.
 fn line(
     rt: &impl Print,
     nodes: &mut [i64],
@@ -20,7 +20,8 @@ fn line(
     i: usize,
 ) -> io::Result<Made>
     requires { Table rule_of cap nodes.old work.old count × (i ≤ 1000) }
-    ensures { IfOk result (λ made. Table rule_of cap nodes.new work.new made.count) }
+    ensures ok { IfOk result (λ made. Table rule_of cap nodes.new work.new made.count) }
+    ensures err { OnErr result ((made : ℕ) × Table rule_of cap nodes.new work.new made × (results.new ≡ results.old)) }
 {
     let s = lines::step_at(rows, results, i * 4);
     let r = step(nodes, work, cap, count, s);

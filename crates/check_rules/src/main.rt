@@ -1,7 +1,7 @@
 // Staircases merged in a table of 49,152 nodes: what each step came to, as its refusal's number and the count of nodes.
 #![tactic(auto)]
 
-ghost use Rattle.std.specs.Prelude.{◌≤◌, ◌<◌, IfOk};
+ghost use Rattle.std.specs.Prelude.{◌≤◌, ◌<◌, IfOk, OnErr};
 ghost use Rattle.rule_node.specs.Table.{Table};
 ghost use Rattle.rule_node.specs.EntryMeaning.{rule_of};
 ghost use Rattle.check_rules.specs.Held.{cap, RulesHeld};
@@ -96,7 +96,7 @@ fn show(rt: &impl Print, r: Made) -> io::Result<()> {
     println!(rt; "{stop} {count}")
 }
 
-// Two staircases, and a rule on them.
+// Two staircases, and a rule on them. Where a line is not printed, the table is right as the steps before it left it.
 fn pair(
     rt: &impl Print,
     nodes: &mut [i64],
@@ -107,7 +107,8 @@ fn pair(
     values: usize,
 ) -> io::Result<Made>
     requires { Table rule_of cap nodes.old work.old count × (op ≤ 2) × (value ≤ 1000) × (0 < values) }
-    ensures { IfOk result (λ made. RulesHeld count nodes.new work.new made) }
+    ensures ok { IfOk result (λ made. RulesHeld count nodes.new work.new made) }
+    ensures err { OnErr result ((made : Made) × RulesHeld count nodes.new work.new made) }
 {
     let f = stairs(nodes, work, count, 0, value, values);
     show(rt, f)?;
