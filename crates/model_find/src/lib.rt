@@ -18,6 +18,8 @@ use model_form::Form;
 
 // "refuses a name that no action carries with 18, and one that several carry with 19"
 const NO_BEARER: u32 = 18;
+// A name has one letter at least.
+const NAME_LEAST: usize = 1;
 
 const SEVERAL_BEARERS: u32 = 19;
 
@@ -124,7 +126,7 @@ pub fn find(model: &[u8], name: &[u8]) -> Found
         return refused(v.number, v.place);
     }
     let size = model_names::trimmed_len(name, 0, name.len());
-    if size < 1 {
+    if size < NAME_LEAST {
         return refused(NO_BEARER, 0);
     }
     told(bearers_of(model, &name[..size]))
