@@ -2,11 +2,14 @@
 // node that it came to; then the canonical tables, as a listing.
 #![tactic(auto)]
 
-ghost use Rattle.std.specs.Prelude.{◌≡◌, true, ◌≤◌, ◌<◌, length, IfOk};
+ghost use Rattle.std.specs.Prelude.{◌≡◌, true, ◌≤◌, ◌<◌, length, IfOk, OnErr};
 ghost use Rattle.theory.specs.Widths.{bytes_most, roots_most};
 ghost use Rattle.theory.specs.Verdict.{verdict};
 ghost use Rattle.solve_operation.specs.Operation.{FitsRule, Standing};
 ghost use Rattle.table_unique.specs.Unique.{Space};
+ghost use Rattle.load_model.specs.ModelRoots.{Loads};
+ghost use Rattle.load_model.specs.declared.Done.{Done};
+ghost use Rattle.check_pond.specs.Left.{OperatedOnce, LeftMidway};
 
 use solve_operation::{Rule, Run, operate};
 use solve_value_iteration::ROOTS;
@@ -156,7 +159,8 @@ fn step(
     rule: Rule,
 ) -> io::Result<Stand>
     requires { Standing cap nodes.old work.old s.count roots.old s.held × (to ≤ s.held) × (to < length roots.old) × FitsRule s.held rule }
-    ensures { IfOk result (λ stand. stand.stop ≡ 0 → Standing cap nodes.new work.new stand.count roots.new stand.held) }
+    ensures ok { IfOk result (λ stand. stand.stop ≡ 0 → Standing cap nodes.new work.new stand.count roots.new stand.held) }
+    ensures err { OnErr result (OperatedOnce cap s.peak nodes.old s.count roots.old s.held nodes.new work.new roots.new) }
 {
     let start = Run {
         stop: 0,
@@ -185,7 +189,8 @@ fn row(
     at: usize,
 ) -> io::Result<Stand>
     requires { Standing cap nodes.old work.old s.count roots.old s.held }
-    ensures { IfOk result (λ stand. stand.stop ≡ 0 → Standing cap nodes.new work.new stand.count roots.new stand.held) }
+    ensures ok { IfOk result (λ stand. stand.stop ≡ 0 → Standing cap nodes.new work.new stand.count roots.new stand.held) }
+    ensures err { OnErr result (OperatedOnce cap s.peak nodes.old s.count roots.old s.held nodes.new work.new roots.new) }
 {
     let rule = rule_at(rows, at);
     let to = digit(rows, at, 4);
@@ -212,7 +217,8 @@ fn steps(
     rows: &[u8],
 ) -> io::Result<Stand>
     requires { (s.stop ≡ 0) × Standing cap nodes.old work.old s.count roots.old s.held }
-    ensures { IfOk result (λ stand. stand.stop ≡ 0 → Standing cap nodes.new work.new stand.count roots.new stand.held) }
+    ensures ok { IfOk result (λ stand. stand.stop ≡ 0 → Standing cap nodes.new work.new stand.count roots.new stand.held) }
+    ensures err { OnErr result (LeftMidway cap nodes.new work.new roots.new) }
 {
     let mut r = s;
     let mut at: usize = 0;
@@ -235,7 +241,8 @@ fn loaded(
     roots: &mut [u32],
 ) -> io::Result<Stand>
     requires { ((verdict model.now).number ≡ 0) × (length model.now ≤ bytes_most) × Space 32 nodes.old work.old 0 × (length roots.old ≡ roots_most) }
-    ensures { IfOk result (λ stand. stand.stop ≡ 0 → Standing 32 nodes.new work.new stand.count roots.new stand.held) }
+    ensures ok { IfOk result (λ stand. stand.stop ≡ 0 → Standing 32 nodes.new work.new stand.count roots.new stand.held) }
+    ensures err { OnErr result ((done : Done) × Loads model.now 32 nodes.new work.new roots.new done) }
 {
     table_clear::zeros::words_from(work, 0);
     let done = load_model::load(model, nodes, work, 32, roots);

@@ -2,5 +2,5 @@
 use Rattle.check_pond.proofs.Operations.{stepped}
 use Rattle.check_pond.proofs.step.Goals as goal
 
-pub returns : goal.returns
-returns g c = λ ok. stepped c.operate-r.ensures c.operate-r.auto.roots c.requires.2 ok
+pub returns-clause-ok : goal.returns-clause-ok
+returns-clause-ok g c = λ ok. stepped c.operate-r.ensures c.operate-r.auto.roots c.requires.2 ok
