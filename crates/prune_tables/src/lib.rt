@@ -8,6 +8,9 @@ ghost use Rattle.prune_tables.specs.Tables.{StandingRows, Gathered, Spread, Rowe
 use model::STAGE_WORDS;
 use prune_remake::{gone, remake};
 
+// The stage word of a step that has no diagram.
+const NO_DIAGRAM: u32 = 0;
+
 // Where the stages' rows have gone, in order; answers how many there are.
 fn gather_roots(work: &[u32], cap: usize, stages: &[u32], roots: &mut [u32]) -> usize
     requires { StandingRows cap work.now stages.now × (length stages.now ≤ length roots.old) }
@@ -34,7 +37,7 @@ fn spread_numbers(numbers: &[u32], stages: &mut [u32])
     let mut k: usize = 0;
     let mut h: usize = 0;
     while h < stages.len() {
-        if stages[h] != 0 {
+        if stages[h] != NO_DIAGRAM {
             stages[h] = numbers[k];
             k += 1;
         }

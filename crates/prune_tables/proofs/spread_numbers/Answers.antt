@@ -1,7 +1,7 @@
 use native.Mathlib.Omega.{arith}
 use Rattle.prune_tables.proofs.Loops.{spread_begins, spread_number, spread_none, spread_ends, few_spread}
 use Rattle.prune_tables.proofs.spread_numbers.Goals as goal
-use Rattle.prune_tables.proofs.spread_numbers.Goals.{then-stages-h-ne0, else-stages-h-ne0}
+use Rattle.prune_tables.proofs.spread_numbers.Goals.{then-stages-h-ne-NO_DIAGRAM, else-stages-h-ne-NO_DIAGRAM}
 
 pub loop-h-init : goal.loop-h-init
 loop-h-init c = spread_begins
@@ -25,9 +25,9 @@ loop-h-smaller c = let S = c.loop-h.invariant in
 pub loop-h-preserved : goal.loop-h-preserved
 loop-h-preserved c = let S = c.loop-h.invariant in
     let h = c.loop-h-test.true in
-    elim c.if-stages-h-ne0.branch [
-      | then-stages-h-ne0 w ↦ spread_number S (omega (arith, S.len, h)) w.if-stages-h-ne0.true w.stages-is w.k-is
-      | else-stages-h-ne0 w ↦ spread_none S (omega (arith, S.len, h)) w.if-stages-h-ne0.false w.stages-is w.k-is
+    elim c.if-stages-h-ne-NO_DIAGRAM.branch [
+      | then-stages-h-ne-NO_DIAGRAM w ↦ spread_number S (omega (arith, S.len, h)) w.if-stages-h-ne-NO_DIAGRAM.true w.stages-is w.k-is
+      | else-stages-h-ne-NO_DIAGRAM w ↦ spread_none S (omega (arith, S.len, h)) w.if-stages-h-ne-NO_DIAGRAM.false w.stages-is w.k-is
     ]
 
 pub shape_of-stages : goal.shape_of-stages
