@@ -41,13 +41,11 @@ pub fn remake(nodes: &mut [i64], work: &mut [u32], cap: usize, rows: usize) -> u
     ensures { Remade cap nodes.old nodes.new work.new result rows × (length nodes.new ≡ length nodes.old) × (length work.new ≡ length work.old) }
 {
     table_clear::work(work, 0, cap);
-    let mut count: usize = 0;
-    let mut i: usize = 0;
-    while i < rows {
+    let mut count = 0;
+    for i in 0..rows {
         let r = remake_row(nodes, work, cap, count, i);
         work[cap * 2 + i] = r.at as u32;
         count = r.count;
-        i += 1;
     }
     count
 }
