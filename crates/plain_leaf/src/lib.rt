@@ -18,8 +18,7 @@ ghost use Rattle.plain_pass.specs.Pass.{takes as takes-slot};
 ghost use Rattle.plain_pass.specs.Pass.{numerator as numerator-at};
 ghost use Rattle.plain_pass.specs.Parts.{StackRoom, HoldsStack, Asks};
 
-use model_command::widening::byte_action;
-use model_command::{Command, Read};
+use model_command::Command;
 use model_stack::STACK_MOST;
 use plain_parts::size;
 use plain_pass::Slot;
@@ -109,8 +108,8 @@ fn after(
             len,
             test(model_command::linear_at(model, at + 1), n),
         ),
-        Command::Give(_, _, _) => offsets::pop(items, len),
-        Command::Site(_, _, _, _) => len,
+        Command::Give { .. } => offsets::pop(items, len),
+        Command::Site { .. } => len,
         Command::Name(_) => len,
         Command::End => len,
         Command::Forbidden => offsets::push(items, len, at as u32),
@@ -137,7 +136,11 @@ fn takes(c: Command, g: Slot) -> bool
     ensures { (B : List ℕ) (i : ℕ) → result ≡ takes-slot (slot_of g) (command_of B i c) }
 {
     match c {
-        Command::Give(b, a, i) => same(g, b, a, i),
+        Command::Give {
+            command,
+            action,
+            index,
+        } => same(g, command, action, index),
         _ => false,
     }
 }
@@ -213,7 +216,7 @@ fn action_at(model: &[u8], at: usize) -> u16
     requires { at + 2 ≤ length model.now }
     ensures { result ≡ action_at new_form model.now at }
 {
-    byte_action(model[at]) + byte_action(model[at + 1]) * 256
+    u16::from_le_bytes([model[at], model[at + 1]])
 }
 
 // Whether the slot is given at an offset, told by the bytes; some gives are left to the general way.
@@ -264,7 +267,7 @@ fn pass_from(
             return offsets::top(items, len) as usize;
         }
         let read = model_command::command_at(model, at);
-        let Read::Whole(c) = read else {
+        let Ok(c) = read else {
             return 0;
         };
         if takes(c, g) {

@@ -27,8 +27,9 @@ use Rattle.theory.specs.Load.{find_slot, site_at}
 use Rattle.theory.specs.Load.{loaded_entries}
 use Rattle.model_command.specs.declared.Command.{Command as CodeCommand}
 use Rattle.model_command.specs.declared.Command.TheVariants.{Site, Leaf as LeafBy, Condition, Test, Forbidden, Give, Name, End}
-use Rattle.model_command.specs.declared.Read.{Read as CodeRead}
-use Rattle.model_command.specs.declared.Read.TheVariants.{Whole, Unknown, Short}
+use Rattle.model_command.specs.CursorReadings.{CodeRead}
+use Rattle.model_command.specs.declared.CommandError.TheVariants.{Unknown, Short}
+use Rattle.std.specs.Prelude.{Ok, Err}
 use Rattle.model_command.specs.CursorReadings.{with_linear, linear_of, command_of, read_of, next_at, command_of_in, read_of_in}
 use Rattle.model_command.proofs.Forward.{Bytes, has_linear, linear_room, next_whole}
 use Rattle.model_stack.specs.Held.{pushed}
@@ -345,11 +346,11 @@ module _ {B : List ℕ} {x : Point} {g : Slot} {i : ℕ} {l : List ℕ} (w : See
   first = opened (λ ys. pass x g ys l) (pass x g (readings B) []) B i w.fuel w.enough w.comes
 
   -- no whole command
-  pub seek_stops : (r : CodeRead) → ((d : CodeCommand) → r ≡ Whole d → ⊥) → read_of B i r ≡ read_at B i → 0 ≡ pass x g (readings B) []
+  pub seek_stops : (r : CodeRead) → ((d : CodeCommand) → r ≡ Ok d → ⊥) → read_of B i r ≡ read_at B i → 0 ≡ pass x g (readings B) []
   unfolding read_of_in pass goes_on
-  seek_stops (Whole c) k e = absurd (k c refl)
-  seek_stops Unknown k e = (first unknown e).2
-  seek_stops Short k e = (first short e).2
+  seek_stops (Ok c) k e = absurd (k c refl)
+  seek_stops (Err Unknown) k e = (first unknown e).2
+  seek_stops (Err Short) k e = (first short e).2
 
   pub seek_found : (c : Command) (o : ℕ) → whole c ≡ read_at B i → takes g c ≡ true → o ≡ get_or l 0 0 → o ≡ pass x g (readings B) []
   unfolding pass

@@ -5,4 +5,4 @@ use Rattle.plain_leaf.proofs.action_at.Goals as goal
 
 pub returns : goal.returns
 unfolding bytes_at
-returns c = omega (arith, c.byte_action.ensures.0, c.byte_action-2.ensures.0)
+returns c = omega (arith, c.from_le_bytes.ensures)

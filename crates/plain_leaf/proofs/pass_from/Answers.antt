@@ -60,7 +60,7 @@ returns-then-gives c = pass_comes c.args.model.now (point_at c.args.mask c.args.
 
 pub returns-in_default : goal.returns-in_default
 returns-in_default c = pass_comes c.args.model.now (point_at c.args.mask c.args.setting c.args.n.now c.args.m) (slot_of c.args.g) 0
-    c.requires.0.accepted c.requires.0.diagram (seek_stops c.loop-items.invariant.1 c.command_at-read.result c.in_default.not-Whole
+    c.requires.0.accepted c.requires.0.diagram (seek_stops c.loop-items.invariant.1 c.command_at-read.result c.in_default.not-Ok
     c.command_at-read.ensures)
 
 pub top-requires-then-takes : goal.top-requires-then-takes
@@ -69,37 +69,37 @@ top-requires-then-takes c = c.loop-items.invariant.0
 pub returns-then-takes : goal.returns-then-takes
 returns-then-takes c = pass_comes c.args.model.now (point_at c.args.mask c.args.setting c.args.n.now c.args.m) (slot_of c.args.g) _
     c.requires.0.accepted c.requires.0.diagram (seek_found c.loop-items.invariant.1 _ _
-    (whole_is c.args.model.now c.loop-items.at c.command_at-read.ensures c.in-Whole.is)
+    (whole_is c.args.model.now c.loop-items.at c.command_at-read.ensures c.in-Ok.is)
     (sym (c.takes.ensures c.args.model.now c.loop-items.at) ∙ c.if-takes.true) c.top-then-takes.ensures)
 
 pub returns-then-is_end : goal.returns-then-is_end
 returns-then-is_end c = pass_comes c.args.model.now (point_at c.args.mask c.args.setting c.args.n.now c.args.m) (slot_of c.args.g) 0
     c.requires.0.accepted c.requires.0.diagram (seek_ends c.loop-items.invariant.1 _
-    (whole_is c.args.model.now c.loop-items.at c.command_at-read.ensures c.in-Whole.is)
+    (whole_is c.args.model.now c.loop-items.at c.command_at-read.ensures c.in-Ok.is)
     (sym c.is_end.ensures ∙ c.if-is_end.true))
 
 pub after-len-requires : goal.after-len-requires
-after-len-requires c = (c.loop-items.invariant.0, (whole_is c.args.model.now c.loop-items.at c.command_at-read.ensures c.in-Whole.is), c.requires.0.short, c.requires.0.long)
+after-len-requires c = (c.loop-items.invariant.0, (whole_is c.args.model.now c.loop-items.at c.command_at-read.ensures c.in-Ok.is), c.requires.0.short, c.requires.0.long)
 
 pub overflow_add-at-in-loop-items : goal.overflow_add-at-in-loop-items
 overflow_add-at-in-loop-items c = let f = forward c.args.model.now c.loop-items.at _ _ (whole_is c.args.model.now c.loop-items.at c.command_at-read.ensures
-    c.in-Whole.is) (past new_form c.args.model.now c.loop-items.at _ c.size-at.result
-    (whole_is c.args.model.now c.loop-items.at c.command_at-read.ensures c.in-Whole.is) c.size-at.ensures) in omega
+    c.in-Ok.is) (past new_form c.args.model.now c.loop-items.at _ c.size-at.result
+    (whole_is c.args.model.now c.loop-items.at c.command_at-read.ensures c.in-Ok.is) c.size-at.ensures) in omega
     (arith, f.1, f.2, c.requires.0.short)
 
 pub loop-items-smaller : goal.loop-items-smaller
 loop-items-smaller c = let f = forward c.args.model.now c.loop-items.at _ _ (whole_is c.args.model.now c.loop-items.at c.command_at-read.ensures
-    c.in-Whole.is) (past new_form c.args.model.now c.loop-items.at _ c.size-at.result
-    (whole_is c.args.model.now c.loop-items.at c.command_at-read.ensures c.in-Whole.is) c.size-at.ensures) in omega
+    c.in-Ok.is) (past new_form c.args.model.now c.loop-items.at _ c.size-at.result
+    (whole_is c.args.model.now c.loop-items.at c.command_at-read.ensures c.in-Ok.is) c.size-at.ensures) in omega
     (arith, f.1, f.2)
 
 pub loop-items-preserved : goal.loop-items-preserved
 loop-items-preserved c = let h = c.after-len.ensures in (
   h.room,
   seek_on c.loop-items.invariant.1 _ _ _
-      (whole_is c.args.model.now c.loop-items.at c.command_at-read.ensures c.in-Whole.is)
+      (whole_is c.args.model.now c.loop-items.at c.command_at-read.ensures c.in-Ok.is)
       (sym (c.takes.ensures c.args.model.now c.loop-items.at) ∙ c.if-takes.false) (sym c.is_end.ensures ∙ c.if-is_end.false)
       (past new_form c.args.model.now c.loop-items.at _ c.size-at.result
-      (whole_is c.args.model.now c.loop-items.at c.command_at-read.ensures c.in-Whole.is) c.size-at.ensures)
+      (whole_is c.args.model.now c.loop-items.at c.command_at-read.ensures c.in-Ok.is) c.size-at.ensures)
       (h.holds ∙ levels_apart _ _ _ _ _ _ _),
 )
