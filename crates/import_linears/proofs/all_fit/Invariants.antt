@@ -8,6 +8,3 @@ use Rattle.import_linears.proofs.all_fit.Given as goal
 
 abbrev pub invariant-loop-i : goal.invariant-loop-i
 invariant-loop-i l = (l.i ≤ numbers) × (all_within (drop l.i l.a) ≡ all_within l.a)
-
-abbrev pub decreases-loop-i : goal.decreases-loop-i
-decreases-loop-i l = numbers - l.i
