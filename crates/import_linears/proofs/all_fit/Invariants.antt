@@ -1,6 +1,6 @@
 -- `import_linears::all_fit` meets its contract: all numbers fit where those from i on do; the first that does not ends the loop.
 use mathlib.Core.Path.{◌≡◌}
-use Prim.Native.Nat.{◌-◌, ◌≤◌}
+use Prim.Native.Nat.{◌≤◌}
 use lib.ListN.{drop}
 use Rattle.whole.specs.Linears.{numbers}
 use Rattle.import_numbers.specs.Numbers.{all_within}
