@@ -1,7 +1,6 @@
 -- `import_words::word` meets its contract.
 use native.Mathlib.Omega.{arith}
 use Rattle.import_words.proofs.Laws.{negative, not_negative}
-use borrow.Author.Rules.{rules}
 use Rattle.import_words.proofs.word.Goals as goal
 
 pub overflow_sub-result : goal.overflow_sub-result
