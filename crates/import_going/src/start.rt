@@ -10,7 +10,8 @@ use crate::bracket::is_cond;
 use crate::turning::{Going, Turn, after_byte};
 use import_places::{Next, find};
 
-// An atom with its sign and the signs around it, a result, nothing, or more brackets than a text may have.
+// An atom with its sign and the signs around it, a result, nothing, or more brackets than a text may have. No `Result`: the last
+// two are taken apart from the others in one `match`.
 #[derive(Clone, Copy)]
 pub enum Spot {
     Atom(usize, bool, u64, u32),

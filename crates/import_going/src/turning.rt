@@ -12,6 +12,7 @@ pub struct Going {
     pub count: u32,
 }
 
+// No `ControlFlow`: the ways to end are told apart beside going on, in one `match`.
 #[derive(Clone, Copy)]
 pub enum Turn {
     On(Going),

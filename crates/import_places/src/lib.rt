@@ -17,6 +17,7 @@ pub struct Walk {
     pub count: u32,
 }
 
+// No `ControlFlow`: the ways to end are told apart beside going on, in one `match`.
 #[derive(Clone, Copy)]
 pub enum Step {
     On(Walk),
@@ -26,7 +27,8 @@ pub enum Step {
     Lost,
 }
 
-// What stands at an offset: a condition with the brackets around it, a result, a result to be passed over, or nothing.
+// What stands at an offset: a condition with the brackets around it, a result, a result to be passed over, or nothing. No `Option`:
+// all four are taken apart in one `match`.
 #[derive(Clone, Copy)]
 pub enum Next {
     Go(usize, u64, u32),
