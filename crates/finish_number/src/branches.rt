@@ -16,6 +16,7 @@ pub fn is_leaf(nodes: &[i64], i: usize) -> bool
     requires { i * node_words + node_words ≤ length nodes.now }
     ensures { result ≡ is_leaf (node_at nodes.now i).kind }
 {
+    // Named, as below: the proof has the bounds of an i64 by its name.
     let kind = nodes[i * NODE_WORDS];
     table::is_leaf(kind)
 }

@@ -183,6 +183,7 @@ fn run_rule(
     requires { Space cap nodes.old work.old count × Good nodes.old count × Below roots.now count × FitsRule (length roots.now) rule }
     ensures { Came cap nodes.old count (comp_of (roots_of (trees nodes.old count) roots.now) rule) nodes.new work.new result }
 {
+    // A while: the next part is a rule of its own (wider_part), no range.
     let mut part = first_part(cap, count);
     while part < cap {
         let made = attempt(nodes, work, part, count, roots, rule);

@@ -96,7 +96,7 @@ fn next_action(
     counted(run, own, peaks, backup.action)
 }
 
-// An action alone, as the first is, and its peak.
+// An action alone, as the first is, and its peak. Apart from next_action: a closure of eight lent parameters is no plainer.
 fn first_action(
     model: &[u8],
     nodes: &mut [i64],

@@ -50,6 +50,7 @@ fn load_in_parts(
     requires { ((verdict model.now).number ≡ 0) × (length model.now ≤ bytes_most) × Space cap nodes.old work.old 0 × (loaded_roots_most ≤ length roots.old) }
     ensures { Brought model.now cap nodes.new work.new roots.new result }
 {
+    // A while: the next part is a rule of its own (wider_part), no range.
     let mut part = first_part(cap, model.len());
     while part < cap {
         let made = load_within(model, nodes, work, part, roots);
