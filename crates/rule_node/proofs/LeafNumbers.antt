@@ -14,7 +14,7 @@ use Rattle.whole.specs.LinearsLaws.{smalls_of}
 use Rattle.whole.specs.Within.{small, Small}
 use Rattle.theory.specs.Widths.{levels_most}
 use Rattle.table.proofs.Leaf.{leaf_as, some_as, some_not, none_as, none_leaf as none-leaf-kind, branch_not}
-use Rattle.table.specs.Table.{Answer, made, halted, node_at, is_leaf}
+use Rattle.table.specs.Table.{Answer, halted, node_at, is_leaf}
 use Rattle.table.specs.declared.Node.{Node}
 use Rattle.table.specs.declared.Stop.TheVariants.{Over}
 use Rattle.theory.specs.Diagram.{some, Tree, leaf, plain}

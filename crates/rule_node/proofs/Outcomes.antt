@@ -9,8 +9,11 @@ use borrow.Author.Tests.{eq-eqb, ne_eqb}
 use lib.IntN.{ℤ}
 use lib.ListN.{get_or}
 use Rattle.whole.specs.Cases.{if}
-use Rattle.table.specs.Table.{Answer, stop_of, at_of, count_of, made, halted}
-use Rattle.table.specs.declared.Stop.TheVariants.{Over}
+use Rattle.table.specs.Table.{Answer, stop_number, stop_of, at_of, count_of, made, halted}
+use Rattle.table.specs.declared.Stop.{Stop}
+use Rattle.table.specs.declared.Stop.TheVariants.{Full, Over}
+use Rattle.table.specs.declared.Stopped.{Stopped}
+use Rattle.std.specs.Prelude.{Ok, Err, IsErrAnd}
 use Rattle.table_unique.specs.Unique.{work_words}
 use Rattle.theory.specs.Diagram.{Linear, Tree}
 use Rattle.theory.specs.Computation.{Comp, ret, judge, bind, both, Out, done, stopped, run}
@@ -29,6 +32,27 @@ out_ok r X e = ap (λ (b : Bool). if b (done (get_or X (at_of r) blank) X) (stop
 pub out_no : (r : Answer) (X : List Tree) → (stop_of r ≡ 0 → ⊥) → out_of r X ≡ stopped (stop_of r)
 unfolding out_of
 out_no r X e = ap (λ (b : Bool). if b (done (get_or X (at_of r) blank) X) (stopped (stop_of r))) (ne_eqb (stop_of r) 0 e)
+
+-- ---- where a `?` ends a rule
+
+-- what has stopped has a number
+pub stops : (e : Stopped) → stop_of (Err e) ≡ 0 → ⊥
+stops e = go e.why
+  where
+    go : (w : Stop) → stop_number w ≡ 0 → ⊥
+    go Full q = omega arith
+    go Over q = omega arith
+
+-- it answers what stopped
+pub passed : {e : Stopped} (r : Answer) → IsErrAnd r (λ y. y ≡ e) → Err e ≡ r
+passed (Ok m) h = absurd h
+passed (Err y) h = ap Err (sym h)
+
+pub ran_passed : {R : EntryRule} {cap : ℕ} {l l₁ : List ℤ} {w w₁ : List ℕ} {n : ℕ} {m : Comp Tree} {e : Stopped} {r : Answer} → RuleRan R cap l w n m l₁ w₁ (Err e) → IsErrAnd r (λ y. y ≡ e) → RuleRan R cap l w n m l₁ w₁ r
+ran_passed {R} {cap} {l} {l₁} {w} {w₁} {n} {m} {r = r} S h = subst (λ (z : Answer). RuleRan R cap l w n m l₁ w₁ z) (passed r h) S
+
+pub grew_passed : {cap : ℕ} {l l₁ : List ℤ} {w w₁ : List ℕ} {n : ℕ} {m : Comp Tree} {e : Stopped} {r : Answer} → Grew cap l w n m l₁ w₁ (Err e) → IsErrAnd r (λ y. y ≡ e) → Grew cap l w n m l₁ w₁ r
+grew_passed {cap} {l} {l₁} {w} {w₁} {n} {m} {r = r} S h = subst (λ (z : Answer). Grew cap l w n m l₁ w₁ z) (passed r h) S
 
 -- ---- the cache stands as the table grows
 

@@ -6,7 +6,7 @@ use Prim.Native.Nat.{ℕ, ◌<◌}
 use native.Mathlib.Nat.{lt_of_lt_of_le}
 use native.Mathlib.Omega.{arith}
 use lib.IntN.{ℤ, nat_abs}
-use Rattle.table.specs.Table.{Answer, stop_of, at_of, count_of, made, node_at, is_leaf}
+use Rattle.table.specs.Table.{Answer, stop_of, at_of, count_of, node_at, is_leaf}
 use Rattle.table.specs.declared.Node.{Node}
 use Rattle.theory.specs.Diagram.{Test, Leaf, Tree, leaf, branch}
 use Rattle.theory.specs.Computation.{Comp, both}

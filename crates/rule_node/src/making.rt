@@ -12,7 +12,13 @@ use table::{Made, NONE, Node, Stop, Stopped};
 use whole::NUMBERS;
 
 // Looks a node up or makes it.
-pub fn intern(nodes: &mut [i64], work: &mut [u32], cap: usize, count: usize, x: Node) -> Result<Made, Stopped>
+pub fn intern(
+    nodes: &mut [i64],
+    work: &mut [u32],
+    cap: usize,
+    count: usize,
+    x: Node,
+) -> Result<Made, Stopped>
     requires { Bare cap nodes.old work.old count × Valid x count }
     ensures { Grew cap nodes.old work.old count (make (tree_of x (trees nodes.old count))) nodes.new work.new result }
 {
@@ -62,7 +68,12 @@ pub fn join(
 }
 
 // The leaf "none".
-pub fn make_none(nodes: &mut [i64], work: &mut [u32], cap: usize, count: usize) -> Result<Made, Stopped>
+pub fn make_none(
+    nodes: &mut [i64],
+    work: &mut [u32],
+    cap: usize,
+    count: usize,
+) -> Result<Made, Stopped>
     requires { Bare cap nodes.old work.old count }
     ensures { Grew cap nodes.old work.old count (make none_leaf) nodes.new work.new result }
 {
@@ -83,7 +94,13 @@ pub fn within(x: Node) -> bool
 }
 
 // A leaf without action, its numbers judged first.
-pub fn make_leaf(nodes: &mut [i64], work: &mut [u32], cap: usize, count: usize, s: Node) -> Result<Made, Stopped>
+pub fn make_leaf(
+    nodes: &mut [i64],
+    work: &mut [u32],
+    cap: usize,
+    count: usize,
+    s: Node,
+) -> Result<Made, Stopped>
     requires { Bare cap nodes.old work.old count × Plain s }
     ensures { Grew cap nodes.old work.old count (make_leaf (linear_held s)) nodes.new work.new result }
 {

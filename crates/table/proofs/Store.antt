@@ -3,14 +3,13 @@ use mathlib.Core.Path.{◌≡◌, refl, sym, ap, ap₂, ◌∙◌}
 use mathlib.Core.List.{List, [], ◌∷◌, ◌++◌, append_assoc}
 use Prim.Native.Nat.{ℕ, zero, suc, ◌+◌, ◌*◌, ◌-◌, ◌≤◌, ◌<◌, min}
 use native.Mathlib.Nat.{le_of_suc-le-suc, not-suc-le-zero, add-zero}
-use native.Mathlib.Numerals.{add-one}
 use native.Mathlib.Omega.{arith}
 use mathlib.Core.Bool.{Bool, true, false}
 use borrow.Author.Tests.{ltb-true, ltb-false}
 use lib.Dec.{ltb}
 use lib.IntN.{ℤ, pos}
 use lib.ListN.{get_or, set, length, take, drop, length-set, length-take, length-drop}
-use lib.Seq.{get_or-set_same, get_or-set_other, length-take-le, take_all, ext_get_or, get_or-take, get_or-drop, drop-drop}
+use lib.Seq.{get_or-set_same, get_or-set_other, length-take-le, ext_get_or, get_or-take, get_or-drop, drop-drop}
 use Rattle.whole.specs.Linears.{numbers}
 use borrow.Rule.Slice.PartMut.{put_mid}
 use Rattle.std.specs.List.{between}
@@ -207,7 +206,7 @@ unfolding put_at
 put_as l i x {a} {c} {d} {s} h e ea ec ed es =
     let n : i * node_words + high_word - (i * node_words + 1) ≡ length x.n = omega arith in
     let m : put_mid (i * node_words + 1) (i * node_words + high_word - (i * node_words + 1)) (set l (i * node_words) a) s ≡ store_list (set l (i * node_words) x.kind) (i * node_words + 1) x.n =
-        (λ j. put_mid (i * node_words + 1) (n j) (set l (i * node_words) (ea j)) (es j)) ∙ put_mid_is (set l (i * node_words) x.kind) (i * node_words + 1) x.n (let w = length-set l (i * node_words) x.kind in omega arith) in
+    (λ j. put_mid (i * node_words + 1) (n j) (set l (i * node_words) (ea j)) (es j)) ∙ put_mid_is (set l (i * node_words) x.kind) (i * node_words + 1) x.n (let w = length-set l (i * node_words) x.kind in omega arith) in
     λ j. set (set (m j) (i * node_words + high_word) (ec j)) (i * node_words + low_word) (ed j)
 
 -- what was read of a node

@@ -15,7 +15,7 @@ use Rattle.table.proofs.is_at.Goals.{then-nodes-at-via-then-nodes-at, then-nodes
 pub returns-then-nodes-at : goal.returns-then-nodes-at
 unfolding node_at
 returns-then-nodes-at c = elim c.then-nodes-at.branch [
-  then-nodes-at-via-then-nodes-at w ↦ other (λ e. w.if-nodes-at.true (ap (λ (n : Node). of_z w64 n.low) e))
+  | then-nodes-at-via-then-nodes-at w ↦ other (λ e. w.if-nodes-at.true (ap (λ (n : Node). of_z w64 n.low) e))
   | then-nodes-at-via-else-nodes-at+then-nodes-at-2 w ↦ other (λ e. w.if-nodes-at-2.true (ap (of_z w64) (sym (number_at c.args.nodes.now c.args.i coefficients (omega arith)))
       ∙ ap (λ (n : Node). of_z w64 (get_or n.n coefficients (pos 0))) e))
 ]
