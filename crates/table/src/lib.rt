@@ -16,6 +16,9 @@ pub const HIGH: usize = NUMBERS + 1;
 
 pub const LOW: usize = NUMBERS + 2;
 
+// The kind of a leaf with a linear.
+pub const LEAF: i64 = 0;
+
 // The kind of the leaf "none".
 pub const NONE: i64 = 3;
 
@@ -69,7 +72,7 @@ impl Stop {
 pub fn is_leaf(kind: i64) -> bool
     ensures { result ≡ is_leaf kind }
 {
-    kind == 0 || kind == NONE
+    kind == LEAF || kind == NONE
 }
 
 // Whether the node at index i is the leaf "none".
