@@ -6,8 +6,7 @@ use Prim.Native.Nat.{ℕ, ◌<◌}
 use native.Mathlib.Nat.{lt_of_lt_of_le}
 use native.Mathlib.Omega.{arith}
 use lib.IntN.{ℤ}
-use Rattle.table.specs.Table.{node_at}
-use Rattle.table.specs.declared.Made.{Made}
+use Rattle.table.specs.Table.{Answer, stop_of, at_of, count_of, node_at}
 use Rattle.theory.specs.Diagram.{Tree}
 use Rattle.theory.specs.Computation.{Comp}
 use Rattle.theory.specs.Rules.{node}
@@ -34,7 +33,7 @@ module _ {cap : ℕ} {l : List ℤ} {w : List ℕ} {n : ℕ} (A : Table rule_of 
   pub walk_ends : s.ends ≡ true → AtLeaf l n f
   walk_ends t = record { below = hf; ends = way.ends t }
 
-  pub walk_ended : {l₁ : List ℤ} {w₁ : List ℕ} {r : Made} → Grew cap l w n (act_of op p q (tree_at l n f)) l₁ w₁ r → RuleRan rule_of cap l w n (rule l n f) l₁ w₁ r
+  pub walk_ended : {l₁ : List ℤ} {w₁ : List ℕ} {r : Answer} → Grew cap l w n (act_of op p q (tree_at l n f)) l₁ w₁ r → RuleRan rule_of cap l w n (rule l n f) l₁ w₁ r
   walk_ended S = ran_as (sym (rule_as K l n f)) (lifted A S)
 
   -- with the branch that is picked
@@ -45,7 +44,7 @@ module _ {cap : ℕ} {l : List ℤ} {w : List ℕ} {n : ℕ} (A : Table rule_of 
     pub pick_in : s.high < n
     pick_in = let a = pick_falls in omega arith
 
-    pub walk_picked : {l₁ : List ℤ} {w₁ : List ℕ} {r : Made} → RuleRan rule_of cap l w n (rule l n s.high) l₁ w₁ r → RuleRan rule_of cap l w n (rule l n f) l₁ w₁ r
+    pub walk_picked : {l₁ : List ℤ} {w₁ : List ℕ} {r : Answer} → RuleRan rule_of cap l w n (rule l n s.high) l₁ w₁ r → RuleRan rule_of cap l w n (rule l n f) l₁ w₁ r
     walk_picked S = ran_as (rule_as K l n s.high ∙ (sym (way.picks t u).is ∙ sym (rule_as K l n f))) S
 
   -- with both branches
@@ -62,24 +61,24 @@ module _ {cap : ℕ} {l : List ℤ} {w : List ℕ} {n : ℕ} (A : Table rule_of 
     pub walk_high : s.high < n
     walk_high = on.fh
 
-    module _ {l₁ : List ℤ} {w₁ : List ℕ} {h : Made} (Q : RuleRan rule_of cap l w n (rule l n s.high) l₁ w₁ h) where
+    module _ {l₁ : List ℤ} {w₁ : List ℕ} {h : Answer} (Q : RuleRan rule_of cap l w n (rule l n s.high) l₁ w₁ h) where
       Q' : RuleRan rule_of cap l w n (act_of op p q (tree_at l n s.high)) l₁ w₁ h
       Q' = ran_as (rule_as K l n s.high) Q
 
-      pub high_stopped : (h.stop ≡ 0 → ⊥) → RuleRan rule_of cap l w n (rule l n f) l₁ w₁ h
+      pub high_stopped : (stop_of h ≡ 0 → ⊥) → RuleRan rule_of cap l w n (rule l n f) l₁ w₁ h
       high_stopped off = ran_as (sym (rule_as K l n f)) (high_stops cap l l₁ w w₁ n f 0 (alone (act_of op p q)) node (sides_by s f) on h Q' off)
 
-      pub walk_low : s.low < h.count
+      pub walk_low : s.low < (count_of h)
       walk_low = lt_of_lt_of_le on.fl Q.more
 
-      module _ (ok : h.stop ≡ 0) {l₂ : List ℤ} {w₂ : List ℕ} {k : Made} (S : RuleRan rule_of cap l₁ w₁ h.count (rule l₁ h.count s.low) l₂ w₂ k) where
-        S' : RuleRan rule_of cap l₁ w₁ h.count (act_of op p q (tree_at l₁ h.count s.low)) l₂ w₂ k
-        S' = ran_as (rule_as K l₁ h.count s.low) S
+      module _ (ok : stop_of h ≡ 0) {l₂ : List ℤ} {w₂ : List ℕ} {k : Answer} (S : RuleRan rule_of cap l₁ w₁ (count_of h) (rule l₁ (count_of h) s.low) l₂ w₂ k) where
+        S' : RuleRan rule_of cap l₁ w₁ (count_of h) (act_of op p q (tree_at l₁ (count_of h) s.low)) l₂ w₂ k
+        S' = ran_as (rule_as K l₁ (count_of h) s.low) S
 
-        pub low_stopped : (k.stop ≡ 0 → ⊥) → RuleRan rule_of cap l w n (rule l n f) l₂ w₂ k
+        pub low_stopped : (stop_of k ≡ 0 → ⊥) → RuleRan rule_of cap l w n (rule l n f) l₂ w₂ k
         low_stopped off = ran_as (sym (rule_as K l n f)) (low_stops cap l l₁ w w₁ n f 0 (alone (act_of op p q)) node (sides_by s f) on h Q' ok l₂ w₂ k S' off)
 
-        pub join_asks : k.stop ≡ 0 → Bare cap l₂ w₂ k.count × Root l₂ k.count f × (h.at < k.count) × (k.at < k.count)
+        pub join_asks : stop_of k ≡ 0 → Bare cap l₂ w₂ (count_of k) × Root l₂ (count_of k) f × ((at_of h) < (count_of k)) × ((at_of k) < (count_of k))
         join_asks ok' = (
           S.table.bare,
           root_on cap l l₁ w w₁ n f 0 (alone (act_of op p q)) node (sides_by s f) on h Q' ok l₂ w₂ k S',
@@ -88,6 +87,6 @@ module _ {cap : ℕ} {l : List ℤ} {w : List ℕ} {n : ℕ} (A : Table rule_of 
           S.within ok',
         )
 
-        pub walk_joined : k.stop ≡ 0 → {l₃ : List ℤ} {w₃ : List ℕ} {r : Made} → Grew cap l₂ w₂ k.count
-            (node (test_held (node_at l₂ f)) (tree_at l₂ k.count h.at) (tree_at l₂ k.count k.at)) l₃ w₃ r → RuleRan rule_of cap l w n (rule l n f) l₃ w₃ r
+        pub walk_joined : stop_of k ≡ 0 → {l₃ : List ℤ} {w₃ : List ℕ} {r : Answer} → Grew cap l₂ w₂ (count_of k)
+            (node (test_held (node_at l₂ f)) (tree_at l₂ (count_of k) (at_of h)) (tree_at l₂ (count_of k) (at_of k))) l₃ w₃ r → RuleRan rule_of cap l w n (rule l n f) l₃ w₃ r
         walk_joined ok' {l₃} {w₃} {r} P = ran_as (sym (rule_as K l n f)) (joined cap l l₁ w w₁ n f 0 (alone (act_of op p q)) node (sides_by s f) on h Q' ok l₂ w₂ k S' ok' l₃ w₃ r (lifted S.table P))

@@ -11,7 +11,7 @@ use rule_leaves::changes::{complemented, numbered, shifted};
 use rule_leaves::numbers::{product, stays_none};
 use rule_node::codes::{COMPLEMENT, NUMBER, SCALE, SHIFT};
 use rule_node::making::{intern, make_leaf};
-use table::{Made, Node};
+use table::{Made, Node, Stopped};
 
 // The leaf that the rule op makes of a leaf.
 fn acted(x: Node, op: usize, p: usize, q: usize) -> Node
@@ -60,16 +60,12 @@ pub fn at_leaf(
     f: usize,
     p: usize,
     q: usize,
-) -> Made
+) -> Result<Made, Stopped>
     requires { Bare cap nodes.old work.old count × Acts op p q × AtLeaf nodes.old count f }
     ensures { Grew cap nodes.old work.old count (act_of op p q (tree_at nodes.old count f)) nodes.new work.new result }
 {
     if stays(nodes, op, f, p, q) {
-        return Made {
-            stop: 0,
-            at: f,
-            count,
-        };
+        return Ok(Made { at: f, count });
     }
     let y = acted(table::get(nodes, f), op, p, q);
     if op > COMPLEMENT {
