@@ -13,11 +13,8 @@ fn forward(work: &[u32], cap: usize, roots: &mut [u32])
     requires { (cap * 2 ≤ length work.now) × (cap ≤ nodes_most) × Below roots.old cap }
     ensures { roots.new ≡ forwarded work.now cap (length roots.old) roots.old }
 {
-    let mut j: usize = 0;
-    while j < roots.len() {
-        let r = roots[j] as usize;
-        roots[j] = work[cap + r];
-        j += 1;
+    for r in roots.iter_mut() {
+        *r = work[cap + *r as usize];
     }
 }
 

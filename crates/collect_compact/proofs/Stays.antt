@@ -1,5 +1,5 @@
 -- The nodes that stay: one step, and what stands when the first that is not marked is met.
-use mathlib.Core.Path.{◌≡◌, refl, sym, ap, ◌∙◌}
+use mathlib.Core.Path.{◌≡◌, refl, sym, ap, ◌∙◌, subst}
 use mathlib.Core.Bool.{true, not}
 use mathlib.Core.Logic.{⊎_elim}
 use mathlib.Core.List.{List}
@@ -35,3 +35,7 @@ module _ {cap : ℕ} {w w' : List ℕ} {n i : ℕ} (T : Stayed cap w w' n i) (h 
     where
       here : not (eqb (get_or w i 0) 0) ≡ true
       here = ap (λ (v : ℕ). not (eqb v 0)) (sym (T.marks i (omega arith))) ∙ ap not (ne_eqb (get_or w' i 0) 0 e)
+
+-- past the last node: all have stayed
+pub all : {cap : ℕ} {w w' : List ℕ} {n i : ℕ} → Stayed cap w w' n i → n ≤ i → Stayed cap w w' n n
+all {cap} {w} {w'} {n} {i} T h = subst (λ (k : ℕ). Stayed cap w w' n k) (let q : i ≡ n = omega (arith, T.upto, h) in q) T

@@ -27,15 +27,13 @@ fn stay(work: &mut [u32], cap: usize, count: usize) -> usize
     requires { (cap * 2 ≤ length work.old) × (cap ≤ nodes_most) × (count ≤ cap) }
     ensures { Stayed cap work.old work.new count result }
 {
-    let mut i: usize = 0;
-    while i < count {
+    for i in 0..count {
         if work[i] == 0 {
             return i;
         }
         work[cap + i] = i as u32;
-        i += 1;
     }
-    i
+    count
 }
 
 // All nodes, from the first on. Answers how many are left.
@@ -43,11 +41,10 @@ pub fn slide(nodes: &mut [i64], work: &mut [u32], cap: usize, count: usize) -> u
     requires { Space cap nodes.old work.old count × Good nodes.old count × MarksClosed nodes.old work.old count }
     ensures { Slid cap nodes.old nodes.new work.old work.new count result }
 {
-    let mut i = stay(work, cap, count);
-    let mut j = i;
-    while i < count {
+    let first = stay(work, cap, count);
+    let mut j = first;
+    for i in first..count {
         j = slide_one(nodes, work, cap, i, j);
-        i += 1;
     }
     j
 }

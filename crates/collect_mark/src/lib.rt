@@ -30,9 +30,7 @@ fn descend(nodes: &[i64], work: &mut [u32], count: usize)
     requires { (count * node_words ≤ length nodes.now) × (count ≤ length work.old) × (count ≤ nodes_most) × Good nodes.now count }
     ensures { work.new ≡ mark_down nodes.now work.old count }
 {
-    let mut i = count;
-    while i > 0 {
-        i -= 1;
+    for i in (0..count).rev() {
         below(nodes, work, i);
     }
 }
@@ -43,11 +41,8 @@ pub fn mark(nodes: &[i64], work: &mut [u32], cap: usize, count: usize, roots: &[
     ensures { Marked cap nodes.now work.old work.new roots.now count }
 {
     table_clear::work(work, 0, cap);
-    let mut j: usize = 0;
-    while j < roots.len() {
-        let r = roots[j] as usize;
-        work[r] = 1;
-        j += 1;
+    for r in roots {
+        work[*r as usize] = 1;
     }
     descend(nodes, work, count);
 }

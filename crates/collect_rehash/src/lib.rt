@@ -11,11 +11,9 @@ pub fn rehash(nodes: &[i64], work: &mut [u32], cap: usize, count: usize)
 {
     table_clear::work(work, 0, cap);
     table_clear::work(work, cap * 2, cap * table_unique::WORK_WORDS);
-    let mut i: usize = 0;
-    while i < count {
+    for i in 0..count {
         let b = table_unique::hash(table::get(nodes, i), cap);
         work[cap + i] = work[b];
         work[b] = (i + 1) as u32;
-        i += 1;
     }
 }

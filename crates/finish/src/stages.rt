@@ -11,11 +11,8 @@ fn root_numbers(work: &[u32], roots: &[u32], stages: &mut [u32], cap: usize)
     requires { (cap * 2 ≤ length work.now) × (cap ≤ nodes_most) × Roots roots.now cap × (length roots.now ≤ length stages.old) }
     ensures { stages.new ≡ numbers_of work.now cap roots.now ++ drop (length roots.now) stages.old }
 {
-    let mut j: usize = 0;
-    while j < roots.len() {
-        let r = roots[j] as usize;
-        stages[j] = work[cap + r];
-        j += 1;
+    for (j, r) in roots.iter().enumerate() {
+        stages[j] = work[cap + *r as usize];
     }
 }
 

@@ -12,11 +12,9 @@ pub fn rewrite(nodes: &mut [i64], work: &[u32], cap: usize, count: usize)
     requires { TableHeld cap nodes.old count × (cap * 2 ≤ length work.now) }
     ensures { Rewritten nodes.old nodes.new work.now cap count }
 {
-    let mut i: usize = 0;
-    while i < count {
+    for i in 0..count {
         let x = table_peek::renumbered(work, cap, table::get(nodes, i));
         table::put(nodes, i, x);
-        i += 1;
     }
 }
 
@@ -49,11 +47,9 @@ pub fn arrange(nodes: &mut [i64], work: &mut [u32], cap: usize, count: usize, c:
     requires { Inverse cap count work.old 0 c × (cap ≤ nodes_most) × (cap * node_words ≤ length nodes.old) }
     ensures { Arranged nodes.old nodes.new work.old c }
 {
-    let mut k: usize = 0;
-    while k < c {
+    for k in 0..c {
         let p = work[k] as usize;
         swap_nodes(nodes, k, p);
         swap_work(work, cap, k, p);
-        k += 1;
     }
 }

@@ -42,12 +42,9 @@ pub fn number_all(nodes: &[i64], work: &mut [u32], roots: &[u32], cap: usize, co
     requires { TableHeld cap nodes.now count × (cap * 2 ≤ length work.old) × Unnumbered cap count work.old × Roots roots.now count }
     ensures { RootsListed cap nodes.now count work.new result roots.now }
 {
-    let mut j: usize = 0;
-    let mut c: usize = 0;
-    while j < roots.len() {
-        let r = roots[j] as usize;
-        c = number(nodes, work, cap, count, c, r);
-        j += 1;
+    let mut c = 0;
+    for r in roots {
+        c = number(nodes, work, cap, count, c, *r as usize);
     }
     c
 }

@@ -1,4 +1,5 @@
 -- Numbers judged: two words and 32 bits, sums and products, the best so far.
+use Rattle.std.specs.Prelude.{Option, Some, None}
 use mathlib.Core.Path.{◌≡◌, refl, sym, ap, ap₂, ◌∙◌, subst}
 use mathlib.Core.Bool.{Bool, true, false, not, ◌&&◌}
 use Prim.Native.Nat.{ℕ, suc, ◌+◌, ◌-◌, ◌*◌, ◌≤◌, ◌<◌}
@@ -16,8 +17,6 @@ use Rattle.whole.specs.Within.{limit, limited, Small}
 use Rattle.whole.specs.WithinLaws.{limited_is, limited_over, limited_gives, limited_lacks}
 use Rattle.whole.specs.Numerator.{word}
 use Rattle.whole.specs.NumeratorLaws.{below}
-use Rattle.whole.specs.declared.Within.{Within}
-use Rattle.whole.specs.declared.Within.TheVariants as within
 use Rattle.whole.specs.Magnitude.{abs_mul}
 use Rattle.whole.proofs.Signed.{R, R32, back, back32, plain, by_abs, abs_back}
 use Rattle.theory.specs.Plain.{Worth, is, nothing, over, in_32_bits, better, numbered}
@@ -31,7 +30,7 @@ use Rattle.plain_limits.specs.Totals.{total_of, judged_32, times_of, plus_of, ad
 -- ---- products
 
 module _ (a b : ℤ) (fa : SFits w64 a) (fb : SFits w64 b) where
-  pub product_as : {r : Within} → r ≡ limited (R a *ℤ R b) → r ≡ limited (a *ℤ b)
+  pub product_as : {r : Option ℤ} → r ≡ limited (R a *ℤ R b) → r ≡ limited (a *ℤ b)
   product_as e = e ∙ ap limited (ap₂ ◌*ℤ◌ (back a fa) (back b fb))
 
   -- magnitudes of 31 bits
@@ -44,15 +43,15 @@ module _ (a b : ℤ) (fa : SFits w64 a) (fb : SFits w64 b) where
     pub short_fits : SFits w64 (R a *ℤ R b)
     short_fits = rw (back a fa, back b fb) (by_abs (a *ℤ b) (let k = short_small in omega arith))
 
-    pub short_is : within.Is (R (R a *ℤ R b)) ≡ limited (a *ℤ b)
-    short_is = ap within.Is (back (R a *ℤ R b) short_fits ∙ ap₂ ◌*ℤ◌ (back a fa) (back b fb)) ∙ sym (limited_is (a *ℤ b) short_small)
+    pub short_is : Some (R (R a *ℤ R b)) ≡ limited (a *ℤ b)
+    short_is = ap Some (back (R a *ℤ R b) short_fits ∙ ap₂ ◌*ℤ◌ (back a fa) (back b fb)) ∙ sym (limited_is (a *ℤ b) short_small)
 
 -- ---- within the limits, by magnitude
 
-pub above_is : (n : ℕ) → n ≤ limit → within.Is (to_z w64 n) ≡ limited (pos n)
-above_is n h = ap within.Is (plain n (omega arith)) ∙ sym (limited_is (pos n) h)
+pub above_is : (n : ℕ) → n ≤ limit → Some (to_z w64 n) ≡ limited (pos n)
+above_is n h = ap Some (plain n (omega arith)) ∙ sym (limited_is (pos n) h)
 
-pub above_over : (n : ℕ) → limit < n → within.Over ≡ limited (pos n)
+pub above_over : (n : ℕ) → limit < n → None ≡ limited (pos n)
 above_over n h = sym (limited_over (pos n) h)
 
 less : (n : ℕ) → negsuc 0 -ℤ pos n ≡ negsuc n
@@ -68,10 +67,10 @@ module _ (n : ℕ) (h : n < limit) where
   pub below_fits : SFits w64 (negsuc 0 -ℤ to_z w64 n)
   below_fits = rw less_is fits
 
-  pub below_is : within.Is (R (negsuc 0 -ℤ to_z w64 n)) ≡ limited (negsuc n)
-  below_is = ap within.Is (ap R less_is ∙ back (negsuc n) fits) ∙ sym (limited_is (negsuc n) (omega arith))
+  pub below_is : Some (R (negsuc 0 -ℤ to_z w64 n)) ≡ limited (negsuc n)
+  below_is = ap Some (ap R less_is ∙ back (negsuc n) fits) ∙ sym (limited_is (negsuc n) (omega arith))
 
-pub below_over : (n : ℕ) → limit ≤ n → within.Over ≡ limited (negsuc n)
+pub below_over : (n : ℕ) → limit ≤ n → None ≡ limited (negsuc n)
 below_over n h = sym (limited_over (negsuc n) (omega arith))
 
 -- ---- two words
@@ -166,29 +165,29 @@ limits_over : (z : ℤ) → limit < nat_abs z → level.Over ≡ judged_32 z
 limits_over (pos n) h = bits_above (pos n) refl (lt-ltb 2147483647 n (omega arith))
 limits_over (negsuc n) h = bits_below (negsuc n) (lt-ltb 2147483647 n (omega arith))
 
-module _ {w : Within} (z : ℤ) (e : w ≡ limited z) where
-  pub not_within : w ≡ within.Over → level.Over ≡ judged_32 z
+module _ {w : Option ℤ} (z : ℤ) (e : w ≡ limited z) where
+  pub not_within : w ≡ None → level.Over ≡ judged_32 z
   not_within o = limits_over z (limited_lacks z (sym e ∙ o))
 
-  pub within_judged : (q : ℤ) → w ≡ within.Is q → SFits w64 q → {r : Level} → r ≡ judged_32 (R q) → r ≡ judged_32 z
+  pub within_judged : (q : ℤ) → w ≡ Some q → SFits w64 q → {r : Level} → r ≡ judged_32 (R q) → r ≡ judged_32 z
   within_judged q o f u = u ∙ ap judged_32 (back q f ∙ (limited_gives z q (sym e ∙ o)).0)
 
 -- ---- products and sums
 
-pub times_over : (p z : Within) → p ≡ within.Over → within.Over ≡ times_of p z
+pub times_over : (p z : Option ℤ) → p ≡ None → None ≡ times_of p z
 unfolding times_of
-times_over p z e = sym (ap (λ (q : Within). times_of q z) e)
+times_over p z e = sym (ap (λ (q : Option ℤ). times_of q z) e)
 
-module _ (p z : Within) (a : ℤ) (e : p ≡ within.Is a) (f : SFits w64 a) where
-  pub times_none : z ≡ within.Over → within.Over ≡ times_of p z
+module _ (p z : Option ℤ) (a : ℤ) (e : p ≡ Some a) (f : SFits w64 a) where
+  pub times_none : z ≡ None → None ≡ times_of p z
   unfolding times_of
   times_none g = sym (ap₂ times_of e g)
 
-  pub times_is : (b : ℤ) → z ≡ within.Is b → SFits w64 b → {r : Within} → r ≡ limited (R a *ℤ R b) → r ≡ times_of p z
+  pub times_is : (b : ℤ) → z ≡ Some b → SFits w64 b → {r : Option ℤ} → r ≡ limited (R a *ℤ R b) → r ≡ times_of p z
   unfolding times_of
   times_is b g k u = u ∙ ap₂ (λ (x y : ℤ). limited (x *ℤ y)) (back a f) (back b k) ∙ sym (ap₂ times_of e g)
 
-pub small_of : (z : ℤ) (q : ℤ) → limited z ≡ within.Is q → Small q
+pub small_of : (z : ℤ) (q : ℤ) → limited z ≡ Some q → Small q
 small_of z q e = let d = limited_gives z q e in record { small = omega (arith, d.1, ap nat_abs d.0) }
 
 pub kept_small : (t : Total) (z : ℤ) (a : ℕ) → t ≡ total.Is z a → KeptSum (total_of t) → Small z
@@ -199,14 +198,14 @@ summed_kept : (z : ℤ) → KeptSum (summed (limited z))
 unfolding KeptSum summed
 summed_kept z = go (limited z) refl
   where
-    go : (w : Within) → limited z ≡ w → KeptSum (summed w)
-    go (within.Is q) e = (small_of z q e, refl)
-    go within.Over e = tt
+    go : (w : Option ℤ) → limited z ≡ w → KeptSum (summed w)
+    go (Some q) e = (small_of z q e, refl)
+    go None e = tt
 
-plus_kept : (s : ℤ) (w : Within) → KeptSum (summed (plus_of s w))
+plus_kept : (s : ℤ) (w : Option ℤ) → KeptSum (summed (plus_of s w))
 unfolding plus_of KeptSum summed
-plus_kept s (within.Is p) = summed_kept (s +ℤ p)
-plus_kept s within.Over = tt
+plus_kept s (Some p) = summed_kept (s +ℤ p)
+plus_kept s None = tt
 
 pub added_kept : (sum : Worth) (w : ℕ) (t : Worth) → KeptSum (added_of sum w t)
 unfolding added_of KeptSum
@@ -216,17 +215,17 @@ added_kept (is s b) w over = tt
 added_kept nothing w t = tt
 added_kept over w t = tt
 
-pub times_kept : (p z : Within) → KeptSum (summed (times_of p z))
+pub times_kept : (p z : Option ℤ) → KeptSum (summed (times_of p z))
 unfolding times_of KeptSum summed
-times_kept (within.Is p) (within.Is z) = summed_kept (p *ℤ z)
-times_kept (within.Is p) within.Over = tt
-times_kept within.Over z = tt
+times_kept (Some p) (Some z) = summed_kept (p *ℤ z)
+times_kept (Some p) None = tt
+times_kept None z = tt
 
-pub summed_over : (w : Within) → w ≡ within.Over → total_of total.Over ≡ summed w
+pub summed_over : (w : Option ℤ) → w ≡ None → total_of total.Over ≡ summed w
 unfolding summed total_of
 summed_over w e = sym (ap summed e)
 
-pub summed_is : (w : Within) (z : ℤ) → w ≡ within.Is z → SFits w64 z → total_of (total.Is (R z) 0) ≡ summed w
+pub summed_is : (w : Option ℤ) (z : ℤ) → w ≡ Some z → SFits w64 z → total_of (total.Is (R z) 0) ≡ summed w
 unfolding summed total_of
 summed_is w z e f = ap (λ (y : ℤ). is y 0) (back z f) ∙ sym (ap summed e)
 
@@ -260,25 +259,25 @@ module _ (sum : Total) (w : ℕ) (t : Total) (s : ℤ) (b : ℕ) (e : sum ≡ to
   unfolding total_of
   added_stays k = worth_stays (total_of t) k ∙ sym (ap (λ (q : Total). added_of (total_of q) w (total_of t)) e)
 
-  module _ (v : ℤ) (a : ℕ) (g : t ≡ total.Is v a) (f : SFits w64 v) (h : w ≤ limit) (m : Within) (k : m ≡ limited (to_z w64 w *ℤ R v)) where
+  module _ (v : ℤ) (a : ℕ) (g : t ≡ total.Is v a) (f : SFits w64 v) (h : w ≤ limit) (m : Option ℤ) (k : m ≡ limited (to_z w64 w *ℤ R v)) where
     product : m ≡ limited (pos w *ℤ v)
     product = k ∙ ap₂ (λ (x y : ℤ). limited (x *ℤ y)) (plain w (omega arith)) (back v f)
 
     sum_is : summed (plus_of s m) ≡ added_of (total_of sum) w (total_of t)
     unfolding added_of total_of
-    sum_is = ap (λ (q : Within). summed (plus_of s q)) product ∙ sym (ap₂ (λ (q u : Total). added_of (total_of q) w (total_of u)) e g)
+    sum_is = ap (λ (q : Option ℤ). summed (plus_of s q)) product ∙ sym (ap₂ (λ (q u : Total). added_of (total_of q) w (total_of u)) e g)
 
-    pub added_much : m ≡ within.Over → total_of total.Over ≡ added_of (total_of sum) w (total_of t)
+    pub added_much : m ≡ None → total_of total.Over ≡ added_of (total_of sum) w (total_of t)
     unfolding plus_of summed total_of
-    added_much n = sym (ap (λ (q : Within). summed (plus_of s q)) n) ∙ sum_is
+    added_much n = sym (ap (λ (q : Option ℤ). summed (plus_of s q)) n) ∙ sum_is
 
-    module _ (p : ℤ) (n : m ≡ within.Is p) (c : KeptSum (total_of sum)) (fs : SFits w64 s) (fp : SFits w64 p) where
+    module _ (p : ℤ) (n : m ≡ Some p) (c : KeptSum (total_of sum)) (fs : SFits w64 s) (fp : SFits w64 p) where
       pub addends_small : Small (R s) × Small (R p)
       addends_small = (rw (back s fs) (kept_small sum s b e c), rw (back p fp) (small_of _ p (sym k ∙ n)))
 
-      pub added_is : {q : Within} → q ≡ limited (R s +ℤ R p) → {r : Worth} → r ≡ summed q → r ≡ added_of (total_of sum) w (total_of t)
+      pub added_is : {q : Option ℤ} → q ≡ limited (R s +ℤ R p) → {r : Worth} → r ≡ summed q → r ≡ added_of (total_of sum) w (total_of t)
       unfolding plus_of
-      added_is u o = o ∙ ap summed (u ∙ ap₂ (λ (x y : ℤ). limited (x +ℤ y)) (back s fs) (back p fp)) ∙ sym (ap (λ (q : Within). summed (plus_of s q)) n) ∙ sum_is
+      added_is u o = o ∙ ap summed (u ∙ ap₂ (λ (x y : ℤ). limited (x +ℤ y)) (back s fs) (back p fp)) ∙ sym (ap (λ (q : Option ℤ). summed (plus_of s q)) n) ∙ sum_is
 
 -- ---- totals
 

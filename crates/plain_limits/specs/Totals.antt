@@ -1,9 +1,7 @@
 -- Totals, and how they are judged.
-use Rattle.std.specs.Prelude.{◌≡◌, Bool, true, false, ℕ, ℤ, pos, ◌+ℤ◌, ◌*ℤ◌}
+use Rattle.std.specs.Prelude.{◌≡◌, Bool, true, false, ℕ, ℤ, pos, ◌+ℤ◌, ◌*ℤ◌, Option, Some, None}
 use Rattle.whole.specs.Cases.{if}
 use Rattle.whole.specs.Within.{Small, limited}
-use Rattle.whole.specs.declared.Within.{Within}
-use Rattle.whole.specs.declared.Within.TheVariants as within
 use Rattle.theory.specs.Plain.{Worth, is, nothing, over, in_32_bits, better, numbered}
 use Rattle.plain_limits.specs.declared.Total.{Total}
 use Rattle.plain_limits.specs.declared.Total.TheVariants as total
@@ -21,19 +19,19 @@ unfoldable pub judged_32 : ℤ → Level
 judged_32 z = if (in_32_bits z) (level.Is z) level.Over
 
 -- the product of two numbers, all three judged
-unfoldable pub times_of : Within → Within → Within
-times_of (within.Is p) (within.Is z) = limited (p *ℤ z)
-times_of (within.Is p) within.Over = within.Over
-times_of within.Over z = within.Over
+unfoldable pub times_of : Option ℤ → Option ℤ → Option ℤ
+times_of (Some p) (Some z) = limited (p *ℤ z)
+times_of (Some p) None = None
+times_of None z = None
 
-unfoldable pub plus_of : ℤ → Within → Within
-plus_of s (within.Is p) = limited (s +ℤ p)
-plus_of s within.Over = within.Over
+unfoldable pub plus_of : ℤ → Option ℤ → Option ℤ
+plus_of s (Some p) = limited (s +ℤ p)
+plus_of s None = None
 
 -- a number as a worth
-unfoldable pub summed : Within → Worth
-summed (within.Is z) = is z 0
-summed within.Over = over
+unfoldable pub summed : Option ℤ → Worth
+summed (Some z) = is z 0
+summed None = over
 
 -- the running sum with weight × worth: it "leaves an action at its first .. none"
 unfoldable pub added_of : Worth → ℕ → Worth → Worth

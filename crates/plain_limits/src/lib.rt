@@ -8,8 +8,8 @@ ghost use Rattle.theory.specs.Verdict.{or};
 ghost use Rattle.theory.specs.Plain.{numbered as Numbered-of, better as better-of};
 ghost use Rattle.plain_limits.specs.Totals.{total_of, judged_32, times_of, added_of, tried, summed, KeptSum, stopped, is_over};
 
+use whole::Numerator;
 use whole::limits::{LIMIT, add_within, mag, mul_within};
-use whole::{Numerator, Within};
 
 // A worth and the action that has it, none, or a number left its limits.
 #[derive(Clone, Copy)]
@@ -26,38 +26,30 @@ pub enum Level {
     Over,
 }
 
-fn not_negative(n: u64) -> Within
+fn not_negative(n: u64) -> Option<i64>
     ensures { result ≡ limited (pos n) }
 {
-    if n <= LIMIT {
-        Within::Is(n as i64)
-    } else {
-        Within::Over
-    }
+    if n <= LIMIT { Some(n as i64) } else { None }
 }
 
 // −1 − n.
-fn negative(n: u64) -> Within
+fn negative(n: u64) -> Option<i64>
     ensures { result ≡ limited (negsuc n) }
 {
-    if n < LIMIT {
-        Within::Is(-1 - n as i64)
-    } else {
-        Within::Over
-    }
+    if n < LIMIT { Some(-1 - n as i64) } else { None }
 }
 
 // The number that two words hold, where it lies within the limits: the high word is then 0 or −1.
-pub fn narrow(x: Numerator) -> Within
+pub fn narrow(x: Numerator) -> Option<i64>
     ensures { result ≡ limited (number x) }
 {
     let low = x.low;
     let high = x.high;
     if 0 < high {
-        return Within::Over;
+        return None;
     }
     if high < -1 {
-        return Within::Over;
+        return None;
     }
     if high < 0 {
         return negative(u64::MAX - low);
@@ -86,7 +78,7 @@ fn judged(z: i64) -> Level
 pub fn in_32_bits(x: Numerator) -> Level
     ensures { result ≡ judged_32 (number x) }
 {
-    let Within::Is(z) = narrow(x) else {
+    let Some(z) = narrow(x) else {
         return Level::Over;
     };
     judged(z)
@@ -96,7 +88,7 @@ pub fn in_32_bits(x: Numerator) -> Level
 const SHORT: u64 = 2147483647;
 
 // a × b.
-fn product(a: i64, b: i64) -> Within
+fn product(a: i64, b: i64) -> Option<i64>
     ensures { result ≡ limited (a *ℤ b) }
 {
     if mag(a) > SHORT {
@@ -105,27 +97,21 @@ fn product(a: i64, b: i64) -> Within
     if mag(b) > SHORT {
         return mul_within(a, b);
     }
-    Within::Is(a * b)
+    Some(a * b)
 }
 
 // p × z, where both and the product lie within the limits.
-pub fn times(p: Within, z: Within) -> Within
+pub fn times(p: Option<i64>, z: Option<i64>) -> Option<i64>
     ensures { result ≡ times_of p z }
 {
-    let Within::Is(a) = p else {
-        return Within::Over;
-    };
-    let Within::Is(b) = z else {
-        return Within::Over;
-    };
-    product(a, b)
+    product(p?, z?)
 }
 
 // A number as a worth; the action is numbered later.
-pub fn worth_of(z: Within) -> Total
+pub fn worth_of(z: Option<i64>) -> Total
     ensures { total_of result ≡ summed z }
 {
-    let Within::Is(v) = z else {
+    let Some(v) = z else {
         return Total::Over;
     };
     Total::Is(v, 0)
@@ -142,7 +128,7 @@ pub fn added(sum: Total, w: u64, t: Total) -> Total
     let Total::Is(v, _) = t else {
         return t;
     };
-    let Within::Is(p) = product(w as i64, v) else {
+    let Some(p) = product(w as i64, v) else {
         return Total::Over;
     };
     worth_of(add_within(s, p))

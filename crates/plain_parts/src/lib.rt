@@ -2,19 +2,20 @@
 // A model written diagram by diagram has nothing on the stack before each diagram, and evaluation then reads that diagram alone.
 #![tactic(auto)]
 
-ghost use Rattle.std.specs.Prelude.{◌≡◌, List, ℕ, ◌+◌, ◌-◌, ◌<◌, eqb, ltb, length, get_or};
+ghost use Rattle.std.specs.Prelude.{◌≡◌, List, ℕ, ◌+◌, ◌-◌, ◌<◌, MatchOption, eqb, ltb, length, get_or};
 ghost use Rattle.whole.specs.Cases.{if};
 ghost use Rattle.theory.specs.Widths.{stack_most};
 ghost use Rattle.theory.specs.Command.{whole, byte_at, width, read_at};
 ghost use Rattle.theory.specs.Verdict.{verdict};
 ghost use Rattle.model_command.specs.CursorReadings.{command_of};
 ghost use Rattle.plain_pass.specs.Pass.{slot_of};
-ghost use Rattle.plain_pass.specs.Parts.{depth_after, noted, put, NoNotes, Parts};
+ghost use Rattle.plain_pass.specs.Parts.{slots_each, depth_after, noted, put, NoNotes, Parts};
 ghost use Rattle.plain_pass.specs.Parts.{row as row_of};
 ghost use Rattle.plain_pass.specs.Parts.{place as place_of};
 
 use model_command::{Command, Read};
 use model_form::{ACTIONS, CONDITIONS, Form, LEVELS};
+use model_stack::STACK_MOST;
 use plain_pass::Slot;
 
 // The end worth's place among an action's slots: behind a reward, the chances and the next levels.
@@ -37,55 +38,37 @@ pub fn size(c: Command) -> usize
     model_command::size_in(Form::New, c)
 }
 
-// The place among an action's slots, SLOTS_EACH where there is no such slot.
-fn row(command: u8, index: u8) -> usize
-    ensures { result ≡ row_of command index }
+// The place among an action's slots, if there is such a slot.
+#[tactic(auto, unfolding(plain_pass::specs::Parts::row))]
+fn row(command: u8, index: u8) -> Option<usize>
+    ensures { MatchOption result (row_of command index ≡ slots_each) (λ r. row_of command index ≡ r × (r < slots_each)) }
 {
-    if index == 0 {
-        if command == 0x20 {
-            return 0;
-        }
-        if command == 0x23 {
-            return END_ROW;
-        }
-        return SLOTS_EACH;
+    match (command, usize::from(index)) {
+        (0x20, 0) => Some(0),
+        (0x23, 0) => Some(END_ROW),
+        (0x21, i @ 1..=CONDITIONS) => Some(i),
+        (0x22, i @ 1..=LEVELS) => Some(CONDITIONS + i),
+        _ => None,
     }
-    let i = index as usize;
-    if command == 0x21 {
-        if CONDITIONS < i {
-            return SLOTS_EACH;
-        }
-        return i;
-    }
-    if command == 0x22 {
-        if LEVELS < i {
-            return SLOTS_EACH;
-        }
-        return CONDITIONS + i;
-    }
-    SLOTS_EACH
 }
 
+#[tactic(auto, unfolding(plain_pass::specs::Parts::place))]
 fn place(g: Slot) -> usize
     ensures { result ≡ place_of (slot_of g) }
 {
-    let a = g.action;
-    let r = row(g.command, g.index);
-    if r < SLOTS_EACH {
-        return a as usize * SLOTS_EACH + r;
+    match row(g.command, g.index) {
+        Some(r) => usize::from(g.action) * SLOTS_EACH + r,
+        None => SLOTS,
     }
-    SLOTS
 }
 
 // The offset that a slot's diagram is read from; 0 serves every slot.
 pub fn begin(parts: &[u32], g: Slot) -> usize
     ensures { result ≡ get_or parts.now (place_of (slot_of g)) 0 }
 {
-    let p = place(g);
-    if p < parts.len() {
-        parts[p] as usize
-    } else {
-        0
+    match parts.get(place(g)) {
+        Some(&at) => at as usize,
+        None => 0,
     }
 }
 
@@ -94,10 +77,7 @@ fn enter(parts: &mut [u32], g: Slot, begin: u32)
     ensures { parts.new ≡ put (slot_of g) begin parts.old }
 {
     let p = place(g);
-    if parts.len() <= p {
-        return;
-    }
-    if parts[p] == 0 {
+    if p < parts.len() && parts[p] == 0 {
         parts[p] = begin;
     }
 }
@@ -106,19 +86,22 @@ fn note(parts: &mut [u32], c: Command, begin: u32)
     ensures { (B : List ℕ) (i : ℕ) → parts.new ≡ noted (command_of B i c) begin parts.old }
 {
     if let Command::Give(command, action, index) = c {
-        let g = Slot {
-            command,
-            action,
-            index,
-        };
-        enter(parts, g, begin);
+        enter(
+            parts,
+            Slot {
+                command,
+                action,
+                index,
+            },
+            begin,
+        );
     }
 }
 
 fn pushed(n: usize) -> usize
     ensures { result ≡ if (ltb n stack_most) (n + 1) n }
 {
-    if n < 32 { n + 1 } else { n }
+    if n < STACK_MOST { n + 1 } else { n }
 }
 
 fn joined(n: usize) -> usize
@@ -130,22 +113,19 @@ fn joined(n: usize) -> usize
 fn popped(n: usize) -> usize
     ensures { result ≡ n - 1 }
 {
-    if n == 0 { 0 } else { n - 1 }
+    n.saturating_sub(1)
 }
 
 // How many diagrams the stack holds behind a command.
+#[tactic(auto, unfolding(plain_pass::specs::Parts::depth_after, model_command::specs::CursorReadings::command_of_in))]
 fn depth(c: Command, n: usize) -> usize
     ensures { (B : List ℕ) (i : ℕ) → result ≡ depth_after (command_of B i c) n }
 {
     match c {
-        Command::Leaf => pushed(n),
-        Command::Condition(_) => joined(n),
-        Command::Test => joined(n),
+        Command::Leaf | Command::Forbidden => pushed(n),
+        Command::Condition(_) | Command::Test => joined(n),
         Command::Give(_, _, _) => popped(n),
-        Command::Site(_, _, _, _) => n,
-        Command::Name(_) => n,
-        Command::End => n,
-        Command::Forbidden => pushed(n),
+        Command::Site(_, _, _, _) | Command::Name(_) | Command::End => n,
     }
 }
 
@@ -164,11 +144,7 @@ pub fn find(model: &[u8], parts: &mut [u32])
     let mut at = model_command::next_after(model, 0);
     let mut begin = at as u32;
     let mut held: usize = 0;
-    loop {
-        let read = model_command::command_at(model, at);
-        let Read::Whole(c) = read else {
-            return;
-        };
+    while let Read::Whole(c) = model_command::command_at(model, at) {
         if model::is_end(c) {
             return;
         }

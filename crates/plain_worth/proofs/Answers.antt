@@ -1,4 +1,5 @@
 -- What an action earns at once, the end worth, and the answer.
+use Rattle.std.specs.Prelude.{Option, Some, None, is_some}
 use mathlib.Core.Path.{◌≡◌, refl, sym, ap, ap₂, ◌∙◌}
 use mathlib.Core.List.{List, []}
 use mathlib.Core.Bool.{Bool, true, false}
@@ -13,8 +14,6 @@ use Rattle.whole.specs.Within.{limited, small}
 use Rattle.whole.specs.Numerator.{number, words}
 use Rattle.whole.specs.NumeratorLaws.{number_words}
 use Rattle.whole.specs.declared.Numerator.{Numerator}
-use Rattle.whole.specs.declared.Within.{Within}
-use Rattle.whole.specs.declared.Within.TheVariants as within
 use Rattle.whole.proofs.Signed.{R, back}
 use Rattle.theory.specs.Diagram.{Tree}
 use Rattle.theory.specs.Total.{num, none}
@@ -41,19 +40,19 @@ pub exponent_fits : (B : List ℕ) → ModelReady B → (n h : ℕ) → n ≡ (s
 exponent_fits B ok n h e k = mul-le-mul {n₁ = n} {m₁ = h} {n₂ = 4} {m₂ = 8} (omega (arith, (within_widths B ok).0)) k
 
 -- what the code has is what the state earns
-module _ (B : List ℕ) (h a : ℕ) (x : Point) (st : StandingPoint B x) {n W : ℕ} (en : n ≡ (site_at B).conditions) (eW : W ≡ (site_at B).weights) {p : Within} (ep : p ≡ limited (pos (W ^ (n * h)))) where
+module _ (B : List ℕ) (h a : ℕ) (x : Point) (st : StandingPoint B x) {n W : ℕ} (en : n ≡ (site_at B).conditions) (eW : W ≡ (site_at B).weights) {p : Option ℤ} (ep : p ≡ limited (pos (W ^ (n * h)))) where
   power_is : p ≡ limited (pos ((site_at B).weights ^ ((site_at B).conditions * h)))
   power_is = ep ∙ ap₂ (λ (k m : ℕ). limited (pos (m ^ (k * h)))) en eW
 
-  over_earned : (w : Within) (r : Reward) → w ≡ within.Over → over ≡ earned_of w r
+  over_earned : (w : Option ℤ) (r : Reward) → is_some w ≡ false → over ≡ earned_of w r
   unfolding earned_of
-  over_earned (within.Is z) r e = absurd (let q : ◌≡◌ {A = ℕ} 0 1 = cc in omega arith)
-  over_earned within.Over (num z) e = refl
-  over_earned within.Over none e = refl
+  over_earned (Some z) r e = clash e
+  over_earned None (num z) e = refl
+  over_earned None none e = refl
 
-  pub earned_over : p ≡ within.Over → Earned B h a x total.Over
+  pub earned_over : is_some p ≡ false → Earned B h a x total.Over
   unfolding total_of
-  earned_over e = record { is = λ s q. over_earned _ _ (sym power_is ∙ e) }
+  earned_over e = record { is = λ s q. over_earned _ _ (ap is_some (sym power_is) ∙ e) }
 
   module _ {v : CodeReward} (f : (s : State) (z : List Bool) → StateStands (site_at B).levels (site_at B).conditions x s z → v ≡ reward_of (worth_at (env s z) (find_slot (reward_slot a) (loaded_entries B)))) where
     abbrev worth_of : State → Reward
@@ -62,36 +61,37 @@ module _ (B : List ℕ) (h a : ℕ) (x : Point) (st : StandingPoint B x) {n W : 
     is_reward : (s : State) → Spells (site_at B) x s → v ≡ reward_of (worth_of s)
     is_reward s q = f s [] (alone B x s st.ready q st.alone)
 
-    none_earned : (w : Within) (z : ℤ) (r : Reward) → w ≡ within.Is z → (reward_of r).forbidden ≡ true → nothing ≡ earned_of w r
+    none_earned : (w : Option ℤ) (r : Reward) → is_some w ≡ true → (reward_of r).forbidden ≡ true → nothing ≡ earned_of w r
     unfolding earned_of reward_of
-    none_earned w z (num y) e k = clash (sym k)
-    none_earned w z none e k = sym (ap (λ (u : Within). earned_of u none) e)
+    none_earned w (num y) e k = clash (sym k)
+    none_earned (Some z) none e k = refl
+    none_earned None none e k = clash (sym e)
 
-    pub earned_none : (z : ℤ) → p ≡ within.Is z → v.forbidden ≡ true → Earned B h a x total.None
+    pub earned_none : is_some p ≡ true → v.forbidden ≡ true → Earned B h a x total.None
     unfolding total_of
-    earned_none z e k = record { is = λ s q. none_earned _ z (worth_of s) (sym power_is ∙ e) (ap (λ (u : CodeReward). u.forbidden) (sym (is_reward s q)) ∙ k) }
+    earned_none e k = record { is = λ s q. none_earned _ (worth_of s) (ap is_some (sym power_is) ∙ e) (ap (λ (u : CodeReward). u.forbidden) (sym (is_reward s q)) ∙ k) }
 
-    some_earned : (w : Within) (r : Reward) → (reward_of r).forbidden ≡ false → summed (times_of w (limited (number (reward_of r).worth))) ≡ earned_of w r
+    some_earned : (w : Option ℤ) (r : Reward) → (reward_of r).forbidden ≡ false → summed (times_of w (limited (number (reward_of r).worth))) ≡ earned_of w r
     unfolding earned_of reward_of times_of summed
-    some_earned (within.Is p) (num z) k = ap (λ (y : ℤ). summed (times_of (within.Is p) (limited y))) (number_words z)
-    some_earned within.Over (num z) k = refl
+    some_earned (Some p) (num z) k = ap (λ (y : ℤ). summed (times_of (Some p) (limited y))) (number_words z)
+    some_earned None (num z) k = refl
     some_earned w none k = clash k
 
-    pub earned_is : v.forbidden ≡ false → {w : Within} → w ≡ limited (number v.worth) → {m : Within} → m ≡ times_of p w → (t : Total) → total_of t ≡ summed m → Earned B h a x t
+    pub earned_is : v.forbidden ≡ false → {w : Option ℤ} → w ≡ limited (number v.worth) → {m : Option ℤ} → m ≡ times_of p w → (t : Total) → total_of t ≡ summed m → Earned B h a x t
     earned_is k ew em t et = record {
       is = λ s q. et ∙ ap summed (em ∙ ap (times_of p) ew)
-          ∙ ap₂ (λ (y : Within) (u : CodeReward). summed (times_of y (limited (number u.worth)))) power_is (is_reward s q)
+          ∙ ap₂ (λ (y : Option ℤ) (u : CodeReward). summed (times_of y (limited (number u.worth)))) power_is (is_reward s q)
           ∙ some_earned _ (worth_of s) (ap (λ (u : CodeReward). u.forbidden) (sym (is_reward s q)) ∙ k);
     }
 
 -- a number judged
 summed_judged : (z : ℤ) → summed (limited z) ≡ judged z (is z 0)
 unfolding summed limited judged
-summed_judged z = by_test (small z) (λ b. summed (if b (within.Is z) within.Over) ≡ if b (is z 0) over) (λ _. refl) (λ _. refl)
+summed_judged z = by_test (small z) (λ b. summed (if b (Some z) None) ≡ if b (is z 0) over) (λ _. refl) (λ _. refl)
 
 pub ended_is : (B : List ℕ) (x : Point) → StandingPoint B x
     → {v : Numerator} → ((s : State) (z : List Bool) → StateStands (site_at B).levels (site_at B).conditions x s z → v ≡ words (end_at (env s z) (found end_slot (loaded_entries B))))
-    → {w : Within} → w ≡ limited (number v) → {t : Total} → total_of t ≡ summed w → StateWorth B 0 x t
+    → {w : Option ℤ} → w ≡ limited (number v) → {t : Total} → total_of t ≡ summed w → StateWorth B 0 x t
 unfolding state_worth
 ended_is B x st f ew et = record {
   is = λ s q.

@@ -1,4 +1,5 @@
 -- The runs over settings and over actions, a turn at a time.
+use Rattle.std.specs.Prelude.{Option, Some, None}
 use mathlib.Core.Path.{◌≡◌, refl, sym, ap, ap₂, ◌∙◌}
 use mathlib.Core.Bool.{Bool, true, false}
 use mathlib.Core.List.{List, [], ◌∷◌, map}
@@ -11,8 +12,6 @@ use lib.Dec.{T, eqb, leb, ltb, leb→le, ltb→lt}
 use lib.IntN.{ℤ, pos, ◌+ℤ◌, ◌*ℤ◌}
 use Rattle.whole.specs.Cases.{if, by_test, from_true, clash}
 use Rattle.whole.specs.Within.{limited, small}
-use Rattle.whole.specs.declared.Within.{Within}
-use Rattle.whole.specs.declared.Within.TheVariants as within
 use Rattle.theory.specs.Meaning.{Action, State, settings, doubled}
 use Rattle.theory.specs.Valid.{all}
 use Rattle.theory.specs.Verdict.{from_to, or}
@@ -74,7 +73,7 @@ on over f = over
 -- two judgements in turn
 pub judged_on : (z : ℤ) (f : ℤ → Worth) → judged z (f z) ≡ on (summed (limited z)) f
 unfolding judged on limited summed
-judged_on z f = by_test (small z) (λ b. if b (f z) over ≡ on (summed (if b (within.Is z) within.Over)) f) (λ _. refl) (λ _. refl)
+judged_on z f = by_test (small z) (λ b. if b (f z) over ≡ on (summed (if b (Some z) None)) f) (λ _. refl) (λ _. refl)
 
 module _ (worth : State → Worth) (w : List Bool → ℕ) (next : List Bool → State) where
   abbrev rest : List (List Bool) → ℤ → Worth
@@ -114,10 +113,10 @@ module _ (worth : State → Worth) (w : List Bool → ℕ) (next : List Bool →
   left_bits q l over k e f = refl
 
   -- the sum is judged after the product
-  sum_judged : (l : List (List Bool)) (z : ℤ) (p : Within) → on (summed p) (λ p. judged (z +ℤ p) (rest l (z +ℤ p))) ≡ on (summed (plus_of z p)) (rest l)
+  sum_judged : (l : List (List Bool)) (z : ℤ) (p : Option ℤ) → on (summed p) (λ p. judged (z +ℤ p) (rest l (z +ℤ p))) ≡ on (summed (plus_of z p)) (rest l)
   unfolding on plus_of summed
-  sum_judged l z (within.Is p) = judged_on (z +ℤ p) (rest l)
-  sum_judged l z within.Over = refl
+  sum_judged l z (Some p) = judged_on (z +ℤ p) (rest l)
+  sum_judged l z None = refl
 
   add_worth : (q : List Bool) (l : List (List Bool)) (z : ℤ) (b : ℕ) (t : Worth) → turn q l z false true t ≡ on (added_of (is z b) (w q) t) (rest l)
   unfolding on added_of

@@ -1,4 +1,5 @@
 -- The loops of an action's worth and of a state's: what holds at each turn.
+use Rattle.std.specs.Prelude.{Option, Some, None}
 use mathlib.Core.Path.{◌≡◌, refl, sym, ap, ap₂, ◌∙◌, subst}
 use mathlib.Core.Bool.{Bool, true, false}
 use mathlib.Core.List.{List, [], map}
@@ -7,8 +8,6 @@ use native.Mathlib.Omega.{arith}
 use lib.Dec.{leb, ltb}
 use lib.IntN.{ℤ, pos, ◌*ℤ◌}
 use Rattle.whole.specs.Within.{limited}
-use Rattle.whole.specs.declared.Within.{Within}
-use Rattle.whole.specs.declared.Within.TheVariants as within
 use Rattle.theory.specs.Total.{num, none}
 use Rattle.theory.specs.Total.{Total as Reward}
 use Rattle.theory.specs.Meaning.{Action, Model, State, env, worth_at, chance_at, weight, settings, moved, action_at}
@@ -40,21 +39,21 @@ on_same (is z a) f g h = h z
 on_same nothing f g h = refl
 on_same over f g h = refl
 
-on_times : (p z : Within) (f : ℤ → Worth) → on (summed p) (λ a. on (summed z) (λ b. on (summed (limited (a *ℤ b))) f)) ≡ on (summed (times_of p z)) f
+on_times : (p z : Option ℤ) (f : ℤ → Worth) → on (summed p) (λ a. on (summed z) (λ b. on (summed (limited (a *ℤ b))) f)) ≡ on (summed (times_of p z)) f
 unfolding on times_of summed
-on_times (within.Is a) (within.Is b) f = refl
-on_times (within.Is a) within.Over f = refl
-on_times within.Over z f = refl
+on_times (Some a) (Some b) f = refl
+on_times (Some a) None f = refl
+on_times None z f = refl
 
-earned_number : (p : Within) (z : ℤ) → earned_of p (num z) ≡ summed (times_of p (limited z))
+earned_number : (p : Option ℤ) (z : ℤ) → earned_of p (num z) ≡ summed (times_of p (limited z))
 unfolding earned_of times_of summed
-earned_number (within.Is p) z = refl
-earned_number within.Over z = refl
+earned_number (Some p) z = refl
+earned_number None z = refl
 
-earned_none : (f : ℤ → Worth) (p : Within) → on (summed p) (λ _. nothing) ≡ on (earned_of p none) f
+earned_none : (f : ℤ → Worth) (p : Option ℤ) → on (summed p) (λ _. nothing) ≡ on (earned_of p none) f
 unfolding earned_of on summed
-earned_none f (within.Is p) = refl
-earned_none f within.Over = refl
+earned_none f (Some p) = refl
+earned_none f None = refl
 
 -- a reward that is a number, and one that is forbidden
 starts : (p : ℤ) (f : ℤ → Worth) (r : Reward) → judged p (elim r [ num z ↦ judged z (judged (p *ℤ z) (f (p *ℤ z))) | none ↦ nothing ]) ≡ on (earned_of (limited p) r) f
@@ -85,12 +84,12 @@ pub record Sums (B : List ℕ) (h a : ℕ) (x : Point) (count : ℕ) (sum : Tota
   pub kept : KeptSum (total_of sum)
   pub runs : (s : State) → Spells (site_at B) x s → on (total_of sum) (sum_of B h a s (left (site_at B).conditions r count)) ≡ worth_of B h a s
 
-earned_kept : (p : Within) (r : Reward) → KeptSum (earned_of p r)
+earned_kept : (p : Option ℤ) (r : Reward) → KeptSum (earned_of p r)
 unfolding earned_of KeptSum
-earned_kept (within.Is p) (num z) = times_kept (within.Is p) (limited z)
-earned_kept (within.Is p) none = tt
-earned_kept within.Over (num z) = tt
-earned_kept within.Over none = tt
+earned_kept (Some p) (num z) = times_kept (Some p) (limited z)
+earned_kept (Some p) none = tt
+earned_kept None (num z) = tt
+earned_kept None none = tt
 
 as_loaded : (B : List ℕ) (h a : ℕ) → SiteAction B a → (s : State) → worth_of B h a s ≡ action_worth (model_of (site_at B) (loaded_entries B)) h (further B h) (act B a) s
 as_loaded B h a A s = ap₂ (λ (M : Model) (y : Action). action_worth M h (further B h) y s) (model_loaded B) (action_is B a A.0 A.1)

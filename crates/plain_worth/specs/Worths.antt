@@ -1,8 +1,6 @@
 -- What an action earns, and the worths of states and actions, at a point that stands for a state.
-use Rattle.std.specs.Prelude.{◌≡◌, List, [], ℕ, ◌-◌, ◌*◌, ◌^◌, pos}
+use Rattle.std.specs.Prelude.{◌≡◌, List, [], ℕ, ◌-◌, ◌*◌, ◌^◌, pos, Option, Some, None, ℤ}
 use Rattle.whole.specs.Within.{limited}
-use Rattle.whole.specs.declared.Within.{Within}
-use Rattle.whole.specs.declared.Within.TheVariants as within
 use Rattle.theory.specs.Total.{num, none}
 use Rattle.theory.specs.Total.{Total as Reward}
 use Rattle.theory.specs.Meaning.{State, env, worth_at, action_at}
@@ -21,11 +19,11 @@ abbrev pub point_of : ℕ → Asked → Point
 point_of m q = record { mask = q.mask; setting = 0; n = q.n; levels = m }
 
 -- W^(n×h) × reward, each judged, "W^(n×h) first"; none where the reward is forbidden
-unfoldable pub earned_of : Within → Reward → Worth
-earned_of (within.Is p) (num z) = summed (times_of (within.Is p) (limited z))
-earned_of (within.Is p) none = nothing
-earned_of within.Over (num z) = over
-earned_of within.Over none = over
+unfoldable pub earned_of : Option ℤ → Reward → Worth
+earned_of (Some p) (num z) = summed (times_of (Some p) (limited z))
+earned_of (Some p) none = nothing
+earned_of None (num z) = over
+earned_of None none = over
 
 pub record Earned (B : List ℕ) (h a : ℕ) (x : Point) (r : Total) : Type 0 where
   pub is : (s : State) → Spells (site_at B) x s

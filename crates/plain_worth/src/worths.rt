@@ -7,7 +7,6 @@ ghost use Rattle.plain_worth.specs.Worths.{Earned, StateWorth, ActionWorth};
 use plain_limits::Total;
 use plain_pass::{Point, Slot};
 use plain_step::{moves, sites, weighing};
-use whole::Within;
 use whole::limits::power_within;
 
 // "W^(n×h), a reward, W^(n×h) × reward"; none where the reward is forbidden, "W^(n×h) first".
@@ -17,7 +16,7 @@ fn earned(model: &[u8], parts: &[u32], steps: u32, a: u16, x: Point) -> Total
 {
     let n = sites::conditions(model) as u32;
     let p = power_within(sites::weights(model) as u32, n * steps);
-    if let Within::Over = p {
+    if p.is_none() {
         return Total::Over;
     }
     let g = Slot {

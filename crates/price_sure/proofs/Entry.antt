@@ -1,4 +1,5 @@
 -- The public entry: what the refusals leave, the state that is asked for, and W^(n×h).
+use Rattle.std.specs.Prelude.{Option, Some, None}
 use mathlib.Core.Path.{◌≡◌, refl, sym, ap, ap₂, ◌∙◌, subst}
 use mathlib.Core.Bool.{Bool, true, false, ◌&&◌}
 use mathlib.Core.List.{List, [], ◌∷◌}
@@ -15,8 +16,6 @@ use Rattle.whole.specs.Cases.{if, by_eq, both, from_true, clash, is_true}
 use Rattle.whole.specs.Int.{up}
 use Rattle.whole.specs.Within.{small, limited}
 use Rattle.whole.specs.WithinLaws.{limited_gives}
-use Rattle.whole.specs.declared.Within.{Within}
-use Rattle.whole.specs.declared.Within.TheVariants as within
 use Rattle.whole.proofs.Signed.{R, R32, back, back32, widens}
 use Rattle.theory.specs.Diagram.{zeros}
 use Rattle.theory.specs.Meaning.{Action, Model, State, power}
@@ -61,22 +60,22 @@ power_over M (suc h) s n e =
     let F : Action → Worth = λ x. action_worth M (suc h) (state_worth M h) x s in
     ap (λ (w : Worth). try_actions F 2 M.others (numbered 1 w)) (first_over M (suc h) (state_worth M h) M.first s e) ∙ tried_over F 2 M.others
 
-limited_no : (z : ℤ) → limited z ≡ within.Over → small z ≡ false
+limited_no : (z : ℤ) → limited z ≡ None → small z ≡ false
 unfolding limited
-limited_no z e = by_eq (small z) (λ b. if b (within.Is z) within.Over ≡ within.Over → b ≡ false) (λ _ k. absurd (let q : ◌≡◌ {A = ℕ} 0 1 = cc in omega arith)) (λ _ _. refl) e
+limited_no z e = by_eq (small z) (λ b. if b (Some z) None ≡ None → b ≡ false) (λ _ k. absurd (let q : ◌≡◌ {A = ℕ} 0 1 = cc in omega arith)) (λ _ _. refl) e
 
-module _ (B : List ℕ) (ok : ModelReady B) (h : ℕ) (x : Point) {n W : ℕ} (en : n ≡ (site_at B).conditions) (eW : W ≡ (site_at B).weights) {w : Within} (ew : w ≡ limited (pos (W ^ (n * h)))) where
+module _ (B : List ℕ) (ok : ModelReady B) (h : ℕ) (x : Point) {n W : ℕ} (en : n ≡ (site_at B).conditions) (eW : W ≡ (site_at B).weights) {w : Option ℤ} (ew : w ≡ limited (pos (W ^ (n * h)))) where
   power_is : W ^ (n * h) ≡ power (model B) h
   power_is = let o = (accepted_site B ok.accepted).1 in ap₂ (λ (v m : ℕ). v ^ (m * h)) (eW ∙ sym o.same_weights) (en ∙ sym o.same_conditions)
 
-  pub worked_over : 1 ≤ h → w ≡ within.Over → (e : ℕ) (r : Said) → out r ≡ refused_sure 11 0 → SureAt B h e x r
+  pub worked_over : 1 ≤ h → w ≡ None → (e : ℕ) (r : Said) → out r ≡ refused_sure 11 0 → SureAt B h e x r
   unfolding sure_at sure_out
   worked_over k g e r f = record {
     is = λ s _. f ∙ sym (ap (sure_out (leads (model B) h s (margin (model B) h s e)))
         (power_over (model B) h s k (ap (λ (m : ℕ). small (pos m)) (sym power_is) ∙ limited_no (pos (W ^ (n * h))) (sym ew ∙ g))));
   }
 
-  pub worked_priced : (p : ℤ) → w ≡ within.Is p → SFits w64 p → (d : ℕ) → OverDen B x d → {q : ℕ} → q ≡ nat_abs (R p) → Priced B h x d q
+  pub worked_priced : (p : ℤ) → w ≡ Some p → SFits w64 p → (d : ℕ) → OverDen B x d → {q : ℕ} → q ≡ nat_abs (R p) → Priced B h x d q
   worked_priced p g f d D k = record {
     den = D;
     power = k ∙ ap nat_abs (back p f ∙ (limited_gives (pos (W ^ (n * h))) p (sym ew ∙ g)).0) ∙ ap₂ (λ (v m : ℕ). v ^ (m * h)) eW en;

@@ -14,8 +14,8 @@ use plain_pass::Point;
 use plain_step::sites;
 use plain_worth::worths;
 use value_walk::Asked;
+use whole::COEFFICIENTS;
 use whole::limits::{mag, power_within};
-use whole::{COEFFICIENTS, Within};
 
 // "It refuses e below zero with 23, after 13"
 const NEGATIVE_CHANGE: u32 = 23;
@@ -112,7 +112,7 @@ fn worked(model: &[u8], steps: u32, x: Point, e: u64, d: u64) -> Said
     ensures { SureAt model.now steps e x result }
 {
     let n = sites::conditions(model) as u32;
-    let Within::Is(p) = power_within(sites::weights(model) as u32, n * steps) else {
+    let Some(p) = power_within(sites::weights(model) as u32, n * steps) else {
         return refused(11, 0);
     };
     roomed(model, steps, x, e, d, mag(p))

@@ -1,4 +1,5 @@
 -- An action's reward added on the table.
+use Rattle.std.specs.Prelude.{Option, Some, None}
 use mathlib.Core.Path.{◌≡◌, refl, sym, ap, ◌∙◌}
 use mathlib.Core.List.{List, []}
 use Prim.Native.Nat.{ℕ, ◌≤◌, ◌<◌}
@@ -8,8 +9,6 @@ use borrow.Author.Tests.{le-leb, lt-leb}
 use lib.IntN.{ℤ, pos, nat_abs}
 use Rattle.whole.specs.Within.{limit, small, limited}
 use Rattle.whole.specs.WithinLaws.{limited_gives, limited_lacks}
-use Rattle.whole.specs.declared.Within.{Within}
-use Rattle.whole.specs.declared.Within.TheVariants.{Is, Over}
 use Rattle.whole.proofs.Signed.{R, small_back}
 use Rattle.table.specs.declared.Made.{Made}
 use Rattle.theory.specs.Widths.{actions_most}
@@ -40,7 +39,7 @@ small_alone z = refl
 
 -- ---- the reward
 
-module _ {cap : ℕ} {l : List ℤ} {w : List ℕ} {n : ℕ} (A : Table rule_of cap l w n) (reward f power a : ℕ) (hr : reward < n) (hf : f < n) (ha : a ≤ actions_most) {o : Within} (eo : o ≡ limited (pos power)) where
+module _ {cap : ℕ} {l : List ℤ} {w : List ℕ} {n : ℕ} (A : Table rule_of cap l w n) (reward f power a : ℕ) (hr : reward < n) (hf : f < n) (ha : a ≤ actions_most) {o : Option ℤ} (eo : o ≡ limited (pos power)) where
   abbrev Rewarded : List ℤ → List ℕ → Made → Type 0
   Rewarded = RuleRan rule_of cap l w n (add_reward power (tree_at l n reward) a (tree_at l n f))
 
@@ -52,11 +51,11 @@ module _ {cap : ℕ} {l : List ℤ} {w : List ℕ} {n : ℕ} (A : Table rule_of 
   rest_is = judged_alone (pos power) rest
 
   -- the power lies beyond the limits
-  pub reward_over : o ≡ Over → Rewarded l w (record { stop = 11; at = 0; count = n })
+  pub reward_over : o ≡ None → Rewarded l w (record { stop = 11; at = 0; count = n })
   unfolding small
   reward_over e = ran_as rest_is (ran_over (alone (pos power)) rest A (small_alone (pos power) ∙ lt-leb power limit (limited_lacks (pos power) (sym eo ∙ e))))
 
-  module _ {z : ℤ} (ez : o ≡ Is z) where
+  module _ {z : ℤ} (ez : o ≡ Some z) where
     power_small : nat_abs (pos power) ≤ limit
     power_small = (limited_gives (pos power) z (sym eo ∙ ez)).1
 

@@ -14,7 +14,6 @@ use rule_apply::merge;
 use rule_node::codes::{NO_SIDE, PRODUCT, SUM, YES_SIDE};
 use rule_unary::rules::{complement, number, scale, side};
 use table::Made;
-use whole::Within;
 use whole::limits::power_within;
 
 // The weight diagram w times a side of f at the next step's condition k: 7 yes, 8 no.
@@ -82,7 +81,7 @@ pub fn add_reward(
     requires { Table rule_of cap nodes.old work.old count × (reward < count) × (f < count) × (action ≤ actions_most) }
     ensures { RuleRan rule_of cap nodes.old work.old count (T.add_reward (weights ^ exponent) (tree_at nodes.old count reward) action (tree_at nodes.old count f)) nodes.new work.new result }
 {
-    let Within::Is(z) = power_within(weights, exponent) else {
+    let Some(z) = power_within(weights, exponent) else {
         return Made {
             stop: 11,
             at: 0,

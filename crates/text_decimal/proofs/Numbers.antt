@@ -69,7 +69,3 @@ module _ (z : ℤ) (x : ℕ) (f : SFits w64 z) (e : x ≡ nat_abs (R z)) where
       go : (z : ℤ) (x : ℕ) → x ≡ nat_abs z → lt_z z (pos 0) ≡ false → spaced z ≡ spaced (pos x)
       go (pos n) x e t = rw e
       go (negsuc n) x e t = let z : ◌≡◌ {A = ℕ} 0 1 = cc in absurd (omega arith)
-
--- a signed element stands at a call as what is read back from its bits
-pub spaced_back : (z : ℤ) → SFits w64 z → spaced (R z) ≡ spaced z
-spaced_back z f = ap spaced (back z f)

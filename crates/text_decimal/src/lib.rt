@@ -2,7 +2,7 @@
 // Each writer answers the place behind what it wrote. A `.._len` function says first how long that is.
 #![tactic(auto)]
 
-ghost use Rattle.std.specs.Prelude.{◌≡◌, ◌+◌, ◌≤◌, pos, length};
+ghost use Rattle.std.specs.Prelude.{◌≡◌, ℤ, ◌+◌, ◌≤◌, pos, length};
 ghost use Rattle.theory.specs.Listing.{digits, spaced};
 ghost use Rattle.text_decimal.specs.Put.{PutAt, number_bytes};
 
@@ -14,12 +14,9 @@ pub fn put_bytes(out: &mut [u8], at: usize, src: &[u8]) -> usize
     requires { at + length src.now ≤ length out.old }
     ensures { PutAt out.old at src.now result out.new }
 {
-    let mut i = 0;
-    while i < src.len() {
-        out[at + i] = src[i];
-        i += 1;
-    }
-    at + i
+    let end = at + src.len();
+    out[at..end].copy_from_slice(src);
+    end
 }
 
 // x in decimal, with at most left + 1 digits.
@@ -27,12 +24,8 @@ fn put_digits(out: &mut [u8], at: usize, x: u64, left: u32) -> usize
     requires { at + length (digits left x) ≤ length out.old }
     ensures { PutAt out.old at (digits left x) result out.new }
 {
-    let d = 48 + (x % 10) as u8;
-    if left == 0 {
-        out[at] = d;
-        return at + 1;
-    }
-    if x < 10 {
+    let d = b'0' + (x % 10) as u8;
+    if left == 0 || x < 10 {
         out[at] = d;
         return at + 1;
     }
@@ -45,46 +38,53 @@ fn digits_len(x: u64, left: u32) -> usize
     requires { left ≤ 19 }
     ensures { (result ≡ length (digits left x)) × (result ≤ left + 1) }
 {
-    if left == 0 {
-        return 1;
-    }
-    if x < 10 {
+    if left == 0 || x < 10 {
         return 1;
     }
     digits_len(x / 10, left - 1) + 1
 }
 
-// A space and a number.
-pub fn put_number(out: &mut [u8], at: usize, x: u64) -> usize
-    requires { at + length (spaced (pos x)) ≤ length out.old }
-    ensures { PutAt out.old at (spaced (pos x)) result out.new }
-{
-    let n = put_bytes(out, at, b" ");
-    put_digits(out, n, x, 19)
+// A number as lines have it: a space, a sign where it is negative, and its digits.
+pub trait Decimal: Copy {
+    ghost whole: { Self → ℤ };
+
+    fn put_spaced(self, out: &mut [u8], at: usize) -> usize
+        requires { at + length (spaced (whole self)) ≤ length out.old }
+        ensures { PutAt out.old at (spaced (whole self)) result out.new };
+
+    fn spaced_len(self) -> usize
+        ensures { (result ≡ length (spaced (whole self))) × (result ≤ number_bytes) };
 }
 
-pub fn number_len(x: u64) -> usize
-    ensures { (result ≡ length (spaced (pos x))) × (result ≤ 21) }
-{
-    digits_len(x, 19) + 1
-}
+impl Decimal for u64 {
+    ghost whole = { pos };
 
-// A space and a number, with its sign where it is negative.
-fn put_signed(out: &mut [u8], at: usize, z: i64) -> usize
-    requires { at + length (spaced z) ≤ length out.old }
-    ensures { PutAt out.old at (spaced z) result out.new }
-{
-    let x = mag(z);
-    if z < 0 {
-        let n = put_bytes(out, at, b" -");
-        return put_digits(out, n, x, 19);
+    fn put_spaced(self, out: &mut [u8], at: usize) -> usize {
+        let n = put_bytes(out, at, b" ");
+        put_digits(out, n, self, 19)
     }
-    put_number(out, at, x)
+
+    fn spaced_len(self) -> usize
+        ensures { (result ≡ length (spaced (pos self))) × (result ≤ 21) }
+    {
+        digits_len(self, 19) + 1
+    }
 }
 
-pub fn signed_len(z: i64) -> usize
-    ensures { (result ≡ length (spaced z)) × (result ≤ number_bytes) }
-{
-    let n = number_len(mag(z));
-    if z < 0 { n + 1 } else { n }
+impl Decimal for i64 {
+    ghost whole = { λ z. z };
+
+    fn put_spaced(self, out: &mut [u8], at: usize) -> usize {
+        let x = mag(self);
+        if self < 0 {
+            let n = put_bytes(out, at, b" -");
+            return put_digits(out, n, x, 19);
+        }
+        x.put_spaced(out, at)
+    }
+
+    fn spaced_len(self) -> usize {
+        let n = mag(self).spaced_len();
+        if self < 0 { n + 1 } else { n }
+    }
 }

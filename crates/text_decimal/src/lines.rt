@@ -1,90 +1,44 @@
 // Some numbers, each behind a space, and lines of them: node words are signed, all other numbers are not.
-ghost use Rattle.std.specs.Prelude.{◌≡◌, map, ◌+◌, ◌*◌, ◌^◌, ◌≤◌, pos, length};
+ghost use Rattle.std.specs.Prelude.{◌≡◌, map, ◌+◌, ◌*◌, ◌^◌, ◌≤◌, length};
 ghost use Rattle.theory.specs.Listing.{spaced_all, line};
 ghost use Rattle.text_decimal.specs.Put.{PutAt, number_bytes, line_bytes};
 
-use super::{number_len, put_bytes, put_number, put_signed, signed_len};
+use super::{Decimal, put_bytes};
 
-fn put_numbers(out: &mut [u8], at: usize, xs: &[u64]) -> usize
-    requires { at + length (spaced_all (map pos xs.now)) ≤ length out.old }
-    ensures { PutAt out.old at (spaced_all (map pos xs.now)) result out.new }
+fn put_all<T: Decimal>(out: &mut [u8], at: usize, xs: &[T]) -> usize
+    requires { at + length (spaced_all (map T.whole xs.now)) ≤ length out.old }
+    ensures { PutAt out.old at (spaced_all (map T.whole xs.now)) result out.new }
 {
     let mut next = at;
-    let mut i = 0;
-    while i < xs.len() {
-        next = put_number(out, next, xs[i]);
-        i += 1;
+    for x in xs {
+        next = x.put_spaced(out, next);
     }
     next
 }
 
-fn put_words(out: &mut [u8], at: usize, xs: &[i64]) -> usize
-    requires { at + length (spaced_all xs.now) ≤ length out.old }
-    ensures { PutAt out.old at (spaced_all xs.now) result out.new }
-{
-    let mut next = at;
-    let mut i = 0;
-    while i < xs.len() {
-        next = put_signed(out, next, xs[i]);
-        i += 1;
-    }
-    next
-}
-
-fn numbers_len(xs: &[u64]) -> usize
+fn all_len<T: Decimal>(xs: &[T]) -> usize
     requires { length xs.now ≤ 2 ^ 32 }
-    ensures { (result ≡ length (spaced_all (map pos xs.now))) × (result ≤ number_bytes * length xs.now) }
+    ensures { (result ≡ length (spaced_all (map T.whole xs.now))) × (result ≤ number_bytes * length xs.now) }
 {
     let mut n = 0;
-    let mut i = 0;
-    while i < xs.len() {
-        n += number_len(xs[i]);
-        i += 1;
+    for x in xs {
+        n += x.spaced_len();
     }
     n
 }
 
-fn words_len(xs: &[i64]) -> usize
-    requires { length xs.now ≤ 2 ^ 32 }
-    ensures { (result ≡ length (spaced_all xs.now)) × (result ≤ number_bytes * length xs.now) }
-{
-    let mut n = 0;
-    let mut i = 0;
-    while i < xs.len() {
-        n += signed_len(xs[i]);
-        i += 1;
-    }
-    n
-}
-
-pub fn put_line(out: &mut [u8], at: usize, start: &[u8], xs: &[u64]) -> usize
-    requires { at + length (line start.now (map pos xs.now)) ≤ length out.old }
-    ensures { PutAt out.old at (line start.now (map pos xs.now)) result out.new }
+pub fn put_line<T: Decimal>(out: &mut [u8], at: usize, start: &[u8], xs: &[T]) -> usize
+    requires { at + length (line start.now (map T.whole xs.now)) ≤ length out.old }
+    ensures { PutAt out.old at (line start.now (map T.whole xs.now)) result out.new }
 {
     let n = put_bytes(out, at, start);
-    let m = put_numbers(out, n, xs);
+    let m = put_all(out, n, xs);
     put_bytes(out, m, b"\n")
 }
 
-pub fn put_words_line(out: &mut [u8], at: usize, start: &[u8], xs: &[i64]) -> usize
-    requires { at + length (line start.now xs.now) ≤ length out.old }
-    ensures { PutAt out.old at (line start.now xs.now) result out.new }
-{
-    let n = put_bytes(out, at, start);
-    let k = put_words(out, n, xs);
-    put_bytes(out, k, b"\n")
-}
-
-pub fn line_len(start: &[u8], xs: &[u64]) -> usize
+pub fn line_len<T: Decimal>(start: &[u8], xs: &[T]) -> usize
     requires { (length start.now ≤ 2 ^ 32) × (length xs.now ≤ 2 ^ 32) }
-    ensures { (result ≡ length (line start.now (map pos xs.now))) × (result ≤ line_bytes (length start.now) (length xs.now)) }
+    ensures { (result ≡ length (line start.now (map T.whole xs.now))) × (result ≤ line_bytes (length start.now) (length xs.now)) }
 {
-    start.len() + numbers_len(xs) + 1
-}
-
-pub fn words_line_len(start: &[u8], xs: &[i64]) -> usize
-    requires { (length start.now ≤ 2 ^ 32) × (length xs.now ≤ 2 ^ 32) }
-    ensures { (result ≡ length (line start.now xs.now)) × (result ≤ line_bytes (length start.now) (length xs.now)) }
-{
-    start.len() + words_len(xs) + 1
+    start.len() + all_len(xs) + 1
 }

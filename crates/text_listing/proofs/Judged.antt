@@ -5,7 +5,10 @@ use mathlib.Core.List.{List}
 use Prim.Native.Nat.{ℕ, zero, suc, ◌+◌, ◌-◌, ◌*◌, ◌/◌, ◌≤◌, ◌<◌, max}
 use native.Mathlib.Numerals.{add-one}
 use native.Mathlib.Omega.{arith}
-use borrow.Author.Tests.{eq-eqb, ne_eqb, lt-leb, leb-true, not-true, not-false}
+use borrow.Author.Tests.{eq-eqb, ne_eqb, lt-leb, leb-true, ltb-true, ltb-false, not-true, not-false}
+use Rattle.std.specs.Prelude.{nat_lt, ◌==◌, cond}
+use Rattle.std.specs.Ordering.{nat_cmp, ord_max, is_lt}
+use Rattle.std.proofs.Common.{Less, Equal, Greater}
 use lib.Dec.{eqb, leb}
 use lib.IntN.{ℤ, nat_abs}
 use lib.ListN.{length, get_or}
@@ -25,9 +28,18 @@ pub root_none : (stages : List ℕ) → 0 ≡ greatest_root 0 stages
 unfolding greatest_root
 root_none stages = refl
 
-pub root_more : (stages : List ℕ) (h root : ℕ) → root ≡ greatest_root h stages → max root (get_or stages h 0) ≡ greatest_root (h + 1) stages
+-- the larger of two, as `max` says it
+larger : (a b : ℕ) → ord_max nat_cmp a b ≡ max a b
+larger a b = go (nat_lt b a) (b == a) refl
+  where
+    go : (t u : Bool) → nat_lt b a ≡ t → cond (is_lt (cond t Less (cond u Equal Greater))) a b ≡ max a b
+    go true u e = let h : b < a = ltb-true b a e in omega arith
+    go false true e = let h : a ≤ b = ltb-false b a e in omega arith
+    go false false e = let h : a ≤ b = ltb-false b a e in omega arith
+
+pub root_more : (stages : List ℕ) (h root : ℕ) → root ≡ greatest_root h stages → ord_max nat_cmp root (get_or stages h 0) ≡ greatest_root (h + 1) stages
 unfolding greatest_root
-root_more stages h root e = ap (λ (k : ℕ). max k (get_or stages h 0)) e ∙ ap (λ (k : ℕ). greatest_root k stages) (sym (add-one h))
+root_more stages h root e = larger root (get_or stages h 0) ∙ ap (λ (k : ℕ). max k (get_or stages h 0)) e ∙ ap (λ (k : ℕ). greatest_root k stages) (sym (add-one h))
 
 module _ (stages : List ℕ) (h : ℕ) where
   same : h + 1 - 1 ≡ h

@@ -1,5 +1,5 @@
 // Judging a plan before it is written: a stage without a root, then a node that is not as the layout has it.
-ghost use Rattle.std.specs.Prelude.{◌≡◌, not, ◌-◌, ◌≤◌, max, length};
+ghost use Rattle.std.specs.Prelude.{◌≡◌, not, ◌-◌, ◌≤◌, length};
 ghost use Rattle.theory.specs.Valid.{all};
 ghost use Rattle.theory.specs.Verdict.{from_to};
 ghost use Rattle.theory.specs.Value.{good_row};
@@ -11,22 +11,14 @@ use model_progress::Site;
 use table::NODE_WORDS;
 use table_rows::{Kind, row_kind};
 
-fn larger(a: u32, b: u32) -> u32
-    ensures { result ≡ max a b }
-{
-    if a < b { b } else { a }
-}
-
 // The greatest root of the first stages.
 pub fn greatest_root(stages: &[u32], last: usize) -> u32
     requires { last ≤ length stages.now }
     ensures { result ≡ greatest_root last stages.now }
 {
     let mut root = 0;
-    let mut h = 0;
-    while h < last {
-        root = larger(root, stages[h]);
-        h += 1;
+    for h in 0..last {
+        root = root.max(stages[h]);
     }
     root
 }
@@ -35,12 +27,10 @@ fn all_rooted(stages: &[u32], last: usize) -> bool
     requires { last ≤ length stages.now }
     ensures { result ≡ all (rooted stages.now) (from_to 1 last) }
 {
-    let mut h = 0;
-    while h < last {
+    for h in 0..last {
         if stages[h] == 0 {
             return false;
         }
-        h += 1;
     }
     true
 }
@@ -49,8 +39,7 @@ fn good(conditions: u32, actions: u32, nodes: &[i64], r: usize) -> bool
     requires { 1 ≤ r }
     ensures { result ≡ good_row conditions actions nodes.now r }
 {
-    let kind = row_kind(conditions, actions, nodes, r);
-    if let Kind::Bad = kind { false } else { true }
+    !matches!(row_kind(conditions, actions, nodes, r), Kind::Bad)
 }
 
 // Nodes 1 to the last are good. A last one outside the table decides at once: it can be far outside.
@@ -60,10 +49,8 @@ pub fn all_good(conditions: u32, actions: u32, nodes: &[i64], last: usize) -> bo
     if nodes.len() / NODE_WORDS < last {
         return false;
     }
-    let mut r = 0;
-    while r < last {
-        r += 1;
-        if good(conditions, actions, nodes, r) {} else {
+    for r in 0..last {
+        if !good(conditions, actions, nodes, r + 1) {
             return false;
         }
     }
@@ -75,13 +62,17 @@ pub(crate) fn plan_refusal(site: Site, horizon: u32, nodes: &[i64], stages: &[u3
     requires { horizon ≤ length stages.now }
     ensures { result ≡ plan_refusal (site_as site) horizon nodes.now stages.now }
 {
-    if all_rooted(stages, horizon as usize) {} else {
+    if !all_rooted(stages, horizon as usize) {
         return 15;
     }
     let root = greatest_root(stages, horizon as usize) as usize;
-    if all_good(site.conditions as u32, site.actions as u32, nodes, root) {
-        0
-    } else {
-        14
+    if !all_good(
+        u32::from(site.conditions),
+        u32::from(site.actions),
+        nodes,
+        root,
+    ) {
+        return 14;
     }
+    0
 }

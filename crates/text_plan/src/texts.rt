@@ -19,23 +19,20 @@ fn node_lines(buffer: &mut [u8], at: usize, nodes: &[i64], last: usize) -> usize
     ensures { PutAt buffer.old at (lines (node_line nodes.now) (from_to 1 last)) result buffer.new }
 {
     let mut next = at;
-    let mut r = 0;
-    while r < last {
-        r += 1;
-        next += node_line(&mut buffer[next..], nodes, r);
+    for r in 0..last {
+        next += node_line(&mut buffer[next..], nodes, r + 1);
     }
     next
 }
 
+// Like `node_lines`: a trait of lines that one loop could take would be longer than the two.
 fn stage_lines(buffer: &mut [u8], at: usize, stages: &[u32], last: usize) -> usize
     requires { (last ≤ length stages.now) × (at + length (lines (stage_line stages.now) (from_to 1 last)) ≤ length buffer.old) }
     ensures { PutAt buffer.old at (lines (stage_line stages.now) (from_to 1 last)) result buffer.new }
 {
     let mut next = at;
-    let mut h = 0;
-    while h < last {
-        h += 1;
-        next += stage_line(&mut buffer[next..], stages, h);
+    for h in 0..last {
+        next += stage_line(&mut buffer[next..], stages, h + 1);
     }
     next
 }
@@ -63,10 +60,8 @@ fn stage_lines_len(stages: &[u32], last: usize) -> usize
     ensures { (result ≡ length (lines (stage_line stages.now) (from_to 1 last))) × (result ≤ steps_most * line_most) }
 {
     let mut n = 0;
-    let mut h = 0;
-    while h < last {
-        h += 1;
-        n += stage_line_len(stages, h);
+    for h in 0..last {
+        n += stage_line_len(stages, h + 1);
     }
     n
 }
@@ -77,13 +72,11 @@ fn node_lines_len(before: usize, nodes: &[i64], last: usize, room: usize) -> usi
     ensures { result ≡ upto room (before + length (lines (node_line nodes.now) (from_to 1 last))) }
 {
     let mut n = before;
-    let mut r = 0;
-    while r < last {
+    for r in 0..last {
         if room < n {
             return room + 1;
         }
-        r += 1;
-        n += node_line_len(nodes, r);
+        n += node_line_len(nodes, r + 1);
     }
     if room < n { room + 1 } else { n }
 }

@@ -4,6 +4,7 @@ use mathlib.Core.Bool.{Bool, true, false}
 use mathlib.Core.List.{List, [], ◌∷◌, ◌++◌, map, append_assoc}
 use Prim.Native.Nat.{ℕ, ◌+◌, ◌-◌, ◌*◌, ◌≤◌, ◌<◌}
 use native.Mathlib.Omega.{arith}
+use Rattle.std.proofs.lemmas.List.{map-id}
 use borrow.Author.Tests.{eq-eqb, ne_eqb}
 use lib.Dec.{eqb}
 use lib.IntN.{ℤ, pos, nat_abs}
@@ -106,31 +107,33 @@ module _ (W : List ℤ) (r k : ℕ) (e : k ≡ nat_abs (node_word W r 0)) where
   is_not : (n : ℕ) → (k ≡ n → ⊥) → eqb (nat_abs (node_word W r 0)) n ≡ false
   is_not n f = ne_eqb (nat_abs (node_word W r 0)) n (λ z. f (e ∙ z))
 
-  pub rest_leaf : k ≡ 0 → line (32 ∷ 86 ∷ []) (take (from r + (levels_most + 2) - from r) (drop (from r) W)) ≡ node_rest W r
+  pub rest_leaf : k ≡ 0 → line (32 ∷ 86 ∷ []) (map (λ (z : ℤ). z) (take (from r + (levels_most + 2) - from r) (drop (from r) W))) ≡ node_rest W r
   unfolding node_rest
   rest_leaf z =
       let n : from r + (levels_most + 2) - from r ≡ levels_most + 2 = omega arith in
-      ap (λ (i : ℕ). line (32 ∷ 86 ∷ []) (take i (drop (from r) W))) n ∙ first_of (eqb (nat_abs (node_word W r 0)) 0) _ _ (is 0 z)
+      ap (line (32 ∷ 86 ∷ [])) (map-id _)
+      ∙ ap (λ (i : ℕ). line (32 ∷ 86 ∷ []) (take i (drop (from r) W))) n ∙ first_of (eqb (nat_abs (node_word W r 0)) 0) _ _ (is 0 z)
 
-  pub rest_condition : {xs : List ℤ} → k ≡ 1 → xs ≡ node_word W r 1 ∷ high_of W r ∷ low_of W r ∷ [] → line (32 ∷ 66 ∷ []) xs ≡ node_rest W r
+  pub rest_condition : {xs : List ℤ} → k ≡ 1 → xs ≡ node_word W r 1 ∷ high_of W r ∷ low_of W r ∷ [] → line (32 ∷ 66 ∷ []) (map (λ (z : ℤ). z) xs) ≡ node_rest W r
   unfolding node_rest
   rest_condition z x =
-      ap (λ (l : List ℤ). line (32 ∷ 66 ∷ []) l) x
+      ap (line (32 ∷ 66 ∷ [])) (map-id _ ∙ x)
       ∙ first_of (eqb (nat_abs (node_word W r 0)) 1) _ _ (is 1 z)
       ∙ second_of (eqb (nat_abs (node_word W r 0)) 0) _ _ (is_not 0 (λ (o : k ≡ 0). omega arith))
 
-  pub rest_none : (k ≡ 1 → ⊥) → k ≡ 3 → 32 ∷ 88 ∷ 10 ∷ [] ≡ node_rest W r
+  pub rest_none : k ≡ 3 → 32 ∷ 88 ∷ 10 ∷ [] ≡ node_rest W r
   unfolding node_rest spaced_all
-  rest_none o z =
+  rest_none z =
       first_of (eqb (nat_abs (node_word W r 0)) 3) _ _ (is 3 z)
-      ∙ second_of (eqb (nat_abs (node_word W r 0)) 1) _ _ (is_not 1 o)
+      ∙ second_of (eqb (nat_abs (node_word W r 0)) 1) _ _ (is_not 1 (λ (o : k ≡ 1). omega arith))
       ∙ second_of (eqb (nat_abs (node_word W r 0)) 0) _ _ (is_not 0 (λ (o : k ≡ 0). omega arith))
 
-  pub rest_test : (k ≡ 1 → ⊥) → (k ≡ 3 → ⊥) → (k ≡ 0 → ⊥) → line (32 ∷ 76 ∷ []) (take (from r + (levels_most + 3) - from r) (drop (from r) W)) ≡ node_rest W r
+  pub rest_test : (k ≡ 1 → ⊥) → (k ≡ 3 → ⊥) → (k ≡ 0 → ⊥) → line (32 ∷ 76 ∷ []) (map (λ (z : ℤ). z) (take (from r + (levels_most + 3) - from r) (drop (from r) W))) ≡ node_rest W r
   unfolding node_rest
   rest_test o x z =
       let n : from r + (levels_most + 3) - from r ≡ levels_most + 3 = omega arith in
-      ap (λ (i : ℕ). line (32 ∷ 76 ∷ []) (take i (drop (from r) W))) n
+      ap (line (32 ∷ 76 ∷ [])) (map-id _)
+      ∙ ap (λ (i : ℕ). line (32 ∷ 76 ∷ []) (take i (drop (from r) W))) n
       ∙ second_of (eqb (nat_abs (node_word W r 0)) 3) _ _ (is_not 3 x)
       ∙ second_of (eqb (nat_abs (node_word W r 0)) 1) _ _ (is_not 1 o)
       ∙ second_of (eqb (nat_abs (node_word W r 0)) 0) _ _ (is_not 0 z)

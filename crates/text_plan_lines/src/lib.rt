@@ -13,18 +13,18 @@ ghost use Rattle.text_plan_lines.specs.Lines.{node_rest, line_most, node_line_mo
 use model_progress::Site;
 use table::{HIGH, LOW, NODE_WORDS};
 use table_rows::words::{magnitude, word};
-use text_decimal::lines::{line_len, put_line, put_words_line, words_line_len};
-use text_decimal::{number_len, put_bytes, put_number};
+use text_decimal::lines::{line_len, put_line};
+use text_decimal::{Decimal, put_bytes};
 
 fn first_numbers(site: Site, horizon: u32) -> [u64; 5]
     ensures { result ≡ site.levels ∷ site.conditions ∷ site.actions ∷ site.weights ∷ horizon ∷ [] }
 {
     [
-        site.levels as u64,
-        site.conditions as u64,
-        site.actions as u64,
-        site.weights as u64,
-        horizon as u64,
+        u64::from(site.levels),
+        u64::from(site.conditions),
+        u64::from(site.actions),
+        u64::from(site.weights),
+        u64::from(horizon),
     ]
 }
 
@@ -56,42 +56,26 @@ fn node_rest(out: &mut [u8], at: usize, nodes: &[i64], r: usize) -> usize
     requires { Inside nodes.now r × (at + length (node_rest nodes.now r) ≤ length out.old) }
     ensures { PutAt out.old at (node_rest nodes.now r) result out.new }
 {
-    let kind = magnitude(nodes, r, 0);
-    if kind == 1 {
-        let xs = condition_numbers(nodes, r);
-        return put_words_line(out, at, b" B", &xs);
-    }
-    if kind == 3 {
-        return put_bytes(out, at, b" X\n");
-    }
     let first = (r - 1) * NODE_WORDS + 1;
-    if kind == 0 {
-        let end = first + HIGH;
-        return put_words_line(out, at, b" V", &nodes[first..end]);
+    match magnitude(nodes, r, 0) {
+        0 => put_line(out, at, b" V", &nodes[first..first + HIGH]),
+        1 => put_line(out, at, b" B", &condition_numbers(nodes, r)),
+        3 => put_bytes(out, at, b" X\n"),
+        _ => put_line(out, at, b" L", &nodes[first..first + LOW]),
     }
-    let end = first + LOW;
-    put_words_line(out, at, b" L", &nodes[first..end])
 }
 
 fn node_rest_len(nodes: &[i64], r: usize) -> usize
     requires { Inside nodes.now r }
     ensures { (result ≡ length (node_rest nodes.now r)) × (result ≤ line_most) }
 {
-    let kind = magnitude(nodes, r, 0);
-    if kind == 1 {
-        let xs = condition_numbers(nodes, r);
-        return words_line_len(b" B", &xs);
-    }
-    if kind == 3 {
-        return 3;
-    }
     let first = (r - 1) * NODE_WORDS + 1;
-    if kind == 0 {
-        let end = first + HIGH;
-        return words_line_len(b" V", &nodes[first..end]);
+    match magnitude(nodes, r, 0) {
+        0 => line_len(b" V", &nodes[first..first + HIGH]),
+        1 => line_len(b" B", &condition_numbers(nodes, r)),
+        3 => 3,
+        _ => line_len(b" L", &nodes[first..first + LOW]),
     }
-    let end = first + LOW;
-    words_line_len(b" L", &nodes[first..end])
 }
 
 pub fn node_line(out: &mut [u8], nodes: &[i64], r: usize) -> usize
@@ -99,7 +83,7 @@ pub fn node_line(out: &mut [u8], nodes: &[i64], r: usize) -> usize
     ensures { PutAt out.old 0 (node_line nodes.now r) result out.new }
 {
     let n = put_bytes(out, 0, b"N");
-    let m = put_number(out, n, r as u64);
+    let m = (r as u64).put_spaced(out, n);
     node_rest(out, m, nodes, r)
 }
 
@@ -107,14 +91,14 @@ pub fn node_line_len(nodes: &[i64], r: usize) -> usize
     requires { Inside nodes.now r }
     ensures { (result ≡ length (node_line nodes.now r)) × (result ≤ node_line_most) }
 {
-    1 + number_len(r as u64) + node_rest_len(nodes, r)
+    1 + (r as u64).spaced_len() + node_rest_len(nodes, r)
 }
 
 fn stage_numbers(stages: &[u32], h: usize) -> [u64; 2]
     requires { (1 ≤ h) × (h ≤ length stages.now) }
     ensures { result ≡ h ∷ get_or stages.now (h - 1) 0 ∷ [] }
 {
-    [h as u64, stages[h - 1] as u64]
+    [h as u64, u64::from(stages[h - 1])]
 }
 
 pub fn stage_line(out: &mut [u8], stages: &[u32], h: usize) -> usize
@@ -137,6 +121,6 @@ pub fn refusal_line(out: &mut [u8], number: u32, place: usize) -> usize
     requires { length (refusal_line (refusal number place)) ≤ length out.old }
     ensures { PutAt out.old 0 (refusal_line (refusal number place)) result out.new }
 {
-    let xs = [number as u64, place as u64];
+    let xs = [u64::from(number), place as u64];
     put_line(out, 0, b"R", &xs)
 }

@@ -1,4 +1,5 @@
 -- A product, clipped to the first number beyond the limits.
+use Rattle.std.specs.Prelude.{Option, Some, None}
 use Rattle.std.proofs.Common.{◌≡◌, suc, ◌^◌, ◌<◌, Bool, true, false, ℤ, pos, ◌*ℤ◌, nat_abs, sym, refl, ap, ◌∙◌, ap₂, arith, w64, SFits, le-leb, leb-true}
 use borrow.Author.Tests.{lt-leb}
 use lib.Signed.{mag}
@@ -6,8 +7,6 @@ use Rattle.whole.specs.Cases.{if}
 use Rattle.whole.specs.Linears.{clipped}
 use Rattle.whole.specs.Within.{limit, Small, small, limited}
 use Rattle.whole.specs.WithinLaws.{limited_gives, limited_lacks}
-use Rattle.whole.specs.declared.Within.{Within}
-use Rattle.whole.specs.declared.Within.TheVariants.{Is, Over}
 use Rattle.whole.proofs.Signed.{R, back, by_abs, small_back}
 
 first_over : small (pos (suc limit)) ≡ false
@@ -39,15 +38,15 @@ clipped_fits z = go (small z) refl
     go true e = by_abs z (let h = leb-true (nat_abs z) limit e in omega arith)
     go false e = by_abs (pos (suc limit)) (omega arith)
 
-module _ (a b : ℤ) {o : Within} (fa : SFits w64 a) (fb : SFits w64 b) (e : o ≡ limited (R a *ℤ R b)) where
+module _ (a b : ℤ) {o : Option ℤ} (fa : SFits w64 a) (fb : SFits w64 b) (e : o ≡ limited (R a *ℤ R b)) where
   judged : limited (a *ℤ b) ≡ o
   judged = sym (e ∙ ap₂ (λ (x y : ℤ). limited (x *ℤ y)) (back a fa) (back b fb))
 
-  pub times_over : o ≡ Over → pos (suc limit) ≡ clipped (a *ℤ b)
+  pub times_over : o ≡ None → pos (suc limit) ≡ clipped (a *ℤ b)
   unfolding small
   times_over q = sym (clipped_over (a *ℤ b) (lt-leb (nat_abs (a *ℤ b)) limit (limited_lacks (a *ℤ b) (judged ∙ q))))
 
-  pub times_is : (p : ℤ) → o ≡ Is p → R p ≡ clipped (a *ℤ b)
+  pub times_is : (p : ℤ) → o ≡ Some p → R p ≡ clipped (a *ℤ b)
   unfolding small
   times_is p q =
       let g = limited_gives (a *ℤ b) p (judged ∙ q) in

@@ -1,5 +1,5 @@
 -- Euclid's rule: a step, and that the bound on the steps does not matter.
-use Rattle.std.proofs.Common.{◌≡◌, ℕ, zero, suc, ◌%◌, ◌<◌, ◌≤◌, sym, refl, ap, ◌∙◌, suc-le-suc, zero-le, le_trans, le_of_lt, mod-lt, arith}
+use Rattle.std.proofs.Common.{max, ◌≡◌, ℕ, zero, suc, ◌%◌, ◌<◌, ◌≤◌, sym, refl, ap, ◌∙◌, suc-le-suc, zero-le, le_trans, le_of_lt, mod-lt, arith}
 use native.Mathlib.Nat.{zero-mod}
 use Rattle.whole.specs.Divisor.{gcd_by, gcd_of, at_least_one}
 
@@ -45,12 +45,7 @@ unfolding gcd_of gcd_by
 zero_gcd a zero e = sym e
 zero_gcd a (suc b) e = gcd_zero (suc b) (a % suc b) (ap (λ (n : ℕ). n % suc b) e ∙ zero-mod (suc b)) ∙ gcd_step a (suc b) (λ (q : suc b ≡ 0). omega arith)
 
-pub least_zero : (g : ℕ) → g ≡ 0 → 1 ≡ at_least_one g
+pub least_is : (g : ℕ) → max g 1 ≡ at_least_one g
 unfolding at_least_one
-least_zero zero e = refl
-least_zero (suc g) e = absurd (omega arith)
-
-pub least_other : (g : ℕ) → (g ≡ 0 → ⊥) → g ≡ at_least_one g
-unfolding at_least_one
-least_other zero n = absurd (n refl)
-least_other (suc g) n = refl
+least_is zero = omega arith
+least_is (suc g) = omega arith

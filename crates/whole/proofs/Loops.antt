@@ -1,10 +1,10 @@
 -- The loops over a linear's numbers: what a turn does, and what the last one leaves.
-use Rattle.std.proofs.Common.{◌≡◌, ℕ, ◌+◌, ◌-◌, ◌^◌, ◌<◌, ◌≤◌, Bool, true, false, ◌&&◌, List, [], ◌∷◌, length, get_or, take, drop, ℤ, pos, ◌+ℤ◌, ◌-ℤ◌, ◌*ℤ◌, nat_abs, sym, refl, ap, ◌∙◌, subst, ap₂, arith, drop_of_length-le, length-take-le, w64, SFits, of_z, le-leb}
+use Rattle.std.proofs.Common.{◌≡◌, ℕ, ◌+◌, ◌-◌, ◌^◌, ◌<◌, ◌≤◌, Bool, true, false, ◌&&◌, List, [], ◌∷◌, length, get_or, take, drop, ℤ, pos, ◌+ℤ◌, ◌-ℤ◌, ◌*ℤ◌, nat_abs, sym, refl, ap, ◌∙◌, subst, ap₂, arith, drop_of_length-le, length-take-le, w64, SFits, le-leb}
 use borrow.Author.Tests.{lt-leb}
 use lib.Signed.{mag, quot_z}
 use Rattle.whole.specs.Divisor.{gcd_of, gcd_all, at_least_one, least_positive}
-use Rattle.whole.specs.Linears.{coefficients, numbers, Smalls, smalls, add_list, sub_list, clipped, clip_list, quot_list, divisor_list, eq_ℤ, eq_list}
-use Rattle.whole.specs.LinearsLaws.{add_length, add_at, sub_length, sub_at, clip_length, clip_at, quot_length, quot_at, rest, eq_ℤ_true, eq_ℤ_refl}
+use Rattle.whole.specs.Linears.{coefficients, numbers, Smalls, smalls, add_list, sub_list, clipped, clip_list, quot_list, divisor_list}
+use Rattle.whole.specs.LinearsLaws.{add_length, add_at, sub_length, sub_at, clip_length, clip_at, quot_length, quot_at, rest}
 use Rattle.whole.specs.Within.{limit, Small, small}
 use Rattle.whole.proofs.Clipped.{times_back}
 use Rattle.whole.proofs.Euclid.{gcd_small}
@@ -65,36 +65,6 @@ module _ (a : List ℤ) (n : length a ≡ numbers) (i : ℕ) (is : smalls (drop 
   pub all_fine : numbers ≤ i → true ≡ smalls a
   unfolding smalls
   all_fine h = sym (ap smalls (drop_of_length-le a {i = i} (omega arith))) ∙ is
-
--- ---- equality: what is left decides
-
-module _ (a b : List ℤ) (ea : length a ≡ numbers) (eb : length b ≡ numbers) (i : ℕ) (is : eq_list (drop i a) (drop i b) ≡ eq_list a b) where
-  abbrev y : ℤ
-  y = get_or a i (pos 0)
-
-  abbrev z : ℤ
-  z = get_or b i (pos 0)
-
-  there : i < numbers → (eq_ℤ y z && eq_list (drop (i + 1) a) (drop (i + 1) b)) ≡ eq_list a b
-  unfolding eq_list
-  there h = sym (ap₂ eq_list (rest a i (omega arith)) (rest b i (omega arith))) ∙ is
-
-  module _ (h : i < numbers) where
-    pub one_differs : (of_z w64 y ≡ of_z w64 z → ⊥) → false ≡ eq_list a b
-    one_differs n = sym (ap (λ (t : Bool). t && eq_list (drop (i + 1) a) (drop (i + 1) b)) (go (eq_ℤ y z) refl)) ∙ there h
-      where
-        go : (t : Bool) → eq_ℤ y z ≡ t → eq_ℤ y z ≡ false
-        go true e = absurd (n (ap (of_z w64) (eq_ℤ_true y z e)))
-        go false e = e
-
-    pub one_same : mag y < 2 ^ 63 → mag z < 2 ^ 63 → of_z w64 y ≡ of_z w64 z → eq_list (drop (i + 1) a) (drop (i + 1) b) ≡ eq_list a b
-    one_same fy fz e =
-        let d : y ≡ z = sym (back y (record { sfits = fy })) ∙ (ap (λ (k : ℕ). mir.Val.to_z w64 k) e ∙ back z (record { sfits = fz })) in
-        sym (ap (λ (t : Bool). t && eq_list (drop (i + 1) a) (drop (i + 1) b)) (ap (λ (w : ℤ). eq_ℤ y w) (sym d) ∙ eq_ℤ_refl y)) ∙ there h
-
-  pub all_same : numbers ≤ i → true ≡ eq_list a b
-  unfolding eq_list
-  all_same h = sym (ap₂ eq_list (drop_of_length-le a {i = i} (omega arith)) (drop_of_length-le b {i = i} (omega arith))) ∙ is
 
 -- ---- the divisor, from the last coefficient to the first
 

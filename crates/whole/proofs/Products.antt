@@ -82,27 +82,27 @@ pub record Added (c n : List ℤ) (i : ℕ) (s : ℤ) : Type 0 where
 pub none_added : (c n : List ℤ) → Added c n 0 (pos 0)
 none_added c n = record { upto = omega arith; is = +ℤ_idl (dot_list c n); bounded = omega arith }
 
-module _ (a b : ℤ) (sa : Small a) (fb : SFits w32 b) where
-  wide_back : R (R32 b) ≡ b
-  wide_back = back (R32 b) (widens b fb) ∙ back32 b fb
+module _ (a b : ℤ) (sa : Small a) (fb : SFits w32 b) {w : ℤ} (ew : w ≡ R32 b) where
+  wide_back : R w ≡ b
+  wide_back = ap R ew ∙ back (R32 b) (widens b fb) ∙ back32 b fb
 
-  same : R a *ℤ R (R32 b) ≡ a *ℤ b
+  same : R a *ℤ R w ≡ a *ℤ b
   same = ap₂ ◌*ℤ◌ (small_back a sa) wide_back
 
   module _ {m : ℕ} (e : m ≡ nat_abs (R a)) (h : m ≤ few) where
     product_bound : nat_abs (a *ℤ b) ≤ product_most
     product_bound =
-        let w : m ≡ nat_abs a = e ∙ ap nat_abs (small_back a sa) in
+        let t : m ≡ nat_abs a = e ∙ ap nat_abs (small_back a sa) in
         let k : nat_abs a * nat_abs b ≤ few * 2147483648 = mul-le-mul {n₁ = nat_abs a} {m₁ = nat_abs b} {n₂ = few} {m₂ = 2147483648} (omega arith) (abs_i32 b fb) in
         rw (abs_mul a b) (omega (arith, k))
 
     product_word : SFits w64 (a *ℤ b)
     product_word = by_abs (a *ℤ b) (omega (arith, product_bound))
 
-    pub product_fits : SFits w64 (R a *ℤ R (R32 b))
+    pub product_fits : SFits w64 (R a *ℤ R w)
     product_fits = subst (SFits w64) (sym same) product_word
 
-    product_is : R (R a *ℤ R (R32 b)) ≡ a *ℤ b
+    product_is : R (R a *ℤ R w) ≡ a *ℤ b
     product_is = ap R same ∙ back (a *ℤ b) product_word
 
     module _ {c n : List ℤ} {i : ℕ} {s : ℤ} (S : Added c n i s) (u : i < numbers) where
@@ -112,16 +112,16 @@ module _ (a b : ℤ) (sa : Small a) (fb : SFits w32 b) where
       total_word : SFits w64 (s +ℤ a *ℤ b)
       total_word = by_abs (s +ℤ a *ℤ b) (omega (arith, total_bound))
 
-      total : s +ℤ R (R a *ℤ R (R32 b)) ≡ s +ℤ a *ℤ b
+      total : s +ℤ R (R a *ℤ R w) ≡ s +ℤ a *ℤ b
       total = ap (λ (z : ℤ). s +ℤ z) product_is
 
-      pub sum_fits : SFits w64 (s +ℤ R (R a *ℤ R (R32 b)))
+      pub sum_fits : SFits w64 (s +ℤ R (R a *ℤ R w))
       sum_fits = subst (SFits w64) (sym total) total_word
 
-      sum_is : R (s +ℤ R (R a *ℤ R (R32 b))) ≡ s +ℤ a *ℤ b
+      sum_is : R (s +ℤ R (R a *ℤ R w)) ≡ s +ℤ a *ℤ b
       sum_is = ap R total ∙ back (s +ℤ a *ℤ b) total_word
 
-      pub one_added : length c ≡ numbers → length n ≡ numbers → a ≡ get_or c i (pos 0) → b ≡ get_or n i (pos 0) → Added c n (i + 1) (R (s +ℤ R (R a *ℤ R (R32 b))))
+      pub one_added : length c ≡ numbers → length n ≡ numbers → a ≡ get_or c i (pos 0) → b ≡ get_or n i (pos 0) → Added c n (i + 1) (R (s +ℤ R (R a *ℤ R w)))
       one_added ec en ea eb = rw sum_is (record {
         upto = omega arith;
         is = ap (λ (z : ℤ). (s +ℤ z) +ℤ dot_list (drop (i + 1) c) (drop (i + 1) n)) (ap₂ ◌*ℤ◌ ea eb) ∙ goes_on c n ec en i s u S.is;

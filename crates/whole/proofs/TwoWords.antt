@@ -1,5 +1,5 @@
 -- Two words: the halves' product, the negation, the signs, the carry, the sum of five products, and the sign of the whole.
-use Rattle.std.proofs.Common.{◌≡◌, ℕ, zero, suc, ◌+◌, ◌-◌, ◌*◌, ◌/◌, ◌%◌, ◌^◌, ◌<◌, ◌≤◌, true, false, eqb, leb, ℤ, pos, negsuc, ◌+ℤ◌, ◌-ℤ◌, ◌*ℤ◌, neg_ℤ, nat_abs, sym, refl, ap, ◌∙◌, ap₂, mul-le-mul, arith, w32, w64, SFits, to_z, ltb-false, ltb-true, ne_eqb, le-leb}
+use Rattle.std.proofs.Common.{◌≡◌, ℕ, zero, suc, ◌+◌, ◌-◌, ◌*◌, ◌/◌, ◌%◌, ◌^◌, ◌<◌, ◌≤◌, true, false, eqb, leb, ℤ, pos, negsuc, ◌+ℤ◌, ◌-ℤ◌, ◌*ℤ◌, neg_ℤ, nat_abs, sym, refl, ap, ◌∙◌, ap₂, mul-le-mul, arith, w32, w64, SFits, to_z, of_z, ltb-false, ltb-true, ne_eqb, le-leb}
 use borrow.Author.Tests.{lt-leb}
 use lib.IntN.{neg_ℤ-neg_ℤ}
 use lib.Signed.{mag, lt_z, le_z}
@@ -103,14 +103,14 @@ pub abs_i32 : (b : ℤ) → SFits w32 b → nat_abs b ≤ 2147483648
 abs_i32 (pos n) f = omega (arith, f.sfits)
 abs_i32 (negsuc n) f = omega (arith, f.sfits)
 
-module _ (a b : ℤ) (s : Small a) (f : SFits w32 b) where
-  second : R (R32 b) ≡ b
-  second = back (R32 b) (rw (back32 b f) (record { sfits = omega (arith, f.sfits) })) ∙ back32 b f
+module _ (a b : ℤ) (s : Small a) (f : SFits w32 b) {w : ℤ} (ew : w ≡ R32 b) where
+  second : R w ≡ b
+  second = ap R ew ∙ back (R32 b) (rw (back32 b f) (record { sfits = omega (arith, f.sfits) })) ∙ back32 b f
 
-  pub magnitudes : (p q : ℕ) → p ≡ nat_abs (R a) → q ≡ nat_abs (R (R32 b)) → (p ≤ limit) × (q ≤ 2147483648)
+  pub magnitudes : (p q : ℕ) → p ≡ nat_abs (R a) → q ≡ nat_abs (R w) → (p ≤ limit) × (q ≤ 2147483648)
   magnitudes p q e g = (rw (e, small_back a s) s.small, rw (g, second) (abs_i32 b f))
 
-  pub product_is : (p q : ℕ) → p ≡ nat_abs (R a) → q ≡ nat_abs (R (R32 b)) → (x y z : Numerator) → Times p q x → Turned (turned (R a) (number x)) x y → Turned (turned (R (R32 b)) (number y)) y z → Product (a *ℤ b) z
+  pub product_is : (p q : ℕ) → p ≡ nat_abs (R a) → q ≡ nat_abs (R w) → (x y z : Numerator) → Times p q x → Turned (turned (R a) (number x)) x y → Turned (turned (R w) (number y)) y z → Product (a *ℤ b) z
   product_is p q e g x y z t u v = record {
     is = v.is ∙ ap₂ turned second (u.is ∙ ap₂ turned (small_back a s) (t.is ∙ ap₂ (λ (m n : ℕ). pos (m * n)) (e ∙ ap nat_abs (small_back a s)) (g ∙ ap nat_abs second))) ∙ signs a b;
     bounded = omega (arith, t.bounded, u.bounded, v.bounded);
@@ -195,14 +195,18 @@ pub below_zero : (h : ℤ) (l : ℕ) → l < word → lt_z h (pos 0) ≡ true �
 below_zero (pos k) l b t = absurd (let h = ltb-true k 0 t in omega arith)
 below_zero (negsuc k) l b t = sym (ap (λ (z : ℤ). le_z z (pos 0)) (below (suc k * word) l (suc k * word - suc l) (omega arith)))
 
-pub above_zero : (h : ℤ) (l : ℕ) → lt_z (pos 0) h ≡ true → false ≡ le_z (h *ℤ pos word +ℤ pos l) (pos 0)
-above_zero (pos k) l t = let h = ltb-true 0 k t in sym (lt-leb (k * word + l) 0 (omega arith))
-above_zero (negsuc k) l t = absurd (let z : ◌≡◌ {A = ℕ} 0 1 = cc in omega arith)
-
-pub just_low : (h : ℤ) (l : ℕ) → lt_z h (pos 0) ≡ false → lt_z (pos 0) h ≡ false → eqb l 0 ≡ le_z (h *ℤ pos word +ℤ pos l) (pos 0)
+just_low : (h : ℤ) (l : ℕ) → lt_z h (pos 0) ≡ false → lt_z (pos 0) h ≡ false → eqb l 0 ≡ le_z (h *ℤ pos word +ℤ pos l) (pos 0)
 just_low (negsuc k) l t u = absurd (let z : ◌≡◌ {A = ℕ} 0 1 = cc in omega arith)
 just_low (pos k) l t u = let h = ltb-false 0 k u in go l k (omega arith)
   where
     go : (l k : ℕ) → k ≡ 0 → eqb l 0 ≡ leb (k * word + l) 0
     go zero k e = sym (le-leb (k * word + 0) 0 (omega arith))
     go (suc l) k e = ne_eqb (suc l) 0 (λ p. omega arith) ∙ sym (lt-leb (k * word + suc l) 0 (omega arith))
+
+pub zero_low : (h : ℤ) (l : ℕ) → mag h < 2 ^ 63 → of_z w64 h ≡ 0 → eqb l 0 ≡ le_z (h *ℤ pos word +ℤ pos l) (pos 0)
+zero_low h l b e = let z : h ≡ pos 0 = sym (high_back h b) ∙ ap (to_z w64) e in rw z (just_low (pos 0) l refl refl)
+
+pub above_zero : (h : ℤ) (l : ℕ) → lt_z h (pos 0) ≡ false → (of_z w64 h ≡ 0 → ⊥) → eqb (of_z w64 h) 0 ≡ le_z (h *ℤ pos word +ℤ pos l) (pos 0)
+above_zero (pos zero) l t n = absurd (n refl)
+above_zero (pos (suc k)) l t n = ne_eqb (suc k) 0 n ∙ sym (lt-leb (suc k * word + l) 0 (omega arith))
+above_zero (negsuc k) l t n = clash t

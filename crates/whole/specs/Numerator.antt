@@ -1,5 +1,5 @@
 -- A whole number in two 64-bit words: the low one unsigned, the high one signed.
-use Rattle.std.specs.Prelude.{ℕ, ◌+◌, ◌-◌, ◌*◌, ◌/◌, ◌%◌, ℤ, pos, negsuc, ◌+ℤ◌, ◌*ℤ◌}
+use Rattle.std.specs.Prelude.{ℕ, ◌-◌, ◌/◌, ◌%◌, ℤ, pos, negsuc, ◌+ℤ◌, ◌*ℤ◌}
 use Rattle.whole.specs.declared.Numerator.{Numerator}
 
 -- 2⁶⁴

@@ -1,8 +1,6 @@
 -- The limits of whole numbers, ±(2⁶² − 1).
-use Rattle.std.specs.Prelude.{ℕ, ◌≤◌, Bool, ℤ, nat_le, unsigned_abs}
+use Rattle.std.specs.Prelude.{ℕ, ◌≤◌, Bool, ℤ, nat_le, unsigned_abs, Option, Some, None}
 use Rattle.whole.specs.Cases.{if}
-use Rattle.whole.specs.declared.Within.{Within}
-use Rattle.whole.specs.declared.Within.TheVariants.{Is, Over}
 
 -- 2⁶² − 1
 abbrev pub limit : ℕ
@@ -16,5 +14,5 @@ unfoldable pub small : ℤ → Bool
 small z = nat_le (unsigned_abs z) limit
 
 -- z where it lies within the limits
-unfoldable pub limited : ℤ → Within
-limited z = if (small z) (Is z) Over
+unfoldable pub limited : ℤ → Option ℤ
+limited z = if (small z) (Some z) None

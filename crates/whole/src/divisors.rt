@@ -24,7 +24,7 @@ pub fn gcd(a: u64, b: u64) -> u64
 pub fn at_least_one(g: u64) -> u64
     ensures { result ≡ at_least_one g }
 {
-    if g == 0 { 1 } else { g }
+    g.max(1)
 }
 
 // a divided by g, toward zero.

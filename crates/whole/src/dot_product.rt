@@ -16,10 +16,8 @@ fn wide(c: [i64; NUMBERS], n: [i32; NUMBERS]) -> Numerator
     ensures { result ≡ words (dot_list c n) }
 {
     let mut s = Numerator { low: 0, high: 0 };
-    let mut k: usize = 0;
-    while k < NUMBERS {
+    for k in 0..NUMBERS {
         s = sum(s, product(c[k], n[k]));
-        k += 1;
     }
     s
 }
@@ -30,16 +28,11 @@ pub fn dot(c: [i64; NUMBERS], n: [i32; NUMBERS]) -> Numerator
     ensures { result ≡ words (dot_list c n) }
 {
     let mut s: i64 = 0;
-    let mut i: usize = 0;
-    while i < NUMBERS {
-        let a = c[i];
-        if mag(a) > FEW {
+    for i in 0..NUMBERS {
+        if mag(c[i]) > FEW {
             return wide(c, n);
         }
-        let b = n[i] as i64;
-        let p = a * b;
-        s += p;
-        i += 1;
+        s += c[i] * i64::from(n[i]);
     }
     from_word(s)
 }

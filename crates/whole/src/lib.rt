@@ -13,12 +13,6 @@ pub const COEFFICIENTS: usize = 8;
 pub const NUMBERS: usize = COEFFICIENTS + 1;
 
 #[derive(Clone, Copy)]
-pub enum Within {
-    Is(i64),
-    Over,
-}
-
-#[derive(Clone, Copy)]
 pub struct Numerator {
     pub low: u64,
     pub high: i64,

@@ -4,8 +4,6 @@ ghost use Rattle.std.specs.Int.{w64};
 ghost use Rattle.std.proofs.Common.{of_z};
 ghost use Rattle.whole.specs.Within.{limited, Small};
 
-use super::Within;
-
 // 2⁶² − 1
 pub const LIMIT: u64 = 4611686018427387903;
 
@@ -13,37 +11,25 @@ pub const LIMIT: u64 = 4611686018427387903;
 pub fn mag(a: i64) -> u64
     ensures { result ≡ unsigned_abs a }
 {
-    if a < 0 {
-        (-(a + 1)) as u64 + 1
-    } else {
-        a as u64
-    }
+    a.unsigned_abs()
 }
 
-// The bits of any i64 as a number: 2⁶⁴ − |z| where it is negative. The compiler makes nothing of it.
+// The bits of any i64 as a number: 2⁶⁴ − |z| where it is negative.
 pub fn bits(z: i64) -> u64
     ensures { result ≡ of_z w64 z }
 {
-    if z < 0 {
-        u64::MAX - (-(z + 1)) as u64
-    } else {
-        z as u64
-    }
+    z.cast_unsigned()
 }
 
 // z where it lies within the limits.
-pub fn keep(z: i64) -> Within
+pub fn keep(z: i64) -> Option<i64>
     ensures { result ≡ limited z }
 {
-    if mag(z) <= LIMIT {
-        Within::Is(z)
-    } else {
-        Within::Over
-    }
+    if mag(z) <= LIMIT { Some(z) } else { None }
 }
 
 // a + b. Two numbers within the limits have a sum that fits.
-pub fn add_within(a: i64, b: i64) -> Within
+pub fn add_within(a: i64, b: i64) -> Option<i64>
     requires { Small a × Small b }
     ensures { result ≡ limited (a +ℤ b) }
 {
@@ -51,33 +37,24 @@ pub fn add_within(a: i64, b: i64) -> Within
 }
 
 // a × b, of any two numbers. The magnitudes decide before anything is multiplied.
-pub fn mul_within(a: i64, b: i64) -> Within
+pub fn mul_within(a: i64, b: i64) -> Option<i64>
     ensures { result ≡ limited (a *ℤ b) }
 {
     let p = mag(a);
     let q = mag(b);
     if p == 0 {
-        return Within::Is(0);
+        return Some(0);
     }
-    if q <= LIMIT / p {
-        Within::Is(a * b)
-    } else {
-        Within::Over
-    }
+    if q <= LIMIT / p { Some(a * b) } else { None }
 }
 
 // w to the power e. A power over the limits has only larger ones after it.
-pub fn power_within(w: u32, e: u32) -> Within
+pub fn power_within(w: u32, e: u32) -> Option<i64>
     ensures { result ≡ limited (pos (w ^ e)) }
 {
     let mut p: i64 = 1;
-    let mut i: u32 = 0;
-    while i < e {
-        let Within::Is(q) = mul_within(p, w as i64) else {
-            return Within::Over;
-        };
-        p = q;
-        i += 1;
+    for _ in 0..e {
+        p = mul_within(p, i64::from(w))?;
     }
-    Within::Is(p)
+    Some(p)
 }

@@ -8,14 +8,5 @@ use super::NUMBERS;
 pub fn equal(a: [i64; NUMBERS], b: [i64; NUMBERS]) -> bool
     ensures { result ≡ eq_list a b }
 {
-    let mut i: usize = 0;
-    while i < NUMBERS {
-        let x = a[i];
-        let y = b[i];
-        if x != y {
-            return false;
-        }
-        i += 1;
-    }
-    true
+    a == b
 }

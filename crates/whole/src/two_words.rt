@@ -20,7 +20,7 @@ fn times(p: u64, q: u64) -> Numerator
     let high = (mid / HALF) as i64;
     Numerator {
         low: mid % HALF * HALF + low % HALF,
-        high: high,
+        high,
     }
 }
 
@@ -32,7 +32,7 @@ fn negated(x: Numerator) -> Numerator
     let low = x.low;
     let high = -x.high;
     if low == 0 {
-        Numerator { low: 0, high: high }
+        Numerator { low: 0, high }
     } else {
         Numerator {
             low: u64::MAX - low + 1,
@@ -54,7 +54,7 @@ pub fn product(a: i64, b: i32) -> Numerator
     requires { Small a }
     ensures { Product (a *ℤ b) result }
 {
-    let w = b as i64;
+    let w = i64::from(b);
     let x = times(mag(a), mag(w));
     with_sign(with_sign(x, a), w)
 }
@@ -64,19 +64,15 @@ pub fn sum(x: Numerator, y: Numerator) -> Numerator
     requires { Small x.high × Small y.high }
     ensures { SumOf x y result }
 {
-    let before = x.low;
-    let low = std::num::wrapping_add_u64(before, y.low);
+    let low = x.low.wrapping_add(y.low);
     let high = x.high + y.high;
-    if low < before {
+    if low < x.low {
         Numerator {
-            low: low,
+            low,
             high: high + 1,
         }
     } else {
-        Numerator {
-            low: low,
-            high: high,
-        }
+        Numerator { low, high }
     }
 }
 
@@ -99,13 +95,5 @@ pub fn from_word(z: i64) -> Numerator
 pub fn not_positive(x: Numerator) -> bool
     ensures { result ≡ int_le (number x) (pos 0) }
 {
-    let low = x.low;
-    let high = x.high;
-    if high < 0 {
-        return true;
-    }
-    if 0 < high {
-        return false;
-    }
-    low == 0
+    x.high < 0 || x.high == 0 && x.low == 0
 }

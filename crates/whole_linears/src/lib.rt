@@ -7,7 +7,7 @@ ghost use Rattle.whole.specs.Linears.{coefficients, Smalls, smalls, add_list, su
 
 use whole::divisors::{at_least_one, gcd, quot};
 use whole::limits::{LIMIT, mag, mul_within};
-use whole::{COEFFICIENTS, NUMBERS, Within};
+use whole::{COEFFICIENTS, NUMBERS};
 
 // a + b. Numbers within the limits have sums that fit.
 pub fn add(a: [i64; NUMBERS], b: [i64; NUMBERS]) -> [i64; NUMBERS]
@@ -15,11 +15,8 @@ pub fn add(a: [i64; NUMBERS], b: [i64; NUMBERS]) -> [i64; NUMBERS]
     ensures { result ≡ add_list a b }
 {
     let mut out = [0i64; NUMBERS];
-    let mut i: usize = 0;
-    while i < NUMBERS {
-        let z = a[i] + b[i];
-        out[i] = z;
-        i += 1;
+    for i in 0..NUMBERS {
+        out[i] = a[i] + b[i];
     }
     out
 }
@@ -30,23 +27,20 @@ pub fn sub(a: [i64; NUMBERS], b: [i64; NUMBERS]) -> [i64; NUMBERS]
     ensures { result ≡ sub_list a b }
 {
     let mut out = [0i64; NUMBERS];
-    let mut i: usize = 0;
-    while i < NUMBERS {
-        let z = a[i] - b[i];
-        out[i] = z;
-        i += 1;
+    for i in 0..NUMBERS {
+        out[i] = a[i] - b[i];
     }
     out
 }
+
+// 2⁶², the first number beyond the limits.
+const BEYOND: i64 = 4611686018427387904;
 
 // a × b, or a number beyond the limits where it lies beyond them: a product need not fit.
 pub fn product(a: i64, b: i64) -> i64
     ensures { result ≡ clipped (a *ℤ b) }
 {
-    let Within::Is(p) = mul_within(a, b) else {
-        return 4611686018427387904;
-    };
-    p
+    mul_within(a, b).unwrap_or(BEYOND)
 }
 
 // k × a, each number so.
@@ -54,11 +48,8 @@ pub fn times(k: i64, a: [i64; NUMBERS]) -> [i64; NUMBERS]
     ensures { result ≡ clip_list k a }
 {
     let mut out = [0i64; NUMBERS];
-    let mut i: usize = 0;
-    while i < NUMBERS {
-        let z = product(k, a[i]);
-        out[i] = z;
-        i += 1;
+    for i in 0..NUMBERS {
+        out[i] = product(k, a[i]);
     }
     out
 }
@@ -67,12 +58,10 @@ pub fn times(k: i64, a: [i64; NUMBERS]) -> [i64; NUMBERS]
 pub fn within(a: [i64; NUMBERS]) -> bool
     ensures { result ≡ smalls a }
 {
-    let mut i: usize = 0;
-    while i < NUMBERS {
+    for i in 0..NUMBERS {
         if mag(a[i]) > LIMIT {
             return false;
         }
-        i += 1;
     }
     true
 }
@@ -82,9 +71,7 @@ fn gcd_first(a: [i64; NUMBERS]) -> u64
     ensures { result ≡ gcd_all (take coefficients a) }
 {
     let mut g: u64 = 0;
-    let mut i: usize = COEFFICIENTS;
-    while i != 0 {
-        i -= 1;
+    for i in (0..COEFFICIENTS).rev() {
         g = gcd(mag(a[i]), g);
     }
     g
@@ -108,11 +95,8 @@ pub fn divided(a: [i64; NUMBERS]) -> [i64; NUMBERS]
         return a;
     }
     let mut out = [0i64; NUMBERS];
-    let mut i: usize = 0;
-    while i < NUMBERS {
-        let z = quot(a[i], g);
-        out[i] = z;
-        i += 1;
+    for i in 0..NUMBERS {
+        out[i] = quot(a[i], g);
     }
     out
 }

@@ -1,5 +1,5 @@
 use native.Mathlib.Omega.{arith}
-use Rattle.collect_compact.proofs.Stays.{none, one_more}
+use Rattle.collect_compact.proofs.Stays.{none, one_more, all}
 use Rattle.collect_compact.proofs.stay.Goals as goal
 
 pub loop-i-init : goal.loop-i-init
@@ -23,9 +23,6 @@ offset_bounds-work-cap c = omega (arith, c.requires.1, c.requires.2, c.loop-i-te
 pub bounds-work-cap : goal.bounds-work-cap
 bounds-work-cap c = omega (arith, c.loop-i.invariant.len, c.requires.0, c.requires.2, c.loop-i-test.true)
 
-pub overflow_add-i : goal.overflow_add-i
-overflow_add-i c = omega (arith, c.requires.1, c.requires.2, c.loop-i-test.true)
-
 pub loop-i-preserved : goal.loop-i-preserved
 loop-i-preserved c = one_more c.loop-i.invariant c.loop-i-test.true c.requires.2 c.requires.0 c.if-work-i-eq0.false
 
@@ -33,4 +30,4 @@ pub shape_of-work : goal.shape_of-work
 shape_of-work c = c.loop-i.invariant.len
 
 pub returns : goal.returns
-returns c = c.loop-i.invariant
+returns c = all c.loop-i.invariant c.loop-i-test.false

@@ -1,4 +1,3 @@
-use native.Mathlib.Omega.{arith}
 use Rattle.collect_mark.proofs.Steps.{begins, asks, falls, ends}
 use Rattle.collect_mark.proofs.descend.Goals as goal
 
@@ -7,9 +6,6 @@ loop-i-init c = begins c.args.nodes.now c.args.work.now c.args.count
 
 pub below-requires : goal.below-requires
 below-requires c = let p = c.requires in asks c.loop-i.invariant p.0 p.1 p.2 p.3 c.loop-i-test.true
-
-pub loop-i-smaller : goal.loop-i-smaller
-loop-i-smaller c = omega (arith, c.loop-i-test.true)
 
 pub loop-i-preserved : goal.loop-i-preserved
 loop-i-preserved c = falls c.loop-i.invariant c.loop-i-test.true c.below.ensures

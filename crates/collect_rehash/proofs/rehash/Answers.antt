@@ -52,12 +52,6 @@ offset_bounds-work-b-in-loop-i c = let z = c.requires in omega (arith, z.few, c.
 pub bounds-work-b-in-loop-i : goal.bounds-work-b-in-loop-i
 bounds-work-b-in-loop-i c = let z = c.requires in simp length-set (omega (arith, z.works, c.hash-b.ensures.1, c.loop-i.invariant.len, c.work-2.auto.words, c.work.auto.words))
 
-pub overflow_add-i : goal.overflow_add-i
-overflow_add-i c = let z = c.requires in omega (arith, z.few, z.room, c.loop-i-test.true)
-
-pub loop-i-smaller : goal.loop-i-smaller
-loop-i-smaller c = omega (arith, c.loop-i-test.true)
-
 pub loop-i-preserved : goal.loop-i-preserved
 loop-i-preserved c = let z = c.requires in
     steps c.loop-i.invariant (omega (arith, z.works, c.work-2.auto.words, c.work.auto.words)) c.loop-i-test.true z.room _

@@ -20,12 +20,6 @@ swap_nodes-requires c = let q = roomy c.loop-k.invariant c.loop-k-test.true c.re
 pub swap_work-requires : goal.swap_work-requires
 swap_work-requires c = let q = roomy c.loop-k.invariant c.loop-k-test.true c.requires.2 in (q.4, c.requires.1, q.2, q.3, q_small c.loop-k.invariant c.loop-k-test.true)
 
-pub overflow_add-k : goal.overflow_add-k
-overflow_add-k c = let q = (roomy c.loop-k.invariant c.loop-k-test.true c.requires.2).2 in let f = c.requires.1 in omega arith
-
-pub loop-k-smaller : goal.loop-k-smaller
-loop-k-smaller c = omega (arith, c.loop-k-test.true)
-
 pub loop-k-preserved : goal.loop-k-preserved
 loop-k-preserved c = steps_as c.loop-k.invariant c.loop-k-test.true c.requires.2 c.swap_nodes.ensures c.swap_work.ensures
 

@@ -1,4 +1,3 @@
-use native.Mathlib.Omega.{arith}
 use Rattle.finish_arrange.proofs.Rewrites.{rewrites, room, inside, rewrite_more, rewritten}
 use Rattle.finish_arrange.proofs.rewrite.Goals as goal
 
@@ -13,12 +12,6 @@ renumbered-x-requires c = (c.requires.1, c.requires.0.few, inside c.requires.0 c
 
 pub put-requires : goal.put-requires
 put-requires c = room c.requires.0 c.loop-i.invariant c.loop-i-test.true
-
-pub overflow_add-i : goal.overflow_add-i
-overflow_add-i c = let r = c.requires.0.room in let f = c.requires.0.few in omega (arith, c.loop-i-test.true)
-
-pub loop-i-smaller : goal.loop-i-smaller
-loop-i-smaller c = omega (arith, c.loop-i-test.true)
 
 pub loop-i-preserved : goal.loop-i-preserved
 loop-i-preserved c = rewrite_more c.requires.0 c.loop-i.invariant c.loop-i-test.true c.get.ensures c.renumbered-x.ensures c.put.ensures

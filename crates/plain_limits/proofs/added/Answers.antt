@@ -16,10 +16,10 @@ returns-in_default-product c = added_much c.args.sum _ c.args.t _ _ c.in-Is.is _
 
 pub add_within-requires : goal.add_within-requires
 add_within-requires c = addends_small c.args.sum _ c.args.t _ _ c.in-Is.is _ _ c.in-Is-t.is (search rules)
-    c.requires.1 _ c.product.ensures _ c.in-Is-product.is c.requires.0 (search rules)
+    c.requires.1 _ c.product.ensures _ c.in-Some.is c.requires.0 (search rules)
     (search rules)
 
 pub returns : goal.returns
 returns c = added_is c.args.sum _ c.args.t _ _ c.in-Is.is _ _ c.in-Is-t.is (search rules)
-    c.requires.1 _ c.product.ensures _ c.in-Is-product.is c.requires.0 (search rules)
+    c.requires.1 _ c.product.ensures _ c.in-Some.is c.requires.0 (search rules)
     (search rules) c.add_within.ensures c.worth_of.ensures

@@ -9,4 +9,4 @@ returns-in_default c = not_within (number c.args.x) c.narrow.ensures c.in_defaul
 
 pub returns : goal.returns
 returns c = within_judged (number c.args.x) c.narrow.ensures _
-    c.in-Is.is (search rules) c.judged.ensures
+    c.in-Some.is (search rules) c.judged.ensures

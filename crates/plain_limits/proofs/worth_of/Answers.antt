@@ -7,4 +7,4 @@ pub returns-in_default : goal.returns-in_default
 returns-in_default c = summed_over c.args.z c.in_default.is
 
 pub returns : goal.returns
-returns c = summed_is c.args.z _ c.in-Is.is (search rules)
+returns c = summed_is c.args.z _ c.in-Some.is (search rules)

@@ -19,6 +19,6 @@ roomed-requires c = (
   c.requires.1,
   c.requires.2,
   worked_priced c.args.model.now c.requires.0.ready c.args.steps c.args.x
-      c.conditions-n.ensures c.weights.ensures c.power_within.ensures _ c.in-Is.is
+      c.conditions-n.ensures c.weights.ensures c.power_within.ensures _ c.in-Some.is
       (search rules) _ c.requires.3 c.mag.ensures,
 )

@@ -4,7 +4,10 @@ use lib.ListN.{length}
 use Rattle.theory.specs.Listing.{digits}
 use Rattle.text_decimal.proofs.Puts.{put_first, put_next}
 use Rattle.text_decimal.proofs.Numbers.{digits_least, digits_few, digits_more, digits_longer, digits_some}
+use mathlib.Core.Path.{◌≡◌}
+use mathlib.Core.List.{[], ◌∷◌}
 use Prim.Native.Nat.{◌-◌, ◌+◌, ◌%◌, ◌/◌, ◌<◌}
+use Rattle.text_decimal.proofs.+put_digits.Goals.{then-left-eq0-via-then-left-eq0, then-left-eq0-via-else-left-eq0+then-x-lt10}
 use Rattle.text_decimal.proofs.+put_digits.Goals as goal
 
 pub bounds-out-at : goal.bounds-out-at
@@ -17,19 +20,12 @@ pub returns-then-left-eq0 : goal.returns-then-left-eq0
 returns-then-left-eq0 t c =
     let a = c.args in
     let h : a.at < length a.out.now = omega (arith, c.requires, digits_some a.left a.x) in
-    put_first a.out.now (digits a.left a.x) a.at (48 + a.x % 10) h (digits_least a.left a.x c.if-left-eq0.true)
-
-pub bounds-out-at-then-x-lt10 : goal.bounds-out-at-then-x-lt10
-bounds-out-at-then-x-lt10 t c = omega (arith, c.requires, digits_some c.args.left c.args.x)
-
-pub overflow_add-result-then-x-lt10 : goal.overflow_add-result-then-x-lt10
-overflow_add-result-then-x-lt10 t c = omega (arith, c.requires, digits_some c.args.left c.args.x)
-
-pub returns-then-x-lt10 : goal.returns-then-x-lt10
-returns-then-x-lt10 t c =
-    let a = c.args in
-    let h : a.at < length a.out.now = omega (arith, c.requires, digits_some a.left a.x) in
-    put_first a.out.now (digits a.left a.x) a.at (48 + a.x % 10) h (digits_few a.left a.x c.if-x-lt10.true)
+    let e : digits a.left a.x ≡ (48 + a.x % 10) ∷ [] =
+    elim c.then-left-eq0.branch [
+      | then-left-eq0-via-then-left-eq0 w ↦ digits_least a.left a.x w.if-left-eq0.true
+      | then-left-eq0-via-else-left-eq0+then-x-lt10 w ↦ digits_few a.left a.x w.if-x-lt10.true
+    ] in
+    put_first a.out.now (digits a.left a.x) a.at (48 + a.x % 10) h e
 
 pub put_digits-n-requires : goal.put_digits-n-requires
 put_digits-n-requires t c =

@@ -7,7 +7,8 @@ use Rattle.text_plan_lines.proofs.Numbered.{refusal_is}
 use Rattle.text_plan_lines.proofs.refusal_line.Goals as goal
 
 pub put_line-requires : goal.put_line-requires
-put_line-requires c = omega (arith, c.requires, ap length (refusal_is c.args.number c.args.place))
+put_line-requires c = let n = c.from.ensures in
+    rw n (omega (arith, c.requires, ap length (refusal_is c.args.number c.args.place)))
 
 pub returns : goal.returns
-returns c = rename (refusal_is c.args.number c.args.place) c.put_line.ensures
+returns c = rename (refusal_is c.args.number c.args.place) (rw c.from.ensures at c.put_line.ensures)

@@ -12,11 +12,11 @@ returns-then-g-eq1 c = sym (quot_one _) ∙ ap (λ (g : ℕ). quot_list g c.args
 pub loop-i-init : goal.loop-i-init
 loop-i-init c = none_filled refl
 
-pub quot-z-requires : goal.quot-z-requires
-quot-z-requires c = divisor_fits_as _ c.requires _ c.divisor-g.ensures
+pub quot-requires : goal.quot-requires
+quot-requires c = divisor_fits_as _ c.requires _ c.divisor-g.ensures
 
 pub loop-i-preserved : goal.loop-i-preserved
-loop-i-preserved c = one_filled c.loop-i.invariant c.loop-i-test.true (part_is _ c.requires c.loop-i.i _ c.divisor-g.ensures c.quot-z.ensures)
+loop-i-preserved c = one_filled c.loop-i.invariant c.loop-i-test.true (part_is _ c.requires c.loop-i.i _ c.divisor-g.ensures c.quot.ensures)
 
 pub returns : goal.returns
 returns c = divided_all _ c.requires c.loop-i.invariant c.loop-i-test.false

@@ -6,8 +6,8 @@ use Rattle.whole_linears.proofs.sub.Goals as goal
 pub loop-i-init : goal.loop-i-init
 loop-i-init c = none_filled refl
 
-pub overflow_sub-z : goal.overflow_sub-z
-overflow_sub-z c = let i = c.loop-i.i in sub_fits _ _ (c.requires.0.each i) (c.requires.1.each i)
+pub overflow_sub-out : goal.overflow_sub-out
+overflow_sub-out c = let i = c.loop-i.i in sub_fits _ _ (c.requires.0.each i) (c.requires.1.each i)
 
 pub loop-i-preserved : goal.loop-i-preserved
 loop-i-preserved c = let i = c.loop-i.i in one_filled c.loop-i.invariant c.loop-i-test.true (sub_is _ _ (c.requires.0.each i) (c.requires.1.each i))

@@ -1,5 +1,4 @@
 -- `whole_linears::times` meets its contract: the first i numbers of the result are the products, clipped; `product` takes any two numbers, so nothing is required.
-use Prim.Native.Nat.{◌-◌}
 use lib.IntN.{pos, ◌*ℤ◌}
 use lib.ListN.{get_or}
 use Rattle.whole.specs.Linears.{numbers, clipped}
@@ -8,6 +7,3 @@ use Rattle.whole_linears.proofs.times.Given as goal
 
 abbrev pub invariant-loop-i : goal.invariant-loop-i
 invariant-loop-i l = Filled numbers (λ j. clipped (l.k *ℤ get_or l.a j (pos 0))) l.i l.out
-
-abbrev pub decreases-loop-i : goal.decreases-loop-i
-decreases-loop-i l = numbers - l.i

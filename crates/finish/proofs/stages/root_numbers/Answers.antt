@@ -5,12 +5,6 @@ use Rattle.finish.proofs.stages.root_numbers.Goals as goal
 pub loop-j-init : goal.loop-j-init
 loop-j-init c = (numbers_begin c.args.work.now c.args.cap c.args.roots.now c.args.stages.now, omega arith)
 
-pub bounds-roots-j : goal.bounds-roots-j
-bounds-roots-j c = c.loop-j-test.true
-
-pub overflow_cast-r : goal.overflow_cast-r
-overflow_cast-r c = let q = c.requires.2.below _ c.loop-j-test.true in let a = c.requires.1 in let b = c.requires.0 in omega arith
-
 pub overflow_add-stages : goal.overflow_add-stages
 overflow_add-stages c = let q = c.requires.2.below _ c.loop-j-test.true in let a = c.requires.1 in let b = c.requires.0 in omega arith
 
@@ -22,9 +16,6 @@ bounds-work-cap c = let q = c.requires.2.below _ c.loop-j-test.true in let a = c
 
 pub bounds-stages-j : goal.bounds-stages-j
 bounds-stages-j c = let e = c.loop-j.invariant.0.len in let a = c.requires.3 in omega (arith, c.loop-j-test.true)
-
-pub loop-j-smaller : goal.loop-j-smaller
-loop-j-smaller c = omega (arith, c.loop-j-test.true)
 
 pub loop-j-preserved : goal.loop-j-preserved
 loop-j-preserved c = (

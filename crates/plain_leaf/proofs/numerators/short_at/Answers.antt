@@ -40,11 +40,11 @@ overflow_cast-b c = widens (get_or c.args.n.now c.loop-i.i (pos 0)) (record { sf
 
 pub overflow_mul-p : goal.overflow_mul-p
 overflow_mul-p c = product_fits c.number-a.result (get_or c.args.n.now c.loop-i.i (pos 0)) (subst Small (sym c.number-a.ensures) (signed_small _))
-    (record { sfits = c.b-1.given }) refl (leb-true _ _ (sym c.few.ensures ∙ c.if-few.true))
+    (record { sfits = c.b-1.given }) refl refl (leb-true _ _ (sym c.few.ensures ∙ c.if-few.true))
 
 pub overflow_add-s : goal.overflow_add-s
 overflow_add-s c = sum_fits c.number-a.result (get_or c.args.n.now c.loop-i.i (pos 0)) (subst Small (sym c.number-a.ensures) (signed_small _))
-    (record { sfits = c.b-1.given }) refl (leb-true _ _ (sym c.few.ensures ∙ c.if-few.true)) c.loop-i.invariant.0
+    (record { sfits = c.b-1.given }) refl refl (leb-true _ _ (sym c.few.ensures ∙ c.if-few.true)) c.loop-i.invariant.0
     (let f = c.requires.1.few in let h = c.loop-i-test.true in omega arith)
 
 pub overflow_add-i : goal.overflow_add-i
@@ -56,7 +56,7 @@ loop-i-smaller c = omega (arith, c.loop-i-test.true)
 pub loop-i-preserved : goal.loop-i-preserved
 loop-i-preserved c = let f = c.requires.1.few in let h = c.loop-i-test.true in (
   one_added c.number-a.result (get_or c.args.n.now c.loop-i.i (pos 0))
-      (subst Small (sym c.number-a.ensures) (signed_small _)) (record { sfits = c.b-1.given }) refl
+      (subst Small (sym c.number-a.ensures) (signed_small _)) (record { sfits = c.b-1.given }) refl refl
       (leb-true _ _ (sym c.few.ensures ∙ c.if-few.true)) c.loop-i.invariant.0 (omega arith) (listed_long _ _) c.requires.2
       (c.number-a.ensures ∙ sym (listed_at c.args.model.now c.args.at c.loop-i.i (omega arith))) refl,
   omega arith,
@@ -76,18 +76,18 @@ overflow_cast-d c = widens (get_or c.args.n.now levels_most (pos 0)) (record { s
 
 pub overflow_mul-q : goal.overflow_mul-q
 overflow_mul-q c = product_fits c.number-c.result (get_or c.args.n.now levels_most (pos 0)) (subst Small (sym c.number-c.ensures) (signed_small _))
-    (record { sfits = c.d-1.given }) refl (leb-true _ _ (sym c.few-2.ensures ∙ c.if-few-2.true))
+    (record { sfits = c.d-1.given }) refl refl (leb-true _ _ (sym c.few-2.ensures ∙ c.if-few-2.true))
 
 pub overflow_add-s-2 : goal.overflow_add-s-2
 overflow_add-s-2 c = sum_fits c.number-c.result (get_or c.args.n.now levels_most (pos 0)) (subst Small (sym c.number-c.ensures) (signed_small _))
-    (record { sfits = c.d-1.given }) refl (leb-true _ _ (sym c.few-2.ensures ∙ c.if-few-2.true))
+    (record { sfits = c.d-1.given }) refl refl (leb-true _ _ (sym c.few-2.ensures ∙ c.if-few-2.true))
     (flat_added _ (point_at 0 0 c.args.n.now c.args.m) (listed_long _ _) c.requires.2 c.requires.1 c.loop-i.invariant.1
     c.loop-i-test.false c.loop-i.invariant.0) (omega arith)
 
 pub returns : goal.returns
 returns c = λ e. sum_is c.args.model.now c.args.at (point_at 0 0 c.args.n.now c.args.m) c.requires.2
     (one_added c.number-c.result (get_or c.args.n.now levels_most (pos 0)) (subst Small (sym c.number-c.ensures) (signed_small _))
-    (record { sfits = c.d-1.given }) refl (leb-true _ _ (sym c.few-2.ensures ∙ c.if-few-2.true))
+    (record { sfits = c.d-1.given }) refl refl (leb-true _ _ (sym c.few-2.ensures ∙ c.if-few-2.true))
     (flat_added _ (point_at 0 0 c.args.n.now c.args.m) (listed_long _ _) c.requires.2 c.requires.1 c.loop-i.invariant.1
     c.loop-i-test.false c.loop-i.invariant.0) (omega arith) (listed_long _ _) c.requires.2
     (c.number-c.ensures ∙ sym (listed_at c.args.model.now c.args.at levels_most (omega arith))) refl) ∙ numbers_alone

@@ -1,21 +1,21 @@
 -- `plain_worth::worths::earned` meets its contract: the power is judged first (`earned_over`), its exponent being 32 at most; then a forbidden reward
 -- gives none (`earned_none`), and any other its product with the power, limited (`earned_is`).
-use native.Mathlib.Omega.{arith}
+use Rattle.std.proofs.Common.{ap, not, ◌∙◌, arith}
 use Rattle.plain_worth.proofs.Answers.{exponent_fits, earned_over, earned_none, earned_is}
 use Rattle.plain_worth.proofs.worths.earned.Goals as goal
 
 pub overflow_mul-n : goal.overflow_mul-n
 overflow_mul-n c = omega (arith, exponent_fits c.args.model.now c.requires.0.ready _ c.args.steps c.conditions-n.ensures c.requires.2)
 
-pub returns-in-Over : goal.returns-in-Over
-returns-in-Over c = earned_over c.args.model.now c.args.steps c.args.a c.args.x c.requires.0 c.conditions-n.ensures c.weights.ensures c.power_within-p.ensures c.in-Over.is
+pub returns-then-is_none : goal.returns-then-is_none
+returns-then-is_none c = earned_over c.args.model.now c.args.steps c.args.a c.args.x c.requires.0 c.conditions-n.ensures c.weights.ensures c.power_within-p.ensures (c.is_none.ensures ∙ ap not c.if-is_none.true)
 
 pub reward_at-r-requires : goal.reward_at-r-requires
 reward_at-r-requires c = (c.requires.0.ready.accepted, c.requires.0.ready.short, tt, c.requires.3, c.requires.0.fits.flat)
 
 pub returns-then-r : goal.returns-then-r
 returns-then-r c = earned_none c.args.model.now c.args.steps c.args.a c.args.x c.requires.0 c.conditions-n.ensures c.weights.ensures
-    c.power_within-p.ensures c.reward_at-r.ensures _ c.in_default.is c.if-r.true
+    c.power_within-p.ensures c.reward_at-r.ensures (c.is_none.ensures ∙ ap not c.if-is_none.false) c.if-r.true
 
 pub returns : goal.returns
 returns c = earned_is c.args.model.now c.args.steps c.args.a c.args.x c.requires.0 c.conditions-n.ensures c.weights.ensures

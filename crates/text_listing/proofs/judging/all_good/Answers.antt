@@ -17,13 +17,13 @@ pub loop-r-preserved : goal.loop-r-preserved
 loop-r-preserved c = let a = c.args in
     let l = c.loop-r in
     let p = good_row a.conditions a.actions a.nodes.now in
-    (omega (arith, c.loop-r-test.true), every_true p l.r l.invariant.1 (sym c.good.ensures ∙ c.if-good.true))
+    (omega (arith, c.loop-r-test.true), every_true p l.r l.invariant.1 (sym c.good.ensures ∙ c.if-not-good.false))
 
-pub returns-else-good : goal.returns-else-good
-returns-else-good c = let a = c.args in
+pub returns-then-not-good : goal.returns-then-not-good
+returns-then-not-good c = let a = c.args in
     let l = c.loop-r in
     let p = good_row a.conditions a.actions a.nodes.now in
-    sym (every_false p l.r a.last c.loop-r-test.true (sym c.good.ensures ∙ c.if-good.false))
+    sym (every_false p l.r a.last c.loop-r-test.true (sym c.good.ensures ∙ c.if-not-good.true))
 
 pub returns : goal.returns
 returns c = let a = c.args in

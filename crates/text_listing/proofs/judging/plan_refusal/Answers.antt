@@ -10,21 +10,21 @@ use Rattle.text_listing.proofs.judging.plan_refusal.Goals as goal
 pub all_rooted-requires : goal.all_rooted-requires
 all_rooted-requires c = c.requires
 
-pub returns-else-all_rooted : goal.returns-else-all_rooted
-returns-else-all_rooted c = let a = c.args in
-    plan_15 (site_as a.site) a.horizon a.nodes.now a.stages.now (sym c.all_rooted.ensures ∙ c.if-all_rooted.false)
+pub returns-then-not-all_rooted : goal.returns-then-not-all_rooted
+returns-then-not-all_rooted c = let a = c.args in
+    plan_15 (site_as a.site) a.horizon a.nodes.now a.stages.now (sym c.all_rooted.ensures ∙ c.if-not-all_rooted.true)
 
 pub greatest_root-root-requires : goal.greatest_root-root-requires
 greatest_root-root-requires c = c.requires
 
-pub returns-then-all_good : goal.returns-then-all_good
-returns-then-all_good c = let a = c.args in
+pub returns : goal.returns
+returns c = let a = c.args in
     let p = good_row a.site.conditions a.site.actions a.nodes.now in
-    plan_none (site_as a.site) a.horizon a.nodes.now a.stages.now (sym c.all_rooted.ensures ∙ c.if-all_rooted.true)
-    (ap (every p) (sym c.greatest_root-root.ensures) ∙ sym c.all_good.ensures ∙ c.if-all_good.true)
+    plan_none (site_as a.site) a.horizon a.nodes.now a.stages.now (sym c.all_rooted.ensures ∙ c.if-not-all_rooted.false)
+    (ap (every p) (sym c.greatest_root-root.ensures) ∙ sym (rw (c.from.ensures, c.from-2.ensures) at c.all_good.ensures) ∙ c.if-not-all_good.false)
 
-pub returns-else-all_good : goal.returns-else-all_good
-returns-else-all_good c = let a = c.args in
+pub returns-then-not-all_good : goal.returns-then-not-all_good
+returns-then-not-all_good c = let a = c.args in
     let p = good_row a.site.conditions a.site.actions a.nodes.now in
-    plan_14 (site_as a.site) a.horizon a.nodes.now a.stages.now (sym c.all_rooted.ensures ∙ c.if-all_rooted.true)
-    (ap (every p) (sym c.greatest_root-root.ensures) ∙ sym c.all_good.ensures ∙ c.if-all_good.false)
+    plan_14 (site_as a.site) a.horizon a.nodes.now a.stages.now (sym c.all_rooted.ensures ∙ c.if-not-all_rooted.false)
+    (ap (every p) (sym c.greatest_root-root.ensures) ∙ sym (rw (c.from.ensures, c.from-2.ensures) at c.all_good.ensures) ∙ c.if-not-all_good.true)

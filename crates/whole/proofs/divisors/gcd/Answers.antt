@@ -1,5 +1,4 @@
-use Rattle.std.proofs.Common.{◌≡◌, refl, ◌∙◌, mod-lt, arith}
-use Rattle.whole.specs.Divisor.{gcd_of}
+use Rattle.std.proofs.Common.{◌∙◌, mod-lt, arith}
 use Rattle.whole.proofs.Euclid.{gcd_zero, zero_gcd, gcd_step}
 use Rattle.whole.proofs.divisors.gcd.Goals as goal
 

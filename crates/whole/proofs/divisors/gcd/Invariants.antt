@@ -1,7 +1,6 @@
 -- `whole::divisors::gcd` meets its contract: 0 is divided by every number; else each turn keeps the divisor, and y falls.
-use Rattle.std.proofs.Common.{◌≡◌, refl, ◌∙◌, mod-lt, arith}
+use Rattle.std.proofs.Common.{◌≡◌}
 use Rattle.whole.specs.Divisor.{gcd_of}
-use Rattle.whole.proofs.Euclid.{gcd_zero, zero_gcd, gcd_step}
 use Rattle.whole.proofs.divisors.gcd.Given as goal
 
 abbrev pub invariant-loop-y : goal.invariant-loop-y

@@ -1,6 +1,5 @@
 -- `whole::divisors::quot` meets its contract.
 use Rattle.whole.proofs.Signed.{quot_fits, quot_is}
-use Rattle.std.proofs.Common.{rules}
 use Rattle.whole.proofs.divisors.quot.Goals as goal
 
 pub nonzero_div-result : goal.nonzero_div-result

@@ -1,8 +1,6 @@
-use Rattle.std.proofs.Common.{◌-◌, get_or, pos, refl, ap, ◌∙◌, arith, w64, to_z}
-use Rattle.whole.specs.Linears.{numbers}
+use Rattle.std.proofs.Common.{get_or, pos, refl, ap, ◌∙◌}
 use Rattle.whole.specs.Numerator.{words}
-use Rattle.whole.proofs.Signed.{widens}
-use Rattle.whole.proofs.Products.{Added, none_added, one_added, all_added, product_fits, sum_fits}
+use Rattle.whole.proofs.Products.{none_added, one_added, all_added, product_fits, sum_fits}
 use Rattle.whole.proofs.dot_product.dot.Goals as goal
 
 pub loop-i-init : goal.loop-i-init
@@ -14,20 +12,17 @@ wide-requires c = c.requires
 pub returns-then-mag-gt-FEW : goal.returns-then-mag-gt-FEW
 returns-then-mag-gt-FEW c = c.wide.ensures
 
-pub overflow_cast-b : goal.overflow_cast-b
-overflow_cast-b c = widens (get_or c.args.n c.loop-i.i (pos 0)) (record { sfits = c.b-1.given })
-
-pub overflow_mul-p : goal.overflow_mul-p
-overflow_mul-p c = product_fits (get_or c.args.c c.loop-i.i (pos 0)) (get_or c.args.n c.loop-i.i (pos 0)) (c.requires.each c.loop-i.i)
-    (record { sfits = c.b-1.given }) c.mag.ensures c.if-mag-gt-FEW.false
+pub overflow_mul-s : goal.overflow_mul-s
+overflow_mul-s c = product_fits (get_or c.args.c c.loop-i.i (pos 0)) (get_or c.args.n c.loop-i.i (pos 0)) (c.requires.each c.loop-i.i)
+    (record { sfits = c.from-arg-1.given }) c.from.ensures c.mag.ensures c.if-mag-gt-FEW.false
 
 pub overflow_add-s : goal.overflow_add-s
 overflow_add-s c = sum_fits (get_or c.args.c c.loop-i.i (pos 0)) (get_or c.args.n c.loop-i.i (pos 0)) (c.requires.each c.loop-i.i)
-    (record { sfits = c.b-1.given }) c.mag.ensures c.if-mag-gt-FEW.false c.loop-i.invariant c.loop-i-test.true
+    (record { sfits = c.from-arg-1.given }) c.from.ensures c.mag.ensures c.if-mag-gt-FEW.false c.loop-i.invariant c.loop-i-test.true
 
 pub loop-i-preserved : goal.loop-i-preserved
 loop-i-preserved c = one_added (get_or c.args.c c.loop-i.i (pos 0)) (get_or c.args.n c.loop-i.i (pos 0)) (c.requires.each c.loop-i.i)
-    (record { sfits = c.b-1.given }) c.mag.ensures c.if-mag-gt-FEW.false c.loop-i.invariant c.loop-i-test.true c.requires.long
+    (record { sfits = c.from-arg-1.given }) c.from.ensures c.mag.ensures c.if-mag-gt-FEW.false c.loop-i.invariant c.loop-i-test.true c.requires.long
     c.well_formed.1.0.1.0.1 refl refl
 
 pub returns : goal.returns

@@ -1,8 +1,7 @@
-use Rattle.std.proofs.Common.{◌-◌, sym, subst, arith}
-use Rattle.whole.specs.Linears.{numbers}
+use Rattle.std.proofs.Common.{sym, subst}
 use Rattle.whole.specs.Within.{Small}
 use Rattle.whole.proofs.Signed.{small_back}
-use Rattle.whole.proofs.Products.{Summed, none_summed, one_summed, all_summed, summed_small, product_small}
+use Rattle.whole.proofs.Products.{none_summed, one_summed, all_summed, summed_small, product_small}
 use Rattle.whole.proofs.dot_product.wide.Goals as goal
 
 pub loop-k-init : goal.loop-k-init

@@ -1,5 +1,5 @@
 -- `whole::limits::add_within` meets its contract.
-use Rattle.std.proofs.Common.{◌+ℤ◌, ap, ◌∙◌, ap₂, rules}
+use Rattle.std.proofs.Common.{◌+ℤ◌, ap, ◌∙◌, ap₂}
 use Rattle.whole.specs.Within.{limited}
 use Rattle.whole.proofs.Signed.{back}
 use Rattle.whole.proofs.Laws.{sum_fits}

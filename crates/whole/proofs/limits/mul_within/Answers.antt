@@ -1,5 +1,4 @@
 -- `whole::limits::mul_within` meets its contract.
-use Rattle.std.proofs.Common.{rules}
 use Rattle.whole.proofs.Signed.{abs_back}
 use Rattle.whole.proofs.Laws.{product_zero, product_fits, product_is, product_over}
 use Rattle.whole.proofs.limits.mul_within.Goals as goal

@@ -1,20 +1,11 @@
-use Rattle.std.proofs.Common.{◌≡◌, ◌+◌, ◌-◌, ◌≤◌, drop, refl, arith}
-use Rattle.whole.specs.Linears.{numbers, eq_list}
-use Rattle.whole.proofs.Loops.{one_differs, one_same, all_same}
+-- `whole::linears::equal` meets its contract: `==` of the arrays and `eq_list` both tell whether the lists are the same.
+use Rattle.std.proofs.Common.{sym, ap, ◌∙◌}
+use Rattle.std.proofs.lemmas.Bool.Decides.{same_from_decides, Decides-int_eq}
+use Rattle.std.proofs.lemmas.Slice.Eq.{slice_eq-Decides}
+use Rattle.whole.specs.Linears.{eq_list}
+use Rattle.whole.specs.LinearsLaws.{eq_list_true, eq_list_refl}
 use Rattle.whole.proofs.linears.equal.Goals as goal
 
-pub loop-i-init : goal.loop-i-init
-loop-i-init c = (omega arith, refl)
-
-pub returns-then-x-y : goal.returns-then-x-y
-returns-then-x-y c = one_differs _ _ c.well_formed.0.1.0.1 c.well_formed.1.0.1.0.1 c.loop-i.i c.loop-i.invariant.1 c.loop-i-test.true c.if-x-y.true
-
-pub loop-i-preserved : goal.loop-i-preserved
-loop-i-preserved c = (
-  omega arith,
-  one_same _ _ c.well_formed.0.1.0.1 c.well_formed.1.0.1.0.1 c.loop-i.i
-      c.loop-i.invariant.1 c.loop-i-test.true c.x-1.given c.y-1.given c.if-x-y.false,
-)
-
 pub returns : goal.returns
-returns c = all_same _ _ c.well_formed.0.1.0.1 c.well_formed.1.0.1.0.1 c.loop-i.i c.loop-i.invariant.1 c.loop-i-test.false
+returns c = let a = c.args.a in
+    same_from_decides _ _ (slice_eq-Decides Decides-int_eq a c.args.b _ c.eq.ensures) (eq_list_true a c.args.b, λ e. sym (ap (eq_list a) e) ∙ eq_list_refl a)

@@ -1,7 +1,6 @@
 -- `whole::two_words::from_word` meets its contract.
 use Rattle.whole.proofs.Signed.{back, abs_back}
 use Rattle.whole.proofs.TwoWords.{words_below, words_above}
-use Rattle.std.proofs.Common.{rules}
 use Rattle.whole.proofs.two_words.from_word.Goals as goal
 
 pub overflow_sub-result : goal.overflow_sub-result

@@ -1,6 +1,5 @@
 -- `whole::two_words::negated` meets its contract.
 use Rattle.whole.proofs.TwoWords.{minus_fits, less_fits, negated_zero, negated_low}
-use Rattle.std.proofs.Common.{rules}
 use Rattle.whole.proofs.two_words.negated.Goals as goal
 
 pub overflow_sub-high : goal.overflow_sub-high

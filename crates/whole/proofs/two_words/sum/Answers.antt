@@ -1,5 +1,5 @@
 -- `whole::two_words::sum` meets its contract.
-use Rattle.std.proofs.Common.{arith, rules}
+use Rattle.std.proofs.Common.{refl, arith}
 use Rattle.whole.proofs.TwoWords.{highs_fit, more_fits, sum_carried, sum_plain}
 use Rattle.whole.proofs.two_words.sum.Goals as goal
 
@@ -9,10 +9,8 @@ overflow_add-high c = highs_fit c.args.x c.args.y c.requires
 pub overflow_add-result : goal.overflow_add-result
 overflow_add-result c = more_fits c.args.x c.args.y c.requires
 
-pub returns-then-low-before : goal.returns-then-low-before
-returns-then-low-before c = let w = c.wrapping_add_u64-low in
-    sum_carried c.args.x c.args.y c.requires w.result c.struct_known-1.given.0.fits c.struct_known-2-1.given.0.fits w.ensures.value (omega arith)
+pub returns-then-low-x : goal.returns-then-low-x
+returns-then-low-x c = sum_carried c.args.x c.args.y c.requires _ c.struct_known-1.given.0.fits c.struct_known-2-1.given.0.fits refl (omega arith)
 
-pub returns-else-low-before : goal.returns-else-low-before
-returns-else-low-before c = let w = c.wrapping_add_u64-low in
-    sum_plain c.args.x c.args.y c.requires w.result c.struct_known-1.given.0.fits c.struct_known-2-1.given.0.fits w.ensures.value (omega arith)
+pub returns-else-low-x : goal.returns-else-low-x
+returns-else-low-x c = sum_plain c.args.x c.args.y c.requires _ c.struct_known-1.given.0.fits c.struct_known-2-1.given.0.fits refl (omega arith)

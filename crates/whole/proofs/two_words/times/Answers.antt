@@ -1,5 +1,5 @@
 -- `whole::two_words::times` meets its contract.
-use Rattle.std.proofs.Common.{arith, rules}
+use Rattle.std.proofs.Common.{arith}
 use Rattle.whole.proofs.TwoWords.{low_bound, mid_bound, high_bound, times_is}
 use Rattle.whole.proofs.two_words.times.Goals as goal
 

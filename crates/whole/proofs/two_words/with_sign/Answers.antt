@@ -1,5 +1,5 @@
 -- `whole::two_words::with_sign` meets its contract.
-use Rattle.std.proofs.Common.{◌∙◌, arith, rules}
+use Rattle.std.proofs.Common.{◌∙◌, arith}
 use Rattle.whole.specs.Numerator.{number}
 use Rattle.whole.proofs.TwoWords.{turned_below, turned_above}
 use Rattle.whole.proofs.two_words.with_sign.Goals as goal
