@@ -47,7 +47,7 @@ pub fn remake(nodes: &mut [i64], work: &mut [u32], cap: usize, rows: usize) -> u
     ensures { Remade cap nodes.old nodes.new work.new result rows × (length nodes.new ≡ length nodes.old) × (length work.new ≡ length work.old) }
 {
     table_clear::work(work, 0, cap);
-    let mut count: usize = 0;
+    let mut count = 0;
     for i in 0..rows {
         // A row comes to one node at most, so there is room for each.
         let r = remake_row(nodes, work, cap, count, i).unwrap();

@@ -16,15 +16,12 @@ fn gather_roots(work: &[u32], cap: usize, stages: &[u32], roots: &mut [u32]) -> 
     requires { StandingRows cap work.now stages.now × (length stages.now ≤ length roots.old) }
     ensures { Gathered cap work.now stages.now roots.new result }
 {
-    let mut k: usize = 0;
-    let mut h: usize = 0;
-    while h < stages.len() {
-        let r = stages[h] as usize;
-        if r != 0 {
-            roots[k] = gone(work, cap, r) as u32;
+    let mut k = 0;
+    for h in 0..stages.len() {
+        if stages[h] != NO_DIAGRAM {
+            roots[k] = gone(work, cap, stages[h] as usize) as u32;
             k += 1;
         }
-        h += 1;
     }
     k
 }
@@ -34,14 +31,12 @@ fn spread_numbers(numbers: &[u32], stages: &mut [u32])
     requires { length stages.old ≤ length numbers.now }
     ensures { Spread numbers.now stages.old stages.new }
 {
-    let mut k: usize = 0;
-    let mut h: usize = 0;
-    while h < stages.len() {
+    let mut k = 0;
+    for h in 0..stages.len() {
         if stages[h] != NO_DIAGRAM {
             stages[h] = numbers[k];
             k += 1;
         }
-        h += 1;
     }
 }
 

@@ -1,5 +1,5 @@
 -- Long division of two words: the high word, then the low word's halves, each remainder before the next half.
-use mathlib.Core.Path.{◌≡◌, sym, ap, ◌∙◌}
+use mathlib.Core.Path.{◌≡◌, sym, ap, ◌∙◌, subst}
 use Prim.Native.Nat.{ℕ, ◌+◌, ◌*◌, ◌/◌, ◌%◌, ◌<◌}
 use native.Mathlib.Nat.{mod-lt, mod-eq_of_lt, div-add-mod', div-eq_of_lt, div-lt_iff_lt-mul, mul-add-div_right, mul-add-mod_self_right, add-mul, mul_right_comm}
 use native.Mathlib.Omega.{arith}
@@ -34,11 +34,11 @@ module _ (high low d : ℕ) (p : 0 < d) where
   whole_is : quotient * d + lower % d ≡ two_words high low
   whole_is = omega (arith, by_each (high / d) (upper / d) (lower / d) d, div-add-mod' high d, div-add-mod' upper d, div-add-mod' lower d, div-add-mod' low half)
 
-  pub divides : Divided (two_words high low) d (record { high = high / d; low = upper / d * half + lower / d; rest = lower % d })
-  divides =
+  pub divides : (n : ℕ) → d ≡ n → Divided (two_words high low) n (record { high = high / d; low = upper / d * half + lower / d; rest = lower % d })
+  divides n e = subst (λ (k : ℕ). Divided (two_words high low) k (record { high = high / d; low = upper / d * half + lower / d; rest = lower % d })) e (
       let r = mod-lt lower p in
       let k : quotient + lower % d / d ≡ quotient = omega (arith, div-eq_of_lt r) in
       record {
         quotient = sym (ap (λ (n : ℕ). n / d) (sym whole_is) ∙ mul-add-div_right p quotient (lower % d) ∙ k);
         rest = sym (ap (λ (n : ℕ). n % d) (sym whole_is) ∙ mul-add-mod_self_right quotient d (lower % d) ∙ mod-eq_of_lt r);
-      }
+      })

@@ -32,7 +32,7 @@ pub fn divide(high: u64, low: u64, d: u32) -> Quotient
     requires { 0 < d }
     ensures { Divided (two_words high low) d result }
 {
-    let by = d as u64;
+    let by = u64::from(d);
     let upper = high % by * HALF + low / HALF;
     let lower = upper % by * HALF + low % HALF;
     Quotient {
@@ -61,10 +61,8 @@ fn divided_by_power(x: Whole, w: u32, k: u32) -> Whole
     ensures { whole_as result ≡ floor_by (whole_as x) (w ^ k) }
 {
     let mut y = x;
-    let mut i: u32 = 0;
-    while i < k {
+    for _ in 0..k {
         y = divided(y, w);
-        i += 1;
     }
     y
 }
@@ -73,19 +71,18 @@ fn divided_by_power(x: Whole, w: u32, k: u32) -> Whole
 pub fn from_words(x: Numerator) -> Whole
     ensures { whole_as result ≡ number x }
 {
-    let low = x.low;
-    let high = x.high;
-    if high < 0 {
+    let high = x.high.unsigned_abs();
+    if x.high < 0 {
         Whole {
             below: true,
-            high: (-(high + 1)) as u64,
-            low: u64::MAX - low,
+            high: high - 1,
+            low: u64::MAX - x.low,
         }
     } else {
         Whole {
             below: false,
-            high: high as u64,
-            low: low,
+            high,
+            low: x.low,
         }
     }
 }

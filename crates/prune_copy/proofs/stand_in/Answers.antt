@@ -6,5 +6,5 @@ use Rattle.prune_copy.proofs.stand_in.Goals as goal
 pub returns-then-k-turns : goal.returns-then-k-turns
 returns-then-k-turns c = sym (stands_copy c.args.nodes.now c.args.turns.now c.args.k c.args.r c.args.c c.if-k-turns.true)
 
-pub returns : goal.returns
-returns c = c.branch-nodes.ensures ∙ sym (stands_other c.args.nodes.now c.args.turns.now c.args.k c.args.r c.args.c c.if-k-turns.false)
+pub returns-else-k-turns : goal.returns-else-k-turns
+returns-else-k-turns c = c.branch-nodes.ensures ∙ sym (stands_other c.args.nodes.now c.args.turns.now c.args.k c.args.r c.args.c c.if-k-turns.false)

@@ -37,9 +37,6 @@ offset_bounds-work-cap c = record { fits = omega (arith, c.requires.2, c.require
 pub bounds-work-cap : goal.bounds-work-cap
 bounds-work-cap c = omega (arith, c.remake_row.ensures.bare.chained.space.works, c.requires.3, c.loop-i-test.true)
 
-pub loop-i-smaller : goal.loop-i-smaller
-loop-i-smaller c = omega (arith, c.loop-i-test.true)
-
 pub loop-i-preserved : goal.loop-i-preserved
 loop-i-preserved c = let U = c.loop-i.invariant in
     step c.requires.0 U.remade c.loop-i-test.true c.requires.3 (grew_there c.unwrap-r.ensures c.remake_row.ensures) U c.remake_row.auto.nodes c.remake_row.auto.work

@@ -3,22 +3,19 @@ use native.Mathlib.Omega.{arith}
 use lib.ListN.{get_or}
 use Rattle.prune_tables.proofs.Loops.{gather_begins, gather_root, gather_none, gather_ends, few_gathered}
 use Rattle.prune_tables.proofs.gather_roots.Goals as goal
-use Rattle.prune_tables.proofs.gather_roots.Goals.{then-r-ne0, else-r-ne0}
+use Rattle.prune_tables.proofs.gather_roots.Goals.{then-stages-h-ne-NO_DIAGRAM, else-stages-h-ne-NO_DIAGRAM}
 
 pub loop-h-init : goal.loop-h-init
 loop-h-init c = gather_begins
 
-pub overflow_cast-r : goal.overflow_cast-r
-overflow_cast-r c = record { fits = omega (arith, c.shared_slice_known-in-loop-h-1.given c.loop-h.h) }
-
 pub gone-requires : goal.gone-requires
 gone-requires c = let w = c.requires.0.words c.loop-h.h c.loop-h-test.true in
-    (omega (arith, c.if-r-ne0.true), w, c.requires.0.few, c.requires.0.works)
+    (omega (arith, c.if-stages-h-ne-NO_DIAGRAM.true), w, c.requires.0.few, c.requires.0.works)
 
 pub overflow_cast-roots : goal.overflow_cast-roots
 overflow_cast-roots c = let r = get_or c.args.stages.now c.loop-h.h 0 in
     let w = c.requires.0.words c.loop-h.h c.loop-h-test.true in
-    record { fits = omega (arith, c.requires.0.gone (r - 1) (omega (arith, c.if-r-ne0.true)), c.requires.0.few, c.gone.ensures) }
+    record { fits = omega (arith, c.requires.0.gone (r - 1) (omega (arith, c.if-stages-h-ne-NO_DIAGRAM.true)), c.requires.0.few, c.gone.ensures) }
 
 pub offset_bounds-roots-k : goal.offset_bounds-roots-k
 offset_bounds-roots-k c = let G = c.loop-h.invariant in
@@ -32,15 +29,12 @@ pub overflow_add-k : goal.overflow_add-k
 overflow_add-k c = let G = c.loop-h.invariant in
     record { fits = omega (arith, few_gathered G, c.loop-h-test.true) }
 
-pub loop-h-smaller : goal.loop-h-smaller
-loop-h-smaller c = omega (arith, c.loop-h-test.true)
-
 pub loop-h-preserved : goal.loop-h-preserved
 loop-h-preserved c = let G = c.loop-h.invariant in
     let h = c.loop-h-test.true in
-    elim c.if-r-ne0.branch [
-      | then-r-ne0 w ↦ gather_root G c.requires.1 h w.if-r-ne0.true w.gone.ensures w.roots-is w.k-is
-      | else-r-ne0 w ↦ gather_none G h w.if-r-ne0.false w.roots-is w.k-is
+    elim c.if-stages-h-ne-NO_DIAGRAM.branch [
+      | then-stages-h-ne-NO_DIAGRAM w ↦ gather_root G c.requires.1 h w.if-stages-h-ne-NO_DIAGRAM.true w.gone.ensures w.roots-is w.k-is
+      | else-stages-h-ne-NO_DIAGRAM w ↦ gather_none G h w.if-stages-h-ne-NO_DIAGRAM.false w.roots-is w.k-is
     ]
 
 pub shape_of-roots : goal.shape_of-roots

@@ -18,10 +18,6 @@ pub overflow_add-k : goal.overflow_add-k
 overflow_add-k c = let S = c.loop-h.invariant in
     record { fits = omega (arith, few_spread S, c.loop-h-test.true) }
 
-pub loop-h-smaller : goal.loop-h-smaller
-loop-h-smaller c = let S = c.loop-h.invariant in
-    omega (arith, S.len, c.loop-h-test.true)
-
 pub loop-h-preserved : goal.loop-h-preserved
 loop-h-preserved c = let S = c.loop-h.invariant in
     let h = c.loop-h-test.true in
