@@ -3,8 +3,6 @@ use mathlib.Core.Path.{◌≡◌, refl, sym, ap, ap₂, ◌∙◌, subst}
 use mathlib.Core.Bool.{Bool, true, false}
 use mathlib.Core.List.{List}
 use Prim.Native.Nat.{ℕ}
-use borrow.Author.Tests.{eq-eqb, ne_eqb}
-use lib.Dec.{eqb}
 use lib.IntN.{ℤ, pos, nat_abs, ◌-ℤ◌}
 use lib.ListN.{length}
 use lib.Signed.{le_z}
@@ -33,7 +31,6 @@ use Rattle.rule_node.proofs.Meanings.{proper_linear, divided_test, named_leaf}
 use Rattle.rule_node.proofs.TwoOperands.{choose_leaf, step_leaf, both_ret}
 use Rattle.rule_leaves.specs.Leaves.{AtLeaf, AtLinear, stays_none, sum_node, less_node, product_node}
 use Rattle.rule_leaves.proofs.Sums.{sum_lin, less_lin, less_long, none_stays, scale_stays, scale_run, decide_constant, decide_test}
-use Rattle.rule_apply_leaves.specs.Combined.{leaf_rule}
 use Rattle.rule_apply_leaves.specs.Constants.{better_constant}
 use Rattle.rule_apply_leaves.proofs.Constants.{numbers_there, constant_small, constant_less}
 
@@ -230,21 +227,3 @@ module _ {cap : ℕ} {l : List ℤ} {w : List ℕ} {n : ℕ} (A : Bare cap l w n
       go false s e =
           subst (Grew cap l w n (leaf_best (leaf_of (node_at l f)) (leaf_of (node_at l g))) l w) (sym e)
           (best_over A f g F₀ G₀ refl refl refl (sym (constant_small (linear_held d₀) constant ∙ s)) refl)
-
--- ---- by the rule's number
-
-module _ (op : ℕ) (f g : Leaf) where
-  pub is_sum : op ≡ 0 → leaf_sum f g ≡ leaf_rule op f g
-  unfolding leaf_rule
-  is_sum e = ap (λ (b : Bool). (if b leaf_sum (if (eqb op 1) leaf_product leaf_best)) f g) (sym (eq-eqb op 0 e))
-
-  module _ (n : op ≡ 0 → ⊥) where
-    rest : (if (eqb op 1) leaf_product leaf_best) f g ≡ leaf_rule op f g
-    unfolding leaf_rule
-    rest = ap (λ (b : Bool). (if b leaf_sum (if (eqb op 1) leaf_product leaf_best)) f g) (sym (ne_eqb op 0 n))
-
-    pub is_product : op ≡ 1 → leaf_product f g ≡ leaf_rule op f g
-    is_product e = ap (λ (b : Bool). (if b leaf_product leaf_best) f g) (sym (eq-eqb op 1 e)) ∙ rest
-
-    pub is_best : (op ≡ 1 → ⊥) → leaf_best f g ≡ leaf_rule op f g
-    is_best e = ap (λ (b : Bool). (if b leaf_product leaf_best) f g) (sym (ne_eqb op 1 e)) ∙ rest

@@ -8,16 +8,37 @@ ghost use Rattle.theory.specs.Rules.{leaf_sum, leaf_product, leaf_best};
 ghost use Rattle.rule_node.specs.Nodes.{linear_held, constant_of, leaf_of};
 ghost use Rattle.rule_node.specs.Table.{Bare, Grew};
 ghost use Rattle.rule_leaves.specs.Leaves.{AtLeaf, AtLinear, less_node};
-ghost use Rattle.rule_apply_leaves.specs.Combined.{leaf_rule};
+ghost use Rattle.rule_apply_leaves.specs.Combined.{code_of, leaf_rule};
 ghost use Rattle.rule_apply_leaves.specs.Constants.{AtNumbers, better_constant};
 
 use rule_leaves::numbers::{constant, decided, less, plus, product, stays_none};
-use rule_node::codes::{PRODUCT, SUM};
+use rule_node::codes::{BEST, PRODUCT, SUM};
 use rule_node::making::{join_test, make_leaf, within};
 use rule_tests::named;
 use table::{Made, NODE_WORDS, none_at};
 use whole::COEFFICIENTS;
 use whole::limits::{LIMIT, mag};
+
+// The rules that merge two diagrams.
+#[derive(Clone, Copy)]
+pub enum Merge {
+    Sum,
+    Product,
+    Best,
+}
+
+impl Merge {
+    // The rule's number, the first word of its entries in the computed cache.
+    pub fn code(self) -> usize
+        ensures { result ≡ code_of self }
+    {
+        match self {
+            Merge::Sum => SUM,
+            Merge::Product => PRODUCT,
+            Merge::Best => BEST,
+        }
+    }
+}
 
 // The sum; with the leaf "none" it is that leaf.
 fn sum_leaves(
@@ -81,16 +102,7 @@ fn differ_by_constant(nodes: &[i64], f: usize, g: usize) -> bool
 {
     let i = f * NODE_WORDS + 1;
     let j = g * NODE_WORDS + 1;
-    let mut k: usize = 0;
-    while k < COEFFICIENTS {
-        let p = nodes[i + k];
-        let q = nodes[j + k];
-        if p != q {
-            return false;
-        }
-        k += 1;
-    }
-    true
+    nodes[i..i + COEFFICIENTS] == nodes[j..j + COEFFICIENTS]
 }
 
 // The better leaf of two linears that differ by a constant, the first where they are equal. Of the difference only the
@@ -174,24 +186,22 @@ fn best_leaves(
     best_linears(nodes, work, cap, count, f, g)
 }
 
-// By the rule's number.
+// By the rule.
 pub fn combine(
     nodes: &mut [i64],
     work: &mut [u32],
     cap: usize,
     count: usize,
-    op: usize,
+    rule: Merge,
     f: usize,
     g: usize,
 ) -> Made
     requires { Bare cap nodes.old work.old count × AtLeaf nodes.old count f × AtLeaf nodes.old count g }
-    ensures { Grew cap nodes.old work.old count (leaf_rule op (leaf_of (node_at nodes.old f)) (leaf_of (node_at nodes.old g))) nodes.new work.new result }
+    ensures { Grew cap nodes.old work.old count (leaf_rule rule (leaf_of (node_at nodes.old f)) (leaf_of (node_at nodes.old g))) nodes.new work.new result }
 {
-    if op == SUM {
-        return sum_leaves(nodes, work, cap, count, f, g);
+    match rule {
+        Merge::Sum => sum_leaves(nodes, work, cap, count, f, g),
+        Merge::Product => product_leaves(nodes, work, cap, count, f, g),
+        Merge::Best => best_leaves(nodes, work, cap, count, f, g),
     }
-    if op == PRODUCT {
-        return product_leaves(nodes, work, cap, count, f, g);
-    }
-    best_leaves(nodes, work, cap, count, f, g)
 }

@@ -104,8 +104,8 @@ module _ {cap : ℕ} {l : List ℤ} {w : List ℕ} {n : ℕ} {f : ℕ} (d : ℕ)
   level_stops off = stop _ Q off
 
   module _ (ok : t.stop ≡ 0) where
-    pub level_asks : Table rule_of cap l₁ w₁ t.count × (0 ≤ 2) × (f < t.count) × (t.at < t.count)
-    level_asks = (Q.table, omega arith, lt_of_lt_of_le hf Q.more, Q.within ok)
+    pub level_asks : Table rule_of cap l₁ w₁ t.count × (f < t.count) × (t.at < t.count)
+    level_asks = (Q.table, lt_of_lt_of_le hf Q.more, Q.within ok)
 
     pub level_added : {l₂ : List ℤ} {w₂ : List ℕ} {r : Made} → RuleRan rule_of cap l₁ w₁ t.count (rule_of l₁ t.count 0 f t.at 0 0) l₂ w₂ r → Added l₂ w₂ r
     unfolding add_on

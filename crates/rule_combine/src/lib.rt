@@ -10,8 +10,7 @@ ghost use Rattle.rule_node.specs.EntryMeaning.{rule_of};
 ghost use Rattle.rule_combine.specs.Levels.{Levels, levels_at, levels_added, add_on};
 ghost use Rattle.theory.specs.Rules as T;
 
-use rule_apply::merge;
-use rule_node::codes::SUM;
+use rule_apply::{Merge, merge};
 use rule_unary::rules::{scale, shift};
 use table::Made;
 use whole::COEFFICIENTS;
@@ -21,10 +20,7 @@ fn number(nodes: &[i64], i: usize, k: usize) -> i64
     requires { At nodes.now i × (k < numbers) }
     ensures { result ≡ get_or (node_at nodes.now i).n k (pos 0) }
 {
-    let x = table::get(nodes, i);
-    let n = x.n;
-    let z = n[k];
-    z
+    table::get(nodes, i).n[k]
 }
 
 // The running sum at f with c times the diagram at d.
@@ -44,7 +40,7 @@ fn add_level(
     if t.stop != 0 {
         return t;
     }
-    merge(nodes, work, cap, t.count, SUM, f, t.at)
+    merge(nodes, work, cap, t.count, Merge::Sum, f, t.at)
 }
 
 // The running sum at f with the levels behind the first, each by its coefficient in the linear of node i, in order.
@@ -65,15 +61,13 @@ fn add_levels(
         at: f,
         count,
     };
-    let mut k: usize = 1;
-    while k < levels.len() {
+    for k in 1..levels.len() {
         let c = number(nodes, i, k);
         let d = levels[k] as usize;
         s = add_level(nodes, work, cap, s.count, s.at, c, d);
         if s.stop != 0 {
             return s;
         }
-        k += 1;
     }
     s
 }

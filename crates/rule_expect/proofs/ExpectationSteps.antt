@@ -36,8 +36,8 @@ module _ {cap : ℕ} {l l₁ : List ℤ} {w w₁ : List ℕ} {n : ℕ} {m : Comp
   weighted_stops off = stop _ Q off
 
   module _ (ok : y.stop ≡ 0) where
-    pub weighted_asks : Table rule_of cap l₁ w₁ y.count × (1 ≤ 2) × (v < y.count) × (y.at < y.count)
-    weighted_asks = (Q.table, omega arith, lt_of_lt_of_le hv Q.more, Q.within ok)
+    pub weighted_asks : Table rule_of cap l₁ w₁ y.count × (v < y.count) × (y.at < y.count)
+    weighted_asks = (Q.table, lt_of_lt_of_le hv Q.more, Q.within ok)
 
     pub weighted_made : {l₂ : List ℤ} {w₂ : List ℕ} {r : Made} → RuleRan rule_of cap l₁ w₁ y.count (rule_of l₁ y.count 1 v y.at 0 0) l₂ w₂ r → Weighted l₂ w₂ r
     weighted_made P = seq _ Q ok (ran_as (rule_product l₁ y.count v y.at 0 0 ∙ ap (λ (z : Tree). product z (tree_at l₁ y.count y.at)) (trees_kept (grown Q) v hv)) P)
@@ -93,8 +93,8 @@ module _ {cap : ℕ} {l : List ℤ} {w : List ℕ} {n : ℕ} (A : Table rule_of 
           no_stops off = ran_as whole_is (seq _ Q ok (seq _ S ok₁ (stop _ U off)))
 
           module _ (ok₂ : q.stop ≡ 0) where
-            pub sum_asks : Table rule_of cap l₃ w₃ q.count × (0 ≤ 2) × (p.at < q.count) × (q.at < q.count)
-            sum_asks = (U.table, omega arith, (let a = Q.within ok in let x = S.more in let y = U.more in omega arith), U.within ok₂)
+            pub sum_asks : Table rule_of cap l₃ w₃ q.count × (p.at < q.count) × (q.at < q.count)
+            sum_asks = (U.table, (let a = Q.within ok in let x = S.more in let y = U.more in omega arith), U.within ok₂)
 
             pub expected : {l₄ : List ℤ} {w₄ : List ℕ} {r : Made} → RuleRan rule_of cap l₃ w₃ q.count (rule_of l₃ q.count 0 p.at q.at 0 0) l₄ w₄ r → Expected l₄ w₄ r
             expected P = ran_as whole_is (seq _ Q ok (seq _ S ok₁ (seq _ U ok₂ (ran_as

@@ -4,7 +4,6 @@ use mathlib.Core.Path.{◌≡◌, refl, sym, ap, ◌∙◌}
 use mathlib.Core.List.{List, []}
 use Prim.Native.Nat.{ℕ, ◌≤◌, ◌<◌}
 use native.Mathlib.Nat.{lt_of_lt_of_le}
-use native.Mathlib.Omega.{arith}
 use borrow.Author.Tests.{le-leb, lt-leb}
 use lib.IntN.{ℤ, pos, nat_abs}
 use Rattle.whole.specs.Within.{limit, small, limited}
@@ -75,8 +74,8 @@ module _ {cap : ℕ} {l : List ℤ} {w : List ℕ} {n : ℕ} (A : Table rule_of 
       scale_stops off = fine (stop _ Q off)
 
       module _ (ok : s.stop ≡ 0) where
-        pub reward_asks : Table rule_of cap l₁ w₁ s.count × (0 ≤ 2) × (f < s.count) × (s.at < s.count)
-        reward_asks = (Q.table, omega arith, lt_of_lt_of_le hf Q.more, Q.within ok)
+        pub reward_asks : Table rule_of cap l₁ w₁ s.count × (f < s.count) × (s.at < s.count)
+        reward_asks = (Q.table, lt_of_lt_of_le hf Q.more, Q.within ok)
 
         module _ {l₂ : List ℤ} {w₂ : List ℕ} {t : Made} (S' : RuleRan rule_of cap l₁ w₁ s.count (rule_of l₁ s.count 0 f s.at 0 0) l₂ w₂ t) where
           S : RuleRan rule_of cap l₁ w₁ s.count (sum (tree_at l n f) (tree_at l₁ s.count s.at)) l₂ w₂ t

@@ -10,8 +10,8 @@ ghost use Rattle.rule_node.specs.Table.{Table, RuleRan};
 ghost use Rattle.rule_node.specs.EntryMeaning.{rule_of};
 ghost use Rattle.rule_unary.specs.Picks.{Picks};
 
-use rule_apply::merge;
-use rule_node::codes::{NO_SIDE, PRODUCT, SUM, YES_SIDE};
+use rule_apply::{Merge, merge};
+use rule_node::codes::{NO_SIDE, YES_SIDE};
 use rule_unary::rules::{complement, number, scale, side};
 use table::Made;
 use whole::limits::power_within;
@@ -34,7 +34,7 @@ fn weighted(
     if y.stop != 0 {
         return y;
     }
-    merge(nodes, work, cap, y.count, PRODUCT, w, y.at)
+    merge(nodes, work, cap, y.count, Merge::Product, w, y.at)
 }
 
 // The next step's condition k summed out of f: w times the yes side, and weights less w times the no side.
@@ -63,7 +63,7 @@ pub fn expectation(
     if q.stop != 0 {
         return q;
     }
-    merge(nodes, work, cap, q.count, SUM, p.at, q.at)
+    merge(nodes, work, cap, q.count, Merge::Sum, p.at, q.at)
 }
 
 // weights to the power of exponent, judged first, times the reward, added to f; the leaves numbered with the action.
@@ -92,7 +92,7 @@ pub fn add_reward(
     if a.stop != 0 {
         return a;
     }
-    let b = merge(nodes, work, cap, a.count, SUM, f, a.at);
+    let b = merge(nodes, work, cap, a.count, Merge::Sum, f, a.at);
     if b.stop != 0 {
         return b;
     }
