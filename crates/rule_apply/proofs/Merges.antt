@@ -6,8 +6,7 @@ use Prim.Native.Nat.{ℕ, ◌≤◌, ◌<◌}
 use native.Mathlib.Nat.{lt_of_lt_of_le}
 use native.Mathlib.Omega.{arith}
 use lib.IntN.{ℤ}
-use Rattle.table.specs.Table.{node_at}
-use Rattle.table.specs.declared.Made.{Made}
+use Rattle.table.specs.Table.{Answer, stop_of, at_of, count_of, node_at}
 use Rattle.theory.specs.Diagram.{Test, Tree}
 use Rattle.theory.specs.Computation.{Comp}
 use Rattle.theory.specs.Rules.{node, choose, merge, sum, product, best}
@@ -75,14 +74,14 @@ module _ {cap : ℕ} {l : List ℤ} {w : List ℕ} {n : ℕ} (A : Table rule_of 
     right_leaf = record { below = hg; ends = o.right }
 
     -- both are leaves
-    pub merge_ends : {l₁ : List ℤ} {w₁ : List ℕ} {r : Made} → Grew cap l w n (leaf_rule op (leaf_of (node_at l f)) (leaf_of (node_at l g))) l₁ w₁ r → RuleRan rule_of cap l w n (rule_of l n (code_of op) f g 0 0) l₁ w₁ r
+    pub merge_ends : {l₁ : List ℤ} {w₁ : List ℕ} {r : Answer} → Grew cap l w n (leaf_rule op (leaf_of (node_at l f)) (leaf_of (node_at l g))) l₁ w₁ r → RuleRan rule_of cap l w n (rule_of l n (code_of op) f g 0 0) l₁ w₁ r
     merge_ends Q = ran_as (sym o.is ∙ sym (rule_merge l n f g op)) (lifted A Q)
 
 -- ---- gone on with
 
 module _ {cap : ℕ} {l l₁ : List ℤ} {w w₁ : List ℕ} {n : ℕ} (op : Merge) (f g : ℕ) {s : Sides}
-    (o : On l n (merge (maker_of op) (leaf_rule op)) (maker_of op) f g s) {h : Made} (Q : RuleRan rule_of cap l w n (rule_of l n (code_of op) s.fh s.gh 0 0) l₁ w₁ h) where
-  abbrev Done : List ℤ → List ℕ → Made → Type 0
+    (o : On l n (merge (maker_of op) (leaf_rule op)) (maker_of op) f g s) {h : Answer} (Q : RuleRan rule_of cap l w n (rule_of l n (code_of op) s.fh s.gh 0 0) l₁ w₁ h) where
+  abbrev Done : List ℤ → List ℕ → Answer → Type 0
   Done = RuleRan rule_of cap l w n (rule_of l n (code_of op) f g 0 0)
 
   abbrev M : Tree → Tree → Comp Tree
@@ -91,29 +90,29 @@ module _ {cap : ℕ} {l l₁ : List ℤ} {w w₁ : List ℕ} {n : ℕ} (op : Mer
   high : RuleRan rule_of cap l w n (M (tree_at l n s.fh) (tree_at l n s.gh)) l₁ w₁ h
   high = ran_as (rule_merge l n s.fh s.gh op) Q
 
-  out : {l' : List ℤ} {w' : List ℕ} {r : Made} → RuleRan rule_of cap l w n (M (tree_at l n f) (tree_at l n g)) l' w' r → Done l' w' r
+  out : {l' : List ℤ} {w' : List ℕ} {r : Answer} → RuleRan rule_of cap l w n (M (tree_at l n f) (tree_at l n g)) l' w' r → Done l' w' r
   out P = ran_as (sym (rule_merge l n f g op)) P
 
-  pub high_ended : (h.stop ≡ 0 → ⊥) → Done l₁ w₁ h
+  pub high_ended : (stop_of h ≡ 0 → ⊥) → Done l₁ w₁ h
   high_ended off = out (high_stops _ _ _ _ _ _ _ _ _ _ _ o _ high off)
 
   -- what the low sides ask
-  pub low_asks : Table rule_of cap l₁ w₁ h.count × (s.fl < h.count) × (s.gl < h.count)
+  pub low_asks : Table rule_of cap l₁ w₁ (count_of h) × (s.fl < (count_of h)) × (s.gl < (count_of h))
   low_asks = (Q.table, lt_of_lt_of_le o.fl Q.more, lt_of_lt_of_le o.gl Q.more)
 
-  module _ (ok : h.stop ≡ 0) {l₂ : List ℤ} {w₂ : List ℕ} {k : Made} (S : RuleRan rule_of cap l₁ w₁ h.count (rule_of l₁ h.count (code_of op) s.fl s.gl 0 0) l₂ w₂ k) where
-    low : RuleRan rule_of cap l₁ w₁ h.count (M (tree_at l₁ h.count s.fl) (tree_at l₁ h.count s.gl)) l₂ w₂ k
-    low = ran_as (rule_merge l₁ h.count s.fl s.gl op) S
+  module _ (ok : stop_of h ≡ 0) {l₂ : List ℤ} {w₂ : List ℕ} {k : Answer} (S : RuleRan rule_of cap l₁ w₁ (count_of h) (rule_of l₁ (count_of h) (code_of op) s.fl s.gl 0 0) l₂ w₂ k) where
+    low : RuleRan rule_of cap l₁ w₁ (count_of h) (M (tree_at l₁ (count_of h) s.fl) (tree_at l₁ (count_of h) s.gl)) l₂ w₂ k
+    low = ran_as (rule_merge l₁ (count_of h) s.fl s.gl op) S
 
-    pub low_ended : (k.stop ≡ 0 → ⊥) → Done l₂ w₂ k
+    pub low_ended : (stop_of k ≡ 0 → ⊥) → Done l₂ w₂ k
     low_ended off = out (low_stops _ _ _ _ _ _ _ _ _ _ _ o _ high ok _ _ _ low off)
 
-    module _ (ok' : k.stop ≡ 0) where
+    module _ (ok' : stop_of k ≡ 0) where
       -- what is asked over the root
-      pub root_asks : Table rule_of cap l₂ w₂ k.count × Root l₂ k.count s.root × (h.at < k.count) × (k.at < k.count)
+      pub root_asks : Table rule_of cap l₂ w₂ (count_of k) × Root l₂ (count_of k) s.root × ((at_of h) < (count_of k)) × ((at_of k) < (count_of k))
       root_asks = (S.table, root_on _ _ _ _ _ _ _ _ _ _ _ o _ high ok _ _ _ low, high_in _ _ _ _ _ _ _ _ _ _ _ o _ high ok _ _ _ low, S.within ok')
 
-      pub root_made : {l₃ : List ℤ} {w₃ : List ℕ} {r : Made} → RuleRan rule_of cap l₂ w₂ k.count (maker_of op (test_held (node_at l₂ s.root)) (tree_at l₂ k.count h.at) (tree_at l₂ k.count k.at)) l₃ w₃ r → Done l₃ w₃ r
+      pub root_made : {l₃ : List ℤ} {w₃ : List ℕ} {r : Answer} → RuleRan rule_of cap l₂ w₂ (count_of k) (maker_of op (test_held (node_at l₂ s.root)) (tree_at l₂ (count_of k) (at_of h)) (tree_at l₂ (count_of k) (at_of k))) l₃ w₃ r → Done l₃ w₃ r
       root_made P = out (joined _ _ _ _ _ _ _ _ _ _ _ o _ high ok _ _ _ low ok' _ _ _ P)
 
 -- ---- over a root

@@ -15,7 +15,7 @@ use rule_choose::choose;
 use rule_choose::roots::sides_at;
 use rule_node::codes::CHOOSE_NAMED;
 use rule_node::making::join;
-use table::Made;
+use table::{Made, Stopped};
 use table_cache::{keep, look};
 
 // What a rule makes of two results over the root at t: best chooses, the others have a node.
@@ -28,7 +28,7 @@ fn over_root(
     t: usize,
     h: usize,
     l: usize,
-) -> Made
+) -> Result<Made, Stopped>
     requires { Table rule_of cap nodes.old work.old count × Root nodes.old count t × (h < count) × (l < count) }
     ensures { RuleRan rule_of cap nodes.old work.old count (maker_of rule (test_held (node_at nodes.old t)) (tree_at nodes.old count h) (tree_at nodes.old count l)) nodes.new work.new result }
 {
@@ -47,7 +47,7 @@ pub fn merge(
     rule: Merge,
     f: usize,
     g: usize,
-) -> Made
+) -> Result<Made, Stopped>
     requires { Table rule_of cap nodes.old work.old count × (f < count) × (g < count) }
     ensures { RuleRan rule_of cap nodes.old work.old count (rule_of nodes.old count (code_of rule) f g 0 0) nodes.new work.new result }
 {
@@ -56,26 +56,12 @@ pub fn merge(
         return combine(nodes, work, cap, count, rule, f, g);
     }
     let op = rule.code();
-    let c = look(work, cap, op, f, g, 0, 0);
-    if c != 0 {
-        return Made {
-            stop: 0,
-            at: c - 1,
-            count,
-        };
+    if let Some(at) = look(work, cap, op, f, g, 0, 0) {
+        return Ok(Made { at, count });
     }
-    let h = merge(nodes, work, cap, count, rule, s.fh, s.gh);
-    if h.stop != 0 {
-        return h;
-    }
-    let l = merge(nodes, work, cap, h.count, rule, s.fl, s.gl);
-    if l.stop != 0 {
-        return l;
-    }
-    let r = over_root(nodes, work, cap, l.count, rule, s.root, h.at, l.at);
-    if r.stop != 0 {
-        return r;
-    }
+    let h = merge(nodes, work, cap, count, rule, s.fh, s.gh)?;
+    let l = merge(nodes, work, cap, h.count, rule, s.fl, s.gl)?;
+    let r = over_root(nodes, work, cap, l.count, rule, s.root, h.at, l.at)?;
     keep(work, cap, op, f, g, 0, 0, r.at);
-    r
+    Ok(r)
 }

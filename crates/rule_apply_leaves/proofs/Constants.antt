@@ -17,8 +17,8 @@ use Rattle.whole.specs.LinearsLaws.{sub_at, minus, add_take, scale_take, scale_l
 use Rattle.whole.specs.Within.{limit, Small, small}
 use Rattle.whole.proofs.Signed.{R}
 use Rattle.whole.proofs.Loops.{sub_fits, sub_is}
-use Rattle.table.specs.Table.{node_words, node_at}
-use Rattle.table.specs.declared.Made.{Made}
+use Rattle.table.specs.declared.Stop.TheVariants.{Over}
+use Rattle.table.specs.Table.{Answer, made, halted, node_words, node_at}
 use Rattle.table.proofs.Store.{number_at}
 use Rattle.theory.specs.Widths.{levels_most}
 use Rattle.theory.proofs.laws.Comps.{cmp_ℤ_eq}
@@ -140,17 +140,17 @@ module _ (l : List ℤ) (f g : ℕ) (s : AtNumbers l f × AtNumbers l g) where
       sub_is _ _ (q_small levels_most (omega arith)) (p_small levels_most (omega arith))
       ∙ ap₂ ◌-ℤ◌ (sym (read_g levels_most (omega arith))) (sym (read_f levels_most (omega arith)))
 
-  abbrev answer : ℕ → Bool → Bool → Made
-  answer n s t = if s (record { stop = 0; at = if t f g; count = n }) (record { stop = 11; at = 0; count = n })
+  abbrev answer : ℕ → Bool → Bool → Answer
+  answer n s t = if s (made (if t f g) n) (halted Over n)
 
   module _ (n : ℕ) {m : ℕ} (e : m ≡ nat_abs (R last)) where
-    pub constants_over : limit < m → ◌≡◌ {A = Made} (record { stop = 11; at = 0; count = n }) (better_constant n f g (constant_of (node_at l g) -ℤ constant_of (node_at l f)))
+    pub constants_over : limit < m → ◌≡◌ {A = Answer} (halted Over n) (better_constant n f g (constant_of (node_at l g) -ℤ constant_of (node_at l f)))
     unfolding better_constant small
     constants_over h = sym (ap (better_constant n f g) (sym last_is) ∙ ap (λ (s : Bool). answer n s (le_z (R last) (pos 0))) (lt-leb (nat_abs (R last)) limit (omega arith)))
 
     pub constants_decide : m ≤ limit → {k : ℕ} → k ≡ if (le_z (R last) (pos 0)) f g
-        → ◌≡◌ {A = Made} (record { stop = 0; at = k; count = n }) (better_constant n f g (constant_of (node_at l g) -ℤ constant_of (node_at l f)))
+        → ◌≡◌ {A = Answer} (made k n) (better_constant n f g (constant_of (node_at l g) -ℤ constant_of (node_at l f)))
     unfolding better_constant small
     constants_decide h d =
-        ap (λ (k : ℕ). record { stop = 0; at = k; count = n }) d
+        ap (λ (k : ℕ). made k n) d
         ∙ sym (ap (better_constant n f g) (sym last_is) ∙ ap (λ (s : Bool). answer n s (le_z (R last) (pos 0))) (le-leb (nat_abs (R last)) limit (omega arith)))
