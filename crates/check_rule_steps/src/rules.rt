@@ -5,7 +5,7 @@ ghost use Rattle.rule_node.specs.EntryMeaning.{rule_of, NamesTest};
 ghost use Rattle.rule_unary_node.specs.Acts.{Acts};
 
 use super::{Numbers, Step};
-use rule_apply::merge;
+use rule_apply::{Merge, merge};
 use rule_choose::choose;
 use rule_node::making::{join_test, make_leaf};
 use rule_unary::rules::over;
@@ -158,6 +158,16 @@ fn condition(nodes: &mut [i64], work: &mut [u32], cap: usize, count: usize, s: S
     join_test(nodes, work, cap, count, t, s.f, s.g)
 }
 
+// The rule that a step's number names, of those that merge two diagrams.
+fn merging(op: usize) -> Option<Merge> {
+    match op {
+        0 => Some(Merge::Sum),
+        1 => Some(Merge::Product),
+        2 => Some(Merge::Best),
+        _ => None,
+    }
+}
+
 // A rule of two diagrams: sum (0), product (1), best (2), a node of a condition (12), or a choice.
 fn binary_step(nodes: &mut [i64], work: &mut [u32], cap: usize, count: usize, s: Step) -> Made
     requires { Table rule_of cap nodes.old work.old count × (s.f < count) }
@@ -166,8 +176,8 @@ fn binary_step(nodes: &mut [i64], work: &mut [u32], cap: usize, count: usize, s:
     if s.g >= count {
         return unknown(count);
     }
-    if s.op <= 2 {
-        return merge(nodes, work, cap, count, s.op, s.f, s.g);
+    if let Some(rule) = merging(s.op) {
+        return merge(nodes, work, cap, count, rule, s.f, s.g);
     }
     if s.op == 12 {
         return condition(nodes, work, cap, count, s);

@@ -6,7 +6,7 @@ ghost use Rattle.rule_node.specs.Table.{Table};
 ghost use Rattle.rule_node.specs.EntryMeaning.{rule_of};
 ghost use Rattle.check_rules.specs.Held.{cap, RulesHeld};
 
-use rule_apply::merge;
+use rule_apply::{Merge, merge};
 use rule_node::making::{join_test, make_leaf};
 use std::io;
 use table::{Made, NODE_WORDS, Node};
@@ -102,11 +102,11 @@ fn pair(
     nodes: &mut [i64],
     work: &mut [u32],
     count: usize,
-    op: usize,
+    rule: Merge,
     value: usize,
     values: usize,
 ) -> io::Result<Made>
-    requires { Table rule_of cap nodes.old work.old count × (op ≤ 2) × (value ≤ 1000) × (0 < values) }
+    requires { Table rule_of cap nodes.old work.old count × (value ≤ 1000) × (0 < values) }
     ensures ok { IfOk result (λ made. RulesHeld count nodes.new work.new made) }
     ensures err { OnErr result ((made : Made) × RulesHeld count nodes.new work.new made) }
 {
@@ -120,7 +120,7 @@ fn pair(
     if g.stop != 0 {
         return Ok(g);
     }
-    let r = merge(nodes, work, CAP, g.count, op, f.at, g.at);
+    let r = merge(nodes, work, CAP, g.count, rule, f.at, g.at);
     show(rt, r)?;
     Ok(r)
 }
@@ -129,15 +129,15 @@ fn pair(
 fn all(rt: &impl Print, nodes: &mut [i64], work: &mut [u32]) -> io::Result<()>
     requires { Table rule_of cap nodes.old work.old 0 }
 {
-    let a = pair(rt, nodes, work, 0, 2, 1000, 1000)?;
+    let a = pair(rt, nodes, work, 0, Merge::Best, 1000, 1000)?;
     if a.stop != 0 {
         return Ok(());
     }
-    let b = pair(rt, nodes, work, a.count, 0, 0, 20)?;
+    let b = pair(rt, nodes, work, a.count, Merge::Sum, 0, 20)?;
     if b.stop != 0 {
         return Ok(());
     }
-    pair(rt, nodes, work, b.count, 0, 1000, 1000)?;
+    pair(rt, nodes, work, b.count, Merge::Sum, 1000, 1000)?;
     Ok(())
 }
 

@@ -12,7 +12,7 @@ ghost use Rattle.solve_laws.specs.Operated.{Came};
 ghost use Rattle.solve_operation.specs.Operation.{substitutes, comp_of, zero_node, FitsLevels, FitsRule, Standing, Kept, Operated};
 ghost use Rattle.table.specs.Table.{nodes_most};
 
-use rule_node::codes::BEST;
+use rule_apply::Merge;
 use table::{Made, Node};
 use whole::NUMBERS;
 
@@ -137,7 +137,7 @@ fn compute(
                 work,
                 cap,
                 count,
-                BEST,
+                Merge::Best,
                 roots[f] as usize,
                 roots[g] as usize,
             )
