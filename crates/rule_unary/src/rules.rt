@@ -11,6 +11,7 @@ ghost use Rattle.rule_unary.specs.Picks.{Picks};
 
 use rule_node::codes::{COMPLEMENT, NUMBER, SCALE, SHIFT};
 use rule_node::making::join;
+use rule_unary_node::Way;
 use rule_unary_node::halves::{high_half, low_half};
 use rule_unary_node::leaf::at_leaf;
 use rule_unary_node::ways::way_at;
@@ -31,21 +32,20 @@ pub fn over(
     requires { Table rule_of cap nodes.old work.old count × Acts op p q × (f < count) }
     ensures { RuleRan rule_of cap nodes.old work.old count (rule_of nodes.old count op f 0 p q) nodes.new work.new result }
 {
-    let s = way_at(nodes, op, f, p);
-    if s.ends {
-        return at_leaf(nodes, work, cap, count, op, f, p, q);
+    match way_at(nodes, op, f, p) {
+        Way::End => at_leaf(nodes, work, cap, count, op, f, p, q),
+        Way::Pick(i) => over(nodes, work, cap, count, op, i, p, q),
+        Way::Both(high, low) => {
+            if let Some(at) = look(work, cap, op, f, 0, p, q) {
+                return Ok(Made { at, count });
+            }
+            let h = over(nodes, work, cap, count, op, high, p, q)?;
+            let l = over(nodes, work, cap, h.count, op, low, p, q)?;
+            let r = join(nodes, work, cap, l.count, f, h.at, l.at)?;
+            keep(work, cap, op, f, 0, p, q, r.at);
+            Ok(r)
+        }
     }
-    if s.picks {
-        return over(nodes, work, cap, count, op, s.high, p, q);
-    }
-    if let Some(at) = look(work, cap, op, f, 0, p, q) {
-        return Ok(Made { at, count });
-    }
-    let h = over(nodes, work, cap, count, op, s.high, p, q)?;
-    let l = over(nodes, work, cap, h.count, op, s.low, p, q)?;
-    let r = join(nodes, work, cap, l.count, f, h.at, l.at)?;
-    keep(work, cap, op, f, 0, p, q, r.at);
-    Ok(r)
 }
 
 // A side of the diagram f at the next step's condition p: 7 yes, 8 no.

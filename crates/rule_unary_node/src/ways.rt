@@ -17,20 +17,13 @@ use std::cmp::Ordering;
 pub fn way(d: Down, op: usize, o: Ordering) -> Way
     ensures { result ≡ way_by d op (ordering_index o) }
 {
-    let Ordering::Equal = o else {
-        return Way {
-            ends: d.ends,
-            picks: false,
-            high: d.high,
-            low: d.low,
-        };
-    };
-    Way {
-        ends: d.ends,
-        picks: true,
-        high: if op == YES_SIDE { d.high } else { d.low },
-        low: d.low,
+    if d.ends {
+        return Way::End;
     }
+    let Ordering::Equal = o else {
+        return Way::Both(d.high, d.low);
+    };
+    Way::Pick(if op == YES_SIDE { d.high } else { d.low })
 }
 
 // What the rule op goes on with at f. Only a side looks for its condition.
