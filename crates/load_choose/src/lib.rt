@@ -8,7 +8,7 @@ ghost use Rattle.rule_node.specs.Roots.{Stood};
 ghost use Rattle.rule_node.specs.Table.{Table, RuleRan};
 ghost use Rattle.load_choose.specs.CommandTest.{Testing, leaf_words, test_at, load_rule};
 
-use model_command::{Command, Read};
+use model_command::Command;
 use rule_choose::roots::choice_at;
 use rule_node::codes::CHOOSE_COMMAND;
 use rule_node::making::{join, join_test};
@@ -35,7 +35,7 @@ fn test_from(model: &[u8], at: usize) -> Node
     ensures { Stood (test_at model.now at) result }
 {
     let read = model_command::command_at(model, at);
-    let Read::Whole(c) = read else {
+    let Ok(c) = read else {
         return condition(1);
     };
     match c {

@@ -119,7 +119,7 @@ pub fn step(
         Command::Condition(_) => choice(model, nodes, work, cap, at, s),
         Command::Test => choice(model, nodes, work, cap, at, s),
         Command::Forbidden => forbidden(nodes, work, cap, s),
-        Command::Give(_, _, _) => taken(s),
+        Command::Give { .. } => taken(s),
         _ => s,
     }
 }
