@@ -5,7 +5,7 @@
 
 use check_hex::input::read_full;
 use check_hex::{find, report};
-use model_command::{Command, Read};
+use model_command::{Command, CommandError};
 use std::io;
 
 // A command's byte and its operands of one or two bytes, 0 where it has fewer; byte 0 for an unknown one, 1 for one that is cut.
@@ -30,30 +30,39 @@ fn row_of(byte: u8, first: u16, second: u16, third: u16, fourth: u16) -> Row {
 
 fn command_row(c: Command) -> Row {
     match c {
-        Command::Site(levels, conditions, actions, weights) => {
+        Command::Site {
+            levels,
+            conditions,
+            actions,
+            weights,
+        } => {
             row_of(
                 0x02,
-                levels as u16,
-                conditions as u16,
+                u16::from(levels),
+                u16::from(conditions),
                 actions,
-                weights as u16,
+                u16::from(weights),
             )
         }
         Command::Leaf => row_of(0x10, 0, 0, 0, 0),
-        Command::Condition(k) => row_of(0x11, k as u16, 0, 0, 0),
+        Command::Condition(k) => row_of(0x11, u16::from(k), 0, 0, 0),
         Command::Test => row_of(0x12, 0, 0, 0, 0),
         Command::Forbidden => row_of(0x13, 0, 0, 0, 0),
-        Command::Give(byte, action, index) => row_of(byte, action, index as u16, 0, 0),
+        Command::Give {
+            command,
+            action,
+            index,
+        } => row_of(command, action, u16::from(index), 0, 0),
         Command::Name(action) => row_of(0x30, action, 0, 0, 0),
         Command::End => row_of(0xff, 0, 0, 0, 0),
     }
 }
 
-fn shown(r: Read) -> Row {
+fn shown(r: Result<Command, CommandError>) -> Row {
     match r {
-        Read::Whole(c) => command_row(c),
-        Read::Unknown => row_of(0, 0, 0, 0, 0),
-        Read::Short => row_of(1, 0, 0, 0, 0),
+        Ok(c) => command_row(c),
+        Err(CommandError::Unknown) => row_of(0, 0, 0, 0, 0),
+        Err(CommandError::Short) => row_of(1, 0, 0, 0, 0),
     }
 }
 

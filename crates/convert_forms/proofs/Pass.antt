@@ -12,7 +12,7 @@ use Rattle.theory.specs.Command.{byte_at, width_in, read_in, goes_on, readings_f
 use Rattle.theory.specs.Rows.{WholeIn}
 use Rattle.theory.proofs.laws.AcceptedModel.{behind_in}
 use Rattle.theory.proofs.laws.Rows.{by_read_in, if_no}
-use Rattle.model_command.specs.declared.Read.{Read as CodeRead}
+use Rattle.model_command.specs.CursorReadings.{CodeRead}
 use Rattle.model_command.specs.CursorReadings.{next_in, read_of_in}
 use Rattle.text_decimal.specs.Put.{PutAt}
 use Rattle.text_decimal.proofs.Puts.{none, then, rename}

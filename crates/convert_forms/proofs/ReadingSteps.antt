@@ -7,8 +7,9 @@ use Rattle.theory.specs.Form.{Form}
 use Rattle.theory.specs.Command.{read_in, goes_on}
 use Rattle.model_command.specs.declared.Command.{Command as CodeCommand}
 use Rattle.model_command.specs.declared.Command.TheVariants.{Site, Leaf, Condition, Test, Forbidden, Give, Name, End}
-use Rattle.model_command.specs.declared.Read.{Read as CodeRead}
-use Rattle.model_command.specs.declared.Read.TheVariants.{Whole, Unknown, Short}
+use Rattle.model_command.specs.CursorReadings.{CodeRead}
+use Rattle.model_command.specs.declared.CommandError.TheVariants.{Unknown, Short}
+use Rattle.std.specs.Prelude.{Ok, Err}
 use Rattle.model_command.specs.CursorReadings.{command_of_in, read_of_in}
 use Rattle.convert_forms.specs.OperandLayouts.{reads_on}
 
@@ -24,26 +25,26 @@ command_cases P s l i t f g n e (Give k a j) = g k a j
 command_cases P s l i t f g n e (Name a) = n a
 command_cases P s l i t f g n e End = e
 
-pub reading_cases : (P : CodeRead → Type 0) → ((c : CodeCommand) → P (Whole c)) → P Unknown → P Short → (r : CodeRead) → P r
-reading_cases P w u s (Whole c) = w c
-reading_cases P w u s Unknown = u
-reading_cases P w u s Short = s
+pub reading_cases : (P : CodeRead → Type 0) → ((c : CodeCommand) → P (Ok c)) → P (Err Unknown) → P (Err Short) → (r : CodeRead) → P r
+reading_cases P w u s (Ok c) = w c
+reading_cases P w u s (Err Unknown) = u
+reading_cases P w u s (Err Short) = s
 
 -- a reading that is no command
-pub no_whole : (P : CodeRead → Type 0) → P Unknown → P Short → (r : CodeRead) → ((c : CodeCommand) → r ≡ Whole c → ⊥) → P r
-no_whole P u s = reading_cases (λ (r : CodeRead). ((c : CodeCommand) → r ≡ Whole c → ⊥) → P r) (λ c k. absurd (k c refl)) (λ k. u) (λ k. s)
+pub no_whole : (P : CodeRead → Type 0) → P (Err Unknown) → P (Err Short) → (r : CodeRead) → ((c : CodeCommand) → r ≡ Ok c → ⊥) → P r
+no_whole P u s = reading_cases (λ (r : CodeRead). ((c : CodeCommand) → r ≡ Ok c → ⊥) → P r) (λ c k. absurd (k c refl)) (λ k. u) (λ k. s)
 
-pub ends_here : (r : CodeRead) (c : CodeCommand) → r ≡ Whole c → c ≡ End → false ≡ reads_on r
+pub ends_here : (r : CodeRead) (c : CodeCommand) → r ≡ Ok c → c ≡ End → false ≡ reads_on r
 unfolding reads_on
-ends_here r c e d = sym (ap reads_on e ∙ ap (λ (c : CodeCommand). reads_on (Whole c)) d)
+ends_here r c e d = sym (ap reads_on e ∙ ap (λ (c : CodeCommand). reads_on (Ok c)) d)
 
-pub another : (r : CodeRead) (c : CodeCommand) → r ≡ Whole c → (c ≡ End → ⊥) → true ≡ reads_on r
+pub another : (r : CodeRead) (c : CodeCommand) → r ≡ Ok c → (c ≡ End → ⊥) → true ≡ reads_on r
 unfolding reads_on
 another r c e k =
-    sym (ap reads_on e ∙ command_cases (λ (c : CodeCommand). (c ≡ End → ⊥) → reads_on (Whole c) ≡ true)
+    sym (ap reads_on e ∙ command_cases (λ (c : CodeCommand). (c ≡ End → ⊥) → reads_on (Ok c) ≡ true)
     (λ m n a w k. refl) (λ k. refl) (λ i k. refl) (λ k. refl) (λ k. refl) (λ g a j k. refl) (λ a k. refl) (λ k. absurd (k refl)) c k)
 
-pub no_command : (r : CodeRead) → ((c : CodeCommand) → r ≡ Whole c → ⊥) → false ≡ reads_on r
+pub no_command : (r : CodeRead) → ((c : CodeCommand) → r ≡ Ok c → ⊥) → false ≡ reads_on r
 unfolding reads_on
 no_command = no_whole (λ (r : CodeRead). false ≡ reads_on r) refl refl
 
@@ -52,5 +53,5 @@ pub goes_as : (F : Form) (B : List ℕ) (at : ℕ) (r : CodeRead) → read_of_in
 unfolding reads_on goes_on read_of_in command_of_in
 goes_as F B at r e =
     reading_cases (λ (r : CodeRead). reads_on r ≡ goes_on (read_of_in F B at r))
-    (command_cases (λ (c : CodeCommand). reads_on (Whole c) ≡ goes_on (read_of_in F B at (Whole c)))
+    (command_cases (λ (c : CodeCommand). reads_on (Ok c) ≡ goes_on (read_of_in F B at (Ok c)))
     (λ m n a w. refl) refl (λ i. refl) refl refl (λ g a j. refl) (λ a. refl) refl) refl refl r ∙ ap goes_on e

@@ -1,8 +1,9 @@
 -- What the code works with: an operand layout, the length of a command in another form, how a reading goes on.
 use Rattle.std.specs.Prelude.{Bool, true, false, ℕ, ◌+◌}
 use Rattle.theory.specs.Form.{Form}
-use Rattle.model_command.specs.declared.Read.{Read as CodeRead}
-use Rattle.model_command.specs.declared.Read.TheVariants.{Whole, Unknown, Short}
+use Rattle.model_command.specs.CursorReadings.{CodeRead}
+use Rattle.model_command.specs.declared.CommandError.TheVariants.{Unknown, Short}
+use Rattle.std.specs.Prelude.{Ok, Err}
 use Rattle.model_command.specs.declared.Command.TheVariants.{Site, Leaf, Condition, Test, Forbidden, Give, Name, End}
 use Rattle.convert_forms.specs.declared.layouts.Layout.{Layout as CodeLayout}
 use Rattle.convert_forms.specs.Forms.{Layout, layout_in, byte_in}
@@ -17,13 +18,13 @@ converted_length F G op = 1 + ((layout_in F op).before + ((layout_in G (byte_in 
 
 -- a whole command that is not the end
 unfoldable pub reads_on : CodeRead → Bool
-reads_on (Whole (Site m n a w)) = true
-reads_on (Whole Leaf) = true
-reads_on (Whole (Condition k)) = true
-reads_on (Whole Test) = true
-reads_on (Whole Forbidden) = true
-reads_on (Whole (Give c a i)) = true
-reads_on (Whole (Name a)) = true
-reads_on (Whole End) = false
-reads_on Unknown = false
-reads_on Short = false
+reads_on (Ok (Site m n a w)) = true
+reads_on (Ok Leaf) = true
+reads_on (Ok (Condition k)) = true
+reads_on (Ok Test) = true
+reads_on (Ok Forbidden) = true
+reads_on (Ok (Give c a i)) = true
+reads_on (Ok (Name a)) = true
+reads_on (Ok End) = false
+reads_on (Err Unknown) = false
+reads_on (Err Short) = false

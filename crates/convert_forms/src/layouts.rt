@@ -7,7 +7,7 @@ ghost use Rattle.convert_forms.specs.Forms.{byte_in as byte_of};
 ghost use Rattle.convert_forms.specs.OperandLayouts.{layout_as, converted_length};
 
 use model_command::NAME_BYTES;
-use model_form::{Form, action_bytes, levels, site_byte};
+use model_form::Form;
 
 // A command's operands: bytes that are the same in both forms, those that differ, and again some that are the same.
 #[derive(Clone, Copy)]
@@ -30,11 +30,11 @@ fn parts(before: usize, differing: usize, behind: usize) -> Layout
 pub fn layout_in(form: Form, op: u8) -> Layout
     ensures { layout_as result ≡ layout_of (form_of form) op }
 {
-    let actions = action_bytes(form);
-    if op == site_byte(form) {
+    let actions = form.action_bytes();
+    if op == form.site_byte() {
         return parts(2, actions, 1);
     }
-    let coefficients = levels(form) * 4;
+    let coefficients = form.levels() * 4;
     match op {
         0x10 => parts(0, coefficients, 4),
         0x11 => parts(0, 0, 1),
@@ -51,8 +51,8 @@ pub fn layout_in(form: Form, op: u8) -> Layout
 pub fn byte_in(from: Form, to: Form, op: u8) -> u8
     ensures { result ≡ byte_of (form_of from) (form_of to) op }
 {
-    if op == site_byte(from) {
-        site_byte(to)
+    if op == from.site_byte() {
+        to.site_byte()
     } else {
         op
     }

@@ -8,14 +8,14 @@ ghost use Rattle.convert_forms.specs.Forms.{copied, fitted, converted, model_as}
 ghost use Rattle.convert_forms.specs.OperandLayouts.{reads_on};
 
 use super::layouts::{byte_in, command_len, layout_in};
-use model_command::{Command, Read, byte_at};
+use model_command::{Command, CommandError, byte_at};
 use model_form::Form;
 
 // A whole command that is not the end.
-pub fn goes_on(read: Read) -> bool
+pub fn goes_on(read: Result<Command, CommandError>) -> bool
     ensures { result ≡ reads_on read }
 {
-    if let Read::Whole(c) = read {
+    if let Ok(c) = read {
         if let Command::End = c { false } else { true }
     } else {
         false

@@ -12,7 +12,7 @@ use Rattle.theory.specs.Command.{byte_at, width_in, read_in, goes_on, readings_f
 use Rattle.theory.specs.Verdict.{or}
 use Rattle.theory.specs.Load.{site_in}
 use Rattle.theory.proofs.laws.AcceptedModel.{behind_in}
-use Rattle.model_command.specs.declared.Read.{Read as CodeRead}
+use Rattle.model_command.specs.CursorReadings.{CodeRead}
 use Rattle.model_command.specs.CursorReadings.{next_in, read_of_in}
 use Rattle.convert_model.specs.Conversion.{is_forbidden, forbids, too_large, unfit}
 use Rattle.convert_model.specs.Written.{reads_forbidden}

@@ -6,13 +6,13 @@ ghost use Rattle.convert_model.specs.Conversion.{forbids as forbids-in};
 ghost use Rattle.convert_model.specs.Written.{reads_forbidden};
 
 use convert_forms::writing::goes_on;
-use model_command::{Command, Read};
+use model_command::{Command, CommandError};
 use model_form::Form;
 
-fn is_forbidden(read: Read) -> bool
+fn is_forbidden(read: Result<Command, CommandError>) -> bool
     ensures { result ≡ reads_forbidden read }
 {
-    if let Read::Whole(c) = read {
+    if let Ok(c) = read {
         if let Command::Forbidden = c {
             true
         } else {

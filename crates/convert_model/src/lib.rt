@@ -13,7 +13,7 @@ ghost use Rattle.convert_model.specs.Written.{outcome_as};
 
 use model::{BYTES_MOST, Verdict};
 use model_command::{action_in, byte_at};
-use model_form::{Form, actions, forbidden_bytes, levels};
+use model_form::Form;
 use model_progress::refusals::SIZES;
 
 mod forbidding; // forbidding.rt: whether a model has a command that the old form has not
@@ -62,10 +62,10 @@ fn own(form: Form, model: &[u8]) -> Verdict
 fn too_large(from: Form, to: Form, model: &[u8], size: usize) -> bool
     ensures { result ≡ larger (form_of to) (site_in (form_of from) model.now) size }
 {
-    if levels(to) < byte_at(model, 1) as usize {
+    if to.levels() < usize::from(byte_at(model, 1)) {
         return true;
     }
-    if actions(to) < action_in(from, model, 3) as usize {
+    if to.actions() < usize::from(action_in(from, model, 3)) {
         return true;
     }
     bytes_most(to) < size
@@ -78,7 +78,7 @@ fn unfit(from: Form, to: Form, model: &[u8], size: usize) -> bool
     if too_large(from, to, model, size) {
         return true;
     }
-    if forbidden_bytes(to) == 0 {
+    if to.forbidden_bytes() == 0 {
         forbidding::forbids(from, model)
     } else {
         false

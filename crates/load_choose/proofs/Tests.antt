@@ -19,8 +19,9 @@ use lib.ListN.{length}
 use Rattle.model_command.proofs.Forward.{has_linear, linear_room}
 use Rattle.model_command.specs.declared.Command.{Command as CodeCommand}
 use Rattle.model_command.specs.declared.Command.TheVariants.{Site, Leaf, Condition, Test as TestBy, Forbidden, Give, Name, End}
-use Rattle.model_command.specs.declared.Read.{Read as CodeRead}
-use Rattle.model_command.specs.declared.Read.TheVariants.{Whole, Unknown, Short}
+use Rattle.model_command.specs.CursorReadings.{CodeRead}
+use Rattle.model_command.specs.declared.CommandError.TheVariants.{Unknown, Short}
+use Rattle.std.specs.Prelude.{Ok, Err}
 use Rattle.model_command.specs.CursorReadings.{with_linear, linear_of, command_of_in, command_of, read_of_in, read_of}
 use Rattle.rule_node.specs.Nodes.{linear_held, condition_of, Nums}
 use Rattle.rule_node.specs.Roots.{condition_node, linear_node, named_node, Stood}
@@ -58,11 +59,11 @@ linear_stood p {x} {r} e f s = subst (Stood (test_of (linear_of p))) (sym (f ∙
 
 -- ---- by what the code reads
 
-not_whole : (B : List ℕ) (at : ℕ) (q : CodeRead) → ((c : CodeCommand) → q ≡ Whole c → ⊥) → test_read (read_of B at q) ≡ condition_test 1
+not_whole : (B : List ℕ) (at : ℕ) (q : CodeRead) → ((c : CodeCommand) → q ≡ Ok c → ⊥) → test_read (read_of B at q) ≡ condition_test 1
 unfolding test_read read_of_in
-not_whole B at (Whole c) k = absurd (k c refl)
-not_whole B at Unknown k = refl
-not_whole B at Short k = refl
+not_whole B at (Ok c) k = absurd (k c refl)
+not_whole B at (Err Unknown) k = refl
+not_whole B at (Err Short) k = refl
 
 other_test : (B : List ℕ) (at : ℕ) (d : CodeCommand) → ((i : ℕ) → d ≡ Condition i → ⊥) → (d ≡ TestBy → ⊥) → test_read (whole (command_of B at d)) ≡ condition_test 1
 unfolding test_read test_in command_of_in
@@ -76,15 +77,15 @@ other_test B at (Name a) k l = refl
 other_test B at End k l = refl
 
 module _ (B : List ℕ) (at : ℕ) (r : CodeRead) (e : read_of B at r ≡ read_at B at) where
-  pub whole_is : {c : CodeCommand} → r ≡ Whole c → whole (command_of B at c) ≡ read_at B at
+  pub whole_is : {c : CodeCommand} → r ≡ Ok c → whole (command_of B at c) ≡ read_at B at
   unfolding read_of_in
   whole_is f = ap (read_of B at) (sym f) ∙ e
 
   -- nothing whole is there
-  pub none_stood : ((c : CodeCommand) → r ≡ Whole c → ⊥) → {x : Node} → Stood (condition_test 1) x → Stood (test_at B at) x
+  pub none_stood : ((c : CodeCommand) → r ≡ Ok c → ⊥) → {x : Node} → Stood (condition_test 1) x → Stood (test_at B at) x
   none_stood k {x} s = subst (λ (t : Test). Stood t x) (sym (not_whole B at r k) ∙ ap test_read e) s
 
-  module _ {c : CodeCommand} (f : r ≡ Whole c) where
+  module _ {c : CodeCommand} (f : r ≡ Ok c) where
     -- a command of no test
     pub other_stood : ((i : ℕ) → c ≡ Condition i → ⊥) → (c ≡ TestBy → ⊥) → {x : Node} → Stood (condition_test 1) x → Stood (test_at B at) x
     other_stood k l {x} s = subst (λ (t : Test). Stood t x) (sym (other_test B at c k l) ∙ ap test_read (whole_is f)) s

@@ -23,8 +23,9 @@ use Rattle.theory.proofs.laws.Valid.{among_out}
 use Rattle.theory.proofs.laws.Rules.{says_of_site}
 use Rattle.theory.proofs.laws.AcceptedModel.{InRange}
 use Rattle.model_command.specs.declared.Command.{Command as CodeCommand}
-use Rattle.model_command.specs.declared.Read.{Read as CodeRead}
-use Rattle.model_command.specs.declared.Read.TheVariants.{Whole, Unknown, Short}
+use Rattle.model_command.specs.CursorReadings.{CodeRead}
+use Rattle.model_command.specs.declared.CommandError.TheVariants.{Unknown, Short}
+use Rattle.std.specs.Prelude.{Ok, Err}
 use Rattle.model_stack.specs.Held.{held}
 use Rattle.model_command.specs.CursorReadings.{command_of, read_of_in, read_of, next_at}
 use Rattle.model_command.proofs.Forward.{whole_bytes}
@@ -203,11 +204,11 @@ refused_short : (n : ℕ) (s : Progress) (at : ℕ) (L : List Placed) {A : Type 
 unfolding judged_in
 refused_short n s at L e = absurd (let z : ◌≡◌ {A = ℕ} 2 0 = e in omega arith)
 
-not_whole : (B : List ℕ) (at : ℕ) (r : CodeRead) → ((c : CodeCommand) → r ≡ Whole c → ⊥) → (P : Read → Type 0) → P (read_of B at r) → {A : Type 0} → (P unknown → A) → (P short → A) → A
+not_whole : (B : List ℕ) (at : ℕ) (r : CodeRead) → ((c : CodeCommand) → r ≡ Ok c → ⊥) → (P : Read → Type 0) → P (read_of B at r) → {A : Type 0} → (P unknown → A) → (P short → A) → A
 unfolding read_of_in
-not_whole B at (Whole c) k P p f g = absurd (k c refl)
-not_whole B at Unknown k P p f g = f p
-not_whole B at Short k P p f g = g p
+not_whole B at (Ok c) k P p f g = absurd (k c refl)
+not_whole B at (Err Unknown) k P p f g = f p
+not_whole B at (Err Short) k P p f g = g p
 
 end_on : (cap at : ℕ) (L : List Placed) (s : Loading) (Y : List Tree) → run cap (load_on (record { at = at; read = whole end_model } ∷ []) s) Y ≡ done s Y
 unfolding load_on_with load_one_with bind run
@@ -232,7 +233,7 @@ module _ {B : List ℕ} {cap : ℕ} {l : List ℤ} {w : List ℕ} {R : List ℕ}
   first r e = opened Here B at k.fuel k.enough (k.judges, k.runs) r e
 
   -- an accepted model has a whole command here
-  pub turn_none : (r : CodeRead) → read_of B at r ≡ read_at B at → ((c : CodeCommand) → r ≡ Whole c → ⊥) → {A : Type 0} → A
+  pub turn_none : (r : CodeRead) → read_of B at r ≡ read_at B at → ((c : CodeCommand) → r ≡ Ok c → ⊥) → {A : Type 0} → A
   turn_none r e t = not_whole B at r t (λ q. q ≡ read_at B at) e
       (λ u. refused_unknown (length B) _ at _ (first unknown u).2.0) (λ u. refused_short (length B) _ at _ (first short u).2.0)
 

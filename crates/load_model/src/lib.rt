@@ -11,8 +11,7 @@ ghost use Rattle.load_model.specs.ModelRoots.{rows_above, offset_of, place_of, e
 
 use load_command::{Loaded, step};
 use model::{is_end, site};
-use model_command::widening::{action_index, byte_index};
-use model_command::{Command, Read};
+use model_command::Command;
 use model_form::{ACTIONS, CONDITIONS, LEVELS};
 use model_stack::Stack;
 
@@ -35,9 +34,9 @@ fn above(actions: u16, command: u8, action: u16) -> usize
     ensures { ((i : ℕ) → result ≡ rows_above actions (record { command = command; action = action; index = i })) × (result < 65536) }
 {
     if command == END_WORTH {
-        return action_index(actions);
+        return usize::from(actions);
     }
-    let a = action_index(action);
+    let a = usize::from(action);
     if a == 0 {
         return 0;
     }
@@ -49,7 +48,7 @@ fn row(levels: u8, conditions: u8, above: usize) -> usize
     requires { above < 65536 }
     ensures { (result ≡ above * (1 + conditions + levels)) × (result < 33554432) }
 {
-    let n = 1 + byte_index(conditions) + byte_index(levels);
+    let n = 1 + usize::from(conditions) + usize::from(levels);
     above * n
 }
 
@@ -58,9 +57,9 @@ fn offset(conditions: u8, command: u8, index: u8) -> usize
     ensures { ((a : ℕ) → result ≡ offset_of conditions (record { command = command; action = a; index = index })) × (result < 512) }
 {
     if command == 0x22 {
-        byte_index(conditions) + byte_index(index)
+        usize::from(conditions) + usize::from(index)
     } else {
-        byte_index(index)
+        usize::from(index)
     }
 }
 
@@ -69,8 +68,12 @@ fn place(levels: u8, conditions: u8, actions: u16, c: Command) -> usize
     ensures { (B : List ℕ) (at : ℕ) → result ≡ place_of levels conditions actions (command_of B at c) }
 {
     match c {
-        Command::Give(c, a, i) => row(levels, conditions, above(actions, c, a))
-            + offset(conditions, c, i),
+        Command::Give {
+            command,
+            action,
+            index,
+        } => row(levels, conditions, above(actions, command, action))
+            + offset(conditions, command, index),
         _ => LOADED_ROOTS,
     }
 }
@@ -80,7 +83,7 @@ fn ended_by(ended: bool, c: Command) -> bool
     ensures { (B : List ℕ) (at : ℕ) → result ≡ ended_by ended (command_of B at c) }
 {
     match c {
-        Command::Give(c, _, _) => { if c == END_WORTH { true } else { ended } }
+        Command::Give { command, .. } => { if command == END_WORTH { true } else { ended } }
         _ => ended,
     }
 }
@@ -122,7 +125,7 @@ pub fn load(
     let mut ended = false;
     loop {
         let read = model_command::command_at(model, at);
-        let Read::Whole(c) = read else {
+        let Ok(c) = read else {
             return Done {
                 stop: 0,
                 count: 0,

@@ -14,9 +14,9 @@ use Rattle.theory.specs.Command.{short, Placed, byte_at, width, width_in, read_i
 use Rattle.theory.specs.Verdict.{Progress, at_start, rule, first_broken, first_rules, later_rules, rules_in, after, Verdict, refusal, ended, judged_in, verdict_in}
 use Rattle.model_command.specs.declared.Command.{Command as CodeCommand}
 use Rattle.model_command.specs.declared.Command.TheVariants.{Site, Leaf, Condition, Test, Forbidden, Give, Name, End}
-use Rattle.model_command.specs.declared.Read.{Read as CodeRead}
-use Rattle.model_command.specs.declared.Read.TheVariants.{Whole, Unknown, Short}
-use Rattle.model_command.specs.CursorReadings.{command_of, command_of_in, read_of, read_of_in, next_in, next_at}
+use Rattle.model_command.specs.declared.CommandError.TheVariants.{Unknown, Short}
+use Rattle.std.specs.Prelude.{Ok, Err}
+use Rattle.model_command.specs.CursorReadings.{CodeRead, command_of, command_of_in, read_of, read_of_in, next_in, next_at}
 use Rattle.model_command.proofs.Forward.{whole_bytes, next_whole}
 use Rattle.model_progress.specs.declared.Progress.{Progress as CodeProgress}
 use Rattle.model_progress.specs.declared.Site.{Site as CodeSite}
@@ -29,15 +29,15 @@ use Rattle.model.specs.Walk.{Walk}
 -- ---- what the code's answers say of the command
 
 module _ (form : Form) (B : List ℕ) (at : ℕ) {r : CodeRead} (e : read_of_in form B at r ≡ read_in form B at) where
-  pub whole_is_in : {c : CodeCommand} → r ≡ Whole c → whole (command_of_in form B at c) ≡ read_in form B at
+  pub whole_is_in : {c : CodeCommand} → r ≡ Ok c → whole (command_of_in form B at c) ≡ read_in form B at
   unfolding read_of_in
   whole_is_in f = ap (read_of_in form B at) (sym f) ∙ e
 
-  pub unknown_is : r ≡ Unknown → unknown ≡ read_in form B at
+  pub unknown_is : r ≡ Err Unknown → unknown ≡ read_in form B at
   unfolding read_of_in
   unknown_is f = ap (read_of_in form B at) (sym f) ∙ e
 
-  pub short_is : r ≡ Short → short ≡ read_in form B at
+  pub short_is : r ≡ Err Short → short ≡ read_in form B at
   unfolding read_of_in
   short_is f = ap (read_of_in form B at) (sym f) ∙ e
 
@@ -222,7 +222,7 @@ first_broken_at form B c n e f h = turn_broken (walk_starts form B) (command_of_
 
 -- ---- the form that the planner reads
 
-pub whole_is : (B : List ℕ) (at : ℕ) {r : CodeRead} → read_of B at r ≡ read_at B at → {c : CodeCommand} → r ≡ Whole c → whole (command_of B at c) ≡ read_at B at
+pub whole_is : (B : List ℕ) (at : ℕ) {r : CodeRead} → read_of B at r ≡ read_at B at → {c : CodeCommand} → r ≡ Ok c → whole (command_of B at c) ≡ read_at B at
 whole_is B at e f = whole_is_in new_form B at e f
 
 pub at_end : (B : List ℕ) (at : ℕ) (c : CodeCommand) → is_end c ≡ true → command_of B at c ≡ end_model

@@ -1,5 +1,5 @@
 -- What holds in a walk over the commands of a model.
-use Rattle.std.specs.Prelude.{◌≡◌, Bool, true, List, ℕ, ◌+◌, ◌-◌, ◌≤◌, ◌<◌, length}
+use Rattle.std.specs.Prelude.{◌≡◌, Option, IfSome, Bool, true, List, ℕ, ◌+◌, ◌-◌, ◌≤◌, ◌<◌, length}
 use Rattle.theory.specs.Form.{Form, linear_bytes}
 use Rattle.theory.specs.Command.{readings_from_in}
 use Rattle.theory.specs.Verdict.{Progress, judged_in, verdict_in}
@@ -16,6 +16,6 @@ pub record Walk (form : Form) (B : List ℕ) (at : ℕ) (s : CodeProgress) (F : 
   pub judges : judged_in form (length B) so_far (readings_from_in form B fuel at) ≡ verdict_in form B
 
 -- where a command with a linear is passed, it stands whole at its offset, and the walk goes on behind it with what it leaves
-abbrev pub PassesLinear : Form → List ℕ → ℕ → CodeProgress → Bool → Seen → Type 0
-PassesLinear form B at s passed t = s.begun ≡ true → passed ≡ true
-    → (at + (1 + linear_bytes form) ≤ length B) × ((F : List Bool) → Walk form B at s F → Walk form B (at + (1 + linear_bytes form)) (record { begun = s.begun; site = s.site; seen = t }) F)
+abbrev pub PassesLinear : Form → List ℕ → ℕ → CodeProgress → Option Seen → Type 0
+PassesLinear form B at s r = s.begun ≡ true → IfSome r (λ t.
+    (at + (1 + linear_bytes form) ≤ length B) × ((F : List Bool) → Walk form B at s F → Walk form B (at + (1 + linear_bytes form)) (record { begun = s.begun; site = s.site; seen = t }) F))

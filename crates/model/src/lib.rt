@@ -18,7 +18,7 @@ ghost use Rattle.model.specs.Answers.{shown};
 ghost use Rattle.model.specs.Walk.{Walk};
 ghost use Rattle.model.specs.Answers.{is_end as ends};
 
-use model_command::{Command, Read};
+use model_command::{Command, CommandError};
 use model_form::Form;
 use model_progress::given::FLAGS;
 use model_progress::refusals::{EXTRA, SHORT, SIZES, STEPS, UNKNOWN};
@@ -32,7 +32,7 @@ const STEPS_MOST: u32 = 8;
 
 pub const STAGE_WORDS: usize = 8;
 
-// The number and the place of a refusal; 0 and 0 where there is none. It is a structure of C too, for the export that answers it.
+// The number and the place of a refusal; 0 and 0 where there is none. `planner_validate` answers it, so it is C's structure and no Result.
 #[repr(C)]
 #[derive(Clone, Copy)]
 pub struct Verdict {
@@ -43,7 +43,7 @@ pub struct Verdict {
 pub fn is_end(c: Command) -> bool
     ensures { result ≡ ends c }
 {
-    if let Command::End = c { true } else { false }
+    matches!(c, Command::End)
 }
 
 fn refusal(number: u32, place: usize) -> Verdict
@@ -82,9 +82,8 @@ fn rest(form: Form, model: &[u8], flags: &mut [bool], from: usize, begun: Progre
         let run = linears::pass(form, model, at, site, seen);
         seen = run.seen;
         at = run.at;
-        let read = model_command::command_in(form, model, at);
-        match read {
-            Read::Whole(c) => {
+        match model_command::command_in(form, model, at) {
+            Ok(c) => {
                 let s = Progress {
                     begun: true,
                     site,
@@ -102,8 +101,8 @@ fn rest(form: Form, model: &[u8], flags: &mut [bool], from: usize, begun: Progre
                 seen = t.seen;
                 at += model_command::size_in(form, c);
             }
-            Read::Unknown => return refusal(UNKNOWN, at),
-            Read::Short => return refusal(SHORT, at),
+            Err(CommandError::Unknown) => return refusal(UNKNOWN, at),
+            Err(CommandError::Short) => return refusal(SHORT, at),
         }
     }
 }
@@ -113,9 +112,8 @@ fn judge(form: Form, model: &[u8], flags: &mut [bool]) -> Verdict
     requires { flags.old ≡ replicate flags_most false }
     ensures { shown result ≡ verdict_in (form_of form) model.now }
 {
-    let read = model_command::command_in(form, model, 0);
-    match read {
-        Read::Whole(c) => {
+    match model_command::command_in(form, model, 0) {
+        Ok(c) => {
             let k = model_command_rules::first(form, c);
             if k != 0 {
                 return refusal(k, 0);
@@ -123,8 +121,8 @@ fn judge(form: Form, model: &[u8], flags: &mut [bool]) -> Verdict
             let from = model_command::next_after_in(form, model, 0);
             rest(form, model, flags, from, model_progress::states::first(c))
         }
-        Read::Unknown => refusal(UNKNOWN, 0),
-        Read::Short => refusal(SHORT, 0),
+        Err(CommandError::Unknown) => refusal(UNKNOWN, 0),
+        Err(CommandError::Short) => refusal(SHORT, 0),
     }
 }
 
@@ -146,16 +144,10 @@ pub fn validate(model: &[u8]) -> Verdict
 pub fn early(model: &[u8], steps: u32, stage_words: usize) -> Verdict
     ensures { shown result ≡ early-of model.now steps stage_words }
 {
-    if stage_words != STAGE_WORDS {
+    if stage_words != STAGE_WORDS || BYTES_MOST < model.len() {
         return refusal(SIZES, 0);
     }
-    if BYTES_MOST < model.len() {
-        return refusal(SIZES, 0);
-    }
-    if steps < 1 {
-        return refusal(STEPS, 0);
-    }
-    if STEPS_MOST < steps {
+    if steps < 1 || STEPS_MOST < steps {
         return refusal(STEPS, 0);
     }
     validate(model)
@@ -169,6 +161,6 @@ pub fn site(model: &[u8]) -> Site
         levels: model_command::byte_at(model, 1),
         conditions: model_command::byte_at(model, 2),
         actions: model_command::action_in(Form::New, model, 3),
-        weights: model_command::byte_at(model, 3 + model_form::action_bytes(Form::New)),
+        weights: model_command::byte_at(model, 3 + Form::New.action_bytes()),
     }
 }

@@ -9,13 +9,6 @@ use model_facts::Seen;
 use model_form::Form;
 use model_progress::{Progress, Site, operands};
 
-// Whether a command breaks no rule, and what it leaves then.
-#[derive(Clone, Copy)]
-struct Tried {
-    passed: bool,
-    seen: Seen,
-}
-
 // The offset behind a run, and what the run leaves.
 #[derive(Clone, Copy)]
 pub struct Stretch {
@@ -23,63 +16,38 @@ pub struct Stretch {
     pub seen: Seen,
 }
 
-fn leaf(form: Form, model: &[u8], at: usize, s: Progress) -> Tried
+fn leaf(form: Form, model: &[u8], at: usize, s: Progress) -> Option<Seen>
     requires { (byte_at model.now at ≡ 0x10) × (at + (1 + linear_bytes (form_of form)) ≤ length model.now) }
-    ensures { PassesLinear (form_of form) model.now at s result.passed result.seen }
+    ensures { PassesLinear (form_of form) model.now at s result }
 {
-    let seen = s.seen;
     if model_command_rules::leaf(form, model, at + 1, s) != 0 {
-        return Tried {
-            passed: false,
-            seen,
-        };
+        return None;
     }
     let weight = operands::weight(form, model, at + 1, s.site.weights);
-    let held = model_facts::pushed(seen, false, weight, false);
-    Tried {
-        passed: true,
-        seen: held,
-    }
+    Some(s.seen.pushed(false, weight, false))
 }
 
-fn test(form: Form, model: &[u8], at: usize, s: Progress) -> Tried
+fn test(form: Form, model: &[u8], at: usize, s: Progress) -> Option<Seen>
     requires { (byte_at model.now at ≡ 0x12) × (at + (1 + linear_bytes (form_of form)) ≤ length model.now) }
-    ensures { PassesLinear (form_of form) model.now at s result.passed result.seen }
+    ensures { PassesLinear (form_of form) model.now at s result }
 {
-    let seen = s.seen;
     if model_command_rules::test(form, model, at + 1, s) != 0 {
-        return Tried {
-            passed: false,
-            seen,
-        };
+        return None;
     }
-    let held = model_facts::joined(seen, false);
-    Tried {
-        passed: true,
-        seen: held,
-    }
+    Some(s.seen.joined(false))
 }
 
-// The command at an offset; one without a linear, or cut short, is not passed here.
-fn turn(form: Form, model: &[u8], at: usize, s: Progress) -> Tried
-    ensures { PassesLinear (form_of form) model.now at s result.passed result.seen }
+// What the command at an offset leaves where it breaks no rule; one without a linear, or cut short, is not passed here.
+fn turn(form: Form, model: &[u8], at: usize, s: Progress) -> Option<Seen>
+    ensures { PassesLinear (form_of form) model.now at s result }
 {
-    let seen = s.seen;
-    let stays = Tried {
-        passed: false,
-        seen,
-    };
-    if model.len() <= at {
-        return stays;
+    if model.len() <= at || model.len() - at <= form.linear_bytes() {
+        return None;
     }
-    if model.len() - at <= model_form::linear_bytes(form) {
-        return stays;
-    }
-    let op = model[at];
-    match op {
+    match model[at] {
         0x10 => leaf(form, model, at, s),
         0x12 => test(form, model, at, s),
-        _ => stays,
+        _ => None,
     }
 }
 
@@ -96,12 +64,10 @@ pub fn pass(form: Form, model: &[u8], from: usize, site: Site, before: Seen) -> 
             site,
             seen,
         };
-        let t = turn(form, model, at, s);
-        if t.passed {} else {
+        let Some(after) = turn(form, model, at, s) else {
             return Stretch { at, seen };
-        }
-        seen = t.seen;
-        let size = 1 + model_form::linear_bytes(form);
-        at += size;
+        };
+        seen = after;
+        at += 1 + form.linear_bytes();
     }
 }

@@ -13,6 +13,6 @@ module _ (B : List ℕ) (at : ℕ) (f : CodeForm) where
   unfolding form_of bytes_at
   one_byte x b e p q = rw e (p ∙ q ∙ omega arith)
 
-  pub two_bytes : (x y b c : ℕ) → f ≡ New → x ≡ b → b ≡ byte_at B at → y ≡ c → c ≡ byte_at B (at + 1) → x + y * 256 ≡ action_at (form_of f) B at
+  pub two_bytes : (x b c : ℕ) → f ≡ New → x ≡ b + c * 256 → b ≡ byte_at B at → c ≡ byte_at B (at + 1) → x ≡ action_at (form_of f) B at
   unfolding form_of bytes_at
-  two_bytes x y b c e p q r s = rw e (ap₂ (λ (m n : ℕ). m + n * 256) (p ∙ q) (r ∙ s ∙ omega arith))
+  two_bytes x b c e p q s = rw e (p ∙ ap₂ (λ (m n : ℕ). m + n * 256) q (s ∙ omega arith))

@@ -1,5 +1,5 @@
 -- The reading of document 01 that each answer of the cursor stands for.
-use Rattle.std.specs.Prelude.{List, ℕ, ◌+◌, ltb, leb, ℤ, pos, length, get_or, take, drop}
+use Rattle.std.specs.Prelude.{Result, Ok, Err, List, ℕ, ◌+◌, ltb, leb, ℤ, pos, length, get_or, take, drop}
 use Rattle.whole.specs.Cases.{if}
 use Rattle.theory.specs.Widths.{levels_most, name_bytes}
 use Rattle.theory.specs.Form.{Form, new_form, action_bytes, behind_action}
@@ -8,8 +8,8 @@ use Rattle.theory.specs.Diagram.{Linear}
 use Rattle.theory.specs.Command.{Command, site, push_leaf, push_condition, push_test, push_forbidden, give, name_action, end_model, Read, whole, unknown, short, byte_at, action_at, width_in, linear_in}
 use Rattle.model_command.specs.declared.Command.{Command as CodeCommand}
 use Rattle.model_command.specs.declared.Command.TheVariants.{Site, Leaf, Condition, Test, Forbidden, Give, Name, End}
-use Rattle.model_command.specs.declared.Read.{Read as CodeRead}
-use Rattle.model_command.specs.declared.Read.TheVariants.{Whole, Unknown, Short}
+use Rattle.model_command.specs.declared.CommandError.{CommandError}
+use Rattle.model_command.specs.declared.CommandError.TheVariants.{Unknown, Short}
 
 -- A linear's bytes are those behind the command's byte, a name's those behind its action, in the model itself.
 unfoldable pub command_of_in : Form → List ℕ → ℕ → CodeCommand → Command
@@ -26,10 +26,14 @@ command_of_in F B at End = end_model
 abbrev pub site_in : Form → List ℕ → ℕ → Command
 site_in F B at = site (byte_at B (at + 1)) (byte_at B (at + 2)) (action_at F B (at + 3)) (byte_at B (at + (3 + action_bytes F)))
 
+-- what the cursor answers
+abbrev pub CodeRead : Type 0
+CodeRead = Result CodeCommand CommandError
+
 unfoldable pub read_of_in : Form → List ℕ → ℕ → CodeRead → Read
-read_of_in F B at (Whole c) = whole (command_of_in F B at c)
-read_of_in F B at Unknown = unknown
-read_of_in F B at Short = short
+read_of_in F B at (Ok c) = whole (command_of_in F B at c)
+read_of_in F B at (Err Unknown) = unknown
+read_of_in F B at (Err Short) = short
 
 -- the offset behind the command at an offset, the length where it is not whole
 unfoldable pub next_in : Form → List ℕ → ℕ → ℕ

@@ -30,7 +30,10 @@ fn ordered(operand: bool, stack: bool, twice: bool, diagram: bool) -> u32
     if twice {
         return TWICE;
     }
-    if diagram { OPERAND } else { 0 }
+    if diagram {
+        return OPERAND;
+    }
+    0
 }
 
 // "Coefficients beyond level m are zero", of the leaf whose linear stands at an offset.
@@ -39,7 +42,7 @@ pub fn leaf(form: Form, model: &[u8], from: usize, s: Progress) -> u32
     ensures { (F : List Bool) → Later s F (push_leaf (linear_in (form_of form) model.now from)) result }
 {
     let full = STACK_MOST <= s.seen.len;
-    let levels = s.site.levels as usize;
+    let levels = usize::from(s.site.levels);
     ordered(
         levels < operands::used(form, model, from),
         full,
@@ -66,9 +69,9 @@ pub fn test(form: Form, model: &[u8], from: usize, s: Progress) -> u32
     ensures { (F : List Bool) → Later s F (push_test (linear_in (form_of form) model.now from)) result }
 {
     let short = s.seen.len < 2;
-    let levels = s.site.levels as usize;
+    let levels = usize::from(s.site.levels);
     let used = operands::used(form, model, from);
-    let operand = model_facts::either(levels < used, used == 0);
+    let operand = (levels < used) | (used == 0);
     ordered(operand, short, false, false)
 }
 
@@ -83,14 +86,12 @@ fn give(flags: &[bool], s: Progress, c: u8, a: u16, i: u8) -> u32
     ensures { Later s flags.now (given_to (record { command = c; action = a; index = i })) result }
 {
     let short = s.seen.len < 1;
-    let site = s.site;
-    let seen = s.seen;
     let twice = given::has(flags, given::place(given::base(c), i, a));
     ordered(
-        !operands::slot(site, c, a, i),
+        !operands::slot(s.site, c, a, i),
         short,
         twice,
-        !model_facts::may_be(c, seen),
+        !s.seen.may_be(c),
     )
 }
 
@@ -99,15 +100,14 @@ fn name(flags: &[bool], s: Progress, a: u16, text: bool) -> u32
     ensures { (b : List ℕ) → text ≡ all printable b → Later s flags.now (name_action a b) result }
 {
     let twice = given::has(flags, given::place(given::NAMES, 0, a));
-    let operand = model_facts::either(!operands::among(s.site.actions as usize, a as usize), !text);
-    ordered(operand, false, twice, false)
+    let named = operands::among(usize::from(s.site.actions), usize::from(a));
+    ordered(!named | !text, false, twice, false)
 }
 
 fn end(flags: &[bool], s: Progress) -> u32
     ensures { Later s flags.now end_model result }
 {
-    let site = s.site;
-    if given::complete(flags, site) {} else {
+    if !given::complete(flags, s.site) {
         return MISSING;
     }
     if 0 < s.seen.len { MISSING } else { 0 }
@@ -117,10 +117,14 @@ fn end(flags: &[bool], s: Progress) -> u32
 pub fn first(form: Form, c: Command) -> u32
     ensures { (B : List ℕ) (at : ℕ) → result ≡ first_broken (first_rules (form_of form) (command_of_in (form_of form) B at c)) }
 {
-    if let Command::Site(m, n, a, w) = c {
-        operands::site(form, m, n, a, w)
-    } else {
-        ORDER
+    match c {
+        Command::Site {
+            levels,
+            conditions,
+            actions,
+            weights,
+        } => operands::site(form, levels, conditions, actions, weights),
+        _ => ORDER,
     }
 }
 
@@ -129,17 +133,21 @@ fn later(form: Form, model: &[u8], at: usize, c: Command, flags: &[bool], s: Pro
     ensures { Later s flags.now (command_of_in (form_of form) model.now at c) result }
 {
     match c {
-        Command::Site(_, _, _, _) => ORDER,
+        Command::Site { .. } => ORDER,
         Command::Leaf => leaf(form, model, at + 1, s),
         Command::Condition(k) => condition(s, k),
         Command::Test => test(form, model, at + 1, s),
         Command::Forbidden => forbidden(s),
-        Command::Give(c, a, i) => give(flags, s, c, a, i),
+        Command::Give {
+            command,
+            action,
+            index,
+        } => give(flags, s, command, action, index),
         Command::Name(a) => name(
             flags,
             s,
             a,
-            operands::text(model, at + model_form::behind_action(form)),
+            operands::text(model, at + form.behind_action()),
         ),
         Command::End => end(flags, s),
     }

@@ -1,6 +1,6 @@
 -- Facts in three words of bits: what a push, a pop and a choice leave.
 use mathlib.Core.Path.{◌≡◌, refl, sym, ap, ap₂, ◌∙◌}
-use mathlib.Core.Bool.{Bool, true, false, ◌&&◌}
+use mathlib.Core.Bool.{Bool, true, false, ◌&&◌, ◌||◌}
 use mathlib.Core.List.{List, [], ◌∷◌}
 use Prim.Native.Nat.{ℕ, zero, suc, ◌+◌, ◌-◌, ◌*◌, ◌/◌, ◌%◌, ◌^◌, ◌≤◌, ◌<◌}
 use native.Mathlib.Numerals.{add-one}
@@ -92,3 +92,16 @@ module _ (b : Bool) (t h u : Seen) (e : seen h ≡ drop 1 (seen t)) (f : seen u 
       let w = seen_top h.later h.weights h.forbids h.len (omega arith) in
       let c : record { next_step = x; weights = y; forbids = z } ≡ choice b (top (seen h)) (top (seen t)) = (λ n. record { next_step = p n; weights = q n; forbids = s n }) ∙ ap₂ (choice b) (sym w) (sym v) in
       r (omega arith) ∙ ap (λ (g : Facts). g ∷ seen u) c ∙ joined_tops b (seen t) (seen h) (seen u) e f (omega (arith, length_of t))
+
+-- the code's "or" is document 01's
+pub or_is : (a b : Bool) → (a || b) ≡ or a b
+or_is true b = refl
+or_is false b = refl
+
+pub or_three : (a b c : Bool) → (a || b || c) ≡ or a (or b c)
+or_three true b c = refl
+or_three false b c = or_is b c
+
+pub and_three : (a b c : Bool) → (a && b && c) ≡ (a && (b && c))
+and_three true b c = refl
+and_three false b c = refl

@@ -20,26 +20,68 @@ pub struct Seen {
     pub forbids: u32,
 }
 
-pub fn either(a: bool, b: bool) -> bool
-    ensures { result ≡ or a b }
-{
-    if a { true } else { b }
-}
+impl Seen {
+    pub fn none() -> Seen
+        ensures { seen result ≡ [] }
+    {
+        Seen {
+            len: 0,
+            later: 0,
+            weights: 0,
+            forbids: 0,
+        }
+    }
 
-pub fn both(a: bool, b: bool) -> bool
-    ensures { result ≡ (a && b) }
-{
-    if a { b } else { false }
-}
+    // A full stack stays as it is.
+    pub fn pushed(self, next_step: bool, weights: bool, forbids: bool) -> Seen
+        ensures { self.len < stack_most → seen result ≡ record { next_step = next_step; weights = weights; forbids = forbids } ∷ seen self }
+    {
+        if self.len < STACK_MOST {
+            Seen {
+                len: self.len + 1,
+                later: below(self.later, next_step),
+                weights: below(self.weights, weights),
+                forbids: below(self.forbids, forbids),
+            }
+        } else {
+            self
+        }
+    }
 
-pub fn none() -> Seen
-    ensures { seen result ≡ [] }
-{
-    Seen {
-        len: 0,
-        later: 0,
-        weights: 0,
-        forbids: 0,
+    pub fn popped(self) -> Seen
+        ensures { (result.len ≤ self.len) × ((0 < self.len → result.len < self.len) × (seen result ≡ drop 1 (seen self))) }
+    {
+        if 0 < self.len {
+            Seen {
+                len: self.len - 1,
+                later: self.later / 2,
+                weights: self.weights / 2,
+                forbids: self.forbids / 2,
+            }
+        } else {
+            self
+        }
+    }
+
+    // What is given: "Next-step conditions stand only in next levels"; "The leaves of a chance are constants 0 to W"; a forbidden leaf is "allowed in rewards only".
+    pub fn may_be(self, command: u8) -> bool
+        ensures { 0 < self.len → (a i : ℕ) → result ≡ may-be-given (record { command = command; action = a; index = i }) (top (seen self)) }
+    {
+        let later = (command == 0x22) | !low(self.later);
+        let weights = (command != 0x21) | low(self.weights);
+        let forbids = (command == 0x20) | !low(self.forbids);
+        later & weights & forbids
+    }
+
+    // "takes low, then high, off the stack and pushes the choice"
+    pub fn joined(self, later: bool) -> Seen
+        ensures { 2 ≤ self.len → self.len ≤ stack_most → seen result ≡ joined-facts later (seen self) }
+    {
+        let high = self.popped();
+        let next = later | low(high.later) | low(self.later);
+        let weights = low(high.weights) & low(self.weights);
+        let forbids = low(high.forbids) | low(self.forbids);
+        high.popped().pushed(next, weights, forbids)
     }
 }
 
@@ -54,68 +96,5 @@ fn low(word: u32) -> bool
 fn below(word: u32, b: bool) -> u32
     ensures { result ≡ word % 2147483648 * 2 + if b 1 0 }
 {
-    let rest = word % 2147483648 * 2;
-    if b { rest + 1 } else { rest }
-}
-
-// A full stack stays as it is.
-pub fn pushed(t: Seen, next_step: bool, weights: bool, forbids: bool) -> Seen
-    ensures { t.len < stack_most → seen result ≡ record { next_step = next_step; weights = weights; forbids = forbids } ∷ seen t }
-{
-    let later = t.later;
-    let weighed = t.weights;
-    let barred = t.forbids;
-    if t.len < STACK_MOST {
-        Seen {
-            len: t.len + 1,
-            later: below(later, next_step),
-            weights: below(weighed, weights),
-            forbids: below(barred, forbids),
-        }
-    } else {
-        t
-    }
-}
-
-pub fn popped(t: Seen) -> Seen
-    ensures { (result.len ≤ t.len) × ((0 < t.len → result.len < t.len) × (seen result ≡ drop 1 (seen t))) }
-{
-    let later = t.later;
-    let weighed = t.weights;
-    let barred = t.forbids;
-    if 0 < t.len {
-        Seen {
-            len: t.len - 1,
-            later: later / 2,
-            weights: weighed / 2,
-            forbids: barred / 2,
-        }
-    } else {
-        t
-    }
-}
-
-// What is given: "Next-step conditions stand only in next levels"; "The leaves of a chance are constants 0 to W"; a forbidden leaf is "allowed in rewards only".
-pub fn may_be(command: u8, t: Seen) -> bool
-    ensures { 0 < t.len → (a i : ℕ) → result ≡ may-be-given (record { command = command; action = a; index = i }) (top (seen t)) }
-{
-    both(
-        either(command == 0x22, !low(t.later)),
-        both(
-            either(command != 0x21, low(t.weights)),
-            either(command == 0x20, !low(t.forbids)),
-        ),
-    )
-}
-
-// "takes low, then high, off the stack and pushes the choice"
-pub fn joined(t: Seen, later: bool) -> Seen
-    ensures { 2 ≤ t.len → t.len ≤ stack_most → seen result ≡ joined-facts later (seen t) }
-{
-    let high = popped(t);
-    let under = popped(high);
-    let next = either(later, either(low(high.later), low(t.later)));
-    let weights = both(low(high.weights), low(t.weights));
-    let forbids = either(low(high.forbids), low(t.forbids));
-    pushed(under, next, weights, forbids)
+    word % 2147483648 * 2 + u32::from(b)
 }

@@ -14,8 +14,9 @@ use Rattle.theory.specs.Name.{trimmed}
 use Rattle.theory.proofs.laws.Name.{name_bytes_at}
 use Rattle.model_command.specs.declared.Command.{Command as CodeCommand}
 use Rattle.model_command.specs.declared.Command.TheVariants.{Site, Leaf, Condition, Test, Forbidden, Give, Name, End}
-use Rattle.model_command.specs.declared.Read.{Read as CodeRead}
-use Rattle.model_command.specs.declared.Read.TheVariants.{Whole, Unknown, Short}
+use Rattle.model_command.specs.CursorReadings.{CodeRead}
+use Rattle.model_command.specs.declared.CommandError.TheVariants.{Unknown, Short}
+use Rattle.std.specs.Prelude.{Ok, Err}
 use Rattle.model_command.specs.CursorReadings.{command_of, command_of_in, read_of, read_of_in, next_at}
 use Rattle.model.specs.Answers.{is_end}
 use Rattle.model.proofs.Walk.{opened, from_first, at_end, going, forward}
@@ -87,11 +88,11 @@ module _ {B x : List ℕ} {at : ℕ} {s : Bearers} (w : Pass B x at s) where
   first = opened (tally x s) (tally x Nobody (readings B)) B at w.fuel w.enough w.tallies
 
   -- no whole command
-  pub pass_stops : (r : CodeRead) → ((d : CodeCommand) → r ≡ Whole d → ⊥) → read_of B at r ≡ read_at B at → s ≡ tally x Nobody (readings B)
+  pub pass_stops : (r : CodeRead) → ((d : CodeCommand) → r ≡ Ok d → ⊥) → read_of B at r ≡ read_at B at → s ≡ tally x Nobody (readings B)
   unfolding read_of_in tally with_reading goes_on
-  pass_stops (Whole c) k e = absurd (k c refl)
-  pass_stops Unknown k e = (first unknown e).2
-  pass_stops Short k e = (first short e).2
+  pass_stops (Ok c) k e = absurd (k c refl)
+  pass_stops (Err Unknown) k e = (first unknown e).2
+  pass_stops (Err Short) k e = (first short e).2
 
   pub pass_ends : (c : CodeCommand) → whole (command_of B at c) ≡ read_at B at → is_end c ≡ true → s ≡ tally x Nobody (readings B)
   unfolding tally with_reading goes_on

@@ -12,8 +12,7 @@ ghost use Rattle.model_find.specs.Tally.{found_as, with_reading, tally};
 ghost use Rattle.model_find.specs.Tally.{joined as Joined-by};
 ghost use Rattle.model_find.specs.Tally.{told as told_of};
 
-use model_command::widening::action_word;
-use model_command::{Command, NAME_BYTES, Read};
+use model_command::{Command, NAME_BYTES};
 use model_form::Form;
 
 // "refuses a name that no action carries with 18, and one that several carry with 19"
@@ -74,8 +73,8 @@ fn with_command(model: &[u8], at: usize, c: Command, name: &[u8], known: Bearers
     ensures { result ≡ with_reading name.now known (whole (command_of model.now at c)) }
 {
     if let Command::Name(a) = c {
-        if spells(model, at + model_form::behind_action(Form::New), name) {
-            joined(known, action_word(a))
+        if spells(model, at + Form::New.behind_action(), name) {
+            joined(known, u32::from(a))
         } else {
             known
         }
@@ -91,7 +90,7 @@ fn bearers_of(model: &[u8], name: &[u8]) -> Bearers
     let mut known = Bearers::Nobody;
     loop {
         let read = model_command::command_at(model, at);
-        let Read::Whole(c) = read else {
+        let Ok(c) = read else {
             return known;
         };
         if model::is_end(c) {

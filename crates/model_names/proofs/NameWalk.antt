@@ -19,8 +19,9 @@ use Rattle.theory.specs.Solve.{early}
 use Rattle.theory.specs.Name.{names_action, Part, no_part, trimmed, named_part, name_refusal, name_part, name}
 use Rattle.model_command.specs.declared.Command.{Command as CodeCommand}
 use Rattle.model_command.specs.declared.Command.TheVariants.{Site, Leaf, Condition, Test, Forbidden, Give, Name, End}
-use Rattle.model_command.specs.declared.Read.{Read as CodeRead}
-use Rattle.model_command.specs.declared.Read.TheVariants.{Whole, Unknown, Short}
+use Rattle.model_command.specs.CursorReadings.{CodeRead}
+use Rattle.model_command.specs.declared.CommandError.TheVariants.{Unknown, Short}
+use Rattle.std.specs.Prelude.{Ok, Err}
 use Rattle.model_command.specs.CursorReadings.{command_of, command_of_in, read_of, read_of_in, next_at}
 use Rattle.model_command.proofs.Forward.{whole_bytes, length_of, length_whole}
 use Rattle.model.specs.declared.Verdict.{Verdict as CodeVerdict}
@@ -95,11 +96,11 @@ module _ {B : List ℕ} {a at : ℕ} (w : Seek B a at) where
   first = opened (named_part B a) (named_part B a (readings B)) B at w.fuel w.enough w.finds
 
   -- no whole command
-  pub seek_stops : (r : CodeRead) → ((d : CodeCommand) → r ≡ Whole d → ⊥) → read_of B at r ≡ read_at B at → no_part ≡ named_part B a (readings B)
+  pub seek_stops : (r : CodeRead) → ((d : CodeCommand) → r ≡ Ok d → ⊥) → read_of B at r ≡ read_at B at → no_part ≡ named_part B a (readings B)
   unfolding read_of_in named_part names_action goes_on
-  seek_stops (Whole c) k e = absurd (k c refl)
-  seek_stops Unknown k e = (first unknown e).2
-  seek_stops Short k e = (first short e).2
+  seek_stops (Ok c) k e = absurd (k c refl)
+  seek_stops (Err Unknown) k e = (first unknown e).2
+  seek_stops (Err Short) k e = (first short e).2
 
   pub seek_found : (c : Command) (k n : ℕ) → k ≡ behind_action new_form → whole c ≡ read_at B at → names_action a (whole c) ≡ true → n ≡ trimmed (drop (at + k) B) name_bytes
       → record { start = at + k; size = n } ≡ named_part B a (readings B)

@@ -12,8 +12,7 @@ ghost use Rattle.model.specs.Answers.{shown};
 ghost use Rattle.model_names.specs.Parts.{part_as};
 
 use model::Verdict;
-use model_command::widening::action_word;
-use model_command::{Command, NAME_BYTES, Read};
+use model_command::{Command, NAME_BYTES};
 use model_form::Form;
 
 // A part of the model.
@@ -43,7 +42,7 @@ fn names(c: Command, action: u32) -> bool
     ensures { (B : List ℕ) (at : ℕ) → result ≡ names_action action (whole (command_of B at c)) }
 {
     if let Command::Name(a) = c {
-        action == action_word(a)
+        action == u32::from(a)
     } else {
         false
     }
@@ -56,11 +55,11 @@ fn named_part(model: &[u8], action: u32) -> Part
     let mut at: usize = 0;
     loop {
         let read = model_command::command_at(model, at);
-        let Read::Whole(c) = read else {
+        let Ok(c) = read else {
             return Part { start: 0, size: 0 };
         };
         if names(c, action) {
-            let from = at + model_form::behind_action(Form::New);
+            let from = at + Form::New.behind_action();
             return Part {
                 start: from,
                 size: trimmed_len(model, from, NAME_BYTES),
@@ -88,7 +87,7 @@ pub fn name_refusal(model: &[u8], action: u32) -> Verdict
             place: 0,
         };
     }
-    if action_word(site.actions) < action {
+    if u32::from(site.actions) < action {
         return Verdict {
             number: 16,
             place: 0,

@@ -79,7 +79,7 @@ module _ (B : List ℕ) where
     pub zero_past : (m : ℕ) → k ≤ m → zero_from m ≡ true
     zero_past m h = zeros_done (at + m * 4) (k - m) (omega arith)
 
-    zero_turn : (m : ℕ) → m < k → zero_from m ≡ (eqb (word_at B (at + m * 4)) 0 && zero_from (suc m))
+    pub zero_turn : (m : ℕ) → m < k → zero_from m ≡ (eqb (word_at B (at + m * 4)) 0 && zero_from (suc m))
     zero_turn m h =
         let e : at + m * 4 + 4 ≡ at + suc m * 4 = omega arith in
         let f : k - m - 1 ≡ k - suc m = omega arith in

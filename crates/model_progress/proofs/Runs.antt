@@ -32,6 +32,12 @@ module _ (f : ℕ → Bool) where
   unfolding all
   part_past l at k h = rw (drop_of_length-le l h, take-nil k)
 
+  -- no part is left, or the list ends before it
+  pub part_over : (l : List ℕ) (at k : ℕ) → (0 < k → length l ≤ at) → all f (take k (drop at l)) ≡ true
+  unfolding all
+  part_over l at zero h = refl
+  part_over l at (suc k) h = part_past l at (suc k) (h (omega arith))
+
 -- two tests that agree on a run
 pub run_same : (f g : ℕ → Bool) (x k : ℕ) → ((i : ℕ) → x ≤ i → i < x + k → f i ≡ g i) → all f (from_to x k) ≡ all g (from_to x k)
 unfolding all from_to

@@ -5,7 +5,6 @@ ghost use Rattle.model_progress.specs.GivenFlags.{place as place_of};
 
 use super::Site;
 use model_command::Command;
-use model_command::widening::{action_index, byte_index};
 use model_form::{ACTIONS, CONDITIONS, LEVELS};
 
 // Flags in all: the end worth's, then rows of the actions from 1 on, for the reward, each chance, each next level and the name.
@@ -19,7 +18,7 @@ pub fn place(base: usize, i: u8, a: u16) -> usize
     requires { base < 256 }
     ensures { result ≡ place_of base i a }
 {
-    (base + byte_index(i)) * ACTIONS + action_index(a)
+    (base + usize::from(i)) * ACTIONS + usize::from(a)
 }
 
 // The base of what a command gives.
@@ -32,7 +31,7 @@ pub fn base(command: u8) -> usize
 pub fn has(flags: &[bool], i: usize) -> bool
     ensures { result ≡ get_or flags.now i false }
 {
-    if i < flags.len() { flags[i] } else { false }
+    flags.get(i).copied().unwrap_or(false)
 }
 
 fn raise(flags: &mut [bool], i: usize)
@@ -48,8 +47,12 @@ pub fn note(flags: &mut [bool], c: Command)
     ensures { flags.new ≡ noted c flags.old }
 {
     match c {
-        Command::Give(command, a, i) => raise(flags, place(base(command), i, a)),
-        Command::Name(a) => raise(flags, place(NAMES, 0, a)),
+        Command::Give {
+            command,
+            action,
+            index,
+        } => raise(flags, place(base(command), index, action)),
+        Command::Name(action) => raise(flags, place(NAMES, 0, action)),
         _ => {}
     }
 }
@@ -59,10 +62,8 @@ fn row(flags: &[bool], base: usize, a: u16, n: u8) -> bool
     requires { base < 256 }
     ensures { result ≡ row_given flags.now base a n }
 {
-    let mut i: u8 = 0;
-    while i < n {
-        i += 1;
-        if has(flags, place(base, i, a)) {} else {
+    for i in 0..n {
+        if !has(flags, place(base, i + 1, a)) {
             return false;
         }
     }
@@ -72,25 +73,17 @@ fn row(flags: &[bool], base: usize, a: u16, n: u8) -> bool
 fn action(flags: &[bool], site: Site, a: u16) -> bool
     ensures { result ≡ action_given flags.now (site_as site) a }
 {
-    if has(flags, place(0, 0, a)) {} else {
-        return false;
-    }
-    if row(flags, 0, a, site.conditions) {
-        row(flags, CONDITIONS, a, site.levels)
-    } else {
-        false
-    }
+    has(flags, place(0, 0, a))
+        && row(flags, 0, a, site.conditions)
+        && row(flags, CONDITIONS, a, site.levels)
 }
 
 // All that the site asks for.
 pub fn complete(flags: &[bool], site: Site) -> bool
     ensures { result ≡ all_given flags.now (site_as site) }
 {
-    let n = site.actions;
-    let mut a: u16 = 0;
-    while a < n {
-        a += 1;
-        if action(flags, site, a) {} else {
+    for a in 0..site.actions {
+        if !action(flags, site, a + 1) {
             return false;
         }
     }

@@ -16,7 +16,6 @@ ghost use Rattle.theory.specs.Command.{signed, signed_from, linear_in};
 use super::Site;
 use super::refusals::OPERAND;
 use model_command::NAME_BYTES;
-use model_facts::{both, either};
 use model_form::{CONDITIONS, Form};
 
 // "weight total W (1 to 100)".
@@ -26,7 +25,7 @@ const WEIGHTS: usize = 100;
 pub fn among(n: usize, k: usize) -> bool
     ensures { result ≡ is_among n k }
 {
-    both(1 <= k, k <= n)
+    1 <= k && k <= n
 }
 
 // n numbers from an offset on are zero: as words, no sign is needed.
@@ -34,14 +33,10 @@ pub fn zeros(model: &[u8], from: usize, n: usize) -> bool
     requires { from + n * 4 ≤ length model.now }
     ensures { result ≡ zeros_in (signed_from model.now from n) }
 {
-    let mut at = from;
-    let mut left = n;
-    while 0 < left {
-        if model_command::word(model, at) != 0 {
+    for i in 0..n {
+        if model_command::word(model, from + i * 4) != 0 {
             return false;
         }
-        at += 4;
-        left -= 1;
     }
     true
 }
@@ -51,13 +46,9 @@ pub fn beyond(form: Form, model: &[u8], from: usize, m: u8) -> bool
     requires { from + linear_bytes (form_of form) ≤ length model.now }
     ensures { result ≡ beyond m (linear_in (form_of form) model.now from) }
 {
-    let levels = model_form::levels(form);
-    let k = m as usize;
-    if k < levels {
-        !zeros(model, from + k * 4, levels - k)
-    } else {
-        false
-    }
+    let levels = form.levels();
+    let k = usize::from(m);
+    k < levels && !zeros(model, from + k * 4, levels - k)
 }
 
 // "A test has some coefficient not zero": whether the linear at an offset has none.
@@ -65,7 +56,7 @@ pub fn is_constant(form: Form, model: &[u8], from: usize) -> bool
     requires { from + linear_bytes (form_of form) ≤ length model.now }
     ensures { result ≡ zeros_in (linear_in (form_of form) model.now from).coeffs }
 {
-    zeros(model, from, model_form::levels(form))
+    zeros(model, from, form.levels())
 }
 
 // How many coefficients of the linear at an offset count: those up to the last that is not zero. As words, no sign is needed.
@@ -73,13 +64,10 @@ pub fn used(form: Form, model: &[u8], from: usize) -> usize
     requires { from + linear_bytes (form_of form) ≤ length model.now }
     ensures { (m : ℕ) → ltb m result ≡ beyond m (linear_in (form_of form) model.now from) }
 {
-    let mut n = model_form::levels(form);
-    while 0 < n {
-        let last = n - 1;
+    for last in (0..form.levels()).rev() {
         if model_command::word(model, from + last * 4) != 0 {
-            return n;
+            return last + 1;
         }
-        n = last;
     }
     0
 }
@@ -87,7 +75,7 @@ pub fn used(form: Form, model: &[u8], from: usize) -> usize
 fn weight_of(w: u8, n: u32) -> bool
     ensures { result ≡ (le_z (pos 0) (signed n) && le_z (signed n) (pos w)) }
 {
-    n <= w as u32
+    n <= u32::from(w)
 }
 
 // A constant 0 to W, of the linear at an offset: few linears have such a last number, so that is asked first.
@@ -95,25 +83,17 @@ pub fn weight(form: Form, model: &[u8], from: usize, w: u8) -> bool
     requires { from + linear_bytes (form_of form) ≤ length model.now }
     ensures { result ≡ is_weight w (linear_in (form_of form) model.now from) }
 {
-    let constant = from + model_form::levels(form) * 4;
-    if weight_of(w, model_command::word(model, constant)) {
-        used(form, model, from) == 0
-    } else {
-        false
-    }
+    let constant = from + form.levels() * 4;
+    weight_of(w, model_command::word(model, constant)) && used(form, model, from) == 0
 }
 
 // "1 to n for a condition now, 5 to 4+n for the next step's"
 pub fn condition(n: u8, k: u8) -> bool
     ensures { result ≡ or (is_among n k) (next_condition n k) }
 {
-    let most = n as usize;
-    let i = k as usize;
-    if CONDITIONS < i {
-        either(among(most, i), among(most, i - CONDITIONS))
-    } else {
-        among(most, i)
-    }
+    let most = usize::from(n);
+    let i = usize::from(k);
+    among(most, i) || CONDITIONS < i && among(most, i - CONDITIONS)
 }
 
 fn index(site: Site, command: u8, i: u8) -> bool
@@ -121,8 +101,8 @@ fn index(site: Site, command: u8, i: u8) -> bool
 {
     match command {
         0x20 => i == 0,
-        0x21 => among(site.conditions as usize, i as usize),
-        0x22 => among(site.levels as usize, i as usize),
+        0x21 => among(usize::from(site.conditions), usize::from(i)),
+        0x22 => among(usize::from(site.levels), usize::from(i)),
         _ => false,
     }
 }
@@ -131,43 +111,32 @@ fn index(site: Site, command: u8, i: u8) -> bool
 fn end_worth(command: u8, a: u16, i: u8) -> bool
     ensures { result ≡ same_slot (record { command = command; action = a; index = i }) end_slot }
 {
-    both(command == 0x23, both(a == 0, i == 0))
+    command == 0x23 && a == 0 && i == 0
 }
 
 // "20 reward: action", "21 chance: action, condition", "22 next level: action, level": each is one of the site's.
 pub fn slot(site: Site, command: u8, a: u16, i: u8) -> bool
     ensures { result ≡ of_site (site_as site) (record { command = command; action = a; index = i }) }
 {
-    either(
-        end_worth(command, a, i),
-        both(
-            among(site.actions as usize, a as usize),
-            index(site, command, i),
-        ),
-    )
+    end_worth(command, a, i)
+        || among(usize::from(site.actions), usize::from(a)) && index(site, command, i)
 }
 
 fn printable(b: u8) -> bool
     ensures { result ≡ is_printable b }
 {
-    both(0x20 <= b, b <= 0x7e)
+    0x20 <= b && b <= 0x7e
 }
 
 // Whether the bytes of a name from an offset on are printable.
 pub fn text(model: &[u8], from: usize) -> bool
     ensures { result ≡ all is_printable (take name_bytes (drop from model.now)) }
 {
-    let mut at = from;
-    let mut left: usize = NAME_BYTES;
-    while 0 < left {
-        if model.len() <= at {
-            return true;
-        }
-        if printable(model[at]) {} else {
+    let end = model.len().min(from.saturating_add(NAME_BYTES));
+    for at in from..end {
+        if !printable(model[at]) {
             return false;
         }
-        at += 1;
-        left -= 1;
     }
     true
 }
@@ -176,16 +145,11 @@ pub fn text(model: &[u8], from: usize) -> bool
 pub fn site(form: Form, m: u8, n: u8, a: u16, w: u8) -> u32
     ensures { result ≡ first_broken (site_rules (form_of form) (site_of m n a w)) }
 {
-    if among(model_form::levels(form), m as usize) {} else {
-        return OPERAND;
-    }
-    if CONDITIONS < n as usize {
-        return OPERAND;
-    }
-    if among(model_form::actions(form), a as usize) {} else {
-        return OPERAND;
-    }
-    if among(WEIGHTS, w as usize) {
+    if among(form.levels(), usize::from(m))
+        && usize::from(n) <= CONDITIONS
+        && among(form.actions(), usize::from(a))
+        && among(WEIGHTS, usize::from(w))
+    {
         0
     } else {
         OPERAND

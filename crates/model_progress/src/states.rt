@@ -26,7 +26,7 @@ pub fn start() -> Progress
             actions: 0,
             weights: 0,
         },
-        seen: model_facts::none(),
+        seen: Seen::none(),
     }
 }
 
@@ -41,7 +41,7 @@ fn begun(m: u8, n: u8, a: u16, w: u8) -> Progress
             actions: a,
             weights: w,
         },
-        seen: model_facts::none(),
+        seen: Seen::none(),
     }
 }
 
@@ -50,19 +50,21 @@ pub fn first(c: Command) -> Progress
     ensures { (form : Written) (B : List ℕ) (at : ℕ) → first_broken (first_rules form (command_of_in form B at c)) ≡ 0
         → (result.begun ≡ true) × ProgressStands result (replicate flags_most false) (after-command at_start (command_of_in form B at c)) }
 {
-    if let Command::Site(m, n, a, w) = c {
-        begun(m, n, a, w)
-    } else {
-        start()
+    match c {
+        Command::Site {
+            levels,
+            conditions,
+            actions,
+            weights,
+        } => begun(levels, conditions, actions, weights),
+        _ => start(),
     }
 }
 
 fn with_seen(s: Progress, seen: Seen) -> Progress
     ensures { result ≡ record { begun = s.begun; site = s.site; seen = seen } }
 {
-    let mut t = s;
-    t.seen = seen;
-    t
+    Progress { seen, ..s }
 }
 
 // Behind the command at an offset; what it gives is `given::note`'s.
@@ -72,15 +74,20 @@ pub fn after(form: Form, model: &[u8], at: usize, c: Command, s: Progress) -> Pr
 {
     let seen = s.seen;
     match c {
-        Command::Site(m, n, a, w) => begun(m, n, a, w),
+        Command::Site {
+            levels,
+            conditions,
+            actions,
+            weights,
+        } => begun(levels, conditions, actions, weights),
         Command::Leaf => {
             let weight = operands::weight(form, model, at + 1, s.site.weights);
-            with_seen(s, model_facts::pushed(seen, false, weight, false))
+            with_seen(s, seen.pushed(false, weight, false))
         }
-        Command::Condition(k) => with_seen(s, model_facts::joined(seen, CONDITIONS < k as usize)),
-        Command::Test => with_seen(s, model_facts::joined(seen, false)),
-        Command::Forbidden => with_seen(s, model_facts::pushed(seen, false, false, true)),
-        Command::Give(_, _, _) => with_seen(s, model_facts::popped(seen)),
+        Command::Condition(k) => with_seen(s, seen.joined(CONDITIONS < usize::from(k))),
+        Command::Test => with_seen(s, seen.joined(false)),
+        Command::Forbidden => with_seen(s, seen.pushed(false, false, true)),
+        Command::Give { .. } => with_seen(s, seen.popped()),
         Command::Name(_) => s,
         Command::End => s,
     }

@@ -6,7 +6,7 @@ ghost use Rattle.std.specs.Prelude.{◌≡◌};
 ghost use Rattle.theory.specs.Command.{read_at};
 ghost use Rattle.model_command.specs.CursorReadings.{read_of, next_at};
 
-use model_command::Read;
+use model_command::{Command, CommandError};
 
 #[derive(Drop)]
 pub struct Reader<'a> {
@@ -21,7 +21,7 @@ pub fn new<'a>(model: &'a [u8]) -> Reader<'a>
 }
 
 // What stands at the reader's offset.
-pub fn next<'a>(r: Reader<'a>) -> Read
+pub fn next<'a>(r: Reader<'a>) -> Result<Command, CommandError>
     ensures { read_of r.entry.model.now r.entry.next result ≡ read_at r.entry.model.now r.entry.next }
 {
     model_command::command_at(r.model, r.next)
@@ -39,14 +39,14 @@ pub fn past<'a>(r: Reader<'a>) -> Reader<'a>
 }
 
 // The first command, for a caller with a plain slice.
-pub fn first(model: &[u8]) -> Read
+pub fn first(model: &[u8]) -> Result<Command, CommandError>
     ensures { read_of model.now 0 result ≡ read_at model.now 0 }
 {
     next(new(model))
 }
 
 // The command behind the first one, for such a caller.
-pub fn second(model: &[u8]) -> Read
+pub fn second(model: &[u8]) -> Result<Command, CommandError>
     ensures { read_of model.now (next_at model.now 0) result ≡ read_at model.now (next_at model.now 0) }
 {
     next(past(new(model)))

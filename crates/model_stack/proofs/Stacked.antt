@@ -45,20 +45,20 @@ pub pop_none : (l : List ℕ) (n : ℕ) → n ≤ 0 → last_first l n ≡ drop 
 unfolding last_first
 pop_none l n h = let e : n ≡ 0 = omega arith in rw e
 
-pub top_more : (l : List ℕ) (n : ℕ) → (n ≡ 0 → ⊥) → get_or l (n - 1) 0 ≡ get_or (last_first l n) 0 0
+pub top_more : (l : List ℕ) (n : ℕ) → 0 < n → get_or l (n - 1) 0 ≡ get_or (last_first l n) 0 0
 unfolding last_first
 top_more l n h = go (n - 1) (omega arith)
   where
     go : (k : ℕ) → n ≡ suc k → get_or l k 0 ≡ get_or (last_first l n) 0 0
     go k e = rw e
 
-pub top_none : (l : List ℕ) (n : ℕ) → n ≡ 0 → 0 ≡ get_or (last_first l n) 0 0
+pub top_none : (l : List ℕ) (n : ℕ) → n ≤ 0 → 0 ≡ get_or (last_first l n) 0 0
 unfolding last_first
-top_none l n e = rw e
+top_none l n h = let e : n ≡ 0 = omega arith in rw e
 
 -- past the items nothing stands
-pub top_past : (l : List ℕ) (n : ℕ) → (n ≡ 0 → ⊥) → length l ≤ n - 1 → 0 ≡ get_or (last_first l n) 0 0
-top_past l n h k = sym (get_or-eq_default l 0 k) ∙ top_more l n h
+pub top_past : (l : List ℕ) (n : ℕ) → 0 < n → length l < n → 0 ≡ get_or (last_first l n) 0 0
+top_past l n h k = let i : length l ≤ n - 1 = omega arith in sym (get_or-eq_default l 0 i) ∙ top_more l n h
 
 pub pushed_length : (x : ℕ) (l : List ℕ) → length l ≤ stack_most → length (pushed x l) ≤ stack_most
 unfolding pushed

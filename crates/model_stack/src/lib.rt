@@ -7,7 +7,7 @@ ghost use Rattle.model_stack.specs.Held.{held, pushed};
 // "it holds at most 32"
 pub const STACK_MOST: usize = 32;
 
-// Diagram numbers. The top is at len − 1.
+// Diagram numbers. The top is at len − 1. The project has no heap, so the places are fixed and the length stands beside.
 #[derive(Clone, Copy)]
 pub struct Stack {
     pub items: [u32; STACK_MOST],
@@ -19,7 +19,7 @@ impl Stack {
         ensures { held result ≡ [] }
     {
         Stack {
-            items: [0u32; STACK_MOST],
+            items: [0; STACK_MOST],
             len: 0,
         }
     }
@@ -28,10 +28,9 @@ impl Stack {
     pub fn push(mut self, x: u32) -> Stack
         ensures { held result ≡ pushed x (held self) }
     {
-        let at = self.len;
-        if at < STACK_MOST {
-            self.items[at] = x;
-            self.len = at + 1;
+        if self.len < STACK_MOST {
+            self.items[self.len] = x;
+            self.len += 1;
         }
         self
     }
@@ -39,9 +38,8 @@ impl Stack {
     pub fn pop(mut self) -> Stack
         ensures { held result ≡ drop 1 (held self) }
     {
-        let at = self.len;
-        if 0 < at {
-            self.len = at - 1;
+        if 0 < self.len {
+            self.len -= 1;
         }
         self
     }
@@ -50,12 +48,10 @@ impl Stack {
     pub fn top(self) -> u32
         ensures { result ≡ get_or (held self) 0 0 }
     {
-        let at = self.len;
-        if at == 0 {
-            return 0;
+        if 0 < self.len && self.len <= STACK_MOST {
+            self.items[self.len - 1]
+        } else {
+            0
         }
-        let last = at - 1;
-        let items = self.items;
-        if last < STACK_MOST { items[last] } else { 0 }
     }
 }

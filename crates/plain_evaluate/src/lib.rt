@@ -15,24 +15,24 @@ ghost use Rattle.theory.specs.Meaning.{chance_at as chance-of};
 ghost use Rattle.theory.specs.Load.{find_slot, found, site_at};
 ghost use Rattle.theory.specs.Verdict.{verdict, end_slot};
 ghost use Rattle.theory.specs.Load.{loaded_entries};
-ghost use Rattle.plain_pass.specs.Pass.{slot_of, no_name, point_at, nums_at, FlatPoint, leaf_of, reward_of, StateStands, LeafComes};
+ghost use Rattle.plain_pass.specs.Pass.{slot_of, no_name, FlatPoint, leaf_of, reward_of, StateStands, LeafComes};
 ghost use Rattle.plain_pass.specs.Pass.{numerator as numerator-at};
 ghost use Rattle.plain_pass.specs.Parts.{Parts};
 
 use plain_leaf::{code, code_end, leaf_at, numerators};
-use plain_pass::{Point, Reward, Slot};
-use whole::limits::mag;
+use plain_pass::{Point, Slot};
 use whole::{COEFFICIENTS, Numerator};
 
-// The linear of the leaf at an offset, at a point's numbers, times d; 0 where there is none.
-fn leaf_numerator(model: &[u8], at: usize, n: &[i32], m: usize) -> Numerator
-    requires { FlatPoint (point_at 0 0 n.now m) × (length n.now ≡ numbers) }
-    ensures { result ≡ words (numerator-at (nums_at n.now) (lin_of (leaf_of (read_at model.now at)))) }
+// The linear of the leaf at an offset, at a point, times d; 0 where there is none.
+fn leaf_numerator(model: &[u8], at: usize, x: &Point) -> Numerator
+    requires { FlatPoint x.now }
+    ensures { result ≡ words (numerator-at x.now (lin_of (leaf_of (read_at model.now at)))) }
 {
     if code(model, at, code_end(model)) == 0x10 {
-        return numerators::numerator_at(model, at + 1, n, m);
+        numerators::numerator_at(model, at + 1, x)
+    } else {
+        Numerator { low: 0, high: 0 }
     }
-    Numerator { low: 0, high: 0 }
 }
 
 // The constant of the leaf at an offset; 0 where there is none.
@@ -40,47 +40,31 @@ fn leaf_constant(model: &[u8], at: usize) -> i64
     ensures { result ≡ (lin_of (leaf_of (read_at model.now at))).const }
 {
     if code(model, at, code_end(model)) == 0x10 {
-        return numerators::number(model, at + 1 + COEFFICIENTS * 4);
+        numerators::number(model, at + 1 + COEFFICIENTS * 4)
+    } else {
+        0
     }
-    0
 }
 
 // The offset of the leaf that a slot's diagram comes to.
-fn found_at(model: &[u8], parts: &[u32], g: Slot, x: Point) -> usize
-    requires { ((verdict model.now).number ≡ 0) × (length model.now < 4294967296) × T (no_name (slot_of g)) × Parts model.now parts.now × FlatPoint x }
-    ensures { LeafComes model.now (slot_of g) x result }
+fn found_at(model: &[u8], parts: &[u32], g: Slot, x: &Point) -> usize
+    requires { ((verdict model.now).number ≡ 0) × (length model.now < 4294967296) × T (no_name (slot_of g)) × Parts model.now parts.now × FlatPoint x.now }
+    ensures { LeafComes model.now (slot_of g) x.now result }
 {
-    let n = x.n;
-    leaf_at(
-        model,
-        plain_parts::begin(parts, g),
-        g,
-        x.mask,
-        x.setting,
-        &n,
-        x.levels,
-    )
+    leaf_at(model, plain_parts::begin(parts, g), g, x)
 }
 
-// What a reward comes to, times d: a number, or forbidden.
-pub fn reward_at(model: &[u8], parts: &[u32], g: Slot, x: Point) -> Reward
+// What a reward comes to, times d; none where it is forbidden.
+pub fn reward_at(model: &[u8], parts: &[u32], g: Slot, x: Point) -> Option<Numerator>
     requires { ((verdict model.now).number ≡ 0) × (length model.now < 4294967296) × T (no_name (slot_of g)) × Parts model.now parts.now × FlatPoint x }
     ensures { (s : State) (z : List Bool) → StateStands (site_at model.now).levels (site_at model.now).conditions x s z
         → result ≡ reward_of (worth_of (env s z) (find_slot (slot_of g) (loaded_entries model.now))) }
 {
-    let at = found_at(model, parts, g, x);
+    let at = found_at(model, parts, g, &x);
     if model_command::byte_at(model, at) == 0x13 {
-        return Reward {
-            forbidden: true,
-            worth: Numerator { low: 0, high: 0 },
-        };
+        return None;
     }
-    let n = x.n;
-    let worth = leaf_numerator(model, at, &n, x.levels);
-    Reward {
-        forbidden: false,
-        worth,
-    }
+    Some(leaf_numerator(model, at, &x))
 }
 
 // What a next level or an end worth comes to, times d.
@@ -89,9 +73,7 @@ pub fn level_at(model: &[u8], parts: &[u32], g: Slot, x: Point) -> Numerator
     ensures { (s : State) (z : List Bool) → StateStands (site_at model.now).levels (site_at model.now).conditions x s z
         → result ≡ words (level_of (env s z) (find_slot (slot_of g) (loaded_entries model.now))) }
 {
-    let at = found_at(model, parts, g, x);
-    let n = x.n;
-    leaf_numerator(model, at, &n, x.levels)
+    leaf_numerator(model, found_at(model, parts, g, &x), &x)
 }
 
 // What the end worth comes to, times d; 0 where none is given.
@@ -109,9 +91,7 @@ pub fn end_at(model: &[u8], parts: &[u32], x: Point) -> Numerator
     if begin == 0 {
         return Numerator { low: 0, high: 0 };
     }
-    let n = x.n;
-    let at = leaf_at(model, begin, g, x.mask, x.setting, &n, x.levels);
-    leaf_numerator(model, at, &n, x.levels)
+    leaf_numerator(model, leaf_at(model, begin, g, &x), &x)
 }
 
 // The weight, out of W, that a slot's diagram comes to.
@@ -120,12 +100,12 @@ pub fn chance_at(model: &[u8], parts: &[u32], g: Slot, x: Point) -> u64
     ensures { (s : State) (z : List Bool) → StateStands (site_at model.now).levels (site_at model.now).conditions x s z
         → result ≡ chance-of (env s z) (find_slot (slot_of g) (loaded_entries model.now)) }
 {
-    weight(leaf_constant(model, found_at(model, parts, g, x)))
+    weight(leaf_constant(model, found_at(model, parts, g, &x)))
 }
 
 // A number below 0 counts as 0; an accepted model has none.
 fn weight(z: i64) -> u64
     ensures { result ≡ up z }
 {
-    if z < 0 { 0 } else { mag(z) }
+    if z < 0 { 0 } else { z.unsigned_abs() }
 }

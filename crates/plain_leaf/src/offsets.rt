@@ -4,12 +4,14 @@ ghost use Rattle.model_stack.specs.Held.{last_first, pushed};
 ghost use Rattle.plain_pass.specs.Pass.{chosen};
 ghost use Rattle.plain_pass.specs.Parts.{StackRoom, HoldsStack};
 
+use model_stack::STACK_MOST;
+
 // A full stack stays as it is.
 pub fn push(items: &mut [u32], len: usize, at: u32) -> usize
     requires { StackRoom items.old len }
     ensures { HoldsStack items.new result (pushed at (last_first items.old len)) }
 {
-    if len < 32 {
+    if len < STACK_MOST {
         items[len] = at;
         return len + 1;
     }
@@ -20,10 +22,7 @@ pub fn pop(items: &[u32], len: usize) -> usize
     requires { StackRoom items.now len }
     ensures { HoldsStack items.now result (drop 1 (last_first items.now len)) }
 {
-    if len == 0 {
-        return 0;
-    }
-    len - 1
+    len.saturating_sub(1)
 }
 
 // "takes low, then high, off the stack" and pushes the one that is taken.
@@ -31,16 +30,12 @@ pub fn choose(items: &mut [u32], len: usize, high: bool) -> usize
     requires { StackRoom items.old len }
     ensures { HoldsStack items.new result (chosen high (last_first items.old len)) }
 {
-    if high {
-        if len < 2 {
-            return len;
-        }
-        return len - 1;
-    }
     if len < 2 {
         return len;
     }
-    items[len - 2] = items[len - 1];
+    if !high {
+        items[len - 2] = items[len - 1];
+    }
     len - 1
 }
 

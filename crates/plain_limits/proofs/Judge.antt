@@ -23,8 +23,6 @@ use Rattle.theory.specs.Plain.{Worth, is, nothing, over, in_32_bits, better, num
 use Rattle.theory.specs.Verdict.{or}
 use Rattle.plain_limits.specs.declared.Total.{Total}
 use Rattle.plain_limits.specs.declared.Total.TheVariants as total
-use Rattle.plain_limits.specs.declared.Level.{Level}
-use Rattle.plain_limits.specs.declared.Level.TheVariants as level
 use Rattle.plain_limits.specs.Totals.{total_of, judged_32, times_of, plus_of, added_of, summed, tried, KeptSum, stopped, is_over}
 
 -- ---- products
@@ -119,18 +117,18 @@ not_more (pos k) false t = le-leb k 2147483647 (ltb-false 2147483647 k t)
 not_more (negsuc k) b t = ap not t
 
 module _ (z : ℤ) where
-  abbrev if_both : Bool → Bool → Level
-  if_both a b = if (a && b) (level.Is z) level.Over
+  abbrev if_both : Bool → Bool → Option ℤ
+  if_both a b = if (a && b) (Some z) None
 
-  bits_below : lt_z z least ≡ true → level.Over ≡ judged_32 z
+  bits_below : lt_z z least ≡ true → None ≡ judged_32 z
   unfolding judged_32 in_32_bits
   bits_below t = ap (λ (b : Bool). if_both b (le_z z most)) (sym (not_less z true t))
 
-  bits_above : lt_z z least ≡ false → lt_z most z ≡ true → level.Over ≡ judged_32 z
+  bits_above : lt_z z least ≡ false → lt_z most z ≡ true → None ≡ judged_32 z
   unfolding judged_32 in_32_bits
   bits_above s t = ap₂ if_both (sym (not_less z false s)) (sym (not_more z true t))
 
-  bits_fit : lt_z z least ≡ false → lt_z most z ≡ false → SFits w32 z × (level.Is z ≡ judged_32 z)
+  bits_fit : lt_z z least ≡ false → lt_z most z ≡ false → SFits w32 z × (Some z ≡ judged_32 z)
   unfolding judged_32 in_32_bits
   bits_fit s t = (fit z s t, ap₂ if_both (sym (not_less z false s)) (sym (not_more z false t)))
     where
@@ -143,33 +141,33 @@ module _ (z : ℤ) (f : SFits w64 z) where
   read : (F : ℤ → Bool) {b : Bool} → F (R z) ≡ b → F z ≡ b
   read F t = ap F (sym (back z f)) ∙ t
 
-  pub is_below : lt_z (R z) least ≡ true → level.Over ≡ judged_32 z
+  pub is_below : lt_z (R z) least ≡ true → None ≡ judged_32 z
   is_below t = bits_below z (read (λ (y : ℤ). lt_z y least) t)
 
   module _ (s : lt_z (R z) least ≡ false) where
-    pub is_above : lt_z most (R z) ≡ true → level.Over ≡ judged_32 z
+    pub is_above : lt_z most (R z) ≡ true → None ≡ judged_32 z
     is_above t = bits_above z (read (λ (y : ℤ). lt_z y least) s) (read (λ (y : ℤ). lt_z most y) t)
 
     module _ (t : lt_z most (R z) ≡ false) where
-      fits_32 : SFits w32 z × (level.Is z ≡ judged_32 z)
+      fits_32 : SFits w32 z × (Some z ≡ judged_32 z)
       fits_32 = bits_fit z (read (λ (y : ℤ). lt_z y least) s) (read (λ (y : ℤ). lt_z most y) t)
 
       pub cast_fits : SFits w32 (R z)
       cast_fits = rw (back z f) fits_32.0
 
-      pub cast_is : level.Is (R32 (R z)) ≡ judged_32 z
-      cast_is = ap level.Is (ap R32 (back z f) ∙ back32 z fits_32.0) ∙ fits_32.1
+      pub cast_is : Some (R32 (R z)) ≡ judged_32 z
+      cast_is = ap Some (ap R32 (back z f) ∙ back32 z fits_32.0) ∙ fits_32.1
 
 -- beyond the limits is beyond 32 bits
-limits_over : (z : ℤ) → limit < nat_abs z → level.Over ≡ judged_32 z
+limits_over : (z : ℤ) → limit < nat_abs z → None ≡ judged_32 z
 limits_over (pos n) h = bits_above (pos n) refl (lt-ltb 2147483647 n (omega arith))
 limits_over (negsuc n) h = bits_below (negsuc n) (lt-ltb 2147483647 n (omega arith))
 
 module _ {w : Option ℤ} (z : ℤ) (e : w ≡ limited z) where
-  pub not_within : w ≡ None → level.Over ≡ judged_32 z
+  pub not_within : w ≡ None → None ≡ judged_32 z
   not_within o = limits_over z (limited_lacks z (sym e ∙ o))
 
-  pub within_judged : (q : ℤ) → w ≡ Some q → SFits w64 q → {r : Level} → r ≡ judged_32 (R q) → r ≡ judged_32 z
+  pub within_judged : (q : ℤ) → w ≡ Some q → SFits w64 q → {r : Option ℤ} → r ≡ judged_32 (R q) → r ≡ judged_32 z
   within_judged q o f u = u ∙ ap judged_32 (back q f ∙ (limited_gives z q (sym e ∙ o)).0)
 
 -- ---- products and sums

@@ -5,8 +5,6 @@ use Rattle.whole.specs.Within.{Small, limited}
 use Rattle.theory.specs.Plain.{Worth, is, nothing, over, in_32_bits, better, numbered}
 use Rattle.plain_limits.specs.declared.Total.{Total}
 use Rattle.plain_limits.specs.declared.Total.TheVariants as total
-use Rattle.plain_limits.specs.declared.Level.{Level}
-use Rattle.plain_limits.specs.declared.Level.TheVariants as level
 
 -- what document 01 says of a total
 unfoldable pub total_of : Total → Worth
@@ -15,8 +13,8 @@ total_of total.None = nothing
 total_of total.Over = over
 
 -- a numerator where it has 32 bits
-unfoldable pub judged_32 : ℤ → Level
-judged_32 z = if (in_32_bits z) (level.Is z) level.Over
+unfoldable pub judged_32 : ℤ → Option ℤ
+judged_32 z = if (in_32_bits z) (Some z) None
 
 -- the product of two numbers, all three judged
 unfoldable pub times_of : Option ℤ → Option ℤ → Option ℤ

@@ -9,20 +9,13 @@ ghost use Rattle.theory.specs.Plain.{numbered as Numbered-of, better as better-o
 ghost use Rattle.plain_limits.specs.Totals.{total_of, judged_32, times_of, added_of, tried, summed, KeptSum, stopped, is_over};
 
 use whole::Numerator;
-use whole::limits::{LIMIT, add_within, mag, mul_within};
+use whole::limits::{LIMIT, add_within, mul_within};
 
 // A worth and the action that has it, none, or a number left its limits.
 #[derive(Clone, Copy)]
 pub enum Total {
     Is(i64, u16),
     None,
-    Over,
-}
-
-// A next level's numerator, where it has 32 bits.
-#[derive(Clone, Copy)]
-pub enum Level {
-    Is(i32),
     Over,
 }
 
@@ -43,8 +36,7 @@ fn negative(n: u64) -> Option<i64>
 pub fn narrow(x: Numerator) -> Option<i64>
     ensures { result ≡ limited (number x) }
 {
-    let low = x.low;
-    let high = x.high;
+    let Numerator { low, high } = x;
     if 0 < high {
         return None;
     }
@@ -62,26 +54,20 @@ const LEAST: i64 = -2147483648;
 
 const MOST: i64 = 2147483647;
 
-fn judged(z: i64) -> Level
+fn judged(z: i64) -> Option<i32>
     ensures { result ≡ judged_32 z }
 {
-    if z < LEAST {
-        return Level::Over;
+    if z < LEAST || MOST < z {
+        return None;
     }
-    if MOST < z {
-        return Level::Over;
-    }
-    Level::Is(z as i32)
+    Some(z as i32)
 }
 
 // "a next state's numerator .. leaves 32 bits"
-pub fn in_32_bits(x: Numerator) -> Level
+pub fn in_32_bits(x: Numerator) -> Option<i32>
     ensures { result ≡ judged_32 (number x) }
 {
-    let Some(z) = narrow(x) else {
-        return Level::Over;
-    };
-    judged(z)
+    judged(narrow(x)?)
 }
 
 // 2³¹ − 1: two such magnitudes have a product within the limits, which no division has to tell.
@@ -91,10 +77,7 @@ const SHORT: u64 = 2147483647;
 fn product(a: i64, b: i64) -> Option<i64>
     ensures { result ≡ limited (a *ℤ b) }
 {
-    if mag(a) > SHORT {
-        return mul_within(a, b);
-    }
-    if mag(b) > SHORT {
+    if a.unsigned_abs() > SHORT || b.unsigned_abs() > SHORT {
         return mul_within(a, b);
     }
     Some(a * b)
@@ -108,13 +91,14 @@ pub fn times(p: Option<i64>, z: Option<i64>) -> Option<i64>
 }
 
 // A number as a worth; the action is numbered later.
+#[tactic(auto, unfolding(crate::specs::Totals::total_of, crate::specs::Totals::summed))]
 pub fn worth_of(z: Option<i64>) -> Total
     ensures { total_of result ≡ summed z }
 {
-    let Some(v) = z else {
-        return Total::Over;
-    };
-    Total::Is(v, 0)
+    match z {
+        Some(v) => Total::Is(v, 0),
+        None => Total::Over,
+    }
 }
 
 // The running sum with weight × worth; none stays none.
@@ -135,27 +119,24 @@ pub fn added(sum: Total, w: u64, t: Total) -> Total
 }
 
 // The worth, as that of action a.
+#[tactic(auto, unfolding(crate::specs::Totals::total_of, theory::specs::Plain::numbered))]
 pub fn numbered(a: u16, t: Total) -> Total
     ensures { total_of result ≡ Numbered-of a (total_of t) }
 {
-    let Total::Is(z, _) = t else {
-        return t;
-    };
-    Total::Is(z, a)
+    match t {
+        Total::Is(z, _) => Total::Is(z, a),
+        _ => t,
+    }
 }
 
 // The larger of v, the worth of action b, and action a's worth, the earlier where they are equal; none loses.
+#[tactic(auto, unfolding(crate::specs::Totals::total_of, theory::specs::Plain::better))]
 fn larger(v: i64, b: u16, a: u16, t: Total) -> Total
     ensures { total_of result ≡ better-of v b a (total_of t) }
 {
     match t {
-        Total::Is(u, _) => {
-            if u <= v {
-                Total::Is(v, b)
-            } else {
-                Total::Is(u, a)
-            }
-        }
+        Total::Is(u, _) if u <= v => Total::Is(v, b),
+        Total::Is(u, _) => Total::Is(u, a),
         Total::None => Total::Is(v, b),
         Total::Over => t,
     }
@@ -173,21 +154,17 @@ pub fn better(best: Total, a: u16, t: Total) -> Total
 }
 
 // No setting is left, or the sum is none or over.
+#[tactic(auto, unfolding(crate::specs::Totals::total_of, crate::specs::Totals::stopped))]
 pub fn settings_done(sum: Total, r: u32, count: u32) -> bool
     ensures { result ≡ or (stopped (total_of sum)) (leb count r) }
 {
-    let Total::Is(_, _) = sum else {
-        return true;
-    };
-    count <= r
+    !matches!(sum, Total::Is(_, _)) || count <= r
 }
 
 // No action is left, or the best so far is over.
+#[tactic(auto, unfolding(crate::specs::Totals::total_of, crate::specs::Totals::is_over))]
 pub fn actions_done(best: Total, a: u16, last: u16) -> bool
     ensures { result ≡ or (is_over (total_of best)) (ltb last a) }
 {
-    if let Total::Over = best {
-        return true;
-    }
-    last < a
+    matches!(best, Total::Over) || last < a
 }

@@ -13,7 +13,7 @@ ghost use Rattle.plain_pass.specs.Parts.{slots_each, depth_after, noted, put, No
 ghost use Rattle.plain_pass.specs.Parts.{row as row_of};
 ghost use Rattle.plain_pass.specs.Parts.{place as place_of};
 
-use model_command::{Command, Read};
+use model_command::Command;
 use model_form::{ACTIONS, CONDITIONS, Form, LEVELS};
 use model_stack::STACK_MOST;
 use plain_pass::Slot;
@@ -85,7 +85,12 @@ fn enter(parts: &mut [u32], g: Slot, begin: u32)
 fn note(parts: &mut [u32], c: Command, begin: u32)
     ensures { (B : List ℕ) (i : ℕ) → parts.new ≡ noted (command_of B i c) begin parts.old }
 {
-    if let Command::Give(command, action, index) = c {
+    if let Command::Give {
+        command,
+        action,
+        index,
+    } = c
+    {
         enter(
             parts,
             Slot {
@@ -124,8 +129,8 @@ fn depth(c: Command, n: usize) -> usize
     match c {
         Command::Leaf | Command::Forbidden => pushed(n),
         Command::Condition(_) | Command::Test => joined(n),
-        Command::Give(_, _, _) => popped(n),
-        Command::Site(_, _, _, _) | Command::Name(_) | Command::End => n,
+        Command::Give { .. } => popped(n),
+        Command::Site { .. } | Command::Name(_) | Command::End => n,
     }
 }
 
@@ -144,7 +149,7 @@ pub fn find(model: &[u8], parts: &mut [u32])
     let mut at = model_command::next_after(model, 0);
     let mut begin = at as u32;
     let mut held: usize = 0;
-    while let Read::Whole(c) = model_command::command_at(model, at) {
+    while let Ok(c) = model_command::command_at(model, at) {
         if model::is_end(c) {
             return;
         }

@@ -8,7 +8,6 @@ use lib.IntN.{pos}
 use lib.ListN.{length, get_or}
 use Rattle.whole.specs.Cases.{if, by_test}
 use Rattle.whole.specs.Int.{ring}
-use Rattle.whole.specs.Linears.{numbers}
 use Rattle.theory.specs.Widths.{levels_most}
 use Rattle.theory.specs.Diagram.{zeros, no_coeffs, zero_linear, lin_of}
 use Rattle.theory.specs.Meaning.{State, Env, env, level_at, end_at}
@@ -46,6 +45,6 @@ absent_worth B t g x v n p u z s r st =
     sym (none_worth x) ∙ level_is B g x 0 (pass_comes B x g 0 v n (p.absent g x u z)) s r st zero_linear (no_leaf_first B (first B v)) ∙ found_worth (env s r) g (loaded_entries B)
 
 -- a pass from a slot's part
-pub part_asks : (B t : List ℕ) (g : Slot) (x : Point) (b : ℕ) → (verdict B).number ≡ 0 → length B < 4294967296 → T (no_name g) → Parts B t → FlatPoint x → length x.n ≡ numbers
+pub part_asks : (B t : List ℕ) (g : Slot) (x : Point) (b : ℕ) → (verdict B).number ≡ 0 → length B < 4294967296 → T (no_name g) → Parts B t → FlatPoint x
     → b ≡ get_or t (place g) 0 → Asks B g b x
-part_asks B t g x b v s n p f l e = record { accepted = v; short = s; diagram = n; seeks = subst (λ (k : ℕ). Seek B x g k []) (sym e) (p.begins g x); flat = f; long = l }
+part_asks B t g x b v s n p f e = record { accepted = v; short = s; diagram = n; seeks = subst (λ (k : ℕ). Seek B x g k []) (sym e) (p.begins g x); flat = f }

@@ -15,8 +15,8 @@ use Rattle.theory.proofs.laws.AcceptedModel.{by_reading, behind}
 use Rattle.model_command.specs.declared.Command.{Command as CodeCommand}
 use Rattle.model_command.specs.declared.Command.TheVariants.{Site, Leaf, Condition, Test, Forbidden, Give, Name, End}
 use Rattle.model_stack.specs.Held.{pushed}
-use Rattle.model_command.specs.declared.Read.{Read as CodeRead}
-use Rattle.model_command.specs.declared.Read.TheVariants.{Whole}
+use Rattle.model_command.specs.CursorReadings.{CodeRead}
+use Rattle.std.specs.Prelude.{Ok}
 use Rattle.model_command.specs.CursorReadings.{command_of, read_of, next_at, command_of_in}
 use Rattle.model.specs.Answers.{is_end}
 use Rattle.model.proofs.Walk.{forward}
@@ -146,7 +146,7 @@ module _ {B : List ℕ} {N i b n : ℕ} {t : List ℕ} (f : Finds B N i b n t) w
   finds_all : ((x : Point) (g : Slot) (l : List ℕ) → Seek B x g i l → 0 ≡ pass x g (readings B) []) → Parts B t
   finds_all stops = record { begins = f.begins; some = omega (arith, f.long, f.least); absent = λ g x u z. let o = f.ahead g (omega (arith, u, f.long)) z x in stops x g o.stack o.here }
 
-  pub finds_stop : (r : CodeRead) → ((d : CodeCommand) → r ≡ Whole d → ⊥) → read_of B i r ≡ read_at B i → Parts B t
+  pub finds_stop : (r : CodeRead) → ((d : CodeCommand) → r ≡ Ok d → ⊥) → read_of B i r ≡ read_at B i → Parts B t
   finds_stop r k e = finds_all (λ x g l w. seek_stops w r k e)
 
   pub finds_end : (c : CodeCommand) → whole (command_of B i c) ≡ read_at B i → is_end c ≡ true → Parts B t

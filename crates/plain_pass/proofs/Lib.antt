@@ -1,6 +1,5 @@
 -- Laws that several proofs cite, here and in the crates above.
 pub mod Halves
-pub mod Nines
 pub mod Points
 pub mod Reach
 pub mod Turns

@@ -1,5 +1,5 @@
 -- What the words of a pass hold after each change.
-use mathlib.Core.Path.{◌≡◌, refl, sym, ap, ◌∙◌}
+use mathlib.Core.Path.{◌≡◌, refl, ap, ◌∙◌}
 use mathlib.Core.Bool.{Bool, true, false}
 use mathlib.Core.List.{List}
 use Prim.Native.Nat.{ℕ, zero, suc, ◌+◌, ◌-◌, ◌≤◌, ◌<◌}
@@ -49,11 +49,12 @@ module _ (l : List ℕ) (n : ℕ) (r : StackRoom l n) where
   pub full_held : (x : ℕ) → stack_most ≤ n → HoldsStack l n (pushed x (last_first l n))
   full_held x h = record { room = r; holds = push_full l n x h }
 
-  pub less_held : 0 < n → HoldsStack l (n - 1) (drop 1 (last_first l n))
-  less_held h = record { room = record { long = r.long; few = omega (arith, r.few) }; holds = pop_more l n h }
-
-  pub none_held : n ≡ 0 → HoldsStack l 0 (drop 1 (last_first l n))
-  none_held e = record { room = record { long = r.long; few = omega arith }; holds = ap (last_first l) (sym e) ∙ pop_none l n (omega arith) }
+  pub popped_held : HoldsStack l (n - 1) (drop 1 (last_first l n))
+  popped_held = record { room = record { long = r.long; few = omega (arith, r.few) }; holds = go n refl }
+    where
+      go : (k : ℕ) → n ≡ k → last_first l (n - 1) ≡ drop 1 (last_first l n)
+      go zero e = ap (last_first l) (let q : n - 1 ≡ n = omega arith in q) ∙ pop_none l n (omega arith)
+      go (suc k) e = pop_more l n (omega arith)
 
   pub too_few : (b : Bool) → n < 2 → HoldsStack l n (chosen b (last_first l n))
   too_few b h = record { room = r; holds = few_held l b n h }

@@ -6,11 +6,11 @@ use Prim.Native.Nat.{ℕ, zero, suc, ◌-◌, ◌/◌, ◌≤◌}
 use native.Mathlib.Omega.{arith}
 use lib.Dec.{T, compare_is_eq, leb, ltb, leb→le, nleb→lt, ltb→lt}
 use lib.IntN.{ℤ, pos, ◌+ℤ◌, ◌*ℤ◌}
-use lib.ListN.{get_or, take, drop}
+use lib.ListN.{take, drop}
 use lib.Signed.{le_z}
 use Rattle.whole.specs.Cases.{if, by_test, both, not_not, clash}
 use Rattle.whole.specs.Int.{ring}
-use Rattle.theory.specs.Widths.{levels_most, conditions_most}
+use Rattle.theory.specs.Widths.{conditions_most}
 use Rattle.theory.specs.Diagram.{Linear, Test, now, later, Tree, Leaf, cmp_ℤ, zeros, test_of}
 use Rattle.theory.specs.Computation.{Comp, result}
 use Rattle.theory.specs.Rules.{choose, decide}
@@ -23,7 +23,7 @@ use Rattle.theory.proofs.laws.Comps.{cmp_ℤ_eq}
 use Rattle.theory.proofs.laws.Valid.{among_out}
 use Rattle.theory.proofs.laws.Values.{choose_at, decide_at}
 use Rattle.plain_pass.specs.declared.Point.{Point}
-use Rattle.plain_pass.specs.Pass.{nums_of, den_of, FlatPoint, numerator, condition_holds, StateStands}
+use Rattle.plain_pass.specs.Pass.{nums_of, den_of, numerator, condition_holds, StateStands}
 
 -- ---- bits
 
@@ -82,14 +82,6 @@ dot_within m [] x t = refl
 dot_within zero (c ∷ cs) x t = sym (dot_zeros (c ∷ cs) x t)
 dot_within (suc m) (c ∷ cs) [] t = refl
 dot_within (suc m) (c ∷ cs) (y ∷ x) t = ap (λ (z : ℤ). c *ℤ y +ℤ z) (dot_within m cs x t)
-
--- a linear asks for the numbers alone
-pub numbers_alone : (x y : Point) → x.n ≡ y.n → (p : Linear) → numerator x p ≡ numerator y p
-unfolding numerator
-numbers_alone x y e p = ap (λ (l : List ℤ). dot p.coeffs (take levels_most l) +ℤ p.const *ℤ get_or l levels_most (pos 0)) e
-
-pub flat_alone : (x y : Point) → x.levels ≡ y.levels → x.n ≡ y.n → FlatPoint x → FlatPoint y
-flat_alone x y e u f = record { few = rw (← e) f.few; rest = λ k a b. ap (λ (l : List ℤ). get_or l k (pos 0)) (sym u) ∙ f.rest k (rw e a) b }
 
 pub or_out : {C : Type 0} (a b : Bool) → T (or a b) → (T a → C) → (T b → C) → C
 or_out true b t f g = f tt

@@ -19,7 +19,7 @@ use Rattle.theory.specs.Diagram.{Linear, zero_linear, Leaf, some, forbidden, per
 use Rattle.theory.specs.Total.{num, none}
 use Rattle.theory.specs.Meaning.{State, Env, env, nth, dot, value, at, leaf_worth, worth_at, level_at, chance_at}
 use Rattle.theory.specs.Value.{bits}
-use Rattle.theory.specs.Command.{Command, site, push_leaf, push_condition, push_test, push_forbidden, give, name_action, end_model, Read, whole, unknown}
+use Rattle.theory.specs.Command.{Command, push_forbidden, give, end_model, Read, whole, unknown}
 use Rattle.theory.specs.Command.{short, byte_at, width, read_at, goes_on, readings_from, readings, Slot, linear_at, linear_in, word_at, signed, action_at}
 use Rattle.theory.specs.Command.{readings_in, command_at, command_in, read_in, width_in}
 use Rattle.theory.specs.Verdict.{same_slot}
@@ -27,15 +27,16 @@ use Rattle.theory.specs.Load.{find_slot, site_at}
 use Rattle.theory.specs.Load.{loaded_entries}
 use Rattle.model_command.specs.declared.Command.{Command as CodeCommand}
 use Rattle.model_command.specs.declared.Command.TheVariants.{Site, Leaf as LeafBy, Condition, Test, Forbidden, Give, Name, End}
-use Rattle.model_command.specs.declared.Read.{Read as CodeRead}
-use Rattle.model_command.specs.declared.Read.TheVariants.{Whole, Unknown, Short}
+use Rattle.model_command.specs.CursorReadings.{CodeRead}
+use Rattle.model_command.specs.declared.CommandError.TheVariants.{Unknown, Short}
+use Rattle.std.specs.Prelude.{Ok, Err}
 use Rattle.model_command.specs.CursorReadings.{with_linear, linear_of, command_of, read_of, next_at, command_of_in, read_of_in}
 use Rattle.model_command.proofs.Forward.{Bytes, has_linear, linear_room, next_whole}
 use Rattle.model_stack.specs.Held.{pushed}
 use Rattle.model.specs.Answers.{is_end}
 use Rattle.model.proofs.Walk.{opened, from_first, at_end, going, forward}
 use Rattle.plain_pass.specs.declared.Point.{Point}
-use Rattle.plain_pass.specs.Pass.{point_at, leaf_of, reward_of, code_at, pushes, push_of, push_width, index_at, numerator, condition_holds, chosen, stepped, takes, pass, StateStands, LeafComes}
+use Rattle.plain_pass.specs.Pass.{leaf_of, reward_of, code_at, pushes, push_of, push_width, index_at, numerator, condition_holds, chosen, stepped, takes, pass, StateStands, LeafComes}
 use Rattle.plain_pass.specs.Parts.{Seek}
 use Rattle.plain_pass.proofs.Points.{value_is}
 use Rattle.plain_pass.proofs.Reach.{same_is}
@@ -64,18 +65,6 @@ bit_past m (suc (suc (suc zero))) a b c d = absurd (c refl)
 bit_past m (suc (suc (suc (suc zero)))) a b c d = absurd (d refl)
 bit_past m (suc (suc (suc (suc (suc k))))) a b c d = refl
 
--- a command's turn does not ask how many levels there are
-pub levels_apart : (a b m i : ℕ) (n : List ℤ) (c : Command) (l : List ℕ) → stepped (point_at a b n 0) i c l ≡ stepped (point_at a b n m) i c l
-unfolding stepped numerator condition_holds
-levels_apart a b m i n (site j k s w) l = refl
-levels_apart a b m i n (push_leaf p) l = refl
-levels_apart a b m i n (push_condition k) l = refl
-levels_apart a b m i n (push_test p) l = refl
-levels_apart a b m i n push_forbidden l = refl
-levels_apart a b m i n (give g) l = refl
-levels_apart a b m i n (name_action k s) l = refl
-levels_apart a b m i n end_model l = refl
-
 -- ---- a command that gives nothing
 
 pub takes_other : (g : Slot) (B : List ℕ) (i : ℕ) (c : CodeCommand) → ((x y z : ℕ) → c ≡ Give x y z → ⊥) → false ≡ takes g (command_of B i c)
@@ -94,10 +83,6 @@ unfolding takes same_slot
 takes_own g = rw (eq-eqb g.command g.command refl, eq-eqb g.action g.action refl, eq-eqb g.index g.index refl) refl
 
 -- ---- a command of the bytes
-
-pub leaf_there : (B : List ℕ) (i : ℕ) {c : CodeCommand} → c ≡ LeafBy → whole (command_of B i c) ≡ read_at B i → i + with_linear ≤ length B
-unfolding command_of_in has_linear
-leaf_there B i {c} e w = linear_room new_form B i _ (subst (λ (d : CodeCommand). T (has_linear (command_of B i d))) (sym e) tt) w
 
 pub test_there : (B : List ℕ) (i : ℕ) {c : CodeCommand} → c ≡ Test → whole (command_of B i c) ≡ read_at B i → i + with_linear ≤ length B
 unfolding command_of_in has_linear
@@ -345,11 +330,11 @@ module _ {B : List ℕ} {x : Point} {g : Slot} {i : ℕ} {l : List ℕ} (w : See
   first = opened (λ ys. pass x g ys l) (pass x g (readings B) []) B i w.fuel w.enough w.comes
 
   -- no whole command
-  pub seek_stops : (r : CodeRead) → ((d : CodeCommand) → r ≡ Whole d → ⊥) → read_of B i r ≡ read_at B i → 0 ≡ pass x g (readings B) []
+  pub seek_stops : (r : CodeRead) → ((d : CodeCommand) → r ≡ Ok d → ⊥) → read_of B i r ≡ read_at B i → 0 ≡ pass x g (readings B) []
   unfolding read_of_in pass goes_on
-  seek_stops (Whole c) k e = absurd (k c refl)
-  seek_stops Unknown k e = (first unknown e).2
-  seek_stops Short k e = (first short e).2
+  seek_stops (Ok c) k e = absurd (k c refl)
+  seek_stops (Err Unknown) k e = (first unknown e).2
+  seek_stops (Err Short) k e = (first short e).2
 
   pub seek_found : (c : Command) (o : ℕ) → whole c ≡ read_at B i → takes g c ≡ true → o ≡ get_or l 0 0 → o ≡ pass x g (readings B) []
   unfolding pass

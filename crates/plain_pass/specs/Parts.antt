@@ -1,7 +1,6 @@
 -- The stack of a pass, and where each slot's diagram begins.
 use Rattle.std.specs.Prelude.{◌≡◌, List, [], ℕ, ◌+◌, ◌-◌, ◌*◌, ◌≤◌, ◌<◌, T, eqb, ltb, length, get_or, set, replicate}
 use Rattle.whole.specs.Cases.{if}
-use Rattle.whole.specs.Linears.{numbers}
 use Rattle.theory.specs.Widths.{levels_most, conditions_most, actions_most, stack_most}
 use Rattle.theory.specs.Command.{Command, site, push_leaf, push_condition, push_test, push_forbidden, give, name_action, end_model, Slot, readings_from, readings}
 use Rattle.theory.specs.Verdict.{verdict}
@@ -36,7 +35,6 @@ pub record Asks (B : List ℕ) (g : Slot) (begin : ℕ) (x : Point) : Type 0 whe
   pub diagram : T (no_name g)
   pub seeks : Seek B x g begin []
   pub flat : FlatPoint x
-  pub long : length x.n ≡ numbers
 
 -- ---- a place for each slot
 

@@ -1,8 +1,9 @@
 -- The pass over a model's commands to the leaf that a slot's diagram comes to, and what that leaf is.
-use Rattle.std.specs.Prelude.{◌≡◌, Bool, true, false, not, List, [], ◌∷◌, ℕ, ◌+◌, ◌-◌, ◌≤◌, ◌<◌, T, eqb, leb, ltb, ℤ, pos, ◌+ℤ◌, ◌*ℤ◌, length, get_or, take, drop}
+use Rattle.std.specs.Prelude.{◌≡◌, Bool, false, not, List, [], ◌∷◌, ℕ, ◌+◌, ◌-◌, ◌≤◌, ◌<◌, T, eqb, leb, ltb, ℤ, pos, ◌+ℤ◌, ◌*ℤ◌, length, get_or, take, drop, Option, Some, None}
 use Rattle.std.specs.Int.Signed.{le_z}
 use Rattle.whole.specs.Cases.{if}
 use Rattle.whole.specs.Numerator.{words}
+use Rattle.whole.specs.declared.Numerator.{Numerator}
 use Rattle.theory.specs.Widths.{levels_most, conditions_most}
 use Rattle.theory.specs.Diagram.{Linear, zero_linear, Leaf, forbidden, plain, lin_of}
 use Rattle.theory.specs.Total.{Total, num, none}
@@ -17,7 +18,6 @@ use Rattle.model_command.specs.declared.Command.TheVariants.{Leaf as LeafBy, Con
 use Rattle.model_command.specs.CursorReadings.{with_linear}
 use Rattle.model_stack.specs.Held.{pushed}
 use Rattle.plain_pass.specs.declared.Point.{Point}
-use Rattle.plain_pass.specs.declared.Reward.{Reward}
 use Rattle.plain_pass.specs.declared.Slot.{Slot as CodeSlot}
 
 abbrev pub slot_of : CodeSlot → Slot
@@ -31,14 +31,6 @@ nums_of x = take levels_most x.n
 -- the denominator stands behind them
 abbrev pub den_of : Point → ℤ
 den_of x = get_or x.n levels_most (pos 0)
-
--- a point by its parts
-abbrev pub point_at : ℕ → ℕ → List ℤ → ℕ → Point
-point_at mask setting n m = record { mask = mask; setting = setting; n = n; levels = m }
-
--- numbers alone
-abbrev pub nums_at : List ℤ → Point
-nums_at n = point_at 0 0 n 0
 
 -- beyond a point's levels its numerators are 0
 pub record FlatPoint (x : Point) : Type 0 where
@@ -142,10 +134,10 @@ leaf_of (whole end_model) = plain zero_linear
 leaf_of unknown = plain zero_linear
 leaf_of short = plain zero_linear
 
--- a reward as two words, or forbidden
-unfoldable pub reward_of : Total → Reward
-reward_of (num z) = record { forbidden = false; worth = words z }
-reward_of none = record { forbidden = true; worth = words (pos 0) }
+-- a reward as two words, none where it is forbidden
+unfoldable pub reward_of : Total → Option Numerator
+reward_of (num z) = Some (words z)
+reward_of none = None
 
 -- the leaf at an offset is f, whose coefficients beyond level m are zero
 pub record LeafAt (B : List ℕ) (m i : ℕ) (f : Leaf) : Type 0 where

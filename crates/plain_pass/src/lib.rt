@@ -1,10 +1,10 @@
 // The pass over a model's commands to the leaf that a diagram comes to at a state, as definitions and laws; and what it is asked with.
 #![tactic(auto)]
 
-use whole::{NUMBERS, Numerator};
+use whole::NUMBERS;
 
 // What a diagram is given as: the command's byte, the action, the condition or level (0 where there is none).
-#[derive(Clone, Copy)]
+#[derive(Clone, Copy, PartialEq, Eq)]
 pub struct Slot {
     pub command: u8,
     pub action: u16,
@@ -19,11 +19,4 @@ pub struct Point {
     pub setting: u32,
     pub n: [i32; NUMBERS],
     pub levels: usize,
-}
-
-// What a reward comes to; the number is 0 where it is forbidden.
-#[derive(Clone, Copy)]
-pub struct Reward {
-    pub forbidden: bool,
-    pub worth: Numerator,
 }

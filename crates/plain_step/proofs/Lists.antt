@@ -2,7 +2,7 @@
 use mathlib.Core.Path.{◌≡◌, refl, sym, ap, ◌∙◌, ap₂}
 use mathlib.Core.Bool.{Bool, true, false, ◌&&◌}
 use mathlib.Core.List.{List, [], ◌∷◌, map}
-use Prim.Native.Nat.{ℕ, zero, suc, ◌+◌, ◌^◌, ◌≤◌, ◌<◌}
+use Prim.Native.Nat.{ℕ, zero, suc, ◌+◌, ◌*◌, ◌%◌, ◌^◌, ◌≤◌, ◌<◌}
 use native.Mathlib.Omega.{arith}
 use lib.Dec.{eqb, eqb→eq}
 use lib.IntN.{ℤ, pos}
@@ -68,8 +68,14 @@ each_passes p φ b (suc k) h =
 pub within_widths : (B : List ℕ) → ModelReady B → ((site_at B).conditions ≤ conditions_most) × ((site_at B).levels ≤ levels_most)
 within_widths B r = let s = site_accepted B r.accepted in (s.conditions, s.levels.1)
 
-pub sixteen : (n k : ℕ) → n ≡ k → k ≤ 4 → (n ≡ 0 → ⊥) → (n ≡ 1 → ⊥) → (n ≡ 2 → ⊥) → (n ≡ 3 → ⊥) → 16 ≡ 2 ^ k
-sixteen n k e h p q r s = ap (λ (j : ℕ). 2 ^ j) (let z : 4 ≡ k = omega arith in z)
+-- a power of two, as a shift makes it
+pub shifted : (n k : ℕ) → n ≡ k → k ≤ conditions_most → (1 * 2 ^ n) % 2 ^ 32 ≡ 2 ^ k
+shifted zero k e h = ap (λ (j : ℕ). 2 ^ j) e
+shifted (suc zero) k e h = ap (λ (j : ℕ). 2 ^ j) e
+shifted (suc (suc zero)) k e h = ap (λ (j : ℕ). 2 ^ j) e
+shifted (suc (suc (suc zero))) k e h = ap (λ (j : ℕ). 2 ^ j) e
+shifted (suc (suc (suc (suc zero)))) k e h = ap (λ (j : ℕ). 2 ^ j) e
+shifted (suc (suc (suc (suc (suc n))))) k e h = absurd (omega arith)
 
 -- ---- points and states
 

@@ -1,5 +1,6 @@
 -- Next levels and next states.
-use mathlib.Core.Path.{◌≡◌, refl, sym, ap, ◌∙◌}
+use mathlib.Core.Path.{◌≡◌, refl, sym, ap, ◌∙◌, subst}
+use Rattle.std.specs.Prelude.{Option, Some, None}
 use mathlib.Core.Bool.{Bool, true, false}
 use mathlib.Core.List.{List, map}
 use Prim.Native.Nat.{ℕ, zero, suc, ◌+◌, ◌≤◌, ◌<◌}
@@ -12,7 +13,7 @@ use lib.ListN.{set as store}
 use lib.Seq.{get_or-set_same, get_or-set_other, get_or-take, length-take-le}
 use mir.Syntax.{w32}
 use mir.Val.{SFits}
-use Rattle.whole.specs.Cases.{if, clash}
+use Rattle.whole.specs.Cases.{if}
 use Rattle.whole.specs.Linears.{numbers}
 use Rattle.whole.specs.Numerator.{number, words}
 use Rattle.whole.specs.NumeratorLaws.{number_words}
@@ -27,18 +28,15 @@ use Rattle.theory.specs.Plain.{in_32_bits}
 use Rattle.theory.specs.Load.{loaded_entries}
 use Rattle.plain_pass.specs.declared.Point.{Point}
 use Rattle.plain_pass.specs.Pass.{den_of, FlatPoint, StateStands}
-use Rattle.plain_limits.specs.declared.Level.{Level}
-use Rattle.plain_limits.specs.declared.Level.TheVariants as level
-use Rattle.plain_step.specs.declared.Next.{Next}
 use Rattle.plain_limits.specs.Totals.{judged_32}
-use Rattle.plain_step.specs.PointState.{ModelReady, Spells, FitsSite, under, after, LevelIs, LeadsTo}
+use Rattle.plain_step.specs.PointState.{ModelReady, Spells, FitsSite, under, after, LevelIs, Reaches, LeadsTo}
 use Rattle.plain_step.proofs.Lists.{map_twice, listed_from, some_fails, each_passes, within_widths, set}
 
 -- ---- a level
 
 pub level_found : (B : List ℕ) (a i : ℕ) (x : Point) (v : Numerator)
     → ((s : State) (r : List Bool) → StateStands (site_at B).levels (site_at B).conditions x s r → v ≡ words (level_at (env s r) (find_slot (level_slot a i) (loaded_entries B))))
-    → {z : Level} → z ≡ judged_32 (number v) → LevelIs B a i x z
+    → {z : Option ℤ} → z ≡ judged_32 (number v) → LevelIs B a i x z
 level_found B a i x v f q = record {
   is = λ s r st.
       let l : ℤ = level_at (env s r) (find_slot (level_slot a i) (loaded_entries B)) in
@@ -46,19 +44,19 @@ level_found B a i x v f q = record {
 }
 
 -- what a level says of its numerator
-level_gives : (z n : ℤ) → level.Is n ≡ judged_32 z → (n ≡ z) × (in_32_bits z ≡ true)
+level_gives : (z n : ℤ) → Some n ≡ judged_32 z → (n ≡ z) × (in_32_bits z ≡ true)
 unfolding judged_32
 level_gives z n e = go (in_32_bits z) refl e
   where
-    go : (c : Bool) → in_32_bits z ≡ c → level.Is n ≡ if c (level.Is z) level.Over → (n ≡ z) × (in_32_bits z ≡ true)
+    go : (c : Bool) → in_32_bits z ≡ c → Some n ≡ if c (Some z) None → (n ≡ z) × (in_32_bits z ≡ true)
     go true q u = (cc, q)
     go false q u = absurd (let y : ◌≡◌ {A = ℕ} 0 1 = cc in omega arith)
 
-level_lacks : (z : ℤ) → level.Over ≡ judged_32 z → in_32_bits z ≡ false
+level_lacks : (z : ℤ) → None ≡ judged_32 z → in_32_bits z ≡ false
 unfolding judged_32
 level_lacks z e = go (in_32_bits z) refl e
   where
-    go : (c : Bool) → in_32_bits z ≡ c → level.Over ≡ if c (level.Is z) level.Over → in_32_bits z ≡ false
+    go : (c : Bool) → in_32_bits z ≡ c → None ≡ if c (Some z) None → in_32_bits z ≡ false
     go true q u = absurd (let y : ◌≡◌ {A = ℕ} 0 1 = cc in omega arith)
     go false q u = q
 
@@ -91,14 +89,14 @@ module _ (B : List ℕ) (a : ℕ) (x : Point) (r : ℕ) (ok : ModelReady B) {y :
   unfolding moved action_of
   nums_after s = map_twice (level_at (env s (bits S.conditions r))) (λ i. find_slot (level_slot a i) (loaded_entries B)) (from_to 1 S.levels)
 
-  level_says : (s : State) → Spells S x s → (i : ℕ) {z : Level} → LevelIs B a i y z → z ≡ judged_32 (level_of s i)
+  level_says : (s : State) → Spells S x s → (i : ℕ) {z : Option ℤ} → LevelIs B a i y z → z ≡ judged_32 (level_of s i)
   level_says s p i h = h.is s (bits S.conditions r) (rw under-is (set B x s ok p r))
 
   -- some level leaves 32 bits
-  pub leads_over : (i : ℕ) → 1 ≤ i → i ≤ S.levels → {z : Level} → LevelIs B a i y z → z ≡ level.Over → {v : Next} → v.over ≡ true → LeadsTo B a x r v
+  pub leads_over : (i : ℕ) → 1 ≤ i → i ≤ S.levels → {z : Option ℤ} → LevelIs B a i y z → z ≡ None → {v : Option Point} → v ≡ None → LeadsTo B a x r v
   leads_over i low high h e {v} o = record {
     leads = λ s p. record {
-      at = λ q. clash (sym o ∙ q);
+      at = λ y q. absurd (let n : ◌≡◌ {A = ℕ} 0 1 = cc in omega arith);
       over = λ _. ap (all in_32_bits) (nums_after s) ∙ some_fails in_32_bits (level_of s) 1 S.levels i low (omega arith) (level_lacks (level_of s i) (sym e ∙ level_says s p i h));
     };
   }
@@ -106,7 +104,7 @@ module _ (B : List ℕ) (a : ℕ) (x : Point) (r : ℕ) (ok : ModelReady B) {y :
   pub none_moved : length x.n ≡ numbers → Moved B a x r 0 x.n
   none_moved e = record { upto = omega arith; long = e; last = refl; rest = λ k h. refl; each = λ s p k h. absurd (omega arith) }
 
-  pub one_moved : {i : ℕ} {n : List ℤ} → Moved B a x r i n → i < S.levels → {j : ℕ} → j ≡ 1 + i → {l : Level} → LevelIs B a j y l → {z : ℤ} → l ≡ level.Is z → SFits w32 z → {v : ℤ} → v ≡ z → Moved B a x r (i + 1) (store n i v)
+  pub one_moved : {i : ℕ} {n : List ℤ} → Moved B a x r i n → i < S.levels → {j : ℕ} → j ≡ 1 + i → {l : Option ℤ} → LevelIs B a j y l → {z : ℤ} → l ≡ Some z → SFits w32 z → {v : ℤ} → v ≡ z → Moved B a x r (i + 1) (store n i v)
   one_moved {i} {n} M h {j} ej {l} L {z} e f {v} ev = record {
     upto = omega (arith, (within_widths B ok).1);
     long = length-set n i v ∙ M.long;
@@ -130,12 +128,12 @@ module _ (B : List ℕ) (a : ℕ) (x : Point) (r : ℕ) (ok : ModelReady B) {y :
           let m = M.each s p k (omega arith) w in
           (get_or-set_other n i k v (pos 0) t ∙ m.0, m.1)
 
-  pub all_moved : {i : ℕ} {n : List ℤ} → Moved B a x r i n → S.levels ≤ i → FitsSite S x → {m : ℕ} → m ≡ S.levels → {v : Next} → v ≡ record { over = false; point = record { mask = r; setting = 0; n = n; levels = m } } → LeadsTo B a x r v
+  pub all_moved : {i : ℕ} {n : List ℤ} → Moved B a x r i n → S.levels ≤ i → FitsSite S x → {m : ℕ} → m ≡ S.levels → {v : Option Point} → v ≡ Some (record { mask = r; setting = 0; n = n; levels = m }) → LeadsTo B a x r v
   unfolding moved
   all_moved {i} {n} M h ft {m} em ev = rw ev (record {
     leads = λ s p. record {
-      over = λ q. clash (sym q);
-      at = λ _. record {
+      over = λ q. absurd (let n : ◌≡◌ {A = ℕ} 0 1 = cc in omega arith);
+      at = λ y q. subst (Reaches S (after B a s r)) (let e : record { mask = r; setting = 0; n = n; levels = m } ≡ y = cc in e) (record {
         fits = ap (all in_32_bits) (nums_after s) ∙ each_passes in_32_bits (level_of s) 1 S.levels (passes s p);
         alone = refl;
         point_fits = record {
@@ -149,7 +147,7 @@ module _ (B : List ℕ) (a : ℕ) (x : Point) (r : ℕ) (ok : ModelReady B) {y :
               (omega arith)).0);
           den_is = p.den_is ∙ sym M.last;
         };
-      };
+      });
     };
   })
     where

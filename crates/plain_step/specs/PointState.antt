@@ -1,7 +1,8 @@
 -- A point stands for a state of an accepted model; the chances, weights and next states there.
-use Rattle.std.specs.Prelude.{◌≡◌, Bool, true, false, List, [], ◌∷◌, map, ℕ, ◌≤◌, ◌<◌, leb, pos, length, take}
+use Rattle.std.specs.Prelude.{◌≡◌, Bool, true, false, List, [], map, ℕ, ◌≤◌, ◌<◌, leb, pos, length, take, get_or, ℤ, Option, Some, None}
 use Rattle.whole.specs.Cases.{if}
 use Rattle.whole.specs.Within.{limit}
+use Rattle.theory.specs.Widths.{conditions_most}
 use Rattle.theory.specs.Meaning.{Action, State, env, level_at, chance_at, weight, moved}
 use Rattle.theory.specs.Valid.{all}
 use Rattle.theory.specs.Verdict.{Site, verdict, chance_slot, level_slot}
@@ -11,9 +12,6 @@ use Rattle.theory.specs.Plain.{in_32_bits}
 use Rattle.theory.specs.Load.{loaded_entries}
 use Rattle.plain_pass.specs.declared.Point.{Point}
 use Rattle.plain_pass.specs.Pass.{nums_of, den_of, FlatPoint, StateStands}
-use Rattle.plain_limits.specs.declared.Level.{Level}
-use Rattle.plain_step.specs.declared.Next.{Next}
-use Rattle.plain_step.specs.declared.Chances.{Chances}
 use Rattle.plain_limits.specs.Totals.{judged_32}
 
 -- ---- points and states
@@ -55,32 +53,28 @@ under x r = record { mask = x.mask; setting = r; n = x.n; levels = x.levels }
 
 -- ---- chances and weights
 
-abbrev pub chances_list : Chances → List ℕ
-chances_list c = c.c1 ∷ c.c2 ∷ c.c3 ∷ c.c4 ∷ []
-
 -- the chance of condition k, 0 beyond condition n
 pub record Chance (B : List ℕ) (a k : ℕ) (x : Point) (w : ℕ) : Type 0 where
   pub bounded : w ≤ (site_at B).weights
   pub is : (s : State) → Spells (site_at B) x s → w ≡ if (leb k (site_at B).conditions) (chance_at (env s []) (find_slot (chance_slot a k) (loaded_entries B))) 0
 
-pub record OutOf (W : ℕ) (c : Chances) : Type 0 where
-  pub b1 : c.c1 ≤ W
-  pub b2 : c.c2 ≤ W
-  pub b3 : c.c3 ≤ W
-  pub b4 : c.c4 ≤ W
+-- a chance for each condition that a site can have, none above W
+pub record OutOf (W : ℕ) (c : List ℕ) : Type 0 where
+  pub long : length c ≡ conditions_most
+  pub each : (k : ℕ) → k < conditions_most → get_or c k 0 ≤ W
 
-pub record ChancesAre (B : List ℕ) (a : ℕ) (x : Point) (c : Chances) : Type 0 where
+pub record ChancesAre (B : List ℕ) (a : ℕ) (x : Point) (c : List ℕ) : Type 0 where
   pub bounded : OutOf (site_at B).weights c
-  pub are : (s : State) → Spells (site_at B) x s → map (chance_at (env s [])) (act B a).chances ≡ take (site_at B).conditions (chances_list c)
+  pub are : (s : State) → Spells (site_at B) x s → map (chance_at (env s [])) (act B a).chances ≡ take (site_at B).conditions c
 
-pub record Weighs (S : Site) (c : Chances) (r w : ℕ) : Type 0 where
-  pub is : w ≡ weight S.weights (take S.conditions (chances_list c)) (bits S.conditions r)
+pub record Weighs (S : Site) (c : List ℕ) (r w : ℕ) : Type 0 where
+  pub is : w ≡ weight S.weights (take S.conditions c) (bits S.conditions r)
   pub bounded : w ≤ limit
 
 -- ---- next states
 
 -- next level i
-pub record LevelIs (B : List ℕ) (a i : ℕ) (x : Point) (z : Level) : Type 0 where
+pub record LevelIs (B : List ℕ) (a i : ℕ) (x : Point) (z : Option ℤ) : Type 0 where
   pub is : (s : State) (r : List Bool) → StateStands (site_at B).levels (site_at B).conditions x s r
       → z ≡ judged_32 (level_at (env s r) (find_slot (level_slot a i) (loaded_entries B)))
 
@@ -95,9 +89,9 @@ pub record Reaches (S : Site) (t : State) (y : Point) : Type 0 where
   pub spells : Spells S y t
 
 -- the next state, or some numerator of it leaves 32 bits
-pub record Led (S : Site) (t : State) (y : Next) : Type 0 where
-  pub at : y.over ≡ false → Reaches S t y.point
-  pub over : y.over ≡ true → all in_32_bits t.nums ≡ false
+pub record Led (S : Site) (t : State) (y : Option Point) : Type 0 where
+  pub at : (p : Point) → y ≡ Some p → Reaches S t p
+  pub over : y ≡ None → all in_32_bits t.nums ≡ false
 
-pub record LeadsTo (B : List ℕ) (a : ℕ) (x : Point) (r : ℕ) (y : Next) : Type 0 where
+pub record LeadsTo (B : List ℕ) (a : ℕ) (x : Point) (r : ℕ) (y : Option Point) : Type 0 where
   pub leads : (s : State) → Spells (site_at B) x s → Led (site_at B) (after B a s r) y

@@ -5,8 +5,7 @@ ghost use Rattle.plain_pass.specs.Pass.{FlatPoint};
 ghost use Rattle.plain_pass.specs.Parts.{Parts};
 ghost use Rattle.plain_step.specs.PointState.{ModelReady, FitsSite, SiteAction, under, LevelIs, LeadsTo};
 
-use super::{Next, sites};
-use plain_limits::Level;
+use super::sites;
 use plain_pass::{Point, Slot};
 
 fn with_setting(mut x: Point, r: u32) -> Point
@@ -17,7 +16,7 @@ fn with_setting(mut x: Point, r: u32) -> Point
 }
 
 // The numerator of next level i at a point and its setting.
-fn next_level(model: &[u8], parts: &[u32], a: u16, i: u8, x: Point) -> Level
+fn next_level(model: &[u8], parts: &[u32], a: u16, i: u8, x: Point) -> Option<i32>
     requires { ModelReady model.now × SiteAction model.now a × Parts model.now parts.now × FlatPoint x }
     ensures { LevelIs model.now a i x result }
 {
@@ -29,32 +28,21 @@ fn next_level(model: &[u8], parts: &[u32], a: u16, i: u8, x: Point) -> Level
     plain_limits::in_32_bits(plain_evaluate::level_at(model, parts, g, x))
 }
 
-// The next state has the setting as its mask, and the same denominator.
-pub fn next_state(model: &[u8], parts: &[u32], a: u16, x: Point, r: u32) -> Next
+// The next state, unless one of its numerators leaves 32 bits; it has the setting as its mask, and the same denominator.
+pub fn next_state(model: &[u8], parts: &[u32], a: u16, x: Point, r: u32) -> Option<Point>
     requires { ModelReady model.now × SiteAction model.now a × Parts model.now parts.now × FitsSite (site_at model.now) x }
     ensures { LeadsTo model.now a x r result }
 {
     let y = with_setting(x, r);
     let mut n = x.n;
-    let m = sites::levels(model) as usize;
-    let mut i: usize = 0;
-    while i < m {
-        let Level::Is(z) = next_level(model, parts, a, i as u8 + 1, y) else {
-            return Next {
-                over: true,
-                point: x,
-            };
-        };
-        n[i] = z;
-        i += 1;
+    let m = usize::from(sites::levels(model));
+    for i in 0..m {
+        n[i] = next_level(model, parts, a, i as u8 + 1, y)?;
     }
-    Next {
-        over: false,
-        point: Point {
-            mask: r,
-            setting: 0,
-            n,
-            levels: m,
-        },
-    }
+    Some(Point {
+        mask: r,
+        setting: 0,
+        n,
+        levels: m,
+    })
 }

@@ -6,29 +6,25 @@ ghost use Rattle.plain_step.specs.PointState.{ModelReady};
 pub fn levels(model: &[u8]) -> u8
     ensures { result ≡ (site_at model.now).levels }
 {
-    let s = model::site(model);
-    s.levels
+    model::site(model).levels
 }
 
 pub fn conditions(model: &[u8]) -> u8
     ensures { result ≡ (site_at model.now).conditions }
 {
-    let s = model::site(model);
-    s.conditions
+    model::site(model).conditions
 }
 
 pub fn actions(model: &[u8]) -> u16
     ensures { result ≡ (site_at model.now).actions }
 {
-    let s = model::site(model);
-    s.actions
+    model::site(model).actions
 }
 
 pub fn weights(model: &[u8]) -> u8
     ensures { result ≡ (site_at model.now).weights }
 {
-    let s = model::site(model);
-    s.weights
+    model::site(model).weights
 }
 
 // How many settings the next conditions have.
@@ -36,12 +32,5 @@ pub fn settings(model: &[u8]) -> u32
     requires { ModelReady model.now }
     ensures { result ≡ 2 ^ (site_at model.now).conditions }
 {
-    let n = conditions(model);
-    match n {
-        0 => 1,
-        1 => 2,
-        2 => 4,
-        3 => 8,
-        _ => 16,
-    }
+    1 << conditions(model)
 }

@@ -26,7 +26,6 @@ use Rattle.theory.specs.Plain.{is, nothing, over, judged, state_worth, worth_out
 use Rattle.theory.proofs.laws.AcceptedModel.{end_found}
 use Rattle.theory.specs.Load.{loaded_entries}
 use Rattle.plain_pass.specs.declared.Point.{Point}
-use Rattle.plain_pass.specs.declared.Reward.{Reward as CodeReward}
 use Rattle.plain_pass.specs.Pass.{reward_of, StateStands}
 use Rattle.plain_limits.specs.declared.Total.{Total}
 use Rattle.plain_limits.specs.declared.Total.TheVariants as total
@@ -54,34 +53,36 @@ module _ (B : List ℕ) (h a : ℕ) (x : Point) (st : StandingPoint B x) {n W : 
   unfolding total_of
   earned_over e = record { is = λ s q. over_earned _ _ (ap is_some (sym power_is) ∙ e) }
 
-  module _ {v : CodeReward} (f : (s : State) (z : List Bool) → StateStands (site_at B).levels (site_at B).conditions x s z → v ≡ reward_of (worth_at (env s z) (find_slot (reward_slot a) (loaded_entries B)))) where
+  module _ {v : Option Numerator} (f : (s : State) (z : List Bool) → StateStands (site_at B).levels (site_at B).conditions x s z → v ≡ reward_of (worth_at (env s z) (find_slot (reward_slot a) (loaded_entries B)))) where
     abbrev worth_of : State → Reward
     worth_of s = worth_at (env s []) (find_slot (reward_slot a) (loaded_entries B))
 
     is_reward : (s : State) → Spells (site_at B) x s → v ≡ reward_of (worth_of s)
     is_reward s q = f s [] (alone B x s st.ready q st.alone)
 
-    none_earned : (w : Option ℤ) (r : Reward) → is_some w ≡ true → (reward_of r).forbidden ≡ true → nothing ≡ earned_of w r
+    none_earned : (w : Option ℤ) (r : Reward) → is_some w ≡ true → reward_of r ≡ None → nothing ≡ earned_of w r
     unfolding earned_of reward_of
-    none_earned w (num y) e k = clash (sym k)
+    none_earned w (num y) e k = absurd (let q : ◌≡◌ {A = ℕ} 0 1 = cc in omega arith)
     none_earned (Some z) none e k = refl
     none_earned None none e k = clash (sym e)
 
-    pub earned_none : is_some p ≡ true → v.forbidden ≡ true → Earned B h a x total.None
+    pub earned_none : is_some p ≡ true → v ≡ None → Earned B h a x total.None
     unfolding total_of
-    earned_none e k = record { is = λ s q. none_earned _ (worth_of s) (ap is_some (sym power_is) ∙ e) (ap (λ (u : CodeReward). u.forbidden) (sym (is_reward s q)) ∙ k) }
+    earned_none e k = record { is = λ s q. none_earned _ (worth_of s) (ap is_some (sym power_is) ∙ e) (sym (is_reward s q) ∙ k) }
 
-    some_earned : (w : Option ℤ) (r : Reward) → (reward_of r).forbidden ≡ false → summed (times_of w (limited (number (reward_of r).worth))) ≡ earned_of w r
+    some_earned : (w : Option ℤ) (r : Reward) (u : Numerator) → reward_of r ≡ Some u → summed (times_of w (limited (number u))) ≡ earned_of w r
     unfolding earned_of reward_of times_of summed
-    some_earned (Some p) (num z) k = ap (λ (y : ℤ). summed (times_of (Some p) (limited y))) (number_words z)
-    some_earned None (num z) k = refl
-    some_earned w none k = clash k
+    some_earned (Some p) (num z) u k =
+        let e : words z ≡ u = cc in
+        ap (λ (y : Numerator). summed (times_of (Some p) (limited (number y)))) (sym e) ∙ ap (λ (y : ℤ). summed (times_of (Some p) (limited y))) (number_words z)
+    some_earned None (num z) u k = refl
+    some_earned w none u k = absurd (let q : ◌≡◌ {A = ℕ} 0 1 = cc in omega arith)
 
-    pub earned_is : v.forbidden ≡ false → {w : Option ℤ} → w ≡ limited (number v.worth) → {m : Option ℤ} → m ≡ times_of p w → (t : Total) → total_of t ≡ summed m → Earned B h a x t
-    earned_is k ew em t et = record {
+    pub earned_is : (u : Numerator) → v ≡ Some u → {w : Option ℤ} → w ≡ limited (number u) → {m : Option ℤ} → m ≡ times_of p w → (t : Total) → total_of t ≡ summed m → Earned B h a x t
+    earned_is u k ew em t et = record {
       is = λ s q. et ∙ ap summed (em ∙ ap (times_of p) ew)
-          ∙ ap₂ (λ (y : Option ℤ) (u : CodeReward). summed (times_of y (limited (number u.worth)))) power_is (is_reward s q)
-          ∙ some_earned _ (worth_of s) (ap (λ (u : CodeReward). u.forbidden) (sym (is_reward s q)) ∙ k);
+          ∙ ap (λ (y : Option ℤ). summed (times_of y (limited (number u)))) power_is
+          ∙ some_earned _ (worth_of s) u (sym (is_reward s q) ∙ k);
     }
 
 -- a number judged

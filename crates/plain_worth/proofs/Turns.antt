@@ -23,8 +23,6 @@ use Rattle.plain_pass.specs.declared.Point.{Point}
 use Rattle.plain_pass.proofs.Actions.{action_is}
 use Rattle.plain_limits.specs.declared.Total.{Total}
 use Rattle.plain_limits.specs.declared.Total.TheVariants as total
-use Rattle.plain_step.specs.declared.Chances.{Chances}
-use Rattle.plain_step.specs.declared.Next.{Next}
 use Rattle.plain_limits.specs.Totals.{total_of, times_of, added_of, summed, tried, KeptSum, stopped, is_over}
 use Rattle.plain_step.specs.PointState.{ModelReady, Spells, StandingPoint, SiteAction, act, after, ChancesAre, Weighs, Reaches, LeadsTo}
 use Rattle.plain_worth.specs.Worths.{earned_of, Earned, StateWorth, ActionWorth}
@@ -107,7 +105,7 @@ module _ (B : List ℕ) (h a : ℕ) (x : Point) (count : ℕ) (sum : Total) (r :
   pub sums_end : {b : Bool} → b ≡ or (stopped (total_of sum)) (leb count r) → b ≡ true → ActionWorth B h a x sum
   sums_end e f = record { is = λ s p. settings_end (further B h) (weigh B a s) (moved s (act B a).levels) (site_at B).conditions r count (total_of sum) (worth_of B h a s) (I.runs s p) I.kept _ e f }
 
-  module _ (c : Chances) (C : ChancesAre B a x c) (w : ℕ) (G : Weighs (site_at B) c r w) (g : r < count) where
+  module _ (c : List ℕ) (C : ChancesAre B a x c) (w : ℕ) (G : Weighs (site_at B) c r w) (g : r < count) where
     weighs_so : (s : State) → Spells (site_at B) x s → w ≡ weigh B a s (bits (site_at B).conditions r)
     weighs_so s p = G.is ∙ ap (λ l. weight (site_at B).weights l (bits (site_at B).conditions r)) (sym (C.are s p))
 
@@ -118,8 +116,8 @@ module _ (B : List ℕ) (h a : ℕ) (x : Point) (count : ℕ) (sum : Total) (r :
       runs = λ s p. settings_skip (further B h) (weigh B a s) (moved s (act B a).levels) (site_at B).conditions r count (total_of sum) (worth_of B h a s) (I.runs s p) g (sym (weighs_so s p) ∙ z);
     }
 
-    module _ (z : w ≡ 0 → ⊥) (y : Next) (L : LeadsTo B a x r y) where
-      pub sums_over : stopped (total_of sum) ≡ false → y.over ≡ true → ActionWorth B h a x total.Over
+    module _ (z : w ≡ 0 → ⊥) (o : Option Point) (L : LeadsTo B a x r o) where
+      pub sums_over : stopped (total_of sum) ≡ false → o ≡ None → ActionWorth B h a x total.Over
       unfolding total_of
       sums_over k e = record {
         is = λ s p.
@@ -127,20 +125,20 @@ module _ (B : List ℕ) (h a : ℕ) (x : Point) (count : ℕ) (sum : Total) (r :
             ((L.leads s p).over e);
       }
 
-      pub sums_add : y.over ≡ false → (t : Total) → StateWorth B (h - 1) y.point t → (sum' : Total) → total_of sum' ≡ added_of (total_of sum) w (total_of t) → Sums B h a x count sum' (r + 1)
-      sums_add e t Y sum' k = record {
+      pub sums_add : (y : Point) → o ≡ Some y → (t : Total) → StateWorth B (h - 1) y t → (sum' : Total) → total_of sum' ≡ added_of (total_of sum) w (total_of t) → Sums B h a x count sum' (r + 1)
+      sums_add y e t Y sum' k = record {
         most = omega arith;
         kept = subst KeptSum (sym k) (added_kept (total_of sum) w (total_of t));
         runs = λ s p.
-            let R : Reaches (site_at B) (after B a s r) y.point = (L.leads s p).at e in
+            let R : Reaches (site_at B) (after B a s r) y = (L.leads s p).at y e in
             settings_add (further B h) (weigh B a s) (moved s (act B a).levels) (site_at B).conditions r count (total_of sum) (worth_of B h a s) (I.runs s p) g (λ q. z (weighs_so s p ∙ q)) R.fits
             (total_of t) (Y.is (after B a s r) R.spells) (total_of sum') (k ∙ ap (λ (n : ℕ). added_of (total_of sum) n (total_of t)) (weighs_so s p));
       }
 
 -- the next state stands, as this one does
-pub next_stands : (B : List ℕ) (a : ℕ) (x : Point) (r : ℕ) (y : Next) → StandingPoint B x → LeadsTo B a x r y → y.over ≡ false → StandingPoint B y.point
-next_stands B a x r y st L e =
-    let R : Reaches (site_at B) (after B a st.state r) y.point = (L.leads st.state st.spells).at e in
+pub next_stands : (B : List ℕ) (a : ℕ) (x : Point) (r : ℕ) (o : Option Point) → StandingPoint B x → LeadsTo B a x r o → (y : Point) → o ≡ Some y → StandingPoint B y
+next_stands B a x r o st L y e =
+    let R : Reaches (site_at B) (after B a st.state r) y = (L.leads st.state st.spells).at y e in
     record { ready = st.ready; alone = R.alone; fits = R.point_fits; state = after B a st.state r; spells = R.spells }
 
 -- ---- the actions of a state

@@ -18,6 +18,12 @@ use whole::two_words::from_word;
 
 pub mod worths; // worths.rt: the worth of a state and of an action
 
+// A number leaves its limits.
+const TOO_LARGE: u32 = 11;
+
+// The state asked for is none of the model.
+const NO_STATE: u32 = 13;
+
 fn refused(number: u32, place: usize) -> Value
     ensures { out result ≡ refused_value number place }
 {
@@ -47,7 +53,7 @@ fn answer(t: Total) -> Value
     match t {
         Total::Is(z, a) => answered(a, from_word(z)),
         Total::None => answered(0, Numerator { low: 0, high: 0 }),
-        Total::Over => refused(11, 0),
+        Total::Over => refused(TOO_LARGE, 0),
     }
 }
 
@@ -72,10 +78,10 @@ pub fn worth(bytes: &[u8], steps: u32, q: Asked) -> Value
     if early.number != 0 {
         return refused(early.number, early.place);
     }
-    let m = sites::levels(bytes) as u32;
-    let n = sites::conditions(bytes) as u32;
-    if value_walk::states::accepted(m, n, q) {} else {
-        return refused(13, 0);
+    let m = u32::from(sites::levels(bytes));
+    let n = u32::from(sites::conditions(bytes));
+    if !value_walk::states::accepted(m, n, q) {
+        return refused(NO_STATE, 0);
     }
     answer(worths::worked(bytes, steps, point(m, q)))
 }

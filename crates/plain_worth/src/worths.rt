@@ -14,8 +14,8 @@ fn earned(model: &[u8], parts: &[u32], steps: u32, a: u16, x: Point) -> Total
     requires { StandingPoint model.now x × SiteAction model.now a × (steps ≤ 8) × Parts model.now parts.now }
     ensures { Earned model.now steps a x result }
 {
-    let n = sites::conditions(model) as u32;
-    let p = power_within(sites::weights(model) as u32, n * steps);
+    let n = u32::from(sites::conditions(model));
+    let p = power_within(u32::from(sites::weights(model)), n * steps);
     if p.is_none() {
         return Total::Over;
     }
@@ -24,11 +24,10 @@ fn earned(model: &[u8], parts: &[u32], steps: u32, a: u16, x: Point) -> Total
         action: a,
         index: 0,
     };
-    let r = plain_evaluate::reward_at(model, parts, g, x);
-    if r.forbidden {
+    let Some(reward) = plain_evaluate::reward_at(model, parts, g, x) else {
         return Total::None;
-    }
-    plain_limits::worth_of(plain_limits::times(p, plain_limits::narrow(r.worth)))
+    };
+    plain_limits::worth_of(plain_limits::times(p, plain_limits::narrow(reward)))
 }
 
 // With no step left, "an end worth times D beyond ±(2⁶² − 1) is 11".
@@ -80,16 +79,15 @@ pub fn action_worth(model: &[u8], parts: &[u32], steps: u32, a: u16, x: Point) -
             r += 1;
             continue;
         }
-        let y = moves::next_state(model, parts, a, x, r);
-        if y.over {
+        let Some(y) = moves::next_state(model, parts, a, x, r) else {
             return Total::Over;
-        }
+        };
         if steps == 1 {
-            sum = plain_limits::added(sum, w, ended(model, parts, y.point));
+            sum = plain_limits::added(sum, w, ended(model, parts, y));
             r += 1;
             continue;
         }
-        sum = plain_limits::added(sum, w, state_worth(model, parts, steps - 1, y.point));
+        sum = plain_limits::added(sum, w, state_worth(model, parts, steps - 1, y));
         r += 1;
     }
 }

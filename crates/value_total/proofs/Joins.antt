@@ -1,4 +1,5 @@
 -- What the tests of the code say of the outcome.
+use Rattle.std.specs.Prelude.{Option, Some, None, is_some}
 use mathlib.Core.Path.{◌≡◌, refl, sym, ap, ap₂, ◌∙◌}
 use mathlib.Core.Bool.{Bool, true, false, ◌&&◌}
 use mathlib.Core.List.{List}
@@ -16,8 +17,6 @@ use Rattle.whole.specs.LinearsLaws.{eq_ℤ_true, eq_ℤ_refl}
 use Rattle.whole.specs.declared.Numerator.{Numerator}
 use Rattle.whole.specs.Numerator.{words}
 use Rattle.whole.proofs.Signed.{back32}
-use Rattle.whole_wide.specs.declared.Fitted.{Fitted}
-use Rattle.whole_wide.specs.declared.Fitted.TheVariants.{Is, Outside}
 use Rattle.whole_wide.specs.Wide.{in_two_words, fitted}
 use Rattle.theory.specs.Widths.{steps_most}
 use Rattle.theory.specs.Valid.{among}
@@ -53,26 +52,22 @@ module _ (S R : Site) (q p : Asked) where
 
 -- ---- the numerator, judged
 
-abbrev is : Fitted → Bool
-is (Is x) = true
-is Outside = false
-
-abbrev held : Numerator → Fitted → Numerator
-held d (Is x) = x
-held d Outside = d
+abbrev held : Numerator → Option Numerator → Numerator
+held d (Some x) = x
+held d None = d
 
 module _ (z : ℤ) (a b : ℕ) where
   abbrev by_words : Bool → TotalOut
   by_words c = if c (record { number = 0; place = 0; first = a; second = b; numerator = words z }) (refused_total 11 0)
 
-  pub outside_is : {f : Fitted} → f ≡ fitted z → f ≡ Outside → {o : TotalOut} → o ≡ refused_total 11 0 → o ≡ answered_number z a b
+  pub outside_is : {f : Option Numerator} → f ≡ fitted z → f ≡ None → {o : TotalOut} → o ≡ refused_total 11 0 → o ≡ answered_number z a b
   unfolding fitted answered_number
-  outside_is e k {o} p = p ∙ by_test (in_two_words z) (λ c. if c (Is (words z)) Outside ≡ Outside → refused_total 11 0 ≡ by_words c) (λ _ u. clash (ap is u)) (λ _ _. refl) (sym e ∙ k)
+  outside_is e k {o} p = p ∙ by_test (in_two_words z) (λ c. if c (Some (words z)) None ≡ None → refused_total 11 0 ≡ by_words c) (λ _ u. clash (ap is_some u)) (λ _ _. refl) (sym e ∙ k)
 
-  pub inside_is : {f : Fitted} {x : Numerator} → f ≡ fitted z → f ≡ Is x → record { number = 0; place = 0; first = a; second = b; numerator = x } ≡ answered_number z a b
+  pub inside_is : {f : Option Numerator} {x : Numerator} → f ≡ fitted z → f ≡ Some x → record { number = 0; place = 0; first = a; second = b; numerator = x } ≡ answered_number z a b
   unfolding fitted answered_number
-  inside_is {f} {x} e k = by_test (in_two_words z) (λ c. if c (Is (words z)) Outside ≡ Is x → record { number = 0; place = 0; first = a; second = b; numerator = x } ≡ by_words c)
-      (λ _ u. λ i. record { number = 0; place = 0; first = a; second = b; numerator = held x (sym u i) }) (λ _ u. clash (sym (ap is u))) (sym e ∙ k)
+  inside_is {f} {x} e k = by_test (in_two_words z) (λ c. if c (Some (words z)) None ≡ Some x → record { number = 0; place = 0; first = a; second = b; numerator = x } ≡ by_words c)
+      (λ _ u. λ i. record { number = 0; place = 0; first = a; second = b; numerator = held x (sym u i) }) (λ _ u. clash (sym (ap is_some u))) (sym e ∙ k)
 
 -- ---- what a value that was read leaves
 

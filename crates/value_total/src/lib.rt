@@ -12,7 +12,6 @@ ghost use Rattle.value_total.specs.Out.{total_out};
 use model_progress::Site;
 use value_walk::{Asked, Value};
 use whole::{COEFFICIENTS, Numerator};
-use whole_wide::Fitted;
 
 // Unequal W or D.
 pub const SCALES: u32 = 26;
@@ -42,8 +41,8 @@ fn refused(number: u32, place: usize) -> Joined
     ensures { total_out result ≡ refused_total number place }
 {
     Joined {
-        number: number,
-        place: place,
+        number,
+        place,
         first: 0,
         second: 0,
         numerator: Numerator { low: 0, high: 0 },
@@ -54,14 +53,7 @@ fn refused(number: u32, place: usize) -> Joined
 fn same_scale(s: Site, r: Site, q: Asked, p: Asked) -> bool
     ensures { result ≡ same_scale (site_as s) (site_as r) (asked q) (asked p) }
 {
-    let a = q.n;
-    let b = p.n;
-    let d = a[COEFFICIENTS];
-    let e = b[COEFFICIENTS];
-    if s.weights != r.weights {
-        return false;
-    }
-    d == e
+    s.weights == r.weights && q.n[COEFFICIENTS] == p.n[COEFFICIENTS]
 }
 
 // Two values that were read. None is a value's only action 0.
@@ -69,13 +61,10 @@ fn both_read(s: Site, r: Site, steps: u32, v: Value, w: Value) -> Joined
     requires { (0 < s.weights) × (steps ≤ steps_most) }
     ensures { total_out result ≡ both_read (site_as s) (site_as r) steps (out v) (out w) }
 {
-    if v.action == 0 {
+    if v.action == 0 || w.action == 0 {
         return refused(0, 0);
     }
-    if w.action == 0 {
-        return refused(0, 0);
-    }
-    let Fitted::Is(x) = whole_wide::total(
+    let Some(x) = whole_wide::total(
         v.numerator,
         w.numerator,
         s.weights as u32,
@@ -105,21 +94,18 @@ pub fn total(
 ) -> Joined
     ensures { total_out result ≡ total_of bytes.now nodes.now stages.now (asked q.first) bytes2.now nodes2.now stages2.now (asked q.second) q.steps }
 {
-    let first = q.first;
-    let second = q.second;
-    let steps = q.steps;
-    let v = value_read::value(bytes, nodes, stages, steps, first);
+    let v = value_read::value(bytes, nodes, stages, q.steps, q.first);
     if v.number != 0 {
         return refused(v.number, v.place);
     }
-    let w = value_read::value(bytes2, nodes2, stages2, steps, second);
+    let w = value_read::value(bytes2, nodes2, stages2, q.steps, q.second);
     if w.number != 0 {
         return refused(w.number, w.place);
     }
     let s = model::site(bytes);
     let r = model::site(bytes2);
-    if same_scale(s, r, first, second) {} else {
+    if !same_scale(s, r, q.first, q.second) {
         return refused(SCALES, 0);
     }
-    both_read(s, r, steps, v, w)
+    both_read(s, r, q.steps, v, w)
 }

@@ -1,11 +1,11 @@
 -- Accepted states: the bits of a mask, and the levels beyond the site's.
-use mathlib.Core.Path.{◌≡◌, sym, ap, ◌∙◌}
+use mathlib.Core.Path.{◌≡◌, refl, sym, ap, ◌∙◌}
 use mathlib.Core.Bool.{Bool, true, false, ◌&&◌}
 use mathlib.Core.List.{List, [], ◌∷◌}
 use Prim.Native.Nat.{ℕ, zero, suc, ◌+◌, ◌-◌, ◌/◌, ◌%◌, ◌^◌, ◌≤◌, ◌<◌}
 use native.Mathlib.Nat.{div-eq_of_lt, div-lt_iff_lt-mul, div-one, div-div-eq-div-mul, pow-zero, pow-succ'}
 use native.Mathlib.Omega.{arith}
-use borrow.Author.Tests.{eq-eqb, ne_eqb, lt-ltb, le-ltb}
+use borrow.Author.Tests.{eq-eqb, ne_eqb, lt-ltb, le-ltb, le-leb, lt-leb}
 use lib.Dec.{eqb, ltb, leb, compare_is_eq, leb→le, nleb→lt}
 use lib.IntN.{ℤ, pos, negsuc}
 use lib.ListN.{length, get_or, take, drop, drop_of_length-le}
@@ -62,8 +62,8 @@ module _ (n : List ℤ) (e : length n ≡ numbers) (m i : ℕ) (is : zeros (drop
 
 -- ---- the mask
 
-pub mask_narrow : (n x : ℕ) → x < 2 ^ 32 → 32 ≤ n → true ≡ ltb x (2 ^ n)
-mask_narrow n x f h = sym (lt-ltb x (2 ^ n) (omega (arith, pow_mono h)))
+pub mask_narrow : (n x : ℕ) → x < 2 ^ 32 → 32 ≤ n → leb 32 n ≡ ltb x (2 ^ n)
+mask_narrow n x f h = le-leb 32 n h ∙ sym (lt-ltb x (2 ^ n) (omega (arith, pow_mono h)))
 
 pub mask_shifted : (n x : ℕ) → eqb (x / 2 ^ n) 0 ≡ ltb x (2 ^ n)
 mask_shifted n x = by_test (leb (2 ^ n) x) (λ b. eqb (x / 2 ^ n) 0 ≡ ltb x (2 ^ n))
@@ -84,11 +84,11 @@ condition_is n x k h =
     let e : suc (k - 1) ≡ k = omega arith in
     bit_is n x (k - 1) (omega arith) ∙ ap (nth (bits n x)) e
 
-pub condition_far : (n x k : ℕ) → x < 2 ^ 32 → (1 ≤ k) × (k ≤ n) → 32 < k → false ≡ nth (bits n x) k
+pub condition_far : (n x k : ℕ) → x < 2 ^ 32 → (1 ≤ k) × (k ≤ n) → 32 < k → leb k 32 ≡ nth (bits n x) k
 condition_far n x k f h g =
     let m : 2 ^ 32 ≤ 2 ^ (k - 1) = pow_mono {i = 32} {j = k - 1} (omega arith) in
     let e : x / 2 ^ (k - 1) ≡ 0 = div-eq_of_lt (omega arith) in
-    ap (λ (y : ℕ). eqb (y % 2) 1) (sym e) ∙ condition_is n x k h
+    lt-leb k 32 g ∙ ap (λ (y : ℕ). eqb (y % 2) 1) (sym e) ∙ condition_is n x k h
 
 -- ---- the whole
 
@@ -96,3 +96,7 @@ pub accepted_is : (m n : ℕ) (q : Asked) {p x z : Bool} → mag (get_or q.n lev
     → (p && x) && z ≡ accepted m n (asked q)
 unfolding accepted
 accepted_is m n q f e₁ e₂ e₃ = all_three (e₁ ∙ ap (le_z (pos 1)) (back32 (get_or q.n levels_most (pos 0)) (record { sfits = f }))) e₂ e₃
+
+pub accepted_by : (m n : ℕ) (q : Asked) {v z : Bool} → mag (get_or q.n levels_most (pos 0)) < 2 ^ 31 → v ≡ (le_z (pos 1) (R32 (get_or q.n levels_most (pos 0))) && ltb q.mask (2 ^ n))
+    → z ≡ zeros (drop m (asked q).nums) → v && z ≡ accepted m n (asked q)
+accepted_by m n q {v} {z} f e k = ap (λ (b : Bool). b && z) e ∙ accepted_is m n q f refl refl k

@@ -16,8 +16,8 @@ pub fn refused(number: u32, place: usize) -> Value
     ensures { out result ≡ refused_value number place }
 {
     Value {
-        number: number,
-        place: place,
+        number,
+        place,
         action: 0,
         numerator: Numerator { low: 0, high: 0 },
     }
@@ -31,13 +31,11 @@ fn value_at(a: u32, q: Asked, nodes: &[i64], r: usize) -> Value
     if r == 0 {
         return refused(14, 0);
     }
-    let action = magnitude(nodes, r, HIGH) as u32;
-    let x = numerator(q, nodes, r);
     Value {
         number: 0,
         place: 0,
-        action: action,
-        numerator: x,
+        action: magnitude(nodes, r, HIGH) as u32,
+        numerator: numerator(q, nodes, r),
     }
 }
 
@@ -45,7 +43,7 @@ fn value_at(a: u32, q: Asked, nodes: &[i64], r: usize) -> Value
 pub fn value_after(m: u32, n: u32, a: u32, nodes: &[i64], root: u32, q: Asked) -> Value
     ensures { out result ≡ value_after m n a nodes.now root (asked q) }
 {
-    if accepted(m, n, q) {} else {
+    if !accepted(m, n, q) {
         return refused(13, 0);
     }
     if root == 0 {

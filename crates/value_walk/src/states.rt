@@ -14,24 +14,14 @@ use table::get;
 use whole::dot_product::dot;
 use whole::{COEFFICIENTS, Numerator};
 
-fn positive(d: i32) -> bool
-    ensures { result ≡ le_z (pos 1) d }
-{
-    1 <= d
-}
-
 // No numerator beyond level m differs from 0.
 fn levels_fit(m: u32, q: Asked) -> bool
     ensures { result ≡ zeros (drop m (asked q).nums) }
 {
-    let n = q.n;
-    let mut i = m as usize;
-    while i < COEFFICIENTS {
-        let z = n[i];
-        if z != 0 {
+    for i in m as usize..COEFFICIENTS {
+        if q.n[i] != 0 {
             return false;
         }
-        i += 1;
     }
     true
 }
@@ -40,17 +30,13 @@ fn levels_fit(m: u32, q: Asked) -> bool
 fn mask_fits(n: u32, mask: u32) -> bool
     ensures { result ≡ ltb mask (2 ^ n) }
 {
-    if 32 <= n {
-        return true;
-    }
-    mask >> n == 0
+    n >= u32::BITS || mask >> n == 0
 }
 
 pub fn accepted(m: u32, n: u32, q: Asked) -> bool
     ensures { result ≡ accepted m n (asked q) }
 {
-    let numbers = q.n;
-    positive(numbers[COEFFICIENTS]) & mask_fits(n, q.mask) & levels_fit(m, q)
+    q.n[COEFFICIENTS] >= 1 && mask_fits(n, q.mask) && levels_fit(m, q)
 }
 
 // Condition k of n, as the mask has it. A mask has 32 bits.
@@ -58,10 +44,7 @@ pub fn condition(n: u32, mask: u32, k: u32) -> bool
     requires { (1 ≤ k) × (k ≤ n) }
     ensures { result ≡ nth (bits n mask) k }
 {
-    if 32 < k {
-        return false;
-    }
-    (mask >> (k - 1)) % 2 == 1
+    k <= u32::BITS && (mask >> (k - 1)) % 2 == 1
 }
 
 // The numerator of node r's linear at a state.
@@ -69,8 +52,5 @@ pub fn numerator(q: Asked, nodes: &[i64], r: usize) -> Numerator
     requires { Inside nodes.now r × T (small_linear (node_linear nodes.now r)) }
     ensures { result ≡ words (numerator_of (asked q) (node_linear nodes.now r)) }
 {
-    let x = get(nodes, r - 1);
-    let c = x.n;
-    let n = q.n;
-    dot(c, n)
+    dot(get(nodes, r - 1).n, q.n)
 }

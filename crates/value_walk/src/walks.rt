@@ -47,8 +47,7 @@ fn branch(high: bool, nodes: &[i64], r: usize) -> usize
 fn step(n: u32, a: u32, q: Asked, nodes: &[i64], r: usize) -> usize
     ensures { result ≡ step_of n a (asked q) nodes.now r }
 {
-    let k = row_kind(n, a, nodes, r);
-    match k {
+    match row_kind(n, a, nodes, r) {
         Kind::Leaf => r,
         Kind::Condition => branch(is_yes(n, q, nodes, r), nodes, r),
         Kind::Test => branch(holds(q, nodes, r), nodes, r),

@@ -1,19 +1,18 @@
 -- Products and sums with their signs: a number below zero is held by its complement.
-use mathlib.Core.Path.{◌≡◌, refl, sym, ap, ◌∙◌}
-use mathlib.Core.Bool.{Bool, true, false, not}
+use mathlib.Core.Path.{◌≡◌, refl, sym, ap, ap₂, ◌∙◌}
+use mathlib.Core.Bool.{Bool, true, false}
 use Prim.Native.Nat.{ℕ, zero, suc, ◌+◌, ◌-◌, ◌*◌, ◌≤◌, ◌<◌}
 use native.Mathlib.Nat.{mul-le-mul_left, mul-le-mul_right}
 use native.Mathlib.Omega.{arith}
-use lib.Dec.{eqb, eqb→eq}
-use lib.IntN.{ℤ, pos, negsuc, ◌+ℤ◌, ◌*ℤ◌, +ℤ_comm}
+use lib.IntN.{ℤ, pos, negsuc, ◌+ℤ◌, ◌*ℤ◌}
 use lib.Signed.{mag}
-use Rattle.whole.specs.Cases.{if, by_test, clash}
+use Rattle.whole.specs.Cases.{if}
 use Rattle.whole.specs.Int.{up, down, atom, diff, dif_negsuc}
 use Rattle.whole.specs.Numerator.{word}
-use Rattle.whole_division.specs.Words.{two_words}
-use Rattle.whole_wide.specs.declared.Wide.{Wide}
+use Rattle.whole_division.specs.declared.Whole.{Whole}
+use Rattle.whole_division.specs.Words.{two_words, whole_as}
 use Rattle.whole_wide.specs.declared.Carried.{Carried}
-use Rattle.whole_wide.specs.Wide.{outside_from, beyond_from, carried, Holds, Scaled, WideSum, Added}
+use Rattle.whole_wide.specs.Wide.{beyond_from, carried}
 
 -- n, or its complement
 abbrev signed : Bool → ℕ → ℤ
@@ -31,13 +30,6 @@ le_more a b c h = omega arith
 
 -- ---- the carry
 
-is_zero : (n : ℕ) → not (eqb n 0) ≡ false → n ≡ 0
-is_zero n = by_test (eqb n 0) (λ b. not b ≡ false → n ≡ 0) (λ t _. eqb→eq n 0 t) (λ t e. clash e)
-
-is_some : (n : ℕ) → not (eqb n 0) ≡ true → 1 ≤ n
-is_some zero e = clash (sym e)
-is_some (suc n) e = omega arith
-
 -- what carries is 2¹²⁸ at least
 pub carries : (c h l : ℕ) → 1 ≤ c → beyond_from ≤ two_words (two_words c h) l
 carries c h l k = le_more beyond_from (two_words c h * word) l (mul-le-mul_right word (least c h k))
@@ -51,13 +43,13 @@ no_carry c h l e = ap (λ (c : ℕ). two_words (two_words c h) l) e ∙ ap (λ (
     nothing : 0 * word + h ≡ h
     nothing = omega arith
 
--- a sign with words that may carry holds the number that they spell
-judged : (b : Bool) (n : ℕ) (p : Carried) (m : ℕ) → m ≤ beyond_from → carried p ≡ n
-    → Holds m (signed b n) (record { over = not (eqb p.carry 0); below = b; high = p.high; low = p.low })
-judged b n p m k e = record {
-  exact = λ o. ap (signed b) (sym (no_carry p.carry p.high p.low (is_zero p.carry o)) ∙ e);
-  least = λ o. rw (signed_size b n, ← e) (le_trans m beyond_from (carried p) k (carries p.carry p.high p.low (is_some p.carry o)));
-}
+-- a sign with words that may carry
+module _ (b : Bool) (p : Carried) where
+  pub signed_some : p.carry ≡ 0 → signed b (two_words p.high p.low) ≡ signed b (carried p)
+  signed_some e = ap (signed b) (sym (no_carry p.carry p.high p.low e))
+
+  pub signed_none : (p.carry ≡ 0 → ⊥) → beyond_from ≤ mag (signed b (carried p))
+  signed_none n = rw (signed_size b (carried p)) (carries p.carry p.high p.low (omega arith))
 
 -- ---- products
 
@@ -73,19 +65,16 @@ times_is true n (suc v) k = below_times n v ∙ ap negsuc (more n v)
     more n v = omega arith
 
 -- a product is no smaller
-times_size : (z : ℤ) (w : ℕ) → 0 < w → mag z ≤ mag (z *ℤ pos w)
+pub times_size : (z : ℤ) (w : ℕ) → 0 < w → mag z ≤ mag (z *ℤ pos w)
 times_size (pos n) w k = omega (arith, mul-le-mul_left n k)
 times_size (negsuc n) zero k = absurd (omega arith)
 times_size (negsuc n) (suc v) k = rw (below_times n v) (omega arith)
 
-pub times_over : (x : Wide) (w : ℕ) → 0 < w → x.over ≡ true → Scaled x w x
-times_over x w k o b z e h = record { exact = λ f. clash (sym o ∙ f); least = λ _. le_trans b (mag z) _ (h.least o) (times_size z w k) }
-
-pub times_holds : (x : Wide) (w d : ℕ) (p : Carried) → 0 < w → x.over ≡ false → d ≡ if x.below (w - 1) 0 → carried p ≡ two_words x.high x.low * w + d
-    → Scaled x w (record { over = not (eqb p.carry 0); below = x.below; high = p.high; low = p.low })
-times_holds x w d p k o e f b z m h =
+pub times_holds : (x : Whole) (w d : ℕ) (p : Carried) → 0 < w → d ≡ if x.below (w - 1) 0 → carried p ≡ two_words x.high x.low * w + d
+    → signed x.below (carried p) ≡ whole_as x *ℤ pos w
+times_holds x w d p k e f =
     let n : ℕ = two_words x.high x.low in
-    rw (← h.exact o, times_is x.below n w k) (judged x.below _ p b m (f ∙ ap (λ (d : ℕ). n * w + d) e))
+    ap (signed x.below) (f ∙ ap (λ (d : ℕ). n * w + d) e) ∙ sym (times_is x.below n w k)
 
 -- ---- sums
 
@@ -93,19 +82,13 @@ sum_is : (b : Bool) (n m : ℕ) → signed b n +ℤ signed b m ≡ signed b (n +
 sum_is false n m = ap pos (omega arith)
 sum_is true n m = ap negsuc (omega arith)
 
-pub alike_holds : (x y : Wide) (d : ℕ) (p : Carried) → x.over ≡ false → y.over ≡ false → x.below ≡ y.below → d ≡ if x.below 1 0
+pub alike_holds : (x y : Whole) (d : ℕ) (p : Carried) → x.below ≡ y.below → d ≡ if x.below 1 0
     → carried p ≡ two_words x.high x.low + two_words y.high y.low + d
-    → WideSum x y (record { over = not (eqb p.carry 0); below = x.below; high = p.high; low = p.low })
-alike_holds x y d p o q s e f z v h k =
+    → signed x.below (carried p) ≡ whole_as x +ℤ whole_as y
+alike_holds x y d p s e f =
     let n : ℕ = two_words x.high x.low in
     let m : ℕ = two_words y.high y.low in
-    rw (← h.exact o, ← k.exact q, ← s, sum_is x.below n m) (judged x.below _ p outside_from least (f ∙ ap (λ (d : ℕ). n + m + d) e))
-  where
-    least : outside_from ≤ beyond_from
-    least = le_more outside_from outside_from outside_from (same outside_from)
-      where
-        same : (n : ℕ) → n ≤ n
-        same n = omega arith
+    ap (signed x.below) (f ∙ ap (λ (d : ℕ). n + m + d) e) ∙ sym (sum_is x.below n m) ∙ ap (λ (b : Bool). signed x.below n +ℤ signed b m) s
 
 -- the words that a complement leaves
 complement : (h l : ℕ) → h < word → l < word → two_words h l + two_words (18446744073709551615 - h) (18446744073709551615 - l) + 1 ≡ beyond_from
@@ -152,7 +135,7 @@ in_words h l a b = less (h * word) (18446744073709551615 * word) l word (mul-le-
     less : (p q l w : ℕ) → p ≤ q → l < w → p + l < q + w
     less p q l w h k = omega arith
 
-module _ (x y : Wide) (p : Carried) (o : x.over ≡ false) (q : y.over ≡ false) (s : x.below ≡ false) (t : y.below ≡ true)
+module _ (x y : Whole) (p : Carried) (s : x.below ≡ false) (t : y.below ≡ true)
     (a : x.high < word) (b : x.low < word) (c : y.high < word) (d : y.low < word) (e : p.high < word) (f : p.low < word)
     (g : carried p ≡ two_words x.high x.low + two_words (18446744073709551615 - y.high) (18446744073709551615 - y.low) + 0) where
   abbrev n : ℕ
@@ -164,31 +147,25 @@ module _ (x y : Wide) (p : Carried) (o : x.over ≡ false) (q : y.over ≡ false
   abbrev k : ℕ
   k = two_words (18446744073709551615 - y.high) (18446744073709551615 - y.low)
 
-  reads : (z v : ℤ) → Holds beyond_from z x → Holds beyond_from v y → pos n +ℤ negsuc m ≡ z +ℤ v
-  reads z v h j = ap (λ (u : ℤ). u +ℤ negsuc m) (ap (λ (b : Bool). signed b n) (sym s) ∙ h.exact o) ∙ ap (λ (u : ℤ). z +ℤ u) (ap (λ (b : Bool). signed b m) (sym t) ∙ j.exact q)
+  reads : pos n +ℤ negsuc m ≡ whole_as x +ℤ whole_as y
+  reads = ap₂ (λ (u v : Bool). signed u n +ℤ signed v m) (sym s) (sym t)
 
-  pub across_above : (p.carry ≡ 0 → ⊥) → WideSum x y (record { over = false; below = false; high = p.high; low = p.low })
-  across_above i z v h j = record {
-    exact = λ _. sym (difference n m (two_words p.high p.low)
-        (larger n m k (two_words p.high p.low) p.carry beyond_from (complement y.high y.low c d) (in_words x.high x.low a b) (some p.carry i) (sym (split p.carry p.high p.low) ∙ g)))
-        ∙ reads z v h j;
-    least = λ u. clash (sym u);
-  }
+  pub across_above : (p.carry ≡ 0 → ⊥) → pos (two_words p.high p.low) ≡ whole_as x +ℤ whole_as y
+  across_above i = sym (difference n m (two_words p.high p.low)
+      (larger n m k (two_words p.high p.low) p.carry beyond_from (complement y.high y.low c d) (in_words x.high x.low a b) (some p.carry i) (sym (split p.carry p.high p.low) ∙ g)))
+      ∙ reads
     where
       some : (n : ℕ) → (n ≡ 0 → ⊥) → 1 ≤ n
       some n i = omega arith
 
-  pub across_below : p.carry ≡ 0 → WideSum x y (record { over = false; below = true; high = 18446744073709551615 - p.high; low = 18446744073709551615 - p.low })
-  across_below i z v h j = record {
-    exact = λ _. sym (difference_below n m (two_words (18446744073709551615 - p.high) (18446744073709551615 - p.low))
-        (smaller n m k (two_words p.high p.low) (two_words (18446744073709551615 - p.high) (18446744073709551615 - p.low)) beyond_from
-        (complement y.high y.low c d) (complement p.high p.low e f) (sym (no_carry p.carry p.high p.low i) ∙ g)))
-        ∙ reads z v h j;
-    least = λ u. clash (sym u);
-  }
+  pub across_below : p.carry ≡ 0 → negsuc (two_words (18446744073709551615 - p.high) (18446744073709551615 - p.low)) ≡ whole_as x +ℤ whole_as y
+  across_below i = sym (difference_below n m (two_words (18446744073709551615 - p.high) (18446744073709551615 - p.low))
+      (smaller n m k (two_words p.high p.low) (two_words (18446744073709551615 - p.high) (18446744073709551615 - p.low)) beyond_from
+      (complement y.high y.low c d) (complement p.high p.low e f) (sym (no_carry p.carry p.high p.low i) ∙ g)))
+      ∙ reads
 
 -- a size of 2 × o does not come back from what is below o
-far : (o : ℕ) (z v : ℤ) → o + o ≤ mag z → mag v < o → o ≤ mag (z +ℤ v)
+pub far : (o : ℕ) (z v : ℤ) → o + o ≤ mag z → mag v < o → o ≤ mag (z +ℤ v)
 far o (pos n) (pos m) h k = omega arith
 far o (pos n) (negsuc m) h k = rw (difference n m (n - suc m) (omega arith)) (omega arith)
 far o (negsuc n) (pos m) h k = rw (turned n m (n - m) (omega arith)) (omega arith)
@@ -196,16 +173,3 @@ far o (negsuc n) (pos m) h k = rw (turned n m (n - m) (omega arith)) (omega arit
     turned : (n m t : ℕ) → n ≡ m + t → negsuc n +ℤ pos m ≡ negsuc t
     turned n m t e = sum_of (negsuc n) (pos m) (negsuc t) (omega arith)
 far o (negsuc n) (negsuc m) h k = omega arith
-
-pub added_over : (x y : Wide) → x.over ≡ true → Added x y x
-added_over x y o z v h k s = record { exact = λ f. clash (sym o ∙ f); least = λ _. far outside_from z v (h.least o) s }
-
--- what lies in two words is not over
-pub added_never : (x y : Wide) → y.over ≡ true → Added x y y
-added_never x y o z v h k s = absurd (apart outside_from (mag v) (k.least o) s)
-  where
-    apart : (o n : ℕ) → o + o ≤ n → n < o → ⊥
-    apart o n h k = omega arith
-
-pub added_turned : (x y r : Wide) → WideSum y x r → Added x y r
-added_turned x y r f z v h j s = rw (+ℤ_comm z v) (f v z j h)

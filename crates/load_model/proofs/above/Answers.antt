@@ -8,12 +8,12 @@ use Rattle.load_model.proofs.above.Goals as goal
 
 pub returns-then-command-eq-END_WORTH : goal.returns-then-command-eq-END_WORTH
 unfolding rows_above
-returns-then-command-eq-END_WORTH c = (λ i. rw (eq-eqb _ _ c.if-command-eq-END_WORTH.true) c.action_index.ensures.0, c.action_index.ensures.1)
+returns-then-command-eq-END_WORTH c = (λ i. rw (eq-eqb _ _ c.if-command-eq-END_WORTH.true) c.from.ensures, omega (arith, c.from.ensures, c.ranges))
 
 pub returns-then-a-eq0 : goal.returns-then-a-eq0
 unfolding rows_above
-returns-then-a-eq0 c = (λ i. rw (ne_eqb _ _ c.if-command-eq-END_WORTH.false) (omega (arith, c.action_index-a.ensures.0, c.if-a-eq0.true)), omega arith)
+returns-then-a-eq0 c = (λ i. rw (ne_eqb _ _ c.if-command-eq-END_WORTH.false) (omega (arith, c.from-a.ensures, c.if-a-eq0.true)), omega arith)
 
 pub returns : goal.returns
 unfolding rows_above
-returns c = (λ i. rw (ne_eqb _ _ c.if-command-eq-END_WORTH.false) (ap (λ (x : ℕ). x - 1) c.action_index-a.ensures.0), omega (arith, c.action_index-a.ensures.1))
+returns c = (λ i. rw (ne_eqb _ _ c.if-command-eq-END_WORTH.false) (ap (λ (x : ℕ). x - 1) c.from-a.ensures), omega (arith, c.from-a.ensures, c.ranges))

@@ -1,7 +1,8 @@
 -- `model_command::byte_at` meets its contract.
-use mathlib.Core.Path.{sym}
-use lib.ListN.{get_or-eq_default}
+use mathlib.Core.Path.{ap, ◌∙◌}
+use native.Mathlib.Omega.{arith}
+use Rattle.std.specs.Option.{unwrap_or}
 use Rattle.model_command.proofs.byte_at.Goals as goal
 
-pub returns-else-at-model : goal.returns-else-at-model
-returns-else-at-model c = sym (get_or-eq_default c.args.model.now 0 c.if-at-model.false)
+pub returns : goal.returns
+returns c = c.unwrap_or.ensures ∙ ap (λ o. unwrap_or o 0) c.copied.ensures ∙ c.get.ensures.lookup.4 (omega arith) 0

@@ -1,5 +1,6 @@
 -- `model_command::size_in` meets its contract: the case of the command tells its length (`length_of`), and a command
 -- that was read is as long as its first byte says (`by_case`).
+use mathlib.Core.Logic.{inl, inr}
 use mathlib.Core.Path.{refl, ap}
 use Prim.Native.Nat.{ℕ, ◌+◌}
 use Rattle.model_command.specs.CursorReadings.{command_of_in}
@@ -13,15 +14,12 @@ returns-in-Site c = by_case _ _ c.in-Site.is (λ B at. ap (λ (n : ℕ). 4 + n) 
 
 pub returns-in-Leaf : goal.returns-in-Leaf
 unfolding command_of_in length_of
-returns-in-Leaf c = by_case _ _ c.in-Leaf.is (λ B at. ap (λ (n : ℕ). 1 + n) c.linear_bytes.ensures.0)
+returns-in-Leaf c =
+    elim c.in-Leaf.is [ inl e ↦ by_case _ _ e (λ B at. ap (λ (n : ℕ). 1 + n) c.linear_bytes.ensures.0) | inr e ↦ by_case _ _ e (λ B at. ap (λ (n : ℕ). 1 + n) c.linear_bytes.ensures.0) ]
 
 pub returns-in-Condition : goal.returns-in-Condition
 unfolding command_of_in length_of
 returns-in-Condition c = by_case _ _ c.in-Condition.is (λ B at. refl)
-
-pub returns-in-Test : goal.returns-in-Test
-unfolding command_of_in length_of
-returns-in-Test c = by_case _ _ c.in-Test.is (λ B at. ap (λ (n : ℕ). 1 + n) c.linear_bytes-in-Test.ensures.0)
 
 pub returns-in-Forbidden : goal.returns-in-Forbidden
 unfolding command_of_in length_of

@@ -18,6 +18,6 @@ pub returns-then-diagram : goal.returns-then-diagram
 unfolding first_broken
 returns-then-diagram c = simp (c.if-operand.false, c.if-stack.false, c.if-twice.false, c.if-diagram.true)
 
-pub returns-else-diagram : goal.returns-else-diagram
+pub returns : goal.returns
 unfolding first_broken
-returns-else-diagram c = simp (c.if-operand.false, c.if-stack.false, c.if-twice.false, c.if-diagram.false)
+returns c = simp (c.if-operand.false, c.if-stack.false, c.if-twice.false, c.if-diagram.false)

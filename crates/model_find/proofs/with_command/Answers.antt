@@ -15,7 +15,7 @@ spells-requires c = let h = room c.args.model.now c.args.at _ c.in-Name.is c.req
 
 pub returns-then-spells : goal.returns-then-spells
 unfolding form_of
-returns-then-spells c = c.joined.ensures ∙ ap (joined c.args.known) c.action_word.ensures ∙ joins c.args.model.now c.args.at _ c.in-Name.is
+returns-then-spells c = c.joined.ensures ∙ ap (joined c.args.known) c.from.ensures ∙ joins c.args.model.now c.args.at _ c.in-Name.is
     c.args.name.now c.args.known c.spells.result c.behind_action.result c.behind_action.ensures.0
     c.spells.ensures c.if-spells.true
 

@@ -16,14 +16,14 @@ returns-then-action-lt1 c = early_passed c.args.model.now c.args.action c.early-
     c.if-v-ne0.false (sym (ap (λ (S : Site). S.actions) c.site-site.ensures))
     (rw (lt-leb 1 _ c.if-action-lt1.true))
 
-pub returns-then-action_word-action : goal.returns-then-action_word-action
+pub returns-then-from-action : goal.returns-then-from-action
 unfolding among
-returns-then-action_word-action c = early_passed c.args.model.now c.args.action c.early-v.result c.action_word.result false c.early-v.ensures
-    c.if-v-ne0.false (sym (ap (λ (S : Site). S.actions) c.site-site.ensures) ∙ sym c.action_word.ensures)
-    (rw (le-leb 1 _ c.if-action-lt1.false, lt-leb _ _ c.if-action_word-action.true))
+returns-then-from-action c = early_passed c.args.model.now c.args.action c.early-v.result c.from.result false c.early-v.ensures
+    c.if-v-ne0.false (sym (ap (λ (S : Site). S.actions) c.site-site.ensures) ∙ sym c.from.ensures)
+    (rw (le-leb 1 _ c.if-action-lt1.false, lt-leb _ _ c.if-from-action.true))
 
 pub returns : goal.returns
 unfolding among
-returns c = early_passed c.args.model.now c.args.action c.early-v.result c.action_word.result true c.early-v.ensures
-    c.if-v-ne0.false (sym (ap (λ (S : Site). S.actions) c.site-site.ensures) ∙ sym c.action_word.ensures)
-    (rw (le-leb 1 _ c.if-action-lt1.false, le-leb _ _ c.if-action_word-action.false))
+returns c = early_passed c.args.model.now c.args.action c.early-v.result c.from.result true c.early-v.ensures
+    c.if-v-ne0.false (sym (ap (λ (S : Site). S.actions) c.site-site.ensures) ∙ sym c.from.ensures)
+    (rw (le-leb 1 _ c.if-action-lt1.false, le-leb _ _ c.if-from-action.false))

@@ -10,7 +10,7 @@ use Rattle.model_names.proofs.names.Goals as goal
 
 pub returns-in-Name : goal.returns-in-Name
 unfolding names_action command_of_in
-returns-in-Name c = λ B at. ap (eqb c.args.action) c.action_word.ensures ∙ ap (λ (d : CodeCommand). names_action c.args.action (whole (command_of B at d))) (sym c.in-Name.is)
+returns-in-Name c = λ B at. ap (eqb c.args.action) c.from.ensures ∙ ap (λ (d : CodeCommand). names_action c.args.action (whole (command_of B at d))) (sym c.in-Name.is)
 
 pub returns-in_default : goal.returns-in_default
 returns-in_default c = λ B at. names_other c.args.action B at c.args.c c.in_default.not-Name

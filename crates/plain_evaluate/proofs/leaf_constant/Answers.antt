@@ -19,5 +19,5 @@ number-requires c = let r = code_room c.args.model.now c.args.at 16 (omega arith
 pub returns-then-code-eq16 : goal.returns-then-code-eq16
 returns-then-code-eq16 c = to_z-of_z w64 _ (record { sfits = c.number.type_inv }) ∙ c.number.ensures ∙ (leaf_constant c.args.model.now c.args.at (sym c.if-code-eq16.true ∙ c.code.ensures))
 
-pub returns : goal.returns
-returns c = ap (λ (p : Linear). p.const) (no_leaf c.args.model.now c.args.at (λ e. c.if-code-eq16.false (c.code.ensures ∙ e)))
+pub returns-else-code-eq16 : goal.returns-else-code-eq16
+returns-else-code-eq16 c = ap (λ (p : Linear). p.const) (no_leaf c.args.model.now c.args.at (λ e. c.if-code-eq16.false (c.code.ensures ∙ e)))

@@ -10,4 +10,4 @@ returns-then-z-lt0 c = sym (ap up (negated c.args.z c.ranges.z c.if-z-lt0.true).
 
 pub returns-else-z-lt0 : goal.returns-else-z-lt0
 returns-else-z-lt0 c = let d = not_negative c.args.z c.ranges.z c.if-z-lt0.false in
-    abs_back c.args.z c.ranges.z c.mag.ensures ∙ ap nat_abs d.2 ∙ sym (ap up d.2)
+    abs_back c.args.z c.ranges.z c.unsigned_abs.ensures.value ∙ ap nat_abs d.2 ∙ sym (ap up d.2)

@@ -11,14 +11,14 @@ use Rattle.value_joined.specs.Total.{crosswise}
 use Rattle.value_joined.proofs.laws.Cases.{first_none, second_none, both_some}
 use Rattle.value_total.proofs.Joins.{outside_is, inside_is}
 use Rattle.value_total.proofs.both_read.Goals as goal
+use Rattle.value_total.proofs.both_read.Goals.{then-v-eq0-via-then-v-eq0, then-v-eq0-via-else-v-eq0+then-w-eq0}
 
 pub returns-then-v-eq0 : goal.returns-then-v-eq0
 returns-then-v-eq0 c = let a = c.args in
-    c.refused.ensures ∙ sym (first_none (site_as a.s) (site_as a.r) a.steps (out a.v) (out a.w) c.if-v-eq0.true)
-
-pub returns-then-w-eq0 : goal.returns-then-w-eq0
-returns-then-w-eq0 c = let a = c.args in
-    c.refused-then-w-eq0.ensures ∙ sym (second_none (site_as a.s) (site_as a.r) a.steps (out a.v) (out a.w) c.if-w-eq0.true)
+    c.refused.ensures ∙ elim c.then-v-eq0.branch [
+      | then-v-eq0-via-then-v-eq0 w ↦ sym (first_none (site_as a.s) (site_as a.r) a.steps (out a.v) (out a.w) w.if-v-eq0.true)
+      | then-v-eq0-via-else-v-eq0+then-w-eq0 w ↦ sym (second_none (site_as a.s) (site_as a.r) a.steps (out a.v) (out a.w) w.if-w-eq0.true)
+    ]
 
 pub overflow_mul-r : goal.overflow_mul-r
 overflow_mul-r c = omega (arith, mul-le-mul {n₁ = c.args.r.conditions} {m₁ = c.args.steps} {n₂ = 255} {m₂ = steps_most} (omega arith) c.requires.1)
@@ -37,5 +37,5 @@ pub returns : goal.returns
 unfolding crosswise
 returns c = let a = c.args in
     inside_is (crosswise (site_as a.s) (site_as a.r) a.steps (number a.v.numerator) (number a.w.numerator)) a.v.action a.w.action
-    c.total.ensures c.in-Is.is ∙ sym (both_some (site_as a.s) (site_as a.r) a.steps (out a.v) (out a.w) c.if-v-eq0.false
+    c.total.ensures c.in-Some.is ∙ sym (both_some (site_as a.s) (site_as a.r) a.steps (out a.v) (out a.w) c.if-v-eq0.false
     c.if-w-eq0.false)

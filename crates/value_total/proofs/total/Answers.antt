@@ -14,11 +14,11 @@ returns-then-w-ne0 c = let a = c.args in
     second_stops a.bytes.now a.nodes.now a.stages.now (asked a.q.first) a.bytes2.now a.nodes2.now a.stages2.now (asked a.q.second)
     a.q.steps c.value-v.ensures c.if-v-ne0.false c.value-w.ensures c.if-w-ne0.true c.refused-then-w-ne0.ensures
 
-pub returns-else-same_scale : goal.returns-else-same_scale
-returns-else-same_scale c = let a = c.args in
+pub returns-then-not-same_scale : goal.returns-then-not-same_scale
+returns-then-not-same_scale c = let a = c.args in
     scale_stops a.bytes.now a.nodes.now a.stages.now (asked a.q.first) a.bytes2.now a.nodes2.now a.stages2.now (asked a.q.second)
     a.q.steps c.value-v.ensures c.if-v-ne0.false c.value-w.ensures c.if-w-ne0.false c.site-s.ensures c.site-r.ensures
-    c.same_scale.ensures c.if-same_scale.false c.refused-else-same_scale.ensures
+    c.same_scale.ensures c.if-not-same_scale.true c.refused-then-not-same_scale.ensures
 
 pub both_read-requires : goal.both_read-requires
 both_read-requires c = let a = c.args in
@@ -28,4 +28,4 @@ pub returns : goal.returns
 returns c = let a = c.args in
     both_stops a.bytes.now a.nodes.now a.stages.now (asked a.q.first) a.bytes2.now a.nodes2.now a.stages2.now (asked a.q.second)
     a.q.steps c.value-v.ensures c.if-v-ne0.false c.value-w.ensures c.if-w-ne0.false c.site-s.ensures c.site-r.ensures
-    c.same_scale.ensures c.if-same_scale.true c.both_read.ensures
+    c.same_scale.ensures c.if-not-same_scale.false c.both_read.ensures

@@ -6,9 +6,9 @@ use Rattle.whole_wide.proofs.added_across.Goals as goal
 pub returns-then-s-ne0 : goal.returns-then-s-ne0
 returns-then-s-ne0 c = let a = c.args in
     let r = c.requires in
-    across_above a.x a.y c.sum-s.result r.0 r.1 r.2 r.3 (omega arith) (omega arith) (omega arith) (omega arith) (omega arith) (omega arith) c.sum-s.ensures c.if-s-ne0.true
+    across_above a.x a.y c.sum-s.result r.0 r.1 (omega arith) (omega arith) (omega arith) (omega arith) (omega arith) (omega arith) c.sum-s.ensures c.if-s-ne0.true
 
-pub returns : goal.returns
-returns c = let a = c.args in
+pub returns-else-s-ne0 : goal.returns-else-s-ne0
+returns-else-s-ne0 c = let a = c.args in
     let r = c.requires in
-    across_below a.x a.y c.sum-s.result r.0 r.1 r.2 r.3 (omega arith) (omega arith) (omega arith) (omega arith) (omega arith) (omega arith) c.sum-s.ensures c.if-s-ne0.false
+    across_below a.x a.y c.sum-s.result r.0 r.1 (omega arith) (omega arith) (omega arith) (omega arith) (omega arith) (omega arith) c.sum-s.ensures c.if-s-ne0.false

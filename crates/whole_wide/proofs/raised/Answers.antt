@@ -1,15 +1,25 @@
-use native.Mathlib.Omega.{arith}
-use Rattle.whole_wide.proofs.Powers.{scaled_start, scaled_more, scaled_at}
+use Rattle.std.proofs.Common.{◌≡◌, ℕ, ◌^◌, ◌≤◌, ℤ, pos, ◌*ℤ◌, sym, ap, ◌∙◌, subst, arith}
+use Rattle.std.specs.Int.Signed.{mag}
+use Rattle.whole_division.specs.Words.{whole_as}
+use Rattle.whole_wide.specs.Wide.{beyond_from, Holds}
+use Rattle.whole_wide.proofs.Powers.{times_one, times_more, stays_large}
 use Rattle.whole_wide.proofs.raised.Goals as goal
 
-pub loop-i-init : goal.loop-i-init
-loop-i-init c = (omega arith, scaled_start c.args.x c.args.w)
+pub loop-init : goal.loop-init
+loop-init c = times_one (whole_as c.args.x) c.args.w
 
-pub times-y-requires : goal.times-y-requires
-times-y-requires c = c.requires
+pub returns-in_err-y : goal.returns-in_err-y
+returns-in_err-y c = let a = c.args in
+    let z = whole_as a.x in
+    let turn = ap (λ (v : ℤ). v *ℤ pos a.w) c.loop.invariant ∙ times_more z a.w c.loop.counter in
+    subst (Holds beyond_from (z *ℤ pos (a.w ^ a.k))) (sym c.from_residual.ensures)
+    (stays_large beyond_from z a.w c.loop.counter a.k c.requires c.loop-test.true (subst (λ (v : ℤ). beyond_from ≤ mag v) turn c.in_err-y.ensures))
 
-pub loop-i-preserved : goal.loop-i-preserved
-loop-i-preserved c = (omega arith, scaled_more c.args.x c.loop-i.y c.times-y.result c.args.w c.loop-i.i c.loop-i.invariant.1 c.times-y.ensures)
+pub loop-preserved : goal.loop-preserved
+loop-preserved c = let a = c.args in
+    c.in_ok-y.ensures ∙ (ap (λ (v : ℤ). v *ℤ pos a.w) c.loop.invariant ∙ times_more (whole_as a.x) a.w c.loop.counter)
 
 pub returns : goal.returns
-returns c = scaled_at c.args.x c.loop-i.y c.args.w c.loop-i.i c.args.k (omega arith) c.loop-i.invariant.1
+returns c = let a = c.args in
+    let e : c.loop.counter ≡ a.k = omega arith in
+    c.loop.invariant ∙ ap (λ (j : ℕ). whole_as a.x *ℤ pos (a.w ^ j)) e

@@ -1,10 +1,7 @@
--- `whole_wide::raised` meets its contract: after i turns, what x holds times w^i.
-use Prim.Native.Nat.{◌-◌, ◌^◌, ◌≤◌}
-use Rattle.whole_wide.specs.Wide.{Scaled}
+-- `whole_wide::raised` meets its contract: after so many turns, x times that power of w; a product that is outside stays there.
+use Rattle.std.proofs.Common.{◌≡◌, ◌^◌, pos, ◌*ℤ◌}
+use Rattle.whole_division.specs.Words.{whole_as}
 use Rattle.whole_wide.proofs.raised.Given as goal
 
-abbrev pub invariant-loop-i : goal.invariant-loop-i
-invariant-loop-i l = (l.i ≤ l.k) × Scaled l.initial.y (l.w ^ l.i) l.y
-
-abbrev pub decreases-loop-i : goal.decreases-loop-i
-decreases-loop-i l = l.k - l.i
+abbrev pub invariant-loop : goal.invariant-loop
+invariant-loop l = whole_as l.y ≡ whole_as l.fn.x *ℤ pos (l.w ^ l.counter)

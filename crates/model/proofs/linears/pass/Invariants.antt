@@ -7,9 +7,9 @@ use Rattle.model_form.specs.Forms.{form_of}
 use Rattle.model.specs.Walk.{Walk}
 use Rattle.model.proofs.linears.pass.Given as goal
 
-abbrev pub invariant-loop-seen : goal.invariant-loop-seen
-invariant-loop-seen l = (l.initial.at ≤ l.at) × ((F : List Bool) → Walk (form_of l.form) l.model l.initial.at (record { begun = true; site = l.site; seen = l.initial.seen }) F
+abbrev pub invariant-loop-after : goal.invariant-loop-after
+invariant-loop-after l = (l.initial.at ≤ l.at) × ((F : List Bool) → Walk (form_of l.form) l.model l.initial.at (record { begun = true; site = l.site; seen = l.initial.seen }) F
     → Walk (form_of l.form) l.model l.at (record { begun = true; site = l.site; seen = l.seen }) F)
 
-abbrev pub decreases-loop-seen : goal.decreases-loop-seen
-decreases-loop-seen l = length l.model - l.at
+abbrev pub decreases-loop-after : goal.decreases-loop-after
+decreases-loop-after l = length l.model - l.at

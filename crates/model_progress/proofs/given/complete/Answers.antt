@@ -14,12 +14,12 @@ overflow_add-a c = omega (arith, c.well_formed.1.0)
 
 pub loop-a-preserved : goal.loop-a-preserved
 loop-a-preserved c = let t = run_turn (action_given c.args.flags.now (site_as c.args.site)) c.loop-a.a c.args.site.actions c.loop-a-test.true in
-    let p = sym c.action.ensures ∙ c.if-action.true in
+    let p = sym c.action.ensures ∙ c.if-not-action.false in
     (omega arith, sym (rw p at t) ∙ c.loop-a.invariant.1)
 
-pub returns-else-action : goal.returns-else-action
-returns-else-action c = let t = run_turn (action_given c.args.flags.now (site_as c.args.site)) c.loop-a.a c.args.site.actions c.loop-a-test.true in
-    let p = sym c.action.ensures ∙ c.if-action.false in
+pub returns-then-not-action : goal.returns-then-not-action
+returns-then-not-action c = let t = run_turn (action_given c.args.flags.now (site_as c.args.site)) c.loop-a.a c.args.site.actions c.loop-a-test.true in
+    let p = sym c.action.ensures ∙ c.if-not-action.true in
     sym (rw p at t) ∙ c.loop-a.invariant.1
 
 pub returns : goal.returns

@@ -9,6 +9,3 @@ use Rattle.model_progress.proofs.given.complete.Given as goal
 
 abbrev pub invariant-loop-a : goal.invariant-loop-a
 invariant-loop-a l = (l.a ≤ l.site.actions) × (all (action_given l.flags (site_as l.site)) (from_to (suc l.a) (l.site.actions - l.a)) ≡ all_given l.flags (site_as l.site))
-
-abbrev pub decreases-loop-a : goal.decreases-loop-a
-decreases-loop-a l = l.site.actions - l.a

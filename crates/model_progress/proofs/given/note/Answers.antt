@@ -12,7 +12,7 @@ use Rattle.model_progress.proofs.given.note.Goals as goal
 pub returns-in-Give : goal.returns-in-Give
 unfolding noted
 returns-in-Give c = c.raise.ensures
-    ∙ ap (λ (k : ℕ). set c.args.flags.now k true) (c.place.ensures ∙ ap (λ (b : ℕ). place b c.in-Give.i c.in-Give.a) c.base.ensures.0)
+    ∙ ap (λ (k : ℕ). set c.args.flags.now k true) (c.place.ensures ∙ ap (λ (b : ℕ). place b c.in-Give.index c.in-Give.action) c.base.ensures.0)
     ∙ ap (λ (d : CodeCommand). noted d c.args.flags.now) (sym c.in-Give.is)
 
 pub returns-in-Name : goal.returns-in-Name

@@ -19,12 +19,12 @@ place-requires c = c.requires
 
 pub loop-i-preserved : goal.loop-i-preserved
 loop-i-preserved c = let t = run_turn (λ k. get_or c.args.flags.now (place c.args.base k c.args.a) false) c.loop-i.i c.args.n c.loop-i-test.true in
-    let p = sym (c.has.ensures ∙ ap (λ k. get_or c.args.flags.now k false) c.place.ensures) ∙ c.if-has.true in
+    let p = sym (c.has.ensures ∙ ap (λ k. get_or c.args.flags.now k false) c.place.ensures) ∙ c.if-not-has.false in
     (omega arith, sym (rw p at t) ∙ c.loop-i.invariant.1)
 
-pub returns-else-has : goal.returns-else-has
-returns-else-has c = let t = run_turn (λ k. get_or c.args.flags.now (place c.args.base k c.args.a) false) c.loop-i.i c.args.n c.loop-i-test.true in
-    let p = sym (c.has.ensures ∙ ap (λ k. get_or c.args.flags.now k false) c.place.ensures) ∙ c.if-has.false in
+pub returns-then-not-has : goal.returns-then-not-has
+returns-then-not-has c = let t = run_turn (λ k. get_or c.args.flags.now (place c.args.base k c.args.a) false) c.loop-i.i c.args.n c.loop-i-test.true in
+    let p = sym (c.has.ensures ∙ ap (λ k. get_or c.args.flags.now k false) c.place.ensures) ∙ c.if-not-has.true in
     sym (rw p at t) ∙ c.loop-i.invariant.1
 
 pub returns : goal.returns

@@ -11,6 +11,3 @@ use Rattle.model_progress.proofs.given.row.Given as goal
 
 abbrev pub invariant-loop-i : goal.invariant-loop-i
 invariant-loop-i l = (l.i ≤ l.n) × (all (λ k. get_or l.flags (place l.base k l.a) false) (from_to (suc l.i) (l.n - l.i)) ≡ row_given l.flags l.base l.a l.n)
-
-abbrev pub decreases-loop-i : goal.decreases-loop-i
-decreases-loop-i l = l.n - l.i

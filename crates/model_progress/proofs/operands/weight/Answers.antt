@@ -17,6 +17,6 @@ returns-then-weight_of c = let B = c.args.model.now in let F = form_of c.args.fo
 
 pub returns-else-weight_of : goal.returns-else-weight_of
 returns-else-weight_of c = let B = c.args.model.now in let F = form_of c.args.form in
-    no_weight B F c.args.w c.args.from
+    c.if-weight_of.false ∙ no_weight B F c.args.w c.args.from
     (sym c.if-weight_of.false ∙ c.weight_of.ensures ∙ ap (λ (n : ℕ). le_z (pos 0) (signed n) && le_z (signed n) (pos c.args.w))
     (c.word.ensures ∙ ap (λ (k : ℕ). word_at B (c.args.from + k * 4)) c.levels.ensures.0))

@@ -1,7 +1,11 @@
 -- `model_progress::states::after` meets its contract: one law for each case of the command (`after_site` to `after_end`): where no rule is broken the
 -- stack has room for a push and two parts for a choice, so the new state stands for the specification's.
 use Rattle.model_form.specs.Forms.{form_of}
-use mathlib.Core.Path.{refl}
+use mathlib.Core.Path.{refl, ap, ◌∙◌}
+use Prim.Native.Nat.{ℕ}
+use lib.Dec.{ltb}
+use Rattle.theory.specs.Verdict.{joined}
+use Rattle.model_facts.specs.Seen.{seen}
 use native.Mathlib.Omega.{arith}
 use Rattle.model_command.specs.CursorReadings.{command_of_in}
 use Rattle.model_progress.specs.GivenFlags.{noted}
@@ -28,7 +32,8 @@ returns-in-Leaf c = by_command (form_of c.args.form) c.args.model.now c.args.at 
 pub returns-in-Condition : goal.returns-in-Condition
 unfolding command_of_in noted
 returns-in-Condition c = by_command (form_of c.args.form) c.args.model.now c.args.at c.args.s c.in-Condition.is c.with_seen-in-Condition.ensures
-    (λ F p st u. after_condition (form_of c.args.form) st _ c.joined.result c.joined.ensures u)
+    (λ F p st u. after_condition (form_of c.args.form) st _ c.joined.result
+    (λ h i. c.joined.ensures h i ∙ ap (λ (n : ℕ). joined (ltb 4 n) (seen c.args.s.seen)) c.from.ensures) u)
 
 pub returns-in-Test : goal.returns-in-Test
 unfolding command_of_in noted

@@ -1,13 +1,12 @@
 -- `model_stack::Stack::top` meets its contract.
-use native.Mathlib.Omega.{arith}
+use borrow.Author.Rules.{rules}
+use mathlib.Core.Logic.{inl, inr}
 use Rattle.model_stack.proofs.Stacked.{top_more, top_none, top_past}
 use Rattle.model_stack.proofs.Stack.top.Goals as goal
 
-pub returns-then-at-eq0 : goal.returns-then-at-eq0
-returns-then-at-eq0 c = top_none _ _ c.if-at-eq0.true
+pub returns-then-self-le-STACK_MOST : goal.returns-then-self-le-STACK_MOST
+returns-then-self-le-STACK_MOST c = top_more _ _ c.if-self-gt0.true
 
-pub returns-then-last-lt-STACK_MOST : goal.returns-then-last-lt-STACK_MOST
-returns-then-last-lt-STACK_MOST c = top_more _ _ c.if-at-eq0.false
-
-pub returns-else-last-lt-STACK_MOST : goal.returns-else-last-lt-STACK_MOST
-returns-else-last-lt-STACK_MOST c = top_past _ _ c.if-at-eq0.false (omega arith)
+pub returns-else-self-gt0 : goal.returns-else-self-gt0
+returns-else-self-gt0 c =
+    elim c.else-self-gt0.either [ inl h ↦ top_past _ _ h.0 (search rules) | inr h ↦ top_none _ _ h ]

@@ -2,14 +2,11 @@
 use mathlib.Core.Path.{ap, ◌∙◌}
 use Rattle.whole.specs.Numerator.{words}
 use Rattle.theory.specs.Diagram.{Linear}
-use Rattle.plain_pass.specs.Pass.{nums_at, numerator}
+use Rattle.plain_pass.specs.Pass.{numerator}
 use Rattle.plain_leaf.proofs.numerators.wide_at.Goals as goal
 
-pub linear_at-requires : goal.linear_at-requires
-linear_at-requires c = c.requires.0
-
 pub numerator-requires : goal.numerator-requires
-numerator-requires c = (c.linear_at.ensures.0, c.requires.1)
+numerator-requires c = c.linear_at.ensures.0
 
 pub returns : goal.returns
-returns c = c.numerator.ensures ∙ ap (λ (p : Linear). words (numerator (nums_at c.args.n.now) p)) c.linear_at.ensures.1
+returns c = c.numerator.ensures ∙ ap (λ (p : Linear). words (numerator c.args.x.now p)) c.linear_at.ensures.1

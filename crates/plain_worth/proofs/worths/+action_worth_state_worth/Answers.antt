@@ -31,15 +31,15 @@ action_worth-loop-x-preserved-then-w-eq0 t c =
     sums_skip c.args.model.now c.args.steps c.args.a c.args.x _ _ _ c.loop-x.invariant _ c.chances-c.ensures _ c.weight-w.ensures
     (goes_on (stopped (total_of c.loop-x.sum)) c.settings-count.result c.loop-x.r _ c.settings_done.ensures c.if-settings_done.false) c.if-w-eq0.true
 
-pub action_worth-returns-then-y : goal.action_worth-returns-then-y
-action_worth-returns-then-y t c =
+pub action_worth-returns-in_default : goal.action_worth-returns-in_default
+action_worth-returns-in_default t c =
     sums_over c.args.model.now c.args.steps c.args.a c.args.x _ _ _ c.loop-x.invariant _ c.chances-c.ensures _ c.weight-w.ensures
-    (goes_on (stopped (total_of c.loop-x.sum)) c.settings-count.result c.loop-x.r _ c.settings_done.ensures c.if-settings_done.false) c.if-w-eq0.false _ c.next_state-y.ensures
-    (not_stopped (stopped (total_of c.loop-x.sum)) c.settings-count.result c.loop-x.r _ c.settings_done.ensures c.if-settings_done.false) c.if-y.true
+    (goes_on (stopped (total_of c.loop-x.sum)) c.settings-count.result c.loop-x.r _ c.settings_done.ensures c.if-settings_done.false) c.if-w-eq0.false _ c.next_state.ensures
+    (not_stopped (stopped (total_of c.loop-x.sum)) c.settings-count.result c.loop-x.r _ c.settings_done.ensures c.if-settings_done.false) c.in_default.is
 
 pub action_worth-ended-requires : goal.action_worth-ended-requires
 action_worth-ended-requires t c =
-    (next_stands c.args.model.now c.args.a c.args.x _ _ c.requires.0 c.next_state-y.ensures c.if-y.false, c.requires.4)
+    (next_stands c.args.model.now c.args.a c.args.x _ _ c.requires.0 c.next_state.ensures _ c.in-Some.is, c.requires.4)
 
 pub action_worth-added-sum-requires : goal.action_worth-added-sum-requires
 action_worth-added-sum-requires t c =
@@ -52,13 +52,13 @@ action_worth-loop-x-smaller-then-steps-eq1 t c =
 pub action_worth-loop-x-preserved-then-steps-eq1 : goal.action_worth-loop-x-preserved-then-steps-eq1
 action_worth-loop-x-preserved-then-steps-eq1 t c =
     sums_add c.args.model.now c.args.steps c.args.a c.args.x _ _ _ c.loop-x.invariant _ c.chances-c.ensures _ c.weight-w.ensures
-    (goes_on (stopped (total_of c.loop-x.sum)) c.settings-count.result c.loop-x.r _ c.settings_done.ensures c.if-settings_done.false) c.if-w-eq0.false _ c.next_state-y.ensures c.if-y.false _
-    (subst (λ (h : ℕ). StateWorth c.args.model.now h c.next_state-y.result.point c.ended.result)
+    (goes_on (stopped (total_of c.loop-x.sum)) c.settings-count.result c.loop-x.r _ c.settings_done.ensures c.if-settings_done.false) c.if-w-eq0.false _ c.next_state.ensures _ c.in-Some.is _
+    (subst (λ (h : ℕ). StateWorth c.args.model.now h c.in-Some.y c.ended.result)
     (let e = c.if-steps-eq1.true in let q : 0 ≡ c.args.steps - 1 = omega arith in q) c.ended.ensures) _ c.added-sum.ensures
 
 pub action_worth-state_worth-requires : goal.action_worth-state_worth-requires
 action_worth-state_worth-requires t c =
-    (to_state c.args.steps t c.requires.2 c.decreases, (next_stands c.args.model.now c.args.a c.args.x _ _ c.requires.0 c.next_state-y.ensures c.if-y.false, omega (arith, c.requires.3), c.requires.4))
+    (to_state c.args.steps t c.requires.2 c.decreases, (next_stands c.args.model.now c.args.a c.args.x _ _ c.requires.0 c.next_state.ensures _ c.in-Some.is, omega (arith, c.requires.3), c.requires.4))
 
 pub action_worth-added-sum-requires-in-loop-x : goal.action_worth-added-sum-requires-in-loop-x
 action_worth-added-sum-requires-in-loop-x t c =
@@ -71,7 +71,7 @@ action_worth-loop-x-smaller t c =
 pub action_worth-loop-x-preserved : goal.action_worth-loop-x-preserved
 action_worth-loop-x-preserved t c =
     sums_add c.args.model.now c.args.steps c.args.a c.args.x _ _ _ c.loop-x.invariant _ c.chances-c.ensures _ c.weight-w.ensures
-    (goes_on (stopped (total_of c.loop-x.sum)) c.settings-count.result c.loop-x.r _ c.settings_done.ensures c.if-settings_done.false) c.if-w-eq0.false _ c.next_state-y.ensures c.if-y.false _ c.state_worth.ensures _ c.added-sum-in-loop-x.ensures
+    (goes_on (stopped (total_of c.loop-x.sum)) c.settings-count.result c.loop-x.r _ c.settings_done.ensures c.if-settings_done.false) c.if-w-eq0.false _ c.next_state.ensures _ c.in-Some.is _ c.state_worth.ensures _ c.added-sum-in-loop-x.ensures
 
 pub state_worth-action_worth-requires : goal.state_worth-action_worth-requires
 state_worth-action_worth-requires t c =

@@ -5,19 +5,19 @@ use Rattle.plain_worth.proofs.Answers.{exponent_fits, earned_over, earned_none, 
 use Rattle.plain_worth.proofs.worths.earned.Goals as goal
 
 pub overflow_mul-n : goal.overflow_mul-n
-overflow_mul-n c = omega (arith, exponent_fits c.args.model.now c.requires.0.ready _ c.args.steps c.conditions-n.ensures c.requires.2)
+overflow_mul-n c = omega (arith, exponent_fits c.args.model.now c.requires.0.ready _ c.args.steps (c.from-n.ensures ∙ c.conditions.ensures) c.requires.2)
 
 pub returns-then-is_none : goal.returns-then-is_none
-returns-then-is_none c = earned_over c.args.model.now c.args.steps c.args.a c.args.x c.requires.0 c.conditions-n.ensures c.weights.ensures c.power_within-p.ensures (c.is_none.ensures ∙ ap not c.if-is_none.true)
+returns-then-is_none c = earned_over c.args.model.now c.args.steps c.args.a c.args.x c.requires.0 (c.from-n.ensures ∙ c.conditions.ensures) (c.from.ensures ∙ c.weights.ensures) c.power_within-p.ensures (c.is_none.ensures ∙ ap not c.if-is_none.true)
 
-pub reward_at-r-requires : goal.reward_at-r-requires
-reward_at-r-requires c = (c.requires.0.ready.accepted, c.requires.0.ready.short, tt, c.requires.3, c.requires.0.fits.flat)
+pub reward_at-requires : goal.reward_at-requires
+reward_at-requires c = (c.requires.0.ready.accepted, c.requires.0.ready.short, tt, c.requires.3, c.requires.0.fits.flat)
 
-pub returns-then-r : goal.returns-then-r
-returns-then-r c = earned_none c.args.model.now c.args.steps c.args.a c.args.x c.requires.0 c.conditions-n.ensures c.weights.ensures
-    c.power_within-p.ensures c.reward_at-r.ensures (c.is_none.ensures ∙ ap not c.if-is_none.false) c.if-r.true
+pub returns-in_default : goal.returns-in_default
+returns-in_default c = earned_none c.args.model.now c.args.steps c.args.a c.args.x c.requires.0 (c.from-n.ensures ∙ c.conditions.ensures) (c.from.ensures ∙ c.weights.ensures)
+    c.power_within-p.ensures c.reward_at.ensures (c.is_none.ensures ∙ ap not c.if-is_none.false) c.in_default.is
 
 pub returns : goal.returns
-returns c = earned_is c.args.model.now c.args.steps c.args.a c.args.x c.requires.0 c.conditions-n.ensures c.weights.ensures
-    c.power_within-p.ensures c.reward_at-r.ensures c.if-r.false c.narrow.ensures c.times.ensures _
+returns c = earned_is c.args.model.now c.args.steps c.args.a c.args.x c.requires.0 (c.from-n.ensures ∙ c.conditions.ensures) (c.from.ensures ∙ c.weights.ensures)
+    c.power_within-p.ensures c.reward_at.ensures _ c.in-Some.is c.narrow.ensures c.times.ensures _
     c.worth_of.ensures
