@@ -40,5 +40,5 @@ shape_of-roots c = let k = c.keep_roots-left.ensures in
     ]
 
 pub returns : goal.returns
-returns c = operation_done c.requires.0 c.keep_roots-left.ensures c.args.rule c.run_rule-made.ensures c.requires.1 c.requires.2 c.larger.ensures
+returns c = operation_done c.requires.0 c.keep_roots-left.ensures c.args.rule c.run_rule-made.ensures c.requires.1 c.requires.2 c.max.ensures
     (λ ok. elim c.if-made-eq0.branch [ then-made-eq0 w ↦ w.roots-is | else-made-eq0 w ↦ absurd (w.if-made-eq0.false ok) ])
