@@ -78,3 +78,8 @@ module _ {cap n held : ℕ} {l : List ℤ} {w R : List ℕ} (S : Standing cap l 
                 (rooted_push (front {to = to} (let z = held_length in omega arith) (rooted_ran (rooted_collected rooted K.collected) ran)) (at_of r) (Q.within ok)));
             peak = m;
           }
+
+      -- stopped, with the number that says why
+      pub operation_stopped : {to p q k : ℕ} {R₂ : List ℕ} → to ≤ held → to < length R → k ≡ stop_of r → q ≡ max p (count_of r) → (stop_of r ≡ 0 → ⊥)
+          → Operated cap p l n R held to rule l₂ w₂ R₂ (record { stop = k; count = count_of r; peak = q })
+      operation_stopped {to} {p} {q} {k} {R₂} h g e m off = subst (λ (z : ℕ). Operated cap p l n R held to rule l₂ w₂ R₂ (record { stop = z; count = count_of r; peak = q })) (sym e) (operation_done h g m (λ ok. absurd (off ok)))

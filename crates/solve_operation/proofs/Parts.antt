@@ -5,7 +5,7 @@ use mathlib.Core.Logic.{◌⊎◌, inl, inr, ⊎_elim}
 use mathlib.Core.List.{List, [], ◌∷◌, ◌++◌}
 use Prim.Native.Nat.{ℕ, ◌≤◌, ◌<◌}
 use native.Mathlib.Omega.{arith}
-use borrow.Author.Tests.{eqb-true, lt-ltb, ltb-true}
+use borrow.Author.Tests.{eqb-true, eq-eqb, lt-ltb, ltb-true}
 use lib.Dec.{eqb, ltb}
 use lib.IntN.{ℤ}
 use lib.ListN.{length, get_or}
@@ -62,6 +62,10 @@ stop_is r X = by_eq (eqb (stop_of r) 0) (λ b. run_stop (if b (done (get_or X (a
 stop_twelve : run_stop {A = Tree} (stopped 12) ≡ 12
 unfolding run_stop
 stop_twelve = refl
+
+-- a run that did not end for want of room
+pub not_full : (r : Answer) {b : Bool} → b ≡ eqb (stop_of r) 12 → b ≡ false → stop_of r ≡ 12 → ⊥
+not_full r e f q = clash (sym (eq-eqb (stop_of r) 12 q) ∙ (sym e ∙ f))
 
 -- ---- the chains made anew
 
