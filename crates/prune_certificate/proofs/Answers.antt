@@ -4,12 +4,12 @@ use mathlib.Core.Bool.{Bool, true, false, not, ◌&&◌}
 use mathlib.Core.List.{List, [], ◌∷◌}
 use Prim.Native.Nat.{ℕ, zero, suc, ◌+◌, ◌-◌, ◌*◌, ◌≤◌, ◌<◌}
 use native.Mathlib.Omega.{arith}
-use borrow.Author.Tests.{ne_eqb, eq-eqb, le-leb, lt-leb, leb-true}
+use borrow.Author.Tests.{ne_eqb, eq-eqb, le-leb, lt-leb, leb-true, ltb-true}
 use lib.Dec.{T, eqb, compare_is_eq}
 use lib.IntN.{ℤ, pos, negsuc, neg_ℤ, ◌+ℤ◌, ◌*ℤ◌}
 use lib.ListN.{length, get_or, drop}
 use lib.Seq.{drop-cons, drop-length, drop-nil}
-use lib.Signed.{le_z}
+use lib.Signed.{le_z, lt_z}
 use Rattle.whole.specs.Cases.{if, by_test, by_eq, both, and_in, is_true, from_true, clash}
 use Rattle.whole.specs.Linears.{numbers}
 use Rattle.whole.specs.LinearsLaws.{scale_length}
@@ -40,6 +40,14 @@ zero_high (pos k) l b t = le-leb 0 k (omega arith) ∙ sym (eq-eqb (k * word + l
 zero_high (negsuc k) l b t = sym (ap zero? (below (suc k * word) l (suc k * word - suc l) (omega arith)))
 
 -- ---- signs
+
+pub sign_low : (m : ℤ) → lt_z m (pos 0) ≡ true → le_z (pos 0) m ≡ false
+sign_low (pos n) t = absurd (let h = ltb-true n 0 t in omega arith)
+sign_low (negsuc n) t = refl
+
+pub sign_high : (m : ℤ) → lt_z m (pos 0) ≡ false → le_z (pos 0) m ≡ true
+sign_high (pos n) t = le-leb 0 n (omega arith)
+sign_high (negsuc n) t = clash t
 
 pub signs_goes : (ks : List ℤ) (i : ℕ) (m : ℤ) → i < length ks → all (le_z (pos 0)) (drop i ks) ≡ all (le_z (pos 0)) ks → m ≡ get_or ks i (pos 0) → le_z (pos 0) m ≡ true → all (le_z (pos 0)) (drop (i + 1) ks) ≡ all (le_z (pos 0)) ks
 unfolding all

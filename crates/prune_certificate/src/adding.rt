@@ -50,14 +50,12 @@ pub fn added_at(nodes: &[i64], root: u32, turns: &[u8], ks: &[i32], w: usize) ->
 {
     let mut r = root as usize;
     let mut total = Numerator { low: 0, high: 0 };
-    let mut i = 0;
     let mut j = 0;
-    while i < turns.len() {
+    for i in 0..turns.len() {
         let turn = turns[i];
         total = with_test(total, nodes, r, w, turn, ks, j);
         j += tests(nodes, r);
         r = goes(nodes, r, turn);
-        i += 1;
     }
     total
 }

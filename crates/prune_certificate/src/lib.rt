@@ -31,24 +31,20 @@ const NOT_PROVED: u32 = 21;
 fn is_zero(x: Numerator) -> bool
     ensures { result ≡ compare_is_eq (cmp_ℤ (number x) (pos 0)) }
 {
-    let high = x.high;
-    if not_positive(x) {} else {
+    if !not_positive(x) {
         return false;
     }
-    0 <= high
+    0 <= x.high
 }
 
 // No multiplier is below 0.
 fn none_negative(ks: &[i32]) -> bool
     ensures { result ≡ all (le_z (pos 0)) ks.now }
 {
-    let mut i = 0;
-    while i < ks.len() {
-        let k = ks[i];
-        if 0 <= k {} else {
+    for &k in ks {
+        if k < 0 {
             return false;
         }
-        i += 1;
     }
     true
 }
@@ -58,12 +54,10 @@ fn cancels(nodes: &[i64], root: u32, turns: &[u8], ks: &[i32]) -> bool
     requires { Proposed nodes.now root turns.now ks.now }
     ensures { result ≡ zeros (added (along turns.now (diagram_at nodes.now root)) ks.now).coeffs }
 {
-    let mut w: usize = 1;
-    while w < NUMBERS {
-        if is_zero(added_at(nodes, root, turns, ks, w)) {} else {
+    for w in 1..NUMBERS {
+        if !is_zero(added_at(nodes, root, turns, ks, w)) {
             return false;
         }
-        w += 1;
     }
     true
 }
@@ -73,14 +67,14 @@ fn contradicts(nodes: &[i64], root: u32, turns: &[u8], ks: &[i32]) -> bool
     requires { Proposed nodes.now root turns.now ks.now }
     ensures { result ≡ contradicts (added (along turns.now (diagram_at nodes.now root)) ks.now) (low_used (along turns.now (diagram_at nodes.now root)) ks.now) }
 {
-    if cancels(nodes, root, turns, ks) {} else {
+    if !cancels(nodes, root, turns, ks) {
         return false;
     }
     let x = added_at(nodes, root, turns, ks, NUMBERS);
-    if not_positive(x) {} else {
+    if !not_positive(x) {
         return true;
     }
-    if is_zero(x) {} else {
+    if !is_zero(x) {
         return false;
     }
     some_low(nodes, root, turns, ks)
@@ -101,7 +95,7 @@ pub fn path_number(nodes: &[i64], root: u32, turns: &[u8], ks: &[i32]) -> u32
     if n - 1 != ks.len() {
         return SHAPE;
     }
-    if none_negative(ks) {} else {
+    if !none_negative(ks) {
         return NOT_PROVED;
     }
     if contradicts(nodes, root, turns, ks) {

@@ -6,18 +6,12 @@ ghost use Rattle.prune_certificate.specs.Path.{Proposed, low_here};
 use super::paths::{goes, tests};
 
 // A low side that counts: a test, a turn to its low side, and a multiplier above 0.
+#[tactic(auto, unfolding(crate::specs::Path::low_here))]
 fn low_here(n: usize, turn: u8, ks: &[i32], j: usize) -> bool
     requires { n ≡ 1 → j < length ks.now }
     ensures { result ≡ low_here n turn (get_or ks.now j (pos 0)) }
 {
-    if n == 1 {} else {
-        return false;
-    }
-    if turn == 1 {
-        return false;
-    }
-    let k = ks[j];
-    1 <= k
+    n == 1 && turn != 1 && 1 <= ks[j]
 }
 
 // Some low side's multiplier is above 0.
@@ -26,17 +20,14 @@ pub fn some_low(nodes: &[i64], root: u32, turns: &[u8], ks: &[i32]) -> bool
     ensures { result ≡ low_used (along turns.now (diagram_at nodes.now root)) ks.now }
 {
     let mut r = root as usize;
-    let mut i = 0;
     let mut j = 0;
-    while i < turns.len() {
-        let turn = turns[i];
+    for &turn in turns {
         let n = tests(nodes, r);
         if low_here(n, turn, ks, j) {
             return true;
         }
         j += n;
         r = goes(nodes, r, turn);
-        i += 1;
     }
     false
 }

@@ -50,16 +50,13 @@ pub fn shape(nodes: &[i64], root: u32, turns: &[u8]) -> usize
 {
     let mut r = root as usize;
     let mut count = 1;
-    let mut i = 0;
-    while i < turns.len() {
-        let n = tests(nodes, r);
-        let below = goes(nodes, r, turns[i]);
+    for &turn in turns {
+        let below = goes(nodes, r, turn);
         if below == 0 {
             return 0;
         }
-        count += n;
+        count += tests(nodes, r);
         r = below;
-        i += 1;
     }
     count
 }

@@ -15,6 +15,15 @@ use model_progress::Site;
 use prune_certificate::path_number;
 use text_listing::judging::{all_good, greatest_root};
 
+// The stage has no diagram.
+const NO_DIAGRAM: u32 = 15;
+
+// The nodes are none that this library makes.
+const FOREIGN_NODES: u32 = 14;
+
+// The tables have too little room.
+const NO_ROOM: u32 = 12;
+
 fn refused(number: u32, place: usize) -> Verdict
     ensures { shown result ≡ refusal-of number place }
 {
@@ -25,14 +34,8 @@ fn refused(number: u32, place: usize) -> Verdict
 fn exceeds(most: usize, root: u32, turns: usize) -> bool
     ensures { result ≡ ltb most (root + (turns - 1)) }
 {
-    let g = root as usize;
-    if most < g {
-        return true;
-    }
-    if turns == 0 {
-        return false;
-    }
-    most - g < turns - 1
+    let root = root as usize;
+    most < root || most - root < turns.saturating_sub(1)
 }
 
 // "after 15 (for that stage only) and 14 (up to the greatest of the eight roots), before 12"
@@ -50,23 +53,23 @@ fn judge_plan(
     ensures { shown result ≡ plan_verdict (site_as site) nodes.now stages.now most stage root turns.now ks.now }
 {
     if root == 0 {
-        return refused(15, 0);
+        return refused(NO_DIAGRAM, 0);
     }
     let last = greatest_root(stages, STAGE_WORDS);
-    if all_good(
-        site.conditions as u32,
-        site.actions as u32,
+    if !all_good(
+        u32::from(site.conditions),
+        u32::from(site.actions),
         nodes,
         last as usize,
-    ) {} else {
-        return refused(14, 0);
+    ) {
+        return refused(FOREIGN_NODES, 0);
     }
     let k = path_number(nodes, root, turns, ks);
     if k != 0 {
         return refused(k, 0);
     }
     if exceeds(most, last, turns.len()) {
-        return refused(12, stage as usize);
+        return refused(NO_ROOM, stage as usize);
     }
     refused(0, 0)
 }

@@ -2,7 +2,7 @@
 // in a part of the room that follows what is held.
 #![tactic(auto)]
 
-ghost use Rattle.std.specs.Prelude.{◌≡◌, ◌+◌, ◌≤◌, ◌<◌, min, max, length, take};
+ghost use Rattle.std.specs.Prelude.{◌≡◌, ◌+◌, ◌≤◌, ◌<◌, max, length, take, eqb};
 ghost use Rattle.rule_node.specs.Nodes.{trees, Good};
 ghost use Rattle.rule_node.specs.Table.{Table, RuleRan};
 ghost use Rattle.rule_node.specs.EntryMeaning.{rule_of};
@@ -10,10 +10,10 @@ ghost use Rattle.table_unique.specs.Unique.{Space};
 ghost use Rattle.collect_mark.specs.Mark.{roots_of, Below};
 ghost use Rattle.solve_laws.specs.Operated.{Came};
 ghost use Rattle.solve_operation.specs.Operation.{substitutes, comp_of, zero_node, FitsLevels, FitsRule, Standing, Kept, Operated};
-ghost use Rattle.table.specs.Table.{nodes_most};
+ghost use Rattle.table.specs.Table.{nodes_most, stop_of};
 
 use rule_apply::Merge;
-use table::{Made, Node};
+use table::{Made, Node, Stop, Stopped};
 use whole::NUMBERS;
 
 // What an operation computes, of roots by their places: w, f and g are places, as `at` is the first of m next levels.
@@ -34,19 +34,6 @@ pub struct Run {
     pub peak: usize,
 }
 
-// The larger and the least of two numbers.
-pub fn larger(a: usize, b: usize) -> usize
-    ensures { result ≡ max a b }
-{
-    if a < b { b } else { a }
-}
-
-pub fn least(a: usize, b: usize) -> usize
-    ensures { result ≡ min a b }
-{
-    if a < b { a } else { b }
-}
-
 // The table left with the nodes that the first roots need; they move with it. As many work words serve as there are nodes.
 fn keep_roots(
     nodes: &mut [i64],
@@ -58,7 +45,7 @@ fn keep_roots(
     requires { Space (max 1 count) nodes.old work.old count × Good nodes.old count × Below (take held roots.old) count × (held ≤ length roots.old) }
     ensures { Kept nodes.old nodes.new work.old work.new roots.old roots.new held count result }
 {
-    collect::collect(nodes, work, larger(1, count), count, &mut roots[..held])
+    collect::collect(nodes, work, count.max(1), count, &mut roots[..held])
 }
 
 // The m diagrams from a place on in the place of the levels of the one at f.
@@ -71,13 +58,12 @@ fn replace_levels(
     at: usize,
     m: usize,
     f: usize,
-) -> Made
+) -> Result<Made, Stopped>
     requires { Table rule_of cap nodes.old work.old count × Below roots.now count × FitsLevels (length roots.now) at m f }
     ensures { RuleRan rule_of cap nodes.old work.old count (substitutes (roots_of (trees nodes.old count) roots.now) at m f) nodes.new work.new result }
 {
-    let g = roots[f] as usize;
     let end = at + m;
-    rule_compose::substitute(nodes, work, cap, count, g, &roots[at..end])
+    rule_compose::substitute(nodes, work, cap, count, roots[f] as usize, &roots[at..end])
 }
 
 fn zero() -> Node
@@ -99,7 +85,7 @@ fn compute(
     count: usize,
     roots: &[u32],
     rule: Rule,
-) -> Made
+) -> Result<Made, Stopped>
     requires { Table rule_of cap nodes.old work.old count × Below roots.now count × FitsRule (length roots.now) rule }
     ensures { RuleRan rule_of cap nodes.old work.old count (comp_of (roots_of (trees nodes.old count) roots.now) rule) nodes.new work.new result }
 {
@@ -153,7 +139,7 @@ fn attempt(
     count: usize,
     roots: &[u32],
     rule: Rule,
-) -> Made
+) -> Result<Made, Stopped>
     requires { Space part nodes.old work.old count × Good nodes.old count × Below roots.now count × FitsRule (length roots.now) rule }
     ensures { Came part nodes.old count (comp_of (roots_of (trees nodes.old count) roots.now) rule) nodes.new work.new result }
 {
@@ -164,7 +150,7 @@ fn attempt(
 // Rooms up to here are cleared in a moment: sixteen times what is held; the least part.
 const SMALL_PART: usize = 4096;
 
-const LEAST_PART: usize = 512;
+pub const LEAST_PART: usize = 512;
 
 // The part of the room that a rule begins with: sixteen times what is held, or eight times where that is more than 4,096 nodes, since
 // every operation clears it.
@@ -172,8 +158,8 @@ fn first_part(cap: usize, count: usize) -> usize
     requires { (0 < cap) × (cap ≤ nodes_most) × (count ≤ cap) }
     ensures { (0 < result) × (count ≤ result) × (result ≤ cap) }
 {
-    let wide = least(count * 16, larger(SMALL_PART, count * 8));
-    least(cap, larger(LEAST_PART, wide))
+    let wide = (count * 16).min(SMALL_PART.max(count * 8));
+    cap.min(LEAST_PART.max(wide))
 }
 
 // The part after one that was too small.
@@ -181,7 +167,17 @@ pub fn wider_part(cap: usize, part: usize) -> usize
     requires { (0 < part) × (cap ≤ nodes_most) × (part < cap) }
     ensures { (part < result) × (result ≤ cap) }
 {
-    least(cap, part * 16)
+    cap.min(part * 16)
+}
+
+// Whether a run ended for want of room.
+fn is_full(made: Result<Made, Stopped>) -> bool
+    ensures { result ≡ eqb (stop_of made) 12 }
+{
+    match made {
+        Err(e) => e.why == Stop::Full,
+        Ok(_) => false,
+    }
 }
 
 // The rule in parts of the room, each wider, since a run clears as many work words as it may fill. What does not end with 12 in a part
@@ -193,14 +189,14 @@ fn run_rule(
     count: usize,
     roots: &[u32],
     rule: Rule,
-) -> Made
+) -> Result<Made, Stopped>
     requires { Space cap nodes.old work.old count × Good nodes.old count × Below roots.now count × FitsRule (length roots.now) rule }
     ensures { Came cap nodes.old count (comp_of (roots_of (trees nodes.old count) roots.now) rule) nodes.new work.new result }
 {
     let mut part = first_part(cap, count);
     while part < cap {
         let made = attempt(nodes, work, part, count, roots, rule);
-        if made.stop != 12 {
+        if !is_full(made) {
             return made;
         }
         part = wider_part(cap, part);
@@ -223,13 +219,19 @@ pub fn operate(
     ensures { Operated cap run.peak nodes.old run.count roots.old held to rule nodes.new work.new roots.new result }
 {
     let left = keep_roots(nodes, work, run.count, roots, held);
-    let made = run_rule(nodes, work, cap, left, &roots[..held], rule);
-    if made.stop == 0 {
-        roots[to] = made.at as u32;
-    }
-    Run {
-        stop: made.stop,
-        count: made.count,
-        peak: larger(run.peak, made.count),
+    match run_rule(nodes, work, cap, left, &roots[..held], rule) {
+        Ok(made) => {
+            roots[to] = made.at as u32;
+            Run {
+                stop: 0,
+                count: made.count,
+                peak: run.peak.max(made.count),
+            }
+        }
+        Err(e) => Run {
+            stop: e.why.number(),
+            count: e.count,
+            peak: run.peak.max(e.count),
+        },
     }
 }

@@ -11,7 +11,7 @@ ghost use Rattle.solve_stages.specs.Stages.{bettered, joined, Counted, Staged};
 
 use model::site;
 use model_command::widening::action_index;
-use solve_operation::{Rule, Run, larger, operate};
+use solve_operation::{Rule, Run, operate};
 use solve_peaks::raise_peak;
 use solve_total::{Backup, model_size, total};
 
@@ -41,9 +41,7 @@ fn better(
 {
     let behind = Backup {
         held: backup.held + 1,
-        before: backup.before,
-        stage: backup.stage,
-        action: backup.action,
+        ..backup
     };
     let t = total(model, nodes, work, cap, run, roots, behind);
     if t.stop != 0 {
@@ -66,15 +64,11 @@ fn counted(run: Run, own: Run, peaks: &mut [u32], action: usize) -> Run
     requires { (action < length peaks.old) × (own.stop ≡ 0 → own.peak ≤ nodes_most) }
     ensures { (result ≡ joined run own) × (own.stop ≡ 0 → peaks.new ≡ raise action own.peak peaks.old) }
 {
-    let peak = larger(run.peak, own.peak);
+    let peak = run.peak.max(own.peak);
     if own.stop == 0 {
         raise_peak(peaks, action, own.peak);
     }
-    Run {
-        stop: own.stop,
-        count: own.count,
-        peak: peak,
-    }
+    Run { peak, ..own }
 }
 
 // An action with the best so far, and its peak.
@@ -146,19 +140,15 @@ fn others(
     let operands = site(model);
     let actions = action_index(operands.actions);
     let mut r = run;
-    let mut a: usize = 2;
-    while a <= actions {
+    for a in 2..actions + 1 {
         let next = Backup {
-            held: backup.held,
-            before: backup.before,
-            stage: backup.stage,
             action: a,
+            ..backup
         };
         r = next_action(model, nodes, work, cap, r, roots, peaks, next);
         if r.stop != 0 {
             return r;
         }
-        a += 1;
     }
     r
 }
@@ -202,8 +192,7 @@ pub fn stages(
 {
     let size = model_size(model);
     let mut r = run;
-    let mut h: usize = 0;
-    while h < horizon {
+    for h in 0..horizon {
         let first = Backup {
             held: size + h + 1,
             before: size + h,
@@ -219,7 +208,6 @@ pub fn stages(
                 peak: r.peak,
             };
         }
-        h += 1;
     }
     Planned {
         stop: 0,

@@ -54,8 +54,7 @@ fn sum_out(
         nodes.new work.new roots.new result }
 {
     let mut r = run;
-    let mut k: usize = 0;
-    while k < chances.count {
+    for k in 0..chances.count {
         r = operate(
             nodes,
             work,
@@ -69,7 +68,6 @@ fn sum_out(
         if r.stop != 0 {
             return r;
         }
-        k += 1;
     }
     r
 }
@@ -110,7 +108,7 @@ pub fn total(
     let chances = Chances {
         first: row + 1,
         count: n,
-        weights: weights,
+        weights,
     };
     let e = sum_out(nodes, work, cap, s, roots, backup.held, chances);
     if e.stop != 0 {

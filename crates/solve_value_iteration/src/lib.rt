@@ -8,7 +8,7 @@ ghost use Rattle.table_unique.specs.Unique.{Space};
 ghost use Rattle.solve_value_iteration.specs.Iteration.{Brought, Grounded, Plans};
 
 use load_model::{Done, LOADED_ROOTS};
-use solve_operation::{Rule, Run, larger, least, operate, wider_part};
+use solve_operation::{LEAST_PART, Rule, Run, operate, wider_part};
 use solve_peaks::raise_peak;
 use solve_stages::{Planned, stages};
 use solve_total::model_size;
@@ -36,7 +36,7 @@ fn first_part(cap: usize, bytes: usize) -> usize
     requires { 0 < cap }
     ensures { (0 < result) × (result ≤ cap) }
 {
-    least(cap, larger(512, bytes))
+    cap.min(bytes.max(LEAST_PART))
 }
 
 // The model loaded in parts of the room, each wider, as operations run. What does not end with 12 in a part ends alike with more room.

@@ -2,12 +2,14 @@
 use mathlib.Core.Path.{◌≡◌, refl, sym, ap, ◌∙◌}
 use mathlib.Core.Bool.{Bool, true, false}
 use mathlib.Core.List.{List, [], ◌∷◌}
-use Prim.Native.Nat.{ℕ, suc, ◌+◌, ◌-◌, ◌≤◌, ◌<◌}
+use Prim.Native.Nat.{ℕ, suc, ◌+◌, ◌≤◌, ◌<◌}
 use native.Mathlib.Omega.{arith}
 use borrow.Author.Tests.{lt-ltb}
 use lib.Dec.{ltb}
-use lib.ListN.{length, get_or, take, drop}
-use lib.Seq.{take_all, length-take-le}
+use lib.ListN.{length, take}
+use lib.Seq.{length-take-le}
+use Rattle.std.proofs.Common.{Some, None}
+use Rattle.std.specs.List.{slice_get}
 use Rattle.whole.specs.Cases.{if}
 use Rattle.theory.specs.Verdict.{refusal}
 use Rattle.theory.specs.Listing.{refusal_line}
@@ -29,25 +31,24 @@ module _ (B : List ℕ) (H : ℕ) where
 
 -- ---- the input's parts
 
-pub no_horizon : (input : List ℕ) → length input ≡ 0 → 0 ≡ horizon_of input
+pub no_byte : (input : List ℕ) → None ≡ slice_get input 0 → 0 ≡ horizon_of input
 unfolding horizon_of
-no_horizon [] e = refl
-no_horizon (x ∷ l) e = absurd (omega arith)
+no_byte [] e = refl
+no_byte (x ∷ l) e = absurd (let z : ◌≡◌ {A = ℕ} 0 1 = cc in omega arith)
 
-pub first_byte : (input : List ℕ) {h : ℕ} → (length input ≡ 0 → ⊥) → h ≡ get_or input 0 0 → h ≡ horizon_of input
+pub first_byte : (input : List ℕ) {h : ℕ} → Some h ≡ slice_get input 0 → h ≡ horizon_of input
 unfolding horizon_of
-first_byte [] n e = absurd (n refl)
-first_byte (x ∷ l) n e = e
+first_byte [] e = absurd (let z : ◌≡◌ {A = ℕ} 0 1 = cc in omega arith)
+first_byte (x ∷ l) e = cc
 
 pub no_model : (input : List ℕ) → length input ≡ 0 → input ≡ model_of input
 unfolding model_of
 no_model [] e = refl
 no_model (x ∷ l) e = absurd (omega arith)
 
-pub behind_first : (input : List ℕ) → (length input ≡ 0 → ⊥) → take (length input - 1) (drop 1 input) ≡ model_of input
+pub behind_first : {input B : List ℕ} {horizon : ℕ} → input ≡ horizon ∷ B → B ≡ model_of input
 unfolding model_of
-behind_first [] n = absurd (n refl)
-behind_first (x ∷ l) n = take_all (length (x ∷ l) - 1) l (omega arith)
+behind_first e = sym (ap model_of e)
 
 pub given : (input : List ℕ) {B t : List ℕ} {h : ℕ} → B ≡ model_of input → h ≡ horizon_of input → t ≡ plan_printed B h → t ≡ program input
 unfolding program

@@ -14,28 +14,22 @@ pub fn too_long(model: &[u8]) -> bool
     MODEL_MOST < model.len()
 }
 
-fn wide(b: u8) -> u32
-    ensures { result ≡ b }
-{
-    b as u32
-}
-
 // "empty input counts as horizon 0"
 pub fn horizon(input: &[u8]) -> u32
     ensures { result ≡ horizon_of input.now }
 {
-    if input.len() == 0 {
-        return 0;
+    match input.first() {
+        Some(&b) => u32::from(b),
+        None => 0,
     }
-    wide(input[0])
 }
 
 // What stands behind the horizon byte.
 pub fn model(input: &[u8]) -> &[u8]
     ensures { result.now ≡ model_of input.now }
 {
-    if input.len() == 0 {
-        return input;
+    match input.split_first() {
+        Some((_, model)) => model,
+        None => input,
     }
-    &input[1..]
 }

@@ -8,3 +8,6 @@ outcome r buffer = record { number = r.number; place = r.place; size = r.size; b
 
 abbrev pub refused_as : ℕ → ℕ → Listed
 refused_as number place = record { number = number; place = place; size = 0 }
+
+abbrev pub written_as : ℕ → Listed
+written_as size = record { number = 0; place = 0; size = size }

@@ -15,8 +15,7 @@ fn all_spared(site: Site, last: usize, nodes: &[i64], stages: &[u32], q: Asked, 
     requires { last ≤ length stages.now }
     ensures { result ≡ all (spared (site_as site) nodes.now stages.now (asked q) number) (from_to 1 last) }
 {
-    let mut h = 0;
-    while h < last {
+    for h in 0..last {
         let v = value_after(
             site.levels as u32,
             site.conditions as u32,
@@ -28,7 +27,6 @@ fn all_spared(site: Site, last: usize, nodes: &[i64], stages: &[u32], q: Asked, 
         if v.number == number {
             return false;
         }
-        h += 1;
     }
     true
 }
@@ -39,15 +37,14 @@ pub(crate) fn refusal(site: Site, horizon: u32, nodes: &[i64], stages: &[u32], q
     ensures { result ≡ stages_refusal (site_as site) horizon nodes.now stages.now (asked q) }
 {
     let last = horizon as usize;
-    if all_spared(site, last, nodes, stages, q, 13) {} else {
+    if !all_spared(site, last, nodes, stages, q, 13) {
         return 13;
     }
-    if all_spared(site, last, nodes, stages, q, 15) {} else {
+    if !all_spared(site, last, nodes, stages, q, 15) {
         return 15;
     }
-    if all_spared(site, last, nodes, stages, q, 14) {
-        0
-    } else {
-        14
+    if !all_spared(site, last, nodes, stages, q, 14) {
+        return 14;
     }
+    0
 }

@@ -6,7 +6,7 @@ ghost use Rattle.theory.specs.Load.{site_at};
 ghost use Rattle.theory.specs.Solve.{early as early-of};
 ghost use Rattle.model_progress.specs.GivenFlags.{site_as};
 ghost use Rattle.value_walk.specs.State.{asked};
-ghost use Rattle.text_listing.specs.Answer.{outcome, refused_as};
+ghost use Rattle.text_listing.specs.Answer.{outcome};
 ghost use Rattle.text_page_lines.specs.Page.{page as page-of};
 
 use model::early;
@@ -19,16 +19,6 @@ mod writing; // writing.rt: the lines
 
 // The bytes of a line.
 const LINE: usize = 51;
-
-fn refused(number: u32, place: usize) -> Listed
-    ensures { result ≡ refused_as number place }
-{
-    Listed {
-        number,
-        place,
-        size: 0,
-    }
-}
 
 // A page of an accepted model. That the whole page fits is known before a byte is written.
 fn page_of(
@@ -46,21 +36,17 @@ fn page_of(
 {
     let number = judging::refusal(site, horizon, nodes, stages, q);
     if number != 0 {
-        return refused(number, 0);
+        return Listed::refused(number, 0);
     }
     if text.len() < place {
-        return refused(17, 0);
+        return Listed::refused(17, 0);
     }
     let size = LINE * (horizon as usize);
     if text.len() - place < size {
-        return refused(17, 0);
+        return Listed::refused(17, 0);
     }
     writing::write_lines(text, place, model, site, horizon, nodes, stages, q);
-    Listed {
-        number: 0,
-        place: 0,
-        size,
-    }
+    Listed::written(size)
 }
 
 // "Order: 10, 9, the model by offset, .. 13, 15, 14, 17": the page of the plan that lent tables hold, from a place of a lent buffer on.
@@ -77,7 +63,7 @@ pub fn page(
 {
     let v = early(model, horizon, stages.len());
     if v.number != 0 {
-        return refused(v.number, v.place);
+        return Listed::refused(v.number, v.place);
     }
     page_of(
         model,

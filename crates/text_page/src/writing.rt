@@ -53,8 +53,7 @@ fn write_line(
         root,
         q,
     );
-    let numbers = q.n;
-    let x = part(site, numbers[COEFFICIENTS], h, v.numerator);
+    let x = part(site, q.n[COEFFICIENTS], h, v.numerator);
     put_line(text, 0, h, v.action, x, model_names::name(model, v.action))
 }
 
@@ -73,10 +72,8 @@ pub(crate) fn write_lines(
     ensures { PutAt text.old place (page_text model.now horizon nodes.now stages.now (asked q)) result text.new }
 {
     let mut next = place;
-    let mut h = 0;
-    while h < horizon {
-        h += 1;
-        next += write_line(&mut text[next..], model, site, h, nodes, stages, q);
+    for h in 0..horizon {
+        next += write_line(&mut text[next..], model, site, h + 1, nodes, stages, q);
     }
     next
 }

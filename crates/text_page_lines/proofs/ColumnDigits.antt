@@ -6,6 +6,7 @@ use Prim.Native.Nat.{ℕ, zero, suc, ◌+◌, ◌-◌, ◌/◌, ◌%◌, ◌^◌
 use native.Mathlib.Nat.{pow-zero}
 use native.Mathlib.Omega.{arith}
 use borrow.Author.Tests.{eq-eqb, ne_eqb}
+use borrow.Rule.Slice.PartMut.{put_mid}
 use lib.Dec.{eqb}
 use lib.IntN.{ℤ, pos, negsuc, nat_abs}
 use lib.ListN.{length, set, replicate, length-append, length-replicate, replicate-append-replicate}
@@ -123,9 +124,9 @@ module _ (x : Whole) {out : List ℕ} {at y : ℕ} {more : Bool} (w : Filled (na
 
 -- ---- a value with its action
 
-pub none_are : {out : List ℕ} → out ≡ replicate 31 32 → set (set (set (set out 26 110) 27 111) 28 110) 29 101 ≡ right 30 (110 ∷ 111 ∷ 110 ∷ 101 ∷ []) ++ (32 ∷ [])
+pub none_are : {out part : List ℕ} → out ≡ replicate 31 32 → part ≡ 110 ∷ 111 ∷ 110 ∷ 101 ∷ [] → put_mid 26 4 out part ≡ right 30 (110 ∷ 111 ∷ 110 ∷ 101 ∷ []) ++ (32 ∷ [])
 unfolding right
-none_are e = ap (λ (l : List ℕ). set (set (set (set l 26 110) 27 111) 28 110) 29 101) e
+none_are e p = λ i. put_mid 26 4 (e i) (p i)
 
 module _ (a : ℕ) (z : ℤ) {out : List ℕ} where
   pub as_none : a ≡ 0 → out ≡ right 30 (110 ∷ 111 ∷ 110 ∷ 101 ∷ []) ++ (32 ∷ []) → out ≡ right 30 (value_text a z) ++ (32 ∷ [])

@@ -4,7 +4,6 @@ use Rattle.std.proofs.Common.{ap, pow-suc, arith, ne_eqb, ltb→lt, nltb→le, l
 use Rattle.std.proofs.Math.Nat.{pow-zero}
 use Rattle.std.proofs.lemmas.List.{length-replicate}
 use Rattle.whole.specs.Cases.{if, by_test}
-use Rattle.theory.specs.Widths.{name_bytes}
 use Rattle.theory.specs.Listing.{digits}
 use Rattle.text_page_lines.specs.Page.{in_decimal, right, left, value_text, page_line}
 use Rattle.text_page_lines.specs.Columns.{FittingLine}

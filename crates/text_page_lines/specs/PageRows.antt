@@ -8,7 +8,6 @@ use Rattle.std.proofs.Math.ListN.{length}
 use Rattle.whole.specs.Cases.{if, by_test, both, not_not}
 use Rattle.theory.specs.Valid.{all}
 use Rattle.theory.specs.Verdict.{Verdict, refusal, from_to}
-use Rattle.theory.specs.Solve.{early}
 use Rattle.theory.specs.Value.{Asked, value_of}
 use Rattle.theory.specs.Listing.{written, ListingOut}
 use Rattle.theory.specs.Rows.{Range, Admitted, EarlyRow}

@@ -10,37 +10,33 @@ fn magnitude(x: Whole) -> Whole
     requires { nat_abs (whole_as x) < 10 ^ 29 }
     ensures { two_words result.high result.low ≡ nat_abs (whole_as x) }
 {
-    let low = x.low;
-    if x.below {} else {
+    if !x.below {
         return x;
     }
-    if low == u64::MAX {
-        return Whole {
+    match x.low.checked_add(1) {
+        Some(low) => Whole {
+            below: false,
+            high: x.high,
+            low,
+        },
+        None => Whole {
             below: false,
             high: x.high + 1,
             low: 0,
-        };
-    }
-    Whole {
-        below: false,
-        high: x.high,
-        low: low + 1,
+        },
     }
 }
 
 fn not_zero(high: u64, low: u64) -> bool
     ensures { result ≡ not (eqb (two_words high low) 0) }
 {
-    if high == 0 {
-        return low != 0;
-    }
-    true
+    high != 0 || low != 0
 }
 
 fn blank() -> [u8; 31]
     ensures { result ≡ replicate 31 32 }
 {
-    [32u8; 31]
+    [b' '; 31]
 }
 
 // A whole number, its digits from the last to the first, then its sign.
@@ -51,19 +47,20 @@ fn value_column(x: Whole) -> [u8; 31]
     let n = magnitude(x);
     let mut high = n.high;
     let mut low = n.low;
-    let mut more = true;
     let mut out = blank();
     let mut at: usize = 30;
-    while more {
+    loop {
         let q = divide(high, low, 10);
         at -= 1;
-        out[at] = 48 + q.rest as u8;
+        out[at] = b'0' + q.rest as u8;
         high = q.high;
         low = q.low;
-        more = not_zero(high, low);
+        if !not_zero(high, low) {
+            break;
+        }
     }
     if x.below {
-        out[at - 1] = 45;
+        out[at - 1] = b'-';
     }
     out
 }
@@ -73,10 +70,7 @@ fn none_column() -> [u8; 31]
     ensures { result ≡ right value_columns (110 ∷ 111 ∷ 110 ∷ 101 ∷ []) ++ (32 ∷ []) }
 {
     let mut out = blank();
-    out[26] = 110;
-    out[27] = 111;
-    out[28] = 110;
-    out[29] = 101;
+    out[26..30].copy_from_slice(b"none");
     out
 }
 
@@ -96,5 +90,5 @@ pub(crate) fn steps_column(h: u32) -> [u8; 3]
     requires { h < 10 }
     ensures { result ≡ right steps_columns (in_decimal (pos h)) ++ (32 ∷ []) }
 {
-    [32, 48 + h as u8, 32]
+    [b' ', b'0' + h as u8, b' ']
 }

@@ -14,8 +14,8 @@ use whole_division::Whole;
 fn line_end() -> [u8; 17]
     ensures { result ≡ replicate name_bytes 32 ++ (10 ∷ []) }
 {
-    let mut end = [32u8; 17];
-    end[16] = 10;
+    let mut end = [b' '; 17];
+    end[16] = b'\n';
     end
 }
 

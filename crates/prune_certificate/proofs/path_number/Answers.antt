@@ -15,10 +15,10 @@ returns-then-n-eq0 c = no_fit c.args.turns.now (diagram_at c.args.nodes.now c.ar
 pub returns-then-n-ks : goal.returns-then-n-ks
 returns-then-n-ks c = no_count c.args.turns.now (diagram_at c.args.nodes.now c.args.root) c.args.ks.now c.shape-n.result c.shape-n.ensures c.if-n-eq0.false c.if-n-ks.true
 
-pub returns-else-none_negative : goal.returns-else-none_negative
-returns-else-none_negative c = a_negative c.args.turns.now (diagram_at c.args.nodes.now c.args.root) c.args.ks.now c.shape-n.result
+pub returns-then-not-none_negative : goal.returns-then-not-none_negative
+returns-then-not-none_negative c = a_negative c.args.turns.now (diagram_at c.args.nodes.now c.args.root) c.args.ks.now c.shape-n.result
     c.shape-n.ensures c.if-turns-eq0.false c.if-n-eq0.false c.if-n-ks.false c.none_negative.result
-    c.none_negative.ensures c.if-none_negative.false
+    c.none_negative.ensures c.if-not-none_negative.true
 
 pub contradicts-requires : goal.contradicts-requires
 contradicts-requires c = let F = diagram_at c.args.nodes.now c.args.root in
@@ -26,15 +26,15 @@ contradicts-requires c = let F = diagram_at c.args.nodes.now c.args.root in
       node = c.requires;
       fit = fit_is c.args.turns.now F c.args.ks.now c.shape-n.result c.shape-n.ensures c.if-turns-eq0.false c.if-n-eq0.false c.if-n-ks.false;
       count = count_is c.args.turns.now F c.args.ks.now c.shape-n.result c.shape-n.ensures c.if-turns-eq0.false c.if-n-eq0.false c.if-n-ks.false;
-      signs = from_true (sym c.none_negative.ensures ∙ c.if-none_negative.true);
+      signs = from_true (sym c.none_negative.ensures ∙ c.if-not-none_negative.false);
     }
 
 pub returns-then-contradicts : goal.returns-then-contradicts
 returns-then-contradicts c = accepted c.args.turns.now (diagram_at c.args.nodes.now c.args.root) c.args.ks.now c.shape-n.result c.shape-n.ensures
     c.if-turns-eq0.false c.if-n-eq0.false c.if-n-ks.false c.none_negative.result c.none_negative.ensures
-    c.if-none_negative.true c.contradicts.result c.contradicts.ensures c.if-contradicts.true
+    c.if-not-none_negative.false c.contradicts.result c.contradicts.ensures c.if-contradicts.true
 
 pub returns-else-contradicts : goal.returns-else-contradicts
 returns-else-contradicts c = not_proved c.args.turns.now (diagram_at c.args.nodes.now c.args.root) c.args.ks.now c.shape-n.result
     c.shape-n.ensures c.if-turns-eq0.false c.if-n-eq0.false c.if-n-ks.false c.none_negative.result
-    c.none_negative.ensures c.if-none_negative.true c.contradicts.result c.contradicts.ensures c.if-contradicts.false
+    c.none_negative.ensures c.if-not-none_negative.false c.contradicts.result c.contradicts.ensures c.if-contradicts.false

@@ -26,11 +26,8 @@ loop-a-preserved c = (
   c.next_action-r.auto.peaks ∙ c.loop-a.invariant.4,
 )
 
-pub overflow_add-a : goal.overflow_add-a
-overflow_add-a c = omega (arith, c.loop-a-test.true, c.action_index-actions.ensures.1)
-
-pub loop-a-smaller : goal.loop-a-smaller
-loop-a-smaller c = omega (arith, c.loop-a-test.true)
+pub overflow_add-a-end : goal.overflow_add-a-end
+overflow_add-a-end c = omega (arith, c.action_index-actions.ensures.1)
 
 pub returns : goal.returns
 returns c = trying_ends c.loop-a.invariant.0 (omega (arith, c.loop-a-test.false))

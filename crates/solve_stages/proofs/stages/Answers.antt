@@ -42,11 +42,5 @@ overflow_add-first-in-loop-h-3 c = omega (arith, c.loop-h-test.true, c.requires.
 pub overflow_add-result : goal.overflow_add-result
 overflow_add-result c = omega (arith, c.loop-h-test.true, c.requires.2, c.model_size-size.ensures.1)
 
-pub overflow_add-h : goal.overflow_add-h
-overflow_add-h c = omega (arith, c.loop-h-test.true, c.requires.2, c.model_size-size.ensures.1)
-
-pub loop-h-smaller : goal.loop-h-smaller
-loop-h-smaller c = omega (arith, c.loop-h-test.true)
-
 pub returns : goal.returns
 returns c = staging_ends c.loop-h.invariant.0 (λ q. omega (arith, c.loop-h-test.false))

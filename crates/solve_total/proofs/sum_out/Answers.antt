@@ -22,12 +22,6 @@ operate-r-requires c = (on_standing c.loop-k.invariant.0.on, omega arith, c.loop
 pub returns-then-r-ne0 : goal.returns-then-r-ne0
 returns-then-r-ne0 c = summing_stops c.loop-k.invariant.0 c.loop-k-test.true c.operate-r.ensures c.if-r-ne0.true
 
-pub overflow_add-k-in-loop-k : goal.overflow_add-k-in-loop-k
-overflow_add-k-in-loop-k c = omega (arith, c.loop-k.invariant.0.from.few_conditions)
-
-pub loop-k-smaller : goal.loop-k-smaller
-loop-k-smaller c = omega (arith, c.loop-k-test.true)
-
 pub loop-k-preserved : goal.loop-k-preserved
 loop-k-preserved c = (
   summing_again c.loop-k.invariant.0 c.loop-k-test.true c.operate-r.ensures c.if-r-ne0.false

@@ -1,10 +1,10 @@
 -- `text_input::horizon` meets its contract.
-use Rattle.text_input.proofs.Inputs.{no_horizon, first_byte}
-use borrow.Author.Rules.{rules}
+use mathlib.Core.Path.{◌∙◌}
+use Rattle.text_input.proofs.Inputs.{no_byte, first_byte}
 use Rattle.text_input.proofs.horizon.Goals as goal
 
-pub returns-then-input-eq0 : goal.returns-then-input-eq0
-returns-then-input-eq0 c = no_horizon c.args.input.now c.if-input-eq0.true
+pub returns-in-Some : goal.returns-in-Some
+returns-in-Some c = c.from.ensures ∙ first_byte c.args.input.now c.in-Some.ensures.value
 
-pub returns : goal.returns
-returns c = first_byte c.args.input.now c.if-input-eq0.false c.wide.ensures
+pub returns-in-None : goal.returns-in-None
+returns-in-None c = no_byte c.args.input.now c.in-None.ensures.value

@@ -51,4 +51,5 @@ pub returns : goal.returns
 returns c = let a = c.args in
     let n : ℕ = length (text (site_as a.site) a.horizon a.nodes.now a.stages.now) in
     let f = fitting (length a.text.now) a.place n c.if-text-place.false c.text_len-size.ensures c.if-room-size.false in
-    plan_written (site_as a.site) a.horizon a.nodes.now a.stages.now a.text.now a.place c.plan_refusal-number.ensures c.if-number-ne0.false f.0 f.1 c.write_text.ensures.left
+    ap (λ (x : Listed). outcome x c.write_text.new.buffer) c.written.ensures
+    ∙ plan_written (site_as a.site) a.horizon a.nodes.now a.stages.now a.text.now a.place c.plan_refusal-number.ensures c.if-number-ne0.false f.0 f.1 c.write_text.ensures.left

@@ -49,6 +49,7 @@ write_lines-requires c = let g = c.well_formed.1.1.1.1.1.0.1.1 in
 pub returns : goal.returns
 returns c = let g = c.well_formed.1.1.1.1.1.0.1.1 in
     let f = narrow_state c.args.q g.1.0.0 g.1.0.1.1 in
-    page_written c.args.model.now (site_as c.args.site) c.args.horizon c.args.nodes.now c.args.stages.now
+    ap (λ (x : Listed). outcome x c.write_lines.new.text) c.written.ensures
+    ∙ page_written c.args.model.now (site_as c.args.site) c.args.horizon c.args.nodes.now c.args.stages.now
     (asked c.args.q) c.args.text.now c.args.place c.requires c.refusal-number.result c.refusal-number.ensures
     c.if-number-ne0.false f c.if-text-place.false c.if-text-place-2.false refl c.write_lines.ensures.left

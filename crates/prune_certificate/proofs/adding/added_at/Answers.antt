@@ -29,12 +29,6 @@ overflow_add-j c = let t = tests_most c.args.nodes.now c.loop-i.r c.tests-j.resu
 pub goes-r-requires : goal.goes-r-requires
 goes-r-requires c = c.loop-i.invariant.way.node
 
-pub overflow_add-i : goal.overflow_add-i
-overflow_add-i c = omega (arith, c.loop-i-test.true)
-
-pub loop-i-smaller : goal.loop-i-smaller
-loop-i-smaller c = omega (arith, c.loop-i-test.true)
-
 pub loop-i-preserved : goal.loop-i-preserved
 loop-i-preserved c = adding_goes _ _ _ _ _ _ _ _ _ c.loop-i.invariant c.loop-i-test.true c.with_test-total.result c.goes-r.result
     c.tests-j.result c.requires.1 c.requires.2 c.with_test-total.ensures c.goes-r.ensures c.tests-j.ensures

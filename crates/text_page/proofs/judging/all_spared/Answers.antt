@@ -10,21 +10,12 @@ use Rattle.text_page.proofs.judging.all_spared.Goals as goal
 pub loop-h-init : goal.loop-h-init
 loop-h-init c = (omega arith, every_none (spared (site_as c.args.site) c.args.nodes.now c.args.stages.now (asked c.args.q) c.args.number))
 
-pub bounds-stages-h : goal.bounds-stages-h
-bounds-stages-h c = omega (arith, c.requires, c.loop-h-test.true)
-
 pub returns-then-v-number : goal.returns-then-v-number
 returns-then-v-number c = let a = c.args in
     let p = spared (site_as a.site) a.nodes.now a.stages.now (asked a.q) a.number in
     sym (every_false p c.loop-h.h a.last c.loop-h-test.true
     (spared_not (site_as a.site) a.nodes.now a.stages.now (asked a.q) a.number c.loop-h.h c.value_after-v.ensures
     c.if-v-number.true))
-
-pub overflow_add-h : goal.overflow_add-h
-overflow_add-h c = omega (arith, c.loop-h-test.true)
-
-pub loop-h-smaller : goal.loop-h-smaller
-loop-h-smaller c = omega (arith, c.loop-h-test.true)
 
 pub loop-h-preserved : goal.loop-h-preserved
 loop-h-preserved c = let a = c.args in

@@ -1,6 +1,6 @@
 -- `text_page::judging::all_spared` meets its contract: stages 1 to h are not refused with the number; the first that is
 -- decides the whole (`every_false`), and h grows to the last.
-use Prim.Native.Nat.{◌-◌, ◌≤◌}
+use Prim.Native.Nat.{◌≤◌}
 use mathlib.Core.Bool.{true}
 use mathlib.Core.Path.{◌≡◌}
 use Rattle.model_progress.specs.GivenFlags.{site_as}
@@ -11,6 +11,3 @@ use Rattle.text_page.proofs.judging.all_spared.Given as goal
 
 abbrev pub invariant-loop-h : goal.invariant-loop-h
 invariant-loop-h l = (l.h ≤ l.last) × (every (spared (site_as l.site) l.nodes l.stages (asked l.q) l.number) l.h ≡ true)
-
-abbrev pub decreases-loop-h : goal.decreases-loop-h
-decreases-loop-h l = l.last - l.h

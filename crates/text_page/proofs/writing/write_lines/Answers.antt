@@ -11,9 +11,6 @@ use Rattle.text_page.proofs.writing.write_lines.Goals as goal
 pub loop-h-init : goal.loop-h-init
 loop-h-init c = (omega arith, lined_none (line_at c.args.model.now c.args.nodes.now c.args.stages.now (asked c.args.q)) c.args.text.now c.args.place)
 
-pub overflow_add-h : goal.overflow_add-h
-overflow_add-h c = omega (arith, c.loop-h-test.true)
-
 pub slice_bounds-write_line-count : goal.slice_bounds-write_line-count
 slice_bounds-write_line-count c = omega (
   arith,
@@ -62,9 +59,6 @@ overflow_add-next c = omega (
       (asked c.args.q) c.args.place c.requires.1),
   c.write_line-next.ensures.behind,
 )
-
-pub loop-h-smaller : goal.loop-h-smaller
-loop-h-smaller c = omega (arith, c.loop-h-test.true)
 
 pub loop-h-preserved : goal.loop-h-preserved
 loop-h-preserved c = (

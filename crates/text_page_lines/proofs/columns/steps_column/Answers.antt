@@ -1,5 +1,4 @@
 -- `text_page_lines::columns::steps_column` meets its contract.
-use native.Mathlib.Omega.{arith}
 use Rattle.text_page_lines.proofs.ColumnDigits.{steps_are}
 use Rattle.text_page_lines.proofs.columns.steps_column.Goals as goal
 

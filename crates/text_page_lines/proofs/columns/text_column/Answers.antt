@@ -1,7 +1,6 @@
 -- `text_page_lines::columns::text_column` meets its contract.
 use Rattle.whole_division.specs.Words.{whole_as}
 use Rattle.text_page_lines.proofs.ColumnDigits.{as_none, as_number}
-use borrow.Author.Rules.{rules}
 use Rattle.text_page_lines.proofs.columns.text_column.Goals as goal
 
 pub returns-then-a-eq0 : goal.returns-then-a-eq0

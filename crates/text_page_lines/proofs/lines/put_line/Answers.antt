@@ -2,7 +2,6 @@
 use native.Mathlib.Omega.{arith}
 use Rattle.whole_division.specs.Words.{whole_as}
 use Rattle.text_page_lines.proofs.LineParts.{line_put}
-use borrow.Author.Rules.{rules}
 use Rattle.text_page_lines.proofs.lines.put_line.Goals as goal
 
 pub returns : goal.returns

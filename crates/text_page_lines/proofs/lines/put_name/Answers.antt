@@ -2,7 +2,6 @@
 use native.Mathlib.Omega.{arith}
 use lib.ListN.{length}
 use Rattle.text_page_lines.proofs.LineParts.{rest_length, name_put}
-use borrow.Author.Rules.{rules}
 use Rattle.text_page_lines.proofs.lines.put_name.Goals as goal
 
 pub put_bytes-requires : goal.put_bytes-requires
