@@ -39,6 +39,7 @@ fn over_root(
 }
 
 // The diagrams at f and g merged by sum, product or best. Only indexes live over the calls.
+// The steps are those of `choose`, `over` and `walk`: a shared one would take three closures over the same words.
 pub fn merge(
     nodes: &mut [i64],
     work: &mut [u32],

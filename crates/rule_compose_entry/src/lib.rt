@@ -15,7 +15,7 @@ use rule_node::index;
 use table::Node;
 use table_cache::{keep, look};
 
-// The words of an entry in the cache.
+// The words of an entry in the cache: five, as the cache's room is fixed, and laid out as `indexes` reads them.
 #[derive(Clone, Copy)]
 pub struct Words {
     pub op: usize,

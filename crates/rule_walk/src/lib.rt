@@ -18,7 +18,7 @@ use rule_tests::below_at;
 use table::{Made, Stopped};
 use table_cache::{keep, look};
 
-// What lies below the node at f.
+// What lies below the node at f. A second name of `below_at` that docs/PORT.md keeps.
 pub fn down_at(nodes: &[i64], f: usize) -> Down
     requires { At nodes.now f }
     ensures { result ≡ down_of (node_at nodes.now f) }
